@@ -1,0 +1,5 @@
+mod Groups
+mod Decoded
+mod Unique
+mod Whole
+mod Texts
