@@ -3,3 +3,4 @@ mod Decoded
 mod Unique
 mod Whole
 mod Texts
+pub mod Same

@@ -53,7 +53,7 @@ low_digits : (raw : List ℕ) → AreBytes 32 raw → whole_number raw < 64 ^ 43
 low_digits raw bytes = omega (arith, bytes_low raw bytes)
 
 -- one text, one list of raw bytes
-same_raw : (c d : ℕ) (a b : List ℕ) → AreBytes 32 a → AreBytes 32 b → primitive_text c a ≡ primitive_text d b → a ≡ b
+pub same_raw : (c d : ℕ) (a b : List ℕ) → AreBytes 32 a → AreBytes 32 b → primitive_text c a ≡ primitive_text d b → a ≡ b
 same_raw c d a b ia ib e = same_bytes a b ia ib (same_number 43 (whole_number a) (whole_number b) (low_digits a ia) (low_digits b ib) (ap (drop 1) e))
 
 module _ {C : Type 0} (held : List ℕ) (character_of : C → ℕ) (one_each : (a b : C) → character_of a ≡ character_of b → a ≡ b)

@@ -42,7 +42,7 @@ abbrev pub coded_prefix : PrefixCode → List ℕ → Prefix
 coded_prefix (Basic code) raw = BasicPrefix (record { code = code; raw = raw })
 coded_prefix (Said code) raw = SaidPrefix (record { code = code; raw = raw })
 
-apart : (key : KeyCode) (digest : DigestCode) → key_code key ≡ digest_code digest → ⊥
+pub apart : (key : KeyCode) (digest : DigestCode) → key_code key ≡ digest_code digest → ⊥
 apart Fixed Blake3 e = eqb-false 66 69 refl e
 apart Fixed Sha256 e = eqb-false 66 73 refl e
 apart Rotating Blake3 e = eqb-false 68 69 refl e
