@@ -1,6 +1,6 @@
 -- Base 64 as whole numbers (CESR): a primitive is its code and the digits of its raw bytes, read as one number.
 use Rattle.std.specs.Prelude.{◌≡◌, ℕ, zero, suc, ◌/◌, ◌%◌, ◌<◌, List, [], ◌∷◌, ◌++◌, length, map, codes, slice_index, Bool, ◌==◌}
-use Rattle.std.specs.List.{list_any}
+use Rattle.std.specs.List.{list_any, position_or_len}
 use Rattle.std.specs.Int.Digits.{number_from_digits}
 
 -- the 64 characters, in order of their values
@@ -31,3 +31,11 @@ AreBytes count raw = (length raw ≡ count) × ((i : ℕ) → slice_index raw i 
 -- one of the 64 characters
 abbrev pub is_character : ℕ → Bool
 is_character c = list_any (λ x. x == c) characters
+
+-- the digit of a character: its place among the 64
+abbrev pub digit_of : ℕ → ℕ
+digit_of c = position_or_len (λ x. x == c) characters
+
+-- the number that characters spell as digits in base 64
+abbrev pub number_of_text : List ℕ → ℕ
+number_of_text text = number_from_digits 64 (map digit_of text)

@@ -1,0 +1,6 @@
+//! Items and messages of a CESR stream.
+#![tactic(auto)]
+
+mod bad;
+
+pub use bad::{Bad, BadReason};
