@@ -1,7 +1,7 @@
 -- Hexadecimal numbers in quotes.
-use Rattle.std.proofs.Common.{◌≡◌, ◌≢◌, ℕ, zero, suc, ◌+◌, ◌*◌, ◌^◌, ◌<◌, ◌≤◌, true, false, not, List, [], ◌∷◌, ◌++◌, length, map, refl, sym, ap, ◌∙◌, arith, inl, inr, codes, subst, None, position, nat_lt}
+use Rattle.std.proofs.Common.{◌≡◌, ◌≢◌, ℕ, zero, suc, ◌+◌, ◌*◌, ◌^◌, ◌<◌, ◌≤◌, true, false, not, List, [], ◌∷◌, ◌++◌, length, map, refl, sym, ap, ◌∙◌, arith, inl, inr, codes, subst}
 use Rattle.std.specs.List.{list_all, position_or_len}
-use Rattle.std.proofs.lemmas.Bool.{cases_Bool, leb-true, ltb-false}
+use Rattle.std.proofs.lemmas.Bool.{cases_Bool, leb-true}
 use Rattle.std.proofs.Math.Dec.{leb}
 use Rattle.std.proofs.lemmas.Bool.Decides.{leb_tells}
 use Rattle.std.proofs.Math.Nat.{pow-le-pow_right, suc-mul}
@@ -11,23 +11,12 @@ use Rattle.keri_specs.proofs.Digits.{number_after-split}
 use Rattle.event_body.specs.Fronts.{FrontIs, NoFront, enclosed}
 use Rattle.event_body.proofs.Fronts.{enclosed_behind, same_split}
 
-run_short : (bytes : List ℕ) → position_or_len (λ c. not (is_hex c)) bytes ≤ length bytes
-run_short [] = omega arith
-run_short (c ∷ bytes) = elim (cases_Bool (is_hex c)) [ inl t ↦ rw t (omega (arith, run_short bytes)) | inr f ↦ rw f (omega arith) ]
-
 -- a run of digits ends at a quote
 pub run_is : (digits rest : List ℕ) → list_all is_hex digits ≡ true → position_or_len (λ c. not (is_hex c)) (digits ++ (34 ∷ rest)) ≡ length digits
 run_is [] rest all = refl
 run_is (d ∷ digits) rest all = elim (cases_Bool (is_hex d)) [
   | inl t ↦ rw t (omega (arith, run_is digits rest (rw t at all)))
   | inr f ↦ cc (rw f at all)
-]
-
--- where nothing else stands, the run goes to the end
-pub run_to_end : (bytes : List ℕ) → position (λ c. not (is_hex c)) bytes ≡ None → length bytes ≡ position_or_len (λ c. not (is_hex c)) bytes
-run_to_end bytes none = elim (cases_Bool (nat_lt (position_or_len (λ c. not (is_hex c)) bytes) (length bytes))) [
-  | inl t ↦ cc (rw t at none)
-  | inr f ↦ omega (arith, ltb-false _ _ f, run_short bytes)
 ]
 
 -- numbers in quotes are one where their texts are

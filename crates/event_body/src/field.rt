@@ -4,8 +4,8 @@ ghost use Rattle.keri_specs.specs.Hex.{IsHexNumber};
 ghost use Rattle.event_body.specs.FieldMaps.{IsSize, version_text};
 ghost use Rattle.event_body.specs.Fronts.{FrontIs, NoFront, enclosed};
 
-use crate::hex::{all_hex, hex_run, is_hex_number};
 use crate::value::Value;
+use hex_numbers::{all_hex, hex_run, is_hex_number};
 
 /// What follows the literal at the front.
 pub(crate) fn literal<'a>(bytes: &'a [u8], text: &[u8]) -> Option<&'a [u8]>

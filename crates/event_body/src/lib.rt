@@ -4,7 +4,6 @@
 mod body_fault;
 mod event;
 mod field;
-mod hex;
 mod reading;
 mod value;
 

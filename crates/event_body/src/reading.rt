@@ -8,9 +8,9 @@ ghost use Rattle.event_body.specs.declared.event.Event.TheVariants.{Rct};
 ghost use Rattle.event_body.specs.declared.event.ReceiptBody.{ReceiptBody};
 
 use crate::field::{literal, number, quoted, version};
-use crate::hex::hex_value;
 use crate::{BodyFault, Event, ReadBody, ReceiptBody};
 use cesr_codes::{Digest, Prefix};
+use hex_numbers::hex_value;
 use std::alloc::Global;
 
 /// A body has at most so many bytes.

@@ -1,4 +1,4 @@
-//! Hexadecimal numbers.
+//! Digits, and the numbers that they spell.
 ghost use Rattle.std.specs.Prelude.{◌≡◌, ◌↔◌, ◌≤◌, ◌<◌, length, true, take, not, position};
 ghost use Rattle.std.specs.List.{list_all, position_or_len};
 ghost use Rattle.keri_specs.specs.Hex.{is_hex, hex_digit, IsHexNumber, hex_value as value_of};
@@ -11,7 +11,7 @@ fn is_hex_digit(c: u8) -> bool
 }
 
 /// Whether each is a hexadecimal digit.
-pub(crate) fn all_hex(digits: &[u8]) -> bool
+pub fn all_hex(digits: &[u8]) -> bool
     ensures { result ≡ list_all is_hex digits.now }
 {
     digits.iter().all(|c| is_hex_digit(*c))
@@ -25,7 +25,7 @@ fn first_other(bytes: &[u8]) -> Option<usize>
 }
 
 /// How many hexadecimal digits stand at the front.
-pub(crate) fn hex_run(bytes: &[u8]) -> usize
+pub fn hex_run(bytes: &[u8]) -> usize
     ensures run { result ≡ position_or_len (λ c. not (is_hex c)) bytes.now }
     ensures bound { result ≤ length bytes.now }
 {
@@ -36,7 +36,7 @@ pub(crate) fn hex_run(bytes: &[u8]) -> usize
 }
 
 /// Whether these are the digits of a number: without leading zeros, and `0` itself.
-pub(crate) fn is_hex_number(digits: &[u8]) -> bool
+pub fn is_hex_number(digits: &[u8]) -> bool
     ensures { (result ≡ true) ↔ IsHexNumber digits.now }
 {
     all_hex(digits) && !matches!(digits, [] | [b'0', _, ..])
@@ -52,7 +52,7 @@ fn digit_value(c: u8) -> u8
 }
 
 /// The number of at most 16 digits.
-pub(crate) fn hex_value(digits: &[u8]) -> u64
+pub fn hex_value(digits: &[u8]) -> u64
     requires all { list_all is_hex digits.now ≡ true }
     requires few { length digits.now ≤ 16 }
     ensures { result ≡ value_of digits.now }

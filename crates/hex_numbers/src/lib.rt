@@ -1,0 +1,6 @@
+//! Lower-case hexadecimal numbers.
+#![tactic(auto)]
+
+mod numbers;
+
+pub use numbers::{all_hex, hex_run, hex_value, is_hex_number};
