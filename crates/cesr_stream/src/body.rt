@@ -1,27 +1,27 @@
 //! Bodies at the front of a stream.
-ghost use Rattle.std.specs.Prelude.{◌≡◌, ◌≤◌, length, take, drop, true};
-ghost use Rattle.std.specs.List.{list_all};
-ghost use Rattle.keri_specs.specs.Hex.{is_hex, hex_digit, hex_value};
+ghost use Rattle.std.specs.Prelude.{◌≡◌, ◌≤◌, length, bytes_eq};
 ghost use Rattle.cesr_stream.specs.Front.{body_part, has_version, size_of};
 ghost use Rattle.cesr_stream.specs.Judged.{part_of};
 
 use crate::BadReason;
 use crate::part::Part;
+use hex_numbers::{all_hex, hex_value};
 
-/// The version string and what is before it have so many bytes.
+/// The version string and what stands before it have so many bytes.
 const HEAD: usize = 24;
 
 /// How the body at the front is judged, where a body may have so many bytes.
+#[tactic(auto, unfolding(crate::specs::Front::body_part))]
 pub(crate) fn judge_body(bytes: &[u8], limit: u32) -> Part
     ensures { part_of result ≡ body_part limit bytes.now }
 {
     if bytes.len() < HEAD {
         return Part::Unfinished;
     }
-    if !opens_body(bytes) {
+    if !has_head(bytes) {
         return Part::Refused(0, BadReason::Version);
     }
-    let size = size(bytes);
+    let size = hex_value(&bytes[16..22]) as usize;
     if size < HEAD {
         return Part::Refused(0, BadReason::Version);
     }
@@ -35,9 +35,19 @@ pub(crate) fn judge_body(bytes: &[u8], limit: u32) -> Part
 }
 
 // Whether the version string stands at the front.
-fn opens_body(bytes: &[u8]) -> bool
+fn has_head(bytes: &[u8]) -> bool
     requires { 24 ≤ length bytes.now }
     ensures { result ≡ has_version bytes.now }
 {
-    bytes[..16] == *b"{\"v\":\"KERI10JSON" && all_hex(&bytes[16..22]) && bytes[22..24] == *b"_\""
+    let opening = is_text(&bytes[..16], b"{\"v\":\"KERI10JSON");
+    let digits = all_hex(&bytes[16..22]);
+    let closing = is_text(&bytes[22..24], b"_\"");
+    opening && digits && closing
+}
+
+// Whether the bytes are this text.
+fn is_text(bytes: &[u8], text: &[u8]) -> bool
+    ensures { result ≡ bytes_eq bytes.now text.now }
+{
+    bytes == text
 }

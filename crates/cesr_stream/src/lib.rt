@@ -2,5 +2,8 @@
 #![tactic(auto)]
 
 mod bad;
+mod body;
+mod counter;
+mod part;
 
 pub use bad::{Bad, BadReason};
