@@ -1,3 +1,5 @@
 pub mod Stays
 pub mod Verdicts
 pub mod Fronts
+pub mod Items
+pub mod ElementSteps

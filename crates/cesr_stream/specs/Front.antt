@@ -49,14 +49,18 @@ primitive_part (good n) = whole n
 primitive_part short = unfinished
 primitive_part (bad fault) = refused 0 (Code fault)
 
--- so many indexed signatures, one behind the other
-unfoldable pub elements_part : ℕ → List ℕ → Part
-elements_part zero bytes = whole 0
-elements_part (suc n) bytes = followed_by (primitive_part (verdict indexed_layouts bytes)) (elements_part n) bytes
+-- so many elements, one behind the other
+unfoldable pub elements_part : (List ℕ → Part) → ℕ → List ℕ → Part
+elements_part element zero bytes = whole 0
+elements_part element (suc n) bytes = followed_by (element bytes) (elements_part element n) bytes
+
+-- an indexed signature
+abbrev pub signature_part : List ℕ → Part
+signature_part bytes = primitive_part (verdict indexed_layouts bytes)
 
 -- a counter, and what it counts
 unfoldable pub group_part : List ℕ → Part
-group_part bytes = followed_by (counter_part bytes) (elements_part (count_of bytes)) bytes
+group_part bytes = followed_by (counter_part bytes) (elements_part signature_part (count_of bytes)) bytes
 
 -- a whole group that stands before any body is refused
 abbrev pub behind_body : Bool → Part → Part

@@ -1,3 +1,4 @@
 pub mod Parts
 pub mod Front
 pub mod Judged
+pub mod Items

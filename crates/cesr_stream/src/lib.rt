@@ -4,6 +4,8 @@
 mod bad;
 mod body;
 mod counter;
+mod element;
+mod elements;
 mod part;
 
 pub use bad::{Bad, BadReason};
