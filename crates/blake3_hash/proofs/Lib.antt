@@ -1,0 +1,7 @@
+pub mod Words
+pub mod Blocks
+pub mod Known
+pub mod Trees
+pub mod Halves
+pub mod Subtrees
+pub mod Bytes
