@@ -1,4 +1,4 @@
-pub mod Words
+pub mod EightWords
 pub mod Blocks
 pub mod Known
 pub mod Trees

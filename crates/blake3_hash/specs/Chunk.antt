@@ -1,20 +1,7 @@
 -- The chaining value of a chunk. Section numbers are those of the BLAKE3 specification.
 use Rattle.std.specs.Prelude.{ℕ, zero, suc, ◌+◌, ◌-◌, ◌*◌, ◌/◌, List, [], ◌∷◌, ◌++◌, length, take, drop, replicate, bit_or, slice_index, if◌then◌else◌, ◌==◌}
 use Rattle.std.specs.Int.{w32, from_le_bytes}
-use Rattle.blake3_hash.specs.Compression.{iv, compress}
-
--- the flags CHUNK_START, CHUNK_END, PARENT and ROOT (2.2, table 3)
-abbrev pub chunk_start : ℕ
-chunk_start = 1
-
-abbrev pub chunk_end : ℕ
-chunk_end = 2
-
-abbrev pub parent_flag : ℕ
-parent_flag = 4
-
-abbrev pub root : ℕ
-root = 8
+use Rattle.blake3_hash.specs.Compression.{iv, compress, chunk_start, chunk_end}
 
 -- the word at byte i, the lowest byte first (2)
 abbrev pub word_at : List ℕ → ℕ → ℕ

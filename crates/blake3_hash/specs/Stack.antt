@@ -1,6 +1,6 @@
 -- What a stack has of the bytes whose whole chunks were pushed on it.
 use Rattle.std.specs.Prelude.{◌≡◌, ℕ, ◌+◌, ◌-◌, ◌*◌, ◌/◌, ◌%◌, ◌^◌, ◌<◌, ◌≤◌, List, [], length, take, drop, slice_index_or, if◌then◌else◌, ◌==◌}
-use Rattle.blake3_hash.specs.Chunk.{root}
+use Rattle.blake3_hash.specs.Compression.{root}
 use Rattle.blake3_hash.specs.Tree.{tree}
 
 -- the chaining value of subtree number n of 2 ^ k whole chunks

@@ -1,18 +1,19 @@
 -- The tree of BLAKE3 over a whole list of bytes, and its digest. Section numbers are those of the
 -- BLAKE3 specification.
-use Rattle.std.specs.Prelude.{ℕ, zero, suc, ◌+◌, ◌*◌, ◌/◌, ◌^◌, List, ◌++◌, length, take, drop, flat_map, bit_or, if◌then◌else◌, nat_lt, nat_le}
+use Rattle.std.specs.Prelude.{ℕ, zero, suc, ◌+◌, ◌*◌, ◌/◌, ◌^◌, List, ◌++◌, length, take, drop, flat_map, bit_or, if◌then◌else◌, ◌==◌, nat_lt, max}
 use Rattle.std.specs.Int.{w32, to_le_bytes}
-use Rattle.blake3_hash.specs.Compression.{iv, compress}
-use Rattle.blake3_hash.specs.Chunk.{chunk_value, parent_flag, root}
+use Rattle.blake3_hash.specs.Compression.{iv, compress, parent, root}
+use Rattle.blake3_hash.specs.Chunk.{chunk_value}
 
 -- the chaining value of the parent of two, whose message is their chaining values, and `flags`
 -- besides (2.5)
 unfoldable pub parent_value : List ℕ → List ℕ → ℕ → List ℕ
-parent_value left right flags = compress iv (left ++ right) 0 64 (bit_or parent_flag flags)
+parent_value left right flags = compress iv (left ++ right) 0 64 (bit_or parent flags)
 
--- how many chunks of 1,024 bytes so many bytes are cut into, the last of which may be shorter (2.1)
+-- how many chunks so many bytes are cut into: chunks of 1,024 bytes, of which the last may be
+-- shorter, and one empty chunk for no bytes (2.1)
 abbrev pub chunk_count : ℕ → ℕ
-chunk_count n = (n + 1023) / 1024
+chunk_count n = max 1 ((n + 1023) / 1024)
 
 -- the greatest power of two that is less than n and at most 2 ^ k, or 1
 unfoldable pub power_below : ℕ → ℕ → ℕ
@@ -30,8 +31,9 @@ left_chunks n = power_below n n
 unfoldable pub tree_within : ℕ → ℕ → List ℕ → ℕ → List ℕ
 tree_within zero first bytes flags = chunk_value first bytes flags
 tree_within (suc depth) first bytes flags =
-    let left = left_chunks (chunk_count (length bytes)) in
-    if nat_le (length bytes) 1024 then chunk_value first bytes flags
+    let count = chunk_count (length bytes) in
+    let left = left_chunks count in
+    if count == 1 then chunk_value first bytes flags
     else parent_value (tree_within depth first (take (1024 * left) bytes) 0)
     (tree_within depth (first + left) (drop (1024 * left) bytes) 0) flags
 

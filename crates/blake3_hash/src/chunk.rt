@@ -1,25 +1,15 @@
 //! The chaining value of a chunk (BLAKE3 specification, section 2.4).
 ghost use Rattle.std.specs.Prelude.{◌≡◌, ◌-◌, ◌/◌, ◌≤◌, length};
-ghost use Rattle.blake3_hash.specs.Chunk.{chunk_value, start_flag};
+ghost use Rattle.blake3_hash.specs.Chunk.{chunk_value};
 
-use crate::block::{block_words, filled};
 use crate::compression::{IV, compress};
+use crate::flags::{CHUNK_END, start_flag};
+use crate::words::{block_words, filled};
 
 /// The bytes of a whole chunk.
 pub(crate) const CHUNK_LEN: usize = 1024;
 
 const BLOCK_LEN: usize = 64;
-
-const CHUNK_START: u32 = 1;
-
-const CHUNK_END: u32 = 2;
-
-#[inline(always)]
-fn start_flag(block: usize) -> u32
-    ensures { result ≡ start_flag block }
-{
-    if block == 0 { CHUNK_START } else { 0 }
-}
 
 /// The chaining value of a chunk, whole or the last, with `flags` besides on its last block.
 pub(crate) fn chunk_value(number: u64, chunk: &[u8], flags: u32) -> [u32; 8]

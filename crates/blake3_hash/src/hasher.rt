@@ -1,10 +1,11 @@
 //! Bytes hashed piece by piece.
-ghost use Rattle.std.specs.Prelude.{◌≡◌, ℕ, ◌+◌, ◌*◌, ◌^◌, ◌<◌, ◌≤◌, ◌++◌, List, [], length, flat_map};
-ghost use Rattle.std.specs.Int.{w32, to_le_bytes};
+ghost use Rattle.std.specs.Prelude.{◌≡◌, ℕ, ◌+◌, ◌*◌, ◌^◌, ◌<◌, ◌≤◌, ◌++◌, List, [], length};
 ghost use Rattle.blake3_hash.specs.Tree.{blake3};
 
 use crate::chunk::{CHUNK_LEN, chunk_value};
-use crate::stack::{Stack, root_flag};
+use crate::flags::root_flag;
+use crate::stack::Stack;
+use crate::words::bytes_of;
 
 /// Hashes bytes that are given in any pieces.
 #[derive(Drop)]
@@ -111,17 +112,6 @@ impl Hasher {
         let last = chunk_value(count, &self.chunk[..self.used], root_flag(count));
         bytes_of(&self.stack.root(last))
     }
-}
-
-// The words of a digest, each with its lowest byte first.
-fn bytes_of(words: &[u32; 8]) -> [u8; 32]
-    ensures { result ≡ flat_map (to_le_bytes w32) words.now }
-{
-    let mut bytes = [0; 32];
-    'words: for i in 0..8 {
-        bytes[4 * i..4 * i + 4].copy_from_slice(&words[i].to_le_bytes());
-    }
-    bytes
 }
 
 /// The digest of bytes that are given at once.

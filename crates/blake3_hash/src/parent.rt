@@ -3,8 +3,7 @@ ghost use Rattle.std.specs.Prelude.{◌≡◌, ◌++◌};
 ghost use Rattle.blake3_hash.specs.Tree.{parent_value};
 
 use crate::compression::{IV, compress};
-
-const PARENT: u32 = 4;
+use crate::flags::PARENT;
 
 /// The chaining value of the parent of two, whose chaining values are given, with `flags` besides.
 #[tactic(auto, unfolding(crate::specs::Tree::parent_value))]

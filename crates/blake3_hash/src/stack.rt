@@ -1,12 +1,11 @@
 //! The chaining values of the subtrees that wait for their right siblings.
 ghost use Rattle.std.specs.Prelude.{◌≡◌, ℕ, ◌+◌, ◌*◌, ◌/◌, ◌^◌, ◌<◌, ◌≤◌, List, length};
-ghost use Rattle.blake3_hash.specs.Chunk.{root};
+ghost use Rattle.blake3_hash.specs.Compression.{root};
 ghost use Rattle.blake3_hash.specs.Stack.{Completes, EndsAfter, HasSubtrees, root_flag, subtree, tree_from};
 ghost use Rattle.blake3_hash.specs.Tree.{tree};
 
+use crate::flags::root_flag;
 use crate::parent::parent_value;
-
-const ROOT: u32 = 8;
 
 /// A tree of 2^54 chunks has all the bytes that can be counted.
 pub(crate) const HEIGHTS: usize = 54;
@@ -14,7 +13,7 @@ pub(crate) const HEIGHTS: usize = 54;
 /// The subtrees over the chunks so far: where the count of chunks, in binary, has a one at a
 /// height, the value there is that of the last subtree of so many chunks.
 #[derive(Drop)]
-pub struct Stack {
+pub(crate) struct Stack {
     values: [[u32; 8]; 54],
     count: u64,
     ghost few: { count < 2 ^ 54 },
@@ -91,11 +90,4 @@ impl Stack {
         }
         value
     }
-}
-
-/// ROOT, where no chunk is left of a subtree.
-pub(crate) fn root_flag(left: u64) -> u32
-    ensures { result ≡ root_flag left }
-{
-    if left == 0 { ROOT } else { 0 }
 }

@@ -1,4 +1,4 @@
-use Rattle.blake3_hash.proofs.Words.{eight-append}
+use Rattle.blake3_hash.proofs.EightWords.{eight-append}
 use Rattle.blake3_hash.proofs.parent.joined.Goals as goal
 
 pub returns : goal.returns

@@ -1,7 +1,7 @@
 use Rattle.std.proofs.Common.{◌≡◌, ◌*◌, length, take}
 use Rattle.std.specs.Int.{w32, to_le_bytes}
 use Rattle.std.specs.List.{flat_map}
-use Rattle.blake3_hash.proofs.hasher.bytes_of.Given as goal
+use Rattle.blake3_hash.proofs.words.bytes_of.Given as goal
 
 abbrev pub invariant-words : goal.invariant-words
 invariant-words l = record {
