@@ -5,3 +5,4 @@ pub mod Trees
 pub mod Halves
 pub mod Subtrees
 pub mod Bytes
+pub mod Pieces

@@ -1,13 +1,20 @@
 -- The tree over bytes: what it is where it is one chunk, and where it is two subtrees.
-use Rattle.std.proofs.Common.{◌≡◌, ◌∙◌, ℕ, zero, suc, ◌+◌, ◌*◌, ◌^◌, ◌<◌, ◌≤◌, List, length, take, drop, refl, inl, inr, arith, length-drop}
+use Rattle.std.proofs.Common.{◌≡◌, ◌∙◌, ℕ, zero, suc, ◌+◌, ◌*◌, ◌^◌, ◌<◌, ◌≤◌, List, length, take, drop, nat_lt, refl, inl, inr, arith, length-drop}
 use Rattle.std.proofs.Math.Nat.{two-pow-succ}
 use Rattle.std.proofs.Math.Pow.{pow_mono}
-use Rattle.std.proofs.lemmas.Bool.{cases_lt}
+use Rattle.std.proofs.lemmas.Bool.{cases_Bool, cases_lt, cond-false, cond-true}
 use Rattle.std.proofs.lemmas.List.{length-take}
 use Rattle.std.proofs.lemmas.Nat.{pow_pos}
 use Rattle.std.proofs.lemmas.Bool.Decides.{nat_tests}
 use Rattle.blake3_hash.specs.Chunk.{chunk_value}
-use Rattle.blake3_hash.specs.Tree.{chunk_count, left_chunks, parent_value, power_below, tree, tree_within}
+use Rattle.blake3_hash.specs.Tree.{IsGreatestPowerBelow, chunk_count, left_chunks, parent_value, power_below, tree, tree_within}
+
+-- a power of two is above its exponent
+pow_above : (k : ℕ) → k < 2 ^ k
+pow_above zero = omega arith
+pow_above (suc k) =
+    let rest = pow_above k in
+    omega (arith, two-pow-succ k)
 
 -- the greatest power of two below n is 2 ^ k, where n is above that and no more than its double
 pub power_below-is : (j k n : ℕ) → k ≤ j → 2 ^ k < n → n ≤ 2 ^ k + 2 ^ k → power_below j n ≡ 2 ^ k
@@ -43,6 +50,40 @@ power_below-less zero n more = more
 power_below-less (suc j) n more =
     let rest = power_below-less j n more in
     grind (arith, nat_tests)
+
+-- it is a power of two
+power_below-power : (j n : ℕ) → (k : ℕ) × (power_below j n ≡ 2 ^ k)
+unfolding power_below
+power_below-power zero n = (0, refl)
+power_below-power (suc j) n = elim (cases_Bool (nat_lt (2 ^ suc j) n)) [
+  | inl below ↦ (suc j, cond-true (nat_lt (2 ^ suc j) n) (2 ^ suc j) (power_below j n) below)
+  | inr above ↦
+      let rest = power_below-power j n in
+      (rest.0, cond-false (nat_lt (2 ^ suc j) n) (2 ^ suc j) (power_below j n) above ∙ rest.1)
+]
+
+-- and its double is not less than n, where n is small enough for the search
+power_below-greatest : (j n : ℕ) → n ≤ 2 ^ suc j → n ≤ 2 * power_below j n
+unfolding power_below
+power_below-greatest zero n fits = fits
+power_below-greatest (suc j) n fits =
+    let double = two-pow-succ (suc j) in
+    elim (cases_lt (2 ^ suc j) n) [
+      | inl below ↦ grind (arith, nat_tests)
+      | inr above ↦
+          let rest = power_below-greatest j n above in
+          grind (arith, nat_tests)
+    ]
+
+-- so many chunks go to the left
+pub left_chunks-greatest : (n : ℕ) → 1 < n → IsGreatestPowerBelow (left_chunks n) n
+left_chunks-greatest n more =
+    let far = pow_above (suc n) in
+    record {
+      power = power_below-power n n;
+      less = power_below-less n n more;
+      greatest = power_below-greatest n n (omega arith);
+    }
 
 -- at any two depths that are not less than its chunks are many, a tree is the same
 pub tree_within-same : (d e first : ℕ) (bytes : List ℕ) (flags : ℕ) → chunk_count (length bytes) ≤ d → chunk_count (length bytes) ≤ e
@@ -89,13 +130,6 @@ tree-parent first bytes flags long =
     let front = tree_within-same count (chunk_count (length (take (1024 * left) bytes))) first (take (1024 * left) bytes) 0 (simp length-take (omega arith)) (omega arith) in
     let back = tree_within-same count (chunk_count (length (drop (1024 * left) bytes))) (first + left) (drop (1024 * left) bytes) 0 (simp length-drop (omega arith)) (omega arith) in
     tree_within-same count (suc count) first bytes flags (omega arith) (omega arith) ∙ open_up ∙ rw (front, back) refl
-
--- a power of two is above its exponent
-pow_above : (k : ℕ) → k < 2 ^ k
-pow_above zero = omega arith
-pow_above (suc k) =
-    let rest = pow_above k in
-    omega (arith, two-pow-succ k)
 
 -- the same, where the left chunks are 2 ^ k
 pub tree-split : (k first : ℕ) (bytes : List ℕ) (flags : ℕ) → 1024 * 2 ^ k < length bytes → length bytes ≤ 1024 * 2 ^ k + 1024 * 2 ^ k

@@ -1,6 +1,6 @@
 -- The tree of BLAKE3 over a whole list of bytes, and its digest. Section numbers are those of the
 -- BLAKE3 specification.
-use Rattle.std.specs.Prelude.{ℕ, zero, suc, ◌+◌, ◌*◌, ◌/◌, ◌^◌, List, ◌++◌, length, take, drop, flat_map, bit_or, if◌then◌else◌, ◌==◌, nat_lt, max}
+use Rattle.std.specs.Prelude.{◌≡◌, ◌<◌, ◌≤◌, ℕ, zero, suc, ◌+◌, ◌*◌, ◌/◌, ◌^◌, List, ◌++◌, length, take, drop, flat_map, bit_or, if◌then◌else◌, ◌==◌, nat_lt, max}
 use Rattle.std.specs.Int.{w32, to_le_bytes}
 use Rattle.blake3_hash.specs.Compression.{iv, compress, parent, root}
 use Rattle.blake3_hash.specs.Chunk.{chunk_value}
@@ -45,3 +45,9 @@ tree first bytes flags = tree_within (chunk_count (length bytes)) first bytes fl
 -- compression is flagged ROOT (2.6)
 unfoldable pub blake3 : List ℕ → List ℕ
 blake3 bytes = flat_map (to_le_bytes w32) (tree 0 bytes root)
+
+-- p is the greatest power of two that is less than n
+pub record IsGreatestPowerBelow (p n : ℕ) : Type 0 where
+  pub power : (k : ℕ) × (p ≡ 2 ^ k)
+  pub less : p < n
+  pub greatest : n ≤ 2 * p

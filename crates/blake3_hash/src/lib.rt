@@ -5,8 +5,10 @@ mod chunk;
 mod compression;
 mod flags;
 mod hasher;
+mod laws;
 mod parent;
 mod stack;
 mod words;
 
 pub use hasher::{Hasher, digest};
+pub use laws::{digest_of_pieces, tree_law};
