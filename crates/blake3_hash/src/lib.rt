@@ -8,6 +8,8 @@ mod hasher;
 mod laws;
 mod parent;
 mod stack;
+#[cfg(test)]
+mod tests;
 mod words;
 
 pub use hasher::{Hasher, digest};
