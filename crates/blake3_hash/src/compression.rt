@@ -1,6 +1,6 @@
 //! The compression function (BLAKE3 specification, section 2.2).
 ghost use Rattle.std.specs.Prelude.{◌≡◌, ◌<◌};
-ghost use Rattle.blake3_hash.specs.Compression.{columns, compress, diagonals, first_state, g, mixed, permuted, rounds};
+ghost use Rattle.blake3_hash.specs.Compression.{columns, compress, diagonals, first_state, g, mixed, permuted, round, rounds};
 
 /// The first chaining value of each chunk and of each parent.
 pub(crate) const IV: [u32; 8] = [
@@ -14,7 +14,7 @@ pub(crate) const IV: [u32; 8] = [
     0x5be0_cd19,
 ];
 
-// The quarter round on four words of the state, with two words of the message.
+// G on four words of the state, with two words of the message.
 #[inline(always)]
 #[tactic(auto, unfolding(crate::specs::Compression::mixed))]
 fn mix(a: u32, b: u32, c: u32, d: u32, x: u32, y: u32) -> [u32; 4]
@@ -31,51 +31,51 @@ fn mix(a: u32, b: u32, c: u32, d: u32, x: u32, y: u32) -> [u32; 4]
     [a, b, c, d]
 }
 
-// The quarter round at four places of the state.
+// G at four places of the state, which are a column or a diagonal.
 #[inline(always)]
 #[tactic(auto, unfolding(crate::specs::Compression::g))]
-fn g(v: &mut [u32; 16], a: usize, b: usize, c: usize, d: usize, x: u32, y: u32)
+fn g(state: &mut [u32; 16], a: usize, b: usize, c: usize, d: usize, x: u32, y: u32)
     requires a { a < 16 }
     requires b { b < 16 }
     requires c { c < 16 }
     requires d { d < 16 }
-    ensures { v.new ≡ g v.old a b c d x y }
+    ensures { state.new ≡ g state.old a b c d x y }
 {
-    let mixed = mix(v[a], v[b], v[c], v[d], x, y);
-    v[a] = mixed[0];
-    v[b] = mixed[1];
-    v[c] = mixed[2];
-    v[d] = mixed[3];
+    let mixed = mix(state[a], state[b], state[c], state[d], x, y);
+    state[a] = mixed[0];
+    state[b] = mixed[1];
+    state[c] = mixed[2];
+    state[d] = mixed[3];
 }
 
 #[inline(always)]
 #[tactic(auto, unfolding(crate::specs::Compression::columns))]
-fn mix_columns(v: &mut [u32; 16], m: &[u32; 16])
-    ensures { v.new ≡ columns v.old m.now }
+fn mix_columns(state: &mut [u32; 16], m: &[u32; 16])
+    ensures { state.new ≡ columns state.old m.now }
 {
-    g(v, 0, 4, 8, 12, m[0], m[1]);
-    g(v, 1, 5, 9, 13, m[2], m[3]);
-    g(v, 2, 6, 10, 14, m[4], m[5]);
-    g(v, 3, 7, 11, 15, m[6], m[7]);
+    g(state, 0, 4, 8, 12, m[0], m[1]);
+    g(state, 1, 5, 9, 13, m[2], m[3]);
+    g(state, 2, 6, 10, 14, m[4], m[5]);
+    g(state, 3, 7, 11, 15, m[6], m[7]);
 }
 
 #[inline(always)]
 #[tactic(auto, unfolding(crate::specs::Compression::diagonals))]
-fn mix_diagonals(v: &mut [u32; 16], m: &[u32; 16])
-    ensures { v.new ≡ diagonals v.old m.now }
+fn mix_diagonals(state: &mut [u32; 16], m: &[u32; 16])
+    ensures { state.new ≡ diagonals state.old m.now }
 {
-    g(v, 0, 5, 10, 15, m[8], m[9]);
-    g(v, 1, 6, 11, 12, m[10], m[11]);
-    g(v, 2, 7, 8, 13, m[12], m[13]);
-    g(v, 3, 4, 9, 14, m[14], m[15]);
+    g(state, 0, 5, 10, 15, m[8], m[9]);
+    g(state, 1, 6, 11, 12, m[10], m[11]);
+    g(state, 2, 7, 8, 13, m[12], m[13]);
+    g(state, 3, 4, 9, 14, m[14], m[15]);
 }
 
 #[inline(always)]
-fn round(v: &mut [u32; 16], m: &[u32; 16])
-    ensures { v.new ≡ diagonals (columns v.old m.now) m.now }
+fn round(state: &mut [u32; 16], m: &[u32; 16])
+    ensures { state.new ≡ round state.old m.now }
 {
-    mix_columns(v, m);
-    mix_diagonals(v, m);
+    mix_columns(state, m);
+    mix_diagonals(state, m);
 }
 
 // The message words of the next round.
@@ -93,37 +93,37 @@ fn permute(m: &[u32; 16]) -> [u32; 16]
 // The seven rounds.
 #[inline(always)]
 #[tactic(auto, unfolding(crate::specs::Compression::rounds))]
-fn seven_rounds(v: &mut [u32; 16], m: &[u32; 16])
-    ensures { v.new ≡ rounds 7 v.old m.now }
+fn seven_rounds(state: &mut [u32; 16], m: &[u32; 16])
+    ensures { state.new ≡ rounds 7 state.old m.now }
 {
-    round(v, m);
+    round(state, m);
     let m = permute(m);
-    round(v, &m);
+    round(state, &m);
     let m = permute(&m);
-    round(v, &m);
+    round(state, &m);
     let m = permute(&m);
-    round(v, &m);
+    round(state, &m);
     let m = permute(&m);
-    round(v, &m);
+    round(state, &m);
     let m = permute(&m);
-    round(v, &m);
+    round(state, &m);
     let m = permute(&m);
-    round(v, &m);
+    round(state, &m);
 }
 
 #[inline(always)]
-fn first_state(h: &[u32; 8], counter: u64, block_len: u32, flags: u32) -> [u32; 16]
-    ensures { result ≡ first_state h.now counter block_len flags }
+fn first_state(chaining_value: &[u32; 8], counter: u64, block_len: u32, flags: u32) -> [u32; 16]
+    ensures { result ≡ first_state chaining_value.now counter block_len flags }
 {
     [
-        h[0],
-        h[1],
-        h[2],
-        h[3],
-        h[4],
-        h[5],
-        h[6],
-        h[7],
+        chaining_value[0],
+        chaining_value[1],
+        chaining_value[2],
+        chaining_value[3],
+        chaining_value[4],
+        chaining_value[5],
+        chaining_value[6],
+        chaining_value[7],
         IV[0],
         IV[1],
         IV[2],
@@ -135,27 +135,27 @@ fn first_state(h: &[u32; 8], counter: u64, block_len: u32, flags: u32) -> [u32; 
     ]
 }
 
-/// The compression of the chaining value `h` and the message words `m`.
+/// The compression of a chaining value and the words of a block, cut to 8 words.
 #[tactic(auto, unfolding(crate::specs::Compression::compress))]
 pub(crate) fn compress(
-    h: &[u32; 8],
-    m: &[u32; 16],
+    chaining_value: &[u32; 8],
+    block_words: &[u32; 16],
     counter: u64,
     block_len: u32,
     flags: u32,
 ) -> [u32; 8]
-    ensures { result ≡ compress h.now m.now counter block_len flags }
+    ensures { result ≡ compress chaining_value.now block_words.now counter block_len flags }
 {
-    let mut v = first_state(h, counter, block_len, flags);
-    seven_rounds(&mut v, m);
+    let mut state = first_state(chaining_value, counter, block_len, flags);
+    seven_rounds(&mut state, block_words);
     [
-        v[0] ^ v[8],
-        v[1] ^ v[9],
-        v[2] ^ v[10],
-        v[3] ^ v[11],
-        v[4] ^ v[12],
-        v[5] ^ v[13],
-        v[6] ^ v[14],
-        v[7] ^ v[15],
+        state[0] ^ state[8],
+        state[1] ^ state[9],
+        state[2] ^ state[10],
+        state[3] ^ state[11],
+        state[4] ^ state[12],
+        state[5] ^ state[13],
+        state[6] ^ state[14],
+        state[7] ^ state[15],
     ]
 }

@@ -11,8 +11,8 @@ use crate::words::bytes_of;
 #[derive(Drop)]
 pub struct Hasher {
     stack: Stack,
-    // A chunk is closed only when more bytes are there, since the last one is flagged.
-    chunk: [u8; 1024],
+    // The open chunk. It is closed only when more bytes are there, since the last one may be the root.
+    chunk: [u8; CHUNK_LEN],
     used: usize,
     ghost in_chunk: { used ≤ 1024 },
     ghost countable: { 1024 * stack.count + used < 2 ^ 64 },

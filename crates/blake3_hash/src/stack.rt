@@ -7,14 +7,14 @@ ghost use Rattle.blake3_hash.specs.Tree.{tree};
 use crate::flags::root_flag;
 use crate::parent::parent_value;
 
-/// A tree of 2^54 chunks has all the bytes that can be counted.
-pub(crate) const HEIGHTS: usize = 54;
+// A tree of 2^54 chunks has more bytes than can be counted.
+const HEIGHTS: usize = 54;
 
-/// The subtrees over the chunks so far: where the count of chunks, in binary, has a one at a
-/// height, the value there is that of the last subtree of so many chunks.
+/// The subtrees over the chunks so far that are whole and have no right sibling yet, by height: as
+/// in the count of chunks, in binary, at most one of 1, 2, 4, .. chunks.
 #[derive(Drop)]
 pub(crate) struct Stack {
-    values: [[u32; 8]; 54],
+    values: [[u32; 8]; HEIGHTS],
     count: u64,
     ghost few: { count < 2 ^ 54 },
 }
@@ -37,8 +37,8 @@ impl Stack {
         self.count
     }
 
-    // The subtree that the next chunk completes, and its height: a parent of each two subtrees of
-    // the same height.
+    // The subtree that the next chunk completes, and its height. Each subtree that waits just below
+    // becomes a left child, as a carry runs through the ones of a binary count.
     fn completed(&self, chunk: [u32; 8]) -> (usize, [u32; 8])
         requires { self.now.count + 1 < 2 ^ 54 }
         ensures low { result.0 < 54 }
