@@ -1,6 +1,6 @@
 //! What the program does, over any reader and writer.
 ghost use Rattle.std.specs.Prelude.{◌≡◌, ◌<◌, ◌++◌, ◌∷◌, [], length, IfOk, IfSome, OnOk};
-ghost use Rattle.std.specs.Io.KnownBytes.{Appends, IsAtEnd};
+ghost use Rattle.std.specs.Io.KnownBytes.{Appends};
 ghost use Rattle.blake3_hash.specs.Tree.{blake3};
 ghost use Rattle.hex.specs.Hex.{encode_lower};
 
@@ -8,7 +8,8 @@ use blake3_hash::Hasher;
 use std::io;
 use std::io::{Error, ErrorKind, Read, Write};
 
-/// The digest of all that is left to be read, which is read in pieces into `piece`.
+/// The digest of all that is left to be read, which is read in pieces into `piece`. Input that isn't
+/// shorter than 2^64 - 1 bytes is `FileTooLarge`.
 pub fn digest_of<R: Read>(reader: &mut R, piece: &mut [u8]) -> io::Result<[u8; 32]>
     requires { 0 < length piece.old }
     ensures { IfOk result (λ digest. IfSome (R.remaining reader.old) (λ bytes. digest ≡ blake3 bytes)) }
@@ -41,6 +42,7 @@ pub fn write_sum<R: Read, W: Write>(
 {
     let digest = digest_of(reader, piece)?;
     let mut line = [b'\n'; 65];
+    // The digits have their room, so this does not fail.
     let _ = hex::encode_to_slice(&digest, &mut line[..64]);
     writer.write_all(&line)
 }

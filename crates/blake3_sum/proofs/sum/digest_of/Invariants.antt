@@ -1,4 +1,4 @@
-use Rattle.std.proofs.Common.{◌≡◌, ℕ, ◌+◌, ◌-◌, ◌*◌, ◌^◌, ◌<◌, List, length}
+use Rattle.std.proofs.Common.{◌≡◌, ℕ, ◌+◌, ◌-◌, ◌^◌, ◌<◌, List, length}
 use Rattle.std.specs.Io.KnownBytes.{Consumes}
 use Rattle.blake3_hash.specs.Hasher.{Holds, total}
 use Rattle.blake3_sum.proofs.sum.digest_of.Given as goal
