@@ -39,11 +39,11 @@ value_after number chunk (suc n) =
 abbrev pub blocks_before_last : List ℕ → ℕ
 blocks_before_last chunk = (length chunk - 1) / 64
 
--- the chaining value of chunk number `number`, whose last block is filled up with zeros, compressed
+-- the chaining value of chunk number `number`: its last block is filled up with zeros, compressed
 -- with its true length and flagged CHUNK_END, and `flags` besides (2.4)
 unfoldable pub chunk_value : ℕ → List ℕ → ℕ → List ℕ
 chunk_value number chunk flags =
     let n = blocks_before_last chunk in
     let last = drop (64 * n) chunk in
-    compress (value_after number chunk n) (block_words (filled last)) number (length last)
-    (bit_or (bit_or (start_flag n) chunk_end) flags)
+    let last_flags = bit_or (bit_or (start_flag n) chunk_end) flags in
+    compress (value_after number chunk n) (block_words (filled last)) number (length last) last_flags

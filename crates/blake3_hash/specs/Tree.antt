@@ -27,15 +27,16 @@ left_chunks n = power_below n n
 
 -- The chaining value of the tree over bytes whose first chunk has the number `first`, with `flags`
 -- on its last compression besides: one chunk, or the parent of the tree over the left chunks and
--- the tree over the rest (2.1). `depth` is any number that is not less than the tree's height.
+-- the tree over the rest (2.1). `depth` is any number that is not less than the tree's height; the
+-- law `tree_law` says the same without it.
 unfoldable pub tree_within : ℕ → ℕ → List ℕ → ℕ → List ℕ
 tree_within zero first bytes flags = chunk_value first bytes flags
 tree_within (suc depth) first bytes flags =
     let count = chunk_count (length bytes) in
     let left = left_chunks count in
-    if count == 1 then chunk_value first bytes flags
-    else parent_value (tree_within depth first (take (1024 * left) bytes) 0)
-    (tree_within depth (first + left) (drop (1024 * left) bytes) 0) flags
+    let front = tree_within depth first (take (1024 * left) bytes) 0 in
+    let rest = tree_within depth (first + left) (drop (1024 * left) bytes) 0 in
+    if count == 1 then chunk_value first bytes flags else parent_value front rest flags
 
 -- the same, at a depth that always suffices: a tree is less high than its chunks are many
 unfoldable pub tree : ℕ → List ℕ → ℕ → List ℕ
