@@ -73,7 +73,7 @@ impl Hasher {
 
     /// Adds bytes.
     pub fn update(&mut self, bytes: &[u8])
-        requires { total self.old + length bytes.now < 2 ^ 64 }
+        requires countable { total self.old + length bytes.now < 2 ^ 64 }
         ensures total { total self.new ≡ total self.old + length bytes.now }
         ensures holds { (before : List ℕ) → Holds self.old before → Holds self.new (before ++ bytes.now) }
     {
@@ -106,7 +106,7 @@ impl Hasher {
 
     /// The digest of all bytes that were given, which may be followed by more.
     pub fn finish(&self) -> [u8; 32]
-        ensures { (bytes : List ℕ) → Holds self.now bytes → result ≡ blake3 bytes }
+        ensures digest { (bytes : List ℕ) → Holds self.now bytes → result ≡ blake3 bytes }
     {
         let count = self.stack.count();
         let last = chunk_value(count, &self.chunk[..self.used], root_flag(count));
@@ -116,7 +116,7 @@ impl Hasher {
 
 /// The digest of bytes that are given at once.
 pub fn digest(bytes: &[u8]) -> [u8; 32]
-    ensures { result ≡ blake3 bytes.now }
+    ensures digest { result ≡ blake3 bytes.now }
 {
     let mut hasher = Hasher::new();
     hasher.update(bytes);

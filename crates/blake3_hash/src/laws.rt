@@ -17,8 +17,8 @@ pub fn tree_law()
 
 /// The digest of bytes that are cut into pieces in any way, which are given one after the other.
 pub fn digest_of_pieces(pieces: &[&[u8]]) -> [u8; 32]
-    requires { length (flat_map (λ p. p.now) pieces.now) < 2 ^ 64 }
-    ensures { result ≡ blake3 (flat_map (λ p. p.now) pieces.now) }
+    requires countable { length (flat_map (λ p. p.now) pieces.now) < 2 ^ 64 }
+    ensures digest { result ≡ blake3 (flat_map (λ p. p.now) pieces.now) }
 {
     let mut hasher = Hasher::new();
     'pieces: for piece in pieces {

@@ -1,7 +1,7 @@
 //! Digests that another implementation gives.
 ghost use Rattle.std.specs.Prelude.{◌<◌};
 
-use crate::{Hasher, digest};
+use crate::{Hasher, digest, digest_of_pieces, tree_law};
 use std::alloc::{AllocError, Global};
 use std::test::Fail;
 
@@ -182,4 +182,12 @@ fn the_same_in_pieces(rt: HostRuntime) -> Result<(), Fail> {
         }
     }
     Ok(())
+}
+
+#[test]
+fn pieces_have_the_digest_of_the_whole(rt: HostRuntime) {
+    let front: &[u8] = b"ab";
+    let back: &[u8] = b"c";
+    assert_eq!(rt; digest_of_pieces(&[front, back]), digest(b"abc"));
+    tree_law();
 }

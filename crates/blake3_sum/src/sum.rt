@@ -11,8 +11,8 @@ use std::io::{Error, ErrorKind, Read, Write};
 /// The digest of all that is left to be read, which is read in pieces into `piece`. Input that isn't
 /// shorter than 2^64 - 1 bytes is `FileTooLarge`.
 pub fn digest_of<R: Read>(reader: &mut R, piece: &mut [u8]) -> io::Result<[u8; 32]>
-    requires { 0 < length piece.old }
-    ensures { IfOk result (λ digest. IfSome (R.remaining reader.old) (λ bytes. digest ≡ blake3 bytes)) }
+    requires room { 0 < length piece.old }
+    ensures digest { IfOk result (λ digest. IfSome (R.remaining reader.old) (λ bytes. digest ≡ blake3 bytes)) }
 {
     let mut hasher = Hasher::new();
     let mut left = u64::MAX;
@@ -36,8 +36,8 @@ pub fn write_sum<R: Read, W: Write>(
     writer: &mut W,
     piece: &mut [u8],
 ) -> io::Result<()>
-    requires { 0 < length piece.old }
-    ensures { OnOk result (IfSome (R.remaining reader.old)
+    requires room { 0 < length piece.old }
+    ensures written { OnOk result (IfSome (R.remaining reader.old)
         (λ bytes. Appends (W.contents writer.old) (W.contents writer.new) (encode_lower (blake3 bytes) ++ 10 ∷ []))) }
 {
     let digest = digest_of(reader, piece)?;

@@ -9,12 +9,14 @@ use Rattle.blake3_hash.proofs.hasher.Hasher.finish.Goals as goal
 
 pub returns : goal.returns
 unfolding Holds HasBytes blake3
-returns c = λ bytes held.
-    let s = c.args.self.now in
-    let n = s.stack.count in
-    let has = held.0 in
-    let short : length bytes ≤ 1024 * (n + 1) = omega (arith, has.0, s.in_chunk) in
-    let ends : EndsAfter n bytes = (λ some. omega (arith, has.0, held.1 some), short) in
-    let last = tree_from-last n c.count-count.result bytes _ (root_flag n) c.root_flag.result _ short has.2 c.chunk_value-last.ensures c.count-count.ensures
-    (c.root_flag.ensures ∙ ap root_flag c.count-count.ensures) in
-    c.bytes_of.ensures ∙ ap (flat_map (to_le_bytes w32)) (c.root.ensures bytes ends has.1 last)
+returns c = record {
+  digest = λ bytes held.
+      let s = c.args.self.now in
+      let n = s.stack.count in
+      let has = held.0 in
+      let short : length bytes ≤ 1024 * (n + 1) = omega (arith, has.0, s.in_chunk) in
+      let ends : EndsAfter n bytes = (λ some. omega (arith, has.0, held.1 some), short) in
+      let last = tree_from-last n c.count-count.result bytes _ (root_flag n) c.root_flag.result _ short has.2 c.chunk_value-last.ensures c.count-count.ensures
+      (c.root_flag.ensures ∙ ap root_flag c.count-count.ensures) in
+      c.bytes_of.ensures ∙ ap (flat_map (to_le_bytes w32)) (c.root.ensures bytes ends has.1 last);
+}
