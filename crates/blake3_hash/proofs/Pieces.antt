@@ -9,6 +9,9 @@ pub pieces-fit : {X : Type 0} (f : X → List ℕ) (xs : List X) (i : ℕ) (d : 
     → length (flat_map f (take i xs)) + length (f (get_or xs i d)) ≤ length (flat_map f xs)
 pieces-fit f xs i d below =
     let whole = ap (λ l. length (flat_map f l)) (take-append-drop i xs) in
-    let parts : length (flat_map f (take i xs ++ drop i xs)) ≡ length (flat_map f (take i xs)) + length (flat_map f (drop i xs)) = ap length (flat_map-append f (take i xs) (drop i xs)) ∙ length-append (flat_map f (take i xs)) (flat_map f (drop i xs)) in
-    let next : length (flat_map f (drop i xs)) ≡ length (f (get_or xs i d)) + length (flat_map f (drop (i + 1) xs)) = rw (drop_more xs i d below) (length-append (f (get_or xs i d)) (flat_map f (drop (i + 1) xs))) in
+    let front : List ℕ = flat_map f (take i xs) in
+    let parts : length (flat_map f (take i xs ++ drop i xs)) ≡ length front + length (flat_map f (drop i xs)) =
+    ap length (flat_map-append f (take i xs) (drop i xs)) ∙ length-append front (flat_map f (drop i xs)) in
+    let next : length (flat_map f (drop i xs)) ≡ length (f (get_or xs i d)) + length (flat_map f (drop (i + 1) xs)) =
+    rw (drop_more xs i d below) (length-append (f (get_or xs i d)) (flat_map f (drop (i + 1) xs))) in
     omega arith

@@ -12,7 +12,9 @@ merges-preserved c =
     let half = c.merges.left / 2 in
     let odd : c.merges.left ≡ 2 * half + 1 = omega arith in
     let halved : n / 2 ^ (k + 1) ≡ half = half-more n k ∙ ap (λ (x : ℕ). x / 2) c.merges.invariant.halved in
-    let carried : (n + 1) / 2 ^ (k + 1) ≡ half + 1 = half-more (n + 1) k ∙ ap (λ (x : ℕ). x / 2) c.merges.invariant.carried ∙ (let e : (c.merges.left + 1) / 2 ≡ half + 1 = omega arith in e) in
+    let carried : (n + 1) / 2 ^ (k + 1) ≡ half + 1 =
+    half-more (n + 1) k ∙ ap (λ (x : ℕ). x / 2) c.merges.invariant.carried
+    ∙ (let e : (c.merges.left + 1) / 2 ≡ half + 1 = omega arith in e) in
     record {
       low = height_below (n + 1) (k + 1) c.requires (omega arith);
       halved = halved;

@@ -25,7 +25,9 @@ merges-preserved c =
           elim c.if-waits.branch [
             | then-waits w ↦
                 let odd : c.merges.left ≡ 2 * half + 1 = omega arith in
-                let right : c.merges.value ≡ tree_from k (2 * half + 1) bytes 0 = value ∙ ap (λ (m : ℕ). tree_from k m bytes (root_flag m)) odd ∙ ap (tree_from k (2 * half + 1) bytes) (root_flag-some (2 * half + 1) (omega arith)) in
+                let right : c.merges.value ≡ tree_from k (2 * half + 1) bytes 0 =
+                value ∙ ap (λ (m : ℕ). tree_from k m bytes (root_flag m)) odd
+                ∙ ap (tree_from k (2 * half + 1) bytes) (root_flag-some (2 * half + 1) (omega arith)) in
                 w.value-is ∙ w.parent_value-value.ensures ∙ rw (w.root_flag.ensures, right)
                 (tree_from-next c.args.self.now.values n bytes k half (root_flag half) has (c.merges.invariant.halved ∙ odd) ends)
             | else-waits w ↦
