@@ -54,6 +54,10 @@ module _ {E H : Type 0} where
     pub splits : r.splits ≡ max p.splits q.splits
     pub turns : r.turns ≡ p.turns + q.turns
 
+  -- the pass lists its own share alone, and it is es
+  abbrev pub OwnsAlone : Known E H → List E → Type 0
+  OwnsAlone p es = p.own ≡ (p.number, es) ∷ []
+
   -- all passes of the lock were joined into this one: a share is listed under each number that was given
   abbrev pub IsWhole : Known E H → Type 0
   IsWhole p = (k : ℕ) → k ≤ p.splits → has_share p.own k ≡ true

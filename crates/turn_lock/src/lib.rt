@@ -9,6 +9,8 @@ mod send_sync;
 mod spent;
 mod stage;
 mod steps;
+#[cfg(test)]
+mod tests;
 mod turn;
 mod view;
 

@@ -1,5 +1,5 @@
 //! The lock.
-ghost use Rattle.std.specs.Prelude.{◌≡◌, ℕ, ◌+◌, ◌*◌, ◌^◌, ◌<◌, ◌≤◌, List, [], true, IfOk, IfErr, OnOk, IfSome, IfNone, IsOk, is_some};
+ghost use Rattle.std.specs.Prelude.{◌≡◌, ℕ, ◌+◌, ◌*◌, ◌^◌, ◌<◌, ◌≤◌, List, [], true, IfOk, IfErr, OnOk, IfSome, IfNone, IsOk, is_some, length, max};
 ghost use Rattle.turn_lock.specs.declared.stage.Stage.TheVariants.{Idle, Turning, In};
 ghost use Rattle.turn_lock.specs.Histories.{has_share};
 ghost use Rattle.turn_lock.specs.Steps.{looked_view, turning_view, out_view, in_view, ended_view, Tried};
@@ -149,12 +149,11 @@ impl<V: Replayed + Drop> Turn<V> {
             turns,
             ..
         } = pass;
-        self.table.shared.join_seat::<Seats>(seat, other_seat);
-        self.table.shared.load::<Compare>(seat, 0);
+        self.merge(seat, other_seat);
         *front = (*front).max(other_front);
         *past = (*past).max(other_past);
         *splits = (*splits).max(other_splits);
-        *turns = (*turns).wrapping_add(other_turns);
+        *turns = (*turns).saturating_add(other_turns);
     }
 
     /// Gives the value back to the pass into which all others were joined.
@@ -249,5 +248,21 @@ impl<V: Replayed + Drop> Turn<V> {
         ensures given { (es : List V.Entry) → seat.old.me.0.stage ≡ In es → seat.new.me ≡ (ended_view seat.old.me.0 es, seat.old.me.1) }
     {
         self.table.shared.store::<GiveBack>(seat, 0, 2 * taken + 2);
+    }
+
+    // Joins a seat into another, and compares what the two have seen.
+    fn merge(&self, seat: &mut LockSeat<V>, other: LockSeat<V>)
+        requires lock { (seat.old.table_id ≡ self.now.table.shared.table_id) × (other.table_id ≡ self.now.table.shared.table_id) }
+        requires idle { (seat.old.me.1 ≡ []) × (seat.old.me.0.stage ≡ Idle) × (other.me.1 ≡ []) × (other.me.0.stage ≡ Idle) }
+        requires live { (has_share seat.old.me.0.own seat.old.me.0.number ≡ true) × (is_some seat.old.me.0.head ≡ true) }
+        ensures lock { seat.new.table_id ≡ seat.old.table_id }
+        ensures idle { (seat.new.me.1 ≡ []) × (seat.new.me.0.stage ≡ Idle) }
+        ensures live { (has_share seat.new.me.0.own seat.new.me.0.number ≡ true) × (is_some seat.new.me.0.head ≡ true) }
+        ensures front { length seat.new.me.0.seen ≡ max (length seat.old.me.0.seen) (length other.me.0.seen) }
+        ensures turns { seat.new.me.0.turns < 2 ^ 63 }
+        ensures joined { IsJoined (known_of seat.old.me.0) (known_of other.me.0) (known_of seat.new.me.0) }
+    {
+        self.table.shared.join_seat::<Seats>(seat, other);
+        self.table.shared.load::<Compare>(seat, 0);
     }
 }
