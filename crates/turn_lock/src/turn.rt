@@ -1,5 +1,5 @@
 //! The lock.
-ghost use Rattle.std.specs.Prelude.{◌≡◌, ℕ, ◌+◌, ◌*◌, ◌^◌, ◌<◌, ◌≤◌, List, [], true, IfOk, IfErr, OnOk, IfSome, IfNone, IsOk, is_some, length, max};
+ghost use Rattle.std.specs.Prelude.{◌≡◌, ℕ, ◌+◌, ◌*◌, ◌^◌, ◌<◌, ◌≤◌, List, [], true, IfOk, IfErr, OnErr, IfSome, IfNone, IsOk, is_some, length, max};
 ghost use Rattle.turn_lock.specs.declared.stage.Stage.TheVariants.{Idle, Turning, In};
 ghost use Rattle.turn_lock.specs.Histories.{has_share};
 ghost use Rattle.turn_lock.specs.Steps.{looked_view, turning_view, out_view, in_view, ended_view, Tried};
@@ -72,11 +72,16 @@ impl<V: Replayed + Drop> Turn<V> {
         requires act { AppendsAtMostOne V.entries V.head V.names F.FnOnce act (known pass.old) }
         ensures pass { IsPassOf self.now pass.new }
 
-        // One turn was taken, in which `act` met a history that goes on from what the pass had seen.
-        ensures turned { IfOk result (λ r. Turned V.entries V.head V.names F.FnOnce act (limit_of self.now) (known pass.old) r (known pass.new)) }
+        // One turn was taken, in which `act` met a history that goes on from what the pass had
+        // seen, and appended one entry or none.
+        ensures turned { IfOk result (λ r.
+            Turned V.entries V.head V.names F.FnOnce act
+            (limit_of self.now) (known pass.old) r (known pass.new)) }
 
-        // Just where all turns of the lock were taken. No turn was taken, and the pass has seen what it had.
-        ensures spent { IfErr result (λ s. (s.turns ≡ limit_of self.now) × ((known pass.old).past ≤ limit_of self.now) × (known pass.new ≡ after_spent (known pass.old) (limit_of self.now))) }
+        // Just where all turns of the lock were taken: so many are past, and all else is as before.
+        ensures limit { IfErr result (λ s. s.turns ≡ limit_of self.now) }
+        ensures reached { OnErr result ((known pass.old).past ≤ limit_of self.now) }
+        ensures spent { OnErr result (known pass.new ≡ after_spent (known pass.old) (limit_of self.now)) }
     {
         let Pass {
             seat,
@@ -103,9 +108,10 @@ impl<V: Replayed + Drop> Turn<V> {
         requires first { (known pass.old).number ≡ 0 }
         requires room { (known pass.old).splits < 65535 }
         ensures pass { IsPassOf self.now pass.new }
-        ensures always { IsOk result }
+        ensures succeeds { IsOk result }
         ensures split { known pass.new ≡ after_split (known pass.old) }
-        ensures given { IfOk result (λ p. (IsPassOf self.now p) × (known p ≡ split_from (known pass.old))) }
+        ensures given { IfOk result (λ p. IsPassOf self.now p) }
+        ensures knows { IfOk result (λ p. known p ≡ split_from (known pass.old)) }
     {
         let Pass {
             seat,
@@ -160,7 +166,7 @@ impl<V: Replayed + Drop> Turn<V> {
     pub fn close(self, pass: Pass<V>) -> V
         requires pass { IsPassOf self pass }
         requires whole { IsWhole (known pass) }
-        ensures { Closes V.entries V.head V.names (known pass) result }
+        ensures closed { Closes V.entries V.head V.names (known pass) result }
     {
         let Turn { table, limit: _ } = self;
         let Pass {
@@ -190,6 +196,7 @@ impl<V: Replayed + Drop> Turn<V> {
         if found == last {
             return Attempt::Spent;
         }
+        // A word beyond `last` is never found. The rule doesn't say so, and to wait is right there too.
         if found > last || found % 2 == 1 {
             return Attempt::Busy;
         }
