@@ -1,14 +1,22 @@
 -- What a seat knows before and after each kind of step.
-use Rattle.std.specs.Prelude.{◌≡◌, ℕ, suc, ◌+◌, ◌/◌, ◌<◌, ◌≤◌, ◌⊎◌, List, [], ◌∷◌, ◌++◌, length, Some, None, max}
+use Rattle.std.specs.Prelude.{◌≡◌, ℕ, suc, ◌+◌, ◌/◌, ◌<◌, ◌≤◌, ◌⊎◌, List, [], ◌∷◌, ◌++◌, length, Some, None, is_some, true, max}
 use mathlib.Core.List.{IsPrefix}
 use Rattle.atomic_table.specs.Table.{Me, Step}
 use Rattle.turn_lock.specs.declared.attempt.Attempt.{Attempt}
 use Rattle.turn_lock.specs.declared.attempt.Attempt.TheVariants as attempt
 use Rattle.turn_lock.specs.declared.stage.Stage.TheVariants.{Idle, Turning, Out, In}
 use Rattle.turn_lock.specs.declared.view.View.{View}
-use Rattle.turn_lock.specs.Histories.{longer_share, longer, shorter}
+use Rattle.turn_lock.specs.Histories.{has_share, longer_share, longer, shorter}
 
 module _ {E H : Type 0} where
+  -- the seat hasn't the turn, and holds no slot
+  abbrev pub IsIdle : {V : Type 0} → Me V (View E H) → Type 0
+  IsIdle m = (m.1 ≡ []) × (m.0.stage ≡ Idle)
+
+  -- the seat lists a share under its number, and knows the head of the value at `new`
+  abbrev pub IsLive : View E H → Type 0
+  IsLive v = (has_share v.own v.number ≡ true) × (is_some v.head ≡ true)
+
   -- the first seat of a lock over a value with the head h
   abbrev pub first_view : H → View E H
   first_view h = record { stage = Idle; head = Some h; number = 0; seen = []; beside = []; own = (0, []) ∷ []; past = 0; splits = 0; turns = 0 }

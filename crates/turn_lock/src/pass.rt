@@ -1,7 +1,6 @@
 //! A pass of a lock.
-ghost use Rattle.std.specs.Prelude.{◌≡◌, [], length, true, is_some};
-ghost use Rattle.turn_lock.specs.declared.stage.Stage.TheVariants.{Idle};
-ghost use Rattle.turn_lock.specs.Histories.{has_share};
+ghost use Rattle.std.specs.Prelude.{◌≡◌, length};
+ghost use Rattle.turn_lock.specs.Steps.{IsIdle, IsLive};
 
 use crate::replayed::Replayed;
 use crate::rule::LockSeat;
@@ -16,9 +15,10 @@ pub struct Pass<V: Replayed> {
     pub(crate) past: u64,
     pub(crate) splits: u16,
     pub(crate) turns: u64,
-    ghost idle: { (seat.me.1 ≡ []) × (seat.me.0.stage ≡ Idle) },
-    ghost counted: { (front ≡ length seat.me.0.seen) × (number ≡ seat.me.0.number) × (past ≡ seat.me.0.past) × (splits ≡ seat.me.0.splits) × (turns ≡ seat.me.0.turns) },
-    ghost live: { (has_share seat.me.0.own number ≡ true) × (is_some seat.me.0.head ≡ true) },
+    ghost idle: { IsIdle seat.me },
+    ghost live: { IsLive seat.me.0 },
+    ghost seen: { front ≡ length seat.me.0.seen },
+    ghost numbers: { (number ≡ seat.me.0.number) × (past ≡ seat.me.0.past) × (splits ≡ seat.me.0.splits) × (turns ≡ seat.me.0.turns) },
 }
 
 impl<V: Replayed> Pass<V> {

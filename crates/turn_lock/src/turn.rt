@@ -1,8 +1,7 @@
 //! The lock.
-ghost use Rattle.std.specs.Prelude.{◌≡◌, ℕ, ◌+◌, ◌*◌, ◌^◌, ◌<◌, ◌≤◌, List, [], true, IfOk, IfErr, OnErr, IfSome, IfNone, IsOk, is_some, length, max};
-ghost use Rattle.turn_lock.specs.declared.stage.Stage.TheVariants.{Idle, Turning, In};
-ghost use Rattle.turn_lock.specs.Histories.{has_share};
-ghost use Rattle.turn_lock.specs.Steps.{looked_view, turning_view, out_view, in_view, ended_view, Tried};
+ghost use Rattle.std.specs.Prelude.{◌≡◌, ℕ, ◌+◌, ◌*◌, ◌^◌, ◌<◌, ◌≤◌, List, [], IfOk, IfErr, OnErr, IfSome, IfNone, IsOk, length, max};
+ghost use Rattle.turn_lock.specs.declared.stage.Stage.TheVariants.{Turning, In};
+ghost use Rattle.turn_lock.specs.Steps.{IsIdle, IsLive, Tried, ended_view};
 ghost use Rattle.turn_lock.specs.Known.{known_of, first_pass, after_spent, after_split, split_from, IsJoined, IsWhole};
 ghost use Rattle.turn_lock.specs.Passes.{AppendsAtMostOne, Turned, Closes};
 ghost use Rattle.turn_lock.specs.Performs.{Performed};
@@ -24,7 +23,8 @@ use std::thread;
 pub struct Turn<V: Replayed> {
     table: LockTable<V>,
     limit: u64,
-    ghost one: { (table.shared.table_id.words ≡ 1) × (table.shared.table_id.slots ≡ 1) × (limit ≤ 2 ^ 62) },
+    ghost one: { (table.shared.table_id.words ≡ 1) × (table.shared.table_id.slots ≡ 1) },
+    ghost few: { limit ≤ 2 ^ 62 },
 }
 
 impl<V: Replayed + Drop> Turn<V> {
@@ -81,7 +81,8 @@ impl<V: Replayed + Drop> Turn<V> {
         // Just where all turns of the lock were taken: so many are past, and all else is as before.
         ensures limit { IfErr result (λ s. s.turns ≡ limit_of self.now) }
         ensures reached { OnErr result ((known pass.old).past ≤ limit_of self.now) }
-        ensures spent { OnErr result (known pass.new ≡ after_spent (known pass.old) (limit_of self.now)) }
+        ensures spent {
+            OnErr result (known pass.new ≡ after_spent (known pass.old) (limit_of self.now)) }
     {
         let Pass {
             seat,
@@ -186,8 +187,8 @@ impl<V: Replayed + Drop> Turn<V> {
     // One try for the turn.
     fn attempt(&self, seat: &mut LockSeat<V>) -> Attempt
         requires lock { seat.old.table_id ≡ self.now.table.shared.table_id }
-        requires idle { (seat.old.me.1 ≡ []) × (seat.old.me.0.stage ≡ Idle) }
-        requires live { has_share seat.old.me.0.own seat.old.me.0.number ≡ true }
+        requires idle { IsIdle seat.old.me }
+        requires live { IsLive seat.old.me.0 }
         ensures lock { seat.new.table_id ≡ seat.old.table_id }
         ensures tried { Tried self.now.limit seat.old.me seat.new.me result }
     {
@@ -196,7 +197,7 @@ impl<V: Replayed + Drop> Turn<V> {
         if found == last {
             return Attempt::Spent;
         }
-        // A word beyond `last` is never found. The rule doesn't say so, and to wait is right there too.
+        // A word beyond `last` is never found. The rule doesn't say so, and to wait is right then.
         if found > last || found % 2 == 1 {
             return Attempt::Busy;
         }
@@ -212,11 +213,11 @@ impl<V: Replayed + Drop> Turn<V> {
     // How many turns were taken before this one, or nothing where all were.
     fn acquire<W: Wait>(&self, rt: &W, seat: &mut LockSeat<V>) -> Option<u64>
         requires lock { seat.old.table_id ≡ self.now.table.shared.table_id }
-        requires idle { (seat.old.me.1 ≡ []) × (seat.old.me.0.stage ≡ Idle) }
-        requires live { has_share seat.old.me.0.own seat.old.me.0.number ≡ true }
+        requires idle { IsIdle seat.old.me }
+        requires live { IsLive seat.old.me.0 }
         ensures lock { seat.new.table_id ≡ seat.old.table_id }
-        ensures none { IfNone result ((seat.new.me ≡ (looked_view seat.old.me.0 self.now.limit, [])) × (seat.old.me.0.past ≤ self.now.limit)) }
-        ensures some { IfSome result (λ n. (seat.new.me ≡ (turning_view seat.old.me.0 n, [])) × (seat.old.me.0.past ≤ n) × (seat.old.me.0.turns ≤ n) × (n < self.now.limit)) }
+        ensures turn { IfSome result (λ n. Tried self.now.limit seat.old.me seat.new.me (Attempt.Turn n)) }
+        ensures spent { IfNone result (Tried self.now.limit seat.old.me seat.new.me Attempt.Spent) }
     {
         for _ in rt.forever() {
             match self.attempt(seat) {
@@ -232,10 +233,13 @@ impl<V: Replayed + Drop> Turn<V> {
     fn perform<F: FnOnce(&mut V) -> R, R>(&self, seat: &mut LockSeat<V>, act: F) -> (R, u64)
         requires lock { seat.old.table_id ≡ self.now.table.shared.table_id }
         requires turning { (seat.old.me.1 ≡ []) × (seat.old.me.0.stage ≡ Turning) }
-        requires live { (has_share seat.old.me.0.own seat.old.me.0.number ≡ true) × (is_some seat.old.me.0.head ≡ true) }
-        requires act { AppendsAtMostOne V.entries V.head V.names F.FnOnce act (known_of seat.old.me.0) }
+        requires live { IsLive seat.old.me.0 }
+        requires act {
+            AppendsAtMostOne V.entries V.head V.names F.FnOnce act (known_of seat.old.me.0) }
         ensures lock { seat.new.table_id ≡ seat.old.table_id }
-        ensures performed { Performed V.entries V.head V.names F.FnOnce act seat.old.me.0 result.0 result.1 seat.new.me }
+        ensures performed {
+            Performed V.entries V.head V.names F.FnOnce act
+            seat.old.me.0 result.0 result.1 seat.new.me }
     {
         self.table.shared.load::<ValueOut>(seat, 0);
         let value = seat.slot_mut(&self.table.shared, 0);
@@ -248,26 +252,31 @@ impl<V: Replayed + Drop> Turn<V> {
     // Gives the turn back, which was the next one after `taken` others.
     fn release(&self, seat: &mut LockSeat<V>, taken: u64)
         requires lock { seat.old.table_id ≡ self.now.table.shared.table_id }
-        requires live { has_share seat.old.me.0.own seat.old.me.0.number ≡ true }
+        requires live { IsLive seat.old.me.0 }
         requires home { (es : List V.Entry) × (seat.old.me.0.stage ≡ In es) }
         requires taken { (taken ≡ seat.old.me.0.past) × (taken < 2 ^ 62) }
         ensures lock { seat.new.table_id ≡ seat.old.table_id }
-        ensures given { (es : List V.Entry) → seat.old.me.0.stage ≡ In es → seat.new.me ≡ (ended_view seat.old.me.0 es, seat.old.me.1) }
+        ensures given {
+            (es : List V.Entry) → seat.old.me.0.stage ≡ In es
+            → seat.new.me ≡ (ended_view seat.old.me.0 es, seat.old.me.1) }
     {
         self.table.shared.store::<GiveBack>(seat, 0, 2 * taken + 2);
     }
 
     // Joins a seat into another, and compares what the two have seen.
     fn merge(&self, seat: &mut LockSeat<V>, other: LockSeat<V>)
-        requires lock { (seat.old.table_id ≡ self.now.table.shared.table_id) × (other.table_id ≡ self.now.table.shared.table_id) }
-        requires idle { (seat.old.me.1 ≡ []) × (seat.old.me.0.stage ≡ Idle) × (other.me.1 ≡ []) × (other.me.0.stage ≡ Idle) }
-        requires live { (has_share seat.old.me.0.own seat.old.me.0.number ≡ true) × (is_some seat.old.me.0.head ≡ true) }
+        requires lock { seat.old.table_id ≡ self.now.table.shared.table_id }
+        requires other { other.table_id ≡ self.now.table.shared.table_id }
+        requires idle { IsIdle seat.old.me × IsIdle other.me }
+        requires live { IsLive seat.old.me.0 }
         ensures lock { seat.new.table_id ≡ seat.old.table_id }
-        ensures idle { (seat.new.me.1 ≡ []) × (seat.new.me.0.stage ≡ Idle) }
-        ensures live { (has_share seat.new.me.0.own seat.new.me.0.number ≡ true) × (is_some seat.new.me.0.head ≡ true) }
-        ensures front { length seat.new.me.0.seen ≡ max (length seat.old.me.0.seen) (length other.me.0.seen) }
+        ensures idle { IsIdle seat.new.me }
+        ensures live { IsLive seat.new.me.0 }
+        ensures front {
+            length seat.new.me.0.seen ≡ max (length seat.old.me.0.seen) (length other.me.0.seen) }
         ensures turns { seat.new.me.0.turns < 2 ^ 63 }
-        ensures joined { IsJoined (known_of seat.old.me.0) (known_of other.me.0) (known_of seat.new.me.0) }
+        ensures joined {
+            IsJoined (known_of seat.old.me.0) (known_of other.me.0) (known_of seat.new.me.0) }
     {
         self.table.shared.join_seat::<Seats>(seat, other);
         self.table.shared.load::<Compare>(seat, 0);

@@ -9,4 +9,4 @@ load-found-requires g c = (search rules, search rules, looks _ _ _ _ _ _ _ c.req
 pub compare_exchange-held-requires : goal.compare_exchange-held-requires
 compare_exchange-held-requires g c =
     let now = c.load-found.ensures.2.0 in
-    (search rules, search rules, takes_turn _ _ _ _ _ _ _ _ _ (ap (λ m. m.0.stage) now) (subst (λ m. has_share m.0.own m.0.number ≡ true) (sym now) c.requires.live) (search rules) refl)
+    (search rules, search rules, takes_turn _ _ _ _ _ _ _ _ _ (ap (λ m. m.0.stage) now) (subst (λ m. has_share m.0.own m.0.number ≡ true) (sym now) c.requires.live.0) (search rules) refl)

@@ -9,7 +9,7 @@ use Rattle.turn_lock.proofs.turn.Turn.merge.Goals as goal
 pub join_seat-requires : goal.join_seat-requires
 join_seat-requires g c =
     let idle = c.requires.idle in
-    (search rules, search rules, search rules, search rules, joins _ _ _ _ _ _ _ _ idle.1 idle.3 c.requires.live.0)
+    (search rules, search rules, search rules, search rules, joins _ _ _ _ _ _ _ _ idle.0.1 idle.1.1 c.requires.live.0)
 
 pub load-requires : goal.load-requires
 load-requires g c = (search rules, search rules, compares _ _ _ _ _ _ _)
@@ -25,7 +25,7 @@ returns g c =
     let compared = subst (λ m. (length m.0.beside ≤ length m.0.seen → IsPrefix m.0.beside m.0.seen)) joined told.2 in
     record {
       lock = search rules;
-      idle = (ap (λ m. m.1) is ∙ c.requires.idle.0, ap (λ m. m.0.stage) is ∙ c.requires.idle.1);
+      idle = (ap (λ m. m.1) is ∙ c.requires.idle.0.0, ap (λ m. m.0.stage) is ∙ c.requires.idle.0.1);
       live = (ap (λ m. has_share m.0.own m.0.number) is ∙ has_share-append v.own w.own v.number c.requires.live.0, ap (λ m. is_some m.0.head) is ∙ c.requires.live.1);
       front = ap length seen ∙ length-longer v.seen w.seen;
       turns = (let few = told.1 in let same = ap (λ m. m.0.turns) told.0 in omega (arith, c.load.type_inv));
