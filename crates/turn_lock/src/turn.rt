@@ -81,8 +81,7 @@ impl<V: Replayed + Drop> Turn<V> {
         // Just where all turns of the lock were taken: so many are past, and all else is as before.
         ensures limit { IfErr result (λ s. s.turns ≡ limit_of self.now) }
         ensures reached { OnErr result ((known pass.old).past ≤ limit_of self.now) }
-        ensures spent {
-            OnErr result (known pass.new ≡ after_spent (known pass.old) (limit_of self.now)) }
+        ensures spent { OnErr result (known pass.new ≡ after_spent (known pass.old) (limit_of self.now)) }
     {
         let Pass {
             seat,
@@ -234,11 +233,9 @@ impl<V: Replayed + Drop> Turn<V> {
         requires lock { seat.old.table_id ≡ self.now.table.shared.table_id }
         requires turning { (seat.old.me.1 ≡ []) × (seat.old.me.0.stage ≡ Turning) }
         requires live { IsLive seat.old.me.0 }
-        requires act {
-            AppendsAtMostOne V.entries V.head V.names F.FnOnce act (known_of seat.old.me.0) }
+        requires act { AppendsAtMostOne V.entries V.head V.names F.FnOnce act (known_of seat.old.me.0) }
         ensures lock { seat.new.table_id ≡ seat.old.table_id }
-        ensures performed {
-            Performed V.entries V.head V.names F.FnOnce act
+        ensures performed { Performed V.entries V.head V.names F.FnOnce act
             seat.old.me.0 result.0 result.1 seat.new.me }
     {
         self.table.shared.load::<ValueOut>(seat, 0);
@@ -256,8 +253,7 @@ impl<V: Replayed + Drop> Turn<V> {
         requires home { (es : List V.Entry) × (seat.old.me.0.stage ≡ In es) }
         requires taken { (taken ≡ seat.old.me.0.past) × (taken < 2 ^ 62) }
         ensures lock { seat.new.table_id ≡ seat.old.table_id }
-        ensures given {
-            (es : List V.Entry) → seat.old.me.0.stage ≡ In es
+        ensures given { (es : List V.Entry) → seat.old.me.0.stage ≡ In es
             → seat.new.me ≡ (ended_view seat.old.me.0 es, seat.old.me.1) }
     {
         self.table.shared.store::<GiveBack>(seat, 0, 2 * taken + 2);
@@ -272,11 +268,9 @@ impl<V: Replayed + Drop> Turn<V> {
         ensures lock { seat.new.table_id ≡ seat.old.table_id }
         ensures idle { IsIdle seat.new.me }
         ensures live { IsLive seat.new.me.0 }
-        ensures front {
-            length seat.new.me.0.seen ≡ max (length seat.old.me.0.seen) (length other.me.0.seen) }
+        ensures front { length seat.new.me.0.seen ≡ max (length seat.old.me.0.seen) (length other.me.0.seen) }
         ensures turns { seat.new.me.0.turns < 2 ^ 63 }
-        ensures joined {
-            IsJoined (known_of seat.old.me.0) (known_of other.me.0) (known_of seat.new.me.0) }
+        ensures joined { IsJoined (known_of seat.old.me.0) (known_of other.me.0) (known_of seat.new.me.0) }
     {
         self.table.shared.join_seat::<Seats>(seat, other);
         self.table.shared.load::<Compare>(seat, 0);
