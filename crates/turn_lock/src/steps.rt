@@ -1,4 +1,5 @@
-//! The kinds of step at the lock, and what each tells its seat. There is no other.
+//! The seven kinds of step at the lock, and what each tells its seat: a load, which looks or compares, taking the turn,
+//! value out, value in, giving the turn back, splitting a seat and joining a seat. There is no other.
 ghost use Rattle.turn_lock.specs.Steps.{Looked, Compared, TookTurn, TookValueOut, PutValueIn, GaveBack, left_view, right_view, joined_view, gone_view};
 
 use crate::replayed::Replayed;
@@ -12,7 +13,7 @@ impl<V: Replayed> Play<V, View<V::Entry, V::Head>> for Look {
     ghost then = { Looked };
 }
 
-/// A load after a join, that compares the two beginnings.
+/// A load after a join, that compares the two beginnings and notes nothing.
 pub(crate) struct Compare;
 
 impl<V: Replayed> Play<V, View<V::Entry, V::Head>> for Compare {
