@@ -17,6 +17,7 @@ use Rattle.turn_lock.proofs.TurnSteps.{puts_value_in}
 abbrev pub turned_view : {E H : Type 0} → View E H → ℕ → List E → List E → View E H
 turned_view v n history es = record v { stage = Idle; seen = history ++ es; own = longer_share v.number es v.own; past = suc n; turns = suc v.turns }
 
+-- a head that is known is the value's, where it is no other
 head_is : {H : Type 0} (head : Option H) (x : H) → is_some head ≡ true → ((y : H) → head ≡ Some y → x ≡ y) → head ≡ Some x
 head_is (Some y) x some same = ap Some (sym (same y refl))
 head_is None x some same = absurd (true≢false (sym some))
@@ -29,6 +30,7 @@ module _ {V E H : Type 0} (entries : V → List E) (head_of : V → H) (names : 
     pub appends : Appends entries head_of names v.number x y es
     pub is : m ≡ (out_view v (entries x), (0, x) ∷ [])
 
+  -- a call of f at the value that went out
   pub ran : (v : View E H) (c : List (ℕ × V)) (m : Me V (View E H)) (x y : V) (r : R) → c ≡ [] → is_some v.head ≡ true → AppendsAtMostOne entries head_of names g f (known_of v) → TookValueOut entries head_of (step 0 0 0 0 none) (v, c) 0 m → m.1 ≡ (0, x) ∷ rest m.1
       → FnOnceReturnsAtMut g f x r y → Ran v m x y r
   ran v c m x y r none_held live acts out here returned =
@@ -68,6 +70,7 @@ module _ {V E H : Type 0} (entries : V → List E) (head_of : V → H) (names : 
     pub is : m ≡ (turned_view v n met es, [])
     pub counted : count ≡ length (met ++ es)
 
+  -- the steps of a turn, put together
   pub whole_turn : (limit n : ℕ) (v : View E H) (m o w : Me V (View E H)) (r : R) (count : ℕ) → v.past ≤ n → n < limit → m ≡ (turning_view v n, []) → Performed entries head_of names g f m.0 r count o
       → ((es : List E) → o.0.stage ≡ In es → w ≡ (ended_view o.0 es, o.1)) → Whole limit n v r count w
   whole_turn limit n v m o w r count later within took performed gave = from_turn (subst (λ (p : Me V (View E H)). Performed entries head_of names g f p.0 r count o) took performed)

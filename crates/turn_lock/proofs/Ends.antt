@@ -18,10 +18,12 @@ use Rattle.turn_lock.specs.Steps.{first_view}
 use Rattle.turn_lock.proofs.Histories.{AllByRecursion-imp, HasShare-of}
 use Rattle.turn_lock.proofs.Sums.{same_at, sum_by-only}
 
+-- no share is listed
 own_none : {E : Type 0} (own : List (ℕ × List E)) → ((k : ℕ) (es : List E) → HasShare own k es → ⊥) → own ≡ []
 own_none [] nothing = refl
 own_none (p ∷ ps) nothing = absurd (nothing p.0 p.1 (inl refl))
 
+-- the head that is known
 some_of : {H : Type 0} (top : Option H) → is_some top ≡ true → (x : H) × (top ≡ Some x)
 some_of (Some x) e = (x, refl)
 some_of None e = absurd (true≢false (sym e))

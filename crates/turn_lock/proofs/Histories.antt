@@ -33,6 +33,7 @@ module _ {E : Type 0} where
       by_order true e = rw e (second (grind arith))
       by_order false e = rw e (first (grind arith))
 
+  -- its length
   pub length-longer : (xs ys : List E) → length (longer xs ys) ≡ max (length xs) (length ys)
   length-longer xs ys = either_longer (λ l _. length l ≡ max (length xs) (length ys)) xs ys (λ le. omega arith) (λ le. omega arith)
 
@@ -41,6 +42,7 @@ module _ {E : Type 0} where
   longer_begins xs ys =
       either_longer (λ l s. (length s ≤ length l → IsPrefix s l) → IsPrefix xs l × IsPrefix ys l) xs ys (λ le f. (prefix_refl xs, f le)) (λ le f. (f le, prefix_refl ys))
 
+  -- what follows holds of each too, and of each of both lists
   pub AllByRecursion-imp : (P Q : E → Type 0) → ((e : E) → P e → Q e) → (es : List E) → AllByRecursion P es → AllByRecursion Q es
   AllByRecursion-imp P Q f [] t = tt
   AllByRecursion-imp P Q f (e ∷ es) t = (f e t.0, AllByRecursion-imp P Q f es t.1)
@@ -59,6 +61,7 @@ module _ {E : Type 0} where
     share_of-all k [] t = refl
     share_of-all k (e ∷ es) t = rw (eq-eqb (names e) k t.0) (ap (λ l. e ∷ l) (share_of-all k es t.1))
 
+    -- one history after another
     pub share_of-append : (k : ℕ) (xs ys : List E) → share_of names k (xs ++ ys) ≡ share_of names k xs ++ share_of names k ys
     share_of-append k xs ys = filter-append (λ e. names e == k) xs ys
 
@@ -86,6 +89,7 @@ module _ {E : Type 0} where
   has_share-longer_share n es [] k = refl
   has_share-longer_share n es (p ∷ ps) k = ap (λ b. (p.0 == k) || b) (has_share-longer_share n es ps k)
 
+  -- the shares of two passes
   pub HasShare-append : (xs ys : List (ℕ × List E)) (k : ℕ) (es : List E) → HasShare (xs ++ ys) k es → HasShare xs k es ⊎ HasShare ys k es
   HasShare-append [] ys k es l = inr l
   HasShare-append (p ∷ ps) ys k es (inl e) = inl (inl e)
@@ -108,5 +112,6 @@ module _ {E : Type 0} where
       by_first ih true is h = (p.1, inl (λ i. (eqb-true p.0 k is i, p.1)))
       by_first ih false is h = let t = ih h in (t.0, inr t.1)
 
+  -- a share that is there is one
   pub has_share-some : (own : List (ℕ × List E)) (k : ℕ) → has_share own k ≡ true → own ≢ []
   has_share-some own k e none = true≢false (sym e ∙ ap (λ l. has_share l k) none)

@@ -18,6 +18,7 @@ use Rattle.turn_lock.proofs.Histories.{either_longer, AllByRecursion-imp, share_
 use Rattle.turn_lock.proofs.Sums.{snoc_at, sum_by-set_at}
 use Rattle.turn_lock.proofs.Fitting.{fits_set, held_still}
 
+-- a seat's number is below the count of seats
 at_less : {A : Type 0} (views : List A) (id : ℕ) (v : A) → get_elem? views id ≡ some v → id < length views
 at_less [] id v e = absurd (some-ne-none v (sym e))
 at_less (x ∷ xs) zero v e = omega arith

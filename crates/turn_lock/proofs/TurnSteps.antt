@@ -19,6 +19,7 @@ use Rattle.turn_lock.proofs.Histories.{prefix_append, comparable, AllByRecursion
 use Rattle.turn_lock.proofs.Sums.{set_at, sum_by-set_at, sum_by-at}
 use Rattle.turn_lock.proofs.Fitting.{word_set, word_again, fits_set, held_still}
 
+-- whether the seat hasn't the turn, and what it appended
 abbrev is_idle : {E : Type 0} → Stage E → Bool
 is_idle Idle = true
 is_idle Turning = false

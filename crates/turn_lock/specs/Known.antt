@@ -4,9 +4,11 @@ use mathlib.Core.List.{IsPrefix}
 use Rattle.turn_lock.specs.declared.view.View.{View}
 use Rattle.turn_lock.specs.Histories.{has_share, longer_share, longer}
 
+-- what a pass knows
 pub record Known (E H : Type 0) : Type 0 where
   -- the head of the value at `new`
   pub head : Option H
+  -- the number that the entries of its turns name
   pub number : ℕ
   -- a beginning of the history
   pub seen : List E

@@ -5,7 +5,7 @@ use Rattle.turn_lock.specs.declared.pass.Pass.{Pass}
 use Rattle.turn_lock.specs.declared.turn.Turn.{Turn}
 use Rattle.turn_lock.specs.Known.{Known, known_of}
 
--- which lock it is
+-- what tells one lock from another
 abbrev pub LockId : Type 0
 LockId = TableId
 
@@ -14,6 +14,7 @@ module _ {V E H : Type 0} where
   abbrev pub limit_of : Turn V E H → ℕ
   limit_of t = t.limit
 
+  -- which lock it is
   abbrev pub lock : Turn V E H → LockId
   lock t = t.table.shared.table_id
 

@@ -12,6 +12,7 @@ use Rattle.turn_lock.specs.Histories.{share_of, HasShare}
 
 -- a lock between two steps, as plain data
 pub record LockState (E : Type 0) : Type 0 where
+  -- all entries, in the order of their turns
   pub history : List E
   -- how many turns were taken
   pub taken : ℕ

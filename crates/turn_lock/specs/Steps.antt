@@ -59,6 +59,7 @@ module _ {E H : Type 0} where
 
 -- What each kind of step tells: of the seat before, the number found or stored, and the seat after.
 module _ {V E H : Type 0} where
+  -- the word says how many turns were taken: no fewer than the seat knew, and no fewer than it took
   abbrev pub Looked : Step V → Me V (View E H) → ℕ → Me V (View E H) → Type 0
   Looked st m n w = (w ≡ (looked_view m.0 (n / 2), m.1)) × (m.0.past ≤ n / 2) × (m.0.turns ≤ n / 2)
 
@@ -74,9 +75,11 @@ module _ {V E H : Type 0} where
   abbrev pub TookValueOut : (V → List E) → (V → H) → Step V → Me V (View E H) → ℕ → Me V (View E H) → Type 0
   TookValueOut entries head_of st m n w = (v : V) × (w ≡ (out_view m.0 (entries v), (0, v) ∷ m.1)) × IsPrefix m.0.seen (entries v) × ((x : H) → m.0.head ≡ Some x → head_of v ≡ x)
 
+  -- the value goes home, with whatever it has more than was seen
   abbrev pub PutValueIn : (V → List E) → Step V → Me V (View E H) → ℕ → Me V (View E H) → Type 0
   PutValueIn entries st m n w = (v : V) (es : List E) → m.1 ≡ (0, v) ∷ [] → entries v ≡ m.0.seen ++ es → w ≡ (in_view m.0 es, [])
 
+  -- the turn is given back, and what was appended is seen and owned
   abbrev pub GaveBack : Step V → Me V (View E H) → ℕ → Me V (View E H) → Type 0
   GaveBack st m n w = (es : List E) → m.0.stage ≡ In es → w ≡ (ended_view m.0 es, m.1)
 
