@@ -1,0 +1,4 @@
+pub mod Fronts
+pub mod Numbers
+pub mod Strings
+pub mod Spelling
