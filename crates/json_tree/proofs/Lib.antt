@@ -1,3 +1,6 @@
 pub mod Takes
 pub mod NumberParts
 pub mod StringParts
+pub mod Items
+pub mod Trees
+pub mod Unique

@@ -2,8 +2,8 @@
 use Rattle.std.proofs.Common.{◌≡◌, ◌≢◌, ℕ, ◌≤◌, ◌⊎◌, inl, inr, List, [], ◌∷◌, ◌++◌, length, refl, sym, ap, subst, ◌∙◌, append_assoc, length-append, le_refl, arith}
 use Rattle.std.specs.Prelude.{⊤}
 use Rattle.json_tree.specs.Fronts.{TakesLongest, NoneStands, StartsWith, IsEither}
-use Rattle.json_tree.specs.Numbers.{IsDigit, AreDigits, IsDigitRun, IsMinus, IsInt, IsFrac, IsSign, IsPower, IsExp, IsNumber}
-use Rattle.json_tree.proofs.Takes.{takes_nothing, takes_as, none_as, takes_behind, Joined, takes_joined, none_joined}
+use Rattle.json_tree.specs.Numbers.{IsDigit, AreDigits, IsDigitRun, IsMinus, IsInt, IsFrac, IsSign, IsPower, IsExp, IsNumber, IsNumberByte}
+use Rattle.json_tree.proofs.Takes.{first_same, takes_nothing, takes_as, none_as, takes_behind, Joined, takes_joined, none_joined}
 
 abbrev NoDigit : List ℕ → Type 0
 NoDigit bytes = (rest : List ℕ) → ¬ StartsWith IsDigit bytes rest
@@ -192,3 +192,68 @@ no_int_first a none front more j e = none j.0 (j.1 ++ more) j.2 (e ∙ ap (λ l.
 pub number_none : (bytes a : List ℕ) → TakesLongest IsMinus bytes a → NoneStands IsInt a → NoneStands IsNumber bytes
 number_none bytes a minus none =
     none_as (Joined IsMinus IntFracExp) IsNumber number_from bytes (none_joined IsMinus IntFracExp minus_apart never_empty bytes a minus (no_int_first a none))
+
+-- the first byte of a number
+minus_or_digit : (minus int more : List ℕ) → IsMinus minus → IsDigitRun int → (b : ℕ) × (bs : List ℕ) × ((b ≡ 45) ⊎ IsDigit b) × (minus ++ (int ++ more) ≡ b ∷ bs)
+minus_or_digit [] [] more is run = absurd run
+minus_or_digit [] (b ∷ int) more is run = (b, int ++ more, inr run.0, refl)
+minus_or_digit (b ∷ minus) int more is run = (b, minus ++ (int ++ more), inl is.0, refl)
+
+pub number_first : (text : List ℕ) → IsNumber text → (b : ℕ) × (bs : List ℕ) × ((b ≡ 45) ⊎ IsDigit b) × (text ≡ b ∷ bs)
+number_first text n =
+    let begins = minus_or_digit n.minus n.int (n.frac ++ n.exp) n.is_minus (int_is_run n.int n.is_int) in
+    (begins.0, begins.1, begins.2, n.whole ∙ begins.3)
+
+-- each byte of a number is one that a number may have
+abbrev pub OnlyNumberBytes : List ℕ → Type 0
+OnlyNumberBytes text = (front rest : List ℕ) (b : ℕ) → text ≡ front ++ b ∷ rest → IsNumberByte b
+
+only_in_both : (p q : List ℕ) → OnlyNumberBytes p → OnlyNumberBytes q → OnlyNumberBytes (p ++ q)
+only_in_both [] q left right front rest b e = right front rest b e
+only_in_both (c ∷ p) q left right [] rest b e = left [] p b (ap (λ d. d ∷ p) (first_same c b (p ++ q) rest e))
+only_in_both (c ∷ p) q left right (d ∷ front) rest b e =
+    only_in_both p q (λ f r a same. left (c ∷ f) r a (ap (λ l. c ∷ l) same)) right front rest b (let tails : p ++ q ≡ front ++ b ∷ rest = cc in tails)
+
+only_digits : (p : List ℕ) → AreDigits p → OnlyNumberBytes p
+only_digits [] digits [] rest b e = cc
+only_digits [] digits (d ∷ front) rest b e = cc
+only_digits (c ∷ p) digits [] rest b e = inl (subst IsDigit (first_same c b p rest e) digits.0)
+only_digits (c ∷ p) digits (d ∷ front) rest b e = only_digits p digits.1 front rest b (let tails : p ≡ front ++ b ∷ rest = cc in tails)
+
+run_digits : (p : List ℕ) → IsDigitRun p → AreDigits p
+run_digits [] run = tt
+run_digits (b ∷ p) run = run
+
+only_one : (c : ℕ) → IsNumberByte c → (p : List ℕ) → OnlyNumberBytes p → OnlyNumberBytes (c ∷ p)
+only_one c is p only [] rest b e = subst IsNumberByte (first_same c b p rest e) is
+only_one c is p only (d ∷ front) rest b e = only front rest b (let tails : p ≡ front ++ b ∷ rest = cc in tails)
+
+only_nothing : OnlyNumberBytes []
+only_nothing [] rest b e = cc
+only_nothing (d ∷ front) rest b e = cc
+
+only_minus : (p : List ℕ) → IsMinus p → OnlyNumberBytes p
+only_minus [] is = only_nothing
+only_minus (b ∷ p) is = only_one b (inr (inr (inl is.0))) p (subst OnlyNumberBytes (sym is.1) only_nothing)
+
+only_frac : (p : List ℕ) → IsFrac p → OnlyNumberBytes p
+only_frac [] is = only_nothing
+only_frac (b ∷ p) is = only_one b (inr (inr (inr (inl is.0)))) p (only_digits p (run_digits p is.1))
+
+only_sign : (p : List ℕ) → IsSign p → OnlyNumberBytes p
+only_sign [] is = only_nothing
+only_sign (b ∷ p) is = only_one b (elim is.0 [ inl plus ↦ inr (inl plus) | inr minus ↦ inr (inr (inl minus)) ]) p (subst OnlyNumberBytes (sym is.1) only_nothing)
+
+only_power : (p : List ℕ) → IsPower p → OnlyNumberBytes p
+only_power p is = subst OnlyNumberBytes (sym is.whole) (only_in_both is.sign is.digits (only_sign is.sign is.is_sign) (only_digits is.digits (run_digits is.digits is.is_digits)))
+
+only_exp : (p : List ℕ) → IsExp p → OnlyNumberBytes p
+only_exp [] is = only_nothing
+only_exp (b ∷ p) is = only_one b (elim is.0 [ inl e ↦ inr (inr (inr (inr (inr e)))) | inr e ↦ inr (inr (inr (inr (inl e)))) ]) p (only_power p is.1)
+
+pub number_bytes : (text : List ℕ) → IsNumber text → OnlyNumberBytes text
+number_bytes text n =
+    subst OnlyNumberBytes (sym n.whole)
+    (only_in_both n.minus (n.int ++ (n.frac ++ n.exp)) (only_minus n.minus n.is_minus)
+    (only_in_both n.int (n.frac ++ n.exp) (only_digits n.int (run_digits n.int (int_is_run n.int n.is_int)))
+    (only_in_both n.frac n.exp (only_frac n.frac n.is_frac) (only_exp n.exp n.is_exp))))

@@ -2,3 +2,4 @@ pub mod Fronts
 pub mod Numbers
 pub mod Strings
 pub mod Spelling
+pub mod Reading

@@ -59,3 +59,7 @@ pub record IsNumber (text : List ℕ) : Type 0 where
   pub is_frac : IsFrac frac
   pub is_exp : IsExp exp
   pub whole : text ≡ minus ++ (int ++ (frac ++ exp))
+
+-- a byte that a number may have
+abbrev pub IsNumberByte : ℕ → Type 0
+IsNumberByte b = IsDigit b ⊎ (b ≡ 43) ⊎ (b ≡ 45) ⊎ (b ≡ 46) ⊎ (b ≡ 69) ⊎ (b ≡ 101)

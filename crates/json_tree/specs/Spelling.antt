@@ -1,8 +1,8 @@
 -- The text of a value, and how deep it nests. RFC 8259, without white space.
-use Rattle.std.specs.Prelude.{◌≡◌, ℕ, suc, ◌+◌, max, List, [], ◌∷◌, ◌++◌, if◌then◌else◌, codes, ⊤, map}
+use Rattle.std.specs.Prelude.{◌≡◌, ℕ, suc, ◌+◌, ◌≤◌, max, List, [], ◌∷◌, ◌++◌, if◌then◌else◌, codes, ⊤, map}
 use Rattle.json_tree.specs.declared.tree.Tree.{Tree, Null, Bool, Number, Str, List', Object', Row_of-Tree, end_of-Tree, more_of-Tree, Row_of-Member, end_of-Member, more_of-Member}
 use Rattle.json_tree.specs.declared.tree.Member.{Member}
-use Rattle.json_tree.specs.Numbers.{IsNumber}
+use Rattle.json_tree.specs.Numbers.{IsNumber, IsNumberByte}
 use Rattle.json_tree.specs.Strings.{IsString}
 
 -- *( value-separator value )
@@ -81,15 +81,23 @@ member_text member = quoted member.name ++ 58 ∷ spelling member.value
 abbrev pub IsJsonMember : Member → Type 0
 IsJsonMember member = IsString member.name × IsJson member.value
 
--- how deep the deepest of these nests
-abbrev pub deepest : List Tree → ℕ
-deepest [] = 0
-deepest (value ∷ values) = max (nesting value) (deepest values)
-
-abbrev pub deepest_in : List Member → ℕ
-deepest_in [] = 0
-deepest_in (member ∷ members) = max (nesting member.value) (deepest_in members)
-
 -- the bytes spell the value
 abbrev pub Spells : Tree → List ℕ → Type 0
 Spells tree bytes = IsJson tree × (bytes ≡ spelling tree)
+
+-- what is read is of the grammar and nests at most so deep
+abbrev pub Fits : ℕ → Tree → Type 0
+Fits depth tree = IsJson tree × (nesting tree ≤ depth)
+
+abbrev pub FitsMember : ℕ → Member → Type 0
+FitsMember depth member = IsString member.name × Fits depth member.value
+
+-- these bytes can't belong to a number that stands before them
+abbrev pub EndsNumber : List ℕ → Type 0
+EndsNumber [] = ⊤
+EndsNumber (b ∷ bs) = ¬ IsNumberByte b
+
+-- these bytes can't belong to the value that stands before them
+abbrev pub EndsBefore : Tree → List ℕ → Type 0
+EndsBefore (Number text) rest = EndsNumber rest
+EndsBefore _ rest = ⊤

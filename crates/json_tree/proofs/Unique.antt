@@ -1,0 +1,148 @@
+-- One value stands at the front of some bytes.
+use Rattle.std.proofs.Common.{◌≡◌, ◌≢◌, ℕ, zero, suc, ◌+◌, ◌≤◌, max, ◌⊎◌, inl, inr, List, [], ◌∷◌, ◌++◌, length, Bool, true, false, cond, refl, sym, ap, map, subst, ◌∙◌, append_assoc, append-nil, length-append, arith, get_or}
+use Rattle.std.specs.Prelude.{⊤, ◌==◌, if◌then◌else◌}
+use Rattle.std.specs.List.{AllByRecursion}
+use Rattle.std.proofs.lemmas.Bool.Decides.{nat_tests}
+use Rattle.std.proofs.lemmas.Bool.{cases_lt}
+use Rattle.json_tree.specs.declared.tree.Tree.{Tree}
+use Rattle.json_tree.specs.declared.tree.Tree.TheVariants.{Null as TreeNull, Bool as TreeBool, Number as TreeNumber, Str as TreeStr, List as TreeList, Object as TreeObject}
+use Rattle.json_tree.specs.declared.tree.Member.{Member}
+use Rattle.json_tree.specs.Numbers.{IsDigit, IsMinus, IsInt, AreDigits, IsDigitRun, IsNumber, IsNumberByte}
+use Rattle.json_tree.specs.Strings.{IsString}
+use Rattle.json_tree.specs.Spelling.{spelling, separated, quoted, IsJson, nesting, member_text, IsJsonMember, Fits, FitsMember, EndsNumber, EndsBefore}
+use Rattle.json_tree.specs.Reading.{IsLongest}
+use Rattle.json_tree.proofs.Takes.{align, first_same}
+use Rattle.json_tree.proofs.NumberParts.{number_first, number_bytes}
+use Rattle.json_tree.proofs.StringParts.{text_unique, none_at_quote}
+use Rattle.json_tree.proofs.Items.{EndsItem, IsOne, items_unique}
+use Rattle.json_tree.proofs.Trees.{Kind, null, bool, number, str, list, object, kind, spelling-list, spelling-object, IsJson-list, IsJson-object, nesting-list, nesting-object, deepest, deepest_in}
+
+-- what kind of value begins with a byte
+abbrev sort_of : ℕ → ℕ
+sort_of b = if b == 110 then 0 else if b == 116 then 1 else if b == 102 then 1 else if b == 34 then 2 else if b == 91 then 3 else if b == 123 then 4 else 5
+
+abbrev sort : {t : Tree} → Kind t → ℕ
+sort null = 0
+sort (bool value) = 1
+sort (str text) = 2
+sort (list trees) = 3
+sort (object named) = 4
+sort (number text) = 5
+
+first : List ℕ → ℕ
+first bytes = get_or bytes 0 0
+
+sort_of-number : (b : ℕ) → (b ≡ 45) ⊎ IsDigit b → sort_of b ≡ 5
+sort_of-number b (inl minus) = grind (arith, nat_tests)
+sort_of-number b (inr digit) = grind (arith, nat_tests)
+
+sort_at : {t : Tree} (k : Kind t) (x : List ℕ) → IsJson t → sort_of (first (spelling t ++ x)) ≡ sort k
+unfolding first
+sort_at null x json = refl
+sort_at (bool true) x json = refl
+sort_at (bool false) x json = refl
+sort_at (str text) x json = refl
+sort_at (list trees) x json = ap (λ l. sort_of (first (l ++ x))) (spelling-list trees)
+sort_at (object named) x json = ap (λ l. sort_of (first (l ++ x))) (spelling-object named)
+sort_at (number text) x json =
+    let begins = number_first text json in
+    ap (λ l. sort_of (first (l ++ x))) begins.3 ∙ sort_of-number begins.0 begins.2
+
+-- two values at the front of the same bytes are of one kind
+pub same_sort : {t u : Tree} (k : Kind t) (j : Kind u) (x y : List ℕ) → IsJson t → IsJson u → spelling t ++ x ≡ spelling u ++ y → sort k ≡ sort j
+same_sort k j x y t_json u_json e = sym (sort_at k x t_json) ∙ ap (λ l. sort_of (first l)) e ∙ sort_at j y u_json
+
+-- no comma and no closing bracket belongs to a number
+not_number_byte : (b : ℕ) → (b ≡ 44) ⊎ (58 ≤ b) → b ≢ 69 → b ≢ 101 → IsNumberByte b → ⊥
+not_number_byte b out no_E no_e (inl digit) = elim out [ inl comma ↦ omega (arith, digit, comma) | inr above ↦ omega (arith, digit, above) ]
+not_number_byte b out no_E no_e (inr (inl is)) = elim out [ inl comma ↦ omega (arith, is, comma) | inr above ↦ omega (arith, is, above) ]
+not_number_byte b out no_E no_e (inr (inr (inl is))) = elim out [ inl comma ↦ omega (arith, is, comma) | inr above ↦ omega (arith, is, above) ]
+not_number_byte b out no_E no_e (inr (inr (inr (inl is)))) = elim out [ inl comma ↦ omega (arith, is, comma) | inr above ↦ omega (arith, is, above) ]
+not_number_byte b out no_E no_e (inr (inr (inr (inr (inl is))))) = no_E is
+not_number_byte b out no_E no_e (inr (inr (inr (inr (inr is))))) = no_e is
+
+-- a byte that closes a list or an object
+abbrev pub IsClose : ℕ → Type 0
+IsClose close = (102 ≤ close) ⊎ (close ≡ 93)
+
+pub ends_item : (close : ℕ) → IsClose close → (x : List ℕ) → EndsItem close x → EndsNumber x
+ends_item close is [] ends = absurd ends
+ends_item close is (b ∷ x) (inl comma) = not_number_byte b (inl comma) (omega (arith, comma)) (omega (arith, comma))
+ends_item close (inl far) (b ∷ x) (inr closing) = not_number_byte b (inr (omega (arith, closing, far))) (omega (arith, closing, far)) (omega (arith, closing, far))
+ends_item close (inr bracket) (b ∷ x) (inr closing) = not_number_byte b (inr (omega (arith, closing, bracket))) (omega (arith, closing, bracket)) (omega (arith, closing, bracket))
+
+ends_before_kind : {t : Tree} (k : Kind t) (x : List ℕ) → EndsNumber x → EndsBefore t x
+ends_before_kind null x ends = tt
+ends_before_kind (bool value) x ends = tt
+ends_before_kind (number text) x ends = ends
+ends_before_kind (str text) x ends = tt
+ends_before_kind (list trees) x ends = tt
+ends_before_kind (object named) x ends = tt
+
+pub ends_before : (t : Tree) (x : List ℕ) → EndsNumber x → EndsBefore t x
+ends_before t x ends = ends_before_kind (kind t) x ends
+
+no_more : (n m x y w : List ℕ) → IsNumber m → EndsNumber x → m ≡ n ++ w → x ≡ w ++ y → (n ≡ m) × (x ≡ y)
+no_more n m x y [] is ends longer e = (sym (append-nil n) ∙ sym longer, e)
+no_more n m x y (c ∷ w) is ends longer e = absurd (subst EndsNumber e ends (number_bytes m is n w c longer))
+
+number_unique : (n m x y : List ℕ) → IsNumber n → IsNumber m → EndsNumber x → IsLongest (TreeNumber m) y → n ++ x ≡ m ++ y → (n ≡ m) × (x ≡ y)
+number_unique n m x y is_n is_m ends longest e =
+    let a = align n m x y e (longest n x is_n (sym e)) in
+    no_more n m x y a.0 is_m ends a.1 a.2
+
+longest_of : (n m x y : List ℕ) → IsNumber m → EndsNumber x → n ++ x ≡ m ++ y → length x ≤ length y
+longest_of n m x y is ends e = elim (cases_lt (length y) (length x)) [
+      inl shorter ↦ (let a = align n m x y e (omega arith) in omega (arith, ap length (no_more n m x y a.0 is ends a.1 a.2).1))
+    | inr enough ↦ enough
+  ]
+
+ends_longest_kind : {t : Tree} (k : Kind t) (x : List ℕ) → EndsNumber x → IsLongest t x
+ends_longest_kind null x ends = tt
+ends_longest_kind (bool value) x ends = tt
+ends_longest_kind (number text) x ends = λ other more is e. longest_of text other x more is ends e
+ends_longest_kind (str text) x ends = tt
+ends_longest_kind (list trees) x ends = tt
+ends_longest_kind (object named) x ends = tt
+
+pub ends_longest : (t : Tree) (x : List ℕ) → EndsNumber x → IsLongest t x
+ends_longest t x ends = ends_longest_kind (kind t) x ends
+
+-- the values of a list, and those of an object's members, fit one level less
+pub all_fit : (n : ℕ) (trees : List Tree) → AllByRecursion IsJson trees → deepest trees ≤ n → AllByRecursion (Fits n) trees
+all_fit n [] json deep = tt
+all_fit n (t ∷ trees) json deep = ((json.0, omega (arith, deep)), all_fit n trees json.1 (omega (arith, deep)))
+
+pub all_members_fit : (n : ℕ) (named : List Member) → AllByRecursion IsJsonMember named → deepest_in named ≤ n → AllByRecursion (FitsMember n) named
+all_members_fit n [] json deep = tt
+all_members_fit n (m ∷ named) json deep = ((json.0.0, (json.0.1, omega (arith, deep))), all_members_fit n named json.1 (omega (arith, deep)))
+
+pub list_fits : (n : ℕ) (trees : List Tree) → Fits (n + 1) (TreeList trees) → AllByRecursion (Fits n) trees
+list_fits n trees fits = all_fit n trees (subst (λ (X : Type 0). X) (IsJson-list trees) fits.0) (omega (arith, fits.1, nesting-list trees))
+
+pub object_fits : (n : ℕ) (named : List Member) → Fits (n + 1) (TreeObject named) → AllByRecursion (FitsMember n) named
+object_fits n named fits = all_members_fit n named (subst (λ (X : Type 0). X) (IsJson-object named) fits.0) (omega (arith, fits.1, nesting-object named))
+
+-- one value stands at the front in one way
+abbrev pub UniqueAt : ℕ → Type 0
+UniqueAt n = (t u : Tree) (x y : List ℕ) → Fits n t → Fits n u → EndsBefore t x → IsLongest u y → spelling t ++ x ≡ spelling u ++ y → (t ≡ u) × (x ≡ y)
+
+pub one_value : (n : ℕ) → UniqueAt n → (close : ℕ) → IsClose close → IsOne (Fits n) spelling close
+one_value n unique close is a b x y good other ends_x ends_y e =
+    unique a b x y good other (ends_before a x (ends_item close is x ends_x)) (ends_longest b y (ends_item close is y ends_y)) e
+
+pub member_whole : (m : Member) (x : List ℕ) → member_text m ++ x ≡ 34 ∷ (m.name ++ (34 ∷ (58 ∷ (spelling m.value ++ x))))
+member_whole m x = simp append_assoc
+
+behind_34 : (x y : List ℕ) → 34 ∷ x ≡ 34 ∷ y → x ≡ y
+behind_34 x y e = cc
+
+behind_34_58 : (x y : List ℕ) → 34 ∷ (58 ∷ x) ≡ 34 ∷ (58 ∷ y) → x ≡ y
+behind_34_58 x y e = cc
+
+pub one_member : (n : ℕ) → UniqueAt n → (close : ℕ) → IsClose close → IsOne (FitsMember n) member_text close
+one_member n unique close is a b x y good other ends_x ends_y e =
+    let whole = behind_34 _ _ (sym (member_whole a x) ∙ e ∙ member_whole b y) in
+    let names = text_unique a.name b.name _ _ good.0.chars other.0.chars (none_at_quote _) (none_at_quote _) whole in
+    let values = one_value n unique close is a.value b.value x y good.1 other.1 ends_x ends_y (behind_34_58 _ _ names.1) in
+    (ap (λ name. record { name = name; value = a.value }) names.0 ∙ ap (λ value. record { name = b.name; value = value }) values.0, values.1)

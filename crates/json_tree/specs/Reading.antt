@@ -1,0 +1,31 @@
+-- What the readers of values answer.
+use Rattle.std.specs.Prelude.{◌≡◌, ◌≢◌, ◌≤◌, ℕ, List, [], ◌∷◌, ◌++◌, length, map, ⊤}
+use Rattle.std.specs.List.{AllByRecursion}
+use Rattle.json_tree.specs.declared.tree.Tree.{Tree, Null, Bool, Number, Str, List', Object'}
+use Rattle.json_tree.specs.Numbers.{IsNumber}
+use Rattle.json_tree.specs.Spelling.{spelling, separated, IsJson, nesting, Fits}
+
+-- a number that stands before the rest is the longest
+abbrev pub IsLongest : Tree → List ℕ → Type 0
+IsLongest (Number text) rest = (other more : List ℕ) → IsNumber other → text ++ rest ≡ other ++ more → length rest ≤ length more
+IsLongest _ rest = ⊤
+
+-- the value stands at the front, and the rest behind it
+pub record ReadsValue (depth : ℕ) (bytes : List ℕ) (tree : Tree) (rest : List ℕ) : Type 0 where
+  pub fits : Fits depth tree
+  pub whole : bytes ≡ spelling tree ++ rest
+  pub longest : IsLongest tree rest
+
+-- no value that nests at most so deep stands at the front
+abbrev pub NoValue : ℕ → List ℕ → Type 0
+NoValue depth bytes = (tree : Tree) (rest : List ℕ) → Fits depth tree → bytes ≢ spelling tree ++ rest
+
+module _ {A : Type 0} (Good : A → Type 0) (text : A → List ℕ) (close : ℕ) where
+  -- these items and the closing byte stand at the front, and the rest behind them
+  pub record ReadsItems (bytes : List ℕ) (items : List A) (rest : List ℕ) : Type 0 where
+    pub each : AllByRecursion Good items
+    pub whole : bytes ≡ separated (map text items) ++ close ∷ rest
+
+  -- no items with the closing byte behind them stand at the front
+  abbrev pub NoItems : List ℕ → Type 0
+  NoItems bytes = (items : List A) (rest : List ℕ) → AllByRecursion Good items → bytes ≢ separated (map text items) ++ close ∷ rest
