@@ -1,9 +1,10 @@
 -- One value stands at the front of some bytes.
 use Rattle.std.proofs.Common.{◌≡◌, ◌≢◌, ℕ, zero, suc, ◌+◌, ◌≤◌, max, ◌⊎◌, inl, inr, List, [], ◌∷◌, ◌++◌, length, Bool, true, false, cond, refl, sym, ap, map, subst, ◌∙◌, append_assoc, append-nil, length-append, arith, get_or}
-use Rattle.std.specs.Prelude.{⊤, ◌==◌, if◌then◌else◌}
+use Rattle.std.specs.Prelude.{⊤, ◌==◌, nat_lt, if◌then◌else◌}
 use Rattle.std.specs.List.{AllByRecursion}
 use Rattle.std.proofs.lemmas.Bool.Decides.{nat_tests}
 use Rattle.std.proofs.lemmas.Bool.{cases_lt}
+use Rattle.std.proofs.lemmas.List.{append_cancel_left}
 use Rattle.json_tree.specs.declared.tree.Tree.{Tree}
 use Rattle.json_tree.specs.declared.tree.Tree.TheVariants.{Null as TreeNull, Bool as TreeBool, Number as TreeNumber, Str as TreeStr, List as TreeList, Object as TreeObject}
 use Rattle.json_tree.specs.declared.tree.Member.{Member}
@@ -19,7 +20,7 @@ use Rattle.json_tree.proofs.Trees.{Kind, null, bool, number, str, list, object, 
 
 -- what kind of value begins with a byte
 abbrev sort_of : ℕ → ℕ
-sort_of b = if b == 110 then 0 else if b == 116 then 1 else if b == 102 then 1 else if b == 34 then 2 else if b == 91 then 3 else if b == 123 then 4 else 5
+sort_of b = if b == 110 then 0 else if b == 116 then 1 else if b == 102 then 1 else if b == 34 then 2 else if b == 91 then 3 else if b == 123 then 4 else if nat_lt b 58 then 5 else 6
 
 abbrev sort : {t : Tree} → Kind t → ℕ
 sort null = 0
@@ -146,3 +147,73 @@ one_member n unique close is a b x y good other ends_x ends_y e =
     let names = text_unique a.name b.name _ _ good.0.chars other.0.chars (none_at_quote _) (none_at_quote _) whole in
     let values = one_value n unique close is a.value b.value x y good.1 other.1 ends_x ends_y (behind_34_58 _ _ names.1) in
     (ap (λ name. record { name = name; value = a.value }) names.0 ∙ ap (λ value. record { name = b.name; value = value }) values.0, values.1)
+
+pub behind_byte : (b : ℕ) (x y : List ℕ) → b ∷ x ≡ b ∷ y → x ≡ y
+behind_byte b x y e = cc
+
+-- a value's text in pieces, with what stands behind it
+pub list_whole : (xs : List Tree) (x : List ℕ) → spelling (TreeList xs) ++ x ≡ 91 ∷ (separated (map spelling xs) ++ 93 ∷ x)
+list_whole xs x = ap (λ l. l ++ x) (spelling-list xs) ∙ ap (λ l. 91 ∷ l) (append_assoc (separated (map spelling xs)) (93 ∷ []) x)
+
+pub object_whole : (xs : List Member) (x : List ℕ) → spelling (TreeObject xs) ++ x ≡ 123 ∷ (separated (map member_text xs) ++ 125 ∷ x)
+object_whole xs x = ap (λ l. l ++ x) (spelling-object xs) ∙ ap (λ l. 123 ∷ l) (append_assoc (separated (map member_text xs)) (125 ∷ []) x)
+
+pub str_whole : (s x : List ℕ) → spelling (TreeStr s) ++ x ≡ 34 ∷ (s ++ 34 ∷ x)
+str_whole s x = ap (λ l. 34 ∷ l) (append_assoc s (34 ∷ []) x)
+
+-- no value begins with the byte that closes a list, and no member with the one that closes an object
+sort_below : {t : Tree} (k : Kind t) → sort k ≤ 5
+sort_below null = omega arith
+sort_below (bool value) = omega arith
+sort_below (str text) = omega arith
+sort_below (list trees) = omega arith
+sort_below (object named) = omega arith
+sort_below (number text) = omega arith
+
+pub no_close : (t : Tree) (x y : List ℕ) → IsJson t → spelling t ++ x ≢ 93 ∷ y
+unfolding first
+no_close t x y json e = omega (arith, sort_below (kind t), sort_at (kind t) x json, ap (λ l. sort_of (first l)) e)
+
+pub no_member_close : (m : Member) (x y : List ℕ) → member_text m ++ x ≢ 125 ∷ y
+no_member_close m x y e = omega (arith, first_same 34 125 _ _ (sym (member_whole m x) ∙ e))
+
+abbrev Below : ℕ → Type 0
+Below zero = ⊤
+Below (suc n) = UniqueAt n
+
+list_unique : (n : ℕ) → Below n → (xs ys : List Tree) (x y : List ℕ) → Fits n (TreeList xs) → Fits n (TreeList ys) → spelling (TreeList xs) ++ x ≡ spelling (TreeList ys) ++ y → (TreeList xs ≡ TreeList ys) × (x ≡ y)
+list_unique zero below xs ys x y good other e = absurd (omega (arith, good.1, nesting-list xs))
+list_unique (suc n) below xs ys x y good other e =
+    let whole = behind_byte 91 _ _ (sym (list_whole xs x) ∙ e ∙ list_whole ys y) in
+    let same = items_unique (Fits n) spelling 93 (λ is. omega (arith, is)) (one_value n below 93 (inr refl)) (λ a z w fits. no_close a z w fits.0) xs ys x y
+        (list_fits n xs (good.0, omega (arith, good.1))) (list_fits n ys (other.0, omega (arith, other.1))) whole in
+    (ap TreeList same.0, same.1)
+
+object_unique : (n : ℕ) → Below n → (xs ys : List Member) (x y : List ℕ) → Fits n (TreeObject xs) → Fits n (TreeObject ys) → spelling (TreeObject xs) ++ x ≡ spelling (TreeObject ys) ++ y → (TreeObject xs ≡ TreeObject ys) × (x ≡ y)
+object_unique zero below xs ys x y good other e = absurd (omega (arith, good.1, nesting-object xs))
+object_unique (suc n) below xs ys x y good other e =
+    let whole = behind_byte 123 _ _ (sym (object_whole xs x) ∙ e ∙ object_whole ys y) in
+    let same = items_unique (FitsMember n) member_text 125 (λ is. omega (arith, is)) (one_member n below 125 (inl (omega arith))) (λ m z w fits. no_member_close m z w) xs ys x y
+        (object_fits n xs (good.0, omega (arith, good.1))) (object_fits n ys (other.0, omega (arith, other.1))) whole in
+    (ap TreeObject same.0, same.1)
+
+unique_kinds : (n : ℕ) → Below n → {t u : Tree} (k : Kind t) (j : Kind u) (x y : List ℕ) → Fits n t → Fits n u → EndsBefore t x → IsLongest u y → spelling t ++ x ≡ spelling u ++ y → (t ≡ u) × (x ≡ y)
+unique_kinds n below null null x y good other ends longest e = (refl, append_cancel_left (spelling TreeNull) x y e)
+unique_kinds n below (bool true) (bool true) x y good other ends longest e = (refl, append_cancel_left (spelling (TreeBool true)) x y e)
+unique_kinds n below (bool true) (bool false) x y good other ends longest e = absurd (omega (arith, first_same 116 102 _ _ e))
+unique_kinds n below (bool false) (bool true) x y good other ends longest e = absurd (omega (arith, first_same 102 116 _ _ e))
+unique_kinds n below (bool false) (bool false) x y good other ends longest e = (refl, append_cancel_left (spelling (TreeBool false)) x y e)
+unique_kinds n below (number s) (number r) x y good other ends longest e =
+    let same = number_unique s r x y good.0 other.0 ends longest e in
+    (ap TreeNumber same.0, same.1)
+unique_kinds n below (str s) (str r) x y good other ends longest e =
+    let whole = behind_byte 34 _ _ (sym (str_whole s x) ∙ e ∙ str_whole r y) in
+    let same = text_unique s r (34 ∷ x) (34 ∷ y) good.0.chars other.0.chars (none_at_quote x) (none_at_quote y) whole in
+    (ap TreeStr same.0, behind_byte 34 x y same.1)
+unique_kinds n below (list xs) (list ys) x y good other ends longest e = list_unique n below xs ys x y good other e
+unique_kinds n below (object xs) (object ys) x y good other ends longest e = object_unique n below xs ys x y good other e
+unique_kinds n below k j x y good other ends longest e = absurd (omega (arith, same_sort k j x y good.0 other.0 e))
+
+pub unique : (n : ℕ) → UniqueAt n
+unique zero t u = unique_kinds zero tt (kind t) (kind u)
+unique (suc n) t u = unique_kinds (suc n) (unique n) (kind t) (kind u)
