@@ -4,3 +4,4 @@ pub mod StringParts
 pub mod Items
 pub mod Trees
 pub mod Unique
+pub mod Refusals

@@ -4,7 +4,7 @@ use Rattle.std.specs.Prelude.{IsTrue, IfNone}
 use Rattle.std.specs.List.{list_all, AllByRecursion, concat}
 use Rattle.std.proofs.lemmas.List.{take_at, append_cancel_left}
 use Rattle.json_tree.specs.Fronts.{StartsWith, Takes, NoneStands}
-use Rattle.json_tree.specs.Strings.{is_hex_digit, is_short_escape, IsUnescaped, IsFourHexDigits, IsEscape, short, numbered, IsChar, unescaped, escaped, AreChars}
+use Rattle.json_tree.specs.Strings.{is_hex_digit, is_short_escape, IsUnescaped, IsFourHexDigits, IsEscape, short, numbered, IsChar, unescaped, escaped, AreChars, IsString}
 use Rattle.json_tree.proofs.Takes.{first_same}
 
 pub IfNone_then : {X : Type 0} (o : Option X) {P Q : Type 0} → IfNone o P → (P → Q) → IfNone o Q
@@ -177,3 +177,10 @@ string_is bytes end text more t stops is no_more e = text_unique text t.front mo
 
 pub all_chars : (text end : List ℕ) → Takes AreChars text end → NoneStands IsChar end → AreChars text → end ≡ []
 all_chars text end t stops is = sym (string_is text end text [] t stops is none_at_end (sym (append-nil text))).1
+
+-- a string ends in one place
+pub string_unique : (a b x y : List ℕ) → IsString a → IsString b → a ++ 34 ∷ x ≡ b ++ 34 ∷ y → (a ≡ b) × (x ≡ y)
+string_unique a b x y ours theirs e =
+    let same = text_unique a b (34 ∷ x) (34 ∷ y) ours.chars theirs.chars (none_at_quote x) (none_at_quote y) e in
+    let behind = same.1 in
+    (same.0, cc)

@@ -19,10 +19,10 @@ use Rattle.json_tree.proofs.Items.{EndsItem, IsOne, items_unique}
 use Rattle.json_tree.proofs.Trees.{Kind, null, bool, number, str, list, object, kind, spelling-list, spelling-object, IsJson-list, IsJson-object, nesting-list, nesting-object, deepest, deepest_in}
 
 -- what kind of value begins with a byte
-abbrev sort_of : ℕ → ℕ
+abbrev pub sort_of : ℕ → ℕ
 sort_of b = if b == 110 then 0 else if b == 116 then 1 else if b == 102 then 1 else if b == 34 then 2 else if b == 91 then 3 else if b == 123 then 4 else if nat_lt b 58 then 5 else 6
 
-abbrev sort : {t : Tree} → Kind t → ℕ
+abbrev pub sort : {t : Tree} → Kind t → ℕ
 sort null = 0
 sort (bool value) = 1
 sort (str text) = 2
@@ -30,14 +30,14 @@ sort (list trees) = 3
 sort (object named) = 4
 sort (number text) = 5
 
-first : List ℕ → ℕ
+pub first : List ℕ → ℕ
 first bytes = get_or bytes 0 0
 
 sort_of-number : (b : ℕ) → (b ≡ 45) ⊎ IsDigit b → sort_of b ≡ 5
 sort_of-number b (inl minus) = grind (arith, nat_tests)
 sort_of-number b (inr digit) = grind (arith, nat_tests)
 
-sort_at : {t : Tree} (k : Kind t) (x : List ℕ) → IsJson t → sort_of (first (spelling t ++ x)) ≡ sort k
+pub sort_at : {t : Tree} (k : Kind t) (x : List ℕ) → IsJson t → sort_of (first (spelling t ++ x)) ≡ sort k
 unfolding first
 sort_at null x json = refl
 sort_at (bool true) x json = refl
@@ -48,6 +48,10 @@ sort_at (object named) x json = ap (λ l. sort_of (first (l ++ x))) (spelling-ob
 sort_at (number text) x json =
     let begins = number_first text json in
     ap (λ l. sort_of (first (l ++ x))) begins.3 ∙ sort_of-number begins.0 begins.2
+
+pub wrong_sort : {t : Tree} (k : Kind t) (b : ℕ) (bytes rest : List ℕ) → IsJson t → b ∷ bytes ≡ spelling t ++ rest → sort_of b ≡ sort k
+unfolding first
+wrong_sort k b bytes rest json e = ap (λ l. sort_of (first l)) e ∙ sort_at k rest json
 
 -- two values at the front of the same bytes are of one kind
 pub same_sort : {t u : Tree} (k : Kind t) (j : Kind u) (x y : List ℕ) → IsJson t → IsJson u → spelling t ++ x ≡ spelling u ++ y → sort k ≡ sort j

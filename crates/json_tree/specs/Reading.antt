@@ -1,9 +1,11 @@
 -- What the readers of values answer.
-use Rattle.std.specs.Prelude.{◌≡◌, ◌≢◌, ◌≤◌, ℕ, List, [], ◌∷◌, ◌++◌, length, map, ⊤}
+use Rattle.std.specs.Prelude.{◌≡◌, ◌≢◌, ◌≤◌, ℕ, List, [], ◌∷◌, ◌++◌, length, map, codes, ⊤}
 use Rattle.std.specs.List.{AllByRecursion}
 use Rattle.json_tree.specs.declared.tree.Tree.{Tree, Null, Bool, Number, Str, List', Object'}
+use Rattle.json_tree.specs.declared.tree.Member.{Member}
 use Rattle.json_tree.specs.Numbers.{IsNumber}
-use Rattle.json_tree.specs.Spelling.{spelling, separated, IsJson, nesting, Fits}
+use Rattle.json_tree.specs.Strings.{IsString}
+use Rattle.json_tree.specs.Spelling.{spelling, separated, member_text, Fits, FitsMember}
 
 -- a number that stands before the rest is the longest
 abbrev pub IsLongest : Tree → List ℕ → Type 0
@@ -19,6 +21,29 @@ pub record ReadsValue (depth : ℕ) (bytes : List ℕ) (tree : Tree) (rest : Lis
 -- no value that nests at most so deep stands at the front
 abbrev pub NoValue : ℕ → List ℕ → Type 0
 NoValue depth bytes = (tree : Tree) (rest : List ℕ) → Fits depth tree → bytes ≢ spelling tree ++ rest
+
+-- none of the three words stands at the front
+pub record NoWord (bytes : List ℕ) : Type 0 where
+  pub null : (rest : List ℕ) → bytes ≢ codes "null" ++ rest
+  pub true : (rest : List ℕ) → bytes ≢ codes "true" ++ rest
+  pub false : (rest : List ℕ) → bytes ≢ codes "false" ++ rest
+
+-- a member's name with the colon behind it stands at the front
+pub record ReadsName (bytes name rest : List ℕ) : Type 0 where
+  pub string : IsString name
+  pub whole : bytes ≡ 34 ∷ (name ++ 34 ∷ (58 ∷ rest))
+
+abbrev pub NoName : List ℕ → Type 0
+NoName bytes = (name rest : List ℕ) → IsString name → bytes ≢ 34 ∷ (name ++ 34 ∷ (58 ∷ rest))
+
+-- the member stands at the front, and the rest behind it
+pub record ReadsMember (depth : ℕ) (bytes : List ℕ) (member : Member) (rest : List ℕ) : Type 0 where
+  pub fits : FitsMember depth member
+  pub whole : bytes ≡ member_text member ++ rest
+  pub longest : IsLongest member.value rest
+
+abbrev pub NoMember : ℕ → List ℕ → Type 0
+NoMember depth bytes = (member : Member) (rest : List ℕ) → FitsMember depth member → bytes ≢ member_text member ++ rest
 
 module _ {A : Type 0} (Good : A → Type 0) (text : A → List ℕ) (close : ℕ) where
   -- these items and the closing byte stand at the front, and the rest behind them

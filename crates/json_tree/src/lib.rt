@@ -3,8 +3,11 @@
 
 mod front;
 mod number;
+mod reading;
 mod string;
 mod tree;
+mod tree_fault;
 
 pub use string::is_json_string;
 pub use tree::{Member, Text, Tree};
+pub use tree_fault::TreeFault;
