@@ -3,6 +3,7 @@ use Rattle.std.proofs.Common.{◌≡◌, ◌≢◌, ℕ, ◌⊎◌, inl, inr, Li
 use Rattle.std.specs.List.{AllByRecursion}
 use Rattle.std.specs.Prelude.{⊤}
 use Rattle.json_tree.specs.Spelling.{after_commas, separated}
+use Rattle.json_tree.specs.Reading.{NoItems}
 use Rattle.json_tree.proofs.Takes.{first_same}
 
 -- each of these with a comma behind it
@@ -112,3 +113,20 @@ module _ {A : Type 0} (Good : A → Type 0) (text : A → List ℕ) (close : ℕ
       absurd (apart (first_same close 44 _ _ (after_first first r [] read left rest good goods.0 e)))
   next_stands (r ∷ read) first (o ∷ others) left rest goods good each e =
       next_stands read o others left rest goods.1 each.0 each.1 (behind_first 44 44 _ _ (after_first first r (o ∷ others) read left rest good goods.0 e))
+
+  -- nothing is read where no item stands behind those that were read
+  refused : (read : List A) (bytes left : List ℕ) → AllByRecursion Good read → bytes ≡ with_commas (map text read) ++ left → ((rest : List ℕ) → bytes ≢ close ∷ rest) → ((item : A) (more : List ℕ) → Good item → EndsItem close more → left ≢ text item ++ more)
+      → (items : List A) (rest : List ℕ) → AllByRecursion Good items → bytes ≡ separated (map text items) ++ close ∷ rest → ⊥
+  refused read bytes left goods whole some none [] rest each e = some rest e
+  refused read bytes left goods whole some none (i ∷ items) rest each e =
+      let stands = next_stands read i items left rest goods each.0 each.1 (sym e ∙ whole) in
+      none stands.0 stands.1 stands.2 stands.3 stands.4
+
+  pub refused_items : (read : List A) (bytes left : List ℕ) → AllByRecursion Good read → bytes ≡ with_commas (map text read) ++ left → ((rest : List ℕ) → bytes ≢ close ∷ rest) → ((item : A) (more : List ℕ) → Good item → EndsItem close more → left ≢ text item ++ more) → NoItems Good text close bytes
+  refused_items read bytes left goods whole some none = refused read bytes left goods whole some none
+
+-- what stands behind an item is a comma or the closing byte
+pub neither : (close : ℕ) (more : List ℕ) → EndsItem close more → ((rest : List ℕ) → more ≢ 44 ∷ rest) → ((rest : List ℕ) → more ≢ close ∷ rest) → ⊥
+neither close [] ends no_comma no_close = ends
+neither close (b ∷ more) (inl comma) no_comma no_close = no_comma more (ap (λ c. c ∷ more) comma)
+neither close (b ∷ more) (inr closing) no_comma no_close = no_close more (ap (λ c. c ∷ more) closing)

@@ -5,3 +5,4 @@ pub mod Items
 pub mod Trees
 pub mod Unique
 pub mod Refusals
+pub mod Readers

@@ -145,12 +145,16 @@ behind_34 x y e = cc
 behind_34_58 : (x y : List ℕ) → 34 ∷ (58 ∷ x) ≡ 34 ∷ (58 ∷ y) → x ≡ y
 behind_34_58 x y e = cc
 
-pub one_member : (n : ℕ) → UniqueAt n → (close : ℕ) → IsClose close → IsOne (FitsMember n) member_text close
-one_member n unique close is a b x y good other ends_x ends_y e =
+pub member_unique : (n : ℕ) → UniqueAt n → (a b : Member) (x y : List ℕ) → FitsMember n a → FitsMember n b → EndsBefore a.value x → IsLongest b.value y → member_text a ++ x ≡ member_text b ++ y → (a ≡ b) × (x ≡ y)
+member_unique n unique a b x y good other ends longest e =
     let whole = behind_34 _ _ (sym (member_whole a x) ∙ e ∙ member_whole b y) in
     let names = text_unique a.name b.name _ _ good.0.chars other.0.chars (none_at_quote _) (none_at_quote _) whole in
-    let values = one_value n unique close is a.value b.value x y good.1 other.1 ends_x ends_y (behind_34_58 _ _ names.1) in
+    let values = unique a.value b.value x y good.1 other.1 ends longest (behind_34_58 _ _ names.1) in
     (ap (λ name. record { name = name; value = a.value }) names.0 ∙ ap (λ value. record { name = b.name; value = value }) values.0, values.1)
+
+pub one_member : (n : ℕ) → UniqueAt n → (close : ℕ) → IsClose close → IsOne (FitsMember n) member_text close
+one_member n unique close is a b x y good other ends_x ends_y e =
+    member_unique n unique a b x y good other (ends_before a.value x (ends_item close is x ends_x)) (ends_longest b.value y (ends_item close is y ends_y)) e
 
 pub behind_byte : (b : ℕ) (x y : List ℕ) → b ∷ x ≡ b ∷ y → x ≡ y
 behind_byte b x y e = cc

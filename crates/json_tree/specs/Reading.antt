@@ -1,8 +1,10 @@
 -- What the readers of values answer.
-use Rattle.std.specs.Prelude.{◌≡◌, ◌≢◌, ◌≤◌, ℕ, List, [], ◌∷◌, ◌++◌, length, map, codes, ⊤}
+use Rattle.std.specs.Prelude.{◌≡◌, ◌≢◌, ◌≤◌, ℕ, List, [], ◌∷◌, ◌++◌, length, map, codes, ⊤, Result, Ok, Err}
 use Rattle.std.specs.List.{AllByRecursion}
 use Rattle.json_tree.specs.declared.tree.Tree.{Tree, Null, Bool, Number, Str, List', Object'}
 use Rattle.json_tree.specs.declared.tree.Member.{Member}
+use Rattle.json_tree.specs.declared.tree_fault.TreeFault.{TreeFault}
+use Rattle.json_tree.specs.declared.tree_fault.TreeFault.TheVariants.{NotATree, OutOfMemory}
 use Rattle.json_tree.specs.Numbers.{IsNumber}
 use Rattle.json_tree.specs.Strings.{IsString}
 use Rattle.json_tree.specs.Spelling.{spelling, separated, member_text, Fits, FitsMember}
@@ -54,3 +56,9 @@ module _ {A : Type 0} (Good : A → Type 0) (text : A → List ℕ) (close : ℕ
   -- no items with the closing byte behind them stand at the front
   abbrev pub NoItems : List ℕ → Type 0
   NoItems bytes = (items : List A) (rest : List ℕ) → AllByRecursion Good items → bytes ≢ separated (map text items) ++ close ∷ rest
+
+-- The value and its length are what was read, unless memory ran out.
+abbrev pub Gives : Result (Tree × ℕ) TreeFault → Tree × ℕ → Type 0
+Gives (Ok read) expected = read ≡ expected
+Gives (Err OutOfMemory) expected = ⊤
+Gives (Err NotATree) expected = ⊥

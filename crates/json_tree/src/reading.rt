@@ -1,10 +1,10 @@
 //! The value at the front of some bytes.
-ghost use Rattle.std.specs.Prelude.{◌≡◌, ◌≢◌, ◌≤◌, ◌∷◌, ◌++◌, ℕ, List, IfOk, IfErr, IfSome, IfNone};
+ghost use Rattle.std.specs.Prelude.{◌≡◌, ◌≢◌, ◌≤◌, ◌∷◌, ◌++◌, ℕ, List, take, length, IfOk, IfErr, IfSome, IfNone};
 ghost use Rattle.std.specs.List.{AllByRecursion};
 ghost use Rattle.json_tree.specs.Numbers.{IsNumber};
 ghost use Rattle.json_tree.specs.Fronts.{NoneStands};
-ghost use Rattle.json_tree.specs.Spelling.{spelling, member_text, Fits, FitsMember};
-ghost use Rattle.json_tree.specs.Reading.{ReadsValue, NoValue, NoWord, ReadsMember, NoMember, ReadsItems, NoItems, ReadsName, NoName};
+ghost use Rattle.json_tree.specs.Spelling.{spelling, member_text, IsJson, Fits, FitsMember, EndsBefore};
+ghost use Rattle.json_tree.specs.Reading.{Gives, ReadsValue, NoValue, NoWord, ReadsMember, NoMember, ReadsItems, NoItems, ReadsName, NoName};
 
 use crate::front::{after_byte, after_word, before};
 use crate::number::after_number;
@@ -13,6 +13,27 @@ use crate::tree::{Member, Text, Tree};
 use crate::tree_fault::TreeFault;
 use lists::Items;
 use std::alloc::{AllocError, Global};
+
+/// Reads the longest front of the bytes that spells a value whose lists and objects nest at most `depth` deep, and
+/// says how many bytes it has. Bytes may follow it. Reading recurses at most `depth` deep, whatever the bytes are.
+pub fn read_tree(alloc: Global, bytes: &[u8], depth: u8) -> Result<(Tree, usize), TreeFault>
+    // What is read is spelled so.
+    ensures found { IfOk result (λ r. Fits depth r.0 × (take r.1 bytes.now ≡ spelling r.0)) }
+    ensures length { IfOk result (λ r. r.1 ≡ length (spelling r.0)) }
+
+    // No longer front spells a value, at any depth.
+    ensures longest { IfOk result (λ r. (tree : Tree) (rest : List ℕ) → IsJson tree → bytes.now ≡ spelling tree ++ rest → length (spelling tree) ≤ r.1) }
+
+    // What is spelled so is read, whatever follows that can't belong to it, unless memory runs out.
+    ensures only { (tree : Tree) (rest : List ℕ) → Fits depth tree → EndsBefore tree rest → bytes.now ≡ spelling tree ++ rest
+        → Gives result (tree, length (spelling tree)) }
+
+    // No value is said to stand there only where none does.
+    ensures none { IfErr result (λ fault. fault ≡ TreeFault.NotATree → NoValue depth bytes.now) }
+{
+    let (tree, rest) = read_value(alloc, bytes, depth)?;
+    Ok((tree, bytes.len() - rest.len()))
+}
 
 fn text_of(alloc: Global, bytes: &[u8]) -> Result<Text, AllocError>
     ensures { IfOk result (λ text. text ≡ bytes.now) }
@@ -78,10 +99,10 @@ pub(crate) fn read_value(
     if let Some(members) = after_byte(bytes, b'{') {
         return read_object(alloc, members, depth);
     }
-    if let Some(word) = read_word(bytes) {
-        return Ok(word);
+    match read_word(bytes) {
+        Some((word, rest)) => Ok((word, rest)),
+        None => read_number(alloc, bytes),
     }
-    read_number(alloc, bytes)
 }
 
 /// Reads a list, behind its bracket.
