@@ -1,7 +1,8 @@
 -- Items between commas, with a closing byte behind them.
-use Rattle.std.proofs.Common.{◌≡◌, ◌≢◌, ℕ, ◌⊎◌, inl, inr, List, [], ◌∷◌, ◌++◌, map, refl, sym, ap, subst, ◌∙◌, append_assoc, append-nil}
+use Rattle.std.proofs.Common.{◌≡◌, ◌≢◌, ℕ, ◌⊎◌, inl, inr, List, [], ◌∷◌, ◌++◌, ◌+◌, ◌<◌, length, take, get_or, map, refl, sym, ap, subst, ◌∙◌, append_assoc, append-nil}
 use Rattle.std.specs.List.{AllByRecursion}
 use Rattle.std.specs.Prelude.{⊤}
+use Rattle.std.proofs.lemmas.List.{take_more}
 use Rattle.json_tree.specs.Spelling.{after_commas, separated}
 use Rattle.json_tree.specs.Reading.{NoItems}
 use Rattle.json_tree.proofs.Takes.{first_same}
@@ -36,6 +37,11 @@ separated-push (t ∷ texts) text rest =
     ∙ ap (λ l. t ++ l) (after_commas-push texts text rest)
     ∙ sym (append_assoc t (after_commas (texts ++ text ∷ [])) rest)
 
+after_commas-end : (texts : List (List ℕ)) (text : List ℕ) → after_commas (texts ++ text ∷ []) ≡ after_commas texts ++ 44 ∷ text
+after_commas-end [] text = ap (λ l. 44 ∷ l) (append-nil text)
+after_commas-end (t ∷ texts) text =
+    ap (λ l. 44 ∷ (t ++ l)) (after_commas-end texts text) ∙ ap (λ l. 44 ∷ l) (sym (append_assoc t (after_commas texts) (44 ∷ text)))
+
 module _ {A : Type 0} (P : A → Type 0) where
   pub All-push : (items : List A) (item : A) → AllByRecursion P items → P item → AllByRecursion P (items ++ item ∷ [])
   All-push [] item each is = (is, tt)
@@ -45,6 +51,17 @@ module _ {A : Type 0} (text : A → List ℕ) where
   map-push : (items : List A) (item : A) → map text (items ++ item ∷ []) ≡ map text items ++ text item ∷ []
   map-push [] item = refl
   map-push (i ∷ items) item = ap (λ l. text i ∷ l) (map-push items item)
+
+  -- one more item is written, behind a comma
+  pub written : (items : List A) (i : ℕ) (item : A) (start before comma now : List ℕ) → i < length items → item ≡ get_or items i item → before ≡ start ++ after_commas (map text (take i items)) → comma ≡ before ++ 44 ∷ [] → now ≡ comma ++ text item
+      → now ≡ start ++ after_commas (map text (take (i + 1) items))
+  written items i item start before comma now within is so_far with_comma with_text =
+      let taken : take (i + 1) items ≡ take i items ++ item ∷ [] = take_more items i item within ∙ ap (λ x. take i items ++ x ∷ []) (sym is) in
+      let texts = ap (λ l. after_commas (map text l)) taken ∙ ap after_commas (map-push (take i items) item) ∙ after_commas-end (map text (take i items)) (text item) in
+      with_text ∙ ap (λ l. l ++ text item) (with_comma ∙ ap (λ l. l ++ 44 ∷ []) so_far)
+      ∙ append_assoc (start ++ after_commas (map text (take i items))) (44 ∷ []) (text item)
+      ∙ append_assoc start (after_commas (map text (take i items))) (44 ∷ text item)
+      ∙ ap (λ l. start ++ l) (sym texts)
 
   -- a comma behind one more item
   pub pushed : (items : List A) (item : A) (bytes left rest : List ℕ) → bytes ≡ with_commas (map text items) ++ left → left ≡ text item ++ 44 ∷ rest → bytes ≡ with_commas (map text (items ++ item ∷ [])) ++ rest

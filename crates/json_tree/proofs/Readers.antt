@@ -11,7 +11,7 @@ use Rattle.json_tree.specs.Spelling.{spelling, separated, IsJson, IsJsonMember, 
 use Rattle.json_tree.specs.Reading.{IsLongest, ReadsValue, NoValue, ReadsItems, NoItems, ReadsName, NoName, ReadsMember, NoMember}
 use Rattle.json_tree.proofs.StringParts.{string_unique}
 use Rattle.json_tree.proofs.Items.{with_commas, pushed, closed, All-push, refused_items, neither, EndsItem}
-use Rattle.json_tree.proofs.Trees.{deepest, deepest_in, nesting-list, nesting-object, IsJson-list, IsJson-object}
+use Rattle.json_tree.proofs.Trees.{deepest, deepest_in, nesting-list, nesting-object, IsJson-from_list, IsJson-from_object}
 use Rattle.json_tree.proofs.Unique.{unique, one_value, one_member, member_unique, ends_before, ends_item, list_whole, object_whole, member_whole, behind_byte, IsClose}
 use Rattle.json_tree.proofs.Refusals.{none_list, none_object}
 
@@ -36,7 +36,7 @@ pub reads_list : (below depth : ℕ) → below + 1 ≡ depth → (bytes : List �
 reads_list below depth is bytes trees rest r =
     let all = all_json below trees r.each in
     record {
-      fits = (subst (λ (X : Type 0). X) (sym (IsJson-list trees)) all.0, omega (arith, all.1, nesting-list trees));
+      fits = (IsJson-from_list trees all.0, omega (arith, all.1, nesting-list trees));
       whole = ap (λ l. 91 ∷ l) r.whole ∙ sym (list_whole trees rest);
       longest = tt;
     }
@@ -48,7 +48,7 @@ pub reads_object : (below depth : ℕ) → below + 1 ≡ depth → (bytes : List
 reads_object below depth is bytes named rest r =
     let all = all_json_members below named r.each in
     record {
-      fits = (subst (λ (X : Type 0). X) (sym (IsJson-object named)) all.0, omega (arith, all.1, nesting-object named));
+      fits = (IsJson-from_object named all.0, omega (arith, all.1, nesting-object named));
       whole = ap (λ l. 123 ∷ l) r.whole ∙ sym (object_whole named rest);
       longest = tt;
     }

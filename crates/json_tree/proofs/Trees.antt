@@ -1,6 +1,7 @@
 -- A tree by its lists of values and of members.
 use Rattle.std.proofs.Common.{◌≡◌, ℕ, ◌+◌, ◌≤◌, max, List, [], ◌∷◌, ◌++◌, refl, sym, rules, ap, map, subst, ◌∙◌, arith}
-use Rattle.std.specs.Prelude.{Bool}
+use Rattle.std.specs.Prelude.{Bool, IsTrue, ◌↔◌, Result, OnOk}
+use Rattle.std.proofs.lemmas.Result.{on_ok_weaker}
 use Rattle.std.specs.List.{AllByRecursion}
 use Rattle.json_tree.specs.declared.tree.Tree.{Tree, Row_of-Tree, end_of-Tree, more_of-Tree, Row_of-Member, end_of-Member, more_of-Member, items-the_row-Tree, items-the_row-Member, the_lemmas, Tree-F}
 use Rattle.json_tree.specs.declared.tree.Tree.TheVariants.{Null as TreeNull, Bool as TreeBool, Number as TreeNumber, Str as TreeStr, List as TreeList, Object as TreeObject, rolls-Null, rolls-Bool, rolls-Number, rolls-Str, rolls-List, rolls-Object}
@@ -55,11 +56,37 @@ IsJson-list xs = search (rules, json-row, the_lemmas)
 pub IsJson-object : (xs : List Member) → IsJson (TreeObject xs) ≡ AllByRecursion IsJsonMember xs
 IsJson-object xs = search (rules, json-members, the_lemmas)
 
+pub IsJson-from_list : (xs : List Tree) → AllByRecursion IsJson xs → IsJson (TreeList xs)
+IsJson-from_list xs each = subst (λ (X : Type 0). X) (sym (IsJson-list xs)) each
+
+pub IsJson-to_list : (xs : List Tree) → IsJson (TreeList xs) → AllByRecursion IsJson xs
+IsJson-to_list xs json = subst (λ (X : Type 0). X) (IsJson-list xs) json
+
+pub IsJson-from_object : (xs : List Member) → AllByRecursion IsJsonMember xs → IsJson (TreeObject xs)
+IsJson-from_object xs each = subst (λ (X : Type 0). X) (sym (IsJson-object xs)) each
+
+pub IsJson-to_object : (xs : List Member) → IsJson (TreeObject xs) → AllByRecursion IsJsonMember xs
+IsJson-to_object xs json = subst (λ (X : Type 0). X) (IsJson-object xs) json
+
 pub nesting-list : (xs : List Tree) → nesting (TreeList xs) ≡ 1 + deepest xs
 nesting-list xs = search (rules, deepest-row, the_lemmas)
 
 pub nesting-object : (xs : List Member) → nesting (TreeObject xs) ≡ 1 + deepest_in xs
 nesting-object xs = search (rules, deepest-members, the_lemmas)
+
+-- the same of a tree that is such a list
+pub list_test : (t : Tree) (xs : List Tree) (b : Bool) → t ≡ TreeList xs → IsTrue b ↔ AllByRecursion IsJson xs → IsTrue b ↔ IsJson t
+list_test t xs b is each = (λ yes. subst IsJson (sym is) (IsJson-from_list xs (each.0 yes)), λ json. each.1 (IsJson-to_list xs (subst IsJson is json)))
+
+pub object_test : (t : Tree) (xs : List Member) (b : Bool) → t ≡ TreeObject xs → IsTrue b ↔ AllByRecursion IsJsonMember xs → IsTrue b ↔ IsJson t
+object_test t xs b is each = (λ yes. subst IsJson (sym is) (IsJson-from_object xs (each.0 yes)), λ json. each.1 (IsJson-to_object xs (subst IsJson is json)))
+
+module _ {T E : Type 0} (r : Result T E) (t : Tree) (old new : List ℕ) where
+  pub list_pushed : (xs : List Tree) → t ≡ TreeList xs → OnOk r (new ≡ old ++ 91 ∷ (separated (map spelling xs) ++ 93 ∷ [])) → OnOk r (new ≡ old ++ spelling t)
+  list_pushed xs is pushed = on_ok_weaker r (λ e. e ∙ ap (λ l. old ++ l) (sym (ap spelling is ∙ spelling-list xs))) pushed
+
+  pub object_pushed : (xs : List Member) → t ≡ TreeObject xs → OnOk r (new ≡ old ++ 123 ∷ (separated (map member_text xs) ++ 125 ∷ [])) → OnOk r (new ≡ old ++ spelling t)
+  object_pushed xs is pushed = on_ok_weaker r (λ e. e ∙ ap (λ l. old ++ l) (sym (ap spelling is ∙ spelling-object xs))) pushed
 
 -- a tree is one of its kinds
 pub data Kind : Tree → Type 0 where

@@ -16,7 +16,7 @@ use Rattle.json_tree.proofs.Takes.{align, first_same}
 use Rattle.json_tree.proofs.NumberParts.{number_first, number_bytes}
 use Rattle.json_tree.proofs.StringParts.{text_unique, none_at_quote}
 use Rattle.json_tree.proofs.Items.{EndsItem, IsOne, items_unique}
-use Rattle.json_tree.proofs.Trees.{Kind, null, bool, number, str, list, object, kind, spelling-list, spelling-object, IsJson-list, IsJson-object, nesting-list, nesting-object, deepest, deepest_in}
+use Rattle.json_tree.proofs.Trees.{Kind, null, bool, number, str, list, object, kind, spelling-list, spelling-object, IsJson-to_list, IsJson-to_object, nesting-list, nesting-object, deepest, deepest_in}
 
 -- what kind of value begins with a byte
 abbrev pub sort_of : ℕ → ℕ
@@ -123,10 +123,10 @@ all_members_fit n [] json deep = tt
 all_members_fit n (m ∷ named) json deep = ((json.0.0, (json.0.1, omega (arith, deep))), all_members_fit n named json.1 (omega (arith, deep)))
 
 pub list_fits : (n : ℕ) (trees : List Tree) → Fits (n + 1) (TreeList trees) → AllByRecursion (Fits n) trees
-list_fits n trees fits = all_fit n trees (subst (λ (X : Type 0). X) (IsJson-list trees) fits.0) (omega (arith, fits.1, nesting-list trees))
+list_fits n trees fits = all_fit n trees (IsJson-to_list trees fits.0) (omega (arith, fits.1, nesting-list trees))
 
 pub object_fits : (n : ℕ) (named : List Member) → Fits (n + 1) (TreeObject named) → AllByRecursion (FitsMember n) named
-object_fits n named fits = all_members_fit n named (subst (λ (X : Type 0). X) (IsJson-object named) fits.0) (omega (arith, fits.1, nesting-object named))
+object_fits n named fits = all_members_fit n named (IsJson-to_object named fits.0) (omega (arith, fits.1, nesting-object named))
 
 -- one value stands at the front in one way
 abbrev pub UniqueAt : ℕ → Type 0
@@ -225,3 +225,19 @@ unique_kinds n below k j x y good other ends longest e = absurd (omega (arith, s
 pub unique : (n : ℕ) → UniqueAt n
 unique zero t u = unique_kinds zero tt (kind t) (kind u)
 unique (suc n) t u = unique_kinds (suc n) (unique n) (kind t) (kind u)
+
+pub unique_json : (t u : Tree) (x y : List ℕ) → IsJson t → IsJson u → EndsBefore t x → IsLongest u y → spelling t ++ x ≡ spelling u ++ y → (t ≡ u) × (x ≡ y)
+unique_json t u x y ours theirs ends longest e = unique (nesting t + nesting u) t u x y (ours, omega arith) (theirs, omega arith) ends longest e
+
+-- no value at the front is longer than the one that is read
+longest_kind : {t u : Tree} (k : Kind t) (j : Kind u) (x y : List ℕ) → IsJson t → IsJson u → IsLongest u y → spelling t ++ x ≡ spelling u ++ y → length y ≤ length x
+longest_kind (number s) (number r) x y ours theirs longest e = longest s x ours (sym e)
+longest_kind (number s) j x y ours theirs longest e = absurd (omega (arith, same_sort (number s) j x y ours theirs e))
+longest_kind {t} {u} null j x y ours theirs longest e = omega (arith, ap length (unique_json t u x y ours theirs tt longest e).1)
+longest_kind {t} {u} (bool value) j x y ours theirs longest e = omega (arith, ap length (unique_json t u x y ours theirs tt longest e).1)
+longest_kind {t} {u} (str text) j x y ours theirs longest e = omega (arith, ap length (unique_json t u x y ours theirs tt longest e).1)
+longest_kind {t} {u} (list trees) j x y ours theirs longest e = omega (arith, ap length (unique_json t u x y ours theirs tt longest e).1)
+longest_kind {t} {u} (object named) j x y ours theirs longest e = omega (arith, ap length (unique_json t u x y ours theirs tt longest e).1)
+
+pub longest_value : (t u : Tree) (x y : List ℕ) → IsJson t → IsJson u → IsLongest u y → spelling t ++ x ≡ spelling u ++ y → length y ≤ length x
+longest_value t u x y ours theirs longest e = longest_kind (kind t) (kind u) x y ours theirs longest e
