@@ -65,11 +65,11 @@ int_zero bytes rest e = record { front = 48 ∷ []; is = inl (refl, refl); whole
 
 pub int_run : (bytes rest : List ℕ) → ((rest : List ℕ) → bytes ≢ 48 ∷ rest) → TakesLongest IsDigitRun bytes rest → TakesLongest IsInt bytes rest
 int_run bytes rest other t = record {
-    front = t.front;
-    is = run_is_int t.front rest bytes other t.whole t.is;
-    whole = t.whole;
-    longest = λ text more int e. t.longest text more (int_is_run text int) e;
-  }
+  front = t.front;
+  is = run_is_int t.front rest bytes other t.whole t.is;
+  whole = t.whole;
+  longest = λ text more int e. t.longest text more (int_is_run text int) e;
+}
 
 pub none_int : (bytes : List ℕ) → NoneStands IsDigitRun bytes → NoneStands IsInt bytes
 none_int bytes none = none_as IsDigitRun IsInt int_is_run bytes none
@@ -172,10 +172,16 @@ never_empty j = no_int_in_nothing j.0 j.1 (int_is_run j.0 j.2) j.4
 
 number_to : (text : List ℕ) → Joined IsMinus IntFracExp text → IsNumber text
 number_to text j = record {
-    minus = j.0; int = j.3.0; frac = j.3.3.0; exp = j.3.3.1;
-    is_minus = j.2; is_int = j.3.2; is_frac = j.3.3.2; is_exp = j.3.3.3;
-    whole = j.4 ∙ ap (λ l. j.0 ++ l) (j.3.4 ∙ ap (λ l. j.3.0 ++ l) j.3.3.4);
-  }
+  minus = j.0;
+  int = j.3.0;
+  frac = j.3.3.0;
+  exp = j.3.3.1;
+  is_minus = j.2;
+  is_int = j.3.2;
+  is_frac = j.3.3.2;
+  is_exp = j.3.3.3;
+  whole = j.4 ∙ ap (λ l. j.0 ++ l) (j.3.4 ∙ ap (λ l. j.3.0 ++ l) j.3.3.4);
+}
 
 number_from : (text : List ℕ) → IsNumber text → Joined IsMinus IntFracExp text
 number_from text n = (n.minus, n.int ++ (n.frac ++ n.exp), n.is_minus, (n.int, n.frac ++ n.exp, n.is_int, (n.frac, n.exp, n.is_frac, n.is_exp, refl), refl), n.whole)

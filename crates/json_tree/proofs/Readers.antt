@@ -59,10 +59,10 @@ refuses_object below depth is bytes none = subst (λ d. NoValue d (123 ∷ bytes
 -- a member
 pub reads_member : (depth : ℕ) (bytes name behind : List ℕ) (value : Tree) (rest : List ℕ) → ReadsName bytes name behind → ReadsValue depth behind value rest → ReadsMember depth bytes (record { name = name; value = value }) rest
 reads_member depth bytes name behind value rest n v = record {
-    fits = (n.string, v.fits);
-    whole = n.whole ∙ ap (λ l. 34 ∷ (name ++ 34 ∷ (58 ∷ l))) v.whole ∙ sym (member_whole (record { name = name; value = value }) rest);
-    longest = v.longest;
-  }
+  fits = (n.string, v.fits);
+  whole = n.whole ∙ ap (λ l. 34 ∷ (name ++ 34 ∷ (58 ∷ l))) v.whole ∙ sym (member_whole (record { name = name; value = value }) rest);
+  longest = v.longest;
+}
 
 behind_58 : (x y : List ℕ) → 58 ∷ x ≡ 58 ∷ y → x ≡ y
 behind_58 x y e = cc
@@ -97,13 +97,14 @@ module _ {A : Type 0} (Good : A → Type 0) (text : A → List ℕ) (close : ℕ
   -- one more item, with a comma behind it
   pub more_items : (read now : List A) (item : A) (bytes left rest more : List ℕ) → now ≡ read ++ item ∷ [] → AllByRecursion Good read → Good item → bytes ≡ with_commas (map text read) ++ left → left ≡ text item ++ rest → rest ≡ 44 ∷ more
       → AllByRecursion Good now × (bytes ≡ with_commas (map text now) ++ more)
-  more_items read now item bytes left rest more is each good whole stands comma =
-      (subst (AllByRecursion Good) (sym is) (All-push Good read item each good),
-       pushed text read item bytes left more whole (stands ∙ ap (λ l. text item ++ l) comma) ∙ ap (λ l. with_commas (map text l) ++ more) (sym is))
+  more_items read now item bytes left rest more is each good whole stands comma = (
+    subst (AllByRecursion Good) (sym is) (All-push Good read item each good),
+    pushed text read item bytes left more whole (stands ∙ ap (λ l. text item ++ l) comma) ∙ ap (λ l. with_commas (map text l) ++ more) (sym is),
+  )
 
   -- the last item, with the closing byte behind it
   pub last_item : (read now : List A) (item : A) (bytes left rest end : List ℕ) → now ≡ read ++ item ∷ [] → AllByRecursion Good read → Good item → bytes ≡ with_commas (map text read) ++ left → left ≡ text item ++ rest → rest ≡ close ∷ end → ReadsItems Good text close bytes now end
   last_item read now item bytes left rest end is each good whole stands closing = record {
-      each = subst (AllByRecursion Good) (sym is) (All-push Good read item each good);
-      whole = closed text close read item bytes left end whole (stands ∙ ap (λ l. text item ++ l) closing) ∙ ap (λ l. separated (map text l) ++ close ∷ end) (sym is);
-    }
+    each = subst (AllByRecursion Good) (sym is) (All-push Good read item each good);
+    whole = closed text close read item bytes left end whole (stands ∙ ap (λ l. text item ++ l) closing) ∙ ap (λ l. separated (map text l) ++ close ∷ end) (sym is);
+  }

@@ -85,10 +85,10 @@ chars_end bytes = record { front = []; is = record { chars = []; each = tt; whol
 
 pub chars_more : (bytes middle rest : List ℕ) → Takes IsChar bytes middle → Takes AreChars middle rest → Takes AreChars bytes rest
 chars_more bytes middle rest s t = record {
-    front = s.front ++ t.front;
-    is = record { chars = s.front ∷ t.is.chars; each = (s.is, t.is.each); whole = ap (λ l. s.front ++ l) t.is.whole };
-    whole = s.whole ∙ ap (λ l. s.front ++ l) t.whole ∙ sym (append_assoc s.front t.front rest);
-  }
+  front = s.front ++ t.front;
+  is = record { chars = s.front ∷ t.is.chars; each = (s.is, t.is.each); whole = ap (λ l. s.front ++ l) t.is.whole };
+  whole = s.whole ∙ ap (λ l. s.front ++ l) t.whole ∙ sym (append_assoc s.front t.front rest);
+}
 
 -- one character is not the beginning of another
 same_length : (a b x y : List ℕ) → length a ≡ length b → a ++ x ≡ b ++ y → a ≡ b

@@ -80,14 +80,14 @@ module _ (P Q : List ℕ → Type 0) where
 
   pub takes_joined : Apart → (bytes middle rest : List ℕ) → TakesLongest P bytes middle → TakesLongest Q middle rest → TakesLongest Joined bytes rest
   takes_joined apart bytes middle rest s t = record {
-      front = s.front ++ t.front;
-      is = (s.front, t.front, s.is, t.is, refl);
-      whole = s.whole ∙ ap (λ l. s.front ++ l) t.whole ∙ sym (append_assoc s.front t.front rest);
-      longest = λ other more (j : Joined other) e.
-          let whole : bytes ≡ j.0 ++ (j.1 ++ more) = e ∙ ap (λ l. l ++ more) j.4 ∙ append_assoc j.0 j.1 more in
-          let a = align j.0 s.front (j.1 ++ more) middle (sym whole ∙ s.whole) (s.longest j.0 (j.1 ++ more) j.2 whole) in
-          joined_longest apart middle rest s.front j.0 j.1 more a.0 t j.2 s.is j.3 a.1 a.2;
-    }
+    front = s.front ++ t.front;
+    is = (s.front, t.front, s.is, t.is, refl);
+    whole = s.whole ∙ ap (λ l. s.front ++ l) t.whole ∙ sym (append_assoc s.front t.front rest);
+    longest = λ other more (j : Joined other) e.
+        let whole : bytes ≡ j.0 ++ (j.1 ++ more) = e ∙ ap (λ l. l ++ more) j.4 ∙ append_assoc j.0 j.1 more in
+        let a = align j.0 s.front (j.1 ++ more) middle (sym whole ∙ s.whole) (s.longest j.0 (j.1 ++ more) j.2 whole) in
+        joined_longest apart middle rest s.front j.0 j.1 more a.0 t j.2 s.is j.3 a.1 a.2;
+  }
 
   none_behind : Apart → (Q [] → ⊥) → (middle front p q more w : List ℕ) → NoneStands Q middle → P p → P front → Q q → front ≡ p ++ w → q ++ more ≡ w ++ middle → ⊥
   none_behind apart some middle front p q more [] none is_p is_front is_q longer e = none q more is_q (sym e)

@@ -102,10 +102,10 @@ rolled t l e = ap roll-Tree (sym e) ∙ roll-out-Tree t
 
 pub kind : (t : Tree) → Kind t
 kind t = elim (out-Tree t) as (λ l. out-Tree t ≡ l → Kind t) [
-      layer.Null ↦ λ e. subst Kind (sym rolls-Null ∙ rolled t _ e) null
-    | layer.Bool value ↦ λ e. subst Kind (sym (rolls-Bool value) ∙ rolled t _ e) (bool value)
-    | layer.Number text ↦ λ e. subst Kind (sym (rolls-Number text) ∙ rolled t _ e) (number text)
-    | layer.Str text ↦ λ e. subst Kind (sym (rolls-Str text) ∙ rolled t _ e) (str text)
-    | layer.List trees ↦ λ e. subst Kind (sym (rolls-List trees) ∙ rolled t _ e) (list trees)
-    | layer.Object named ↦ λ e. subst Kind (sym (rolls-Object named) ∙ rolled t _ e) (object named)
-  ] refl
+  | layer.Null ↦ λ e. subst Kind (sym rolls-Null ∙ rolled t _ e) null
+  | layer.Bool value ↦ λ e. subst Kind (sym (rolls-Bool value) ∙ rolled t _ e) (bool value)
+  | layer.Number text ↦ λ e. subst Kind (sym (rolls-Number text) ∙ rolled t _ e) (number text)
+  | layer.Str text ↦ λ e. subst Kind (sym (rolls-Str text) ∙ rolled t _ e) (str text)
+  | layer.List trees ↦ λ e. subst Kind (sym (rolls-List trees) ∙ rolled t _ e) (list trees)
+  | layer.Object named ↦ λ e. subst Kind (sym (rolls-Object named) ∙ rolled t _ e) (object named)
+] refl

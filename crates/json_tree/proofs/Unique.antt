@@ -98,20 +98,20 @@ number_unique n m x y is_n is_m ends longest e =
 
 longest_of : (n m x y : List ℕ) → IsNumber m → EndsNumber x → n ++ x ≡ m ++ y → length x ≤ length y
 longest_of n m x y is ends e = elim (cases_lt (length y) (length x)) [
-      inl shorter ↦ (let a = align n m x y e (omega arith) in omega (arith, ap length (no_more n m x y a.0 is ends a.1 a.2).1))
-    | inr enough ↦ enough
-  ]
+  | inl shorter ↦ (let a = align n m x y e (omega arith) in omega (arith, ap length (no_more n m x y a.0 is ends a.1 a.2).1))
+  | inr enough ↦ enough
+]
 
-ends_longest_kind : {t : Tree} (k : Kind t) (x : List ℕ) → EndsNumber x → IsLongest t x
-ends_longest_kind null x ends = tt
-ends_longest_kind (bool value) x ends = tt
-ends_longest_kind (number text) x ends = λ other more is e. longest_of text other x more is ends e
-ends_longest_kind (str text) x ends = tt
-ends_longest_kind (list trees) x ends = tt
-ends_longest_kind (object named) x ends = tt
+longest_where_ends : {t : Tree} (k : Kind t) (x : List ℕ) → EndsBefore t x → IsLongest t x
+longest_where_ends null x ends = tt
+longest_where_ends (bool value) x ends = tt
+longest_where_ends (number text) x ends = λ other more is e. longest_of text other x more is ends e
+longest_where_ends (str text) x ends = tt
+longest_where_ends (list trees) x ends = tt
+longest_where_ends (object named) x ends = tt
 
 pub ends_longest : (t : Tree) (x : List ℕ) → EndsNumber x → IsLongest t x
-ends_longest t x ends = ends_longest_kind (kind t) x ends
+ends_longest t x ends = longest_where_ends (kind t) x (ends_before t x ends)
 
 -- the values of a list, and those of an object's members, fit one level less
 pub all_fit : (n : ℕ) (trees : List Tree) → AllByRecursion IsJson trees → deepest trees ≤ n → AllByRecursion (Fits n) trees
@@ -194,7 +194,7 @@ list_unique zero below xs ys x y good other e = absurd (omega (arith, good.1, ne
 list_unique (suc n) below xs ys x y good other e =
     let whole = behind_byte 91 _ _ (sym (list_whole xs x) ∙ e ∙ list_whole ys y) in
     let same = items_unique (Fits n) spelling 93 (λ is. omega (arith, is)) (one_value n below 93 (inr refl)) (λ a z w fits. no_close a z w fits.0) xs ys x y
-        (list_fits n xs (good.0, omega (arith, good.1))) (list_fits n ys (other.0, omega (arith, other.1))) whole in
+    (list_fits n xs (good.0, omega (arith, good.1))) (list_fits n ys (other.0, omega (arith, other.1))) whole in
     (ap TreeList same.0, same.1)
 
 object_unique : (n : ℕ) → Below n → (xs ys : List Member) (x y : List ℕ) → Fits n (TreeObject xs) → Fits n (TreeObject ys) → spelling (TreeObject xs) ++ x ≡ spelling (TreeObject ys) ++ y → (TreeObject xs ≡ TreeObject ys) × (x ≡ y)
@@ -202,7 +202,7 @@ object_unique zero below xs ys x y good other e = absurd (omega (arith, good.1, 
 object_unique (suc n) below xs ys x y good other e =
     let whole = behind_byte 123 _ _ (sym (object_whole xs x) ∙ e ∙ object_whole ys y) in
     let same = items_unique (FitsMember n) member_text 125 (λ is. omega (arith, is)) (one_member n below 125 (inl (omega arith))) (λ m z w fits. no_member_close m z w) xs ys x y
-        (object_fits n xs (good.0, omega (arith, good.1))) (object_fits n ys (other.0, omega (arith, other.1))) whole in
+    (object_fits n xs (good.0, omega (arith, good.1))) (object_fits n ys (other.0, omega (arith, other.1))) whole in
     (ap TreeObject same.0, same.1)
 
 unique_kinds : (n : ℕ) → Below n → {t u : Tree} (k : Kind t) (j : Kind u) (x y : List ℕ) → Fits n t → Fits n u → EndsBefore t x → IsLongest u y → spelling t ++ x ≡ spelling u ++ y → (t ≡ u) × (x ≡ y)
@@ -241,3 +241,10 @@ longest_kind {t} {u} (object named) j x y ours theirs longest e = omega (arith, 
 
 pub longest_value : (t u : Tree) (x y : List ℕ) → IsJson t → IsJson u → IsLongest u y → spelling t ++ x ≡ spelling u ++ y → length y ≤ length x
 longest_value t u x y ours theirs longest e = longest_kind (kind t) (kind u) x y ours theirs longest e
+
+-- the laws
+pub one_at_front : (t u : Tree) (x y : List ℕ) → IsJson t → IsJson u → EndsBefore t x → EndsBefore u y → spelling t ++ x ≡ spelling u ++ y → (t ≡ u) × (x ≡ y)
+one_at_front t u x y ours theirs ends_x ends_y e = unique_json t u x y ours theirs ends_x (longest_where_ends (kind u) y ends_y) e
+
+pub one_text : (t u : Tree) → IsJson t → IsJson u → spelling t ≡ spelling u → t ≡ u
+one_text t u ours theirs e = (one_at_front t u [] [] ours theirs (ends_before t [] tt) (ends_before u [] tt) (ap (λ l. l ++ []) e)).0

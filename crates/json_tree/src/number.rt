@@ -10,7 +10,11 @@ fn after_digit(bytes: &[u8]) -> Option<&[u8]>
     ensures none { IfNone result ((rest : List ℕ) → ¬ StartsWith IsDigit bytes.now rest) }
 {
     let (first, rest) = bytes.split_first()?;
-    if first.is_ascii_digit() { Some(rest) } else { None }
+    if first.is_ascii_digit() {
+        Some(rest)
+    } else {
+        None
+    }
 }
 
 fn after_digits(bytes: &[u8]) -> &[u8]

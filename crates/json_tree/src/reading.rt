@@ -82,11 +82,7 @@ fn read_string(alloc: Global, bytes: &[u8]) -> Result<(Tree, &[u8]), TreeFault>
 
 /// Reads the value that stands at the front and nests at most so deep.
 #[cycle(read)]
-pub(crate) fn read_value(
-    alloc: Global,
-    bytes: &[u8],
-    depth: u8,
-) -> Result<(Tree, &[u8]), TreeFault>
+pub(crate) fn read_value(alloc: Global, bytes: &[u8], depth: u8) -> Result<(Tree, &[u8]), TreeFault>
     ensures some { IfOk result (λ r. ReadsValue depth bytes.now r.0 r.1.now) }
     ensures none { IfErr result (λ fault. fault ≡ TreeFault.NotATree → NoValue depth bytes.now) }
 {
@@ -133,11 +129,7 @@ fn read_object(alloc: Global, bytes: &[u8], depth: u8) -> Result<(Tree, &[u8]), 
 
 /// Reads a list's values, and its closing bracket.
 #[cycle(read)]
-fn read_values(
-    alloc: Global,
-    bytes: &[u8],
-    depth: u8,
-) -> Result<(Items<Tree>, &[u8]), TreeFault>
+fn read_values(alloc: Global, bytes: &[u8], depth: u8) -> Result<(Items<Tree>, &[u8]), TreeFault>
     ensures some { IfOk result (λ r. ReadsItems (Fits depth) spelling 93 bytes.now r.0 r.1.now) }
     ensures none { IfErr result (λ fault. fault ≡ TreeFault.NotATree → NoItems (Fits depth) spelling 93 bytes.now) }
 {
@@ -161,11 +153,7 @@ fn read_values(
 
 /// Reads an object's members, and its closing brace.
 #[cycle(read)]
-fn read_members(
-    alloc: Global,
-    bytes: &[u8],
-    depth: u8,
-) -> Result<(Items<Member>, &[u8]), TreeFault>
+fn read_members(alloc: Global, bytes: &[u8], depth: u8) -> Result<(Items<Member>, &[u8]), TreeFault>
     ensures some { IfOk result (λ r. ReadsItems (FitsMember depth) member_text 125 bytes.now r.0 r.1.now) }
     ensures none { IfErr result (λ fault. fault ≡ TreeFault.NotATree → NoItems (FitsMember depth) member_text 125 bytes.now) }
 {
@@ -188,11 +176,7 @@ fn read_members(
 }
 
 #[cycle(read)]
-fn read_member(
-    alloc: Global,
-    bytes: &[u8],
-    depth: u8,
-) -> Result<(Member, &[u8]), TreeFault>
+fn read_member(alloc: Global, bytes: &[u8], depth: u8) -> Result<(Member, &[u8]), TreeFault>
     ensures some { IfOk result (λ r. ReadsMember depth bytes.now r.0 r.1.now) }
     ensures none { IfErr result (λ fault. fault ≡ TreeFault.NotATree → NoMember depth bytes.now) }
 {

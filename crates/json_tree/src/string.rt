@@ -35,7 +35,10 @@ fn after_short_escape(bytes: &[u8]) -> Option<&[u8]>
     ensures none { IfNone result ((rest : List ℕ) → ¬ StartsWith (λ b. IsTrue (is_short_escape b)) bytes.now rest) }
 {
     let (first, rest) = bytes.split_first()?;
-    if matches!(*first, b'"' | b'\\' | b'/' | b'b' | b'f' | b'n' | b'r' | b't') {
+    if matches!(
+        *first,
+        b'"' | b'\\' | b'/' | b'b' | b'f' | b'n' | b'r' | b't'
+    ) {
         Some(rest)
     } else {
         None

@@ -27,20 +27,29 @@ pub struct Member {
     pub value: Tree,
 }
 
-impl Tree {
-    /// An equal tree.
-    #[cycle(copy)]
-    pub fn copy(&self, alloc: Global) -> Result<Tree, AllocError>
-        ensures { IfOk result (λ t. t ≡ self.now) }
-    {
-        match self {
-            Tree::Null => Ok(Tree::Null),
-            Tree::Bool(value) => Ok(Tree::Bool(*value)),
-            Tree::Number(text) => Ok(Tree::Number(text.copy(alloc)?)),
-            Tree::Str(text) => Ok(Tree::Str(text.copy(alloc)?)),
-            Tree::List(trees) => Ok(Tree::List(copy_trees(alloc, trees)?)),
-            Tree::Object(members) => Ok(Tree::Object(copy_members(alloc, members)?)),
-        }
+impl CopyValue for Tree {
+    fn copy(&self, alloc: Global) -> Result<Tree, AllocError> {
+        copy_tree(alloc, self)
+    }
+}
+
+impl CopyValue for Member {
+    fn copy(&self, alloc: Global) -> Result<Member, AllocError> {
+        copy_member(alloc, self)
+    }
+}
+
+#[cycle(copy)]
+fn copy_tree(alloc: Global, tree: &Tree) -> Result<Tree, AllocError>
+    ensures { IfOk result (λ t. t ≡ tree.now) }
+{
+    match tree {
+        Tree::Null => Ok(Tree::Null),
+        Tree::Bool(value) => Ok(Tree::Bool(*value)),
+        Tree::Number(text) => Ok(Tree::Number(text.copy(alloc)?)),
+        Tree::Str(text) => Ok(Tree::Str(text.copy(alloc)?)),
+        Tree::List(trees) => Ok(Tree::List(copy_trees(alloc, trees)?)),
+        Tree::Object(members) => Ok(Tree::Object(copy_members(alloc, members)?)),
     }
 }
 
@@ -50,7 +59,7 @@ fn copy_trees(alloc: Global, trees: &Items<Tree>) -> Result<Items<Tree>, AllocEr
 {
     let mut copies = Vec::new(alloc);
     for tree in trees.as_slice() {
-        copies.push(tree.copy(alloc)?)?;
+        copies.push(copy_tree(alloc, tree)?)?;
     }
     Ok(Items::from_vec(copies))
 }
@@ -61,9 +70,16 @@ fn copy_members(alloc: Global, members: &Items<Member>) -> Result<Items<Member>,
 {
     let mut copies = Vec::new(alloc);
     for member in members.as_slice() {
-        let name = member.name.copy(alloc)?;
-        let value = member.value.copy(alloc)?;
-        copies.push(Member { name, value })?;
+        copies.push(copy_member(alloc, member)?)?;
     }
     Ok(Items::from_vec(copies))
+}
+
+#[cycle(copy)]
+fn copy_member(alloc: Global, member: &Member) -> Result<Member, AllocError>
+    ensures { IfOk result (λ m. m ≡ member.now) }
+{
+    let name = member.name.copy(alloc)?;
+    let value = copy_tree(alloc, &member.value)?;
+    Ok(Member { name, value })
 }
