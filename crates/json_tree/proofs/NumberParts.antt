@@ -1,6 +1,5 @@
 -- The parts of a number, each the longest that stands.
-use Rattle.std.proofs.Common.{◌≡◌, ◌≢◌, ℕ, ◌≤◌, ◌⊎◌, inl, inr, List, [], ◌∷◌, ◌++◌, length, refl, sym, ap, subst, ◌∙◌, append_assoc, length-append, le_refl, arith}
-use Rattle.std.specs.Prelude.{⊤}
+use Rattle.std.proofs.Common.{◌≡◌, ◌≢◌, ℕ, ◌≤◌, ◌⊎◌, inl, inr, List, [], ◌∷◌, ◌++◌, length, refl, sym, ap, subst, ◌∙◌, append_assoc, arith}
 use Rattle.json_tree.specs.Fronts.{TakesLongest, NoneStands, StartsWith, IsEither}
 use Rattle.json_tree.specs.Numbers.{IsDigit, AreDigits, IsDigitRun, IsMinus, IsInt, IsFrac, IsSign, IsPower, IsExp, IsNumber, IsNumberByte}
 use Rattle.json_tree.proofs.Takes.{first_same, takes_nothing, takes_as, none_as, takes_behind, Joined, takes_joined, none_joined}

@@ -1,18 +1,17 @@
 -- What was read, step by step.
-use Rattle.std.proofs.Common.{◌≡◌, ◌≢◌, ℕ, ◌+◌, ◌≤◌, max, List, [], ◌∷◌, ◌++◌, map, inl, inr, refl, sym, ap, subst, ◌∙◌, append_assoc, arith}
-use Rattle.std.specs.Prelude.{⊤, Result, IsErrAnd, IfErr}
+use Rattle.std.proofs.Common.{◌≡◌, ◌≢◌, ℕ, ◌+◌, ◌≤◌, List, [], ◌∷◌, ◌++◌, map, inl, inr, refl, sym, ap, subst, ◌∙◌, arith}
+use Rattle.std.specs.Prelude.{Result, IsErrAnd, IfErr}
 use Rattle.std.proofs.lemmas.Result.{err_from_is_err_and}
 use Rattle.std.specs.List.{AllByRecursion}
 use Rattle.json_tree.specs.declared.tree.Tree.{Tree}
 use Rattle.json_tree.specs.declared.tree.Tree.TheVariants.{List as TreeList, Object as TreeObject}
 use Rattle.json_tree.specs.declared.tree.Member.{Member}
-use Rattle.json_tree.specs.Strings.{IsString}
-use Rattle.json_tree.specs.Spelling.{spelling, separated, IsJson, IsJsonMember, nesting, member_text, Fits, FitsMember}
-use Rattle.json_tree.specs.Reading.{IsLongest, ReadsValue, NoValue, ReadsItems, NoItems, ReadsName, NoName, ReadsMember, NoMember}
+use Rattle.json_tree.specs.Spelling.{spelling, separated, IsJson, IsJsonMember, member_text, Fits, FitsMember}
+use Rattle.json_tree.specs.Reading.{ReadsValue, NoValue, ReadsItems, NoItems, ReadsName, ReadsMember, NoMember}
 use Rattle.json_tree.proofs.StringParts.{string_unique}
 use Rattle.json_tree.proofs.Items.{with_commas, pushed, closed, All-push, refused_items, neither, EndsItem}
 use Rattle.json_tree.proofs.Trees.{deepest, deepest_in, nesting-list, nesting-object, IsJson-from_list, IsJson-from_object}
-use Rattle.json_tree.proofs.Unique.{unique, one_value, one_member, member_unique, ends_before, ends_item, list_whole, object_whole, member_whole, behind_byte, IsClose}
+use Rattle.json_tree.proofs.Unique.{unique, one_value, one_member, member_unique, ends_before, ends_item, list_whole, object_whole, member_whole, behind_byte}
 use Rattle.json_tree.proofs.Refusals.{none_list, none_object}
 
 -- what is said of an error holds of the one that a `?` hands on

@@ -1,15 +1,13 @@
 -- Where no value stands.
-use Rattle.std.proofs.Common.{◌≡◌, ◌≢◌, ℕ, zero, suc, ◌+◌, ◌≤◌, List, [], ◌∷◌, ◌++◌, map, true, false, refl, sym, ap, subst, ◌∙◌, append_assoc, arith}
-use Rattle.std.specs.List.{AllByRecursion}
+use Rattle.std.proofs.Common.{◌≡◌, ◌≢◌, ℕ, ◌+◌, List, ◌∷◌, ◌++◌, true, false, ◌∙◌, arith}
 use Rattle.json_tree.specs.declared.tree.Tree.{Tree}
-use Rattle.json_tree.specs.declared.tree.Member.{Member}
 use Rattle.json_tree.specs.Fronts.{NoneStands}
 use Rattle.json_tree.specs.Numbers.{IsNumber}
 use Rattle.json_tree.specs.Strings.{IsString}
-use Rattle.json_tree.specs.Spelling.{spelling, separated, IsJson, nesting, member_text, Fits, FitsMember}
+use Rattle.json_tree.specs.Spelling.{spelling, IsJson, member_text, Fits, FitsMember}
 use Rattle.json_tree.specs.Reading.{NoValue, NoWord, NoItems, NoName, NoMember}
 use Rattle.json_tree.proofs.Trees.{Kind, null, bool, number, str, list, object, kind, nesting-list, nesting-object}
-use Rattle.json_tree.proofs.Unique.{sort, sort_of, first, sort_at, behind_byte, str_whole, list_whole, object_whole, list_fits, object_fits, member_whole, wrong_sort}
+use Rattle.json_tree.proofs.Unique.{behind_byte, str_whole, list_whole, object_whole, list_fits, object_fits, member_whole, wrong_sort}
 
 abbrev NoString : List ℕ → Type 0
 NoString bytes = (text rest : List ℕ) → IsString text → bytes ≢ text ++ 34 ∷ rest

@@ -1,9 +1,9 @@
 -- A tree by its lists of values and of members.
-use Rattle.std.proofs.Common.{◌≡◌, ℕ, ◌+◌, ◌≤◌, max, List, [], ◌∷◌, ◌++◌, refl, sym, rules, ap, map, subst, ◌∙◌, arith}
+use Rattle.std.proofs.Common.{◌≡◌, ℕ, ◌+◌, max, List, [], ◌∷◌, ◌++◌, refl, sym, rules, ap, map, subst, ◌∙◌}
 use Rattle.std.specs.Prelude.{Bool, IsTrue, ◌↔◌, Result, OnOk}
 use Rattle.std.proofs.lemmas.Result.{on_ok_weaker}
 use Rattle.std.specs.List.{AllByRecursion}
-use Rattle.json_tree.specs.declared.tree.Tree.{Tree, Row_of-Tree, end_of-Tree, more_of-Tree, Row_of-Member, end_of-Member, more_of-Member, items-the_row-Tree, items-the_row-Member, the_lemmas, Tree-F}
+use Rattle.json_tree.specs.declared.tree.Tree.{Tree, Row_of-Tree, end_of-Tree, more_of-Tree, Row_of-Member, end_of-Member, more_of-Member, items-the_row-Tree, items-the_row-Member, the_lemmas}
 use Rattle.json_tree.specs.declared.tree.Tree.TheVariants.{Null as TreeNull, Bool as TreeBool, Number as TreeNumber, Str as TreeStr, List as TreeList, Object as TreeObject, rolls-Null, rolls-Bool, rolls-Number, rolls-Str, rolls-List, rolls-Object}
 use Rattle.json_tree.specs.declared.tree.Tree.TheViews.{roll-out-Tree, out-Tree, roll-Tree}
 use Rattle.json_tree.specs.declared.tree.Tree.TheOpen as layer

@@ -1,5 +1,5 @@
 -- One value stands at the front of some bytes.
-use Rattle.std.proofs.Common.{◌≡◌, ◌≢◌, ℕ, zero, suc, ◌+◌, ◌≤◌, max, ◌⊎◌, inl, inr, List, [], ◌∷◌, ◌++◌, length, Bool, true, false, cond, refl, sym, ap, map, subst, ◌∙◌, append_assoc, append-nil, length-append, arith, get_or}
+use Rattle.std.proofs.Common.{◌≡◌, ◌≢◌, ℕ, zero, suc, ◌+◌, ◌≤◌, ◌⊎◌, inl, inr, List, [], ◌∷◌, ◌++◌, length, true, false, refl, sym, ap, map, subst, ◌∙◌, append_assoc, append-nil, arith, get_or}
 use Rattle.std.specs.Prelude.{⊤, ◌==◌, nat_lt, if◌then◌else◌}
 use Rattle.std.specs.List.{AllByRecursion}
 use Rattle.std.proofs.lemmas.Bool.Decides.{nat_tests}
@@ -8,9 +8,8 @@ use Rattle.std.proofs.lemmas.List.{append_cancel_left}
 use Rattle.json_tree.specs.declared.tree.Tree.{Tree}
 use Rattle.json_tree.specs.declared.tree.Tree.TheVariants.{Null as TreeNull, Bool as TreeBool, Number as TreeNumber, Str as TreeStr, List as TreeList, Object as TreeObject}
 use Rattle.json_tree.specs.declared.tree.Member.{Member}
-use Rattle.json_tree.specs.Numbers.{IsDigit, IsMinus, IsInt, AreDigits, IsDigitRun, IsNumber, IsNumberByte}
-use Rattle.json_tree.specs.Strings.{IsString}
-use Rattle.json_tree.specs.Spelling.{spelling, separated, quoted, IsJson, nesting, member_text, IsJsonMember, Fits, FitsMember, EndsNumber, EndsBefore}
+use Rattle.json_tree.specs.Numbers.{IsDigit, IsNumber, IsNumberByte}
+use Rattle.json_tree.specs.Spelling.{spelling, separated, IsJson, nesting, member_text, IsJsonMember, Fits, FitsMember, EndsNumber, EndsBefore}
 use Rattle.json_tree.specs.Reading.{IsLongest}
 use Rattle.json_tree.proofs.Takes.{align, first_same}
 use Rattle.json_tree.proofs.NumberParts.{number_first, number_bytes}

@@ -1,7 +1,7 @@
 -- What the readers of values answer.
-use Rattle.std.specs.Prelude.{◌≡◌, ◌≢◌, ◌≤◌, ℕ, List, [], ◌∷◌, ◌++◌, length, map, codes, ⊤, Result, Ok, Err}
+use Rattle.std.specs.Prelude.{◌≡◌, ◌≢◌, ◌≤◌, ℕ, List, ◌∷◌, ◌++◌, length, map, codes, ⊤, Result, Ok, Err}
 use Rattle.std.specs.List.{AllByRecursion}
-use Rattle.json_tree.specs.declared.tree.Tree.{Tree, Null, Bool, Number, Str, List', Object'}
+use Rattle.json_tree.specs.declared.tree.Tree.{Tree, Number}
 use Rattle.json_tree.specs.declared.tree.Member.{Member}
 use Rattle.json_tree.specs.declared.tree_fault.TreeFault.{TreeFault}
 use Rattle.json_tree.specs.declared.tree_fault.TreeFault.TheVariants.{NotATree, OutOfMemory}

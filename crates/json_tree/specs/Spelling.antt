@@ -1,5 +1,5 @@
 -- The text of a value, and how deep it nests. RFC 8259, without white space.
-use Rattle.std.specs.Prelude.{◌≡◌, ℕ, suc, ◌+◌, ◌≤◌, max, List, [], ◌∷◌, ◌++◌, if◌then◌else◌, codes, ⊤, map}
+use Rattle.std.specs.Prelude.{◌≡◌, ℕ, ◌+◌, ◌≤◌, max, List, [], ◌∷◌, ◌++◌, if◌then◌else◌, codes, ⊤}
 use Rattle.json_tree.specs.declared.tree.Tree.{Tree, Null, Bool, Number, Str, List', Object', Row_of-Tree, end_of-Tree, more_of-Tree, Row_of-Member, end_of-Member, more_of-Member}
 use Rattle.json_tree.specs.declared.tree.Member.{Member}
 use Rattle.json_tree.specs.Numbers.{IsNumber, IsNumberByte}

@@ -1,9 +1,9 @@
-use Rattle.std.proofs.Common.{◌≡◌, refl, sym, subst, ◌++◌, ◌∷◌, [], arith, rules}
+use Rattle.std.proofs.Common.{sym, subst, ◌∷◌, arith, rules}
 use Rattle.std.proofs.lemmas.Result.{IfErr-weaker}
 use Rattle.json_tree.specs.Spelling.{spelling, member_text, Fits, FitsMember}
 use Rattle.json_tree.specs.Reading.{NoValue}
-use Rattle.json_tree.proofs.Refusals.{none_list_at_0, none_object_at_0, none_value, no_member_name}
-use Rattle.json_tree.proofs.Readers.{IfErr-handed_on, reads_list, refuses_list, reads_object, refuses_object, reads_member, refuses_member, refuses_values, refuses_members, no_end, no_member_end, more_items, last_item}
+use Rattle.json_tree.proofs.Refusals.{none_list_at_0, none_object_at_0, none_value}
+use Rattle.json_tree.proofs.Readers.{IfErr-handed_on, reads_list, refuses_list, reads_object, refuses_object, refuses_member, refuses_values, refuses_members, no_end, no_member_end, more_items, last_item}
 use Rattle.json_tree.proofs.reading.+read.Goals as goal
 
 pub read_list-returns-then-depth-eq0-clause-none : goal.read_list-returns-then-depth-eq0-clause-none

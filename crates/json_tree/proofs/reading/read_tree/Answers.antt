@@ -1,4 +1,4 @@
-use Rattle.std.proofs.Common.{◌≡◌, ◌++◌, ◌-◌, length, sym, ap, ◌∙◌, length-append, arith}
+use Rattle.std.proofs.Common.{◌≡◌, ◌-◌, length, sym, ap, ◌∙◌, length-append, arith}
 use Rattle.json_tree.specs.Spelling.{spelling}
 use Rattle.json_tree.proofs.Unique.{unique, longest_value}
 use Rattle.json_tree.proofs.reading.read_tree.Goals as goal

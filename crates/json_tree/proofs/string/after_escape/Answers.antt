@@ -1,5 +1,5 @@
 use Rattle.std.proofs.lemmas.Option.{IfSome_then}
-use Rattle.json_tree.proofs.StringParts.{IfNone_then, escape_numbered, escape_short, none_numbered, none_escape}
+use Rattle.json_tree.proofs.StringParts.{IfNone_then, escape_numbered, escape_short, none_escape}
 use Rattle.json_tree.proofs.string.after_escape.Goals as goal
 
 pub returns-in-Some-clause-some : goal.returns-in-Some-clause-some

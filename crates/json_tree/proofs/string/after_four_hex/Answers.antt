@@ -1,4 +1,4 @@
-use Rattle.std.proofs.Common.{◌≡◌, sym, ap, ◌∙◌, true, false}
+use Rattle.std.proofs.Common.{ap}
 use Rattle.std.specs.List.{list_all}
 use Rattle.json_tree.specs.Strings.{is_hex_digit}
 use Rattle.json_tree.proofs.StringParts.{four_front}

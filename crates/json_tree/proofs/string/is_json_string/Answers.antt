@@ -1,4 +1,4 @@
-use Rattle.std.proofs.Common.{◌≡◌, sym, ap, ◌∙◌, true, false, length}
+use Rattle.std.proofs.Common.{ap, length}
 use Rattle.std.specs.Prelude.{◌==◌}
 use Rattle.json_tree.proofs.StringParts.{all_chars}
 use Rattle.json_tree.proofs.string.is_json_string.Goals as goal

@@ -1,4 +1,4 @@
-use Rattle.std.proofs.Common.{◌≡◌, sym, ap, subst, ◌∙◌}
+use Rattle.std.proofs.Common.{sym, subst, ◌∙◌}
 use Rattle.std.specs.Str.{IsUtf8}
 use Rattle.json_tree.proofs.StringParts.{string_is, none_at_quote}
 use Rattle.json_tree.proofs.string.split_string.Goals as goal
