@@ -15,3 +15,9 @@ impl CopyValue for u8 {
         Ok(*self)
     }
 }
+
+impl CopyValue for u64 {
+    fn copy(&self, _alloc: Global) -> Result<Self, AllocError> {
+        Ok(*self)
+    }
+}

@@ -1,0 +1,6 @@
+mod Groups
+mod Decoded
+mod Unique
+mod Whole
+mod Texts
+pub mod Same

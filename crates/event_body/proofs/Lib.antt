@@ -1,0 +1,7 @@
+mod Fronts
+mod Numbers
+mod Maps
+mod Ends
+mod Parts
+mod Heads
+mod Whole

@@ -1,0 +1,4 @@
+pub mod Fronts
+pub mod FieldMaps
+pub mod Receipt
+pub mod Judging

@@ -1,0 +1,65 @@
+//! Hexadecimal numbers.
+ghost use Rattle.std.specs.Prelude.{◌≡◌, ◌↔◌, ◌≤◌, ◌<◌, length, true, take, not, position};
+ghost use Rattle.std.specs.List.{list_all, position_or_len};
+ghost use Rattle.keri_specs.specs.Hex.{is_hex, hex_digit, IsHexNumber, hex_value as value_of};
+
+/// Whether it is a lower-case hexadecimal digit.
+fn is_hex_digit(c: u8) -> bool
+    ensures { result ≡ is_hex c }
+{
+    matches!(c, b'0'..=b'9' | b'a'..=b'f')
+}
+
+/// Whether each is a hexadecimal digit.
+pub(crate) fn all_hex(digits: &[u8]) -> bool
+    ensures { result ≡ list_all is_hex digits.now }
+{
+    digits.iter().all(|c| is_hex_digit(*c))
+}
+
+// The first place of what is no hexadecimal digit.
+fn first_other(bytes: &[u8]) -> Option<usize>
+    ensures { result ≡ position (λ c. not (is_hex c)) bytes.now }
+{
+    bytes.iter().position(|c| !is_hex_digit(*c))
+}
+
+/// How many hexadecimal digits stand at the front.
+pub(crate) fn hex_run(bytes: &[u8]) -> usize
+    ensures run { result ≡ position_or_len (λ c. not (is_hex c)) bytes.now }
+    ensures bound { result ≤ length bytes.now }
+{
+    match first_other(bytes) {
+        Some(place) => place,
+        None => bytes.len(),
+    }
+}
+
+/// Whether these are the digits of a number: without leading zeros, and `0` itself.
+pub(crate) fn is_hex_number(digits: &[u8]) -> bool
+    ensures { (result ≡ true) ↔ IsHexNumber digits.now }
+{
+    all_hex(digits) && !matches!(digits, [] | [b'0', _, ..])
+}
+
+// The value of a digit.
+fn digit_value(c: u8) -> u8
+    requires { is_hex c ≡ true }
+    ensures value { result ≡ hex_digit c }
+    ensures below { result < 16 }
+{
+    if c < b':' { c - b'0' } else { c - b'W' }
+}
+
+/// The number of at most 16 digits.
+pub(crate) fn hex_value(digits: &[u8]) -> u64
+    requires all { list_all is_hex digits.now ≡ true }
+    requires few { length digits.now ≤ 16 }
+    ensures { result ≡ value_of digits.now }
+{
+    let mut value = 0u64;
+    for digit in digits {
+        value = value * 16 + u64::from(digit_value(*digit));
+    }
+    value
+}

@@ -1,0 +1,4 @@
+pub mod Standard
+pub mod Told
+pub mod Files
+pub mod Memory

@@ -1,0 +1,32 @@
+-- What objects in memory tell.
+use Rattle.std.specs.Prelude.{ℕ, List, drop, if◌then◌else◌}
+use Rattle.std.specs.declared.option.Option.{Option}
+use Rattle.std.specs.declared.option.Option.TheVariants.{None, Some}
+use Rattle.keri_outside.specs.Files.{held_under}
+use Rattle.keri_outside.specs.Told.{Told}
+use Rattle.keri_outside.specs.declared.mem_source.MemSource.{MemSource}
+use Rattle.keri_outside.specs.declared.mem_sink.MemSink.{MemSink}
+use Rattle.keri_outside.specs.declared.mem_outside.MemOutside.{MemOutside}
+
+abbrev pub source_left : MemSource → Option (List ℕ)
+source_left source = Some (drop source.place source.bytes)
+
+abbrev pub source_faults : MemSource → ℕ
+source_faults source = source.faults
+
+abbrev pub sink_written : MemSink → Option (List ℕ)
+sink_written sink = Some sink.written.items
+
+abbrev pub sink_faults : MemSink → ℕ
+sink_faults sink = sink.faults
+
+abbrev pub outside_sink : MemOutside → MemSink
+outside_sink outside = outside.sink
+
+abbrev pub outside_told : MemOutside → Told
+outside_told outside = record {
+  faults = outside.faults;
+  holds = held_under outside.files;
+  makings = if outside.telling then Some outside.makings else None;
+  limits = outside.limits;
+}

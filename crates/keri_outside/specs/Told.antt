@@ -1,0 +1,37 @@
+-- What an outside tells, and what a making changes of it.
+use Rattle.std.specs.Prelude.{◌≡◌, ℕ, Bool, List, [], ◌∷◌, ◌++◌, is_err}
+use Rattle.std.specs.declared.option.Option.{Option}
+use Rattle.std.specs.declared.option.Option.TheVariants.{None, Some}
+use Rattle.std.specs.declared.result.Result.{Result}
+use Rattle.keri_specs.specs.Causes.{HasCause}
+use Rattle.keri_outside.specs.Files.{held_under}
+use Rattle.keri_outside.specs.declared.limits.Limits.{Limits}
+use Rattle.keri_outside.specs.declared.making.Making.{Making}
+use Rattle.keri_outside.specs.declared.making.MakingKind.{MakingKind}
+use Rattle.keri_outside.specs.declared.mem_file.MemFile.{MemFile}
+
+-- how often a making failed, what each name holds and the makings so far, where it tells, and the limits
+pub record Told : Type 0 where
+  pub faults : ℕ
+  pub holds : List ℕ → Option (List ℕ)
+  pub makings : Option (List Making)
+  pub limits : Limits
+
+abbrev pub making : MakingKind → List ℕ → Bool → Making
+making kind name failed = record { kind = kind; name = name; failed = failed }
+
+-- One making came behind those of before. Where it is told afterwards, it was told before.
+abbrev pub Grows : Option (List Making) → Option (List Making) → MakingKind → List ℕ → Bool → Type 0
+Grows old None kind name failed = Unit {0}
+Grows old (Some new) kind name failed = (makings : List Making) × (old ≡ Some makings) × (new ≡ makings ++ making kind name failed ∷ [])
+
+-- A making was noted, and changed neither the names nor the limits. It failed only where the count rose.
+pub record Makes {T E : Type 0} (kind : MakingKind) (name : List ℕ) (old new : Told) (result : Result T E) : Type 0 where
+  pub noted : Grows old.makings new.makings kind name (is_err result)
+  pub names : new.holds ≡ old.holds
+  pub limits : new.limits ≡ old.limits
+  pub cause : HasCause old.faults new.faults result
+
+-- what an outside of these files tells before anything was made
+abbrev pub first_told : List MemFile → Limits → Told
+first_told files limits = record { faults = 0; holds = held_under files; makings = Some []; limits = limits }

@@ -1,0 +1,132 @@
+//! The outside in memory.
+ghost use Rattle.std.specs.Prelude.{◌≡◌, [], Some};
+
+use crate::files::source_of;
+use crate::{Failed, Limits, Making, MakingKind, MemFile, MemSink, MemSource, Outside};
+use lists::Items;
+use std::alloc::{AllocError, Global};
+
+/// An outside in memory, which tells all.
+#[derive(Drop)]
+pub struct MemOutside {
+    alloc: Global,
+    files: Items<MemFile>,
+    failing: Items<u64>,
+    calls: u64,
+    makings: Items<Making>,
+    telling: bool,
+    sink: MemSink,
+    faults: u64,
+    limits: Limits,
+}
+
+impl MemOutside {
+    ghost use Rattle.std.specs.Prelude.{◌≡◌, ◌++◌, ◌∷◌, [], Some, OnOk, OnErr};
+    ghost use Rattle.keri_outside.specs.Memory.{outside_told, outside_sink};
+    ghost use Rattle.keri_outside.specs.Told.{Grows, first_told, making};
+    ghost use Rattle.keri_outside.specs.declared.making.MakingKind.TheVariants.{Source as SourceKind};
+
+    /// An outside with these files and this sink. Its makings of the numbers in `failing`, counted from 0, fail.
+    pub fn new(
+        alloc: Global,
+        files: Items<MemFile>,
+        sink: MemSink,
+        failing: Items<u64>,
+        limits: Limits,
+    ) -> MemOutside
+        ensures told { outside_told result ≡ first_told files limits }
+        ensures sink { outside_sink result ≡ sink }
+    {
+        MemOutside {
+            alloc,
+            files,
+            failing,
+            calls: 0,
+            makings: Items::new(alloc),
+            telling: true,
+            sink,
+            faults: 0,
+            limits,
+        }
+    }
+
+    /// The sink.
+    pub fn sink(&self) -> &MemSink
+        ensures { result.now ≡ outside_sink self.now }
+    {
+        &self.sink
+    }
+
+    /// The makings so far. Where there was no memory to note one, these are only those before it.
+    pub fn makings(&self) -> &[Making] {
+        self.makings.as_slice()
+    }
+
+    // Notes a making of a source. Without memory for that the makings are told no more.
+    fn note(&mut self, name: &str, failed: bool)
+        ensures makings { Grows (outside_told self.old).makings (outside_told self.new).makings SourceKind name.now failed }
+        ensures same { self.new ≡ record self.old { makings = self.new.makings; telling = self.new.telling } }
+    {
+        if self.telling && self.push(name, failed).is_err() {
+            self.telling = false;
+        }
+    }
+
+    // Adds a making of a source.
+    fn push(&mut self, name: &str, failed: bool) -> Result<(), AllocError>
+        ensures ok { OnOk result (self.new ≡ record self.old { makings = self.old.makings ++ making SourceKind name.now failed ∷ [] }) }
+        ensures err { OnErr result (self.new ≡ self.old) }
+    {
+        let name = Items::from_vec(Vec::from_slice(self.alloc, name.as_bytes())?);
+        self.makings.push(Making {
+            kind: MakingKind::Source,
+            name,
+            failed,
+        })?;
+        Ok(())
+    }
+}
+
+impl Outside for MemOutside {
+    ghost use Rattle.std.proofs.Common.{refl};
+    ghost use Rattle.keri_outside.specs.Memory.{outside_told, outside_sink};
+
+    type Source = MemSource;
+
+    type Sink = MemSink;
+
+    ghost told = { outside_told };
+
+    ghost sink = { outside_sink };
+
+    ghost with_sink = { λ outside other. record outside { sink = other } };
+
+    ghost lent = { λ outside other. refl };
+
+    ghost tells_the_same = { λ outside other. refl };
+
+    fn source(&mut self, name: &str) -> Result<MemSource, Failed> {
+        let call = self.calls;
+        self.calls = self.calls.saturating_add(1);
+        let fails = self.failing.as_slice().contains(&call);
+        match source_of(self.alloc, self.files.as_slice(), name) {
+            Some(source) if !fails => {
+                self.note(name, false);
+                Ok(source)
+            }
+            _ => {
+                self.note(name, true);
+                self.faults = self.faults.saturating_add(1);
+                Err(Failed)
+            }
+        }
+    }
+
+    fn out(&mut self) -> &mut MemSink {
+        &mut self.sink
+    }
+
+    fn limits(&self) -> Limits {
+        self.limits
+    }
+}

@@ -1,0 +1,43 @@
+//! All that a program reaches.
+ghost use Rattle.std.specs.Prelude.{◌≡◌, IfOk};
+ghost use Rattle.std.specs.Borrow.{Lends, sem};
+ghost use Rattle.keri_outside.specs.Told.{Told, Makes};
+ghost use Rattle.keri_outside.specs.declared.making.MakingKind.TheVariants.{Source as SourceKind};
+
+use crate::{Failed, Limits, Sink, Source};
+
+/// The objects that a program is given. What it gives out starts with a count of no faults.
+pub trait Outside {
+    type Source: Source + Drop;
+
+    type Sink: Sink + Drop;
+
+    /// What it tells, but for the sink.
+    ghost told: { Self → Told };
+
+    /// The sink that it holds, and itself with another sink.
+    ghost sink: { Self → Self.Sink };
+
+    ghost with_sink: { Self → Self.Sink → Self };
+
+    /// Makes the source of a name.
+    fn source(&mut self, name: &str) -> Result<Self::Source, Failed>
+        ensures makes { Makes SourceKind name.now (told self.old) (told self.new) result }
+        ensures holds { IfOk result (λ source. Self.Source.left source ≡ (told self.old).holds name.now) }
+        ensures none_yet { IfOk result (λ source. Self.Source.faults source ≡ 0) }
+        ensures same_sink { sink self.new ≡ sink self.old };
+
+    /// Lends the sink.
+    fn out(&mut self) -> &mut Self::Sink
+        ensures* writes_back { sem 𝓛 (Lends Self.row Self.Sink.row self.entry result (with_sink self.old)) }
+        ensures value { result.now ≡ sink self.old };
+
+    /// The limits, which no call changes.
+    fn limits(&self) -> Limits
+        ensures { result ≡ (told self.now).limits };
+
+    // A write to the sink changes the sink alone.
+    ghost lent: { (outside : Self) (other : Self.Sink) → sink (with_sink outside other) ≡ other };
+
+    ghost tells_the_same: { (outside : Self) (other : Self.Sink) → told (with_sink outside other) ≡ told outside };
+}

@@ -1,0 +1,16 @@
+//! The commands of the program, and the one call that does all that the program does.
+#![tactic(auto)]
+
+mod answer;
+mod check;
+mod close;
+mod done;
+mod findings;
+mod program;
+mod reading;
+mod writing;
+
+pub use close::Close;
+pub use done::{Done, ReaderEnd};
+pub use findings::Findings;
+pub use program::run;

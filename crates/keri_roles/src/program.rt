@@ -1,0 +1,53 @@
+//! The top call.
+ghost use Rattle.std.specs.Prelude.{◌≡◌, ◌⊎◌, IsNone, MatchOption, map, string_bytes};
+ghost use Rattle.keri_specs.specs.Causes.{Rose};
+ghost use Rattle.command_words.specs.Words.{asks};
+ghost use Rattle.keri_roles.specs.Run.{Refuses, Answers, HasReadFault, FaultsHaveCause};
+
+use crate::check::check;
+use crate::writing::put_text;
+use crate::{Done, Findings};
+use command_words::{Command, command_of};
+use keri_outside::Outside;
+use report_lines::WORDS;
+use std::alloc::Global;
+
+/// Does all that the program does: what the words ask for, over the outside that is handed in.
+pub fn run<O: Outside>(alloc: Global, words: &Vec<String>, outside: &mut O) -> Done<O>
+    // Words that aren't in the form are refused, and nothing is made. Others are answered as they ask.
+    ensures answered { MatchOption (asks (map string_bytes words.now.items))
+        (Refuses (O.told outside.old) (O.told outside.new) result.status result.readers.items
+        (O.Sink.written (O.sink outside.old)) (O.Sink.written (O.sink outside.new)))
+        (λ asked. Answers asked O.Source.left (O.told outside.old) (O.told outside.new) result.status result.readers.items
+        (O.Sink.written (O.sink outside.old)) (O.Sink.written (O.sink outside.new))) }
+
+    // Each fault that is answered has its cause.
+    ensures two { result.status ≡ 2 → IsNone (asks (map string_bytes words.now.items)) }
+    ensures five { result.status ≡ 5 → HasReadFault result.readers.items }
+    ensures six { result.status ≡ 6 → Rose (O.Sink.faults (O.sink outside.old)) (O.Sink.faults (O.sink outside.new)) }
+    ensures read_faults { FaultsHaveCause O.Source.faults (O.told outside.old).faults (O.told outside.new).faults result.readers.items }
+{
+    match command_of(words.as_slice()) {
+        Some(Command::Check { file }) => check(alloc, file, outside),
+        None => refuse(alloc, outside),
+    }
+}
+
+// Says that the words aren't in the form.
+fn refuse<O: Outside>(alloc: Global, outside: &mut O) -> Done<O>
+    ensures refused { Refuses (O.told outside.old) (O.told outside.new) result.status result.readers.items
+        (O.Sink.written (O.sink outside.old)) (O.Sink.written (O.sink outside.new)) }
+    ensures six { result.status ≡ 6 → Rose (O.Sink.faults (O.sink outside.old)) (O.Sink.faults (O.sink outside.new)) }
+{
+    let findings = Findings {
+        no_memory: false,
+        sink_failed: put_text(outside, WORDS),
+        words_refused: true,
+        source_failed: false,
+        message_refused: false,
+    };
+    Done {
+        status: findings.status(),
+        readers: Vec::new(alloc),
+    }
+}

@@ -1,0 +1,7 @@
+//! Worked examples that cross the crates. The expected values come from outside the program.
+#![tactic(auto)]
+
+#[cfg(test)]
+mod check;
+#[cfg(test)]
+mod codes;
