@@ -14,11 +14,19 @@ source_left source = Some (drop source.place source.bytes)
 abbrev pub source_faults : MemSource → ℕ
 source_faults source = source.faults
 
+-- the reads of these numbers fail
+abbrev pub source_failing : MemSource → List ℕ
+source_failing source = source.failing
+
 abbrev pub sink_written : MemSink → Option (List ℕ)
 sink_written sink = Some sink.written.items
 
 abbrev pub sink_faults : MemSink → ℕ
 sink_faults sink = sink.faults
+
+-- the puts of these numbers fail
+abbrev pub sink_failing : MemSink → List ℕ
+sink_failing sink = sink.failing
 
 abbrev pub outside_sink : MemOutside → MemSink
 outside_sink outside = outside.sink

@@ -21,7 +21,7 @@ pub struct MemOutside {
 }
 
 impl MemOutside {
-    ghost use Rattle.std.specs.Prelude.{◌≡◌, ◌++◌, ◌∷◌, [], Some, OnOk, OnErr};
+    ghost use Rattle.std.specs.Prelude.{◌≡◌, ◌++◌, ◌∷◌, [], Some, IfSome, OnOk, OnErr};
     ghost use Rattle.keri_outside.specs.Memory.{outside_told, outside_sink};
     ghost use Rattle.keri_outside.specs.Told.{Grows, first_told, making};
     ghost use Rattle.keri_outside.specs.declared.making.MakingKind.TheVariants.{Source as SourceKind};
@@ -58,7 +58,9 @@ impl MemOutside {
     }
 
     /// The makings so far. Where there was no memory to note one, these are only those before it.
-    pub fn makings(&self) -> &[Making] {
+    pub fn makings(&self) -> &[Making]
+        ensures { IfSome (outside_told self.now).makings (λ makings. result.now ≡ makings) }
+    {
         self.makings.as_slice()
     }
 

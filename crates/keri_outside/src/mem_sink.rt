@@ -15,12 +15,13 @@ pub struct MemSink {
 }
 
 impl MemSink {
-    ghost use Rattle.keri_outside.specs.Memory.{sink_written, sink_faults};
+    ghost use Rattle.keri_outside.specs.Memory.{sink_written, sink_faults, sink_failing};
 
     /// A sink to which nothing is written yet. Its puts of the numbers in `failing`, counted from 0, fail.
     pub fn new(alloc: Global, failing: Items<u64>) -> MemSink
         ensures written { sink_written result ≡ Some [] }
         ensures faults { sink_faults result ≡ 0 }
+        ensures failing { sink_failing result ≡ failing }
     {
         MemSink {
             written: Vec::new(alloc),

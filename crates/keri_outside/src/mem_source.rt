@@ -18,7 +18,7 @@ pub struct MemSource {
 }
 
 impl MemSource {
-    ghost use Rattle.keri_outside.specs.Memory.{source_left, source_faults};
+    ghost use Rattle.keri_outside.specs.Memory.{source_left, source_faults, source_failing};
 
     /// A source of these bytes, which gives at most `piece` bytes a read. Its reads of the numbers in `failing`,
     /// counted from 0, fail.
@@ -26,6 +26,7 @@ impl MemSource {
         requires { 0 < piece }
         ensures left { source_left result ≡ Some bytes }
         ensures faults { source_faults result ≡ 0 }
+        ensures failing { source_failing result ≡ failing }
     {
         MemSource {
             bytes,

@@ -145,8 +145,9 @@ fn a_large_file_is_read_no_further(rt: HostRuntime) -> Result<(), Fail> {
     let mut outside = outside(alloc, &plain("", "", 0))?;
     let _ = run(alloc, &owned(alloc, &["check", "b"])?, &mut outside);
     assert_eq!(rt; outside.makings().len(), 1);
-    assert_eq!(rt; outside.makings()[0].kind, MakingKind::Source);
-    assert!(rt; outside.makings()[0].failed);
+    assert!(rt;
+        outside.makings().iter().all(|making| making.kind == MakingKind::Source && making.failed)
+    );
     let mut bytes = Vec::new(alloc);
     for _ in 0..65_537 {
         bytes.push(b'{')?;
@@ -165,6 +166,6 @@ fn a_large_file_is_read_no_further(rt: HostRuntime) -> Result<(), Fail> {
     assert_eq!(rt; outside.sink().bytes(), b"refused 0 0 large\n".as_slice());
     assert_eq!(rt; done.status, 3);
     assert_eq!(rt; done.readers.len(), 1);
-    assert_eq!(rt; done.readers[0].close, Close::End);
+    assert!(rt; done.readers.iter().all(|reader| reader.close == Close::End));
     Ok(())
 }

@@ -1,0 +1,56 @@
+-- How a hasher follows the bytes that are given to it.
+use Rattle.std.proofs.Common.{◌≡◌, ◌∙◌, ℕ, ◌+◌, ◌*◌, ◌^◌, ◌≤◌, ◌++◌, List, length, take, drop, take-add, refl, sym, arith, length-append, length-drop}
+use Rattle.std.proofs.lemmas.List.{drop-append-le, take_all}
+use Rattle.std.proofs.lemmas.Slice.{take-put_mid}
+use Rattle.blake3_hash.specs.Chunk.{chunk_value}
+use Rattle.blake3_hash.specs.Hasher.{HasBytes, Holds, total}
+use Rattle.blake3_hash.specs.Stack.{subtree, tree_from}
+use Rattle.blake3_hash.specs.declared.hasher.Hasher.{Hasher}
+use Rattle.blake3_hash.proofs.Subtrees.{HasSubtrees-append}
+use Rattle.blake3_hash.proofs.Trees.{tree-chunk}
+use borrow.Rule.Slice.PartMut.{put_mid}
+
+-- the value of the last chunk, where the bytes end with it
+pub subtree-last : (n c : ℕ) (bytes chunk value : List ℕ) → length bytes ≡ 1024 * (n + 1) → drop (1024 * n) bytes ≡ chunk
+    → value ≡ chunk_value c chunk 0 → c ≡ n → value ≡ subtree 0 n bytes
+unfolding subtree
+subtree-last n c bytes chunk value whole is made number =
+    let at : n * 2 ^ 0 ≡ n = omega arith in
+    let len : length chunk ≡ 1024 = rw (← is) (omega (arith, length-drop (1024 * n) bytes)) in
+    let all : take 1024 (drop (1024 * n) bytes) ≡ chunk = rw is (take_all 1024 chunk (omega arith)) in
+    rw (at, all) (made ∙ rw number (sym (tree-chunk n chunk 0 (omega arith))))
+
+-- bytes put into the open chunk
+pub HasBytes-keep : (s n : Hasher) (before more ys : List ℕ) (k : ℕ) → HasBytes s before → length s.chunk ≡ 1024 → s.used + length more ≤ 1024
+    → ys ≡ more → n.stack ≡ s.stack → n.used ≡ s.used + length more → n.chunk ≡ put_mid s.used k s.chunk ys → HasBytes n (before ++ more)
+unfolding HasBytes
+HasBytes-keep s n before more ys k has room fits same stack used chunk =
+    let whole = length-append before more in
+    let at : 1024 * s.stack.count ≤ length before = omega (arith, has.0) in
+    let kept : take n.used n.chunk ≡ take s.used s.chunk ++ more =
+    rw (used, chunk, same) (take-put_mid s.used k s.chunk more (s.used + length more) refl (omega arith)) in
+    rw stack (
+      omega (arith, has.0),
+      HasSubtrees-append s.stack.values s.stack.count before more at has.1,
+      kept ∙ rw has.2 (sym (drop-append-le (1024 * s.stack.count) before more at)),
+    )
+
+-- a chunk more of the bytes
+pub take-chunk : (bytes : List ℕ) (n m k : ℕ) → m ≡ 1024 * (n + 1) → k ≡ 1024 → take m bytes ≡ take (1024 * n) bytes ++ take k (drop (1024 * n) bytes)
+take-chunk bytes n m k to width =
+    let at : m ≡ 1024 * n + 1024 = omega arith in
+    rw (at, width) (take-add (1024 * n) 1024 bytes)
+
+-- the tree over what is left after n chunks, which is one chunk
+pub tree_from-last : (n c : ℕ) (bytes chunk : List ℕ) (flags f : ℕ) (value : List ℕ) → length bytes ≤ 1024 * (n + 1) → chunk ≡ drop (1024 * n) bytes
+    → value ≡ chunk_value c chunk f → c ≡ n → f ≡ flags → value ≡ tree_from 0 n bytes flags
+unfolding tree_from
+tree_from-last n c bytes chunk flags f value ends is made number flagged =
+    let at : n * 2 ^ 0 ≡ n = omega arith in
+    let short : length (drop (1024 * n) bytes) ≤ 1024 = omega (arith, length-drop (1024 * n) bytes) in
+    rw at (made ∙ rw (number, is, flagged) (sym (tree-chunk n (drop (1024 * n) bytes) flags short)))
+
+-- as many bytes are held as were given
+pub Holds-total : (s : Hasher) (bytes : List ℕ) → Holds s bytes → length bytes ≡ total s
+unfolding Holds HasBytes
+Holds-total s bytes held = held.0.0

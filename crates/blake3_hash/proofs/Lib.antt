@@ -1,0 +1,8 @@
+pub mod EightWords
+pub mod Blocks
+pub mod Known
+pub mod Trees
+pub mod Halves
+pub mod Subtrees
+pub mod Bytes
+pub mod Pieces

@@ -1,0 +1,16 @@
+//! BLAKE3, the 256-bit hash of any bytes: a tree of compressions over chunks of 1,024 bytes.
+#![tactic(auto)]
+
+mod chunk;
+mod compression;
+mod flags;
+mod hasher;
+mod laws;
+mod parent;
+mod stack;
+#[cfg(test)]
+mod tests;
+mod words;
+
+pub use hasher::{Hasher, digest};
+pub use laws::{digest_of_pieces, tree_law};
