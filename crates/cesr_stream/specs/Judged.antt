@@ -18,6 +18,10 @@ extent (Whole n) = n
 extent (Refused place reason) = place
 extent Unfinished = 0
 
+-- the judgement goes no further than the bytes
+abbrev pub IsWithin : List ℕ → PartCode → Type 0
+IsWithin bytes part = extent part ≤ length bytes
+
 -- the judgement isn't of something whole, and goes no further than the bytes
 abbrev pub EndsWithin : List ℕ → PartCode → Type 0
 EndsWithin bytes (Whole n) = ⊥

@@ -1,7 +1,7 @@
 //! Bodies at the front of a stream.
 ghost use Rattle.std.specs.Prelude.{◌≡◌, ◌≤◌, length, bytes_eq};
 ghost use Rattle.cesr_stream.specs.Front.{body_part, has_version, size_of};
-ghost use Rattle.cesr_stream.specs.Judged.{part_of};
+ghost use Rattle.cesr_stream.specs.Judged.{part_of, IsWithin};
 
 use crate::BadReason;
 use crate::part::Part;
@@ -13,7 +13,8 @@ const HEAD: usize = 24;
 /// How the body at the front is judged, where a body may have so many bytes.
 #[tactic(auto, unfolding(crate::specs::Front::body_part))]
 pub(crate) fn judge_body(bytes: &[u8], limit: u32) -> Part
-    ensures { part_of result ≡ body_part limit bytes.now }
+    ensures judged { part_of result ≡ body_part limit bytes.now }
+    ensures within { IsWithin bytes.now result }
 {
     if bytes.len() < HEAD {
         return Part::Unfinished;

@@ -1,17 +1,18 @@
 //! Counters at the front of a stream.
-ghost use Rattle.std.specs.Prelude.{◌≡◌, ◌≤◌, ◌<◌, length, slice_index};
-ghost use Rattle.keri_specs.specs.Base64.{is_character};
+ghost use Rattle.std.specs.Prelude.{◌≡◌, ◌≤◌, ◌<◌, ℕ, length, slice_index};
 ghost use Rattle.cesr_stream.specs.Front.{counter_part, count_of};
-ghost use Rattle.cesr_stream.specs.Judged.{part_of};
+ghost use Rattle.cesr_stream.specs.Judged.{part_of, IsWithin};
 
 use crate::BadReason;
 use crate::part::Part;
-use cesr_codes::CodeFault;
+use cesr_codes::{CodeFault, digit, is_symbol};
 
 /// How the counter at the front is judged.
 #[tactic(auto, unfolding(crate::specs::Front::counter_part))]
 pub(crate) fn judge_counter(bytes: &[u8]) -> Part
-    ensures { part_of result ≡ counter_part bytes.now }
+    ensures judged { part_of result ≡ counter_part bytes.now }
+    ensures within { IsWithin bytes.now result }
+    ensures head { (n : ℕ) → result ≡ Part.Whole n → (n ≡ 4) × (4 ≤ length bytes.now) }
 {
     if bytes.len() < 2 {
         return Part::Unfinished;
@@ -31,9 +32,10 @@ pub(crate) fn judge_counter(bytes: &[u8]) -> Part
     Part::Whole(4)
 }
 
-// Whether it is one of the 64 characters.
-fn is_symbol(c: u8) -> bool
-    ensures { result ≡ is_character c }
+/// How many elements a whole counter counts.
+pub(crate) fn count(bytes: &[u8]) -> usize
+    requires { 4 ≤ length bytes.now }
+    ensures { result ≡ count_of bytes.now }
 {
-    matches!(c, b'A'..=b'Z' | b'a'..=b'z' | b'0'..=b'9' | b'-' | b'_')
+    64 * usize::from(digit(bytes[2])) + usize::from(digit(bytes[3]))
 }

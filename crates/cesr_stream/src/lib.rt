@@ -6,6 +6,16 @@ mod body;
 mod counter;
 mod element;
 mod elements;
+mod front;
+mod group;
+mod item;
 mod part;
+mod reader;
+mod signature;
+mod step;
 
 pub use bad::{Bad, BadReason};
+pub use group::Group;
+pub use item::Item;
+pub use reader::Reader;
+pub use step::Step;
