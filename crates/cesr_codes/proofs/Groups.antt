@@ -1,13 +1,14 @@
 -- Base 64 in groups of three bytes gives the digits of the bytes read as one number.
-use Rattle.std.proofs.Common.{◌≡◌, ℕ, zero, suc, ◌+◌, ◌*◌, ◌/◌, ◌%◌, ◌^◌, ◌<◌, List, [], ◌∷◌, ◌++◌, length, map, slice_index, refl, sym, ap, ◌∙◌, arith, append-nil, pow-add}
+use Rattle.std.proofs.Common.{◌≡◌, ℕ, zero, suc, ◌+◌, ◌-◌, ◌*◌, ◌/◌, ◌%◌, ◌^◌, ◌<◌, ◌≤◌, List, [], ◌∷◌, ◌++◌, length, map, take, drop, replicate, slice_index, refl, sym, ap, ◌∙◌, arith, append-nil, pow-add, length-append}
 use Rattle.std.proofs.Math.Nat.{mul-suc}
 use Rattle.std.proofs.lemmas.Int.Digits.{number_lt}
+use Rattle.std.proofs.lemmas.List.{drop-map, length-replicate, take-replicate}
 use Rattle.std.specs.Int.Digits.{AllBelowBase}
 use Rattle.base64.specs.Rfc4648.{encode_symbols, encode_group}
 use Rattle.base64.specs.GeneralPurpose.{encode_of}
 use Rattle.base64.specs.Engines.{url_safe_no_pad}
-use Rattle.keri_specs.specs.Base64.{digits_in, whole_number, AreBytes, characters, base64_text}
-use Rattle.keri_specs.proofs.Digits.{digits_in-split, number_after-split}
+use Rattle.keri_specs.specs.Base64.{digits_in, whole_number, AreBytes, characters, character, base64_text}
+use Rattle.keri_specs.proofs.Digits.{digits_in-split, drop-digits_in, number_after-split, number-zeros}
 
 -- bytes are digits in base 256
 pub bytes_below : (xs : List ℕ) → ((i : ℕ) → slice_index xs i < 256) → AllBelowBase 256 xs
@@ -25,12 +26,12 @@ group_digits t a b c la lb lc =
     rw (e0, e1, e2, e3) refl
 
 -- as many groups of digits as of bytes
-pow_groups : (q : ℕ) → 256 ^ (3 * q) ≡ 64 ^ (4 * q)
+pub pow_groups : (q : ℕ) → 256 ^ (3 * q) ≡ 64 ^ (4 * q)
 pow_groups zero = refl
 pow_groups (suc q) =
     rw (mul-suc 3 q, mul-suc 4 q, pow-add, pow-add) (rw (pow_groups q) refl)
 
-map-append : {A B : Type 0} (f : A → B) (xs ys : List A) → map f (xs ++ ys) ≡ map f xs ++ map f ys
+pub map-append : {A B : Type 0} (f : A → B) (xs ys : List A) → map f (xs ++ ys) ≡ map f xs ++ map f ys
 map-append f [] ys = refl
 map-append f (x ∷ xs) ys = ap (λ zs. f x ∷ zs) (map-append f xs ys)
 
@@ -58,28 +59,33 @@ encode_digits t (a ∷ b ∷ c ∷ rest) (suc q) len all =
     ∙ ap (map (slice_index t)) (sym (digits_in-split 64 4 (4 * q) n (whole_number rest) (omega arith) low))
     ∙ sym (ap (λ x. map (slice_index t) (digits_in 64 (4 * suc q) x)) value ∙ ap (λ k. map (slice_index t) (digits_in 64 k (n * 64 ^ (4 * q) + whole_number rest))) count)
 
--- 33 bytes of which the first is 0 are one symbol of value 0, and 43 digits of the others
-pub encode_32 : (t raw : List ℕ) → AreBytes 32 raw → encode_symbols t (0 ∷ raw) ≡ slice_index t 0 ∷ map (slice_index t) (digits_in 64 43 (whole_number raw))
-unfolding digits_in
-encode_32 t raw bytes =
-    let below : AllBelowBase 256 raw = bytes_below raw bytes.1 in
-    let low : whole_number raw < 256 ^ length raw = number_lt 256 raw below in
-    let low32 : whole_number raw < 64 ^ 43 = let l : whole_number raw < 256 ^ 32 = rw bytes.0 at low in omega arith in
-    let all : AllBelowBase 256 (0 ∷ raw) = (omega arith, below) in
-    let len : length (0 ∷ raw) ≡ 3 * 11 = omega (arith, bytes.0) in
-    let same : whole_number raw ≡ 0 * 64 ^ 43 + whole_number raw = omega arith in
-    encode_digits t (0 ∷ raw) 11 len all
-    ∙ ap (λ x. map (slice_index t) (digits_in 64 44 x)) same
-    ∙ ap (map (slice_index t)) (digits_in-split 64 1 43 0 (whole_number raw) (omega arith) low32)
-
 -- the table of the engine is that of the characters
 engine_table : encode_of url_safe_no_pad ≡ (λ m. encode_symbols characters m ++ [])
 engine_table = refl
 
--- the symbols of the raw bytes behind a zero byte
-pub encoded_32 : (raw : List ℕ) → AreBytes 32 raw → encode_of url_safe_no_pad (0 ∷ raw) ≡ 65 ∷ base64_text 43 (whole_number raw)
-encoded_32 raw bytes = append-nil (encode_symbols characters (0 ∷ raw)) ∙ encode_32 characters raw bytes
+-- what the engine makes of whole groups are the digits
+pub encoded_text : (m : List ℕ) (q : ℕ) → AreBytes (3 * q) m → encode_of url_safe_no_pad m ≡ base64_text (4 * q) (whole_number m)
+encoded_text m q bytes = append-nil (encode_symbols characters m) ∙ encode_digits characters m q bytes.0 (bytes_below m bytes.1)
 
--- the padded bytes are encoded so
-pub encoded_padded : (raw padded out : List ℕ) → AreBytes 32 raw → padded ≡ 0 ∷ raw → out ≡ encode_of url_safe_no_pad padded → out ≡ 65 ∷ base64_text 43 (whole_number raw)
-encoded_padded raw padded out bytes front e = e ∙ ap (encode_of url_safe_no_pad) front ∙ encoded_32 raw bytes
+byte_behind_zeros : (k : ℕ) (raw : List ℕ) → ((i : ℕ) → slice_index raw i < 256) → (i : ℕ) → slice_index (replicate k 0 ++ raw) i < 256
+byte_behind_zeros zero raw h i = h i
+byte_behind_zeros (suc k) raw h zero = omega arith
+byte_behind_zeros (suc k) raw h (suc i) = byte_behind_zeros k raw h i
+
+-- what is written behind the first of a list of one element
+pub behind_first : (n k x : ℕ) (first last more : List ℕ) → k ≤ n → first ≡ take k (replicate n x) → last ≡ more → first ++ last ≡ replicate k x ++ more
+behind_first n k x first last more le e d = ap (λ xs. xs ++ last) (e ∙ take-replicate k n x le) ∙ ap (λ xs. replicate k x ++ xs) d
+
+-- the last symbols of bytes behind zeros are the last digits of the bytes
+pub encoded_last : (q count : ℕ) (raw padded symbols : List ℕ) → AreBytes (length raw) raw → length raw ≤ 3 * q → count ≤ 4 * q → padded ≡ replicate (3 * q - length raw) 0 ++ raw
+    → symbols ≡ encode_of url_safe_no_pad padded → drop (4 * q - count) symbols ≡ base64_text count (whole_number raw)
+encoded_last q count raw padded symbols bytes room fewer front encoded =
+    let zeros : ℕ = 3 * q - length raw in
+    let len : length (replicate zeros 0 ++ raw) ≡ 3 * q = omega (arith, length-append (replicate zeros 0) raw, length-replicate {A = ℕ} zeros 0) in
+    let value : whole_number (replicate zeros 0 ++ raw) ≡ whole_number raw = number-zeros 256 zeros raw in
+    let all : 4 * q ≡ 4 * q - count + count = omega arith in
+    ap (drop (4 * q - count)) (encoded ∙ ap (encode_of url_safe_no_pad) front ∙ encoded_text (replicate zeros 0 ++ raw) q (len, byte_behind_zeros zeros raw bytes.1))
+    ∙ ap (λ n. drop (4 * q - count) (base64_text (4 * q) n)) value
+    ∙ ap (λ k. drop (4 * q - count) (base64_text k (whole_number raw))) all
+    ∙ drop-map character (4 * q - count) (digits_in 64 (4 * q - count + count) (whole_number raw))
+    ∙ ap (map character) (drop-digits_in 64 (4 * q - count) count (whole_number raw))

@@ -1,6 +1,9 @@
 mod Groups
+mod Numbers
 mod Decoded
-mod Unique
-mod Whole
+mod Front
+mod Basic
+mod Sigs
+mod Indexed
 mod Texts
 pub mod Same

@@ -1,3 +1,5 @@
+pub mod Indices
+pub mod Indexed
 pub mod Spelling
 pub mod Reading
 pub mod Codes

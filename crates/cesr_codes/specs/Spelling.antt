@@ -1,5 +1,5 @@
 -- How primitives are spelled (CESR: code table, and conversion by left-padding).
-use Rattle.std.specs.Prelude.{ℕ, List, ◌∷◌, codes}
+use Rattle.std.specs.Prelude.{ℕ, List, ◌∷◌, ◌++◌, codes}
 use Rattle.keri_specs.specs.Base64.{base64_text, whole_number, AreBytes}
 use Rattle.cesr_codes.specs.declared.digest.DigestCode.{DigestCode}
 use Rattle.cesr_codes.specs.declared.digest.DigestCode.TheVariants.{Blake3, Sha256}
@@ -9,6 +9,7 @@ use Rattle.cesr_codes.specs.declared.key.KeyCode.TheVariants.{Fixed, Rotating}
 use Rattle.cesr_codes.specs.declared.key.Key.{Key}
 use Rattle.cesr_codes.specs.declared.prefix.Prefix.{Prefix}
 use Rattle.cesr_codes.specs.declared.prefix.Prefix.TheVariants.{Basic, Said}
+use Rattle.cesr_codes.specs.declared.sig.Sig.{Sig}
 
 -- a code of one character, and the 43 digits of 32 raw bytes read as one number
 abbrev pub primitive_text : ℕ → List ℕ → List ℕ
@@ -18,9 +19,6 @@ primitive_text code raw = code ∷ base64_text 43 (whole_number raw)
 abbrev pub key_code : KeyCode → ℕ
 key_code Fixed = 66
 key_code Rotating = 68
-
-abbrev pub key_codes : List ℕ
-key_codes = codes "BD"
 
 abbrev pub key_text : Key → List ℕ
 key_text key = primitive_text (key_code key.code) key.raw
@@ -34,19 +32,12 @@ abbrev pub digest_code : DigestCode → ℕ
 digest_code Blake3 = 69
 digest_code Sha256 = 73
 
-abbrev pub digest_codes : List ℕ
-digest_codes = codes "EI"
-
 abbrev pub digest_text : Digest → List ℕ
 digest_text digest = primitive_text (digest_code digest.code) digest.raw
 
 -- a digest has 32 raw bytes
 abbrev pub IsDigest : Digest → Type 0
 IsDigest digest = AreBytes 32 digest.raw
-
--- a prefix has the codes of keys and of digests
-abbrev pub prefix_codes : List ℕ
-prefix_codes = codes "BDEI"
 
 abbrev pub prefix_text : Prefix → List ℕ
 prefix_text (Basic key) = key_text key
@@ -55,3 +46,11 @@ prefix_text (Said digest) = digest_text digest
 abbrev pub IsPrefix : Prefix → Type 0
 IsPrefix (Basic key) = IsKey key
 IsPrefix (Said digest) = IsDigest digest
+
+-- `0B` is an Ed25519 signature: 86 digits of 64 raw bytes
+abbrev pub sig_text : Sig → List ℕ
+sig_text sig = codes "0B" ++ base64_text 86 (whole_number sig.raw)
+
+-- a signature has 64 raw bytes
+abbrev pub IsSig : Sig → Type 0
+IsSig sig = AreBytes 64 sig.raw

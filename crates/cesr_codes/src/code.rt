@@ -1,26 +1,32 @@
-//! Codes of one character.
-ghost use Rattle.std.specs.Prelude.{◌≡◌, ℕ, List, IfSome, IfNone, true, false};
-ghost use Rattle.cesr_codes.specs.Reading.{is_code};
+//! Codes at the front of primitives.
+ghost use Rattle.std.specs.Prelude.{◌≡◌, ℕ, List};
+ghost use Rattle.cesr_codes.specs.Table.{Layout, has_other_index};
+ghost use Rattle.cesr_codes.specs.Reading.{FindsCode, HasSizes, head};
+
+use crate::CodeFault;
 
 /// The codes that a type of primitives holds (CESR code table).
 pub(crate) trait Code: Copy {
-    /// The character of a code.
-    ghost character_of: { Self → ℕ };
+    /// What the code table has for the type.
+    ghost layouts: { List Layout };
 
-    /// The characters of all codes of the type.
-    ghost held: { List ℕ };
+    /// What it has for a code.
+    ghost layout_of: { Self → Layout };
 
-    /// The code of a character.
-    fn of(character: u8) -> Option<Self>
-        ensures some { IfSome result (λ code. character_of code ≡ character) }
-        ensures none { IfNone result (is_code held character ≡ false) };
+    /// The raw bytes behind each of them.
+    ghost bytes: { ℕ };
 
-    /// The character of the code.
-    fn character(self) -> u8
-        ensures { result ≡ character_of self };
+    /// The code at the front, or the first of the two rules on codes that the text fails.
+    fn at_front(text: &[u8]) -> Result<Self, CodeFault>
+        ensures { FindsCode layouts layout_of text.now result };
 
-    // Each code has a character of its own.
-    ghost one_each: { (a b : Self) → character_of a ≡ character_of b → a ≡ b };
+    /// The characters of the code and of its indices.
+    fn head(self) -> usize
+        ensures { result ≡ head (layout_of self) };
 
-    ghost all_held: { (code : Self) → is_code held (character_of code) ≡ true };
+    /// Whether the text has another index in place of `AA`.
+    fn has_other_index(self, text: &[u8]) -> bool
+        ensures { result ≡ has_other_index (layout_of self) text.now };
+
+    ghost sized: { (code : Self) → HasSizes bytes (layout_of code) };
 }

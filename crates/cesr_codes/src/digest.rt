@@ -1,7 +1,8 @@
 //! Digests of 32 bytes.
 ghost use Rattle.std.specs.Prelude.{◌≡◌, ◌++◌, List, ℕ};
-ghost use Rattle.cesr_codes.specs.Reading.{Reads};
-ghost use Rattle.cesr_codes.specs.Spelling.{IsDigest, digest_codes, digest_text};
+ghost use Rattle.cesr_codes.specs.Reading.{FindsCode, Reads};
+ghost use Rattle.cesr_codes.specs.Spelling.{IsDigest, digest_code, digest_text};
+ghost use Rattle.cesr_codes.specs.Table.{digest_layouts, verdict};
 ghost use Rattle.cesr_codes.specs.declared.digest.Digest.{Digest};
 
 use crate::code::Code;
@@ -16,31 +17,44 @@ pub enum DigestCode {
     Sha256,
 }
 
-impl Code for DigestCode {
-    ghost use Rattle.cesr_codes.specs.Spelling.{digest_code, digest_codes};
-    ghost use Rattle.cesr_codes.specs.Codes.{same_digest_code, digest_code_held};
-
-    ghost character_of = { digest_code };
-
-    ghost held = { digest_codes };
-
-    ghost one_each = { same_digest_code };
-
-    ghost all_held = { digest_code_held };
-
-    fn of(character: u8) -> Option<DigestCode> {
-        match character {
-            b'E' => Some(DigestCode::Blake3),
-            b'I' => Some(DigestCode::Sha256),
-            _ => None,
-        }
-    }
-
-    fn character(self) -> u8 {
+impl DigestCode {
+    fn character(self) -> u8
+        ensures { result ≡ digest_code self }
+    {
         match self {
             DigestCode::Blake3 => b'E',
             DigestCode::Sha256 => b'I',
         }
+    }
+}
+
+impl Code for DigestCode {
+    ghost use Rattle.cesr_codes.specs.Codes.{digest_layout, digest_sizes};
+    ghost use Rattle.cesr_codes.specs.Table.{digest_layouts};
+
+    ghost layouts = { digest_layouts };
+
+    ghost layout_of = { digest_layout };
+
+    ghost bytes = { 32 };
+
+    ghost sized = { digest_sizes };
+
+    fn at_front(text: &[u8]) -> Result<DigestCode, CodeFault> {
+        match text {
+            [] => Err(CodeFault::Short),
+            [b'E', ..] => Ok(DigestCode::Blake3),
+            [b'I', ..] => Ok(DigestCode::Sha256),
+            _ => Err(CodeFault::CodeNotHeld),
+        }
+    }
+
+    fn head(self) -> usize {
+        1
+    }
+
+    fn has_other_index(self, _: &[u8]) -> bool {
+        false
     }
 }
 
@@ -55,12 +69,19 @@ impl Digest {
     /// The digest that stands at the front, and the length of its spelling.
     pub fn read(bytes: &[u8]) -> Result<(Digest, usize), CodeFault>
         // What is read stands at the front, and a fault is the first in their order.
-        ensures exact { Reads digest_codes digest_text IsDigest bytes.now result }
+        ensures exact { Reads (verdict digest_layouts) digest_text IsDigest bytes.now result }
 
         // What is spelled at the front is read, whatever follows.
         ensures whole { (digest : Digest) (rest : List ℕ) → IsDigest digest → bytes.now ≡ digest_text digest ++ rest → result ≡ Ok (digest, 44) }
     {
-        let (code, raw) = primitive::read::<DigestCode>(bytes)?;
+        Digest::read_exact(bytes)
+    }
+
+    fn read_exact(bytes: &[u8]) -> Result<(Digest, usize), CodeFault>
+        ensures { Reads (verdict digest_layouts) digest_text IsDigest bytes.now result }
+    {
+        let mut raw = [0u8; 32];
+        let code = primitive::read::<DigestCode>(bytes, &mut raw)?;
         Ok((Digest { code, raw }, 44))
     }
 
@@ -68,7 +89,7 @@ impl Digest {
     pub fn write(&self, out: &mut [u8; 44])
         ensures { out.new ≡ digest_text self.now }
     {
-        primitive::write(self.code, &self.raw, out);
+        primitive::write(&[self.code.character()], &self.raw, out);
     }
 }
 

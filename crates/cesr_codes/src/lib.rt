@@ -1,16 +1,22 @@
 //! Primitives of CESR: values, and the characters that spell them.
 #![tactic(auto)]
 
+mod character;
 mod code;
 mod code_fault;
 mod digest;
+mod indexed_code;
+mod indexed_sig;
 mod key;
 mod prefix;
 mod primitive;
+mod sig;
 mod symbols;
 mod text;
 
 pub use code_fault::CodeFault;
 pub use digest::{Digest, DigestCode};
+pub use indexed_sig::IndexedSig;
 pub use key::{Key, KeyCode};
 pub use prefix::Prefix;
+pub use sig::Sig;

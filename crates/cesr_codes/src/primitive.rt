@@ -1,53 +1,70 @@
-//! Primitives of 32 raw bytes behind a code of one character.
-ghost use Rattle.std.specs.Prelude.{◌≡◌, ◌++◌, ◌≤◌, List, ℕ, length, drop};
-ghost use Rattle.keri_specs.specs.Base64.{AreBytes};
-ghost use Rattle.cesr_codes.specs.Reading.{ReadsCoded, ReadsRaw};
-ghost use Rattle.cesr_codes.specs.Spelling.{primitive_text};
+//! Raw bytes behind a code and its indices.
+ghost use Rattle.std.specs.Prelude.{◌≡◌, ◌++◌, ◌+◌, ◌-◌, ◌*◌, ◌/◌, ◌≤◌, length};
+ghost use Rattle.keri_specs.specs.Base64.{base64_text, whole_number};
+ghost use Rattle.cesr_codes.specs.Table.{total};
+ghost use Rattle.cesr_codes.specs.Reading.{ReadsCoded, ReadsBehind, ReadsWhole};
 
 use crate::code::Code;
-use crate::{CodeFault, symbols};
+use crate::{CodeFault, character, symbols};
 
-/// The code and the raw bytes of the primitive at the front.
-pub(crate) fn read<C: Code>(bytes: &[u8]) -> Result<(C, [u8; 32]), CodeFault>
-    // What is read stands at the front, and a fault is the first in their order.
-    ensures exact { ReadsCoded C.held C.character_of bytes.now result }
-
-    // What is spelled at the front is read, whatever follows.
-    ensures whole { (code : C) (raw rest : List ℕ) → AreBytes 32 raw → bytes.now ≡ primitive_text (C.character_of code) raw ++ rest → result ≡ Ok (code, raw) }
+/// The code of the primitive at the front, whose raw bytes fill the slice, or the first rule that the text fails.
+pub(crate) fn read<C: Code>(text: &[u8], raw: &mut [u8]) -> Result<C, CodeFault>
+    requires { length raw.old ≡ C.bytes }
+    ensures { ReadsCoded C.layouts C.layout_of text.now raw.new result }
 {
-    read_exact(bytes)
-}
-
-// The code and the raw bytes, or the first fault.
-fn read_exact<C: Code>(bytes: &[u8]) -> Result<(C, [u8; 32]), CodeFault>
-    ensures { ReadsCoded C.held C.character_of bytes.now result }
-{
-    let Some(first) = bytes.first() else {
-        return Err(CodeFault::Short);
-    };
-    let Some(code) = C::of(*first) else {
-        return Err(CodeFault::CodeNotHeld);
-    };
-    match read_raw(bytes) {
-        Ok(raw) => Ok((code, raw)),
+    let code = C::at_front(text)?;
+    match read_behind(code, text, raw) {
+        Ok(()) => Ok(code),
         Err(fault) => Err(fault),
     }
 }
 
-// The raw bytes behind the code.
-fn read_raw(bytes: &[u8]) -> Result<[u8; 32], CodeFault>
-    ensures { ReadsRaw bytes.now result }
+// What the text is behind its code.
+fn read_behind<C: Code>(code: C, text: &[u8], raw: &mut [u8]) -> Result<(), CodeFault>
+    requires { length raw.old ≡ C.bytes }
+    ensures { ReadsBehind (C.layout_of code) text.now raw.new result }
 {
-    if bytes.len() < 44 {
+    let total = code.head() + digits_of(raw.len());
+    if text.len() < total {
         return Err(CodeFault::Short);
     }
-    symbols::decode(&bytes[1..44])
+    read_whole(code, &text[..total], raw)
 }
 
-/// Fills the array with the code and the digits of the raw bytes.
-pub(crate) fn write<C: Code>(code: C, raw: &[u8; 32], out: &mut [u8; 44])
-    ensures { out.new ≡ primitive_text (C.character_of code) raw.now }
+// How many digits hold so many bytes.
+fn digits_of(bytes: usize) -> usize
+    requires { bytes ≤ 66 }
+    ensures { result ≡ (4 * bytes + 2) / 3 }
 {
-    symbols::encode(raw, out);
-    out[0] = code.character();
+    (4 * bytes + 2) / 3
+}
+
+// What all the characters of the primitive are.
+fn read_whole<C: Code>(code: C, text: &[u8], raw: &mut [u8]) -> Result<(), CodeFault>
+    requires bytes { length raw.old ≡ C.bytes }
+    requires all { length text.now ≡ total (C.layout_of code) }
+    ensures { ReadsWhole (C.layout_of code) text.now raw.new result }
+{
+    if let Some(place) = character::first_bad(text) {
+        return Err(CodeFault::BadCharacter(place as u16));
+    }
+    if !symbols::decode(&text[code.head()..], raw) {
+        return Err(CodeFault::PadBits);
+    }
+    if code.has_other_index(text) {
+        return Err(CodeFault::OtherIndex);
+    }
+    Ok(())
+}
+
+/// Fills the slice with the head and the digits of the raw bytes.
+pub(crate) fn write(head: &[u8], raw: &[u8], out: &mut [u8])
+    requires bytes { length raw.now ≤ 66 }
+    requires front { length head.now ≤ length out.old }
+    requires few { length out.old ≤ length head.now + 88 }
+    ensures { out.new ≡ head.now ++ base64_text (length out.old - length head.now) (whole_number raw.now) }
+{
+    let (front, digits) = out.split_at_mut(head.len());
+    front.copy_from_slice(head);
+    symbols::encode(raw, digits);
 }

@@ -1,105 +1,88 @@
 //! Raw bytes and the characters of their digits in base 64 (RFC 4648, section 5).
-ghost use Rattle.std.specs.Prelude.{◌≡◌, ◌∷◌, ◌++◌, ◌<◌, ◌≤◌, take, drop, length, IfOk, IfErr, IfSome, IfNone, false, slice_index, position, not};
+ghost use Rattle.std.specs.Prelude.{◌≡◌, ◌++◌, ◌-◌, ◌^◌, ◌≤◌, ◌==◌, length, replicate, true, false};
 ghost use Rattle.std.specs.List.{list_all};
 ghost use Rattle.base64.specs.GeneralPurpose.{encode_of};
 ghost use Rattle.base64.specs.Engines.{url_safe_no_pad};
-ghost use Rattle.keri_specs.specs.Base64.{AreBytes, base64_text, is_character, whole_number};
-ghost use Rattle.cesr_codes.specs.Reading.{IsBadPlace, ReadsDigits};
+ghost use Rattle.keri_specs.specs.Base64.{AreBytes, base64_text, is_character, number_of_text, whole_number};
 
-use crate::CodeFault;
 use base64::engine::general_purpose::URL_SAFE_NO_PAD;
 
-/// Fills the array with an `A`, in whose place the code goes, and the 43 digits of the raw bytes.
-pub(crate) fn encode(raw: &[u8; 32], out: &mut [u8; 44])
-    ensures { out.new ≡ 65 ∷ base64_text 43 (whole_number raw.now) }
+// The longest digits of the code table, with the bits before the raw bytes, are 88 characters of 66 bytes: whole groups
+// of three bytes. Shorter ones are the same number behind more zeros.
+const BYTES: usize = 66;
+
+const SYMBOLS: usize = 88;
+
+/// Fills the slice with the last digits of the raw bytes.
+pub(crate) fn encode(raw: &[u8], out: &mut [u8])
+    requires bytes { length raw.now ≤ 66 }
+    requires symbols { length out.old ≤ 88 }
+    ensures { out.new ≡ base64_text (length out.old) (whole_number raw.now) }
 {
-    encode_groups(&with_zero(raw), out);
+    let symbols = encode_groups(&with_zeros(raw));
+    out.copy_from_slice(&symbols[SYMBOLS - out.len()..]);
 }
 
-// The raw bytes behind a zero byte, which makes them whole groups of three.
-fn with_zero(raw: &[u8; 32]) -> [u8; 33]
-    ensures { result ≡ 0 ∷ raw.now }
+// The raw bytes behind zero bytes.
+fn with_zeros(raw: &[u8]) -> [u8; BYTES]
+    requires { length raw.now ≤ 66 }
+    ensures { result ≡ replicate (66 - length raw.now) 0 ++ raw.now }
 {
-    let mut padded = [0u8; 33];
-    padded[1..].copy_from_slice(raw);
+    let mut padded = [0u8; BYTES];
+    let (_, last) = padded.split_at_mut(BYTES - raw.len());
+    last.copy_from_slice(raw);
     padded
 }
 
-// The characters of eleven groups.
-fn encode_groups(padded: &[u8; 33], out: &mut [u8; 44])
-    ensures { out.new ≡ encode_of url_safe_no_pad padded.now }
+// The characters of whole groups.
+fn encode_groups(padded: &[u8; BYTES]) -> [u8; SYMBOLS]
+    ensures { result ≡ encode_of url_safe_no_pad padded.now }
 {
-    let _ = URL_SAFE_NO_PAD.encode_slice(padded, out);
-}
-
-/// The raw bytes of 43 digits.
-pub(crate) fn decode(digits: &[u8]) -> Result<[u8; 32], CodeFault>
-    requires { length digits.now ≡ 43 }
-    ensures { ReadsDigits digits.now result }
-{
-    let symbols = with_first_symbol(digits);
-    let Some(padded) = decode_groups(&symbols) else {
-        return Err(CodeFault::BadCharacter(bad_place(digits)));
-    };
-    if padded[0] != 0 {
-        return Err(CodeFault::PadBits);
-    }
-    Ok(without_first(&padded))
-}
-
-// The characters behind that of the digit 0.
-fn with_first_symbol(digits: &[u8]) -> [u8; 44]
-    requires { length digits.now ≡ 43 }
-    ensures { result ≡ 65 ∷ digits.now }
-{
-    let mut symbols = [b'A'; 44];
-    symbols[1..].copy_from_slice(digits);
+    let mut symbols = [0u8; SYMBOLS];
+    let _ = URL_SAFE_NO_PAD.encode_slice(padded, &mut symbols);
     symbols
 }
 
-// The bytes that the characters are of, where each is one of the 64.
-fn decode_groups(symbols: &[u8; 44]) -> Option<[u8; 33]>
-    ensures ok { IfSome result (λ bytes. AreBytes 33 bytes × (symbols.now ≡ encode_of url_safe_no_pad bytes)) }
-    ensures none { IfNone result (list_all is_character symbols.now ≡ false) }
+/// Fills the slice with the last bytes of the number that the digits spell, and answers whether they hold it.
+pub(crate) fn decode(digits: &[u8], raw: &mut [u8]) -> bool
+    requires symbols { length digits.now ≤ 88 }
+    requires bytes { length raw.old ≤ 66 }
+    requires characters { list_all is_character digits.now ≡ true }
+    ensures held { result ≡ true → AreBytes (length raw.old) raw.new × (whole_number raw.new ≡ number_of_text digits.now) }
+    ensures large { result ≡ false → 256 ^ length raw.old ≤ number_of_text digits.now }
 {
-    let mut bytes = [0u8; 33];
+    let padded = decode_groups(&with_first_symbols(digits));
+    let (zeros, last) = padded.split_at(BYTES - raw.len());
+    raw.copy_from_slice(last);
+    are_zeros(zeros)
+}
+
+// Whether all the bytes are zero.
+fn are_zeros(bytes: &[u8]) -> bool
+    ensures { result ≡ list_all (λ byte. byte == 0) bytes.now }
+{
+    bytes.iter().all(|byte| *byte == 0)
+}
+
+// The characters behind those of the digit 0.
+fn with_first_symbols(digits: &[u8]) -> [u8; SYMBOLS]
+    requires { length digits.now ≤ 88 }
+    ensures { result ≡ replicate (88 - length digits.now) 65 ++ digits.now }
+{
+    let mut symbols = [b'A'; SYMBOLS];
+    let (_, last) = symbols.split_at_mut(SYMBOLS - digits.len());
+    last.copy_from_slice(digits);
+    symbols
+}
+
+// The bytes of whole groups of characters.
+fn decode_groups(symbols: &[u8; SYMBOLS]) -> [u8; BYTES]
+    requires { list_all is_character symbols.now ≡ true }
+    ensures { AreBytes 66 result × (symbols.now ≡ encode_of url_safe_no_pad result) }
+{
+    let mut bytes = [0u8; BYTES];
     match URL_SAFE_NO_PAD.decode_slice(symbols, &mut bytes) {
-        Ok(_) => Some(bytes),
-        Err(_) => None,
-    }
-}
-
-// The bytes behind the first.
-fn without_first(padded: &[u8; 33]) -> [u8; 32]
-    ensures { padded.now ≡ slice_index padded.now 0 ∷ result }
-{
-    let mut raw = [0u8; 32];
-    raw.copy_from_slice(&padded[1..]);
-    raw
-}
-
-// Whether it is one of the 64 characters.
-fn is_symbol(c: u8) -> bool
-    ensures { result ≡ is_character c }
-{
-    matches!(c, b'A'..=b'Z' | b'a'..=b'z' | b'0'..=b'9' | b'-' | b'_')
-}
-
-// The first place of what isn't one of them.
-fn first_bad(digits: &[u8]) -> Option<usize>
-    ensures { result ≡ position (λ c. not (is_character c)) digits.now }
-{
-    digits.iter().position(|c| !is_symbol(*c))
-}
-
-// The first place of what isn't one of them, counted from the code.
-fn bad_place(digits: &[u8]) -> u16
-    requires some { list_all is_character digits.now ≡ false }
-    requires few { length digits.now ≡ 43 }
-    ensures { IsBadPlace result digits.now }
-{
-    match first_bad(digits) {
-        Some(place) => place as u16 + 1,
-        None => unreachable!(),
+        Ok(_) => bytes,
+        Err(_) => unreachable!(),
     }
 }

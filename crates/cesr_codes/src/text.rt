@@ -5,7 +5,7 @@ ghost use Rattle.std.specs.Str.{IsAscii};
 use std::str;
 
 /// The characters of a primitive as text.
-pub(crate) fn as_text(characters: &[u8; 44]) -> &str
+pub(crate) fn as_text(characters: &[u8]) -> &str
     requires { IsAscii characters.now }
     ensures { result.now ≡ characters.now }
 {

@@ -1,5 +1,6 @@
 -- Digits of numbers in a base, and the numbers of digits.
-use Rattle.std.proofs.Common.{◌≡◌, ℕ, zero, suc, ◌+◌, ◌*◌, ◌/◌, ◌%◌, ◌^◌, ◌<◌, List, [], ◌∷◌, ◌++◌, length, refl, sym, ap, ◌∙◌, arith, append_assoc, append-nil, length-append, add-zero}
+use Rattle.std.proofs.Common.{◌≡◌, ℕ, zero, suc, ◌+◌, ◌*◌, ◌/◌, ◌%◌, ◌^◌, ◌<◌, List, [], ◌∷◌, ◌++◌, length, drop, replicate, refl, sym, ap, ◌∙◌, arith, append_assoc, append-nil, length-append, add-zero}
+use Rattle.std.proofs.lemmas.List.{drop_all, drop-append-le}
 use Rattle.std.proofs.Math.Nat.{add-suc, pow-suc, pow-zero, mul-add-div_right, mul-add-mod_self_right, div-lt_iff_lt-mul, mul_assoc, mod-eq_of_lt}
 use Rattle.std.proofs.lemmas.Int.Digits.{number_push, number_lt}
 use Rattle.std.specs.Int.Digits.{number_from_digits, number_from_digits_after, AllBelowBase}
@@ -66,3 +67,18 @@ digits_in-number b (d ∷ ds) pos all =
     ∙ digits_in-split b 1 (length ds) d (number_from_digits b ds) pos low
     ∙ ap (λ x. (x ∷ []) ++ digits_in b (length ds) (number_from_digits b ds)) one
     ∙ ap (λ x. d ∷ x) (digits_in-number b ds pos all.1)
+
+-- the last digits of a number don't depend on how many stand before them
+pub drop-digits_in : (b i k n : ℕ) → drop i (digits_in b (i + k) n) ≡ digits_in b k n
+unfolding digits_in
+drop-digits_in b i zero n =
+    let count : length (digits_in b i n) ≡ i = length-digits_in b i n in rw add-zero (drop_all i (digits_in b i n) (omega arith))
+drop-digits_in b i (suc k) n =
+    let count : length (digits_in b (i + k) (n / b)) ≡ i + k = length-digits_in b (i + k) (n / b) in
+    rw add-suc (drop-append-le i (digits_in b (i + k) (n / b)) (n % b ∷ []) (omega arith) ∙ ap (λ ds. ds ++ n % b ∷ []) (drop-digits_in b i k (n / b)))
+
+-- zeros before digits change nothing
+pub number-zeros : (b k : ℕ) (ds : List ℕ) → number_from_digits b (replicate k 0 ++ ds) ≡ number_from_digits b ds
+number-zeros b zero ds = refl
+number-zeros b (suc k) ds =
+    let none : 0 * b + 0 ≡ 0 = omega arith in ap (λ n. number_from_digits_after b n (replicate k 0 ++ ds)) none ∙ number-zeros b k ds

@@ -1,11 +1,18 @@
-use Rattle.cesr_codes.proofs.Decoded.{large_digits, small_digits}
+use Rattle.std.proofs.Common.{◌==◌, ◌-◌, length, sym, ap, ◌∙◌}
+use Rattle.std.specs.List.{list_all}
+use Rattle.cesr_codes.proofs.Decoded.{first_symbols, held, large}
 use Rattle.cesr_codes.proofs.symbols.decode.Goals as goal
 
-pub returns-then-padded-ne0 : goal.returns-then-padded-ne0
-returns-then-padded-ne0 c =
-    large_digits c.args.digits.now c.with_first_symbol-symbols.result c.in-Some.padded c.with_first_symbol-symbols.ensures c.in-Some.ensures.ok.0 c.in-Some.ensures.ok.1 c.if-padded-ne0.true
+pub decode_groups-padded-requires : goal.decode_groups-padded-requires
+decode_groups-padded-requires c = rw c.with_first_symbols.ensures (first_symbols (88 - length c.args.digits.now) c.args.digits.now c.requires.characters)
 
-pub returns : goal.returns
-returns c =
-    small_digits c.args.digits.now c.with_first_symbol-symbols.result c.in-Some.padded c.without_first.result c.with_first_symbol-symbols.ensures c.in-Some.ensures.ok.0 c.in-Some.ensures.ok.1
-    c.if-padded-ne0.false c.without_first.ensures
+pub returns-clause-held : goal.returns-clause-held
+returns-clause-held c = λ is.
+    rw (c.copy_from_slice.ensures.after, c.split_at.ensures.back)
+    (held 22 c.args.digits.now c.with_first_symbols.result c.decode_groups-padded.result c.requires.symbols c.with_first_symbols.ensures c.decode_groups-padded.ensures.0 c.decode_groups-padded.ensures.1
+    (length c.args.raw.now) c.requires.bytes (ap (list_all (λ byte. byte == 0)) (sym c.split_at.ensures.front) ∙ sym c.are_zeros.ensures ∙ is))
+
+pub returns-clause-large : goal.returns-clause-large
+returns-clause-large c = λ is.
+    large 22 c.args.digits.now c.with_first_symbols.result c.decode_groups-padded.result c.requires.symbols c.with_first_symbols.ensures c.decode_groups-padded.ensures.0 c.decode_groups-padded.ensures.1
+    (length c.args.raw.now) c.requires.bytes (ap (list_all (λ byte. byte == 0)) (sym c.split_at.ensures.front) ∙ sym c.are_zeros.ensures ∙ is)

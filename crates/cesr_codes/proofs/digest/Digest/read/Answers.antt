@@ -1,12 +1,10 @@
-use Rattle.std.proofs.Common.{◌≡◌, List, ℕ, Ok, ap}
-use Rattle.cesr_codes.specs.declared.digest.DigestCode.{DigestCode}
+use Rattle.cesr_codes.specs.Spelling.{digest_text, IsDigest}
+use Rattle.cesr_codes.specs.Table.{digest_layouts, verdict}
+use Rattle.cesr_codes.proofs.Basic.{good_digest, length-digest_text}
+use Rattle.cesr_codes.proofs.Front.{whole}
+use Rattle.cesr_codes.proofs.Same.{same_digest}
 use Rattle.cesr_codes.proofs.digest.Digest.read.Goals as goal
 
-pub returns-in_err-code-clause-whole : goal.returns-in_err-code-clause-whole
-returns-in_err-code-clause-whole c = λ digest rest is e. let found = c.read.ensures.whole digest.code digest.raw rest is e in cc (found, c.in_err-code.was)
-
 pub returns-clause-whole : goal.returns-clause-whole
-returns-clause-whole c = λ digest rest is e.
-    let found = c.read.ensures.whole digest.code digest.raw rest is e in
-    let same : (c.in_ok-code.code, c.in_ok-code.raw) ≡ (digest.code, digest.raw) = cc (found, c.in_ok-code.was) in
-    ap (λ (p : DigestCode × List ℕ). Ok (record { code = p.0; raw = p.1 }, 44)) same
+returns-clause-whole c = λ digest rest valid e.
+    whole (verdict digest_layouts) digest_text IsDigest same_digest good_digest c.args.bytes.now c.read_exact.result digest rest 44 c.read_exact.ensures valid (length-digest_text digest) e

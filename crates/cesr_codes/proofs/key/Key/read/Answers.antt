@@ -1,12 +1,10 @@
-use Rattle.std.proofs.Common.{◌≡◌, List, ℕ, Ok, ap}
-use Rattle.cesr_codes.specs.declared.key.KeyCode.{KeyCode}
+use Rattle.cesr_codes.specs.Spelling.{key_text, IsKey}
+use Rattle.cesr_codes.specs.Table.{key_layouts, verdict}
+use Rattle.cesr_codes.proofs.Basic.{good_key, length-key_text}
+use Rattle.cesr_codes.proofs.Front.{whole}
+use Rattle.cesr_codes.proofs.Same.{same_key}
 use Rattle.cesr_codes.proofs.key.Key.read.Goals as goal
 
-pub returns-in_err-code-clause-whole : goal.returns-in_err-code-clause-whole
-returns-in_err-code-clause-whole c = λ key rest is e. let found = c.read.ensures.whole key.code key.raw rest is e in cc (found, c.in_err-code.was)
-
 pub returns-clause-whole : goal.returns-clause-whole
-returns-clause-whole c = λ key rest is e.
-    let found = c.read.ensures.whole key.code key.raw rest is e in
-    let same : (c.in_ok-code.code, c.in_ok-code.raw) ≡ (key.code, key.raw) = cc (found, c.in_ok-code.was) in
-    ap (λ (p : KeyCode × List ℕ). Ok (record { code = p.0; raw = p.1 }, 44)) same
+returns-clause-whole c = λ key rest valid e.
+    whole (verdict key_layouts) key_text IsKey same_key good_key c.args.bytes.now c.read_exact.result key rest 44 c.read_exact.ensures valid (length-key_text key) e
