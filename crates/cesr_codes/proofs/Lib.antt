@@ -1,5 +1,5 @@
 mod Groups
-mod Numbers
+pub mod Numbers
 mod Decoded
 mod Front
 mod Basic

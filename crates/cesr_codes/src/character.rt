@@ -5,7 +5,7 @@ ghost use Rattle.keri_specs.specs.Base64.{character, characters, digit_of, is_ch
 const CHARACTERS: [u8; 64] = *b"ABCDEFGHIJKLMNOPQRSTUVWXYZabcdefghijklmnopqrstuvwxyz0123456789-_";
 
 /// Whether it is one of the 64 characters.
-pub(crate) fn is_symbol(c: u8) -> bool
+pub fn is_symbol(c: u8) -> bool
     ensures { result ≡ is_character c }
 {
     matches!(c, b'A'..=b'Z' | b'a'..=b'z' | b'0'..=b'9' | b'-' | b'_')
@@ -27,7 +27,7 @@ pub(crate) fn symbol(digit: u16) -> u8
 }
 
 /// The digit of a character, and 64 of what isn't one of them.
-pub(crate) fn digit(c: u8) -> u16
+pub fn digit(c: u8) -> u16
     ensures value { result ≡ digit_of c }
     ensures few { result ≤ 64 }
 {

@@ -14,6 +14,7 @@ mod sig;
 mod symbols;
 mod text;
 
+pub use character::{digit, is_symbol};
 pub use code_fault::CodeFault;
 pub use digest::{Digest, DigestCode};
 pub use indexed_sig::IndexedSig;
