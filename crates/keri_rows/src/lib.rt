@@ -5,3 +5,5 @@
 mod check;
 #[cfg(test)]
 mod codes;
+#[cfg(test)]
+mod stream;
