@@ -18,5 +18,5 @@ digest_of code bytes = record { code = code; raw = raw_digest code bytes }
 
 -- the digest of bytes that hold it themselves at the places, where placeholders stand for it
 -- (KERI: self-addressing identifiers)
-abbrev pub said : DigestCode → List ℕ → List ℕ → Digest
+unfoldable pub said : DigestCode → List ℕ → List ℕ → Digest
 said code bytes places = digest_of code (replaced bytes places)

@@ -1,11 +1,11 @@
 //! The characters that stand in the place of a digest while it is computed.
-ghost use Rattle.std.specs.Prelude.{◌≡◌, ℕ, ◌+◌, ◌<◌, ◌≤◌, ◌++◌, length, take, All, Contains, IfSome, IfNone, IsTrue, ◌↔◌};
+ghost use Rattle.std.specs.Prelude.{◌≡◌, ◌↔◌, ℕ, ◌+◌, ◌<◌, ◌≤◌, ◌++◌, length, take, All, Contains, IfSome, IfNone, IsTrue};
 ghost use Rattle.said_digest.specs.Replaced.{LieIn, replaced};
 
-/// The length of a digest's spelling.
+// How many characters a digest has.
 const LENGTH: usize = 44;
 
-/// What each character of a digest is replaced by (KERI: self-addressing identifiers).
+// What stands for a digest while it is computed (KERI: self-addressing identifiers).
 const PLACEHOLDER: [u8; LENGTH] = [b'#'; LENGTH];
 
 // Whether the character at `at` is one of those at the place.
