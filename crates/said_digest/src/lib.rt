@@ -1,0 +1,10 @@
+//! Self-addressing digests: of bytes, and of bytes that hold their own digest.
+#![tactic(auto)]
+
+mod coded_hasher;
+mod digests;
+mod placeholder;
+#[cfg(test)]
+mod tests;
+
+pub use digests::{digest_of, holds, said_of};
