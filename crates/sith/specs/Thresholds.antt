@@ -1,0 +1,57 @@
+-- What a threshold is, and how it is spelled as a JSON value.
+use Rattle.std.specs.Prelude.{◌≡◌, ◌≢◌, ◌≤◌, ◌<◌, ◌+◌, ◌-◌, ◌^◌, ◌⊎◌, min, ℕ, zero, suc, List, [], ◌∷◌, ◌++◌, ⊤, length}
+use Rattle.std.specs.List.{AllByRecursion}
+use Rattle.keri_specs.specs.Hex.{IsHexNumber, hex_value}
+use Rattle.json_tree.specs.declared.tree.Tree.{Tree}
+use Rattle.json_tree.specs.declared.tree.Tree.TheVariants.{Str, List as TreeList}
+use Rattle.sith.specs.declared.weight.Weight.{Weight}
+use Rattle.sith.specs.declared.threshold.Threshold.{Threshold}
+use Rattle.sith.specs.declared.threshold.Threshold.TheVariants.{Count, Flat, Nested}
+use Rattle.sith.specs.Weights.{SpellsWeight}
+
+-- each stands for the one in its place
+abbrev pub Each : {A B : Type 0} → (A → B → Type 0) → List A → List B → Type 0
+Each R [] [] = ⊤
+Each R [] (b ∷ bs) = ⊥
+Each R (a ∷ as') [] = ⊥
+Each R (a ∷ as') (b ∷ bs) = R a b × Each R as' bs
+
+-- a text
+abbrev pub IsText : Tree → Type 0
+IsText tree = (text : List ℕ) × (tree ≡ Str text)
+
+-- a list of texts
+abbrev pub IsTextList : Tree → Type 0
+IsTextList tree = (texts : List Tree) × (tree ≡ TreeList texts) × AllByRecursion IsText texts
+
+-- a hexadecimal text
+abbrev pub IsNumberText : Tree → Type 0
+IsNumberText tree = (digits : List ℕ) × (tree ≡ Str digits) × IsHexNumber digits
+
+-- a hexadecimal text, a list of texts, or a list of lists of texts
+abbrev pub HasForm : Tree → Type 0
+HasForm tree = IsNumberText tree ⊎ (IsTextList tree ⊎ ((lists : List Tree) × (tree ≡ TreeList lists) × AllByRecursion IsTextList lists))
+
+abbrev pub SpellsText : Weight → Tree → Type 0
+SpellsText weight tree = (text : List ℕ) × (tree ≡ Str text) × SpellsWeight weight text
+
+abbrev pub SpellsList : List Weight → Tree → Type 0
+SpellsList weights tree = (texts : List Tree) × (tree ≡ TreeList texts) × Each SpellsText weights texts
+
+-- The value spells the threshold. The list `[]` has no clause. A number that is greater than 2^64 - 1 stands as that.
+abbrev pub Spells : Threshold → Tree → Type 0
+Spells (Count n) tree = (digits : List ℕ) × (tree ≡ Str digits) × IsHexNumber digits × (n ≡ min (hex_value digits) (2 ^ 64 - 1))
+Spells (Flat weights) tree = (weights ≢ []) × SpellsList weights tree
+Spells (Nested clauses) tree = (lists : List Tree) × (tree ≡ TreeList lists) × Each SpellsList clauses lists
+
+-- the place of the first of these texts that spells no weight
+abbrev pub IsFirstBad : List Tree → ℕ → Type 0
+IsFirstBad [] place = ⊥
+IsFirstBad (text ∷ texts) zero = (weight : Weight) → ¬ SpellsText weight text
+IsFirstBad (text ∷ texts) (suc place) = ((weight : Weight) × SpellsText weight text) × IsFirstBad texts place
+
+-- the same in lists, counted over all of them
+abbrev pub IsFirstBadOf : List (List Tree) → ℕ → Type 0
+IsFirstBadOf [] place = ⊥
+IsFirstBadOf (texts ∷ lists) place = IsFirstBad texts place
+    ⊎ ((weights : List Weight) × (behind : ℕ) × Each SpellsText weights texts × (place ≡ length texts + behind) × IsFirstBadOf lists behind)

@@ -1,0 +1,12 @@
+//! Signing thresholds: how they are spelled as JSON values, and which sets of key indices meet them.
+#![tactic(auto)]
+
+mod decimal;
+mod divisors;
+mod sith_fault;
+mod threshold;
+mod weight;
+
+pub use sith_fault::SithFault;
+pub use threshold::Threshold;
+pub use weight::Weight;
