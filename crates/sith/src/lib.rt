@@ -3,6 +3,8 @@
 
 mod decimal;
 mod divisors;
+mod form;
+mod hex;
 mod sith_fault;
 mod threshold;
 mod weight;
