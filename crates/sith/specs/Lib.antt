@@ -1,5 +1,6 @@
 pub mod Decimals
 pub mod Parts
 pub mod Weights
+pub mod Divisors
 pub mod Clauses
 pub mod Thresholds

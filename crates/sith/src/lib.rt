@@ -1,10 +1,12 @@
 //! Signing thresholds: how they are spelled as JSON values, and which sets of key indices meet them.
 #![tactic(auto)]
 
+mod clause;
 mod decimal;
 mod divisors;
 mod form;
 mod hex;
+mod signers;
 mod sith_fault;
 mod threshold;
 mod weight;

@@ -1,8 +1,0 @@
-use Rattle.std.proofs.lemmas.Nat.Gcd.{IsGcd-from_mod, IsGcd-from_zero}
-use Rattle.sith.proofs.divisors.greatest_common_divisor.Goals as goal
-
-pub loop-smaller-preserved : goal.loop-smaller-preserved
-loop-smaller-preserved c = λ g divides. c.loop-smaller.invariant g (IsGcd-from_mod _ _ g divides)
-
-pub returns : goal.returns
-returns c = c.loop-smaller.invariant _ (IsGcd-from_zero _ _ c.loop-smaller-test.false)
