@@ -2,14 +2,16 @@
 use Rattle.std.proofs.Common.{◌≡◌, ℕ, zero, suc, ◌+◌, ◌*◌, ◌/◌, ◌<◌, ◌≤◌, List, [], ◌∷◌, map, Bool, true, false, inl, inr, refl, sym, ap, subst, ◌∙◌, arith}
 use Prim.Native.Nat.{◌∣◌}
 use native.Mathlib.Nat.{dvd-mul_left_of_dvd, dvd-mul_right, div-mul_cancel, div-eq_of_eq-mul_left, mul_assoc, mul_comm, mul-le-mul_right, add-mul}
-use Rattle.std.specs.Prelude.{if◌then◌else◌, ◌↔◌}
+use Rattle.std.specs.Prelude.{if◌then◌else◌, ◌↔◌, IsTrue}
 use Rattle.std.specs.List.{AllByRecursion}
-use Rattle.std.proofs.lemmas.Bool.{cases_lt}
+use Rattle.std.proofs.lemmas.Bool.{cases_lt, leb-true, le-leb}
+use Rattle.std.proofs.Math.Dec.{leb}
 use Rattle.sith.proofs.DivisorSteps.{factor_some}
 use Rattle.sith.specs.declared.weight.Weight.{Weight}
+use Rattle.sith.specs.declared.weight.Weight.TheVariants.{Zero, One, Part}
 use Rattle.sith.specs.Weights.{IsWeight, numerator, denominator}
-use Rattle.sith.specs.Divisors.{AllDivide}
-use Rattle.sith.specs.Clauses.{Term, product, sum_met, IsMet}
+use Rattle.sith.specs.Divisors.{AllDivide, IsLeastMultiple}
+use Rattle.sith.specs.Clauses.{Term, product, sum_met, IsMet, terms_at, all_met, IsFine, IsTooFine}
 
 abbrev pub denominators : List Term → List ℕ
 denominators terms = map (λ t. denominator t.0) terms
@@ -67,3 +69,42 @@ met_by terms m some all divides =
     let k_some : 0 < k = factor_some k m (product terms) (sym whole ∙ mul_comm m k) (product_some terms some) in
     (λ enough. subst (λ s. product terms ≤ s) (sym sums) (subst (λ p. p ≤ sum_met m terms * k) whole (mul-le-mul_right k enough)),
      λ met. less_scaled m (sum_met m terms) k k_some (subst (λ p. p ≤ sum_met m terms * k) (sym whole) (subst (λ s. product terms ≤ s) sums met)))
+
+denominators-terms_at : (weights : List Weight) (start : ℕ) (indices : List ℕ) → denominators (terms_at weights start indices) ≡ map denominator weights
+denominators-terms_at [] start indices = refl
+denominators-terms_at (w ∷ weights) start indices = ap (λ l. denominator w ∷ l) (denominators-terms_at weights (start + 1) indices)
+
+denominators-all_met : (weights : List Weight) → denominators (all_met weights) ≡ map denominator weights
+denominators-all_met [] = refl
+denominators-all_met (w ∷ weights) = ap (λ l. denominator w ∷ l) (denominators-all_met weights)
+
+some_denominator : (w : Weight) → IsWeight w → 0 < denominator w
+some_denominator Zero is = omega arith
+some_denominator One is = omega arith
+some_denominator (Part n d) is = omega (arith, is)
+
+some_terms_at : (weights : List Weight) (start : ℕ) (indices : List ℕ) → AllByRecursion IsWeight weights → AreSome (terms_at weights start indices)
+some_terms_at [] start indices all = tt
+some_terms_at (w ∷ weights) start indices all = (some_denominator w all.0, some_terms_at weights (start + 1) indices all.1)
+
+some_all_met : (weights : List Weight) → AllByRecursion IsWeight weights → AreSome (all_met weights)
+some_all_met [] all = tt
+some_all_met (w ∷ weights) all = (some_denominator w all.0, some_all_met weights all.1)
+
+tells : (terms : List Term) (weights : List Weight) (m : ℕ) → denominators terms ≡ map denominator weights → AreSome terms → IsLeastMultiple (map denominator weights) m → (m ≤ sum_met m terms) ↔ IsMet terms
+tells terms weights m same some least =
+    met_by terms m some (subst (λ l. AllDivide l m) (sym same) least.common) (least.least (product terms) (subst (λ l. AllDivide l (product terms)) same (product_common terms)))
+
+-- the least common multiple of a clause tells whether it is met
+pub met_at : (weights : List Weight) (start : ℕ) (indices : List ℕ) (m : ℕ) → AllByRecursion IsWeight weights → IsLeastMultiple (map denominator weights) m → (m ≤ sum_met m (terms_at weights start indices)) ↔ IsMet (terms_at weights start indices)
+met_at weights start indices m all least = tells (terms_at weights start indices) weights m (denominators-terms_at weights start indices) (some_terms_at weights start indices all) least
+
+pub met_all : (weights : List Weight) (m : ℕ) → AllByRecursion IsWeight weights → IsLeastMultiple (map denominator weights) m → (m ≤ sum_met m (all_met weights)) ↔ IsMet (all_met weights)
+met_all weights m all least = tells (all_met weights) weights m (denominators-all_met weights) (some_all_met weights all) least
+
+-- the test of the sum, as the code makes it
+pub test_is : (m s sum : ℕ) (P : Type 0) → s ≡ sum → (m ≤ sum) ↔ P → IsTrue (leb m s) ↔ P
+test_is m s sum P same tells = (λ holds. tells.0 (omega (arith, leb-true m s holds, same)), λ p. le-leb m s (omega (arith, tells.1 p, same)))
+
+pub not_both : (weights : List Weight) → IsFine weights → IsTooFine weights → ⊥
+not_both weights fine too = too fine.0 fine.1 fine.2 fine.3

@@ -35,3 +35,11 @@ all_met weights = map (λ w. (w, true)) weights
 -- no number up to 2^64 is a common multiple of the denominators: the least one is over 2^64
 abbrev pub IsTooFine : List Weight → Type 0
 IsTooFine weights = (m : ℕ) → 0 < m → m ≤ 2 ^ 64 → ¬ AllDivide (map denominator weights) m
+
+-- some number up to 2^64 is a common multiple of the denominators: the least one is at most 2^64
+abbrev pub IsFine : List Weight → Type 0
+IsFine weights = (m : ℕ) × (0 < m) × (m ≤ 2 ^ 64) × AllDivide (map denominator weights) m
+
+-- the weights sum to at least 1
+abbrev pub IsReachable : List Weight → Type 0
+IsReachable weights = IsMet (all_met weights)

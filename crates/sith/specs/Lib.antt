@@ -4,3 +4,4 @@ pub mod Weights
 pub mod Divisors
 pub mod Clauses
 pub mod Thresholds
+pub mod Rules

@@ -1,9 +1,10 @@
 //! A clause of weights.
-ghost use Rattle.std.specs.Prelude.{◌≡◌, ◌<◌, ◌≤◌, ◌^◌, ◌*◌, ◌/◌, ◌+◌, ℕ, map, length, IfSome, IfNone};
+ghost use Rattle.std.specs.Prelude.{◌≡◌, ◌<◌, ◌≤◌, ◌^◌, ◌*◌, ◌/◌, ◌+◌, ℕ, ◌↔◌, map, length, IsTrue, IfSome, IfNone};
+ghost use Rattle.std.specs.Bool.{OnTrue, OnFalse};
 ghost use Rattle.std.specs.List.{AllByRecursion};
 ghost use Rattle.sith.specs.Weights.{IsWeight, numerator, denominator};
 ghost use Rattle.sith.specs.Divisors.{IsLeastMultiple, AllDivide};
-ghost use Rattle.sith.specs.Clauses.{IsTooFine, sum_met, terms_at, all_met};
+ghost use Rattle.sith.specs.Clauses.{IsTooFine, IsFine, IsReachable, IsMet, sum_met, terms_at, all_met};
 
 use crate::divisors::least_multiple;
 use crate::signers::has_index;
@@ -81,4 +82,42 @@ fn sum_of_all(weights: &[Weight], whole: u128) -> u128
         sum += parts_of(*weight, whole);
     }
     sum
+}
+
+/// Whether the least common multiple of the denominators is at most 2^64.
+pub(crate) fn is_fine(weights: &[Weight]) -> bool
+    requires { AllByRecursion IsWeight weights.now }
+    ensures fine { OnTrue result (IsFine weights.now) }
+    ensures too_fine { OnFalse result (IsTooFine weights.now) }
+{
+    match common_multiple(weights) {
+        Some(_) => true,
+        None => false,
+    }
+}
+
+/// Whether the weights sum to at least 1.
+pub(crate) fn is_reachable(weights: &[Weight]) -> bool
+    requires weights { AllByRecursion IsWeight weights.now }
+    requires fine { IsFine weights.now }
+    requires few { length weights.now ≤ 65535 }
+    ensures { IsTrue result ↔ IsReachable weights.now }
+{
+    match common_multiple(weights) {
+        Some(multiple) => sum_of_all(weights, multiple) >= multiple,
+        None => unreachable!(),
+    }
+}
+
+/// Whether the clause is met by these indices, its first weight's index being `start`.
+pub(crate) fn is_met(weights: &[Weight], start: usize, indices: &[u16]) -> bool
+    requires weights { AllByRecursion IsWeight weights.now }
+    requires fine { IsFine weights.now }
+    requires few { start + length weights.now ≤ 65535 }
+    ensures { IsTrue result ↔ IsMet (terms_at weights.now start indices.now) }
+{
+    match common_multiple(weights) {
+        Some(multiple) => sum_at(weights, multiple, start, indices) >= multiple,
+        None => unreachable!(),
+    }
 }

@@ -6,6 +6,7 @@ mod decimal;
 mod divisors;
 mod form;
 mod hex;
+mod rules;
 mod signers;
 mod sith_fault;
 mod threshold;
