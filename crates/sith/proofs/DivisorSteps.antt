@@ -12,11 +12,11 @@ times_rest a b m = ap (λ n. n * m) (sym (div-add-mod a b)) ∙ grind arith
 
 pub from_rest : (a b g : ℕ) → IsGreatestDivisor b (a % b) g → IsGreatestDivisor a b g
 from_rest a b g h = record {
-    one = (dvd-mod_iff g h.one).0 h.other;
-    other = h.one;
-    greatest = λ d m p q.
-        h.greatest d m q ((dvd-add_iff_right d (dvd-mul_right_of_dvd d q (a / b))).1 (subst (λ n. d ∣ n) (times_rest a b m) p));
-  }
+  one = (dvd-mod_iff g h.one).0 h.other;
+  other = h.one;
+  greatest = λ d m p q.
+      h.greatest d m q ((dvd-add_iff_right d (dvd-mul_right_of_dvd d q (a / b))).1 (subst (λ n. d ∣ n) (times_rest a b m) p));
+}
 
 module _ (a b g : ℕ) (some : 0 < g) (h : IsGreatestDivisor a b g) where
   pub regroup : a * b ≡ (a * (b / g)) * g
@@ -32,10 +32,10 @@ module _ (a b g : ℕ) (some : 0 < g) (h : IsGreatestDivisor a b g) where
 
   pub least_of : IsMultipleOfBoth a b (a * (b / g))
   least_of = record {
-      one = dvd-mul_right a (b / g);
-      other = subst (λ n. b ∣ n) (sym other_way) (dvd-mul_left b (a / g));
-      least = λ m p q. dvd_of_mul-dvd-mul_right (a * (b / g)) some (subst (λ n. n ∣ m * g) regroup (whole m p q));
-    }
+    one = dvd-mul_right a (b / g);
+    other = subst (λ n. b ∣ n) (sym other_way) (dvd-mul_left b (a / g));
+    least = λ m p q. dvd_of_mul-dvd-mul_right (a * (b / g)) some (subst (λ n. n ∣ m * g) regroup (whole m p q));
+  }
 
 -- a divisor of a number that is not 0
 pub some_divisor : (g a : ℕ) → 0 < a → g ∣ a → 0 < g
@@ -53,6 +53,7 @@ product_some (suc a) (suc b) x y = simp suc-mul (omega arith)
 
 -- how large the least common multiple is
 pub multiple_range : (a b g : ℕ) → 0 < g → IsGreatestDivisor a b g → 0 < a → a ≤ 2 ^ 64 → 0 < b → b < 2 ^ 32 → (0 < a * (b / g)) × (a * (b / g) < 2 ^ 96)
-multiple_range a b g some h a_some a_most b_some b_most =
-    (factor_some (a * (b / g)) g (a * b) (regroup a b g some h) (product_some a b a_some b_some),
-     omega (arith, a_most, b_most, div-le_self b g, mul-le-mul_right (b / g) a_most))
+multiple_range a b g some h a_some a_most b_some b_most = (
+  factor_some (a * (b / g)) g (a * b) (regroup a b g some h) (product_some a b a_some b_some),
+  omega (arith, a_most, b_most, div-le_self b g, mul-le-mul_right (b / g) a_most),
+)

@@ -5,3 +5,5 @@ pub mod DivisorSteps
 pub mod Multiples
 pub mod Sums
 pub mod Scales
+pub mod RuleSteps
+pub mod ReadFor

@@ -26,9 +26,9 @@ least_of_none = record { common = tt; least = λ m all. one-dvd m }
 
 pub least_push : (ds : List ℕ) (d a m : ℕ) → IsLeastMultiple ds a → IsMultipleOfBoth a d m → IsLeastMultiple (ds ++ d ∷ []) m
 least_push ds d a m least both = record {
-    common = divide_push ds d m (divide_more ds a m least.common both.one) both.other;
-    least = λ n all. let split = divide_front ds d n all in both.least n (least.least n split.0) split.1;
-  }
+  common = divide_push ds d m (divide_more ds a m least.common both.one) both.other;
+  least = λ n all. let split = divide_front ds d n all in both.least n (least.least n split.0) split.1;
+}
 
 -- one weight more
 pub taken_more : (weights : List Weight) (i : ℕ) (default : Weight) → i < length weights → map denominator (take (i + 1) weights) ≡ map denominator (take i weights) ++ denominator (get_or weights i default) ∷ []

@@ -41,7 +41,7 @@ product_some (t ∷ terms) some = times_some (denominator t.0) (product terms) s
 scaled_part : (n m k d : ℕ) → 0 < d → d ∣ m → n * ((m * k) / d) ≡ (n * (m / d)) * k
 scaled_part n m k d some divides =
     let whole : m * k ≡ ((m / d) * k) * d =
-        ap (λ x. x * k) (sym (div-mul_cancel d divides)) ∙ mul_assoc (m / d) d k ∙ ap (λ x. (m / d) * x) (mul_comm d k) ∙ sym (mul_assoc (m / d) k d) in
+    ap (λ x. x * k) (sym (div-mul_cancel d divides)) ∙ mul_assoc (m / d) d k ∙ ap (λ x. (m / d) * x) (mul_comm d k) ∙ sym (mul_assoc (m / d) k d) in
     ap (λ x. n * x) (div-eq_of_eq-mul_left some whole) ∙ sym (mul_assoc n (m / d) k)
 
 -- the sum of a scaled whole
@@ -56,9 +56,9 @@ sum_scaled ((w, false) ∷ terms) m k some all =
 
 less_scaled : (a b k : ℕ) → 0 < k → a * k ≤ b * k → a ≤ b
 less_scaled a b k some h = elim (cases_lt b a) [
-      inl less ↦ (let up : (b + 1) * k ≤ a * k = mul-le-mul_right k (omega (arith, less)) in absurd (omega (arith, some, h, up, add-mul b 1 k)))
-    | inr enough ↦ enough
-  ]
+  | inl less ↦ (let up : (b + 1) * k ≤ a * k = mul-le-mul_right k (omega (arith, less)) in absurd (omega (arith, some, h, up, add-mul b 1 k)))
+  | inr enough ↦ enough
+]
 
 -- A common multiple that divides the product tells as well as the product whether the clause is met.
 pub met_by : (terms : List Term) (m : ℕ) → AreSome terms → AllDivide (denominators terms) m → m ∣ product terms → (m ≤ sum_met m terms) ↔ IsMet terms
@@ -66,9 +66,10 @@ met_by terms m some all divides =
     let k = product terms / m in
     let whole : m * k ≡ product terms = mul_comm m k ∙ div-mul_cancel m divides in
     let sums : sum_met (product terms) terms ≡ sum_met m terms * k = ap (λ p. sum_met p terms) (sym whole) ∙ sum_scaled terms m k some all in
-    let k_some : 0 < k = factor_some k m (product terms) (sym whole ∙ mul_comm m k) (product_some terms some) in
-    (λ enough. subst (λ s. product terms ≤ s) (sym sums) (subst (λ p. p ≤ sum_met m terms * k) whole (mul-le-mul_right k enough)),
-     λ met. less_scaled m (sum_met m terms) k k_some (subst (λ p. p ≤ sum_met m terms * k) (sym whole) (subst (λ s. product terms ≤ s) sums met)))
+    let k_some : 0 < k = factor_some k m (product terms) (sym whole ∙ mul_comm m k) (product_some terms some) in (
+      λ enough. subst (λ s. product terms ≤ s) (sym sums) (subst (λ p. p ≤ sum_met m terms * k) whole (mul-le-mul_right k enough)),
+      λ met. less_scaled m (sum_met m terms) k k_some (subst (λ p. p ≤ sum_met m terms * k) (sym whole) (subst (λ s. product terms ≤ s) sums met)),
+    )
 
 denominators-terms_at : (weights : List Weight) (start : ℕ) (indices : List ℕ) → denominators (terms_at weights start indices) ≡ map denominator weights
 denominators-terms_at [] start indices = refl

@@ -60,6 +60,7 @@ pub no_slash_more : (text : List ℕ) (place : ℕ) → place < length text → 
 no_slash_more text place within none other = subst HasNoSlash (sym (take_more text place 0 within)) (no_slash_push (take place text) (get_or text place 0) none other)
 
 pub split_is : (text top bottom : List ℕ) (place : ℕ) → HasNoSlash (take place text) × (place < length text) × (get_or text place 0 ≡ 47) → top ≡ take place text → bottom ≡ drop (place + 1) text → HasNoSlash top × (text ≡ top ++ 47 ∷ bottom)
-split_is text top bottom place found front back =
-    (subst HasNoSlash (sym front) found.0,
-     split_there text place 47 found.1 found.2 ∙ ap (λ l. l ++ 47 ∷ drop (place + 1) text) (sym front) ∙ ap (λ l. top ++ 47 ∷ l) (sym back))
+split_is text top bottom place found front back = (
+  subst HasNoSlash (sym front) found.0,
+  split_there text place 47 found.1 found.2 ∙ ap (λ l. l ++ 47 ∷ drop (place + 1) text) (sym front) ∙ ap (λ l. top ++ 47 ∷ l) (sym back),
+)

@@ -22,6 +22,10 @@ clauses_of (Count n) = []
 clauses_of (Flat weights) = weights ∷ []
 clauses_of (Nested clauses) = clauses
 
+-- each weight is one
+abbrev pub HasWeights : Threshold → Type 0
+HasWeights threshold = AllByRecursion (AllByRecursion IsWeight) (clauses_of threshold)
+
 -- A number is from 1 to the number of keys, and 0 for no keys. There are as many weights as keys, and there is a clause.
 abbrev pub IsInRange : Threshold → ℕ → Type 0
 IsInRange (Count n) keys = (n ≤ keys) × ((1 ≤ n) ⊎ (keys ≡ 0))

@@ -93,7 +93,11 @@ fn read_clause(alloc: Global, list: &Tree, before: u16) -> Result<Items<Weight>,
 fn counted(number: usize) -> u16
     ensures { result ≡ min number 65535 }
 {
-    if number < 65_535 { number as u16 } else { 65_535 }
+    if number < 65_535 {
+        number as u16
+    } else {
+        65_535
+    }
 }
 
 /// Reads the clauses of a list of lists of texts.

@@ -27,7 +27,11 @@ fn digit_value(digit: u8) -> u8
     ensures value { result ≡ hex_digit digit }
     ensures below { result < 16 }
 {
-    if digit < b':' { digit - b'0' } else { digit - b'W' }
+    if digit < b':' {
+        digit - b'0'
+    } else {
+        digit - b'W'
+    }
 }
 
 /// The number that the digits write, or 2^64 - 1 for a greater one.

@@ -36,3 +36,49 @@ pub(crate) fn are_fine(clauses: &[Items<Weight>]) -> bool
     }
     true
 }
+
+/// Whether the weights of each clause sum to at least 1.
+pub(crate) fn are_reachable(clauses: &[Items<Weight>]) -> bool
+    requires weights { AllByRecursion (AllByRecursion IsWeight) clauses.now }
+    requires fine { AllByRecursion IsFine clauses.now }
+    requires few { weight_count clauses.now ≤ 65535 }
+    ensures reachable { OnTrue result (AllByRecursion IsReachable clauses.now) }
+    ensures unreachable { OnFalse result (Some (λ clause. ¬ IsReachable clause) clauses.now) }
+{
+    for clause in clauses {
+        if !is_reachable(clause.as_slice()) {
+            return false;
+        }
+    }
+    true
+}
+
+/// Whether these indices meet each clause, with indices running on.
+pub(crate) fn are_met(clauses: &[Items<Weight>], indices: &[u16]) -> bool
+    requires weights { AllByRecursion (AllByRecursion IsWeight) clauses.now }
+    requires fine { AllByRecursion IsFine clauses.now }
+    requires few { weight_count clauses.now ≤ 65535 }
+    ensures { IsTrue result ↔ AreMet clauses.now 0 indices.now }
+{
+    let mut start = 0usize;
+    for clause in clauses {
+        if !is_met(clause.as_slice(), start, indices) {
+            return false;
+        }
+        start += clause.len();
+    }
+    true
+}
+
+/// How many of the keys, of which there are so many, have an index among these.
+pub(crate) fn count_keys(keys: u16, indices: &[u16]) -> u64
+    ensures { result ≡ count_below keys indices.now }
+{
+    let mut count = 0u64;
+    for index in 0..keys {
+        if has_index(indices, usize::from(index)) {
+            count += 1;
+        }
+    }
+    count
+}

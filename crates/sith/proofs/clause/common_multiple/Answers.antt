@@ -13,7 +13,7 @@ returns-then-multiple-gt-FINEST-clause-none c =
 
 pub loop-weight-preserved : goal.loop-weight-preserved
 loop-weight-preserved c = record {
-    least = next_least _ _ _ _ _ _ c.loop-weight-test.true c.denominator_of.ensures.value c.loop-weight.invariant.least c.least_multiple-multiple.ensures.multiple;
-    some = c.least_multiple-multiple.ensures.range.0;
-    most = omega (arith, c.if-multiple-gt-FINEST.false);
-  }
+  least = next_least _ _ _ _ _ _ c.loop-weight-test.true c.denominator_of.ensures.value c.loop-weight.invariant.least c.least_multiple-multiple.ensures.multiple;
+  some = c.least_multiple-multiple.ensures.range.0;
+  most = omega (arith, c.if-multiple-gt-FINEST.false);
+}

@@ -28,6 +28,6 @@ returns-then-numerator-eq0-clause-none c = λ n d part.
     let top = one_decimal n _ _ is.0 c.in-Some-read_decimal.ensures.some in
     let bottom = one_decimal d _ _ is.1 c.in-Some-read_decimal-2.ensures.some in
     elim c.then-numerator-eq0.branch [
-        then-numerator-eq0-via-then-numerator-eq0 w ↦ omega (arith, range, top, bottom)
+      | then-numerator-eq0-via-then-numerator-eq0 w ↦ omega (arith, range, top, bottom)
       | then-numerator-eq0-via-else-numerator-eq0+then-numerator-denominator w ↦ omega (arith, range, top, bottom)
     ]
