@@ -1,7 +1,7 @@
 -- Euclid's algorithm, step by step.
-use Rattle.std.proofs.Common.{◌≡◌, ℕ, zero, suc, ◌^◌, ◌+◌, ◌*◌, ◌/◌, ◌%◌, ◌<◌, ◌≤◌, refl, sym, ap, subst, ◌∙◌, arith}
+use Rattle.std.proofs.Common.{◌≡◌, ℕ, zero, suc, ◌^◌, ◌+◌, ◌*◌, ◌/◌, ◌%◌, ◌<◌, ◌≤◌, sym, ap, subst, ◌∙◌, arith}
 use Prim.Native.Nat.{◌∣◌}
-use native.Mathlib.Nat.{eq-zero_of_zero-dvd, suc-mul, div-le_self, mul-le-mul_right, dvd-mul_left, mul-dvd-mul_left, mul-dvd-mul_right, dvd_refl, dvd-zero, dvd_trans, dvd-mul_right, dvd-mul_right_of_dvd, dvd-mod_iff, dvd-add_iff_right, div-add-mod, mul-div_cancel', div-mul_cancel, dvd_of_mul-dvd-mul_right, mul_comm, mul_assoc}
+use native.Mathlib.Nat.{eq-zero_of_zero-dvd, suc-mul, div-le_self, mul-le-mul_right, dvd-mul_left, mul-dvd-mul_left, mul-dvd-mul_right, dvd_refl, dvd-zero, dvd-mul_right, dvd-mul_right_of_dvd, dvd-mod_iff, dvd-add_iff_right, div-add-mod, mul-div_cancel', div-mul_cancel, dvd_of_mul-dvd-mul_right, mul_comm, mul_assoc}
 use Rattle.sith.specs.Divisors.{IsGreatestDivisor, IsMultipleOfBoth}
 
 pub from_zero : (a b : ℕ) → b ≡ 0 → IsGreatestDivisor a b a

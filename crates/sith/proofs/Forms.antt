@@ -1,13 +1,11 @@
 -- Weights and clauses that are read one by one.
-use Rattle.std.proofs.Common.{◌≡◌, ℕ, zero, suc, ◌+◌, ◌<◌, ◌≤◌, min, List, [], ◌∷◌, ◌++◌, length, take, get_or, refl, sym, ap, subst, ◌∙◌, inl, inr, arith, add-one}
-use Rattle.std.specs.Prelude.{⊤}
-use Rattle.std.specs.List.{AllByRecursion}
+use Rattle.std.proofs.Common.{◌≡◌, ℕ, zero, suc, ◌+◌, ◌<◌, min, List, [], ◌∷◌, ◌++◌, length, take, get_or, sym, ap, subst, ◌∙◌, inl, inr, arith}
 use Rattle.std.proofs.lemmas.List.{take_more}
 use Rattle.json_tree.specs.declared.tree.Tree.{Tree}
 use Rattle.sith.specs.declared.weight.Weight.{Weight}
 use Rattle.sith.specs.declared.sith_fault.SithFault.{SithFault}
 use Rattle.sith.specs.declared.sith_fault.SithFault.TheVariants.{Form, BadWeight, OutOfRange, TooFine, Unreachable, OutOfMemory}
-use Rattle.sith.specs.Thresholds.{Each, SpellsText, SpellsList, IsFirstBad, IsFirstBadOf, IsFirstBadIn, IsWeightFault, Counts, weight_count}
+use Rattle.sith.specs.Thresholds.{Each, SpellsText, SpellsList, IsFirstBad, IsFirstBadOf, IsFirstBadIn, IsWeightFault, weight_count}
 
 module _ {A B : Type 0} (R : A → B → Type 0) where
   Each-push : (xs : List A) (ys : List B) (x : A) (y : B) → Each R xs ys → R x y → Each R (xs ++ x ∷ []) (ys ++ y ∷ [])

@@ -1,5 +1,5 @@
 -- What a reading knows of the threshold.
-use Rattle.std.proofs.Common.{◌≡◌, ℕ, ◌+◌, ◌≤◌, ◌<◌, List, [], ◌∷◌, length, arith}
+use Rattle.std.proofs.Common.{ℕ, ◌≤◌, List, [], ◌∷◌, arith}
 use Rattle.std.specs.List.{AllByRecursion}
 use Rattle.json_tree.specs.declared.tree.Tree.{Tree}
 use Rattle.sith.specs.declared.weight.Weight.{Weight}
@@ -9,7 +9,7 @@ use Rattle.sith.specs.declared.threshold.Threshold.TheVariants.{Count, Flat, Nes
 use Rattle.sith.specs.Weights.{IsWeight, SpellsWeight}
 use Rattle.sith.specs.Clauses.{IsFine, IsReachable}
 use Rattle.sith.specs.Thresholds.{Each, SpellsText, SpellsList, Spells, weight_count}
-use Rattle.sith.specs.Rules.{clauses_of, HasWeights, IsInRange, IsReadClause, IsReadFor}
+use Rattle.sith.specs.Rules.{clauses_of, HasWeights, IsInRange, IsReadClause}
 
 spelled_weight : (w : Weight) (text : List ℕ) → SpellsWeight w text → IsWeight w
 spelled_weight Zero text spells = tt

@@ -1,12 +1,10 @@
 -- JSON values that are lists or texts.
-use Rattle.std.proofs.Common.{◌≡◌, ◌≢◌, ℕ, ◌+◌, ◌⊎◌, inl, inr, List, [], length, refl, sym, ap, subst, ◌∙◌, arith, true, false}
-use Rattle.std.specs.Prelude.{Bool, IsTrue, ◌==◌}
+use Rattle.std.proofs.Common.{◌≡◌, ◌≢◌, ℕ, inl, inr, List, length, sym, ap, subst, ◌∙◌, arith}
 use Rattle.std.specs.List.{AllByRecursion}
-use Rattle.std.proofs.lemmas.Bool.{eqb-true}
 use Rattle.std.proofs.lemmas.List.{nil_from_length}
 use Rattle.json_tree.specs.declared.tree.Tree.{Tree}
 use Rattle.json_tree.specs.declared.tree.Tree.TheVariants.{Str, List as TreeList, rolls-List}
-use Rattle.json_tree.specs.declared.tree.Tree.TheViews.{out-Tree, roll-Tree, out-roll-Tree}
+use Rattle.json_tree.specs.declared.tree.Tree.TheViews.{out-Tree, out-roll-Tree}
 use Rattle.json_tree.specs.declared.tree.Tree.TheOpen as layer
 use Rattle.json_tree.specs.Spelling.{nesting}
 use Rattle.json_tree.proofs.Trees.{nesting-list}

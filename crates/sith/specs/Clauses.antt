@@ -1,5 +1,5 @@
 -- Which weights meet a clause.
-use Rattle.std.specs.Prelude.{◌≡◌, ◌<◌, ◌≤◌, ◌^◌, ◌*◌, ◌+◌, ◌/◌, ◌==◌, ℕ, List, [], ◌∷◌, Bool, true, if◌then◌else◌, map}
+use Rattle.std.specs.Prelude.{◌<◌, ◌≤◌, ◌^◌, ◌*◌, ◌+◌, ◌/◌, ◌==◌, ℕ, List, [], ◌∷◌, Bool, true, if◌then◌else◌, map}
 use Rattle.std.specs.List.{list_any}
 use Rattle.sith.specs.declared.weight.Weight.{Weight}
 use Rattle.sith.specs.Divisors.{AllDivide}

@@ -1,12 +1,12 @@
 -- Which thresholds are read for so many keys, and which sets of indices meet them.
-use Rattle.std.specs.Prelude.{◌≡◌, ◌≢◌, ◌≤◌, ◌<◌, ◌+◌, ◌==◌, ◌⊎◌, ℕ, zero, suc, List, [], ◌∷◌, ⊤, length, if◌then◌else◌}
+use Rattle.std.specs.Prelude.{◌≡◌, ◌≢◌, ◌≤◌, ◌+◌, ◌==◌, ◌⊎◌, ℕ, zero, suc, List, [], ◌∷◌, ⊤, length, if◌then◌else◌}
 use Rattle.std.specs.List.{list_any, AllByRecursion}
 use Rattle.json_tree.specs.declared.tree.Tree.{Tree}
 use Rattle.sith.specs.declared.weight.Weight.{Weight}
 use Rattle.sith.specs.declared.threshold.Threshold.{Threshold}
 use Rattle.sith.specs.declared.threshold.Threshold.TheVariants.{Count, Flat, Nested}
 use Rattle.sith.specs.declared.sith_fault.SithFault.{SithFault}
-use Rattle.sith.specs.declared.sith_fault.SithFault.TheVariants.{Form, BadWeight, OutOfRange, TooFine, Unreachable, OutOfMemory}
+use Rattle.sith.specs.declared.sith_fault.SithFault.TheVariants.{OutOfRange, TooFine, Unreachable}
 use Rattle.sith.specs.Weights.{IsWeight}
 use Rattle.sith.specs.Clauses.{IsMet, terms_at, IsFine, IsTooFine, IsReachable}
 use Rattle.sith.specs.Thresholds.{Spells, IsFormFault, weight_count}

@@ -1,5 +1,5 @@
 -- What a threshold is, and how it is spelled as a JSON value.
-use Rattle.std.specs.Prelude.{◌≡◌, ◌≢◌, ◌≤◌, ◌<◌, ◌+◌, ◌-◌, ◌^◌, ◌⊎◌, min, ℕ, zero, suc, List, [], ◌∷◌, ◌++◌, ⊤, length}
+use Rattle.std.specs.Prelude.{◌≡◌, ◌≢◌, ◌+◌, ◌-◌, ◌^◌, ◌⊎◌, min, ℕ, zero, suc, List, [], ◌∷◌, ⊤, length}
 use Rattle.std.specs.List.{AllByRecursion}
 use Rattle.keri_specs.specs.Hex.{IsHexNumber, hex_value}
 use Rattle.json_tree.specs.declared.tree.Tree.{Tree}

@@ -9,6 +9,8 @@ mod hex;
 mod rules;
 mod signers;
 mod sith_fault;
+#[cfg(test)]
+mod tests;
 mod threshold;
 mod weight;
 

@@ -1,6 +1,4 @@
-use Rattle.std.proofs.Common.{◌≡◌, subst, sym, ap, ◌∙◌, ◌++◌, ◌∷◌, [], map, take, arith}
-use Rattle.sith.specs.Weights.{denominator}
-use Rattle.sith.specs.Divisors.{IsLeastMultiple, IsMultipleOfBoth}
+use Rattle.std.proofs.Common.{arith}
 use Rattle.sith.proofs.Multiples.{least_of_none, next_least, too_fine}
 use Rattle.sith.proofs.clause.common_multiple.Goals as goal
 

@@ -1,4 +1,4 @@
-use Rattle.std.proofs.Common.{◌≡◌, arith, sym, ◌∙◌}
+use Rattle.std.proofs.Common.{arith, sym, ◌∙◌}
 use Rattle.sith.specs.declared.weight.Weight.TheVariants.{Zero}
 use Rattle.sith.proofs.Sums.{sum_with, sum_without}
 use Rattle.sith.proofs.clause.sum_at.Goals as goal

@@ -1,5 +1,4 @@
-use Rattle.std.proofs.Common.{◌≡◌, ◌+◌, take, min}
-use Rattle.std.specs.List.{AllByRecursion}
+use Rattle.std.proofs.Common.{◌≡◌, take, min}
 use Rattle.sith.specs.Thresholds.{Each, SpellsList, weight_count}
 use Rattle.sith.proofs.form.read_clauses.Given as goal
 

@@ -1,8 +1,8 @@
-use Rattle.std.proofs.Common.{◌≡◌, sym, ◌∙◌, true, false, length}
+use Rattle.std.proofs.Common.{◌≡◌, true, length}
 use Rattle.std.specs.Prelude.{◌==◌}
 use Rattle.std.specs.List.{AllByRecursion}
 use Rattle.std.proofs.lemmas.Bool.{eqb-true}
-use Rattle.sith.specs.Thresholds.{IsText, IsTextList}
+use Rattle.sith.specs.Thresholds.{IsTextList}
 use Rattle.sith.proofs.Values.{no_form, not_empty}
 use Rattle.sith.proofs.form.read_list.Goals as goal
 use Rattle.sith.proofs.form.read_list.Goals.{else-not-is_empty-via-then-not-is_empty+else-are_texts, else-not-is_empty-via-else-not-is_empty}

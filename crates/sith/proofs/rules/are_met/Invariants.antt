@@ -1,4 +1,4 @@
-use Rattle.std.proofs.Common.{◌≡◌, ◌+◌, ◌≤◌, drop}
+use Rattle.std.proofs.Common.{◌+◌, ◌≤◌, drop}
 use Rattle.std.specs.Prelude.{◌↔◌}
 use Rattle.sith.specs.Thresholds.{weight_count}
 use Rattle.sith.specs.Rules.{AreMet}

@@ -1,4 +1,4 @@
-use Rattle.std.proofs.Common.{◌≡◌, subst, ap, length, arith, true, false}
+use Rattle.std.proofs.Common.{subst, ap, length, arith}
 use Rattle.sith.specs.Clauses.{IsReachable}
 use Rattle.sith.proofs.RuleSteps.{some_at, count_at}
 use Rattle.sith.proofs.rules.are_reachable.Goals as goal

@@ -1,4 +1,4 @@
-use Rattle.std.proofs.Common.{◌≡◌, arith}
+use Rattle.std.proofs.Common.{arith}
 use Rattle.sith.proofs.Slashes.{no_slash, part_is, one_decimal}
 use Rattle.sith.proofs.weight.read_part.Goals as goal
 use Rattle.sith.proofs.weight.read_part.Goals.{then-numerator-eq0-via-then-numerator-eq0, then-numerator-eq0-via-else-numerator-eq0+then-numerator-denominator}

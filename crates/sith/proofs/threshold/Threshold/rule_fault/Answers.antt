@@ -1,4 +1,4 @@
-use Rattle.std.proofs.Common.{◌≡◌, subst, sym, ap, true, false}
+use Rattle.std.proofs.Common.{subst}
 use Rattle.std.specs.List.{AllByRecursion}
 use Rattle.sith.specs.Clauses.{IsFine, IsReachable}
 use Rattle.sith.proofs.ReadFor.{read_clauses}

@@ -1,4 +1,4 @@
-use Rattle.std.proofs.Common.{◌≡◌, ◌≤◌, List, subst, sym, ap, arith}
+use Rattle.std.proofs.Common.{subst, sym, ap, arith}
 use Rattle.std.specs.List.{AllByRecursion}
 use Rattle.sith.specs.Weights.{IsWeight}
 use Rattle.sith.specs.Clauses.{IsFine}
