@@ -20,6 +20,12 @@ module _ {A B : Type 0} (R : A → B → Type 0) where
       let taken : take (i + 1) ys ≡ take i ys ++ y ∷ [] = take_more ys i y within ∙ ap (λ z. take i ys ++ z ∷ []) (sym item) in
       subst (λ l. Each R l (take (i + 1) ys)) (sym is) (subst (Each R (xs ++ x ∷ [])) (sym taken) (Each-push xs (take i ys) x y each here))
 
+  -- the next has one more that stands for it
+  pub each_written : (xs : List A) (ys now : List B) (i : ℕ) (x default : A) (y : B) → now ≡ ys ++ y ∷ [] → Each R (take i xs) ys → i < length xs → x ≡ get_or xs i default → R x y → Each R (take (i + 1) xs) now
+  each_written xs ys now i x default y is each within item here =
+      let taken : take (i + 1) xs ≡ take i xs ++ x ∷ [] = take_more xs i default within ∙ ap (λ z. take i xs ++ z ∷ []) (sym item) in
+      subst (λ l. Each R l now) (sym taken) (subst (Each R (take i xs ++ x ∷ [])) (sym is) (Each-push (take i xs) ys x y each here))
+
 -- the first text that spells no weight
 pub first_bad : (texts : List Tree) (i : ℕ) (weights : List Weight) (text : Tree) → Each SpellsText weights (take i texts) → i < length texts → text ≡ get_or texts i text → ((weight : Weight) → ¬ SpellsText weight text) → IsFirstBad texts i
 first_bad [] i weights text each within item bad = absurd (omega arith)

@@ -7,3 +7,4 @@ pub mod Sums
 pub mod Scales
 pub mod RuleSteps
 pub mod ReadFor
+pub mod Numerals

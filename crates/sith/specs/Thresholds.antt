@@ -40,11 +40,14 @@ SpellsText weight tree = (text : List ℕ) × (tree ≡ Str text) × SpellsWeigh
 abbrev pub SpellsList : List Weight → Tree → Type 0
 SpellsList weights tree = (texts : List Tree) × (tree ≡ TreeList texts) × Each SpellsText weights texts
 
+abbrev pub SpellsLists : List (List Weight) → Tree → Type 0
+SpellsLists clauses tree = (lists : List Tree) × (tree ≡ TreeList lists) × Each SpellsList clauses lists
+
 -- The value spells the threshold. The list `[]` has no clause. A number that is greater than 2^64 - 1 stands as that.
 abbrev pub Spells : Threshold → Tree → Type 0
 Spells (Count n) tree = (digits : List ℕ) × (tree ≡ Str digits) × IsHexNumber digits × (n ≡ min (hex_value digits) (2 ^ 64 - 1))
 Spells (Flat weights) tree = (weights ≢ []) × SpellsList weights tree
-Spells (Nested clauses) tree = (lists : List Tree) × (tree ≡ TreeList lists) × Each SpellsList clauses lists
+Spells (Nested clauses) tree = SpellsLists clauses tree
 
 -- the place of the first of these texts that spells no weight
 abbrev pub IsFirstBad : List Tree → ℕ → Type 0

@@ -9,6 +9,7 @@ mod hex;
 mod rules;
 mod signers;
 mod sith_fault;
+mod spelling;
 #[cfg(test)]
 mod tests;
 mod threshold;
