@@ -1,6 +1,6 @@
 -- The digits that are printed for a number.
-use Rattle.std.proofs.Common.{◌≡◌, ◌≢◌, ℕ, zero, suc, ◌+◌, ◌*◌, ◌/◌, ◌%◌, ◌^◌, ◌<◌, ◌≤◌, ◌⊎◌, inl, inr, List, [], ◌∷◌, ◌++◌, length, map, get_or, true, false, Bool, refl, sym, ap, subst, ◌∙◌, arith, append_assoc, append-nil, length-append}
-use Rattle.std.specs.Prelude.{◌==◌, nat_lt, if◌then◌else◌, ◌&&◌, ◌||◌}
+use Rattle.std.proofs.Common.{◌≡◌, ◌≢◌, ℕ, zero, suc, ◌+◌, ◌*◌, ◌/◌, ◌%◌, ◌^◌, ◌<◌, inl, inr, List, [], ◌∷◌, ◌++◌, length, map, get_or, true, false, Bool, refl, sym, ap, subst, ◌∙◌, arith, append_assoc, append-nil, length-append}
+use Rattle.std.specs.Prelude.{◌==◌, if◌then◌else◌}
 use Rattle.std.specs.List.{list_all}
 use Rattle.std.specs.Fmt.{digits, digits_onto, digit_glyph, decimal}
 use Rattle.std.specs.Int.Digits.{number_from_digits}
@@ -10,7 +10,7 @@ use Rattle.std.proofs.lemmas.List.{map-append}
 use Rattle.std.proofs.lemmas.Bool.Decides.{nat_tests}
 use Rattle.std.proofs.lemmas.Bool.{cases_Bool, eqb-true}
 use native.Mathlib.Nat.{mod-lt, div-add-mod, pow-suc, pow-zero}
-use Rattle.keri_specs.specs.Hex.{is_hex, hex_digit, hex_value, IsHexNumber, IsHexOf}
+use Rattle.keri_specs.specs.Hex.{is_hex, hex_digit, hex_value, IsHexOf}
 use Rattle.sith.specs.Decimals.{IsDecimalOf}
 use Rattle.sith.specs.Parts.{IsPart, SpellsPart}
 
@@ -31,16 +31,20 @@ decimal_is (suc n) few =
 -- two numbers with a slash between them
 pub part_is_spelled : (n d : ℕ) (text : List ℕ) → IsPart n d → text ≡ decimal n ++ 47 ∷ decimal d → SpellsPart n d text
 part_is_spelled n d text part e = record {
-    top = decimal n; bottom = decimal d; part = part;
-    numerator = decimal_is n (omega (arith, part)); denominator = decimal_is d (omega (arith, part)); whole = e;
-  }
+  top = decimal n;
+  bottom = decimal d;
+  part = part;
+  numerator = decimal_is n (omega (arith, part));
+  denominator = decimal_is d (omega (arith, part));
+  whole = e;
+}
 
 hex_all_push : (ds : List ℕ) (c : ℕ) → list_all is_hex ds ≡ true → is_hex c ≡ true → list_all is_hex (ds ++ c ∷ []) ≡ true
 hex_all_push [] c all here = rw here refl
 hex_all_push (d ∷ ds) c all here = elim (cases_Bool (is_hex d)) [
-      inl t ↦ rw t (hex_all_push ds c (rw t at all) here)
-    | inr f ↦ cc (rw f at all)
-  ]
+  | inl t ↦ rw t (hex_all_push ds c (rw t at all) here)
+  | inr f ↦ cc (rw f at all)
+]
 
 hex_value_push : (ds : List ℕ) (c : ℕ) → hex_value (ds ++ c ∷ []) ≡ hex_value ds * 16 + hex_digit c
 hex_value_push ds c = ap (number_from_digits 16) (map-append hex_digit ds (c ∷ [])) ∙ number_push 16 (map hex_digit ds) (hex_digit c)
@@ -58,11 +62,14 @@ first_push [] c some = absurd (omega (arith, some))
 first_push (d ∷ ds) c some = refl
 
 hex_more : (n m d : ℕ) (ds : List ℕ) → IsHexOf m ds → 0 < m → d < 16 → m * 16 + d ≡ n → IsHexOf n (ds ++ digit_glyph false d ∷ [])
-hex_more n m d ds is some small whole =
-    ((hex_all_push ds (digit_glyph false d) is.0.0 (glyph_hex d small),
-      omega (arith, length-append ds (digit_glyph false d ∷ [])),
-      inl (λ e. first_some m ds is some (sym (first_push ds (digit_glyph false d) is.0.1) ∙ e))),
-     hex_value_push ds (digit_glyph false d) ∙ omega (arith, is.1, glyph_value d small, whole))
+hex_more n m d ds is some small whole = (
+  (
+    hex_all_push ds (digit_glyph false d) is.0.0 (glyph_hex d small),
+    omega (arith, length-append ds (digit_glyph false d ∷ [])),
+    inl (λ e. first_some m ds is some (sym (first_push ds (digit_glyph false d) is.0.1) ∙ e)),
+  ),
+  hex_value_push ds (digit_glyph false d) ∙ omega (arith, is.1, glyph_value d small, whole),
+)
 
 hex_one : (d : ℕ) → d < 16 → IsHexOf d (digit_glyph false d ∷ [])
 hex_one d small = ((rw (glyph_hex d small) refl, omega arith, inr refl), omega (arith, glyph_value d small))
@@ -77,9 +84,11 @@ by_test true n k acc test few further =
     (digit_glyph false (n % 16) ∷ [], refl, subst (λ m. IsHexOf m (digit_glyph false (n % 16) ∷ [])) same (hex_one (n % 16) (mod-lt n (omega arith))))
 by_test false n k acc test few further =
     let some : 0 < n / 16 = grind (arith, nat_tests, test) in
-    let rest = further (n / 16) (digit_glyph false (n % 16) ∷ acc) (omega (arith, few, pow-suc 16 k, div-add-mod n 16)) some in
-    (rest.0 ++ digit_glyph false (n % 16) ∷ [], rest.1 ∙ sym (append_assoc rest.0 (digit_glyph false (n % 16) ∷ []) acc),
-     hex_more n (n / 16) (n % 16) rest.0 rest.2 some (mod-lt n (omega arith)) (omega (arith, div-add-mod n 16)))
+    let rest = further (n / 16) (digit_glyph false (n % 16) ∷ acc) (omega (arith, few, pow-suc 16 k, div-add-mod n 16)) some in (
+      rest.0 ++ digit_glyph false (n % 16) ∷ [],
+      rest.1 ∙ sym (append_assoc rest.0 (digit_glyph false (n % 16) ∷ []) acc),
+      hex_more n (n / 16) (n % 16) rest.0 rest.2 some (mod-lt n (omega arith)) (omega (arith, div-add-mod n 16)),
+    )
 
 hex_onto : (k n : ℕ) (acc : List ℕ) → n < 16 ^ k → 0 < k → SpelledBefore n acc (digits_onto k 16 false n acc)
 hex_onto zero n acc few some = absurd (omega (arith, some))

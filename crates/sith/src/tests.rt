@@ -71,10 +71,13 @@ fn names_the_first_fault(rt: HostRuntime) -> Result<(), Fail> {
         ),
         (b"[[]]".as_slice(), 0, Some(SithFault::Unreachable)),
     ] {
-        match read(alloc, text, keys) {
+        let (tree, length) = read_tree(alloc, text, 4)?;
+        assert_eq!(rt; length, text.len(), "{text:?}");
+        match Threshold::read(alloc, &tree, keys) {
             Ok(threshold) => {
                 assert_eq!(rt; None, expected, "{text:?}");
                 assert_eq!(rt; threshold.copy(alloc)?, threshold, "{text:?}");
+                assert_eq!(rt; threshold.tree(alloc)?, tree, "{text:?}");
             }
             Err(fault) => assert_eq!(rt; Some(fault), expected, "{text:?}"),
         }

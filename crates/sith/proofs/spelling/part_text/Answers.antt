@@ -1,4 +1,4 @@
-use Rattle.std.proofs.Common.{◌≡◌, ◌++◌, ◌∷◌, rules, sym, subst, arith}
+use Rattle.std.proofs.Common.{◌≡◌, ◌++◌, ◌∷◌, rules}
 use Rattle.std.specs.Fmt.{decimal}
 use Rattle.sith.proofs.Numerals.{part_is_spelled}
 use Rattle.sith.proofs.spelling.part_text.Goals as goal
