@@ -1,0 +1,10 @@
+pub mod Slashes
+pub mod Forms
+pub mod Values
+pub mod DivisorSteps
+pub mod Multiples
+pub mod Sums
+pub mod Scales
+pub mod RuleSteps
+pub mod ReadFor
+pub mod Numerals

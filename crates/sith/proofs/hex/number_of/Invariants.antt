@@ -1,0 +1,7 @@
+use Rattle.std.proofs.Common.{◌≡◌, ◌-◌, ◌^◌, take, min}
+use Rattle.keri_specs.specs.Hex.{hex_value}
+use Rattle.sith.proofs.hex.number_of.Given as goal
+
+-- the number of the digits so far
+abbrev pub invariant-loop-digit : goal.invariant-loop-digit
+invariant-loop-digit l = l.value ≡ min (hex_value (take l.digit-index l.digits)) (2 ^ 64 - 1)

@@ -1,0 +1,20 @@
+//! Signing thresholds: how they are spelled as JSON values, and which sets of key indices meet them.
+#![tactic(auto)]
+
+mod clause;
+mod decimal;
+mod divisors;
+mod form;
+mod hex;
+mod rules;
+mod signers;
+mod sith_fault;
+mod spelling;
+#[cfg(test)]
+mod tests;
+mod threshold;
+mod weight;
+
+pub use sith_fault::SithFault;
+pub use threshold::Threshold;
+pub use weight::Weight;
