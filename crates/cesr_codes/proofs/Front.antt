@@ -10,7 +10,7 @@ use Rattle.cesr_codes.specs.declared.code_fault.CodeFault.{CodeFault}
 use Rattle.cesr_codes.specs.declared.code_fault.CodeFault.TheVariants.{Short, CodeNotHeld, BadCharacter, PadBits, OtherIndex}
 use Rattle.cesr_codes.specs.Reading.{Reads, Stands, IsCoded, IsWhole, HasSizes, refusal, head}
 use Rattle.cesr_codes.specs.Table.{Layout, layout, Verdict, good, short, bad, verdict, has_code, has_other_index, layout_verdict, whole_verdict, total}
-use Rattle.cesr_codes.proofs.Numbers.{bytes_low, text-number, number-text, no_bad, characters-drop, characters-append, characters-text, length-base64_text}
+use Rattle.cesr_codes.proofs.Numbers.{bytes_low, text-number, number-text, no_failure, characters-drop, characters-append, characters-text, length-base64_text}
 
 -- the code at the front
 pub code_is : (l : Layout) (text : List ℕ) → has_code text l ≡ true → take (length l.code) text ≡ l.code
@@ -58,7 +58,7 @@ pub spelled_good : (l : Layout) (front rest : List ℕ) → length front ≡ tot
     → has_other_index l front ≡ false → layout_verdict (Some l) (front ++ rest) ≡ good (total l)
 spelled_good l front rest len all low none =
     let long : nat_lt (length (front ++ rest)) (total l) ≡ false = le-ltb _ _ (omega (arith, length-append front rest)) in
-    rw (long, take_at front rest (total l) len) (judged_whole l front false false (no_bad front all) (lt-leb _ _ low) none)
+    rw (long, take_at front rest (total l) len) (judged_whole l front false false (no_failure is_character front all) (lt-leb _ _ low) none)
 
 -- a code, characters of indices, and the digits of a number that the bytes hold
 pub coded_good : (code indices : List ℕ) (k digits bytes n : ℕ) (rest : List ℕ) → length indices ≡ k → list_all is_character (code ++ indices) ≡ true → n < 256 ^ bytes → n < 64 ^ digits

@@ -5,5 +5,7 @@ mod Front
 mod Basic
 mod Sigs
 mod Indexed
+mod Figures
+mod Dates
 mod Texts
 pub mod Same

@@ -39,20 +39,39 @@ pub character-digit : (c : ℕ) → is_character c ≡ true → (character (digi
 character-digit c h = at_place characters c h
 
 -- a place that is found is the first
-pub some_place : (p : ℕ → Bool) (xs : List ℕ) (n : ℕ) → position p xs ≡ Some n → (n ≡ position_or_len p xs) × (n < length xs)
+pub some_place : {X : Type 0} (p : X → Bool) (xs : List X) (n : ℕ) → position p xs ≡ Some n → (n ≡ position_or_len p xs) × (n < length xs)
 some_place p xs n e = elim (cases_Bool (nat_lt (position_or_len p xs) (length xs))) [
   | inl t ↦ let same : n ≡ position_or_len p xs = cc (rw t at e) in (same, omega (arith, same, ltb-true _ _ t))
   | inr f ↦ cc (rw f at e)
 ]
 
-pub no_place : (p : ℕ → Bool) (xs : List ℕ) → position p xs ≡ None → length xs ≡ position_or_len p xs
+pub no_place : {X : Type 0} (p : X → Bool) (xs : List X) → position p xs ≡ None → length xs ≡ position_or_len p xs
 no_place p xs e = elim (cases_Bool (nat_lt (position_or_len p xs) (length xs))) [
   | inl t ↦ cc (rw t at e)
-  | inr f ↦ let le = position-le-length p xs in omega (arith, ltb-false _ _ f)
+  | inr f ↦ let le : position_or_len p xs ≤ length xs = prefix_len-le-length (λ x. not (p x)) xs in omega (arith, ltb-false _ _ f)
 ]
-  where
-    position-le-length : (p : ℕ → Bool) (xs : List ℕ) → position_or_len p xs ≤ length xs
-    position-le-length p xs = prefix_len-le-length (λ x. not (p x)) xs
+
+-- where each passes a test, no place fails it, and the other way round
+module _ {X : Type 0} (p : X → Bool) where
+  all_pass : (xs : List X) → list_all p xs ≡ true → position_or_len (λ x. not (p x)) xs ≡ length xs
+  all_pass [] h = refl
+  all_pass (x ∷ xs) h = elim (cases_Bool (p x)) [
+    | inl t ↦ rw t (omega (arith, all_pass xs (rw t at h)))
+    | inr f ↦ cc (rw f at h)
+  ]
+
+  pub no_failure : (xs : List X) → list_all p xs ≡ true → position (λ x. not (p x)) xs ≡ None
+  no_failure xs h = let none : nat_lt (position_or_len (λ x. not (p x)) xs) (length xs) ≡ false = le-ltb _ _ (omega (arith, all_pass xs h)) in rw none refl
+
+  pass_all : (xs : List X) → position_or_len (λ x. not (p x)) xs ≡ length xs → list_all p xs ≡ true
+  pass_all [] e = refl
+  pass_all (x ∷ xs) e = elim (cases_Bool (p x)) [
+    | inl t ↦ rw t (pass_all xs (omega (arith, rw t at e)))
+    | inr f ↦ let none : 0 ≡ suc (length xs) = rw f at e in absurd (omega arith)
+  ]
+
+  pub none_fails : (xs : List X) → position (λ x. not (p x)) xs ≡ None → list_all p xs ≡ true
+  none_fails xs none = pass_all xs (sym (no_place (λ x. not (p x)) xs none))
 
 digits_back : (ds : List ℕ) → AllBelowBase 64 ds → map digit_of (map character ds) ≡ ds
 digits_back [] h = refl
@@ -126,34 +145,6 @@ characters-drop (suc n) (c ∷ text) h = elim (cases_Bool (is_character c)) [
   | inl t ↦ characters-drop n text (rw t at h)
   | inr f ↦ cc (rw f at h)
 ]
-
--- where each is a character, no place is bad, and the other way round
-bad_place : List ℕ → ℕ
-bad_place text = position_or_len (λ c. not (is_character c)) text
-
-all_good : (text : List ℕ) → list_all is_character text ≡ true → bad_place text ≡ length text
-unfolding bad_place
-all_good [] h = refl
-all_good (c ∷ text) h = elim (cases_Bool (is_character c)) [
-  | inl t ↦ rw t (omega (arith, all_good text (rw t at h)))
-  | inr f ↦ cc (rw f at h)
-]
-
-pub no_bad : (text : List ℕ) → list_all is_character text ≡ true → position (λ c. not (is_character c)) text ≡ None
-unfolding bad_place
-no_bad text h = let none : nat_lt (bad_place text) (length text) ≡ false = le-ltb _ _ (omega (arith, all_good text h)) in rw none refl
-
-good_all : (text : List ℕ) → bad_place text ≡ length text → list_all is_character text ≡ true
-unfolding bad_place
-good_all [] e = refl
-good_all (c ∷ text) e = elim (cases_Bool (is_character c)) [
-  | inl t ↦ rw t (good_all text (omega (arith, rw t at e)))
-  | inr f ↦ let none : 0 ≡ suc (length text) = rw f at e in absurd (omega arith)
-]
-
-pub none_bad : (text : List ℕ) → position (λ c. not (is_character c)) text ≡ None → list_all is_character text ≡ true
-unfolding bad_place
-none_bad text none = good_all text (sym (no_place (λ c. not (is_character c)) text none))
 
 pub character_at : (xs : List ℕ) (i : ℕ) → list_all is_character xs ≡ true → i < length xs → is_character (slice_index xs i) ≡ true
 character_at [] i h lt = absurd (omega arith)

@@ -10,6 +10,8 @@ use Rattle.cesr_codes.specs.declared.sig.Sig.{Sig}
 use Rattle.cesr_codes.specs.Codes.{same_digest_code, same_key_code, apart}
 use Rattle.cesr_codes.specs.Spelling.{primitive_text, digest_text, key_text, prefix_text, digest_code, key_code, IsDigest, IsKey, IsPrefix, sig_text, IsSig}
 pub use Rattle.cesr_codes.proofs.Basic.{length-key_text, length-digest_text, length-prefix_text}
+pub use Rattle.cesr_codes.proofs.Dates.{length-moment_text, same_moment}
+pub use Rattle.cesr_codes.proofs.Figures.{length-number_text, same_number}
 pub use Rattle.cesr_codes.proofs.Indexed.{length-indexed_text, same_indexed}
 pub use Rattle.cesr_codes.proofs.Sigs.{length-sig_text}
 use Rattle.cesr_codes.proofs.Numbers.{same_bytes, same_digits, bytes_low}

@@ -14,15 +14,16 @@ use Rattle.cesr_codes.specs.declared.digest.DigestCode.{DigestCode}
 use Rattle.cesr_codes.specs.declared.digest.DigestCode.TheVariants.{Blake3, Sha256}
 use Rattle.cesr_codes.specs.declared.key.KeyCode.{KeyCode}
 use Rattle.cesr_codes.specs.declared.key.KeyCode.TheVariants.{Fixed, Rotating}
-use Rattle.cesr_codes.specs.Spelling.{primitive_text, digest_text, key_text, prefix_text, digest_code, key_code, sig_text}
+use Rattle.cesr_codes.specs.Spelling.{primitive_text, digest_text, key_text, prefix_text, digest_code, key_code, sig_text, number_text}
 use Rattle.cesr_codes.specs.declared.indexed_sig.IndexedSig.{IndexedSig}
+use Rattle.cesr_codes.specs.declared.number.Number.{Number}
 use Rattle.cesr_codes.specs.declared.sig.Sig.{Sig}
 use Rattle.cesr_codes.specs.Indexed.{indexed_text}
 use Rattle.cesr_codes.specs.Indices.{indexed_code, index_text}
 use Rattle.cesr_codes.specs.declared.key.Key.{Key}
 
 -- each of a list that passes the test
-low_at : (xs : List ℕ) → list_all (λ x. nat_lt x 128) xs ≡ true → (i : ℕ) → slice_index xs i < 128
+pub low_at : (xs : List ℕ) → list_all (λ x. nat_lt x 128) xs ≡ true → (i : ℕ) → slice_index xs i < 128
 low_at [] h i = omega arith
 low_at (x ∷ xs) h zero = elim (cases_Bool (nat_lt x 128)) [ inl t ↦ ltb-true x 128 t | inr f ↦ cc (rw f at h) ]
 low_at (x ∷ xs) h (suc i) = elim (cases_Bool (nat_lt x 128)) [ inl t ↦ low_at xs (rw t at h) i | inr f ↦ cc (rw f at h) ]
@@ -74,3 +75,6 @@ pub indexed_ascii : (s : IndexedSig) → IsAscii (indexed_text s)
 indexed_ascii s =
     IsAscii-append (indexed_code s.big s.ondex ++ index_text s.big s.index s.ondex) (base64_text 86 (whole_number s.sig.raw))
     (IsAscii-append (indexed_code s.big s.ondex) (index_text s.big s.index s.ondex) (code_ascii s.big s.ondex) (index_ascii s.big s.index s.ondex)) (text_ascii 86 (whole_number s.sig.raw))
+
+pub number_ascii : (number : Number) → IsAscii (number_text number)
+number_ascii number = IsAscii-append (codes "0A") (base64_text 22 number.value) (low_at (codes "0A") refl) (text_ascii 22 number.value)

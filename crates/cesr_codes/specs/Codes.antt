@@ -21,6 +21,9 @@ digest_layout code = layout (digest_code code ∷ []) 0 43 32
 abbrev pub sig_layout : Layout
 sig_layout = layout (codes "0B") 0 86 64
 
+abbrev pub number_layout : Layout
+number_layout = layout (codes "0A") 0 22 16
+
 abbrev pub indexed_layout : IndexedCode → Layout
 indexed_layout Both = layout (codes "A") 1 86 64
 indexed_layout Current = layout (codes "B") 1 86 64
@@ -43,6 +46,9 @@ AreIndices Both text index ondex = (index ≡ digit_of (slice_index text 1)) × 
 AreIndices Current text index ondex = (index ≡ digit_of (slice_index text 1)) × (ondex ≡ None)
 AreIndices BigBoth text index ondex = (index ≡ two_digits text 2) × (ondex ≡ Some (two_digits text 4))
 AreIndices BigCurrent text index ondex = (index ≡ two_digits text 2) × (ondex ≡ None)
+
+pub number_sizes : HasSizes 16 number_layout
+number_sizes = record { raw = refl; digits = refl; few = omega arith; short_head = omega arith }
 
 pub sig_sizes : HasSizes 64 sig_layout
 sig_sizes = record { raw = refl; digits = refl; few = omega arith; short_head = omega arith }

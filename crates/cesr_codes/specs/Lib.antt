@@ -1,3 +1,5 @@
+pub mod Dates
+pub mod Moments
 pub mod Indices
 pub mod Indexed
 pub mod Spelling

@@ -1,5 +1,5 @@
 -- How primitives are spelled (CESR: code table, and conversion by left-padding).
-use Rattle.std.specs.Prelude.{ℕ, List, ◌∷◌, ◌++◌, codes}
+use Rattle.std.specs.Prelude.{ℕ, ◌^◌, ◌<◌, List, ◌∷◌, ◌++◌, codes}
 use Rattle.keri_specs.specs.Base64.{base64_text, whole_number, AreBytes}
 use Rattle.cesr_codes.specs.declared.digest.DigestCode.{DigestCode}
 use Rattle.cesr_codes.specs.declared.digest.DigestCode.TheVariants.{Blake3, Sha256}
@@ -9,6 +9,7 @@ use Rattle.cesr_codes.specs.declared.key.KeyCode.TheVariants.{Fixed, Rotating}
 use Rattle.cesr_codes.specs.declared.key.Key.{Key}
 use Rattle.cesr_codes.specs.declared.prefix.Prefix.{Prefix}
 use Rattle.cesr_codes.specs.declared.prefix.Prefix.TheVariants.{Basic, Said}
+use Rattle.cesr_codes.specs.declared.number.Number.{Number}
 use Rattle.cesr_codes.specs.declared.sig.Sig.{Sig}
 
 -- a code of one character, and the 43 digits of 32 raw bytes read as one number
@@ -54,3 +55,11 @@ sig_text sig = codes "0B" ++ base64_text 86 (whole_number sig.raw)
 -- a signature has 64 raw bytes
 abbrev pub IsSig : Sig → Type 0
 IsSig sig = AreBytes 64 sig.raw
+
+-- `0A` is a number: 22 digits
+abbrev pub number_text : Number → List ℕ
+number_text number = codes "0A" ++ base64_text 22 number.value
+
+-- a number has 128 bits
+abbrev pub IsNumber : Number → Type 0
+IsNumber number = number.value < 2 ^ 128

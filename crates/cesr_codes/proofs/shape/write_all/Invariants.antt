@@ -1,0 +1,6 @@
+use Rattle.std.proofs.Common.{◌≡◌, ◌++◌, map, take, drop}
+use Rattle.cesr_codes.specs.Dates.{written}
+use Rattle.cesr_codes.proofs.shape.write_all.Given as goal
+
+abbrev pub invariant-loop-c : goal.invariant-loop-c
+invariant-loop-c l = l.text ≡ map written (take l.c-index l.initial.text) ++ drop l.c-index l.initial.text
