@@ -1,7 +1,7 @@
 -- Date-times: what stands at the front, that it is good, and that it is the only one.
-use Rattle.std.proofs.Common.{◌≡◌, ℕ, zero, suc, ◌+◌, ◌-◌, ◌<◌, ◌≤◌, ◌==◌, ◌&&◌, not, nat_lt, Bool, true, false, List, [], ◌∷◌, ◌++◌, length, map, take, drop, get_or, set, slice_index, position, codes, bytes_eq, refl, sym, ap, ◌∙◌, arith, length-append, length-drop, inl, inr, None, Some, Option, subst}
+use Rattle.std.proofs.Common.{◌≡◌, ℕ, zero, suc, ◌+◌, ◌<◌, ◌≤◌, ◌==◌, nat_lt, Bool, true, List, [], ◌∷◌, ◌++◌, length, map, take, drop, get_or, set, codes, refl, sym, ap, ◌∙◌, arith, length-append, length-drop, inl, inr, None, Some, Option, subst}
 use Rattle.std.proofs.lemmas.Bool.{cases_Bool, le-ltb, eqb-true, eq-eqb, ltb-true}
-use Rattle.std.proofs.lemmas.List.{take_at, drop_at, take_all, take-append-drop, length-map, length-take-le}
+use Rattle.std.proofs.lemmas.List.{take_at, drop_at, take-append-drop, length-map, length-take-le}
 use Rattle.std.proofs.lemmas.Slice.Eq.{bytes_eq-Decides}
 use Rattle.std.proofs.Math.Seq.{take-add}
 use Rattle.std.proofs.lemmas.Str.{IsAscii-append}

@@ -1,5 +1,5 @@
 -- What the engine decodes are the digits of bytes read as one number, and nothing else is refused than what isn't a character.
-use Rattle.std.proofs.Common.{◌≡◌, ℕ, zero, suc, ◌+◌, ◌-◌, ◌*◌, ◌^◌, ◌<◌, ◌≤◌, ◌==◌, true, false, List, [], ◌∷◌, ◌++◌, length, take, drop, replicate, slice_index, refl, sym, ap, ◌∙◌, arith, append-nil, length-append, length-drop, OnOk, Ok, Err, None, Some, Option, Result, inl, inr, subst}
+use Rattle.std.proofs.Common.{◌≡◌, ℕ, zero, suc, ◌+◌, ◌-◌, ◌*◌, ◌^◌, ◌<◌, ◌≤◌, ◌==◌, true, false, List, [], ◌∷◌, ◌++◌, length, take, drop, replicate, slice_index, refl, sym, ap, ◌∙◌, arith, append-nil, length-drop, OnOk, Ok, Err, None, Some, Option, Result, inl, inr, subst}
 use Rattle.std.proofs.lemmas.List.{take_all, length-take, take-append-drop, get_or-drop}
 use Rattle.std.proofs.Math.Nat.{mul-le-mul_right}
 use Rattle.std.proofs.lemmas.Bool.{cases_Bool, eqb-true, eqb-false}
@@ -18,7 +18,7 @@ use Rattle.base64.proofs.RoundTrip.{length-encode_symbols}
 use Rattle.keri_specs.specs.Base64.{digits_in, whole_number, AreBytes, characters, base64_text, is_character, number_of_text}
 use Rattle.keri_specs.proofs.Digits.{length-digits_in, all_below-digits_in, number-digits_in, number_after-split, number-zeros}
 use Rattle.cesr_codes.proofs.Groups.{encoded_text, pow_groups}
-use Rattle.cesr_codes.proofs.Numbers.{text-number, text_low, number-text, number-zero_characters, characters-append, bytes_low}
+use Rattle.cesr_codes.proofs.Numbers.{text-number, text_low, number-text, number-zero_characters, bytes_low}
 
 outcome_ok : (x : Option DecodeError) (d b : List ℕ) → decode_outcome x d ≡ Ok b → (x ≡ None) × (d ≡ b)
 outcome_ok None d b h = (refl, cc h)

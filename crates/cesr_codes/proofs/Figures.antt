@@ -1,12 +1,12 @@
 -- Numbers of 16 bytes: their bytes, what stands at the front, and that it is good and the only one.
-use Rattle.std.proofs.Common.{◌≡◌, ℕ, zero, suc, ◌+◌, ◌-◌, ◌*◌, ◌/◌, ◌%◌, ◌^◌, ◌<◌, ◌≤◌, List, [], ◌∷◌, ◌++◌, length, take, drop, get_or, slice_index, codes, refl, sym, ap, ◌∙◌, arith, pow-suc, mul_comm, Some}
+use Rattle.std.proofs.Common.{◌≡◌, ℕ, zero, suc, ◌+◌, ◌-◌, ◌*◌, ◌%◌, ◌^◌, ◌<◌, ◌≤◌, List, [], ◌∷◌, ◌++◌, length, take, drop, get_or, slice_index, codes, refl, sym, ap, ◌∙◌, arith, pow-suc, mul_comm, Some}
 use Rattle.std.proofs.Math.Arith.{mod-mul}
 use Rattle.std.proofs.Math.Nat.{pow-le-pow_right}
 use Rattle.std.proofs.lemmas.Bool.{le-ltb}
 use Rattle.std.proofs.lemmas.Int.Digits.{number_more}
 use Rattle.std.proofs.lemmas.List.{take_all, take_at, drop_at}
 use Rattle.std.specs.Int.{w128, byte_at, byte_worth, bytes_high_first, sum_through, from_be_bytes}
-use Rattle.keri_specs.specs.Base64.{whole_number, AreBytes, base64_text}
+use Rattle.keri_specs.specs.Base64.{whole_number, base64_text}
 use Rattle.keri_specs.proofs.Digits.{number_after-split}
 use Rattle.cesr_codes.specs.declared.number.Number.{Number}
 use Rattle.cesr_codes.specs.Codes.{number_layout}

@@ -1,15 +1,15 @@
 -- What stands at the front where a primitive of a layout does, and how its spelling is judged.
-use Rattle.std.proofs.Common.{◌≡◌, ◌≢◌, ℕ, ◌+◌, ◌-◌, ◌*◌, ◌/◌, ◌^◌, ◌<◌, ◌≤◌, not, nat_le, nat_lt, true, false, Bool, if◌then◌else◌, List, [], ◌∷◌, ◌++◌, length, take, drop, refl, sym, ap, ◌∙◌, arith, inl, inr, length-append, length-drop, Ok, Err, None, Some, Option, Result, position, bytes_eq, subst}
+use Rattle.std.proofs.Common.{◌≡◌, ◌≢◌, ℕ, ◌+◌, ◌-◌, ◌^◌, ◌<◌, not, nat_le, nat_lt, true, false, Bool, if◌then◌else◌, List, ◌++◌, length, take, drop, refl, sym, ap, ◌∙◌, arith, length-append, length-drop, Ok, Err, None, Some, Option, Result, position, subst}
 use Rattle.std.proofs.Math.Seq.{take-add}
-use Rattle.std.proofs.lemmas.Bool.{cases_Bool, le-ltb, lt-leb}
+use Rattle.std.proofs.lemmas.Bool.{le-ltb, lt-leb}
 use Rattle.std.proofs.lemmas.List.{take_at, drop_at, take_all, drop-take, take-append-drop}
 use Rattle.std.proofs.lemmas.Slice.Eq.{bytes_eq-Decides}
 use Rattle.std.specs.List.{list_all}
 use Rattle.keri_specs.specs.Base64.{whole_number, AreBytes, base64_text, is_character, number_of_text}
 use Rattle.cesr_codes.specs.declared.code_fault.CodeFault.{CodeFault}
 use Rattle.cesr_codes.specs.declared.code_fault.CodeFault.TheVariants.{Short, CodeNotHeld, BadCharacter, PadBits, OtherIndex}
-use Rattle.cesr_codes.specs.Reading.{Reads, Stands, IsCoded, IsWhole, HasSizes, refusal, head}
-use Rattle.cesr_codes.specs.Table.{Layout, layout, Verdict, good, short, bad, verdict, has_code, has_other_index, layout_verdict, whole_verdict, total}
+use Rattle.cesr_codes.specs.Reading.{Reads, IsCoded, IsWhole, refusal, head}
+use Rattle.cesr_codes.specs.Table.{Layout, layout, Verdict, good, short, bad, has_code, has_other_index, layout_verdict, whole_verdict, total}
 use Rattle.cesr_codes.proofs.Numbers.{bytes_low, text-number, number-text, no_failure, characters-drop, characters-append, characters-text, length-base64_text}
 
 -- the code at the front

@@ -16,7 +16,7 @@ use Rattle.cesr_codes.specs.Codes.{AreIndices, indexed_layout, is_big}
 use Rattle.cesr_codes.specs.Indices.{has_form, indexed_code, index_text}
 use Rattle.cesr_codes.specs.Indexed.{indexed_text, IsIndexed}
 use Rattle.cesr_codes.specs.Reading.{Stands, IsCoded, head}
-use Rattle.cesr_codes.specs.Table.{Layout, layout, good, verdict, layout_verdict, has_other_index, total, indexed_layouts}
+use Rattle.cesr_codes.specs.Table.{layout, good, verdict, layout_verdict, has_other_index, total, indexed_layouts}
 use Rattle.cesr_codes.proofs.Numbers.{bytes_low, character-digit, characters-text, characters-append, character_at, length-base64_text, number-text, same_bytes}
 use Rattle.cesr_codes.proofs.Front.{parts, coded_good}
 

@@ -48,7 +48,8 @@ fn read_whole<C: Code>(code: C, text: &[u8], raw: &mut [u8]) -> Result<(), CodeF
     if let Some(place) = character::first_bad(text) {
         return Err(CodeFault::BadCharacter(place as u16));
     }
-    if !symbols::decode(&text[code.head()..], raw) {
+    let held = symbols::decode(&text[code.head()..], raw);
+    if !held {
         return Err(CodeFault::PadBits);
     }
     if code.has_other_index(text) {

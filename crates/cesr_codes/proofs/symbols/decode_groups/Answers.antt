@@ -1,4 +1,4 @@
-use Rattle.std.proofs.Common.{refl, arith}
+use Rattle.std.proofs.Common.{arith}
 use Rattle.cesr_codes.proofs.Decoded.{decoded_ok, not_refused}
 use Rattle.cesr_codes.proofs.symbols.decode_groups.Goals as goal
 

@@ -1,5 +1,5 @@
 use Rattle.std.proofs.Common.{◌≡◌, ◌++◌, true, None, codes, drop, map, sym, ap, ◌∙◌, subst}
-use Rattle.cesr_codes.specs.Dates.{is_date_time, plain, written}
+use Rattle.cesr_codes.specs.Dates.{is_date_time, written}
 use Rattle.cesr_codes.proofs.Dates.{plain_form, moment_front, moment_judged, stands_moment}
 use Rattle.cesr_codes.proofs.moment.Moment.read_exact.Goals as goal
 
