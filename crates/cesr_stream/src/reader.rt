@@ -33,7 +33,7 @@ impl Model for Reader {
 }
 
 impl Reader {
-    ghost use Rattle.std.specs.Prelude.{◌≡◌, ◌+◌, ◌<◌, ◌^◌, length, None, OnOk, OnErr};
+    ghost use Rattle.std.specs.Prelude.{◌≡◌, None, OnOk, OnErr};
     ghost use Rattle.cesr_stream.specs.Reading.{Answers, Stops, Ends, IsDrained, fed_with, fresh, judged, rest};
     ghost use Rattle.cesr_stream.specs.Judged.{part_of, EndsWithin};
 
@@ -55,7 +55,6 @@ impl Reader {
 
     /// Takes the next piece of the stream.
     pub fn feed(&mut self, piece: &[u8]) -> Result<(), AllocError>
-        requires { length self.old.fed + length piece.now < 2 ^ 64 }
         ensures ok { OnOk result (self.new ≡ fed_with self.old piece.now self.old.bad) }
         ensures err { OnErr result (self.new ≡ self.old) }
     {

@@ -1,5 +1,5 @@
 //! Digits, and the numbers that they spell.
-ghost use Rattle.std.specs.Prelude.{◌≡◌, ◌↔◌, ◌≤◌, ◌<◌, length, true, take, not, position};
+ghost use Rattle.std.specs.Prelude.{◌≡◌, ◌↔◌, ◌≤◌, ◌<◌, ◌-◌, ◌^◌, min, length, true, take, not, position};
 ghost use Rattle.std.specs.List.{list_all, position_or_len};
 ghost use Rattle.keri_specs.specs.Hex.{is_hex, hex_digit, IsHexNumber, hex_value as value_of};
 
@@ -60,6 +60,19 @@ pub fn hex_value(digits: &[u8]) -> u64
     let mut value = 0u64;
     for digit in digits {
         value = value * 16 + u64::from(digit_value(*digit));
+    }
+    value
+}
+
+/// The number that the digits write, or 2^64 - 1 for a greater one.
+pub fn saturating_hex_value(digits: &[u8]) -> u64
+    requires { list_all is_hex digits.now ≡ true }
+    ensures { result ≡ min (value_of digits.now) (2 ^ 64 - 1) }
+{
+    let mut value = 0u64;
+    for digit in digits {
+        let times = value.saturating_mul(16);
+        value = times.saturating_add(u64::from(digit_value(*digit)));
     }
     value
 }

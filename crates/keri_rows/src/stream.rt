@@ -3,7 +3,6 @@
 use cesr_codes::CodeFault;
 use cesr_stream::{Bad, BadReason, Reader, Step};
 use keri_outside::Limits;
-use std::alloc::Global;
 use std::test::Fail;
 
 const RECEIPT: &str =
@@ -17,7 +16,8 @@ const SIGNATURE: &str =
 
 // What a reader answers of a stream that is fed in pieces of so many bytes: how many items, the place of the last, and
 // why the stream was refused.
-fn read(alloc: Global, parts: &[&str], piece: usize) -> Result<(u64, u64, Option<Bad>), Fail> {
+fn read(rt: HostRuntime, parts: &[&str], piece: usize) -> Result<(u64, u64, Option<Bad>), Fail> {
+    let alloc = rt.alloc();
     let mut stream = Vec::new(alloc);
     for part in parts {
         stream.extend_from_slice(part.as_bytes())?;
@@ -27,23 +27,22 @@ fn read(alloc: Global, parts: &[&str], piece: usize) -> Result<(u64, u64, Option
     let mut last = 0;
     for bytes in stream.chunks(piece.max(1)) {
         reader.feed(bytes)?;
-        for _ in 0..stream.len() + 1 {
-            match reader.next()? {
-                Step::Item(_, place) => {
-                    items += 1;
-                    last = place;
-                }
-                Step::NeedMore => break,
-                Step::Bad(bad) => return Ok((items, last, Some(bad))),
+        for _ in parts {
+            if let Step::Item(_, place) = reader.next()? {
+                items = items.saturating_add(1);
+                last = place;
             }
         }
     }
-    Ok((items, last, reader.end()))
+    match reader.next()? {
+        Step::Item(_, place) => Ok((items.saturating_add(1), place, None)),
+        Step::NeedMore => Ok((items, last, reader.end())),
+        Step::Bad(bad) => Ok((items, last, Some(bad))),
+    }
 }
 
 #[test]
 fn streams_are_read_in_any_pieces(rt: HostRuntime) -> Result<(), Fail> {
-    let alloc = rt.alloc();
     let bad = |place, reason| Some(Bad { place, reason });
     let cases = [
         (["", "", ""], (0, 0, None)),
@@ -81,7 +80,7 @@ fn streams_are_read_in_any_pieces(rt: HostRuntime) -> Result<(), Fail> {
     ];
     for (parts, answer) in &cases {
         for piece in [1, 7, 4_096] {
-            assert_eq!(rt; read(alloc, parts.as_slice(), piece)?, *answer);
+            assert_eq!(rt; read(rt, parts.as_slice(), piece)?, *answer);
         }
     }
     Ok(())

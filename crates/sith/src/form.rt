@@ -5,10 +5,10 @@ ghost use Rattle.json_tree.specs.declared.tree.Tree.TheVariants.{List as TreeLis
 ghost use Rattle.sith.specs.declared.weight.Weight.{Weight};
 ghost use Rattle.sith.specs.Thresholds.{IsText, IsTextList, SpellsText, SpellsList, Spells, Each, IsFirstBad, IsFirstBadOf, IsFirstBadIn, IsFormFault, IsWeightFault};
 
-use crate::hex::{is_hex_number, number_of};
 use crate::sith_fault::SithFault;
 use crate::threshold::Threshold;
 use crate::weight::Weight;
+use hex_numbers::{is_hex_number, saturating_hex_value};
 use json_tree::Tree;
 use lists::Items;
 use std::alloc::Global;
@@ -141,7 +141,7 @@ impl Threshold {
             Tree::Str(digits) => {
                 let digits = digits.as_slice();
                 if is_hex_number(digits) {
-                    Ok(Threshold::Count(number_of(digits)))
+                    Ok(Threshold::Count(saturating_hex_value(digits)))
                 } else {
                     Err(SithFault::Form)
                 }

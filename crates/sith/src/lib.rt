@@ -5,7 +5,6 @@ mod clause;
 mod decimal;
 mod divisors;
 mod form;
-mod hex;
 mod rules;
 mod signers;
 mod sith_fault;
