@@ -1,5 +1,5 @@
--- Each code of a type has a character of its own, and no code of a key is one of a digest.
-use Rattle.std.proofs.Common.{◌≡◌, ℕ, ◌+◌, ◌*◌, Bool, true, false, List, [], ◌∷◌, slice_index, codes, Option, None, Some, refl, arith}
+-- The codes of each type and their rows of the code table, what their indices are, and that no two of one character are the same.
+use Rattle.std.proofs.Common.{◌≡◌, ℕ, ◌+◌, ◌*◌, Bool, true, false, List, [], ◌∷◌, slice_index, codes, Option, None, Some, refl, lit≤}
 use Rattle.keri_specs.specs.Base64.{digit_of}
 use Rattle.std.proofs.lemmas.Bool.{eqb-false}
 use Rattle.cesr_codes.specs.declared.digest.DigestCode.{DigestCode}
@@ -48,22 +48,22 @@ AreIndices BigBoth text index ondex = (index ≡ two_digits text 2) × (ondex �
 AreIndices BigCurrent text index ondex = (index ≡ two_digits text 2) × (ondex ≡ None)
 
 pub number_sizes : HasSizes 16 number_layout
-number_sizes = record { raw = refl; digits = refl; few = omega arith; short_head = omega arith }
+number_sizes = record { raw = refl; digits = refl; few = lit≤ tt; short_head = lit≤ tt }
 
 pub sig_sizes : HasSizes 64 sig_layout
-sig_sizes = record { raw = refl; digits = refl; few = omega arith; short_head = omega arith }
+sig_sizes = record { raw = refl; digits = refl; few = lit≤ tt; short_head = lit≤ tt }
 
 pub indexed_sizes : (code : IndexedCode) → HasSizes 64 (indexed_layout code)
-indexed_sizes Both = record { raw = refl; digits = refl; few = omega arith; short_head = omega arith }
-indexed_sizes Current = record { raw = refl; digits = refl; few = omega arith; short_head = omega arith }
-indexed_sizes BigBoth = record { raw = refl; digits = refl; few = omega arith; short_head = omega arith }
-indexed_sizes BigCurrent = record { raw = refl; digits = refl; few = omega arith; short_head = omega arith }
+indexed_sizes Both = record { raw = refl; digits = refl; few = lit≤ tt; short_head = lit≤ tt }
+indexed_sizes Current = record { raw = refl; digits = refl; few = lit≤ tt; short_head = lit≤ tt }
+indexed_sizes BigBoth = record { raw = refl; digits = refl; few = lit≤ tt; short_head = lit≤ tt }
+indexed_sizes BigCurrent = record { raw = refl; digits = refl; few = lit≤ tt; short_head = lit≤ tt }
 
 pub key_sizes : (code : KeyCode) → HasSizes 32 (key_layout code)
-key_sizes code = record { raw = refl; digits = refl; few = omega arith; short_head = omega arith }
+key_sizes code = record { raw = refl; digits = refl; few = lit≤ tt; short_head = lit≤ tt }
 
 pub digest_sizes : (code : DigestCode) → HasSizes 32 (digest_layout code)
-digest_sizes code = record { raw = refl; digits = refl; few = omega arith; short_head = omega arith }
+digest_sizes code = record { raw = refl; digits = refl; few = lit≤ tt; short_head = lit≤ tt }
 
 pub same_key_code : (a b : KeyCode) → key_code a ≡ key_code b → a ≡ b
 same_key_code Fixed Fixed e = refl
