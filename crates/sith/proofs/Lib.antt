@@ -8,3 +8,5 @@ pub mod Scales
 pub mod RuleSteps
 pub mod ReadFor
 pub mod Numerals
+pub mod OneThreshold
+pub mod Spelled

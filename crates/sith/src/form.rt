@@ -131,11 +131,18 @@ fn read_list(alloc: Global, values: &[Tree]) -> Result<Threshold, SithFault>
 }
 
 impl Threshold {
+    ghost use Rattle.std.specs.Prelude.{◌⊎◌, Ok, Err};
+    ghost use Rattle.sith.specs.declared.sith_fault.SithFault.TheVariants.{OutOfMemory};
+    ghost use Rattle.sith.specs.declared.threshold.Threshold.{Threshold};
+
     /// The threshold that the value spells, for whatever number of keys. A number that is greater than 2^64 - 1 is
     /// read as that, which is a threshold of no number of keys.
     pub fn read_form(alloc: Global, tree: &Tree) -> Result<Threshold, SithFault>
         ensures some { IfOk result (λ threshold. Spells threshold tree.now) }
         ensures fault { IfErr result (λ fault. IsFormFault fault tree.now) }
+
+        // What is spelled is read, unless memory runs out.
+        ensures only { (threshold : Threshold) → Spells threshold tree.now → (result ≡ Ok threshold) ⊎ (result ≡ Err OutOfMemory) }
     {
         match tree {
             Tree::Str(digits) => {

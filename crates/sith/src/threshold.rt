@@ -18,6 +18,8 @@ pub enum Threshold {
 }
 
 impl Threshold {
+    ghost use Rattle.std.specs.Prelude.{◌⊎◌, Ok, Err};
+    ghost use Rattle.sith.specs.declared.sith_fault.SithFault.TheVariants.{OutOfMemory};
     ghost use Rattle.sith.specs.declared.threshold.Threshold.{Threshold};
     ghost use Rattle.sith.specs.Rules.{clauses_of, HasWeights, IsInRange, IsReadFor, IsRuleFault, IsFault, IsSatisfied};
     ghost use Rattle.sith.specs.Thresholds.{Spells};
@@ -68,6 +70,9 @@ impl Threshold {
         ensures spelled { IfOk result (λ threshold. Spells threshold tree.now) }
         ensures read { IfOk result (λ threshold. IsReadFor threshold keys) }
         ensures fault { IfErr result (λ fault. IsFault fault tree.now keys) }
+
+        // What is spelled is read, unless memory runs out.
+        ensures only { (threshold : Threshold) → Spells threshold tree.now → IsReadFor threshold keys → (result ≡ Ok threshold) ⊎ (result ≡ Err OutOfMemory) }
     {
         let threshold = Threshold::read_form(alloc, tree)?;
         match threshold.rule_fault(keys) {
