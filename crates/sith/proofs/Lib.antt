@@ -10,3 +10,4 @@ pub mod ReadFor
 pub mod Numerals
 pub mod OneThreshold
 pub mod Spelled
+pub mod Tested

@@ -5,3 +5,4 @@ pub mod Divisors
 pub mod Clauses
 pub mod Thresholds
 pub mod Rules
+pub mod Tests

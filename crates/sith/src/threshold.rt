@@ -22,6 +22,7 @@ impl Threshold {
     ghost use Rattle.sith.specs.declared.sith_fault.SithFault.TheVariants.{OutOfMemory};
     ghost use Rattle.sith.specs.declared.threshold.Threshold.{Threshold};
     ghost use Rattle.sith.specs.Rules.{clauses_of, HasWeights, IsInRange, IsReadFor, IsRuleFault, IsFault, IsSatisfied};
+    ghost use Rattle.sith.specs.Tests.{satisfied};
     ghost use Rattle.sith.specs.Thresholds.{Spells};
 
     fn clauses(&self) -> &[Items<Weight>]
@@ -84,6 +85,14 @@ impl Threshold {
     /// Whether the set of these indices meets the threshold, of those keys of which there are so many. An index that
     /// comes again, or that is no key's, counts for nothing. It takes no memory.
     pub fn satisfied(&self, keys: u16, indices: &[u16]) -> bool
+        requires { IsReadFor self.now keys }
+        ensures met { IsTrue result ↔ IsSatisfied self.now keys indices.now }
+        ensures tested { result ≡ satisfied self.now keys indices.now }
+    {
+        self.satisfied_exact(keys, indices)
+    }
+
+    fn satisfied_exact(&self, keys: u16, indices: &[u16]) -> bool
         requires { IsReadFor self.now keys }
         ensures { IsTrue result ↔ IsSatisfied self.now keys indices.now }
     {
