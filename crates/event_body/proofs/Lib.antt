@@ -1,7 +1,9 @@
 mod Fronts
 mod Numbers
+mod Texts
 mod Maps
-mod Ends
-mod Parts
 mod Heads
-mod Whole
+mod Receipts
+mod Inceptions
+mod Places
+pub mod Whole

@@ -1,27 +1,29 @@
 -- How many fields of a map stand.
-use Rattle.std.proofs.Common.{◌≡◌, ◌≢◌, ℕ, zero, suc, ◌≤◌, List, [], ◌∷◌, ◌++◌, length, sym, ap, ◌∙◌, arith, subst}
-use Rattle.std.proofs.lemmas.List.{append_cancel_left}
-use Rattle.event_body.specs.Fronts.{FrontIs, NoFront}
+use Rattle.std.proofs.Common.{◌≡◌, ◌≢◌, ap, ℕ, zero, suc, ◌≤◌, List, [], ◌∷◌, ◌++◌, length, sym, ◌∙◌, arith, subst}
+use Rattle.event_body.specs.Fronts.{NoFront}
 use Rattle.event_body.specs.FieldMaps.{Field, IsField, Begins}
+use Rattle.event_body.specs.Reading.{Ends, EndsFrom}
+use Rattle.event_body.proofs.Texts.{same_field}
 
--- What stands behind a field, where any text of the field at the front leaves one rest.
-pub behind_field : (field : Field) (map : List Field) (k : ℕ) (bytes text rest : List ℕ) → IsField field text → bytes ≡ text ++ rest
-    → ((t others : List ℕ) → IsField field t → bytes ≡ t ++ others → others ≡ rest)
-    → Begins k map rest × ¬ Begins (suc k) map rest → Begins (suc k) (field ∷ map) bytes × ¬ Begins (suc (suc k)) (field ∷ map) bytes
-behind_field field map k bytes text rest is e leaves ends = ((text, rest, is, e, ends.0), λ more. ends.1 (subst (Begins (suc k) map) (leaves more.0 more.1 more.2 more.3) more.4))
+-- where the next field doesn't stand behind so many, no more than these stand
+pub no_more : (n : ℕ) (map : List Field) (bytes : List ℕ) → Ends n map bytes → Begins n map bytes × ¬ Begins (suc n) map bytes
+no_more zero map bytes ends = (tt, ends)
+no_more (suc n) [] bytes ends = absurd ends
+no_more (suc n) (field ∷ map) bytes (text, rest, is, at, ends) =
+    let behind = no_more n map rest ends in
+    ((text, rest, is, at, behind.0), λ more. behind.1 (subst (Begins (suc n) map) (same_field field more.0 text more.1 rest more.2 is (sym more.3 ∙ at)) more.4))
 
-module _ {V : Type 0} (text : V → List ℕ) (IsValue : V → Type 0) (bytes : List ℕ) where
-  -- the text of a value at the front leaves one rest
-  pub leaves_one : (value : V) (rest : List ℕ) → FrontIs text IsValue bytes value rest → (t others : List ℕ) → ((v : V) × IsValue v × (t ≡ text v)) → bytes ≡ t ++ others → others ≡ rest
-  leaves_one value rest front t others is e = (front.one is.0 others is.1 (e ∙ ap (λ x. x ++ others) is.2)).1
+-- the fields from the next one on
+pub later : (first n : ℕ) (field : Field) (map : List Field) (bytes text rest : List ℕ) → IsField field text → bytes ≡ text ++ rest
+    → EndsFrom (suc first) n map rest → EndsFrom first n (field ∷ map) bytes
+later first zero field map bytes text rest is at ends = absurd ends
+later zero (suc n) field map bytes text rest is at ends = (text, rest, is, at, ends)
+later (suc first) (suc n) field map bytes text rest is at ends = later first n field map bytes text rest is at ends
 
-  -- where no value's text is at the front, no text of the field is
-  pub leaves_none : NoFront text IsValue bytes → (t others : List ℕ) → ((v : V) × IsValue v × (t ≡ text v)) → bytes ≢ t ++ others
-  leaves_none none t others is e = none is.0 others is.1 (e ∙ ap (λ x. x ++ others) is.2)
-
--- a fixed text leaves one rest
-pub fixed_one : (fixed bytes rest : List ℕ) → bytes ≡ fixed ++ rest → (t others : List ℕ) → t ≡ fixed → bytes ≡ t ++ others → others ≡ rest
-fixed_one fixed bytes rest at t others same e = append_cancel_left fixed others rest (sym (ap (λ x. x ++ others) same) ∙ sym e ∙ at)
+-- where no value's text is at the front, no text of its field is
+pub absent : {V : Type 0} (text : V → List ℕ) (IsValue : V → Type 0) (bytes : List ℕ) → NoFront text IsValue bytes
+    → (t rest : List ℕ) → ((v : V) × IsValue v × (t ≡ text v)) → bytes ≢ t ++ rest
+absent text IsValue bytes none t rest is e = none is.0 rest is.1 (e ∙ ap (λ x. x ++ rest) is.2)
 
 -- fewer fields stand too
 pub fewer : (map : List Field) (m n : ℕ) (bytes : List ℕ) → m ≤ n → Begins n map bytes → Begins m map bytes

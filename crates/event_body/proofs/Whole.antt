@@ -1,53 +1,73 @@
--- What is spelled is read.
-use Rattle.std.proofs.Common.{◌≡◌, ℕ, zero, suc, ◌<◌, ◌≤◌, ◌^◌, List, length, sym, ap, ◌∙◌, arith, inl, inr, Ok, Err, Result}
-use Rattle.std.proofs.lemmas.Bool.Decides.{leb_tells}
-use Rattle.keri_specs.specs.Hex.{hex_value}
-use Rattle.event_body.specs.FieldMaps.{Begins, receipt_fields}
-use Rattle.event_body.specs.Receipt.{IsReceipt, Spells}
-use Rattle.event_body.specs.Judging.{JudgesReceipt, IsFirstFault, EndsAt}
-use Rattle.event_body.specs.declared.event.ReceiptBody.{ReceiptBody}
+-- What is spelled is read, and each list of bytes spells one event at most.
+use Rattle.std.proofs.Common.{◌≡◌, ℕ, ◌≤◌, ◌⊎◌, List, length, sym, ap, ◌∙◌, arith, inl, inr, refl, Ok, Err, Result, slice_index}
+use Rattle.event_body.specs.FieldMaps.{inception, receipt}
+use Rattle.event_body.specs.Judging.{IsFirstFault, SpellsEvent, Judges}
+use Rattle.event_body.specs.Reading.{JudgesAs}
+use Rattle.event_body.specs.declared.event.Event.{Event}
+use Rattle.event_body.specs.declared.event.Event.TheVariants.{Icp, Rot, Ixn, Dip, Drt, Rct}
 use Rattle.event_body.specs.declared.body_fault.BodyFault.{BodyFault}
 use Rattle.event_body.specs.declared.body_fault.BodyFault.TheVariants.{Field, SizeField, Said, Prefix, Threshold, Witnesses, TooMany, NumberTooLarge, TooLarge}
-use Rattle.event_body.proofs.Numbers.{few_digits}
-use Rattle.event_body.proofs.Maps.{fewer, beyond}
-use Rattle.event_body.proofs.Parts.{same_version, same_parts, parts_begin}
+use Rattle.event_body.specs.declared.body_fault.ReadBody.{ReadBody}
+use Rattle.event_body.specs.declared.body_fault.ReadBody.TheVariants.{Fault, OutOfMemory}
+use Rattle.event_body.specs.Receipt.{HasParts}
+use Rattle.event_body.specs.Inception.{HasInception}
+use Rattle.event_body.proofs.Texts.{same_version}
+use Rattle.event_body.proofs.Heads.{fits, all_stand}
+use Rattle.event_body.proofs.Receipts.{same_receipt, few_in_number, receipt_head, receipt_begins}
+use Rattle.event_body.proofs.Inceptions.{same_inception, same_prefix, same_said, inception_head, inception_begins}
 
--- two receipts with one spelling are one
-same_receipt : (a b : ReceiptBody) (bytes : List ℕ) → Spells a bytes → Spells b bytes → a ≡ b
-same_receipt a b bytes ha hb =
-    let same = same_parts bytes ha.size hb.size a.said b.said a.prefix b.prefix ha.number hb.number ha.parts hb.parts in
-    let sn : a.sn ≡ b.sn = sym ha.number_is ∙ ap hex_value same.3 ∙ hb.number_is in
-    λ i. record { said = same.1 i; prefix = same.2 i; sn = sn i }
+-- no bytes are a bodys text and an inception's
+apart : {bytes size size' : List ℕ} {said : _} {prefix : _} {number : List ℕ} {said' prefix' : _} {key : _} {next : _}
+    → HasParts bytes size said prefix number → HasInception bytes size' said' prefix' key next → ⊥
+apart {bytes} {size} {size'} h h' =
+    let letter : 114 ≡ 105 = ap (λ x. slice_index x 6) (same_version size size' _ _ h.sized h'.sized (sym h.text ∙ h'.text)).1 in omega (arith, letter)
 
-past : (n : ℕ) (bytes : List ℕ) → 5 < n → Begins n receipt_fields bytes → Begins (suc n) receipt_fields bytes
-past zero bytes lt stand = absurd (omega arith)
-past (suc n) bytes lt stand = beyond receipt_fields n bytes (omega arith) stand
-
--- where all stand, no number of fields is the last that does
-all_stand : (n : ℕ) (bytes : List ℕ) → Begins 6 receipt_fields bytes → EndsAt n bytes → ⊥
-all_stand n bytes all ends = elim (leb_tells n 5) [
-  | inl few ↦ ends.1 (fewer receipt_fields (suc n) 6 bytes (omega (arith, few.1)) all)
-  | inr many ↦ ends.1 (past n bytes many.1 ends.0)
-]
+-- one list of bytes spells at most one event
+pub same_event : (a b : Event) (bytes : List ℕ) → SpellsEvent a bytes → SpellsEvent b bytes → a ≡ b
+same_event (Icp a) (Icp b) bytes ha hb = ap Icp (same_inception a b bytes ha hb)
+same_event (Rct a) (Rct b) bytes ha hb = ap Rct (same_receipt a b bytes ha.1 hb.1)
+same_event (Icp a) (Rct b) bytes ha hb = absurd (apart hb.1.parts ha.parts)
+same_event (Rct a) (Icp b) bytes ha hb = absurd (apart ha.1.parts hb.parts)
+same_event (Rot a) b bytes ha hb = absurd ha
+same_event (Ixn a) b bytes ha hb = absurd ha
+same_event (Dip a) b bytes ha hb = absurd ha
+same_event (Drt a) b bytes ha hb = absurd ha
+same_event a (Rot b) bytes ha hb = absurd hb
+same_event a (Ixn b) bytes ha hb = absurd hb
+same_event a (Dip b) bytes ha hb = absurd hb
+same_event a (Drt b) bytes ha hb = absurd hb
 
 -- what is spelled fails no rule
-no_fault : (receipt : ReceiptBody) (bytes : List ℕ) → IsReceipt receipt → Spells receipt bytes → length bytes ≤ 65535 → (fault : BodyFault) → IsFirstFault bytes fault → ⊥
-no_fault receipt bytes is spells few TooLarge fails = omega (arith, few, fails)
-no_fault receipt bytes is spells few SizeField fails =
-    let other = fails.1 in
-    other.other (ap hex_value (same_version other.size spells.size _ _ other.sized spells.parts.sized (sym other.text ∙ spells.parts.text)).0 ∙ spells.size_is)
-no_fault receipt bytes is spells few (Field n) fails = all_stand n bytes (parts_begin bytes spells.size receipt.said receipt.prefix spells.number spells.parts) fails.1
-no_fault receipt bytes is spells few NumberTooLarge fails =
-    let large = fails.1 in
-    let same = same_parts bytes large.size spells.size large.said receipt.said large.prefix receipt.prefix large.number spells.number large.parts spells.parts in
-    let low : hex_value spells.number < 2 ^ 64 = omega (arith, spells.number_is, is.sn_held) in
-    omega (arith, large.large, ap length same.3, few_digits spells.number spells.parts.numbered low)
-no_fault receipt bytes is spells few Said fails = fails
-no_fault receipt bytes is spells few Prefix fails = fails
-no_fault receipt bytes is spells few Threshold fails = fails
-no_fault receipt bytes is spells few Witnesses fails = fails
-no_fault receipt bytes is spells few TooMany fails = fails
+no_fault : (event : Event) (bytes : List ℕ) → SpellsEvent event bytes → length bytes ≤ 65535 → (fault : BodyFault) → IsFirstFault bytes fault → ⊥
+no_fault event bytes spells few TooLarge fails = omega (arith, few, fails)
+no_fault event bytes spells few Threshold fails = fails
+no_fault event bytes spells few Witnesses fails = fails
+no_fault event bytes spells few TooMany fails = fails
+no_fault (Icp event) bytes spells few SizeField fails = let (rest, head) = inception_head event bytes spells few in (fits inception bytes rest head).1 fails.1
+no_fault (Icp event) bytes spells few (Field n) fails =
+    let (rest, head) = inception_head event bytes spells few in all_stand inception bytes rest head (inception_begins event bytes spells) n fails.1
+no_fault (Icp event) bytes spells few NumberTooLarge fails = apart fails.1.parts spells.parts
+no_fault (Icp event) bytes spells few Prefix fails = same_prefix event bytes spells fails.1
+no_fault (Icp event) bytes spells few Said fails = same_said event bytes spells fails.1
+no_fault (Rct body) bytes spells few SizeField fails = let (rest, head) = receipt_head body bytes spells.1 few in (fits receipt bytes rest head).1 fails.1
+no_fault (Rct body) bytes spells few (Field n) fails =
+    let (rest, head) = receipt_head body bytes spells.1 few in all_stand receipt bytes rest head (receipt_begins body bytes spells.1) n fails.1
+no_fault (Rct body) bytes spells few NumberTooLarge fails = few_in_number body bytes spells.0 spells.1 fails.1
+no_fault (Rct body) bytes spells few Prefix fails = apart spells.1.parts fails.1.parts
+no_fault (Rct body) bytes spells few Said fails = apart spells.1.parts fails.1.parts
+no_fault (Rot event) bytes spells few fault fails = spells
+no_fault (Ixn event) bytes spells few fault fails = spells
+no_fault (Dip event) bytes spells few fault fails = spells
+no_fault (Drt event) bytes spells few fault fails = spells
 
-pub whole_receipt : (receipt : ReceiptBody) (bytes : List ℕ) (r : Result ReceiptBody BodyFault) → JudgesReceipt bytes r → IsReceipt receipt → Spells receipt bytes → length bytes ≤ 65535 → r ≡ Ok receipt
-whole_receipt receipt bytes (Ok found) judged is spells few = ap Ok (same_receipt found receipt bytes judged.2 spells)
-whole_receipt receipt bytes (Err fault) judged is spells few = absurd (no_fault receipt bytes is spells few fault judged)
+-- what is spelled is read, but for want of memory
+pub whole : (event : Event) (bytes : List ℕ) (r : Result Event ReadBody) → Judges bytes r → SpellsEvent event bytes → length bytes ≤ 65535
+    → (r ≡ Ok event) ⊎ (r ≡ Err OutOfMemory)
+whole event bytes (Ok found) judged spells few = inl (ap Ok (same_event found event bytes judged.1 spells))
+whole event bytes (Err (Fault fault)) judged spells few = absurd (no_fault event bytes spells few fault judged)
+whole event bytes (Err OutOfMemory) judged spells few = inr refl
+
+-- the faults of a kind are those of bodies
+pub judges_fault : {E : Type 0} (event : E → Event) (bytes : List ℕ) (fault : ReadBody) → JudgesAs event bytes (Err fault) → Judges bytes (Err fault)
+judges_fault event bytes (Fault fault) judged = judged
+judges_fault event bytes OutOfMemory judged = tt

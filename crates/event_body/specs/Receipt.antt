@@ -5,7 +5,7 @@ use Rattle.cesr_codes.specs.declared.digest.Digest.{Digest}
 use Rattle.cesr_codes.specs.declared.prefix.Prefix.{Prefix}
 use Rattle.cesr_codes.specs.Spelling.{digest_text, prefix_text, IsDigest, IsPrefix}
 use Rattle.event_body.specs.FieldMaps.{IsSize, version_text, member_text}
-use Rattle.event_body.specs.declared.event.ReceiptBody.{ReceiptBody}
+use Rattle.event_body.specs.declared.receipt_body.ReceiptBody.{ReceiptBody}
 
 -- the text of these parts
 abbrev pub receipt_text : List ℕ → Digest → Prefix → List ℕ → List ℕ

@@ -49,10 +49,14 @@ fn size_digits(bytes: &[u8]) -> Option<(&[u8], &[u8])>
     Some((digits, rest))
 }
 
-/// The value between the opening and a quote, and what follows that.
-pub(crate) fn quoted<'a, V: Value>(bytes: &'a [u8], opening: &[u8]) -> Option<(V, &'a [u8])>
-    ensures some { IfSome result (λ r. FrontIs (λ value. enclosed opening.now (codes "\"") (V.text value)) V.is_valid bytes.now r.0 r.1.now) }
-    ensures none { IfNone result (NoFront (λ value. enclosed opening.now (codes "\"") (V.text value)) V.is_valid bytes.now) }
+/// The value between the opening and the closing, and what follows that.
+pub(crate) fn between<'a, V: Value>(
+    bytes: &'a [u8],
+    opening: &[u8],
+    closing: &[u8],
+) -> Option<(V, &'a [u8])>
+    ensures some { IfSome result (λ r. FrontIs (λ value. enclosed opening.now closing.now (V.text value)) V.is_valid bytes.now r.0 r.1.now) }
+    ensures none { IfNone result (NoFront (λ value. enclosed opening.now closing.now (V.text value)) V.is_valid bytes.now) }
 {
     let Some(behind) = literal(bytes, opening) else {
         return None;
@@ -60,7 +64,7 @@ pub(crate) fn quoted<'a, V: Value>(bytes: &'a [u8], opening: &[u8]) -> Option<(V
     let Some(found) = V::at_front(behind) else {
         return None;
     };
-    let Some(rest) = literal(found.1, b"\"") else {
+    let Some(rest) = literal(found.1, closing) else {
         return None;
     };
     Some((found.0, rest))

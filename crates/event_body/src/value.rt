@@ -2,7 +2,7 @@
 ghost use Rattle.std.specs.Prelude.{List, ℕ, IfSome, IfNone};
 ghost use Rattle.event_body.specs.Fronts.{FrontIs, NoFront};
 
-use cesr_codes::{Digest, Prefix};
+use cesr_codes::{Digest, Key, Prefix};
 
 /// A value with a text of its own, behind which anything may follow.
 pub(crate) trait Value: Copy {
@@ -42,6 +42,21 @@ impl Value for Prefix {
 
     fn at_front(bytes: &[u8]) -> Option<(Prefix, &[u8])> {
         match Prefix::read(bytes) {
+            Ok(found) => Some((found.0, &bytes[found.1..])),
+            Err(_) => None,
+        }
+    }
+}
+
+impl Value for Key {
+    ghost use Rattle.cesr_codes.specs.Spelling.{key_text, IsKey};
+
+    ghost text = { key_text };
+
+    ghost is_valid = { IsKey };
+
+    fn at_front(bytes: &[u8]) -> Option<(Key, &[u8])> {
+        match Key::read(bytes) {
             Ok(found) => Some((found.0, &bytes[found.1..])),
             Err(_) => None,
         }

@@ -1,0 +1,101 @@
+-- The parts of an event (KERI: field maps of key event messages; the fields t, i, s, d, p, a).
+use Rattle.std.specs.Prelude.{ℕ, Bool, true, false, ◌||◌, Option, Some, None, List, [], codes}
+use Rattle.cesr_codes.specs.declared.digest.Digest.{Digest}
+use Rattle.cesr_codes.specs.declared.prefix.Prefix.{Prefix}
+use Rattle.event_body.specs.declared.event.Event.{Event}
+use Rattle.event_body.specs.declared.event.Event.TheVariants.{Icp, Rot, Ixn, Dip, Drt, Rct}
+use Rattle.json_tree.specs.declared.tree.Tree.{Tree}
+
+-- the identifier whose log it is in (i)
+abbrev pub prefix_of : Event → Prefix
+prefix_of (Icp e) = e.prefix
+prefix_of (Rot e) = e.prefix
+prefix_of (Ixn e) = e.prefix
+prefix_of (Dip e) = e.prefix
+prefix_of (Drt e) = e.prefix
+prefix_of (Rct e) = e.prefix
+
+-- its sequence number (s), 0 for an inception
+abbrev pub sn_of : Event → ℕ
+sn_of (Icp e) = 0
+sn_of (Rot e) = e.sn
+sn_of (Ixn e) = e.sn
+sn_of (Dip e) = 0
+sn_of (Drt e) = e.sn
+sn_of (Rct e) = e.sn
+
+-- its digest (d); of a receipt, that of the event that it speaks of
+abbrev pub said_of : Event → Digest
+said_of (Icp e) = e.said
+said_of (Rot e) = e.said
+said_of (Ixn e) = e.said
+said_of (Dip e) = e.said
+said_of (Drt e) = e.said
+said_of (Rct e) = e.said
+
+-- the digest of the event before it (p)
+abbrev pub prior_of : Event → Option Digest
+prior_of (Icp e) = None
+prior_of (Rot e) = Some e.prior
+prior_of (Ixn e) = Some e.prior
+prior_of (Dip e) = None
+prior_of (Drt e) = Some e.prior
+prior_of (Rct e) = None
+
+-- its seals and other values (a)
+abbrev pub anchors_of : Event → List Tree
+anchors_of (Icp e) = e.anchors
+anchors_of (Rot e) = e.anchors
+anchors_of (Ixn e) = e.anchors
+anchors_of (Dip e) = e.anchors
+anchors_of (Drt e) = e.anchors
+anchors_of (Rct e) = []
+
+-- it is an icp or a dip
+abbrev pub is_inception : Event → Bool
+is_inception (Icp e) = true
+is_inception (Rot e) = false
+is_inception (Ixn e) = false
+is_inception (Dip e) = true
+is_inception (Drt e) = false
+is_inception (Rct e) = false
+
+-- it is a rot or a drt
+abbrev pub is_rotation : Event → Bool
+is_rotation (Icp e) = false
+is_rotation (Rot e) = true
+is_rotation (Ixn e) = false
+is_rotation (Dip e) = false
+is_rotation (Drt e) = true
+is_rotation (Rct e) = false
+
+-- it is an rct, and so no event of a log
+abbrev pub is_receipt : Event → Bool
+is_receipt (Icp e) = false
+is_receipt (Rot e) = false
+is_receipt (Ixn e) = false
+is_receipt (Dip e) = false
+is_receipt (Drt e) = false
+is_receipt (Rct e) = true
+
+-- it is an ixn
+abbrev pub is_interaction : Event → Bool
+is_interaction (Icp e) = false
+is_interaction (Rot e) = false
+is_interaction (Ixn e) = true
+is_interaction (Dip e) = false
+is_interaction (Drt e) = false
+is_interaction (Rct e) = false
+
+-- it sets the keys: an inception or a rotation
+abbrev pub is_establishment : Event → Bool
+is_establishment e = is_inception e || is_rotation e
+
+-- its kind (t)
+abbrev pub kind_of : Event → List ℕ
+kind_of (Icp e) = codes "icp"
+kind_of (Rot e) = codes "rot"
+kind_of (Ixn e) = codes "ixn"
+kind_of (Dip e) = codes "dip"
+kind_of (Drt e) = codes "drt"
+kind_of (Rct e) = codes "rct"
