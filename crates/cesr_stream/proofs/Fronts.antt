@@ -1,56 +1,272 @@
 -- The item at the front stays the same, whatever follows, and is no longer than what is there.
-use Rattle.std.proofs.Common.{◌≡◌, ◌≢◌, ℕ, zero, suc, ◌≤◌, ◌==◌, Bool, true, false, List, [], ◌∷◌, ◌++◌, length, drop, refl, ap, ◌∙◌, arith, inl, inr}
+use Rattle.std.proofs.Common.{◌≡◌, ◌≢◌, ℕ, zero, suc, ◌+◌, ◌-◌, ◌*◌, ◌%◌, ◌≤◌, ◌==◌, nat_lt, if◌then◌else◌, Bool, true, false, List, [], ◌∷◌, ◌++◌, length, drop, slice_index, refl, ap, ◌∙◌, arith, inl, inr, Option, None, Some, length-drop}
 use Rattle.std.proofs.lemmas.Bool.{cases_Bool}
-use Rattle.cesr_codes.specs.Table.{Verdict, good, short, bad, verdict, indexed_layouts}
-use Rattle.cesr_stream.specs.Parts.{Part, whole, refused, unfinished}
-use Rattle.cesr_stream.specs.Front.{primitive_part, signature_part, elements_part, counter_part, count_of, group_part, behind_body, front}
-use Rattle.cesr_stream.proofs.Stays.{Stays, Fits, stays-followed_by, fits-followed_by, stays-body_part, fits-body_part, stays-counter_part, fits-counter_part, whole-counter_part, count_same}
-use Rattle.cesr_stream.proofs.Verdicts.{stays-verdict, fits-verdict}
+use Rattle.std.proofs.lemmas.List.{drop-append-le}
+use Rattle.cesr_codes.specs.Table.{verdict, sig_layouts, number_layouts, digest_layouts, indexed_layouts}
+use Rattle.cesr_codes.specs.Dates.{moment_verdict}
+use Rattle.cesr_stream.specs.declared.bad.BadReason.TheVariants.{NoStart}
+use Rattle.cesr_stream.specs.Parts.{Part, whole, refused, unfinished, shifted, less, followed_by}
+use Rattle.cesr_stream.specs.Front.{fixed_layouts, moment_layouts, pair_part, primitive_part, signature_part, couple_part, seen_part, anchor_part, element_part, elements_part, counter_part, count_of, counted_part, behind_counter, is_group, group_part, begun_group, groups_part, wrap_part, attached_part, behind_body, front}
+use Rattle.cesr_stream.proofs.Stays.{Stays, Fits, stays-followed_by, fits-followed_by, fits-shifted, stays-body_part, fits-body_part, stays-counter_part, fits-counter_part, whole-counter_part, count_same, letter_same, byte_same, enough}
+use Rattle.cesr_stream.proofs.Primitives.{InRoom, Judging, stays-primitive_part, fits-primitive_part, in_room-primitive_part, fours-primitive_part, judging-verdict, judging-moment_verdict}
 
-pub stays-signature_part : Stays signature_part
-stays-signature_part x y ne = ap primitive_part (stays-verdict indexed_layouts x y (λ e. ne (ap primitive_part e)))
+-- what is judged stays, and a whole part is within the bytes and within the wrap
+pub record Holds (part : Option ℕ → List ℕ → Part) : Type 0 where
+  pub stays : (room : Option ℕ) → Stays (part room)
+  pub fits : (room : Option ℕ) → Fits (part room)
+  pub in_room : InRoom part
+  pub fours : (room : Option ℕ) (x : List ℕ) (n : ℕ) → part room x ≡ whole n → n % 4 ≡ 0
 
-pub fits-signature_part : Fits signature_part
-fits-signature_part x n e = at (verdict indexed_layouts x) refl e
+holds-primitive_part : (layouts : _) (judge : _) → Judging layouts judge → Holds (primitive_part layouts judge)
+holds-primitive_part layouts judge judging = record {
+  stays = stays-primitive_part layouts judge judging;
+  fits = fits-primitive_part layouts judge judging;
+  in_room = in_room-primitive_part layouts judge judging;
+  fours = fours-primitive_part layouts judge judging;
+}
+
+-- a part behind another, within the wrap
+room-followed_by : (room : ℕ) (first : Part) (next : ℕ → List ℕ → Part) (x : List ℕ) (n : ℕ) → ((k : ℕ) → first ≡ whole k → k ≤ room)
+    → ((k m : ℕ) → next k (drop k x) ≡ whole m → m ≤ room - k) → followed_by first next x ≡ whole n → n ≤ room
+room-followed_by room (whole k) next x n fits fits' e = more (next k (drop k x)) refl e
   where
-    at : (v : Verdict) → verdict indexed_layouts x ≡ v → primitive_part v ≡ whole n → n ≤ length x
-    at (good m) is e = let same : m ≡ n = cc e in fits-verdict indexed_layouts x n (is ∙ ap good same)
-    at short is e = cc e
-    at (bad fault) is e = cc e
+    more : (part : Part) → next k (drop k x) ≡ part → shifted k part ≡ whole n → n ≤ room
+    more (whole m) is e = let sum : k + m ≡ n = cc e in omega (arith, sum, fits k refl, fits' k m is)
+    more (refused place reason) is e = cc e
+    more unfinished is e = cc e
+room-followed_by room (refused place reason) next x n fits fits' e = cc e
+room-followed_by room unfinished next x n fits fits' e = cc e
 
-module _ (element : List ℕ → Part) (stays : Stays element) (fits : Fits element) where
-  pub stays-elements_part : (n : ℕ) → Stays (elements_part element n)
-  unfolding elements_part
-  stays-elements_part zero x y ne = refl
-  stays-elements_part (suc n) x y ne = stays-followed_by element (elements_part element n) (elements_part element n) stays fits x y (λ m is judged. stays-elements_part n (drop m x) y judged) ne
+-- a part behind another has characters in fours where both have
+fours-followed_by : (first : Part) (next : ℕ → List ℕ → Part) (x : List ℕ) (n : ℕ) → ((k : ℕ) → first ≡ whole k → k % 4 ≡ 0)
+    → ((k m : ℕ) → next k (drop k x) ≡ whole m → m % 4 ≡ 0) → followed_by first next x ≡ whole n → n % 4 ≡ 0
+fours-followed_by (whole k) next x n fours fours' e = more (next k (drop k x)) refl e
+  where
+    more : (part : Part) → next k (drop k x) ≡ part → shifted k part ≡ whole n → n % 4 ≡ 0
+    more (whole m) is e = let sum : k + m ≡ n = cc e in omega (arith, sum, fours k refl, fours' k m is)
+    more (refused place reason) is e = cc e
+    more unfinished is e = cc e
+fours-followed_by (refused place reason) next x n fours fours' e = cc e
+fours-followed_by unfinished next x n fours fours' e = cc e
 
-  pub fits-elements_part : (n : ℕ) → Fits (elements_part element n)
+holds-pair_part : (first second : Option ℕ → List ℕ → Part) → Holds first → Holds second → Holds (pair_part first second)
+holds-pair_part first second holds holds' = record {
+  stays = λ room x y ne. stays-followed_by (first room) (λ n. second (less n room)) (λ n. second (less n room)) (holds.stays room) (holds.fits room) x y
+      (λ n is judged. holds'.stays (less n room) (drop n x) y judged) ne;
+  fits = λ room. fits-followed_by (first room) (λ n. second (less n room)) (holds.fits room) (λ k. holds'.fits (less k room));
+  in_room = λ room x n e. room-followed_by room (first (Some room) x) (λ n. second (less n (Some room))) x n (holds.in_room room x) (λ k m. holds'.in_room (room - k) (drop k x) m) e;
+  fours = λ room x n e. fours-followed_by (first room x) (λ n. second (less n room)) x n (holds.fours room x) (λ k m. holds'.fours (less k room) (drop k x) m) e;
+}
+
+module _ (element : Option ℕ → List ℕ → Part) (holds : Holds element) where
+  stays-elements_part : (count : ℕ) (room : Option ℕ) → Stays (elements_part element count room)
   unfolding elements_part
-  fits-elements_part zero x m e = let same : 0 ≡ m = cc e in omega (arith, same)
-  fits-elements_part (suc n) x m e = fits-followed_by element (elements_part element n) fits (fits-elements_part n) x m e
+  stays-elements_part zero room x y ne = refl
+  stays-elements_part (suc count) room x y ne =
+      stays-followed_by (element room) (λ n. elements_part element count (less n room)) (λ n. elements_part element count (less n room)) (holds.stays room) (holds.fits room) x y
+      (λ n is judged. stays-elements_part count (less n room) (drop n x) y judged) ne
+
+  fits-elements_part : (count : ℕ) (room : Option ℕ) → Fits (elements_part element count room)
+  unfolding elements_part
+  fits-elements_part zero room x n e = let same : 0 ≡ n = cc e in omega (arith, same)
+  fits-elements_part (suc count) room x n e =
+      fits-followed_by (element room) (λ n. elements_part element count (less n room)) (holds.fits room) (λ k. fits-elements_part count (less k room)) x n e
+
+  room-elements_part : (count : ℕ) → InRoom (elements_part element count)
+  unfolding elements_part
+  room-elements_part zero room x n e = let same : 0 ≡ n = cc e in omega (arith, same)
+  room-elements_part (suc count) room x n e =
+      room-followed_by room (element (Some room) x) (λ n. elements_part element count (less n (Some room))) x n (holds.in_room room x) (λ k m. room-elements_part count (room - k) (drop k x) m) e
+
+  fours-elements_part : (count : ℕ) (room : Option ℕ) (x : List ℕ) (n : ℕ) → elements_part element count room x ≡ whole n → n % 4 ≡ 0
+  unfolding elements_part
+  fours-elements_part zero room x n e = let same : 0 ≡ n = cc e in omega (arith, same)
+  fours-elements_part (suc count) room x n e =
+      fours-followed_by (element room x) (λ n. elements_part element count (less n room)) x n (holds.fours room x) (λ k m. fours-elements_part count (less k room) (drop k x) m) e
+
+holds_key : Holds (primitive_part fixed_layouts (verdict fixed_layouts))
+holds_key = holds-primitive_part fixed_layouts (verdict fixed_layouts) (judging-verdict fixed_layouts refl)
+
+holds_sig : Holds (primitive_part sig_layouts (verdict sig_layouts))
+holds_sig = holds-primitive_part sig_layouts (verdict sig_layouts) (judging-verdict sig_layouts refl)
+
+holds_number : Holds (primitive_part number_layouts (verdict number_layouts))
+holds_number = holds-primitive_part number_layouts (verdict number_layouts) (judging-verdict number_layouts refl)
+
+holds_digest : Holds (primitive_part digest_layouts (verdict digest_layouts))
+holds_digest = holds-primitive_part digest_layouts (verdict digest_layouts) (judging-verdict digest_layouts refl)
+
+holds_moment : Holds (primitive_part moment_layouts moment_verdict)
+holds_moment = holds-primitive_part moment_layouts moment_verdict judging-moment_verdict
+
+holds-element_part : (letter : ℕ) → Holds (element_part letter)
+holds-element_part letter = at (letter == 67) (letter == 69) (letter == 71)
+  where
+    at : (couple seen anchor : Bool) → Holds (if couple then couple_part else if seen then seen_part else if anchor then anchor_part else signature_part)
+    at true seen anchor = holds-pair_part (primitive_part fixed_layouts (verdict fixed_layouts)) (primitive_part sig_layouts (verdict sig_layouts)) holds_key holds_sig
+    at false true anchor = holds-pair_part (primitive_part number_layouts (verdict number_layouts)) (primitive_part moment_layouts moment_verdict) holds_number holds_moment
+    at false false true = holds-pair_part (primitive_part number_layouts (verdict number_layouts)) (primitive_part digest_layouts (verdict digest_layouts)) holds_number holds_digest
+    at false false false = holds-primitive_part indexed_layouts (verdict indexed_layouts) (judging-verdict indexed_layouts refl)
 
 -- a whole counter is there whole
-pub four : (x : List ℕ) (n : ℕ) → counter_part x ≡ whole n → 4 ≤ length x
-four x n e = omega (arith, whole-counter_part x n e, fits-counter_part x n e)
+pub four : (supported : Bool) (x : List ℕ) (n : ℕ) → counter_part supported x ≡ whole n → 4 ≤ length x
+four supported x n e = omega (arith, whole-counter_part supported x n e, fits-counter_part supported x n e)
 
-pub stays-group_part : Stays group_part
-unfolding group_part
-stays-group_part x y ne =
-    stays-followed_by counter_part (elements_part signature_part (count_of x)) (elements_part signature_part (count_of (x ++ y))) stays-counter_part fits-counter_part x y
-    (λ n is judged. ap (λ k. elements_part signature_part k (drop n x ++ y)) (count_same x y (four x n is)) ∙ stays-elements_part signature_part stays-signature_part fits-signature_part (count_of x) (drop n x) y judged) ne
-
-pub fits-group_part : Fits group_part
-unfolding group_part
-fits-group_part x n e = fits-followed_by counter_part (elements_part signature_part (count_of x)) fits-counter_part (fits-elements_part signature_part stays-signature_part fits-signature_part (count_of x)) x n e
-
--- what is judged of a group is kept where a body came, and where none did
-stays-behind_body : (begun : Bool) → Stays (λ x. behind_body begun (group_part x))
-stays-behind_body true x y ne = stays-group_part x y ne
-stays-behind_body false x y ne = at (group_part x) refl ne
+-- what is behind a counter
+stays_behind : (supported : Bool) (x y : List ℕ) (part part' : Part) → (4 ≤ length x → part ≢ unfinished → part' ≡ part)
+    → behind_counter (counter_part supported x) part ≢ unfinished → behind_counter (counter_part supported (x ++ y)) part' ≡ behind_counter (counter_part supported x) part
+stays_behind supported x y part part' same ne = go (counter_part supported x) refl ne
   where
-    at : (part : Part) → group_part x ≡ part → behind_body false part ≢ unfinished → behind_body false (group_part (x ++ y)) ≡ behind_body false part
-    at (whole n) is judged = ap (behind_body false) (stays-group_part x y (λ e. cc (is, e)) ∙ is)
-    at (refused place reason) is judged = ap (behind_body false) (stays-group_part x y (λ e. cc (is, e)) ∙ is)
+    go : (c : Part) → counter_part supported x ≡ c → behind_counter c part ≢ unfinished → behind_counter (counter_part supported (x ++ y)) part' ≡ behind_counter c part
+    go (whole n) is ne = ap (λ c. behind_counter c part') (stays-counter_part supported x y (λ e. cc (is, e)) ∙ is) ∙ same (four supported x n is) ne
+    go (refused place reason) is ne = ap (λ c. behind_counter c part') (stays-counter_part supported x y (λ e. cc (is, e)) ∙ is)
+    go unfinished is ne = absurd (ne refl)
+
+-- a whole part behind a counter
+whole_behind : (supported : Bool) (x : List ℕ) (part : Part) (n : ℕ) → behind_counter (counter_part supported x) part ≡ whole n → (4 ≤ length x) × (part ≡ whole n)
+whole_behind supported x part n e = go (counter_part supported x) refl e
+  where
+    go : (c : Part) → counter_part supported x ≡ c → behind_counter c part ≡ whole n → (4 ≤ length x) × (part ≡ whole n)
+    go (whole m) is e = (four supported x m is, e)
+    go (refused place reason) is e = cc e
+    go unfinished is e = cc e
+
+whole_shifted : (k : ℕ) (part : Part) (n : ℕ) → shifted k part ≡ whole n → (m : ℕ) × (part ≡ whole m) × (k + m ≡ n)
+whole_shifted k (whole m) n e = (m, refl, cc e)
+whole_shifted k (refused place reason) n e = cc e
+whole_shifted k unfinished n e = cc e
+
+stays_counted : (letter : ℕ) (room : Option ℕ) (x y : List ℕ) → 4 ≤ length x → counted_part (element_part letter) room x ≢ unfinished
+    → counted_part (element_part letter) room (x ++ y) ≡ counted_part (element_part letter) room x
+unfolding counted_part
+stays_counted letter room x y le ne =
+    ap (λ k. shifted 4 (elements_part (element_part letter) k (less 4 room) (drop 4 (x ++ y)))) (count_same x y le)
+    ∙ ap (λ rest. shifted 4 (elements_part (element_part letter) (count_of x) (less 4 room) rest)) (drop-append-le 4 x y le)
+    ∙ ap (shifted 4) (stays-elements_part (element_part letter) (holds-element_part letter) (count_of x) (less 4 room) (drop 4 x) y (λ e. ne (ap (shifted 4) e)))
+
+stays-group_part : (room : Option ℕ) → Stays (group_part room)
+unfolding group_part
+stays-group_part room x y ne =
+    ap (λ letter. behind_counter (counter_part (is_group letter) (x ++ y)) (counted_part (element_part letter) room (x ++ y))) letter
+    ∙ stays_behind (is_group (slice_index x 1)) x y (counted_part (element_part (slice_index x 1)) room x) (counted_part (element_part (slice_index x 1)) room (x ++ y))
+    (stays_counted (slice_index x 1) room x y) ne
+  where
+    letter : slice_index (x ++ y) 1 ≡ slice_index x 1
+    letter = letter_same (is_group (slice_index x 1)) x y (λ e. ne (ap (λ c. behind_counter c (counted_part (element_part (slice_index x 1)) room x)) e))
+
+-- a whole group is within the bytes, and within the wrap where its counter is
+group_whole : (room : Option ℕ) (x : List ℕ) (n : ℕ) → group_part room x ≡ whole n
+    → (m : ℕ) × (elements_part (element_part (slice_index x 1)) (count_of x) (less 4 room) (drop 4 x) ≡ whole m) × (4 + m ≡ n) × (4 ≤ length x)
+unfolding group_part counted_part
+group_whole room x n e =
+    let behind = whole_behind (is_group (slice_index x 1)) x (shifted 4 (elements_part (element_part (slice_index x 1)) (count_of x) (less 4 room) (drop 4 x))) n e in
+    let is = whole_shifted 4 (elements_part (element_part (slice_index x 1)) (count_of x) (less 4 room) (drop 4 x)) n behind.1 in
+    (is.0, is.1, is.2, behind.0)
+
+fits-group_part : (room : Option ℕ) → Fits (group_part room)
+fits-group_part room x n e =
+    let is = group_whole room x n e in
+    omega (arith, is.2, is.3, length-drop 4 x, fits-elements_part (element_part (slice_index x 1)) (holds-element_part (slice_index x 1)) (count_of x) (less 4 room) (drop 4 x) is.0 is.1)
+
+room-group_part : (room : ℕ) (x : List ℕ) (n : ℕ) → group_part (Some room) x ≡ whole n → 4 ≤ room → (4 ≤ n) × (n ≤ room) × (n % 4 ≡ 0)
+room-group_part room x n e le =
+    let is = group_whole (Some room) x n e in
+    let few = room-elements_part (element_part (slice_index x 1)) (holds-element_part (slice_index x 1)) (count_of x) (room - 4) (drop 4 x) is.0 is.1 in
+    let fours = fours-elements_part (element_part (slice_index x 1)) (holds-element_part (slice_index x 1)) (count_of x) (Some (room - 4)) (drop 4 x) is.0 is.1 in
+    (omega (arith, is.2), omega (arith, is.2, few), omega (arith, is.2, fours))
+
+stays-begun_group : (room : ℕ) → Stays (begun_group room)
+stays-begun_group room [] y ne = absurd (ne refl)
+stays-begun_group room (b ∷ x) y ne = elim (cases_Bool (b == 45)) [
+  | inl t ↦ rw t (stays-group_part (Some room) (b ∷ x) y (rw t at ne))
+  | inr f ↦ rw f refl
+]
+
+begun_whole : (room : ℕ) (x : List ℕ) (n : ℕ) → begun_group room x ≡ whole n → group_part (Some room) x ≡ whole n
+begun_whole room [] n e = cc e
+begun_whole room (b ∷ x) n e = at (b == 45) e
+  where
+    at : (dash : Bool) → (if dash then group_part (Some room) (b ∷ x) else refused 0 NoStart) ≡ whole n → group_part (Some room) (b ∷ x) ≡ whole n
+    at true e = e
+    at false e = cc e
+
+-- where four characters are left, the group is within the wrap
+pub begun_sizes : (room : ℕ) (x : List ℕ) (n : ℕ) → begun_group room x ≡ whole n → 4 ≤ room → (4 ≤ n) × (n ≤ room) × (n % 4 ≡ 0)
+begun_sizes room x n e le = room-group_part room x n (begun_whole room x n e) le
+
+fits-begun_group : (room : ℕ) → Fits (begun_group room)
+fits-begun_group room x n e = fits-group_part (Some room) x n (begun_whole room x n e)
+
+stays-groups_part : (most room : ℕ) → Stays (groups_part most room)
+unfolding groups_part
+stays-groups_part zero room x y ne = refl
+stays-groups_part (suc most) room x y ne = elim (cases_Bool (room == 0)) [
+  | inl t ↦ rw t refl
+  | inr f ↦
+      rw f (stays-followed_by (begun_group room) (λ n. groups_part most (room - n)) (λ n. groups_part most (room - n)) (stays-begun_group room) (fits-begun_group room) x y
+      (λ n is judged. stays-groups_part most (room - n) (drop n x) y judged) (rw f at ne))
+]
+
+fits-groups_part : (most room : ℕ) → Fits (groups_part most room)
+unfolding groups_part
+fits-groups_part zero room x n e = let same : 0 ≡ n = cc e in omega (arith, same)
+fits-groups_part (suc most) room x n e = elim (cases_Bool (room == 0)) [
+  | inl t ↦ let same : whole 0 ≡ whole n = rw t at e in let zero : 0 ≡ n = cc same in omega (arith, zero)
+  | inr f ↦
+      fits-followed_by (begun_group room) (λ n. groups_part most (room - n)) (fits-begun_group room) (λ k. fits-groups_part most (room - k)) x n (rw f at e)
+]
+
+stays-wrap_part : Stays wrap_part
+unfolding wrap_part
+stays-wrap_part x y ne =
+    stays_behind true x y (shifted 4 (groups_part (count_of x) (4 * count_of x) (drop 4 x))) (shifted 4 (groups_part (count_of (x ++ y)) (4 * count_of (x ++ y)) (drop 4 (x ++ y)))) same ne
+  where
+    same : 4 ≤ length x → shifted 4 (groups_part (count_of x) (4 * count_of x) (drop 4 x)) ≢ unfinished
+        → shifted 4 (groups_part (count_of (x ++ y)) (4 * count_of (x ++ y)) (drop 4 (x ++ y))) ≡ shifted 4 (groups_part (count_of x) (4 * count_of x) (drop 4 x))
+    same le ne =
+        ap (λ k. shifted 4 (groups_part k (4 * k) (drop 4 (x ++ y)))) (count_same x y le)
+        ∙ ap (λ rest. shifted 4 (groups_part (count_of x) (4 * count_of x) rest)) (drop-append-le 4 x y le)
+        ∙ ap (shifted 4) (stays-groups_part (count_of x) (4 * count_of x) (drop 4 x) y (λ e. ne (ap (shifted 4) e)))
+
+fits-wrap_part : Fits wrap_part
+unfolding wrap_part
+fits-wrap_part x n e =
+    let behind = whole_behind true x (shifted 4 (groups_part (count_of x) (4 * count_of x) (drop 4 x))) n e in
+    fits-shifted x 4 (groups_part (count_of x) (4 * count_of x) (drop 4 x)) n behind.0 (fits-groups_part (count_of x) (4 * count_of x) (drop 4 x)) behind.1
+
+-- nothing is judged of one byte
+short_attached : (x : List ℕ) → nat_lt (length x) 2 ≡ true → attached_part x ≡ unfinished
+unfolding counter_part group_part wrap_part
+short_attached x t = elim (cases_Bool (slice_index x 1 == 86)) [ inl l ↦ rw (l, t) refl | inr l ↦ rw (l, t) refl ]
+
+stays-attached_part : Stays attached_part
+stays-attached_part x y ne = elim (cases_Bool (nat_lt (length x) 2)) [
+  | inl t ↦ absurd (ne (short_attached x t))
+  | inr f ↦
+      ap (λ letter. if letter == 86 then wrap_part (x ++ y) else group_part None (x ++ y)) (byte_same x y 1 (omega (arith, enough x 2 f)))
+      ∙ at (slice_index x 1 == 86) ne
+]
+  where
+    at : (wrap : Bool) → (if wrap then wrap_part x else group_part None x) ≢ unfinished
+        → (if wrap then wrap_part (x ++ y) else group_part None (x ++ y)) ≡ (if wrap then wrap_part x else group_part None x)
+    at true ne = stays-wrap_part x y ne
+    at false ne = stays-group_part None x y ne
+
+fits-attached_part : Fits attached_part
+fits-attached_part x n e = at (slice_index x 1 == 86) e
+  where
+    at : (wrap : Bool) → (if wrap then wrap_part x else group_part None x) ≡ whole n → n ≤ length x
+    at true e = fits-wrap_part x n e
+    at false e = fits-group_part None x n e
+
+-- what is judged of a group or wrap is kept where a body came, and where none did
+stays-behind_body : (begun : Bool) → Stays (λ x. behind_body begun (attached_part x))
+stays-behind_body true x y ne = stays-attached_part x y ne
+stays-behind_body false x y ne = at (attached_part x) refl ne
+  where
+    at : (part : Part) → attached_part x ≡ part → behind_body false part ≢ unfinished → behind_body false (attached_part (x ++ y)) ≡ behind_body false part
+    at (whole n) is judged = ap (behind_body false) (stays-attached_part x y (λ e. cc (is, e)) ∙ is)
+    at (refused place reason) is judged = ap (behind_body false) (stays-attached_part x y (λ e. cc (is, e)) ∙ is)
     at unfinished is judged = absurd (judged refl)
 
 pub stays-front : (limit : ℕ) (begun : Bool) → Stays (front limit begun)
@@ -70,7 +286,7 @@ fits-front limit begun [] n e = cc e
 fits-front limit begun (b ∷ x) n e = elim (cases_Bool (b == 123)) [
   | inl t ↦ fits-body_part limit (b ∷ x) n (rw t at e)
   | inr f ↦ elim (cases_Bool (b == 45)) [
-    | inl t ↦ fits-group_part (b ∷ x) n (behind begun (group_part (b ∷ x)) (rw (f, t) at e))
+    | inl t ↦ fits-attached_part (b ∷ x) n (behind begun (attached_part (b ∷ x)) (rw (f, t) at e))
     | inr g ↦ cc (rw (f, g) at e)
   ]
 ]

@@ -1,7 +1,11 @@
 pub mod Stays
 pub mod Verdicts
+pub mod Primitives
 pub mod Fronts
 pub mod Items
+pub mod Keeping
+pub mod Assembling
 pub mod ElementSteps
-pub mod Groups
+pub mod WrapSteps
+pub mod Counters
 pub mod Ends

@@ -1,9 +1,9 @@
 -- What is judged of a part stays the same, whatever follows.
-use Rattle.std.proofs.Common.{◌≡◌, ◌≢◌, ℕ, ◌+◌, ◌<◌, ◌≤◌, ◌||◌, not, nat_lt, if◌then◌else◌, Bool, true, false, List, ◌++◌, length, take, drop, slice_index, refl, sym, ap, ◌∙◌, arith, inl, inr, length-append, length-drop}
+use Rattle.std.proofs.Common.{◌≡◌, ◌≢◌, ℕ, ◌+◌, ◌<◌, ◌≤◌, ◌||◌, not, nat_lt, if◌then◌else◌, Bool, true, false, List, ◌++◌, length, take, drop, slice_index, refl, ap, ◌∙◌, arith, inl, inr, length-append, length-drop}
 use Rattle.std.proofs.lemmas.Bool.{cases_Bool, le-ltb, ltb-false}
 use Rattle.std.proofs.lemmas.List.{take-append-le, drop-append-le, get_or_append_left}
 use Rattle.cesr_stream.specs.Parts.{Part, whole, refused, unfinished, shifted, followed_by}
-use Rattle.cesr_stream.specs.Front.{body_part, has_version, size_of, counter_part, is_supported, count_of}
+use Rattle.cesr_stream.specs.Front.{body_part, has_version, size_of, counter_part, count_of}
 use Rattle.keri_specs.specs.Base64.{is_character}
 use Rattle.cesr_stream.specs.declared.bad.BadReason.TheVariants.{Version, TooLarge, GroupNotSupported, Code}
 use Rattle.cesr_codes.specs.declared.code_fault.CodeFault.TheVariants.{BadCharacter}
@@ -16,14 +16,14 @@ Stays part = (x y : List ℕ) → part x ≢ unfinished → part (x ++ y) ≡ pa
 abbrev pub Fits : (List ℕ → Part) → Type 0
 Fits part = (x : List ℕ) (n : ℕ) → part x ≡ whole n → n ≤ length x
 
-longer : (x y : List ℕ) (n : ℕ) → nat_lt (length x) n ≡ false → nat_lt (length (x ++ y)) n ≡ false
+pub longer : (x y : List ℕ) (n : ℕ) → nat_lt (length x) n ≡ false → nat_lt (length (x ++ y)) n ≡ false
 longer x y n f = le-ltb (length (x ++ y)) n (omega (arith, ltb-false (length x) n f, length-append x y))
 
-enough : (x : List ℕ) (n : ℕ) → nat_lt (length x) n ≡ false → n ≤ length x
+pub enough : (x : List ℕ) (n : ℕ) → nat_lt (length x) n ≡ false → n ≤ length x
 enough x n f = ltb-false (length x) n f
 
 -- so many bytes from a place are the same, whatever follows
-part_same : (x y : List ℕ) (n k : ℕ) → k + n ≤ length x → take n (drop k (x ++ y)) ≡ take n (drop k x)
+pub part_same : (x y : List ℕ) (n k : ℕ) → k + n ≤ length x → take n (drop k (x ++ y)) ≡ take n (drop k x)
 part_same x y n k le =
     ap (take n) (drop-append-le k x y (omega arith)) ∙ take-append-le n (drop k x) y (omega (arith, length-drop k x))
 
@@ -75,9 +75,9 @@ counter_same false true part bad2 bad3 part' keeps ne = refl
 counter_same false false true bad2 bad3 part' keeps ne = absurd (ne refl)
 counter_same false false false bad2 bad3 part' keeps ne = rw (keeps refl) refl
 
-pub fits-counter_part : Fits counter_part
+pub fits-counter_part : (supported : Bool) → Fits (counter_part supported)
 unfolding counter_part
-fits-counter_part x n e = fits (nat_lt (length x) 2) (not (is_supported (slice_index x 1))) (nat_lt (length x) 4) (not (is_character (slice_index x 2))) (not (is_character (slice_index x 3))) refl e
+fits-counter_part supported x n e = fits (nat_lt (length x) 2) (not supported) (nat_lt (length x) 4) (not (is_character (slice_index x 2))) (not (is_character (slice_index x 3))) refl e
   where
     fits : (few other part bad2 bad3 : Bool) → nat_lt (length x) 4 ≡ part
         → (if few then unfinished else if other then refused 0 GroupNotSupported else if part then unfinished else if bad2 then refused 0 (Code (BadCharacter 2)) else if bad3 then refused 0 (Code (BadCharacter 3)) else whole 4) ≡ whole n → n ≤ length x
@@ -89,39 +89,39 @@ fits-counter_part x n e = fits (nat_lt (length x) 2) (not (is_supported (slice_i
     fits false false false false false is e = let four : 4 ≡ n = cc e in omega (arith, four, ltb-false (length x) 4 is)
 
 -- parts that stay, one behind the other, stay
-pub stays-followed_by : (first : List ℕ → Part) (next next' : List ℕ → Part) → Stays first → Fits first → (x y : List ℕ)
-    → ((n : ℕ) → first x ≡ whole n → next (drop n x) ≢ unfinished → next' (drop n x ++ y) ≡ next (drop n x)) → followed_by (first x) next x ≢ unfinished
+pub stays-followed_by : (first : List ℕ → Part) (next next' : ℕ → List ℕ → Part) → Stays first → Fits first → (x y : List ℕ)
+    → ((n : ℕ) → first x ≡ whole n → next n (drop n x) ≢ unfinished → next' n (drop n x ++ y) ≡ next n (drop n x)) → followed_by (first x) next x ≢ unfinished
     → followed_by (first (x ++ y)) next' (x ++ y) ≡ followed_by (first x) next x
 stays-followed_by first next next' stays fits x y same ne = go (first x) refl ne
   where
     go : (part : Part) → first x ≡ part → followed_by part next x ≢ unfinished → followed_by (first (x ++ y)) next' (x ++ y) ≡ followed_by part next x
     go (whole n) is ne =
         ap (λ part. followed_by part next' (x ++ y)) (stays x y (λ e. cc (is, e)) ∙ is)
-        ∙ ap (λ rest. shifted n (next' rest)) (drop-append-le n x y (fits x n is))
+        ∙ ap (λ rest. shifted n (next' n rest)) (drop-append-le n x y (fits x n is))
         ∙ ap (shifted n) (same n is (λ e. ne (ap (shifted n) e)))
     go (refused place reason) is ne = ap (λ part. followed_by part next' (x ++ y)) (stays x y (λ e. cc (is, e)) ∙ is)
     go unfinished is ne = absurd (ne refl)
 
-pub fits-followed_by : (first next : List ℕ → Part) → Fits first → Fits next → Fits (λ x. followed_by (first x) next x)
+pub fits-shifted : (x : List ℕ) (k : ℕ) (part : Part) (n : ℕ) → k ≤ length x → ((m : ℕ) → part ≡ whole m → m ≤ length (drop k x)) → shifted k part ≡ whole n → n ≤ length x
+fits-shifted x k (whole m) n le fits e = let sum : k + m ≡ n = cc e in omega (arith, sum, fits m refl, length-drop k x)
+fits-shifted x k (refused place reason) n le fits e = cc e
+fits-shifted x k unfinished n le fits e = cc e
+
+pub fits-followed_by : (first : List ℕ → Part) (next : ℕ → List ℕ → Part) → Fits first → ((k : ℕ) → Fits (next k)) → Fits (λ x. followed_by (first x) next x)
 fits-followed_by first next fits fits' x n e = go (first x) refl e
   where
-    more : (k : ℕ) (part : Part) → part ≡ next (drop k x) → k ≤ length x → shifted k part ≡ whole n → n ≤ length x
-    more k (whole m) is le e = let sum : k + m ≡ n = cc e in omega (arith, sum, fits' (drop k x) m (sym is), length-drop k x)
-    more k (refused place reason) is le e = cc e
-    more k unfinished is le e = cc e
-
     go : (part : Part) → first x ≡ part → followed_by part next x ≡ whole n → n ≤ length x
-    go (whole k) is e = more k (next (drop k x)) refl (fits x k is) e
+    go (whole k) is e = fits-shifted x k (next k (drop k x)) n (fits x k is) (λ m. fits' k (drop k x) m) e
     go (refused place reason) is e = cc e
     go unfinished is e = cc e
 
-byte_same : (x y : List ℕ) (k : ℕ) → k < length x → slice_index (x ++ y) k ≡ slice_index x k
+pub byte_same : (x y : List ℕ) (k : ℕ) → k < length x → slice_index (x ++ y) k ≡ slice_index x k
 byte_same x y k lt = get_or_append_left x y 0 k lt
 
 -- a whole counter has four bytes
-pub whole-counter_part : (x : List ℕ) (n : ℕ) → counter_part x ≡ whole n → n ≡ 4
+pub whole-counter_part : (supported : Bool) (x : List ℕ) (n : ℕ) → counter_part supported x ≡ whole n → n ≡ 4
 unfolding counter_part
-whole-counter_part x n e = at (nat_lt (length x) 2) (not (is_supported (slice_index x 1))) (nat_lt (length x) 4) (not (is_character (slice_index x 2))) (not (is_character (slice_index x 3))) e
+whole-counter_part supported x n e = at (nat_lt (length x) 2) (not supported) (nat_lt (length x) 4) (not (is_character (slice_index x 2))) (not (is_character (slice_index x 3))) e
   where
     at : (few other part bad2 bad3 : Bool)
         → (if few then unfinished else if other then refused 0 GroupNotSupported else if part then unfinished else if bad2 then refused 0 (Code (BadCharacter 2)) else if bad3 then refused 0 (Code (BadCharacter 3)) else whole 4) ≡ whole n → n ≡ 4
@@ -141,20 +141,28 @@ letter_judged true other bad2 bad3 part' bad2' bad3' ne = absurd (ne refl)
 letter_judged false true bad2 bad3 part' bad2' bad3' ne = refl
 letter_judged false false bad2 bad3 part' bad2' bad3' ne = absurd (ne refl)
 
-pub stays-counter_part : Stays counter_part
+pub stays-counter_part : (supported : Bool) → Stays (counter_part supported)
 unfolding counter_part
-stays-counter_part x y ne = elim (cases_Bool (nat_lt (length x) 2)) [
+stays-counter_part supported x y ne = elim (cases_Bool (nat_lt (length x) 2)) [
   | inl t ↦ absurd (ne (rw t refl))
   | inr f ↦ elim (cases_Bool (nat_lt (length x) 4)) [
     | inl short ↦
-        rw (longer x y 2 f, byte_same x y 1 (omega (arith, enough x 2 f)), short)
-        (letter_judged (nat_lt (length x) 2) (not (is_supported (slice_index x 1))) (not (is_character (slice_index x 2))) (not (is_character (slice_index x 3)))
+        rw (longer x y 2 f, short)
+        (letter_judged (nat_lt (length x) 2) (not supported) (not (is_character (slice_index x 2))) (not (is_character (slice_index x 3)))
         (nat_lt (length (x ++ y)) 4) (not (is_character (slice_index (x ++ y) 2))) (not (is_character (slice_index (x ++ y) 3))) (rw short at ne))
     | inr long ↦
-        rw (longer x y 2 f, byte_same x y 1 (omega (arith, enough x 2 f)), byte_same x y 2 (omega (arith, enough x 4 long)), byte_same x y 3 (omega (arith, enough x 4 long)))
-        (counter_same (nat_lt (length x) 2) (not (is_supported (slice_index x 1))) (nat_lt (length x) 4) (not (is_character (slice_index x 2))) (not (is_character (slice_index x 3)))
+        rw (longer x y 2 f, byte_same x y 2 (omega (arith, enough x 4 long)), byte_same x y 3 (omega (arith, enough x 4 long)))
+        (counter_same (nat_lt (length x) 2) (not supported) (nat_lt (length x) 4) (not (is_character (slice_index x 2))) (not (is_character (slice_index x 3)))
         (nat_lt (length (x ++ y)) 4) (longer x y 4) ne)
   ]
+]
+
+-- the letter of a counter that is judged
+pub letter_same : (supported : Bool) (x y : List ℕ) → counter_part supported x ≢ unfinished → slice_index (x ++ y) 1 ≡ slice_index x 1
+unfolding counter_part
+letter_same supported x y ne = elim (cases_Bool (nat_lt (length x) 2)) [
+  | inl t ↦ absurd (ne (rw t refl))
+  | inr f ↦ byte_same x y 1 (omega (arith, enough x 2 f))
 ]
 
 -- the count of a whole counter

@@ -1,11 +1,13 @@
 -- How a primitive at the front is judged stays the same, whatever follows.
-use Rattle.std.proofs.Common.{◌≡◌, ◌≢◌, ℕ, zero, suc, ◌+◌, ◌^◌, ◌<◌, ◌≤◌, ◌&&◌, not, nat_lt, nat_le, if◌then◌else◌, Bool, true, false, List, [], ◌∷◌, ◌++◌, length, take, drop, refl, sym, ap, ◌∙◌, arith, inl, inr, length-append, find, position, Option, None, Some, bytes_eq}
-use Rattle.std.proofs.lemmas.Bool.{cases_Bool, le-ltb, ltb-false, ltb-true, lt-ltb, false_from_ne_true}
+use Rattle.std.proofs.Common.{◌≡◌, ◌≢◌, ℕ, zero, suc, ◌+◌, ◌^◌, ◌<◌, ◌≤◌, ◌&&◌, ◌%◌, ◌==◌, not, nat_lt, nat_le, if◌then◌else◌, Bool, true, false, List, [], ◌∷◌, ◌++◌, length, take, drop, refl, sym, ap, ◌∙◌, arith, inl, inr, length-append, find, position, Option, None, Some, option_map, bytes_eq}
+use Rattle.std.specs.List.{list_all}
+use Rattle.std.proofs.lemmas.Bool.{eqb-true, cases_Bool, le-ltb, ltb-false, ltb-true, lt-ltb, false_from_ne_true}
 use Rattle.std.proofs.lemmas.List.{take-append-le, take_all}
 use Rattle.std.proofs.lemmas.Slice.Eq.{bytes_eq-Decides}
 use Rattle.keri_specs.specs.Base64.{is_character, number_of_text}
 use Rattle.cesr_codes.specs.declared.code_fault.CodeFault.TheVariants.{PadBits, OtherIndex}
 use Rattle.cesr_codes.specs.Table.{Layout, good, short, bad, verdict, layout_verdict, whole_verdict, is_within_code, has_code, has_other_index, total}
+use Rattle.cesr_stream.specs.Front.{shown}
 
 -- a text that is a beginning of a list is one of what follows too
 front_of : (x y code : List ℕ) (n : ℕ) → length x ≤ n → take n (x ++ y) ≡ code → x ≡ take (length x) code
@@ -28,7 +30,7 @@ module _ (x y : List ℕ) (l : Layout) (apart : (nat_lt (length x) (length l.cod
   no_front : length x < length l.code → x ≡ take (length x) l.code → ⊥
   no_front lt e = cc (rw (lt-ltb (length x) (length l.code) lt, (bytes_eq-Decides x (take (length x) l.code)).1 e) at apart)
 
-  code_same : has_code (x ++ y) l ≡ has_code x l
+  pub code_same : has_code (x ++ y) l ≡ has_code x l
   code_same = elim (cases_Bool (nat_lt (length x) (length l.code))) [
     | inl t ↦
         let lt : length x < length l.code = ltb-true (length x) (length l.code) t in
@@ -39,7 +41,7 @@ module _ (x y : List ℕ) (l : Layout) (apart : (nat_lt (length x) (length l.cod
     | inr f ↦ rw (take-append-le (length l.code) x y (ltb-false (length x) (length l.code) f)) refl
   ]
 
-  apart_more : (nat_lt (length (x ++ y)) (length l.code) && bytes_eq (x ++ y) (take (length (x ++ y)) l.code)) ≡ false
+  pub apart_more : (nat_lt (length (x ++ y)) (length l.code) && bytes_eq (x ++ y) (take (length (x ++ y)) l.code)) ≡ false
   apart_more = elim (cases_Bool (nat_lt (length (x ++ y)) (length l.code))) [
     | inl t ↦
         let lt : length (x ++ y) < length l.code = ltb-true (length (x ++ y)) (length l.code) t in
@@ -53,14 +55,14 @@ module _ (x y : List ℕ) (l : Layout) (apart : (nat_lt (length x) (length l.cod
   ]
 
 -- the same for a whole table
-within_same : (x y : List ℕ) (layouts : List Layout) → is_within_code layouts x ≡ false → is_within_code layouts (x ++ y) ≡ false
+pub within_same : (x y : List ℕ) (layouts : List Layout) → is_within_code layouts x ≡ false → is_within_code layouts (x ++ y) ≡ false
 within_same x y [] apart = refl
 within_same x y (l ∷ layouts) apart = elim (cases_Bool (nat_lt (length x) (length l.code) && bytes_eq x (take (length x) l.code))) [
   | inl t ↦ cc (rw t at apart)
   | inr f ↦ rw (apart_more x y l f) (within_same x y layouts (rw f at apart))
 ]
 
-find_same : (x y : List ℕ) (layouts : List Layout) → is_within_code layouts x ≡ false → find (has_code (x ++ y)) layouts ≡ find (has_code x) layouts
+pub find_same : (x y : List ℕ) (layouts : List Layout) → is_within_code layouts x ≡ false → find (has_code (x ++ y)) layouts ≡ find (has_code x) layouts
 find_same x y [] apart = refl
 find_same x y (l ∷ layouts) apart = elim (cases_Bool (nat_lt (length x) (length l.code) && bytes_eq x (take (length x) l.code))) [
   | inl t ↦ cc (rw t at apart)
@@ -105,3 +107,46 @@ fits-verdict layouts x n e = at (is_within_code layouts x) (find (has_code x) la
     at : (within : Bool) (l : Option Layout) → (if within then short else layout_verdict l x) ≡ good n → n ≤ length x
     at true l e = cc e
     at false l e = layouts_at l e
+
+-- all the layouts have characters in fours
+abbrev pub are_fours : List Layout → Bool
+are_fours layouts = list_all (λ l. total l % 4 == 0) layouts
+
+fours-find : (x : List ℕ) (layouts : List Layout) (n : ℕ) → are_fours layouts ≡ true → option_map total (find (has_code x) layouts) ≡ Some n → n % 4 ≡ 0
+fours-find x [] n all e = cc e
+fours-find x (l ∷ layouts) n all e = elim (cases_Bool (total l % 4 == 0)) [
+  | inr f ↦ cc (rw f at all)
+  | inl t ↦ elim (cases_Bool (has_code x l)) [
+    | inl h ↦ let same : Some (total l) ≡ Some n = rw h at e in let n_is : total l ≡ n = cc same in ap (λ k. k % 4) (sym n_is) ∙ eqb-true (total l % 4) 0 t
+    | inr g ↦ fours-find x layouts n (rw t at all) (rw g at e)
+  ]
+]
+
+pub fours-shown : (x : List ℕ) (layouts : List Layout) (n : ℕ) → are_fours layouts ≡ true → shown layouts x ≡ Some n → n % 4 ≡ 0
+fours-shown x layouts n all e = elim (cases_Bool (is_within_code layouts x)) [
+  | inl t ↦ cc (rw t at e)
+  | inr f ↦ fours-find x layouts n all (rw f at e)
+]
+
+-- of a good primitive the code shows so many characters
+pub shown-good : (layouts : List Layout) (x : List ℕ) (n : ℕ) → verdict layouts x ≡ good n → shown layouts x ≡ Some n
+shown-good layouts x n e = at (is_within_code layouts x) (find (has_code x) layouts) e
+  where
+    judged : (l : Layout) (large other : Bool) → (if large then bad PadBits else if other then bad OtherIndex else good (total l)) ≡ good n → total l ≡ n
+    judged l true other e = cc e
+    judged l false true e = cc e
+    judged l false false e = cc e
+
+    chars : (l : Layout) (place : Option ℕ) → whole_verdict l (take (total l) x) place ≡ good n → total l ≡ n
+    chars l (Some place) e = cc e
+    chars l None e = judged l (nat_le (256 ^ l.bytes) (number_of_text (drop (length l.code + l.index) (take (total l) x)))) (has_other_index l (take (total l) x)) e
+
+    sized : (l : Layout) (few : Bool)
+        → (if few then short else whole_verdict l (take (total l) x) (position (λ c. not (is_character c)) (take (total l) x))) ≡ good n → total l ≡ n
+    sized l true e = cc e
+    sized l false e = chars l (position (λ c. not (is_character c)) (take (total l) x)) e
+
+    at : (within : Bool) (l : Option Layout) → (if within then short else layout_verdict l x) ≡ good n → (if within then None else option_map total l) ≡ Some n
+    at true l e = cc e
+    at false None e = cc e
+    at false (Some l) e = ap Some (sized l (nat_lt (length x) (total l)) e)

@@ -1,7 +1,10 @@
 pub mod Parts
 pub mod Front
 pub mod Judged
+pub mod Groups
 pub mod Texts
 pub mod FrontItem
 pub mod Items
+pub mod Messages
+pub mod Assembly
 pub mod Reading

@@ -7,11 +7,12 @@ use Rattle.std.specs.declared.result.Result.TheVariants.{Ok, Err}
 use Rattle.cesr_stream.specs.declared.bad.Bad.{Bad}
 use Rattle.cesr_stream.specs.declared.bad.BadReason.{BadReason}
 use Rattle.cesr_stream.specs.declared.bad.BadReason.TheVariants.{Truncated}
+use Rattle.cesr_stream.specs.declared.item.Item.{Item}
 use Rattle.cesr_stream.specs.declared.step.Step.{Step}
 use Rattle.cesr_stream.specs.declared.step.Step.TheVariants.{Item as ItemStep, NeedMore, Bad as BadStep}
 use Rattle.cesr_stream.specs.Parts.{Part, whole, refused, unfinished}
 use Rattle.cesr_stream.specs.Front.{front}
-use Rattle.cesr_stream.specs.Texts.{item_text}
+use Rattle.cesr_stream.specs.Texts.{SpellsItem}
 
 -- How many bytes a body may have; all bytes that were fed; where the rest begins, behind the items that were answered;
 -- whether a body was among them; why the stream was refused; whether no item was there since the last piece.
@@ -48,12 +49,12 @@ abbrev pub bad_at : ℕ → BadReason → Bad
 bad_at place reason = record { place = place; reason = reason }
 
 -- an item was answered that is spelled at the front of the rest, with its place
-pub record AnswersItem (old new : Reading) (text : List ℕ) (place : ℕ) : Type 0 where
+pub record AnswersItem (old new : Reading) (item : Item) (place : ℕ) : Type 0 where
   pub not_bad : old.bad ≡ None
   pub length_of : ℕ
   pub at : place ≡ old.place
   pub is_whole : judged old ≡ whole length_of
-  pub spelled : take length_of (rest old) ≡ text
+  pub spelled : SpellsItem (take length_of (rest old)) item
   pub moved : new ≡ record old { place = old.place + length_of; begun = true; drained = false }
 
 -- a rule refuses the rest for the first time
@@ -72,7 +73,7 @@ Stops old new (BadStep bad) = AnswersBad old new bad
 
 -- what `next` answers
 abbrev pub Answers : {E : Type 0} → Reading → Reading → Result Step E → Type 0
-Answers old new (Ok (ItemStep item place)) = AnswersItem old new (item_text item) place
+Answers old new (Ok (ItemStep item place)) = AnswersItem old new item place
 Answers old new (Ok NeedMore) = (old.bad ≡ None) × (judged old ≡ unfinished) × (new ≡ record old { drained = true })
 Answers old new (Ok (BadStep bad)) = ((old.bad ≡ Some bad) × (new ≡ old)) ⊎ AnswersBad old new bad
 Answers old new (Err e) = new ≡ old

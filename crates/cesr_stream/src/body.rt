@@ -1,5 +1,5 @@
 //! Bodies at the front of a stream.
-ghost use Rattle.std.specs.Prelude.{◌≡◌, ◌≤◌, length, bytes_eq};
+ghost use Rattle.std.specs.Prelude.{◌≡◌, ◌≤◌, ℕ, length, bytes_eq};
 ghost use Rattle.cesr_stream.specs.Front.{body_part, has_version, size_of};
 ghost use Rattle.cesr_stream.specs.Judged.{part_of, IsWithin};
 
@@ -15,6 +15,7 @@ const HEAD: usize = 24;
 pub(crate) fn judge_body(bytes: &[u8], limit: u32) -> Part
     ensures judged { part_of result ≡ body_part limit bytes.now }
     ensures within { IsWithin bytes.now result }
+    ensures head { (n : ℕ) → result ≡ Part.Whole n → 24 ≤ n }
 {
     if bytes.len() < HEAD {
         return Part::Unfinished;

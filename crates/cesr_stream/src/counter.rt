@@ -1,23 +1,23 @@
 //! Counters at the front of a stream.
-ghost use Rattle.std.specs.Prelude.{◌≡◌, ◌≤◌, ◌<◌, ℕ, length, slice_index};
-ghost use Rattle.cesr_stream.specs.Front.{counter_part, count_of};
+ghost use Rattle.std.specs.Prelude.{◌≡◌, ◌≤◌, ◌<◌, ◌^◌, ℕ, length, slice_index};
+ghost use Rattle.cesr_stream.specs.Front.{counter_part, count_of, is_group};
 ghost use Rattle.cesr_stream.specs.Judged.{part_of, IsWithin};
 
 use crate::BadReason;
 use crate::part::Part;
 use cesr_codes::{CodeFault, digit, is_symbol};
 
-/// How the counter at the front is judged.
+/// How the counter at the front is judged, whose letter is supported there or not.
 #[tactic(auto, unfolding(crate::specs::Front::counter_part))]
-pub(crate) fn judge_counter(bytes: &[u8]) -> Part
-    ensures judged { part_of result ≡ counter_part bytes.now }
+pub(crate) fn judge_counter(bytes: &[u8], supported: bool) -> Part
+    ensures judged { part_of result ≡ counter_part supported bytes.now }
     ensures within { IsWithin bytes.now result }
     ensures head { (n : ℕ) → result ≡ Part.Whole n → (n ≡ 4) × (4 ≤ length bytes.now) }
 {
     if bytes.len() < 2 {
         return Part::Unfinished;
     }
-    if bytes[1] != b'A' {
+    if !supported {
         return Part::Refused(0, BadReason::GroupNotSupported);
     }
     if bytes.len() < 4 {
@@ -35,7 +35,25 @@ pub(crate) fn judge_counter(bytes: &[u8]) -> Part
 /// How many elements a whole counter counts.
 pub(crate) fn count(bytes: &[u8]) -> usize
     requires { 4 ≤ length bytes.now }
-    ensures { result ≡ count_of bytes.now }
+    ensures counted { result ≡ count_of bytes.now }
+    ensures few { result < 2 ^ 32 }
 {
     64 * usize::from(digit(bytes[2])) + usize::from(digit(bytes[3]))
+}
+
+/// The letter of the counter at the front, and 0 where it doesn't show.
+pub(crate) fn letter_of(bytes: &[u8]) -> u8
+    ensures { result ≡ slice_index bytes.now 1 }
+{
+    match bytes {
+        [_, letter, ..] => *letter,
+        _ => 0,
+    }
+}
+
+/// Whether the letter is that of a group.
+pub(crate) fn is_group(letter: u8) -> bool
+    ensures { result ≡ is_group letter }
+{
+    matches!(letter, b'A' | b'B' | b'C' | b'E' | b'G')
 }

@@ -1,19 +1,68 @@
 //! What counters count.
-ghost use Rattle.std.specs.Prelude.{List, ℕ};
+ghost use Rattle.std.specs.Prelude.{List, ℕ, Option};
 ghost use Rattle.cesr_stream.specs.Parts.{Part as PartOf};
 ghost use Rattle.cesr_stream.specs.Judged.{JudgesElement};
 
+use crate::pair::read_pair;
 use crate::part::Part;
+use crate::primitive::read_primitive;
+use crate::{AnchorCouple, Seen};
+use cesr_codes::{Digest, IndexedSig, Moment, Number};
 
 /// An element of a group.
 pub(crate) trait Element: Drop {
     /// Its text.
     ghost text: { Self → List ℕ };
 
-    /// How an element at the front is judged.
-    ghost judged: { List ℕ → PartOf };
+    /// How an element at the front is judged, where so much of a wrap is left.
+    ghost judged: { Option ℕ → List ℕ → PartOf };
 
     /// The element at the front and its length, or how it is judged where none is whole.
-    fn at_front(bytes: &[u8]) -> Result<(Self, usize), Part>
-        ensures { JudgesElement judged text bytes.now result };
+    fn at_front(bytes: &[u8], room: Option<usize>) -> Result<(Self, usize), Part>
+        ensures { JudgesElement (judged room) text bytes.now result };
+}
+
+impl Element for IndexedSig {
+    ghost use Rattle.cesr_codes.specs.Indexed.{indexed_text};
+    ghost use Rattle.cesr_stream.specs.Front.{signature_part};
+
+    ghost text = { indexed_text };
+
+    ghost judged = { signature_part };
+
+    fn at_front(bytes: &[u8], room: Option<usize>) -> Result<(IndexedSig, usize), Part> {
+        read_primitive::<IndexedSig>(bytes, room)
+    }
+}
+
+impl Element for Seen {
+    ghost use Rattle.cesr_stream.specs.Front.{seen_part};
+    ghost use Rattle.cesr_stream.specs.Texts.{seen_text};
+
+    ghost text = { seen_text };
+
+    ghost judged = { seen_part };
+
+    fn at_front(bytes: &[u8], room: Option<usize>) -> Result<(Seen, usize), Part> {
+        match read_pair::<Number, Moment>(bytes, room) {
+            Ok(((number, moment), length)) => Ok((Seen { number, moment }, length)),
+            Err(part) => Err(part),
+        }
+    }
+}
+
+impl Element for AnchorCouple {
+    ghost use Rattle.cesr_stream.specs.Front.{anchor_part};
+    ghost use Rattle.cesr_stream.specs.Texts.{anchor_text};
+
+    ghost text = { anchor_text };
+
+    ghost judged = { anchor_part };
+
+    fn at_front(bytes: &[u8], room: Option<usize>) -> Result<(AnchorCouple, usize), Part> {
+        match read_pair::<Number, Digest>(bytes, room) {
+            Ok(((number, digest), length)) => Ok((AnchorCouple { number, digest }, length)),
+            Err(part) => Err(part),
+        }
+    }
 }

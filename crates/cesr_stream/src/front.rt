@@ -1,15 +1,14 @@
 //! The item at the front of a stream.
 ghost use Rattle.std.specs.Prelude.{◌≡◌, IfOk, slice_index};
-ghost use Rattle.cesr_stream.specs.Front.{front, group_part, body_part, behind_body};
+ghost use Rattle.cesr_stream.specs.Front.{front, attached_part, body_part, behind_body};
 ghost use Rattle.cesr_stream.specs.FrontItem.{Judges};
-ghost use Rattle.cesr_stream.specs.Texts.{item_text, group_text};
+ghost use Rattle.cesr_stream.specs.Texts.{SpellsItem};
 
 use crate::body::judge_body;
-use crate::counter::{count, judge_counter};
-use crate::elements::{behind, read_elements};
+use crate::counter::letter_of;
+use crate::groups::{read_group, read_wrap};
 use crate::part::Part;
-use crate::{BadReason, Group, Item};
-use cesr_codes::IndexedSig;
+use crate::{BadReason, Item};
 use lists::Items;
 use std::alloc::{AllocError, Global};
 
@@ -22,12 +21,12 @@ pub(crate) fn read_item(
     begun: bool,
     limit: u32,
 ) -> Result<Result<(Item, usize), Part>, AllocError>
-    ensures { IfOk result (λ judged. Judges item_text (front limit begun bytes.now) bytes.now judged) }
+    ensures { IfOk result (λ judged. Judges SpellsItem (front limit begun bytes.now) bytes.now judged) }
 {
     match bytes.first() {
         None => Ok(Err(Part::Unfinished)),
         Some(b'{') => read_body(alloc, bytes, limit),
-        Some(b'-') => read_group_item(alloc, bytes, begun),
+        Some(b'-') => read_attached_item(alloc, bytes, begun),
         Some(_) => Ok(Err(Part::Refused(0, BadReason::NoStart))),
     }
 }
@@ -38,7 +37,8 @@ fn read_body(
     bytes: &[u8],
     limit: u32,
 ) -> Result<Result<(Item, usize), Part>, AllocError>
-    ensures { IfOk result (λ judged. Judges item_text (body_part limit bytes.now) bytes.now judged) }
+    requires { slice_index bytes.now 0 ≡ 123 }
+    ensures { IfOk result (λ judged. Judges SpellsItem (body_part limit bytes.now) bytes.now judged) }
 {
     match judge_body(bytes, limit) {
         Part::Whole(size) => {
@@ -50,36 +50,35 @@ fn read_body(
     }
 }
 
-// The group at the front, where a body came before.
-fn read_group_item(
+// The group or the wrap at the front, where a body came before.
+fn read_attached_item(
     alloc: Global,
     bytes: &[u8],
     begun: bool,
 ) -> Result<Result<(Item, usize), Part>, AllocError>
     requires { slice_index bytes.now 0 ≡ 45 }
-    ensures { IfOk result (λ judged. Judges item_text (behind_body begun (group_part bytes.now)) bytes.now judged) }
+    ensures { IfOk result (λ judged. Judges SpellsItem (behind_body begun (attached_part bytes.now)) bytes.now judged) }
 {
-    match read_group(alloc, bytes)? {
-        Ok((group, length)) if begun => Ok(Ok((Item::Group(group), length))),
+    match read_attached(alloc, bytes)? {
+        Ok(found) if begun => Ok(Ok(found)),
         Ok(_) => Ok(Err(Part::Refused(0, BadReason::GroupFirst))),
         Err(part) => Ok(Err(part)),
     }
 }
 
-// The group at the front.
-#[tactic(auto, unfolding(crate::specs::Front::group_part))]
-fn read_group(alloc: Global, bytes: &[u8]) -> Result<Result<(Group, usize), Part>, AllocError>
+// The group or the wrap at the front.
+fn read_attached(alloc: Global, bytes: &[u8]) -> Result<Result<(Item, usize), Part>, AllocError>
     requires { slice_index bytes.now 0 ≡ 45 }
-    ensures { IfOk result (λ judged. Judges group_text (group_part bytes.now) bytes.now judged) }
+    ensures { IfOk result (λ judged. Judges SpellsItem (attached_part bytes.now) bytes.now judged) }
 {
-    match judge_counter(bytes) {
-        Part::Whole(head) => {
-            match read_elements::<IndexedSig>(alloc, behind(bytes, head), count(bytes))? {
-                Ok((sigs, length)) => Ok(Ok((Group::Held(sigs), head + length))),
-                Err(part) => Ok(Err(part.behind(head))),
-            }
-        }
-        Part::Refused(place, reason) => Ok(Err(Part::Refused(place, reason))),
-        Part::Unfinished => Ok(Err(Part::Unfinished)),
+    if letter_of(bytes) == b'V' {
+        return match read_wrap(alloc, bytes)? {
+            Ok((groups, length)) => Ok(Ok((Item::Wrapped(groups), length))),
+            Err(part) => Ok(Err(part)),
+        };
+    }
+    match read_group(alloc, bytes, None)? {
+        Ok((group, length)) => Ok(Ok((Item::Group(group), length))),
+        Err(part) => Ok(Err(part)),
     }
 }

@@ -1,23 +1,39 @@
 //! Items and messages of a CESR stream.
 #![tactic(auto)]
 
+mod anchor_couple;
+mod assembler;
 mod bad;
 mod body;
 mod counter;
+mod couple;
 mod element;
 mod elements;
+mod fixed_key;
 mod front;
 mod group;
+mod groups;
 mod item;
+mod kept;
 mod laws;
+mod message;
+mod pair;
 mod part;
+mod primitive;
 mod reader;
-mod signature;
+mod seen;
 mod step;
+#[cfg(test)]
+mod tests;
 
+pub use anchor_couple::AnchorCouple;
+pub use assembler::Assembler;
 pub use bad::{Bad, BadReason};
+pub use couple::Couple;
 pub use group::Group;
 pub use item::Item;
 pub use laws::in_any_pieces;
+pub use message::Message;
 pub use reader::Reader;
+pub use seen::Seen;
 pub use step::Step;
