@@ -1,6 +1,7 @@
 //! What the files of an outside in memory hold.
-ghost use Rattle.std.specs.Prelude.{◌≡◌, Some, IfSome};
-ghost use Rattle.keri_outside.specs.Files.{held_under};
+ghost use Rattle.std.specs.Prelude.{◌≡◌, IfSome};
+ghost use Rattle.std.specs.Option.{option_map};
+ghost use Rattle.keri_outside.specs.Files.{file_named, held_under};
 ghost use Rattle.keri_outside.specs.Memory.{source_left, source_faults};
 
 use crate::{MemFile, MemSource};
@@ -9,14 +10,11 @@ use std::alloc::Global;
 
 // The first file of a name.
 fn find<'a>(files: &'a [MemFile], name: &str) -> Option<&'a MemFile>
-    ensures { IfSome result (λ file. held_under files.now name.now ≡ Some file.now.bytes) }
+    ensures { option_map (λ file. file.now) result ≡ file_named files.now name.now }
 {
-    for file in files {
-        if file.name.as_slice() == name.as_bytes() {
-            return Some(file);
-        }
-    }
-    None
+    files
+        .iter()
+        .find(|file| file.name.as_slice() == name.as_bytes())
 }
 
 // A source of the name, where there is a file and memory for its copy.

@@ -6,6 +6,7 @@ use lists::Items;
 #[derive(Clone, Copy, PartialEq, Eq, Debug)]
 pub enum MakingKind {
     Source,
+    Verifier,
 }
 
 /// A making: what, under which name, and whether it failed.

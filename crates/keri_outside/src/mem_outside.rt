@@ -2,7 +2,11 @@
 ghost use Rattle.std.specs.Prelude.{◌≡◌, [], Some};
 
 use crate::files::source_of;
-use crate::{Failed, Limits, Making, MakingKind, MemFile, MemSink, MemSource, Outside};
+use crate::helpers::verifier_of;
+use crate::{
+    Failed, Limits, Making, MakingKind, MemFile, MemHelper, MemSink, MemSource, MemVerifier,
+    Outside,
+};
 use lists::Items;
 use std::alloc::{AllocError, Global};
 
@@ -11,6 +15,7 @@ use std::alloc::{AllocError, Global};
 pub struct MemOutside {
     alloc: Global,
     files: Items<MemFile>,
+    helpers: Items<MemHelper>,
     failing: Items<u64>,
     calls: u64,
     makings: Items<Making>,
@@ -21,12 +26,13 @@ pub struct MemOutside {
 }
 
 impl MemOutside {
-    ghost use Rattle.std.specs.Prelude.{◌≡◌, ◌++◌, ◌∷◌, [], Some, IfSome, OnOk, OnErr};
+    ghost use Rattle.std.specs.Prelude.{◌≡◌, ◌≤◌, ◌++◌, ◌∷◌, [], true, Some, IfSome, OnOk, OnErr};
+    ghost use Rattle.keri_specs.specs.Causes.{Rose};
     ghost use Rattle.keri_outside.specs.Memory.{outside_told, outside_sink};
     ghost use Rattle.keri_outside.specs.Told.{Grows, first_told, making};
-    ghost use Rattle.keri_outside.specs.declared.making.MakingKind.TheVariants.{Source as SourceKind};
+    ghost use Rattle.keri_outside.specs.Helpers.{says_under};
 
-    /// An outside with these files and this sink. Its makings of the numbers in `failing`, counted from 0, fail.
+    /// An outside with these files, this sink and no helpers. Its makings of the numbers in `failing`, counted from 0, fail.
     pub fn new(
         alloc: Global,
         files: Items<MemFile>,
@@ -40,6 +46,7 @@ impl MemOutside {
         MemOutside {
             alloc,
             files,
+            helpers: Items::new(alloc),
             failing,
             calls: 0,
             makings: Items::new(alloc),
@@ -48,6 +55,14 @@ impl MemOutside {
             faults: 0,
             limits,
         }
+    }
+
+    /// It with these helpers.
+    pub fn with_helpers(self, helpers: Items<MemHelper>) -> MemOutside
+        ensures told { outside_told result ≡ record (outside_told self) { says = says_under helpers } }
+        ensures sink { outside_sink result ≡ outside_sink self }
+    {
+        MemOutside { helpers, ..self }
     }
 
     /// The sink.
@@ -64,28 +79,45 @@ impl MemOutside {
         self.makings.as_slice()
     }
 
-    // Notes a making of a source. Without memory for that the makings are told no more.
-    fn note(&mut self, name: &str, failed: bool)
-        ensures makings { Grows (outside_told self.old).makings (outside_told self.new).makings SourceKind name.now failed }
+    // Notes a making. Without memory for that the makings are told no more.
+    fn note(&mut self, kind: MakingKind, name: &str, failed: bool)
+        ensures makings { Grows (outside_told self.old).makings (outside_told self.new).makings kind name.now failed }
         ensures same { self.new ≡ record self.old { makings = self.new.makings; telling = self.new.telling } }
     {
-        if self.telling && self.push(name, failed).is_err() {
+        if self.telling && self.push(kind, name, failed).is_err() {
             self.telling = false;
         }
     }
 
-    // Adds a making of a source.
-    fn push(&mut self, name: &str, failed: bool) -> Result<(), AllocError>
-        ensures ok { OnOk result (self.new ≡ record self.old { makings = self.old.makings ++ making SourceKind name.now failed ∷ [] }) }
+    // Adds a making.
+    fn push(&mut self, kind: MakingKind, name: &str, failed: bool) -> Result<(), AllocError>
+        ensures ok { OnOk result (self.new ≡ record self.old { makings = self.old.makings ++ making kind name.now failed ∷ [] }) }
         ensures err { OnErr result (self.new ≡ self.old) }
     {
         let name = Items::from_vec(Vec::from_slice(self.alloc, name.as_bytes())?);
-        self.makings.push(Making {
-            kind: MakingKind::Source,
-            name,
-            failed,
-        })?;
+        self.makings.push(Making { kind, name, failed })?;
         Ok(())
+    }
+
+    // Whether the making that comes now is to fail.
+    fn next_fails(&mut self) -> bool
+        ensures same { self.new ≡ record self.old { calls = self.new.calls } }
+    {
+        let call = self.calls;
+        self.calls = self.calls.saturating_add(1);
+        self.failing.as_slice().contains(&call)
+    }
+
+    // Notes a making that fails.
+    fn fail(&mut self, kind: MakingKind, name: &str) -> Failed
+        ensures makings { Grows (outside_told self.old).makings (outside_told self.new).makings kind name.now true }
+        ensures count { Rose self.old.faults self.new.faults }
+        ensures later { self.old.faults ≤ self.new.faults }
+        ensures same { self.new ≡ record self.old { makings = self.new.makings; telling = self.new.telling; faults = self.new.faults } }
+    {
+        self.note(kind, name, true);
+        self.faults = self.faults.saturating_add(1);
+        Failed
     }
 }
 
@@ -94,6 +126,8 @@ impl Outside for MemOutside {
     ghost use Rattle.keri_outside.specs.Memory.{outside_told, outside_sink};
 
     type Source = MemSource;
+
+    type Verifier = MemVerifier;
 
     type Sink = MemSink;
 
@@ -108,19 +142,24 @@ impl Outside for MemOutside {
     ghost tells_the_same = { λ outside other. refl };
 
     fn source(&mut self, name: &str) -> Result<MemSource, Failed> {
-        let call = self.calls;
-        self.calls = self.calls.saturating_add(1);
-        let fails = self.failing.as_slice().contains(&call);
+        let fails = self.next_fails();
         match source_of(self.alloc, self.files.as_slice(), name) {
             Some(source) if !fails => {
-                self.note(name, false);
+                self.note(MakingKind::Source, name, false);
                 Ok(source)
             }
-            _ => {
-                self.note(name, true);
-                self.faults = self.faults.saturating_add(1);
-                Err(Failed)
+            _ => Err(self.fail(MakingKind::Source, name)),
+        }
+    }
+
+    fn verifier(&mut self, name: &str) -> Result<MemVerifier, Failed> {
+        let fails = self.next_fails();
+        match verifier_of(self.alloc, self.helpers.as_slice(), name) {
+            Some(verifier) if !fails => {
+                self.note(MakingKind::Verifier, name, false);
+                Ok(verifier)
             }
+            _ => Err(self.fail(MakingKind::Verifier, name)),
         }
     }
 

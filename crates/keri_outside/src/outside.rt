@@ -2,13 +2,15 @@
 ghost use Rattle.std.specs.Prelude.{◌≡◌, IfOk};
 ghost use Rattle.std.specs.Borrow.{Lends, sem};
 ghost use Rattle.keri_outside.specs.Told.{Told, Makes};
-ghost use Rattle.keri_outside.specs.declared.making.MakingKind.TheVariants.{Source as SourceKind};
+ghost use Rattle.keri_outside.specs.declared.making.MakingKind.TheVariants.{Source as SourceKind, Verifier as VerifierKind};
 
-use crate::{Failed, Limits, Sink, Source};
+use crate::{Failed, Limits, Sink, Source, Verifier};
 
 /// The objects that a program is given. What it gives out starts with a count of no faults.
 pub trait Outside {
     type Source: Source + Drop;
+
+    type Verifier: Verifier + Drop;
 
     type Sink: Sink + Drop;
 
@@ -25,6 +27,13 @@ pub trait Outside {
         ensures makes { Makes SourceKind name.now (told self.old) (told self.new) result }
         ensures holds { IfOk result (λ source. Self.Source.left source ≡ (told self.old).holds name.now) }
         ensures none_yet { IfOk result (λ source. Self.Source.faults source ≡ 0) }
+        ensures same_sink { sink self.new ≡ sink self.old };
+
+    /// Makes the verifier of a name.
+    fn verifier(&mut self, name: &str) -> Result<Self::Verifier, Failed>
+        ensures makes { Makes VerifierKind name.now (told self.old) (told self.new) result }
+        ensures says { IfOk result (λ verifier. Self.Verifier.says verifier ≡ (told self.old).says name.now) }
+        ensures none_yet { IfOk result (λ verifier. Self.Verifier.faults verifier ≡ 0) }
         ensures same_sink { sink self.new ≡ sink self.old };
 
     /// Lends the sink.

@@ -1,0 +1,32 @@
+//! What the helpers of an outside in memory say.
+ghost use Rattle.std.specs.Prelude.{◌≡◌, IfSome};
+ghost use Rattle.std.specs.Option.{option_map};
+ghost use Rattle.keri_outside.specs.Helpers.{helper_named, says_under};
+ghost use Rattle.keri_outside.specs.Memory.{verifier_says, verifier_faults};
+
+use crate::{MemHelper, MemVerifier};
+use lists::CopyValue;
+use std::alloc::Global;
+
+// The first helper of a name.
+fn find<'a>(helpers: &'a [MemHelper], name: &str) -> Option<&'a MemHelper>
+    ensures { option_map (λ helper. helper.now) result ≡ helper_named helpers.now name.now }
+{
+    helpers
+        .iter()
+        .find(|helper| helper.name.as_slice() == name.as_bytes())
+}
+
+// A verifier of the name, where there is a helper and memory.
+pub(crate) fn verifier_of(alloc: Global, helpers: &[MemHelper], name: &str) -> Option<MemVerifier>
+    ensures says { IfSome result (λ verifier. verifier_says verifier ≡ says_under helpers.now name.now) }
+    ensures faults { IfSome result (λ verifier. verifier_faults verifier ≡ 0) }
+{
+    let Some(helper) = find(helpers, name) else {
+        return None;
+    };
+    let Ok(failing) = helper.failing.copy(alloc) else {
+        return None;
+    };
+    Some(MemVerifier::new(helper.rule, failing))
+}
