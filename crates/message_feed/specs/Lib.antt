@@ -1,0 +1,4 @@
+pub mod Serving
+pub mod Closing
+pub mod Pieces
+pub mod Feeds

@@ -1,0 +1,70 @@
+-- What stands while the items of a stream are taken.
+use Rattle.std.specs.Prelude.{◌≡◌, ℕ, ◌+◌, true, List, [], ◌∷◌, ◌++◌}
+use Rattle.std.specs.declared.option.Option.{Option}
+use Rattle.std.specs.declared.option.Option.TheVariants.{None, Some}
+use Rattle.std.specs.declared.result.Result.{Result}
+use Rattle.std.specs.declared.result.Result.TheVariants.{Ok, Err}
+use Rattle.cesr_stream.specs.declared.bad.Bad.{Bad}
+use Rattle.cesr_stream.specs.declared.item.Item.{Item}
+use Rattle.cesr_stream.specs.declared.message.Message.{Message}
+use Rattle.cesr_stream.specs.Parts.{refused, unfinished}
+use Rattle.cesr_stream.specs.Items.{Placed, placed, Stand}
+use Rattle.cesr_stream.specs.Reading.{Reading, judged}
+use Rattle.cesr_stream.specs.Assembly.{Assembly, IsAssembled}
+use Rattle.message_feed.specs.declared.halt.Halt.{Halt}
+use Rattle.message_feed.specs.declared.halt.Halt.TheVariants.{OutOfMemory, Stopped}
+
+-- the stream and the limits are the same
+pub record SameStream (old new : Reading) (assembler_old assembler_new : Assembly) : Type 0 where
+  pub fed : new.fed ≡ old.fed
+  pub body_limit : new.limit ≡ old.limit
+  pub message_limit : assembler_new.limit ≡ assembler_old.limit
+
+-- the reader has judged all that was fed, and no item is whole in the rest
+pub record IsIdle (reading : Reading) : Type 0 where
+  pub not_bad : reading.bad ≡ None
+  pub drained : reading.drained ≡ true
+  pub unfinished_item : judged reading ≡ unfinished
+
+-- a rule refuses the rest, at its place in the stream
+pub record IsRefused (reading : Reading) (bad : Bad) : Type 0 where
+  pub within : ℕ
+  pub is_refused : judged reading ≡ refused within bad.reason
+  pub at : bad.place ≡ reading.place + within
+
+-- no item is whole in the rest, or a rule refuses it
+abbrev pub StandsAt : Option Bad → Reading → Type 0
+StandsAt None reading = IsIdle reading
+StandsAt (Some bad) reading = IsRefused reading bad
+
+module _ {T : Type 0} (has_taken : T → List Message → Type 0) where
+  -- the messages that are ended were taken
+  pub record Serves (reading : Reading) (assembler : Assembly) (taker : T) : Type 0 where
+    pub items : List Placed
+    pub answered : List Message
+    pub stand : Stand reading.limit reading.fed items reading.begun reading.place
+    pub assembled : IsAssembled assembler.limit items answered assembler
+    pub taken : has_taken taker answered
+
+  module _ {St : Type 0} (has_stopped : T → St → List Message → Type 0) where
+    -- the taker stopped at the last message that is ended
+    pub record StopsAt (stop : St) (reading : Reading) (assembler : Assembly) (taker : T) : Type 0 where
+      pub items : List Placed
+      pub answered : List Message
+      pub stand : Stand reading.limit reading.fed items reading.begun reading.place
+      pub assembled : IsAssembled assembler.limit items answered assembler
+      pub stopped : has_stopped taker stop answered
+
+    -- why items are taken no further; the last one may be lost where there is no memory
+    abbrev pub Halts : Halt St → Reading → Assembly → T → Type 0
+    Halts OutOfMemory reading assembler taker = (earlier : Reading) × (earlier.fed ≡ reading.fed) × (earlier.limit ≡ reading.limit) × Serves earlier assembler taker
+    Halts (Stopped stop) reading assembler taker = StopsAt stop reading assembler taker
+
+    -- An item was pushed, and the message that it ends was taken; or there was no memory, and nothing has changed; or the
+    -- taker stopped at that message.
+    abbrev pub HandsOn : {A : Type 0} → Item → ℕ → Assembly → Assembly → T → T → Result A (Halt St) → Type 0
+    HandsOn item place before after old new (Ok done) = (limit : ℕ) (items : List Placed) (answered : List Message) → IsAssembled limit items answered before → has_taken old answered
+        → (more : List Message) × IsAssembled limit (items ++ placed place item ∷ []) (answered ++ more) after × has_taken new (answered ++ more)
+    HandsOn item place before after old new (Err OutOfMemory) = (after ≡ before) × (new ≡ old)
+    HandsOn item place before after old new (Err (Stopped stop)) = (limit : ℕ) (items : List Placed) (answered : List Message) → IsAssembled limit items answered before → has_taken old answered
+        → (more : List Message) × IsAssembled limit (items ++ placed place item ∷ []) (answered ++ more) after × has_stopped new stop (answered ++ more)

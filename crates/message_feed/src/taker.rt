@@ -1,0 +1,22 @@
+//! What takes messages.
+ghost use Rattle.std.specs.Prelude.{◌≡◌, ◌∷◌, ◌++◌, [], List, OnOk, OnErr, IfErr};
+ghost use Rattle.cesr_stream.specs.declared.message.Message.{Message as MessageValue};
+
+use cesr_stream::Message;
+
+/// Takes the messages of a stream, one by one.
+pub trait Taker {
+    /// Why it takes no more.
+    type Stop: Copy;
+
+    /// It has taken these messages, in order.
+    ghost has_taken: { Self → List MessageValue → Type 0 };
+
+    /// It has stopped so at the last of these messages, and has taken those before it.
+    ghost has_stopped: { Self → Self.Stop → List MessageValue → Type 0 };
+
+    /// Takes a message.
+    fn take(&mut self, message: Message) -> Result<(), Self::Stop>
+        ensures ok { OnOk result ((before : List MessageValue) → has_taken self.old before → has_taken self.new (before ++ message ∷ [])) }
+        ensures err { IfErr result (λ stop. (before : List MessageValue) → has_taken self.old before → has_stopped self.new stop (before ++ message ∷ [])) };
+}
