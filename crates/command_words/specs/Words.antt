@@ -4,15 +4,17 @@ use Rattle.std.specs.Str.{bytes_eq}
 use Rattle.std.specs.declared.option.Option.{Option}
 use Rattle.std.specs.declared.option.Option.TheVariants.{None, Some}
 use Rattle.command_words.specs.declared.command.Command.{Command}
-use Rattle.command_words.specs.declared.command.Command.TheVariants.{Check}
+use Rattle.command_words.specs.declared.command.Command.TheVariants.{Check, Validate}
 
--- what may be asked for, by the bytes of the words
+-- what may be asked for, by the bytes of the words: of `check` a file, of `validate` a helper and a file
 pub data Asked : Type 0 where
   check : List ℕ → Asked
+  validate : List ℕ → List ℕ → Asked
 
 -- what a command asks for
 abbrev pub asked_by : Command → Asked
 asked_by (Check file) = check file.now
+asked_by (Validate helper file) = validate helper.now file.now
 
 -- a word that names a file: `-` is standard input, and no other begins with it
 abbrev pub is_file : List ℕ → Bool
@@ -20,9 +22,17 @@ is_file [] = true
 is_file (c ∷ []) = true
 is_file (c ∷ d ∷ word) = not (c == 45)
 
--- what words ask for: `check FILE` is the one form
+-- the words of an option that names a helper, of which the rehearsal is the one that there is
+abbrev pub are_helper : List ℕ → List ℕ → Bool
+are_helper option helper = bytes_eq option (codes "--helper") && bytes_eq helper (codes "rehearsal")
+
+-- what words ask for: the forms are `check FILE` and `validate --helper rehearsal FILE`
 abbrev pub asks : List (List ℕ) → Option Asked
 asks [] = None
 asks (name ∷ []) = None
 asks (name ∷ file ∷ []) = if bytes_eq name (codes "check") && is_file file then Some (check file) else None
-asks (name ∷ file ∷ word ∷ words) = None
+asks (name ∷ option ∷ helper ∷ []) = None
+asks (name ∷ option ∷ helper ∷ file ∷ []) =
+    if bytes_eq name (codes "validate") && (are_helper option helper && is_file file) then Some (validate helper file)
+    else None
+asks (name ∷ option ∷ helper ∷ file ∷ word ∷ words) = None

@@ -1,39 +1,88 @@
--- The lines that are written. Each ends with a line feed; words are parted by one space.
-use Rattle.std.specs.Prelude.{ℕ, false, List, ◌++◌, codes}
+-- The lines that are written: words that are parted by one space, and a line feed.
+use Rattle.std.specs.Prelude.{ℕ, false, List, [], ◌∷◌, ◌++◌, codes}
 use Rattle.std.specs.Fmt.{decimal, digits}
 use Rattle.cesr_codes.specs.Spelling.{digest_text, prefix_text}
-use Rattle.report_lines.specs.declared.sizes.Sizes.{Sizes}
-use Rattle.event_body.specs.declared.event.ReceiptBody.{ReceiptBody}
+use Rattle.cesr_codes.specs.declared.digest.Digest.{Digest}
+use Rattle.cesr_codes.specs.declared.prefix.Prefix.{Prefix}
+use Rattle.cesr_stream.specs.declared.bad.Bad.{Bad}
+use Rattle.event_body.specs.Events.{kind_of, prefix_of, sn_of, said_of}
 use Rattle.event_body.specs.declared.event.Event.{Event}
-use Rattle.event_body.specs.declared.event.Event.TheVariants.{Rct}
-use Rattle.event_body.specs.declared.body_fault.BodyFault.{BodyFault}
-use Rattle.event_body.specs.declared.body_fault.BodyFault.TheVariants.{Field, SizeField, Said, Prefix, Threshold, Witnesses, TooMany, NumberTooLarge, TooLarge}
+use Rattle.journal.specs.declared.reply.Reason.{Reason}
+use Rattle.journal.specs.declared.why.Why.{Why}
+use Rattle.report_lines.specs.Words.{bad_word, reason_word, standing_word, why_word}
+use Rattle.report_lines.specs.declared.sizes.Sizes.{Sizes}
+use Rattle.report_lines.specs.declared.standing.Standing.{Standing}
+use Rattle.report_lines.specs.declared.state_sizes.StateSizes.{StateSizes}
 
--- the word of a fault
-abbrev pub fault_word : BodyFault → List ℕ
-fault_word (Field n) = codes "field " ++ decimal n
-fault_word SizeField = codes "size"
-fault_word Said = codes "said"
-fault_word Prefix = codes "prefix"
-fault_word Threshold = codes "threshold"
-fault_word Witnesses = codes "witnesses"
-fault_word TooMany = codes "many"
-fault_word NumberTooLarge = codes "number"
-fault_word TooLarge = codes "large"
+-- words, parted by one space
+abbrev pub spaced : List (List ℕ) → List ℕ
+spaced [] = []
+spaced (word ∷ []) = word
+spaced (word ∷ next ∷ words) = word ++ (codes " " ++ spaced (next ∷ words))
+
+-- the line of words
+abbrev pub line : List (List ℕ) → List ℕ
+line [] = codes "\n"
+line (word ∷ []) = word ++ codes "\n"
+line (word ∷ next ∷ words) = word ++ (codes " " ++ line (next ∷ words))
+
+-- the number of an event, in hexadecimal
+abbrev pub number : ℕ → List ℕ
+number sn = digits 16 false sn
+
+-- a name and its number
+abbrev pub named : List ℕ → ℕ → List ℕ
+named name n = name ++ (codes "=" ++ decimal n)
 
 -- the bytes of a body, and the numbers of its signatures and receipts
 abbrev pub sizes_text : Sizes → List ℕ
-sizes_text sizes = codes "size=" ++ (decimal sizes.bytes ++ (codes " signatures=" ++ (decimal sizes.signatures ++ (codes " receipts=" ++ decimal sizes.receipts))))
+sizes_text sizes = spaced (named (codes "size") sizes.bytes ∷ named (codes "signatures") sizes.signatures
+    ∷ named (codes "receipts") sizes.receipts ∷ [])
 
--- `rct`, the prefix, the number in hexadecimal, the digest, and the sizes
-abbrev pub receipt_text : ReceiptBody → Sizes → List ℕ
-receipt_text receipt sizes = codes "rct " ++ (prefix_text receipt.prefix ++ (codes " " ++ (digits 16 false receipt.sn ++ (codes " " ++ (digest_text receipt.said
-    ++ (codes " " ++ (sizes_text sizes ++ codes "\n")))))))
-
--- the line of an event, by its kind
+-- the kind, the prefix, the number, the digest, and the sizes
 abbrev pub event_text : Event → Sizes → List ℕ
-event_text (Rct receipt) sizes = receipt_text receipt sizes
+event_text event sizes = line (kind_of event ∷ prefix_text (prefix_of event) ∷ number (sn_of event)
+    ∷ digest_text (said_of event) ∷ sizes_text sizes ∷ [])
+
+-- `event`, the prefix, the number, the kind, the digest, and how it stands
+abbrev pub accepted_text : Event → Standing → List ℕ
+accepted_text event standing = line (codes "event" ∷ prefix_text (prefix_of event) ∷ number (sn_of event)
+    ∷ kind_of event ∷ digest_text (said_of event) ∷ standing_word standing ∷ [])
+
+-- `waits`, the prefix, the number, the digest, and why
+abbrev pub waits_text : Event → Why → List ℕ
+waits_text event why = line (codes "waits" ∷ prefix_text (prefix_of event) ∷ number (sn_of event)
+    ∷ digest_text (said_of event) ∷ why_word why ∷ [])
+
+-- the numbers of keys and witnesses, and the threshold of receipts
+abbrev pub state_sizes_text : StateSizes → List ℕ
+state_sizes_text sizes = spaced (named (codes "keys") sizes.keys ∷ named (codes "witnesses") sizes.witnesses
+    ∷ named (codes "toad") sizes.toad ∷ [])
+
+-- `state`, the prefix, the number, the digest, and the sizes
+abbrev pub state_text : Prefix → ℕ → Digest → StateSizes → List ℕ
+state_text prefix sn said sizes = line (codes "state" ∷ prefix_text prefix ∷ number sn
+    ∷ digest_text said ∷ state_sizes_text sizes ∷ [])
 
 -- `refused`, the reader's number, the message's place, and why
-abbrev pub refused_text : ℕ → ℕ → BodyFault → List ℕ
-refused_text reader place fault = codes "refused " ++ (decimal reader ++ (codes " " ++ (decimal place ++ (codes " " ++ (fault_word fault ++ codes "\n")))))
+abbrev pub refused_text : ℕ → ℕ → Reason → List ℕ
+refused_text reader place reason = line (codes "refused" ∷ decimal reader ∷ decimal place ∷ reason_word reason ∷ [])
+
+-- `malformed`, the reader's number, the place of the rule that fails, and which it is
+abbrev pub malformed_text : ℕ → Bad → List ℕ
+malformed_text reader bad = line (codes "malformed" ∷ decimal reader ∷ decimal bad.place ∷ bad_word bad.reason ∷ [])
+
+-- `fault`, the reader's number, and what failed
+abbrev pub read_fault_text : ℕ → List ℕ
+read_fault_text reader = line (codes "fault" ∷ decimal reader ∷ codes "read" ∷ [])
+
+abbrev pub verifier_fault_text : ℕ → List ℕ
+verifier_fault_text reader = line (codes "fault" ∷ decimal reader ∷ codes "verifier" ∷ [])
+
+-- the reader that a limit ended
+abbrev pub full_text : ℕ → List ℕ
+full_text reader = line (codes "full" ∷ decimal reader ∷ [])
+
+-- the reader that want of memory ended
+abbrev pub memory_text : ℕ → List ℕ
+memory_text reader = line (codes "memory" ∷ decimal reader ∷ [])

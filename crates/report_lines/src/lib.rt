@@ -1,9 +1,21 @@
 //! The lines that the commands write.
 #![tactic(auto)]
 
+mod bad_word;
+mod code_word;
+mod fault_word;
 mod lines;
+mod reader_lines;
+mod reason_word;
 mod sizes;
-mod word;
+mod standing;
+mod state_sizes;
+mod why_word;
 
-pub use lines::{READ_FAULT, WORDS, event_line, refused_line};
+pub use lines::{WORDS, accepted_line, event_line, state_line, waits_line};
+pub use reader_lines::{
+    full_line, malformed_line, memory_line, read_fault_line, refused_line, verifier_fault_line,
+};
 pub use sizes::Sizes;
+pub use standing::Standing;
+pub use state_sizes::StateSizes;

@@ -1,44 +1,59 @@
 //! Lines, each with its line feed.
 ghost use Rattle.std.specs.Prelude.{◌≡◌, IfOk, string_bytes};
-ghost use Rattle.report_lines.specs.Lines.{event_text, receipt_text, refused_text};
+ghost use Rattle.report_lines.specs.Lines.{accepted_text, event_text, state_text, waits_text};
 
-use crate::sizes::Sizes;
-use crate::word::FaultWord;
-use event_body::{BodyFault, Event, ReceiptBody};
+use crate::why_word::WhyWord;
+use crate::{Sizes, Standing, StateSizes};
+use cesr_codes::{Digest, Prefix};
+use event_body::{Event, kind_of, prefix_of, said_of_event, sn_of};
+use journal::Why;
 use std::alloc::{AllocError, Global};
 
 /// The line for words that aren't in the form.
 pub const WORDS: &str = "words\n";
 
-/// The line of the one reader whose source or its making failed.
-pub const READ_FAULT: &str = "fault 0 read\n";
-
 /// The line of an event with its sizes.
 pub fn event_line(alloc: Global, event: &Event, sizes: Sizes) -> Result<String, AllocError>
     ensures { IfOk result (λ line. string_bytes line ≡ event_text event.now sizes) }
 {
-    match event {
-        Event::Rct(receipt) => receipt_line(alloc, receipt, sizes),
-    }
+    let kind = kind_of(event);
+    let prefix = prefix_of(event);
+    let sn = sn_of(event);
+    let said = said_of_event(event);
+    format!(in alloc; "{kind} {prefix} {sn:x} {said} {sizes}\n")
 }
 
-// The line of a receipt.
-fn receipt_line(alloc: Global, receipt: &ReceiptBody, sizes: Sizes) -> Result<String, AllocError>
-    ensures { IfOk result (λ line. string_bytes line ≡ receipt_text receipt.now sizes) }
+/// The line of an accepted event.
+pub fn accepted_line(alloc: Global, event: &Event, standing: Standing) -> Result<String, AllocError>
+    ensures { IfOk result (λ line. string_bytes line ≡ accepted_text event.now standing) }
 {
-    let ReceiptBody { said, prefix, sn } = *receipt;
-    format!(in alloc; "rct {prefix} {sn:x} {said} {sizes}\n")
+    let kind = kind_of(event);
+    let prefix = prefix_of(event);
+    let sn = sn_of(event);
+    let said = said_of_event(event);
+    format!(in alloc; "event {prefix} {sn:x} {kind} {said} {standing}\n")
 }
 
-/// The line of a message that a reader refuses: its number, the message's place in the stream, and the fault.
-pub fn refused_line(
+/// The line of an event that waits.
+pub fn waits_line(alloc: Global, event: &Event, why: Why) -> Result<String, AllocError>
+    ensures { IfOk result (λ line. string_bytes line ≡ waits_text event.now why) }
+{
+    let prefix = prefix_of(event);
+    let sn = sn_of(event);
+    let said = said_of_event(event);
+    let word = WhyWord(why);
+    format!(in alloc; "waits {prefix} {sn:x} {said} {word}\n")
+}
+
+/// The line of a key state: its identifier, the number and the digest of its last event, and its sizes.
+pub fn state_line(
     alloc: Global,
-    reader: u16,
-    place: u64,
-    fault: BodyFault,
+    prefix: &Prefix,
+    sn: u64,
+    said: &Digest,
+    sizes: StateSizes,
 ) -> Result<String, AllocError>
-    ensures { IfOk result (λ line. string_bytes line ≡ refused_text reader place fault) }
+    ensures { IfOk result (λ line. string_bytes line ≡ state_text prefix.now sn said.now sizes) }
 {
-    let word = FaultWord(fault);
-    format!(in alloc; "refused {reader} {place} {word}\n")
+    format!(in alloc; "state {prefix} {sn:x} {said} {sizes}\n")
 }

@@ -1,6 +1,6 @@
-//! The words of faults.
+//! The words of bodies that are refused.
 ghost use Rattle.std.specs.Prelude.{Some};
-ghost use Rattle.report_lines.specs.Lines.{fault_word};
+ghost use Rattle.report_lines.specs.Words.{fault_word};
 
 use event_body::BodyFault;
 use std::fmt;
