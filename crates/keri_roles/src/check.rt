@@ -1,79 +1,126 @@
-//! `check FILE`: reads one file and says how it is judged.
-ghost use Rattle.std.specs.Prelude.{◌≡◌, ◌≢◌, ◌⊎◌, is_none};
+//! `check FILE`: reads the stream of a file, and says of each message what it is.
+ghost use Rattle.std.specs.Prelude.{◌≡◌, ◌≢◌, ◌⊎◌, is_none, IsSome, IfSome, MatchOption, string_bytes};
 ghost use Rattle.keri_specs.specs.Causes.{Rose};
 ghost use Rattle.keri_outside.specs.Told.{Grows};
 ghost use Rattle.keri_outside.specs.declared.making.MakingKind.TheVariants.{Source as SourceKind};
-ghost use Rattle.keri_roles.specs.Reading.{ReadsFile, FaultHasCause};
-ghost use Rattle.keri_roles.specs.Check.{Checks, ChecksNot};
-ghost use Rattle.keri_roles.specs.Run.{HasReadFault, FaultsHaveCause};
+ghost use Rattle.keri_roles.specs.Check.{Checks, ChecksNot, ChecksNothing, ChecksStream, Settles};
+ghost use Rattle.keri_roles.specs.Check as checks;
+ghost use Rattle.keri_roles.specs.Faults.{FaultHasCause, FaultsHaveCause};
 
-use crate::answer::answer_close;
-use crate::reading::{ReadError, read_all};
+use crate::checking::Checking;
 use crate::writing::put_text;
 use crate::{Close, Done, Findings, ReaderEnd};
-use keri_outside::{Outside, Source};
+use keri_outside::{Failed, Limits, Outside, Source};
+use message_feed::feed_messages;
+use report_lines::read_fault_line;
 use std::alloc::{AllocError, Global};
 
-/// The status where there is no memory.
-const NO_MEMORY: u8 = 10;
-
-/// Reads the file, and writes its line.
+/// Reads the stream of the file, and writes its lines.
 pub(crate) fn check<O: Outside>(alloc: Global, name: &str, outside: &mut O) -> Done<O>
-    ensures checked { Checks O.Source.left name.now (O.told outside.old) (O.told outside.new) result.status result.readers.items
+    ensures checked { Checks O.Source.left O.Source.faults name.now (O.told outside.old) (O.told outside.new) result.status result.readers.items
         (O.Sink.written (O.sink outside.old)) (O.Sink.written (O.sink outside.new))
         ⊎ ChecksNot name.now (O.told outside.old) (O.told outside.new) result.status result.readers.items
         (O.Sink.written (O.sink outside.old)) (O.Sink.written (O.sink outside.new)) }
     ensures read_faults { FaultsHaveCause O.Source.faults (O.told outside.old).faults (O.told outside.new).faults result.readers.items }
     ensures six { result.status ≡ 6 → Rose (O.Sink.faults (O.sink outside.old)) (O.Sink.faults (O.sink outside.new)) }
+    ensures kept { result.status ≢ 6 → O.Sink.faults (O.sink outside.new) ≡ O.Sink.faults (O.sink outside.old) }
 {
     let Ok(mut readers) = Vec::with_capacity(alloc, 1) else {
         return Done {
-            status: NO_MEMORY,
+            status: Findings::no_memory().status(),
             readers: Vec::new(alloc),
         };
     };
-    let (reader, bytes) = read_file(alloc, name, outside);
-    let status = match answer_close(alloc, reader.close, bytes.as_slice()) {
-        Ok(answer) => {
-            let findings = Findings {
-                no_memory: false,
-                sink_failed: put_text(outside, answer.text.as_str()),
-                words_refused: false,
-                source_failed: reader.close == Close::ReadFault,
-                message_refused: answer.refused,
-            };
-            findings.status()
-        }
-        Err(AllocError) => NO_MEMORY,
-    };
+    let (reader, text) = check_file(alloc, name, outside);
+    let status = settle(outside, &reader, text.as_str());
     readers.push(reader).unwrap();
     Done { status, readers }
 }
 
-// Makes the source of the file, and reads it.
-fn read_file<O: Outside>(
-    alloc: Global,
-    name: &str,
-    outside: &mut O,
-) -> (ReaderEnd<O::Source>, Vec<u8>)
-    ensures read { ReadsFile O.Source.left ((O.told outside.old).holds name.now) result.0 result.1.items }
-    ensures making { Grows (O.told outside.old).makings (O.told outside.new).makings SourceKind name.now (is_none result.0.source) }
-    ensures sink { O.sink outside.new ≡ O.sink outside.old }
-    ensures cause { FaultHasCause O.Source.faults (O.told outside.old).faults (O.told outside.new).faults result.0 }
+// Writes the text, unless there was no memory for it, and answers the status.
+fn settle<O: Outside, S>(outside: &mut O, reader: &ReaderEnd<S>, text: &str) -> u8
+    ensures settles { Settles reader.now.close reader.now.refused.items text.now result (O.Sink.written (O.sink outside.old)) (O.Sink.written (O.sink outside.new)) }
+    ensures six { result ≡ 6 → Rose (O.Sink.faults (O.sink outside.old)) (O.Sink.faults (O.sink outside.new)) }
+    ensures kept { result ≢ 6 → O.Sink.faults (O.sink outside.new) ≡ O.Sink.faults (O.sink outside.old) }
+    ensures told { O.told outside.new ≡ O.told outside.old }
 {
-    let Ok(mut source) = outside.source(name) else {
-        return (ended(None, Close::ReadFault), Vec::new(alloc));
-    };
-    match read_all(alloc, &mut source) {
-        Ok(bytes) => (ended(Some(source), Close::End), bytes),
-        Err(ReadError::Failed) => (ended(Some(source), Close::ReadFault), Vec::new(alloc)),
-        Err(ReadError::OutOfMemory) => (ended(Some(source), Close::OutOfMemory), Vec::new(alloc)),
+    if reader.close == Close::OutOfMemory {
+        return Findings::no_memory().status();
+    }
+    let sink_failed = put_text(outside, text);
+    found(sink_failed, reader).status()
+}
+
+// What is found of a reader.
+fn found<S>(sink_failed: bool, reader: &ReaderEnd<S>) -> Findings
+    ensures { result ≡ checks.found sink_failed reader.now.close reader.now.refused.items }
+{
+    Findings {
+        sink_failed,
+        source_failed: reader.close == Close::ReadFault,
+        limit_reached: reader.close == Close::Full,
+        refused: matches!(reader.close, Close::Bad(_)) || !reader.refused.is_empty(),
+        ..Findings::nothing()
     }
 }
 
-// A reader whose reading closed so.
-fn ended<S>(source: Option<S>, close: Close) -> ReaderEnd<S>
-    ensures { result ≡ record { source = source; close = close } }
+// Makes the source of the file, and reads its stream: how that ended, and what is to be written, unless there was no
+// memory.
+fn check_file<O: Outside>(
+    alloc: Global,
+    name: &str,
+    outside: &mut O,
+) -> (ReaderEnd<O::Source>, String)
+    ensures making { Grows (O.told outside.old).makings (O.told outside.new).makings SourceKind name.now (is_none result.0.source) }
+    ensures checks { result.0.close ≢ Close.OutOfMemory → MatchOption result.0.source (ChecksNothing result.0.close result.0.refused.items (string_bytes result.1))
+        (λ source. ChecksStream (O.told outside.old).limits ((O.told outside.old).holds name.now) (O.Source.left source) (O.Source.faults source) result.0.close result.0.refused.items (string_bytes result.1)) }
+    ensures sink { O.sink outside.new ≡ O.sink outside.old }
+    ensures cause { FaultHasCause O.Source.faults (O.told outside.old).faults (O.told outside.new).faults result.0 }
 {
-    ReaderEnd { source, close }
+    let limits = outside.limits();
+    match outside.source(name) {
+        Ok(source) => check_stream(alloc, source, limits),
+        Err(Failed) => check_nothing(alloc),
+    }
+}
+
+// The end of a reader whose source couldn't be made, and what is to be written.
+fn check_nothing<S>(alloc: Global) -> (ReaderEnd<S>, String)
+    ensures none { result.0.source ≡ None }
+    ensures checks { result.0.close ≢ Close.OutOfMemory → ChecksNothing result.0.close result.0.refused.items (string_bytes result.1) }
+{
+    let (close, text) = match read_fault_line(alloc, 0) {
+        Ok(text) => (Close::ReadFault, text),
+        Err(AllocError) => (Close::OutOfMemory, String::new(alloc)),
+    };
+    let end = ReaderEnd {
+        source: None,
+        refused: Vec::new(alloc),
+        close,
+    };
+    (end, text)
+}
+
+// Reads the stream of a source: how that ended, and what is to be written, unless there was no memory.
+fn check_stream<S: Source>(alloc: Global, source: S, limits: Limits) -> (ReaderEnd<S>, String)
+    requires { S.faults source ≡ 0 }
+    ensures source { IsSome result.0.source }
+    ensures checks { result.0.close ≢ Close.OutOfMemory
+        → IfSome result.0.source (λ now. ChecksStream limits (S.left source) (S.left now) (S.faults now) result.0.close result.0.refused.items (string_bytes result.1)) }
+    ensures cause { result.0.close ≡ Close.ReadFault → IfSome result.0.source (λ now. Rose 0 (S.faults now)) }
+{
+    let mut source = source;
+    let mut checking = Checking::new(alloc);
+    let (close, last) = feed_messages(alloc, &mut source, limits, &mut checking);
+    let close = match checking.finish(close, last) {
+        Ok(close) => close,
+        Err(AllocError) => Close::OutOfMemory,
+    };
+    let Checking { lines, refused, .. } = checking;
+    let end = ReaderEnd {
+        source: Some(source),
+        refused,
+        close,
+    };
+    (end, lines)
 }

@@ -1,12 +1,20 @@
 //! How reading ends.
 
+use cesr_stream::Bad;
+
 /// How the reading of one source ended.
 #[derive(Clone, Copy, PartialEq, Eq, Debug)]
 pub enum Close {
-    /// It was read as far as it is to be read.
+    /// It was read to its end.
     End,
+    /// The stream is refused.
+    Bad(Bad),
     /// The source failed, or couldn't be made.
     ReadFault,
+    /// The verifier failed, or couldn't be made.
+    VerifierFault,
+    /// As much was read or taken as may be, and there was more.
+    Full,
     /// There was no memory.
     OutOfMemory,
 }

@@ -3,11 +3,12 @@
 
 mod answer;
 mod check;
+mod checking;
 mod close;
 mod done;
 mod findings;
 mod program;
-mod reading;
+mod sizes;
 mod writing;
 
 pub use close::Close;

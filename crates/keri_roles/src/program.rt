@@ -1,8 +1,9 @@
 //! The top call.
-ghost use Rattle.std.specs.Prelude.{◌≡◌, ◌⊎◌, IsNone, MatchOption, map, string_bytes};
+ghost use Rattle.std.specs.Prelude.{◌≡◌, ◌≢◌, ◌⊎◌, IsNone, MatchOption, map, string_bytes};
 ghost use Rattle.keri_specs.specs.Causes.{Rose};
 ghost use Rattle.command_words.specs.Words.{asks};
-ghost use Rattle.keri_roles.specs.Run.{Refuses, Answers, HasReadFault, FaultsHaveCause};
+ghost use Rattle.keri_roles.specs.Run.{Refuses, Answers, carried_out};
+ghost use Rattle.keri_roles.specs.Faults.{HasReadFault, HasFull, FaultsHaveCause};
 
 use crate::check::check;
 use crate::writing::put_text;
@@ -14,22 +15,25 @@ use std::alloc::Global;
 
 /// Does all that the program does: what the words ask for, over the outside that is handed in.
 pub fn run<O: Outside>(alloc: Global, words: &Vec<String>, outside: &mut O) -> Done<O>
-    // Words that aren't in the form are refused, and nothing is made. Others are answered as they ask.
-    ensures answered { MatchOption (asks (map string_bytes words.now.items))
+    // Words that aren't in the form of a command that is carried out are refused, and nothing is made. Others are
+    // answered as they ask.
+    ensures answered { MatchOption (carried_out (asks (map string_bytes words.now.items)))
         (Refuses (O.told outside.old) (O.told outside.new) result.status result.readers.items
         (O.Sink.written (O.sink outside.old)) (O.Sink.written (O.sink outside.new)))
-        (λ asked. Answers asked O.Source.left (O.told outside.old) (O.told outside.new) result.status result.readers.items
+        (λ asked. Answers asked O.Source.left O.Source.faults (O.told outside.old) (O.told outside.new) result.status result.readers.items
         (O.Sink.written (O.sink outside.old)) (O.Sink.written (O.sink outside.new))) }
 
     // Each fault that is answered has its cause.
-    ensures two { result.status ≡ 2 → IsNone (asks (map string_bytes words.now.items)) }
+    ensures two { result.status ≡ 2 → IsNone (carried_out (asks (map string_bytes words.now.items))) }
     ensures five { result.status ≡ 5 → HasReadFault result.readers.items }
+    ensures nine { result.status ≡ 9 → HasFull result.readers.items }
     ensures six { result.status ≡ 6 → Rose (O.Sink.faults (O.sink outside.old)) (O.Sink.faults (O.sink outside.new)) }
+    ensures kept { result.status ≢ 6 → O.Sink.faults (O.sink outside.new) ≡ O.Sink.faults (O.sink outside.old) }
     ensures read_faults { FaultsHaveCause O.Source.faults (O.told outside.old).faults (O.told outside.new).faults result.readers.items }
 {
     match command_of(words.as_slice()) {
         Some(Command::Check { file }) => check(alloc, file, outside),
-        None => refuse(alloc, outside),
+        Some(Command::Validate { .. }) | None => refuse(alloc, outside),
     }
 }
 
@@ -38,13 +42,12 @@ fn refuse<O: Outside>(alloc: Global, outside: &mut O) -> Done<O>
     ensures refused { Refuses (O.told outside.old) (O.told outside.new) result.status result.readers.items
         (O.Sink.written (O.sink outside.old)) (O.Sink.written (O.sink outside.new)) }
     ensures six { result.status ≡ 6 → Rose (O.Sink.faults (O.sink outside.old)) (O.Sink.faults (O.sink outside.new)) }
+    ensures kept { result.status ≢ 6 → O.Sink.faults (O.sink outside.new) ≡ O.Sink.faults (O.sink outside.old) }
 {
     let findings = Findings {
-        no_memory: false,
         sink_failed: put_text(outside, WORDS),
         words_refused: true,
-        source_failed: false,
-        message_refused: false,
+        ..Findings::nothing()
     };
     Done {
         status: findings.status(),

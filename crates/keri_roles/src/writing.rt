@@ -1,5 +1,5 @@
 //! Writing what a run has to say.
-ghost use Rattle.std.specs.Prelude.{◌≡◌, true};
+ghost use Rattle.std.specs.Prelude.{◌≡◌, true, false};
 ghost use Rattle.keri_specs.specs.Causes.{Rose};
 ghost use Rattle.keri_roles.specs.Writing.{Writes};
 
@@ -9,6 +9,7 @@ use keri_outside::{Outside, Sink};
 pub(crate) fn put_text<O: Outside>(outside: &mut O, text: &str) -> bool
     ensures written { Writes text.now result (O.Sink.written (O.sink outside.old)) (O.Sink.written (O.sink outside.new)) }
     ensures failed { result ≡ true → Rose (O.Sink.faults (O.sink outside.old)) (O.Sink.faults (O.sink outside.new)) }
+    ensures kept { result ≡ false → O.Sink.faults (O.sink outside.new) ≡ O.Sink.faults (O.sink outside.old) }
     ensures told { O.told outside.new ≡ O.told outside.old }
 {
     if text.is_empty() {

@@ -1,5 +1,8 @@
 //! `check` over an outside in memory.
 
+use cesr_stream::{Bad, BadReason};
+use event_body::BodyFault;
+use journal::Reason;
 use keri_outside::{Limits, MakingKind, MemFile, MemOutside, MemSink};
 use keri_roles::{Close, run};
 use lists::Items;
@@ -21,25 +24,38 @@ const EXCHANGED: &str =
 const LONG_NUMBER: &str =
     "{\"v\":\"KERI10JSON0000a1_\",\"t\":\"rct\",\"d\":\"EK8TSbn1-aGmoEBN6jbcyUmbyyXJrcESt8yak8rkHzJi\",\"i\":\"DAAAAAAAAAAAAAAAAAAAAAAAAAAAAAAAAAAAAAAAAAAA\",\"s\":\"11111111111111111\"}";
 
-// A run on one file, what it writes, and its status.
+const INCEPTION: &str =
+    "{\"v\":\"KERI10JSON00012b_\",\"t\":\"icp\",\"d\":\"IBbsIK4OIV7l0tzgR6RRQcAGFz42J71lEhjGDv6OqgUS\",\"i\":\"IBbsIK4OIV7l0tzgR6RRQcAGFz42J71lEhjGDv6OqgUS\",\"s\":\"0\",\"kt\":\"1\",\"k\":[\"DAEBAQEBAQEBAQEBAQEBAQEBAQEBAQEBAQEBAQEBAQEB\"],\"nt\":\"1\",\"n\":[\"IIyLuuaIfauEWGcPsYNVKgjYta684Cy3Akbq1avGc8aH\"],\"bt\":\"0\",\"b\":[],\"c\":[],\"a\":[]}";
+
+const INCEPTION_LINE: &str =
+    "icp IBbsIK4OIV7l0tzgR6RRQcAGFz42J71lEhjGDv6OqgUS 0 IBbsIK4OIV7l0tzgR6RRQcAGFz42J71lEhjGDv6OqgUS size=299 signatures=1 receipts=0\n";
+
+const SIGNATURE: &str =
+    "AAAAAAAAAAAAAAAAAAAAAAAAAAAAAAAAAAAAAAAAAAAAAAAAAAAAAAAAAAAAAAAAAAAAAAAAAAAAAAAAAAAAAAAA";
+
+const READ_FAULT: &str = "fault 0 read\n";
+
+// A run on a file of these parts, what it writes, and its status.
 #[derive(Clone, Copy)]
 struct Case {
     words: &'static [&'static str],
-    bytes: &'static str,
+    parts: &'static [&'static str],
     piece: usize,
+    stream_bytes: u64,
     failing_reads: &'static [u64],
     failing_makings: &'static [u64],
     failing_puts: &'static [u64],
-    text: &'static str,
+    text: &'static [&'static str],
     status: u8,
 }
 
 // A run of `check a` in which nothing fails.
-fn plain(bytes: &'static str, text: &'static str, status: u8) -> Case {
+fn plain(parts: &'static [&'static str], text: &'static [&'static str], status: u8) -> Case {
     Case {
         words: &["check", "a"],
-        bytes,
+        parts,
         piece: 4_096,
+        stream_bytes: 4_294_967_296,
         failing_reads: &[],
         failing_makings: &[],
         failing_puts: &[],
@@ -52,14 +68,22 @@ fn plain(bytes: &'static str, text: &'static str, status: u8) -> Case {
 fn refused(words: &'static [&'static str]) -> Case {
     Case {
         words,
-        ..plain(RECEIPT, "words\n", 2)
+        ..plain(&[RECEIPT], &["words\n"], 2)
     }
+}
+
+fn joined(alloc: Global, parts: &[&str]) -> Result<Vec<u8>, Fail> {
+    let mut bytes = Vec::new(alloc);
+    for part in parts {
+        bytes.extend_from_slice(part.as_bytes())?;
+    }
+    Ok(bytes)
 }
 
 fn outside(alloc: Global, case: &Case) -> Result<MemOutside, Fail> {
     let file = MemFile {
         name: Items::from_vec(Vec::from_slice(alloc, b"a")?),
-        bytes: Items::from_vec(Vec::from_slice(alloc, case.bytes.as_bytes())?),
+        bytes: Items::from_vec(joined(alloc, case.parts)?),
         piece: case.piece.max(1),
         failing: Items::from_vec(Vec::from_slice(alloc, case.failing_reads)?),
     };
@@ -68,7 +92,8 @@ fn outside(alloc: Global, case: &Case) -> Result<MemOutside, Fail> {
     let failing_puts = Items::from_vec(Vec::from_slice(alloc, case.failing_puts)?);
     let failing_makings = Items::from_vec(Vec::from_slice(alloc, case.failing_makings)?);
     let sink = MemSink::new(alloc, failing_puts);
-    let limits = Limits::standard();
+    let mut limits = Limits::standard();
+    limits.stream_bytes = case.stream_bytes.min(4_294_967_296);
     Ok(MemOutside::new(alloc, files, sink, failing_makings, limits))
 }
 
@@ -84,88 +109,118 @@ fn owned(alloc: Global, words: &[&str]) -> Result<Vec<String>, Fail> {
 fn files_and_words_are_answered(rt: HostRuntime) -> Result<(), Fail> {
     let alloc = rt.alloc();
     let cases = [
-        plain(RECEIPT, LINE, 0),
+        plain(&[RECEIPT], &[LINE], 0),
+        plain(&[], &[], 0),
+        plain(&[OTHER_SIZE], &["malformed 0 0 truncated\n"], 3),
+        plain(&[EXCHANGED], &["refused 0 0 field 2\n"], 3),
+        plain(&[LONG_NUMBER], &["refused 0 0 number\n"], 3),
+        plain(&["{}"], &["malformed 0 0 truncated\n"], 3),
+        plain(
+            &[RECEIPT, "-DAB"],
+            &[LINE, "malformed 0 145 not-supported\n"],
+            3,
+        ),
+        plain(&[INCEPTION, "-AAB", SIGNATURE], &[INCEPTION_LINE], 0),
+        plain(
+            &[RECEIPT, EXCHANGED, RECEIPT],
+            &[LINE, "refused 0 145 field 2\n", LINE],
+            3,
+        ),
         Case {
-            piece: 1,
-            ..plain(RECEIPT, LINE, 0)
+            stream_bytes: 290,
+            ..plain(&[RECEIPT, RECEIPT], &[LINE, LINE], 0)
         },
-        plain("", "", 0),
-        plain(OTHER_SIZE, "refused 0 0 size\n", 3),
-        plain(EXCHANGED, "refused 0 0 field 2\n", 3),
-        plain(LONG_NUMBER, "refused 0 0 number\n", 3),
-        plain("{}", "refused 0 0 field 0\n", 3),
+        Case {
+            stream_bytes: 289,
+            ..plain(&[RECEIPT, RECEIPT], &[LINE, "full 0\n"], 9)
+        },
         Case {
             failing_makings: &[0],
-            ..plain(RECEIPT, "fault 0 read\n", 5)
+            ..plain(&[RECEIPT], &[READ_FAULT], 5)
         },
         Case {
             words: &["check", "b"],
-            ..plain(RECEIPT, "fault 0 read\n", 5)
+            ..plain(&[RECEIPT], &[READ_FAULT], 5)
         },
         Case {
             failing_reads: &[0],
-            ..plain(RECEIPT, "fault 0 read\n", 5)
-        },
-        Case {
-            failing_reads: &[1],
-            ..plain(RECEIPT, "fault 0 read\n", 5)
+            ..plain(&[RECEIPT], &[READ_FAULT], 5)
         },
         Case {
             failing_puts: &[0],
-            ..plain(RECEIPT, "", 6)
+            ..plain(&[RECEIPT], &[], 6)
         },
         Case {
             failing_puts: &[0],
-            ..plain("", "", 0)
+            ..plain(&[], &[], 0)
         },
         refused(&[]),
         refused(&["check"]),
         refused(&["check", "a", "a"]),
         refused(&["check", "-a"]),
         refused(&["judge", "a"]),
+        refused(&["validate", "--helper", "rehearsal", "a"]),
         Case {
             failing_puts: &[0],
-            text: "",
+            text: &[],
             status: 6,
             ..refused(&[])
         },
     ];
     for case in &cases {
-        let mut outside = outside(alloc, case)?;
-        let done = run(alloc, &owned(alloc, case.words)?, &mut outside);
-        assert_eq!(rt; outside.sink().bytes(), case.text.as_bytes());
-        assert_eq!(rt; done.status, case.status);
+        for piece in [4_096, 1] {
+            let case = Case { piece, ..*case };
+            let mut outside = outside(alloc, &case)?;
+            let done = run(alloc, &owned(alloc, case.words)?, &mut outside);
+            assert_eq!(rt;
+                outside.sink().bytes(),
+                joined(alloc, case.text)?.as_slice()
+            );
+            assert_eq!(rt; done.status, case.status);
+        }
     }
     Ok(())
 }
 
 #[test]
-fn a_large_file_is_read_no_further(rt: HostRuntime) -> Result<(), Fail> {
+fn what_was_read_before_a_fault_is_answered(rt: HostRuntime) -> Result<(), Fail> {
     let alloc = rt.alloc();
-    let mut outside = outside(alloc, &plain("", "", 0))?;
-    let _ = run(alloc, &owned(alloc, &["check", "b"])?, &mut outside);
+    let case = Case {
+        failing_reads: &[1],
+        ..plain(&[RECEIPT], &[], 5)
+    };
+    let mut outside = outside(alloc, &case)?;
+    let done = run(alloc, &owned(alloc, case.words)?, &mut outside);
+    assert_eq!(rt;
+        outside.sink().bytes(),
+        joined(alloc, &[LINE, READ_FAULT])?.as_slice()
+    );
+    assert_eq!(rt; done.status, case.status);
     assert_eq!(rt; outside.makings().len(), 1);
     assert!(rt;
-        outside.makings().iter().all(|making| making.kind == MakingKind::Source && making.failed)
+        outside.makings().iter().all(|making| making.kind == MakingKind::Source && !making.failed)
     );
-    let mut bytes = Vec::new(alloc);
-    for _ in 0..65_537 {
-        bytes.push(b'{')?;
-    }
-    let file = MemFile {
-        name: Items::from_vec(Vec::from_slice(alloc, b"a")?),
-        bytes: Items::from_vec(bytes),
-        piece: 1_000,
-        failing: Items::new(alloc),
+    Ok(())
+}
+
+#[test]
+fn a_run_hands_back_its_reader(rt: HostRuntime) -> Result<(), Fail> {
+    let alloc = rt.alloc();
+    let case = plain(&[EXCHANGED, RECEIPT, "-DAB"], &[], 3);
+    let mut outside = outside(alloc, &case)?;
+    let done = run(alloc, &owned(alloc, case.words)?, &mut outside);
+    let bad = Bad {
+        place: 290,
+        reason: BadReason::GroupNotSupported,
     };
-    let mut files = Items::new(alloc);
-    files.push(file)?;
-    let sink = MemSink::new(alloc, Items::new(alloc));
-    let mut outside = MemOutside::new(alloc, files, sink, Items::new(alloc), Limits::standard());
-    let done = run(alloc, &owned(alloc, &["check", "a"])?, &mut outside);
-    assert_eq!(rt; outside.sink().bytes(), b"refused 0 0 large\n".as_slice());
-    assert_eq!(rt; done.status, 3);
     assert_eq!(rt; done.readers.len(), 1);
-    assert!(rt; done.readers.iter().all(|reader| reader.close == Close::End));
+    for reader in &done.readers {
+        assert_eq!(rt; reader.close, Close::Bad(bad));
+        assert_eq!(rt; reader.refused.len(), 1);
+        for refusal in &reader.refused {
+            assert_eq!(rt; refusal.place, 0);
+            assert_eq!(rt; refusal.reason, Reason::Body(BodyFault::Field(2)));
+        }
+    }
     Ok(())
 }

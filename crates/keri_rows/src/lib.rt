@@ -6,4 +6,4 @@ mod check;
 #[cfg(test)]
 mod codes;
 #[cfg(test)]
-mod stream;
+mod rehearsal;

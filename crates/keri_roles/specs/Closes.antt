@@ -1,0 +1,51 @@
+-- How the reading of a source closed.
+use Rattle.std.specs.Prelude.{ℕ, Bool, true, false, List, []}
+use Rattle.std.specs.declared.option.Option.{Option}
+use Rattle.cesr_stream.specs.Reading.{Reading}
+use Rattle.message_feed.specs.declared.feed_close.FeedClose.TheVariants.{End as FeedEnd, Bad as FeedBad, ReadFault as FeedReadFault, Full as FeedFull}
+use Rattle.message_feed.specs.Closing.{ClosesBy}
+use Rattle.report_lines.specs.Lines.{malformed_text, read_fault_text, full_text}
+use Rattle.keri_roles.specs.declared.close.Close.{Close}
+use Rattle.keri_roles.specs.declared.close.Close.TheVariants.{End, Bad, ReadFault, VerifierFault, Full, OutOfMemory}
+
+-- the source closed the reading, by its cause
+abbrev pub Closes : ℕ → Option (List ℕ) → Option (List ℕ) → ℕ → ℕ → Reading → Close → Type 0
+Closes most old new faults_old faults_new reading End = ClosesBy {T = ℕ} most old new faults_old faults_new reading FeedEnd
+Closes most old new faults_old faults_new reading (Bad bad) = ClosesBy {T = ℕ} most old new faults_old faults_new reading (FeedBad bad)
+Closes most old new faults_old faults_new reading ReadFault = ClosesBy {T = ℕ} most old new faults_old faults_new reading FeedReadFault
+Closes most old new faults_old faults_new reading Full = ClosesBy {T = ℕ} most old new faults_old faults_new reading FeedFull
+Closes most old new faults_old faults_new reading VerifierFault = ⊥
+Closes most old new faults_old faults_new reading OutOfMemory = ⊥
+
+-- the line of a reader's close, where it has one
+abbrev pub ending_text : ℕ → Close → List ℕ
+ending_text reader End = []
+ending_text reader (Bad bad) = malformed_text reader bad
+ending_text reader ReadFault = read_fault_text reader
+ending_text reader VerifierFault = []
+ending_text reader Full = full_text reader
+ending_text reader OutOfMemory = []
+
+abbrev pub is_bad : Close → Bool
+is_bad (Bad bad) = true
+is_bad End = false
+is_bad ReadFault = false
+is_bad VerifierFault = false
+is_bad Full = false
+is_bad OutOfMemory = false
+
+abbrev pub is_read_fault : Close → Bool
+is_read_fault ReadFault = true
+is_read_fault End = false
+is_read_fault (Bad bad) = false
+is_read_fault VerifierFault = false
+is_read_fault Full = false
+is_read_fault OutOfMemory = false
+
+abbrev pub is_full : Close → Bool
+is_full Full = true
+is_full End = false
+is_full (Bad bad) = false
+is_full ReadFault = false
+is_full VerifierFault = false
+is_full OutOfMemory = false

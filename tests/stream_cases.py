@@ -1,0 +1,140 @@
+#!/usr/bin/env python3
+"""Makes the cases under tests/cases in which `check` reads a stream.
+
+The primitives are made here with Python's base64 and hashlib. Each case names what the stream's bytes are and what is to
+be written, as docs/FORMATS.md says it.
+"""
+import base64
+import hashlib
+import pathlib
+import shutil
+
+CASES = pathlib.Path(__file__).resolve().parent / "cases"
+
+
+def primitive(code, raw):
+    """The code, and the characters of the raw bytes; as many are left out as zero bytes come before them."""
+    lead = -len(raw) % 3
+    return code + base64.urlsafe_b64encode(bytes(lead) + raw).decode()[lead:]
+
+
+def key(number, code="D"):
+    return primitive(code, bytes([number]) * 32)
+
+
+def digest(text):
+    return primitive("I", hashlib.sha256(text.encode()).digest())
+
+
+def signature(text):
+    return primitive("0B", hashlib.sha512(text.encode()).digest())
+
+
+def indexed(code, text):
+    return primitive(code, hashlib.sha512(text.encode()).digest())
+
+
+def with_size(body):
+    return body.replace("SIZE__", f"{len(body):06x}", 1)
+
+
+def inception():
+    body = (
+        '{"v":"KERI10JSONSIZE___","t":"icp","d":"%s","i":"%s","s":"0","kt":"1","k":["%s"],"nt":"1","n":["%s"],"bt":"0",'
+        '"b":[],"c":[],"a":[]}'
+    )
+    body = with_size(body % ("#" * 44, "#" * 44, key(1), digest(key(2))))
+    return body.replace("#" * 44, digest(body))
+
+
+RECEIPT = with_size(
+    '{"v":"KERI10JSONSIZE___","t":"rct","d":"EK8TSbn1-aGmoEBN6jbcyUmbyyXJrcESt8yak8rkHzJi","i":"%s","s":"0"}' % key(0)
+)
+LINE = "rct %s 0 EK8TSbn1-aGmoEBN6jbcyUmbyyXJrcESt8yak8rkHzJi size=145 signatures=%d receipts=%d\n"
+INCEPTION = inception()
+BARE = LINE % (key(0), 0, 0)
+COUPLE = key(1, "B") + signature("couple")
+FIRST_SEEN = primitive("0A", bytes(16)) + "1AAG2020-08-22T17c50c09d988921p00c00"
+ANCHOR = primitive("0A", bytes(16)) + digest("anchor")
+
+
+def inception_line(signatures, receipts=0):
+    said = INCEPTION[40:84]
+    return "icp %s 0 %s size=299 signatures=%d receipts=%d\n" % (said, said, signatures, receipts)
+
+
+def behind_receipt(groups, text):
+    """A receipt with these groups behind it, and what is written after its line."""
+    return RECEIPT + groups, BARE + text, 3 if text else 0
+
+
+def malformed(place, word):
+    return "malformed 0 %d %s\n" % (place, word)
+
+
+STREAMS = {
+    # what is in order
+    "signed_inception": (INCEPTION + "-AAB" + indexed("AA", "a"), inception_line(1), 0),
+    "inception_without_a_signature": (INCEPTION + "-AAA", inception_line(0), 0),
+    "witnesses_signatures": (INCEPTION + "-BAC" + indexed("AA", "a") + indexed("BB", "b"), inception_line(0, 2), 0),
+    "large_index": (INCEPTION + "-AAB" + indexed("2AABAB", "a"), inception_line(1), 0),
+    "receipt_couple": (RECEIPT + "-CAB" + COUPLE, LINE % (key(0), 0, 1), 0),
+    "first_seen_and_anchor": behind_receipt("-EAB" + FIRST_SEEN + "-GAB" + ANCHOR, ""),
+    "empty_group_in_a_wrap": behind_receipt("-VAB-AAA", ""),
+    "wrapped_groups": (
+        INCEPTION + "-VCA" + "-AAC" + indexed("AA", "a") + indexed("AB", "b")
+        + "-BAD" + indexed("AA", "c") + indexed("AB", "d") + indexed("AC", "e") + "-EAB" + FIRST_SEEN,
+        inception_line(2, 3), 0,
+    ),
+    "two_messages": (RECEIPT + INCEPTION + "-AAB" + indexed("AA", "a"), BARE + inception_line(1), 0),
+    # refused messages
+    "too_many_signatures": (INCEPTION + "-AQB" + indexed("AA", "a") * 1025, "refused 0 0 signatures\n", 3),
+    "refused_among_others": (
+        RECEIPT + INCEPTION.replace('"nt":"1"', '"nt":"2"') + RECEIPT, BARE + "refused 0 145 field 7\n" + BARE, 3,
+    ),
+    "other_prefix": (INCEPTION.replace('"i":"I', '"i":"E'), "refused 0 0 prefix\n", 3),
+    "other_digest": (INCEPTION.replace(INCEPTION[40:84], digest("other")), "refused 0 0 said\n", 3),
+    # refused streams
+    "no_start": ("hello", malformed(0, "no-start"), 3),
+    "line_feed_behind_a_body": behind_receipt("\n", malformed(145, "no-start")),
+    "other_version": (RECEIPT.replace("KERI10", "KERI11"), malformed(0, "version"), 3),
+    "size_below_the_head": (RECEIPT.replace("000091", "000017"), malformed(0, "version"), 3),
+    "size_over_the_limit": (RECEIPT.replace("000091", "010000"), malformed(0, "too-large"), 3),
+    "body_cut_short": (RECEIPT[:-1], malformed(0, "truncated"), 3),
+    "head_cut_short": ("{", malformed(0, "truncated"), 3),
+    "group_cut_short": behind_receipt("-AAB" + indexed("AA", "a")[:-1], malformed(145, "truncated")),
+    "letter_not_supported": behind_receipt("-DAB", malformed(145, "not-supported")),
+    "count_not_in_base_64": behind_receipt("-AA+", malformed(145, "character 3")),
+    "code_not_held": behind_receipt("-AABC", malformed(149, "code")),
+    "key_that_can_rotate_in_a_couple": behind_receipt("-CABD", malformed(149, "code")),
+    "character_in_a_signature": behind_receipt("-AAB" + "AAA+" + "A" * 84, malformed(149, "character 3")),
+    "leading_bits_in_a_signature": behind_receipt("-AAB" + "AAE" + "A" * 85, malformed(149, "pad-bits")),
+    "other_index_than_none": behind_receipt("-AAB" + "2BABAB" + "A" * 86, malformed(149, "other-index")),
+    "no_group_in_a_wrap": behind_receipt("-VABAAAA", malformed(149, "no-start")),
+    "wrap_in_a_wrap": behind_receipt("-VAB-VAA", malformed(149, "not-supported")),
+    "signature_past_a_wrap": behind_receipt("-VAC-AABAAAA", malformed(153, "wrap-length")),
+    "signature_due_past_a_wrap": behind_receipt("-VAB-AAB", malformed(153, "wrap-length")),
+    "signature_past_a_wrap_as_its_code_shows": behind_receipt("-VAC-AABA", malformed(153, "wrap-length")),
+    "code_before_the_end_of_a_wrap": behind_receipt("-VAC-AABCAAA", malformed(153, "code")),
+    "group_before_a_body": ("-AAA", malformed(0, "group-first"), 3),
+    "good_before_a_refusal": (
+        INCEPTION + "-AAB" + indexed("AA", "a") + RECEIPT + "-DAB", inception_line(1) + BARE + malformed(299 + 4 + 88 + 145, "not-supported"), 3,
+    ),
+}
+
+
+def write(name, stream, text, status):
+    case = CASES / name
+    shutil.rmtree(case, ignore_errors=True)
+    (case / "in").mkdir(parents=True)
+    (case / "in" / "a").write_bytes(stream.encode())
+    (case / "words").write_text("check\na\n")
+    (case / "stdout").write_text(text)
+    if status:
+        (case / "status").write_text("%d\n" % status)
+
+
+if __name__ == "__main__":
+    for name, (stream, text, status) in STREAMS.items():
+        write(name, stream, text, status)
+    print(len(STREAMS), "cases")
