@@ -6,3 +6,4 @@ pub mod Readings
 pub mod StateSteps
 pub mod Rows
 pub mod Premises
+pub mod Locality

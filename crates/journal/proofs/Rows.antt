@@ -9,16 +9,17 @@ use Rattle.json_tree.specs.declared.tree.Tree.{Tree, Str, Object', more_of-Membe
 use Rattle.event_body.specs.declared.event.Event.TheVariants.{Icp, Ixn, Dip}
 use Rattle.journal.specs.declared.body.Body.{Body}
 use Rattle.journal.specs.declared.claim.Claim.{Claim}
-use Rattle.journal.specs.declared.claim.Claim.TheVariants.{Held}
-use Rattle.journal.specs.declared.mode.Mode.TheVariants.{Full}
-use Rattle.journal.specs.declared.why.Why.TheVariants.{Predecessor, Signatures}
+use Rattle.journal.specs.declared.claim.Claim.TheVariants.{Held, Witness}
+use Rattle.journal.specs.declared.mode.Mode.TheVariants.{Full, Local}
+use Rattle.journal.specs.declared.why.Why.TheVariants.{Predecessor, Signatures, Next, Receipts, Seal, Never}
 use Rattle.journal.specs.declared.question.Noted.TheVariants.{New, Known, Unasked}
 use Rattle.sith.specs.Tests.{satisfied}
 use Rattle.key_state.specs.KeyStates.{misfit, begun, moved}
+use Rattle.key_state.specs.Exposure.{exposed, numbers_below}
 use Rattle.key_state.specs.Same.{distinct}
 use Rattle.key_state.proofs.Kit as kit
-use Rattle.key_state.proofs.Kit.{key, digest, identifier, begin}
-use Rattle.journal.specs.Logs.{state, live, predecessor, stands}
+use Rattle.key_state.proofs.Kit.{key, witness, digest, identifier, begin}
+use Rattle.journal.specs.Logs.{state, live, predecessor, stands, up_to}
 use Rattle.journal.specs.Seals.{seals, anchored}
 use Rattle.journal.specs.History.{Told, took, heard, Triple, bodies, claims_on, said_yes, has_verdict}
 use Rattle.journal.specs.Readiness.{is_ready, signed, good_sigs, backers, backs}
@@ -152,3 +153,57 @@ sealed = refl
 forbidden : anchored (delegator (codes "DND" ∷ []) ∷ anchoring seal ∷ []) None dip.event ≡ false
 unfolding anchored seals digits_in digits
 forbidden = refl
+
+-- an inception with a witness waits for its receipt, and is accepted with it
+abbrev witnessed : Body
+witnessed = record { bytes = 105 ∷ []; event = Icp (begin (witness 1 ∷ []) 1 []) }
+
+abbrev unreceipted : List Told
+unreceipted = took 0 witnessed signed_by_first ∷ yes_on witnessed ∷ []
+
+waits_for_receipts : why_waits Full unreceipted (accepted Full [] unreceipted) witnessed ≡ Some Receipts
+unfolding why_waits accepted grown_by settled is_ready bodies distinct state signed good_sigs said_yes claims_on satisfied backers backs predecessor
+waits_for_receipts = refl
+
+abbrev receipted : List Told
+receipted = unreceipted
+    ++ took 0 witnessed (Witness (record { big = false; index = 0; ondex = Some 0; sig = record { raw = 9 ∷ [] }; form = refl }) ∷ [])
+    ∷ heard 0 witnessed (witness 1) (record { raw = 9 ∷ [] }) true ∷ []
+
+receipted_accepted : map (λ b. b.bytes) (accepted Full [] receipted) ≡ witnessed.bytes ∷ []
+unfolding accepted grown_by settled is_ready bodies distinct state misfit signed good_sigs said_yes claims_on satisfied backers backs anchored
+receipted_accepted = refl
+
+-- a second inception of an identifier is never accepted
+abbrev rival : Body
+rival = record { bytes = 106 ∷ []; event = Icp (begin [] 0 []) }
+
+abbrev two_inceptions : List Told
+two_inceptions = took 0 icp signed_by_first ∷ yes_on icp ∷ took 0 rival signed_by_first ∷ []
+
+never_accepted : why_waits Full two_inceptions (accepted Full [] two_inceptions) rival ≡ Some Never
+unfolding why_waits accepted grown_by settled is_ready bodies distinct predecessor stands state misfit signed good_sigs said_yes claims_on satisfied backers backs anchored
+never_accepted = refl
+
+-- a rotation whose signature opens no commitment waits for the next keys
+abbrev opens_nothing : List Claim
+opens_nothing = Held (record { big = false; index = 0; ondex = None; sig = signature; form = refl }) ∷ []
+
+abbrev rotating : List Told
+rotating = took 0 icp signed_by_first ∷ yes_on icp ∷ took 0 (rot 1 21 0) opens_nothing ∷ heard 0 (rot 1 21 0) (key 2) signature true ∷ []
+
+waits_for_next : why_waits Full rotating (accepted Full [] rotating) (rot 1 21 0) ≡ Some Next
+unfolding why_waits accepted grown_by settled is_ready bodies distinct predecessor stands state misfit signed good_sigs said_yes claims_on satisfied backers backs anchored exposed numbers_below up_to
+waits_for_next = refl
+
+-- a delegated inception waits for its seal, but not where seals aren't waited for
+abbrev delegated : List Told
+delegated = took 0 dip signed_by_first ∷ yes_on dip ∷ []
+
+waits_for_seal : why_waits Full delegated (accepted Full [] delegated) dip ≡ Some Seal
+unfolding why_waits accepted grown_by settled is_ready bodies distinct state signed good_sigs said_yes claims_on satisfied backers backs anchored seals predecessor
+waits_for_seal = refl
+
+accepted_unsealed : map (λ b. b.bytes) (accepted Local [] delegated) ≡ dip.bytes ∷ []
+unfolding accepted grown_by settled is_ready bodies distinct state misfit signed good_sigs said_yes claims_on satisfied
+accepted_unsealed = refl

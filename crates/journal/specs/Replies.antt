@@ -1,5 +1,5 @@
 -- What becomes of a message.
-use Rattle.std.specs.Prelude.{◌+◌, Bool, true, false, ◌&&◌, ◌||◌, ◌==◌, not, nat_le, nat_lt, List, [], ◌∷◌, length, map, sum_by, flat_map, Option, Some, if◌then◌else◌, Result, Ok, Err}
+use Rattle.std.specs.Prelude.{◌+◌, Bool, true, false, ◌&&◌, ◌||◌, ◌==◌, not, nat_le, nat_lt, List, [], ◌∷◌, length, map, sum_by, flat_map, Option, Some, if◌then◌else◌, Result, Ok, Err, ◌≤◌}
 use Rattle.std.specs.List.{list_any, list_all}
 use Rattle.std.specs.Option.{option_eq}
 use Rattle.cesr_codes.specs.declared.indexed_sig.IndexedSig.{IndexedSig}
@@ -89,6 +89,12 @@ is_full limits base told b claims =
     || (not (is_in (bodies base told) b)
     && nat_lt limits.body_bytes (sum_by (λ c. length c.bytes) (bodies base told) + length b.bytes))
     || nat_lt limits.signatures (length (flat_map all_claims told) + length claims)
+
+-- the journal is within its limits: so many messages, bytes of distinct bodies, and claims were taken at most
+pub record IsWithin (limits : Limits) (base : List Body) (told : List Told) : Type 0 where
+  pub messages : length (flat_map taken told) ≤ limits.messages
+  pub body_bytes : sum_by (λ b. length b.bytes) (bodies base told) ≤ limits.body_bytes
+  pub signatures : length (flat_map all_claims told) ≤ limits.signatures
 
 -- the body was held, and each claim came with it before
 unfoldable pub is_again : List Body → List Told → Body → List Claim → Bool
