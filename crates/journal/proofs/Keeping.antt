@@ -79,7 +79,7 @@ accepted_grown mode base told grown = accepted_keeps mode base (λ _ log. IsGrow
 
 -- with no entry nothing is ready, since each body is in the base
 module _ {B : Type 0} (same : B → B → Bool) where
-  list_all-filter : (p q : B → Bool) (xs : List B) → list_all q xs ≡ true → list_all q (filter p xs) ≡ true
+  pub list_all-filter : (p q : B → Bool) (xs : List B) → list_all q xs ≡ true → list_all q (filter p xs) ≡ true
   list_all-filter p q [] h = refl
   list_all-filter p q (x ∷ xs) h = let parts = and_parts (q x) (list_all q xs) h in let ih = list_all-filter p q xs parts.1 in
       elim (cases_Bool (p x)) [ inl k ↦ rw k (and_from (q x) _ parts.0 ih) | inr k ↦ rw k ih ]

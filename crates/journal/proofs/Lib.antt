@@ -7,3 +7,8 @@ pub mod StateSteps
 pub mod Rows
 pub mod Premises
 pub mod Locality
+pub mod Inceptions
+pub mod One
+pub mod Apart
+pub mod Different
+pub mod Asking

@@ -1,10 +1,10 @@
 -- What an entry changes: the readiness of the bodies that it concerns alone.
-use Rattle.std.proofs.Common.{◌≡◌, ℕ, Bool, true, false, not, ◌&&◌, ◌||◌, List, [], ◌∷◌, ◌++◌, Option, Some, None, refl, sym, ◌∙◌, ap, append-nil, append_assoc, option_map, inl, inr}
-use Rattle.std.specs.Prelude.{filter, filter_map, flat_map, map, bytes_eq}
+use Rattle.std.proofs.Common.{◌≡◌, ℕ, Bool, true, false, ◌&&◌, ◌||◌, List, [], ◌∷◌, ◌++◌, Option, Some, None, refl, sym, ◌∙◌, ap, append-nil, append_assoc, option_map, inl, inr}
+use Rattle.std.specs.Prelude.{filter, filter_map, flat_map, bytes_eq}
 use Rattle.std.specs.List.{list_any}
 use Rattle.std.specs.Cmp.Lexicographic.{bytes_decides}
 use Rattle.std.proofs.lemmas.List.Folds.{list_any-append}
-use Rattle.std.proofs.lemmas.Bool.{cases_Bool, or_parts}
+use Rattle.std.proofs.lemmas.Bool.{cases_Bool}
 use Rattle.cesr_codes.specs.declared.key.Key.{Key}
 use Rattle.cesr_codes.specs.declared.sig.Sig.{Sig}
 use Rattle.key_state.specs.States.{State}
@@ -13,10 +13,9 @@ use Rattle.journal.specs.declared.mode.Mode.{Mode}
 use Rattle.event_body.specs.Events.{prefix_of}
 use Rattle.key_state.specs.Same.{same_key}
 use Rattle.key_state.specs.Exposure.{Rules, own_rules}
-use Rattle.journal.specs.Logs.{Body, same_body, is_in, state, takes}
-use Rattle.journal.specs.Seals.{anchored}
+use Rattle.journal.specs.Logs.{Body, same_body, state}
 use Rattle.journal.specs.History.{Told, took, heard, Triple, same_triple, triple_of, claimed_key, claimed_sig, claims_on, claims_in, is_receipt_for, said_yes, yes_in}
-use Rattle.journal.specs.Readiness.{is_ready, is_local, is_backed, meets_own, meets_before, meets_next, signed, good_sigs, yes_to, held_sig, backers, backs}
+use Rattle.journal.specs.Readiness.{is_ready, signed, good_sigs, yes_to, held_sig, backers, backs}
 
 -- the entry is of the body: it came, or a receipt for it did, or a verdict on it was heard
 abbrev pub concerns : Told → Body → Bool
