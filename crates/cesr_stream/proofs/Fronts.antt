@@ -84,22 +84,22 @@ module _ (element : Option ℕ → List ℕ → Part) (holds : Holds element) wh
   fours-elements_part (suc count) room x n e =
       fours-followed_by (element room x) (λ n. elements_part element count (less n room)) x n (holds.fours room x) (λ k m. fours-elements_part count (less k room) (drop k x) m) e
 
-holds_key : Holds (primitive_part fixed_layouts (verdict fixed_layouts))
+pub holds_key : Holds (primitive_part fixed_layouts (verdict fixed_layouts))
 holds_key = holds-primitive_part fixed_layouts (verdict fixed_layouts) (judging-verdict fixed_layouts refl)
 
-holds_sig : Holds (primitive_part sig_layouts (verdict sig_layouts))
+pub holds_sig : Holds (primitive_part sig_layouts (verdict sig_layouts))
 holds_sig = holds-primitive_part sig_layouts (verdict sig_layouts) (judging-verdict sig_layouts refl)
 
-holds_number : Holds (primitive_part number_layouts (verdict number_layouts))
+pub holds_number : Holds (primitive_part number_layouts (verdict number_layouts))
 holds_number = holds-primitive_part number_layouts (verdict number_layouts) (judging-verdict number_layouts refl)
 
-holds_digest : Holds (primitive_part digest_layouts (verdict digest_layouts))
+pub holds_digest : Holds (primitive_part digest_layouts (verdict digest_layouts))
 holds_digest = holds-primitive_part digest_layouts (verdict digest_layouts) (judging-verdict digest_layouts refl)
 
-holds_moment : Holds (primitive_part moment_layouts moment_verdict)
+pub holds_moment : Holds (primitive_part moment_layouts moment_verdict)
 holds_moment = holds-primitive_part moment_layouts moment_verdict judging-moment_verdict
 
-holds-element_part : (letter : ℕ) → Holds (element_part letter)
+pub holds-element_part : (letter : ℕ) → Holds (element_part letter)
 holds-element_part letter = at (letter == 67) (letter == 69) (letter == 71)
   where
     at : (couple seen anchor : Bool) → Holds (if couple then couple_part else if seen then seen_part else if anchor then anchor_part else signature_part)
@@ -175,7 +175,7 @@ room-group_part room x n e le =
     let fours = fours-elements_part (element_part (slice_index x 1)) (holds-element_part (slice_index x 1)) (count_of x) (Some (room - 4)) (drop 4 x) is.0 is.1 in
     (omega (arith, is.2), omega (arith, is.2, few), omega (arith, is.2, fours))
 
-stays-begun_group : (room : ℕ) → Stays (begun_group room)
+pub stays-begun_group : (room : ℕ) → Stays (begun_group room)
 stays-begun_group room [] y ne = absurd (ne refl)
 stays-begun_group room (b ∷ x) y ne = elim (cases_Bool (b == 45)) [
   | inl t ↦ rw t (stays-group_part (Some room) (b ∷ x) y (rw t at ne))

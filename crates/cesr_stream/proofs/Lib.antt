@@ -3,9 +3,15 @@ pub mod Verdicts
 pub mod Primitives
 pub mod Fronts
 pub mod Items
+pub mod WrittenItems
+pub mod SameItems
 pub mod Keeping
 pub mod Assembling
 pub mod ElementSteps
 pub mod WrapSteps
 pub mod Counters
 pub mod Ends
+pub mod Putting
+pub mod Sizes
+pub mod Spellings
+pub mod Wholes

@@ -8,3 +8,4 @@ pub mod Items
 pub mod Messages
 pub mod Assembly
 pub mod Reading
+pub mod Written

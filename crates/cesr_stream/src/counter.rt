@@ -1,11 +1,12 @@
 //! Counters at the front of a stream.
-ghost use Rattle.std.specs.Prelude.{◌≡◌, ◌≤◌, ◌<◌, ◌^◌, ℕ, length, slice_index};
+ghost use Rattle.std.specs.Prelude.{◌≡◌, ◌≤◌, ◌<◌, ◌^◌, ◌∷◌, ℕ, length, slice_index};
+ghost use Rattle.keri_specs.specs.Base64.{base64_text};
 ghost use Rattle.cesr_stream.specs.Front.{counter_part, count_of, is_group};
 ghost use Rattle.cesr_stream.specs.Judged.{part_of, IsWithin};
 
 use crate::BadReason;
 use crate::part::Part;
-use cesr_codes::{CodeFault, digit, is_symbol};
+use cesr_codes::{CodeFault, Number, digit, is_symbol};
 
 /// How the counter at the front is judged, whose letter is supported there or not.
 #[tactic(auto, unfolding(crate::specs::Front::counter_part))]
@@ -56,4 +57,16 @@ pub(crate) fn is_group(letter: u8) -> bool
     ensures { result ≡ is_group letter }
 {
     matches!(letter, b'A' | b'B' | b'C' | b'E' | b'G')
+}
+
+/// The counter with this letter: its count has the last two digits of the number.
+pub(crate) fn counter(letter: u8, count: usize) -> [u8; 4]
+    ensures { result ≡ 45 ∷ letter ∷ base64_text 2 count }
+{
+    let number = Number {
+        value: count as u128,
+    };
+    let mut digits = [0u8; 24];
+    number.write(&mut digits);
+    [b'-', letter, digits[22], digits[23]]
 }

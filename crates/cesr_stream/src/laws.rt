@@ -1,8 +1,11 @@
 //! Laws of the definition of a stream.
-ghost use Rattle.std.specs.Prelude.{◌≡◌, ◌≢◌, ◌++◌, ℕ, Bool, List};
-ghost use Rattle.cesr_stream.specs.Parts.{unfinished};
+ghost use Rattle.std.specs.Prelude.{◌≡◌, ◌≢◌, ◌∷◌, ◌++◌, [], ℕ, Bool, List, length, take, true};
+ghost use Rattle.cesr_stream.specs.Parts.{unfinished, whole};
 ghost use Rattle.cesr_stream.specs.Front.{front};
-ghost use Rattle.cesr_stream.specs.Items.{Placed, Stand};
+ghost use Rattle.cesr_stream.specs.Items.{Placed, Stand, placed};
+ghost use Rattle.cesr_stream.specs.Texts.{SpellsItem};
+ghost use Rattle.cesr_stream.specs.Written.{item_text, IsItem, IsWritable, MayStand};
+ghost use Rattle.cesr_stream.specs.declared.item.Item.{Item};
 
 /// No cut of the input changes what is read.
 pub fn in_any_pieces()
@@ -11,4 +14,16 @@ pub fn in_any_pieces()
 
     // The items that stand from the front stand there, whatever follows.
     ensures items { (limit : ℕ) (bytes more : List ℕ) (items : List Placed) (begun : Bool) (place : ℕ) → Stand limit bytes items begun place → Stand limit (bytes ++ more) items begun place }
+{}
+
+/// What is written of an item is read as that item.
+pub fn written_is_read()
+    // Whatever follows its text, it is the item at the front, in a place where it may stand, and has that text's length.
+    ensures front { (limit : ℕ) (begun : Bool) (item : Item) (rest : List ℕ) → IsItem item → IsWritable item → MayStand limit begun item → (front limit begun (item_text item ++ rest) ≡ whole (length (item_text item))) × SpellsItem (take (length (item_text item)) (item_text item ++ rest)) item }
+
+    // Behind whole items it is one more of them, at its place.
+    ensures more { (limit : ℕ) (bytes : List ℕ) (items : List Placed) (begun : Bool) (item : Item) → Stand limit bytes items begun (length bytes) → IsItem item → IsWritable item → MayStand limit begun item → Stand limit (bytes ++ item_text item) (items ++ placed (length bytes) item ∷ []) true (length (bytes ++ item_text item)) }
+
+    // That text spells no other item.
+    ensures only { (item other : Item) → IsItem item → IsItem other → IsWritable item → SpellsItem (item_text item) other → other ≡ item }
 {}

@@ -22,9 +22,12 @@ mod part;
 mod primitive;
 mod reader;
 mod seen;
+mod spelled;
+mod spelled_element;
 mod step;
 #[cfg(test)]
 mod tests;
+mod write;
 
 pub use anchor_couple::AnchorCouple;
 pub use assembler::Assembler;
@@ -32,8 +35,9 @@ pub use bad::{Bad, BadReason};
 pub use couple::Couple;
 pub use group::Group;
 pub use item::Item;
-pub use laws::in_any_pieces;
+pub use laws::{in_any_pieces, written_is_read};
 pub use message::Message;
 pub use reader::Reader;
 pub use seen::Seen;
 pub use step::Step;
+pub use write::write_item;

@@ -1,8 +1,12 @@
-//! Streams with one example of each counter and of each fault, in pieces.
+//! Streams with one example of each counter and of each fault, in pieces, and each kind of item written and read.
+ghost use Rattle.std.specs.Prelude.{◌≡◌, ◌∷◌, [], IfOk};
+ghost use Rattle.cesr_stream.specs.Written.{IsWritable};
 
-use crate::{Bad, BadReason, Reader, Step};
-use cesr_codes::CodeFault;
-use keri_outside::Limits;
+use crate::{AnchorCouple, Bad, BadReason, Couple, Group, Item, Reader, Seen, Step, write_item};
+use cesr_codes::{CodeFault, Digest, DigestCode, IndexedSig, Key, KeyCode, Moment, Number, Sig};
+use keri_outside::{Limits, MemSink};
+use lists::Items;
+use std::alloc::{AllocError, Global};
 use std::test::Fail;
 
 const RECEIPT: &str =
@@ -125,5 +129,76 @@ fn each_counter_and_each_fault(rt: HostRuntime) -> Result<(), Fail> {
             assert_eq!(rt; read(rt, parts.as_slice(), piece)?, *answer);
         }
     }
+    Ok(())
+}
+
+// A list of one value.
+fn only<T: Drop>(alloc: Global, value: T) -> Result<Items<T>, AllocError>
+    ensures { IfOk result (λ items. items ≡ value ∷ []) }
+{
+    let mut items = Items::new(alloc);
+    items.push(value)?;
+    Ok(items)
+}
+
+// Whether what is written of an item are these parts, and is read behind a body as that item.
+fn is_written_and_read(alloc: Global, item: &Item, parts: &[&str]) -> Result<bool, Fail>
+    requires { IsWritable item.now }
+{
+    let mut text = Vec::new(alloc);
+    for part in parts {
+        text.extend_from_slice(part.as_bytes())?;
+    }
+    let mut sink = MemSink::new(alloc, Items::new(alloc));
+    let written = write_item(item, &mut sink).is_ok() && sink.bytes() == text.as_slice();
+    let mut reader = Reader::new(alloc, Limits::standard());
+    reader.feed(RECEIPT.as_bytes())?;
+    reader.feed(sink.bytes())?;
+    let _ = reader.next()?;
+    let read = match reader.next()? {
+        Step::Item(read, place) => read == *item && place == 145,
+        _ => false,
+    };
+    Ok(written && read)
+}
+
+#[test]
+fn each_item_written_and_read(rt: HostRuntime) -> Result<(), Fail> {
+    let alloc = rt.alloc();
+    let sig = Sig { raw: [0; 64] };
+    let indexed = IndexedSig::new(false, 0, Some(0), sig).expect(&rt, "a form");
+    let number = Number { value: 0 };
+    let couple = Couple {
+        key: Key {
+            code: KeyCode::Fixed,
+            raw: [0; 32],
+        },
+        sig,
+    };
+    let seen = Seen {
+        number,
+        moment: Moment::new(*b"2020-08-22T17:50:09.988921+00:00").expect(&rt, "a form"),
+    };
+    let anchor = AnchorCouple {
+        number,
+        digest: Digest {
+            code: DigestCode::Blake3,
+            raw: [0; 32],
+        },
+    };
+    let body = Item::Body(Items::from_vec(Vec::from_slice(alloc, RECEIPT.as_bytes())?));
+    assert!(rt; is_written_and_read(alloc, &body, &[RECEIPT])?);
+    let held = Item::Group(Group::Held(only(alloc, indexed)?));
+    assert!(rt; is_written_and_read(alloc, &held, &["-AAB", INDEXED])?);
+    let witness = Item::Group(Group::Witness(only(alloc, indexed)?));
+    assert!(rt; is_written_and_read(alloc, &witness, &["-BAB", INDEXED])?);
+    let couples = Item::Group(Group::Couples(only(alloc, couple)?));
+    assert!(rt; is_written_and_read(alloc, &couples, &["-CAB", FIXED_KEY, SIGNATURE])?);
+    let first_seen = Item::Group(Group::FirstSeen(only(alloc, seen)?));
+    assert!(rt; is_written_and_read(alloc, &first_seen, &["-EAB", NUMBER, MOMENT])?);
+    let anchors = Item::Group(Group::Anchor(only(alloc, anchor)?));
+    assert!(rt; is_written_and_read(alloc, &anchors, &["-GAB", NUMBER, DIGEST])?);
+    let wrapped = Item::Wrapped(only(alloc, Group::Witness(only(alloc, indexed)?))?);
+    assert!(rt; is_written_and_read(alloc, &wrapped, &["-VAX-BAB", INDEXED])?);
     Ok(())
 }

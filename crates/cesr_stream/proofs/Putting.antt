@@ -1,0 +1,65 @@
+-- What stands on a sink where texts are put one behind the other.
+use Rattle.std.proofs.Common.{◌≡◌, ℕ, ◌+◌, ◌<◌, List, [], ◌∷◌, ◌++◌, length, take, drop, slice_index_or, flat_map, refl, sym, ap, ◌∙◌, append-nil, append_assoc, Option, None, Some, Result, Ok, Err}
+use Rattle.std.specs.Result.{IsErr}
+use Rattle.std.proofs.Math.Seq.{take-append_seam, take-append-add}
+use Rattle.std.proofs.lemmas.Grind.{flat_map-append}
+use Rattle.std.proofs.lemmas.List.{take-append-drop, take_more, drop_more}
+use Rattle.keri_specs.specs.Told.{Puts, after}
+
+-- nothing more, and one text behind another
+pub after-nil : (told : Option (List ℕ)) → told ≡ after told []
+after-nil None = refl
+after-nil (Some text) = ap Some (sym (append-nil text))
+
+after-append : (told : Option (List ℕ)) (text more : List ℕ) → after (after told text) more ≡ after told (text ++ more)
+after-append None text more = refl
+after-append (Some front) text more = ap Some (append_assoc front text more)
+
+module _ {E : Type 0} (result : Result (Unit {0}) E) (old new : Option (List ℕ)) (text : List ℕ) where
+  -- a front of a text is one of a longer text
+  pub front_stands : (rest : List ℕ) → IsErr result → (n : ℕ) × (new ≡ after old (take n text)) → Puts old new result (text ++ rest)
+  front_stands rest failed stands = at result failed
+    where
+      same : take (length (take stands.0 text)) (text ++ rest) ≡ take stands.0 text
+      same =
+          ap (λ t. take (length (take stands.0 text)) (t ++ rest)) (sym (take-append-drop stands.0 text))
+          ∙ ap (take (length (take stands.0 text))) (append_assoc (take stands.0 text) (drop stands.0 text) rest)
+          ∙ take-append_seam (take stands.0 text) (drop stands.0 text ++ rest)
+
+      at : (r : Result (Unit {0}) E) → IsErr r → Puts old new r (text ++ rest)
+      at (Ok u) failed = cc failed
+      at (Err e) failed = (length (take stands.0 text), stands.1 ∙ ap (after old) (sym same))
+
+  -- what is put behind a text
+  pub puts-behind : (middle : Option (List ℕ)) (more : List ℕ) → middle ≡ after old text → Puts middle new result more → Puts old new result (text ++ more)
+  puts-behind middle more is puts = at result puts
+    where
+      at : (r : Result (Unit {0}) E) → Puts middle new r more → Puts old new r (text ++ more)
+      at (Ok u) puts = puts ∙ ap (λ told. after told more) is ∙ after-append old text more
+      at (Err e) puts = (
+        length text + puts.0,
+        puts.1 ∙ ap (λ told. after told (take puts.0 more)) is ∙ after-append old text (take puts.0 more)
+            ∙ ap (after old) (sym (take-append-add text more puts.0)),
+      )
+
+module _ {X : Type 0} (text : X → List ℕ) (all : List X) (i : ℕ) (x : X) (lt : i < length all) (is : x ≡ slice_index_or all i x) where
+  -- the texts before one, its own, and those behind it
+  pub texts_at : flat_map text all ≡ flat_map text (take i all) ++ (text x ++ flat_map text (drop (i + 1) all))
+  texts_at =
+      ap (flat_map text) (sym (take-append-drop i all))
+      ∙ flat_map-append text (take i all) (drop i all)
+      ∙ ap (λ rest. flat_map text (take i all) ++ flat_map text rest) (drop_more all i x lt)
+      ∙ ap (λ y. flat_map text (take i all) ++ (text y ++ flat_map text (drop (i + 1) all))) (sym is)
+
+  -- one text more
+  pub texts_more : flat_map text (take (i + 1) all) ≡ flat_map text (take i all) ++ text x
+  texts_more =
+      ap (flat_map text) (take_more all i x lt)
+      ∙ flat_map-append text (take i all) (slice_index_or all i x ∷ [])
+      ∙ ap (λ y. flat_map text (take i all) ++ (text y ++ [])) (sym is)
+      ∙ ap (λ last. flat_map text (take i all) ++ last) (append-nil (text x))
+
+  pub put_more : (old before now : Option (List ℕ)) → before ≡ after old (flat_map text (take i all)) → now ≡ after before (text x)
+      → now ≡ after old (flat_map text (take (i + 1) all))
+  put_more old before now is_before is_now =
+      is_now ∙ ap (λ told. after told (text x)) is_before ∙ after-append old (flat_map text (take i all)) (text x) ∙ ap (after old) (sym texts_more)
