@@ -125,11 +125,16 @@ all_apart told (b ∷ bs) d = (apart_from_all told b bs d.0, all_apart told bs d
 abbrev pub open_on : List Told → Body → List Triple
 open_on told b = filter (λ t. not (has_verdict told t)) (distinct same_triple (raised_own told b))
 
+-- RAISED: what the bodies raise, one after the other
+pub raised_are : (mode : Mode) (told : List Told) → AllPlain (bodies [] told) → raised mode [] told ≡ flat_map (λ b. distinct same_triple (raised_own told b)) (bodies [] told)
+unfolding raised bodies
+raised_are mode told plain =
+    let all = raised_all told (accepted mode [] told) (bodies [] told) plain in
+    ap (distinct same_triple) all
+    ∙ distinct-flat_map same_triple (raised_own told) (bodies [] told) (all_apart told (bodies [] told) (differ-distinct same_body (flat_map taken told)))
+
 -- QUESTIONS: those of the bodies, one after the other
 pub questions_are : (mode : Mode) (told : List Told) → AllPlain (bodies [] told) → questions mode [] told ≡ flat_map (open_on told) (bodies [] told)
-unfolding questions raised bodies
-questions_are mode told plain =
-    let all = raised_all told (accepted mode [] told) (bodies [] told) plain in
-    let apart = distinct-flat_map same_triple (raised_own told) (bodies [] told) (all_apart told (bodies [] told) (differ-distinct same_body (flat_map taken told))) in
-    ap (λ ts. filter (λ t. not (has_verdict told t)) (distinct same_triple ts)) all
-    ∙ ap (filter (λ t. not (has_verdict told t))) apart ∙ filter-flat_map (λ t. not (has_verdict told t)) (λ b. distinct same_triple (raised_own told b)) (bodies [] told)
+unfolding questions
+questions_are mode told plain = ap (filter (λ t. not (has_verdict told t))) (raised_are mode told plain)
+    ∙ filter-flat_map (λ t. not (has_verdict told t)) (λ b. distinct same_triple (raised_own told b)) (bodies [] told)

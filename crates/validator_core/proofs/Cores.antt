@@ -1,0 +1,68 @@
+-- What the private calls of a core do to its tables, as callers see them.
+use Rattle.std.proofs.Common.{◌≡◌, ℕ, ◌<◌, ◌≤◌, Bool, false, not, List, [], ◌∷◌, ◌++◌, length, Some, refl, ap, inl, inr, set, arith}
+use Rattle.std.specs.Prelude.{slice_get, flat_map, filter}
+use Rattle.std.proofs.lemmas.Bool.{cases_Bool}
+use Rattle.journal.specs.declared.body.Body.{Body}
+use Rattle.journal.specs.declared.claim.Claim.{Claim}
+use Rattle.journal.specs.declared.entry.Entry.TheVariants.{Took}
+use Rattle.journal.specs.Logs.{same_body, is_in}
+use Rattle.journal.specs.History.{took, taken, bodies}
+use Rattle.key_state.specs.Same.{distinct}
+use Rattle.validator_core.specs.Cases.{Case}
+use Rattle.validator_core.specs.View.{told_of, HasRoom, IsHeld}
+use Rattle.validator_core.specs.Tables.{Tables, view_of, held_by, HasNoHeld, NotesClaims, IsCore, tally_with}
+use Rattle.validator_core.proofs.FitsAgain.{fits_again, told_again}
+use Rattle.validator_core.proofs.FitsNew.{fits_new, told_new, held_new}
+use Rattle.validator_core.proofs.Held.{case_event, held_set, some_at}
+
+-- a list of first comings is no longer than the list
+pub distinct_shorter : {X : Type 0} (same : X → X → Bool) (xs : List X) → length (distinct same xs) ≤ length xs
+unfolding distinct
+distinct_shorter same [] = omega arith
+distinct_shorter same (x ∷ xs) = omega (arith, filter_shorter (λ y. not (same x y)) (distinct same xs), distinct_shorter same xs)
+  where
+    filter_shorter : {X : Type 0} (q : X → Bool) (xs : List X) → length (filter q xs) ≤ length xs
+    filter_shorter q [] = omega arith
+    filter_shorter q (x ∷ xs) = elim (cases_Bool (q x)) [
+      | inl k ↦ rw k (omega (arith, filter_shorter q xs))
+      | inr k ↦ rw k (omega (arith, filter_shorter q xs))
+    ]
+
+-- there are at most as many bodies as messages may be taken
+pub few_held : (t : Tables) → IsCore t → t.limits.messages ≤ 1048576 → length (held_by t.bodies t.cases) ≤ 1048576
+unfolding bodies
+few_held t fits standard =
+    let shorter = distinct_shorter same_body (flat_map taken (told_of (view_of t))) in
+    let same = ap length fits.sound.in_order in
+    omega (arith, shorter, same, fits.within.messages, standard)
+
+module _ (t : Tables) (fits : IsCore t) (reader n : ℕ) (claims : List Claim) (room : HasRoom (view_of t) 0 (length claims)) (below : n < length (view_of t).held)
+    (no_held : (b : Body) → slice_get (view_of t).held n ≡ Some b → HasNoHeld (took reader b claims)) (old new : Case) (case_at : slice_get t.cases n ≡ Some old) (notes : NotesClaims old claims new) where
+  abbrev after_again : Tables
+  after_again = record { mode = t.mode; limits = t.limits; bodies = t.bodies; entries = t.entries ++ Took reader n claims ∷ []; cases = set t.cases n new; accepted = t.accepted; states = t.states; tally = tally_with t.tally 0 (length claims) }
+
+  pub core_again : IsCore after_again
+  core_again =
+      let s = some_at (view_of t).held n below in
+      let same = case_event t.bodies t.cases n s.0 old s.1 case_at in
+      fits_again t fits reader n claims s.0 old new s.1 case_at notes.event notes.claims_are (rw same notes.asked_are) (no_held s.0 s.1) room.few room.little
+
+  pub told_core_again : (b : Body) → slice_get (view_of t).held n ≡ Some b → told_of (view_of after_again) ≡ told_of (view_of t) ++ took reader b claims ∷ []
+  told_core_again b at =
+      let same = held_set t.bodies t.cases n old new case_at notes.event in
+      let event = case_event t.bodies t.cases n b old at case_at in
+      rw same (told_again t fits reader n claims b old new at case_at notes.event notes.claims_are (rw event notes.asked_are) (no_held b at) room.few room.little)
+
+module _ (t : Tables) (fits : IsCore t) (reader : ℕ) (claims : List Claim) (text : List ℕ) (case : Case) (room : HasRoom (view_of t) (length text) (length claims))
+    (spelled : IsHeld (record { bytes = text; event = case.event })) (outside : is_in (view_of t).held (record { bytes = text; event = case.event }) ≡ false)
+    (notes : NotesClaims (record { event = case.event; claims = []; asked = [] }) claims case) (no_held : HasNoHeld (took reader (record { bytes = text; event = case.event }) claims)) where
+  abbrev after_new : Tables
+  after_new = record { mode = t.mode; limits = t.limits; bodies = t.bodies ++ text ∷ []; entries = t.entries ++ Took reader (length t.bodies) claims ∷ []; cases = t.cases ++ case ∷ []; accepted = t.accepted; states = t.states; tally = tally_with t.tally (length text) (length claims) }
+
+  pub core_new : IsCore after_new
+  core_new = fits_new t fits reader claims text (record { event = case.event; claims = []; asked = [] }) case spelled outside refl refl refl notes.claims_are notes.asked_are no_held room.few room.little room.small
+
+  pub told_core_new : told_of (view_of after_new) ≡ told_of (view_of t) ++ took reader (record { bytes = text; event = case.event }) claims ∷ []
+  told_core_new =
+      let held = held_new t fits reader claims text (record { event = case.event; claims = []; asked = [] }) case spelled outside refl refl refl notes.claims_are notes.asked_are no_held room.few room.little room.small in
+      rw held (told_new t fits reader claims text (record { event = case.event; claims = []; asked = [] }) case spelled outside refl refl refl notes.claims_are notes.asked_are no_held room.few room.little room.small)

@@ -1,0 +1,67 @@
+-- Places in lists.
+use Rattle.std.proofs.Common.{◌≡◌, ℕ, zero, suc, Bool, true, not, List, [], ◌∷◌, ◌++◌, Some, refl, sym, ◌∙◌, ap, inl, inr}
+use Rattle.std.specs.Prelude.{All, slice_get, length}
+use Rattle.std.specs.List.{list_any, list_all}
+use Rattle.std.specs.Cmp.Lexicographic.{bytes_decides}
+use Rattle.std.proofs.lemmas.Bool.{and_parts, or_cases, or_left, or_right}
+use Rattle.std.proofs.lemmas.List.Elements.{All-head, All-tail}
+use Rattle.journal.specs.declared.body.Body.{Body}
+use Rattle.journal.specs.Logs.{same_body}
+use Rattle.journal.proofs.Different.{Differ}
+
+pub all_at : {X : Type 0} (P : X → Type 0) (xs : List X) → All P xs → (n : ℕ) (x : X) → slice_get xs n ≡ Some x → P x
+all_at P [] all n x at = cc
+all_at P (y ∷ xs) all zero x at = let e : y ≡ x = cc in rw (← e) (All-head P y xs all)
+all_at P (y ∷ xs) all (suc n) x at = all_at P xs (All-tail P y xs all) n x at
+
+pub test_at : {X : Type 0} (q : X → Bool) (xs : List X) → list_all q xs ≡ true → (n : ℕ) (x : X) → slice_get xs n ≡ Some x → q x ≡ true
+test_at q [] all n x at = cc
+test_at q (y ∷ xs) all zero x at = let e : y ≡ x = cc in rw (← e) (and_parts (q y) (list_all q xs) all).0
+test_at q (y ∷ xs) all (suc n) x at = test_at q xs (and_parts (q y) (list_all q xs) all).1 n x at
+
+pub found_at : {X : Type 0} (q : X → Bool) (xs : List X) → list_any q xs ≡ true → (n : ℕ) × (x : X) × (slice_get xs n ≡ Some x) × (q x ≡ true)
+found_at q [] h = cc
+found_at q (y ∷ xs) h = elim (or_cases (q y) (list_any q xs) h) [
+  | inl here ↦ (0, y, refl, here)
+  | inr there ↦ (let f = found_at q xs there in (suc f.0, f.1, f.2, f.3))
+]
+
+pub any_at : {X : Type 0} (q : X → Bool) (xs : List X) (n : ℕ) (x : X) → slice_get xs n ≡ Some x → q x ≡ true → list_any q xs ≡ true
+any_at q [] n x at h = cc
+any_at q (y ∷ xs) zero x at h = let e : y ≡ x = cc in or_left _ _ (ap q e ∙ h)
+any_at q (y ∷ xs) (suc n) x at h = or_right _ _ (any_at q xs n x at h)
+
+-- bodies that differ pairwise have one place each
+pub one_place : (held : List Body) → Differ same_body held → (m n : ℕ) (b c : Body) → slice_get held m ≡ Some b → slice_get held n ≡ Some c → b.bytes ≡ c.bytes → m ≡ n
+one_place [] d m n b c at_b at_c same = cc
+one_place (x ∷ xs) d zero zero b c at_b at_c same = refl
+one_place (x ∷ xs) d zero (suc n) b c at_b at_c same =
+    let e : x ≡ b = cc in
+    let other = test_at (λ y. not (same_body x y)) xs d.0 n c at_c in
+    let equal : same_body x c ≡ true = (bytes_decides x.bytes c.bytes).1 (ap (λ y. y.bytes) e ∙ same) in cc
+one_place (x ∷ xs) d (suc m) zero b c at_b at_c same =
+    let e : x ≡ c = cc in
+    let other = test_at (λ y. not (same_body x y)) xs d.0 m b at_b in
+    let equal : same_body x b ≡ true = (bytes_decides x.bytes b.bytes).1 (ap (λ y. y.bytes) e ∙ sym same) in cc
+one_place (x ∷ xs) d (suc m) (suc n) b c at_b at_c same = ap (λ k. suc k) (one_place xs d.1 m n b c at_b at_c same)
+
+pub one_body : (held : List Body) → Differ same_body held → (m n : ℕ) (b c : Body) → slice_get held m ≡ Some b → slice_get held n ≡ Some c → b.bytes ≡ c.bytes → b ≡ c
+one_body held d m n b c at_b at_c same =
+    let one = one_place held d m n b c at_b at_c same in
+    let there : Some b ≡ Some c = sym at_b ∙ ap (slice_get held) one ∙ at_c in cc
+
+-- the last place, and those before it
+pub slice_get_last : {X : Type 0} (xs : List X) (x : X) → slice_get (xs ++ x ∷ []) (length xs) ≡ Some x
+slice_get_last [] x = refl
+slice_get_last (y ∷ xs) x = slice_get_last xs x
+
+pub slice_get_before : {X : Type 0} (xs : List X) (x : X) (m : ℕ) (y : X) → (m ≡ length xs → ⊥) → slice_get (xs ++ x ∷ []) m ≡ Some y → slice_get xs m ≡ Some y
+slice_get_before [] x zero y other e = absurd (other refl)
+slice_get_before [] x (suc m) y other e = cc
+slice_get_before (z ∷ xs) x zero y other e = e
+slice_get_before (z ∷ xs) x (suc m) y other e = slice_get_before xs x m y (λ same. other (ap (λ k. suc k) same)) e
+
+pub slice_get_front : {X : Type 0} (xs ys : List X) (m : ℕ) (y : X) → slice_get xs m ≡ Some y → slice_get (xs ++ ys) m ≡ Some y
+slice_get_front [] ys m y e = cc
+slice_get_front (z ∷ xs) ys zero y e = e
+slice_get_front (z ∷ xs) ys (suc m) y e = slice_get_front xs ys m y e

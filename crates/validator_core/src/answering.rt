@@ -1,0 +1,114 @@
+//! Noting verdicts.
+ghost use Rattle.std.specs.Prelude.{◌≡◌, ◌+◌, ◌<◌, ◌&&◌, length, find, slice_get, Some, IfOk, IfSome, OnOk, OnErr};
+ghost use Rattle.std.specs.Option.{option_map};
+ghost use Rattle.std.specs.Vec.{vec_len, vec_capacity};
+ghost use Rattle.key_state.specs.Same.{same_key, same_sig};
+ghost use Rattle.journal.specs.declared.body.Body.{Body};
+ghost use Rattle.journal.specs.declared.question.Noted.TheVariants.{New};
+ghost use Rattle.validator_core.specs.View.{TakesVerdict, Follows, open_of};
+ghost use Rattle.validator_core.specs.Tables.{Begins, BeginsBy, Hears, IsOpenIn, with_number, with_state};
+
+use crate::Core;
+use crate::asked::Asked;
+use cesr_codes::{Key, Sig};
+use event_body::prefix_of;
+use journal::{Entry, Noted, Question};
+use keri_outside::Steps;
+use key_state::{KeyState, StateFault, first, spelled_is_kept};
+use std::alloc::AllocError;
+
+impl Core {
+    /// Notes what the verifier of a reader says of a question.
+    pub fn answer(
+        &mut self,
+        reader: u16,
+        question: &Question,
+        yes: bool,
+        _steps: &mut Steps,
+    ) -> Result<Noted, AllocError>
+        ensures answers { IfOk result (λ noted. TakesVerdict self.old reader question.now yes noted self.new) }
+        ensures fewer { IfOk result (λ noted. noted ≡ New → length (open_of self.new) + 1 ≡ length (open_of self.old)) }
+        ensures err { OnErr result (self.new ≡ self.old) }
+    {
+        let Some(case) = self.cases.get(question.body as usize) else {
+            return Ok(Noted::Unasked);
+        };
+        match verdict_in(case.asked(), &question.key, &question.sig) {
+            None => Ok(Noted::Unasked),
+            Some(Some(_)) => Ok(Noted::Known),
+            Some(None) => {
+                self.hear(reader, question, yes)?;
+                Ok(Noted::New)
+            }
+        }
+    }
+
+    // Notes the verdict on an open question, and accepts the body where it is ready then.
+    fn hear(&mut self, reader: u16, question: &Question, yes: bool) -> Result<(), AllocError>
+        requires open { IsOpenIn self.old question.now }
+        ensures hears { OnOk result ((b : Body) → slice_get self.old.held question.now.body ≡ Some b → Hears self.old reader b question.now yes self.new) }
+        ensures err { OnErr result (self.new ≡ self.old) }
+    {
+        let number = question.body as usize;
+        let begun = self.begun_by(question.body, yes)?;
+        self.accepted.reserve(1)?;
+        self.states.reserve(1)?;
+        self.journal.entries.push(Entry::Heard {
+            reader,
+            body: question.body,
+            key: question.key,
+            sig: question.sig,
+            yes,
+        })?;
+        self.cases[number].note_verdict(&question.key, &question.sig, yes);
+        join(&mut self.accepted, &mut self.states, question.body, begun);
+        Ok(())
+    }
+
+    // The state that the event of a number begins by a verdict.
+    fn begun_by(&self, number: u32, yes: bool) -> Result<Option<KeyState>, AllocError>
+        ensures { IfOk result (λ begun. BeginsBy yes self.now (slice_get self.now.held number) begun) }
+    {
+        if yes { self.begun(number) } else { Ok(None) }
+    }
+
+    // The state that the event of a number begins, where its identifier has none.
+    fn begun(&self, number: u32) -> Result<Option<KeyState>, AllocError>
+        ensures { IfOk result (λ begun. Begins self.now (slice_get self.now.held number) begun) }
+    {
+        let Some(event) = self.event(number) else {
+            return Ok(None);
+        };
+        if self.state(&prefix_of(event)).is_some() {
+            return Ok(None);
+        }
+        spelled_is_kept();
+        match first(self.alloc, event) {
+            Ok(state) => Ok(Some(state)),
+            Err(StateFault::Misfit(_)) => Ok(None),
+            Err(StateFault::OutOfMemory) => Err(AllocError),
+        }
+    }
+}
+
+// Adds the number of an accepted body and the state that it begins, where it begins one.
+fn join(accepted: &mut Vec<u32>, states: &mut Vec<KeyState>, number: u32, begun: Option<KeyState>)
+    requires accepted { vec_len accepted.old < vec_capacity accepted.old }
+    requires states { vec_len states.old < vec_capacity states.old }
+    ensures accepted { accepted.new.items ≡ with_number accepted.old.items number begun }
+    ensures states { states.new.items ≡ with_state states.old.items begun }
+{
+    if let Some(state) = begun {
+        accepted.push_reserved(number);
+        states.push_reserved(state);
+    }
+}
+
+// The verdict on a key's signature, where that is asked.
+fn verdict_in(all: &[Asked], key: &Key, sig: &Sig) -> Option<Option<bool>>
+    ensures { result ≡ option_map (λ a. a.verdict) (find (λ a. same_key a.key key.now && same_sig a.sig sig.now) all.now) }
+{
+    all.iter()
+        .find(|asked| asked.is(key, sig))
+        .map(|asked| asked.verdict)
+}

@@ -1,0 +1,41 @@
+//! Why events wait.
+ghost use Rattle.std.specs.Prelude.{◌≡◌, ◌==◌};
+ghost use Rattle.std.specs.List.{list_any};
+ghost use Rattle.event_body.specs.Events as events;
+ghost use Rattle.validator_core.specs.View.{waits_for};
+
+use crate::Core;
+use event_body::{Event, prefix_of};
+use journal::Why;
+
+impl Core {
+    /// Why the event of a number isn't accepted; none where it is, or where the number is no event's. It takes no
+    /// memory.
+    pub fn why_waits(&self, body: u32) -> Option<Why>
+        ensures { result ≡ waits_for self.now body }
+    {
+        let event = self.event(body)?;
+        if is_receipt(event) || has_number(self.accepted.as_slice(), body) {
+            return None;
+        }
+        if self.state(&prefix_of(event)).is_some() {
+            Some(Why::Never)
+        } else {
+            Some(Why::Signatures)
+        }
+    }
+}
+
+// Whether it is a receipt.
+fn is_receipt(event: &Event) -> bool
+    ensures { result ≡ events.is_receipt event.now }
+{
+    matches!(event, Event::Rct(_))
+}
+
+// Whether the number is among these.
+fn has_number(numbers: &[u32], number: u32) -> bool
+    ensures { result ≡ list_any (λ n. n == number) numbers.now }
+{
+    numbers.contains(&number)
+}
