@@ -1,0 +1,5 @@
+pub mod Ordered
+pub mod Prefixes
+pub mod Listing
+pub mod Held
+pub mod Alone
