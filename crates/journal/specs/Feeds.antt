@@ -1,5 +1,5 @@
 -- What readers feed to a journal: each takes the messages of its own source, in order, and hears its own verifier.
-use Rattle.std.specs.Prelude.{◌≡◌, ℕ, ◌+◌, ◌<◌, ◌≤◌, Bool, false, ◌==◌, List, [], ◌∷◌, length, map, filter, flat_map, take, Option, Some, None, IfSome, All, Result, Ok, Err}
+use Rattle.std.specs.Prelude.{◌≡◌, ℕ, ◌+◌, ◌<◌, Bool, false, ◌==◌, List, [], ◌∷◌, ◌++◌, length, map, filter, flat_map, drop, Option, Some, None, IfSome, All, Result, Ok, Err}
 use Rattle.cesr_codes.specs.declared.key.Key.{Key}
 use Rattle.cesr_codes.specs.declared.sig.Sig.{Sig}
 use Rattle.event_body.specs.declared.event.Event.{Event}
@@ -9,7 +9,8 @@ use Rattle.event_body.specs.Judging.{Judges, SpellsEvent}
 use Rattle.keri_outside.specs.declared.limits.Limits.{Limits}
 use Rattle.cesr_stream.specs.declared.message.Message.{Message}
 use Rattle.cesr_stream.specs.Parts.{Part}
-use Rattle.cesr_stream.specs.Items.{Placed, Items}
+use Rattle.cesr_stream.specs.Front.{front}
+use Rattle.cesr_stream.specs.Items.{Placed, Items, Stand, IsEnd}
 use Rattle.cesr_stream.specs.Messages.{messages}
 use Rattle.journal.specs.declared.journal.Journal.{Journal}
 use Rattle.journal.specs.declared.refusal.Refusal.{Refusal}
@@ -25,6 +26,17 @@ pub record AreMessages (limits : Limits) (bytes : List ℕ) (found : List Messag
   pub end : Part
   pub all : Items limits.body bytes items end
   pub made : found ≡ messages limits.message_signatures items
+
+-- The first messages of the bytes: those of items that stand from the front. Where none comes behind them, the items are
+-- all that there are.
+pub record AreFirst (limits : Limits) (bytes : List ℕ) (first : List Message) : Type 0 where
+  pub items : List Placed
+  pub begun : Bool
+  pub place : ℕ
+  pub later : List Message
+  pub stand : Stand limits.body bytes items begun place
+  pub made : first ++ later ≡ messages limits.message_signatures items
+  pub whole : later ≡ [] → IsEnd (front limits.body begun (drop place bytes))
 
 -- the event that a body spells, or the first rule that it fails
 abbrev pub GivesBody : List ℕ → Result Event BodyFault → Type 0
@@ -71,25 +83,24 @@ abbrev pub is_taken_by : ℕ → Told → Bool
 is_taken_by n (took reader b claims) = reader == n
 is_taken_by n (heard reader b key sig verdict) = false
 
--- Of the messages of the bytes, so many from the first on were offered: those that aren't refused are the reader's
--- entries, the others its list of refused ones. Unless it was stopped, so many are all.
+-- The first messages of the bytes were offered: those that aren't refused are the reader's entries, the others its list
+-- of refused ones. Unless it was stopped, these are all the messages.
 pub record Feeds (limits : Limits) (told : List Told) (reader : ℕ) (end : End) (bytes : List ℕ) : Type 0 where
-  pub read : List Judged
-  pub offered : ℕ
-  pub messages_are : AreMessages limits bytes (map (λ j. j.message) read)
-  pub bodies_are : All (λ j. GivesBody j.message.body j.gives) read
-  pub taken : filter (is_taken_by reader) told ≡ flat_map (entry_of reader) (take offered read)
-  pub refused : end.refused ≡ flat_map refusal_of (take offered read)
-  pub all : end.stopped ≡ false → length read ≤ offered
+  pub offered : List Judged
+  pub first : AreFirst limits bytes (map (λ j. j.message) offered)
+  pub bodies_are : All (λ j. GivesBody j.message.body j.gives) offered
+  pub taken : filter (is_taken_by reader) told ≡ flat_map (entry_of reader) offered
+  pub refused : end.refused ≡ flat_map refusal_of offered
+  pub all : end.stopped ≡ false → AreMessages limits bytes (map (λ j. j.message) offered)
 
 -- a verdict that the reader heard is what its verifier says
-abbrev pub IsHeardFrom : ℕ → End → Told → Type 0
-IsHeardFrom n end (took reader b claims) = Unit {0}
-IsHeardFrom n end (heard reader b key sig verdict) = reader ≡ n → IfSome (end.says key b.bytes sig) (λ said. verdict ≡ said)
+abbrev pub IsHeardFrom : ℕ → (Key → List ℕ → Sig → Option Bool) → Told → Type 0
+IsHeardFrom n says (took reader b claims) = Unit {0}
+IsHeardFrom n says (heard reader b key sig verdict) = reader ≡ n → IfSome (says key b.bytes sig) (λ said. verdict ≡ said)
 
 -- what one reader feeds, as far as its source and its verifier tell
 abbrev pub FeedsOne : Limits → List Told → ℕ → End → Type 0
-FeedsOne limits told reader end = IfSome end.bytes (Feeds limits told reader end) × All (IsHeardFrom reader end) told
+FeedsOne limits told reader end = IfSome end.bytes (Feeds limits told reader end) × All (IsHeardFrom reader end.says) told
 
 -- each of these readers feeds, the first of them having this number
 abbrev pub FeedEach : Limits → List Told → ℕ → List End → Type 0

@@ -1,1 +1,5 @@
 pub mod Messages
+pub mod Questions
+pub mod Offering
+pub mod Ends
+pub mod Outcomes

@@ -49,3 +49,11 @@ is_full (Bad bad) = false
 is_full ReadFault = false
 is_full VerifierFault = false
 is_full OutOfMemory = false
+
+abbrev pub is_verifier_fault : Close → Bool
+is_verifier_fault VerifierFault = true
+is_verifier_fault End = false
+is_verifier_fault (Bad bad) = false
+is_verifier_fault ReadFault = false
+is_verifier_fault Full = false
+is_verifier_fault OutOfMemory = false

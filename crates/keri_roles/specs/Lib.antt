@@ -1,8 +1,15 @@
 pub mod Status
 pub mod Closes
+pub mod Settling
+pub mod NoJournal
 pub mod Answers
 pub mod Finishing
 pub mod Writing
 pub mod Check
+pub mod Asking
+pub mod Offering
+pub mod Ends
+pub mod Reports
+pub mod Validate
 pub mod Faults
 pub mod Run

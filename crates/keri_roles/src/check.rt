@@ -3,12 +3,12 @@ ghost use Rattle.std.specs.Prelude.{◌≡◌, ◌≢◌, ◌⊎◌, is_none, Is
 ghost use Rattle.keri_specs.specs.Causes.{Rose};
 ghost use Rattle.keri_outside.specs.Told.{Grows};
 ghost use Rattle.keri_outside.specs.declared.making.MakingKind.TheVariants.{Source as SourceKind};
-ghost use Rattle.keri_roles.specs.Check.{Checks, ChecksNot, ChecksNothing, ChecksStream, Settles};
-ghost use Rattle.keri_roles.specs.Check as checks;
-ghost use Rattle.keri_roles.specs.Faults.{FaultHasCause, FaultsHaveCause};
+ghost use Rattle.keri_roles.specs.Check.{Checks, ChecksNot, ChecksNothing, ChecksStream, IsUnverified};
+ghost use Rattle.keri_roles.specs.Faults.{FaultHasCause, FaultsHaveCause, VerifierFaultsHaveCause};
 
 use crate::checking::Checking;
-use crate::writing::put_text;
+use crate::nothing_told::nothing_told;
+use crate::settling::settle;
 use crate::{Close, Done, Findings, ReaderEnd};
 use keri_outside::{Failed, Limits, Outside, Source};
 use message_feed::feed_messages;
@@ -17,10 +17,11 @@ use std::alloc::{AllocError, Global};
 
 /// Reads the stream of the file, and writes its lines.
 pub(crate) fn check<O: Outside>(alloc: Global, name: &str, outside: &mut O) -> Done<O>
-    ensures checked { Checks O.Source.left O.Source.faults name.now (O.told outside.old) (O.told outside.new) result.status result.readers.items
+    ensures checked { Checks O.Source.left O.Source.faults name.now (O.told outside.old) (O.told outside.new) result.status result.readers.items result.journal
         (O.Sink.written (O.sink outside.old)) (O.Sink.written (O.sink outside.new))
-        ⊎ ChecksNot name.now (O.told outside.old) (O.told outside.new) result.status result.readers.items
+        ⊎ ChecksNot name.now (O.told outside.old) (O.told outside.new) result.status result.readers.items result.journal
         (O.Sink.written (O.sink outside.old)) (O.Sink.written (O.sink outside.new)) }
+    ensures no_verifier { VerifierFaultsHaveCause O.Verifier.faults (O.told outside.old).faults (O.told outside.new).faults result.readers.items }
     ensures read_faults { FaultsHaveCause O.Source.faults (O.told outside.old).faults (O.told outside.new).faults result.readers.items }
     ensures six { result.status ≡ 6 → Rose (O.Sink.faults (O.sink outside.old)) (O.Sink.faults (O.sink outside.new)) }
     ensures kept { result.status ≢ 6 → O.Sink.faults (O.sink outside.new) ≡ O.Sink.faults (O.sink outside.old) }
@@ -28,39 +29,17 @@ pub(crate) fn check<O: Outside>(alloc: Global, name: &str, outside: &mut O) -> D
     let Ok(mut readers) = Vec::with_capacity(alloc, 1) else {
         return Done {
             status: Findings::no_memory().status(),
+            journal: nothing_told(alloc),
             readers: Vec::new(alloc),
         };
     };
     let (reader, text) = check_file(alloc, name, outside);
     let status = settle(outside, &reader, text.as_str());
     readers.push(reader).unwrap();
-    Done { status, readers }
-}
-
-// Writes the text, unless there was no memory for it, and answers the status.
-fn settle<O: Outside, S>(outside: &mut O, reader: &ReaderEnd<S>, text: &str) -> u8
-    ensures settles { Settles reader.now.close reader.now.refused.items text.now result (O.Sink.written (O.sink outside.old)) (O.Sink.written (O.sink outside.new)) }
-    ensures six { result ≡ 6 → Rose (O.Sink.faults (O.sink outside.old)) (O.Sink.faults (O.sink outside.new)) }
-    ensures kept { result ≢ 6 → O.Sink.faults (O.sink outside.new) ≡ O.Sink.faults (O.sink outside.old) }
-    ensures told { O.told outside.new ≡ O.told outside.old }
-{
-    if reader.close == Close::OutOfMemory {
-        return Findings::no_memory().status();
-    }
-    let sink_failed = put_text(outside, text);
-    found(sink_failed, reader).status()
-}
-
-// What is found of a reader.
-fn found<S>(sink_failed: bool, reader: &ReaderEnd<S>) -> Findings
-    ensures { result ≡ checks.found sink_failed reader.now.close reader.now.refused.items }
-{
-    Findings {
-        sink_failed,
-        source_failed: reader.close == Close::ReadFault,
-        limit_reached: reader.close == Close::Full,
-        refused: matches!(reader.close, Close::Bad(_)) || !reader.refused.is_empty(),
-        ..Findings::nothing()
+    Done {
+        status,
+        journal: nothing_told(alloc),
+        readers,
     }
 }
 
@@ -70,12 +49,13 @@ fn check_file<O: Outside>(
     alloc: Global,
     name: &str,
     outside: &mut O,
-) -> (ReaderEnd<O::Source>, String)
+) -> (ReaderEnd<O::Source, O::Verifier>, String)
     ensures making { Grows (O.told outside.old).makings (O.told outside.new).makings SourceKind name.now (is_none result.0.source) }
     ensures checks { result.0.close ≢ Close.OutOfMemory → MatchOption result.0.source (ChecksNothing result.0.close result.0.refused.items (string_bytes result.1))
         (λ source. ChecksStream (O.told outside.old).limits ((O.told outside.old).holds name.now) (O.Source.left source) (O.Source.faults source) result.0.close result.0.refused.items (string_bytes result.1)) }
     ensures sink { O.sink outside.new ≡ O.sink outside.old }
     ensures cause { FaultHasCause O.Source.faults (O.told outside.old).faults (O.told outside.new).faults result.0 }
+    ensures no_verifier { IsUnverified result.0 }
 {
     let limits = outside.limits();
     match outside.source(name) {
@@ -85,8 +65,9 @@ fn check_file<O: Outside>(
 }
 
 // The end of a reader whose source couldn't be made, and what is to be written.
-fn check_nothing<S>(alloc: Global) -> (ReaderEnd<S>, String)
+fn check_nothing<S, V>(alloc: Global) -> (ReaderEnd<S, V>, String)
     ensures none { result.0.source ≡ None }
+    ensures no_verifier { IsUnverified result.0 }
     ensures checks { result.0.close ≢ Close.OutOfMemory → ChecksNothing result.0.close result.0.refused.items (string_bytes result.1) }
 {
     let (close, text) = match read_fault_line(alloc, 0) {
@@ -95,6 +76,7 @@ fn check_nothing<S>(alloc: Global) -> (ReaderEnd<S>, String)
     };
     let end = ReaderEnd {
         source: None,
+        verifier: None,
         refused: Vec::new(alloc),
         close,
     };
@@ -102,9 +84,10 @@ fn check_nothing<S>(alloc: Global) -> (ReaderEnd<S>, String)
 }
 
 // Reads the stream of a source: how that ended, and what is to be written, unless there was no memory.
-fn check_stream<S: Source>(alloc: Global, source: S, limits: Limits) -> (ReaderEnd<S>, String)
+fn check_stream<S: Source, V>(alloc: Global, source: S, limits: Limits) -> (ReaderEnd<S, V>, String)
     requires { S.faults source ≡ 0 }
     ensures source { IsSome result.0.source }
+    ensures no_verifier { IsUnverified result.0 }
     ensures checks { result.0.close ≢ Close.OutOfMemory
         → IfSome result.0.source (λ now. ChecksStream limits (S.left source) (S.left now) (S.faults now) result.0.close result.0.refused.items (string_bytes result.1)) }
     ensures cause { result.0.close ≡ Close.ReadFault → IfSome result.0.source (λ now. Rose 0 (S.faults now)) }
@@ -119,6 +102,7 @@ fn check_stream<S: Source>(alloc: Global, source: S, limits: Limits) -> (ReaderE
     let Checking { lines, refused, .. } = checking;
     let end = ReaderEnd {
         source: Some(source),
+        verifier: None,
         refused,
         close,
     };

@@ -1,5 +1,6 @@
 //! The messages that `check` reads.
-ghost use Rattle.std.specs.Prelude.{◌≡◌, ◌++◌, IfOk, OnOk, string_bytes};
+ghost use Rattle.std.specs.Prelude.{◌≡◌, ◌++◌, ◌∷◌, [], List, IfOk, OnOk, string_bytes};
+ghost use Rattle.cesr_stream.specs.declared.message.Message.{Message as MessageValue};
 ghost use Rattle.journal.specs.Feeds.{noted_at};
 ghost use Rattle.keri_roles.specs.Closes.{ending_text};
 
@@ -24,21 +25,17 @@ impl Taker for Checking {
 
     type Stop = AllocError;
 
-    ghost has_taken = { HasAnswered };
+    ghost has_taken = { λ first checking messages. HasAnswered checking messages };
 
-    ghost has_stopped = { λ checking stop messages. Unit {0} };
+    ghost has_stopped = { λ first checking stop messages. Unit {0} };
 
     fn take(&mut self, message: Message) -> Result<(), AllocError> {
-        let answer = answer_message(self.alloc, &message)?;
-        note(&mut self.refused, &message, answer.refusal)?;
-        self.lines.push_str(answer.line.as_str())?;
-        Ok(())
+        self.answer(message)
     }
 }
 
 impl Checking {
-    ghost use Rattle.std.specs.Prelude.{◌≡◌, [], IfOk, string_bytes};
-    ghost use Rattle.keri_roles.specs.Finishing.{Finishes, IsClose};
+    ghost use Rattle.keri_roles.specs.Finishing.{Finishes, HasAnswered, IsClose};
 
     /// No line yet.
     pub(crate) fn new(alloc: Global) -> Checking
@@ -50,6 +47,16 @@ impl Checking {
             lines: String::new(alloc),
             refused: Vec::new(alloc),
         }
+    }
+
+    // Adds the line of a message, and notes it where it is refused.
+    fn answer(&mut self, message: Message) -> Result<(), AllocError>
+        ensures { OnOk result ((before : List MessageValue) → HasAnswered self.old before → HasAnswered self.new (before ++ message ∷ [])) }
+    {
+        let answer = answer_message(self.alloc, &message)?;
+        note(&mut self.refused, &message, answer.refusal)?;
+        self.lines.push_str(answer.line.as_str())?;
+        Ok(())
     }
 
     /// Adds the line of the last message, where there is one, and that of how reading closed.
@@ -68,7 +75,7 @@ impl Checking {
             FeedClose::OutOfMemory | FeedClose::Stopped(AllocError) => return Err(AllocError),
         };
         if let Some(message) = last {
-            self.take(message)?;
+            self.answer(message)?;
         }
         let ending = end_line(self.alloc, close)?;
         self.lines.push_str(ending.as_str())?;

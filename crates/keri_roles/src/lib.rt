@@ -2,13 +2,21 @@
 #![tactic(auto)]
 
 mod answer;
+mod asking;
 mod check;
 mod checking;
 mod close;
 mod done;
 mod findings;
+mod making;
+mod nothing_told;
 mod program;
+mod reading;
+mod reporting;
+mod settling;
 mod sizes;
+mod validate;
+mod validating;
 mod writing;
 
 pub use close::Close;

@@ -7,3 +7,7 @@ mod check;
 mod codes;
 #[cfg(test)]
 mod rehearsal;
+#[cfg(test)]
+mod runs;
+#[cfg(test)]
+mod validate;

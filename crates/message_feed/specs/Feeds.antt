@@ -1,6 +1,7 @@
 -- Which messages of a source were taken.
-use Rattle.std.specs.Prelude.{◌≡◌, ℕ, ◌≤◌, List, ◌++◌, length}
+use Rattle.std.specs.Prelude.{◌≡◌, ℕ, ◌≤◌, List, [], ◌++◌, length}
 use Rattle.std.specs.declared.option.Option.{Option}
+use Rattle.std.specs.declared.option.Option.TheVariants.{None}
 use Rattle.keri_outside.specs.declared.limits.Limits.{Limits}
 use Rattle.cesr_stream.specs.declared.message.Message.{Message}
 use Rattle.cesr_stream.specs.Items.{Placed, Stand}
@@ -28,7 +29,7 @@ module _ {T St : Type 0} (has_taken : T → List Message → Type 0) (has_stoppe
   TakesBy (Stopped stop) answered taker = has_stopped taker stop answered
 
   -- The items that were read stand from the front of the bytes, and reading closed by its cause. All messages of the items
-  -- were taken but for the one that is open.
+  -- were taken but for the one that is open. None is open only where there is none.
   pub record Feeds (limits : Limits) (left_old left_new : Option (List ℕ)) (faults_old faults_new : ℕ) (taker : T) (close : FeedClose St) (last : Option Message) : Type 0 where
     pub reading : Reading
     pub items : List Placed
@@ -36,6 +37,7 @@ module _ {T St : Type 0} (has_taken : T → List Message → Type 0) (has_stoppe
     pub closes : ClosesBy limits.stream_bytes left_old left_new faults_old faults_new reading close
     pub answered : List Message
     pub all : answered ++ all_of last ≡ messages limits.message_signatures items
+    pub begun : last ≡ None → messages limits.message_signatures items ≡ []
     pub takes : TakesBy close answered taker
 
   -- the same, while an assembler holds the open message

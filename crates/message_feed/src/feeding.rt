@@ -22,8 +22,8 @@ pub fn feed_messages<S: Source, T: Taker>(
     limits: Limits,
     taker: &mut T,
 ) -> (FeedClose<T::Stop>, Option<Message>)
-    requires none_taken { T.has_taken taker.old [] }
-    ensures feeds { Feeds T.has_taken T.has_stopped limits (S.left source.old) (S.left source.new) (S.faults source.old) (S.faults source.new) taker.new result.0 result.1 }
+    requires none_taken { T.has_taken taker.old taker.old [] }
+    ensures feeds { Feeds (T.has_taken taker.old) (T.has_stopped taker.old) limits (S.left source.old) (S.left source.new) (S.faults source.old) (S.faults source.new) taker.new result.0 result.1 }
     ensures later { S.faults source.old ≤ S.faults source.new }
 {
     let mut reader = Reader::new(alloc, limits);
@@ -46,10 +46,11 @@ fn feed_pieces<S: Source, T: Taker>(
     assembler: &mut Assembler,
     taker: &mut T,
 ) -> FeedClose<T::Stop>
+    ghost first: { T }
     requires empty { reader.old.fed ≡ [] }
     requires idle { IsIdle reader.old }
-    requires serves { Serves T.has_taken reader.old assembler.old taker.old }
-    ensures runs { Runs T.has_taken T.has_stopped most (S.left source.old) (S.left source.new) (S.faults source.old) (S.faults source.new) reader.old assembler.old assembler.new taker.new result }
+    requires serves { Serves (T.has_taken first) reader.old assembler.old taker.old }
+    ensures runs { Runs (T.has_taken first) (T.has_stopped first) most (S.left source.old) (S.left source.new) (S.faults source.old) (S.faults source.new) reader.old assembler.old assembler.new taker.new result }
     ensures later { S.faults source.old ≤ S.faults source.new }
 {
     let mut room = most;

@@ -9,14 +9,14 @@ pub trait Taker {
     /// Why it takes no more.
     type Stop: Copy;
 
-    /// It has taken these messages, in order.
-    ghost has_taken: { Self → List MessageValue → Type 0 };
+    /// Since it had the first of these values it has taken these messages, in order.
+    ghost has_taken: { Self → Self → List MessageValue → Type 0 };
 
-    /// It has stopped so at the last of these messages, and has taken those before it.
-    ghost has_stopped: { Self → Self.Stop → List MessageValue → Type 0 };
+    /// Since then it has stopped so at the last of these messages, and has taken those before it.
+    ghost has_stopped: { Self → Self → Self.Stop → List MessageValue → Type 0 };
 
     /// Takes a message.
     fn take(&mut self, message: Message) -> Result<(), Self::Stop>
-        ensures ok { OnOk result ((before : List MessageValue) → has_taken self.old before → has_taken self.new (before ++ message ∷ [])) }
-        ensures err { IfErr result (λ stop. (before : List MessageValue) → has_taken self.old before → has_stopped self.new stop (before ++ message ∷ [])) };
+        ensures ok { OnOk result ((first : Self) (before : List MessageValue) → has_taken first self.old before → has_taken first self.new (before ++ message ∷ [])) }
+        ensures err { IfErr result (λ stop. (first : Self) (before : List MessageValue) → has_taken first self.old before → has_stopped first self.new stop (before ++ message ∷ [])) };
 }

@@ -12,11 +12,12 @@ pub(crate) fn take_items<T: Taker>(
     assembler: &mut Assembler,
     taker: &mut T,
 ) -> Result<Option<Bad>, Halt<T::Stop>>
+    ghost first: { T }
     requires not_bad { reader.old.bad ≡ None }
-    requires serves { Serves T.has_taken reader.old assembler.old taker.old }
+    requires serves { Serves (T.has_taken first) reader.old assembler.old taker.old }
     ensures same { SameStream reader.old reader.new assembler.old assembler.new }
-    ensures ok { IfOk result (λ bad. Serves T.has_taken reader.new assembler.new taker.new × StandsAt bad reader.new) }
-    ensures err { IfErr result (λ halt. Halts T.has_taken T.has_stopped halt reader.new assembler.new taker.new) }
+    ensures ok { IfOk result (λ bad. Serves (T.has_taken first) reader.new assembler.new taker.new × StandsAt bad reader.new) }
+    ensures err { IfErr result (λ halt. Halts (T.has_taken first) (T.has_stopped first) halt reader.new assembler.new taker.new) }
 {
     loop {
         match reader.next()? {
@@ -37,7 +38,8 @@ fn hand_on<T: Taker>(
     item: Item,
     place: u64,
 ) -> Result<(), Halt<T::Stop>>
-    ensures { HandsOn T.has_taken T.has_stopped item place assembler.old assembler.new taker.old taker.new result }
+    ghost first: { T }
+    ensures { HandsOn (T.has_taken first) (T.has_stopped first) item place assembler.old assembler.new taker.old taker.new result }
 {
     match assembler.push(item, place)? {
         None => Ok(()),

@@ -1,15 +1,17 @@
-use Rattle.std.proofs.Common.{[], sym, subst}
+use Rattle.std.proofs.Common.{[], sym, subst, rules}
 use Rattle.cesr_stream.specs.Items.{Stand, none}
 use Rattle.cesr_stream.specs.Assembly.{IsAssembled}
+use Rattle.message_feed.specs.Serving.{Serves}
 use Rattle.message_feed.proofs.feeding.feed_messages.Goals as goal
 
-pub feed_pieces-close-requires-clause-serves : goal.feed_pieces-close-requires-clause-serves
-feed_pieces-close-requires-clause-serves g c =
+pub feed_pieces-close-requires : goal.feed_pieces-close-requires
+feed_pieces-close-requires g c =
     let empty = c.new-assembler.ensures.assembled in
-    record {
+    let serves : Serves (g.T.Taker.has_taken c.args.taker.now) c.new-reader.result c.new-assembler.result c.args.taker.now = record {
       items = [];
       answered = [];
       stand = subst (λ r. Stand r.limit r.fed [] r.begun r.place) (sym c.new-reader.ensures) none;
       assembled = subst (λ l. IsAssembled l [] [] c.new-assembler.result) (sym empty.limited) empty;
       taken = c.requires.none_taken;
-    }
+    } in
+    search (rules, serves)

@@ -1,4 +1,4 @@
-use Rattle.std.proofs.Common.{◌∙◌, [], sym, ap, subst, append-nil, arith, inl}
+use Rattle.std.proofs.Common.{◌∙◌, [], sym, ap, subst, append-nil, arith, inl, rules}
 use Rattle.message_feed.specs.declared.feed_close.FeedClose.TheVariants.{Bad, OutOfMemory}
 use Rattle.message_feed.specs.Closing.{Gave}
 use Rattle.message_feed.specs.Serving.{Serves}
@@ -10,7 +10,7 @@ returns-in-Ok-eq0-clause-runs g c =
     let inv = c.loop-room.invariant in
     let fed = c.in-Ok-eq0.ensures.ok in
     let (at_end, same) = fed.at_end c.in-Ok-eq0.field-0-test in
-    ends g.T.Taker.has_taken g.T.Taker.has_stopped c.args.most (g.S.Source.left c.args.source.now) (g.S.Source.left c.feed_piece.new.source)
+    ends (g.T.Taker.has_taken g.first) (g.T.Taker.has_stopped g.first) c.args.most (g.S.Source.left c.args.source.now) (g.S.Source.left c.feed_piece.new.source)
     (g.S.Source.faults c.args.source.now) (g.S.Source.faults c.feed_piece.new.source) c.args.reader.now c.loop-room.reader c.args.assembler.now c.loop-room.assembler c.loop-room.taker
     inv.serves inv.body_limit inv.message_limit (let n = inv.counted in omega (arith, n)) c.close_end.new.reader c.close_end.result inv.idle
     (gave_none _ _ _ c.loop-room.reader.fed fed.piece inv.gave fed.gave (fed.counted ∙ c.in-Ok-eq0.field-0-test)) at_end (fed.same_faults ∙ inv.same_faults) (rw same at c.close_end.ensures)
@@ -19,16 +19,17 @@ pub returns-in-Err-OutOfMemory-clause-runs : goal.returns-in-Err-OutOfMemory-cla
 returns-in-Err-OutOfMemory-clause-runs g c =
     let inv = c.loop-room.invariant in
     let none = rw c.in-Err-OutOfMemory.field-0-is at c.in-Err-OutOfMemory.ensures.err in
-    runs g.T.Taker.has_taken g.T.Taker.has_stopped c.args.most (g.S.Source.left c.args.source.now) (g.S.Source.left c.feed_piece.new.source)
+    runs (g.T.Taker.has_taken g.first) (g.T.Taker.has_stopped g.first) c.args.most (g.S.Source.left c.args.source.now) (g.S.Source.left c.feed_piece.new.source)
     (g.S.Source.faults c.args.source.now) (g.S.Source.faults c.feed_piece.new.source) c.args.reader.now c.loop-room.reader c.args.assembler.now c.loop-room.assembler c.loop-room.taker
     inv.serves inv.body_limit inv.message_limit (let n = inv.counted in omega (arith, n)) OutOfMemory
     (none.0.0, gave_more _ _ _ c.loop-room.reader.fed none.0.0 inv.gave none.0.1) inv.serves.taken
 
-pub take_items-requires-clause-serves : goal.take_items-requires-clause-serves
-take_items-requires-clause-serves g c =
+pub take_items-requires : goal.take_items-requires
+take_items-requires g c =
     let fed = c.in-Ok.ensures.ok in
-    subst (λ r. Serves g.T.Taker.has_taken r c.loop-room.assembler c.loop-room.taker) (sym (fed.fed c.in-Ok.count-test.1))
-    (serves_fed g.T.Taker.has_taken c.loop-room.reader fed.piece c.loop-room.assembler c.loop-room.taker c.loop-room.invariant.serves)
+    let serves = subst (λ r. Serves (g.T.Taker.has_taken g.first) r c.loop-room.assembler c.loop-room.taker) (sym (fed.fed c.in-Ok.count-test.1))
+    (serves_fed (g.T.Taker.has_taken g.first) c.loop-room.reader fed.piece c.loop-room.assembler c.loop-room.taker c.loop-room.invariant.serves) in
+    search (rules, serves)
 
 pub loop-room-preserved : goal.loop-room-preserved
 loop-room-preserved g c =
@@ -57,7 +58,7 @@ returns-in-Ok-Some-clause-runs g c =
     let all = fed_on c.loop-room.reader c.feed_piece.new.reader c.take_items.new.reader fed.piece more same.fed in
     let stands = rw c.in-Ok-Some.field-0-is at c.in-Ok-Some.ensures.ok in
     let count = counted_on c.loop-room.reader.fed fed.piece c.take_items.new.reader.fed c.loop-room.room c.in-Ok.count c.args.most all fed.counted fed.few inv.counted in
-    runs g.T.Taker.has_taken g.T.Taker.has_stopped c.args.most (g.S.Source.left c.args.source.now) (g.S.Source.left c.feed_piece.new.source)
+    runs (g.T.Taker.has_taken g.first) (g.T.Taker.has_stopped g.first) c.args.most (g.S.Source.left c.args.source.now) (g.S.Source.left c.feed_piece.new.source)
     (g.S.Source.faults c.args.source.now) (g.S.Source.faults c.feed_piece.new.source) c.args.reader.now c.take_items.new.reader c.args.assembler.now c.take_items.new.assembler c.take_items.new.taker
     stands.0 (same.body_limit ∙ (ap (λ r. r.limit) more ∙ inv.body_limit)) (same.message_limit ∙ inv.message_limit) (omega (arith, count)) (Bad c.in-Ok-Some.bad)
     (subst (λ bytes. Gave (g.S.Source.left c.args.source.now) (g.S.Source.left c.feed_piece.new.source) bytes) (sym all) (gave_more _ _ _ c.loop-room.reader.fed fed.piece inv.gave fed.gave), inl stands.1, fed.same_faults ∙ inv.same_faults)
@@ -95,7 +96,7 @@ returns-in-Err-OutOfMemory-take_items-clause-runs g c =
     let earlier = halts.0 in
     let all = fed_on c.loop-room.reader c.feed_piece.new.reader earlier fed.piece more (halts.1 ∙ same.fed) in
     let count = counted_on c.loop-room.reader.fed fed.piece earlier.fed c.loop-room.room c.in-Ok.count c.args.most all fed.counted fed.few inv.counted in
-    runs g.T.Taker.has_taken g.T.Taker.has_stopped c.args.most (g.S.Source.left c.args.source.now) (g.S.Source.left c.feed_piece.new.source)
+    runs (g.T.Taker.has_taken g.first) (g.T.Taker.has_stopped g.first) c.args.most (g.S.Source.left c.args.source.now) (g.S.Source.left c.feed_piece.new.source)
     (g.S.Source.faults c.args.source.now) (g.S.Source.faults c.feed_piece.new.source) c.args.reader.now earlier c.args.assembler.now c.take_items.new.assembler c.take_items.new.taker
     halts.3 (halts.2 ∙ (same.body_limit ∙ (ap (λ r. r.limit) more ∙ inv.body_limit))) (same.message_limit ∙ inv.message_limit) (omega (arith, count)) OutOfMemory
     ([], subst (λ bytes. Gave (g.S.Source.left c.args.source.now) (g.S.Source.left c.feed_piece.new.source) bytes) (sym (append-nil earlier.fed ∙ all)) (gave_more _ _ _ c.loop-room.reader.fed fed.piece inv.gave fed.gave))
@@ -106,7 +107,7 @@ returns-clause-runs g c =
     let inv = c.loop-room.invariant in
     let n = inv.counted in
     let over = c.loop-room-test.false in
-    passes g.T.Taker.has_taken g.T.Taker.has_stopped c.args.most (g.S.Source.left c.args.source.now) (g.S.Source.left c.close_full.new.source)
+    passes (g.T.Taker.has_taken g.first) (g.T.Taker.has_stopped g.first) c.args.most (g.S.Source.left c.args.source.now) (g.S.Source.left c.close_full.new.source)
     (g.S.Source.faults c.args.source.now) (g.S.Source.faults c.close_full.new.source) c.args.reader.now c.loop-room.reader c.args.assembler.now c.loop-room.assembler c.loop-room.taker
     inv.serves inv.body_limit inv.message_limit (omega (arith, n)) (g.S.Source.left c.loop-room.source) (g.S.Source.faults c.loop-room.source) c.close_full.new.reader c.close_full.result inv.idle inv.gave inv.same_faults
     (omega (arith, n, over)) c.close_full.ensures.passes

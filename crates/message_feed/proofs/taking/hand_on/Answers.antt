@@ -7,8 +7,8 @@ returns-in-None g c limit items answered assembled taken =
 
 pub returns-in-Ok : goal.returns-in-Ok
 returns-in-Ok g c limit items answered assembled taken =
-    (c.in-Some.message ∷ [], rw c.in-Some.is at (c.in_ok-push.ensures.assembled limit items answered assembled), c.in-Ok.ensures.ok answered taken)
+    (c.in-Some.message ∷ [], rw c.in-Some.is at (c.in_ok-push.ensures.assembled limit items answered assembled), c.in-Ok.ensures.ok g.first answered taken)
 
 pub returns-in-Err : goal.returns-in-Err
 returns-in-Err g c limit items answered assembled taken =
-    (c.in-Some.message ∷ [], rw c.in-Some.is at (c.in_ok-push.ensures.assembled limit items answered assembled), c.in-Err.ensures.err answered taken)
+    (c.in-Some.message ∷ [], rw c.in-Some.is at (c.in_ok-push.ensures.assembled limit items answered assembled), c.in-Err.ensures.err g.first answered taken)

@@ -1,0 +1,194 @@
+-- The report of a core and its one reader.
+use Rattle.std.proofs.Common.{◌≡◌, ◌≢◌, ℕ, ◌<◌, ◌⊎◌, inl, inr, Bool, List, [], Option, Some, None, refl, sym, ◌∙◌, ap, subst}
+use Rattle.std.specs.Prelude.{All, IfSome}
+use Rattle.std.proofs.lemmas.List.Elements.{All-nil, All-weaker}
+use Rattle.keri_specs.specs.Causes.{Rose}
+use Rattle.cesr_codes.specs.declared.key.Key.{Key}
+use Rattle.cesr_codes.specs.declared.sig.Sig.{Sig}
+use Rattle.cesr_stream.specs.Front.{front}
+use Rattle.cesr_stream.specs.Items.{none}
+use Rattle.cesr_stream.specs.Parts.{unfinished}
+use Rattle.event_body.specs.Judging.{SpellsEvent}
+use Rattle.keri_outside.specs.declared.limits.Limits.{Limits}
+use Rattle.journal.specs.declared.entry.Entry.{Entry}
+use Rattle.journal.specs.declared.journal.Journal.{Journal}
+use Rattle.journal.specs.declared.mode.Mode.{Mode}
+use Rattle.journal.specs.declared.mode.Mode.TheVariants as mode
+use Rattle.journal.specs.declared.refusal.Refusal.{Refusal}
+use Rattle.journal.specs.Feeds.{Feeds, FeedsOne, reader_of}
+use Rattle.journal.specs.Questions.{questions}
+use Rattle.validator_core.specs.View.{CoreView, IsHeld, told_of, open_of}
+use Rattle.keri_roles.specs.declared.close.Close.{Close}
+use Rattle.keri_roles.specs.declared.close.Close.TheVariants.{ReadFault, VerifierFault, OutOfMemory}
+use Rattle.keri_roles.specs.declared.done.ReaderEnd.{ReaderEnd}
+use Rattle.keri_roles.specs.Ends.{end_of, IsRead}
+use Rattle.keri_roles.specs.Reports.{Reports, IsJournalOf, core_of}
+use Rattle.keri_roles.specs.Validate.{said_by, Reads, ReadsMade, IsReported, IsUnmade}
+use Rattle.keri_roles.specs.declared.validating.Validating.{Validating}
+use Rattle.cesr_stream.specs.declared.message.Message.{Message}
+use Rattle.message_feed.specs.declared.feed_close.FeedClose.{FeedClose}
+use Rattle.message_feed.specs.Feeds.{Feeds as FeedsMessages}
+use Rattle.keri_roles.specs.Offering.{HasTaken, HasStopped, Finishes}
+use Rattle.keri_roles.proofs.Ends.{is_read, closed_by_source, closed_by_verifier}
+use Rattle.keri_roles.proofs.Offering.{told_nothing, asked_nothing}
+
+abbrev with_parts : CoreView → Mode → Limits → List Entry → CoreView
+with_parts core m limits entries = record { mode = m; limits = limits; held = core.held; entries = entries; accepted = core.accepted }
+
+-- a core by its parts
+core_is : (core : CoreView) (limits : Limits) (entries : List Entry) → core.mode ≡ mode.Full → core.limits ≡ limits → entries ≡ core.entries
+    → core ≡ core_of limits core.held entries core.accepted
+core_is core limits entries m l e =
+    ap (λ x. with_parts core x core.limits core.entries) m
+    ∙ (ap (λ x. with_parts core mode.Full x core.entries) l ∙ ap (with_parts core mode.Full limits) (sym e))
+
+-- nothing was read and nothing told
+feeds_nothing : (limits : Limits) (says : Key → List ℕ → Sig → Option Bool) (close : Close) → Feeds limits [] 0 (end_of [] says [] close) []
+unfolding front
+feeds_nothing limits says close = record {
+  offered = [];
+  first = record { items = []; begun = _; place = 0; later = []; stand = none; made = refl; whole = λ e. tt };
+  bodies_are = All-nil _;
+  taken = refl;
+  refused = refl;
+  all = λ e. record { items = []; end = unfinished; all = record { begun = _; place = 0; stand = none; behind = refl; ends = tt }; made = refl };
+}
+
+module _ {S V : Type 0} (left : S → Option (List ℕ)) (faults : S → ℕ) (says : V → Key → List ℕ → Sig → Option Bool) (verifier_faults : V → ℕ)
+    (limits : Limits) where
+  -- what was read and told is reported
+  reported : (held : Option (List ℕ)) (said : Key → List ℕ → Sig → Option Bool) (source : Option S) (verifier : Option V) (refused : List Refusal)
+      (close : Close) (core : CoreView) (journal : Journal) (text bytes : List ℕ)
+      → IsJournalOf core journal → core.mode ≡ mode.Full → core.limits ≡ limits → Reports core refused close text
+      → FeedsOne limits (told_of core) 0 (end_of bytes (said_by left faults says verifier_faults verifier) refused close)
+      → All (λ t. reader_of t < 1) (told_of core)
+      → Reads left faults says verifier_faults limits held said source verifier refused close (told_of core) bytes
+      → (open_of core ≡ []) ⊎ IfSome verifier (λ v. Rose 0 (verifier_faults v))
+      → IsReported left faults says verifier_faults limits held said source verifier refused close journal text
+  reported held said source verifier refused close core journal text bytes of m l reports feeds only reads asked = record {
+    bytes = bytes;
+    fed = record {
+      held = core.held;
+      reading = record {
+        bytes_are = sym of.bodies;
+        spelled = All-weaker IsHeld (λ b. SpellsEvent b.event b.bytes) (λ b h. h.spelled) core.held
+            of.stands.spelled;
+      };
+      in_order = rw of.entries of.stands.in_order;
+      all_held = rw of.entries of.stands.all_held;
+      fed = rw of.entries (record { each = (feeds, tt); only = only });
+    };
+    reads = rw of.entries reads;
+    asked = rw of.entries (still asked);
+    numbers = core.accepted;
+    reports = subst (λ c. Reports c refused close text) (core_is core limits journal.entries m l of.entries) reports;
+  }
+    where
+      still : (open_of core ≡ []) ⊎ IfSome verifier (λ v. Rose 0 (verifier_faults v)) → (questions mode.Full [] (told_of core) ≡ [])
+          ⊎ IfSome verifier (λ v. Rose 0 (verifier_faults v))
+      still (inl e) = inl (subst (λ x. questions x [] (told_of core) ≡ []) m e)
+      still (inr rose) = inr rose
+
+  -- of a stream
+  pub reported_stream : (source_old source : S) (verifier : V) (now : Validating V) (close : Close) (journal : Journal) (text : List ℕ)
+      → IsRead says verifier_faults limits (left source_old) (left source) (faults source) verifier now close → IsJournalOf now.core journal
+      → Reports now.core now.refused.items close text
+      → IsReported left faults says verifier_faults limits (left source_old) (says verifier) (Some source) (Some now.verifier) now.refused.items close
+      journal text
+  reported_stream source_old source verifier now close journal text r of reports =
+      reported (left source_old) (says verifier) (Some source) (Some now.verifier) now.refused.items close now.core journal text r.bytes of r.mode_is
+      r.limits_are reports
+      (feeds, rw r.same_says r.heard_are) r.only (r.same_says, r.reads) r.asked
+    where
+      feeds : Feeds limits (told_of now.core) 0 (end_of r.bytes (says now.verifier) now.refused.items close) r.bytes
+      feeds = let f = r.reads.feeds_are in record
+          { offered = f.offered; first = f.first; bodies_are = f.bodies_are; taken = f.taken; refused = f.refused; all = f.all }
+
+  reads_nothing : (held : Option (List ℕ)) (said : Key → List ℕ → Sig → Option Bool) (source : Option S) (verifier : Option V) (close : Close)
+      → IsUnmade source verifier close → IfSome source (λ s. left s ≡ held)
+      → Reads left faults says verifier_faults limits held said source verifier [] close [] []
+  reads_nothing held said None verifier close e is = (e, refl)
+  reads_nothing held said (Some source) None close e is = (e, refl, is)
+  reads_nothing held said (Some source) (Some verifier) close e is = absurd e
+
+  -- of nothing, where one of both couldn't be made
+  pub reported_nothing : (held : Option (List ℕ)) (said : Key → List ℕ → Sig → Option Bool) (source : Option S) (verifier : Option V) (close : Close)
+      (core : CoreView) (journal : Journal) (text : List ℕ)
+      → core ≡ record { mode = mode.Full; limits = limits; held = []; entries = []; accepted = [] } → IsUnmade source verifier close
+      → IfSome source (λ s. left s ≡ held)
+      → IsJournalOf core journal → Reports core [] close text → IsReported left faults says verifier_faults limits held said source verifier [] close
+      journal text
+  reported_nothing held said source verifier close core journal text fresh unmade is of reports =
+      reported held said source verifier [] close core journal text [] of (ap (λ c. c.mode) fresh) (ap (λ c. c.limits) fresh) reports
+      (rw none_told (feeds_nothing limits _ close), rw none_told (All-nil _)) (rw none_told (All-nil _))
+      (rw none_told (reads_nothing held said source verifier close unmade is))
+      (inl (ap open_of fresh ∙ asked_nothing))
+    where
+      none_told : told_of core ≡ []
+      none_told = told_nothing core limits fresh
+
+module _ {S V : Type 0} (left : S → Option (List ℕ)) (faults : S → ℕ) (says : V → Key → List ℕ → Sig → Option Bool) (verifier_faults : V → ℕ) (limits : Limits)
+    (reader : ReaderEnd S V) (journal : Journal) (text : List ℕ) (close : Close) (closes : reader.close ≢ OutOfMemory → reader.close ≡ close) where
+  -- a stream was read
+  pub made_stream : (source_old source : S) (first middle new : Validating V) (own : FeedClose Close) (last : Option Message) → faults source_old ≡ 0
+      → verifier_faults first.verifier ≡ 0
+      → first.core ≡ record { mode = mode.Full; limits = limits; held = []; entries = []; accepted = [] }
+      → FeedsMessages (HasTaken says verifier_faults first) (HasStopped says verifier_faults first) limits (left source_old) (left source)
+      (faults source_old) (faults source) middle own last
+      → Finishes says verifier_faults own last middle new close
+      → reader.source ≡ Some source → reader.verifier ≡ Some new.verifier → reader.refused.items ≡ new.refused.items → IsJournalOf new.core journal
+      → (reader.close ≢ OutOfMemory → Reports new.core new.refused.items close text)
+      → ReadsMade left faults says verifier_faults limits (Some source_old) (Some first.verifier) reader journal text
+  made_stream source_old source first middle new own last unfailed unfailed_verifier fresh feeds finishes source_is verifier_is refused_is of reports = record {
+    reported = λ held said is_held is_said some.
+        rw (source_is, verifier_is, refused_is, closes some, sym is_held, sym is_said)
+        (reported_stream left faults says verifier_faults limits source_old source first.verifier new close journal text (read some) of (reports some));
+    no_source = rw source_is refl;
+    no_verifier = rw verifier_is refl;
+    read_fault = λ e. rw source_is (read_rose (closes (not_memory ReadFault e (λ f. cc))) e);
+    verifier_fault = λ e. rw verifier_is (verifier_rose (closes (not_memory VerifierFault e (λ f. cc))) e);
+  }
+    where
+      not_memory : (c : Close) → reader.close ≡ c → c ≢ OutOfMemory → reader.close ≢ OutOfMemory
+      not_memory c e differs = λ m. differs (sym e ∙ m)
+
+      read : reader.close ≢ OutOfMemory → IsRead says verifier_faults limits (left source_old) (left source) (faults source) first.verifier new close
+      read some =
+          is_read says verifier_faults limits (left source_old) (left source) (faults source) first middle new (ap (λ c. c.mode) fresh)
+          (ap (λ c. c.limits) fresh) unfailed_verifier own close last
+          (rw unfailed at feeds) finishes (λ m. some (closes some ∙ m))
+
+      read_rose : reader.close ≡ close → reader.close ≡ ReadFault → Rose 0 (faults source)
+      read_rose same e = let r = read (not_memory ReadFault e (λ f. cc)) in closed_by_source close r.reads (sym same ∙ e)
+
+      verifier_rose : reader.close ≡ close → reader.close ≡ VerifierFault → Rose 0 (verifier_faults new.verifier)
+      verifier_rose same e = let r = read (not_memory VerifierFault e (λ f. cc)) in closed_by_verifier close r.reads (sym same ∙ e)
+
+  -- nothing was read
+  pub made_nothing : (source : Option S) (verifier : Option V) (core : CoreView) → IsUnmade source verifier close
+      → core ≡ record { mode = mode.Full; limits = limits; held = []; entries = []; accepted = [] }
+      → reader.source ≡ source → reader.verifier ≡ verifier → reader.refused.items ≡ [] → IsJournalOf core journal
+      → (reader.close ≢ OutOfMemory → Reports core [] close text)
+      → ReadsMade left faults says verifier_faults limits source verifier reader journal text
+  made_nothing source verifier core unmade fresh source_is verifier_is refused_is of reports = record {
+    reported = λ held said is_held is_said some.
+        rw (source_is, verifier_is, refused_is, closes some)
+        (reported_nothing left faults says verifier_faults limits held said source verifier close core journal text fresh unmade is_held of (reports some));
+    no_source = rw source_is refl;
+    no_verifier = rw verifier_is refl;
+    read_fault = λ e. rw source_is (no_source source verifier unmade (sym (closes (λ m. let clash : ReadFault ≡ OutOfMemory = sym e ∙ m in cc)) ∙ e));
+    verifier_fault = λ e. rw verifier_is (no_verifier source verifier unmade
+        (sym (closes (λ m. let clash : VerifierFault ≡ OutOfMemory = sym e ∙ m in cc)) ∙ e));
+  }
+    where
+      no_source : (source : Option S) (verifier : Option V) → IsUnmade source verifier close → close ≡ ReadFault → IfSome source (λ s. Rose 0 (faults s))
+      no_source None verifier u e = tt
+      no_source (Some source) None u e = let clash : VerifierFault ≡ ReadFault = sym u ∙ e in cc
+      no_source (Some source) (Some verifier) u e = absurd u
+
+      no_verifier : (source : Option S) (verifier : Option V) → IsUnmade source verifier close → close ≡ VerifierFault
+          → IfSome verifier (λ v. Rose 0 (verifier_faults v))
+      no_verifier None None u e = tt
+      no_verifier None (Some verifier) u e = let clash : ReadFault ≡ VerifierFault = sym u ∙ e in cc
+      no_verifier (Some source) None u e = tt
+      no_verifier (Some source) (Some verifier) u e = absurd u

@@ -1,0 +1,51 @@
+-- The report of a journal and its one reader.
+use Rattle.std.specs.Prelude.{◌≡◌, ℕ, List, [], ◌++◌, map, flat_map}
+use Rattle.keri_outside.specs.declared.limits.Limits.{Limits}
+use Rattle.journal.specs.declared.body.Body.{Body}
+use Rattle.journal.specs.declared.entry.Entry.{Entry}
+use Rattle.journal.specs.declared.journal.Journal.{Journal}
+use Rattle.journal.specs.declared.mode.Mode.TheVariants as mode
+use Rattle.journal.specs.declared.refusal.Refusal.{Refusal}
+use Rattle.report_lines.specs.Lines.{refused_text, malformed_text, read_fault_text, verifier_fault_text, full_text, memory_text}
+use Rattle.validator_core.specs.View.{CoreView, Stands}
+use Rattle.validator_report.specs.Report.{IsStandingText}
+use Rattle.keri_roles.specs.declared.close.Close.{Close}
+use Rattle.keri_roles.specs.declared.close.Close.TheVariants.{End, Bad, ReadFault, VerifierFault, Full, OutOfMemory}
+
+-- the lines of the messages that a reader refused
+abbrev pub refused_lines : ℕ → List Refusal → List ℕ
+refused_lines reader refused = flat_map (λ r. refused_text reader r.place r.reason) refused
+
+-- the line of a stream that is refused
+abbrev pub malformed_line : ℕ → Close → List ℕ
+malformed_line reader (Bad bad) = malformed_text reader bad
+malformed_line reader End = []
+malformed_line reader ReadFault = []
+malformed_line reader VerifierFault = []
+malformed_line reader Full = []
+malformed_line reader OutOfMemory = []
+
+-- the line of a reader that a fault, a limit or want of memory ended
+abbrev pub stopped_line : ℕ → Close → List ℕ
+stopped_line reader ReadFault = read_fault_text reader
+stopped_line reader VerifierFault = verifier_fault_text reader
+stopped_line reader Full = full_text reader
+stopped_line reader OutOfMemory = memory_text reader
+stopped_line reader End = []
+stopped_line reader (Bad bad) = []
+
+-- the text: what the reader refused, how the core stands, and what ended the reader
+pub record Reports (core : CoreView) (refused : List Refusal) (close : Close) (text : List ℕ) : Type 0 where
+  pub standing : List ℕ
+  pub stands : IsStandingText core standing
+  pub text_is : text ≡ (refused_lines 0 refused ++ malformed_line 0 close) ++ (standing ++ stopped_line 0 close)
+
+-- a validator's core of a journal: its bodies, its entries, and the numbers of those that it accepted
+abbrev pub core_of : Limits → List Body → List Entry → List ℕ → CoreView
+core_of limits held entries numbers = record { mode = mode.Full; limits = limits; held = held; entries = entries; accepted = numbers }
+
+-- the journal is the core's
+pub record IsJournalOf (core : CoreView) (journal : Journal) : Type 0 where
+  pub bodies : journal.bodies ≡ map (λ b. b.bytes) core.held
+  pub entries : journal.entries ≡ core.entries
+  pub stands : Stands core

@@ -1,0 +1,66 @@
+//! The report of `validate`.
+ghost use Rattle.std.specs.Prelude.{◌≡◌, ◌≢◌, ◌++◌, IfOk, OnOk, string_bytes, map};
+ghost use Rattle.keri_roles.specs.Reports.{Reports, refused_lines, malformed_line, stopped_line};
+
+use crate::Close;
+use journal::Refusal;
+use report_lines::{
+    full_line, malformed_line, memory_line, read_fault_line, refused_line, verifier_fault_line,
+};
+use std::alloc::{AllocError, Global};
+use validator_core::Core;
+use validator_report::standing_text;
+
+/// The text: what the reader refused, how the core stands, and what ended the reader.
+pub(crate) fn report(
+    alloc: Global,
+    core: &Core,
+    refused: &[Refusal],
+    close: Close,
+) -> Result<String, AllocError>
+    ensures { IfOk result (λ text. Reports core.now refused.now close (string_bytes text)) }
+{
+    let mut text = refused_text(alloc, refused)?;
+    let malformed = malformed_text(alloc, close)?;
+    text.push_str(malformed.as_str())?;
+    let standing = standing_text(alloc, core)?;
+    let stopped = stopped_text(alloc, close)?;
+    text.push_str(standing.as_str())?;
+    text.push_str(stopped.as_str())?;
+    Ok(text)
+}
+
+// The lines of the refused messages.
+fn refused_text(alloc: Global, refused: &[Refusal]) -> Result<String, AllocError>
+    ensures { IfOk result (λ text. string_bytes text ≡ refused_lines 0 refused.now) }
+{
+    let mut text = String::new(alloc);
+    for refusal in refused {
+        let line = refused_line(alloc, 0, refusal.place, refusal.reason)?;
+        text.push_str(line.as_str())?;
+    }
+    Ok(text)
+}
+
+// The line of a stream that is refused, where it is.
+fn malformed_text(alloc: Global, close: Close) -> Result<String, AllocError>
+    ensures { IfOk result (λ text. string_bytes text ≡ malformed_line 0 close) }
+{
+    match close {
+        Close::Bad(bad) => malformed_line(alloc, 0, bad),
+        _ => Ok(String::new(alloc)),
+    }
+}
+
+// The line of what ended the reader, where it wasn't its stream.
+fn stopped_text(alloc: Global, close: Close) -> Result<String, AllocError>
+    ensures { IfOk result (λ text. string_bytes text ≡ stopped_line 0 close) }
+{
+    match close {
+        Close::ReadFault => read_fault_line(alloc, 0),
+        Close::VerifierFault => verifier_fault_line(alloc, 0),
+        Close::Full => full_line(alloc, 0),
+        Close::OutOfMemory => memory_line(alloc, 0),
+        Close::End | Close::Bad(_) => Ok(String::new(alloc)),
+    }
+}

@@ -1,0 +1,67 @@
+#!/usr/bin/env python3
+"""Makes the cases under tests/cases in which `validate` reads a stream with the rehearsal, and its sample.
+
+The primitives are made here with Python's base64 and hashlib. Each case names what the stream's bytes are and what is to
+be written, as docs/FORMATS.md says it.
+"""
+import hashlib
+import pathlib
+import shutil
+
+from stream_cases import CASES, INCEPTION, RECEIPT, indexed, key, malformed, primitive
+
+SAMPLES = pathlib.Path(__file__).resolve().parent.parent / "samples"
+
+
+def rehearsed(number, body):
+    """The rehearsal's signature of a key on a body, with the index 0."""
+    return primitive("AA", hashlib.sha512(b"keri rehearsal" + key(number).encode() + body.encode()).digest())
+
+
+SAID = INCEPTION[40:84]
+SIGNED = INCEPTION + "-AAB" + rehearsed(1, INCEPTION)
+EVENT = "event %s 0 icp %s live\n" % (SAID, SAID)
+STATE = "state %s 0 %s keys=1 witnesses=0 toad=0\n" % (SAID, SAID)
+WAITS = "waits %s 0 %s signatures\n" % (SAID, SAID)
+UNSIGNED = "refused 0 %d unsigned\n"
+WORDS = ["validate", "--helper", "rehearsal", "a"]
+
+STREAMS = {
+    "validated": (SIGNED, EVENT + STATE, 0),
+    "validated_nothing": ("", "", 0),
+    "validated_twice": (SIGNED + SIGNED, EVENT + STATE, 0),
+    "validated_without_a_signature": (INCEPTION + "-AAA", UNSIGNED % 0, 3),
+    "validated_with_a_signature_by_another_key": (INCEPTION + "-AAB" + rehearsed(2, INCEPTION), WAITS, 0),
+    "validated_with_a_signature_out_of_range": (INCEPTION + "-AAB" + indexed("AB", "a"), WAITS, 0),
+    "validated_once_the_signature_came": (
+        INCEPTION + "-AAB" + indexed("AA", "a") + INCEPTION + "-AAB" + rehearsed(1, INCEPTION), EVENT + STATE, 0,
+    ),
+    "validated_receipt_of_a_digest": (RECEIPT, "refused 0 0 no-receipts\n", 3),
+    "validated_before_a_refusal": (
+        SIGNED + INCEPTION + "-DAB", UNSIGNED % len(SIGNED) + malformed(len(SIGNED) + 299, "not-supported") + EVENT + STATE, 3,
+    ),
+}
+
+
+def write(name, words, stream, text, status):
+    case = CASES / name
+    shutil.rmtree(case, ignore_errors=True)
+    case.mkdir(parents=True)
+    if stream is not None:
+        (case / "in").mkdir()
+        (case / "in" / "a").write_bytes(stream.encode())
+    (case / "words").write_text("".join(word + "\n" for word in words))
+    (case / "stdout").write_text(text)
+    if status:
+        (case / "status").write_text("%d\n" % status)
+
+
+if __name__ == "__main__":
+    for name, (stream, text, status) in STREAMS.items():
+        write(name, WORDS, stream, text, status)
+    write("validated_missing_file", WORDS, None, "fault 0 read\n", 5)
+    write("another_helper", ["validate", "--helper", "other", "a"], SIGNED, "words\n", 2)
+    (SAMPLES / "validated.cesr").write_text(SIGNED)
+    (SAMPLES / "validated.words").write_text("validate\n--helper\nrehearsal\nvalidated.cesr\n")
+    (SAMPLES / "validated.stdout").write_text(EVENT + STATE)
+    print(len(STREAMS) + 2, "cases")
