@@ -1,14 +1,15 @@
 #!/usr/bin/env python3
 """Makes the cases under tests/cases in which `validate` reads a stream with the rehearsal, and its sample.
 
-The primitives are made here with Python's base64 and hashlib. Each case names what the stream's bytes are and what is to
+The primitives are made here with Python's base64 and hashlib, and b3sum. Each case names what the stream's bytes are and what is to
 be written, as docs/FORMATS.md says it.
 """
 import hashlib
 import pathlib
 import shutil
 
-from stream_cases import CASES, INCEPTION, RECEIPT, indexed, key, malformed, primitive
+from said_table import INCEPTION as UNNAMED, PLACEHOLDER, spelling
+from stream_cases import CASES, COUPLE, INCEPTION, RECEIPT, indexed, key, malformed, primitive, with_size
 
 SAMPLES = pathlib.Path(__file__).resolve().parent.parent / "samples"
 
@@ -18,10 +19,22 @@ def rehearsed(number, body):
     return primitive("AA", hashlib.sha512(b"keri rehearsal" + key(number).encode() + body.encode()).digest())
 
 
+def accepted(said):
+    return "event %s 0 icp %s live\n" % (said, said), "state %s 0 %s keys=1 witnesses=0 toad=0\n" % (said, said)
+
+
 SAID = INCEPTION[40:84]
 SIGNED = INCEPTION + "-AAB" + rehearsed(1, INCEPTION)
-EVENT = "event %s 0 icp %s live\n" % (SAID, SAID)
-STATE = "state %s 0 %s keys=1 witnesses=0 toad=0\n" % (SAID, SAID)
+EVENT, STATE = accepted(SAID)
+BLAKE3 = UNNAMED.replace(PLACEHOLDER, spelling("E", UNNAMED))
+BLAKE3_SIGNED = BLAKE3 + "-AAB" + rehearsed(0, BLAKE3)
+BLAKE3_LINES = "".join(accepted(BLAKE3[40:84]))
+OTHER_PREFIX = BLAKE3[:100] + ("A" if BLAKE3[100] != "A" else "B") + BLAKE3[101:]
+OTHER_KEY = BLAKE3.replace(key(0), key(3))
+COUPLED = with_size(
+    '{"v":"KERI10JSONSIZE___","t":"rct","d":"%s","i":"%s","s":"0"}' % (SAID, SAID)
+) + "-CAB" + COUPLE
+IN_A_WRAP = INCEPTION + "-VAX-AAB" + rehearsed(1, INCEPTION)
 WAITS = "waits %s 0 %s signatures\n" % (SAID, SAID)
 UNSIGNED = "refused 0 %d unsigned\n"
 WORDS = ["validate", "--helper", "rehearsal", "a"]
@@ -37,6 +50,12 @@ STREAMS = {
         INCEPTION + "-AAB" + indexed("AA", "a") + INCEPTION + "-AAB" + rehearsed(1, INCEPTION), EVENT + STATE, 0,
     ),
     "validated_receipt_of_a_digest": (RECEIPT, "refused 0 0 no-receipts\n", 3),
+    "validated_by_blake3": (BLAKE3_SIGNED, BLAKE3_LINES, 0),
+    "validated_with_another_prefix": (OTHER_PREFIX + "-AAB" + rehearsed(0, OTHER_PREFIX), "refused 0 0 prefix\n", 3),
+    "validated_with_another_digest": (OTHER_KEY + "-AAB" + rehearsed(3, OTHER_KEY), "refused 0 0 said\n", 3),
+    "validated_two_identifiers": (SIGNED + BLAKE3_SIGNED, BLAKE3_LINES + EVENT + STATE, 0),
+    "validated_with_a_receipt": (COUPLED + SIGNED + COUPLED, EVENT + STATE, 0),
+    "validated_in_a_wrap": (IN_A_WRAP, EVENT + STATE, 0),
     "validated_before_a_refusal": (
         SIGNED + INCEPTION + "-DAB", UNSIGNED % len(SIGNED) + malformed(len(SIGNED) + 299, "not-supported") + EVENT + STATE, 3,
     ),
