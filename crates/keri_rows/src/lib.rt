@@ -8,6 +8,8 @@ mod check;
 #[cfg(test)]
 mod codes;
 #[cfg(test)]
+mod compared;
+#[cfg(test)]
 mod rehearsal;
 #[cfg(test)]
 mod runs;
