@@ -120,7 +120,7 @@ module _ {V : Type 0} (says : V → Key → List ℕ → Sig → Option Bool) (v
               (λ none. whole none s.earlier s.last s.all);
           turned_away = subst (λ l. IsTurnedAway l (told_of new.core) s.last) (s.taken.offers.follows.limits ∙ limits_are) s.turned_away;
         },
-      ))
+      ), s.taken.none_failed ∙ unfailed)
       (inl s.taken.none_open)
   stopped_so OutOfMemory ms later s made whole gave some = absurd (some refl)
   stopped_so End ms later s made whole gave some = absurd s
@@ -130,12 +130,14 @@ module _ {V : Type 0} (says : V → Key → List ℕ → Sig → Option Bool) (v
   -- the source was read as far as it goes, and the last message was taken too, or the reader stopped there
   ended_so : (own close : Close) (ms : List Message) → (HasTaken says verifier_faults first new ms × (close ≡ own))
       ⊎ HasStopped says verifier_faults first new close ms → ms ≡ messages limits.message_signatures items
-      → IsEnd (judged reading) → Gave left_old left_new reading.fed → ClosesReader limits left_old left_new faults (verifier_faults new.verifier)
-      reading (told_of new.core) ms own → close ≢ OutOfMemory
+      → IsEnd (judged reading) → Gave left_old left_new reading.fed
+      → (verifier_faults new.verifier ≡ 0 → ClosesReader limits left_old left_new faults (verifier_faults new.verifier) reading (told_of new.core) ms own)
+      → close ≢ OutOfMemory
       → IsRead says verifier_faults limits left_old left_new faults first.verifier new close
   ended_so own close ms (inl taken) all ends gave closes some =
       subst (λ c. IsRead says verifier_faults limits left_old left_new faults first.verifier new c) (sym taken.1)
-      (read_so own ms [] taken.0.offers (append-nil ms ∙ all) (λ none. ends) (λ unstopped. refl) closes (inl taken.0.none_open))
+      (read_so own ms [] taken.0.offers (append-nil ms ∙ all) (λ none. ends) (λ unstopped. refl) (closes (taken.0.none_failed ∙ unfailed))
+      (inl taken.0.none_open))
   ended_so own close ms (inr stopped) all ends gave closes some = stopped_so close ms [] stopped (append-nil ms ∙ all) (λ none earlier m e. ends) gave some
 
 module _ {V : Type 0} (says : V → Key → List ℕ → Sig → Option Bool) (verifier_faults : V → ℕ) (limits : Limits) (left_old left_new : Option (List ℕ))
@@ -150,21 +152,22 @@ module _ {V : Type 0} (says : V → Key → List ℕ → Sig → Option Bool) (v
   is_read feed.End close last f e some =
       ended_so says verifier_faults limits left_old left_new faults first new is_full limits_are unfailed f.reading f.items f.stream End close
       (f.answered ++ all_of last) (e first f.answered f.takes) f.all
-      (at_end f.reading f.closes.2) f.closes.0 f.closes some
+      (at_end f.reading f.closes.2) f.closes.0 (λ kept. (f.closes, kept)) some
   is_read (feed.Bad bad) close last f e some =
       ended_so says verifier_faults limits left_old left_new faults first new is_full limits_are unfailed f.reading f.items f.stream (Bad bad) close
       (f.answered ++ all_of last) (e first f.answered f.takes) f.all
-      (at_bad left_new f.reading bad f.closes.1) f.closes.0 f.closes some
+      (at_bad left_new f.reading bad f.closes.1) f.closes.0 (λ kept. (f.closes, kept)) some
   is_read feed.ReadFault close last f e some =
       ended_so says verifier_faults limits left_old left_new faults first new is_full limits_are unfailed f.reading f.items f.stream ReadFault close
       (f.answered ++ all_of last) (e first f.answered f.takes) f.all
-      (rw f.closes.2 tt) f.closes.0 f.closes some
+      (rw f.closes.2 tt) f.closes.0 (λ kept. (f.closes, kept)) some
   is_read feed.Full close last f e some =
       subst (λ c. IsRead says verifier_faults limits left_old left_new faults first.verifier new c) (sym e.0)
       (subst (λ v. IsRead says verifier_faults limits left_old left_new faults first.verifier v Full) (sym e.1)
       (read_so says verifier_faults limits left_old left_new faults first middle is_full limits_are unfailed f.reading f.items f.stream Full
       f.answered (all_of last) f.takes.offers f.all
-      (λ none. rw f.closes.0.unfinished_item tt) (λ e. cc) (inl f.closes) (inl f.takes.none_open)))
+      (λ none. rw f.closes.0.unfinished_item tt) (λ e. cc)
+      (inl f.closes, f.takes.none_failed ∙ unfailed) (inl f.takes.none_open)))
   is_read feed.OutOfMemory close last f e some = absurd (some e)
   is_read (feed.Stopped stop) close last f e some =
       subst (λ c. IsRead says verifier_faults limits left_old left_new faults first.verifier new c) (sym e.0)
@@ -186,7 +189,7 @@ module _ {limits : Limits} {old new : Option (List ℕ)} {faults : ℕ} {says : 
     {refused : List Refusal} {told : List Told} {bytes : List ℕ} where
   -- a reader closes by a fault only where the count rose
   pub closed_by_source : (close : Close) → ReadsStream limits old new faults says verifier_faults refused close told bytes → close ≡ ReadFault → Rose 0 faults
-  closed_by_source ReadFault reads e = reads.closes.1
+  closed_by_source ReadFault reads e = reads.closes.0.1
   closed_by_source End reads e = cc
   closed_by_source (Bad bad) reads e = cc
   closed_by_source VerifierFault reads e = cc

@@ -41,13 +41,18 @@ pub record NextFindsNoRoom (limits : Limits) (bytes : List ℕ) (told : List Tol
   pub turned_away : IsTurnedAway limits told next
 
 -- Why the reader closed: by its source, by its verifier's fault, or because a limit was reached: of the bytes that are
--- read, where there were more, or of what is taken, at the next message.
+-- read, where there were more, or of what is taken, at the next message. Unless the verifier's fault closed it, that one
+-- never failed.
 abbrev pub ClosesReader : Limits → Option (List ℕ) → Option (List ℕ) → ℕ → ℕ → Reading → List Told → List Message → Close → Type 0
-ClosesReader limits old new faults verifier_faults reading told offered End = Closes limits.stream_bytes old new 0 faults reading End
-ClosesReader limits old new faults verifier_faults reading told offered (Bad bad) = Closes limits.stream_bytes old new 0 faults reading (Bad bad)
-ClosesReader limits old new faults verifier_faults reading told offered ReadFault = Closes limits.stream_bytes old new 0 faults reading ReadFault
+ClosesReader limits old new faults verifier_faults reading told offered End =
+    Closes limits.stream_bytes old new 0 faults reading End × (verifier_faults ≡ 0)
+ClosesReader limits old new faults verifier_faults reading told offered (Bad bad) =
+    Closes limits.stream_bytes old new 0 faults reading (Bad bad) × (verifier_faults ≡ 0)
+ClosesReader limits old new faults verifier_faults reading told offered ReadFault =
+    Closes limits.stream_bytes old new 0 faults reading ReadFault × (verifier_faults ≡ 0)
 ClosesReader limits old new faults verifier_faults reading told offered Full =
-    Closes limits.stream_bytes old new 0 faults reading Full ⊎ (Gave old new reading.fed × NextFindsNoRoom limits reading.fed told offered)
+    (Closes limits.stream_bytes old new 0 faults reading Full ⊎ (Gave old new reading.fed × NextFindsNoRoom limits reading.fed told offered))
+    × (verifier_faults ≡ 0)
 ClosesReader limits old new faults verifier_faults reading told offered VerifierFault = Gave old new reading.fed × Rose 0 verifier_faults
 ClosesReader limits old new faults verifier_faults reading told offered OutOfMemory = ⊥
 
