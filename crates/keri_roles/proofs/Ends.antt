@@ -111,16 +111,18 @@ module _ {V : Type 0} (says : V → Key → List ℕ → Sig → Option Bool) (v
   stopped_so Full ms later s made whole gave some =
       let all : s.earlier ++ (s.last ∷ later) ≡ messages limits.message_signatures items = sym (append_assoc s.earlier (s.last ∷ []) later)
       ∙ (ap (λ l. l ++ later) (sym s.all) ∙ made) in
-      read_so Full s.earlier (s.last ∷ later) s.taken.offers all (λ e. cc) (λ e. cc)
-      (inr (
-        gave,
-        record {
-          next = s.last;
-          first = first_of limits reading items stream (s.earlier ++ s.last ∷ []) later (ap (λ l. l ++ later) (sym s.all) ∙ made)
-              (λ none. whole none s.earlier s.last s.all);
-          turned_away = subst (λ l. IsTurnedAway l (told_of new.core) s.last) (s.taken.offers.follows.limits ∙ limits_are) s.turned_away;
-        },
-      ), s.taken.none_failed ∙ unfailed)
+      read_so Full s.earlier (s.last ∷ later) s.taken.offers all (λ e. cc) (λ e. cc) (
+        inr (
+          gave,
+          record {
+            next = s.last;
+            first = first_of limits reading items stream (s.earlier ++ s.last ∷ []) later (ap (λ l. l ++ later) (sym s.all) ∙ made)
+                (λ none. whole none s.earlier s.last s.all);
+            turned_away = subst (λ l. IsTurnedAway l (told_of new.core) s.last) (s.taken.offers.follows.limits ∙ limits_are) s.turned_away;
+          },
+        ),
+        s.taken.none_failed ∙ unfailed,
+      )
       (inl s.taken.none_open)
   stopped_so OutOfMemory ms later s made whole gave some = absurd (some refl)
   stopped_so End ms later s made whole gave some = absurd s

@@ -1,6 +1,6 @@
 -- The report of a core and its one reader.
 use Rattle.std.proofs.Common.{◌≡◌, ◌≢◌, ℕ, ◌<◌, ◌⊎◌, inl, inr, Bool, List, [], Option, Some, None, refl, sym, ◌∙◌, ap, subst}
-use Rattle.std.specs.Prelude.{All, IfSome}
+use Rattle.std.specs.Prelude.{All, IfSome, MatchOption}
 use Rattle.std.proofs.lemmas.List.Elements.{All-nil, All-weaker}
 use Rattle.keri_specs.specs.Causes.{Rose}
 use Rattle.cesr_codes.specs.declared.key.Key.{Key}
@@ -12,11 +12,11 @@ use Rattle.event_body.specs.Judging.{SpellsEvent}
 use Rattle.keri_outside.specs.declared.limits.Limits.{Limits}
 use Rattle.journal.specs.declared.entry.Entry.{Entry}
 use Rattle.journal.specs.declared.journal.Journal.{Journal}
-use Rattle.journal.specs.declared.mode.Mode.{Mode}
 use Rattle.journal.specs.declared.mode.Mode.TheVariants as mode
 use Rattle.journal.specs.declared.refusal.Refusal.{Refusal}
 use Rattle.journal.specs.Feeds.{Feeds, FeedsOne, reader_of}
-use Rattle.journal.specs.Questions.{questions}
+use Rattle.journal.specs.Questions.{questions, IsRegular}
+use Rattle.journal.specs.Replies.{IsWithin}
 use Rattle.validator_core.specs.View.{CoreView, IsHeld, told_of, open_of}
 use Rattle.keri_roles.specs.declared.close.Close.{Close}
 use Rattle.keri_roles.specs.declared.close.Close.TheVariants.{ReadFault, VerifierFault, OutOfMemory}
@@ -32,15 +32,22 @@ use Rattle.keri_roles.specs.Offering.{HasTaken, HasStopped, Finishes}
 use Rattle.keri_roles.proofs.Ends.{is_read, closed_by_source, closed_by_verifier}
 use Rattle.keri_roles.proofs.Offering.{told_nothing, asked_nothing}
 
-abbrev with_parts : CoreView → Mode → Limits → List Entry → CoreView
-with_parts core m limits entries = record { mode = m; limits = limits; held = core.held; entries = entries; accepted = core.accepted }
-
--- a core by its parts
-core_is : (core : CoreView) (limits : Limits) (entries : List Entry) → core.mode ≡ mode.Full → core.limits ≡ limits → entries ≡ core.entries
-    → core ≡ core_of limits core.held entries core.accepted
-core_is core limits entries m l e =
-    ap (λ x. with_parts core x core.limits core.entries) m
-    ∙ (ap (λ x. with_parts core mode.Full x core.entries) l ∙ ap (with_parts core mode.Full limits) (sym e))
+-- a report is by the bodies and the entries alone
+reports_by_parts : (core : CoreView) (limits : Limits) (entries : List Entry) (refused : List Refusal) (close : Close) (text : List ℕ)
+    → core.mode ≡ mode.Full → entries ≡ core.entries → Reports core refused close text → Reports (core_of limits core.held entries) refused close text
+reports_by_parts core limits entries refused close text m e r =
+    let s = r.stands in
+    record {
+      standing = r.standing;
+      stands = record {
+        logs = s.logs;
+        waits = s.waits;
+        logs_are = rw (sym m, e) s.logs_are;
+        waits_are = rw (sym m, e) s.waits_are;
+        text_is = s.text_is;
+      };
+      text_is = r.text_is;
+    }
 
 -- nothing was read and nothing told
 feeds_nothing : (limits : Limits) (says : Key → List ℕ → Sig → Option Bool) (close : Close) → Feeds limits [] 0 (end_of [] says [] close) []
@@ -63,7 +70,7 @@ module _ {S V : Type 0} (left : S → Option (List ℕ)) (faults : S → ℕ) (s
       → FeedsOne limits (told_of core) 0 (end_of bytes (said_by left faults says verifier_faults verifier) refused close)
       → All (λ t. reader_of t < 1) (told_of core)
       → Reads left faults says verifier_faults limits held said source verifier refused close (told_of core) bytes
-      → (open_of core ≡ []) ⊎ IfSome verifier (λ v. Rose 0 (verifier_faults v))
+      → (open_of core ≡ []) ⊎ MatchOption verifier ⊥ (λ v. Rose 0 (verifier_faults v))
       → IsReported left faults says verifier_faults limits held said source verifier refused close journal text
   reported held said source verifier refused close core journal text bytes of m l reports feeds only reads asked = record {
     bytes = bytes;
@@ -80,12 +87,13 @@ module _ {S V : Type 0} (left : S → Option (List ℕ)) (faults : S → ℕ) (s
     };
     reads = rw of.entries reads;
     asked = rw of.entries (still asked);
-    numbers = core.accepted;
-    reports = subst (λ c. Reports c refused close text) (core_is core limits journal.entries m l of.entries) reports;
+    regular = rw of.entries (subst (λ x. IsRegular x [] (told_of core)) m of.stands.regular);
+    within = rw of.entries (subst (λ x. IsWithin x [] (told_of core)) l of.stands.within);
+    reports = reports_by_parts core limits journal.entries refused close text m of.entries reports;
   }
     where
-      still : (open_of core ≡ []) ⊎ IfSome verifier (λ v. Rose 0 (verifier_faults v)) → (questions mode.Full [] (told_of core) ≡ [])
-          ⊎ IfSome verifier (λ v. Rose 0 (verifier_faults v))
+      still : (open_of core ≡ []) ⊎ MatchOption verifier ⊥ (λ v. Rose 0 (verifier_faults v)) → (questions mode.Full [] (told_of core) ≡ [])
+          ⊎ MatchOption verifier ⊥ (λ v. Rose 0 (verifier_faults v))
       still (inl e) = inl (subst (λ x. questions x [] (told_of core) ≡ []) m e)
       still (inr rose) = inr rose
 

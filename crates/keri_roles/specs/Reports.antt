@@ -40,9 +40,9 @@ pub record Reports (core : CoreView) (refused : List Refusal) (close : Close) (t
   pub stands : IsStandingText core standing
   pub text_is : text ≡ (refused_lines 0 refused ++ malformed_line 0 close) ++ (standing ++ stopped_line 0 close)
 
--- a validator's core of a journal: its bodies, its entries, and the numbers of those that it accepted
-abbrev pub core_of : Limits → List Body → List Entry → List ℕ → CoreView
-core_of limits held entries numbers = record { mode = mode.Full; limits = limits; held = held; entries = entries; accepted = numbers }
+-- a validator's core of a journal: its bodies and its entries, by which alone it is reported
+abbrev pub core_of : Limits → List Body → List Entry → CoreView
+core_of limits held entries = record { mode = mode.Full; limits = limits; held = held; entries = entries; accepted = [] }
 
 -- the journal is the core's
 pub record IsJournalOf (core : CoreView) (journal : Journal) : Type 0 where

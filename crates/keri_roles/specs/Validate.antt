@@ -1,5 +1,5 @@
 -- What `validate --helper HELPER FILE` does.
-use Rattle.std.specs.Prelude.{◌≡◌, ◌≢◌, ℕ, ◌⊎◌, Bool, List, [], ◌∷◌, IfSome, is_none, Option, Some, None}
+use Rattle.std.specs.Prelude.{◌≡◌, ◌≢◌, ℕ, ◌⊎◌, Bool, List, [], ◌∷◌, IfSome, MatchOption, is_none, Option, Some, None}
 use Rattle.keri_specs.specs.Causes.{Rose}
 use Rattle.cesr_codes.specs.declared.key.Key.{Key}
 use Rattle.cesr_codes.specs.declared.sig.Sig.{Sig}
@@ -13,7 +13,8 @@ use Rattle.journal.specs.declared.mode.Mode.TheVariants as mode
 use Rattle.journal.specs.Feeds.{IsFed}
 use Rattle.journal.specs.History.{Told as ToldEntry}
 use Rattle.journal.specs.Journals.{told_by}
-use Rattle.journal.specs.Questions.{questions}
+use Rattle.journal.specs.Questions.{questions, IsRegular}
+use Rattle.journal.specs.Replies.{IsWithin}
 use Rattle.keri_roles.specs.declared.close.Close.{Close}
 use Rattle.keri_roles.specs.declared.close.Close.TheVariants.{ReadFault, VerifierFault, OutOfMemory}
 use Rattle.keri_roles.specs.declared.done.ReaderEnd.{ReaderEnd}
@@ -49,17 +50,18 @@ module _ {S V : Type 0} (left : S → Option (List ℕ)) (faults : S → ℕ) (s
   Reads limits held said (Some source) (Some verifier) refused close told bytes =
       (says verifier ≡ said) × ReadsStream limits held (left source) (faults source) said (verifier_faults verifier) refused close told bytes
 
-  -- What is told in the journal is what the reader fed, and what is written is their report. A question is open only
-  -- where the verifier's count rose.
+  -- What is told in the journal is what the reader fed, within the limits, and what is written is their report. Each
+  -- verdict was given to a question that was open, and one is open still only where the verifier's count rose.
   pub record IsReported (limits : Limits) (held : Option (List ℕ)) (said : Key → List ℕ → Sig → Option Bool) (source : Option S) (verifier : Option V)
       (refused : List Refusal) (close : Close)
       (journal : Journal) (text : List ℕ) : Type 0 where
     pub bytes : List ℕ
     pub fed : IsFed limits 0 (end_of bytes (said_by verifier) refused close ∷ []) journal
     pub reads : Reads limits held said source verifier refused close (told_by fed.held journal.entries) bytes
-    pub asked : (questions mode.Full [] (told_by fed.held journal.entries) ≡ []) ⊎ IfSome verifier (λ v. Rose 0 (verifier_faults v))
-    pub numbers : List ℕ
-    pub reports : Reports (core_of limits fed.held journal.entries numbers) refused close text
+    pub asked : (questions mode.Full [] (told_by fed.held journal.entries) ≡ []) ⊎ MatchOption verifier ⊥ (λ v. Rose 0 (verifier_faults v))
+    pub regular : IsRegular mode.Full [] (told_by fed.held journal.entries)
+    pub within : IsWithin limits [] (told_by fed.held journal.entries)
+    pub reports : Reports (core_of limits fed.held journal.entries) refused close text
 
   -- What a reader makes of what it is given: unless there was no memory, its report. A fault has its cause.
   pub record ReadsMade (limits : Limits) (source : Option S) (verifier : Option V) (reader : ReaderEnd S V) (journal : Journal) (text : List ℕ) : Type 0 where
