@@ -1,5 +1,5 @@
 -- What `check FILE` does.
-use Rattle.std.specs.Prelude.{◌≡◌, ◌≢◌, ℕ, ◌⊎◌, Bool, List, [], ◌∷◌, ◌++◌, is_none, MatchOption}
+use Rattle.std.specs.Prelude.{◌≡◌, ◌≢◌, ℕ, ◌⊎◌, Bool, false, List, [], ◌∷◌, ◌++◌, is_none, MatchOption}
 use Rattle.std.specs.declared.option.Option.{Option}
 use Rattle.std.specs.declared.option.Option.TheVariants.{None}
 use Rattle.keri_outside.specs.Told.{Told, Grows}
@@ -49,6 +49,7 @@ module _ {S V : Type 0} (left : S → Option (List ℕ)) (faults : S → ℕ) wh
     pub no_verifier : reader.verifier ≡ None
     pub none_told : journal ≡ no_journal
     pub made : Grows told_old.makings told_new.makings SourceKind name (is_none reader.source)
+    pub kept : is_none reader.source ≡ false → told_new.faults ≡ told_old.faults
     pub checks : MatchOption reader.source (ChecksNothing reader.close reader.refused.items text)
         (λ source. ChecksStream told_old.limits (told_old.holds name) (left source) (faults source) reader.close reader.refused.items text)
     pub writes : Writes text sink_failed written_old written_new
@@ -68,4 +69,5 @@ module _ {S V : Type 0} where
     pub none_told : journal ≡ no_journal
     pub made : ((readers ≡ []) × (told_new ≡ told_old))
         ⊎ ((reader : ReaderEnd S V) × (readers ≡ reader ∷ []) × (reader.close ≡ OutOfMemory)
-        × Grows told_old.makings told_new.makings SourceKind name (is_none reader.source))
+        × Grows told_old.makings told_new.makings SourceKind name (is_none reader.source)
+        × (is_none reader.source ≡ false → told_new.faults ≡ told_old.faults))

@@ -1,5 +1,5 @@
 -- What `validate --helper HELPER FILE` does.
-use Rattle.std.specs.Prelude.{◌≡◌, ◌≢◌, ℕ, ◌⊎◌, Bool, List, [], ◌∷◌, IfSome, MatchOption, is_none, Option, Some, None}
+use Rattle.std.specs.Prelude.{◌≡◌, ◌≢◌, ℕ, ◌⊎◌, Bool, false, List, [], ◌∷◌, IfSome, MatchOption, is_none, Option, Some, None}
 use Rattle.keri_specs.specs.Causes.{Rose}
 use Rattle.cesr_codes.specs.declared.key.Key.{Key}
 use Rattle.cesr_codes.specs.declared.sig.Sig.{Sig}
@@ -24,11 +24,13 @@ use Rattle.keri_roles.specs.Settling.{found}
 use Rattle.keri_roles.specs.Status.{status_of}
 use Rattle.keri_roles.specs.Writing.{Writes}
 
--- two makings came behind those of before: that of the source, and then that of the verifier
-pub record GrowsByTwo (old new : Option (List Making)) (name helper : List ℕ) (no_source no_verifier : Bool) : Type 0 where
+-- Two makings came behind those of before: that of the source, and then that of the verifier. Where none failed the
+-- count stands still.
+pub record GrowsByTwo (old new : Told) (name helper : List ℕ) (no_source no_verifier : Bool) : Type 0 where
   pub between : Option (List Making)
-  pub source : Grows old between SourceKind name no_source
-  pub verifier : Grows between new VerifierKind helper no_verifier
+  pub source : Grows old.makings between SourceKind name no_source
+  pub verifier : Grows between new.makings VerifierKind helper no_verifier
+  pub kept : no_source ≡ false → no_verifier ≡ false → new.faults ≡ old.faults
 
 -- one of both couldn't be made, and the reader closes by that
 abbrev pub IsUnmade : {S V : Type 0} → Option S → Option V → Close → Type 0
@@ -81,7 +83,7 @@ module _ {S V : Type 0} (left : S → Option (List ℕ)) (faults : S → ℕ) (s
     pub text : List ℕ
     pub sink_failed : Bool
     pub one : readers ≡ reader ∷ []
-    pub made : GrowsByTwo told_old.makings told_new.makings name helper (is_none reader.source) (is_none reader.verifier)
+    pub made : GrowsByTwo told_old told_new name helper (is_none reader.source) (is_none reader.verifier)
     pub reported : IsReported told_old.limits (told_old.holds name) (told_old.says helper) reader.source reader.verifier reader.refused.items
         reader.close journal text
     pub writes : Writes text sink_failed written_old written_new
@@ -95,4 +97,4 @@ module _ {S V : Type 0} where
     pub nothing_written : written_new ≡ written_old
     pub made : ((readers ≡ []) × (told_new ≡ told_old))
         ⊎ ((reader : ReaderEnd S V) × (readers ≡ reader ∷ []) × (reader.close ≡ OutOfMemory)
-        × GrowsByTwo told_old.makings told_new.makings name helper (is_none reader.source) (is_none reader.verifier))
+        × GrowsByTwo told_old told_new name helper (is_none reader.source) (is_none reader.verifier))

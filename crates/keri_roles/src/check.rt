@@ -1,5 +1,5 @@
 //! `check FILE`: reads the stream of a file, and says of each message what it is.
-ghost use Rattle.std.specs.Prelude.{◌≡◌, ◌≢◌, ◌⊎◌, is_none, IsSome, IfSome, MatchOption, string_bytes};
+ghost use Rattle.std.specs.Prelude.{◌≡◌, ◌≢◌, ◌⊎◌, false, is_none, IsSome, IfSome, MatchOption, string_bytes};
 ghost use Rattle.keri_specs.specs.Causes.{Rose};
 ghost use Rattle.keri_outside.specs.Told.{Grows};
 ghost use Rattle.keri_outside.specs.declared.making.MakingKind.TheVariants.{Source as SourceKind};
@@ -51,6 +51,7 @@ fn check_file<O: Outside>(
     outside: &mut O,
 ) -> (ReaderEnd<O::Source, O::Verifier>, String)
     ensures making { Grows (O.told outside.old).makings (O.told outside.new).makings SourceKind name.now (is_none result.0.source) }
+    ensures kept { is_none result.0.source ≡ false → (O.told outside.new).faults ≡ (O.told outside.old).faults }
     ensures checks { result.0.close ≢ Close.OutOfMemory → MatchOption result.0.source (ChecksNothing result.0.close result.0.refused.items (string_bytes result.1))
         (λ source. ChecksStream (O.told outside.old).limits ((O.told outside.old).holds name.now) (O.Source.left source) (O.Source.faults source) result.0.close result.0.refused.items (string_bytes result.1)) }
     ensures sink { O.sink outside.new ≡ O.sink outside.old }

@@ -18,7 +18,7 @@ pub(crate) fn make<O: Outside>(
     helper: &str,
     outside: &mut O,
 ) -> Made<O::Source, O::Verifier>
-    ensures made { GrowsByTwo (O.told outside.old).makings (O.told outside.new).makings name.now helper.now (is_none result.source) (is_none result.verifier) }
+    ensures made { GrowsByTwo (O.told outside.old) (O.told outside.new) name.now helper.now (is_none result.source) (is_none result.verifier) }
     ensures source { MatchOption result.source (Rose (O.told outside.old).faults (O.told outside.new).faults)
         (λ source. (O.Source.left source ≡ (O.told outside.old).holds name.now) × (O.Source.faults source ≡ 0)) }
     ensures verifier { MatchOption result.verifier (Rose (O.told outside.old).faults (O.told outside.new).faults)

@@ -58,7 +58,7 @@ fn validate_file<O: Outside>(
     name: &str,
     outside: &mut O,
 ) -> Outcome<O::Source, O::Verifier>
-    ensures made { GrowsByTwo (O.told outside.old).makings (O.told outside.new).makings name.now helper.now (is_none result.reader.source) (is_none result.reader.verifier) }
+    ensures made { GrowsByTwo (O.told outside.old) (O.told outside.new) name.now helper.now (is_none result.reader.source) (is_none result.reader.verifier) }
     ensures reported { result.reader.close ≢ Close.OutOfMemory → IsReported O.Source.left O.Source.faults O.Verifier.says O.Verifier.faults
         (O.told outside.old).limits ((O.told outside.old).holds name.now) ((O.told outside.old).says helper.now)
         result.reader.source result.reader.verifier result.reader.refused.items result.reader.close result.journal (string_bytes result.text) }

@@ -1,4 +1,4 @@
-use Rattle.std.proofs.Common.{◌≡◌, [], ◌∷◌, inl, inr, rules, string_bytes, is_none}
+use Rattle.std.proofs.Common.{◌≡◌, false, [], ◌∷◌, inl, inr, rules, string_bytes, is_none}
 use Rattle.keri_outside.specs.Told.{Grows}
 use Rattle.keri_outside.specs.declared.making.MakingKind.TheVariants.{Source}
 use Rattle.keri_roles.specs.Settling.{Settles}
@@ -11,11 +11,13 @@ returns-clause-checked g c =
     let made : Grows (g.O.Outside.told c.args.outside.now).makings (g.O.Outside.told c.settle-status.new.outside).makings Source c.args.name.now
     (is_none reader.source)
     = rw c.settle-status.ensures.told c.check_file-reader.ensures.making in
+    let kept : is_none reader.source ≡ false → (g.O.Outside.told c.settle-status.new.outside).faults ≡ (g.O.Outside.told c.args.outside.now).faults
+    = rw c.settle-status.ensures.told c.check_file-reader.ensures.kept in
     let settles : Settles reader.close reader.refused.items (string_bytes c.check_file-reader.result.1) c.settle-status.result
     (g.O.Sink.Sink.written (g.O.Outside.sink c.args.outside.now)) (g.O.Sink.Sink.written (g.O.Outside.sink c.settle-status.new.outside))
     = rw (c.as_str.ensures.value, c.check_file-reader.ensures.sink) at c.settle-status.ensures.settles in
     elim settles [
-      | inl none ↦ inr (record { ten = none.1; nothing_written = none.2; none_told = c.nothing_told-2.ensures; made = inr (reader, one, none.0, made) })
+      | inl none ↦ inr (record { ten = none.1; nothing_written = none.2; none_told = c.nothing_told-2.ensures; made = inr (reader, one, none.0, made, kept) })
       | inr some ↦ inl (record {
         reader = reader;
         text = string_bytes c.check_file-reader.result.1;
@@ -24,6 +26,7 @@ returns-clause-checked g c =
         no_verifier = c.check_file-reader.ensures.no_verifier.none;
         none_told = c.nothing_told-2.ensures;
         made = made;
+        kept = kept;
         checks = c.check_file-reader.ensures.checks some.0;
         writes = some.1.1;
         status_is = some.1.2;

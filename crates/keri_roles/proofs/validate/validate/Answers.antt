@@ -8,7 +8,7 @@ returns-clause-validated g c =
     let outcome = c.validate_file-reader.result in
     let reader = outcome.reader in
     let one : c.push.new.self.items ≡ reader ∷ [] = search rules in
-    let made : GrowsByTwo (g.O.Outside.told c.args.outside.now).makings (g.O.Outside.told c.settle-status.new.outside).makings c.args.name.now
+    let made : GrowsByTwo (g.O.Outside.told c.args.outside.now) (g.O.Outside.told c.settle-status.new.outside) c.args.name.now
     c.args.helper.now (is_none reader.source) (is_none reader.verifier)
     = rw c.settle-status.ensures.told c.validate_file-reader.ensures.made in
     let settles : Settles reader.close reader.refused.items (string_bytes outcome.text) c.settle-status.result
