@@ -1,6 +1,6 @@
 -- What a message, and the verdicts behind it, make of what stands.
-use Rattle.std.proofs.Common.{◌≡◌, ◌≢◌, ℕ, ◌<◌, ◌⊎◌, inl, inr, Bool, List, [], ◌∷◌, ◌++◌, Option, Some, None, Result, Ok, Err, refl, sym, ◌∙◌, ap, arith, append-nil}
-use Rattle.std.specs.Prelude.{filter, flat_map, All, OnOk, IfErr}
+use Rattle.std.proofs.Common.{◌≡◌, ◌≢◌, ℕ, ◌<◌, ◌⊎◌, inl, inr, Bool, List, [], ◌∷◌, ◌++◌, Option, Some, None, Result, Ok, Err, refl, sym, ◌∙◌, ap, subst, arith, append-nil}
+use Rattle.std.specs.Prelude.{filter, flat_map, All, OnOk, OnErr, IfErr}
 use Rattle.std.proofs.lemmas.Bool.{cases_Bool}
 use Rattle.std.proofs.lemmas.List.{map-append}
 use Rattle.std.proofs.lemmas.Grind.{flat_map-append}
@@ -28,7 +28,7 @@ use Rattle.journal.specs.Accepted.{accepted}
 use Rattle.journal.specs.History.{bodies}
 use Rattle.journal.specs.Journals.{told_by}
 use Rattle.journal.specs.Questions.{questions, raised}
-use Rattle.validator_core.specs.View.{CoreView, TakesMessage, told_of, open_of}
+use Rattle.validator_core.specs.View.{CoreView, Follows, TakesMessage, told_of, open_of}
 use Rattle.keri_roles.specs.declared.validating.Validating.{Validating}
 use Rattle.keri_roles.proofs.Questions.{asks_nothing}
 use Rattle.keri_roles.specs.declared.close.Close.{Close}
@@ -150,6 +150,16 @@ module _ (says : Key → List ℕ → Sig → Option Bool) (told : List Told) (r
         (All-weaker (IsVerdict says) (λ t. reader_of t < 1) (verdict_only says) verdicts each));
   }
 
+-- a message that is refused tells nothing
+pub refused_told : (old new : CoreView) (m : Message) (reason : Reason) → TakesMessage old 0 m (Refused reason) new → told_of new ≡ told_of old
+refused_told old new m reason takes =
+    let was = offered old.limits (told_of old) (told_of new) m takes.gives (Refused reason) takes.takes (λ e. cc) in
+    was.behind ∙ (ap (λ ts. told_of old ++ ts) (none_told (refusal m takes.gives) was.noted) ∙ append-nil (told_of old))
+  where
+    none_told : (r : Option Reason) → refused_as m.place (Refused reason) ≡ noted_at m.place r → entry_unless r 0 m takes.gives ≡ []
+    none_told None e = cc
+    none_told (Some other) e = refl
+
 -- nothing is told at first
 pub told_nothing : (core : CoreView) (limits : Limits) → core ≡ record { mode = mode.Full; limits = limits; held = []; entries = []; accepted = [] }
     → told_of core ≡ []
@@ -213,18 +223,39 @@ module _ {V : Type 0} (says : V → Key → List ℕ → Sig → Option Bool) (f
   refused_on old new m reason takes same (Err e) noted = tt
   refused_on old new m reason takes same (Ok done) noted = λ first before t. record {
     offers = offers_more first old new before m t new.core (Refused reason) takes (λ e. cc) (asks_nothing (says old.verifier) new.core) noted (ap says same);
-    none_open = rw (takes.follows.mode, told_same) t.none_open;
+    none_open = rw (takes.follows.mode, refused_told old.core new.core m reason takes) t.none_open;
     none_failed = ap faults same ∙ t.none_failed;
   }
-    where
-      none_told : (r : Option Reason) → refused_as m.place (Refused reason) ≡ noted_at m.place r → entry_unless r 0 m takes.gives ≡ []
-      none_told None e = cc
-      none_told (Some other) e = refl
 
-      told_same : told_of new.core ≡ told_of old.core
-      told_same =
-          let was = offered old.core.limits (told_of old.core) (told_of new.core) m takes.gives (Refused reason) takes.takes (λ e. cc) in
-          was.behind ∙ (ap (λ ts. told_of old.core ++ ts) (none_told (refusal m takes.gives) was.noted) ∙ append-nil (told_of old.core))
+  -- there was no memory, and nothing was told or noted
+  unmoved : (old new : Validating V) (m : Message) → told_of new.core ≡ told_of old.core → Follows old.core new.core
+      → new.refused.items ≡ old.refused.items → new.verifier ≡ old.verifier
+      → (first : Validating V) (before : List Message) → HasTaken says faults first old before
+      → HasStopped says faults first new OutOfMemory (before ++ m ∷ [])
+  unmoved old new m told follows refused same first before t =
+      let o = t.offers in
+      record {
+        earlier = before;
+        last = m;
+        all = refl;
+        offers = inr (record {
+          offered = o.offered;
+          messages_are = o.messages_are;
+          stands = rw (told, refused) o.stands;
+          same_says = ap says same ∙ o.same_says;
+          follows = record { mode = follows.mode ∙ o.follows.mode; limits = follows.limits ∙ o.follows.limits };
+        });
+      }
+
+  -- a message that is refused couldn't be noted
+  pub unnoted_on : (old new : Validating V) (m : Message) (reason : Reason) → TakesMessage old.core 0 m (Refused reason) new.core
+      → new.verifier ≡ old.verifier → {A : Type 0} (r : Result A Close) → IfErr r (λ close. close ≡ OutOfMemory) → OnErr r (new.refused.items ≡ old.refused.items)
+      → IfErr r (λ close. (first : Validating V) (before : List Message) → HasTaken says faults first old before
+      → HasStopped says faults first new close (before ++ m ∷ []))
+  unnoted_on old new m reason takes same (Ok done) out kept = tt
+  unnoted_on old new m reason takes same (Err close) out kept = λ first before t.
+      subst (λ c. HasStopped says faults first new c (before ++ m ∷ [])) (sym out)
+      (unmoved old new m (refused_told old.core new.core m reason takes) takes.follows kept same first before t)
 
   module _ (old new : Validating V) (m : Message) (core : CoreView) (reply : Reply) (takes : TakesMessage old.core 0 m reply core)
       (roomy : reply ≢ Full) (asks : Asks (says old.verifier) core new.core)
@@ -253,7 +284,12 @@ module _ {V : Type 0} (says : V → Key → List ℕ → Sig → Option Bool) (f
       offers = offers_more first old new before m t core reply takes roomy asks noted same;
       rose = rw t.none_failed at stops;
     }
-    stopped_on (Err OutOfMemory) noted stops = λ first before t. tt
+    stopped_on (Err OutOfMemory) noted stops = λ first before t. record {
+      earlier = before;
+      last = m;
+      all = refl;
+      offers = inl (offers_more first old new before m t core reply takes roomy asks noted same);
+    }
     stopped_on (Err End) noted stops = absurd stops
     stopped_on (Err (Bad bad)) noted stops = absurd stops
     stopped_on (Err ReadFault) noted stops = absurd stops

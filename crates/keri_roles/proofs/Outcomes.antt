@@ -1,5 +1,5 @@
 -- The report of a core and its one reader.
-use Rattle.std.proofs.Common.{◌≡◌, ◌≢◌, ℕ, ◌<◌, ◌⊎◌, inl, inr, Bool, List, [], Option, Some, None, refl, sym, ◌∙◌, ap, subst}
+use Rattle.std.proofs.Common.{◌≡◌, ◌≢◌, ℕ, ◌<◌, ◌⊎◌, inl, inr, Bool, List, [], ◌∷◌, Option, Some, None, refl, sym, ◌∙◌, ap, subst}
 use Rattle.std.specs.Prelude.{All, IfSome, MatchOption}
 use Rattle.std.proofs.lemmas.List.Elements.{All-nil, All-weaker}
 use Rattle.keri_specs.specs.Causes.{Rose}
@@ -14,22 +14,22 @@ use Rattle.journal.specs.declared.entry.Entry.{Entry}
 use Rattle.journal.specs.declared.journal.Journal.{Journal}
 use Rattle.journal.specs.declared.mode.Mode.TheVariants as mode
 use Rattle.journal.specs.declared.refusal.Refusal.{Refusal}
-use Rattle.journal.specs.Feeds.{Feeds, FeedsOne, reader_of}
+use Rattle.journal.specs.Feeds.{End as EndOf, Feeds, FeedsOne, IsFed, reader_of}
 use Rattle.journal.specs.Questions.{questions, IsRegular}
 use Rattle.journal.specs.Replies.{IsWithin}
 use Rattle.validator_core.specs.View.{CoreView, IsHeld, told_of, open_of}
 use Rattle.keri_roles.specs.declared.close.Close.{Close}
-use Rattle.keri_roles.specs.declared.close.Close.TheVariants.{ReadFault, VerifierFault, OutOfMemory}
+use Rattle.keri_roles.specs.declared.close.Close.TheVariants.{End, Bad, ReadFault, VerifierFault, Full, OutOfMemory}
 use Rattle.keri_roles.specs.declared.done.ReaderEnd.{ReaderEnd}
-use Rattle.keri_roles.specs.Ends.{end_of, IsRead}
+use Rattle.keri_roles.specs.Ends.{end_of, IsRead, IsReadSoFar}
 use Rattle.keri_roles.specs.Reports.{Reports, IsJournalOf, core_of}
-use Rattle.keri_roles.specs.Validate.{said_by, Reads, ReadsMade, IsReported, IsUnmade}
+use Rattle.keri_roles.specs.Validate.{said_by, Reads, ReadsSoFar, ReadsMade, IsFedSoFar, IsReported, IsUnmade}
 use Rattle.keri_roles.specs.declared.validating.Validating.{Validating}
 use Rattle.cesr_stream.specs.declared.message.Message.{Message}
 use Rattle.message_feed.specs.declared.feed_close.FeedClose.{FeedClose}
 use Rattle.message_feed.specs.Feeds.{Feeds as FeedsMessages}
 use Rattle.keri_roles.specs.Offering.{HasTaken, HasStopped, Finishes}
-use Rattle.keri_roles.proofs.Ends.{is_read, closed_by_source, closed_by_verifier}
+use Rattle.keri_roles.proofs.Ends.{is_read, is_out, so_far, closed_by_source, closed_by_verifier}
 use Rattle.keri_roles.proofs.Offering.{told_nothing, asked_nothing}
 
 -- a report is by the bodies and the entries alone
@@ -48,6 +48,29 @@ reports_by_parts core limits entries refused close text m e r =
       };
       text_is = r.text_is;
     }
+
+-- the reader fed its core's journal
+abbrev is_fed : (limits : Limits) (core : CoreView) (journal : Journal) (end : EndOf) → IsJournalOf core journal → FeedsOne limits (told_of core) 0 end
+    → All (λ t. reader_of t < 1) (told_of core) → IsFed limits 0 (end ∷ []) journal
+is_fed limits core journal end of feeds only = record {
+  held = core.held;
+  reading = record {
+    bytes_are = sym of.bodies;
+    spelled = All-weaker IsHeld (λ b. SpellsEvent b.event b.bytes) (λ b h. h.spelled) core.held of.stands.spelled;
+  };
+  in_order = rw of.entries of.stands.in_order;
+  all_held = rw of.entries of.stands.all_held;
+  fed = rw of.entries (record { each = (feeds, tt); only = only });
+}
+
+-- it ran out of memory, or not
+memory_cases : (close : Close) → (close ≡ OutOfMemory) ⊎ (close ≢ OutOfMemory)
+memory_cases OutOfMemory = inl refl
+memory_cases End = inr (λ e. cc)
+memory_cases (Bad bad) = inr (λ e. cc)
+memory_cases ReadFault = inr (λ e. cc)
+memory_cases VerifierFault = inr (λ e. cc)
+memory_cases Full = inr (λ e. cc)
 
 -- nothing was read and nothing told
 feeds_nothing : (limits : Limits) (says : Key → List ℕ → Sig → Option Bool) (close : Close) → Feeds limits [] 0 (end_of [] says [] close) []
@@ -74,17 +97,7 @@ module _ {S V : Type 0} (left : S → Option (List ℕ)) (faults : S → ℕ) (s
       → IsReported left faults says verifier_faults limits held said source verifier refused close journal text
   reported held said source verifier refused close core journal text bytes of m l reports feeds only reads asked = record {
     bytes = bytes;
-    fed = record {
-      held = core.held;
-      reading = record {
-        bytes_are = sym of.bodies;
-        spelled = All-weaker IsHeld (λ b. SpellsEvent b.event b.bytes) (λ b h. h.spelled) core.held
-            of.stands.spelled;
-      };
-      in_order = rw of.entries of.stands.in_order;
-      all_held = rw of.entries of.stands.all_held;
-      fed = rw of.entries (record { each = (feeds, tt); only = only });
-    };
+    fed = is_fed limits core journal _ of feeds only;
     reads = rw of.entries reads;
     asked = rw of.entries (still asked);
     regular = rw of.entries (subst (λ x. IsRegular x [] (told_of core)) m of.stands.regular);
@@ -96,6 +109,22 @@ module _ {S V : Type 0} (left : S → Option (List ℕ)) (faults : S → ℕ) (s
           ⊎ MatchOption verifier ⊥ (λ v. Rose 0 (verifier_faults v))
       still (inl e) = inl (subst (λ x. questions x [] (told_of core) ≡ []) m e)
       still (inr rose) = inr rose
+
+  -- what was told so far
+  fed_so_far : (held : Option (List ℕ)) (said : Key → List ℕ → Sig → Option Bool) (source : Option S) (verifier : Option V) (refused : List Refusal)
+      (core : CoreView) (journal : Journal) (bytes : List ℕ)
+      → IsJournalOf core journal → core.mode ≡ mode.Full → core.limits ≡ limits
+      → FeedsOne limits (told_of core) 0 (end_of bytes (said_by left faults says verifier_faults verifier) refused OutOfMemory)
+      → All (λ t. reader_of t < 1) (told_of core)
+      → ReadsSoFar left faults says verifier_faults held said source verifier bytes
+      → IsFedSoFar left faults says verifier_faults limits held said source verifier refused journal
+  fed_so_far held said source verifier refused core journal bytes of m l feeds only reads = record {
+    bytes = bytes;
+    reads = reads;
+    fed = is_fed limits core journal _ of feeds only;
+    regular = rw of.entries (subst (λ x. IsRegular x [] (told_of core)) m of.stands.regular);
+    within = rw of.entries (subst (λ x. IsWithin x [] (told_of core)) l of.stands.within);
+  }
 
   -- of a stream
   pub reported_stream : (source_old source : S) (verifier : V) (now : Validating V) (close : Close) (journal : Journal) (text : List ℕ)
@@ -112,12 +141,38 @@ module _ {S V : Type 0} (left : S → Option (List ℕ)) (faults : S → ℕ) (s
       feeds = let f = r.reads.feeds_are in record
           { offered = f.offered; first = f.first; bodies_are = f.bodies_are; taken = f.taken; refused = f.refused; all = f.all }
 
+  fed_of_stream : (source_old source : S) (verifier : V) (now : Validating V) (journal : Journal)
+      → IsReadSoFar says verifier_faults limits (left source_old) (left source) verifier now → IsJournalOf now.core journal
+      → IsFedSoFar left faults says verifier_faults limits (left source_old) (says verifier) (Some source) (Some now.verifier) now.refused.items journal
+  fed_of_stream source_old source verifier now journal r of =
+      fed_so_far (left source_old) (says verifier) (Some source) (Some now.verifier) now.refused.items now.core journal r.bytes of r.mode_is r.limits_are
+      (rw r.same_says r.feeds_are, rw r.same_says r.heard_are) r.only (r.same_says, (r.more, r.gave))
+
   reads_nothing : (held : Option (List ℕ)) (said : Key → List ℕ → Sig → Option Bool) (source : Option S) (verifier : Option V) (close : Close)
       → IsUnmade source verifier close → IfSome source (λ s. left s ≡ held)
       → Reads left faults says verifier_faults limits held said source verifier [] close [] []
   reads_nothing held said None verifier close e is = (e, refl)
   reads_nothing held said (Some source) None close e is = (e, refl, is)
   reads_nothing held said (Some source) (Some verifier) close e is = absurd e
+
+  none_so_far : (held : Option (List ℕ)) (said : Key → List ℕ → Sig → Option Bool) (source : Option S) (verifier : Option V) (close : Close)
+      → IsUnmade source verifier close → IfSome source (λ s. left s ≡ held) → ReadsSoFar left faults says verifier_faults held said source verifier []
+  none_so_far held said None verifier close e is = refl
+  none_so_far held said (Some source) None close e is = (refl, is)
+  none_so_far held said (Some source) (Some verifier) close e is = absurd e
+
+  fed_nothing : (held : Option (List ℕ)) (said : Key → List ℕ → Sig → Option Bool) (source : Option S) (verifier : Option V) (close : Close)
+      (core : CoreView) (journal : Journal)
+      → core ≡ record { mode = mode.Full; limits = limits; held = []; entries = []; accepted = [] } → IsUnmade source verifier close
+      → IfSome source (λ s. left s ≡ held) → IsJournalOf core journal
+      → IsFedSoFar left faults says verifier_faults limits held said source verifier [] journal
+  fed_nothing held said source verifier close core journal fresh unmade is of =
+      fed_so_far held said source verifier [] core journal [] of (ap (λ c. c.mode) fresh) (ap (λ c. c.limits) fresh)
+      (rw none_told (feeds_nothing limits _ OutOfMemory), rw none_told (All-nil _)) (rw none_told (All-nil _))
+      (none_so_far held said source verifier close unmade is)
+    where
+      none_told : told_of core ≡ []
+      none_told = told_nothing core limits fresh
 
   -- of nothing, where one of both couldn't be made
   pub reported_nothing : (held : Option (List ℕ)) (said : Key → List ℕ → Sig → Option Bool) (source : Option S) (verifier : Option V) (close : Close)
@@ -151,6 +206,9 @@ module _ {S V : Type 0} (left : S → Option (List ℕ)) (faults : S → ℕ) (s
     reported = λ held said is_held is_said some.
         rw (source_is, verifier_is, refused_is, closes some, sym is_held, sym is_said)
         (reported_stream left faults says verifier_faults limits source_old source first.verifier new close journal text (read some) of (reports some));
+    so_far = λ held said is_held is_said.
+        rw (source_is, verifier_is, refused_is, sym is_held, sym is_said)
+        (fed_of_stream left faults says verifier_faults limits source_old source first.verifier new journal far of);
     no_source = rw source_is refl;
     no_verifier = rw verifier_is refl;
     read_fault = λ e. rw source_is (read_rose (closes (not_memory ReadFault e (λ f. cc))) e);
@@ -160,11 +218,22 @@ module _ {S V : Type 0} (left : S → Option (List ℕ)) (faults : S → ℕ) (s
       not_memory : (c : Close) → reader.close ≡ c → c ≢ OutOfMemory → reader.close ≢ OutOfMemory
       not_memory c e differs = λ m. differs (sym e ∙ m)
 
-      read : reader.close ≢ OutOfMemory → IsRead says verifier_faults limits (left source_old) (left source) (faults source) first.verifier new close
-      read some =
+      read_to : close ≢ OutOfMemory → IsRead says verifier_faults limits (left source_old) (left source) (faults source) first.verifier new close
+      read_to some =
           is_read says verifier_faults limits (left source_old) (left source) (faults source) first middle new (ap (λ c. c.mode) fresh)
           (ap (λ c. c.limits) fresh) unfailed_verifier own close last
-          (rw unfailed at feeds) finishes (λ m. some (closes some ∙ m))
+          (rw unfailed at feeds) finishes some
+
+      far : IsReadSoFar says verifier_faults limits (left source_old) (left source) first.verifier new
+      far = elim (memory_cases close) [
+        | inl out ↦ is_out says verifier_faults limits (left source_old) (left source) (faults source) first middle new (ap (λ c. c.mode) fresh)
+            (ap (λ c. c.limits) fresh) unfailed_verifier own close last
+            (rw unfailed at feeds) finishes out
+        | inr some ↦ so_far says verifier_faults limits (left source_old) (left source) (faults source) first.verifier new close (read_to some)
+      ]
+
+      read : reader.close ≢ OutOfMemory → IsRead says verifier_faults limits (left source_old) (left source) (faults source) first.verifier new close
+      read some = read_to (λ m. some (closes some ∙ m))
 
       read_rose : reader.close ≡ close → reader.close ≡ ReadFault → Rose 0 (faults source)
       read_rose same e = let r = read (not_memory ReadFault e (λ f. cc)) in closed_by_source close r.reads (sym same ∙ e)
@@ -182,6 +251,9 @@ module _ {S V : Type 0} (left : S → Option (List ℕ)) (faults : S → ℕ) (s
     reported = λ held said is_held is_said some.
         rw (source_is, verifier_is, refused_is, closes some)
         (reported_nothing left faults says verifier_faults limits held said source verifier close core journal text fresh unmade is_held of (reports some));
+    so_far = λ held said is_held is_said.
+        rw (source_is, verifier_is, refused_is)
+        (fed_nothing left faults says verifier_faults limits held said source verifier close core journal fresh unmade is_held of);
     no_source = rw source_is refl;
     no_verifier = rw verifier_is refl;
     read_fault = λ e. rw source_is (no_source source verifier unmade (sym (closes (λ m. let clash : ReadFault ≡ OutOfMemory = sym e ∙ m in cc)) ∙ e));

@@ -78,3 +78,15 @@ module _ {V : Type 0} (says : V → Key → List ℕ → Sig → Option Bool) (v
     pub mode_is : now.core.mode ≡ mode.Full
     pub limits_are : now.core.limits ≡ limits
     pub same_says : says now.verifier ≡ says verifier
+
+  -- The same as far as is said where there was no memory: the first messages of bytes that the source gave were offered.
+  pub record IsReadSoFar (limits : Limits) (left_old left_new : Option (List ℕ)) (verifier : V) (now : Validating V) : Type 0 where
+    pub bytes : List ℕ
+    pub more : List ℕ
+    pub gave : Gave left_old left_new (bytes ++ more)
+    pub feeds_are : Feeds limits (told_of now.core) 0 (end_of bytes (says verifier) now.refused.items OutOfMemory) bytes
+    pub heard_are : All (IsHeardFrom 0 (says verifier)) (told_of now.core)
+    pub only : All (λ t. reader_of t < 1) (told_of now.core)
+    pub mode_is : now.core.mode ≡ mode.Full
+    pub limits_are : now.core.limits ≡ limits
+    pub same_says : says now.verifier ≡ says verifier

@@ -66,11 +66,18 @@ module _ {V : Type 0} (says : V → Key → List ℕ → Sig → Option Bool) (f
     pub offers : Offers first now messages
     pub rose : Rose (faults first.verifier) (faults now.verifier)
 
+  -- there was no memory at the last of these messages: it was offered too, or not
+  pub record HasRunOut (first now : Validating V) (messages : List Message) : Type 0 where
+    pub earlier : List Message
+    pub last : Message
+    pub all : messages ≡ earlier ++ last ∷ []
+    pub offers : Offers first now messages ⊎ Offers first now earlier
+
   -- why the reader stopped at the last of these messages
   abbrev pub HasStopped : Validating V → Validating V → Close → List Message → Type 0
   HasStopped first now VerifierFault messages = HasFailed first now messages
   HasStopped first now Full messages = HasNoRoom first now messages
-  HasStopped first now OutOfMemory messages = Unit {0}
+  HasStopped first now OutOfMemory messages = HasRunOut first now messages
   HasStopped first now End messages = ⊥
   HasStopped first now (Bad bad) messages = ⊥
   HasStopped first now ReadFault messages = ⊥
@@ -86,5 +93,5 @@ module _ {V : Type 0} (says : V → Key → List ℕ → Sig → Option Bool) (f
   Finishes (feed.Bad bad) last old new now = TakesLast (Bad bad) last old new now
   Finishes feed.ReadFault last old new now = TakesLast ReadFault last old new now
   Finishes feed.Full last old new now = (now ≡ Full) × (new ≡ old)
-  Finishes feed.OutOfMemory last old new now = now ≡ OutOfMemory
+  Finishes feed.OutOfMemory last old new now = (now ≡ OutOfMemory) × (new ≡ old)
   Finishes (feed.Stopped stop) last old new now = (now ≡ stop) × (new ≡ old)

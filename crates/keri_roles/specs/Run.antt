@@ -33,4 +33,4 @@ module _ {S V : Type 0} where
       ⊎ ChecksNot name told_old told_new status readers journal written_old written_new
   Answers (validate helper name) left faults says verifier_faults told_old told_new status readers journal written_old written_new =
       Validates left faults says verifier_faults name helper told_old told_new status readers journal written_old written_new
-      ⊎ ValidatesNot name helper told_old told_new status readers written_old written_new
+      ⊎ ValidatesNot left faults says verifier_faults name helper told_old told_new status readers journal written_old written_new

@@ -1,5 +1,5 @@
 -- What `validate --helper HELPER FILE` does.
-use Rattle.std.specs.Prelude.{◌≡◌, ◌≢◌, ℕ, ◌⊎◌, Bool, false, List, [], ◌∷◌, IfSome, MatchOption, is_none, Option, Some, None}
+use Rattle.std.specs.Prelude.{◌≡◌, ◌≢◌, ℕ, ◌⊎◌, Bool, false, List, [], ◌∷◌, ◌++◌, IfSome, MatchOption, is_none, Option, Some, None}
 use Rattle.keri_specs.specs.Causes.{Rose}
 use Rattle.cesr_codes.specs.declared.key.Key.{Key}
 use Rattle.cesr_codes.specs.declared.sig.Sig.{Sig}
@@ -15,10 +15,12 @@ use Rattle.journal.specs.History.{Told as ToldEntry}
 use Rattle.journal.specs.Journals.{told_by}
 use Rattle.journal.specs.Questions.{questions, IsRegular}
 use Rattle.journal.specs.Replies.{IsWithin}
+use Rattle.message_feed.specs.Closing.{Gave}
 use Rattle.keri_roles.specs.declared.close.Close.{Close}
 use Rattle.keri_roles.specs.declared.close.Close.TheVariants.{ReadFault, VerifierFault, OutOfMemory}
 use Rattle.keri_roles.specs.declared.done.ReaderEnd.{ReaderEnd}
 use Rattle.keri_roles.specs.Ends.{end_of, ReadsStream}
+use Rattle.keri_roles.specs.NoJournal.{no_journal}
 use Rattle.keri_roles.specs.Reports.{Reports, core_of}
 use Rattle.keri_roles.specs.Settling.{found}
 use Rattle.keri_roles.specs.Status.{status_of}
@@ -65,11 +67,31 @@ module _ {S V : Type 0} (left : S → Option (List ℕ)) (faults : S → ℕ) (s
     pub within : IsWithin limits [] (told_by fed.held journal.entries)
     pub reports : Reports (core_of limits fed.held journal.entries) refused close text
 
+  -- The first of the bytes that the source gave were read with the verifier; or nothing was.
+  abbrev pub ReadsSoFar : Option (List ℕ) → (Key → List ℕ → Sig → Option Bool) → Option S → Option V → List ℕ → Type 0
+  ReadsSoFar held said None verifier bytes = bytes ≡ []
+  ReadsSoFar held said (Some source) None bytes = (bytes ≡ []) × (left source ≡ held)
+  ReadsSoFar held said (Some source) (Some verifier) bytes =
+      (says verifier ≡ said) × ((more : List ℕ) × Gave held (left source) (bytes ++ more))
+
+  -- What is told in the journal is what the reader fed of these bytes, within the limits. Each verdict was given to a
+  -- question that was open.
+  pub record IsFedSoFar (limits : Limits) (held : Option (List ℕ)) (said : Key → List ℕ → Sig → Option Bool) (source : Option S) (verifier : Option V)
+      (refused : List Refusal) (journal : Journal) : Type 0 where
+    pub bytes : List ℕ
+    pub reads : ReadsSoFar held said source verifier bytes
+    pub fed : IsFed limits 0 (end_of bytes (said_by verifier) refused OutOfMemory ∷ []) journal
+    pub regular : IsRegular mode.Full [] (told_by fed.held journal.entries)
+    pub within : IsWithin limits [] (told_by fed.held journal.entries)
+
   -- What a reader makes of what it is given: unless there was no memory, its report. A fault has its cause.
   pub record ReadsMade (limits : Limits) (source : Option S) (verifier : Option V) (reader : ReaderEnd S V) (journal : Journal) (text : List ℕ) : Type 0 where
     pub reported : (held : Option (List ℕ)) (said : Key → List ℕ → Sig → Option Bool) → IfSome source (λ s. left s ≡ held)
         → IfSome verifier (λ v. says v ≡ said)
         → reader.close ≢ OutOfMemory → IsReported limits held said reader.source reader.verifier reader.refused.items reader.close journal text
+    pub so_far : (held : Option (List ℕ)) (said : Key → List ℕ → Sig → Option Bool) → IfSome source (λ s. left s ≡ held)
+        → IfSome verifier (λ v. says v ≡ said)
+        → IsFedSoFar limits held said reader.source reader.verifier reader.refused.items journal
     pub no_source : is_none reader.source ≡ is_none source
     pub no_verifier : is_none reader.verifier ≡ is_none verifier
     pub read_fault : reader.close ≡ ReadFault → IfSome reader.source (λ s. Rose 0 (faults s))
@@ -89,12 +111,13 @@ module _ {S V : Type 0} (left : S → Option (List ℕ)) (faults : S → ℕ) (s
     pub writes : Writes text sink_failed written_old written_new
     pub status_is : status ≡ status_of (found sink_failed reader.close reader.refused.items)
 
-module _ {S V : Type 0} where
-  -- There was no memory: 10 is answered, nothing is written, and the two makings were made or not yet.
-  pub record ValidatesNot (name helper : List ℕ) (told_old told_new : Told) (status : ℕ) (readers : List (ReaderEnd S V))
+  -- There was no memory: 10 is answered, nothing is written, and the two makings were made or not yet. What is told is
+  -- what was fed so far.
+  pub record ValidatesNot (name helper : List ℕ) (told_old told_new : Told) (status : ℕ) (readers : List (ReaderEnd S V)) (journal : Journal)
       (written_old written_new : Option (List ℕ)) : Type 0 where
     pub ten : status ≡ 10
     pub nothing_written : written_new ≡ written_old
-    pub made : ((readers ≡ []) × (told_new ≡ told_old))
+    pub made : ((readers ≡ []) × (told_new ≡ told_old) × (journal ≡ no_journal))
         ⊎ ((reader : ReaderEnd S V) × (readers ≡ reader ∷ []) × (reader.close ≡ OutOfMemory)
-        × GrowsByTwo told_old told_new name helper (is_none reader.source) (is_none reader.verifier))
+        × GrowsByTwo told_old told_new name helper (is_none reader.source) (is_none reader.verifier)
+        × IsFedSoFar told_old.limits (told_old.holds name) (told_old.says helper) reader.source reader.verifier reader.refused.items journal)

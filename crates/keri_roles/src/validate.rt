@@ -2,7 +2,7 @@
 ghost use Rattle.std.specs.Prelude.{◌≡◌, ◌≢◌, ◌⊎◌, is_none, string_bytes};
 ghost use Rattle.keri_specs.specs.Causes.{Rose};
 ghost use Rattle.keri_roles.specs.Faults.{FaultHasCause, FaultsHaveCause, VerifierFaultHasCause, VerifierFaultsHaveCause};
-ghost use Rattle.keri_roles.specs.Validate.{GrowsByTwo, IsReported, Validates, ValidatesNot};
+ghost use Rattle.keri_roles.specs.Validate.{GrowsByTwo, IsFedSoFar, IsReported, Validates, ValidatesNot};
 
 use crate::making::make;
 use crate::nothing_told::nothing_told;
@@ -21,7 +21,8 @@ pub(crate) fn validate<O: Outside>(
 ) -> Done<O>
     ensures validated { Validates O.Source.left O.Source.faults O.Verifier.says O.Verifier.faults name.now helper.now (O.told outside.old) (O.told outside.new)
         result.status result.readers.items result.journal (O.Sink.written (O.sink outside.old)) (O.Sink.written (O.sink outside.new))
-        ⊎ ValidatesNot name.now helper.now (O.told outside.old) (O.told outside.new) result.status result.readers.items
+        ⊎ ValidatesNot O.Source.left O.Source.faults O.Verifier.says O.Verifier.faults name.now helper.now (O.told outside.old) (O.told outside.new)
+        result.status result.readers.items result.journal
         (O.Sink.written (O.sink outside.old)) (O.Sink.written (O.sink outside.new)) }
     ensures read_faults { FaultsHaveCause O.Source.faults (O.told outside.old).faults (O.told outside.new).faults result.readers.items }
     ensures verifier_faults { VerifierFaultsHaveCause O.Verifier.faults (O.told outside.old).faults (O.told outside.new).faults result.readers.items }
@@ -62,6 +63,9 @@ fn validate_file<O: Outside>(
     ensures reported { result.reader.close ≢ Close.OutOfMemory → IsReported O.Source.left O.Source.faults O.Verifier.says O.Verifier.faults
         (O.told outside.old).limits ((O.told outside.old).holds name.now) ((O.told outside.old).says helper.now)
         result.reader.source result.reader.verifier result.reader.refused.items result.reader.close result.journal (string_bytes result.text) }
+    ensures so_far { IsFedSoFar O.Source.left O.Source.faults O.Verifier.says O.Verifier.faults
+        (O.told outside.old).limits ((O.told outside.old).holds name.now) ((O.told outside.old).says helper.now)
+        result.reader.source result.reader.verifier result.reader.refused.items result.journal }
     ensures read_fault { FaultHasCause O.Source.faults (O.told outside.old).faults (O.told outside.new).faults result.reader }
     ensures verifier_fault { VerifierFaultHasCause O.Verifier.faults (O.told outside.old).faults (O.told outside.new).faults result.reader }
     ensures sink { O.sink outside.new ≡ O.sink outside.old }

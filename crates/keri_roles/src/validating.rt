@@ -99,6 +99,7 @@ impl<V: Verifier + Drop> Validating<V> {
 fn note(refused: &mut Vec<Refusal>, place: u64, reason: Reason) -> Result<(), Close>
     ensures ok { OnOk result (refused.new.items ≡ refused.old.items ++ record { place = place; reason = reason } ∷ []) }
     ensures err { IfErr result (λ close. close ≡ Close.OutOfMemory) }
+    ensures kept { OnErr result (refused.new.items ≡ refused.old.items) }
 {
     match refused.push(Refusal { place, reason }) {
         Ok(()) => Ok(()),

@@ -15,7 +15,7 @@ returns-clause-validated g c =
     (g.O.Sink.Sink.written (g.O.Outside.sink c.args.outside.now)) (g.O.Sink.Sink.written (g.O.Outside.sink c.settle-status.new.outside))
     = rw (c.as_str.ensures.value, c.validate_file-reader.ensures.sink) at c.settle-status.ensures.settles in
     elim settles [
-      | inl none ↦ inr (record { ten = none.1; nothing_written = none.2; made = inr (reader, one, none.0, made) })
+      | inl none ↦ inr (record { ten = none.1; nothing_written = none.2; made = inr (reader, one, none.0, made, c.validate_file-reader.ensures.so_far) })
       | inr some ↦ inl (record {
         reader = reader;
         text = string_bytes outcome.text;

@@ -1,6 +1,6 @@
 use Rattle.std.proofs.Common.{refl, sym, append-nil}
 use Rattle.journal.specs.declared.reply.Reply.TheVariants.{Taken, Again}
-use Rattle.keri_roles.proofs.Offering.{taken_on, stopped_on, refused_on}
+use Rattle.keri_roles.proofs.Offering.{taken_on, stopped_on, refused_on, unnoted_on}
 use Rattle.keri_roles.proofs.validating.Validating.offer.Goals as goal
 
 pub returns-in-Ok-Taken-clause-ok : goal.returns-in-Ok-Taken-clause-ok
@@ -53,3 +53,10 @@ returns-in-Ok-Refused-clause-ok g c =
     (record { core = c.take.new.self; verifier = c.args.self.now.verifier; refused = c.note.new.refused; steps = c.take.new._steps })
     c.args.message.now c.in-Ok-Refused.reason
     (rw c.in-Ok-Refused.field-0-is at c.in-Ok-Refused.ensures.takes) refl c.note.result c.note.ensures.ok
+
+pub returns-in-Ok-Refused-clause-err : goal.returns-in-Ok-Refused-clause-err
+returns-in-Ok-Refused-clause-err g c =
+    unnoted_on g.V.Verifier.says g.V.Verifier.faults c.args.self.now
+    (record { core = c.take.new.self; verifier = c.args.self.now.verifier; refused = c.note.new.refused; steps = c.take.new._steps })
+    c.args.message.now c.in-Ok-Refused.reason
+    (rw c.in-Ok-Refused.field-0-is at c.in-Ok-Refused.ensures.takes) refl c.note.result c.note.ensures.err c.note.ensures.kept
