@@ -108,7 +108,7 @@ fn files_and_words_are_answered(rt: HostRuntime) -> Result<(), Fail> {
         },
     ];
     for case in &cases {
-        for piece in [4_096, 1] {
+        for piece in 1..1_200 {
             let case = Case { piece, ..*case };
             let mut outside = outside(alloc, &case)?;
             let done = run(alloc, &owned(alloc, case.words)?, &mut outside);
