@@ -12,3 +12,6 @@ pub mod One
 pub mod Apart
 pub mod Different
 pub mod Asking
+pub mod Same
+pub mod Places
+pub mod Held

@@ -22,7 +22,7 @@ use Rattle.validator_core.specs.declared.asked.Asked.{Asked}
 use Rattle.validator_core.specs.Cases.{Case}
 use Rattle.validator_core.specs.Tables.{came, raised_with, asked_as, with_new, same_asked, with_claim, with_verdict, IsAsked, IsCase}
 use Rattle.validator_core.proofs.Entries.{came_push, took_raises, took_raises_not, took_verdict, took_yes, yes_is_verdict, heard_came, heard_raises, heard_verdict, heard_yes, other_triple, names, raised_name, or-false}
-use Rattle.validator_core.proofs.Same.{same_key_itself, same_sig_itself, same_claim_is, same_claim_itself, same_triple_is, same_triple_itself, turned, moves}
+use Rattle.journal.proofs.Same.{same_key_itself, same_sig_itself, same_claim_is, same_claim_itself, same_triple_is, same_triple_itself, turned, moves}
 
 -- adding one after the other gives the first comings of all
 pub merged : {X : Type 0} (same : X → X → Bool) (is : (x y : X) → same x y ≡ true → x ≡ y) (itself : (x : X) → same x x ≡ true) (all ys : List X)

@@ -13,7 +13,8 @@ use Rattle.validator_core.specs.View.{told_of, HasRoom, IsHeld}
 use Rattle.validator_core.specs.Tables.{Tables, view_of, held_by, HasNoHeld, NotesClaims, IsCore, tally_with}
 use Rattle.validator_core.proofs.FitsAgain.{fits_again, told_again}
 use Rattle.validator_core.proofs.FitsNew.{fits_new, told_new, held_new}
-use Rattle.validator_core.proofs.Held.{case_event, held_set, some_at}
+use Rattle.journal.proofs.Places.{some_at}
+use Rattle.validator_core.proofs.Held.{case_event, held_set}
 
 -- a list of first comings is no longer than the list
 pub distinct_shorter : {X : Type 0} (same : X → X → Bool) (xs : List X) → length (distinct same xs) ≤ length xs

@@ -17,8 +17,8 @@ use Rattle.journal.specs.History.{Told, took, heard, Triple, same_triple, triple
 use Rattle.journal.specs.Replies.{came_with}
 use Rattle.validator_core.specs.Tables.{came, raised_with, IsAsked}
 use Rattle.validator_core.proofs.Ready.{has_yes}
-use Rattle.validator_core.proofs.Same.{same_triple_is}
-use Rattle.validator_core.proofs.Places.{found_at, any_at}
+use Rattle.journal.proofs.Same.{same_triple_is}
+use Rattle.journal.proofs.Places.{found_at, any_at}
 
 pub or-false : (p : Bool) → (p || false) ≡ p
 or-false true = refl

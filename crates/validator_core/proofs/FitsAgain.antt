@@ -18,8 +18,9 @@ use Rattle.validator_core.specs.Cases.{Case}
 use Rattle.validator_core.specs.View.{IsHeld}
 use Rattle.validator_core.specs.Tables.{Tables, held_by, number_of, with_new, with_claim, IsCase, HasNoHeld, FitsTables, IsCore, tally_with}
 use Rattle.validator_core.proofs.Cases.{case_took, case_not_took}
-use Rattle.validator_core.proofs.Held.{held_set, set_here, set_there, told_push}
-use Rattle.validator_core.proofs.Places.{all_at, any_at, one_place}
+use Rattle.journal.proofs.Held.{told_push}
+use Rattle.validator_core.proofs.Held.{held_set}
+use Rattle.journal.proofs.Places.{all_at, any_at, one_place, set_here, set_there}
 use Rattle.validator_core.proofs.Settled.{held_differ}
 use Rattle.validator_core.proofs.Sound.{took_again, bodies_old}
 use Rattle.validator_core.proofs.Counting.{tally_more, room}

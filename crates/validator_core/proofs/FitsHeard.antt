@@ -27,10 +27,11 @@ use Rattle.validator_core.specs.Cases.{Case}
 use Rattle.validator_core.specs.Tables.{Tables, held_by, number_of, raised_with, with_verdict, IsCase, IsSound, IsTally, AreStates, FitsTables, IsCore}
 use Rattle.validator_core.proofs.Cases.{case_heard, case_not_heard}
 use Rattle.validator_core.proofs.Entries.{push}
-use Rattle.validator_core.proofs.Held.{held_set, set_here, set_there, told_push, chosen_push}
-use Rattle.validator_core.proofs.Places.{one_place}
+use Rattle.journal.proofs.Held.{told_push, chosen_push}
+use Rattle.validator_core.proofs.Held.{held_set}
+use Rattle.journal.proofs.Places.{one_place, set_here, set_there}
 use Rattle.validator_core.proofs.Questions.{open_here, fewer}
-use Rattle.validator_core.proofs.Same.{same_prefix_is}
+use Rattle.journal.proofs.Same.{same_prefix_is}
 use Rattle.validator_core.proofs.Settled.{held_differ}
 use Rattle.validator_core.proofs.Sound.{heard_waits, heard_joins, heard_ready, bodies_heard}
 

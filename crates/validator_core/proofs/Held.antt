@@ -11,7 +11,7 @@ use Rattle.journal.specs.History.{Told, took, heard}
 use Rattle.journal.specs.Journals.{whole, told_by, chosen}
 use Rattle.validator_core.specs.Cases.{Case}
 use Rattle.validator_core.specs.Tables.{held_by, number_of}
-use Rattle.validator_core.proofs.Places.{slice_get_front, any_at}
+use Rattle.journal.proofs.Places.{slice_get_front, some_at}
 
 -- each body has its bytes and its case's event
 pub held_at : (bodies : List (List ℕ)) (cases : List Case) (n : ℕ) (text : List ℕ) (c : Case) → slice_get bodies n ≡ Some text → slice_get cases n ≡ Some c
@@ -52,24 +52,6 @@ held_set (t ∷ bodies) [] n c new at e = cc
 held_set (t ∷ bodies) (d ∷ cases) zero c new at e = let f : d ≡ c = cc in let same : new.event ≡ d.event = e ∙ ap (λ c. c.event) (sym f) in ap (λ event. record { bytes = t; event = event } ∷ held_by bodies cases) same
 held_set (t ∷ bodies) (d ∷ cases) (suc n) c new at e = ap (λ bs. record { bytes = t; event = d.event } ∷ bs) (held_set bodies cases n c new at e)
 
-pub set_here : {X : Type 0} (xs : List X) (n : ℕ) (x y : X) → slice_get xs n ≡ Some x → slice_get (set xs n y) n ≡ Some y
-set_here [] n x y at = cc
-set_here (z ∷ xs) zero x y at = refl
-set_here (z ∷ xs) (suc n) x y at = set_here xs n x y at
-
-pub set_there : {X : Type 0} (xs : List X) (n m : ℕ) (y : X) → (m ≡ n → ⊥) → slice_get (set xs n y) m ≡ slice_get xs m
-set_there [] n m y other = refl
-set_there (z ∷ xs) zero zero y other = absurd (other refl)
-set_there (z ∷ xs) zero (suc m) y other = refl
-set_there (z ∷ xs) (suc n) zero y other = refl
-set_there (z ∷ xs) (suc n) (suc m) y other = set_there xs n m y (λ e. other (ap (λ k. suc k) e))
-
--- there is one at each place below the length
-pub some_at : {X : Type 0} (xs : List X) (n : ℕ) → n < length xs → (x : X) × (slice_get xs n ≡ Some x)
-some_at [] n below = absurd (omega (arith, below))
-some_at (x ∷ xs) zero below = (x, refl)
-some_at (x ∷ xs) (suc n) below = some_at xs n (omega (arith, below))
-
 -- with more bodies behind them, entries and numbers mean the same
 whole_front : (held more : List Body) (e : Entry) → number_of e < length held → whole (held ++ more) e ≡ whole held e
 whole_front held more (Took reader n claims) below = let s = some_at held n below in let front = slice_get_front held more n s.0 s.1 in let here = s.1 in rw (front, here) refl
@@ -83,10 +65,6 @@ told_front held more (e ∷ entries) below =
     let rest = told_front held more entries (All-tail (λ e. number_of e < length held) e entries below) in
     rw (here, rest) refl
 
-pub told_push : (held : List Body) (entries : List Entry) (e : Entry) (t : Told) → whole held e ≡ Some t → told_by held (entries ++ e ∷ []) ≡ told_by held entries ++ t ∷ []
-unfolding told_by
-told_push held entries e t is = filter_map-append (whole held) entries (e ∷ []) ∙ rw is refl
-
 pub told_count : (held : List Body) (entries : List Entry) → All (λ e. number_of e < length held) entries → length (told_by held entries) ≡ length entries
 unfolding told_by
 told_count held [] below = refl
@@ -98,35 +76,6 @@ told_count held (e ∷ entries) below =
     there : (e : Entry) → number_of e < length held → (t : Told) × (whole held e ≡ Some t)
     there (Took reader n claims) below = let s = some_at held n below in let at = s.1 in (took reader s.0 claims, rw at refl)
     there (Heard reader n key sig verdict) below = let s = some_at held n below in let at = s.1 in (heard reader s.0 key sig verdict, rw at refl)
-
-pub chosen_front : (held more : List Body) (numbers : List ℕ) → All (λ n. n < length held) numbers → chosen (held ++ more) numbers ≡ chosen held numbers
-unfolding chosen
-chosen_front held more [] below = refl
-chosen_front held more (n ∷ numbers) below =
-    let s = some_at held n (All-head (λ n. n < length held) n numbers below) in
-    let front = slice_get_front held more n s.0 s.1 in let here = s.1 in
-    let rest = chosen_front held more numbers (All-tail (λ n. n < length held) n numbers below) in
-    rw (front, here, rest) refl
-
-pub chosen_push : (held : List Body) (numbers : List ℕ) (n : ℕ) (b : Body) → slice_get held n ≡ Some b → chosen held (numbers ++ n ∷ []) ≡ chosen held numbers ++ b ∷ []
-unfolding chosen
-chosen_push held numbers n b at = filter_map-append (λ n. slice_get held n) numbers (n ∷ []) ∙ rw at refl
-
--- what is chosen is held
-pub chosen_held : (held : List Body) (numbers : List ℕ) (b : Body) → is_in (chosen held numbers) b ≡ true → is_in held b ≡ true
-unfolding chosen
-chosen_held held [] b h = cc
-chosen_held held (n ∷ numbers) b h = at (slice_get held n) refl (chosen_held held numbers b)
-  where
-    at : (o : Option Body) → slice_get held n ≡ o → (is_in (filter_map (λ n. slice_get held n) numbers) b ≡ true → is_in held b ≡ true) → is_in held b ≡ true
-    at None e more = more (rw e at h)
-    at (Some c) e more = elim (or_cases (same_body c b) (is_in (filter_map (λ n. slice_get held n) numbers) b) (rw e at h)) [
-      | inl k ↦ any_at (λ c. same_body c b) held n c e k
-      | inr k ↦ more k
-    ]
-
-pub below_more : {X : Type 0} (f : X → ℕ) (xs : List X) (m n : ℕ) → m < n → All (λ x. f x < m) xs → All (λ x. f x < n) xs
-below_more f xs m n le all = λ k d h. omega (arith, le, all k d h)
 
 -- a body's event is its case's
 pub case_event : (bodies : List (List ℕ)) (cases : List Case) (n : ℕ) (b : Body) (c : Case) → slice_get (held_by bodies cases) n ≡ Some b → slice_get cases n ≡ Some c → b.event ≡ c.event

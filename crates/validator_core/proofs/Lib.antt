@@ -1,8 +1,6 @@
 pub mod Thin
 pub mod Raising
 pub mod Ready
-pub mod Same
-pub mod Places
 pub mod Settled
 pub mod Entries
 pub mod Sound

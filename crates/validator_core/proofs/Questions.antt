@@ -27,9 +27,9 @@ use Rattle.validator_core.specs.Cases.{Case}
 use Rattle.validator_core.specs.View.{IsHeld}
 use Rattle.validator_core.specs.Tables.{raised_with, asked_as, IsSound, IsCase, questions_from}
 use Rattle.validator_core.proofs.Entries.{names, raised_name, heard_raises, heard_verdict, other_triple, yes_is_verdict, or-false}
-use Rattle.validator_core.proofs.Places.{one_place}
+use Rattle.journal.proofs.Places.{one_place}
 use Rattle.validator_core.proofs.Raising.{own_are}
-use Rattle.validator_core.proofs.Same.{same_triple_is, same_triple_itself, turned, moves}
+use Rattle.journal.proofs.Same.{same_triple_is, same_triple_itself, turned, moves}
 use Rattle.validator_core.proofs.Settled.{held_differ}
 use Rattle.validator_core.proofs.Thin.{kinds}
 

@@ -14,8 +14,8 @@ use Rattle.journal.proofs.Distinct.{any-distinct}
 use Rattle.validator_core.specs.Cases.{Case}
 use Rattle.validator_core.specs.View.{told_of, HasRoom}
 use Rattle.validator_core.specs.Tables.{Tables, view_of, came, IsCase, IsCore, lacks_room}
-use Rattle.validator_core.proofs.Places.{any_at}
-use Rattle.validator_core.proofs.Same.{same_claim_is, same_claim_itself, turned, moves}
+use Rattle.journal.proofs.Places.{any_at}
+use Rattle.journal.proofs.Same.{same_claim_is, same_claim_itself, turned, moves}
 
 module _ (t : Tables) (fits : IsCore t) where
   abbrev told : List Told

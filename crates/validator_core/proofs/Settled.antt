@@ -23,9 +23,9 @@ use Rattle.journal.proofs.One.{settled_one}
 use Rattle.journal.proofs.StateSteps.{state-own}
 use Rattle.validator_core.specs.View.{IsHeld}
 use Rattle.validator_core.specs.Tables.{HasNoHeld, IsAsked, IsSound}
-use Rattle.validator_core.proofs.Places.{all_at, one_body}
+use Rattle.journal.proofs.Places.{all_at, one_body}
 use Rattle.validator_core.proofs.Ready.{ready_is, is_due, has_yes}
-use Rattle.validator_core.proofs.Same.{same_prefix_itself}
+use Rattle.journal.proofs.Same.{same_prefix_itself}
 use Rattle.validator_core.proofs.Thin.{kinds}
 
 -- what is due with one more accepted was due before

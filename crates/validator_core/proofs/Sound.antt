@@ -28,10 +28,10 @@ use Rattle.journal.proofs.Keeping.{split_push}
 use Rattle.validator_core.specs.View.{IsHeld}
 use Rattle.validator_core.specs.Tables.{came, raised_with, HasNoHeld, IsAsked, IsSound}
 use Rattle.validator_core.proofs.Entries.{push, or-false, took_verdict, took_yes_not, took_yes_same, raised_push, heard_verdict, heard_raises, heard_yes, heard_yes_not, any_alike, raised_name}
-use Rattle.validator_core.proofs.Places.{all_at, any_at, found_at, one_place, one_body, slice_get_last, slice_get_before}
+use Rattle.journal.proofs.Places.{all_at, any_at, found_at, one_place, one_body, slice_get_last, slice_get_before}
 use Rattle.validator_core.proofs.Raising.{receipt_raises}
 use Rattle.validator_core.proofs.Ready.{ready_is, is_due, has_yes}
-use Rattle.validator_core.proofs.Same.{same_triple_is, same_triple_itself}
+use Rattle.journal.proofs.Same.{same_triple_is, same_triple_itself}
 use Rattle.validator_core.proofs.Settled.{held_differ, waits, joins}
 use Rattle.validator_core.proofs.Thin.{kinds}
 

@@ -12,7 +12,7 @@ use Rattle.key_state.specs.KeyStates.{IsCauseIn}
 use Rattle.journal.specs.declared.body.Body.{Body}
 use Rattle.validator_core.specs.View.{CoreView, IsHeld, state_of}
 use Rattle.validator_core.specs.Tables.{Begins}
-use Rattle.validator_core.proofs.Places.{all_at}
+use Rattle.journal.proofs.Places.{all_at}
 use Rattle.validator_core.proofs.Thin.{kinds}
 use Rattle.validator_core.proofs.validator.Core.begun.Goals as goal
 

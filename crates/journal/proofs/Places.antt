@@ -1,5 +1,5 @@
 -- Places in lists.
-use Rattle.std.proofs.Common.{◌≡◌, ℕ, zero, suc, Bool, true, not, List, [], ◌∷◌, ◌++◌, Some, refl, sym, ◌∙◌, ap, inl, inr}
+use Rattle.std.proofs.Common.{◌≡◌, ℕ, zero, suc, ◌<◌, Bool, true, not, List, [], ◌∷◌, ◌++◌, Some, refl, sym, ◌∙◌, ap, inl, inr, set, arith}
 use Rattle.std.specs.Prelude.{All, slice_get, length}
 use Rattle.std.specs.List.{list_any, list_all}
 use Rattle.std.specs.Cmp.Lexicographic.{bytes_decides}
@@ -65,3 +65,24 @@ pub slice_get_front : {X : Type 0} (xs ys : List X) (m : ℕ) (y : X) → slice_
 slice_get_front [] ys m y e = cc
 slice_get_front (z ∷ xs) ys zero y e = e
 slice_get_front (z ∷ xs) ys (suc m) y e = slice_get_front xs ys m y e
+
+pub set_here : {X : Type 0} (xs : List X) (n : ℕ) (x y : X) → slice_get xs n ≡ Some x → slice_get (set xs n y) n ≡ Some y
+set_here [] n x y at = cc
+set_here (z ∷ xs) zero x y at = refl
+set_here (z ∷ xs) (suc n) x y at = set_here xs n x y at
+
+pub set_there : {X : Type 0} (xs : List X) (n m : ℕ) (y : X) → (m ≡ n → ⊥) → slice_get (set xs n y) m ≡ slice_get xs m
+set_there [] n m y other = refl
+set_there (z ∷ xs) zero zero y other = absurd (other refl)
+set_there (z ∷ xs) zero (suc m) y other = refl
+set_there (z ∷ xs) (suc n) zero y other = refl
+set_there (z ∷ xs) (suc n) (suc m) y other = set_there xs n m y (λ e. other (ap (λ k. suc k) e))
+
+-- there is one at each place below the length
+pub some_at : {X : Type 0} (xs : List X) (n : ℕ) → n < length xs → (x : X) × (slice_get xs n ≡ Some x)
+some_at [] n below = absurd (omega (arith, below))
+some_at (x ∷ xs) zero below = (x, refl)
+some_at (x ∷ xs) (suc n) below = some_at xs n (omega (arith, below))
+
+pub below_more : {X : Type 0} (f : X → ℕ) (xs : List X) (m n : ℕ) → m < n → All (λ x. f x < m) xs → All (λ x. f x < n) xs
+below_more f xs m n le all = λ k d h. omega (arith, le, all k d h)
