@@ -1,8 +1,8 @@
 -- Elements at their first coming, of lists that have nothing in common.
 use Rattle.std.proofs.Common.{◌≡◌, Bool, true, not, List, [], ◌∷◌, ◌++◌, refl, ◌∙◌, ap}
-use Rattle.std.specs.Prelude.{filter, flat_map}
+use Rattle.std.specs.Prelude.{filter, flat_map, All}
 use Rattle.std.specs.List.{list_all}
-use Rattle.std.proofs.lemmas.List.Elements.{filter-append}
+use Rattle.std.proofs.lemmas.List.Elements.{filter-append, All-head, All-tail}
 use Rattle.std.proofs.lemmas.Bool.{and_parts}
 use Rattle.key_state.specs.Same.{distinct}
 use Rattle.journal.proofs.Keeping.{list_all-distinct}
@@ -16,6 +16,14 @@ filter-all q (x ∷ xs) h = let parts = and_parts (q x) (list_all q xs) h in let
 pub filter-flat_map : {X B : Type 0} (q : X → Bool) (f : B → List X) (bs : List B) → filter q (flat_map f bs) ≡ flat_map (λ b. filter q (f b)) bs
 filter-flat_map q f [] = refl
 filter-flat_map q f (b ∷ bs) = filter-append q (f b) (flat_map f bs) ∙ ap (λ ys. filter q (f b) ++ ys) (filter-flat_map q f bs)
+
+-- what is equal for each element makes one list
+pub flat_map-All : {X B : Type 0} (f g : X → List B) (xs : List X) → All (λ x. f x ≡ g x) xs → flat_map f xs ≡ flat_map g xs
+flat_map-All f g [] h = refl
+flat_map-All f g (x ∷ xs) h =
+    let here = All-head (λ y. f y ≡ g y) x xs h in
+    let behind = flat_map-All f g xs (All-tail (λ y. f y ≡ g y) x xs h) in
+    λ i. here i ++ behind i
 
 module _ {X : Type 0} (same : X → X → Bool) where
   -- no element of the one is the same as one of the other

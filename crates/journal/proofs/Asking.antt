@@ -1,9 +1,11 @@
 -- Questions of journals whose bodies are inceptions and receipts, body by body.
-use Rattle.std.proofs.Common.{◌≡◌, ℕ, ◌⊎◌, Bool, true, false, not, ◌&&◌, List, [], ◌∷◌, ◌++◌, Some, None, refl, ◌∙◌, ap, inl, inr, if◌then◌else◌}
+use Rattle.std.proofs.Common.{◌≡◌, ℕ, ◌⊎◌, true, false, not, List, [], ◌∷◌, ◌++◌, Some, None, refl, ◌∙◌, ap, inl, inr, if◌then◌else◌}
 use Rattle.std.specs.Prelude.{filter, filter_map, flat_map, find, bytes_eq}
 use Rattle.std.specs.List.{list_all}
 use Rattle.std.specs.Cmp.Lexicographic.{bytes_decides}
 use Rattle.std.proofs.lemmas.Bool.{cases_Bool, and_from, and_parts, not-true}
+use Rattle.std.proofs.Math.Bool.{and-false}
+use Rattle.std.proofs.lemmas.List.Folds.{list_all-append}
 use Rattle.event_body.specs.declared.event.Event.TheVariants.{Rct}
 use Rattle.event_body.specs.declared.inception.Inception.{Inception}
 use Rattle.event_body.specs.declared.receipt_body.ReceiptBody.{ReceiptBody}
@@ -34,10 +36,6 @@ no_predecessor : (log : List Body) (bytes : List ℕ) (r : ReceiptBody) → find
 no_predecessor [] bytes r = refl
 no_predecessor (c ∷ log) bytes r = rw (fails c) (no_predecessor log bytes r)
   where
-    and-false : (p : Bool) → (p && false) ≡ false
-    and-false true = refl
-    and-false false = refl
-
     fails : (c : Body) → precedes (record { bytes = bytes; event = Rct r }) c ≡ false
     fails c = and-false _
 
@@ -46,7 +44,7 @@ unfolding raised_by stands predecessor
 raised-receipt told log bytes r = let none = no_predecessor log bytes r in rw none refl
 
 -- each triple of a body names it
-all_of : (rules : Rules) (b : Body) (claims : List Claim) → list_all (λ t. bytes_eq t.body b.bytes) (filter_map (triple_of rules b) claims) ≡ true
+pub all_of : (rules : Rules) (b : Body) (claims : List Claim) → list_all (λ t. bytes_eq t.body b.bytes) (filter_map (triple_of rules b) claims) ≡ true
 all_of rules b [] = refl
 all_of rules b (c ∷ claims) = elim (claimed_key rules c) as (λ k. claimed_key rules c ≡ k → list_all (λ t. bytes_eq t.body b.bytes) (filter_map (triple_of rules b) (c ∷ claims)) ≡ true) [
   | None ↦ (λ e. rw e (all_of rules b claims))
@@ -95,16 +93,12 @@ own_of told b = elim (cases_Bool (is_receipt b.event)) [
   | inr k ↦ rw k (all_of (own_rules None b.event) b (claims_on told b))
 ]
 
-all_append : (q : Triple → Bool) (xs ys : List Triple) → list_all q xs ≡ true → list_all q ys ≡ true → list_all q (xs ++ ys) ≡ true
-all_append q [] ys h k = k
-all_append q (x ∷ xs) ys h k = let parts = and_parts (q x) (list_all q xs) h in and_from _ _ parts.0 (all_append q xs ys parts.1 k)
-
 apart_append : (xs ys zs : List Triple) → Apart same_triple xs ys → Apart same_triple xs zs → Apart same_triple xs (ys ++ zs)
 apart_append [] ys zs h k = refl
 apart_append (x ∷ xs) ys zs h k =
     let here = and_parts (list_all (λ y. not (same_triple x y)) ys) _ h in
     let there = and_parts (list_all (λ y. not (same_triple x y)) zs) _ k in
-    and_from _ _ (all_append (λ y. not (same_triple x y)) ys zs here.0 there.0) (apart_append xs ys zs here.1 there.1)
+    and_from _ _ (list_all-append (λ y. not (same_triple x y)) ys zs ∙ and_from _ _ here.0 there.0) (apart_append xs ys zs here.1 there.1)
 
 apart_nothing : (xs : List Triple) → Apart same_triple xs []
 apart_nothing [] = refl

@@ -1,10 +1,16 @@
 -- The elements at their first coming differ from each other.
-use Rattle.std.proofs.Common.{◌≡◌, Bool, true, not, List, [], ◌∷◌, refl, inl, inr}
+use Rattle.std.proofs.Common.{◌≡◌, Bool, true, not, List, [], ◌∷◌, inl, inr}
 use Rattle.std.specs.Prelude.{filter}
 use Rattle.std.specs.List.{list_all}
-use Rattle.std.proofs.lemmas.Bool.{cases_Bool, and_from}
+use Rattle.std.proofs.lemmas.Bool.{cases_Bool}
+use Rattle.std.proofs.lemmas.List.Elements.{filter_passes}
+use Rattle.std.proofs.lemmas.List.Sums.{list_all-from_AllPass}
 use Rattle.key_state.specs.Same.{distinct}
 use Rattle.journal.proofs.Keeping.{list_all-filter}
+
+-- what a test leaves passes it
+pub all-filter : {X : Type 0} (q : X → Bool) (xs : List X) → list_all q (filter q xs) ≡ true
+all-filter q xs = list_all-from_AllPass q (filter q xs) (filter_passes q xs)
 
 module _ {X : Type 0} (same : X → X → Bool) where
   -- no element is the same as one behind it
@@ -19,14 +25,7 @@ module _ {X : Type 0} (same : X → X → Bool) where
     | inr k ↦ rw k (differ-filter q xs d.1)
   ]
 
-  passes : (q : X → Bool) (xs : List X) → list_all q (filter q xs) ≡ true
-  passes q [] = refl
-  passes q (x ∷ xs) = elim (cases_Bool (q x)) [
-    | inl k ↦ rw k (and_from (q x) _ k (passes q xs))
-    | inr k ↦ rw k (passes q xs)
-  ]
-
   pub differ-distinct : (xs : List X) → Differ (distinct same xs)
   unfolding distinct
   differ-distinct [] = tt
-  differ-distinct (x ∷ xs) = (passes (λ y. not (same x y)) (distinct same xs), differ-filter (λ y. not (same x y)) (distinct same xs) (differ-distinct xs))
+  differ-distinct (x ∷ xs) = (all-filter (λ y. not (same x y)) (distinct same xs), differ-filter (λ y. not (same x y)) (distinct same xs) (differ-distinct xs))

@@ -1,10 +1,12 @@
 -- Each element at its first coming: what one more element adds.
-use Rattle.std.proofs.Common.{◌≡◌, Bool, true, false, not, List, [], ◌∷◌, ◌++◌, refl, sym, ◌∙◌, ap, inl, inr, append-nil}
-use Rattle.std.specs.Prelude.{filter, bytes_eq}
+use Rattle.std.proofs.Common.{◌≡◌, Bool, true, false, not, List, [], ◌∷◌, ◌++◌, refl, sym, ◌∙◌, ap, inl, inr, append-nil, ◌≤◌, length, arith}
+use Rattle.std.specs.Prelude.{filter, bytes_eq, flat_map}
 use Rattle.std.specs.List.{list_any}
 use Rattle.std.specs.Cmp.Lexicographic.{bytes_decides}
 use Rattle.std.proofs.lemmas.List.Elements.{filter-append}
 use Rattle.std.proofs.lemmas.Bool.{cases_Bool, or_parts, or_cases}
+use Rattle.std.proofs.lemmas.List.Filters.{length-filter_both}
+use Rattle.journal.specs.History.{Told, taken, bodies}
 use Rattle.key_state.specs.Same.{distinct}
 use Rattle.journal.specs.Logs.{Body, same_body}
 
@@ -50,3 +52,14 @@ module _ {X : Type 0} (same : X → X → Bool) where
 -- bodies of the same bytes are the same as any third alike
 pub same_body-moves : (x y z : Body) → same_body y z ≡ true → same_body z x ≡ same_body y x
 same_body-moves x y z h = ap (λ b. bytes_eq b x.bytes) (sym ((bytes_decides y.bytes z.bytes).0 h))
+
+-- first comings are no more than all
+distinct_shorter : {X : Type 0} (same : X → X → Bool) (xs : List X) → length (distinct same xs) ≤ length xs
+unfolding distinct
+distinct_shorter same [] = omega arith
+distinct_shorter same (x ∷ xs) =
+    omega (arith, length-filter_both (λ y. not (same x y)) (λ y. not (not (same x y))) (λ y. refl) (distinct same xs), distinct_shorter same xs)
+
+pub bodies_shorter : (told : List Told) → length (bodies [] told) ≤ length (flat_map taken told)
+unfolding bodies
+bodies_shorter told = distinct_shorter same_body (flat_map taken told)

@@ -1,8 +1,8 @@
 -- Inceptions that are neither delegated nor want receipts: when they are ready, and that they are ready no more once one
 -- of their identifier is accepted.
-use Rattle.std.proofs.Common.{◌≡◌, ℕ, Bool, true, false, not, ◌&&◌, ◌||◌, List, [], ◌∷◌, ◌++◌, Option, Some, None, is_none, refl, sym, ◌∙◌, ap, arith, inl, inr}
-use Rattle.std.proofs.lemmas.List.Folds.{list_any-append}
-use Rattle.std.proofs.lemmas.Bool.{cases_Bool, and_parts, and_from, or_parts, not-true, not_from_false, le-leb}
+use Rattle.std.proofs.Common.{◌≡◌, ℕ, true, false, not, ◌&&◌, ◌||◌, List, [], ◌∷◌, ◌++◌, Option, Some, None, is_none, refl, sym, ◌∙◌, ap, arith, inl, inr}
+use Rattle.std.proofs.lemmas.Bool.{cases_Bool, and_parts, and_from, le-leb}
+use Rattle.std.proofs.Math.Bool.{and-true}
 use Rattle.cesr_codes.specs.declared.prefix.Prefix.{Prefix}
 use Rattle.event_body.specs.declared.event.Event.{Event}
 use Rattle.event_body.specs.declared.event.Event.TheVariants.{Icp}
@@ -16,6 +16,7 @@ use Rattle.journal.specs.Seals.{anchored}
 use Rattle.journal.specs.History.{Told}
 use Rattle.journal.specs.Readiness.{is_ready, is_local, is_backed, meets_own, signed, good_sigs}
 use Rattle.journal.proofs.StateSteps.{state-own, state-other}
+use Rattle.journal.proofs.Settling.{outside}
 
 -- the body of an inception
 abbrev pub inception : List ℕ → Inception → Body
@@ -26,10 +27,6 @@ takes-inception : (s : Option State) (e : Inception) → takes s (Icp e) ≡ is_
 unfolding misfit
 takes-inception None e = refl
 takes-inception (Some s) e = refl
-
-and-true : (p : Bool) → (p && true) ≡ p
-and-true true = refl
-and-true false = refl
 
 -- READY: it isn't accepted, its identifier has no state, and its own threshold is met
 module _ (mode : Mode) (told : List Told) (log : List Body) (bytes : List ℕ) (e : Inception) (h : e.toad ≡ 0) where
@@ -62,6 +59,9 @@ state_stays log c prefix h = elim (cases_Bool (is_of prefix c)) [
   | inr k ↦ rw (state-other log c prefix k) h
 ]
 
+pub no_state_before : (log : List Body) (c : Body) (prefix : Prefix) → is_none (state (log ++ c ∷ []) prefix) ≡ true → is_none (state log prefix) ≡ true
+no_state_before log c prefix k = elim (cases_Bool (is_none (state log prefix))) [ inl n ↦ n | inr n ↦ (let stays = state_stays log c prefix n in cc) ]
+
 -- READY BEFORE: what is ready with one more body accepted was ready without it
 pub ready_before : (mode : Mode) (told : List Told) (log : List Body) (c : Body) (bytes : List ℕ) (e : Inception) → e.toad ≡ 0
     → is_ready mode told (log ++ c ∷ []) (inception bytes e) ≡ true → is_ready mode told log (inception bytes e) ≡ true
@@ -70,10 +70,4 @@ ready_before mode told log c bytes e h ready =
     let now : (not (is_in (log ++ c ∷ []) b) && (is_none (state (log ++ c ∷ []) e.prefix) && meets_own told None b)) ≡ true = sym (ready-inception mode told (log ++ c ∷ []) bytes e h) ∙ ready in
     let parts = and_parts (not (is_in (log ++ c ∷ []) b)) _ now in
     let under = and_parts (is_none (state (log ++ c ∷ []) e.prefix)) (meets_own told None b) parts.1 in
-    ready-inception mode told log bytes e h ∙ and_from _ _ (new b parts.0) (and_from _ _ (first under.0) under.1)
-  where
-    new : (b : Body) → not (is_in (log ++ c ∷ []) b) ≡ true → not (is_in log b) ≡ true
-    new b k = let none = rw (list_any-append (λ d. same_body d b) log (c ∷ [])) at (not-true _ k) in not_from_false _ (or_parts _ _ none).0
-
-    first : is_none (state (log ++ c ∷ []) e.prefix) ≡ true → is_none (state log e.prefix) ≡ true
-    first k = elim (cases_Bool (is_none (state log e.prefix))) [ inl n ↦ n | inr n ↦ (let stays = state_stays log c e.prefix n in cc) ]
+    ready-inception mode told log bytes e h ∙ and_from _ _ (outside (λ d. same_body d b) log (c ∷ []) parts.0) (and_from _ _ (no_state_before log c e.prefix under.0) under.1)

@@ -1,10 +1,12 @@
 -- What an entry changes: the readiness of the bodies that it concerns alone.
-use Rattle.std.proofs.Common.{◌≡◌, ℕ, Bool, true, false, ◌&&◌, ◌||◌, List, [], ◌∷◌, ◌++◌, Option, Some, None, refl, sym, ◌∙◌, ap, append-nil, append_assoc, option_map, inl, inr}
+use Rattle.std.proofs.Common.{◌≡◌, ℕ, Bool, true, false, ◌&&◌, ◌||◌, List, [], ◌∷◌, ◌++◌, Option, Some, None, refl, sym, ◌∙◌, ap, append-nil, option_map, inl, inr}
 use Rattle.std.specs.Prelude.{filter, filter_map, flat_map, bytes_eq}
 use Rattle.std.specs.List.{list_any}
 use Rattle.std.specs.Cmp.Lexicographic.{bytes_decides}
 use Rattle.std.proofs.lemmas.List.Folds.{list_any-append}
 use Rattle.std.proofs.lemmas.Bool.{cases_Bool}
+use Rattle.std.proofs.Math.Bool.{or-false}
+use Rattle.std.proofs.lemmas.List.{flat_map_more}
 use Rattle.cesr_codes.specs.declared.key.Key.{Key}
 use Rattle.cesr_codes.specs.declared.sig.Sig.{Sig}
 use Rattle.key_state.specs.States.{State}
@@ -22,13 +24,12 @@ abbrev pub concerns : Told → Body → Bool
 concerns (took reader c claims) b = same_body c b || is_receipt_for c b
 concerns (heard reader c key sig verdict) b = same_body c b
 
-flat_map-push : {A B : Type 0} (f : A → List B) (xs : List A) (x : A) → flat_map f (xs ++ x ∷ []) ≡ flat_map f xs ++ f x
-flat_map-push f [] x = append-nil (f x)
-flat_map-push f (y ∷ xs) x = ap (λ r. f y ++ r) (flat_map-push f xs x) ∙ sym (append_assoc (f y) (flat_map f xs) (f x))
+pub flat_map-push : {A B : Type 0} (f : A → List B) (xs : List A) (x : A) → flat_map f (xs ++ x ∷ []) ≡ flat_map f xs ++ f x
+flat_map-push f xs x = sym (flat_map_more f [] xs x)
 
 -- texts that differ, differ the other way round
-bytes_eq-sym : (xs ys : List ℕ) → bytes_eq xs ys ≡ false → bytes_eq ys xs ≡ false
-bytes_eq-sym xs ys h = elim (cases_Bool (bytes_eq ys xs)) [
+pub bytes_differ : (xs ys : List ℕ) → bytes_eq xs ys ≡ false → bytes_eq ys xs ≡ false
+bytes_differ xs ys h = elim (cases_Bool (bytes_eq ys xs)) [
   | inl k ↦ (let same : ys ≡ xs = (bytes_decides ys xs).0 k in let back = (bytes_decides xs ys).1 (sym same) in cc)
   | inr k ↦ k
 ]
@@ -37,14 +38,10 @@ bytes_eq-sym xs ys h = elim (cases_Bool (bytes_eq ys xs)) [
 abbrev triple_on : Body → Key → Sig → Triple
 triple_on b key sig = record { body = b.bytes; key = key; sig = sig }
 
-or-false : (p : Bool) → (p || false) ≡ p
-or-false true = refl
-or-false false = refl
-
 -- a verdict on another body is none on this one
 none : (t : Told) (b : Body) → concerns t b ≡ false → (key : Key) (sig : Sig) → list_any (same_triple (triple_on b key sig)) (yes_in t) ≡ false
 none (took reader c claims) b h key sig = refl
-none (heard reader c key' sig' true) b h key sig = let other = bytes_eq-sym c.bytes b.bytes h in rw other refl
+none (heard reader c key' sig' true) b h key sig = let other = bytes_differ c.bytes b.bytes h in rw other refl
 none (heard reader c key' sig' false) b h key sig = refl
 
 none_back : (t : Told) (b : Body) → concerns t b ≡ false → (w : Key) → list_any (λ y. bytes_eq y.body b.bytes && same_key y.key w) (yes_in t) ≡ false

@@ -1,18 +1,16 @@
 -- Places in lists.
-use Rattle.std.proofs.Common.{◌≡◌, ℕ, zero, suc, ◌<◌, Bool, true, not, List, [], ◌∷◌, ◌++◌, Some, refl, sym, ◌∙◌, ap, inl, inr, set, arith}
+use Rattle.std.proofs.Common.{◌≡◌, ℕ, zero, suc, ◌<◌, Bool, true, false, not, List, [], ◌∷◌, ◌++◌, Some, refl, sym, ◌∙◌, ap, inl, inr, set, arith, subst}
 use Rattle.std.specs.Prelude.{All, slice_get, length}
 use Rattle.std.specs.List.{list_any, list_all}
 use Rattle.std.specs.Cmp.Lexicographic.{bytes_decides}
-use Rattle.std.proofs.lemmas.Bool.{and_parts, or_cases, or_left, or_right}
-use Rattle.std.proofs.lemmas.List.Elements.{All-head, All-tail}
+use Rattle.std.proofs.lemmas.Bool.{and_parts, or_cases, or_left, or_right, cases_Bool}
+use Rattle.std.proofs.lemmas.Option.{get_or_from_slice_get, slice_get_within}
 use Rattle.journal.specs.declared.body.Body.{Body}
 use Rattle.journal.specs.Logs.{same_body}
 use Rattle.journal.proofs.Different.{Differ}
 
 pub all_at : {X : Type 0} (P : X → Type 0) (xs : List X) → All P xs → (n : ℕ) (x : X) → slice_get xs n ≡ Some x → P x
-all_at P [] all n x at = cc
-all_at P (y ∷ xs) all zero x at = let e : y ≡ x = cc in rw (← e) (All-head P y xs all)
-all_at P (y ∷ xs) all (suc n) x at = all_at P xs (All-tail P y xs all) n x at
+all_at P xs all n x at = subst P (get_or_from_slice_get xs n x x at) (all n x (slice_get_within xs n x at))
 
 pub test_at : {X : Type 0} (q : X → Bool) (xs : List X) → list_all q xs ≡ true → (n : ℕ) (x : X) → slice_get xs n ≡ Some x → q x ≡ true
 test_at q [] all n x at = cc
@@ -49,6 +47,13 @@ pub one_body : (held : List Body) → Differ same_body held → (m n : ℕ) (b c
 one_body held d m n b c at_b at_c same =
     let one = one_place held d m n b c at_b at_c same in
     let there : Some b ≡ Some c = sym at_b ∙ ap (slice_get held) one ∙ at_c in cc
+
+pub others_differ : (held : List Body) → Differ same_body held → (n : ℕ) (b : Body) → slice_get held n ≡ Some b
+    → (m : ℕ) (c : Body) → (m ≡ n → ⊥) → slice_get held m ≡ Some c → same_body b c ≡ false
+others_differ held d n b at m c other e = elim (cases_Bool (same_body b c)) [
+  | inr k ↦ k
+  | inl k ↦ absurd (other (one_place held d m n c b e at (sym ((bytes_decides b.bytes c.bytes).0 k))))
+]
 
 -- the last place, and those before it
 pub slice_get_last : {X : Type 0} (xs : List X) (x : X) → slice_get (xs ++ x ∷ []) (length xs) ≡ Some x

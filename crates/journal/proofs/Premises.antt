@@ -1,6 +1,7 @@
 -- What laws and contracts ask of lists and journals can be met, and can be broken.
 use Rattle.std.proofs.Common.{◌≡◌, ◌<◌, true, false, [], ◌∷◌, refl, arith}
 use Rattle.std.proofs.lemmas.List.Elements.{All-nil, All-head}
+use Rattle.journal.specs.declared.mode.Mode.{Mode}
 use Rattle.key_state.specs.KeyStates.{misfit}
 use Rattle.key_state.specs.Same.{distinct}
 use Rattle.keri_outside.specs.declared.limits.Limits.{Limits}
@@ -16,7 +17,7 @@ use Rattle.journal.proofs.Keeping.{IsGrown-push}
 use Rattle.journal.proofs.Rows.{icp, ixn, yes_on}
 
 -- a log is grown, and a list without its inception isn't
-nothing_grown : IsGrown []
+pub nothing_grown : IsGrown []
 nothing_grown [] later b e = cc
 nothing_grown (c ∷ before) later b e = cc
 
@@ -29,9 +30,9 @@ unfolding fits state
 headless grown = let fails : false ≡ true = grown [] [] (ixn 1 11 0) refl in cc
 
 -- a journal without verdicts is regular, and one whose verdict nobody asked for isn't
-regular_nothing : IsRegular Full [] []
-regular_nothing [] later reader b key sig verdict e = cc
-regular_nothing (t ∷ earlier) later reader b key sig verdict e = cc
+pub regular_nothing : (mode : Mode) → IsRegular mode [] []
+regular_nothing mode [] later reader b key sig verdict e = cc
+regular_nothing mode (t ∷ earlier) later reader b key sig verdict e = cc
 
 unasked : IsRegular Full [] (yes_on icp ∷ []) → ⊥
 unfolding questions raised accepted grown_by bodies distinct

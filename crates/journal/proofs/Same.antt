@@ -1,5 +1,5 @@
 -- The tests of equality decide equality.
-use Rattle.std.proofs.Common.{◌≡◌, ℕ, Bool, true, false, ◌&&◌, not, Option, Some, None, refl, ap, sym, ◌∙◌, inl, inr, if◌then◌else◌, arith}
+use Rattle.std.proofs.Common.{◌≡◌, ℕ, Bool, true, false, List, ◌&&◌, not, Option, Some, None, refl, ap, sym, ◌∙◌, inl, inr, if◌then◌else◌, arith}
 use Rattle.std.specs.Prelude.{bytes_eq, ◌==◌}
 use Rattle.std.specs.Cmp.Lexicographic.{bytes_decides}
 use Rattle.std.proofs.lemmas.Bool.Decides.{Decides-eqb}
@@ -16,6 +16,7 @@ use Rattle.cesr_codes.specs.declared.sig.Sig.{Sig}
 use Rattle.key_state.specs.Same.{same_key, same_sig, same_prefix}
 use Rattle.std.specs.Option.{option_eq}
 use Rattle.std.proofs.Math.Bool.{Bool-set}
+use Rattle.std.specs.List.{list_any}
 use mathlib.Core.HLevel.{is_prop→PathP}
 use Rattle.cesr_codes.specs.Indices.{has_form}
 use Rattle.cesr_codes.specs.declared.indexed_sig.IndexedSig.{IndexedSig}
@@ -149,6 +150,9 @@ module _ {X : Type 0} (same : X → X → Bool) (is : (x y : X) → same x y ≡
       | inr l ↦ k ∙ sym l
     ]
   ]
+
+  pub any_turned : (x : X) (xs : List X) → list_any (λ y. same y x) xs ≡ list_any (same x) xs
+  any_turned x xs = λ i. list_any (λ y. turned y x i) xs
 
   pub moves : (x y z : X) → same y z ≡ true → same z x ≡ same y x
   moves x y z h = ap (λ w. same w x) (sym (is y z h))

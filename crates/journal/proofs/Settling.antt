@@ -30,11 +30,11 @@ count-falls {B = B} test p q less (x ∷ xs) b e here gone = rw (sum_by-cons, su
     step y = elim (cases_Bool (q y)) [ inl h ↦ (let k = less y h in rw (h, k) (omega arith)) | inr h ↦ rw h (omega arith) ]
 
 -- what isn't in a longer list isn't in the shorter
-outside : {B : Type 0} (p : B → Bool) (xs ys : List B) → not (list_any p (xs ++ ys)) ≡ true → not (list_any p xs) ≡ true
+pub outside : {B : Type 0} (p : B → Bool) (xs ys : List B) → not (list_any p (xs ++ ys)) ≡ true → not (list_any p xs) ≡ true
 outside p xs ys h = let none = rw (list_any-append p xs ys) at (not-true _ h) in not_from_false _ (or_parts _ _ none).0
 
 -- the last one is in the list
-ends_in : {B : Type 0} (same : B → B → Bool) (log : List B) (b : B) → same b b ≡ true → list_any (λ c. same c b) (log ++ b ∷ []) ≡ true
+pub ends_in : {B : Type 0} (same : B → B → Bool) (log : List B) (b : B) → same b b ≡ true → list_any (λ c. same c b) (log ++ b ∷ []) ≡ true
 ends_in same log b h = rw list_any-append (or_right _ _ (or_left _ _ h))
 
 module _ {B : Type 0} (ready : List B → B → Bool) (bodies : List B) where

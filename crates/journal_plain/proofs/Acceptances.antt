@@ -12,8 +12,9 @@ use Rattle.journal.specs.Journals.{whole, told_by}
 use Rattle.journal.proofs.Settling.{settled_rest}
 use Rattle.journal.proofs.Accepting.{accepted-push}
 use Rattle.journal.proofs.Keeping.{accepted_ends}
+use Rattle.journal.proofs.Held.{told_push}
 use Rattle.journal_plain.specs.Scans.{is_next}
-use Rattle.journal_plain.proofs.Entries.{take-next, told_by-append, told_by-none, told_by-some}
+use Rattle.journal_plain.proofs.Entries.{take-next, told_by-append, told_by-none}
 use Rattle.journal_plain.proofs.Rounds.{settled-scan}
 
 module _ (mode : Mode) (held : List Body) where
@@ -27,7 +28,7 @@ module _ (mode : Mode) (held : List Body) where
       ≡ accepted mode [] (told_by held (earlier ++ e ∷ []))) [
         | None ↦ (λ n. let same : told_by held (earlier ++ e ∷ []) ≡ told = now ∙ ap (λ t. told ++ t) (told_by-none held e n) ∙ append-nil told in
             rw same (settled_rest (is_ready mode told) (bodies [] told) (length (bodies [] told)) (accepted mode [] told) (accepted_ends mode [] told)))
-        | Some t ↦ (λ s. let more : told_by held (earlier ++ e ∷ []) ≡ told ++ t ∷ [] = now ∙ ap (λ t. told ++ t) (told_by-some held e t s) in
+        | Some t ↦ (λ s. let more : told_by held (earlier ++ e ∷ []) ≡ told ++ t ∷ [] = told_push held earlier e t s in
             rw more (sym (accepted-push mode [] told t)))
       ] refl
 

@@ -1,20 +1,18 @@
 -- Questions that name triples, and what inceptions and receipts raise.
-use Rattle.std.proofs.Common.{◌≡◌, ℕ, ◌+◌, ◌<◌, Bool, true, false, not, ◌&&◌, ◌==◌, List, [], ◌∷◌, ◌++◌, length, take, get_or, Some, None, refl, sym, ◌∙◌, ap, subst, inl, inr, append-nil, All}
-use Rattle.std.specs.Prelude.{filter, filter_map, flat_map, map, option_map, bytes_eq}
+use Rattle.std.proofs.Common.{◌≡◌, ℕ, ◌+◌, ◌<◌, Bool, true, false, not, List, [], ◌∷◌, ◌++◌, length, take, get_or, Some, None, refl, sym, ◌∙◌, ap, subst, inl, inr, append-nil, All}
+use Rattle.std.specs.Prelude.{filter, filter_map, flat_map, map, option_map}
 use Rattle.std.specs.List.{list_any}
-use Rattle.std.specs.Cmp.Lexicographic.{bytes_decides}
 use Rattle.std.proofs.lemmas.List.{take_more, map-append}
-use Rattle.std.proofs.lemmas.List.Elements.{filter_map-append, All-head, All-tail}
+use Rattle.std.proofs.lemmas.List.Elements.{filter_map-append}
 use Rattle.std.proofs.lemmas.Grind.{flat_map-append}
-use Rattle.std.proofs.lemmas.Bool.{cases_Bool, and_parts, eqb-true}
+use Rattle.std.proofs.lemmas.Bool.{cases_Bool}
 use Rattle.event_body.specs.declared.event.Event.{Event}
 use Rattle.event_body.specs.declared.event.Event.TheVariants.{Icp, Rct}
 use Rattle.event_body.specs.declared.inception.Inception.{Inception}
 use Rattle.event_body.specs.declared.receipt_body.ReceiptBody.{ReceiptBody}
 use Rattle.cesr_codes.specs.declared.key.Key.{Key}
 use Rattle.cesr_codes.specs.declared.sig.Sig.{Sig}
-use Rattle.cesr_codes.specs.Spelling.{key_code}
-use Rattle.key_state.specs.Same.{same_key, same_sig, distinct}
+use Rattle.key_state.specs.Same.{distinct}
 use Rattle.key_state.specs.Exposure.{Rules, own_rules}
 use Rattle.journal.specs.declared.body.Body.{Body}
 use Rattle.journal.specs.declared.claim.Claim.{Claim}
@@ -26,24 +24,11 @@ use Rattle.journal.specs.Questions.{raised_by, raised, questions}
 use Rattle.journal.specs.Journals.{asked}
 use Rattle.journal.proofs.Asking.{triples_on, raised-inception, raised-receipt}
 use Rattle.journal.proofs.Distinct.{distinct-push_new, distinct-push_old, any-distinct}
+use Rattle.journal.proofs.Same.{same_triple_is, same_triple_itself, moves}
+use Rattle.journal.proofs.Apart.{flat_map-All}
 use Rattle.journal_plain.specs.Readings.{IsSpelled}
 use Rattle.journal_plain.specs.Scans.{Ask, raised_first}
 use Rattle.journal_plain.proofs.Inceptions.{of_inception, spelled_cases}
-
--- what is the same as a third alike
-bytes-moves : (x y z : List ℕ) → bytes_eq y z ≡ true → bytes_eq z x ≡ bytes_eq y x
-bytes-moves x y z h = ap (λ b. bytes_eq b x) (sym ((bytes_decides y z).0 h))
-
-triple-moves : (x y z : Triple) → same_triple y z ≡ true → same_triple z x ≡ same_triple y x
-triple-moves x y z h =
-    let all = and_parts (bytes_eq y.body z.body && same_key y.key z.key) (same_sig y.sig z.sig) h in
-    let front = and_parts (bytes_eq y.body z.body) (same_key y.key z.key) all.0 in
-    let key = and_parts (key_code y.key.code == key_code z.key.code) (bytes_eq y.key.raw z.key.raw) front.1 in
-    let body = bytes-moves x.body y.body z.body front.0 in
-    let code = ap (λ n. n == key_code x.key.code) (sym (eqb-true (key_code y.key.code) (key_code z.key.code) key.0)) in
-    let raw = bytes-moves x.key.raw y.key.raw z.key.raw key.1 in
-    let sig = bytes-moves x.sig.raw y.sig.raw z.sig.raw all.1 in
-    λ i. (body i && (code i && raw i)) && sig i
 
 module _ (held : List Body) where
   ask-push : (qs : List Question) (ts : List Triple) (q : Question) (t : Triple) → Ask held qs ts → asked held q ≡ Some t
@@ -65,7 +50,7 @@ module _ (held : List Body) where
   known : (before : List Triple) (qs : List Question) (t : Triple) → Ask held qs (distinct same_triple before)
       → list_any (λ u. same_triple u t) (filter_map (asked held) qs) ≡ list_any (λ u. same_triple u t) before
   known before qs t a =
-      ap (list_any (λ u. same_triple u t)) (ask-found qs (distinct same_triple before) a) ∙ any-distinct same_triple triple-moves t before
+      ap (list_any (λ u. same_triple u t)) (ask-found qs (distinct same_triple before) a) ∙ any-distinct same_triple (moves same_triple same_triple_is same_triple_itself) t before
 
   -- a new triple is asked about, and one that came before isn't again
   pub ask-new : (before : List Triple) (qs : List Question) (q : Question) (t : Triple) → Ask held qs (distinct same_triple before) → asked held q ≡ Some t
@@ -128,10 +113,7 @@ module _ (told : List Told) where
   ]
 
   raised-all : (log held : List Body) → All IsSpelled held → flat_map (raised_by told log) held ≡ flat_map (raised_by told []) held
-  raised-all log [] all = refl
-  raised-all log (b ∷ held) all =
-      ap (λ ts. ts ++ flat_map (raised_by told log) held) (raised-any log b (All-head IsSpelled b held all))
-      ∙ ap (λ ts. raised_by told [] b ++ ts) (raised-all log held (All-tail IsSpelled b held all))
+  raised-all log held all = flat_map-All (raised_by told log) (raised_by told []) held (λ n d low. raised-any log _ (all n d low))
 
   -- one more body
   pub raised_first-next : (held : List Body) (n : ℕ) (b : Body) → n < length held → b ≡ get_or held n b

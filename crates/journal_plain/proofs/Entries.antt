@@ -1,5 +1,5 @@
 -- What entries tell, entry by entry.
-use Rattle.std.proofs.Common.{◌≡◌, ℕ, zero, suc, ◌+◌, ◌<◌, Bool, ◌||◌, List, [], ◌∷◌, ◌++◌, length, take, Some, None, slice_get, get_or, refl, sym, ◌∙◌, ap, arith, append-nil, if◌then◌else◌}
+use Rattle.std.proofs.Common.{◌≡◌, ℕ, ◌+◌, ◌<◌, Bool, ◌||◌, List, [], ◌∷◌, ◌++◌, length, take, Some, None, slice_get, get_or, refl, sym, ◌∙◌, ap, append-nil, if◌then◌else◌}
 use Rattle.std.specs.Prelude.{filter_map, flat_map, Option}
 use Rattle.std.specs.List.{list_any}
 use Rattle.std.proofs.lemmas.List.{take_more}
@@ -14,20 +14,16 @@ use Rattle.journal.specs.declared.body.Body.{Body}
 use Rattle.journal.specs.Logs.{same_body}
 use Rattle.journal.specs.History.{Told, claims_in, claims_on, is_receipt_for}
 use Rattle.journal.specs.Journals.{whole, told_by}
+use Rattle.journal.proofs.Places.{some_at}
 
 -- a list with a piece behind it is the next
 pub added : {X : Type 0} {now old all next more piece : List X} → now ≡ old ++ more → old ≡ all → more ≡ piece → next ≡ all ++ piece → now ≡ next
 added e f g h = cc
 
-element : {X : Type 0} (xs : List X) (n : ℕ) → n < length xs → (x : X) × (slice_get xs n ≡ Some x)
-element [] n h = absurd (omega arith)
-element (x ∷ xs) zero h = (x, refl)
-element (x ∷ xs) (suc n) h = element xs n (omega arith)
-
 -- with one more element
 pub take-next : {X : Type 0} (xs : List X) (n : ℕ) → n < length xs → (x : X) × (take (n + 1) xs ≡ take n xs ++ x ∷ []) × (slice_get xs n ≡ Some x)
 take-next xs n h =
-    let (x, at) = element xs n h in
+    let (x, at) = some_at xs n h in
     (x, take_more xs n x h ∙ ap (λ y. take n xs ++ y ∷ []) (get_or_from_slice_get xs n x x at), at)
 
 module _ (held : List Body) where
@@ -38,10 +34,6 @@ module _ (held : List Body) where
   pub told_by-none : (e : Entry) → whole held e ≡ None → told_by held (e ∷ []) ≡ []
   unfolding told_by
   told_by-none e h = rw h refl
-
-  pub told_by-some : (e : Entry) (t : Told) → whole held e ≡ Some t → told_by held (e ∷ []) ≡ t ∷ []
-  unfolding told_by
-  told_by-some e t h = rw h refl
 
   -- something in what the entries tell passes a test where it does in what one of them tells
   pub any-entries : {X : Type 0} (p : X → Bool) (f : Told → List X) (entries : List Entry)

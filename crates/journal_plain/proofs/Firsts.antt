@@ -5,7 +5,7 @@ use Rattle.std.specs.List.{list_any, list_all}
 use Rattle.std.proofs.lemmas.List.{take_more}
 use Rattle.std.proofs.lemmas.List.Folds.{find-append}
 use Rattle.std.proofs.lemmas.List.Elements.{filter-append}
-use Rattle.std.proofs.lemmas.Bool.{cases_Bool, and_parts, and_from, not-true}
+use Rattle.std.proofs.lemmas.Bool.{cases_Bool, and_parts, not-true}
 use Rattle.key_state.specs.Same.{distinct}
 
 module _ {B : Type 0} where
@@ -24,13 +24,6 @@ module _ {B : Type 0} where
       | inl h ↦ rw (k, h) (filter-neither p q xs)
       | inr h ↦ rw (k, h) (ap (λ ys. x ∷ ys) (filter-neither p q xs))
     ]
-  ]
-
-  pub all-filter : (p : B → Bool) (xs : List B) → list_all p (filter p xs) ≡ true
-  all-filter p [] = refl
-  all-filter p (x ∷ xs) = elim (cases_Bool (p x)) [
-    | inl k ↦ rw k (and_from (p x) _ k (all-filter p xs))
-    | inr k ↦ rw k (all-filter p xs)
   ]
 
   -- the first comings of more elements: those before, and the new ones

@@ -1,5 +1,6 @@
 -- When inceptions and receipts are ready, and what their bodies keep.
-use Rattle.std.proofs.Common.{◌≡◌, ◌≤◌, ◌⊎◌, ℕ, Bool, true, false, not, ◌&&◌, ◌||◌, List, length, Option, Some, None, is_some, refl, ◌∙◌, ap, arith, inl, inr, subst, sym}
+use Rattle.std.proofs.Common.{◌≡◌, ◌≤◌, ◌⊎◌, ℕ, true, false, not, ◌&&◌, ◌||◌, List, length, Option, Some, None, is_some, refl, ◌∙◌, ap, arith, inl, inr, subst, sym}
+use Rattle.std.proofs.Math.Bool.{and-true, and-false}
 use Rattle.event_body.specs.declared.event.Event.{Event}
 use Rattle.event_body.specs.declared.event.Event.TheVariants.{Icp, Rot, Ixn, Dip, Drt, Rct}
 use Rattle.event_body.specs.declared.inception.Inception.{Inception}
@@ -19,14 +20,6 @@ use Rattle.journal.specs.Readiness.{is_ready, is_local, is_backed, meets_own, si
 use Rattle.journal.proofs.Inceptions.{inception}
 use Rattle.journal_plain.specs.Readings.{IsSpelled}
 use Rattle.journal_plain.specs.Scans.{good_indices}
-
-and-true : (p : Bool) → (p && true) ≡ p
-and-true true = refl
-and-true false = refl
-
-and-false : (p : Bool) → (p && false) ≡ false
-and-false true = refl
-and-false false = refl
 
 -- a body of an inception is one
 pub of_inception : (b : Body) (e : Inception) → b.event ≡ Icp e → b ≡ inception b.bytes e

@@ -1,9 +1,8 @@
 -- Rounds of acceptance by numbers, and over more bodies than came.
-use Rattle.std.proofs.Common.{◌≡◌, ℕ, zero, suc, ◌<◌, ◌≤◌, Bool, true, not, List, [], ◌∷◌, ◌++◌, length, Some, slice_get, refl, sym, ◌∙◌, ap, arith, length-append}
+use Rattle.std.proofs.Common.{◌≡◌, ℕ, zero, suc, ◌<◌, ◌≤◌, Bool, true, not, List, [], ◌∷◌, ◌++◌, length, slice_get, refl, sym, ◌∙◌, ap, arith, length-append}
 use Rattle.std.specs.Prelude.{filter, find, flat_map}
 use Rattle.std.specs.List.{list_all}
 use Rattle.std.proofs.lemmas.Grind.{flat_map-append}
-use Rattle.std.proofs.lemmas.List.Elements.{filter_map-append}
 use Rattle.std.proofs.lemmas.List.Sums.{count_by-le-length}
 use Rattle.key_state.specs.Same.{distinct}
 use Rattle.journal.specs.declared.mode.Mode.{Mode}
@@ -16,15 +15,11 @@ use Rattle.journal.specs.Journals.{chosen}
 use Rattle.journal.proofs.Settling.{settled_more, settled_ends, left, Settles-unique}
 use Rattle.journal.proofs.Accepting.{same_body-refl, ready_is_new}
 use Rattle.journal.proofs.Keeping.{list_all-distinct, all_inside}
+use Rattle.journal.proofs.Different.{all-filter}
+use Rattle.journal.proofs.Held.{chosen_push}
 use Rattle.journal_plain.specs.Scans.{is_next}
 use Rattle.journal_plain.proofs.Entries.{take-next}
-use Rattle.journal_plain.proofs.Firsts.{all-filter, distinct-append, find-front}
-
--- one more number chooses one more body
-chosen-push : (held : List Body) (numbers : List ℕ) (n : ℕ) (b : Body) → slice_get held n ≡ Some b
-    → chosen held (numbers ++ n ∷ []) ≡ chosen held numbers ++ b ∷ []
-unfolding chosen
-chosen-push held numbers n b e = rw (filter_map-append, e) refl
+use Rattle.journal_plain.proofs.Firsts.{distinct-append, find-front}
 
 -- a round, by the number of the first ready body
 pub settled-round : (ready : List Body → Body → Bool) (held : List Body) (numbers : List ℕ) (n rounds less : ℕ) → n < length held
@@ -32,7 +27,7 @@ pub settled-round : (ready : List Body → Body → Bool) (held : List Body) (nu
     → settled ready held less (chosen held (numbers ++ n ∷ [])) ≡ settled ready held rounds (chosen held numbers)
 settled-round ready held numbers n rounds less h found r =
     let (b, e, at) = take-next held n h in
-    rw (r, chosen-push held numbers n b at) (sym (settled_more ready held less (chosen held numbers) b (found ∙ at)))
+    rw (r, chosen_push held numbers n b at) (sym (settled_more ready held less (chosen held numbers) b (found ∙ at)))
 
 -- where the first ready body is the same, rounds are the same
 settled-same : {B : Type 0} (ready other : List B → B → Bool) (held all : List B) → ((log : List B) → find (ready log) held ≡ find (other log) all)

@@ -1,8 +1,9 @@
 -- Where an identifier has a state.
-use Rattle.std.proofs.Common.{◌≡◌, Bool, true, false, ◌&&◌, ◌||◌, List, [], ◌∷◌, Option, Some, None, is_some, is_none, refl, ◌∙◌, ap, inl, inr}
+use Rattle.std.proofs.Common.{◌≡◌, Bool, true, false, ◌&&◌, ◌||◌, List, [], ◌∷◌, Option, Some, None, is_some, is_none, refl, ◌∙◌, ap, inl, inr, sym}
 use Rattle.std.specs.Prelude.{filter, fold}
 use Rattle.std.specs.List.{list_any}
 use Rattle.std.proofs.lemmas.Bool.{cases_Bool}
+use Rattle.std.proofs.Math.Bool.{or-false}
 use Rattle.cesr_codes.specs.declared.prefix.Prefix.{Prefix}
 use Rattle.event_body.specs.declared.event.Event.{Event}
 use Rattle.event_body.specs.declared.event.Event.TheVariants.{Icp, Rot, Ixn, Dip, Drt, Rct}
@@ -27,10 +28,6 @@ joined true q r = refl
 joined false true r = refl
 joined false false r = refl
 
-or-false : (p : Bool) → p ≡ (p || false)
-or-false true = refl
-or-false false = refl
-
 passed : (p q : Bool) → p ≡ ((q && false) || p)
 passed p true = refl
 passed p false = refl
@@ -41,7 +38,7 @@ begins prefix b = is_inception b.event && is_of prefix b
 
 some-fold : (prefix : Prefix) (s : Option State) (log : List Body)
     → is_some (fold (λ s b. stepped s b.event) s (filter (is_of prefix) log)) ≡ (is_some s || list_any (begins prefix) log)
-some-fold prefix s [] = or-false (is_some s)
+some-fold prefix s [] = sym (or-false (is_some s))
 some-fold prefix s (b ∷ log) = elim (cases_Bool (is_of prefix b)) [
   | inl k ↦ rw k (some-fold prefix (stepped s b.event) log ∙ ap (λ p. p || list_any (begins prefix) log) (some-stepped s b.event)
       ∙ joined (is_some s) (is_inception b.event) (list_any (begins prefix) log))

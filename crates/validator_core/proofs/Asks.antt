@@ -1,39 +1,27 @@
 -- The open questions by number.
-use Rattle.std.proofs.Common.{◌≡◌, ℕ, zero, suc, ◌+◌, ◌-◌, ◌%◌, ◌<◌, ◌≤◌, Bool, not, List, [], ◌∷◌, ◌++◌, length, map, drop, get_or, Option, Some, None, refl, sym, ◌∙◌, ap, subst, inl, inr, arith, length-append}
-use Rattle.std.specs.Prelude.{slice_get, filter, flat_map, sum_by}
+use Rattle.std.proofs.Common.{◌≡◌, ℕ, zero, suc, ◌+◌, ◌-◌, ◌%◌, ◌<◌, ◌≤◌, List, [], ◌∷◌, ◌++◌, length, map, drop, get_or, Option, Some, None, refl, sym, ◌∙◌, ap, subst, arith, length-append}
+use Rattle.std.specs.Prelude.{slice_get, sum_by}
 use Rattle.std.proofs.Math.Seq.{drop-cons}
-use Rattle.std.proofs.lemmas.Bool.{cases_Bool}
-use Rattle.std.proofs.lemmas.List.{length-map}
+use Rattle.std.proofs.lemmas.List.{length-map, drop_all}
 use Rattle.std.proofs.lemmas.List.Sums.{sum_by-cons}
-use Rattle.key_state.specs.Same.{distinct}
 use Rattle.journal.specs.declared.body.Body.{Body}
 use Rattle.journal.specs.declared.question.Question.{Question}
-use Rattle.journal.specs.History.{Told, Triple, taken, bodies}
+use Rattle.journal.specs.History.{Told, Triple}
 use Rattle.journal.specs.Journals.{Names, asked, told_by, chosen}
-use Rattle.journal.specs.Logs.{same_body}
 use Rattle.journal.specs.Questions.{questions, next_question}
+use Rattle.journal.proofs.Distinct.{bodies_shorter}
+use Rattle.journal.proofs.Places.{slice_get_front, some_at}
 use Rattle.validator_core.specs.declared.asked.Asked.{Asked}
 use Rattle.validator_core.specs.Cases.{Case}
 use Rattle.validator_core.specs.Tables.{Tables, IsCore, held_by, open_in, questions_from}
 use Rattle.validator_core.proofs.Held.{held_length}
 use Rattle.validator_core.proofs.Questions.{questions_list, questions_named, names_at, same_count}
 
--- in the first of two lists, or behind it
-get_front : {X : Type 0} (xs ys : List X) (k : ℕ) → k < length xs → slice_get (xs ++ ys) k ≡ slice_get xs k
-get_front [] ys k below = absurd (omega (arith, below))
-get_front (x ∷ xs) ys zero below = refl
-get_front (x ∷ xs) ys (suc k) below = get_front xs ys k (omega (arith, below))
-
+-- behind the first of two lists
 get_behind : {X : Type 0} (xs ys : List X) (k left : ℕ) → k ≡ length xs + left → slice_get (xs ++ ys) k ≡ slice_get ys left
 get_behind [] ys k left e = let same : k ≡ left = omega (arith, e) in ap (slice_get ys) same
 get_behind (x ∷ xs) ys zero left e = absurd (omega (arith, e))
 get_behind (x ∷ xs) ys (suc k) left e = get_behind xs ys k left (omega (arith, e))
-
-drop_past : {X : Type 0} (xs : List X) (i : ℕ) → length xs ≤ i → drop i xs ≡ []
-drop_past [] zero h = refl
-drop_past [] (suc i) h = refl
-drop_past (x ∷ xs) zero h = absurd (omega (arith, h))
-drop_past (x ∷ xs) (suc i) h = drop_past xs i (omega (arith, h))
 
 -- the question that a signature asks on a body
 abbrev pub asks : ℕ → Asked → Question
@@ -48,8 +36,9 @@ module _ (cases : List Case) (i : ℕ) (c : Case) (is : c ≡ get_or cases i c) 
       ∙ ap (λ k. map (asks i) (open_in c) ++ questions_from k (drop k cases)) next
 
   pub is_here : (left : ℕ) → left < length (open_in c) → slice_get (map (asks i) (open_in c)) left ≡ slice_get (questions_from i (drop i cases)) left
-  is_here left h = sym (ap (λ qs. slice_get qs left) from_here
-      ∙ get_front (map (asks i) (open_in c)) (questions_from (i + 1) (drop (i + 1) cases)) left (omega (arith, h, length-map (open_in c) (asks i))))
+  is_here left h =
+      let s = some_at (map (asks i) (open_in c)) left (omega (arith, h, length-map (open_in c) (asks i))) in
+      s.1 ∙ sym (ap (λ qs. slice_get qs left) from_here ∙ slice_get_front (map (asks i) (open_in c)) (questions_from (i + 1) (drop (i + 1) cases)) left s.0 s.1)
 
   pub is_later : (left : ℕ) → length (open_in c) ≤ left
       → slice_get (questions_from (i + 1) (drop (i + 1) cases)) (left - length (open_in c)) ≡ slice_get (questions_from i (drop i cases)) left
@@ -58,7 +47,7 @@ module _ (cases : List Case) (i : ℕ) (c : Case) (is : c ≡ get_or cases i c) 
       (omega (arith, h, length-map (open_in c) (asks i))))
 
 pub none_past : (cases : List Case) (i left : ℕ) → length cases ≤ i → None ≡ slice_get (questions_from i (drop i cases)) left
-none_past cases i left h = let e = drop_past cases i h in rw e refl
+none_past cases i left h = let e = drop_all i cases h in rw e refl
 
 pub questions_count : (n : ℕ) (cases : List Case) → length (questions_from n cases) ≡ sum_by (λ c. length (open_in c)) cases
 questions_count n [] = refl
@@ -67,23 +56,6 @@ questions_count n (c ∷ cases) =
     ∙ ap (λ k. k + length (questions_from (suc n) cases)) (length-map (open_in c) (asks n))
     ∙ ap (λ k. length (open_in c) + k) (questions_count (suc n) cases)
     ∙ sym (sum_by-cons (λ c. length (open_in c)) c cases)
-
--- there are no more distinct bodies than bodies
-filter-le : {X : Type 0} (p : X → Bool) (xs : List X) → length (filter p xs) ≤ length xs
-filter-le p [] = omega arith
-filter-le p (x ∷ xs) = let more = filter-le p xs in elim (cases_Bool (p x)) [
-  | inl k ↦ rw k (omega (arith, more))
-  | inr k ↦ rw k (omega (arith, more))
-]
-
-distinct-le : {X : Type 0} (same : X → X → Bool) (xs : List X) → length (distinct same xs) ≤ length xs
-unfolding distinct
-distinct-le same [] = omega arith
-distinct-le same (x ∷ xs) = omega (arith, filter-le (λ y. not (same x y)) (distinct same xs), distinct-le same xs)
-
-bodies-le : (told : List Told) → length (bodies [] told) ≤ length (flat_map taken told)
-unfolding bodies
-bodies-le told = distinct-le same_body (flat_map taken told)
 
 none_asked : (held : List Body) (ts : List Triple) (k : ℕ) → length ts ≡ 0 → Names held None (slice_get ts k)
 none_asked held [] k e = tt
@@ -101,7 +73,7 @@ module _ (t : Tables) (fits : IsCore t) where
   pub few_cases : length t.cases < 4294967296
   few_cases =
       let standard = t.limits.messages_standard in
-      omega (arith, held_length t.bodies t.cases fits.paired, ap length fits.sound.in_order, bodies-le told, fits.within.messages, standard)
+      omega (arith, held_length t.bodies t.cases fits.paired, ap length fits.sound.in_order, bodies_shorter told, fits.within.messages, standard)
 
   named : map (asked held) (questions_from 0 t.cases) ≡ map (λ q. Some q) (questions t.mode [] told)
   named = questions_named told held held 0 t.cases (held_length t.bodies t.cases fits.paired) places fits.cases_are

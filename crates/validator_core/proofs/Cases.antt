@@ -1,11 +1,12 @@
 -- What a case keeps after one more entry.
-use Rattle.std.proofs.Common.{◌≡◌, ℕ, Bool, true, false, ◌&&◌, ◌||◌, List, [], ◌∷◌, ◌++◌, map, Option, Some, None, refl, sym, ◌∙◌, ap, append-nil, append_assoc, inl, inr, if◌then◌else◌}
+use Rattle.std.proofs.Common.{◌≡◌, ℕ, Bool, true, false, ◌&&◌, List, [], ◌∷◌, ◌++◌, map, Option, Some, None, refl, sym, ◌∙◌, ap, append-nil, append_assoc, inl, inr, if◌then◌else◌}
 use Rattle.std.specs.Prelude.{filter_map, fold, bytes_eq}
 use Rattle.std.specs.List.{list_any, list_all}
 use Rattle.std.specs.Cmp.Lexicographic.{bytes_decides}
 use Rattle.std.proofs.lemmas.Bool.{cases_Bool, and_parts, and_from, or_parts}
 use Rattle.std.proofs.lemmas.List.{map-append}
 use Rattle.std.proofs.lemmas.List.Folds.{list_any-append, list_all-append}
+use Rattle.std.proofs.Math.Bool.{and-true}
 use Rattle.cesr_codes.specs.declared.key.Key.{Key}
 use Rattle.cesr_codes.specs.declared.sig.Sig.{Sig}
 use Rattle.key_state.specs.Exposure.{Rules, own_rules}
@@ -18,11 +19,11 @@ use Rattle.journal.specs.Replies.{same_claim}
 use Rattle.journal.proofs.Accepting.{same_body-refl}
 use Rattle.journal.proofs.Distinct.{distinct-push_new, distinct-push_old, any-distinct}
 use Rattle.journal.proofs.Keeping.{list_all-distinct}
+use Rattle.journal.proofs.Same.{same_key_itself, same_sig_itself, same_claim_is, same_claim_itself, same_triple_is, same_triple_itself, any_turned, moves}
 use Rattle.validator_core.specs.declared.asked.Asked.{Asked}
 use Rattle.validator_core.specs.Cases.{Case}
 use Rattle.validator_core.specs.Tables.{came, raised_with, asked_as, with_new, same_asked, with_claim, with_verdict, IsAsked, IsCase}
-use Rattle.validator_core.proofs.Entries.{came_push, took_raises, took_raises_not, took_verdict, took_yes, yes_is_verdict, heard_came, heard_raises, heard_verdict, heard_yes, other_triple, names, raised_name, or-false}
-use Rattle.journal.proofs.Same.{same_key_itself, same_sig_itself, same_claim_is, same_claim_itself, same_triple_is, same_triple_itself, turned, moves}
+use Rattle.validator_core.proofs.Entries.{came_push, took_raises, took_raises_not, took_verdict, took_yes, yes_is_verdict, heard_came, heard_raises, heard_verdict, heard_yes, heard_verdict_other, heard_yes_other, other_triple, names, raised_name}
 
 -- adding one after the other gives the first comings of all
 pub merged : {X : Type 0} (same : X → X → Bool) (is : (x y : X) → same x y ≡ true → x ≡ y) (itself : (x : X) → same x x ≡ true) (all ys : List X)
@@ -54,10 +55,6 @@ module _ (told : List Told) (b : Body) (rules : Rules) where
   asked_anew : (x : Triple) → has_verdict told x ≡ false → asked_as told x ≡ record { key = x.key; sig = x.sig; verdict = None }
   asked_anew x h = let unsaid = yes_is_verdict told x h in rw (unsaid, h) refl
 
-  turn : (x : Triple) (all : List Triple) → list_any (λ y. same_triple y x) all ≡ list_any (same_triple x) all
-  turn x [] = refl
-  turn x (y ∷ all) = let here = turned same_triple same_triple_is same_triple_itself y x in let more = turn x all in rw (here, more) refl
-
   unheard_more : (all : List Triple) (x : Triple) → Unheard all → Unheard (all ++ x ∷ [])
   unheard_more all x unheard y e none = unheard y e (or_parts _ _ (sym (list_any-append (same_triple y) all (x ∷ [])) ∙ none)).0
 
@@ -80,7 +77,7 @@ module _ (told : List Told) (b : Body) (rules : Rules) where
         | inl h ↦ (let inside = there ∙ h in let kept = distinct-push_old same_triple x all h in
             rw (e, inside) (ap (λ xs. fold (with_claim rules) (map (asked_as told) xs) claims) (sym kept) ∙ rest))
         | inr h ↦ (let outside = there ∙ h in let longer = distinct-push_new same_triple x all h in
-            let anew = asked_anew x (unheard x refl (sym (turn x all) ∙ h)) in
+            let anew = asked_anew x (unheard x refl (sym (any_turned same_triple same_triple_is same_triple_itself x all) ∙ h)) in
             let one : map (asked_as told) (distinct same_triple all) ++ record { key = k; sig = claimed_sig c; verdict = None } ∷ [] ≡ map (asked_as told) (distinct same_triple (all ++ x ∷ []))
             = sym (ap (map (asked_as told)) longer ∙ map-append (asked_as told) (distinct same_triple all) (x ∷ []) ∙ ap (λ a. map (asked_as told) (distinct same_triple all) ++ a ∷ []) anew) in
             rw (e, outside) (ap (λ xs. fold (with_claim rules) xs claims) one ∙ rest))
@@ -151,26 +148,19 @@ module _ (told : List Told) (reader : ℕ) (b : Body) (key : Key) (sig : Sig) (v
       either true = refl
       either false = refl
 
-      and-true : (v : Bool) → (v && true) ≡ v
-      and-true true = refl
-      and-true false = refl
+  stays : (x : Triple) → same_triple x this ≡ false → asked_as told x ≡ asked_as now x
+  stays x k = rw (heard_yes_other told reader b key sig verdict x k, heard_verdict_other told reader b key sig verdict x k) refl
 
   -- on another of the body
   on_other : (x : Triple) → x.body ≡ b.bytes → same_triple x this ≡ false → with_verdict key sig verdict (asked_as told x) ≡ asked_as now x
   on_other x of_b k =
       let named : bytes_eq x.body b.bytes ≡ true = (bytes_decides x.body b.bytes).1 of_b in
       let other : (same_key x.key key && same_sig x.sig sig) ≡ false = unnamed (bytes_eq x.body b.bytes) (same_key x.key key) (same_sig x.sig sig) named k in
-      let yes_now : said_yes now x ≡ said_yes told x = heard_yes told reader b key sig verdict x ∙ ap (λ p. said_yes told x || (verdict && p)) k ∙ said verdict (said_yes told x) in
-      let known : has_verdict now x ≡ has_verdict told x = heard_verdict told reader b key sig verdict x ∙ ap (λ p. has_verdict told x || p) k ∙ or-false (has_verdict told x) in
-      rw (other, yes_now, known) refl
+      rw other (stays x k)
     where
       unnamed : (p q r : Bool) → p ≡ true → (p && q && r) ≡ false → (q && r) ≡ false
       unnamed true q r e h = h
       unnamed false q r e h = cc
-
-      said : (v : Bool) (p : Bool) → (p || (v && false)) ≡ p
-      said true p = or-false p
-      said false p = or-false p
 
   verdict_of : has_verdict told this ≡ false → (x : Triple) → x.body ≡ b.bytes → with_verdict key sig verdict (asked_as told x) ≡ asked_as now x
   verdict_of new x of_b = elim (cases_Bool (same_triple x this)) [
@@ -195,13 +185,3 @@ module _ (told : List Told) (reader : ℕ) (b : Body) (key : Key) (sig : Sig) (v
         ∙ map_alike (asked_as told) (asked_as now) c (λ x of_c. stays x (other_triple told reader b key sig verdict c h x of_c)) (distinct same_triple (raised_with told c)) (list_all-distinct same_triple (names c) (raised_with told c) (raised_name c told))
         ∙ ap (λ ts. map (asked_as now) (distinct same_triple ts)) (sym (heard_raises told reader b key sig verdict c));
   }
-    where
-      said : (v : Bool) (p : Bool) → (p || (v && false)) ≡ p
-      said true p = or-false p
-      said false p = or-false p
-
-      stays : (x : Triple) → same_triple x this ≡ false → asked_as told x ≡ asked_as now x
-      stays x k =
-          let yes_now : said_yes now x ≡ said_yes told x = heard_yes told reader b key sig verdict x ∙ ap (λ p. said_yes told x || (verdict && p)) k ∙ said verdict (said_yes told x) in
-          let known : has_verdict now x ≡ has_verdict told x = heard_verdict told reader b key sig verdict x ∙ ap (λ p. has_verdict told x || p) k ∙ or-false (has_verdict told x) in
-          rw (yes_now, known) refl

@@ -1,41 +1,23 @@
 -- What the private calls of a core do to its tables, as callers see them.
-use Rattle.std.proofs.Common.{◌≡◌, ℕ, ◌<◌, ◌≤◌, Bool, false, not, List, [], ◌∷◌, ◌++◌, length, Some, refl, ap, inl, inr, set, arith}
-use Rattle.std.specs.Prelude.{slice_get, flat_map, filter}
-use Rattle.std.proofs.lemmas.Bool.{cases_Bool}
+use Rattle.std.proofs.Common.{◌≡◌, ℕ, ◌<◌, ◌≤◌, false, List, [], ◌∷◌, ◌++◌, length, Some, refl, ap, set, arith}
+use Rattle.std.specs.Prelude.{slice_get}
 use Rattle.journal.specs.declared.body.Body.{Body}
 use Rattle.journal.specs.declared.claim.Claim.{Claim}
 use Rattle.journal.specs.declared.entry.Entry.TheVariants.{Took}
-use Rattle.journal.specs.Logs.{same_body, is_in}
-use Rattle.journal.specs.History.{took, taken, bodies}
-use Rattle.key_state.specs.Same.{distinct}
+use Rattle.journal.specs.Logs.{is_in}
+use Rattle.journal.specs.History.{took}
+use Rattle.journal.proofs.Places.{some_at}
+use Rattle.journal.proofs.Distinct.{bodies_shorter}
 use Rattle.validator_core.specs.Cases.{Case}
 use Rattle.validator_core.specs.View.{told_of, HasRoom, IsHeld}
 use Rattle.validator_core.specs.Tables.{Tables, view_of, held_by, HasNoHeld, NotesClaims, IsCore, tally_with}
 use Rattle.validator_core.proofs.FitsAgain.{fits_again, told_again}
 use Rattle.validator_core.proofs.FitsNew.{fits_new, told_new, held_new}
-use Rattle.journal.proofs.Places.{some_at}
 use Rattle.validator_core.proofs.Held.{case_event, held_set}
-
--- a list of first comings is no longer than the list
-pub distinct_shorter : {X : Type 0} (same : X → X → Bool) (xs : List X) → length (distinct same xs) ≤ length xs
-unfolding distinct
-distinct_shorter same [] = omega arith
-distinct_shorter same (x ∷ xs) = omega (arith, filter_shorter (λ y. not (same x y)) (distinct same xs), distinct_shorter same xs)
-  where
-    filter_shorter : {X : Type 0} (q : X → Bool) (xs : List X) → length (filter q xs) ≤ length xs
-    filter_shorter q [] = omega arith
-    filter_shorter q (x ∷ xs) = elim (cases_Bool (q x)) [
-      | inl k ↦ rw k (omega (arith, filter_shorter q xs))
-      | inr k ↦ rw k (omega (arith, filter_shorter q xs))
-    ]
 
 -- there are at most as many bodies as messages may be taken
 pub few_held : (t : Tables) → IsCore t → t.limits.messages ≤ 1048576 → length (held_by t.bodies t.cases) ≤ 1048576
-unfolding bodies
-few_held t fits standard =
-    let shorter = distinct_shorter same_body (flat_map taken (told_of (view_of t))) in
-    let same = ap length fits.sound.in_order in
-    omega (arith, shorter, same, fits.within.messages, standard)
+few_held t fits standard = omega (arith, ap length fits.sound.in_order, bodies_shorter (told_of (view_of t)), fits.within.messages, standard)
 
 module _ (t : Tables) (fits : IsCore t) (reader n : ℕ) (claims : List Claim) (room : HasRoom (view_of t) 0 (length claims)) (below : n < length (view_of t).held)
     (no_held : (b : Body) → slice_get (view_of t).held n ≡ Some b → HasNoHeld (took reader b claims)) (old new : Case) (case_at : slice_get t.cases n ≡ Some old) (notes : NotesClaims old claims new) where

@@ -7,17 +7,17 @@ use Rattle.journal.specs.declared.body.Body.{Body}
 use Rattle.journal.specs.declared.claim.Claim.{Claim}
 use Rattle.journal.specs.History.{Told, took, taken, bodies}
 use Rattle.journal.specs.Replies.{all_claims, IsWithin}
+use Rattle.journal.proofs.Locality.{flat_map-push}
 use Rattle.validator_core.specs.declared.tally.Tally.{Tally}
 use Rattle.validator_core.specs.Tables.{IsTally, tally_with}
-use Rattle.validator_core.proofs.Entries.{push}
 
 -- COUNTS: one message more
 module _ (told : List Told) (reader : ℕ) (b : Body) (claims : List Claim) (tally : Tally) (counted : IsTally tally told) where
   messages_more : length (flat_map taken (told ++ took reader b claims ∷ [])) ≡ length (flat_map taken told) + 1
-  messages_more = ap length (push taken told (took reader b claims)) ∙ length-append (flat_map taken told) (b ∷ [])
+  messages_more = ap length (flat_map-push taken told (took reader b claims)) ∙ length-append (flat_map taken told) (b ∷ [])
 
   signatures_more : length (flat_map all_claims (told ++ took reader b claims ∷ [])) ≡ length (flat_map all_claims told) + length claims
-  signatures_more = ap length (push all_claims told (took reader b claims)) ∙ length-append (flat_map all_claims told) claims
+  signatures_more = ap length (flat_map-push all_claims told (took reader b claims)) ∙ length-append (flat_map all_claims told) claims
 
   pub tally_more : (bytes : ℕ) → sum_by (λ b. length b.bytes) (bodies [] (told ++ took reader b claims ∷ [])) ≡ sum_by (λ b. length b.bytes) (bodies [] told) + bytes
       → IsTally (tally_with tally bytes (length claims)) (told ++ took reader b claims ∷ [])

@@ -1,58 +1,35 @@
 -- What one more entry changes of what the claims raise and of the verdicts.
-use Rattle.std.proofs.Common.{◌≡◌, ℕ, Bool, true, false, ◌&&◌, ◌||◌, List, [], ◌∷◌, ◌++◌, Some, None, refl, sym, ◌∙◌, ap, append-nil, inl, inr}
+use Rattle.std.proofs.Common.{◌≡◌, ℕ, Bool, true, false, ◌&&◌, ◌||◌, List, [], ◌∷◌, ◌++◌, None, refl, sym, ◌∙◌, ap, append-nil, inl, inr}
 use Rattle.std.specs.Prelude.{filter_map, flat_map, bytes_eq}
 use Rattle.std.specs.List.{list_any, list_all}
 use Rattle.std.specs.Cmp.Lexicographic.{bytes_decides}
-use Rattle.std.proofs.lemmas.Bool.{cases_Bool, and_parts, and_from, or_parts}
-use Rattle.std.proofs.lemmas.Grind.{flat_map-append}
+use Rattle.std.proofs.lemmas.Bool.{cases_Bool, and_parts, or_parts}
 use Rattle.std.proofs.lemmas.List.Elements.{filter_map-append}
 use Rattle.std.proofs.lemmas.List.Folds.{list_any-append}
+use Rattle.std.proofs.Math.Bool.{or-false, and-false}
 use Rattle.cesr_codes.specs.declared.key.Key.{Key}
 use Rattle.cesr_codes.specs.declared.sig.Sig.{Sig}
-use Rattle.key_state.specs.Exposure.{Rules, own_rules}
+use Rattle.key_state.specs.Exposure.{own_rules}
 use Rattle.journal.specs.declared.body.Body.{Body}
 use Rattle.journal.specs.declared.claim.Claim.{Claim}
 use Rattle.journal.specs.Logs.{same_body}
-use Rattle.journal.specs.History.{Told, took, heard, Triple, same_triple, triple_of, claimed_key, said_yes, has_verdict, yes_in, heard_in}
+use Rattle.journal.specs.History.{Told, took, heard, Triple, same_triple, triple_of, said_yes, has_verdict, yes_in, heard_in}
 use Rattle.journal.specs.Replies.{came_with}
-use Rattle.validator_core.specs.Tables.{came, raised_with, IsAsked}
-use Rattle.validator_core.proofs.Ready.{has_yes}
 use Rattle.journal.proofs.Same.{same_triple_is}
 use Rattle.journal.proofs.Places.{found_at, any_at}
-
-pub or-false : (p : Bool) → (p || false) ≡ p
-or-false true = refl
-or-false false = refl
-
-and-false : (p : Bool) → (p && false) ≡ false
-and-false true = refl
-and-false false = refl
-
-pub push : {A B : Type 0} (f : A → List B) (xs : List A) (x : A) → flat_map f (xs ++ x ∷ []) ≡ flat_map f xs ++ f x
-push f xs x = flat_map-append f xs (x ∷ []) ∙ ap (λ ys. flat_map f xs ++ ys) (append-nil (f x))
-
--- texts that differ, differ the other way round
-pub bytes_differ : (xs ys : List ℕ) → bytes_eq xs ys ≡ false → bytes_eq ys xs ≡ false
-bytes_differ xs ys h = elim (cases_Bool (bytes_eq ys xs)) [
-  | inl k ↦ (let same : ys ≡ xs = (bytes_decides ys xs).0 k in let back = (bytes_decides xs ys).1 (sym same) in cc)
-  | inr k ↦ k
-]
+use Rattle.journal.proofs.Locality.{flat_map-push, bytes_differ}
+use Rattle.journal.proofs.Asking.{all_of}
+use Rattle.validator_core.specs.Tables.{came, raised_with, IsAsked}
+use Rattle.validator_core.proofs.Ready.{has_yes}
 
 -- each triple that the claims raise names the body
 module _ (b : Body) where
   abbrev pub names : Triple → Bool
   names x = bytes_eq x.body b.bytes
 
-  all_name : (rules : Rules) (claims : List Claim) → list_all names (filter_map (triple_of rules b) claims) ≡ true
-  all_name rules [] = refl
-  all_name rules (c ∷ claims) = elim (claimed_key rules c) as (λ k. claimed_key rules c ≡ k → list_all names (filter_map (triple_of rules b) (c ∷ claims)) ≡ true) [
-    | None ↦ (λ e. rw e (all_name rules claims))
-    | Some k ↦ (λ e. rw e (and_from _ _ ((bytes_decides b.bytes b.bytes).1 refl) (all_name rules claims)))
-  ] refl
-
   pub raised_name : (told : List Told) → list_all names (raised_with told b) ≡ true
   unfolding raised_with
-  raised_name told = all_name (own_rules None b.event) (came told b)
+  raised_name told = all_of (own_rules None b.event) b (came told b)
 
 -- what a test says of the triples of a body alone
 pub any_alike : (p q : Triple → Bool) (b : Body) → ((x : Triple) → x.body ≡ b.bytes → p x ≡ q x) → (xs : List Triple) → list_all (names b) xs ≡ true → list_any p xs ≡ list_any q xs
@@ -64,7 +41,7 @@ any_alike p q b same (x ∷ xs) all =
 
 module _ (told : List Told) (t : Told) where
   pub came_push : (b : Body) → came (told ++ t ∷ []) b ≡ came told b ++ came_with b t
-  came_push b = push (came_with b) told t
+  came_push b = flat_map-push (came_with b) told t
 
   pub raised_push : (b : Body) → raised_with (told ++ t ∷ []) b ≡ raised_with told b ++ filter_map (triple_of (own_rules None b.event) b) (came_with b t)
   unfolding raised_with
@@ -72,11 +49,11 @@ module _ (told : List Told) (t : Told) where
 
   pub verdict_push : (x : Triple) → has_verdict (told ++ t ∷ []) x ≡ (has_verdict told x || list_any (same_triple x) (heard_in t))
   unfolding has_verdict
-  verdict_push x = rw (push heard_in told t) (list_any-append (same_triple x) (flat_map heard_in told) (heard_in t))
+  verdict_push x = rw (flat_map-push heard_in told t) (list_any-append (same_triple x) (flat_map heard_in told) (heard_in t))
 
   pub yes_push : (x : Triple) → said_yes (told ++ t ∷ []) x ≡ (said_yes told x || list_any (same_triple x) (yes_in t))
   unfolding said_yes
-  yes_push x = rw (push yes_in told t) (list_any-append (same_triple x) (flat_map yes_in told) (yes_in t))
+  yes_push x = rw (flat_map-push yes_in told t) (list_any-append (same_triple x) (flat_map yes_in told) (yes_in t))
 
 -- a yes is a verdict
 pub yes_is_verdict : (told : List Told) (x : Triple) → has_verdict told x ≡ false → said_yes told x ≡ false
@@ -124,7 +101,7 @@ module _ (told : List Told) (reader : ℕ) (b : Body) (claims : List Claim) wher
   pub took_yes_same : IsAsked told b → has_yes (told ++ took reader b claims ∷ []) b ≡ has_yes told b
   took_yes_same asked = rw (took_raises, same_yes, list_any-append) (elim (cases_Bool (has_yes told b)) [
     | inl k ↦ rw k refl
-    | inr k ↦ (let silent = new_silent asked (filter_map (triple_of (own_rules None b.event) b) claims) (all_name b (own_rules None b.event) claims) k in rw (k, silent) refl)
+    | inr k ↦ (let silent = new_silent asked (filter_map (triple_of (own_rules None b.event) b) claims) (all_of (own_rules None b.event) b claims) k in rw (k, silent) refl)
   ])
 
 -- a verdict: what is raised stays, and the verdicts on other bodies
@@ -145,13 +122,17 @@ module _ (told : List Told) (reader : ℕ) (b : Body) (key : Key) (sig : Sig) (v
   pub heard_yes : (x : Triple) → said_yes (told ++ heard reader b key sig verdict ∷ []) x ≡ (said_yes told x || (verdict && same_triple x (record { body = b.bytes; key = key; sig = sig })))
   heard_yes x = yes_push told (heard reader b key sig verdict) x ∙ ap (λ p. said_yes told x || p) (yes_of x verdict)
 
+  -- of another triple it says nothing
+  pub heard_verdict_other : (x : Triple) → same_triple x (record { body = b.bytes; key = key; sig = sig }) ≡ false → has_verdict (told ++ heard reader b key sig verdict ∷ []) x ≡ has_verdict told x
+  heard_verdict_other x k = heard_verdict x ∙ rw k (or-false (has_verdict told x))
+
+  pub heard_yes_other : (x : Triple) → same_triple x (record { body = b.bytes; key = key; sig = sig }) ≡ false → said_yes (told ++ heard reader b key sig verdict ∷ []) x ≡ said_yes told x
+  heard_yes_other x k = heard_yes x ∙ rw k (ap (λ p. said_yes told x || p) (and-false verdict) ∙ or-false (said_yes told x))
+
   -- another body's triple is another
   pub other_triple : (c : Body) → same_body b c ≡ false → (x : Triple) → x.body ≡ c.bytes → same_triple x (record { body = b.bytes; key = key; sig = sig }) ≡ false
   other_triple c h x e = let differ : bytes_eq x.body b.bytes ≡ false = ap (λ t. bytes_eq t b.bytes) e ∙ bytes_differ b.bytes c.bytes h in rw differ refl
 
   pub heard_yes_not : (c : Body) → same_body b c ≡ false → has_yes (told ++ heard reader b key sig verdict ∷ []) c ≡ has_yes told c
   heard_yes_not c h = ap (list_any (said_yes (told ++ heard reader b key sig verdict ∷ []))) (heard_raises c)
-      ∙ any_alike (said_yes (told ++ heard reader b key sig verdict ∷ [])) (said_yes told) c (λ x e. heard_yes x ∙ none x (other_triple c h x e)) (raised_with told c) (raised_name c told)
-    where
-      none : (x : Triple) → same_triple x (record { body = b.bytes; key = key; sig = sig }) ≡ false → (said_yes told x || (verdict && same_triple x (record { body = b.bytes; key = key; sig = sig }))) ≡ said_yes told x
-      none x k = rw k (ap (λ p. said_yes told x || p) (and-false verdict) ∙ or-false (said_yes told x))
+      ∙ any_alike (said_yes (told ++ heard reader b key sig verdict ∷ [])) (said_yes told) c (λ x e. heard_yes_other x (other_triple c h x e)) (raised_with told c) (raised_name c told)

@@ -2,7 +2,7 @@
 use Rattle.std.proofs.Common.{◌≡◌, ℕ, ◌+◌, ◌<◌, false, List, [], ◌∷◌, ◌++◌, length, Some, None, refl, sym, ◌∙◌, ap, inl, inr, set, arith}
 use Rattle.std.specs.Prelude.{slice_get, fold, flat_map, sum_by, nat_le, nat_lt}
 use Rattle.std.specs.Cmp.Lexicographic.{bytes_decides}
-use Rattle.std.proofs.lemmas.Bool.{cases_Bool, cases_eq}
+use Rattle.std.proofs.lemmas.Bool.{cases_eq}
 use Rattle.std.proofs.lemmas.List.{length-set}
 use Rattle.std.proofs.lemmas.Option.{slice_get_within}
 use Rattle.std.proofs.lemmas.List.Elements.{All-push}
@@ -14,13 +14,13 @@ use Rattle.journal.specs.Logs.{same_body}
 use Rattle.journal.specs.History.{Told, took, taken, bodies}
 use Rattle.journal.specs.Journals.{told_by, chosen}
 use Rattle.journal.specs.Replies.{same_claim, all_claims}
+use Rattle.journal.proofs.Held.{told_push}
+use Rattle.journal.proofs.Places.{all_at, any_at, others_differ, set_here, set_there}
 use Rattle.validator_core.specs.Cases.{Case}
 use Rattle.validator_core.specs.View.{IsHeld}
 use Rattle.validator_core.specs.Tables.{Tables, held_by, number_of, with_new, with_claim, IsCase, HasNoHeld, FitsTables, IsCore, tally_with}
 use Rattle.validator_core.proofs.Cases.{case_took, case_not_took}
-use Rattle.journal.proofs.Held.{told_push}
 use Rattle.validator_core.proofs.Held.{held_set}
-use Rattle.journal.proofs.Places.{all_at, any_at, one_place, set_here, set_there}
 use Rattle.validator_core.proofs.Settled.{held_differ}
 use Rattle.validator_core.proofs.Sound.{took_again, bodies_old}
 use Rattle.validator_core.proofs.Counting.{tally_more, room}
@@ -54,10 +54,7 @@ module _ (t : Tables) (fits : IsCore t) (reader n : ℕ) (claims : List Claim) (
   same_sum = ap (sum_by (λ b. length b.bytes)) same_bodies
 
   apart : (m : ℕ) (c : Body) → (m ≡ n → ⊥) → slice_get held m ≡ Some c → same_body b c ≡ false
-  apart m c other e = elim (cases_Bool (same_body b c)) [
-    | inr k ↦ k
-    | inl k ↦ absurd (other (one_place held (held_differ held told fits.sound.in_order) m n c b e at (sym ((bytes_decides b.bytes c.bytes).0 k))))
-  ]
+  apart = others_differ held (held_differ held told fits.sound.in_order) n b at
 
   cases_again : (m : ℕ) (c : Body) (case : Case) → slice_get held m ≡ Some c → slice_get (set t.cases n new) m ≡ Some case → IsCase (told ++ took reader b claims ∷ []) c case
   cases_again m c case e f = elim (cases_eq m n) [

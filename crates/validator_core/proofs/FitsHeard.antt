@@ -3,7 +3,6 @@ use Rattle.std.proofs.Common.{◌≡◌, ℕ, ◌+◌, ◌<◌, Bool, true, fals
 use Rattle.std.specs.Prelude.{All, slice_get, flat_map, find, sum_by}
 use Rattle.std.specs.List.{list_any}
 use Rattle.std.specs.Option.{option_or}
-use Rattle.std.specs.Cmp.Lexicographic.{bytes_decides}
 use Rattle.std.proofs.lemmas.Bool.{cases_Bool, cases_eq}
 use Rattle.std.proofs.lemmas.List.{length-set}
 use Rattle.std.proofs.lemmas.List.Elements.{All-push}
@@ -23,15 +22,15 @@ use Rattle.journal.specs.Journals.{told_by, chosen}
 use Rattle.journal.specs.Questions.{questions}
 use Rattle.journal.specs.Replies.{all_claims, IsWithin}
 use Rattle.journal.proofs.StateSteps.{state-own, state-other}
+use Rattle.journal.proofs.Held.{told_push, chosen_push}
+use Rattle.journal.proofs.Places.{others_differ, set_here, set_there}
+use Rattle.journal.proofs.Same.{same_prefix_is}
+use Rattle.journal.proofs.Locality.{flat_map-push}
 use Rattle.validator_core.specs.Cases.{Case}
 use Rattle.validator_core.specs.Tables.{Tables, held_by, number_of, raised_with, with_verdict, IsCase, IsSound, IsTally, AreStates, FitsTables, IsCore}
 use Rattle.validator_core.proofs.Cases.{case_heard, case_not_heard}
-use Rattle.validator_core.proofs.Entries.{push}
-use Rattle.journal.proofs.Held.{told_push, chosen_push}
 use Rattle.validator_core.proofs.Held.{held_set}
-use Rattle.journal.proofs.Places.{one_place, set_here, set_there}
 use Rattle.validator_core.proofs.Questions.{open_here, fewer}
-use Rattle.journal.proofs.Same.{same_prefix_is}
 use Rattle.validator_core.proofs.Settled.{held_differ}
 use Rattle.validator_core.proofs.Sound.{heard_waits, heard_joins, heard_ready, bodies_heard}
 
@@ -80,10 +79,7 @@ module _ (t : Tables) (fits : IsCore t) (reader n : ℕ) (b : Body) (old new : C
   asks = open_here t.mode told held log fits.sound n b at key sig raised unheard
 
   apart : (m : ℕ) (c : Body) → (m ≡ n → ⊥) → slice_get held m ≡ Some c → same_body b c ≡ false
-  apart m c other e = elim (cases_Bool (same_body b c)) [
-    | inr k ↦ k
-    | inl k ↦ absurd (other (one_place held (held_differ held told fits.sound.in_order) m n c b e at (sym ((bytes_decides b.bytes c.bytes).0 k))))
-  ]
+  apart = others_differ held (held_differ held told fits.sound.in_order) n b at
 
   cases_now : (m : ℕ) (c : Body) (case : Case) → slice_get held m ≡ Some c → slice_get (set t.cases n new) m ≡ Some case → IsCase now c case
   cases_now m c case e f = elim (cases_eq m n) [
@@ -97,10 +93,10 @@ module _ (t : Tables) (fits : IsCore t) (reader n : ℕ) (b : Body) (old new : C
   same_bodies = sym (bodies_heard told held fits.sound.in_order reader b key sig verdict) ∙ fits.sound.in_order
 
   same_taken : flat_map taken now ≡ flat_map taken told
-  same_taken = push taken told (heard reader b key sig verdict) ∙ append-nil (flat_map taken told)
+  same_taken = flat_map-push taken told (heard reader b key sig verdict) ∙ append-nil (flat_map taken told)
 
   same_claims : flat_map all_claims now ≡ flat_map all_claims told
-  same_claims = push all_claims told (heard reader b key sig verdict) ∙ append-nil (flat_map all_claims told)
+  same_claims = flat_map-push all_claims told (heard reader b key sig verdict) ∙ append-nil (flat_map all_claims told)
 
   tallied : IsTally t.tally now
   tallied = record {

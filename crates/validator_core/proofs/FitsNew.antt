@@ -15,13 +15,13 @@ use Rattle.journal.specs.Logs.{same_body, is_in}
 use Rattle.journal.specs.History.{Told, same_triple, has_verdict, took, taken, bodies}
 use Rattle.journal.specs.Journals.{told_by, chosen}
 use Rattle.journal.specs.Replies.{same_claim, all_claims}
+use Rattle.journal.proofs.Held.{told_push, chosen_front, chosen_held}
+use Rattle.journal.proofs.Places.{any_at, slice_get_last, slice_get_before, below_more}
 use Rattle.validator_core.specs.Cases.{Case}
 use Rattle.validator_core.specs.View.{IsHeld}
 use Rattle.validator_core.specs.Tables.{Tables, held_by, number_of, came, asked_as, with_new, with_claim, IsAsked, IsCase, IsSound, HasNoHeld, FitsTables, IsCore, tally_with}
 use Rattle.validator_core.proofs.Cases.{case_took, case_not_took}
-use Rattle.journal.proofs.Held.{told_push, chosen_front, chosen_held}
 use Rattle.validator_core.proofs.Held.{held_push, told_front, held_length}
-use Rattle.journal.proofs.Places.{any_at, slice_get_last, slice_get_before, below_more}
 use Rattle.validator_core.proofs.Sound.{took_new, bodies_new, came_is_held, none_came, raised_none}
 use Rattle.validator_core.proofs.Counting.{tally_more, room}
 

@@ -22,12 +22,12 @@ use Rattle.journal.specs.Logs.{state}
 use Rattle.journal.specs.History.{Told, heard, Triple, same_triple, has_verdict, said_yes}
 use Rattle.journal.specs.Journals.{chosen}
 use Rattle.journal.specs.Questions.{noted}
+use Rattle.journal.proofs.Places.{all_at, some_at}
 use Rattle.validator_core.specs.Cases.{Case}
 use Rattle.validator_core.specs.View.{CoreView, told_of, open_of, state_of, IsHeld, TakesVerdict}
 use Rattle.validator_core.specs.Tables.{Tables, view_of, raised_with, asked_as, with_verdict, IsOpenIn, BeginsBy, Hears, IsSound, IsCore, with_number, with_state}
 use Rattle.validator_core.proofs.FitsHeard.{told_heard, fits_waiting, fits_joining, sound_waiting, sound_joining, fewer_now}
 use Rattle.validator_core.proofs.Held.{held_set, held_length}
-use Rattle.journal.proofs.Places.{all_at, some_at}
 use Rattle.validator_core.proofs.Questions.{noted_here, asked_here}
 use Rattle.validator_core.proofs.Entries.{yes_is_verdict}
 use Rattle.validator_core.proofs.Sound.{no_receipt}

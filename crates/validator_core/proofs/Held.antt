@@ -1,17 +1,15 @@
--- Bodies by number: what stays when more come.
-use Rattle.std.proofs.Common.{◌≡◌, ℕ, zero, suc, ◌<◌, true, List, [], ◌∷◌, ◌++◌, length, map, Option, Some, None, refl, sym, ◌∙◌, ap, inl, inr, set, arith}
-use Rattle.std.specs.Prelude.{All, slice_get, filter_map}
-use Rattle.std.proofs.lemmas.Bool.{or_cases}
-use Rattle.std.proofs.lemmas.List.Elements.{All-head, All-tail, filter_map-append}
+-- The bodies of the tables by number, and what entries of them tell when more come.
+use Rattle.std.proofs.Common.{◌≡◌, ℕ, zero, suc, ◌<◌, List, [], ◌∷◌, ◌++◌, length, map, Some, refl, sym, ◌∙◌, ap, set, arith}
+use Rattle.std.specs.Prelude.{All, slice_get}
+use Rattle.std.proofs.lemmas.List.Elements.{All-head, All-tail}
 use Rattle.journal.specs.declared.body.Body.{Body}
 use Rattle.journal.specs.declared.entry.Entry.{Entry}
 use Rattle.journal.specs.declared.entry.Entry.TheVariants.{Took, Heard}
-use Rattle.journal.specs.Logs.{same_body, is_in}
 use Rattle.journal.specs.History.{Told, took, heard}
-use Rattle.journal.specs.Journals.{whole, told_by, chosen}
+use Rattle.journal.specs.Journals.{whole, told_by}
+use Rattle.journal.proofs.Places.{slice_get_front, some_at}
 use Rattle.validator_core.specs.Cases.{Case}
 use Rattle.validator_core.specs.Tables.{held_by, number_of}
-use Rattle.journal.proofs.Places.{slice_get_front, some_at}
 
 -- each body has its bytes and its case's event
 pub held_at : (bodies : List (List ℕ)) (cases : List Case) (n : ℕ) (text : List ℕ) (c : Case) → slice_get bodies n ≡ Some text → slice_get cases n ≡ Some c

@@ -18,13 +18,13 @@ use Rattle.journal.specs.Logs.{is_in}
 use Rattle.journal.specs.History.{Told, took}
 use Rattle.journal.specs.CoreCalls.{told_after}
 use Rattle.journal.specs.Replies.{is_held_group, claims_of, refusal}
+use Rattle.journal.proofs.Places.{all_at, some_at}
 use Rattle.validator_core.specs.Cases.{Case}
 use Rattle.validator_core.specs.Messages.{JudgesMessage, first_refusal}
 use Rattle.validator_core.specs.View.{CoreView, IsHeld, TakesMessage}
 use Rattle.validator_core.specs.Tables.{Tables, view_of, held_by, body_of, HasNoHeld, TakesBody, told_then, IsCore}
 use Rattle.validator_core.proofs.Groups.{refusal_is, no_held_claims}
 use Rattle.validator_core.proofs.Held.{held_at}
-use Rattle.journal.proofs.Places.{all_at, some_at}
 
 -- the place of a text
 pub at_place : (bodies : List (List ℕ)) (bytes : List ℕ) (n : ℕ) → position (λ body. bytes_eq body bytes) bodies ≡ Some n → slice_get bodies n ≡ Some bytes

@@ -4,11 +4,11 @@ use Rattle.std.specs.Prelude.{slice_get}
 use Rattle.std.specs.Slice.{IsItemAt}
 use Rattle.std.proofs.lemmas.Bool.{ltb-true, ltb-false}
 use Rattle.std.proofs.lemmas.Option.{slice_get_read, slice_get_past, slice_get_within, slice_get-map}
+use Rattle.journal.proofs.Places.{all_at, some_at}
 use Rattle.validator_core.specs.Cases.{Case}
 use Rattle.validator_core.specs.Tables.{Tables, held_by, IsCore}
 use Rattle.validator_core.specs.View.{IsHeld}
 use Rattle.validator_core.proofs.Held.{held_at, held_bytes, held_events}
-use Rattle.journal.proofs.Places.{all_at, some_at}
 
 -- what a slice gives at a number is what stands there
 pub got_some : {X : Type 0} (xs ys : List X) (i : ℕ) (r : Option (Bor X)) (x : Bor X) → IsItemAt xs i r → xs ≡ ys → r ≡ Some x → slice_get ys i ≡ Some x.now

@@ -7,6 +7,7 @@ use Rattle.std.proofs.lemmas.Bool.{cases_Bool, and_parts, or_parts, or_cases, no
 use Rattle.std.proofs.lemmas.List.{map-append, length-map}
 use Rattle.std.proofs.lemmas.List.Elements.{All-head, All-tail}
 use Rattle.std.proofs.lemmas.List.Folds.{list_any-append}
+use Rattle.std.proofs.Math.Bool.{or-false, and-true, and-false}
 use Rattle.cesr_codes.specs.declared.key.Key.{Key}
 use Rattle.cesr_codes.specs.declared.sig.Sig.{Sig}
 use Rattle.key_state.specs.Same.{same_key, same_sig, distinct}
@@ -18,18 +19,18 @@ use Rattle.journal.specs.Logs.{same_body}
 use Rattle.journal.specs.History.{Told, heard, Triple, same_triple, has_verdict, said_yes, bodies}
 use Rattle.journal.specs.Journals.{asked, Names}
 use Rattle.journal.specs.Questions.{raised, questions, noted}
-use Rattle.journal.proofs.Apart.{filter-flat_map}
+use Rattle.journal.proofs.Apart.{filter-flat_map, flat_map-All}
 use Rattle.journal.proofs.Asking.{AllPlain, IsPlain, raised_own, raised_are}
 use Rattle.journal.proofs.Different.{Differ, differ-distinct}
 use Rattle.journal.proofs.Distinct.{any-distinct}
 use Rattle.journal.proofs.Keeping.{list_all-distinct}
+use Rattle.journal.proofs.Places.{others_differ}
+use Rattle.journal.proofs.Same.{same_triple_is, same_triple_itself, turned, any_turned, moves}
 use Rattle.validator_core.specs.Cases.{Case}
 use Rattle.validator_core.specs.View.{IsHeld}
 use Rattle.validator_core.specs.Tables.{raised_with, asked_as, IsSound, IsCase, questions_from}
-use Rattle.validator_core.proofs.Entries.{names, raised_name, heard_raises, heard_verdict, other_triple, yes_is_verdict, or-false}
-use Rattle.journal.proofs.Places.{one_place}
+use Rattle.validator_core.proofs.Entries.{names, raised_name, heard_raises, heard_verdict, heard_verdict_other, other_triple, yes_is_verdict}
 use Rattle.validator_core.proofs.Raising.{own_are}
-use Rattle.journal.proofs.Same.{same_triple_is, same_triple_itself, turned, moves}
 use Rattle.validator_core.proofs.Settled.{held_differ}
 use Rattle.validator_core.proofs.Thin.{kinds}
 
@@ -42,10 +43,6 @@ plain b h = elim (kinds b h) [
 all_plain : (held : List Body) → All IsHeld held → AllPlain held
 all_plain [] h = tt
 all_plain (b ∷ held) h = (plain b (All-head IsHeld b held h), all_plain held (All-tail IsHeld b held h))
-
-flat_alike : {A B : Type 0} (P : A → Type 0) (f g : A → List B) → ((x : A) → P x → f x ≡ g x) → (xs : List A) → All P xs → flat_map f xs ≡ flat_map g xs
-flat_alike P f g same [] h = refl
-flat_alike P f g same (x ∷ xs) h = let here = same x (All-head P x xs h) in let more = flat_alike P f g same xs (All-tail P x xs h) in rw (here, more) refl
 
 -- the first comings of what a body raises, and those of them without a verdict
 abbrev pub firsts : List Told → Body → List Triple
@@ -61,7 +58,7 @@ module _ (mode : Mode) (told : List Told) (held log : List Body) (sound : IsSoun
   pub raised_list : raised mode [] told ≡ flat_map (firsts told) held
   raised_list = raised_are mode told (all_plain (bodies [] told) (rw sound.in_order at sound.spelled))
       ∙ ap (flat_map (λ b. distinct same_triple (raised_own told b))) (sym sound.in_order)
-      ∙ flat_alike IsHeld (λ b. distinct same_triple (raised_own told b)) (firsts told) (λ b h. ap (distinct same_triple) (own_are told sound.receipts b h)) held sound.spelled
+      ∙ flat_map-All (λ b. distinct same_triple (raised_own told b)) (firsts told) held (λ m d low. ap (distinct same_triple) (own_are told sound.receipts _ (sound.spelled m d low)))
 
   pub questions_list : questions mode [] told ≡ flat_map (open_with told) held
   unfolding questions
@@ -94,13 +91,9 @@ none_named b c x of_b differ (y ∷ xs) all =
     let more = none_named b c x of_b differ xs parts.1 in
     rw (apart, more) refl
 
-turn : (x : Triple) (all : List Triple) → list_any (λ y. same_triple y x) all ≡ list_any (same_triple x) all
-turn x [] = refl
-turn x (y ∷ all) = let here = turned same_triple same_triple_is same_triple_itself y x in let more = turn x all in rw (here, more) refl
-
 -- among first comings exactly where among all
 pub any_firsts : (x : Triple) (all : List Triple) → list_any (same_triple x) (distinct same_triple all) ≡ list_any (same_triple x) all
-any_firsts x all = sym (turn x (distinct same_triple all)) ∙ any-distinct same_triple (moves same_triple same_triple_is same_triple_itself) x all ∙ turn x all
+any_firsts x all = sym (any_turned same_triple same_triple_is same_triple_itself x (distinct same_triple all)) ∙ any-distinct same_triple (moves same_triple same_triple_is same_triple_itself) x all ∙ any_turned same_triple same_triple_is same_triple_itself x all
 
 -- one that passes and is in the list is in what the test leaves
 any_filter : (q : Triple → Bool) (x : Triple) → q x ≡ true → (xs : List Triple) → list_any (same_triple x) (filter q xs) ≡ list_any (same_triple x) xs
@@ -118,10 +111,7 @@ module _ (mode : Mode) (told : List Told) (held log : List Body) (sound : IsSoun
   this = record { body = b.bytes; key = key; sig = sig }
 
   differ : (m : ℕ) (c : Body) → (m ≡ n → ⊥) → slice_get held m ≡ Some c → bytes_eq b.bytes c.bytes ≡ false
-  differ m c other e = elim (cases_Bool (same_body b c)) [
-    | inr k ↦ k
-    | inl k ↦ absurd (other (one_place held (held_differ held told sound.in_order) m n c b e at (sym ((bytes_decides b.bytes c.bytes).0 k))))
-  ]
+  differ = others_differ held (held_differ held told sound.in_order) n b at
 
   pub raised_here : list_any (same_triple this) (raised mode [] told) ≡ list_any (same_triple this) (raised_with told b)
   raised_here = ap (list_any (same_triple this)) (raised_list mode told held log sound)
@@ -239,14 +229,6 @@ one_fewer p q x (y ∷ xs) differ inside passes are = elim (cases_Bool (same_tri
       ])
 ]
   where
-    and-false : (b : Bool) → (b && false) ≡ false
-    and-false true = refl
-    and-false false = refl
-
-    and-true : (b : Bool) → (b && true) ≡ b
-    and-true true = refl
-    and-true false = refl
-
     none_same : (xs : List Triple) → list_all (λ y. not (same_triple x y)) xs ≡ true → list_any (same_triple x) xs ≡ false
     none_same [] h = refl
     none_same (y ∷ xs) h = let parts = and_parts (not (same_triple x y)) _ h in let other = not-true _ parts.0 in let more = none_same xs parts.1 in rw (other, more) refl
@@ -304,8 +286,7 @@ module _ (mode : Mode) (told : List Told) (held log log' : List Body) (sound : I
       apart = differ mode told held log sound n b at key sig m c other e
 
       stays : (x : Triple) → x.body ≡ c.bytes → not (has_verdict now x) ≡ not (has_verdict told x)
-      stays x of_c = let unlike = other_triple told reader b key sig verdict c apart x of_c in
-          ap not (heard_verdict told reader b key sig verdict x ∙ ap (λ p. has_verdict told x || p) unlike ∙ or-false (has_verdict told x))
+      stays x of_c = ap not (heard_verdict_other told reader b key sig verdict x (other_triple told reader b key sig verdict c apart x of_c))
 
       unchanged : (xs : List Triple) → list_all (names c) xs ≡ true → filter (λ t. not (has_verdict now t)) xs ≡ filter (λ t. not (has_verdict told t)) xs
       unchanged [] all = refl

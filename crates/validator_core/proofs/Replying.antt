@@ -1,5 +1,5 @@
 -- The replies of a core's calls are those of the definitions.
-use Rattle.std.proofs.Common.{◌≡◌, ℕ, ◌+◌, true, false, ◌||◌, List, [], ◌∷◌, length, Some, refl, sym, ◌∙◌, ap, arith}
+use Rattle.std.proofs.Common.{◌≡◌, ℕ, ◌+◌, true, false, ◌||◌, List, [], length, Some, refl, sym, ◌∙◌, ap, arith}
 use Rattle.std.specs.Prelude.{slice_get, flat_map, sum_by, nat_le, nat_lt}
 use Rattle.std.specs.List.{list_any, list_all}
 use Rattle.std.proofs.lemmas.Bool.{le-ltb, or_parts}
@@ -11,11 +11,11 @@ use Rattle.journal.specs.History.{Told, taken, bodies}
 use Rattle.journal.specs.Replies.{came_with, same_claim, all_claims, is_full, is_again, reply_to}
 use Rattle.journal.proofs.Accepting.{same_body-refl}
 use Rattle.journal.proofs.Distinct.{any-distinct}
+use Rattle.journal.proofs.Places.{any_at}
+use Rattle.journal.proofs.Same.{same_claim_is, same_claim_itself, any_turned, moves}
 use Rattle.validator_core.specs.Cases.{Case}
 use Rattle.validator_core.specs.View.{told_of, HasRoom}
 use Rattle.validator_core.specs.Tables.{Tables, view_of, came, IsCase, IsCore, lacks_room}
-use Rattle.journal.proofs.Places.{any_at}
-use Rattle.journal.proofs.Same.{same_claim_is, same_claim_itself, turned, moves}
 
 module _ (t : Tables) (fits : IsCore t) where
   abbrev told : List Told
@@ -58,12 +58,8 @@ module _ (t : Tables) (fits : IsCore t) where
       let is = fits.cases_are n b case at case_at in
       rw inside (ap (λ f. list_all f claims) (λ i c. one is c i))
     where
-      turn : (c : Claim) (xs : List Claim) → list_any (λ held. same_claim held c) xs ≡ list_any (same_claim c) xs
-      turn c [] = refl
-      turn c (x ∷ xs) = let here = turned same_claim same_claim_is same_claim_itself x c in let more = turn c xs in rw (here, more) refl
-
       one : IsCase told b case → (c : Claim) → list_any (λ held. same_claim held c) case.claims ≡ list_any (same_claim c) (flat_map (came_with b) told)
-      one is c = ap (list_any (λ held. same_claim held c)) is.claims ∙ any-distinct same_claim (moves same_claim same_claim_is same_claim_itself) c (came told b) ∙ turn c (came told b)
+      one is c = ap (list_any (λ held. same_claim held c)) is.claims ∙ any-distinct same_claim (moves same_claim same_claim_is same_claim_itself) c (came told b) ∙ any_turned same_claim same_claim_is same_claim_itself c (came told b)
 
   pub again_new : (b : Body) (claims : List Claim) → is_in (view_of t).held b ≡ false → is_again [] told b claims ≡ false
   unfolding is_again

@@ -1,11 +1,12 @@
 -- One entry of one body: at most that body is accepted.
-use Rattle.std.proofs.Common.{◌≡◌, ℕ, zero, suc, ◌⊎◌, Bool, true, false, not, ◌&&◌, ◌||◌, List, [], ◌∷◌, ◌++◌, length, Option, Some, None, is_none, refl, sym, ◌∙◌, ap, inl, inr, if◌then◌else◌, arith}
+use Rattle.std.proofs.Common.{◌≡◌, ℕ, zero, suc, ◌⊎◌, true, false, not, ◌&&◌, ◌||◌, List, [], ◌∷◌, ◌++◌, length, Option, Some, None, is_none, refl, sym, ◌∙◌, ap, inl, inr, if◌then◌else◌, arith}
 use Rattle.std.specs.Prelude.{All, slice_get, flat_map, ◌<◌, bytes_eq}
 use Rattle.std.specs.Cmp.Lexicographic.{bytes_decides}
 use Rattle.std.proofs.lemmas.Option.{slice_get_within}
 use Rattle.std.specs.List.{list_any}
-use Rattle.std.proofs.lemmas.Bool.{cases_Bool, cases_eq, and_parts, and_from, or_parts, or_cases, not-true, not_from_false}
+use Rattle.std.proofs.lemmas.Bool.{cases_Bool, cases_eq, and_parts, and_from, or_cases, not-true}
 use Rattle.std.proofs.lemmas.List.Folds.{list_any-append}
+use Rattle.std.proofs.Math.Bool.{and-false, or-false}
 use Rattle.event_body.specs.Events.{prefix_of, is_receipt}
 use Rattle.journal.specs.declared.body.Body.{Body}
 use Rattle.journal.specs.declared.mode.Mode.{Mode}
@@ -18,14 +19,15 @@ use Rattle.journal.specs.Accepted.{accepted}
 use Rattle.journal.specs.Questions.{IsRegular}
 use Rattle.journal.proofs.Accepting.{accepted-push, same_body-refl}
 use Rattle.journal.proofs.Different.{Differ, differ-distinct}
-use Rattle.journal.proofs.Inceptions.{state_stays}
+use Rattle.journal.proofs.Inceptions.{state_stays, no_state_before}
 use Rattle.journal.proofs.One.{settled_one}
 use Rattle.journal.proofs.StateSteps.{state-own}
+use Rattle.journal.proofs.Places.{all_at, one_body}
+use Rattle.journal.proofs.Same.{same_prefix_itself}
+use Rattle.journal.proofs.Settling.{outside, ends_in}
 use Rattle.validator_core.specs.View.{IsHeld}
 use Rattle.validator_core.specs.Tables.{HasNoHeld, IsAsked, IsSound}
-use Rattle.journal.proofs.Places.{all_at, one_body}
 use Rattle.validator_core.proofs.Ready.{ready_is, is_due, has_yes}
-use Rattle.journal.proofs.Same.{same_prefix_itself}
 use Rattle.validator_core.proofs.Thin.{kinds}
 
 -- what is due with one more accepted was due before
@@ -34,33 +36,11 @@ due_before told log b c due =
     let parts = and_parts (not (is_receipt c.event)) _ due in
     let inner = and_parts (not (is_in (log ++ b ∷ []) c)) _ parts.1 in
     let under = and_parts (is_none (state (log ++ b ∷ []) (prefix_of c.event))) (has_yes told c) inner.1 in
-    and_from _ _ parts.0 (and_from _ _ (new inner.0) (and_from _ _ (first under.0) under.1))
-  where
-    new : not (is_in (log ++ b ∷ []) c) ≡ true → not (is_in log c) ≡ true
-    new k = let none = rw (list_any-append (λ d. same_body d c) log (b ∷ [])) at (not-true _ k) in not_from_false _ (or_parts _ _ none).0
-
-    first : is_none (state (log ++ b ∷ []) (prefix_of c.event)) ≡ true → is_none (state log (prefix_of c.event)) ≡ true
-    first k = elim (cases_Bool (is_none (state log (prefix_of c.event)))) [ inl n ↦ n | inr n ↦ (let stays = state_stays log b (prefix_of c.event) n in cc) ]
-
-or-false : (p : Bool) → (p || false) ≡ p
-or-false true = refl
-or-false false = refl
-
--- the last is in the list
-is_in_last : (log : List Body) (b : Body) → is_in (log ++ b ∷ []) b ≡ true
-is_in_last log b = rw (list_any-append (λ d. same_body d b) log (b ∷ []), same_body-refl b) (or-true (list_any (λ d. same_body d b) log))
-  where
-    or-true : (p : Bool) → (p || true) ≡ true
-    or-true true = refl
-    or-true false = refl
+    and_from _ _ parts.0 (and_from _ _ (outside (λ d. same_body d c) log (b ∷ []) inner.0) (and_from _ _ (no_state_before log b (prefix_of c.event) under.0) under.1))
 
 -- what is accepted is due no more
 not_due_again : (told : List Told) (log : List Body) (b : Body) → is_due told (log ++ b ∷ []) b ≡ false
-not_due_again told log b = let is = is_in_last log b in rw is (and-false (not (is_receipt b.event)))
-  where
-    and-false : (p : Bool) → (p && false) ≡ false
-    and-false true = refl
-    and-false false = refl
+not_due_again told log b = let is = ends_in same_body log b (same_body-refl b) in rw is (and-false (not (is_receipt b.event)))
 
 -- an inception begins its identifier
 begun_event : (b : Body) → IsHeld b → is_receipt b.event ≡ false → is_none (stepped None b.event) ≡ false

@@ -6,6 +6,7 @@ use Rattle.std.specs.Cmp.Lexicographic.{bytes_decides}
 use Rattle.std.proofs.lemmas.Bool.{cases_Bool, cases_eq, or_parts, or_cases, or_left, or_right}
 use Rattle.std.proofs.lemmas.List.Elements.{All-push}
 use Rattle.std.proofs.lemmas.List.Folds.{list_any-append}
+use Rattle.std.proofs.Math.Bool.{or-false}
 use Rattle.cesr_codes.specs.declared.key.Key.{Key}
 use Rattle.cesr_codes.specs.declared.sig.Sig.{Sig}
 use Rattle.event_body.specs.declared.event.Event.TheVariants.{Rct}
@@ -22,23 +23,23 @@ use Rattle.journal.specs.Questions.{IsRegular, questions}
 use Rattle.journal.specs.Readiness.{is_ready}
 use Rattle.journal.specs.Replies.{came_with}
 use Rattle.journal.proofs.Accepting.{same_body-refl}
-use Rattle.journal.proofs.Different.{Differ}
 use Rattle.journal.proofs.Distinct.{distinct-push_new, distinct-push_old, any-distinct, same_body-moves}
 use Rattle.journal.proofs.Keeping.{split_push}
+use Rattle.journal.proofs.Places.{all_at, any_at, found_at, others_differ, one_body, slice_get_last, slice_get_before}
+use Rattle.journal.proofs.Same.{same_triple_is, same_triple_itself}
+use Rattle.journal.proofs.Locality.{flat_map-push}
 use Rattle.validator_core.specs.View.{IsHeld}
 use Rattle.validator_core.specs.Tables.{came, raised_with, HasNoHeld, IsAsked, IsSound}
-use Rattle.validator_core.proofs.Entries.{push, or-false, took_verdict, took_yes_not, took_yes_same, raised_push, heard_verdict, heard_raises, heard_yes, heard_yes_not, any_alike, raised_name}
-use Rattle.journal.proofs.Places.{all_at, any_at, found_at, one_place, one_body, slice_get_last, slice_get_before}
+use Rattle.validator_core.proofs.Entries.{took_verdict, took_yes_not, took_yes_same, raised_push, heard_verdict, heard_raises, heard_yes, heard_yes_not, any_alike, raised_name}
 use Rattle.validator_core.proofs.Raising.{receipt_raises}
 use Rattle.validator_core.proofs.Ready.{ready_is, is_due, has_yes}
-use Rattle.journal.proofs.Same.{same_triple_is, same_triple_itself}
 use Rattle.validator_core.proofs.Settled.{held_differ, waits, joins}
 use Rattle.validator_core.proofs.Thin.{kinds}
 
 -- what one more entry makes of the bodies
 taken_push : (told : List Told) (t : Told) → bodies [] (told ++ t ∷ []) ≡ distinct same_body (flat_map taken told ++ taken t)
 unfolding bodies
-taken_push told t = ap (distinct same_body) (push taken told t)
+taken_push told t = ap (distinct same_body) (flat_map-push taken told t)
 
 -- a body is among those that came exactly where it is held
 pub came_is_held : (told : List Told) (held : List Body) → held ≡ bodies [] told → (b : Body) → list_any (λ c. same_body c b) (flat_map taken told) ≡ is_in held b
@@ -112,14 +113,8 @@ module _ (mode : Mode) (told : List Told) (held log : List Body) (sound : IsSoun
       ∙ ap (λ p. not (is_receipt b.event) && (not (is_in log b) && (is_none (state log (prefix_of b.event)) && p))) (took_yes_same told reader b claims asked)
       ∙ sym (ready_is mode told log sound.receipts b spelled) ∙ sound.settled n b at in
       waits mode told (took reader b claims) held held log n b sound at in_order sound.spelled receipts (λ m c other e. e)
-      (λ m c other e. took_yes_not told reader b claims c (apart differ n at m c other e))
+      (λ m c other e. took_yes_not told reader b claims c (others_differ held differ n b at m c other e))
       (λ m c e. asked_still c (sound.asked m c e)) (λ x h. sound.heard_held x (sym (took_verdict told reader b claims x) ∙ h)) regular unready (inl at)
-    where
-      apart : Differ same_body held → (n : ℕ) → slice_get held n ≡ Some b → (m : ℕ) (c : Body) → (m ≡ n → ⊥) → slice_get held m ≡ Some c → same_body b c ≡ false
-      apart differ n at m c other e = elim (cases_Bool (same_body b c)) [
-        | inr k ↦ k
-        | inl k ↦ absurd (other (one_place held differ m n c b e at (sym ((bytes_decides b.bytes c.bytes).0 k))))
-      ]
 
   -- a body that is new came
   pub took_new : IsHeld b → is_in held b ≡ false → is_in log b ≡ false → IsSound mode (told ++ took reader b claims ∷ []) (held ++ b ∷ []) log
@@ -132,7 +127,7 @@ module _ (mode : Mode) (told : List Told) (held log : List Body) (sound : IsSoun
       ∙ ap (λ p. not (is_receipt b.event) && (not (is_in log b) && (is_none (state log (prefix_of b.event)) && p))) (took_yes_same told reader b claims asked ∙ silent)
       ∙ not_due b log in
       waits mode told (took reader b claims) held (held ++ b ∷ []) log (length held) b sound (slice_get_last held b) in_order all receipts (λ m c other e. slice_get_before held b m c other e)
-      (λ m c other e. took_yes_not told reader b claims c (apart differ m c other e))
+      (λ m c other e. took_yes_not told reader b claims c (others_differ (held ++ b ∷ []) differ (length held) b (slice_get_last held b) m c other e))
       (λ m c e. asked_still c (asked_at m c e)) heard_still regular unready (inr not_accepted)
     where
       nothing : raised_with told b ≡ []
@@ -159,12 +154,6 @@ module _ (mode : Mode) (told : List Told) (held log : List Body) (sound : IsSoun
       heard_still : (x : Triple) → has_verdict (told ++ took reader b claims ∷ []) x ≡ true → list_any (λ c. bytes_eq c.bytes x.body) (held ++ b ∷ []) ≡ true
       heard_still x h = list_any-append (λ c. bytes_eq c.bytes x.body) held (b ∷ []) ∙ or_left _ _ (sound.heard_held x (sym (took_verdict told reader b claims x) ∙ h))
 
-      apart : Differ same_body (held ++ b ∷ []) → (m : ℕ) (c : Body) → (m ≡ length held → ⊥) → slice_get (held ++ b ∷ []) m ≡ Some c → same_body b c ≡ false
-      apart differ m c other e = elim (cases_Bool (same_body b c)) [
-        | inr k ↦ k
-        | inl k ↦ absurd (other (one_place (held ++ b ∷ []) differ m (length held) c b e (slice_get_last held b) (sym ((bytes_decides b.bytes c.bytes).0 k))))
-      ]
-
 -- an open question was answered
 module _ (mode : Mode) (told : List Told) (held log : List Body) (sound : IsSound mode told held log) (reader : ℕ) (n : ℕ) (b : Body) (at : slice_get held n ≡ Some b) (key : Key) (sig : Sig)
     (raised : list_any (same_triple (record { body = b.bytes; key = key; sig = sig })) (raised_with told b) ≡ true)
@@ -188,10 +177,7 @@ module _ (mode : Mode) (told : List Told) (held log : List Body) (sound : IsSoun
   spelled_b = all_at IsHeld held sound.spelled n b at
 
   apart : (m : ℕ) (c : Body) → (m ≡ n → ⊥) → slice_get held m ≡ Some c → same_body b c ≡ false
-  apart m c other e = elim (cases_Bool (same_body b c)) [
-    | inr k ↦ k
-    | inl k ↦ absurd (other (one_place held (held_differ held told sound.in_order) m n c b e at (sym ((bytes_decides b.bytes c.bytes).0 k))))
-  ]
+  apart = others_differ held (held_differ held told sound.in_order) n b at
 
   heard_asked : (m : ℕ) (c : Body) → slice_get held m ≡ Some c → IsAsked now c
   heard_asked m c e x of_c none =

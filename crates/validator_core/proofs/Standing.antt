@@ -1,5 +1,5 @@
 -- What callers know of a core, and of one that was told nothing.
-use Rattle.std.proofs.Common.{◌<◌, [], ◌∷◌, refl, arith}
+use Rattle.std.proofs.Common.{◌<◌, [], refl, arith}
 use Rattle.std.proofs.lemmas.List.Elements.{All-nil}
 use Rattle.keri_outside.specs.declared.limits.Limits.{Limits}
 use Rattle.key_state.specs.Same.{distinct}
@@ -9,8 +9,8 @@ use Rattle.journal.specs.Acceptance.{grown_by}
 use Rattle.journal.specs.History.{has_verdict, bodies}
 use Rattle.journal.specs.Journals.{told_by, chosen}
 use Rattle.journal.specs.Logs.{state}
-use Rattle.journal.specs.Questions.{IsRegular}
 use Rattle.journal.specs.Replies.{IsWithin}
+use Rattle.journal.proofs.Premises.{regular_nothing}
 use Rattle.validator_core.specs.Tables.{Tables, held_by, view_of, number_of, HasNoHeld, IsSound, IsTally, IsCore}
 use Rattle.validator_core.specs.View.{Stands, IsHeld}
 use Rattle.validator_core.proofs.Held.{told_count}
@@ -26,10 +26,6 @@ stands t fits = record {
 }
 
 -- NOTHING: empty tables fit
-none_regular : (mode : Mode) → IsRegular mode [] []
-none_regular mode [] later reader b key sig verdict e = cc
-none_regular mode (t ∷ earlier) later reader b key sig verdict e = cc
-
 none_sound : (mode : Mode) → IsSound mode [] [] []
 unfolding bodies accepted grown_by distinct has_verdict
 none_sound mode = record {
@@ -41,7 +37,7 @@ none_sound mode = record {
   asked = λ m b at. cc;
   heard_held = λ x h. cc;
   receipts = All-nil HasNoHeld;
-  regular = none_regular mode;
+  regular = regular_nothing mode;
 }
 
 none_within : (limits : Limits) → IsWithin limits [] []

@@ -26,9 +26,9 @@ use Rattle.journal.proofs.Asking.{triples_on}
 use Rattle.journal.proofs.Accepting.{same_body-refl}
 use Rattle.journal.proofs.Different.{Differ}
 use Rattle.journal.proofs.Inceptions.{inception}
+use Rattle.journal.proofs.Places.{all_at, one_place, some_at}
 use Rattle.validator_core.specs.View.{CoreView, IsHeld, accepted_by, state_of, waits_for}
 use Rattle.validator_core.specs.Tables.{Tables, IsSound, IsCore, held_by, view_of}
-use Rattle.journal.proofs.Places.{all_at, one_place, some_at}
 use Rattle.validator_core.proofs.Raising.{triples_are}
 use Rattle.validator_core.proofs.Ready.{has_yes, ready_is, signed_by_yes}
 use Rattle.validator_core.proofs.Settled.{held_differ}

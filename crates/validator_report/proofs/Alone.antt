@@ -4,7 +4,7 @@ use Rattle.std.specs.Prelude.{filter, flat_map, fold}
 use Rattle.std.specs.List.{list_all}
 use Rattle.std.proofs.lemmas.Bool.{cases_Bool, and_parts, and_from, not-true, not_from_false}
 use Rattle.std.proofs.lemmas.List.Elements.{All-nil, All-cons, filter-append}
-use Rattle.std.proofs.lemmas.List.Folds.{list_all-append}
+use Rattle.std.proofs.lemmas.List.Folds.{list_all-append, flat_map-map}
 use Rattle.std.proofs.lemmas.List.Sorted.{IsPermutation-map, All-permutation}
 use Rattle.std.specs.List.Sorted.{IsPermutation}
 use Rattle.cesr_codes.specs.declared.prefix.Prefix.{Prefix}
@@ -22,15 +22,17 @@ use Rattle.journal.specs.Logs.{is_of, live, live_with, same_body, state, stepped
 use Rattle.journal.proofs.Different.{Differ}
 use Rattle.journal.proofs.Accepting.{same_body-refl}
 use Rattle.journal.proofs.Keeping.{list_all-filter, accepted_grown}
+use Rattle.journal.proofs.Same.{same_prefix_is, same_prefix_itself, turned}
+use Rattle.journal.proofs.Apart.{flat_map-All}
+use Rattle.journal.proofs.Premises.{nothing_grown}
 use Rattle.report_lines.specs.Lines.{accepted_text}
 use Rattle.report_lines.specs.declared.standing.Standing.TheVariants.{Live}
 use Rattle.validator_core.specs.View.{CoreView, Stands, accepted_by, told_of}
 use Rattle.validator_report.specs.Report.{IsListing, body_cmp, log_lines, prefix_cmp, prefixes_of, standing_in, state_lines}
 use Rattle.validator_report.specs.Rows.{own_lines}
 use Rattle.validator_report.proofs.Held.{all_plain, is_plain}
-use Rattle.validator_report.proofs.Listing.{flat_map-All, flat_map-map}
 use Rattle.validator_report.proofs.Ordered.{prefixes_sorted}
-use Rattle.validator_report.proofs.Prefixes.{distinct-differ, fails_among, filter-nothing, same_prefix-refl, same_prefix-sym}
+use Rattle.validator_report.proofs.Prefixes.{distinct-differ, fails_among, filter-nothing}
 
 -- an inception begins a state, and follows none
 first-inception : (e : Event) → is_inception e ≡ true → (s : State) × (stepped None e ≡ Some s)
@@ -92,20 +94,20 @@ module _ (log : List Body) (grown : IsGrown log) (begin : AllBegin log) where
       (none_behind before (mid ++ c ∷ []) later b (e ∙ sym (append_assoc (before ++ b ∷ mid) (c ∷ []) later)
       ∙ ap (λ bs. bs ++ later) (append_assoc before (b ∷ mid) (c ∷ []))))
 
-  turned : (p : Prefix) (bs : List Body) → list_all (λ c. not (same_prefix p (prefix_of c.event))) bs ≡ true
+  others_turned : (p : Prefix) (bs : List Body) → list_all (λ c. not (same_prefix p (prefix_of c.event))) bs ≡ true
       → list_all (λ c. not (is_of p c)) bs ≡ true
-  turned p [] h = refl
-  turned p (c ∷ bs) h =
+  others_turned p [] h = refl
+  others_turned p (c ∷ bs) h =
       let parts = and_parts (not (same_prefix p (prefix_of c.event))) (list_all (λ c. not (same_prefix p (prefix_of c.event))) bs) h in
-      and_from _ _ (ap not (same_prefix-sym (prefix_of c.event) p) ∙ parts.0) (turned p bs parts.1)
+      and_from _ _ (ap not (turned same_prefix same_prefix_is same_prefix_itself (prefix_of c.event) p) ∙ parts.0) (others_turned p bs parts.1)
 
   -- it is the one event of its identifier
   alone : (before later : List Body) (b : Body) → log ≡ before ++ b ∷ later → filter (is_of (prefix_of b.event)) log ≡ b ∷ []
   alone before later b e =
       let p = prefix_of b.event in
       let none = none_before before later b e in
-      let rest = filter-nothing (is_of p) later (turned p later (none_behind before [] later b (e ∙ sym (append_assoc before (b ∷ []) later)))) in
-      let here = same_prefix-refl p in
+      let rest = filter-nothing (is_of p) later (others_turned p later (none_behind before [] later b (e ∙ sym (append_assoc before (b ∷ []) later)))) in
+      let here = same_prefix_itself p in
       ap (filter (is_of p)) e ∙ filter-append (is_of p) before (b ∷ later) ∙ rw (none, here, rest) refl
 
   -- so it is live, and its lines are its own and that of its state
@@ -180,7 +182,3 @@ logs_listing core stands numbers chosen_are text l =
           (All-permutation (HasOwn log grown begin) log l.ordered l.has_members (each_own log grown begin))
           ∙ sym (flat_map-map (log_lines log) (λ b. prefix_of b.event) l.ordered);
     }
-  where
-    nothing_grown : IsGrown []
-    nothing_grown [] later b e = cc
-    nothing_grown (c ∷ before) later b e = cc

@@ -1,38 +1,26 @@
 -- What is held: how many bodies, and those of numbers.
-use Rattle.std.proofs.Common.{◌≡◌, ℕ, ◌+◌, ◌<◌, ◌≤◌, ◌||◌, Bool, true, not, cond, List, [], ◌∷◌, ◌++◌, length, All, Option, Some, None, refl, sym, ◌∙◌, ap, subst, arith, take, get_or, inl, inr}
-use Rattle.std.specs.Prelude.{filter, filter_map, flat_map, slice_get, option_to_list, is_some}
+use Rattle.std.proofs.Common.{◌≡◌, ℕ, ◌+◌, ◌<◌, ◌≤◌, ◌||◌, Bool, true, cond, List, [], ◌∷◌, ◌++◌, length, All, Option, Some, None, refl, sym, ◌∙◌, ap, arith, take, get_or, inl, inr}
+use Rattle.std.specs.Prelude.{filter, filter_map, slice_get, option_to_list, is_some}
 use Rattle.std.specs.List.{list_all}
 use Rattle.std.proofs.lemmas.Bool.{cases_Bool, and_from}
 use Rattle.std.proofs.lemmas.List.{take_more}
 use Rattle.std.proofs.lemmas.List.Elements.{filter_map-append, filter_more}
-use Rattle.std.proofs.lemmas.List.Filters.{length-filter_both}
-use Rattle.std.proofs.lemmas.Option.{slice_get-get_or, slice_get_cases, slice_get_within, get_or_from_slice_get}
+use Rattle.std.proofs.lemmas.Option.{slice_get-get_or, slice_get_cases}
 use Rattle.event_body.specs.Events.{is_inception, is_receipt}
 use Rattle.event_body.specs.Judging.{SpellsEvent}
 use Rattle.event_body.specs.declared.event.Event.{Event}
 use Rattle.event_body.specs.declared.event.Event.TheVariants.{Icp, Rot, Ixn, Dip, Drt, Rct}
-use Rattle.key_state.specs.Same.{distinct}
 use Rattle.journal.specs.declared.body.Body.{Body}
-use Rattle.journal.specs.History.{bodies, taken}
-use Rattle.journal.specs.Logs.{same_body}
 use Rattle.journal.specs.Journals.{chosen}
+use Rattle.journal.proofs.Distinct.{bodies_shorter}
+use Rattle.journal.proofs.Places.{all_at}
 use Rattle.validator_core.specs.View.{CoreView, IsHeld, Stands, told_of}
 use Rattle.validator_report.specs.Report.{reason_of}
 use Rattle.validator_report.specs.Rows.{if_waits}
 
--- first comings are no more than all
-length-distinct-le : {X : Type 0} (same : X → X → Bool) (xs : List X) → length (distinct same xs) ≤ length xs
-unfolding distinct
-length-distinct-le same [] = omega arith
-length-distinct-le same (x ∷ xs) =
-    omega (arith, length-filter_both (λ y. not (same x y)) (λ y. not (not (same x y))) (λ y. refl) (distinct same xs), length-distinct-le same xs)
-
 -- each body came with a message
 pub few_held : (core : CoreView) → Stands core → length core.held ≤ core.limits.messages
-unfolding bodies
-few_held core stands =
-    let e = ap length stands.in_order in
-    omega (arith, e, length-distinct-le same_body (flat_map taken (told_of core)), stands.within.messages)
+few_held core stands = omega (arith, ap length stands.in_order, bodies_shorter (told_of core), stands.within.messages)
 
 filter_map-one : {X Y : Type 0} (h : X → Option Y) (x : X) → filter_map h (x ∷ []) ≡ option_to_list (h x)
 filter_map-one h x = elim (h x) as (λ o. h x ≡ o → filter_map h (x ∷ []) ≡ option_to_list (h x)) [
@@ -83,5 +71,5 @@ unfolding chosen
 all_plain held [] all = refl
 all_plain held (n ∷ numbers) all = elim (slice_get held n) as (λ o. slice_get held n ≡ o → list_all is_plain (filter_map (λ n. slice_get held n) (n ∷ numbers)) ≡ true) [
   | None ↦ (λ e. rw e (all_plain held numbers all))
-  | Some b ↦ (λ e. rw e (and_from _ _ (plain b (subst IsHeld (get_or_from_slice_get held n b b e) (all n b (slice_get_within held n b e)))) (all_plain held numbers all)))
+  | Some b ↦ (λ e. rw e (and_from _ _ (plain b (all_at IsHeld held all n b e)) (all_plain held numbers all)))
 ] refl

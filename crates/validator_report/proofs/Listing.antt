@@ -1,27 +1,17 @@
 -- Rows of bodies: one more, and their lines in order.
-use Rattle.std.proofs.Common.{◌≡◌, ℕ, List, [], ◌∷◌, ◌++◌, map, All, Option, Some, None, refl, sym, ◌∙◌, ap, subst, append-nil, is_lt}
+use Rattle.std.proofs.Common.{ℕ, List, [], ◌∷◌, ◌++◌, map, Option, Some, None, refl, sym, ◌∙◌, ap, subst, append-nil, is_lt}
 use Rattle.std.proofs.lemmas.List.{map-append}
-use Rattle.std.proofs.lemmas.List.Elements.{All-nil, All-head, All-tail, All-push}
+use Rattle.std.proofs.lemmas.List.Elements.{All-nil, All-push}
 use Rattle.std.proofs.lemmas.List.Sorted.{IsPermutation-map, All-permutation}
 use Rattle.std.specs.List.Sorted.{IsPermutation, IsSorted}
 use Rattle.std.specs.Prelude.{flat_map, option_to_list, string_bytes}
+use Rattle.std.proofs.lemmas.List.Folds.{flat_map-map}
 use Rattle.journal.specs.declared.body.Body.{Body}
+use Rattle.journal.proofs.Apart.{flat_map-All}
 use Rattle.validator_report.specs.Report.{body_cmp, IsListing}
 use Rattle.validator_report.specs.Rows.{AreRows, HasLines, IsRow, body_of}
 use Rattle.validator_report.specs.declared.row.Row.{Row}
 use Rattle.validator_report.proofs.Ordered.{IsSortedBy-map}
-
--- what is true of each element makes one text of the two
-pub flat_map-All : {X : Type 0} (f g : X → List ℕ) (xs : List X) → All (λ x. f x ≡ g x) xs → flat_map f xs ≡ flat_map g xs
-flat_map-All f g [] h = refl
-flat_map-All f g (x ∷ xs) h =
-    let here = All-head (λ y. f y ≡ g y) x xs h in
-    let behind = flat_map-All f g xs (All-tail (λ y. f y ≡ g y) x xs h) in
-    λ i. here i ++ behind i
-
-pub flat_map-map : {X Y : Type 0} (f : Y → List ℕ) (g : X → Y) (xs : List X) → flat_map f (map g xs) ≡ flat_map (λ x. f (g x)) xs
-flat_map-map f g [] = refl
-flat_map-map f g (x ∷ xs) = ap (λ ys. f (g x) ++ ys) (flat_map-map f g xs)
 
 module _ (lines : Body → List ℕ) where
   pub AreRows-nil : AreRows lines [] []

@@ -10,9 +10,9 @@ use Rattle.key_state.specs.declared.state_fault.StateFault.{StateFault}
 use Rattle.key_state.specs.declared.state_fault.StateFault.TheVariants.{Misfit as IsMisfit}
 use Rattle.key_state.specs.KeyStates.{IsCauseIn}
 use Rattle.journal.specs.declared.body.Body.{Body}
+use Rattle.journal.proofs.Places.{all_at}
 use Rattle.validator_core.specs.View.{CoreView, IsHeld, state_of}
 use Rattle.validator_core.specs.Tables.{Begins}
-use Rattle.journal.proofs.Places.{all_at}
 use Rattle.validator_core.proofs.Thin.{kinds}
 use Rattle.validator_core.proofs.validator.Core.begun.Goals as goal
 

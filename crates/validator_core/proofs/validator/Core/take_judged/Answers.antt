@@ -1,8 +1,8 @@
 use Rattle.std.proofs.Common.{◌<◌, length, sym, ◌∙◌, ap, slice_get, arith}
 use Rattle.std.proofs.lemmas.Option.{slice_get_within}
+use Rattle.journal.proofs.Places.{some_at}
 use Rattle.validator_core.specs.Tables.{view_of}
 use Rattle.validator_core.proofs.Cores.{few_held}
-use Rattle.journal.proofs.Places.{some_at}
 use Rattle.validator_core.proofs.Held.{held_length}
 use Rattle.validator_core.proofs.Inside.{tables_of}
 use Rattle.validator_core.proofs.Judged.{at_place, not_placed, held_texts, the_body, receipt_claims, takes_message, if_ok}
