@@ -1,11 +1,12 @@
 //! `check` over an outside in memory.
 
-use crate::runs::{Case, INCEPTION, READ_FAULT, RECEIPT, joined, outside, owned};
+use crate::answered::{assert_answer, assert_answers, run_case};
+use crate::runs::{Case, INCEPTION, READ_FAULT, RECEIPT};
 use cesr_stream::{Bad, BadReason};
 use event_body::BodyFault;
 use journal::Reason;
 use keri_outside::MakingKind;
-use keri_roles::{Close, run};
+use keri_roles::Close;
 use std::test::Fail;
 
 const LINE: &str =
@@ -107,19 +108,7 @@ fn files_and_words_are_answered(rt: HostRuntime) -> Result<(), Fail> {
             ..refused(&[])
         },
     ];
-    for case in &cases {
-        for piece in 1..1_200 {
-            let case = Case { piece, ..*case };
-            let mut outside = outside(alloc, &case)?;
-            let done = run(alloc, &owned(alloc, case.words)?, &mut outside);
-            assert_eq!(rt;
-                outside.sink().bytes(),
-                joined(alloc, case.text)?.as_slice()
-            );
-            assert_eq!(rt; done.status, case.status);
-        }
-    }
-    Ok(())
+    assert_answers(&rt, alloc, cases.as_slice())
 }
 
 #[test]
@@ -127,15 +116,9 @@ fn what_was_read_before_a_fault_is_answered(rt: HostRuntime) -> Result<(), Fail>
     let alloc = rt.alloc();
     let case = Case {
         failing_reads: &[1],
-        ..plain(&[RECEIPT], &[], 5)
+        ..plain(&[RECEIPT], &[LINE, READ_FAULT], 5)
     };
-    let mut outside = outside(alloc, &case)?;
-    let done = run(alloc, &owned(alloc, case.words)?, &mut outside);
-    assert_eq!(rt;
-        outside.sink().bytes(),
-        joined(alloc, &[LINE, READ_FAULT])?.as_slice()
-    );
-    assert_eq!(rt; done.status, case.status);
+    let outside = assert_answer(&rt, alloc, &case)?;
     assert_eq!(rt; outside.makings().len(), 1);
     assert!(rt;
         outside.makings().iter().all(|making| making.kind == MakingKind::Source && !making.failed)
@@ -147,8 +130,7 @@ fn what_was_read_before_a_fault_is_answered(rt: HostRuntime) -> Result<(), Fail>
 fn a_run_hands_back_its_reader(rt: HostRuntime) -> Result<(), Fail> {
     let alloc = rt.alloc();
     let case = plain(&[EXCHANGED, RECEIPT, "-DAB"], &[], 3);
-    let mut outside = outside(alloc, &case)?;
-    let done = run(alloc, &owned(alloc, case.words)?, &mut outside);
+    let (done, _) = run_case(alloc, &case)?;
     let bad = Bad {
         place: 290,
         reason: BadReason::GroupNotSupported,

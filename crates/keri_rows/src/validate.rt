@@ -1,9 +1,10 @@
 //! `validate` over an outside in memory. The signature was made by Python's `hashlib` and `base64`.
 
-use crate::runs::{Case, INCEPTION, READ_FAULT, RECEIPT, joined, outside, owned};
+use crate::answered::{assert_answer, assert_answers, run_case};
+use crate::runs::{Case, INCEPTION, READ_FAULT, RECEIPT};
 use journal::{Entry, Reason};
 use keri_outside::MakingKind;
-use keri_roles::{Close, run};
+use keri_roles::Close;
 use std::test::Fail;
 
 const SIGNED: &str =
@@ -89,19 +90,7 @@ fn streams_are_validated(rt: HostRuntime) -> Result<(), Fail> {
         unmade(&[1], &[VERIFIER_FAULT], 7),
         unmade(&[0, 1], &[READ_FAULT], 5),
     ];
-    for case in &cases {
-        for piece in 1..1_200 {
-            let case = Case { piece, ..*case };
-            let mut outside = outside(alloc, &case)?;
-            let done = run(alloc, &owned(alloc, case.words)?, &mut outside);
-            assert_eq!(rt;
-                outside.sink().bytes(),
-                joined(alloc, case.text)?.as_slice()
-            );
-            assert_eq!(rt; done.status, case.status);
-        }
-    }
-    Ok(())
+    assert_answers(&rt, alloc, cases.as_slice())
 }
 
 #[test]
@@ -111,13 +100,7 @@ fn what_was_read_before_a_fault_is_validated(rt: HostRuntime) -> Result<(), Fail
         failing_reads: &[1],
         ..plain(&[INCEPTION, SIGNED], &[EVENT, STATE, READ_FAULT], 5)
     };
-    let mut outside = outside(alloc, &case)?;
-    let done = run(alloc, &owned(alloc, case.words)?, &mut outside);
-    assert_eq!(rt;
-        outside.sink().bytes(),
-        joined(alloc, case.text)?.as_slice()
-    );
-    assert_eq!(rt; done.status, case.status);
+    let outside = assert_answer(&rt, alloc, &case)?;
     let kinds = [MakingKind::Source, MakingKind::Verifier];
     assert!(rt; outside.makings().iter().map(|making| making.kind).eq(kinds));
     Ok(())
@@ -127,8 +110,7 @@ fn what_was_read_before_a_fault_is_validated(rt: HostRuntime) -> Result<(), Fail
 fn a_run_hands_back_its_journal(rt: HostRuntime) -> Result<(), Fail> {
     let alloc = rt.alloc();
     let case = plain(&[INCEPTION, SIGNED, INCEPTION, "-AAA"], &[], 3);
-    let mut outside = outside(alloc, &case)?;
-    let done = run(alloc, &owned(alloc, case.words)?, &mut outside);
+    let (done, _) = run_case(alloc, &case)?;
     assert_eq!(rt; done.journal.bodies.as_slice().len(), 1);
     assert_eq!(rt; done.journal.entries.as_slice().len(), 2);
     assert!(rt;
