@@ -29,13 +29,7 @@ const SIGNATURE: &str =
 
 // A run of `check a` in which nothing fails.
 fn plain(parts: &'static [&'static str], text: &'static [&'static str], status: u8) -> Case {
-    Case {
-        words: &["check", "a"],
-        parts,
-        text,
-        status,
-        ..Case::nothing()
-    }
+    Case::plain(&["check", "a"], parts, text, status)
 }
 
 // A run in which these words refuse.

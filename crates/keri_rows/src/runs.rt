@@ -30,11 +30,16 @@ pub(crate) struct Case {
 }
 
 impl Case {
-    /// A run of no words on an empty file, in which nothing fails.
-    pub(crate) fn nothing() -> Case {
+    /// A run of these words on a file of these parts, in which nothing fails.
+    pub(crate) fn plain(
+        words: &'static [&'static str],
+        parts: &'static [&'static str],
+        text: &'static [&'static str],
+        status: u8,
+    ) -> Case {
         Case {
-            words: &[],
-            parts: &[],
+            words,
+            parts,
             piece: 4_096,
             stream_bytes: 4_294_967_296,
             messages: 1_048_576,
@@ -42,8 +47,8 @@ impl Case {
             failing_makings: &[],
             failing_asks: &[],
             failing_puts: &[],
-            text: &[],
-            status: 0,
+            text,
+            status,
         }
     }
 }

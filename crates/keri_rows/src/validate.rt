@@ -23,13 +23,12 @@ const VERIFIER_FAULT: &str = "fault 0 verifier\n";
 
 // A run of `validate --helper rehearsal a` in which nothing fails.
 fn plain(parts: &'static [&'static str], text: &'static [&'static str], status: u8) -> Case {
-    Case {
-        words: &["validate", "--helper", "rehearsal", "a"],
+    Case::plain(
+        &["validate", "--helper", "rehearsal", "a"],
         parts,
         text,
         status,
-        ..Case::nothing()
-    }
+    )
 }
 
 // A run on the signed inception in which these makings fail.
