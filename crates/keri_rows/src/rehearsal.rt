@@ -1,12 +1,12 @@
 //! Verdicts of the rehearsal. The signatures were made by Python's `hashlib` and `base64`.
 
+use crate::runs::helper;
 use cesr_codes::{Key, Sig};
 use keri_outside::{
-    Failed, Limits, MakingKind, MemHelper, MemOutside, MemSink, Outside, Rehearsal, Steps,
-    VerdictRule, Verifier, rehearse,
+    Failed, Limits, MakingKind, MemOutside, MemSink, Outside, Rehearsal, Steps, VerdictRule,
+    Verifier, rehearse,
 };
 use lists::Items;
-use std::alloc::Global;
 use std::test::Fail;
 
 // A key, a body, and the rehearsal's signature of the key on the body.
@@ -60,19 +60,6 @@ fn asked_twice<O: Outside>(
         }
         Err(Failed) => None,
     }
-}
-
-fn helper(
-    alloc: Global,
-    name: &str,
-    rule: VerdictRule,
-    failing: &[u64],
-) -> Result<MemHelper, Fail> {
-    Ok(MemHelper {
-        name: Items::from_vec(Vec::from_slice(alloc, name.as_bytes())?),
-        rule,
-        failing: Items::from_vec(Vec::from_slice(alloc, failing)?),
-    })
 }
 
 #[test]

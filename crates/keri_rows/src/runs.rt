@@ -62,11 +62,17 @@ pub(crate) fn joined(alloc: Global, parts: &[&str]) -> Result<Vec<u8>, Fail> {
     Ok(bytes)
 }
 
-fn helper(alloc: Global, case: &Case) -> Result<MemHelper, Fail> {
+/// A helper that answers by the rule. Its asks of the numbers in `failing`, counted from 0, fail.
+pub(crate) fn helper(
+    alloc: Global,
+    name: &str,
+    rule: VerdictRule,
+    failing: &[u64],
+) -> Result<MemHelper, Fail> {
     Ok(MemHelper {
-        name: Items::from_vec(Vec::from_slice(alloc, b"rehearsal")?),
-        rule: VerdictRule::Rehearsal,
-        failing: Items::from_vec(Vec::from_slice(alloc, case.failing_asks)?),
+        name: Items::from_vec(Vec::from_slice(alloc, name.as_bytes())?),
+        rule,
+        failing: Items::from_vec(Vec::from_slice(alloc, failing)?),
     })
 }
 
@@ -87,7 +93,13 @@ pub(crate) fn outside(alloc: Global, case: &Case) -> Result<MemOutside, Fail> {
     limits.stream_bytes = case.stream_bytes.min(4_294_967_296);
     limits.messages = case.messages.min(1_048_576);
     let mut helpers = Items::new(alloc);
-    helpers.push(helper(alloc, case)?)?;
+    let rehearsal = helper(
+        alloc,
+        "rehearsal",
+        VerdictRule::Rehearsal,
+        case.failing_asks,
+    )?;
+    helpers.push(rehearsal)?;
     let outside = MemOutside::new(alloc, files, sink, failing_makings, limits);
     Ok(outside.with_helpers(helpers))
 }
