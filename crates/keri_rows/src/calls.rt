@@ -1,11 +1,11 @@
 //! A validator's core, call by call.
 
+use crate::messages::{held, message};
 use crate::runs::INCEPTION;
-use cesr_codes::{IndexedSig, Key, KeyCode, Sig};
-use cesr_stream::{Group, Message};
+use cesr_codes::{Key, KeyCode, Sig};
+use cesr_stream::Message;
 use journal::{Mode, Noted, Question, Reply, Why};
 use keri_outside::{Limits, Steps};
-use lists::Items;
 use std::alloc::Global;
 use std::test::Fail;
 use validator_core::Core;
@@ -21,18 +21,8 @@ const NONE: Question = Question {
 
 // The inception with a signature by its key, all of whose bytes are this one.
 fn signed(alloc: Global, byte: u8) -> Result<Message, Fail> {
-    let mut sigs = Items::new(alloc);
-    if let Some(sig) = IndexedSig::new(false, 0, None, Sig { raw: [byte; 64] }) {
-        sigs.push(sig)?;
-    }
-    let mut groups = Items::new(alloc);
-    groups.push(Group::Held(sigs))?;
-    Ok(Message {
-        place: 0,
-        body: Items::from_vec(Vec::from_slice(alloc, INCEPTION.as_bytes())?),
-        groups,
-        excess: false,
-    })
+    let sig = Sig { raw: [byte; 64] };
+    message(alloc, INCEPTION, held(alloc, sig)?)
 }
 
 #[test]

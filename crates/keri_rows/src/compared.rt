@@ -3,8 +3,9 @@
 ghost use Rattle.std.specs.Prelude.{All};
 ghost use Rattle.journal_plain.specs.Readings.{IsSpelled};
 
+use crate::messages::{held, message};
 use crate::runs::INCEPTION;
-use cesr_codes::{IndexedSig, Key, KeyCode, Sig};
+use cesr_codes::{Key, KeyCode, Sig};
 use cesr_stream::{Couple, Group, Message};
 use event_body::read_body;
 use journal::{Body, Mode, Noted, Question, Reply};
@@ -45,32 +46,17 @@ fn group(alloc: Global, key: Key, sig: Sig) -> Result<Group, Fail> {
             let couples = Vec::from_slice(alloc, &[Couple { key, sig }])?;
             Ok(Group::Couples(Items::from_vec(couples)))
         }
-        KeyCode::Rotating => {
-            let Some(indexed) = IndexedSig::new(false, 0, None, sig) else {
-                unreachable!();
-            };
-            let sigs = Vec::from_slice(alloc, &[indexed])?;
-            Ok(Group::Held(Items::from_vec(sigs)))
-        }
+        KeyCode::Rotating => held(alloc, sig),
     }
-}
-
-fn message(alloc: Global, body: &str, signed: &str, key: Key) -> Result<Message, Fail> {
-    let mut groups = Items::new(alloc);
-    groups.push(group(alloc, key, rehearse(&key, signed.as_bytes()))?)?;
-    Ok(Message {
-        place: 0,
-        body: Items::from_vec(Vec::from_slice(alloc, body.as_bytes())?),
-        groups,
-        excess: false,
-    })
 }
 
 fn messages(alloc: Global) -> Result<Vec<Message>, Fail> {
     let mut messages = Vec::new(alloc);
     for (body, signed, code, byte) in TOLD {
         let raw = [byte; 32];
-        messages.push(message(alloc, body, signed, Key { code, raw })?)?;
+        let key = Key { code, raw };
+        let sig = rehearse(&key, signed.as_bytes());
+        messages.push(message(alloc, body, group(alloc, key, sig)?)?)?;
     }
     Ok(messages)
 }

@@ -12,6 +12,8 @@ mod codes;
 #[cfg(test)]
 mod compared;
 #[cfg(test)]
+mod messages;
+#[cfg(test)]
 mod rehearsal;
 #[cfg(test)]
 mod runs;
