@@ -11,7 +11,7 @@ use crate::{CodeFault, primitive};
 use std::fmt;
 
 /// The code of a digest: `E` for Blake3-256, `I` for SHA2-256.
-#[derive(Clone, Copy, PartialEq, Eq, Hash, Debug)]
+#[derive(Clone, Copy, PartialEq, Eq, PartialOrd, Ord, Hash, Debug)]
 pub enum DigestCode {
     Blake3,
     Sha256,
@@ -59,7 +59,7 @@ impl Code for DigestCode {
 }
 
 /// A digest.
-#[derive(Clone, Copy, PartialEq, Eq, Hash, Debug)]
+#[derive(Clone, Copy, PartialEq, Eq, PartialOrd, Ord, Hash, Debug)]
 pub struct Digest {
     pub code: DigestCode,
     pub raw: [u8; 32],

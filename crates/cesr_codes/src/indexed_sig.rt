@@ -9,7 +9,7 @@ use crate::{CodeFault, Sig, primitive};
 use std::fmt;
 
 /// A signature with its key's place in the current list and, where it has one, in the next list.
-#[derive(Clone, Copy, PartialEq, Eq, Hash, Debug)]
+#[derive(Clone, Copy, PartialEq, Eq, PartialOrd, Ord, Hash, Debug)]
 pub struct IndexedSig {
     /// Whether each index has two characters: then it is at most 4,095, and otherwise at most 63.
     pub big: bool,

@@ -11,7 +11,7 @@ use crate::{CodeFault, primitive};
 use std::fmt;
 
 /// The code of an Ed25519 public key: `B` for one that can't be rotated, `D` for one that can.
-#[derive(Clone, Copy, PartialEq, Eq, Hash, Debug)]
+#[derive(Clone, Copy, PartialEq, Eq, PartialOrd, Ord, Hash, Debug)]
 pub enum KeyCode {
     Fixed,
     Rotating,
@@ -59,7 +59,7 @@ impl Code for KeyCode {
 }
 
 /// A public key.
-#[derive(Clone, Copy, PartialEq, Eq, Hash, Debug)]
+#[derive(Clone, Copy, PartialEq, Eq, PartialOrd, Ord, Hash, Debug)]
 pub struct Key {
     pub code: KeyCode,
     pub raw: [u8; 32],

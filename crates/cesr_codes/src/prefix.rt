@@ -10,7 +10,7 @@ use crate::{CodeFault, Digest, Key};
 use std::fmt;
 
 /// The prefix of an identifier: its one key, or the digest of its inception.
-#[derive(Clone, Copy, PartialEq, Eq, Hash, Debug)]
+#[derive(Clone, Copy, PartialEq, Eq, PartialOrd, Ord, Hash, Debug)]
 pub enum Prefix {
     Basic(Key),
     Said(Digest),

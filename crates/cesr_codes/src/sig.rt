@@ -44,7 +44,7 @@ impl Code for SigCode {
 }
 
 /// An Ed25519 signature.
-#[derive(Clone, Copy, PartialEq, Eq, Hash, Debug)]
+#[derive(Clone, Copy, PartialEq, Eq, PartialOrd, Ord, Hash, Debug)]
 pub struct Sig {
     pub raw: [u8; 64],
 }

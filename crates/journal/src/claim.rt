@@ -3,7 +3,7 @@
 use cesr_codes::{IndexedSig, Key, Sig};
 
 /// A signature that came with a body.
-#[derive(Clone, Copy, PartialEq, Eq, Debug)]
+#[derive(Clone, Copy, PartialEq, Eq, PartialOrd, Ord, Debug)]
 pub enum Claim {
     /// By the signing key at an index.
     Held(IndexedSig),
