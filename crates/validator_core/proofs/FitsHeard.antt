@@ -34,6 +34,10 @@ use Rattle.validator_core.proofs.Questions.{open_here, fewer}
 use Rattle.validator_core.proofs.Settled.{held_differ}
 use Rattle.validator_core.proofs.Sound.{heard_waits, heard_joins, heard_ready, bodies_heard}
 
+pub nothing : (o : Option State) → is_none o ≡ true → o ≡ None
+nothing None h = refl
+nothing (Some x) h = cc
+
 -- the states with that of a new identifier
 states_more : (log : List Body) (states : List State) (b : Body) (s : State) → AreStates log states → is_none (state log (prefix_of b.event)) ≡ true
     → first b.event ≡ Ok s → s.prefix ≡ prefix_of b.event → AreStates (log ++ b ∷ []) (states ++ s ∷ [])
@@ -47,10 +51,6 @@ states_more log states b s are none is named prefix = find-append (λ s. same_pr
       rw here (or_none (find (λ s. same_prefix s.prefix prefix) states) ∙ are prefix ∙ sym (state-other log b prefix k)))
 ]
   where
-    nothing : (o : Option State) → is_none o ≡ true → o ≡ None
-    nothing None h = refl
-    nothing (Some x) h = cc
-
     or_none : (o : Option State) → option_or o None ≡ o
     or_none None = refl
     or_none (Some x) = refl

@@ -1,6 +1,7 @@
 -- What a verdict does to a core, as callers see it.
-use Rattle.std.proofs.Common.{◌≡◌, ℕ, zero, suc, ◌+◌, ◌≤◌, arith, Bool, true, false, ◌&&◌, List, [], ◌∷◌, ◌++◌, length, map, Option, Some, None, is_none, Ok, refl, sym, ◌∙◌, ap, inl, inr, set, if◌then◌else◌}
-use Rattle.std.specs.Prelude.{slice_get, find}
+use Rattle.std.proofs.Common.{◌≡◌, ℕ, zero, suc, ◌+◌, ◌≤◌, arith, Bool, true, false, ◌&&◌, List, [], ◌∷◌, ◌++◌, length, map, Option, Some, None, is_none, is_some, Ok, refl, sym, ◌∙◌, ap, inl, inr, set, if◌then◌else◌}
+use Rattle.std.specs.Prelude.{slice_get, find, take, IfSome}
+use Rattle.std.proofs.Math.Seq.{take-length, take-append_seam}
 use Rattle.std.specs.Option.{option_map}
 use Rattle.std.specs.List.{list_any}
 use Rattle.std.proofs.lemmas.Bool.{cases_Bool}
@@ -12,7 +13,7 @@ use Rattle.event_body.specs.declared.event.Event.TheVariants.{Icp}
 use Rattle.event_body.specs.Inception.{one_key_inception}
 use Rattle.event_body.specs.Events.{prefix_of, is_receipt}
 use Rattle.key_state.specs.KeyStates.{first, begun as begun_state}
-use Rattle.key_state.specs.Same.{same_key, same_sig}
+use Rattle.key_state.specs.Same.{same_key, same_prefix, same_sig}
 use Rattle.key_state.specs.States.{State}
 use Rattle.journal.specs.declared.body.Body.{Body}
 use Rattle.journal.specs.declared.entry.Entry.TheVariants.{Heard}
@@ -26,7 +27,7 @@ use Rattle.journal.proofs.Places.{all_at, some_at}
 use Rattle.validator_core.specs.Cases.{Case}
 use Rattle.validator_core.specs.View.{CoreView, told_of, open_of, state_of, IsHeld, TakesVerdict}
 use Rattle.validator_core.specs.Tables.{Tables, view_of, raised_with, asked_as, with_verdict, IsOpenIn, BeginsBy, Hears, IsSound, IsCore, with_number, with_state}
-use Rattle.validator_core.proofs.FitsHeard.{told_heard, fits_waiting, fits_joining, sound_waiting, sound_joining, fewer_now}
+use Rattle.validator_core.proofs.FitsHeard.{nothing, told_heard, fits_waiting, fits_joining, sound_waiting, sound_joining, fewer_now}
 use Rattle.validator_core.proofs.Held.{held_set, held_length}
 use Rattle.validator_core.proofs.Questions.{noted_here, asked_here}
 use Rattle.validator_core.proofs.Entries.{yes_is_verdict}
@@ -42,6 +43,36 @@ first_named b s h e = elim (kinds b h) [
   | inl k ↦ named_by k.0 k.1 k.2 s (ap first (sym k.3) ∙ e) ∙ ap prefix_of (sym k.3)
   | inr r ↦ (let is = ap first (sym r.1) ∙ e in cc)
 ]
+
+log_is : (t : Tables) → IsCore t → (b : Body) → state_of (view_of t) (prefix_of b.event) ≡ state (chosen (view_of t).held t.accepted) (prefix_of b.event)
+log_is t fits b = ap (λ log. state log (prefix_of b.event)) (sym fits.sound.log_is)
+
+-- a verdict begins the identifier of a body
+module _ (t : Tables) (fits : IsCore t) (q : Question) (yes : Bool) (asks : IsOpenIn (view_of t) q) where
+  abbrev Begun : Bool → Option State → Type 0
+  Begun verdict begun = BeginsBy verdict (view_of t) (slice_get (view_of t).held q.body) begun
+
+  module _ (s : State) (begins : Begun yes (Some s)) where
+    both : (verdict : Bool) → Begun verdict (Some s) → (verdict ≡ true) × (is_none (state_of (view_of t) (prefix_of asks.body.event)) ≡ true) × (first asks.body.event ≡ Ok s)
+    both true b = (let at = asks.at in let first = rw at at b in (refl, first.0, first.1))
+    both false b = cc
+
+    is_yes : yes ≡ true
+    is_yes = (both yes begins).0
+
+    made : first asks.body.event ≡ Ok s
+    made = (both yes begins).2
+
+    named : s.prefix ≡ prefix_of asks.body.event
+    named = first_named asks.body s (all_at IsHeld (view_of t).held fits.sound.spelled q.body asks.body asks.at) made
+
+    none : is_none (state (chosen (view_of t).held t.accepted) (prefix_of asks.body.event)) ≡ true
+    none = ap is_none (sym (log_is t fits asks.body)) ∙ (both yes begins).1
+
+  -- which has no state
+  pub first_begun : (begun : Option State) → Begun yes begun → IfSome begun (λ s. find (λ t. same_prefix t.prefix s.prefix) t.states ≡ None)
+  first_begun None begins = tt
+  first_begun (Some s) begins = fits.states_are s.prefix ∙ ap (state (chosen (view_of t).held t.accepted)) (named s begins) ∙ nothing _ (none s begins)
 
 module _ (t : Tables) (fits : IsCore t) (reader : ℕ) (q : Question) (yes : Bool) (asks : IsOpenIn (view_of t) q) (old new : Case) (case_at : slice_get t.cases q.body ≡ Some old)
     (new_is : new ≡ record { event = old.event; claims = old.claims; asked = map (with_verdict q.key q.sig yes) old.asked }) where
@@ -59,9 +90,6 @@ module _ (t : Tables) (fits : IsCore t) (reader : ℕ) (q : Question) (yes : Boo
 
   the_same : (b : Body) → slice_get (view_of t).held q.body ≡ Some b → asks.body ≡ b
   the_same b at = (let both : Some asks.body ≡ Some b = sym asks.at ∙ at in cc)
-
-  log_is : (b : Body) → state_of (view_of t) (prefix_of b.event) ≡ state (chosen (view_of t).held t.accepted) (prefix_of b.event)
-  log_is b = ap (λ log. state log (prefix_of b.event)) (sym fits.sound.log_is)
 
   hears : (accepted : List ℕ) (states : List State) (log : List Body) → IsSound t.mode (told_of (view_of t) ++ heard reader asks.body q.key q.sig yes ∷ []) (view_of t).held log
       → (b : Body) → slice_get (view_of t).held q.body ≡ Some b → Hears (view_of t) reader b q yes (view_of (after accepted states))
@@ -81,7 +109,7 @@ module _ (t : Tables) (fits : IsCore t) (reader : ℕ) (q : Question) (yes : Boo
   unready true begins =
       let at = asks.at in
       let has : is_receipt asks.body.event ≡ false → is_none (state_of (view_of t) (prefix_of asks.body.event)) ≡ false = rw at at begins in
-      ap is_none (sym (log_is asks.body)) ∙ has (no_receipt (told_of (view_of t)) asks.body (all_at IsHeld (view_of t).held fits.sound.spelled q.body asks.body asks.at) _ asks.raised)
+      ap is_none (sym (log_is t fits asks.body)) ∙ has (no_receipt (told_of (view_of t)) asks.body (all_at IsHeld (view_of t).held fits.sound.spelled q.body asks.body asks.at) _ asks.raised)
 
   pub core_waiting : BeginsBy yes (view_of t) (slice_get (view_of t).held q.body) None → IsCore (after t.accepted t.states)
   core_waiting begins = fits_waiting t fits reader q.body asks.body old new q.key q.sig yes asks.at case_at event claims asked asks.raised asks.unheard (unready yes begins)
@@ -92,26 +120,12 @@ module _ (t : Tables) (fits : IsCore t) (reader : ℕ) (q : Question) (yes : Boo
 
   -- its identifier begins
   module _ (s : State) (begins : BeginsBy yes (view_of t) (slice_get (view_of t).held q.body) (Some s)) where
-    is_yes : (v : Bool) → BeginsBy v (view_of t) (slice_get (view_of t).held q.body) (Some s) → v ≡ true
-    is_yes true b = refl
-    is_yes false b = cc
-
-    begun : (v : Bool) → BeginsBy v (view_of t) (slice_get (view_of t).held q.body) (Some s) → (is_none (state_of (view_of t) (prefix_of asks.body.event)) ≡ true) × (first asks.body.event ≡ Ok s)
-    begun true b = (let at = asks.at in rw at at b)
-    begun false b = cc
-
-    named : s.prefix ≡ prefix_of asks.body.event
-    named = first_named asks.body s (all_at IsHeld (view_of t).held fits.sound.spelled q.body asks.body asks.at) (begun yes begins).1
-
-    none : is_none (state (chosen (view_of t).held t.accepted) (prefix_of asks.body.event)) ≡ true
-    none = ap is_none (sym (log_is asks.body)) ∙ (begun yes begins).0
-
     pub core_joining : IsCore (after (t.accepted ++ q.body ∷ []) (t.states ++ s ∷ []))
-    core_joining = fits_joining t fits reader q.body asks.body old new q.key q.sig yes asks.at case_at event claims asked asks.raised asks.unheard (is_yes yes begins) none s (begun yes begins).1 named
+    core_joining = fits_joining t fits reader q.body asks.body old new q.key q.sig yes asks.at case_at event claims asked asks.raised asks.unheard (is_yes t fits q yes asks s begins) (none t fits q yes asks s begins) s (made t fits q yes asks s begins) (named t fits q yes asks s begins)
 
     pub hears_joining : (b : Body) → slice_get (view_of t).held q.body ≡ Some b → Hears (view_of t) reader b q yes (view_of (after (t.accepted ++ q.body ∷ []) (t.states ++ s ∷ [])))
     hears_joining = hears (t.accepted ++ q.body ∷ []) (t.states ++ s ∷ []) _
-        (sound_joining t fits reader q.body asks.body old new q.key q.sig yes asks.at case_at event claims asked asks.raised asks.unheard (is_yes yes begins) none s (begun yes begins).1 named)
+        (sound_joining t fits reader q.body asks.body old new q.key q.sig yes asks.at case_at event claims asked asks.raised asks.unheard (is_yes t fits q yes asks s begins) (none t fits q yes asks s begins) s (made t fits q yes asks s begins) (named t fits q yes asks s begins))
 
   -- either way
   pub core_hearing : (begun : Option State) → BeginsBy yes (view_of t) (slice_get (view_of t).held q.body) begun → IsCore (after (with_number t.accepted q.body begun) (with_state t.states begun))
@@ -122,6 +136,15 @@ module _ (t : Tables) (fits : IsCore t) (reader : ℕ) (q : Question) (yes : Boo
       → (b : Body) → slice_get (view_of t).held q.body ≡ Some b → Hears (view_of t) reader b q yes (view_of (after (with_number t.accepted q.body begun) (with_state t.states begun)))
   hears_hearing None begins = hears_waiting begins
   hears_hearing (Some s) begins = hears_joining s begins
+
+-- what a body that begins adds
+pub number_added : (numbers : List ℕ) (n : ℕ) (begun : Option State) → (if is_some begun then numbers ++ n ∷ [] else numbers) ≡ with_number numbers n begun
+number_added numbers n None = refl
+number_added numbers n (Some s) = refl
+
+pub state_dropped : (states : List State) (begun : Option State) → take (length states) (with_state states begun) ≡ states
+state_dropped states None = take-length states
+state_dropped states (Some s) = take-append_seam states (s ∷ [])
 
 -- ANSWERS: what becomes of a verdict, by what stands in the case
 module _ (t : Tables) (fits : IsCore t) (q : Question) (b : Body) (case : Case) (at : slice_get (view_of t).held q.body ≡ Some b) (case_at : slice_get t.cases q.body ≡ Some case) where

@@ -10,6 +10,6 @@ tables_of c = record {
   entries = c.journal.entries;
   cases = c.cases.items;
   accepted = c.accepted.items;
-  states = c.states.items;
+  states = c.states;
   tally = c.tally;
 }

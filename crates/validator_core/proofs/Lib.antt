@@ -23,3 +23,4 @@ pub mod Waits
 pub mod Asks
 pub mod Judged
 pub mod Inside
+pub mod Finding

@@ -1,15 +1,16 @@
 //! Noting verdicts.
-ghost use Rattle.std.specs.Prelude.{◌≡◌, ◌+◌, ◌<◌, ◌&&◌, length, find, slice_get, Some, IfOk, IfSome, OnOk, OnErr};
+ghost use Rattle.std.specs.Prelude.{◌≡◌, ◌+◌, ◌<◌, ◌&&◌, ◌++◌, ◌∷◌, [], if◌then◌else◌, length, find, slice_get, Some, None, IfOk, IfSome, OnOk, OnErr};
 ghost use Rattle.std.specs.Option.{option_map};
 ghost use Rattle.std.specs.Vec.{vec_len, vec_capacity};
-ghost use Rattle.key_state.specs.Same.{same_key, same_sig};
+ghost use Rattle.key_state.specs.Same.{same_key, same_prefix, same_sig};
 ghost use Rattle.journal.specs.declared.body.Body.{Body};
 ghost use Rattle.journal.specs.declared.question.Noted.TheVariants.{New};
 ghost use Rattle.validator_core.specs.View.{TakesVerdict, Follows, open_of};
-ghost use Rattle.validator_core.specs.Tables.{Begins, BeginsBy, Hears, IsOpenIn, with_number, with_state};
+ghost use Rattle.validator_core.specs.Tables.{Begins, BeginsBy, Hears, IsOpenIn, with_state};
 
 use crate::Core;
 use crate::asked::Asked;
+use crate::states::States;
 use cesr_codes::{Key, Sig};
 use event_body::prefix_of;
 use journal::{Entry, Noted, Question};
@@ -51,17 +52,23 @@ impl Core {
     {
         let number = question.body as usize;
         let begun = self.begun_by(question.body, yes)?;
+        let begins = begun.is_some();
         self.accepted.reserve(1)?;
-        self.states.reserve(1)?;
-        self.journal.entries.push(Entry::Heard {
+        let known = self.states.len();
+        begin(&mut self.states, begun)?;
+        let entry = Entry::Heard {
             reader,
             body: question.body,
             key: question.key,
             sig: question.sig,
             yes,
-        })?;
+        };
+        if self.journal.entries.push(entry).is_err() {
+            self.states.truncate(known);
+            return Err(AllocError);
+        }
         self.cases[number].note_verdict(&question.key, &question.sig, yes);
-        join(&mut self.accepted, &mut self.states, question.body, begun);
+        join(&mut self.accepted, question.body, begins);
         Ok(())
     }
 
@@ -91,16 +98,25 @@ impl Core {
     }
 }
 
-// Adds the number of an accepted body and the state that it begins, where it begins one.
-fn join(accepted: &mut Vec<u32>, states: &mut Vec<KeyState>, number: u32, begun: Option<KeyState>)
-    requires accepted { vec_len accepted.old < vec_capacity accepted.old }
-    requires states { vec_len states.old < vec_capacity states.old }
-    ensures accepted { accepted.new.items ≡ with_number accepted.old.items number begun }
-    ensures states { states.new.items ≡ with_state states.old.items begun }
+// Adds the state that an event begins, where it begins one.
+fn begin(states: &mut States, begun: Option<KeyState>) -> Result<(), AllocError>
+    requires first { IfSome begun (λ s. find (λ t. same_prefix t.prefix s.prefix) states.old ≡ None) }
+    ensures ok { OnOk result (states.new ≡ with_state states.old begun) }
+    ensures err { OnErr result (states.new ≡ states.old) }
 {
-    if let Some(state) = begun {
+    match begun {
+        Some(state) => states.push(state),
+        None => Ok(()),
+    }
+}
+
+// Adds the number of a body, where it is accepted.
+fn join(accepted: &mut Vec<u32>, number: u32, begins: bool)
+    requires { vec_len accepted.old < vec_capacity accepted.old }
+    ensures { accepted.new.items ≡ (if begins then accepted.old.items ++ number ∷ [] else accepted.old.items) }
+{
+    if begins {
         accepted.push_reserved(number);
-        states.push_reserved(state);
     }
 }
 

@@ -9,6 +9,7 @@ mod case;
 mod claims;
 mod refusing;
 mod rules;
+mod states;
 mod taking;
 mod tally;
 mod validator;

@@ -1,11 +1,11 @@
 //! The core: its tables.
 ghost use Rattle.std.specs.Prelude.{◌≡◌, ◌≤◌, ◌<◌, [], All, IfSome, map, length, slice_get};
 ghost use Rattle.std.specs.Option.{option_map};
-ghost use Rattle.key_state.specs.Same.{same_prefix};
 ghost use Rattle.journal.specs.Journals.{chosen};
 ghost use Rattle.validator_core.specs.View.{Stands, accepted_by, state_of};
 
 use crate::case::Case;
+use crate::states::States;
 use crate::tally::Tally;
 use cesr_codes::Prefix;
 use event_body::Event;
@@ -28,7 +28,7 @@ pub struct Core {
     /// The numbers of the accepted bodies, in order.
     pub(crate) accepted: Vec<u32>,
     /// The states after the accepted bodies, in the same order.
-    pub(crate) states: Vec<KeyState>,
+    pub(crate) states: States,
     pub(crate) tally: Tally,
 }
 
@@ -49,7 +49,7 @@ impl Model for Core {
       entries = c.journal.entries;
       cases = c.cases.items;
       accepted = c.accepted.items;
-      states = c.states.items;
+      states = c.states;
       tally = c.tally;
     }) };
 
@@ -60,7 +60,7 @@ impl Model for Core {
       entries = c.journal.entries;
       cases = c.cases.items;
       accepted = c.accepted.items;
-      states = c.states.items;
+      states = c.states;
       tally = c.tally;
     }) };
 }
@@ -80,7 +80,7 @@ impl Core {
             },
             cases: Vec::new(alloc),
             accepted: Vec::new(alloc),
-            states: Vec::new(alloc),
+            states: States::new(alloc),
             tally: Tally {
                 messages: 0,
                 body_bytes: 0,
@@ -138,13 +138,6 @@ impl Core {
     pub fn state(&self, prefix: &Prefix) -> Option<&KeyState>
         ensures { option_map (λ state. state.now) result ≡ state_of self.now prefix.now }
     {
-        self.states.iter().find(|state| is_of(state, prefix))
+        self.states.find(prefix)
     }
-}
-
-// Whether it is this identifier's state.
-fn is_of(state: &KeyState, prefix: &Prefix) -> bool
-    ensures { result ≡ same_prefix state.now.prefix prefix.now }
-{
-    state.prefix == *prefix
 }
