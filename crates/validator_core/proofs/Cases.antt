@@ -20,9 +20,9 @@ use Rattle.journal.proofs.Accepting.{same_body-refl}
 use Rattle.journal.proofs.Distinct.{distinct-push_new, distinct-push_old, any-distinct}
 use Rattle.journal.proofs.Keeping.{list_all-distinct}
 use Rattle.journal.proofs.Same.{same_key_itself, same_sig_itself, same_claim_is, same_claim_itself, same_triple_is, same_triple_itself, any_turned, moves}
-use Rattle.validator_core.specs.declared.asked.Asked.{Asked}
-use Rattle.validator_core.specs.Cases.{Case}
-use Rattle.validator_core.specs.Tables.{came, raised_with, asked_as, with_new, same_asked, with_claim, with_verdict, IsAsked, IsCase}
+use Rattle.body_cases.specs.declared.asked.Asked.{Asked}
+use Rattle.body_cases.specs.Cases.{Case, same_asked, with_claim, with_new, with_verdict}
+use Rattle.validator_core.specs.Tables.{came, raised_with, asked_as, IsAsked, IsCase}
 use Rattle.validator_core.proofs.Entries.{came_push, took_raises, took_raises_not, took_verdict, took_yes, yes_is_verdict, heard_came, heard_raises, heard_verdict, heard_yes, heard_verdict_other, heard_yes_other, other_triple, names, raised_name}
 
 -- adding one after the other gives the first comings of all

@@ -16,10 +16,11 @@ use Rattle.journal.specs.Journals.{told_by, chosen}
 use Rattle.journal.specs.Replies.{same_claim, all_claims}
 use Rattle.journal.proofs.Held.{told_push}
 use Rattle.journal.proofs.Places.{all_at, any_at, others_differ, set_here, set_there}
-use Rattle.validator_core.specs.Cases.{Case}
+use Rattle.body_cases.specs.Cases.{Case, with_claim, with_new}
 use Rattle.validator_core.specs.View.{IsHeld}
-use Rattle.validator_core.specs.Tables.{Tables, held_by, number_of, with_new, with_claim, IsCase, HasNoHeld, FitsTables, IsCore, tally_with}
+use Rattle.validator_core.specs.Tables.{Tables, held_by, number_of, IsCase, HasNoHeld, FitsTables, IsCore, tally_with}
 use Rattle.validator_core.proofs.Cases.{case_took, case_not_took}
+use Rattle.validator_core.proofs.Flags.{flagged_set}
 use Rattle.validator_core.proofs.Held.{held_set}
 use Rattle.validator_core.proofs.Settled.{held_differ}
 use Rattle.validator_core.proofs.Sound.{took_again, bodies_old}
@@ -29,7 +30,7 @@ use Rattle.validator_core.proofs.Counting.{tally_more, room}
 module _ (t : Tables) (fits : IsCore t) (reader n : ℕ) (claims : List Claim) (b : Body) (old new : Case)
     (at : slice_get (held_by t.bodies t.cases) n ≡ Some b) (case_at : slice_get t.cases n ≡ Some old) (event : new.event ≡ old.event)
     (claims_are : new.claims ≡ fold (with_new same_claim) old.claims claims)
-    (asked_are : new.asked ≡ fold (with_claim (own_rules None b.event)) old.asked claims)
+    (asked_are : new.asked ≡ fold (with_claim (own_rules None b.event)) old.asked claims) (flag : new.accepted ≡ old.accepted)
     (no_held : HasNoHeld (took reader b claims)) (few : nat_le t.limits.messages (length (flat_map taken (told_by (held_by t.bodies t.cases) t.entries))) ≡ false)
     (little : nat_lt t.limits.signatures (length (flat_map all_claims (told_by (held_by t.bodies t.cases) t.entries)) + length claims) ≡ false) where
   abbrev held : List Body
@@ -71,6 +72,7 @@ module _ (t : Tables) (fits : IsCore t) (reader n : ℕ) (claims : List Claim) (
     accepted_held = fits.accepted_held;
     cases_are = cases_again;
     sound = took_again t.mode told held log fits.sound reader b claims no_held spelled_b n at;
+    flagged = flagged_set t.cases t.accepted n old new case_at flag fits.flagged;
     states_are = fits.states_are;
     tallied = tally_more told reader b claims t.tally fits.tallied 0 (same_sum ∙ omega arith);
     within = room told reader b claims t.tally fits.tallied t.limits 0 few little (omega (arith, same_sum, fits.within.body_bytes));

@@ -26,9 +26,10 @@ use Rattle.journal.proofs.Held.{told_push, chosen_push}
 use Rattle.journal.proofs.Places.{others_differ, set_here, set_there}
 use Rattle.journal.proofs.Same.{same_prefix_is}
 use Rattle.journal.proofs.Locality.{flat_map-push}
-use Rattle.validator_core.specs.Cases.{Case}
-use Rattle.validator_core.specs.Tables.{Tables, held_by, number_of, raised_with, with_verdict, IsCase, IsSound, IsTally, AreStates, FitsTables, IsCore}
+use Rattle.body_cases.specs.Cases.{Case, with_verdict}
+use Rattle.validator_core.specs.Tables.{AreFlagged, Tables, held_by, number_of, raised_with, IsCase, IsSound, IsTally, AreStates, FitsTables, IsCore}
 use Rattle.validator_core.proofs.Cases.{case_heard, case_not_heard}
+use Rattle.validator_core.proofs.Flags.{flagged_join, flagged_set}
 use Rattle.validator_core.proofs.Held.{held_set}
 use Rattle.validator_core.proofs.Questions.{open_here, fewer}
 use Rattle.validator_core.proofs.Settled.{held_differ}
@@ -115,13 +116,14 @@ module _ (t : Tables) (fits : IsCore t) (reader n : ℕ) (b : Body) (old new : C
   abbrev with : List ℕ → List State → Tables
   with accepted states = record { mode = t.mode; limits = t.limits; bodies = t.bodies; entries = t.entries ++ Heard reader n key sig verdict ∷ []; cases = set t.cases n new; accepted = accepted; states = states; tally = t.tally }
 
-  fits_with : (accepted : List ℕ) (states : List State) → All (λ n. n < length held) accepted → IsSound t.mode now held (chosen held accepted) → AreStates (chosen held accepted) states → FitsTables (with accepted states) held now
-  fits_with accepted states below sound are = record {
+  fits_with : (accepted : List ℕ) (states : List State) → All (λ n. n < length held) accepted → IsSound t.mode now held (chosen held accepted) → AreStates (chosen held accepted) states → AreFlagged (set t.cases n new) accepted → FitsTables (with accepted states) held now
+  fits_with accepted states below sound are flags = record {
     paired = fits.paired ∙ sym (length-set t.cases n new);
     entries_held = All-push (λ e. number_of e < length held) t.entries (Heard reader n key sig verdict) fits.entries_held (slice_get_within held n b at);
     accepted_held = below;
     cases_are = cases_now;
     sound = sound;
+    flagged = flags;
     states_are = are;
     tallied = tallied;
     within = within;
@@ -132,9 +134,9 @@ module _ (t : Tables) (fits : IsCore t) (reader n : ℕ) (b : Body) (old new : C
   sound_waiting unready = heard_waits t.mode told held log fits.sound reader n b at key sig raised asks verdict
       (heard_ready t.mode told held log fits.sound reader n b at key sig raised asks verdict ∙ unready)
 
-  pub fits_waiting : (verdict && is_none (state log (prefix_of b.event))) ≡ false → IsCore (with t.accepted t.states)
-  fits_waiting unready = let same = held_set t.bodies t.cases n old new case_at event in
-      rw (same, told_heard) (fits_with t.accepted t.states fits.accepted_held (sound_waiting unready) fits.states_are)
+  pub fits_waiting : (verdict && is_none (state log (prefix_of b.event))) ≡ false → new.accepted ≡ old.accepted → IsCore (with t.accepted t.states)
+  fits_waiting unready flag = let same = held_set t.bodies t.cases n old new case_at event in
+      rw (same, told_heard) (fits_with t.accepted t.states fits.accepted_held (sound_waiting unready) fits.states_are (flagged_set t.cases t.accepted n old new case_at flag fits.flagged))
 
   -- JOINS: the body is accepted, and begins its identifier
   module _ (yes : verdict ≡ true) (none : is_none (state log (prefix_of b.event)) ≡ true) (s : State) (begins : first b.event ≡ Ok s) (named : s.prefix ≡ prefix_of b.event) where
@@ -145,11 +147,12 @@ module _ (t : Tables) (fits : IsCore t) (reader n : ℕ) (b : Body) (old new : C
     sound_joining = heard_joins t.mode told held log fits.sound reader n b at key sig raised asks verdict
         (heard_ready t.mode told held log fits.sound reader n b at key sig raised asks verdict ∙ rw (yes, none) refl)
 
-    pub fits_joining : IsCore (with (t.accepted ++ n ∷ []) (t.states ++ s ∷ []))
-    fits_joining = let same = held_set t.bodies t.cases n old new case_at event in
+    pub fits_joining : new.accepted ≡ true → IsCore (with (t.accepted ++ n ∷ []) (t.states ++ s ∷ []))
+    fits_joining flag = let same = held_set t.bodies t.cases n old new case_at event in
         rw (same, told_heard) (fits_with (t.accepted ++ n ∷ []) (t.states ++ s ∷ [])
         (All-push (λ n. n < length held) t.accepted n fits.accepted_held (slice_get_within held n b at))
-        (rw log_more sound_joining) (rw log_more (states_more log t.states b s fits.states_are none begins named)))
+        (rw log_more sound_joining) (rw log_more (states_more log t.states b s fits.states_are none begins named))
+        (flagged_join t.cases t.accepted n old new case_at flag fits.flagged))
 
   -- either way one question fewer is open
   pub fewer_now : (log' : List Body) → IsSound t.mode now held log' → length (questions t.mode [] now) + 1 ≡ length (questions t.mode [] told)

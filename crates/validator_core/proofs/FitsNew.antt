@@ -17,10 +17,11 @@ use Rattle.journal.specs.Journals.{told_by, chosen}
 use Rattle.journal.specs.Replies.{same_claim, all_claims}
 use Rattle.journal.proofs.Held.{told_push, chosen_front, chosen_held}
 use Rattle.journal.proofs.Places.{any_at, slice_get_last, slice_get_before, below_more}
-use Rattle.validator_core.specs.Cases.{Case}
+use Rattle.body_cases.specs.Cases.{Case, with_claim, with_new}
 use Rattle.validator_core.specs.View.{IsHeld}
-use Rattle.validator_core.specs.Tables.{Tables, held_by, number_of, came, asked_as, with_new, with_claim, IsAsked, IsCase, IsSound, HasNoHeld, FitsTables, IsCore, tally_with}
+use Rattle.validator_core.specs.Tables.{Tables, held_by, number_of, came, asked_as, IsAsked, IsCase, IsSound, HasNoHeld, FitsTables, IsCore, tally_with}
 use Rattle.validator_core.proofs.Cases.{case_took, case_not_took}
+use Rattle.validator_core.proofs.Flags.{flagged_push}
 use Rattle.validator_core.proofs.Held.{held_push, told_front, held_length}
 use Rattle.validator_core.proofs.Sound.{took_new, bodies_new, came_is_held, none_came, raised_none}
 use Rattle.validator_core.proofs.Counting.{tally_more, room}
@@ -30,7 +31,7 @@ module _ (t : Tables) (fits : IsCore t) (reader : ℕ) (claims : List Claim) (te
     (spelled : IsHeld (record { bytes = text; event = new.event })) (outside : is_in (held_by t.bodies t.cases) (record { bytes = text; event = new.event }) ≡ false)
     (event : fresh.event ≡ new.event) (no_claims : fresh.claims ≡ []) (none_asked : fresh.asked ≡ [])
     (claims_are : new.claims ≡ fold (with_new same_claim) fresh.claims claims)
-    (asked_are : new.asked ≡ fold (with_claim (own_rules None new.event)) fresh.asked claims)
+    (asked_are : new.asked ≡ fold (with_claim (own_rules None new.event)) fresh.asked claims) (flag : new.accepted ≡ false)
     (no_held : HasNoHeld (took reader (record { bytes = text; event = new.event }) claims)) (few : nat_le t.limits.messages (length (flat_map taken (told_by (held_by t.bodies t.cases) t.entries))) ≡ false)
     (little : nat_lt t.limits.signatures (length (flat_map all_claims (told_by (held_by t.bodies t.cases) t.entries)) + length claims) ≡ false)
     (small : nat_lt t.limits.body_bytes (sum_by (λ c. length c.bytes) (bodies [] (told_by (held_by t.bodies t.cases) t.entries)) + length text) ≡ false) where
@@ -116,6 +117,7 @@ module _ (t : Tables) (fits : IsCore t) (reader : ℕ) (claims : List Claim) (te
     accepted_held = below_more (λ n. n) t.accepted (length held) (length (held ++ b ∷ [])) (omega (arith, length-append held (b ∷ []))) fits.accepted_held;
     cases_are = cases_new;
     sound = rw log_same sound_new;
+    flagged = flagged_push t.cases t.accepted new flag (rw (held_length t.bodies t.cases fits.paired) at fits.accepted_held) fits.flagged;
     states_are = rw log_same fits.states_are;
     tallied = tally_more told reader b claims t.tally fits.tallied (length text) sum_more;
     within = room told reader b claims t.tally fits.tallied t.limits (length text) few little (omega (arith, sum_more, ltb-false t.limits.body_bytes _ small));

@@ -24,9 +24,10 @@ use Rattle.journal.specs.History.{Told, heard, Triple, same_triple, has_verdict,
 use Rattle.journal.specs.Journals.{chosen}
 use Rattle.journal.specs.Questions.{noted}
 use Rattle.journal.proofs.Places.{all_at, some_at}
-use Rattle.validator_core.specs.Cases.{Case}
+use Rattle.body_cases.specs.Cases.{Case, altered, as_accepted, verdict_in, with_heard, with_verdict}
+use Rattle.body_cases.proofs.Altered.{altered_set, altered_twice}
 use Rattle.validator_core.specs.View.{CoreView, told_of, open_of, state_of, IsHeld, TakesVerdict}
-use Rattle.validator_core.specs.Tables.{Tables, view_of, raised_with, asked_as, with_verdict, IsOpenIn, BeginsBy, Hears, IsSound, IsCore, with_number, with_state}
+use Rattle.validator_core.specs.Tables.{Tables, view_of, raised_with, asked_as, IsOpenIn, BeginsBy, Hears, IsSound, IsCore, with_number, with_state}
 use Rattle.validator_core.proofs.FitsHeard.{nothing, told_heard, fits_waiting, fits_joining, sound_waiting, sound_joining, fewer_now}
 use Rattle.validator_core.proofs.Held.{held_set, held_length}
 use Rattle.validator_core.proofs.Questions.{noted_here, asked_here}
@@ -75,18 +76,9 @@ module _ (t : Tables) (fits : IsCore t) (q : Question) (yes : Bool) (asks : IsOp
   first_begun (Some s) begins = fits.states_are s.prefix ∙ ap (state (chosen (view_of t).held t.accepted)) (named s begins) ∙ nothing _ (none s begins)
 
 module _ (t : Tables) (fits : IsCore t) (reader : ℕ) (q : Question) (yes : Bool) (asks : IsOpenIn (view_of t) q) (old new : Case) (case_at : slice_get t.cases q.body ≡ Some old)
-    (new_is : new ≡ record { event = old.event; claims = old.claims; asked = map (with_verdict q.key q.sig yes) old.asked }) where
+    (event : new.event ≡ old.event) (claims : new.claims ≡ old.claims) (asked : new.asked ≡ map (with_verdict q.key q.sig yes) old.asked) where
   abbrev after : List ℕ → List State → Tables
   after accepted states = record { mode = t.mode; limits = t.limits; bodies = t.bodies; entries = t.entries ++ Heard reader q.body q.key q.sig yes ∷ []; cases = set t.cases q.body new; accepted = accepted; states = states; tally = t.tally }
-
-  event : new.event ≡ old.event
-  event = ap (λ c. c.event) new_is
-
-  claims : new.claims ≡ old.claims
-  claims = ap (λ c. c.claims) new_is
-
-  asked : new.asked ≡ map (with_verdict q.key q.sig yes) old.asked
-  asked = ap (λ c. c.asked) new_is
 
   the_same : (b : Body) → slice_get (view_of t).held q.body ≡ Some b → asks.body ≡ b
   the_same b at = (let both : Some asks.body ≡ Some b = sym asks.at ∙ at in cc)
@@ -111,31 +103,75 @@ module _ (t : Tables) (fits : IsCore t) (reader : ℕ) (q : Question) (yes : Boo
       let has : is_receipt asks.body.event ≡ false → is_none (state_of (view_of t) (prefix_of asks.body.event)) ≡ false = rw at at begins in
       ap is_none (sym (log_is t fits asks.body)) ∙ has (no_receipt (told_of (view_of t)) asks.body (all_at IsHeld (view_of t).held fits.sound.spelled q.body asks.body asks.at) _ asks.raised)
 
-  pub core_waiting : BeginsBy yes (view_of t) (slice_get (view_of t).held q.body) None → IsCore (after t.accepted t.states)
-  core_waiting begins = fits_waiting t fits reader q.body asks.body old new q.key q.sig yes asks.at case_at event claims asked asks.raised asks.unheard (unready yes begins)
+  core_waiting : BeginsBy yes (view_of t) (slice_get (view_of t).held q.body) None → new.accepted ≡ old.accepted → IsCore (after t.accepted t.states)
+  core_waiting begins flag = fits_waiting t fits reader q.body asks.body old new q.key q.sig yes asks.at case_at event claims asked asks.raised asks.unheard (unready yes begins) flag
 
-  pub hears_waiting : BeginsBy yes (view_of t) (slice_get (view_of t).held q.body) None → (b : Body) → slice_get (view_of t).held q.body ≡ Some b → Hears (view_of t) reader b q yes (view_of (after t.accepted t.states))
+  hears_waiting : BeginsBy yes (view_of t) (slice_get (view_of t).held q.body) None → (b : Body) → slice_get (view_of t).held q.body ≡ Some b → Hears (view_of t) reader b q yes (view_of (after t.accepted t.states))
   hears_waiting begins = hears t.accepted t.states (chosen (view_of t).held t.accepted)
       (sound_waiting t fits reader q.body asks.body old new q.key q.sig yes asks.at case_at event claims asked asks.raised asks.unheard (unready yes begins))
 
   -- its identifier begins
   module _ (s : State) (begins : BeginsBy yes (view_of t) (slice_get (view_of t).held q.body) (Some s)) where
-    pub core_joining : IsCore (after (t.accepted ++ q.body ∷ []) (t.states ++ s ∷ []))
-    core_joining = fits_joining t fits reader q.body asks.body old new q.key q.sig yes asks.at case_at event claims asked asks.raised asks.unheard (is_yes t fits q yes asks s begins) (none t fits q yes asks s begins) s (made t fits q yes asks s begins) (named t fits q yes asks s begins)
+    core_joining : new.accepted ≡ true → IsCore (after (t.accepted ++ q.body ∷ []) (t.states ++ s ∷ []))
+    core_joining flag = fits_joining t fits reader q.body asks.body old new q.key q.sig yes asks.at case_at event claims asked asks.raised asks.unheard (is_yes t fits q yes asks s begins) (none t fits q yes asks s begins) s (made t fits q yes asks s begins) (named t fits q yes asks s begins) flag
 
-    pub hears_joining : (b : Body) → slice_get (view_of t).held q.body ≡ Some b → Hears (view_of t) reader b q yes (view_of (after (t.accepted ++ q.body ∷ []) (t.states ++ s ∷ [])))
+    hears_joining : (b : Body) → slice_get (view_of t).held q.body ≡ Some b → Hears (view_of t) reader b q yes (view_of (after (t.accepted ++ q.body ∷ []) (t.states ++ s ∷ [])))
     hears_joining = hears (t.accepted ++ q.body ∷ []) (t.states ++ s ∷ []) _
         (sound_joining t fits reader q.body asks.body old new q.key q.sig yes asks.at case_at event claims asked asks.raised asks.unheard (is_yes t fits q yes asks s begins) (none t fits q yes asks s begins) s (made t fits q yes asks s begins) (named t fits q yes asks s begins))
 
   -- either way
-  pub core_hearing : (begun : Option State) → BeginsBy yes (view_of t) (slice_get (view_of t).held q.body) begun → IsCore (after (with_number t.accepted q.body begun) (with_state t.states begun))
-  core_hearing None begins = core_waiting begins
-  core_hearing (Some s) begins = core_joining s begins
+  core_hearing : (begun : Option State) → BeginsBy yes (view_of t) (slice_get (view_of t).held q.body) begun → new.accepted ≡ (if is_some begun then true else old.accepted)
+      → IsCore (after (with_number t.accepted q.body begun) (with_state t.states begun))
+  core_hearing None begins flag = core_waiting begins flag
+  core_hearing (Some s) begins flag = core_joining s begins flag
 
-  pub hears_hearing : (begun : Option State) → BeginsBy yes (view_of t) (slice_get (view_of t).held q.body) begun
+  hears_hearing : (begun : Option State) → BeginsBy yes (view_of t) (slice_get (view_of t).held q.body) begun
       → (b : Body) → slice_get (view_of t).held q.body ≡ Some b → Hears (view_of t) reader b q yes (view_of (after (with_number t.accepted q.body begun) (with_state t.states begun)))
   hears_hearing None begins = hears_waiting begins
   hears_hearing (Some s) begins = hears_joining s begins
+
+-- what becomes of its case
+abbrev pub heard_case : Question → Bool → Option State → Case → Case
+heard_case q verdict None c = with_heard q.key q.sig verdict c
+heard_case q verdict (Some s) c = as_accepted (with_heard q.key q.sig verdict c)
+
+pub case_joined : (cases verdicts joined : List Case) (q : Question) (verdict : Bool) (begun : Option State) → verdicts ≡ altered cases q.body (with_heard q.key q.sig verdict)
+    → joined ≡ (if is_some begun then altered verdicts q.body as_accepted else verdicts) → joined ≡ altered cases q.body (heard_case q verdict begun)
+case_joined cases verdicts joined q verdict None is e = e ∙ is
+case_joined cases verdicts joined q verdict (Some s) is e = e ∙ ap (λ cases. altered cases q.body as_accepted) is ∙ altered_twice cases q.body (with_heard q.key q.sig verdict) as_accepted
+
+module _ (t : Tables) (fits : IsCore t) (reader : ℕ) (q : Question) (yes : Bool) (asks : IsOpenIn (view_of t) q) (begun : Option State)
+    (begins : BeginsBy yes (view_of t) (slice_get (view_of t).held q.body) begun) where
+  abbrev after_verdict : Tables
+  after_verdict = record { mode = t.mode; limits = t.limits; bodies = t.bodies; entries = t.entries ++ Heard reader q.body q.key q.sig yes ∷ []; cases = altered t.cases q.body (heard_case q yes begun); accepted = with_number t.accepted q.body begun; states = with_state t.states begun; tally = t.tally }
+
+  case : (c : Case) × (slice_get t.cases q.body ≡ Some c)
+  case = some_at t.cases q.body (omega (arith, slice_get_within (view_of t).held q.body asks.body asks.at, held_length t.bodies t.cases fits.paired))
+
+  changed : altered t.cases q.body (heard_case q yes begun) ≡ set t.cases q.body (heard_case q yes begun case.0)
+  changed = altered_set t.cases q.body (heard_case q yes begun) case.0 (heard_case q yes begun case.0) case.1 refl
+
+  same_event : (begun : Option State) → (heard_case q yes begun case.0).event ≡ case.0.event
+  same_event None = refl
+  same_event (Some s) = refl
+
+  same_claims : (begun : Option State) → (heard_case q yes begun case.0).claims ≡ case.0.claims
+  same_claims None = refl
+  same_claims (Some s) = refl
+
+  same_asked : (begun : Option State) → (heard_case q yes begun case.0).asked ≡ map (with_verdict q.key q.sig yes) case.0.asked
+  same_asked None = refl
+  same_asked (Some s) = refl
+
+  flag : (begun : Option State) → (heard_case q yes begun case.0).accepted ≡ (if is_some begun then true else case.0.accepted)
+  flag None = refl
+  flag (Some s) = refl
+
+  pub core_heard : IsCore after_verdict
+  core_heard = rw changed (core_hearing t fits reader q yes asks case.0 (heard_case q yes begun case.0) case.1 (same_event begun) (same_claims begun) (same_asked begun) begun begins (flag begun))
+
+  pub hears_verdict : (b : Body) → slice_get (view_of t).held q.body ≡ Some b → Hears (view_of t) reader b q yes (view_of after_verdict)
+  hears_verdict b at = rw changed (hears_hearing t fits reader q yes asks case.0 (heard_case q yes begun case.0) case.1 (same_event begun) (same_claims begun) (same_asked begun) begun begins b at)
 
 -- what a body that begins adds
 pub number_added : (numbers : List ℕ) (n : ℕ) (begun : Option State) → (if is_some begun then numbers ++ n ∷ [] else numbers) ≡ with_number numbers n begun
@@ -167,7 +203,7 @@ module _ (t : Tables) (fits : IsCore t) (q : Question) (b : Body) (case : Case) 
   is_noted : noted t.mode [] told this ≡ (if list_any (same_triple this) (raised_with told b) then (if has_verdict told this then Known else New) else Unasked)
   is_noted = noted_here t.mode told (view_of t).held (chosen (view_of t).held t.accepted) fits.sound q.body b at q.key q.sig
 
-  pub unasked : found ≡ None → Unasked ≡ noted t.mode [] told this
+  unasked : found ≡ None → Unasked ≡ noted t.mode [] told this
   unasked none = sym (is_noted ∙ elim (cases_Bool (list_any (same_triple this) (raised_with told b))) [
     | inl k ↦ (let some : found ≡ Some (asked_as told this).verdict = found_is ∙ rw k refl in cc)
     | inr k ↦ rw k refl
@@ -179,7 +215,7 @@ module _ (t : Tables) (fits : IsCore t) (q : Question) (b : Body) (case : Case) 
     | inr k ↦ (let unsaid = yes_is_verdict told this k in let none : (asked_as told this).verdict ≡ None = rw (unsaid, k) refl in cc)
   ]
 
-  pub known : (p : Bool) → found ≡ Some (Some p) → Known ≡ noted t.mode [] told this
+  known : (p : Bool) → found ≡ Some (Some p) → Known ≡ noted t.mode [] told this
   known p some = sym (is_noted ∙ elim (cases_Bool (list_any (same_triple this) (raised_with told b))) [
     | inl k ↦ (let is : Some (asked_as told this).verdict ≡ Some (Some p) = sym (found_is ∙ rw k refl) ∙ some in let e : (asked_as told this).verdict ≡ Some p = cc in let heard = verdict_known p e in rw (k, heard) refl)
     | inr k ↦ (let none : found ≡ None = found_is ∙ rw k refl in cc)
@@ -194,14 +230,14 @@ module _ (t : Tables) (fits : IsCore t) (q : Question) (b : Body) (case : Case) 
     ]
   ]
 
-  pub open_one : found ≡ Some None → IsOpenIn (view_of t) q
+  open_one : found ≡ Some None → IsOpenIn (view_of t) q
   open_one some = elim (cases_Bool (list_any (same_triple this) (raised_with told b))) [
     | inl k ↦ (let is : Some (asked_as told this).verdict ≡ Some None = sym (found_is ∙ rw k refl) ∙ some in let e : (asked_as told this).verdict ≡ None = cc in
         record { body = b; at = at; raised = k; unheard = verdict_none e })
     | inr k ↦ (let none : found ≡ None = found_is ∙ rw k refl in cc)
   ]
 
-  pub new_one : found ≡ Some None → New ≡ noted t.mode [] told this
+  new_one : found ≡ Some None → New ≡ noted t.mode [] told this
   new_one some = sym (is_noted ∙ elim (cases_Bool (list_any (same_triple this) (raised_with told b))) [
     | inl k ↦ (let is : Some (asked_as told this).verdict ≡ Some None = sym (found_is ∙ rw k refl) ∙ some in let e : (asked_as told this).verdict ≡ None = cc in let unheard = verdict_none e in rw (k, unheard) refl)
     | inr k ↦ (let none : found ≡ None = found_is ∙ rw k refl in cc)
@@ -209,7 +245,7 @@ module _ (t : Tables) (fits : IsCore t) (q : Question) (b : Body) (case : Case) 
 
 -- VERDICTS: what is answered, as callers see it
 module _ (t : Tables) (fits : IsCore t) (reader : ℕ) (q : Question) (yes : Bool) where
-  pub takes_no_body : slice_get t.cases q.body ≡ None → TakesVerdict (view_of t) reader q yes Unasked (view_of t)
+  takes_no_body : slice_get t.cases q.body ≡ None → TakesVerdict (view_of t) reader q yes Unasked (view_of t)
   takes_no_body none =
       let past = past_of t.cases q.body none in
       let no_body : slice_get (view_of t).held q.body ≡ None = slice_get_past (view_of t).held q.body (omega (arith, past, held_length t.bodies t.cases fits.paired)) in
@@ -220,25 +256,41 @@ module _ (t : Tables) (fits : IsCore t) (reader : ℕ) (q : Question) (yes : Boo
       past_of (x ∷ xs) zero e = cc
       past_of (x ∷ xs) (suc n) e = let more = past_of xs n e in omega (arith, more)
 
-  module _ (case : Case) (case_at : slice_get t.cases q.body ≡ Some case) where
-    body_at : (b : Body) × (slice_get (view_of t).held q.body ≡ Some b)
-    body_at = some_at (view_of t).held q.body (omega (arith, slice_get_within t.cases q.body case case_at, held_length t.bodies t.cases fits.paired))
+  -- the case of a question that is asked
+  asked_of : (v : Option Bool) → verdict_in q.key q.sig (slice_get t.cases q.body) ≡ Some v
+      → (c : Case) × (slice_get t.cases q.body ≡ Some c) × (option_map (λ a. a.verdict) (find (λ a. same_key a.key q.key && same_sig a.sig q.sig) c.asked) ≡ Some v)
+  asked_of v = of (slice_get t.cases q.body)
+    where
+      of : (o : Option Case) → verdict_in q.key q.sig o ≡ Some v → (c : Case) × (o ≡ Some c) × (option_map (λ a. a.verdict) (find (λ a. same_key a.key q.key && same_sig a.sig q.sig) c.asked) ≡ Some v)
+      of None e = cc
+      of (Some c) e = (c, refl, e)
 
-    abbrev found_in : Option (Option Bool)
-    found_in = option_map (λ a. a.verdict) (find (λ a. same_key a.key q.key && same_sig a.sig q.sig) case.asked)
+  body_at : (c : Case) → slice_get t.cases q.body ≡ Some c → (b : Body) × (slice_get (view_of t).held q.body ≡ Some b)
+  body_at c at = some_at (view_of t).held q.body (omega (arith, slice_get_within t.cases q.body c at, held_length t.bodies t.cases fits.paired))
 
-    pub takes_unasked : found_in ≡ None → TakesVerdict (view_of t) reader q yes Unasked (view_of t)
-    takes_unasked none = let at = body_at.1 in record { answers = rw at (unasked t fits q body_at.0 case body_at.1 case_at none, refl); follows = record { mode = refl; limits = refl } }
+  pub takes_unasked : verdict_in q.key q.sig (slice_get t.cases q.body) ≡ None → TakesVerdict (view_of t) reader q yes Unasked (view_of t)
+  takes_unasked = of (slice_get t.cases q.body) refl
+    where
+      of : (o : Option Case) → slice_get t.cases q.body ≡ o → verdict_in q.key q.sig o ≡ None → TakesVerdict (view_of t) reader q yes Unasked (view_of t)
+      of None case_at none = takes_no_body case_at
+      of (Some case) case_at none = let b = body_at case case_at in let at = b.1 in
+          record { answers = rw at (unasked t fits q b.0 case b.1 case_at none, refl); follows = record { mode = refl; limits = refl } }
 
-    pub takes_known : (p : Bool) → found_in ≡ Some (Some p) → TakesVerdict (view_of t) reader q yes Known (view_of t)
-    takes_known p some = let at = body_at.1 in record { answers = rw at (known t fits q body_at.0 case body_at.1 case_at p some, refl); follows = record { mode = refl; limits = refl } }
+  pub takes_known : (p : Bool) → verdict_in q.key q.sig (slice_get t.cases q.body) ≡ Some (Some p) → TakesVerdict (view_of t) reader q yes Known (view_of t)
+  takes_known p some = let case = asked_of (Some p) some in let b = body_at case.0 case.1 in let at = b.1 in
+      record { answers = rw at (known t fits q b.0 case.0 b.1 case.1 p case.2, refl); follows = record { mode = refl; limits = refl } }
 
-    pub asks_open : found_in ≡ Some None → IsOpenIn (view_of t) q
-    asks_open some = open_one t fits q body_at.0 case body_at.1 case_at some
+  module _ (some : verdict_in q.key q.sig (slice_get t.cases q.body) ≡ Some None) where
+    open_case : (c : Case) × (slice_get t.cases q.body ≡ Some c) × (option_map (λ a. a.verdict) (find (λ a. same_key a.key q.key && same_sig a.sig q.sig) c.asked) ≡ Some None)
+    open_case = asked_of None some
 
-    pub takes_heard : (new : CoreView) → found_in ≡ Some None → ((b : Body) → slice_get (view_of t).held q.body ≡ Some b → Hears (view_of t) reader b q yes new) → TakesVerdict (view_of t) reader q yes New new
-    takes_heard new some hears = let at = body_at.1 in let h = hears body_at.0 body_at.1 in
-        record { answers = rw at (new_one t fits q body_at.0 case body_at.1 case_at some, h.told_is); follows = h.follows }
+    pub asks_open : IsOpenIn (view_of t) q
+    asks_open = let b = body_at open_case.0 open_case.1 in open_one t fits q b.0 open_case.0 b.1 open_case.1 open_case.2
 
-    pub fewer_heard : (new : CoreView) → ((b : Body) → slice_get (view_of t).held q.body ≡ Some b → Hears (view_of t) reader b q yes new) → length (open_of new) + 1 ≡ length (open_of (view_of t))
-    fewer_heard new hears = (hears body_at.0 body_at.1).fewer
+    module _ (new : CoreView) (hears : (b : Body) → slice_get (view_of t).held q.body ≡ Some b → Hears (view_of t) reader b q yes new) where
+      pub takes_heard : TakesVerdict (view_of t) reader q yes New new
+      takes_heard = let b = body_at open_case.0 open_case.1 in let at = b.1 in let h = hears b.0 b.1 in
+          record { answers = rw at (new_one t fits q b.0 open_case.0 b.1 open_case.1 open_case.2, h.told_is); follows = h.follows }
+
+      pub fewer_heard : length (open_of new) + 1 ≡ length (open_of (view_of t))
+      fewer_heard = let b = body_at open_case.0 open_case.1 in (hears b.0 b.1).fewer

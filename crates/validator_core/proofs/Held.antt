@@ -8,7 +8,7 @@ use Rattle.journal.specs.declared.entry.Entry.TheVariants.{Took, Heard}
 use Rattle.journal.specs.History.{Told, took, heard}
 use Rattle.journal.specs.Journals.{whole, told_by}
 use Rattle.journal.proofs.Places.{slice_get_front, some_at}
-use Rattle.validator_core.specs.Cases.{Case}
+use Rattle.body_cases.specs.Cases.{Case}
 use Rattle.validator_core.specs.Tables.{held_by, number_of}
 
 -- each body has its bytes and its case's event

@@ -1,70 +1,75 @@
 -- A message is taken as its body with its claims.
-use Rattle.std.proofs.Common.{◌≡◌, ℕ, ◌≤◌, Bool, true, false, not, List, [], ◌∷◌, length, Some, None, Ok, Err, Result, refl, sym, ◌∙◌, ap, inl, inr, if◌then◌else◌, arith, get_or}
-use Rattle.std.specs.Prelude.{slice_get, position, bytes_eq, IfOk}
-use Rattle.std.specs.List.{list_any, prefix_len}
+use Rattle.std.proofs.Common.{◌≡◌, ℕ, Bool, true, false, List, length, Option, Some, None, Ok, Err, Result, is_some, option_map, refl, sym, ◌∙◌, ap, inl, inr, arith}
+use Rattle.std.specs.Prelude.{slice_get, find, Contains, IfNone, IfOk, IfSome}
+use Rattle.std.specs.List.{list_any}
 use Rattle.std.specs.Cmp.Lexicographic.{bytes_decides}
-use Rattle.std.proofs.lemmas.Bool.{cases_Bool, or_parts, ltb-false}
-use Rattle.std.proofs.lemmas.List.Quantifiers.{position-Some}
+use Rattle.std.proofs.lemmas.Bool.{cases_Bool}
 use Rattle.std.proofs.lemmas.Option.{slice_get_read, slice_get_within}
 use Rattle.cesr_stream.specs.declared.group.Group.{Group}
 use Rattle.cesr_stream.specs.declared.message.Message.{Message}
 use Rattle.event_body.specs.declared.event.Event.{Event}
 use Rattle.event_body.specs.Events.{is_receipt}
 use Rattle.event_body.specs.Judging.{SpellsEvent}
-use Rattle.journal.specs.declared.body.Body.{Body}
 use Rattle.journal.specs.declared.reply.Reply.{Reply}
 use Rattle.journal.specs.declared.reply.Reply.TheVariants.{Taken, Again, Refused, Full}
-use Rattle.journal.specs.Logs.{is_in}
+use Rattle.journal.specs.Logs.{is_in, same_body}
 use Rattle.journal.specs.History.{Told, took}
 use Rattle.journal.specs.CoreCalls.{told_after}
 use Rattle.journal.specs.Replies.{is_held_group, claims_of, refusal}
-use Rattle.journal.proofs.Places.{all_at, some_at}
-use Rattle.validator_core.specs.Cases.{Case}
+use Rattle.journal.proofs.Places.{all_at, any_at, found_at, some_at}
+use Rattle.body_cases.specs.Cases.{Case}
+use Rattle.body_cases.proofs.Noted.{find_any, find_passes}
 use Rattle.validator_core.specs.Messages.{JudgesMessage, first_refusal}
 use Rattle.validator_core.specs.View.{CoreView, IsHeld, TakesMessage}
-use Rattle.validator_core.specs.Tables.{Tables, view_of, held_by, body_of, HasNoHeld, TakesBody, told_then, IsCore}
+use Rattle.validator_core.specs.Tables.{Tables, view_of, body_of, has_text, HasNoHeld, TakesBody, told_then, IsCore}
 use Rattle.validator_core.proofs.Groups.{refusal_is, no_held_claims}
 use Rattle.validator_core.proofs.Held.{held_at}
+use Rattle.validator_core.proofs.Looking.{bytes_at}
 
--- the place of a text
-pub at_place : (bodies : List (List ℕ)) (bytes : List ℕ) (n : ℕ) → position (λ body. bytes_eq body bytes) bodies ≡ Some n → slice_get bodies n ≡ Some bytes
-at_place bodies bytes n e =
-    let is = position-Some (λ body. bytes_eq body bytes) bodies n bytes e in
-    slice_get_read bodies (length bodies) n bytes refl is.0 (sym ((bytes_decides (get_or bodies n bytes) bytes).0 is.1))
+-- a text that is found has the bytes
+text_is : (bytes : List ℕ) (o : Option (List ℕ)) → has_text bytes o ≡ true → o ≡ Some bytes
+text_is bytes None e = cc
+text_is bytes (Some text) e = ap (λ t. Some t) ((bytes_decides text bytes).0 e)
 
--- no text has a place where none is the same
-none_pass : (bodies : List (List ℕ)) (bytes : List ℕ) → length bodies ≤ prefix_len (λ body. not (bytes_eq body bytes)) bodies → list_any (λ body. bytes_eq body bytes) bodies ≡ false
-none_pass [] bytes le = refl
-none_pass (t ∷ bodies) bytes le = elim (cases_Bool (bytes_eq t bytes)) [
-  | inl k ↦ (let short = rw k at le in absurd (omega (arith, short)))
-  | inr k ↦ (let long = rw k at le in rw k (none_pass bodies bytes (omega (arith, long))))
+-- what isn't found
+not_found : (test : ℕ → Bool) (xs : List ℕ) (n : ℕ) → find test xs ≡ None → Contains xs n → test n ≡ false
+not_found test xs n none c = elim (cases_Bool (test n)) [
+  | inr k ↦ k
+  | inl k ↦ (let there = any_at test xs c.0 n (slice_get_read xs (length xs) c.0 n refl c.1 (sym c.2)) k in
+      let nowhere : list_any test xs ≡ false = find_any test xs ∙ ap is_some none in cc)
 ]
 
-beyond : (c : Bool) (k : ℕ) → (if c then Some k else None) ≡ None → c ≡ false
-beyond true k e = cc
-beyond false k e = refl
+-- of a core's tables, where bytes spell one event
+module _ (t : Tables) (fits : IsCore t) (one : (one other : Event) (bytes : List ℕ) → SpellsEvent one bytes → SpellsEvent other bytes → one ≡ other)
+    (bytes : List ℕ) (event : Event) (spelled : SpellsEvent event bytes) where
+  abbrev test : ℕ → Bool
+  test n = has_text bytes (slice_get t.bodies n)
 
-pub not_placed : (bodies : List (List ℕ)) (bytes : List ℕ) → position (λ body. bytes_eq body bytes) bodies ≡ None → list_any (λ body. bytes_eq body bytes) bodies ≡ false
-not_placed bodies bytes e = none_pass bodies bytes (ltb-false (prefix_len (λ body. not (bytes_eq body bytes)) bodies) (length bodies) (beyond _ _ e))
+  the_body : (n : ℕ) → slice_get t.bodies n ≡ Some bytes → slice_get (view_of t).held n ≡ Some (body_of bytes event)
+  the_body n at =
+      let s = some_at t.cases n (omega (arith, fits.paired, slice_get_within t.bodies n bytes at)) in
+      let is = held_at t.bodies t.cases n bytes s.0 at s.1 in
+      let own = all_at IsHeld (view_of t).held fits.sound.spelled n _ is in
+      is ∙ ap (λ e. Some (body_of bytes e)) (one s.0.event event bytes own.spelled spelled)
 
--- a body's bytes are a text of the journal
-pub held_texts : (bodies : List (List ℕ)) (cases : List Case) (bytes : List ℕ) (event : Event) → list_any (λ body. bytes_eq body bytes) bodies ≡ false → is_in (held_by bodies cases) (body_of bytes event) ≡ false
-held_texts [] cases bytes event h = refl
-held_texts (t ∷ bodies) [] bytes event h = refl
-held_texts (t ∷ bodies) (c ∷ cases) bytes event h =
-    let parts = or_parts (bytes_eq t bytes) (list_any (λ body. bytes_eq body bytes) bodies) h in
-    let other = parts.0 in rw other (held_texts bodies cases bytes event parts.1)
+  pub body_found : (r : Option ℕ) (numbers : List ℕ) → r ≡ find test numbers → IfSome r (λ n. slice_get (view_of t).held n ≡ Some (body_of bytes event))
+  body_found None numbers e = tt
+  body_found (Some n) numbers e = the_body n (text_is bytes (slice_get t.bodies n) (find_passes test numbers n (sym e)))
 
--- the held body of these bytes has their one event
-pub the_body : (t : Tables) → IsCore t → ((one other : Event) (bytes : List ℕ) → SpellsEvent one bytes → SpellsEvent other bytes → one ≡ other)
-    → (n : ℕ) (bytes : List ℕ) (event : Event) → slice_get t.bodies n ≡ Some bytes → SpellsEvent event bytes → (b : Body) → slice_get (view_of t).held n ≡ Some b → b ≡ body_of bytes event
-the_body t fits one n bytes event at spelled b held =
-    let s = some_at t.cases n (omega (arith, fits.paired, slice_get_within t.bodies n bytes at)) in
-    let is : Some (body_of bytes s.0.event) ≡ Some b = sym (held_at t.bodies t.cases n bytes s.0 at s.1) ∙ held in
-    let same : body_of bytes s.0.event ≡ b = cc in
-    let own = all_at IsHeld (view_of t).held fits.sound.spelled n b held in
-    let own_spelled : SpellsEvent s.0.event bytes = (rw (← same) at own).spelled in
-    sym same ∙ ap (body_of bytes) (one s.0.event event bytes own_spelled spelled)
+  -- each body that has the bytes has the event
+  pub body_missing : (r : Option ℕ) (numbers : List ℕ) → ((n : ℕ) (c : Case) → slice_get t.cases n ≡ Some c → c.event ≡ event → Contains numbers n)
+      → r ≡ find test numbers → IfNone r (is_in (view_of t).held (body_of bytes event) ≡ false)
+  body_missing (Some n) numbers all e = tt
+  body_missing None numbers all e = elim (cases_Bool (is_in (view_of t).held (body_of bytes event))) [
+    | inr k ↦ k
+    | inl k ↦ (let f = found_at (λ c. same_body c (body_of bytes event)) (view_of t).held k in
+        let same : f.1.bytes ≡ bytes = (bytes_decides f.1.bytes bytes).0 f.3 in
+        let at : slice_get t.bodies f.0 ≡ Some bytes = sym (bytes_at t.bodies t.cases fits.paired f.0) ∙ ap (option_map (λ b. b.bytes)) f.2 ∙ ap (λ b. Some b) same in
+        let s = some_at t.cases f.0 (omega (arith, fits.paired, slice_get_within t.bodies f.0 bytes at)) in
+        let own = all_at IsHeld (view_of t).held fits.sound.spelled f.0 _ (held_at t.bodies t.cases f.0 bytes s.0 at s.1) in
+        let miss = not_found test numbers f.0 (sym e) (all f.0 s.0 s.1 (one s.0.event event bytes own.spelled spelled)) in
+        let hit : test f.0 ≡ true = ap (has_text bytes) at ∙ (bytes_decides bytes bytes).1 refl in cc)
+  ]
 
 -- a receipt that isn't refused has no claim of the controller
 pub receipt_claims : (m : Message) (e : Event) (reader : ℕ) → refusal m (Ok e) ≡ None → HasNoHeld (took reader (body_of m.body e) (claims_of m))

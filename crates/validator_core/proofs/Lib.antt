@@ -12,8 +12,7 @@ pub mod FitsAgain
 pub mod FitsNew
 pub mod FitsHeard
 pub mod Groups
-pub mod Fronts
-pub mod Results
+pub mod Flags
 pub mod Cores
 pub mod Replying
 pub mod Hearing

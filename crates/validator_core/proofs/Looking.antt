@@ -1,12 +1,15 @@
 -- What is found by number.
-use Rattle.std.proofs.Common.{◌≡◌, ℕ, ◌≤◌, List, length, Option, Some, None, refl, sym, ◌∙◌, ap, option_map, arith, Bor}
+use Rattle.std.proofs.Common.{◌≡◌, ℕ, ◌≤◌, List, [], ◌∷◌, ◌++◌, length, Option, Some, None, refl, sym, ◌∙◌, ap, option_map, arith, Bor}
 use Rattle.std.specs.Prelude.{slice_get}
 use Rattle.std.specs.Slice.{IsItemAt}
 use Rattle.std.proofs.lemmas.Bool.{ltb-true, ltb-false}
 use Rattle.std.proofs.lemmas.Option.{slice_get_read, slice_get_past, slice_get_within, slice_get-map}
-use Rattle.journal.proofs.Places.{all_at, some_at}
-use Rattle.validator_core.specs.Cases.{Case}
-use Rattle.validator_core.specs.Tables.{Tables, held_by, IsCore}
+use Rattle.journal.specs.declared.claim.Claim.{Claim}
+use Rattle.journal.specs.declared.entry.Entry.{Entry}
+use Rattle.journal.specs.declared.entry.Entry.TheVariants.{Took}
+use Rattle.journal.proofs.Places.{all_at, some_at, slice_get_last}
+use Rattle.body_cases.specs.Cases.{Case}
+use Rattle.validator_core.specs.Tables.{Tables, held_by, IsCore, claims_of}
 use Rattle.validator_core.specs.View.{IsHeld}
 use Rattle.validator_core.proofs.Held.{held_at, held_bytes, held_events}
 
@@ -36,3 +39,10 @@ pub few_at : (t : Tables) → IsCore t → (n : ℕ) (text : List ℕ) → slice
 few_at t fits n text at =
     let s = some_at t.cases n (omega (arith, fits.paired, slice_get_within t.bodies n text at)) in
     (all_at IsHeld (held_by t.bodies t.cases) fits.sound.spelled n _ (held_at t.bodies t.cases n text s.0 at s.1)).few
+
+-- the claims of an entry that was added last
+pub claims_last : (entries all : List Entry) (reader n place : ℕ) (claims held : List Claim) → all ≡ entries ++ Took reader n claims ∷ [] → place ≡ length entries
+    → held ≡ claims_of (slice_get all place) → held ≡ claims
+claims_last entries all reader n place claims held is last e =
+    e ∙ ap (λ all. claims_of (slice_get all place)) is ∙ ap (λ k. claims_of (slice_get (entries ++ Took reader n claims ∷ []) k)) last
+    ∙ ap claims_of (slice_get_last entries (Took reader n claims))

@@ -26,9 +26,9 @@ use Rattle.journal.proofs.Distinct.{any-distinct}
 use Rattle.journal.proofs.Keeping.{list_all-distinct}
 use Rattle.journal.proofs.Places.{others_differ}
 use Rattle.journal.proofs.Same.{same_triple_is, same_triple_itself, turned, any_turned, moves}
-use Rattle.validator_core.specs.Cases.{Case}
+use Rattle.body_cases.specs.Cases.{Case, questions_from}
 use Rattle.validator_core.specs.View.{IsHeld}
-use Rattle.validator_core.specs.Tables.{raised_with, asked_as, IsSound, IsCase, questions_from}
+use Rattle.validator_core.specs.Tables.{raised_with, asked_as, IsSound, IsCase}
 use Rattle.validator_core.proofs.Entries.{names, raised_name, heard_raises, heard_verdict, heard_verdict_other, other_triple, yes_is_verdict}
 use Rattle.validator_core.proofs.Raising.{own_are}
 use Rattle.validator_core.proofs.Settled.{held_differ}

@@ -3,6 +3,7 @@ use Rattle.std.proofs.Common.{◌≡◌, ℕ, ◌+◌, true, false, ◌||◌, Li
 use Rattle.std.specs.Prelude.{slice_get, flat_map, sum_by, nat_le, nat_lt}
 use Rattle.std.specs.List.{list_any, list_all}
 use Rattle.std.proofs.lemmas.Bool.{le-ltb, or_parts}
+use Rattle.std.proofs.lemmas.Option.{slice_get_within}
 use Rattle.journal.specs.declared.body.Body.{Body}
 use Rattle.journal.specs.declared.claim.Claim.{Claim}
 use Rattle.journal.specs.declared.reply.Reply.TheVariants.{Taken, Again, Full}
@@ -11,11 +12,12 @@ use Rattle.journal.specs.History.{Told, taken, bodies}
 use Rattle.journal.specs.Replies.{came_with, same_claim, all_claims, is_full, is_again, reply_to}
 use Rattle.journal.proofs.Accepting.{same_body-refl}
 use Rattle.journal.proofs.Distinct.{any-distinct}
-use Rattle.journal.proofs.Places.{any_at}
+use Rattle.journal.proofs.Places.{any_at, some_at}
 use Rattle.journal.proofs.Same.{same_claim_is, same_claim_itself, any_turned, moves}
-use Rattle.validator_core.specs.Cases.{Case}
+use Rattle.body_cases.specs.Cases.{Case, has_all}
 use Rattle.validator_core.specs.View.{told_of, HasRoom}
 use Rattle.validator_core.specs.Tables.{Tables, view_of, came, IsCase, IsCore, lacks_room}
+use Rattle.validator_core.proofs.Held.{held_length}
 
 module _ (t : Tables) (fits : IsCore t) where
   abbrev told : List Told
@@ -50,16 +52,16 @@ module _ (t : Tables) (fits : IsCore t) where
       rw inside (sym (counted 0 (length claims) ∙ ap (λ p. nat_le t.limits.messages (length (flat_map taken told)) || p || nat_lt t.limits.signatures (length (flat_map all_claims told) + length claims)) small))
 
   -- each claim came before
-  pub again_is : (n : ℕ) (b : Body) (case : Case) (claims : List Claim) → slice_get (view_of t).held n ≡ Some b → slice_get t.cases n ≡ Some case
-      → list_all (λ c. list_any (λ held. same_claim held c) case.claims) claims ≡ is_again [] told b claims
+  pub again_is : (n : ℕ) (b : Body) (claims : List Claim) → slice_get (view_of t).held n ≡ Some b → has_all claims (slice_get t.cases n) ≡ is_again [] told b claims
   unfolding is_again
-  again_is n b case claims at case_at =
+  again_is n b claims at =
       let inside : is_in (bodies [] told) b ≡ true = ap (λ bs. is_in bs b) (sym fits.sound.in_order) ∙ any_at (λ c. same_body c b) (view_of t).held n b at (same_body-refl b) in
-      let is = fits.cases_are n b case at case_at in
-      rw inside (ap (λ f. list_all f claims) (λ i c. one is c i))
+      let case = some_at t.cases n (omega (arith, slice_get_within (view_of t).held n b at, held_length t.bodies t.cases fits.paired)) in
+      let is = fits.cases_are n b case.0 at case.1 in
+      ap (has_all claims) case.1 ∙ rw inside (ap (λ f. list_all f claims) (λ i c. one case.0 is c i))
     where
-      one : IsCase told b case → (c : Claim) → list_any (λ held. same_claim held c) case.claims ≡ list_any (same_claim c) (flat_map (came_with b) told)
-      one is c = ap (list_any (λ held. same_claim held c)) is.claims ∙ any-distinct same_claim (moves same_claim same_claim_is same_claim_itself) c (came told b) ∙ any_turned same_claim same_claim_is same_claim_itself c (came told b)
+      one : (case : Case) → IsCase told b case → (c : Claim) → list_any (λ held. same_claim held c) case.claims ≡ list_any (same_claim c) (flat_map (came_with b) told)
+      one case is c = ap (list_any (λ held. same_claim held c)) is.claims ∙ any-distinct same_claim (moves same_claim same_claim_is same_claim_itself) c (came told b) ∙ any_turned same_claim same_claim_is same_claim_itself c (came told b)
 
   pub again_new : (b : Body) (claims : List Claim) → is_in (view_of t).held b ≡ false → is_again [] told b claims ≡ false
   unfolding is_again

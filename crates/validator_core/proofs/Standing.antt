@@ -66,6 +66,7 @@ nothing mode limits = record {
   accepted_held = All-nil (λ n. n < 0);
   cases_are = λ m b c at_b at_c. cc;
   sound = none_sound mode;
+  flagged = (λ m c e. cc);
   states_are = λ prefix. refl;
   tallied = none_counted;
   within = none_within limits;

@@ -1,10 +1,11 @@
 -- Why a body waits: for signatures, where its identifier has no state.
-use Rattle.std.proofs.Common.{◌≡◌, ℕ, ◌<◌, Bool, true, false, not, ◌&&◌, ◌||◌, List, [], ◌∷◌, length, Option, Some, None, is_none, is_some, refl, sym, ◌∙◌, ap, subst, inl, inr, if◌then◌else◌, option_map, Bor}
+use Rattle.std.proofs.Common.{◌≡◌, ℕ, ◌<◌, Bool, true, false, not, ◌&&◌, ◌||◌, List, [], ◌∷◌, length, Option, Some, None, is_none, is_some, refl, sym, ◌∙◌, ap, subst, inl, inr, if◌then◌else◌, option_map, arith, Bor}
 use Rattle.std.specs.Prelude.{All, slice_get, ◌==◌, filter_map}
 use Rattle.std.specs.List.{list_any}
 use Rattle.std.specs.Cmp.Lexicographic.{bytes_decides}
 use Rattle.std.proofs.lemmas.Bool.{cases_Bool, cases_eq, eq-eqb, ne_eqb}
 use Rattle.std.proofs.lemmas.List.Elements.{All-head, All-tail}
+use Rattle.std.proofs.lemmas.Option.{slice_get_within}
 use Rattle.cesr_codes.specs.declared.digest.Digest.{Digest}
 use Rattle.cesr_codes.specs.declared.key.Key.{Key}
 use Rattle.cesr_codes.specs.declared.prefix.Prefix.TheVariants.{Said}
@@ -29,6 +30,9 @@ use Rattle.journal.proofs.Inceptions.{inception}
 use Rattle.journal.proofs.Places.{all_at, one_place, some_at}
 use Rattle.validator_core.specs.View.{CoreView, IsHeld, accepted_by, state_of, waits_for}
 use Rattle.validator_core.specs.Tables.{Tables, IsSound, IsCore, held_by, view_of}
+use Rattle.body_cases.specs.Cases.{is_accepted_in}
+use Rattle.validator_core.proofs.Flags.{flag_is}
+use Rattle.validator_core.proofs.Held.{held_length}
 use Rattle.validator_core.proofs.Raising.{triples_are}
 use Rattle.validator_core.proofs.Ready.{has_yes, ready_is, signed_by_yes}
 use Rattle.validator_core.proofs.Settled.{held_differ}
@@ -121,17 +125,22 @@ module _ (t : Tables) (fits : IsCore t) (core : CoreView) (is : view_of t ≡ co
   is_accepted = ap (λ log. is_in log body.0) (sym fits.sound.log_is)
       ∙ chosen_at held (held_differ held (told_by held t.entries) fits.sound.in_order) t.accepted fits.accepted_held n body.0 body.1
 
-  pub why_none : (is_receipt e.now || list_any (λ k. k == n) t.accepted) ≡ true → waits_for core n ≡ None
+  flag : is_accepted_in (slice_get t.cases n) ≡ list_any (λ k. k == n) t.accepted
+  flag =
+      let case = some_at t.cases n (omega (arith, slice_get_within held n body.0 body.1, held_length t.bodies t.cases fits.paired)) in
+      flag_is t.cases t.accepted n case.0 fits.flagged case.1
+
+  pub why_none : (is_receipt e.now || is_accepted_in (slice_get t.cases n)) ≡ true → waits_for core n ≡ None
   why_none h = let at = body.1 in subst (λ core. waits_for core n ≡ None) is (rw at (
       waits_not t.mode (told_by held t.entries) (accepted_by (view_of t)) body.0
-      (ap (λ e. is_receipt e || is_in (accepted_by (view_of t)) body.0) body.2 ∙ ap (λ p. is_receipt e.now || p) is_accepted ∙ h)))
+      (ap (λ e. is_receipt e || is_in (accepted_by (view_of t)) body.0) body.2 ∙ ap (λ p. is_receipt e.now || p) (is_accepted ∙ sym flag) ∙ h)))
 
-  pub why_some : is_receipt e.now ≡ false → list_any (λ k. k == n) t.accepted ≡ false
+  pub why_some : is_receipt e.now ≡ false → is_accepted_in (slice_get t.cases n) ≡ false
       → waits_for core n ≡ reason (is_none (state_of core (prefix_of e.now)))
   why_some no_receipt outside = let at = body.1 in subst (λ core. waits_for core n ≡ reason (is_none (state_of core (prefix_of e.now)))) is (rw at (
       ap (λ log. why_waits t.mode (told_by held t.entries) log body.0) (sym fits.sound.log_is)
       ∙ waits_is t.mode (told_by held t.entries) held (chosen held t.accepted) fits.sound n body.0 body.1 (ap is_receipt body.2 ∙ no_receipt)
-      (ap (λ log. is_in log body.0) fits.sound.log_is ∙ is_accepted ∙ outside)
+      (ap (λ log. is_in log body.0) fits.sound.log_is ∙ is_accepted ∙ sym flag ∙ outside)
       ∙ ap (λ log. reason (is_none (state log (prefix_of body.0.event)))) fits.sound.log_is
       ∙ ap (λ e. reason (is_none (state_of (view_of t) (prefix_of e)))) body.2))
 

@@ -1,26 +1,22 @@
 -- What the tables of a core stand for.
-use Rattle.std.specs.Prelude.{◌≡◌, ℕ, suc, ◌+◌, ◌<◌, Bool, true, false, ◌&&◌, ◌||◌, nat_le, nat_lt, List, [], ◌∷◌, ◌++◌, length, map, flat_map, fold, set, take, filter, filter_map, find, All, slice_get, sum_by, bytes_eq, Option, Some, None, Ok, is_none, if◌then◌else◌}
+use Rattle.std.specs.Prelude.{◌≡◌, ℕ, ◌+◌, ◌<◌, Bool, true, false, ◌||◌, ◌==◌, nat_le, nat_lt, List, [], ◌∷◌, ◌++◌, length, map, flat_map, filter_map, find, All, slice_get, sum_by, bytes_eq, Option, Some, None, Ok, is_none, if◌then◌else◌}
 use Rattle.std.specs.List.{list_any}
-use Rattle.std.specs.Option.{option_map}
-use Rattle.cesr_codes.specs.declared.key.Key.{Key}
 use Rattle.cesr_codes.specs.declared.prefix.Prefix.{Prefix}
-use Rattle.cesr_codes.specs.declared.sig.Sig.{Sig}
 use Rattle.event_body.specs.declared.event.Event.{Event}
 use Rattle.event_body.specs.Events.{prefix_of, is_receipt}
 use Rattle.keri_outside.specs.declared.limits.Limits.{Limits}
 use Rattle.key_state.specs.KeyStates.{first}
 use Rattle.key_state.specs.States.{State}
-use Rattle.key_state.specs.Same.{same_key, same_sig, same_prefix, distinct}
-use Rattle.key_state.specs.Exposure.{Rules, own_rules}
+use Rattle.key_state.specs.Same.{same_prefix, distinct}
+use Rattle.key_state.specs.Exposure.{own_rules}
 use Rattle.journal.specs.declared.body.Body.{Body}
 use Rattle.journal.specs.declared.claim.Claim.{Claim}
 use Rattle.journal.specs.declared.entry.Entry.{Entry}
 use Rattle.journal.specs.declared.entry.Entry.TheVariants.{Took, Heard}
-use Rattle.journal.specs.declared.journal.Journal.{Journal}
 use Rattle.journal.specs.declared.mode.Mode.{Mode}
 use Rattle.journal.specs.declared.question.Question.{Question}
 use Rattle.journal.specs.Logs.{is_in, state}
-use Rattle.journal.specs.History.{Told, took, heard, Triple, same_triple, triple_of, claimed_key, claimed_sig, said_yes, has_verdict, taken, bodies}
+use Rattle.journal.specs.History.{Told, took, heard, Triple, same_triple, triple_of, said_yes, has_verdict, taken, bodies}
 use Rattle.journal.specs.Readiness.{is_ready}
 use Rattle.journal.specs.Accepted.{accepted}
 use Rattle.journal.specs.Questions.{IsRegular}
@@ -28,8 +24,8 @@ use Rattle.journal.specs.declared.reply.Reply.{Reply}
 use Rattle.journal.specs.declared.reply.Reply.TheVariants.{Taken, Again, Refused, Full}
 use Rattle.journal.specs.Replies.{reply_to, came_with, same_claim, is_held, all_claims, IsWithin}
 use Rattle.journal.specs.Journals.{told_by, chosen}
-use Rattle.validator_core.specs.declared.asked.Asked.{Asked}
-use Rattle.validator_core.specs.Cases.{Case}
+use Rattle.body_cases.specs.declared.asked.Asked.{Asked}
+use Rattle.body_cases.specs.Cases.{Case}
 use Rattle.validator_core.specs.declared.tally.Tally.{Tally}
 use Rattle.validator_core.specs.View.{CoreView, told_of, state_of, open_of, Follows, IsHeld}
 
@@ -71,43 +67,6 @@ raised_with told b = filter_map (triple_of (own_rules None b.event) b) (came tol
 abbrev pub asked_as : List Told → Triple → Asked
 asked_as told t = record { key = t.key; sig = t.sig; verdict = if said_yes told t then Some true else (if has_verdict told t then Some false else None) }
 
--- the list with one more, unless it is there
-abbrev pub with_new : {X : Type 0} → (X → X → Bool) → List X → X → List X
-with_new same xs x = if list_any (λ y. same y x) xs then xs else xs ++ x ∷ []
-
--- the same key's signature
-abbrev pub same_asked : Asked → Asked → Bool
-same_asked a b = same_key a.key b.key && same_sig a.sig b.sig
-
--- what a claim asks by the rules, without a verdict
-abbrev pub asked_of : Rules → Claim → Option Asked
-asked_of rules c = option_map (λ k. record { key = k; sig = claimed_sig c; verdict = None }) (claimed_key rules c)
-
--- what is asked with one more claim
-abbrev pub with_claim : Rules → List Asked → Claim → List Asked
-with_claim rules asked c = with_some (asked_of rules c)
-  where
-    with_some : Option Asked → List Asked
-    with_some None = asked
-    with_some (Some a) = with_new same_asked asked a
-
--- claims came: each is added unless it is there, and what they ask
-pub record NotesClaims (old : Case) (claims : List Claim) (new : Case) : Type 0 where
-  pub event : new.event ≡ old.event
-  pub claims_are : new.claims ≡ fold (with_new same_claim) old.claims claims
-  pub asked_are : new.asked ≡ fold (with_claim (own_rules None old.event)) old.asked claims
-
--- more came behind what was there
-pub record ExtendsCase (old new : Case) : Type 0 where
-  pub event : new.event ≡ old.event
-  pub claims_front : take (length old.claims) new.claims ≡ old.claims
-  pub asked_front : take (length old.asked) new.asked ≡ old.asked
-
--- with a verdict, where it is this key's signature
-abbrev pub with_verdict : Key → Sig → Bool → Asked → Asked
-with_verdict key sig verdict a =
-    if same_key a.key key && same_sig a.sig sig then record { key = a.key; sig = a.sig; verdict = Some verdict } else a
-
 -- a case keeps the claims that came with the body, and what they raise, each once in order of first coming
 pub record IsCase (told : List Told) (b : Body) (c : Case) : Type 0 where
   pub claims : c.claims ≡ distinct same_claim (came told b)
@@ -145,6 +104,10 @@ pub record IsTally (tally : Tally) (told : List Told) : Type 0 where
 abbrev pub AreStates : List Body → List State → Type 0
 AreStates log states = (prefix : Prefix) → find (λ s. same_prefix s.prefix prefix) states ≡ state log prefix
 
+-- each case says whether its number is among the accepted ones
+abbrev pub AreFlagged : List Case → List ℕ → Type 0
+AreFlagged cases accepted = (m : ℕ) (c : Case) → slice_get cases m ≡ Some c → c.accepted ≡ list_any (λ n. n == m) accepted
+
 -- the tables fit together
 pub record FitsTables (t : Tables) (held : List Body) (told : List Told) : Type 0 where
   pub paired : length t.bodies ≡ length t.cases
@@ -152,21 +115,13 @@ pub record FitsTables (t : Tables) (held : List Body) (told : List Told) : Type 
   pub accepted_held : All (λ n. n < length held) t.accepted
   pub cases_are : (m : ℕ) (b : Body) (c : Case) → slice_get held m ≡ Some b → slice_get t.cases m ≡ Some c → IsCase told b c
   pub sound : IsSound t.mode told held (chosen held t.accepted)
+  pub flagged : AreFlagged t.cases t.accepted
   pub states_are : AreStates (chosen held t.accepted) t.states
   pub tallied : IsTally t.tally told
   pub within : IsWithin t.limits [] told
 
 abbrev pub IsCore : Tables → Type 0
 IsCore t = let held = held_by t.bodies t.cases in FitsTables t held (told_by held t.entries)
-
--- the signatures of a case without a verdict
-abbrev pub open_in : Case → List Asked
-open_in c = filter (λ a. is_none a.verdict) c.asked
-
--- the open questions of the cases, the first case having this number
-abbrev pub questions_from : ℕ → List Case → List Question
-questions_from n [] = []
-questions_from n (c ∷ cases) = map (λ a. record { body = n; key = a.key; sig = a.sig }) (open_in c) ++ questions_from (suc n) cases
 
 -- the tally with one message more, with so many bytes of a new body and so many claims
 abbrev pub tally_with : Tally → ℕ → ℕ → Tally
@@ -194,15 +149,16 @@ abbrev pub lacks_room : Limits → Tally → ℕ → ℕ → Bool
 lacks_room limits tally bytes claims = nat_le limits.messages tally.messages
     || nat_lt limits.body_bytes (tally.body_bytes + bytes) || nat_lt limits.signatures (tally.signatures + claims)
 
--- the case of a number has the claims, and their entry came
-pub record NotesAgain (old_journal new_journal : Journal) (old_cases new_cases : List Case) (reader number : ℕ) (claims : List Claim) : Type 0 where
-  pub old_case : Case
-  pub new_case : Case
-  pub at : slice_get old_cases number ≡ Some old_case
-  pub notes : NotesClaims old_case claims new_case
-  pub cases_are : new_cases ≡ set old_cases number new_case
-  pub bodies_are : new_journal.bodies ≡ old_journal.bodies
-  pub entries_are : new_journal.entries ≡ old_journal.entries ++ Took reader number claims ∷ []
+-- the claims of an entry, where there is one
+abbrev pub claims_of : Option Entry → List Claim
+claims_of None = []
+claims_of (Some (Took reader n claims)) = claims
+claims_of (Some (Heard reader n key sig verdict)) = []
+
+-- there is a text, and it has these bytes
+abbrev pub has_text : List ℕ → Option (List ℕ) → Bool
+has_text bytes None = false
+has_text bytes (Some text) = bytes_eq text bytes
 
 -- the bytes with their event
 abbrev pub body_of : List ℕ → Event → Body

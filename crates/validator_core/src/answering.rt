@@ -3,15 +3,15 @@ ghost use Rattle.std.specs.Prelude.{◌≡◌, ◌+◌, ◌<◌, ◌&&◌, ◌++
 ghost use Rattle.std.specs.Option.{option_map};
 ghost use Rattle.std.specs.Vec.{vec_len, vec_capacity};
 ghost use Rattle.key_state.specs.Same.{same_key, same_prefix, same_sig};
+ghost use Rattle.body_cases.specs.Cases.{altered, as_accepted};
 ghost use Rattle.journal.specs.declared.body.Body.{Body};
 ghost use Rattle.journal.specs.declared.question.Noted.TheVariants.{New};
 ghost use Rattle.validator_core.specs.View.{TakesVerdict, Follows, open_of};
 ghost use Rattle.validator_core.specs.Tables.{Begins, BeginsBy, Hears, IsOpenIn, with_state};
 
 use crate::Core;
-use crate::asked::Asked;
 use crate::states::States;
-use cesr_codes::{Key, Sig};
+use body_cases::Cases;
 use event_body::prefix_of;
 use journal::{Entry, Noted, Question};
 use keri_outside::Steps;
@@ -31,10 +31,10 @@ impl Core {
         ensures fewer { IfOk result (λ noted. noted ≡ New → length (open_of self.new) + 1 ≡ length (open_of self.old)) }
         ensures err { OnErr result (self.new ≡ self.old) }
     {
-        let Some(case) = self.cases.get(question.body as usize) else {
-            return Ok(Noted::Unasked);
-        };
-        match verdict_in(case.asked(), &question.key, &question.sig) {
+        match self
+            .cases
+            .verdict(question.body, &question.key, &question.sig)
+        {
             None => Ok(Noted::Unasked),
             Some(Some(_)) => Ok(Noted::Known),
             Some(None) => {
@@ -50,7 +50,6 @@ impl Core {
         ensures hears { OnOk result ((b : Body) → slice_get self.old.held question.now.body ≡ Some b → Hears self.old reader b question.now yes self.new) }
         ensures err { OnErr result (self.new ≡ self.old) }
     {
-        let number = question.body as usize;
         let begun = self.begun_by(question.body, yes)?;
         let begins = begun.is_some();
         self.accepted.reserve(1)?;
@@ -67,8 +66,9 @@ impl Core {
             self.states.truncate(known);
             return Err(AllocError);
         }
-        self.cases[number].note_verdict(&question.key, &question.sig, yes);
-        join(&mut self.accepted, question.body, begins);
+        self.cases
+            .hear(question.body, &question.key, &question.sig, yes);
+        join(&mut self.accepted, &mut self.cases, question.body, begins);
         Ok(())
     }
 
@@ -111,20 +111,13 @@ fn begin(states: &mut States, begun: Option<KeyState>) -> Result<(), AllocError>
 }
 
 // Adds the number of a body, where it is accepted.
-fn join(accepted: &mut Vec<u32>, number: u32, begins: bool)
+fn join(accepted: &mut Vec<u32>, cases: &mut Cases, number: u32, begins: bool)
     requires { vec_len accepted.old < vec_capacity accepted.old }
-    ensures { accepted.new.items ≡ (if begins then accepted.old.items ++ number ∷ [] else accepted.old.items) }
+    ensures accepted { accepted.new.items ≡ (if begins then accepted.old.items ++ number ∷ [] else accepted.old.items) }
+    ensures cases { cases.new ≡ (if begins then altered cases.old number as_accepted else cases.old) }
 {
     if begins {
         accepted.push_reserved(number);
+        cases.accept(number);
     }
-}
-
-// The verdict on a key's signature, where that is asked.
-fn verdict_in(all: &[Asked], key: &Key, sig: &Sig) -> Option<Option<bool>>
-    ensures { result ≡ option_map (λ a. a.verdict) (find (λ a. same_key a.key key.now && same_sig a.sig sig.now) all.now) }
-{
-    all.iter()
-        .find(|asked| asked.is(key, sig))
-        .map(|asked| asked.verdict)
 }

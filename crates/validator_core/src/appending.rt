@@ -1,14 +1,16 @@
 //! Adding entries to the tables.
-ghost use Rattle.std.specs.Prelude.{◌≡◌, ◌<◌, ◌++◌, ◌∷◌, [], false, length, slice_get, Some, OnOk, OnErr};
+ghost use Rattle.std.specs.Prelude.{◌≡◌, ◌<◌, ◌^◌, ◌++◌, ◌∷◌, [], false, length, slice_get, Some, OnOk, OnErr};
+ghost use Rattle.body_cases.specs.Cases.{altered, empty_case, noted};
 ghost use Rattle.journal.specs.Logs.{is_in};
 ghost use Rattle.journal.specs.declared.body.Body.{Body};
+ghost use Rattle.journal.specs.declared.entry.Entry.TheVariants.{Took};
 ghost use Rattle.journal.specs.History.{took};
-ghost use Rattle.validator_core.specs.Cases.{Case as CaseValue};
 ghost use Rattle.validator_core.specs.View.{IsHeld, HasRoom, Follows, told_of};
-ghost use Rattle.validator_core.specs.Tables.{HasNoHeld, NotesClaims, NotesAgain, body_of};
+ghost use Rattle.validator_core.specs.Tables.{HasNoHeld, body_of, claims_of};
 
 use crate::Core;
-use crate::case::Case;
+use body_cases::Cases;
+use event_body::Event;
 use journal::{Claim, Entry, Journal};
 use json_tree::Text;
 use lists::Items;
@@ -30,91 +32,117 @@ impl Core {
         ensures err { OnErr result (self.new ≡ self.old) }
     {
         let count = claims.len();
-        note_again(&mut self.journal, &mut self.cases, reader, number, claims)?;
+        append_again(&mut self.journal, &mut self.cases, reader, number, claims)?;
         self.tally = self.tally.with(0, count);
         Ok(())
     }
 
-    // Adds a body that isn't held, with its claims, which its case has.
+    // Adds a body that isn't held, with its claims.
     pub(crate) fn add_new(
         &mut self,
         reader: u16,
         text: Text,
-        case: Case,
+        event: Event,
         claims: Items<Claim>,
     ) -> Result<(), AllocError>
-        requires held { IsHeld (body_of text case.event) }
-        requires outside { is_in self.old.held (body_of text case.event) ≡ false }
-        requires noted { NotesClaims (record { event = case.event; claims = []; asked = [] }) claims case }
-        requires no_held { HasNoHeld (took reader (body_of text case.event) claims) }
+        requires held { IsHeld (body_of text event) }
+        requires outside { is_in self.old.held (body_of text event) ≡ false }
+        requires no_held { HasNoHeld (took reader (body_of text event) claims) }
         requires room { HasRoom self.old (length text) (length claims) }
-        ensures told { OnOk result (told_of self.new ≡ told_of self.old ++ took reader (body_of text case.event) claims ∷ []) }
+        ensures told { OnOk result (told_of self.new ≡ told_of self.old ++ took reader (body_of text event) claims ∷ []) }
         ensures follows { Follows self.old self.new }
         ensures err { OnErr result (self.new ≡ self.old) }
     {
         let count = claims.len();
         let bytes = text.len();
-        let body = self.journal.bodies.len() as u32;
-        let entry = Entry::Took {
+        append_new(
+            &mut self.journal,
+            &mut self.cases,
             reader,
-            body,
+            text,
+            event,
             claims,
-        };
-        append_body(&mut self.journal, &mut self.cases, text, case, entry)?;
+        )?;
         self.tally = self.tally.with(bytes, count);
         Ok(())
     }
 }
 
-// Adds a body, its case and its entry, or nothing.
-pub(crate) fn append_body(
+// Adds claims on the body of a number: their entry, and what the cases know of them; or nothing.
+fn append_again(
     journal: &mut Journal,
-    cases: &mut Vec<Case>,
-    text: Text,
-    case: Case,
-    entry: Entry,
+    cases: &mut Cases,
+    reader: u16,
+    body: u32,
+    claims: Items<Claim>,
 ) -> Result<(), AllocError>
-    ensures ok { OnOk result ((journal.new ≡ record { bodies = journal.old.bodies ++ text ∷ []; entries = journal.old.entries ++ entry ∷ [] }) × (cases.new.items ≡ cases.old.items ++ case ∷ [])) }
-    ensures err { OnErr result ((journal.new ≡ journal.old) × (cases.new.items ≡ cases.old.items)) }
+    requires held { body < length cases.old }
+    ensures ok { OnOk result ((journal.new ≡ record { bodies = journal.old.bodies; entries = journal.old.entries ++ Took reader body claims ∷ [] }) × (cases.new ≡ altered cases.old body (noted claims))) }
+    ensures err { OnErr result ((journal.new ≡ journal.old) × (cases.new ≡ cases.old)) }
 {
-    let held = cases.len();
+    let entries = journal.entries.len();
+    journal.entries.push(Entry::Took {
+        reader,
+        body,
+        claims,
+    })?;
+    let noted = cases.note(body, claims_at(journal.entries.as_slice(), entries));
+    if noted.is_err() {
+        journal.entries.truncate(entries);
+    }
+    noted
+}
+
+// Adds a body with its entry, and its case; or nothing.
+fn append_new(
+    journal: &mut Journal,
+    cases: &mut Cases,
+    reader: u16,
+    text: Text,
+    event: Event,
+    claims: Items<Claim>,
+) -> Result<(), AllocError>
+    requires few { length cases.old < 2 ^ 32 }
+    requires paired { length journal.old.bodies ≡ length cases.old }
+    ensures ok { OnOk result ((journal.new ≡ record { bodies = journal.old.bodies ++ text ∷ []; entries = journal.old.entries ++ Took reader (length journal.old.bodies) claims ∷ [] }) × (cases.new ≡ cases.old ++ noted claims (empty_case event) ∷ [])) }
+    ensures err { OnErr result ((journal.new ≡ journal.old) × (cases.new ≡ cases.old)) }
+{
+    let bodies = journal.bodies.len();
+    let entries = journal.entries.len();
+    let entry = Entry::Took {
+        reader,
+        body: bodies as u32,
+        claims,
+    };
+    append_body(journal, text, entry)?;
+    let added = cases.add(event, claims_at(journal.entries.as_slice(), entries));
+    if added.is_err() {
+        journal.entries.truncate(entries);
+        journal.bodies.truncate(bodies);
+    }
+    added
+}
+
+// Adds a body and its entry, or nothing.
+fn append_body(journal: &mut Journal, text: Text, entry: Entry) -> Result<(), AllocError>
+    ensures ok { OnOk result (journal.new ≡ record { bodies = journal.old.bodies ++ text ∷ []; entries = journal.old.entries ++ entry ∷ [] }) }
+    ensures err { OnErr result (journal.new ≡ journal.old) }
+{
     let bodies = journal.bodies.len();
     journal.bodies.push(text)?;
-    if cases.push(case).is_err() {
-        journal.bodies.truncate(bodies);
-        return Err(AllocError);
-    }
     if journal.entries.push(entry).is_err() {
-        cases.truncate(held);
         journal.bodies.truncate(bodies);
         return Err(AllocError);
     }
     Ok(())
 }
 
-// Adds claims to the case of a number, and their entry, or nothing.
-fn note_again(
-    journal: &mut Journal,
-    cases: &mut Vec<Case>,
-    reader: u16,
-    body: u32,
-    claims: Items<Claim>,
-) -> Result<(), AllocError>
-    requires held { body < length cases.old.items }
-    ensures ok { OnOk result (NotesAgain journal.old journal.new cases.old.items cases.new.items reader body claims) }
-    ensures err { OnErr result ((journal.new ≡ journal.old) × (cases.new.items ≡ cases.old.items)) }
+// The claims of the entry at a place.
+fn claims_at(entries: &[Entry], place: usize) -> &[Claim]
+    ensures { result.now ≡ claims_of (slice_get entries.now place) }
 {
-    let case = &mut cases[body as usize];
-    let sizes = case.sizes();
-    case.note(claims.as_slice())?;
-    let entry = Entry::Took {
-        reader,
-        body,
-        claims,
-    };
-    if journal.entries.push(entry).is_err() {
-        case.go_back(sizes);
-        return Err(AllocError);
+    match entries.get(place) {
+        Some(Entry::Took { claims, .. }) => claims.as_slice(),
+        Some(Entry::Heard { .. }) | None => &[],
     }
-    Ok(())
 }

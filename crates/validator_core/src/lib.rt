@@ -3,12 +3,9 @@
 
 mod answering;
 mod appending;
-mod asked;
 mod asking;
-mod case;
 mod claims;
 mod refusing;
-mod rules;
 mod states;
 mod taking;
 mod tally;

@@ -1,20 +1,19 @@
 //! Taking messages.
-ghost use Rattle.std.specs.Prelude.{◌≡◌, ◌<◌, ◌++◌, ◌∷◌, [], false, position, length, slice_get, bytes_eq, Some, Ok, IfOk, OnOk, OnErr};
+ghost use Rattle.std.specs.Prelude.{◌≡◌, ◌<◌, false, find, length, slice_get, Some, Ok, IfNone, IfOk, IfSome, OnErr};
 ghost use Rattle.journal.specs.Logs.{is_in};
 ghost use Rattle.journal.specs.declared.body.Body.{Body};
 ghost use Rattle.journal.specs.History.{took};
 ghost use Rattle.validator_core.specs.Messages.{JudgesMessage};
 ghost use Rattle.validator_core.specs.View.{TakesMessage, IsHeld};
-ghost use Rattle.validator_core.specs.Tables.{HasNoHeld, TakesBody, body_of};
+ghost use Rattle.validator_core.specs.Tables.{HasNoHeld, TakesBody, body_of, has_text};
+ghost use Rattle.event_body.specs.Judging.{SpellsEvent};
 
 use crate::Core;
-use crate::appending::append_body;
-use crate::case::Case;
 use crate::claims::claims_of;
 use crate::refusing::judge_message;
 use cesr_stream::Message;
 use event_body::{Event, one_event};
-use journal::{Claim, Entry, Reply};
+use journal::{Claim, Reply};
 use json_tree::Text;
 use keri_outside::Steps;
 use lists::{CopyValue, Items};
@@ -49,10 +48,9 @@ impl Core {
         ensures takes { IfOk result (λ reply. TakesMessage self.old reader message.now reply self.new) }
         ensures err { OnErr result (self.new ≡ self.old) }
     {
-        one_event();
         let claims = claims_of(self.alloc, message)?;
-        match place_of(self.journal.bodies.as_slice(), message.body.as_slice()) {
-            Some(number) => self.take_again(reader, number as u32, claims),
+        match self.number_of(message.body.as_slice(), &event) {
+            Some(number) => self.take_again(reader, number, claims),
             None => self.take_new(reader, &message.body, event, claims),
         }
     }
@@ -72,7 +70,7 @@ impl Core {
         if self.tally.lacks_room(self.limits, 0, claims.len()) {
             return Ok(Reply::Full);
         }
-        let again = self.cases[number as usize].has_all(claims.as_slice());
+        let again = self.cases.has_all(number, claims.as_slice());
         self.add_again(reader, number, claims)?;
         Ok(if again { Reply::Again } else { Reply::Taken })
     }
@@ -95,16 +93,41 @@ impl Core {
             return Ok(Reply::Full);
         }
         let text = body.copy(self.alloc)?;
-        let mut case = Case::new(self.alloc, event);
-        case.note(claims.as_slice())?;
-        self.add_new(reader, text, case, claims)?;
+        self.add_new(reader, text, event, claims)?;
         Ok(Reply::Taken)
+    }
+
+    // The number of the body with these bytes, which spell the event.
+    fn number_of(&self, bytes: &[u8], event: &Event) -> Option<u32>
+        requires { SpellsEvent event.now bytes.now }
+        ensures some { IfSome result (λ n. slice_get self.now.held n ≡ Some (body_of bytes.now event.now)) }
+        ensures none { IfNone result (is_in self.now.held (body_of bytes.now event.now) ≡ false) }
+    {
+        one_event();
+        number_among(
+            self.journal.bodies.as_slice(),
+            self.cases.with_event(event),
+            bytes,
+        )
     }
 }
 
-// The number of the body with these bytes.
-fn place_of(bodies: &[Text], bytes: &[u8]) -> Option<usize>
-    ensures { result ≡ position (λ body. bytes_eq body bytes.now) bodies.now }
+// The first of the numbers whose body has these bytes.
+fn number_among(bodies: &[Text], numbers: &[u32], bytes: &[u8]) -> Option<u32>
+    ensures { result ≡ find (λ n. has_text bytes.now (slice_get bodies.now n)) numbers.now }
 {
-    bodies.iter().position(|body| body.as_slice() == bytes)
+    numbers
+        .iter()
+        .copied()
+        .find(|number| has_bytes(bodies, *number, bytes))
+}
+
+// Whether the body of a number has these bytes.
+fn has_bytes(bodies: &[Text], number: u32, bytes: &[u8]) -> bool
+    ensures { result ≡ has_text bytes.now (slice_get bodies.now number) }
+{
+    match bodies.get(number as usize) {
+        Some(body) => body.as_slice() == bytes,
+        None => false,
+    }
 }

@@ -4,9 +4,9 @@ ghost use Rattle.std.specs.Option.{option_map};
 ghost use Rattle.journal.specs.Journals.{chosen};
 ghost use Rattle.validator_core.specs.View.{Stands, accepted_by, state_of};
 
-use crate::case::Case;
 use crate::states::States;
 use crate::tally::Tally;
+use body_cases::Cases;
 use cesr_codes::Prefix;
 use event_body::Event;
 use journal::{Journal, Mode};
@@ -24,7 +24,7 @@ pub struct Core {
     pub(crate) limits: Limits,
     pub(crate) journal: Journal,
     /// One for each body of the journal.
-    pub(crate) cases: Vec<Case>,
+    pub(crate) cases: Cases,
     /// The numbers of the accepted bodies, in order.
     pub(crate) accepted: Vec<u32>,
     /// The states after the accepted bodies, in the same order.
@@ -47,7 +47,7 @@ impl Model for Core {
       limits = c.limits;
       bodies = c.journal.bodies;
       entries = c.journal.entries;
-      cases = c.cases.items;
+      cases = c.cases;
       accepted = c.accepted.items;
       states = c.states;
       tally = c.tally;
@@ -58,7 +58,7 @@ impl Model for Core {
       limits = c.limits;
       bodies = c.journal.bodies;
       entries = c.journal.entries;
-      cases = c.cases.items;
+      cases = c.cases;
       accepted = c.accepted.items;
       states = c.states;
       tally = c.tally;
@@ -78,7 +78,7 @@ impl Core {
                 bodies: Items::new(alloc),
                 entries: Items::new(alloc),
             },
-            cases: Vec::new(alloc),
+            cases: Cases::new(alloc),
             accepted: Vec::new(alloc),
             states: States::new(alloc),
             tally: Tally {
@@ -121,8 +121,7 @@ impl Core {
     pub fn event(&self, number: u32) -> Option<&Event>
         ensures { option_map (λ event. event.now) result ≡ option_map (λ b. b.event) (slice_get self.now.held number) }
     {
-        let case = self.cases.get(number as usize)?;
-        Some(case.event())
+        self.cases.event(number)
     }
 
     /// The numbers of the accepted bodies, in order of acceptance. It takes no memory.

@@ -1,6 +1,5 @@
 //! Why events wait.
-ghost use Rattle.std.specs.Prelude.{◌≡◌, ◌==◌};
-ghost use Rattle.std.specs.List.{list_any};
+ghost use Rattle.std.specs.Prelude.{◌≡◌};
 ghost use Rattle.event_body.specs.Events as events;
 ghost use Rattle.validator_core.specs.View.{waits_for};
 
@@ -15,7 +14,7 @@ impl Core {
         ensures { result ≡ waits_for self.now body }
     {
         let event = self.event(body)?;
-        if is_receipt(event) || has_number(self.accepted.as_slice(), body) {
+        if is_receipt(event) || self.cases.is_accepted(body) {
             return None;
         }
         if self.state(&prefix_of(event)).is_some() {
@@ -31,11 +30,4 @@ fn is_receipt(event: &Event) -> bool
     ensures { result ≡ events.is_receipt event.now }
 {
     matches!(event, Event::Rct(_))
-}
-
-// Whether the number is among these.
-fn has_number(numbers: &[u32], number: u32) -> bool
-    ensures { result ≡ list_any (λ n. n == number) numbers.now }
-{
-    numbers.contains(&number)
 }

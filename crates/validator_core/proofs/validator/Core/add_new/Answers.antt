@@ -5,23 +5,21 @@ use Rattle.validator_core.proofs.Inside.{tables_of}
 use Rattle.validator_core.proofs.validator.Core.add_new.Goals as goal
 
 -- there are few bodies
-pub overflow_cast-body : goal.overflow_cast-body
-overflow_cast-body c =
+pub append_new-requires-clause-few : goal.append_new-requires-clause-few
+append_new-requires-clause-few c =
     let few = few_held (tables_of c.self.inside) c.self.invariant c.self.inside.limits.messages_standard in
-    omega (arith, few, held_length c.self.inside.journal.bodies c.self.inside.cases.items c.self.invariant.paired, c.len-body.ensures)
+    omega (arith, few, held_length c.self.inside.journal.bodies c.self.inside.cases c.self.invariant.paired)
 
 pub invariant_of-self-2 : goal.invariant_of-self-2
 invariant_of-self-2 c =
     let is = c.self.view_is in
-    let appended = c.in_ok-append_body.ensures.ok in
-    let number = c.len-body.ensures in
-    let fits = core_new (tables_of c.self.inside) c.self.invariant c.args.reader c.args.claims c.args.text c.args.case (rw (← is) at c.requires.room) c.requires.held (rw (← is) at c.requires.outside) c.requires.noted c.requires.no_held in
-    rw (appended.0, appended.1, number, c.with-self-inside.ensures, c.len-bytes.ensures, c.len-count.ensures) fits
+    let appended = c.in_ok-append_new.ensures.ok in
+    let fits = core_new (tables_of c.self.inside) c.self.invariant c.args.reader c.args.claims c.args.text c.args.event (rw (← is) at c.requires.room) c.requires.held (rw (← is) at c.requires.outside) c.requires.no_held in
+    rw (appended.0, appended.1, c.with-self-inside.ensures, c.len-bytes.ensures, c.len-count.ensures) fits
 
 pub returns-clause-told : goal.returns-clause-told
 returns-clause-told c =
     let is = c.self.view_is in
-    let appended = c.in_ok-append_body.ensures.ok in
-    let number = c.len-body.ensures in
-    let told = told_core_new (tables_of c.self.inside) c.self.invariant c.args.reader c.args.claims c.args.text c.args.case (rw (← is) at c.requires.room) c.requires.held (rw (← is) at c.requires.outside) c.requires.noted c.requires.no_held in
-    rw (appended.0, appended.1, number, ← is) told
+    let appended = c.in_ok-append_new.ensures.ok in
+    let told = told_core_new (tables_of c.self.inside) c.self.invariant c.args.reader c.args.claims c.args.text c.args.event (rw (← is) at c.requires.room) c.requires.held (rw (← is) at c.requires.outside) c.requires.no_held in
+    rw (appended.0, appended.1, ← is) told

@@ -1,22 +1,14 @@
-use Rattle.std.proofs.Common.{◌<◌, length, refl, sym, ◌∙◌, ap, arith, take}
-use Rattle.std.proofs.lemmas.Option.{slice_get_read, slice_get_within}
-use Rattle.validator_core.specs.Tables.{held_by}
-use Rattle.validator_core.proofs.Hearing.{core_hearing, hears_hearing, first_begun, number_added, state_dropped}
-use Rattle.validator_core.proofs.Held.{held_length}
+use Rattle.std.proofs.Common.{length, ◌∙◌, ap, sym, take, if◌then◌else◌}
+use Rattle.body_cases.specs.Cases.{altered, as_accepted}
+use Rattle.body_cases.proofs.Outcomes.{on_ok, on_err}
+use Rattle.validator_core.proofs.Hearing.{case_joined, core_heard, hears_verdict, first_begun, number_added, state_dropped}
 use Rattle.validator_core.proofs.Inside.{tables_of}
-use Rattle.validator_core.proofs.Results.{on_ok, on_err}
 use Rattle.validator_core.proofs.validator.Core.hear.Goals as goal
 
 pub begin-requires : goal.begin-requires
 begin-requires c =
     let asks = rw (← c.self.view_is) at c.requires.«open» in
     record { first = first_begun (tables_of c.self.inside) c.self.invariant c.args.question.now c.args.yes asks c.in_ok-begun.begun (rw (← c.self.view_is) at c.in_ok-begun.ensures) }
-
--- the question's body has a case
-pub index_mut-requires : goal.index_mut-requires
-index_mut-requires c =
-    let asks = rw (← c.self.view_is) at c.requires.«open» in
-    omega (arith, slice_get_within (held_by c.self.inside.journal.bodies c.self.inside.cases.items) c.args.question.now.body asks.body asks.at, held_length c.self.inside.journal.bodies c.self.inside.cases.items c.self.invariant.paired)
 
 -- the state that begins is taken out again
 pub invariant_of-self-then-is_err : goal.invariant_of-self-then-is_err
@@ -28,20 +20,22 @@ invariant_of-self-then-is_err c =
 
 pub invariant_of-self-2 : goal.invariant_of-self-2
 invariant_of-self-2 c =
+    let q = c.args.question.now in
     let asks = rw (← c.self.view_is) at c.requires.«open» in
-    let below : c.args.question.now.body < length c.self.inside.cases.items = omega (arith, slice_get_within (held_by c.self.inside.journal.bodies c.self.inside.cases.items) c.args.question.now.body asks.body asks.at, held_length c.self.inside.journal.bodies c.self.inside.cases.items c.self.invariant.paired) in
-    let case_at = slice_get_read c.self.inside.cases.items (length c.self.inside.cases.items) c.args.question.now.body c.index_mut.result.now refl below c.index_mut.ensures.value in
-    let fits = core_hearing (tables_of c.self.inside) c.self.invariant c.args.reader c.args.question.now c.args.yes asks c.index_mut.result.now c.note_verdict.new.self case_at c.note_verdict.ensures c.in_ok-begun.begun (rw (← c.self.view_is) at c.in_ok-begun.ensures) in
+    let fits = core_heard (tables_of c.self.inside) c.self.invariant c.args.reader q c.args.yes asks c.in_ok-begun.begun (rw (← c.self.view_is) at c.in_ok-begun.ensures) in
     let entries = on_ok c.push.result c.if-is_err.ensures.negation c.push.ensures.ok in
-    let numbers = number_added c.self.inside.accepted.items c.args.question.now.body c.in_ok-begun.begun in
-    rw (entries, c.join.ensures, c.in_ok-begin.ensures.ok, c.in_ok-reserve.ensures.items, c.is_some-begins.ensures, numbers) fits
+    let numbers = number_added c.self.inside.accepted.items q.body c.in_ok-begun.begun in
+    let cases = case_joined c.self.inside.cases c.hear.new.self c.join.new.cases q c.args.yes c.in_ok-begun.begun c.hear.ensures
+    (c.join.ensures.cases ∙ ap (λ p. if p then altered c.hear.new.self q.body as_accepted else c.hear.new.self) c.is_some-begins.ensures) in
+    rw (entries, cases, c.join.ensures.accepted, c.in_ok-begin.ensures.ok, c.in_ok-reserve.ensures.items, c.is_some-begins.ensures, numbers) fits
 
 pub returns-clause-hears : goal.returns-clause-hears
 returns-clause-hears c =
+    let q = c.args.question.now in
     let asks = rw (← c.self.view_is) at c.requires.«open» in
-    let below : c.args.question.now.body < length c.self.inside.cases.items = omega (arith, slice_get_within (held_by c.self.inside.journal.bodies c.self.inside.cases.items) c.args.question.now.body asks.body asks.at, held_length c.self.inside.journal.bodies c.self.inside.cases.items c.self.invariant.paired) in
-    let case_at = slice_get_read c.self.inside.cases.items (length c.self.inside.cases.items) c.args.question.now.body c.index_mut.result.now refl below c.index_mut.ensures.value in
     let entries = on_ok c.push.result c.if-is_err.ensures.negation c.push.ensures.ok in
-    let numbers = number_added c.self.inside.accepted.items c.args.question.now.body c.in_ok-begun.begun in
-    λ b at. (let hears = hears_hearing (tables_of c.self.inside) c.self.invariant c.args.reader c.args.question.now c.args.yes asks c.index_mut.result.now c.note_verdict.new.self case_at c.note_verdict.ensures c.in_ok-begun.begun (rw (← c.self.view_is) at c.in_ok-begun.ensures) b (rw (← c.self.view_is) at at) in
-    rw (entries, c.join.ensures, c.in_ok-reserve.ensures.items, c.is_some-begins.ensures, numbers, ← c.self.view_is) hears)
+    let numbers = number_added c.self.inside.accepted.items q.body c.in_ok-begun.begun in
+    let cases = case_joined c.self.inside.cases c.hear.new.self c.join.new.cases q c.args.yes c.in_ok-begun.begun c.hear.ensures
+    (c.join.ensures.cases ∙ ap (λ p. if p then altered c.hear.new.self q.body as_accepted else c.hear.new.self) c.is_some-begins.ensures) in
+    λ b at. (let hears = hears_verdict (tables_of c.self.inside) c.self.invariant c.args.reader q c.args.yes asks c.in_ok-begun.begun (rw (← c.self.view_is) at c.in_ok-begun.ensures) b (rw (← c.self.view_is) at at) in
+    rw (entries, cases, c.join.ensures.accepted, c.in_ok-reserve.ensures.items, c.is_some-begins.ensures, numbers, ← c.self.view_is) hears)

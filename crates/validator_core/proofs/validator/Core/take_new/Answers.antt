@@ -1,4 +1,4 @@
-use Rattle.std.proofs.Common.{refl, sym, ◌∙◌, ap}
+use Rattle.std.proofs.Common.{refl, sym, ◌∙◌}
 use Rattle.validator_core.specs.Tables.{body_of}
 use Rattle.validator_core.proofs.Inside.{tables_of}
 use Rattle.validator_core.proofs.Replying.{full_new, again_new, reply_full, reply_taken}
@@ -21,4 +21,4 @@ returns-clause-takes c =
     let added = c.in_ok-add_new.ensures in
     let outside = rw (← is) at c.requires.outside in
     let room = full_new t c.self.invariant b c.args.claims outside ∙ (rw (c.len.ensures, c.len-2.ensures) at (sym c.lacks_room.ensures)) ∙ c.if-lacks_room.false in
-    record { reply_is = rw (← is) (reply_taken t c.self.invariant b c.args.claims room (again_new t c.self.invariant b c.args.claims outside)); told_is = (let event = c.in_ok-note.ensures.ok.event ∙ ap (λ x. x.event) c.new-case.ensures in rw (c.in_ok-text.ensures, event) at c.in_ok-add_new.ensures.told); follows = added.follows }
+    record { reply_is = rw (← is) (reply_taken t c.self.invariant b c.args.claims room (again_new t c.self.invariant b c.args.claims outside)); told_is = rw c.in_ok-text.ensures at c.in_ok-add_new.ensures.told; follows = added.follows }
