@@ -57,7 +57,8 @@ fn receipt_refusal(groups: &[Group]) -> Option<Reason>
     }
 }
 
-fn is_receipt(event: &Event) -> bool
+/// Whether the event is a receipt.
+pub(crate) fn is_receipt(event: &Event) -> bool
     ensures { result ≡ events.is_receipt event.now }
 {
     matches!(event, Event::Rct(_))

@@ -1,10 +1,10 @@
 //! Why events wait.
 ghost use Rattle.std.specs.Prelude.{◌≡◌};
-ghost use Rattle.event_body.specs.Events as events;
 ghost use Rattle.validator_core.specs.View.{waits_for};
 
 use crate::Core;
-use event_body::{Event, prefix_of};
+use crate::refusing::is_receipt;
+use event_body::prefix_of;
 use journal::Why;
 
 impl Core {
@@ -23,11 +23,4 @@ impl Core {
             Some(Why::Signatures)
         }
     }
-}
-
-// Whether it is a receipt.
-fn is_receipt(event: &Event) -> bool
-    ensures { result ≡ events.is_receipt event.now }
-{
-    matches!(event, Event::Rct(_))
 }
