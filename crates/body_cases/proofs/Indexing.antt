@@ -4,7 +4,7 @@ use Rattle.std.specs.Prelude.{slice_get, take}
 use Rattle.std.specs.Global.{Vec}
 use Rattle.std.specs.List.{list_any}
 use Rattle.std.specs.BTreeMap.{is_at}
-use Rattle.std.proofs.lemmas.Bool.{cases_Bool, and_from, and_parts}
+use Rattle.std.proofs.lemmas.Bool.{cases_Bool, and_from, and_parts, cases_eq}
 use Rattle.std.proofs.lemmas.Option.{slice_get-map}
 use Rattle.std.specs.Option.{option_map}
 use Rattle.key_state.specs.Same.{same_key, same_sig}
@@ -21,7 +21,7 @@ use Rattle.body_cases.specs.declared.keys.SigKey.{SigKey}
 use Rattle.body_cases.specs.declared.keys.Spot.{Spot}
 use Rattle.body_cases.specs.Cases.{Case, is_sig, same_asked, with_verdict}
 use Rattle.body_cases.specs.Indexes.{AreIndexed, AreNamed, HasNumber, name_of, claim_key, sig_key, is_open, asked_at}
-use Rattle.body_cases.proofs.Placing.{same_number, at_last, of_set, placed_less, placed_apart, placed_more, IsFresh}
+use Rattle.body_cases.proofs.Placing.{at_last, of_set, placed_less, placed_apart, placed_more, IsFresh}
 use Rattle.body_cases.proofs.Telling.{claim_cmp, claim_is, claim_itself, sig_cmp, sig_is, sig_itself, spot_cmp, spot_is, spot_itself}
 
 abbrev pub spot_at : ℕ → ℕ → Spot
@@ -100,7 +100,7 @@ pub open_set : (unheard : Spot → Bool) (cases : List Case) (n : ℕ) (c new : 
     → ((m i : ℕ) → (m ≡ n → ⊥) → unheard (record { body = m; place = i }) ≡ is_open (asked_at (slice_get cases m) i))
     → ((i : ℕ) → unheard (record { body = n; place = i }) ≡ is_open (slice_get new.asked i))
     → (m i : ℕ) → unheard (record { body = m; place = i }) ≡ is_open (asked_at (slice_get (set cases n new) m) i)
-open_set unheard cases n c new at there here m i = elim (same_number m n) [
+open_set unheard cases n c new at there here m i = elim (cases_eq m n) [
   | inr other ↦ there m i other ∙ ap (λ o. is_open (asked_at o i)) (sym (set_there cases n m new other))
   | inl same ↦ ap (λ m. unheard (record { body = m; place = i })) same ∙ here i
       ∙ ap (λ o. is_open (asked_at o i)) (sym (set_here cases n c new at) ∙ ap (slice_get (set cases n new)) (sym same))
@@ -186,7 +186,7 @@ module _ (cases : List Case) (numbers : Name → Option (Vec ℕ)) (claim : Clai
       pushed (x ∷ xs) (suc i) apart = pushed xs i (λ e. apart (ap (λ k. suc k) e))
 
       own : (i : ℕ) → open' (record { body = n; place = i }) ≡ is_open (slice_get new.asked i)
-      own i = elim (same_number i (length c.asked)) [
+      own i = elim (cases_eq i (length c.asked)) [
         | inr apart ↦ unless n i (λ e. apart (sym (ap (λ s. s.place) e))) ∙ fits.open_are n i ∙ ap (λ o. is_open (asked_at o i)) at
             ∙ ap is_open (sym (ap (λ xs. slice_get xs i) asked ∙ pushed c.asked i apart))
         | inl same ↦ (let is = opened spot in let hit = spot_itself spot in
@@ -221,7 +221,7 @@ module _ (cases : List Case) (numbers : Name → Option (Vec ℕ)) (claim : Clai
     }
       where
         own : (i : ℕ) → left (spot_at n i) ≡ is_open (slice_get new.asked i)
-        own i = elim (same_number i place) [
+        own i = elim (cases_eq i place) [
           | inl same ↦ ap (λ i. left (spot_at n i)) same ∙ gone ∙ sym (ap is_open (ap (λ xs. slice_get xs i) asked ∙ ap (slice_get (take place c.asked)) same ∙ past c.asked place))
           | inr apart ↦ here i apart ∙ ap is_open (sym (ap (λ xs. slice_get xs i) asked ∙ ap (λ k. slice_get (take k c.asked) i) last ∙ but_last c.asked i (λ e. apart (e ∙ sym last))))
         ]
@@ -271,7 +271,7 @@ module _ (cases : List Case) (numbers : Name → Option (Vec ℕ)) (claim : Clai
         heard_open b h = rw h refl
 
         own : (i : ℕ) → left (spot_at n i) ≡ is_open (slice_get new.asked i)
-        own i = elim (same_number i place) [
+        own i = elim (cases_eq i place) [
           | inl same ↦ ap (λ i. left (spot_at n i)) same ∙ gone
               ∙ sym (ap (λ i. is_open (slice_get new.asked i)) same ∙ ap (λ xs. is_open (slice_get xs place)) asked ∙ ap is_open (slice_get-map f c.asked place ∙ ap (option_map f) there) ∙ heard_open a hit)
           | inr apart ↦ here i apart ∙ sym (ap (λ xs. is_open (slice_get xs i)) asked ∙ ap is_open (slice_get-map f c.asked i) ∙ unchanged (slice_get c.asked i) refl apart)
@@ -333,7 +333,7 @@ module _ (cases : List Case) (numbers now : Name → Option (Vec ℕ)) (claim : 
     named = (λ m d e. fits.named m d (of_front cases (length cases - 1) m d e));
     claims = (λ m i d x e f. fits.claims m i d x (of_front cases (length cases - 1) m d e) f);
     sigs = (λ m i d a e f. fits.sigs m i d a (of_front cases (length cases - 1) m d e) f);
-    open_are = (λ m i. fits.open_are m i ∙ elim (same_number m (length cases - 1)) [
+    open_are = (λ m i. fits.open_are m i ∙ elim (cases_eq m (length cases - 1)) [
       | inr apart ↦ ap (λ o. is_open (asked_at o i)) (sym (but_last cases m apart))
       | inl same ↦ ap (λ o. is_open (asked_at o i)) (ap (slice_get cases) same) ∙ closed i (slice_get cases (length cases - 1)) refl
           ∙ sym (ap (λ o. is_open (asked_at o i)) (ap (slice_get (take (length cases - 1) cases)) same ∙ past cases (length cases - 1)))

@@ -4,6 +4,7 @@ use Rattle.std.specs.Prelude.{slice_get, find}
 use Rattle.std.specs.List.{list_any}
 use Rattle.std.specs.Option.{option_map}
 use Rattle.std.proofs.lemmas.Bool.{cases_Bool}
+use Rattle.std.proofs.Math.Seq.{take-append_seam, take-length}
 use Rattle.std.proofs.lemmas.List.Sums.{fold-append}
 use Rattle.cesr_codes.specs.declared.key.Key.{Key}
 use Rattle.key_state.specs.Exposure.{own_rules}
@@ -21,16 +22,6 @@ find_any test (x ∷ xs) = elim (cases_Bool (test x)) [
   | inl k ↦ rw k refl
   | inr k ↦ rw k (find_any test xs)
 ]
-
-pub find_passes : {X : Type 0} (test : X → Bool) (xs : List X) (y : X) → find test xs ≡ Some y → test y ≡ true
-find_passes test [] y e = cc
-find_passes test (x ∷ xs) y e = elim (cases_Bool (test x)) [
-  | inl k ↦ (let is : x ≡ y = first (rw k at e) in subst (λ z. test z ≡ true) is k)
-  | inr k ↦ find_passes test xs y (rw k at e)
-]
-  where
-    first : Some x ≡ Some y → x ≡ y
-    first h = cc
 
 -- one more claim is noted behind others
 pub noted_more : (claims : List Claim) (x : Claim) (c : Case) → noted (x ∷ []) (noted claims c) ≡ noted (claims ++ x ∷ []) c
@@ -70,32 +61,24 @@ module _ (x : Claim) (c : Case) where
   raised_new a is new = ap (λ asked. record c { asked = asked }) (asks (Some a) is ∙ rw new refl)
 
 -- more comes behind what is there
-front : {X : Type 0} (xs ys : List X) → take (length xs) (xs ++ ys) ≡ xs
-front [] ys = refl
-front (x ∷ xs) ys = ap (λ zs. x ∷ zs) (front xs ys)
-
-whole : {X : Type 0} (xs : List X) → take (length xs) xs ≡ xs
-whole [] = refl
-whole (x ∷ xs) = ap (λ zs. x ∷ zs) (whole xs)
-
 new_front : {X : Type 0} (same : X → X → Bool) (xs : List X) (x : X) → take (length xs) (with_new same xs x) ≡ xs
 new_front same xs x = elim (cases_Bool (list_any (λ y. same y x) xs)) [
-  | inl k ↦ rw k (whole xs)
-  | inr k ↦ rw k (front xs (x ∷ []))
+  | inl k ↦ rw k (take-length xs)
+  | inr k ↦ rw k (take-append_seam xs (x ∷ []))
 ]
 
 pub held_extends : (x : Claim) (c : Case) → ExtendsCase c (with_held x c)
-held_extends x c = record { event = refl; claims_front = new_front same_claim c.claims x; asked_front = whole c.asked; accepted = refl }
+held_extends x c = record { event = refl; claims_front = new_front same_claim c.claims x; asked_front = take-length c.asked; accepted = refl }
 
 pub raised_extends : (x : Claim) (c : Case) → ExtendsCase c (with_raised x c)
-raised_extends x c = record { event = refl; claims_front = whole c.claims; asked_front = by (asked_of (own_rules None c.event) x) refl; accepted = refl }
+raised_extends x c = record { event = refl; claims_front = take-length c.claims; asked_front = by (asked_of (own_rules None c.event) x) refl; accepted = refl }
   where
     by : (o : Option Asked) → asked_of (own_rules None c.event) x ≡ o → take (length c.asked) (with_claim (own_rules None c.event) c.asked x) ≡ c.asked
-    by None is = ap (take (length c.asked)) (asks x c None is) ∙ whole c.asked
+    by None is = ap (take (length c.asked)) (asks x c None is) ∙ take-length c.asked
     by (Some a) is = ap (take (length c.asked)) (asks x c (Some a) is) ∙ new_front same_asked c.asked a
 
 pub extends_itself : (c : Case) → ExtendsCase c c
-extends_itself c = record { event = refl; claims_front = whole c.claims; asked_front = whole c.asked; accepted = refl }
+extends_itself c = record { event = refl; claims_front = take-length c.claims; asked_front = take-length c.asked; accepted = refl }
 
 -- a beginning of a beginning
 front_front : {X : Type 0} (xs ys zs : List X) → take (length xs) ys ≡ xs → take (length ys) zs ≡ ys → take (length xs) zs ≡ xs

@@ -1,19 +1,12 @@
 -- Items of cases, each found by its key at its place.
 use Rattle.std.proofs.Common.{◌≡◌, ℕ, zero, suc, ◌⊎◌, Bool, true, cond, List, [], ◌∷◌, ◌++◌, length, Option, Some, refl, sym, ◌∙◌, ap, subst, set, inl, inr}
-use Rattle.std.specs.Prelude.{slice_get, ◌==◌}
-use Rattle.std.proofs.lemmas.Bool.{cases_Bool}
-use Rattle.std.proofs.lemmas.Bool.Decides.{Decides-eqb}
+use Rattle.std.specs.Prelude.{slice_get}
+use Rattle.std.proofs.lemmas.Bool.{cases_Bool, cases_eq}
 use Rattle.journal.proofs.Places.{set_here, set_there}
 use Rattle.std.specs.Option.{option_map}
 use Rattle.body_cases.specs.Cases.{Case}
 use Rattle.body_cases.proofs.Altered.{own_case}
 use Rattle.body_cases.specs.Indexes.{ArePlaced}
-
-pub same_number : (m n : ℕ) → (m ≡ n) ⊎ (m ≡ n → ⊥)
-same_number m n = elim (cases_Bool (m == n)) [
-  | inl k ↦ inl ((Decides-eqb m n).0 k)
-  | inr k ↦ inr (λ e. (let h = (Decides-eqb m n).1 e in cc))
-]
 
 -- what stands in a list with one more: what stood there, or the last
 pub at_last : {X : Type 0} (xs : List X) (x : X) (i : ℕ) (y : X) → slice_get (xs ++ x ∷ []) i ≡ Some y → (slice_get xs i ≡ Some y) ⊎ ((i ≡ length xs) × (y ≡ x))
@@ -28,7 +21,7 @@ at_last (z ∷ xs) x (suc i) y e = elim (at_last xs x i y e) [
 -- a case of the cases with one changed: that one, or an old one
 pub of_set : (cases : List Case) (n : ℕ) (c new : Case) → slice_get cases n ≡ Some c → (m : ℕ) (d : Case) → slice_get (set cases n new) m ≡ Some d
     → ((m ≡ n) × (d ≡ new)) ⊎ (slice_get cases m ≡ Some d)
-of_set cases n c new at m d e = elim (same_number m n) [
+of_set cases n c new at m d e = elim (cases_eq m n) [
   | inl same ↦ inl (same, is (sym (ap (slice_get (set cases n new)) same ∙ set_here cases n c new at) ∙ e))
   | inr other ↦ inr (sym (set_there cases n m new other) ∙ e)
 ]

@@ -44,20 +44,20 @@ is_open None = false
 is_open (Some a) = is_none a.verdict
 
 -- what a case asks
-abbrev pub asked_by : Option Case → List Asked
-asked_by None = []
-asked_by (Some c) = c.asked
+abbrev pub asked_in : Option Case → List Asked
+asked_in None = []
+asked_in (Some c) = c.asked
 
 -- what stands at a place of a case
 abbrev pub asked_at : Option Case → ℕ → Option Asked
-asked_at o i = slice_get (asked_by o) i
+asked_at o i = slice_get (asked_in o) i
 
 -- a key's signature stands at a place, or nowhere
 abbrev pub IsPlace : Key → Sig → List Asked → Option ℕ → Type 0
 IsPlace key sig asked None = find (is_sig key sig) asked ≡ None
 IsPlace key sig asked (Some place) = (a : Asked) × (slice_get asked place ≡ Some a) × (find (is_sig key sig) asked ≡ Some a)
 
--- The indexes find each body by its event's name, each claim, and each signature; and those without a verdict are listed.
+-- The indexes find each body by its event's name, each claim, and each signature; and those without a verdict are listed, and no others.
 pub record AreIndexed (cases : List Case) (numbers : Name → Option (Vec ℕ)) (claim : ClaimKey → Option ℕ) (sig : SigKey → Option ℕ) (unheard : Spot → Bool) : Type 0 where
   pub named : AreNamed numbers cases
   pub claims : ArePlaced claim_key (λ c. c.claims) claim cases

@@ -28,7 +28,7 @@ impl Model for Case {
 }
 
 impl Case {
-    ghost use Rattle.std.specs.Prelude.{◌≡◌, ◌<◌, ◌++◌, ◌∷◌, [], ℕ, Some, true, length, set, slice_get, take, OnOk, OnErr};
+    ghost use Rattle.std.specs.Prelude.{◌≡◌, ◌<◌, ◌++◌, ◌∷◌, [], Some, true, length, set, slice_get, take, OnOk, OnErr};
     ghost use Rattle.body_cases.specs.declared.asked.Asked.{Asked};
     ghost use Rattle.body_cases.specs.Cases.{empty_case, as_accepted};
 

@@ -3,7 +3,7 @@ ghost use Rattle.std.specs.Prelude.{◌≡◌, ℕ, Some, [], Contains, length, 
 ghost use Rattle.std.specs.Option.{option_map};
 ghost use Rattle.body_cases.specs.Cases.{Case as CaseValue, is_accepted_in, questions_from, verdict_in};
 ghost use Rattle.body_cases.specs.Cases as cases;
-ghost use Rattle.body_cases.specs.Indexes.{IsPlace, asked_by};
+ghost use Rattle.body_cases.specs.Indexes.{IsPlace, asked_in};
 ghost use Rattle.journal.specs.Replies.{same_claim};
 ghost use Rattle.std.specs.BTreeSet.{IsOrdered};
 ghost use Rattle.std.specs.List.{list_any};
@@ -24,9 +24,10 @@ use std::marker::Model;
 pub struct Cases {
     pub(crate) alloc: Global,
     pub(crate) cases: Vec<Case>,
-    /// The numbers of the bodies whose event has a name.
+    /// The numbers of the bodies whose event has a name, and perhaps of some that stand no more.
     pub(crate) numbers: BTreeMap<Name, Vec<u32>>,
-    /// The place of each claim among those that came with its body.
+    /// The place of each claim among those that came with its body, and perhaps of some that stand no more, as here and
+    /// below: a look-up compares what it finds.
     pub(crate) claims: BTreeMap<ClaimKey, usize>,
     /// The place of each signature among those that the claims on its body raise.
     pub(crate) sigs: BTreeMap<SigKey, usize>,
@@ -68,13 +69,6 @@ impl Cases {
         }
     }
 
-    /// How many bodies there are.
-    pub fn len(&self) -> usize
-        ensures { result ≡ length self.now }
-    {
-        self.cases.len()
-    }
-
     /// The event of the body of a number.
     pub fn event(&self, number: u32) -> Option<&Event>
         ensures { option_map (λ event. event.now) result ≡ option_map (λ c. c.event) (slice_get self.now number) }
@@ -93,7 +87,7 @@ impl Cases {
         }
     }
 
-    /// The numbers of all bodies with this event, and perhaps of others of its name.
+    /// The numbers of all bodies with this event, and perhaps more: whoever asks compares what they name.
     pub fn with_event(&self, event: &Event) -> &[u32]
         ensures { (n : ℕ) (c : CaseValue) → slice_get self.now n ≡ Some c → c.event ≡ event.now → Contains result.now n }
     {
@@ -189,7 +183,7 @@ impl Cases {
 
     // What the case of a number asks; nothing where there is none.
     fn asked(&self, number: u32) -> &[Asked]
-        ensures { result.now ≡ asked_by (slice_get self.now number) }
+        ensures { result.now ≡ asked_in (slice_get self.now number) }
     {
         match self.cases.get(number as usize) {
             Some(case) => case.asked(),

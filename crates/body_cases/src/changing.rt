@@ -1,5 +1,5 @@
 //! The single changes of cases. After an error nothing has changed.
-ghost use Rattle.std.specs.Prelude.{◌≡◌, ◌≢◌, ◌<◌, ◌+◌, ◌-◌, ◌^◌, ◌++◌, ◌∷◌, [], false, None, Some, length, take, slice_get, OnOk, OnErr};
+ghost use Rattle.std.specs.Prelude.{◌≡◌, ◌<◌, ◌+◌, ◌-◌, ◌^◌, ◌++◌, ◌∷◌, [], false, None, Some, length, take, slice_get, OnOk, OnErr};
 ghost use Rattle.std.specs.List.{list_any};
 ghost use Rattle.journal.specs.Replies.{same_claim};
 ghost use Rattle.body_cases.specs.Cases.{Case as CaseValue, altered, as_accepted, empty_case, same_asked, with_heard};

@@ -1,5 +1,5 @@
 //! Which bodies have an event of a name.
-ghost use Rattle.std.specs.Prelude.{OnOk, ℕ};
+ghost use Rattle.std.specs.Prelude.{◌≡◌, true, OnOk, ℕ};
 ghost use Rattle.std.specs.BTreeMap as tree;
 ghost use Rattle.body_cases.specs.Indexes.{HasNumber};
 ghost use Rattle.body_cases.specs.declared.keys.Name.{Name};
@@ -8,7 +8,7 @@ use crate::keys::Name;
 use std::alloc::{AllocError, Global};
 use std::collections::BTreeMap;
 
-/// Adds a number to those of a name.
+/// Adds a number to those of a name, unless it is there.
 pub(crate) fn add_number(
     alloc: Global,
     numbers: &mut BTreeMap<Name, Vec<u32>>,
@@ -18,6 +18,9 @@ pub(crate) fn add_number(
     ensures added { OnOk result (HasNumber (tree.get ⟦<Name as Ord>⟧.cmp numbers.new name) number) }
     ensures kept { (q : Name) (n : ℕ) → HasNumber (tree.get ⟦<Name as Ord>⟧.cmp numbers.old q) n → HasNumber (tree.get ⟦<Name as Ord>⟧.cmp numbers.new q) n }
 {
+    if has_number(numbers, &name, number) {
+        return Ok(());
+    }
     if let Some(those) = numbers.get_mut(&name) {
         those.push(number)?;
         return Ok(());
@@ -26,4 +29,14 @@ pub(crate) fn add_number(
     those.push(number)?;
     numbers.insert(name, those)?;
     Ok(())
+}
+
+// Whether a number is among those of a name.
+fn has_number(numbers: &BTreeMap<Name, Vec<u32>>, name: &Name, number: u32) -> bool
+    ensures { result ≡ true → HasNumber (tree.get ⟦<Name as Ord>⟧.cmp numbers.now name.now) number }
+{
+    match numbers.get(name) {
+        Some(those) => those.as_slice().contains(&number),
+        None => false,
+    }
 }

@@ -2,7 +2,6 @@
 ghost use Rattle.std.specs.Prelude.{◌≡◌, Some, None, if◌then◌else◌};
 ghost use Rattle.key_state.specs.Exposure.{own_rules};
 ghost use Rattle.key_state.specs.Same as same;
-ghost use Rattle.journal.specs.History as history;
 ghost use Rattle.body_cases.specs.Cases.{asked_of};
 
 use crate::asked::Asked;

@@ -27,7 +27,7 @@ use Rattle.journal.proofs.Places.{all_at, some_at}
 use Rattle.body_cases.specs.Cases.{Case, altered, as_accepted, verdict_in, with_heard, with_verdict}
 use Rattle.body_cases.proofs.Altered.{altered_set, altered_twice}
 use Rattle.validator_core.specs.View.{CoreView, told_of, open_of, state_of, IsHeld, TakesVerdict}
-use Rattle.validator_core.specs.Tables.{Tables, view_of, raised_with, asked_as, IsOpenIn, BeginsBy, Hears, IsSound, IsCore, with_number, with_state}
+use Rattle.validator_core.specs.Tables.{Tables, view_of, raised_with, asked_as, IsOpenIn, BeginsBy, Hears, IsSound, IsCore, with_state}
 use Rattle.validator_core.proofs.FitsHeard.{nothing, told_heard, fits_waiting, fits_joining, sound_waiting, sound_joining, fewer_now}
 use Rattle.validator_core.proofs.Held.{held_set, held_length}
 use Rattle.validator_core.proofs.Questions.{noted_here, asked_here}
@@ -47,6 +47,11 @@ first_named b s h e = elim (kinds b h) [
 
 log_is : (t : Tables) → IsCore t → (b : Body) → state_of (view_of t) (prefix_of b.event) ≡ state (chosen (view_of t).held t.accepted) (prefix_of b.event)
 log_is t fits b = ap (λ log. state log (prefix_of b.event)) (sym fits.sound.log_is)
+
+-- the numbers with that of a body that begins its identifier, where it does
+abbrev pub with_number : List ℕ → ℕ → Option State → List ℕ
+with_number numbers n None = numbers
+with_number numbers n (Some s) = numbers ++ n ∷ []
 
 -- a verdict begins the identifier of a body
 module _ (t : Tables) (fits : IsCore t) (q : Question) (yes : Bool) (asks : IsOpenIn (view_of t) q) where

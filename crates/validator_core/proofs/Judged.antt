@@ -18,7 +18,8 @@ use Rattle.journal.specs.CoreCalls.{told_after}
 use Rattle.journal.specs.Replies.{is_held_group, claims_of, refusal}
 use Rattle.journal.proofs.Places.{all_at, any_at, found_at, some_at}
 use Rattle.body_cases.specs.Cases.{Case}
-use Rattle.body_cases.proofs.Noted.{find_any, find_passes}
+use Rattle.journal.proofs.Settling.{find-true}
+use Rattle.body_cases.proofs.Noted.{find_any}
 use Rattle.validator_core.specs.Messages.{JudgesMessage, first_refusal}
 use Rattle.validator_core.specs.View.{CoreView, IsHeld, TakesMessage}
 use Rattle.validator_core.specs.Tables.{Tables, view_of, body_of, has_text, HasNoHeld, TakesBody, told_then, IsCore}
@@ -54,7 +55,7 @@ module _ (t : Tables) (fits : IsCore t) (one : (one other : Event) (bytes : List
 
   pub body_found : (r : Option ℕ) (numbers : List ℕ) → r ≡ find test numbers → IfSome r (λ n. slice_get (view_of t).held n ≡ Some (body_of bytes event))
   body_found None numbers e = tt
-  body_found (Some n) numbers e = the_body n (text_is bytes (slice_get t.bodies n) (find_passes test numbers n (sym e)))
+  body_found (Some n) numbers e = the_body n (text_is bytes (slice_get t.bodies n) (find-true test numbers n (sym e)))
 
   -- each body that has the bytes has the event
   pub body_missing : (r : Option ℕ) (numbers : List ℕ) → ((n : ℕ) (c : Case) → slice_get t.cases n ≡ Some c → c.event ≡ event → Contains numbers n)

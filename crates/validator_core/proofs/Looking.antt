@@ -9,7 +9,7 @@ use Rattle.journal.specs.declared.entry.Entry.{Entry}
 use Rattle.journal.specs.declared.entry.Entry.TheVariants.{Took}
 use Rattle.journal.proofs.Places.{all_at, some_at, slice_get_last}
 use Rattle.body_cases.specs.Cases.{Case}
-use Rattle.validator_core.specs.Tables.{Tables, held_by, IsCore, claims_of}
+use Rattle.validator_core.specs.Tables.{Tables, held_by, IsCore, claims_in}
 use Rattle.validator_core.specs.View.{IsHeld}
 use Rattle.validator_core.proofs.Held.{held_at, held_bytes, held_events}
 
@@ -42,7 +42,7 @@ few_at t fits n text at =
 
 -- the claims of an entry that was added last
 pub claims_last : (entries all : List Entry) (reader n place : ℕ) (claims held : List Claim) → all ≡ entries ++ Took reader n claims ∷ [] → place ≡ length entries
-    → held ≡ claims_of (slice_get all place) → held ≡ claims
+    → held ≡ claims_in (slice_get all place) → held ≡ claims
 claims_last entries all reader n place claims held is last e =
-    e ∙ ap (λ all. claims_of (slice_get all place)) is ∙ ap (λ k. claims_of (slice_get (entries ++ Took reader n claims ∷ []) k)) last
-    ∙ ap claims_of (slice_get_last entries (Took reader n claims))
+    e ∙ ap (λ all. claims_in (slice_get all place)) is ∙ ap (λ k. claims_in (slice_get (entries ++ Took reader n claims ∷ []) k)) last
+    ∙ ap claims_in (slice_get_last entries (Took reader n claims))

@@ -150,10 +150,10 @@ lacks_room limits tally bytes claims = nat_le limits.messages tally.messages
     || nat_lt limits.body_bytes (tally.body_bytes + bytes) || nat_lt limits.signatures (tally.signatures + claims)
 
 -- the claims of an entry, where there is one
-abbrev pub claims_of : Option Entry → List Claim
-claims_of None = []
-claims_of (Some (Took reader n claims)) = claims
-claims_of (Some (Heard reader n key sig verdict)) = []
+abbrev pub claims_in : Option Entry → List Claim
+claims_in None = []
+claims_in (Some (Took reader n claims)) = claims
+claims_in (Some (Heard reader n key sig verdict)) = []
 
 -- there is a text, and it has these bytes
 abbrev pub has_text : List ℕ → Option (List ℕ) → Bool
@@ -188,11 +188,7 @@ abbrev pub BeginsBy : Bool → CoreView → Option Body → Option State → Typ
 BeginsBy true core b begun = Begins core b begun
 BeginsBy false core b begun = begun ≡ None
 
--- the numbers and the states with those of a body that begins its identifier, where it does
-abbrev pub with_number : List ℕ → ℕ → Option State → List ℕ
-with_number numbers n None = numbers
-with_number numbers n (Some s) = numbers ++ n ∷ []
-
+-- the states with that which begins, where one does
 abbrev pub with_state : List State → Option State → List State
 with_state states None = states
 with_state states (Some s) = states ++ s ∷ []

@@ -1,12 +1,11 @@
 //! Noting verdicts.
-ghost use Rattle.std.specs.Prelude.{◌≡◌, ◌+◌, ◌<◌, ◌&&◌, ◌++◌, ◌∷◌, [], if◌then◌else◌, length, find, slice_get, Some, None, IfOk, IfSome, OnOk, OnErr};
-ghost use Rattle.std.specs.Option.{option_map};
+ghost use Rattle.std.specs.Prelude.{◌≡◌, ◌+◌, ◌<◌, ◌++◌, ◌∷◌, [], if◌then◌else◌, length, find, slice_get, Some, None, IfOk, IfSome, OnOk, OnErr};
 ghost use Rattle.std.specs.Vec.{vec_len, vec_capacity};
-ghost use Rattle.key_state.specs.Same.{same_key, same_prefix, same_sig};
+ghost use Rattle.key_state.specs.Same.{same_prefix};
 ghost use Rattle.body_cases.specs.Cases.{altered, as_accepted};
 ghost use Rattle.journal.specs.declared.body.Body.{Body};
 ghost use Rattle.journal.specs.declared.question.Noted.TheVariants.{New};
-ghost use Rattle.validator_core.specs.View.{TakesVerdict, Follows, open_of};
+ghost use Rattle.validator_core.specs.View.{TakesVerdict, open_of};
 ghost use Rattle.validator_core.specs.Tables.{Begins, BeginsBy, Hears, IsOpenIn, with_state};
 
 use crate::Core;

@@ -6,7 +6,7 @@ ghost use Rattle.journal.specs.declared.body.Body.{Body};
 ghost use Rattle.journal.specs.declared.entry.Entry.TheVariants.{Took};
 ghost use Rattle.journal.specs.History.{took};
 ghost use Rattle.validator_core.specs.View.{IsHeld, HasRoom, Follows, told_of};
-ghost use Rattle.validator_core.specs.Tables.{HasNoHeld, body_of, claims_of};
+ghost use Rattle.validator_core.specs.Tables.{HasNoHeld, body_of, claims_in};
 
 use crate::Core;
 use body_cases::Cases;
@@ -107,18 +107,18 @@ fn append_new(
     ensures ok { OnOk result ((journal.new ≡ record { bodies = journal.old.bodies ++ text ∷ []; entries = journal.old.entries ++ Took reader (length journal.old.bodies) claims ∷ [] }) × (cases.new ≡ cases.old ++ noted claims (empty_case event) ∷ [])) }
     ensures err { OnErr result ((journal.new ≡ journal.old) × (cases.new ≡ cases.old)) }
 {
-    let bodies = journal.bodies.len();
-    let entries = journal.entries.len();
+    let held = journal.bodies.len();
+    let told = journal.entries.len();
     let entry = Entry::Took {
         reader,
-        body: bodies as u32,
+        body: held as u32,
         claims,
     };
     append_body(journal, text, entry)?;
-    let added = cases.add(event, claims_at(journal.entries.as_slice(), entries));
+    let added = cases.add(event, claims_at(journal.entries.as_slice(), told));
     if added.is_err() {
-        journal.entries.truncate(entries);
-        journal.bodies.truncate(bodies);
+        journal.entries.truncate(told);
+        journal.bodies.truncate(held);
     }
     added
 }
@@ -139,7 +139,7 @@ fn append_body(journal: &mut Journal, text: Text, entry: Entry) -> Result<(), Al
 
 // The claims of the entry at a place.
 fn claims_at(entries: &[Entry], place: usize) -> &[Claim]
-    ensures { result.now ≡ claims_of (slice_get entries.now place) }
+    ensures { result.now ≡ claims_in (slice_get entries.now place) }
 {
     match entries.get(place) {
         Some(Entry::Took { claims, .. }) => claims.as_slice(),

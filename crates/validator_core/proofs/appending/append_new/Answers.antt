@@ -8,8 +8,8 @@ use Rattle.validator_core.proofs.appending.append_new.Goals as goal
 pub returns-else-is_err-clause-ok : goal.returns-else-is_err-clause-ok
 returns-else-is_err-clause-ok c = where_ok c.add-added.result c.add-added.ensures.ok (λ added.
     let appended = c.in_ok-append_body.ensures.ok in
-    let claims = claims_last c.args.journal.now.entries c.as_slice.result.now c.args.reader c.len-bodies.result c.len-entries.result c.args.claims c.claims_at.result.now
-    (c.as_slice.ensures ∙ ap (λ j. j.entries) appended) c.len-entries.ensures c.claims_at.ensures in (
-      appended ∙ ap (λ n. record { bodies = c.args.journal.now.bodies ++ c.args.text ∷ []; entries = c.args.journal.now.entries ++ Took c.args.reader n c.args.claims ∷ [] }) c.len-bodies.ensures,
+    let claims = claims_last c.args.journal.now.entries c.as_slice.result.now c.args.reader c.len-held.result c.len-told.result c.args.claims c.claims_at.result.now
+    (c.as_slice.ensures ∙ ap (λ j. j.entries) appended) c.len-told.ensures c.claims_at.ensures in (
+      appended ∙ ap (λ n. record { bodies = c.args.journal.now.bodies ++ c.args.text ∷ []; entries = c.args.journal.now.entries ++ Took c.args.reader n c.args.claims ∷ [] }) c.len-held.ensures,
       added ∙ ap (λ claims. c.args.cases.now ++ noted claims (empty_case c.args.event) ∷ []) claims,
     ))

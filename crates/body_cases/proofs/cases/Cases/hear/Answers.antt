@@ -9,7 +9,7 @@ use Rattle.body_cases.specs.declared.asked.Asked.{Asked}
 use Rattle.body_cases.specs.Cases.{is_sig, with_verdict}
 use Rattle.body_cases.proofs.Altered.{altered_itself, altered_none, altered_seen, the_one}
 use Rattle.body_cases.proofs.Indexing.{heard_once, sig_heard}
-use Rattle.body_cases.proofs.Noted.{find_passes}
+use Rattle.journal.proofs.Settling.{find-true}
 use Rattle.body_cases.proofs.cases.Cases.hear.Goals as goal
 
 pub returns-then-number-len : goal.returns-then-number-len
@@ -56,7 +56,7 @@ invariant_of-self c =
     let read = slice_get_read cases (length cases) c.args.number c.index.result.now refl (omega (arith, c.if-number-len.false)) c.index.ensures in
     let at = slice_get_read cases (length cases) c.args.number c.index_mut.result.now refl (omega (arith, c.if-number-len.false)) c.index_mut.ensures.value in
     let there = subst (λ xs. slice_get xs c.in-Some.place ≡ Some a) (c.asked-asked.ensures ∙ ap (λ d. d.asked) (same_case cases c.args.number c.index.result.now c.index_mut.result.now read at)) c.in-Some.ensures.1 in
-    let hit = find_passes (is_sig key sig) c.asked-asked.result.now a c.in-Some.ensures.2 in
+    let hit = find-true (is_sig key sig) c.asked-asked.result.now a c.in-Some.ensures.2 in
     let set_is = c.set_verdict.ensures a there in
     let once = heard_once cases _ _ _ _ c.self.invariant c.args.number c.index_mut.result.now at _ c.in-Some.place c.remove.ensures.updates.0 a key sig c.args.yes there hit in
     sig_heard cases _ _ _ _ c.self.invariant c.args.number c.index_mut.result.now at _ c.in-Some.place c.remove.ensures.updates.0 c.set_verdict.new.self a key sig c.args.yes there hit
@@ -68,7 +68,7 @@ returns c =
     let read = slice_get_read cases (length cases) c.args.number c.index.result.now refl (omega (arith, c.if-number-len.false)) c.index.ensures in
     let at = slice_get_read cases (length cases) c.args.number c.index_mut.result.now refl (omega (arith, c.if-number-len.false)) c.index_mut.ensures.value in
     let there = subst (λ xs. slice_get xs c.in-Some.place ≡ Some a) (c.asked-asked.ensures ∙ ap (λ d. d.asked) (same_case cases c.args.number c.index.result.now c.index_mut.result.now read at)) c.in-Some.ensures.1 in
-    let hit = find_passes (is_sig key sig) c.asked-asked.result.now a c.in-Some.ensures.2 in
+    let hit = find-true (is_sig key sig) c.asked-asked.result.now a c.in-Some.ensures.2 in
     let once = heard_once cases _ _ _ _ c.self.invariant c.args.number c.index_mut.result.now at _ c.in-Some.place c.remove.ensures.updates.0 a key sig c.args.yes there hit in
     altered_seen cases c.args.self.now c.self.view_is c.args.number _ c.index_mut.result.now c.set_verdict.new.self at
     (c.set_verdict.ensures a there ∙ ap (λ xs. record c.index_mut.result.now { asked = xs }) once)

@@ -1,5 +1,6 @@
 use Rattle.std.proofs.Common.{◌≡◌, ◌<◌, ◌≤◌, ◌+◌, ◌-◌, ℕ, zero, suc, List, [], ◌∷◌, length, take, refl, sym, ◌∙◌, ap, subst, inl, inr, arith}
 use Rattle.std.proofs.lemmas.Bool.{cases_lt}
+use Rattle.std.proofs.lemmas.List.{length-take-le, take_all}
 use Rattle.body_cases.specs.Cases.{altered}
 use Rattle.body_cases.proofs.Altered.{altered_alike, altered_itself, altered_length, altered_twice, some_is}
 use Rattle.body_cases.proofs.cases.Cases.keep_asked.Goals as goal
@@ -10,21 +11,10 @@ take_less zero xs = refl
 take_less (suc k) [] = refl
 take_less (suc k) (x ∷ xs) = ap (λ ys. x ∷ ys) (take_less k xs)
 
-take_length : {X : Type 0} (k : ℕ) (xs : List X) → k ≤ length xs → length (take k xs) ≡ k
-take_length zero xs le = refl
-take_length (suc k) [] le = absurd (omega (arith, le))
-take_length (suc k) (x ∷ xs) le = ap (λ n. suc n) (take_length k xs (omega (arith, le)))
-
-take_all : {X : Type 0} (k : ℕ) (xs : List X) → length xs ≤ k → take k xs ≡ xs
-take_all zero [] le = refl
-take_all zero (x ∷ xs) le = absurd (omega (arith, le))
-take_all (suc k) [] le = refl
-take_all (suc k) (x ∷ xs) le = ap (λ ys. x ∷ ys) (take_all k xs (omega (arith, le)))
-
 -- the last of a beginning is dropped
 one_less : {X : Type 0} (j k : ℕ) (xs : List X) → j ≡ suc k → j ≤ length xs → take (length (take j xs) - 1) (take j xs) ≡ take k xs
 one_less j k xs e le =
-    let count : length (take j xs) - 1 ≡ k = omega (arith, take_length j xs le, e) in
+    let count : length (take j xs) - 1 ≡ k = omega (arith, length-take-le j xs le, e) in
     ap (λ n. take n (take j xs)) count ∙ ap (λ n. take k (take n xs)) e ∙ take_less k xs
 
 pub loop-turn-init : goal.loop-turn-init

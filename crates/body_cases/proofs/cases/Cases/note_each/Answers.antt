@@ -21,7 +21,6 @@ pub loop-claim-preserved : goal.loop-claim-preserved
 loop-claim-preserved c =
     let old = c.args.self.now in let n = c.args.number in let claims = c.args.claims.now in let i = c.loop-claim.claim-index in let x = c.claim-item.result in
     let next : i + 1 ≡ suc i = omega arith in
-    let item : claims ≡ claims = refl in
     let longer : take i claims ++ x ∷ [] ≡ take (i + 1) claims = sym (ap (λ k. take k claims) next ∙ take-suc claims i x c.loop-claim-test.true ∙ ap (λ y. take i claims ++ y ∷ []) (sym c.claim-item.is)) in (
       c.in_ok-note_one.ensures.ok ∙ ap (λ v. altered v n (noted (x ∷ []))) c.loop-claim.invariant.0 ∙ altered_twice old n (noted (take i claims)) (noted (x ∷ []))
           ∙ altered_alike old n _ _ (λ d e. noted_more (take i claims) x d ∙ ap (λ xs. noted xs d) longer),

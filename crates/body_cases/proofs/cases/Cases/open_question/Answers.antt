@@ -1,7 +1,7 @@
 use Rattle.std.proofs.Common.{◌≡◌, Option, Some, None, sym, ◌∙◌, ap}
 use Rattle.std.specs.Prelude.{slice_get}
 use Rattle.body_cases.specs.Cases.{questions_from}
-use Rattle.body_cases.specs.Indexes.{asked_by}
+use Rattle.body_cases.specs.Indexes.{asked_in}
 use Rattle.body_cases.proofs.Opening.{no_question, open_spots, question_at}
 use Rattle.body_cases.proofs.cases.Cases.open_question.Goals as goal
 
@@ -23,7 +23,7 @@ returns-in_err-asked c =
     let are = open_spots keys cases c.nth_spot.ensures.rising c.self.invariant.open_are in
     let found = question_at keys cases are c.args.skip c.in_ok-spot.spot c.in_ok-spot.ensures.nth in
     let at : slice_get c.asked.result.now c.in_ok-spot.spot.place ≡ Some found.0
-    = ap (λ xs. slice_get xs c.in_ok-spot.spot.place) (c.asked.ensures ∙ ap (λ v. asked_by (slice_get v c.in_ok-spot.spot.body)) (sym c.self.view_is)) ∙ found.1 in
+    = ap (λ xs. slice_get xs c.in_ok-spot.spot.place) (c.asked.ensures ∙ ap (λ v. asked_in (slice_get v c.in_ok-spot.spot.body)) (sym c.self.view_is)) ∙ found.1 in
     absurd (none_some found.0 (c.in_err-asked.ensures ∙ at))
 
 pub returns : goal.returns
@@ -32,6 +32,6 @@ returns c =
     let are = open_spots keys cases c.nth_spot.ensures.rising c.self.invariant.open_are in
     let found = question_at keys cases are c.args.skip c.in_ok-spot.spot c.in_ok-spot.ensures.nth in
     let at : slice_get c.asked.result.now c.in_ok-spot.spot.place ≡ Some found.0
-    = ap (λ xs. slice_get xs c.in_ok-spot.spot.place) (c.asked.ensures ∙ ap (λ v. asked_by (slice_get v c.in_ok-spot.spot.body)) (sym c.self.view_is)) ∙ found.1 in
+    = ap (λ xs. slice_get xs c.in_ok-spot.spot.place) (c.asked.ensures ∙ ap (λ v. asked_in (slice_get v c.in_ok-spot.spot.body)) (sym c.self.view_is)) ∙ found.1 in
     ap (λ a. Some (record { body = c.in_ok-spot.spot.body; key = a.key; sig = a.sig })) (one_some c.in_ok-asked.asked found.0 (c.in_ok-asked.ensures ∙ at))
     ∙ sym found.2 ∙ ap (λ v. slice_get (questions_from 0 v) c.args.skip) c.self.view_is
