@@ -21,5 +21,4 @@ pub mod Looking
 pub mod Waits
 pub mod Asks
 pub mod Judged
-pub mod Inside
 pub mod Finding

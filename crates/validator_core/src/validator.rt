@@ -34,6 +34,7 @@ pub struct Core {
 
 impl Model for Core {
     ghost use Rattle.validator_core.specs.View.{CoreView};
+    ghost use Rattle.validator_core.specs.Inside.{tables_of};
     ghost use Rattle.validator_core.specs.Tables.{view_of, IsCore};
     ghost use Rattle.json_tree.specs.contracts.tree.Tree as tree;
     ghost use Rattle.std.specs.Coded.{codes};
@@ -42,27 +43,9 @@ impl Model for Core {
 
     ghost coded = { Prim.hlevel (codes, tree.the_row.coded) };
 
-    ghost view = { λ c. view_of (record {
-      mode = c.mode;
-      limits = c.limits;
-      bodies = c.journal.bodies;
-      entries = c.journal.entries;
-      cases = c.cases;
-      accepted = c.accepted.items;
-      states = c.states;
-      tally = c.tally;
-    }) };
+    ghost view = { λ c. view_of (tables_of c) };
 
-    ghost invariant = { λ c. IsCore (record {
-      mode = c.mode;
-      limits = c.limits;
-      bodies = c.journal.bodies;
-      entries = c.journal.entries;
-      cases = c.cases;
-      accepted = c.accepted.items;
-      states = c.states;
-      tally = c.tally;
-    }) };
+    ghost invariant = { λ c. IsCore (tables_of c) };
 }
 
 impl Core {

@@ -1,6 +1,6 @@
 use Rattle.std.proofs.Common.{length, ap, arith}
 use Rattle.validator_core.proofs.Cores.{core_again, told_core_again}
-use Rattle.validator_core.proofs.Inside.{tables_of}
+use Rattle.validator_core.specs.Inside.{tables_of}
 use Rattle.validator_core.proofs.Held.{held_length}
 use Rattle.validator_core.proofs.validator.Core.add_again.Goals as goal
 

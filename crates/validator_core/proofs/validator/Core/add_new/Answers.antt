@@ -1,7 +1,7 @@
 use Rattle.std.proofs.Common.{arith}
 use Rattle.validator_core.proofs.Cores.{few_held, core_new, told_core_new}
 use Rattle.validator_core.proofs.Held.{held_length}
-use Rattle.validator_core.proofs.Inside.{tables_of}
+use Rattle.validator_core.specs.Inside.{tables_of}
 use Rattle.validator_core.proofs.validator.Core.add_new.Goals as goal
 
 -- there are few bodies

@@ -1,6 +1,6 @@
 use Rattle.std.proofs.Common.{sym, ◌∙◌, ap, Some}
 use Rattle.validator_core.proofs.Hearing.{takes_unasked, takes_known, asks_open, takes_heard, fewer_heard}
-use Rattle.validator_core.proofs.Inside.{tables_of}
+use Rattle.validator_core.specs.Inside.{tables_of}
 use Rattle.validator_core.proofs.validator.Core.answer.Goals as goal
 
 pub hear-requires : goal.hear-requires

@@ -2,7 +2,7 @@ use Rattle.std.proofs.Common.{length, ◌∙◌, ap, sym, take, if◌then◌else
 use Rattle.body_cases.specs.Cases.{altered, as_accepted}
 use Rattle.body_cases.proofs.Outcomes.{on_ok, on_err}
 use Rattle.validator_core.proofs.Hearing.{case_joined, core_heard, hears_verdict, first_begun, number_added, state_dropped}
-use Rattle.validator_core.proofs.Inside.{tables_of}
+use Rattle.validator_core.specs.Inside.{tables_of}
 use Rattle.validator_core.proofs.validator.Core.hear.Goals as goal
 
 pub begin-requires : goal.begin-requires

@@ -1,6 +1,6 @@
 use Rattle.std.proofs.Common.{◌∙◌, ap, find, slice_get}
 use Rattle.validator_core.specs.Tables.{has_text}
-use Rattle.validator_core.proofs.Inside.{tables_of}
+use Rattle.validator_core.specs.Inside.{tables_of}
 use Rattle.validator_core.proofs.Judged.{body_found, body_missing}
 use Rattle.validator_core.proofs.validator.Core.number_of.Goals as goal
 

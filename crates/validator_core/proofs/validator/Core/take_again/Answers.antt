@@ -1,5 +1,5 @@
 use Rattle.std.proofs.Common.{refl, sym, ◌∙◌}
-use Rattle.validator_core.proofs.Inside.{tables_of}
+use Rattle.validator_core.specs.Inside.{tables_of}
 use Rattle.validator_core.proofs.Replying.{full_again, again_is, reply_full, reply_again, reply_taken}
 use Rattle.validator_core.proofs.validator.Core.take_again.Goals as goal
 

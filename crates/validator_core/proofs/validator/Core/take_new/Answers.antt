@@ -1,6 +1,6 @@
 use Rattle.std.proofs.Common.{refl, sym, ◌∙◌}
 use Rattle.validator_core.specs.Tables.{body_of}
-use Rattle.validator_core.proofs.Inside.{tables_of}
+use Rattle.validator_core.specs.Inside.{tables_of}
 use Rattle.validator_core.proofs.Replying.{full_new, again_new, reply_full, reply_taken}
 use Rattle.validator_core.proofs.validator.Core.take_new.Goals as goal
 
