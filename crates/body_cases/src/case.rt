@@ -44,36 +44,42 @@ impl Case {
         }
     }
 
+    /// Its event.
     pub(crate) fn event(&self) -> &Event
         ensures { result.now ≡ self.now.event }
     {
         &self.event
     }
 
+    /// The claims that came with it.
     pub(crate) fn claims(&self) -> &[Claim]
         ensures { result.now ≡ self.now.claims }
     {
         self.claims.as_slice()
     }
 
+    /// The signatures that the claims raise.
     pub(crate) fn asked(&self) -> &[Asked]
         ensures { result.now ≡ self.now.asked }
     {
         self.asked.as_slice()
     }
 
+    /// Whether its event is accepted.
     pub(crate) fn is_accepted(&self) -> bool
         ensures { result ≡ self.now.accepted }
     {
         self.accepted
     }
 
+    /// Notes that its event is accepted.
     pub(crate) fn accept(&mut self)
         ensures { self.new ≡ as_accepted self.old }
     {
         self.accepted = true;
     }
 
+    /// Adds a claim behind the others.
     pub(crate) fn add_claim(&mut self, claim: Claim) -> Result<(), AllocError>
         ensures ok { OnOk result (self.new ≡ record self.old { claims = self.old.claims ++ claim ∷ [] }) }
         ensures err { OnErr result (self.new ≡ self.old) }
@@ -82,6 +88,7 @@ impl Case {
         Ok(())
     }
 
+    /// Adds a signature behind the others.
     pub(crate) fn ask(&mut self, asked: Asked) -> Result<(), AllocError>
         ensures ok { OnOk result (self.new ≡ record self.old { asked = self.old.asked ++ asked ∷ [] }) }
         ensures err { OnErr result (self.new ≡ self.old) }

@@ -123,7 +123,7 @@ impl Cases {
         Some(asked.verdict)
     }
 
-    // Whether the claim is among those of the body of a number.
+    /// Whether the claim is among those of the body of a number, which are handed over.
     pub(crate) fn has_claim(&self, number: u32, held: &[Claim], claim: &Claim) -> bool
         requires { option_map (λ c. c.claims) (slice_get self.now number) ≡ Some held.now }
         ensures { result ≡ list_any (λ c. same_claim c claim.now) held.now }
@@ -138,7 +138,7 @@ impl Cases {
         *place < held.len() && is_same(&held[*place], claim)
     }
 
-    // The place of a key's signature among those of the body of a number.
+    /// The place of a key's signature among those of the body of a number, which are handed over.
     pub(crate) fn place_in(&self, number: u32, all: &[Asked], key: &Key, sig: &Sig) -> Option<usize>
         requires { option_map (λ c. c.asked) (slice_get self.now number) ≡ Some all.now }
         ensures { IsPlace key.now sig.now all.now result }
@@ -200,6 +200,7 @@ fn nth_spot(unheard: &BTreeSet<Spot>, skip: usize) -> Option<Spot>
     unheard.iter().nth(skip).copied()
 }
 
+// Whether they are the same claim.
 fn is_same(claim: &Claim, other: &Claim) -> bool
     ensures { result ≡ same_claim claim.now other.now }
 {

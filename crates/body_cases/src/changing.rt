@@ -14,7 +14,7 @@ use journal::Claim;
 use std::alloc::AllocError;
 
 impl Cases {
-    // Adds a case without claims.
+    /// Adds a case without claims.
     pub(crate) fn push_case(&mut self, event: Event) -> Result<(), AllocError>
         requires few { length self.old < 2 ^ 32 }
         ensures ok { OnOk result (self.new ≡ self.old ++ empty_case event ∷ []) }
@@ -27,7 +27,7 @@ impl Cases {
         Ok(())
     }
 
-    // Takes out the last case, which asks nothing.
+    /// Takes out the last case, which asks nothing.
     pub(crate) fn pop_case(&mut self)
         requires bare { (c : CaseValue) → slice_get self.old (length self.old - 1) ≡ Some c → c.asked ≡ [] }
         ensures { self.new ≡ take (length self.old - 1) self.old }
@@ -36,7 +36,7 @@ impl Cases {
         self.cases.truncate(count);
     }
 
-    // Adds a claim that isn't there.
+    /// Adds a claim that isn't there.
     pub(crate) fn add_claim(&mut self, number: u32, claim: &Claim) -> Result<(), AllocError>
         requires held { number < length self.old }
         requires fresh { (c : CaseValue) → slice_get self.old number ≡ Some c → list_any (λ x. same_claim x claim.now) c.claims ≡ false }
@@ -52,7 +52,7 @@ impl Cases {
         case.add_claim(*claim)
     }
 
-    // Adds a signature that isn't there, and has no verdict.
+    /// Adds a signature that isn't there, and has no verdict.
     pub(crate) fn ask(&mut self, number: u32, asked: Asked) -> Result<(), AllocError>
         requires held { number < length self.old }
         requires fresh { (c : CaseValue) → slice_get self.old number ≡ Some c → list_any (λ a. same_asked a asked) c.asked ≡ false }
@@ -80,7 +80,7 @@ impl Cases {
         added
     }
 
-    // Takes out the claims from a place on.
+    /// Takes out the claims from a place on.
     pub(crate) fn keep_claims(&mut self, number: u32, count: usize)
         requires held { number < length self.old }
         ensures { self.new ≡ altered self.old number (λ c. record c { claims = take count c.claims }) }
@@ -88,7 +88,7 @@ impl Cases {
         self.cases[number as usize].keep_claims(count);
     }
 
-    // Takes out the last signature.
+    /// Takes out the last signature.
     pub(crate) fn drop_asked(&mut self, number: u32)
         requires held { number < length self.old }
         ensures { self.new ≡ altered self.old number (λ c. record c { asked = take (length c.asked - 1) c.asked }) }

@@ -17,7 +17,7 @@ use lists::Items;
 use std::alloc::AllocError;
 
 impl Core {
-    // Adds claims on the body of a number.
+    /// Adds claims on the body of a number.
     pub(crate) fn add_again(
         &mut self,
         reader: u16,
@@ -37,7 +37,7 @@ impl Core {
         Ok(())
     }
 
-    // Adds a body that isn't held, with its claims.
+    /// Adds a body that isn't held, with its claims.
     pub(crate) fn add_new(
         &mut self,
         reader: u16,
