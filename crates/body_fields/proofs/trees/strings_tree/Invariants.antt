@@ -1,0 +1,7 @@
+use Rattle.std.proofs.Common.{◌≡◌, take, map}
+use Rattle.json_tree.specs.declared.tree.Tree.TheVariants.{Str}
+use Rattle.body_fields.proofs.trees.strings_tree.Given as goal
+
+-- the strings so far
+abbrev pub invariant-loop-text : goal.invariant-loop-text
+invariant-loop-text l = l.values.items ≡ map (λ text. Str text) (take l.text-index l.text-items)

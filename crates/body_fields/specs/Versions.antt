@@ -1,0 +1,20 @@
+-- The version string (KERI: version string field; this project's profile).
+use Rattle.std.specs.Prelude.{◌≡◌, ◌≢◌, ℕ, true, List, ◌++◌, length, codes}
+use Rattle.std.specs.List.{list_all}
+use Rattle.keri_specs.specs.Hex.{is_hex, hex_value}
+
+-- six lower-case hexadecimal digits
+abbrev pub IsSize : List ℕ → Type 0
+IsSize size = (length size ≡ 6) × (list_all is_hex size ≡ true)
+
+-- the opening brace and the version string, which says the body's size
+abbrev pub version_text : List ℕ → List ℕ
+version_text size = codes "{\"v\":\"KERI10JSON" ++ (size ++ codes "_\"")
+
+-- the bytes begin with a version string whose size isn't theirs
+pub record HasOtherSize (bytes : List ℕ) : Type 0 where
+  pub size : List ℕ
+  pub rest : List ℕ
+  pub sized : IsSize size
+  pub text : bytes ≡ version_text size ++ rest
+  pub other : hex_value size ≢ length bytes
