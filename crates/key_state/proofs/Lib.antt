@@ -1,3 +1,6 @@
 pub mod Kit
 pub mod Rows
 mod Spelled
+mod WitnessLists
+mod NoMisfit
+mod Numbers

@@ -14,8 +14,8 @@ spelled_kept (Icp e) bytes s = subst IsKeptInception (sym s.event_is) (record {
   few_witnesses = omega arith;
   witnesses = refl;
 })
-spelled_kept (Rot e) bytes s = tt
-spelled_kept (Ixn e) bytes s = tt
+spelled_kept (Rot e) bytes s = absurd s
+spelled_kept (Ixn e) bytes s = absurd s
 spelled_kept (Dip e) bytes s = absurd s
-spelled_kept (Drt e) bytes s = tt
-spelled_kept (Rct e) bytes s = tt
+spelled_kept (Drt e) bytes s = absurd s
+spelled_kept (Rct e) bytes s = s.0.sn_held

@@ -56,14 +56,14 @@ are_same None _ = false
 abbrev pub is_other_prior : State → Event → Bool
 is_other_prior s e = not (are_same (prior_of e) (digest_at s (sn_of e - 1)))
 
--- the number of receipts that are wanted fits a witness list (bt)
-abbrev pub fits_list : ℕ → List Key → Bool
-fits_list toad list = if length list == 0 then toad == 0 else nat_le 1 toad && nat_le toad (length list)
+-- the number of receipts that are wanted fits so many witnesses (bt)
+abbrev pub fits_count : ℕ → ℕ → Bool
+fits_count toad witnesses = if witnesses == 0 then toad == 0 else nat_le 1 toad && nat_le toad witnesses
 
 -- a cut isn't in the list, an add is, or the new list has more than 64 members or doesn't fit `bt`
 abbrev pub is_bad_change : List Key → Rotation → Bool
 is_bad_change old e = list_any (λ k. not (has_key old k)) e.cuts || list_any (has_key old) e.adds
-    || nat_lt 64 (length (changed_list old e)) || not (fits_list e.toad (changed_list old e))
+    || nat_lt 64 (length (changed_list old e)) || not (fits_count e.toad (length (changed_list old e)))
 
 -- it is a rotation that changes the witness list badly
 abbrev pub is_other_list : State → Event → Bool

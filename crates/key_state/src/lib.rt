@@ -2,11 +2,15 @@
 #![tactic(auto)]
 
 mod beginning;
+mod exposure;
+mod following;
 mod key_state;
 mod laws;
+mod moving;
 mod state_fault;
 #[cfg(test)]
 mod tests;
+mod witnesses;
 
 pub use beginning::first;
 pub use key_state::KeyState;

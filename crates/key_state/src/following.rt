@@ -1,0 +1,172 @@
+//! Which event may come next.
+ghost use Rattle.std.specs.Prelude.{◌≡◌, ◌+◌, ◌-◌, ◌==◌, ◌&&◌, ◌||◌, length, not, nat_le, nat_lt, codes, Some};
+ghost use Rattle.event_body.specs.Events.{is_inception, is_receipt, is_interaction};
+ghost use Rattle.key_state.specs.Heads.{head_sn};
+ghost use Rattle.key_state.specs.Kept.{IsKept};
+ghost use Rattle.key_state.specs.KeyStates as states;
+ghost use Rattle.key_state.specs.Same.{has_text};
+
+use crate::witnesses::is_bad_change;
+use crate::{KeyState, Misfit};
+use cesr_codes::Digest;
+use event_body::{Event, prefix_of};
+
+// The trait of identifiers that have no interactions (KERI: configuration traits).
+const ESTABLISHMENT_ONLY: &[u8] = b"EO";
+
+impl KeyState {
+    /// The first rule by which the event doesn't follow. It takes no memory.
+    #[tactic(auto, unfolding(crate::specs::KeyStates::misfit))]
+    pub fn misfit(&self, event: &Event) -> Option<Misfit>
+        requires { IsKept event.now }
+        ensures { result ≡ states.misfit self.now event.now }
+    {
+        if self.is_other_kind(event) {
+            return Some(Misfit::Kind);
+        }
+        if self.has_ended() {
+            return Some(Misfit::Ended);
+        }
+        if self.is_barred(event) {
+            return Some(Misfit::EstOnly);
+        }
+        if self.is_other_sn(event) {
+            return Some(Misfit::Sn);
+        }
+        if self.is_other_prior(event) {
+            return Some(Misfit::Prior);
+        }
+        if self.is_other_list(event) {
+            return Some(Misfit::WitnessChange);
+        }
+        None
+    }
+
+    // Whether it can't follow any event, or is another identifier's, or a rotation that should or shouldn't have a
+    // delegator.
+    fn is_other_kind(&self, event: &Event) -> bool
+        ensures { result ≡ states.is_other_kind self.now event.now }
+    {
+        never_follows(event) || prefix_of(event) != self.prefix || self.is_other_rotation(event)
+    }
+
+    fn is_other_rotation(&self, event: &Event) -> bool
+        ensures { result ≡ states.is_other_rotation self.now event.now }
+    {
+        match event {
+            Event::Rot(_) => self.delegator.is_some(),
+            Event::Drt(_) => self.delegator.is_none(),
+            Event::Icp(_) | Event::Ixn(_) | Event::Dip(_) | Event::Rct(_) => false,
+        }
+    }
+
+    // Whether no event may follow.
+    fn has_ended(&self) -> bool
+        ensures { result ≡ (length self.now.next == 0) }
+    {
+        self.next.is_empty()
+    }
+
+    // Whether it is an interaction, where there may be none.
+    fn is_barred(&self, event: &Event) -> bool
+        ensures { result ≡ (is_interaction event.now && has_text self.now.traits (codes "EO")) }
+    {
+        is_interaction(event) && self.is_establishment_only()
+    }
+
+    fn is_establishment_only(&self) -> bool
+        ensures { result ≡ has_text self.now.traits (codes "EO") }
+    {
+        self.traits
+            .as_slice()
+            .iter()
+            .any(|text| text.as_slice() == ESTABLISHMENT_ONLY)
+    }
+
+    // Whether the number is the head's and one. No number comes after the greatest.
+    fn is_next(&self, sn: u64) -> bool
+        ensures { result ≡ (sn == head_sn self.now + 1) }
+    {
+        sn != 0 && sn - 1 == self.sn()
+    }
+
+    // Whether a rotation's number is behind the last establishment event's, and no further than the next.
+    fn may_rotate(&self, sn: u64) -> bool
+        ensures { result ≡ not (nat_le sn self.now.est_sn || nat_lt (head_sn self.now + 1) sn) }
+    {
+        sn > self.est_sn && sn - 1 <= self.sn()
+    }
+
+    fn is_other_sn(&self, event: &Event) -> bool
+        ensures { result ≡ states.is_other_sn self.now event.now }
+    {
+        match event {
+            Event::Rot(event) => !self.may_rotate(event.sn),
+            Event::Ixn(event) => !self.is_next(event.sn),
+            Event::Drt(event) => !self.is_next(event.sn),
+            Event::Icp(_) | Event::Dip(_) | Event::Rct(_) => false,
+        }
+    }
+
+    // The digest of the live event of a number, from the last establishment event on.
+    fn digest_at(&self, sn: u64) -> Option<Digest>
+        ensures { result ≡ states.digest_at self.now sn }
+    {
+        if sn < self.est_sn {
+            return None;
+        }
+        self.since
+            .as_slice()
+            .get((sn - self.est_sn) as usize)
+            .copied()
+    }
+
+    // Whether it is the digest of the live event before the number.
+    fn is_before(&self, prior: &Digest, sn: u64) -> bool
+        ensures { result ≡ states.are_same (Some prior.now) (states.digest_at self.now (sn - 1)) }
+    {
+        match self.digest_at(sn.saturating_sub(1)) {
+            Some(digest) => *prior == digest,
+            None => false,
+        }
+    }
+
+    fn is_other_prior(&self, event: &Event) -> bool
+        ensures { result ≡ states.is_other_prior self.now event.now }
+    {
+        match event {
+            Event::Rot(event) | Event::Drt(event) => !self.is_before(&event.prior, event.sn),
+            Event::Ixn(event) => !self.is_before(&event.prior, event.sn),
+            Event::Icp(_) | Event::Dip(_) | Event::Rct(_) => true,
+        }
+    }
+
+    fn is_other_list(&self, event: &Event) -> bool
+        requires { IsKept event.now }
+        ensures { result ≡ states.is_other_list self.now event.now }
+    {
+        match event {
+            Event::Rot(event) | Event::Drt(event) => is_bad_change(self.list.as_slice(), event),
+            Event::Icp(_) | Event::Ixn(_) | Event::Dip(_) | Event::Rct(_) => false,
+        }
+    }
+}
+
+// Whether it begins an identifier, or is a receipt.
+fn never_follows(event: &Event) -> bool
+    ensures { result ≡ (is_inception event.now || is_receipt event.now) }
+{
+    match event {
+        Event::Icp(_) | Event::Dip(_) | Event::Rct(_) => true,
+        Event::Rot(_) | Event::Ixn(_) | Event::Drt(_) => false,
+    }
+}
+
+fn is_interaction(event: &Event) -> bool
+    ensures { result ≡ is_interaction event.now }
+{
+    match event {
+        Event::Ixn(_) => true,
+        Event::Icp(_) | Event::Rot(_) | Event::Dip(_) | Event::Drt(_) | Event::Rct(_) => false,
+    }
+}

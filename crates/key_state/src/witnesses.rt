@@ -1,0 +1,95 @@
+//! Changes of a witness list.
+ghost use Rattle.std.specs.Prelude.{◌≡◌, ◌≤◌, filter, length, not, IfOk};
+ghost use Rattle.std.specs.List.{list_any};
+ghost use Rattle.key_state.specs.Kept.{IsKeptRotation};
+ghost use Rattle.key_state.specs.KeyStates as states;
+ghost use Rattle.key_state.specs.Same as same;
+
+use cesr_codes::Key;
+use event_body::Rotation;
+use lists::Items;
+use std::alloc::{AllocError, Global};
+
+// How many members a witness list may have.
+const MOST: usize = 64;
+
+// Whether the key is in the list.
+fn has_key(keys: &[Key], key: &Key) -> bool
+    ensures { result ≡ same.has_key keys.now key.now }
+{
+    keys.iter().any(|held| held == key)
+}
+
+// Whether a cut isn't in the list.
+fn cuts_other(old: &[Key], cuts: &[Key]) -> bool
+    ensures { result ≡ list_any (λ k. not (same.has_key old.now k)) cuts.now }
+{
+    cuts.iter().any(|key| !has_key(old, key))
+}
+
+// Whether an add is in the list.
+fn adds_again(old: &[Key], adds: &[Key]) -> bool
+    ensures { result ≡ list_any (same.has_key old.now) adds.now }
+{
+    adds.iter().any(|key| has_key(old, key))
+}
+
+// How many members of the list aren't cut.
+fn left(old: &[Key], cuts: &[Key]) -> usize
+    ensures left { result ≡ length (filter (λ k. not (same.has_key cuts.now k)) old.now) }
+    ensures few { result ≤ length old.now }
+{
+    old.iter().filter(|key| !has_key(cuts, key)).count()
+}
+
+// How many members the list has after the rotation.
+fn count_after(old: &[Key], event: &Rotation) -> usize
+    requires few { length old.now ≤ 64 }
+    requires kept { IsKeptRotation event.now }
+    ensures { result ≡ length (states.changed_list old.now event.now) }
+{
+    left(old, event.cuts.as_slice()) + event.adds.len()
+}
+
+// Whether the number of receipts that are wanted fits so many witnesses.
+fn fits_count(toad: u64, witnesses: usize) -> bool
+    ensures { result ≡ states.fits_count toad witnesses }
+{
+    if witnesses == 0 {
+        toad == 0
+    } else {
+        toad >= 1 && toad <= witnesses as u64
+    }
+}
+
+/// Whether the rotation cuts or adds what it can't, or leaves more witnesses than may be, or a number of receipts that
+/// doesn't fit them. It takes no memory.
+pub(crate) fn is_bad_change(old: &[Key], event: &Rotation) -> bool
+    requires few { length old.now ≤ 64 }
+    requires kept { IsKeptRotation event.now }
+    ensures { result ≡ states.is_bad_change old.now event.now }
+{
+    let count = count_after(old, event);
+    cuts_other(old, event.cuts.as_slice())
+        || adds_again(old, event.adds.as_slice())
+        || count > MOST
+        || !fits_count(event.toad, count)
+}
+
+/// The list without the cuts, then the adds.
+pub(crate) fn changed_list(
+    alloc: Global,
+    old: &[Key],
+    event: &Rotation,
+) -> Result<Items<Key>, AllocError>
+    ensures { IfOk result (λ list. list ≡ states.changed_list old.now event.now) }
+{
+    let cuts = event.cuts.as_slice();
+    let mut list: Vec<Key> = old
+        .iter()
+        .copied()
+        .filter(|key| !has_key(cuts, key))
+        .collect(alloc)?;
+    list.extend_from_slice(event.adds.as_slice())?;
+    Ok(Items::from_vec(list))
+}
