@@ -90,7 +90,7 @@ STREAMS = {
     # refused messages
     "too_many_signatures": (INCEPTION + "-AQB" + indexed("AA", "a") * 1025, "refused 0 0 signatures\n", 3),
     "refused_among_others": (
-        RECEIPT + INCEPTION.replace('"nt":"1"', '"nt":"2"') + RECEIPT, BARE + "refused 0 145 field 7\n" + BARE, 3,
+        RECEIPT + INCEPTION.replace('"nt":"1"', '"nt":"2"') + RECEIPT, BARE + "refused 0 145 threshold\n" + BARE, 3,
     ),
     "other_prefix": (INCEPTION.replace('"i":"I', '"i":"E'), "refused 0 0 prefix\n", 3),
     "other_digest": (INCEPTION.replace(INCEPTION[40:84], digest("other")), "refused 0 0 said\n", 3),

@@ -13,7 +13,8 @@ use Rattle.cesr_codes.specs.declared.sig.Sig.{Sig}
 use Rattle.journal.specs.declared.claim.Claim.{Claim}
 use Rattle.journal.specs.Replies.{same_claim}
 use Rattle.journal.proofs.Places.{any_at, set_here, set_there, slice_get_last}
-use Rattle.journal.proofs.Same.{same_claim_itself, same_key_is, same_key_itself, same_sig_is, same_sig_itself}
+use Rattle.key_state.proofs.Same.{same_key_is, same_key_itself, same_sig_is, same_sig_itself}
+use Rattle.journal.proofs.Same.{same_claim_itself}
 use Rattle.body_cases.specs.declared.asked.Asked.{Asked}
 use Rattle.body_cases.specs.declared.keys.ClaimKey.{ClaimKey}
 use Rattle.body_cases.specs.declared.keys.Name.{Name}

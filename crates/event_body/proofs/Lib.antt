@@ -1,9 +1,5 @@
-mod Fronts
-mod Numbers
-mod Texts
-mod Maps
-mod Heads
-mod Receipts
-mod Inceptions
-mod Places
+pub mod Values
+pub mod Parts
+pub mod Places
 pub mod Whole
+pub mod Keeping

@@ -1,82 +1,199 @@
--- The digest and the prefix in an inception's text, at the places 40 and 91.
-use Rattle.std.proofs.Common.{◌≡◌, ℕ, zero, suc, ◌+◌, ◌≤◌, List, [], ◌∷◌, ◌++◌, length, take, drop, sym, ap, ◌∙◌, arith, codes, append_assoc, length-append}
+-- The digest and the prefix in a body's text, at the places 40 and 91.
+use Rattle.std.proofs.Common.{◌≡◌, ℕ, zero, suc, ◌+◌, ◌≤◌, Bool, true, false, if◌then◌else◌, List, [], ◌∷◌, ◌++◌, length, take, drop, refl, sym, ap, ◌∙◌, subst, arith, codes, append_assoc, length-append, slice_index_or, IsTrue, ◌↔◌}
 use Rattle.std.proofs.lemmas.List.{take_at, drop_at}
 use Rattle.std.proofs.lemmas.Grind.{common_steps}
 use Rattle.cesr_codes.specs.declared.digest.Digest.{Digest}
 use Rattle.cesr_codes.specs.declared.digest.DigestCode.{DigestCode}
-use Rattle.cesr_codes.specs.declared.key.Key.{Key}
-use Rattle.cesr_codes.specs.Spelling.{digest_text}
-use Rattle.cesr_codes.proofs.Same.{length-digest_text}
+use Rattle.cesr_codes.specs.declared.prefix.Prefix.{Prefix}
+use Rattle.cesr_codes.specs.declared.prefix.Prefix.TheVariants as prefixes
+use Rattle.cesr_codes.specs.Spelling.{digest_text, prefix_text}
+use Rattle.cesr_codes.proofs.Same.{length-digest_text, length-prefix_text}
+use Rattle.json_tree.specs.declared.tree.Tree.{Tree}
+use Rattle.json_tree.specs.declared.tree.Tree.TheVariants.{Str}
 use Rattle.said_digest.specs.Digests.{digest_of, said}
 use Rattle.said_digest.specs.Replaced.{placeholder, with_placeholder, replaced, LieIn}
-use Rattle.event_body.specs.Fronts.{enclosed}
-use Rattle.event_body.specs.FieldMaps.{version_text, member_text}
-use Rattle.event_body.specs.Inception.{one_key_text, inception_text, HasInception}
-use Rattle.event_body.proofs.Fronts.{enclosed_behind}
+use Rattle.body_fields.specs.declared.kind.Kind.{Kind}
+use Rattle.body_fields.specs.declared.kind.Kind.TheVariants as kinds
+use Rattle.body_fields.specs.declared.field.Field.{Field}
+use Rattle.body_fields.specs.declared.field.Field.TheVariants.{Said, Identifier}
+use Rattle.body_fields.specs.Bodies.{head_text, members_text}
+use Rattle.body_fields.specs.Forms.{digest_value, prefix_value}
+use Rattle.body_fields.specs.Maps.{kind_name, fields_of}
+use Rattle.event_body.specs.declared.event.Event.{Event}
+use Rattle.event_body.specs.declared.event.Event.TheVariants.{Icp, Rot, Ixn, Dip, Drt, Rct}
+use Rattle.event_body.specs.Events.{said_of, prefix_of, is_receipt}
+use Rattle.event_body.specs.Spelling.{body_kind, AreParts}
+use Rattle.event_body.specs.Rules.{without_digest, without_digests, digested_values, IsDigestOf, HasSaid}
+use Rattle.event_body.specs.Reading.{is_said, hides_prefix, places_of}
+use Rattle.event_body.specs.Judging.{HasEvent}
 
--- what is before a text and what is behind it
-text_at : (front opening closing text rest : List ℕ) → front ++ (enclosed opening closing text ++ rest) ≡ (front ++ opening) ++ (text ++ (closing ++ rest))
-text_at front opening closing text rest = ap (λ x. front ++ x) (enclosed_behind opening closing text rest) ∙ sym (append_assoc front opening (text ++ (closing ++ rest)))
+-- the fields behind the first two
+further : List Field → List Field
+further (one ∷ other ∷ fields) = fields
+further fields = []
 
-module _ (front opening closing text rest : List ℕ) (place : ℕ) (at : length (front ++ opening) ≡ place) (long : length text ≡ 44) where
-  -- the placeholder stands for the text
-  replaced_between : with_placeholder place (front ++ (enclosed opening closing text ++ rest)) ≡ front ++ (enclosed opening closing placeholder ++ rest)
-  unfolding with_placeholder
-  replaced_between =
-      let all : List ℕ = front ++ (enclosed opening closing text ++ rest) in
-      let same = text_at front opening closing text rest in
-      let before : take place all ≡ front ++ opening = ap (take place) same ∙ take_at (front ++ opening) (text ++ (closing ++ rest)) place at in
-      let after : drop (place + 44) all ≡ closing ++ rest =
-      ap (drop (place + 44)) (same ∙ sym (append_assoc (front ++ opening) text (closing ++ rest)))
-      ∙ drop_at ((front ++ opening) ++ text) (closing ++ rest) (place + 44) (omega (arith, length-append (front ++ opening) text, at, long)) in
-      ap (λ x. x ++ (placeholder ++ drop (place + 44) all)) before ∙ ap (λ x. (front ++ opening) ++ (placeholder ++ x)) after
-      ∙ sym (text_at front opening closing placeholder rest)
+first_two : (kind : Kind) → fields_of kind ≡ Said ∷ Identifier ∷ further (fields_of kind)
+unfolding further
+first_two kinds.Icp = refl
+first_two kinds.Rot = refl
+first_two kinds.Ixn = refl
+first_two kinds.Dip = refl
+first_two kinds.Drt = refl
+first_two kinds.Rct = refl
 
-  fits_between : place + 44 ≤ length (front ++ (enclosed opening closing text ++ rest))
-  fits_between =
-      omega (arith, ap length (text_at front opening closing text rest), length-append (front ++ opening) (text ++ (closing ++ rest)), length-append text (closing ++ rest), at, long)
+name_long : (kind : Kind) → length (kind_name kind) ≡ 3
+name_long kinds.Icp = refl
+name_long kinds.Rot = refl
+name_long kinds.Ixn = refl
+name_long kinds.Dip = refl
+name_long kinds.Drt = refl
+name_long kinds.Rct = refl
 
-module _ (size d i : List ℕ) (key : Key) (next : Digest) (sized : length size ≡ 6) (d_long : length d ≡ 44) (i_long : length i ≡ 44) where
-  d_at : length ((version_text size ++ member_text (codes "t") (codes "icp")) ++ codes ",\"d\":\"") ≡ 40
-  d_at = grind (arith, common_steps)
+-- an event's first values are its digest and its prefix
+begins : (event : Event) (values : List Tree) → AreParts event values → (rest : List Tree) × (values ≡ digest_value (said_of event) ∷ prefix_value (prefix_of event) ∷ rest)
+begins (Icp e) values parts = (_, parts.are)
+begins (Rot e) values parts = (_, parts.are)
+begins (Ixn e) values parts = (_, parts.are)
+begins (Dip e) values parts = (_, parts.are)
+begins (Drt e) values parts = (_, parts.are)
+begins (Rct e) values parts = (_, parts.are)
 
-  i_at : length ((version_text size ++ (member_text (codes "t") (codes "icp") ++ member_text (codes "d") d)) ++ codes ",\"i\":\"") ≡ 91
-  i_at = grind (arith, common_steps)
+-- a placeholder stands for a text at a place
+put : (front text rest : List ℕ) (place : ℕ) → length front ≡ place → length text ≡ 44 → with_placeholder place (front ++ (text ++ rest)) ≡ front ++ (placeholder ++ rest)
+unfolding with_placeholder
+put front text rest place at long =
+    let before : take place (front ++ (text ++ rest)) ≡ front = take_at front (text ++ rest) place at in
+    let after : drop (place + 44) (front ++ (text ++ rest)) ≡ rest =
+    ap (drop (place + 44)) (sym (append_assoc front text rest)) ∙ drop_at (front ++ text) rest (place + 44) (omega (arith, length-append front text, at, long)) in
+    ap (λ x. x ++ (placeholder ++ drop (place + 44) (front ++ (text ++ rest)))) before ∙ ap (λ x. front ++ (placeholder ++ x)) after
 
-  front_of_i : (x : List ℕ) → inception_text size d x key next
-      ≡ (version_text size ++ (member_text (codes "t") (codes "icp") ++ member_text (codes "d") d)) ++ (member_text (codes "i") x ++ one_key_text key next)
-  front_of_i x = ap (λ y. version_text size ++ y) (sym (append_assoc (member_text (codes "t") (codes "icp")) (member_text (codes "d") d) (member_text (codes "i") x ++ one_key_text key next)))
-      ∙ sym (append_assoc (version_text size) (member_text (codes "t") (codes "icp") ++ member_text (codes "d") d) (member_text (codes "i") x ++ one_key_text key next))
+module _ (size : List ℕ) (kind : Kind) (more : List Field) (rest : List Tree) (sized : length size ≡ 6) where
+  abbrev text : List ℕ → List ℕ → List ℕ
+  text d i = head_text size kind ++ (members_text (Said ∷ Identifier ∷ more) (Str d ∷ Str i ∷ rest) ++ codes "}")
 
-  i_replaced : with_placeholder 91 (inception_text size d i key next) ≡ inception_text size d placeholder key next
-  i_replaced = ap (with_placeholder 91) (front_of_i i)
-      ∙ replaced_between (version_text size ++ (member_text (codes "t") (codes "icp") ++ member_text (codes "d") d)) (codes ",\"i\":\"") (codes "\"") i (one_key_text key next) 91 i_at i_long
-      ∙ sym (front_of_i placeholder)
+  abbrev front : List ℕ
+  front = head_text size kind ++ codes ",\"d\":\""
 
-  d_replaced : with_placeholder 40 (inception_text size d placeholder key next) ≡ inception_text size placeholder placeholder key next
-  d_replaced = ap (with_placeholder 40) (sym (append_assoc (version_text size) (member_text (codes "t") (codes "icp")) (member_text (codes "d") d ++ (member_text (codes "i") placeholder ++ one_key_text key next))))
-      ∙ replaced_between (version_text size ++ member_text (codes "t") (codes "icp")) (codes ",\"d\":\"") (codes "\"") d (member_text (codes "i") placeholder ++ one_key_text key next) 40 d_at d_long
-      ∙ append_assoc (version_text size) (member_text (codes "t") (codes "icp")) (member_text (codes "d") placeholder ++ (member_text (codes "i") placeholder ++ one_key_text key next))
+  abbrev behind_digest : List ℕ → List ℕ
+  behind_digest i = codes "\",\"i\":\"" ++ (i ++ (codes "\"" ++ (members_text more rest ++ codes "}")))
 
-  both_replaced : replaced (inception_text size d i key next) (40 ∷ 91 ∷ []) ≡ inception_text size placeholder placeholder key next
+  spread : (d i : List ℕ) → text d i ≡ front ++ (d ++ behind_digest i)
+  spread d i = simp append_assoc
+
+  front_long : length front ≡ 40
+  front_long = grind (arith, common_steps, name_long kind)
+
+  digest_replaced : (d i : List ℕ) → length d ≡ 44 → with_placeholder 40 (text d i) ≡ text placeholder i
+  digest_replaced d i long = ap (with_placeholder 40) (spread d i) ∙ put front d (behind_digest i) 40 front_long long ∙ sym (spread placeholder i)
+
+  abbrev front_of_prefix : List ℕ → List ℕ
+  front_of_prefix d = front ++ (d ++ codes "\",\"i\":\"")
+
+  spread_prefix : (d i : List ℕ) → text d i ≡ front_of_prefix d ++ (i ++ (codes "\"" ++ (members_text more rest ++ codes "}")))
+  spread_prefix d i = spread d i ∙ simp append_assoc
+
+  prefix_at : (d : List ℕ) → length d ≡ 44 → length (front_of_prefix d) ≡ 91
+  prefix_at d long = omega (arith, length-append front (d ++ codes "\",\"i\":\""), length-append d (codes "\",\"i\":\""), front_long, long)
+
+  prefix_replaced : (d i : List ℕ) → length d ≡ 44 → length i ≡ 44 → with_placeholder 91 (text d i) ≡ text d placeholder
+  prefix_replaced d i d_long i_long = ap (with_placeholder 91) (spread_prefix d i) ∙ put (front_of_prefix d) i _ 91 (prefix_at d d_long) i_long ∙ sym (spread_prefix d placeholder)
+
+  -- the digest's place alone, or both
+  replaced_text : (both : Bool) (d i : List ℕ) → length d ≡ 44 → length i ≡ 44 → replaced (text d i) (if both then 40 ∷ 91 ∷ [] else 40 ∷ []) ≡ text placeholder (if both then placeholder else i)
   unfolding replaced
-  both_replaced = ap (with_placeholder 40) i_replaced ∙ d_replaced
+  replaced_text true d i d_long i_long = ap (with_placeholder 40) (prefix_replaced d i d_long i_long) ∙ digest_replaced d placeholder d_long
+  replaced_text false d i d_long i_long = digest_replaced d i d_long
 
-  enough : 135 ≤ length (inception_text size d i key next)
-  enough = omega (
-    arith,
-    ap length (front_of_i i),
-    fits_between (version_text size ++ (member_text (codes "t") (codes "icp") ++ member_text (codes "d") d)) (codes ",\"i\":\"") (codes "\"") i (one_key_text key next) 91 i_at i_long,
-  )
+  enough : (d i : List ℕ) → length d ≡ 44 → length i ≡ 44 → 135 ≤ length (text d i)
+  enough d i d_long i_long =
+      let tail : List ℕ = codes "\"" ++ (members_text more rest ++ codes "}") in
+      omega (arith, ap length (spread_prefix d i), length-append (front_of_prefix d) (i ++ tail), length-append i tail, prefix_at d d_long, i_long)
 
-module _ (bytes size : List ℕ) (d i : Digest) (key : Key) (next : Digest) (h : HasInception bytes size d i key next) where
-  -- the digest with the places replaced is that of the text with the placeholders
-  pub said_at_places : (code : DigestCode) → said code bytes (40 ∷ 91 ∷ []) ≡ digest_of code (inception_text size placeholder placeholder key next)
+lie_in : (both : Bool) (bytes : List ℕ) → 135 ≤ length bytes → LieIn bytes (if both then 40 ∷ 91 ∷ [] else 40 ∷ [])
+lie_in both bytes few zero x below = elim both as (λ b. slice_index_or (if b then 40 ∷ 91 ∷ [] else 40 ∷ []) 0 x + 44 ≤ length bytes) [ true ↦ omega (arith, few) | false ↦ omega (arith, few) ]
+lie_in true bytes few (suc zero) x below = omega (arith, few)
+lie_in true bytes few (suc (suc k)) x below = absurd (omega (arith, below))
+lie_in false bytes few (suc k) x below = absurd (omega (arith, below))
+
+-- the values with placeholders
+without : (p : Prefix) (d : Tree) (rest : List Tree) → without_digests p (d ∷ prefix_value p ∷ rest) ≡ Str placeholder ∷ Str (if is_said p then placeholder else prefix_text p) ∷ rest
+without (prefixes.Basic key) d rest = refl
+without (prefixes.Said digest) d rest = refl
+
+digested : (event : Event) (values rest : List Tree) → is_receipt event ≡ false → values ≡ digest_value (said_of event) ∷ prefix_value (prefix_of event) ∷ rest
+    → digested_values event values ≡ Str placeholder ∷ Str (if hides_prefix event then placeholder else prefix_text (prefix_of event)) ∷ rest
+digested (Icp e) values rest none is = ap (without_digests e.prefix) is ∙ without e.prefix (digest_value e.said) rest
+digested (Dip e) values rest none is = ap (without_digests e.prefix) is ∙ without e.prefix (digest_value e.said) rest
+digested (Rot e) values rest none is = ap without_digest is
+digested (Ixn e) values rest none is = ap without_digest is
+digested (Drt e) values rest none is = ap without_digest is
+digested (Rct e) values rest none is = cc none
+
+module _ (event : Event) (bytes : List ℕ) (has : HasEvent event bytes) where
+  abbrev kind : Kind
+  kind = body_kind event
+
+  abbrev others : List Tree
+  others = (begins event has.values has.parts).0
+
+  abbrev spelled : List ℕ → List ℕ → List ℕ
+  spelled = text has.body.size kind (further (fields_of kind)) others has.body.sized.0
+
+  text_of : (values : List Tree) (d i : List ℕ) → values ≡ Str d ∷ Str i ∷ others → head_text has.body.size kind ++ (members_text (fields_of kind) values ++ codes "}") ≡ spelled d i
+  text_of values d i is = ap (λ v. head_text has.body.size kind ++ (members_text (fields_of kind) v ++ codes "}")) is
+      ∙ ap (λ f. head_text has.body.size kind ++ (members_text f (Str d ∷ Str i ∷ others) ++ codes "}")) (first_two kind)
+
+  abbrev d : List ℕ
+  d = digest_text (said_of event)
+
+  abbrev i : List ℕ
+  i = prefix_text (prefix_of event)
+
+  d_long : length d ≡ 44
+  d_long = length-digest_text (said_of event)
+
+  i_long : length i ≡ 44
+  i_long = length-prefix_text (prefix_of event)
+
+  bytes_are : bytes ≡ spelled d i
+  bytes_are = has.body.text ∙ text_of has.values d i (begins event has.values has.parts).1
+
+  -- the places lie in the body
+  pub places_lie_in : LieIn bytes (places_of event)
+  places_lie_in =
+      lie_in (hides_prefix event) bytes (omega (arith, ap length bytes_are, enough has.body.size kind (further (fields_of kind)) others has.body.sized.0 d i d_long i_long))
+
+  -- the digest with the places replaced is that of the values with placeholders
+  said_at_places : (code : DigestCode) → is_receipt event ≡ false
+      → said code bytes (places_of event) ≡ digest_of code (head_text has.body.size kind ++ (members_text (fields_of kind) (digested_values event has.values) ++ codes "}"))
   unfolding said
-  said_at_places code = ap (digest_of code)
-      (ap (λ b. replaced b (40 ∷ 91 ∷ [])) h.text ∙ both_replaced size (digest_text d) (digest_text i) key next h.sized.0 (length-digest_text d) (length-digest_text i))
+  said_at_places code none = ap (digest_of code)
+      (ap (λ b. replaced b (places_of event)) bytes_are
+      ∙ replaced_text has.body.size kind (further (fields_of kind)) others has.body.sized.0 (hides_prefix event) d i d_long i_long
+      ∙ sym (text_of (digested_values event has.values) placeholder (if hides_prefix event then placeholder else i) (digested event has.values others none (begins event has.values has.parts).1)))
 
-  pub places_lie_in : LieIn bytes (40 ∷ 91 ∷ [])
-  places_lie_in zero x below = omega (arith, ap length h.text, enough size (digest_text d) (digest_text i) key next h.sized.0 (length-digest_text d) (length-digest_text i))
-  places_lie_in (suc zero) x below = omega (arith, ap length h.text, enough size (digest_text d) (digest_text i) key next h.sized.0 (length-digest_text d) (length-digest_text i))
-  places_lie_in (suc (suc k)) x below = absurd (omega (arith, below))
+-- the rule is that of the digest, but for a receipt
+said_rule : (event : Event) (r : Bool) (size : List ℕ) (values : List Tree) → is_receipt event ≡ false
+    → IsTrue r ↔ IsDigestOf (said_of event) (body_kind event) size (digested_values event values) → IsTrue r ↔ HasSaid event size values
+said_rule (Icp e) r size values none rule = rule
+said_rule (Rot e) r size values none rule = rule
+said_rule (Ixn e) r size values none rule = rule
+said_rule (Dip e) r size values none rule = rule
+said_rule (Drt e) r size values none rule = rule
+said_rule (Rct e) r size values none rule = cc none
+
+pub receipts_free : (event : Event) (size : List ℕ) (values : List Tree) → is_receipt event ≡ true → HasSaid event size values
+receipts_free (Rct e) size values is = tt
+receipts_free (Icp e) size values is = cc is
+receipts_free (Rot e) size values is = cc is
+receipts_free (Ixn e) size values is = cc is
+receipts_free (Dip e) size values is = cc is
+receipts_free (Drt e) size values is = cc is
+
+-- a test of the digest with the places replaced is one of the rule
+pub tests_said : (event : Event) (bytes : List ℕ) (has : HasEvent event bytes) (digest : Digest) (places : List ℕ) (r : Bool) → is_receipt event ≡ false
+    → digest ≡ said_of event → places ≡ places_of event → IsTrue r ↔ (digest ≡ said digest.code bytes places) → IsTrue r ↔ HasSaid event has.body.size has.values
+tests_said event bytes has digest places r none digest_is places_are tests =
+    let placed = said_at_places event bytes has (said_of event).code none in
+    let rule = subst (λ d. IsTrue r ↔ (d ≡ said d.code bytes (places_of event))) digest_is (subst (λ p. IsTrue r ↔ (digest ≡ said digest.code bytes p)) places_are tests) in
+    said_rule event r has.body.size has.values none ((λ yes. rule.0 yes ∙ placed), (λ is. rule.1 (is ∙ sym placed)))

@@ -1,7 +1,8 @@
 pub mod Events
-pub mod Fronts
-pub mod FieldMaps
-pub mod Receipt
-pub mod Inception
-pub mod Judging
+pub mod Ranges
+pub mod Spelling
+pub mod Rules
 pub mod Reading
+pub mod Kept
+pub mod Judging
+pub mod Inception

@@ -1,46 +1,48 @@
--- What the steps of reading a body find behind its first fields.
-use Rattle.std.specs.Prelude.{◌≡◌, ℕ, zero, suc, ◌≤◌, List, [], ◌∷◌, ◌++◌, length, codes}
-use Rattle.std.specs.declared.result.Result.{Result}
-use Rattle.std.specs.declared.result.Result.TheVariants.{Ok, Err}
-use Rattle.keri_specs.specs.Hex.{hex_value, IsHexNumber}
-use Rattle.cesr_codes.specs.declared.digest.Digest.{Digest}
+-- What is read of the values of a body, and why nothing is.
+use Rattle.std.specs.Prelude.{◌≡◌, ℕ, Bool, true, false, if◌then◌else◌, List, [], ◌∷◌, length}
+use Rattle.std.specs.List.{AllByRecursion}
 use Rattle.cesr_codes.specs.declared.prefix.Prefix.{Prefix}
-use Rattle.cesr_codes.specs.Spelling.{digest_text, prefix_text, IsDigest, IsPrefix}
-use Rattle.event_body.specs.FieldMaps.{Field, IsField, IsSize, version_text, member_text, Begins, Kind, kind_name}
-use Rattle.event_body.specs.Judging.{IsFirstFault, SpellsEvent}
+use Rattle.cesr_codes.specs.declared.prefix.Prefix.TheVariants.{Basic, Said}
+use Rattle.cesr_codes.specs.Spelling.{IsDigest, IsKey}
+use Rattle.json_tree.specs.declared.tree.Tree.{Tree}
+use Rattle.sith.specs.Rules.{IsReadFor}
+use Rattle.sith.specs.Thresholds.{Spells}
+use Rattle.body_fields.specs.Forms.{keys_value, digests_value}
+use Rattle.event_body.specs.declared.key_set.KeySet.{KeySet}
 use Rattle.event_body.specs.declared.event.Event.{Event}
+use Rattle.event_body.specs.declared.event.Event.TheVariants.{Icp, Dip}
+use Rattle.event_body.specs.declared.body_fault.BodyFault.TheVariants.{Threshold}
 use Rattle.event_body.specs.declared.body_fault.ReadBody.{ReadBody}
 use Rattle.event_body.specs.declared.body_fault.ReadBody.TheVariants.{Fault, OutOfMemory}
 
--- so many fields of the map stand at the front, and the next one doesn't stand behind them
-abbrev pub Ends : ℕ → List Field → List ℕ → Type 0
-Ends zero map bytes = ¬ Begins 1 map bytes
-Ends (suc n) [] bytes = ⊥
-Ends (suc n) (field ∷ map) bytes = (text rest : List ℕ) × IsField field text × (bytes ≡ text ++ rest) × Ends n map rest
+-- the thresholds aren't as this says, or there was no memory
+abbrev pub IsThresholdFault : Type 0 → ReadBody → Type 0
+IsThresholdFault Rule (Fault Threshold) = ¬ Rule
+IsThresholdFault Rule (Fault _) = ⊥
+IsThresholdFault Rule OutOfMemory = Unit {0}
 
--- the same, where so many fields stand before those of the map and are counted too
-abbrev pub EndsFrom : ℕ → ℕ → List Field → List ℕ → Type 0
-EndsFrom zero n map bytes = Ends n map bytes
-EndsFrom (suc first) zero map bytes = ⊥
-EndsFrom (suc first) (suc n) map bytes = EndsFrom first n map bytes
+-- the values are the parts of a set of keys, with thresholds that are read for so many
+pub record SpellsKeySet (set : KeySet) (kt keys nt next : Tree) : Type 0 where
+  pub kt_is : Spells set.kt kt
+  pub kt_read : IsReadFor set.kt (length set.keys)
+  pub keys_are : keys ≡ keys_value set.keys
+  pub keys_held : AllByRecursion IsKey set.keys
+  pub nt_is : Spells set.nt nt
+  pub nt_read : IsReadFor set.nt (length set.next)
+  pub next_are : next ≡ digests_value set.next
+  pub next_held : AllByRecursion IsDigest set.next
 
--- behind the version string, with the size of the bytes, and the kind stands this rest
-pub record HasHead (k : Kind) (bytes rest : List ℕ) : Type 0 where
-  pub size : List ℕ
-  pub sized : IsSize size
-  pub text : bytes ≡ version_text size ++ (member_text (codes "t") (kind_name k) ++ rest)
-  pub size_is : hex_value size ≡ length bytes
-  pub few : length bytes ≤ 65535
+-- the prefix is a digest
+abbrev pub is_said : Prefix → Bool
+is_said (Basic key) = false
+is_said (Said digest) = true
 
--- what stands in the further fields of a receipt
-pub record HasRest (rest : List ℕ) (said : Digest) (prefix : Prefix) (number : List ℕ) : Type 0 where
-  pub said_held : IsDigest said
-  pub prefix_held : IsPrefix prefix
-  pub numbered : IsHexNumber number
-  pub text : rest ≡ member_text (codes "d") (digest_text said) ++ (member_text (codes "i") (prefix_text prefix) ++ (member_text (codes "s") number ++ codes "}"))
+-- a placeholder stands for the prefix too when the digest is computed
+abbrev pub hides_prefix : Event → Bool
+hides_prefix (Icp e) = is_said e.prefix
+hides_prefix (Dip e) = is_said e.prefix
+hides_prefix _ = false
 
--- how a body of the kind of this event is judged
-abbrev pub JudgesAs : {E : Type 0} → (E → Event) → List ℕ → Result E ReadBody → Type 0
-JudgesAs event bytes (Ok e) = SpellsEvent (event e) bytes
-JudgesAs event bytes (Err (Fault fault)) = IsFirstFault bytes fault
-JudgesAs event bytes (Err OutOfMemory) = Unit {0}
+-- where placeholders stand when the digest is computed
+abbrev pub places_of : Event → List ℕ
+places_of event = if hides_prefix event then 40 ∷ 91 ∷ [] else 40 ∷ []

@@ -1,4 +1,8 @@
 //! Why a body is refused.
+ghost use Rattle.std.specs.Prelude.{◌≡◌};
+ghost use Rattle.event_body.specs.declared.body_fault.ReadBody.TheVariants.{OutOfMemory};
+
+use std::alloc::AllocError;
 
 /// A rule that a body fails.
 #[derive(Clone, Copy, PartialEq, Eq, Debug)]
@@ -30,4 +34,12 @@ pub enum ReadBody {
     Fault(BodyFault),
     /// There was no memory. The body may be good.
     OutOfMemory,
+}
+
+impl From<AllocError> for ReadBody {
+    ghost from_gives = { λ _ fault. fault ≡ OutOfMemory };
+
+    fn from(_: AllocError) -> ReadBody {
+        ReadBody::OutOfMemory
+    }
 }

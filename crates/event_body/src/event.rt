@@ -78,6 +78,13 @@ pub fn is_establishment(event: &Event) -> bool
     }
 }
 
+/// Whether it is a receipt, and so no event of a log.
+pub fn is_receipt(event: &Event) -> bool
+    ensures { result ≡ events.is_receipt event.now }
+{
+    matches!(event, Event::Rct(_))
+}
+
 impl CopyValue for Event {
     fn copy(&self, alloc: Global) -> Result<Event, AllocError> {
         match self {

@@ -3,24 +3,30 @@
 
 mod body_fault;
 mod event;
-mod field;
+mod event_of;
+mod field_values;
 mod inception;
-mod inception_parts;
+mod inception_of;
 mod interaction;
+mod key_set;
 mod laws;
+mod numbers;
+mod prefix_rule;
 mod reading;
 mod receipt_body;
-mod receipt_parts;
 mod rotation;
+mod rotation_of;
+mod said_rule;
 #[cfg(test)]
 mod tests;
-mod value;
+mod value_rules;
+mod witness_rule;
 
 pub use body_fault::{BodyFault, ReadBody};
-pub use event::{Event, is_establishment, kind_of, prefix_of, said_of_event, sn_of};
+pub use event::{Event, is_establishment, is_receipt, kind_of, prefix_of, said_of_event, sn_of};
 pub use inception::Inception;
 pub use interaction::Interaction;
-pub use laws::one_event;
+pub use laws::{kept, one_event};
 pub use reading::read_body;
 pub use receipt_body::ReceiptBody;
 pub use rotation::Rotation;

@@ -1,29 +1,21 @@
 //! Reading a whole body.
-ghost use Rattle.std.specs.Prelude.{◌≡◌, ◌⊎◌, ◌↔◌, ◌≤◌, List, ℕ, Ok, Err, IfOk, IsTrue, length};
-ghost use Rattle.event_body.specs.FieldMaps.{inception, receipt};
-ghost use Rattle.event_body.specs.Inception.{one_key_inception};
-ghost use Rattle.event_body.specs.Judging.{Judges, SpellsEvent};
-ghost use Rattle.event_body.specs.Reading.{HasHead, JudgesAs};
+ghost use Rattle.std.specs.Prelude.{◌≡◌, ◌⊎◌, ◌≤◌, Ok, Err, IfNone, IfSome, length};
+ghost use Rattle.body_fields.specs.Bodies.{IsBody};
+ghost use Rattle.event_body.specs.Judging.{HasEvent, IsFirstFault, Judges, SpellsEvent};
 ghost use Rattle.event_body.specs.declared.body_fault.ReadBody.TheVariants.{OutOfMemory};
 ghost use Rattle.event_body.specs.declared.event.Event.{Event};
-ghost use Rattle.event_body.specs.declared.event.Event.TheVariants.{Icp, Rct};
 
-use crate::field::{literal, version};
-use crate::inception_parts::{InceptionParts, inception_parts};
-use crate::receipt_parts::receipt_parts;
-use crate::{BodyFault, Event, Inception, ReadBody, ReceiptBody};
-use cesr_codes::{Digest, Prefix};
-use hex_numbers::hex_value;
-use lists::Items;
-use said_digest::holds;
-use sith::Threshold;
-use std::alloc::{AllocError, Global};
+use crate::event_of::event_of;
+use crate::prefix_rule::has_prefix;
+use crate::said_rule::has_said;
+use crate::value_rules::{are_few, are_short};
+use crate::witness_rule::are_witnesses;
+use crate::{BodyFault, Event, ReadBody};
+use body_fields::{Fields, NoFields, read_fields};
+use std::alloc::Global;
 
 /// A body has at most so many bytes.
 const LARGEST: usize = 65_535;
-
-/// Where the digest and the prefix stand, in a body of any kind.
-const DIGEST_PLACES: [u32; 2] = [40, 91];
 
 /// Reads a whole body.
 pub fn read_body(alloc: Global, bytes: &[u8]) -> Result<Event, ReadBody>
@@ -42,91 +34,60 @@ fn judge(alloc: Global, bytes: &[u8]) -> Result<Event, ReadBody>
     if bytes.len() > LARGEST {
         return Err(ReadBody::Fault(BodyFault::TooLarge));
     }
-    let Some((size, rest)) = version(bytes) else {
-        return Err(ReadBody::Fault(BodyFault::Field(0)));
-    };
-    if hex_value(size) != bytes.len() as u64 {
-        return Err(ReadBody::Fault(BodyFault::SizeField));
+    match read_fields(alloc, bytes) {
+        Ok(fields) => judge_fields(alloc, bytes, &fields),
+        Err(NoFields::OtherSize) => Err(ReadBody::Fault(BodyFault::SizeField)),
+        Err(NoFields::Ends(fields)) => Err(ReadBody::Fault(BodyFault::Field(fields))),
+        Err(NoFields::OutOfMemory) => Err(ReadBody::OutOfMemory),
     }
-    if let Some(rest) = literal(rest, b",\"t\":\"icp\"") {
-        return match read_inception(alloc, bytes, rest) {
-            Ok(event) => Ok(Event::Icp(event)),
-            Err(fault) => Err(fault),
-        };
-    }
-    if let Some(rest) = literal(rest, b",\"t\":\"rct\"") {
-        return match read_receipt(rest) {
-            Ok(receipt) => Ok(Event::Rct(receipt)),
-            Err(fault) => Err(fault),
-        };
-    }
-    Err(ReadBody::Fault(BodyFault::Field(1)))
 }
 
-// Reads a receipt, of which the rest stands behind the kind.
-fn read_receipt(rest: &[u8]) -> Result<ReceiptBody, ReadBody>
-    ensures { (bytes : List ℕ) → HasHead receipt bytes rest.now → JudgesAs Rct bytes result }
+// Judges a body with these fields.
+fn judge_fields(alloc: Global, bytes: &[u8], fields: &Fields) -> Result<Event, ReadBody>
+    requires small { length bytes.now ≤ 65535 }
+    requires body { IsBody fields.now.kind fields.now.values bytes.now }
+    ensures { Judges bytes.now result }
 {
-    let parts = match receipt_parts(rest) {
-        Ok(parts) => parts,
-        Err(fields) => return Err(ReadBody::Fault(BodyFault::Field(fields))),
-    };
-    if parts.number.len() > 16 {
+    let values = fields.values.as_slice();
+    if !are_few(fields.kind, values) {
+        return Err(ReadBody::Fault(BodyFault::TooMany));
+    }
+    if !are_short(fields.kind, values) {
         return Err(ReadBody::Fault(BodyFault::NumberTooLarge));
     }
-    Ok(ReceiptBody {
-        said: parts.said,
-        prefix: parts.prefix,
-        sn: hex_value(parts.number),
-    })
-}
-
-// Reads an inception, of which the rest stands behind the kind.
-fn read_inception(alloc: Global, bytes: &[u8], rest: &[u8]) -> Result<Inception, ReadBody>
-    requires { HasHead inception bytes.now rest.now }
-    ensures { JudgesAs Icp bytes.now result }
-{
-    let parts = match inception_parts(rest) {
-        Ok(parts) => parts,
-        Err(fields) => return Err(ReadBody::Fault(BodyFault::Field(fields))),
-    };
-    if !is_same(parts.prefix, parts.said) {
-        return Err(ReadBody::Fault(BodyFault::Prefix));
-    }
-    if !holds(bytes, &DIGEST_PLACES, &parts.said) {
-        return Err(ReadBody::Fault(BodyFault::Said));
-    }
-    match one_key_inception(alloc, parts) {
-        Ok(event) => Ok(event),
-        Err(_) => Err(ReadBody::OutOfMemory),
+    match event_of(alloc, fields.kind, values) {
+        Ok(event) => judge_event(event, bytes),
+        Err(fault) => Err(fault),
     }
 }
 
-fn is_same(one: Digest, other: Digest) -> bool
-    ensures { IsTrue result ↔ (one ≡ other) }
+// Judges a body of this event.
+fn judge_event(event: Event, bytes: &[u8]) -> Result<Event, ReadBody>
+    requires small { length bytes.now ≤ 65535 }
+    requires has { HasEvent event bytes.now }
+    ensures { Judges bytes.now result }
 {
-    one == other
+    match event_fault(&event, bytes) {
+        Some(fault) => Err(ReadBody::Fault(fault)),
+        None => Ok(event),
+    }
 }
 
-// The inception of an identifier that is named by its digest.
-fn one_key_inception(alloc: Global, parts: InceptionParts) -> Result<Inception, AllocError>
-    ensures { IfOk result (λ event. event ≡ one_key_inception parts.said parts.key parts.next) }
+// The first rule of events that it fails.
+fn event_fault(event: &Event, bytes: &[u8]) -> Option<BodyFault>
+    requires small { length bytes.now ≤ 65535 }
+    requires has { HasEvent event.now bytes.now }
+    ensures some { IfSome result (λ fault. IsFirstFault bytes.now fault) }
+    ensures none { IfNone result (SpellsEvent event.now bytes.now) }
 {
-    let mut keys = Items::new(alloc);
-    keys.push(parts.key)?;
-    let mut next = Items::new(alloc);
-    next.push(parts.next)?;
-    Ok(Inception {
-        said: parts.said,
-        prefix: Prefix::Said(parts.said),
-        kt: Threshold::Count(1),
-        keys,
-        nt: Threshold::Count(1),
-        next,
-        toad: 0,
-        list: Items::new(alloc),
-        traits: Items::new(alloc),
-        anchors: Items::new(alloc),
-        delegator: None,
-    })
+    if !are_witnesses(event) {
+        return Some(BodyFault::Witnesses);
+    }
+    if !has_prefix(event) {
+        return Some(BodyFault::Prefix);
+    }
+    if !has_said(event, bytes) {
+        return Some(BodyFault::Said);
+    }
+    None
 }

@@ -5,6 +5,7 @@ pub mod Distinct
 pub mod Readings
 pub mod StateSteps
 pub mod Rows
+pub mod Narrowed
 pub mod Premises
 pub mod Locality
 pub mod Inceptions

@@ -8,6 +8,7 @@ pub mod Questions
 pub mod Waiting
 pub mod Grown
 pub mod Conflicts
+pub mod Narrow
 pub mod Replies
 pub mod CoreCalls
 pub mod Journals

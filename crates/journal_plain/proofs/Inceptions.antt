@@ -6,6 +6,7 @@ use Rattle.event_body.specs.declared.event.Event.TheVariants.{Icp, Rot, Ixn, Dip
 use Rattle.event_body.specs.declared.inception.Inception.{Inception}
 use Rattle.event_body.specs.declared.receipt_body.ReceiptBody.{ReceiptBody}
 use Rattle.event_body.specs.Judging.{SpellsEvent}
+use Rattle.event_body.proofs.Keeping.{kept}
 use Rattle.sith.specs.Rules.{IsReadFor}
 use Rattle.sith.specs.Tests.{satisfied}
 use Rattle.key_state.specs.States.{State}
@@ -18,6 +19,7 @@ use Rattle.journal.specs.Seals.{anchored}
 use Rattle.journal.specs.History.{Told, claims_on}
 use Rattle.journal.specs.Readiness.{is_ready, is_local, is_backed, meets_own, signed, good_sigs, yes_to}
 use Rattle.journal.proofs.Inceptions.{inception}
+use Rattle.journal.proofs.Narrowed.{kinds}
 use Rattle.journal_plain.specs.Readings.{IsSpelled}
 use Rattle.journal_plain.specs.Scans.{good_indices}
 
@@ -27,16 +29,7 @@ of_inception b e h = λ i. record { bytes = b.bytes; event = h i }
 
 -- what is spelled is an inception or a receipt
 pub spelled_cases : (b : Body) → IsSpelled b → ((e : Inception) × (b.event ≡ Icp e)) ⊎ ((r : ReceiptBody) × (b.event ≡ Rct r))
-spelled_cases b spelled =
-    let P : Event → Type 0 = λ v. SpellsEvent v b.bytes in
-    elim b.event as (λ v. b.event ≡ v → ((e : Inception) × (b.event ≡ Icp e)) ⊎ ((r : ReceiptBody) × (b.event ≡ Rct r))) [
-      | Icp e ↦ (λ h. inl (e, h))
-      | Rot e ↦ (λ h. absurd (subst P h spelled))
-      | Ixn e ↦ (λ h. absurd (subst P h spelled))
-      | Dip e ↦ (λ h. absurd (subst P h spelled))
-      | Drt e ↦ (λ h. absurd (subst P h spelled))
-      | Rct r ↦ (λ h. inr (r, h))
-    ] refl
+spelled_cases b spelled = kinds b.event spelled.narrow
 
 module _ (mode : Mode) (told : List Told) (log : List Body) where
   module _ (bytes : List ℕ) (e : Inception) where
@@ -96,6 +89,5 @@ meets_own-inception told b e h =
 -- the keys of an inception are few, and its threshold is read for so many
 pub read_for : (b : Body) (e : Inception) → IsSpelled b → b.event ≡ Icp e → IsReadFor e.kt (length e.keys) × (length e.keys ≤ 64)
 read_for b e spelled h =
-    let s = subst (λ v. SpellsEvent v b.bytes) h spelled in
-    let P : Inception → Type 0 = λ e. IsReadFor e.kt (length e.keys) × (length e.keys ≤ 64) in
-    subst P (sym s.event_is) (((omega arith, inl (omega arith)), tt), omega arith)
+    let k = kept (Icp e) b.bytes (subst (λ v. SpellsEvent v b.bytes) h spelled.spelled) in
+    (k.0.ranges.kt_read, k.0.few_keys)

@@ -5,7 +5,7 @@ ghost use Rattle.journal_plain.specs.Readings.{IsSpelled, AreRead};
 use crate::{accepted, questions};
 use cesr_codes::{IndexedSig, Key, KeyCode, Sig};
 use event_body::read_body;
-use journal::{Body, Claim, Entry, Mode};
+use journal::{Body, Claim, Entry, Mode, narrow_fault};
 use lists::Items;
 use std::alloc::Global;
 use std::slice;
@@ -31,6 +31,9 @@ fn inception(alloc: Global) -> Option<Body>
     let Ok(event) = read_body(alloc, INCEPTION) else {
         return None;
     };
+    if narrow_fault(&event).is_some() {
+        return None;
+    }
     Some(Body {
         bytes: Items::from_vec(bytes),
         event,

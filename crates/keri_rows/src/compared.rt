@@ -1,6 +1,6 @@
 //! A core beside the plain program: of the same journal both accept the same and ask the same.
 //! The bodies' digests were made by Python's `hashlib`.
-ghost use Rattle.std.specs.Prelude.{All};
+ghost use Rattle.std.specs.Prelude.{All, IfOk, IfSome};
 ghost use Rattle.journal_plain.specs.Readings.{IsSpelled};
 
 use crate::messages::{held, message};
@@ -8,7 +8,7 @@ use crate::runs::INCEPTION;
 use cesr_codes::{Key, KeyCode, Sig};
 use cesr_stream::{Couple, Group, Message};
 use event_body::read_body;
-use journal::{Body, Mode, Noted, Question, Reply};
+use journal::{Body, Mode, Noted, Question, Reply, narrow_fault};
 use journal_plain::{accepted, questions};
 use json_tree::Text;
 use keri_outside::{Limits, Steps, VerdictRule, rehearse};
@@ -61,17 +61,30 @@ fn messages(alloc: Global) -> Result<Vec<Message>, Fail> {
     Ok(messages)
 }
 
-// Adds the body of a text, and answers whether it could be read.
+// The body of a text, where it can be read and is one that a core takes.
+fn read(alloc: Global, text: &Text) -> Result<Option<Body>, Fail>
+    ensures { IfOk result (λ body. IfSome body IsSpelled) }
+{
+    let bytes = text.copy(alloc)?;
+    let Ok(event) = read_body(alloc, bytes.as_slice()) else {
+        return Ok(None);
+    };
+    if narrow_fault(&event).is_some() {
+        return Ok(None);
+    }
+    Ok(Some(Body { bytes, event }))
+}
+
+// Adds the body of a text, and answers whether there is one.
 fn add_read(alloc: Global, text: &Text, bodies: &mut Vec<Body>) -> Result<bool, Fail>
     requires { All IsSpelled bodies.old.items }
     ensures { All IsSpelled bodies.new.items }
 {
-    let bytes = text.copy(alloc)?;
-    if let Ok(event) = read_body(alloc, text.as_slice()) {
-        bodies.push(Body { bytes, event })?;
-        return Ok(true);
-    }
-    Ok(false)
+    let Some(body) = read(alloc, text)? else {
+        return Ok(false);
+    };
+    bodies.push(body)?;
+    Ok(true)
 }
 
 // Whether the core stands as the plain program says of its journal.

@@ -1,3 +1,4 @@
+pub mod Same
 pub mod Kit
 pub mod Rows
 mod Spelled

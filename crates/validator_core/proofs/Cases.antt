@@ -19,7 +19,8 @@ use Rattle.journal.specs.Replies.{same_claim}
 use Rattle.journal.proofs.Accepting.{same_body-refl}
 use Rattle.journal.proofs.Distinct.{distinct-push_new, distinct-push_old, any-distinct}
 use Rattle.journal.proofs.Keeping.{list_all-distinct}
-use Rattle.journal.proofs.Same.{same_key_itself, same_sig_itself, same_claim_is, same_claim_itself, same_triple_is, same_triple_itself, any_turned, moves}
+use Rattle.key_state.proofs.Same.{same_key_itself, same_sig_itself}
+use Rattle.journal.proofs.Same.{same_claim_is, same_claim_itself, same_triple_is, same_triple_itself, any_turned, moves}
 use Rattle.body_cases.specs.declared.asked.Asked.{Asked}
 use Rattle.body_cases.specs.Cases.{Case, same_asked, with_claim, with_new, with_verdict}
 use Rattle.validator_core.specs.Tables.{came, raised_with, asked_as, IsAsked, IsCase}

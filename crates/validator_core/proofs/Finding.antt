@@ -13,7 +13,7 @@ use Rattle.key_state.specs.Same.{same_prefix}
 use Rattle.key_state.specs.States.{State}
 use Rattle.journal.proofs.One.{find-nothing, find-only}
 use Rattle.journal.proofs.Places.{slice_get_last, slice_get_before}
-use Rattle.journal.proofs.Same.{same_prefix_is, same_prefix_itself}
+use Rattle.key_state.proofs.Same.{same_prefix_is, same_prefix_itself}
 use Rattle.validator_core.specs.Indexes.{AreFound}
 use denote.Param as param
 

@@ -24,7 +24,7 @@ use Rattle.journal.specs.Replies.{all_claims, IsWithin}
 use Rattle.journal.proofs.StateSteps.{state-own, state-other}
 use Rattle.journal.proofs.Held.{told_push, chosen_push}
 use Rattle.journal.proofs.Places.{others_differ, set_here, set_there}
-use Rattle.journal.proofs.Same.{same_prefix_is}
+use Rattle.key_state.proofs.Same.{same_prefix_is}
 use Rattle.journal.proofs.Locality.{flat_map-push}
 use Rattle.body_cases.specs.Cases.{Case, with_verdict}
 use Rattle.validator_core.specs.Tables.{AreFlagged, Tables, held_by, number_of, raised_with, IsCase, IsSound, IsTally, AreStates, FitsTables, IsCore}

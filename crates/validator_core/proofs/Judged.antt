@@ -9,7 +9,9 @@ use Rattle.cesr_stream.specs.declared.group.Group.{Group}
 use Rattle.cesr_stream.specs.declared.message.Message.{Message}
 use Rattle.event_body.specs.declared.event.Event.{Event}
 use Rattle.event_body.specs.Events.{is_receipt}
+use Rattle.event_body.specs.declared.body_fault.BodyFault.{BodyFault}
 use Rattle.event_body.specs.Judging.{SpellsEvent}
+use Rattle.journal.specs.Narrow.{narrow_fault}
 use Rattle.journal.specs.declared.reply.Reply.{Reply}
 use Rattle.journal.specs.declared.reply.Reply.TheVariants.{Taken, Again, Refused, Full}
 use Rattle.journal.specs.Logs.{is_in, same_body}
@@ -74,12 +76,14 @@ module _ (t : Tables) (fits : IsCore t) (one : (one other : Event) (bytes : List
 
 -- a receipt that isn't refused has no claim of the controller
 pub receipt_claims : (m : Message) (e : Event) (reader : ℕ) → refusal m (Ok e) ≡ None → HasNoHeld (took reader (body_of m.body e) (claims_of m))
-receipt_claims m e reader none receipt = no_held_claims m.groups (wrong_group m.excess (is_receipt e) m.groups (refusal_is m e ∙ none) receipt)
+receipt_claims m e reader none receipt = no_held_claims m.groups (wrong_group m.excess (narrow_fault e) (is_receipt e) m.groups (refusal_is m e ∙ none) receipt)
   where
-    wrong_group : (excess receipt : Bool) (groups : List Group) → first_refusal excess receipt groups ≡ None → receipt ≡ true → list_any is_held_group groups ≡ false
-    wrong_group true receipt groups e r = cc
-    wrong_group false false groups e r = cc
-    wrong_group false true groups e r = elim (cases_Bool (list_any is_held_group groups)) [
+    wrong_group : (excess : Bool) (fault : Option BodyFault) (receipt : Bool) (groups : List Group) → first_refusal excess fault receipt groups ≡ None
+        → receipt ≡ true → list_any is_held_group groups ≡ false
+    wrong_group true fault receipt groups e r = cc
+    wrong_group false (Some fault) receipt groups e r = cc
+    wrong_group false None false groups e r = cc
+    wrong_group false None true groups e r = elim (cases_Bool (list_any is_held_group groups)) [
       | inr k ↦ k
       | inl k ↦ (let some = rw k at e in cc)
     ]

@@ -23,7 +23,7 @@ use Rattle.journal.proofs.Inceptions.{state_stays, no_state_before}
 use Rattle.journal.proofs.One.{settled_one}
 use Rattle.journal.proofs.StateSteps.{state-own}
 use Rattle.journal.proofs.Places.{all_at, one_body}
-use Rattle.journal.proofs.Same.{same_prefix_itself}
+use Rattle.key_state.proofs.Same.{same_prefix_itself}
 use Rattle.journal.proofs.Settling.{outside, ends_in}
 use Rattle.validator_core.specs.View.{IsHeld}
 use Rattle.validator_core.specs.Tables.{HasNoHeld, IsAsked, IsSound}

@@ -16,6 +16,7 @@ use Rattle.journal.specs.declared.question.Question.{Question}
 use Rattle.journal.specs.declared.reply.Reply.{Reply}
 use Rattle.journal.specs.declared.why.Why.{Why}
 use Rattle.journal.specs.Logs.{state}
+use Rattle.journal.specs.Narrow.{narrow_fault}
 use Rattle.journal.specs.History.{Told, Triple, taken, bodies}
 use Rattle.journal.specs.Accepted.{accepted}
 use Rattle.journal.specs.CoreCalls.{Takes}
@@ -45,9 +46,10 @@ accepted_by core = accepted core.mode [] (told_of core)
 abbrev pub open_of : CoreView → List Triple
 open_of core = questions core.mode [] (told_of core)
 
--- the event is spelled by the bytes, of which there are at most as many as a body may have
+-- the event is spelled by the bytes, of which there are at most as many as a body may have, and is one that a core takes
 pub record IsHeld (b : Body) : Type 0 where
   pub spelled : SpellsEvent b.event b.bytes
+  pub narrow : narrow_fault b.event ≡ None
   pub few : length b.bytes ≤ 65535
 
 -- Each body's event is spelled by its bytes. The bodies are those that came, in order of first coming. Each entry's

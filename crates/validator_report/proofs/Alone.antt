@@ -22,7 +22,8 @@ use Rattle.journal.specs.Logs.{is_of, live, live_with, same_body, state, stepped
 use Rattle.journal.proofs.Different.{Differ}
 use Rattle.journal.proofs.Accepting.{same_body-refl}
 use Rattle.journal.proofs.Keeping.{list_all-filter, accepted_grown}
-use Rattle.journal.proofs.Same.{same_prefix_is, same_prefix_itself, turned}
+use Rattle.key_state.proofs.Same.{same_prefix_is, same_prefix_itself}
+use Rattle.journal.proofs.Same.{turned}
 use Rattle.journal.proofs.Apart.{flat_map-All}
 use Rattle.journal.proofs.Premises.{nothing_grown}
 use Rattle.report_lines.specs.Lines.{accepted_text}

@@ -7,12 +7,10 @@ use Rattle.std.proofs.lemmas.List.{take_more}
 use Rattle.std.proofs.lemmas.List.Elements.{filter_map-append, filter_more}
 use Rattle.std.proofs.lemmas.Option.{slice_get-get_or, slice_get_cases}
 use Rattle.event_body.specs.Events.{is_inception, is_receipt}
-use Rattle.event_body.specs.Judging.{SpellsEvent}
-use Rattle.event_body.specs.declared.event.Event.{Event}
-use Rattle.event_body.specs.declared.event.Event.TheVariants.{Icp, Rot, Ixn, Dip, Drt, Rct}
 use Rattle.journal.specs.declared.body.Body.{Body}
 use Rattle.journal.specs.Journals.{chosen}
 use Rattle.journal.proofs.Distinct.{bodies_shorter}
+use Rattle.journal.proofs.Narrowed.{kinds}
 use Rattle.journal.proofs.Places.{all_at}
 use Rattle.validator_core.specs.View.{CoreView, IsHeld, Stands, told_of}
 use Rattle.validator_report.specs.Report.{reason_of}
@@ -55,15 +53,10 @@ abbrev pub is_plain : Body → Bool
 is_plain b = is_inception b.event || is_receipt b.event
 
 plain : (b : Body) → IsHeld b → is_plain b ≡ true
-plain b held = of b.event b.bytes held.spelled
-  where
-    of : (e : Event) (bytes : List ℕ) → SpellsEvent e bytes → (is_inception e || is_receipt e) ≡ true
-    of (Icp e) bytes h = refl
-    of (Rct e) bytes h = refl
-    of (Rot e) bytes h = absurd h
-    of (Ixn e) bytes h = absurd h
-    of (Dip e) bytes h = absurd h
-    of (Drt e) bytes h = absurd h
+plain b held = elim (kinds b.event held.narrow) [
+  | inl k ↦ ap (λ e. is_inception e || is_receipt e) k.1
+  | inr k ↦ ap (λ e. is_inception e || is_receipt e) k.1
+]
 
 -- the bodies of numbers are inceptions and receipts
 pub all_plain : (held : List Body) (numbers : List ℕ) → All IsHeld held → list_all is_plain (chosen held numbers) ≡ true

@@ -18,6 +18,9 @@ loop-claim-preserved c =
     (good-next (yes_to (told_by c.args.bodies.now c.args.entries.now)) (own_rules None (Icp c.args.event.now)) c.args.body.now
     c.deref-claim-items.result.now c.loop-claim.claim-index c.claim-item.result (omega arith) c.claim-item.is)
 
+pub overflow_cast-len : goal.overflow_cast-len
+overflow_cast-len c = omega (arith, c.len.ensures, (read_for c.args.body.now c.args.event.now c.requires.spelled c.requires.inception).1)
+
 pub satisfied-requires : goal.satisfied-requires
 satisfied-requires c = rw c.len.ensures (read_for c.args.body.now c.args.event.now c.requires.spelled c.requires.inception).0
 

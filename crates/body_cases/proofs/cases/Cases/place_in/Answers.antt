@@ -5,7 +5,7 @@ use Rattle.std.specs.Prelude.{Option}
 use Rattle.cesr_codes.specs.declared.key.Key.{Key}
 use Rattle.cesr_codes.specs.declared.sig.Sig.{Sig}
 use Rattle.key_state.specs.Same.{same_key, same_sig}
-use Rattle.journal.proofs.Same.{same_key_is, same_sig_is}
+use Rattle.key_state.proofs.Same.{same_key_is, same_sig_is}
 use Rattle.body_cases.specs.declared.asked.Asked.{Asked}
 use Rattle.body_cases.specs.declared.keys.SigKey.{SigKey}
 use Rattle.body_cases.specs.Cases.{is_sig}

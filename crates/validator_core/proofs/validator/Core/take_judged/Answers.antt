@@ -1,5 +1,6 @@
 use Rattle.std.proofs.Common.{◌≡◌, Some, sym, ◌∙◌}
 use Rattle.validator_core.specs.Tables.{body_of}
+use Rattle.validator_core.proofs.Groups.{taken_narrow}
 use Rattle.validator_core.proofs.Judged.{receipt_claims, takes_message, if_ok}
 use Rattle.validator_core.proofs.validator.Core.take_judged.Goals as goal
 
@@ -9,6 +10,13 @@ take_again-requires-clause-no_held c = λ b held. (
     let both : Some (body_of c.args.message.now.body c.args.event) ≡ Some b = sym found ∙ held in
     let is : body_of c.args.message.now.body c.args.event ≡ b = cc in
     rw (← is, c.in_ok-claims.ensures) (receipt_claims c.args.message.now c.args.event c.args.reader c.requires.judged.1))
+
+pub take_new-requires-clause-held : goal.take_new-requires-clause-held
+take_new-requires-clause-held c = record {
+  spelled = c.requires.judged.0.1;
+  narrow = taken_narrow c.args.message.now c.args.event c.requires.judged.1;
+  few = c.requires.judged.0.0;
+}
 
 pub take_new-requires-clause-no_held : goal.take_new-requires-clause-no_held
 take_new-requires-clause-no_held c = rw c.in_ok-claims.ensures (receipt_claims c.args.message.now c.args.event c.args.reader c.requires.judged.1)

@@ -1,0 +1,91 @@
+-- What is true of each event that a body spells.
+use Rattle.std.proofs.Common.{◌≡◌, ◌≢◌, ◌≤◌, ℕ, List, [], ◌∷◌, length, map, refl, ap, subst, Option, Some, None}
+use Rattle.std.specs.Prelude.{IsSome}
+use Rattle.std.proofs.lemmas.List.{length-map}
+use Rattle.cesr_codes.specs.declared.prefix.Prefix.{Prefix}
+use Rattle.json_tree.specs.declared.tree.Tree.{Tree}
+use Rattle.json_tree.specs.declared.tree.Tree.TheVariants.{Str, List as TreeList}
+use Rattle.body_fields.specs.declared.kind.Kind.TheVariants as kinds
+use Rattle.body_fields.specs.declared.field.Field.TheVariants.{Delegator}
+use Rattle.body_fields.specs.Bodies.{AreOfForms}
+use Rattle.body_fields.specs.Forms.{key_value, digest_value, keys_value, digests_value, strings_value}
+use Rattle.body_fields.specs.Maps.{inception_fields, delegated_inception_fields}
+use Rattle.event_body.specs.declared.event.Event.{Event}
+use Rattle.event_body.specs.declared.event.Event.TheVariants.{Icp, Rot, Ixn, Dip, Drt, Rct}
+use Rattle.event_body.specs.declared.inception.Inception.{Inception}
+use Rattle.event_body.specs.declared.rotation.Rotation.{Rotation}
+use Rattle.event_body.specs.Kept.{IsKept, IsKeptInception, IsKeptRotation}
+use Rattle.event_body.specs.Ranges.{IsInception, IsRotation}
+use Rattle.event_body.specs.Spelling.{delegator_values}
+use Rattle.event_body.specs.Rules.{HasFewMembers, AreFew, HasThresholds, HasWitnesses, ChangesWitnesses}
+use Rattle.event_body.specs.Judging.{SpellsEvent}
+
+-- a list of spellings has few members where the list of what they spell has
+few : {A : Type 0} (f : A → Tree) (xs : List A) → HasFewMembers (TreeList (map f xs)) → length xs ≤ 64
+few f xs members = subst (λ n. n ≤ 64) (length-map xs f) (members (map f xs) refl)
+
+no_delegator : (delegator : Option Prefix) → AreOfForms [] (delegator_values delegator) → delegator ≡ None
+no_delegator None forms = refl
+no_delegator (Some prefix) forms = absurd forms
+
+some_delegator : (delegator : Option Prefix) → AreOfForms (Delegator ∷ []) (delegator_values delegator) → IsSome delegator
+some_delegator None forms = absurd forms
+some_delegator (Some prefix) forms = refl
+
+kept_inception : (e : Inception) → IsInception e → keys_value e.keys ≢ TreeList [] → HasFewMembers (keys_value e.keys) → HasFewMembers (digests_value e.next)
+    → HasFewMembers (keys_value e.list) → HasFewMembers (strings_value e.traits) → HasWitnesses e → IsKeptInception e
+kept_inception e ranges some keys next list traits witnesses = record {
+  ranges = ranges;
+  some_keys = λ none. some (ap keys_value none);
+  few_keys = few key_value e.keys keys;
+  few_next = few digest_value e.next next;
+  few_witnesses = few key_value e.list list;
+  few_traits = few (λ text. Str text) e.traits traits;
+  witnesses = witnesses;
+}
+
+kept_rotation : (e : Rotation) → IsRotation e → keys_value e.keys ≢ TreeList [] → HasFewMembers (keys_value e.keys) → HasFewMembers (digests_value e.next)
+    → HasFewMembers (keys_value e.cuts) → HasFewMembers (keys_value e.adds) → ChangesWitnesses e → IsKeptRotation e
+kept_rotation e ranges some keys next cuts adds witnesses = record {
+  ranges = ranges;
+  some_keys = λ none. some (ap keys_value none);
+  few_keys = few key_value e.keys keys;
+  few_next = few digest_value e.next next;
+  few_cuts = few key_value e.cuts cuts;
+  few_adds = few key_value e.adds adds;
+  witnesses = witnesses;
+}
+
+pub kept : (event : Event) (bytes : List ℕ) → SpellsEvent event bytes → IsKept event
+kept (Icp e) bytes spells =
+    let p = spells.has.parts in
+    let lists = subst (AreFew kinds.Icp) p.are spells.has.few in
+    let from_keys = lists.1.1.1.1 in
+    let thresholds = subst (HasThresholds kinds.Icp) p.are spells.has.thresholds in
+    let forms = subst (AreOfForms inception_fields) p.are spells.has.body.of_forms in (
+      kept_inception e p.ranges thresholds.0 from_keys.0 from_keys.1.1.0 from_keys.1.1.1.1.0 from_keys.1.1.1.1.1.0 spells.witnesses,
+      no_delegator e.delegator forms.1.1.1.1.1.1.1.1.1.1.1,
+    )
+kept (Dip e) bytes spells =
+    let p = spells.has.parts in
+    let lists = subst (AreFew kinds.Dip) p.are spells.has.few in
+    let from_keys = lists.1.1.1.1 in
+    let thresholds = subst (HasThresholds kinds.Dip) p.are spells.has.thresholds in
+    let forms = subst (AreOfForms delegated_inception_fields) p.are spells.has.body.of_forms in (
+      kept_inception e p.ranges thresholds.0 from_keys.0 from_keys.1.1.0 from_keys.1.1.1.1.0 from_keys.1.1.1.1.1.0 spells.witnesses,
+      some_delegator e.delegator forms.1.1.1.1.1.1.1.1.1.1.1,
+    )
+kept (Rot e) bytes spells =
+    let p = spells.has.parts in
+    let lists = subst (AreFew kinds.Rot) p.are spells.has.few in
+    let from_keys = lists.1.1.1.1.1 in
+    let thresholds = subst (HasThresholds kinds.Rot) p.are spells.has.thresholds in
+    kept_rotation e p.ranges thresholds.0 from_keys.0 from_keys.1.1.0 from_keys.1.1.1.1.0 from_keys.1.1.1.1.1.0 spells.witnesses
+kept (Drt e) bytes spells =
+    let p = spells.has.parts in
+    let lists = subst (AreFew kinds.Drt) p.are spells.has.few in
+    let from_keys = lists.1.1.1.1.1 in
+    let thresholds = subst (HasThresholds kinds.Drt) p.are spells.has.thresholds in
+    kept_rotation e p.ranges thresholds.0 from_keys.0 from_keys.1.1.0 from_keys.1.1.1.1.0 from_keys.1.1.1.1.1.0 spells.witnesses
+kept (Ixn e) bytes spells = spells.has.parts.ranges
+kept (Rct e) bytes spells = spells.has.parts.ranges

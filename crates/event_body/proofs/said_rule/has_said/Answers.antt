@@ -1,0 +1,12 @@
+use Rattle.std.proofs.Common.{subst, sym, ◌∙◌}
+use Rattle.said_digest.specs.Replaced.{LieIn}
+use Rattle.event_body.proofs.Places.{places_lie_in, tests_said}
+use Rattle.event_body.proofs.said_rule.has_said.Goals as goal
+
+pub holds-requires : goal.holds-requires
+holds-requires c = subst (LieIn c.args.bytes.now) (sym c.places.ensures) (places_lie_in c.args.event.now c.args.bytes.now c.requires)
+
+pub returns : goal.returns
+returns c = λ has.
+    tests_said c.args.event.now c.args.bytes.now has c.said_of_event.result c.places.result.now c.holds.result (sym c.is_receipt.ensures ∙ c.if-is_receipt.false)
+    c.said_of_event.ensures c.places.ensures c.holds.ensures

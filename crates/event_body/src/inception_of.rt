@@ -1,0 +1,80 @@
+//! The inception that the values of a body are the parts of.
+ghost use Rattle.std.specs.Prelude.{◌≡◌, ◌∷◌, [], IfOk, IfErr, IfSome};
+ghost use Rattle.cesr_codes.specs.Spelling.{IsPrefix};
+ghost use Rattle.body_fields.specs.Bodies.{AreOfForms};
+ghost use Rattle.body_fields.specs.Maps.{delegated_inception_fields, inception_fields};
+ghost use Rattle.event_body.specs.Reading.{IsThresholdFault};
+ghost use Rattle.event_body.specs.Rules.{AreFew, AreShort, AreThresholds, HasFewDigits, HasFewMembers, HasThresholds};
+ghost use Rattle.event_body.specs.Spelling.{SpellsInception, delegator_values};
+
+use crate::field_values::{InceptionValues, inception_values};
+use crate::key_set::key_set;
+use crate::numbers::number;
+use crate::{Inception, ReadBody};
+use body_fields::{Kind, digest_in, fixed_keys_in, prefix_in, strings_in, values_in};
+use cesr_codes::Prefix;
+use json_tree::Tree;
+use std::alloc::Global;
+
+// The inception of these values.
+fn inception(
+    alloc: Global,
+    values: &InceptionValues<'_>,
+    delegator: Option<Prefix>,
+) -> Result<Inception, ReadBody>
+    requires forms { AreOfForms inception_fields (values.now.said.now ∷ values.now.prefix.now ∷ values.now.first.now ∷ values.now.kt.now ∷ values.now.keys.now
+        ∷ values.now.nt.now ∷ values.now.next.now ∷ values.now.toad.now ∷ values.now.list.now ∷ values.now.traits.now ∷ values.now.anchors.now ∷ []) }
+    requires few { HasFewMembers values.now.keys.now × HasFewMembers values.now.next.now }
+    requires short { HasFewDigits values.now.toad.now }
+    requires delegator { IfSome delegator IsPrefix }
+    ensures parts { IfOk result (λ e. SpellsInception e (values.now.said.now ∷ values.now.prefix.now ∷ values.now.first.now ∷ values.now.kt.now ∷ values.now.keys.now
+        ∷ values.now.nt.now ∷ values.now.next.now ∷ values.now.toad.now ∷ values.now.list.now ∷ values.now.traits.now ∷ values.now.anchors.now ∷ delegator_values delegator)) }
+    ensures thresholds { IfOk result (λ _. AreThresholds values.now.kt.now values.now.keys.now values.now.nt.now values.now.next.now) }
+    ensures fault { IfErr result (λ fault. IsThresholdFault (AreThresholds values.now.kt.now values.now.keys.now values.now.nt.now values.now.next.now) fault) }
+{
+    let set = key_set(alloc, values.kt, values.keys, values.nt, values.next)?;
+    let list = fixed_keys_in(alloc, values.list)?;
+    let traits = strings_in(alloc, values.traits)?;
+    let anchors = values_in(alloc, values.anchors)?;
+    Ok(Inception {
+        said: digest_in(values.said),
+        prefix: prefix_in(values.prefix),
+        kt: set.kt,
+        keys: set.keys,
+        nt: set.nt,
+        next: set.next,
+        toad: number(values.toad),
+        list,
+        traits,
+        anchors,
+        delegator,
+    })
+}
+
+/// The inception whose parts the values are.
+pub(crate) fn icp(alloc: Global, values: &[Tree]) -> Result<Inception, ReadBody>
+    requires forms { AreOfForms inception_fields values.now }
+    requires few { AreFew Kind.Icp values.now }
+    requires short { AreShort Kind.Icp values.now }
+    ensures parts { IfOk result (λ e. SpellsInception e values.now) }
+    ensures thresholds { IfOk result (λ _. HasThresholds Kind.Icp values.now) }
+    ensures fault { IfErr result (λ fault. IsThresholdFault (HasThresholds Kind.Icp values.now) fault) }
+{
+    inception(alloc, &inception_values(values), None)
+}
+
+/// The delegated inception whose parts the values are.
+pub(crate) fn dip(alloc: Global, values: &[Tree]) -> Result<Inception, ReadBody>
+    requires forms { AreOfForms delegated_inception_fields values.now }
+    requires few { AreFew Kind.Dip values.now }
+    requires short { AreShort Kind.Dip values.now }
+    ensures parts { IfOk result (λ e. SpellsInception e values.now) }
+    ensures thresholds { IfOk result (λ _. HasThresholds Kind.Dip values.now) }
+    ensures fault { IfErr result (λ fault. IsThresholdFault (HasThresholds Kind.Dip values.now) fault) }
+{
+    let parts = inception_values(values);
+    match parts.rest {
+        [delegator] => inception(alloc, &parts, Some(prefix_in(delegator))),
+        _ => unreachable!(),
+    }
+}

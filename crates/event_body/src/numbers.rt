@@ -1,0 +1,27 @@
+//! Numbers that the values of fields spell.
+ghost use Rattle.body_fields.specs.Forms.{IsOfForm};
+ghost use Rattle.event_body.specs.Rules.{HasFewDigits};
+ghost use Rattle.event_body.specs.Spelling.{SpellsNumber};
+
+use body_fields::{Form, number_in, numbers};
+use hex_numbers::hex_value;
+use json_tree::Tree;
+
+/// The number that the value spells.
+pub(crate) fn number(value: &Tree) -> u64
+    requires form { IsOfForm Form.Number value.now }
+    requires few { HasFewDigits value.now }
+    ensures { SpellsNumber result value.now }
+{
+    hex_value(number_in(value))
+}
+
+/// The number that the value spells, where that isn't 0.
+pub(crate) fn later_number(value: &Tree) -> u64
+    requires form { IsOfForm Form.Positive value.now }
+    requires few { HasFewDigits value.now }
+    ensures { SpellsNumber result value.now }
+{
+    numbers();
+    number(value)
+}

@@ -1,0 +1,58 @@
+//! The rotation that the values of a body are the parts of.
+ghost use Rattle.std.specs.Prelude.{◌≡◌, ◌∷◌, [], IfOk, IfErr};
+ghost use Rattle.body_fields.specs.Bodies.{AreOfForms};
+ghost use Rattle.body_fields.specs.Maps.{rotation_fields};
+ghost use Rattle.event_body.specs.Reading.{IsThresholdFault};
+ghost use Rattle.event_body.specs.Rules.{AreFew, AreShort, AreThresholds, HasFewDigits, HasFewMembers, HasThresholds};
+ghost use Rattle.event_body.specs.Spelling.{SpellsRotation};
+
+use crate::field_values::{RotationValues, rotation_values};
+use crate::key_set::key_set;
+use crate::numbers::{later_number, number};
+use crate::{ReadBody, Rotation};
+use body_fields::{Kind, digest_in, fixed_keys_in, prefix_in, values_in};
+use json_tree::Tree;
+use std::alloc::Global;
+
+// The rotation of these values.
+fn rotation(alloc: Global, values: &RotationValues<'_>) -> Result<Rotation, ReadBody>
+    requires forms { AreOfForms rotation_fields (values.now.said.now ∷ values.now.prefix.now ∷ values.now.sn.now ∷ values.now.prior.now ∷ values.now.kt.now
+        ∷ values.now.keys.now ∷ values.now.nt.now ∷ values.now.next.now ∷ values.now.toad.now ∷ values.now.cuts.now ∷ values.now.adds.now ∷ values.now.anchors.now ∷ []) }
+    requires few { HasFewMembers values.now.keys.now × HasFewMembers values.now.next.now }
+    requires short { HasFewDigits values.now.sn.now × HasFewDigits values.now.toad.now }
+    ensures parts { IfOk result (λ e. SpellsRotation e (values.now.said.now ∷ values.now.prefix.now ∷ values.now.sn.now ∷ values.now.prior.now ∷ values.now.kt.now
+        ∷ values.now.keys.now ∷ values.now.nt.now ∷ values.now.next.now ∷ values.now.toad.now ∷ values.now.cuts.now ∷ values.now.adds.now ∷ values.now.anchors.now ∷ [])) }
+    ensures thresholds { IfOk result (λ _. AreThresholds values.now.kt.now values.now.keys.now values.now.nt.now values.now.next.now) }
+    ensures fault { IfErr result (λ fault. IsThresholdFault (AreThresholds values.now.kt.now values.now.keys.now values.now.nt.now values.now.next.now) fault) }
+{
+    let set = key_set(alloc, values.kt, values.keys, values.nt, values.next)?;
+    let cuts = fixed_keys_in(alloc, values.cuts)?;
+    let adds = fixed_keys_in(alloc, values.adds)?;
+    let anchors = values_in(alloc, values.anchors)?;
+    Ok(Rotation {
+        said: digest_in(values.said),
+        prefix: prefix_in(values.prefix),
+        sn: later_number(values.sn),
+        prior: digest_in(values.prior),
+        kt: set.kt,
+        keys: set.keys,
+        nt: set.nt,
+        next: set.next,
+        toad: number(values.toad),
+        cuts,
+        adds,
+        anchors,
+    })
+}
+
+/// The rotation whose parts the values are, of either kind.
+pub(crate) fn rot(alloc: Global, values: &[Tree]) -> Result<Rotation, ReadBody>
+    requires forms { AreOfForms rotation_fields values.now }
+    requires few { AreFew Kind.Rot values.now }
+    requires short { AreShort Kind.Rot values.now }
+    ensures parts { IfOk result (λ e. SpellsRotation e values.now) }
+    ensures thresholds { IfOk result (λ _. HasThresholds Kind.Rot values.now) }
+    ensures fault { IfErr result (λ fault. IsThresholdFault (HasThresholds Kind.Rot values.now) fault) }
+{
+    rotation(alloc, &rotation_values(values))
+}
