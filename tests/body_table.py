@@ -35,7 +35,7 @@ PRIOR = spelling("I", key(9))
 FIRST = dict(s='"0"', kt='"1"', k=listed(key(1)), nt='"1"', n=listed(NEXT), bt='"0"', b="[]", c="[]", a="[]")
 LATER = dict(s='"1"', p='"%s"' % PRIOR, kt='"1"', k=listed(key(1)), nt='"1"', n=listed(NEXT), bt='"0"', br="[]", ba="[]",
              a="[]")
-W1, W2 = key(1, "B"), key(2, "B")
+WITNESS, OTHER_WITNESS = key(1, "B"), key(2, "B")
 
 
 def first(prefix=None, kind="icp", **changes):
@@ -50,9 +50,9 @@ def bodies():
     good = [
         first(),
         INCEPTION.replace(PLACEHOLDER, spelling("E", INCEPTION)),
-        first(key(1), kt='"1"', bt='"1"', b=listed(W1, W2), c='["EO"]', a='[{"i":"x"},1.50]'),
-        first(W1, k=listed(W1), nt='"0"', n="[]"),
-        later(s='"ffffffffffffffff"', kt='["1/2","1/2"]', k=listed(key(1), key(2)), bt='"7"', br=listed(W1), ba=listed(W2)),
+        first(key(1), kt='"1"', bt='"1"', b=listed(WITNESS, OTHER_WITNESS), c='["EO"]', a='[{"i":"x"},1.50]'),
+        first(WITNESS, k=listed(WITNESS), nt='"0"', n="[]"),
+        later(s='"ffffffffffffffff"', kt='["1/2","1/2"]', k=listed(key(1), key(2)), bt='"7"', br=listed(WITNESS), ba=listed(OTHER_WITNESS)),
         sealed("ixn", key(1), s='"1"', p='"%s"' % PRIOR, a="[]"),
         first(kind="dip", di='"%s"' % key(3)),
         later("drt"),
@@ -67,11 +67,11 @@ def bodies():
         first(kt='"2"'),
         first(kt='"0"', k="[]"),
         first(k=listed(key(1), key(2)), n=listed(NEXT), nt='"2"'),
-        first(bt='"1"', b=listed(W1, W1)),
-        first(b=listed(W1)),
-        later(br=listed(W1), ba=listed(W1)),
+        first(bt='"1"', b=listed(WITNESS, WITNESS)),
+        first(b=listed(WITNESS)),
+        later(br=listed(WITNESS), ba=listed(WITNESS)),
         first(key(2)),
-        first(W1, k=listed(W1)),
+        first(WITNESS, k=listed(WITNESS)),
         first(key(1), "dip", di='"%s"' % key(3)),
         first(key(1)).replace('"d":"I', '"d":"E'),
     ]
