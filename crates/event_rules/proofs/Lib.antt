@@ -1,0 +1,4 @@
+pub mod Below
+pub mod Searching
+pub mod Supporting
+pub mod Backing

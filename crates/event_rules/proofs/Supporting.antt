@@ -1,0 +1,112 @@
+-- The places of good signatures, one after the other.
+use Rattle.std.proofs.Common.{◌≡◌, ℕ, zero, suc, ◌+◌, ◌<◌, Bool, true, false, ◌&&◌, ◌||◌, ◌==◌, ◌≤◌, List, [], ◌∷◌, ◌++◌, refl, sym, ◌∙◌, ap, arith, inl, inr, map, cond, add-one, length, Option, Some, None}
+use Rattle.std.proofs.lemmas.List.{length-append}
+use Rattle.std.specs.Prelude.{filter}
+use Rattle.std.specs.List.{list_any}
+use Rattle.std.proofs.lemmas.Bool.{cases_Bool, cases_eq}
+use Rattle.std.proofs.Math.Bool.{and-false, and-true, or-false}
+use Rattle.std.proofs.lemmas.List.Folds.{list_any-append}
+use Rattle.std.proofs.lemmas.List.Elements.{filter-append}
+use Rattle.cesr_codes.specs.declared.indexed_sig.IndexedSig.{IndexedSig}
+use Rattle.cesr_codes.specs.declared.key.Key.{Key}
+use Rattle.cesr_codes.specs.declared.sig.Sig.{Sig}
+use Rattle.journal.specs.declared.claim.Claim.{Claim}
+use Rattle.journal.specs.declared.claim.Claim.TheVariants.{Held, Witness, Couple}
+use Rattle.key_state.proofs.Same.{number_itself, numbers}
+use Rattle.key_state.specs.Exposure.{Rules, exposed, numbers_below}
+use Rattle.key_state.specs.States.{State}
+use Rattle.event_body.specs.declared.event.Event.TheVariants.{Rot, Drt}
+use Rattle.event_body.specs.declared.rotation.Rotation.{Rotation}
+use Rattle.event_rules.specs.Places.{AreSameBelow, is_among}
+use Rattle.event_rules.specs.Support.{good, is_good, is_held_so, opens_by, opens_enough}
+
+-- a good signature passes a test where a claim is one that does
+module _ (says : Key → Sig → Bool) (rules : Rules) (test : IndexedSig → Bool) where
+  pub any_good : (claims : List Claim) → list_any (is_held_so says rules test) claims ≡ list_any test (good says rules claims)
+  unfolding good
+  any_good [] = refl
+  any_good (Held s ∷ claims) = elim (cases_Bool (is_good says rules (Held s))) [
+    | inl k ↦ (let ih = any_good claims in rw (k, ih) refl)
+    | inr k ↦ (let ih = any_good claims in rw (k, ih) refl)
+  ]
+  any_good (Witness s ∷ claims) = elim (cases_Bool (is_good says rules (Witness s))) [
+    | inl k ↦ (let ih = any_good claims in rw (k, ih) refl)
+    | inr k ↦ (let ih = any_good claims in rw (k, ih) refl)
+  ]
+  any_good (Couple key sig ∷ claims) = elim (cases_Bool (is_good says rules (Couple key sig))) [
+    | inl k ↦ (let ih = any_good claims in rw (k, ih) refl)
+    | inr k ↦ (let ih = any_good claims in rw (k, ih) refl)
+  ]
+
+-- an index is among those of signatures where one has it
+pub any_index : (sigs : List IndexedSig) (n : ℕ) → is_among (map (λ s. s.index) sigs) n ≡ list_any (λ s. s.index == n) sigs
+any_index [] n = refl
+any_index (s ∷ sigs) n = let ih = any_index sigs n in rw ih refl
+
+-- one more number
+step : (p : ℕ → Bool) (n : ℕ) → filter p (numbers_below (suc n)) ≡ filter p (numbers_below n) ++ cond (p n) (n ∷ []) []
+unfolding numbers_below
+step p n = rw filter-append refl
+
+pub filter_below : (p : ℕ → Bool) (n : ℕ) → filter p (numbers_below (n + 1)) ≡ filter p (numbers_below n) ++ cond (p n) (n ∷ []) []
+filter_below p n = ap (λ k. filter p (numbers_below k)) (add-one n) ∙ step p n
+
+pub none_below : numbers_below 0 ≡ []
+unfolding numbers_below
+none_below = refl
+
+differ : (m n : ℕ) → (m ≡ n → ⊥) → (m == n) ≡ false
+differ m n other = elim (cases_Bool (m == n)) [
+  | inl k ↦ absurd (other (numbers m n k))
+  | inr k ↦ k
+]
+
+among_push : (xs : List ℕ) (passes : Bool) (n m : ℕ) → is_among (xs ++ cond passes (n ∷ []) []) m ≡ (is_among xs m || (passes && (n == m)))
+among_push xs true n m = list_any-append (λ i. i == m) xs (n ∷ []) ∙ ap (λ t. is_among xs m || t) (or-false (n == m))
+among_push xs false n m = list_any-append (λ i. i == m) xs []
+
+-- none of the numbers below a bound is one from it on
+none_from : (p : ℕ → Bool) (bound n : ℕ) → bound ≤ n → is_among (filter p (numbers_below bound)) n ≡ false
+unfolding numbers_below
+none_from p zero n h = refl
+none_from p (suc bound) n h =
+    let more = step p bound in let ih = none_from p bound n (omega (arith, h)) in
+    let other : (bound == n) ≡ false = differ bound n (λ e. omega (arith, h, e)) in
+    ap (λ xs. is_among xs n) more ∙ among_push (filter p (numbers_below bound)) (p bound) bound n ∙ rw (ih, other) (and-false (p bound))
+
+-- a number below the bound is among those that pass a test exactly where it passes
+pub among_below : (p : ℕ → Bool) (bound n : ℕ) → n < bound → is_among (filter p (numbers_below bound)) n ≡ p n
+among_below p zero n h = absurd (omega (arith, h))
+among_below p (suc bound) n h = ap (λ xs. is_among xs n) (step p bound) ∙ among_push (filter p (numbers_below bound)) (p bound) bound n ∙ elim (cases_eq bound n) [
+  | inl same ↦ (let none = none_from p bound n (omega (arith, same)) in let itself : (bound == n) ≡ true = ap (λ k. bound == k) (sym same) ∙ number_itself bound in
+      rw (none, itself) (and-true (p bound) ∙ ap p same))
+  | inr other ↦ (let apart : (bound == n) ≡ false = differ bound n other in let ih = among_below p bound n (omega (arith, h, other)) in
+      rw (ih, apart) (ap (λ t. p n || t) (and-false (p bound)) ∙ or-false (p n)))
+]
+
+-- SAME: the places at which a good signature stands are the indices of the good signatures, below the bound
+pub places_are : (says : Key → Sig → Bool) (rules : Rules) (claims : List Claim) (bound : ℕ)
+    → AreSameBelow bound (filter (λ n. list_any (is_held_so says rules (λ s. s.index == n)) claims) (numbers_below bound)) (map (λ s. s.index) (good says rules claims))
+places_are says rules claims bound n h = among_below (λ n. list_any (is_held_so says rules (λ s. s.index == n)) claims) bound n h
+    ∙ any_good says rules (λ s. s.index == n) claims ∙ sym (any_index (good says rules claims) n)
+
+-- one more, where it passes, is at most one more
+pub push_few : (xs : List ℕ) (passes : Bool) (n bound : ℕ) → length xs ≤ bound → length (xs ++ cond passes (n ∷ []) []) ≤ bound + 1
+push_few xs true n bound h = omega (arith, h, length-append xs (n ∷ []))
+push_few xs false n bound h = omega (arith, h, length-append {A = ℕ} xs [])
+
+-- the places that pass, with one more number
+pub more_places : (p : ℕ → Bool) (n : ℕ) (places now : List ℕ) (passes : Bool) → places ≡ filter p (numbers_below n) → now ≡ places ++ cond passes (n ∷ []) [] → passes ≡ p n
+    → now ≡ filter p (numbers_below (n + 1))
+more_places p n places now passes before is test = is ∙ ap (λ t. places ++ cond t (n ∷ []) []) test ∙ ap (λ xs. xs ++ cond (p n) (n ∷ []) []) before ∙ sym (filter_below p n)
+
+-- what a rotation's signatures open
+pub rot_opens : (s : Option State) (e : Rotation) (sigs : List IndexedSig) → opens_enough s (Rot e) sigs ≡ opens_by s e.keys sigs
+unfolding exposed
+rot_opens None e sigs = refl
+rot_opens (Some s) e sigs = refl
+
+pub drt_opens : (s : Option State) (e : Rotation) (sigs : List IndexedSig) → opens_enough s (Drt e) sigs ≡ opens_by s e.keys sigs
+unfolding exposed
+drt_opens None e sigs = refl
+drt_opens (Some s) e sigs = refl

@@ -1,0 +1,54 @@
+//! Which event stands behind which.
+ghost use Rattle.std.specs.Prelude.{◌≡◌, ◌&&◌, ◌==◌, ◌+◌, Some};
+ghost use Rattle.std.specs.Option.{option_copied};
+ghost use Rattle.event_body.specs.Events as events;
+ghost use Rattle.journal.specs.Logs as logs;
+ghost use Rattle.key_state.specs.KeyStates.{are_same};
+ghost use Rattle.key_state.specs.Kept.{IsKept};
+ghost use Rattle.key_state.specs.Same.{same_prefix};
+
+use cesr_codes::Digest;
+use event_body::{Event, prefix_of, said_of_event, sn_of};
+use key_state::KeyState;
+
+/// Whether the event may come next: an inception where there is no state, else an event that follows the state. It takes
+/// no memory.
+pub fn takes(state: Option<&KeyState>, event: &Event) -> bool
+    requires { IsKept event.now }
+    ensures { result ≡ logs.takes (option_copied state.entry) event.now }
+{
+    match state {
+        Some(state) => state.misfit(event).is_none(),
+        None => is_inception(event),
+    }
+}
+
+/// Whether it is the first event of an identifier.
+pub fn is_inception(event: &Event) -> bool
+    ensures { result ≡ events.is_inception event.now }
+{
+    matches!(event, Event::Icp(_) | Event::Dip(_))
+}
+
+/// The digest of the event before it, where it names one.
+pub fn prior_of(event: &Event) -> Option<Digest>
+    ensures { result ≡ events.prior_of event.now }
+{
+    match event {
+        Event::Rot(event) | Event::Drt(event) => Some(event.prior),
+        Event::Ixn(event) => Some(event.prior),
+        Event::Icp(_) | Event::Dip(_) | Event::Rct(_) => None,
+    }
+}
+
+/// Whether the event is behind an earlier one of its identifier: at the next number, with its digest.
+pub fn precedes(event: &Event, earlier: &Event) -> bool
+    requires { IsKept earlier.now }
+    ensures { result ≡ (same_prefix (events.prefix_of earlier.now) (events.prefix_of event.now)
+        && (events.sn_of earlier.now + 1 == events.sn_of event.now)
+        && are_same (events.prior_of event.now) (Some (events.said_of earlier.now))) }
+{
+    prefix_of(earlier) == prefix_of(event)
+        && sn_of(earlier).checked_add(1) == Some(sn_of(event))
+        && prior_of(event) == Some(said_of_event(earlier))
+}

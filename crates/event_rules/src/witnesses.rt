@@ -1,0 +1,158 @@
+//! The witnesses of an event, and how many of them must agree.
+ghost use Rattle.std.specs.Prelude.{◌≡◌, ◌≤◌, filter, length, not, slice_get, take};
+ghost use Rattle.std.specs.Option.{option_copied};
+ghost use Rattle.event_rules.specs.Support.{has_this};
+ghost use Rattle.key_state.specs.Exposure.{own_rules, rules_of};
+ghost use Rattle.key_state.specs.KeyStates.{changed_list};
+ghost use Rattle.key_state.specs.Same as same;
+
+use cesr_codes::Key;
+use event_body::{Event, Rotation};
+use key_state::KeyState;
+
+/// How many witnesses must have signed a receipt for the event: for an interaction, as the state before it says.
+pub fn toad_of(state: Option<&KeyState>, event: &Event) -> u64
+    ensures { result ≡ (own_rules (option_copied state.entry) event.now).toad }
+{
+    match event {
+        Event::Icp(event) | Event::Dip(event) => event.toad,
+        Event::Rot(event) | Event::Drt(event) => event.toad,
+        Event::Ixn(_) | Event::Rct(_) => match state {
+            Some(state) => state.toad,
+            None => 0,
+        },
+    }
+}
+
+/// The witness of a number in the event's own list. It takes no memory.
+pub fn witness(state: Option<&KeyState>, event: &Event, number: usize) -> Option<Key>
+    ensures { result ≡ slice_get (own_rules (option_copied state.entry) event.now).witnesses number }
+{
+    match event {
+        Event::Icp(event) | Event::Dip(event) => event.list.as_slice().get(number).copied(),
+        Event::Rot(event) | Event::Drt(event) => changed_witness(listed(state), event, number),
+        Event::Ixn(_) | Event::Rct(_) => listed(state).get(number).copied(),
+    }
+}
+
+/// How many witnesses the event's own list has. It takes no memory.
+pub fn witness_count(state: Option<&KeyState>, event: &Event) -> usize
+    ensures { result ≡ length (own_rules (option_copied state.entry) event.now).witnesses }
+{
+    match event {
+        Event::Icp(event) | Event::Dip(event) => event.list.len(),
+        Event::Rot(event) | Event::Drt(event) => changed_count(listed(state), event),
+        Event::Ixn(_) | Event::Rct(_) => listed(state).len(),
+    }
+}
+
+/// Whether the key is in the event's own list. It takes no memory.
+pub fn has_witness(state: Option<&KeyState>, event: &Event, key: &Key) -> bool
+    ensures { result ≡ same.has_key (own_rules (option_copied state.entry) event.now).witnesses key.now }
+{
+    match event {
+        Event::Icp(event) | Event::Dip(event) => has_key(event.list.as_slice(), key),
+        Event::Rot(event) | Event::Drt(event) => is_changed_witness(listed(state), event, key),
+        Event::Ixn(_) | Event::Rct(_) => has_key(listed(state), key),
+    }
+}
+
+/// Whether the key is among the first witnesses of the event's own list, so many of them. It takes no memory.
+pub(crate) fn is_earlier(state: Option<&KeyState>, event: &Event, count: usize, key: &Key) -> bool
+    requires { count ≤ length (own_rules (option_copied state) event.now).witnesses }
+    ensures { result ≡ same.has_key (take count (own_rules (option_copied state.entry) event.now).witnesses) key.now }
+{
+    for number in 0..count {
+        if is_witness(state, event, number, key) {
+            return true;
+        }
+    }
+    false
+}
+
+// Whether the witness of a number has the key.
+fn is_witness(state: Option<&KeyState>, event: &Event, number: usize, key: &Key) -> bool
+    ensures { result ≡ has_this (slice_get (own_rules (option_copied state.entry) event.now).witnesses number) key.now }
+{
+    match witness(state, event, number) {
+        Some(held) => held == *key,
+        None => false,
+    }
+}
+
+// The witnesses of a state, where there is one.
+fn listed(state: Option<&KeyState>) -> &[Key]
+    ensures { result.now ≡ (rules_of (option_copied state.entry)).witnesses }
+{
+    match state {
+        Some(state) => state.list.as_slice(),
+        None => &[],
+    }
+}
+
+// The member of a number of the list without the cuts, with the adds behind it.
+fn changed_witness(old: &[Key], event: &Rotation, number: usize) -> Option<Key>
+    ensures { result ≡ slice_get (changed_list old.now event.now) number }
+{
+    let cuts = event.cuts.as_slice();
+    match left_witness(old, cuts, number) {
+        Some(key) => Some(key),
+        None => event
+            .adds
+            .as_slice()
+            .get(number - left_count(old, cuts))
+            .copied(),
+    }
+}
+
+// The member of a number of the list without the cuts.
+fn left_witness(old: &[Key], cuts: &[Key], number: usize) -> Option<Key>
+    ensures { result ≡ slice_get (filter (λ k. not (same.has_key cuts.now k)) old.now) number }
+{
+    let mut left = number;
+    for place in 0..old.len() {
+        let key = old[place];
+        if !has_key(cuts, &key) {
+            if left == 0 {
+                return Some(key);
+            }
+            left -= 1;
+        }
+    }
+    None
+}
+
+// How many members aren't cut.
+fn left_count(old: &[Key], cuts: &[Key]) -> usize
+    ensures { result ≡ length (filter (λ k. not (same.has_key cuts.now k)) old.now) }
+{
+    old.iter().filter(|key| !has_key(cuts, key)).count()
+}
+
+// How many members that list has.
+fn changed_count(old: &[Key], event: &Rotation) -> usize
+    ensures { result ≡ length (changed_list old.now event.now) }
+{
+    let cuts = event.cuts.as_slice();
+    old.iter()
+        .filter(|key| !has_key(cuts, key))
+        .chain(event.adds.as_slice().iter())
+        .count()
+}
+
+// Whether the key is in that list.
+fn is_changed_witness(old: &[Key], event: &Rotation, key: &Key) -> bool
+    ensures { result ≡ same.has_key (changed_list old.now event.now) key.now }
+{
+    let cuts = event.cuts.as_slice();
+    old.iter()
+        .filter(|key| !has_key(cuts, key))
+        .chain(event.adds.as_slice().iter())
+        .any(|held| held == key)
+}
+
+fn has_key(keys: &[Key], key: &Key) -> bool
+    ensures { result ≡ same.has_key keys.now key.now }
+{
+    keys.iter().any(|held| held == key)
+}

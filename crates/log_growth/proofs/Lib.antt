@@ -1,0 +1,4 @@
+pub mod Finding
+pub mod Predecessors
+pub mod Standing
+pub mod Alike

@@ -1,0 +1,11 @@
+pub mod Members
+pub mod Counting
+pub mod Agreeing
+pub mod Inside
+pub mod Backers
+pub mod StateNames
+pub mod Chains
+pub mod Adding
+pub mod Law
+pub mod Premises
+pub mod Bodies

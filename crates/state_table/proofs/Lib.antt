@@ -1,0 +1,4 @@
+pub mod Undoing
+pub mod Found
+pub mod Of
+pub mod Changes
