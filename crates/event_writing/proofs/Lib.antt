@@ -1,0 +1,11 @@
+mod Hex
+mod Pushes
+mod Plain
+mod Json
+mod Thresholds
+mod Same
+mod Whole
+mod Digested
+mod Spelled
+mod Parts
+mod OwnDigest

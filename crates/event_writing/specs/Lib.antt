@@ -1,0 +1,4 @@
+pub mod Values
+pub mod Held
+pub mod Texts
+pub mod Sealing

@@ -1,0 +1,9 @@
+//! A law of the definitions, for callers' proofs.
+ghost use Rattle.event_body.specs.declared.event.Event.{Event};
+ghost use Rattle.event_body.specs.Judging.{IsSpelled};
+ghost use Rattle.event_writing.specs.Held.{IsWritable};
+
+/// An event that a body spells can be written.
+pub fn writable()
+    ensures { (event : Event) → IsSpelled event → IsWritable event }
+{}
