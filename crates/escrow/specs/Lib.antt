@@ -1,0 +1,2 @@
+pub mod Escrow
+pub mod Numbers

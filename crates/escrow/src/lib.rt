@@ -1,0 +1,12 @@
+//! Escrow: events that wait to be accepted, by the numbers of their bodies.
+#![tactic(auto)]
+
+mod room;
+#[cfg(test)]
+mod tests;
+mod waiter;
+mod waiting;
+
+pub use room::Room;
+pub use waiter::Waiter;
+pub use waiting::Waiting;

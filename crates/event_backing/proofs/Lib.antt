@@ -1,0 +1,8 @@
+pub mod Hex
+pub mod Primitives
+pub mod Keys
+pub mod Adding
+pub mod BackersOf
+pub mod SealMembers
+pub mod Listing
+pub mod Held

@@ -1,0 +1,5 @@
+pub mod Backing
+pub mod Members
+pub mod EventSeals
+pub mod Listing
+pub mod Texts

@@ -1,0 +1,17 @@
+//! What backs an event: the witnesses that signed receipts of it, and the event seals that other events hold.
+#![tactic(auto)]
+
+mod backers;
+mod event_seal;
+mod holding;
+mod laws;
+mod seal_texts;
+mod spelled;
+#[cfg(test)]
+mod tests;
+mod witness;
+
+pub use backers::Backers;
+pub use event_seal::EventSeal;
+pub use holding::{anchors, seals};
+pub use laws::{added_members, backers_of_a_body, listed_are_held, sealed_by_parts};
