@@ -1,0 +1,10 @@
+pub mod Altered
+pub mod History
+pub mod Indexing
+pub mod Opening
+pub mod Outcomes
+pub mod Placing
+pub mod Raising
+pub mod Returning
+pub mod Searching
+pub mod Telling
