@@ -12,7 +12,7 @@ mod verdicts;
 mod witnesses;
 
 pub use delegation::{delegator_of, forbids_delegation, is_delegated};
-pub use order::{is_inception, precedes, prior_of, takes};
+pub use order::{is_behind, is_inception, prior_of, takes};
 pub use signing::{claimed_key, claimed_sig, meets_next, meets_own, opens, signing_keys};
 pub use support::{is_backed, is_signed, opens_enough};
 pub use verdicts::Verdicts;

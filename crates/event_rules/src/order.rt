@@ -41,8 +41,9 @@ pub fn prior_of(event: &Event) -> Option<Digest>
     }
 }
 
-/// Whether the event is behind an earlier one of its identifier: at the next number, with its digest.
-pub fn precedes(event: &Event, earlier: &Event) -> bool
+/// Whether the event stands right behind an earlier one of its identifier: it has the next number, and names that one's
+/// digest.
+pub fn is_behind(event: &Event, earlier: &Event) -> bool
     requires { IsKept earlier.now }
     ensures { result ≡ (same_prefix (events.prefix_of earlier.now) (events.prefix_of event.now)
         && (events.sn_of earlier.now + 1 == events.sn_of event.now)

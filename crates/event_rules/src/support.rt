@@ -106,7 +106,7 @@ fn good_sig<V: Verdicts>(
 }
 
 /// Whether the good signatures among the claims on a rotation open as many of the commitments of the state before it as
-/// its threshold asks; other events open nothing (KERI, pre-rotation). It takes no memory.
+/// its threshold asks; true of every other event, which opens nothing (KERI, pre-rotation). It takes no memory.
 #[tactic(auto, using(crate::proofs::Supporting::rot_opens, crate::proofs::Supporting::drt_opens))]
 pub fn opens_enough<V: Verdicts>(
     verdicts: &V,

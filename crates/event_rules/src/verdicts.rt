@@ -10,7 +10,7 @@ pub trait Verdicts {
     /// Whether a verifier said yes of a key's signature.
     ghost says: { Self → Key → Sig → Bool };
 
-    /// Whether a verifier said yes of some signature of a key.
+    /// Whether a key backs the event, which whoever gives the verdicts says.
     ghost backs: { Self → Key → Bool };
 
     fn says_yes(&self, key: &Key, sig: &Sig) -> bool

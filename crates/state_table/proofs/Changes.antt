@@ -7,7 +7,7 @@ use Rattle.cesr_codes.specs.declared.digest.Digest.{Digest}
 use Rattle.cesr_codes.specs.declared.prefix.Prefix.{Prefix}
 use Rattle.key_state.specs.Same.{same_prefix}
 use Rattle.key_state.specs.States.{State}
-use Rattle.state_table.specs.Histories.{StatesView, grown, is_log_of, shrunk, states_of, undo, undone, with_last, without_last}
+use Rattle.state_table.specs.Tables.{StatesView, grown, is_log_of, shrunk, states_of, undo, undone, with_last, without_last}
 use Rattle.state_table.specs.Indexes.{AreFound, IsPlace}
 use Rattle.state_table.specs.declared.change.Change.{Change}
 use Rattle.state_table.specs.declared.change.Change.TheVariants.{Began, Grew}

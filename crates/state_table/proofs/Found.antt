@@ -16,7 +16,7 @@ use Rattle.journal.proofs.Places.{slice_get_last, slice_get_before, set_here, se
 use Rattle.key_state.proofs.Same.{same_prefix_is, same_prefix_itself}
 use Rattle.key_state.specs.Same.{same_prefix}
 use Rattle.key_state.specs.States.{State}
-use Rattle.state_table.specs.Histories.{is_log_of, shrunk, undo, with_last, with_some, without_last}
+use Rattle.state_table.specs.Tables.{is_log_of, shrunk, undo, with_last, with_some, without_last}
 use Rattle.state_table.specs.Indexes.{AreFound, IsPlace}
 use Rattle.state_table.proofs.Undoing.{last-more, without-more}
 use Rattle.state_table.specs.declared.change.Change.{Change}

@@ -8,7 +8,7 @@ use Rattle.journal.proofs.Places.{set_here, set_there}
 use Rattle.key_state.proofs.Same.{same_prefix_is}
 use Rattle.key_state.specs.Same.{same_prefix}
 use Rattle.key_state.specs.States.{State}
-use Rattle.state_table.specs.Histories.{is_log_of, states_of}
+use Rattle.state_table.specs.Tables.{is_log_of, states_of}
 use Rattle.state_table.specs.Indexes.{AreFound, IsPlace}
 use Rattle.state_table.proofs.Found.{its_first, one_log}
 

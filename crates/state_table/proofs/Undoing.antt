@@ -4,7 +4,7 @@ use Rattle.std.specs.Prelude.{set, slice_get, take}
 use Rattle.std.proofs.lemmas.List.{length-append, length-set}
 use Rattle.journal.proofs.Places.{set_here}
 use Rattle.key_state.specs.States.{State}
-use Rattle.state_table.specs.Histories.{changed, undo, undone, with_last, with_some, without_last}
+use Rattle.state_table.specs.Tables.{changed, undo, undone, with_last, with_some, without_last}
 use Rattle.state_table.specs.declared.change.Change.{Change}
 
 -- the last change is taken back first

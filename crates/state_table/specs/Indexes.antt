@@ -2,7 +2,7 @@
 use Rattle.std.specs.Prelude.{◌≡◌, ℕ, true, List, ◌∷◌, slice_get, find, Option, Some}
 use Rattle.cesr_codes.specs.declared.prefix.Prefix.{Prefix}
 use Rattle.key_state.specs.States.{State}
-use Rattle.state_table.specs.Histories.{is_log_of}
+use Rattle.state_table.specs.Tables.{is_log_of}
 
 -- the states of each identifier are found at their place
 abbrev pub AreFound : List (List State) → (Prefix → Option ℕ) → Type 0

@@ -1,9 +1,9 @@
 //! Changes of the states. After an error nothing has changed.
-ghost use Rattle.std.specs.Prelude.{◌≡◌, ◌<◌, ◌+◌, ◌^◌, ◌++◌, ◌∷◌, [], false, find, None, if◌then◌else◌, IfSome, OnOk, OnErr};
+ghost use Rattle.std.specs.Prelude.{◌≡◌, ◌<◌, ◌+◌, ◌^◌, ◌++◌, ◌∷◌, [], find, None, if◌then◌else◌, IfSome, OnOk, OnErr};
 ghost use Rattle.key_state.specs.Heads.{head_sn};
 ghost use Rattle.key_state.specs.Same.{same_prefix};
 ghost use Rattle.state_table.specs.Indexes.{IsPlace};
-ghost use Rattle.state_table.specs.Histories.{grown, is_log_of, last_of, states_of, undo, with_last};
+ghost use Rattle.state_table.specs.Tables.{grown, is_log_of, last_of, states_of, undo, with_last};
 
 use crate::States;
 use crate::change::Change;
@@ -56,7 +56,7 @@ impl States {
         Ok(())
     }
 
-    /// Adds a further event to the current state of an identifier.
+    /// Adds a further event to the current state of an identifier; one without a state stays without.
     pub fn grow(&mut self, prefix: &Prefix, said: Digest) -> Result<(), AllocError>
         requires room { IfSome (last_of (states_of prefix.now self.old.logs)) (λ s. head_sn s + 1 < 2 ^ 64) }
         ensures ok { (p : Prefix) → OnOk result (states_of p self.new.logs ≡ (if same_prefix prefix.now p then with_last (grown said) (states_of p self.old.logs) else states_of p self.old.logs)) }
@@ -74,14 +74,14 @@ impl States {
 
     /// Makes the changes final. It takes no memory.
     pub fn commit(&mut self)
-        ensures { self.new ≡ record { logs = self.old.logs; before = self.old.logs; changing = false } }
+        ensures { self.new ≡ record { logs = self.old.logs; before = self.old.logs } }
     {
         self.changes.truncate(0);
     }
 
     /// Takes the changes back. It takes no memory.
     pub fn rollback(&mut self)
-        ensures { self.new ≡ record { logs = self.old.before; before = self.old.before; changing = false } }
+        ensures { self.new ≡ record { logs = self.old.before; before = self.old.before } }
     {
         while let Some(change) = self.changes.pop() {
             undo(&mut self.logs, change);

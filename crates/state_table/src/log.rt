@@ -1,7 +1,7 @@
 //! The states of an identifier.
 ghost use Rattle.std.specs.Prelude.{◌≡◌, ◌<◌, ◌+◌, ◌^◌, OnOk, OnErr};
 ghost use Rattle.key_state.specs.Heads.{head_sn};
-ghost use Rattle.state_table.specs.Histories.{grown, shrunk};
+ghost use Rattle.state_table.specs.Tables.{grown, shrunk};
 
 use cesr_codes::Digest;
 use key_state::KeyState;
@@ -27,7 +27,7 @@ impl Log {
     ghost use Rattle.std.specs.Prelude.{◌≡◌, ◌<◌, ◌≤◌, ◌+◌, ◌^◌, ◌++◌, ◌∷◌, [], length, slice_get, IfSome, OnOk, OnErr};
     ghost use Rattle.std.specs.Option.{option_map};
     ghost use Rattle.key_state.specs.Heads.{head_sn};
-    ghost use Rattle.state_table.specs.Histories.{grown, last_of, shrunk, with_last, without_last};
+    ghost use Rattle.state_table.specs.Tables.{grown, last_of, shrunk, with_last, without_last};
 
     /// No states.
     pub(crate) fn new(alloc: Global) -> Log

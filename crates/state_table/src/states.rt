@@ -1,7 +1,7 @@
 //! The states of all identifiers.
-ghost use Rattle.std.specs.Prelude.{◌≡◌, false, None, [], find, length, slice_get, IfNone, IfSome};
+ghost use Rattle.std.specs.Prelude.{◌≡◌, None, [], find, length, slice_get, IfNone, IfSome};
 ghost use Rattle.std.specs.Option.{option_map};
-ghost use Rattle.state_table.specs.Histories.{is_log_of, last_of, states_of};
+ghost use Rattle.state_table.specs.Tables.{is_log_of, last_of, states_of};
 ghost use Rattle.state_table.specs.Indexes.{IsPlace};
 
 use crate::change::Change;
@@ -12,7 +12,8 @@ use std::alloc::Global;
 use std::collections::BTreeMap;
 use std::marker::Model;
 
-/// The states of identifiers: of each those after its establishment events, the last with the events since.
+/// The states of identifiers: of each those after its establishment events, each with the events since that came before the
+/// next.
 #[derive(Drop)]
 pub struct States {
     pub(crate) alloc: Global,
@@ -24,9 +25,8 @@ pub struct States {
 }
 
 impl Model for States {
-    ghost use Rattle.std.specs.Prelude.{not, ◌==◌, length};
     ghost use Rattle.std.specs.BTreeMap as tree;
-    ghost use Rattle.state_table.specs.Histories.{StatesView, undone};
+    ghost use Rattle.state_table.specs.Tables.{StatesView, undone};
     ghost use Rattle.state_table.specs.Indexes.{AreFound};
 
     ghost Value = { StatesView };
@@ -34,7 +34,6 @@ impl Model for States {
     ghost view = { λ s. record {
       logs = s.logs.items;
       before = undone s.changes.items s.logs.items;
-      changing = not (length s.changes.items == 0);
     } };
 
     ghost invariant = { λ s. AreFound s.logs.items (tree.get ⟦<Prefix as Ord>⟧.cmp s.places) };
@@ -43,7 +42,7 @@ impl Model for States {
 impl States {
     /// No states.
     pub fn new(alloc: Global) -> States
-        ensures { result ≡ record { logs = []; before = []; changing = false } }
+        ensures { result ≡ record { logs = []; before = [] } }
     {
         States {
             alloc,
@@ -62,13 +61,13 @@ impl States {
         log.get(log.len() - 1)
     }
 
-    /// The state after the establishment event of a number in the log of an identifier, with the events since. It takes no
-    /// memory.
-    pub fn get(&self, prefix: &Prefix, number: usize) -> Option<&KeyState>
-        ensures { option_map (λ s. s.now) result ≡ slice_get (states_of prefix.now self.now.logs) number }
+    /// The state after the establishment event at a place in the log of an identifier, with the events since that came before
+    /// the next. It takes no memory.
+    pub fn get(&self, prefix: &Prefix, at: usize) -> Option<&KeyState>
+        ensures { option_map (λ s. s.now) result ≡ slice_get (states_of prefix.now self.now.logs) at }
     {
         let place = self.place_of(prefix)?;
-        self.logs[place].get(number)
+        self.logs[place].get(at)
     }
 
     /// How many establishment events the log of an identifier has. It takes no memory.

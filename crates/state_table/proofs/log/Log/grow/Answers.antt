@@ -2,7 +2,7 @@ use Rattle.std.proofs.Common.{◌≡◌, ◌-◌, ◌<◌, ap, length, arith, re
 use Rattle.std.specs.Prelude.{set}
 use Rattle.std.proofs.lemmas.Option.{slice_get_read}
 use Rattle.key_state.specs.States.{State}
-use Rattle.state_table.specs.Histories.{shrunk, with_last}
+use Rattle.state_table.specs.Tables.{shrunk, with_last}
 use Rattle.state_table.proofs.Undoing.{last-back}
 use Rattle.state_table.proofs.log.Log.grow.Goals as goal
 

@@ -1,6 +1,6 @@
 use Rattle.std.proofs.Common.{◌≡◌, sym, ◌∙◌, ap, subst, ◌++◌, ◌∷◌, [], if◌then◌else◌}
 use Rattle.key_state.specs.Same.{same_prefix}
-use Rattle.state_table.specs.Histories.{states_of}
+use Rattle.state_table.specs.Tables.{states_of}
 use Rattle.state_table.specs.Indexes.{IsPlace}
 use Rattle.state_table.specs.declared.change.Change.TheVariants.{Began}
 use Rattle.state_table.proofs.Changes.{before_still, began_back, began_found, began_of, read_at}

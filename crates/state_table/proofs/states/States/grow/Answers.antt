@@ -1,6 +1,6 @@
 use Rattle.std.proofs.Common.{◌≡◌, sym, ◌∙◌, ap, subst, ◌++◌, ◌∷◌, [], if◌then◌else◌}
 use Rattle.key_state.specs.Same.{same_prefix}
-use Rattle.state_table.specs.Histories.{grown, shrunk, states_of, with_last}
+use Rattle.state_table.specs.Tables.{grown, shrunk, states_of, with_last}
 use Rattle.state_table.specs.Indexes.{IsPlace}
 use Rattle.state_table.specs.declared.change.Change.TheVariants.{Grew}
 use Rattle.state_table.proofs.Changes.{before_still, grew_back, grew_found, grew_of, read_at}

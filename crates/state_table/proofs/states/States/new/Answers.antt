@@ -1,5 +1,5 @@
 use Rattle.std.proofs.Common.{refl}
-use Rattle.state_table.specs.Histories.{undone}
+use Rattle.state_table.specs.Tables.{undone}
 use Rattle.state_table.proofs.states.States.new.Goals as goal
 
 pub returns : goal.returns

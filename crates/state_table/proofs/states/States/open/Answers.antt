@@ -1,7 +1,7 @@
 use Rattle.std.proofs.Common.{◌≡◌, ◌∙◌, ap, ◌++◌, ◌∷◌, [], length, None, if◌then◌else◌, rules}
 use Rattle.std.specs.Prelude.{find}
 use Rattle.key_state.specs.Same.{same_prefix}
-use Rattle.state_table.specs.Histories.{is_log_of, states_of, without_last}
+use Rattle.state_table.specs.Tables.{is_log_of, states_of, without_last}
 use Rattle.state_table.specs.declared.change.Change.TheVariants.{Opened}
 use Rattle.state_table.proofs.Changes.{before_still}
 use Rattle.state_table.proofs.Found.{found_more}

@@ -3,7 +3,7 @@ use Rattle.std.specs.Prelude.{slice_get, find}
 use Rattle.cesr_codes.specs.declared.prefix.Prefix.{Prefix}
 use Rattle.key_state.specs.Same.{same_prefix}
 use Rattle.key_state.specs.States.{State}
-use Rattle.state_table.specs.Histories.{is_log_of}
+use Rattle.state_table.specs.Tables.{is_log_of}
 use Rattle.state_table.specs.Indexes.{AreFound, IsPlace}
 use Rattle.state_table.proofs.Found.{alike, found_none, found_one, got_none, got_some}
 use Rattle.state_table.proofs.states.States.place_of.Goals as goal

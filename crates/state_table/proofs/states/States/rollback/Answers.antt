@@ -1,14 +1,14 @@
-use Rattle.std.proofs.Common.{◌≡◌, sym, ◌∙◌, ap, arith, length, false, List, ◌∷◌, [], rules}
+use Rattle.std.proofs.Common.{◌≡◌, sym, ◌∙◌, ap, arith, length, List, ◌∷◌, [], rules}
 use Rattle.std.proofs.lemmas.List.{length-append}
 use Rattle.key_state.specs.States.{State}
-use Rattle.state_table.specs.Histories.{StatesView, undone}
+use Rattle.state_table.specs.Tables.{StatesView, undone}
 use Rattle.state_table.proofs.Found.{found_undo}
 use Rattle.state_table.proofs.Undoing.{undone-none, undone-push}
 use Rattle.state_table.proofs.states.States.rollback.Goals as goal
 
 -- the states, for good
 final : List (List State) → StatesView
-final logs = record { logs = logs; before = logs; changing = false }
+final logs = record { logs = logs; before = logs }
 
 pub loop-change-init : goal.loop-change-init
 loop-change-init c = (ap (λ v. v.before) c.self.view_is, c.self.invariant)

@@ -1,6 +1,6 @@
 use Rattle.std.proofs.Common.{◌≡◌, length}
 use Rattle.std.specs.BTreeMap as tree
-use Rattle.state_table.specs.Histories.{undone}
+use Rattle.state_table.specs.Tables.{undone}
 use Rattle.state_table.specs.Indexes.{AreFound}
 use Rattle.state_table.proofs.Found.{prefix_cmp}
 use Rattle.state_table.proofs.states.States.rollback.Given as goal

@@ -1,5 +1,5 @@
--- The states of identifiers: for each the states after its establishment events, of which the last is the current one, with
--- the events since.
+-- The states of identifiers: for each the states after its establishment events, the last of them the current one. The
+-- events since each are those that came before the next.
 use Rattle.std.specs.Prelude.{ℕ, ◌-◌, Bool, false, nat_lt, List, [], ◌∷◌, ◌++◌, length, take, find, set, slice_get, Option, Some, None, if◌then◌else◌}
 use Rattle.cesr_codes.specs.declared.digest.Digest.{Digest}
 use Rattle.cesr_codes.specs.declared.prefix.Prefix.{Prefix}
@@ -8,11 +8,10 @@ use Rattle.key_state.specs.States.{State}
 use Rattle.state_table.specs.declared.change.Change.{Change}
 use Rattle.state_table.specs.declared.change.Change.TheVariants.{Opened, Began, Grew}
 
--- the states as they are, as they were when changes were last made final, and whether there are changes since
+-- the states as they are, and as they were when changes were last made final
 pub record StatesView : Type 0 where
   pub logs : List (List State)
   pub before : List (List State)
-  pub changing : Bool
 
 -- the states are the identifier's
 abbrev pub is_log_of : Prefix → List State → Bool
