@@ -1,0 +1,6 @@
+pub mod Differing
+mod Living
+mod Orders
+mod Grouping
+mod Numbers
+mod Steps

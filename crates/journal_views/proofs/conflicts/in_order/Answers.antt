@@ -1,0 +1,30 @@
+use Rattle.std.proofs.Common.{◌<◌, length, rules, is_lt, eqb, All}
+use Rattle.std.specs.List.Sorted.{IsSorted, IsPermutation}
+use Rattle.std.proofs.lemmas.Fn.{always_returns_same}
+use Rattle.std.proofs.lemmas.List.Filters.{dedup_is, All-dedup}
+use Rattle.std.proofs.lemmas.List.Kept.{IsStrictlySortedBy-dedup, Contains-dedup_nat, Contains-from_dedup}
+use Rattle.std.proofs.lemmas.List.Sorted.{ranks_by, All-permutation, Contains-permutation, IsPermutation-sym}
+use Rattle.journal_views.specs.Rankings.{number_cmp}
+use Rattle.journal_views.proofs.Orders.{number_total, number_ties}
+use Rattle.journal_views.proofs.Numbers.{chosen-rising, chosen-same}
+use Rattle.journal_views.proofs.conflicts.in_order.Goals as goal
+
+pub returns : goal.returns
+returns c =
+    let held = c.args.bodies.now in
+    let counted = c.args.counted.now in
+    let moved : IsPermutation counted c.sort_by.new.self.items = rw (← c.in_ok-numbers.ensures.items) c.in_ok-sort_by.ensures.permutation in
+    let sorted : IsSorted (number_cmp held) c.sort_by.new.self.items =
+    c.in_ok-sort_by.ensures.sorted (λ m n. is_lt (number_cmp held m n)) (ranks_by (number_total held) (λ n. n)) (always_returns_same _ _ _ (λ a r f k. search rules)) in
+    let is = dedup_is _ _ _ c.dedup.ensures.filtered in
+    let all : All (λ n. n < length held) c.dedup.new.self.items = rw is (All-dedup eqb (λ n. n < length held) _ (All-permutation (λ n. n < length held) _ _ moved c.requires.held)) in
+    record {
+      rising = chosen-rising held c.requires.differ c.dedup.new.self.items all (rw is (IsStrictlySortedBy-dedup (number_total held) (number_ties held) _ sorted));
+      same = λ b. (
+        chosen-same held c.dedup.new.self.items counted b all c.requires.held
+            (λ n h. Contains-permutation _ _ n (IsPermutation-sym _ _ moved) (Contains-from_dedup eqb _ n (rw is at h))),
+        chosen-same held counted c.dedup.new.self.items b c.requires.held all
+            (λ n h. rw is (Contains-dedup_nat _ n (Contains-permutation _ _ n moved h))),
+      );
+      held = all;
+    }

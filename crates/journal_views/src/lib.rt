@@ -1,0 +1,11 @@
+//! What a list of accepted bodies shows: the live events of an identifier, and the sets of conflicting bodies.
+#![tactic(auto)]
+
+mod conflicts;
+mod live_events;
+mod places;
+#[cfg(test)]
+mod tests;
+
+pub use conflicts::conflict_sets;
+pub use live_events::live;
