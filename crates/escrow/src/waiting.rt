@@ -52,7 +52,8 @@ impl Waiting {
         }
     }
 
-    /// Makes room for one event that names these, and for no other. After an error the room is as before.
+    /// Makes room for one event with the prior and the digest of this one, and for no other. After an error the room is as
+    /// before.
     pub fn reserve(&mut self, waiter: &Waiter) -> Result<(), AllocError>
         ensures ok { OnOk result (self.new ≡ record self.old { room = Some (room_for waiter.now) }) }
         ensures err { OnErr result (self.new ≡ self.old) }

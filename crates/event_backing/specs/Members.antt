@@ -1,4 +1,4 @@
--- What the witnesses of a list say of which back an event.
+-- How the list of witnesses that is kept is seen: the keys of all, and of those that were added.
 use Rattle.std.specs.Prelude.{false, List, filter, map}
 use Rattle.cesr_codes.specs.declared.key.Key.{Key}
 use Rattle.event_backing.specs.Backing.{Backing}
