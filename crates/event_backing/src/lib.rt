@@ -7,8 +7,6 @@ mod holding;
 mod laws;
 mod seal_texts;
 mod spelled;
-#[cfg(test)]
-mod tests;
 mod witness;
 
 pub use backers::Backers;

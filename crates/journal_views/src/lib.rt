@@ -4,8 +4,6 @@
 mod conflicts;
 mod live_events;
 mod places;
-#[cfg(test)]
-mod tests;
 
 pub use conflicts::conflict_sets;
 pub use live_events::live;

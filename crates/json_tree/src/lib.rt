@@ -7,8 +7,6 @@ mod laws;
 mod number;
 mod reading;
 mod string;
-#[cfg(test)]
-mod tests;
 mod tree;
 mod tree_fault;
 mod writing;

@@ -1,114 +1,134 @@
-//! Runs over an outside in memory.
+//! Runs of the program's commands over an outside in memory.
 
+use crate::row::Row;
 use keri_outside::{Limits, MemFile, MemHelper, MemOutside, MemSink, VerdictRule};
+use keri_roles::{Done, run};
 use lists::Items;
-use std::alloc::Global;
-use std::test::Fail;
+use std::alloc::{AllocError, Global};
+use std::fmt::Write;
 
-pub(crate) const RECEIPT: &str =
-    "{\"v\":\"KERI10JSON000091_\",\"t\":\"rct\",\"d\":\"EK8TSbn1-aGmoEBN6jbcyUmbyyXJrcESt8yak8rkHzJi\",\"i\":\"DAAAAAAAAAAAAAAAAAAAAAAAAAAAAAAAAAAAAAAAAAAA\",\"s\":\"0\"}";
-
-pub(crate) const INCEPTION: &str =
-    "{\"v\":\"KERI10JSON00012b_\",\"t\":\"icp\",\"d\":\"IBbsIK4OIV7l0tzgR6RRQcAGFz42J71lEhjGDv6OqgUS\",\"i\":\"IBbsIK4OIV7l0tzgR6RRQcAGFz42J71lEhjGDv6OqgUS\",\"s\":\"0\",\"kt\":\"1\",\"k\":[\"DAEBAQEBAQEBAQEBAQEBAQEBAQEBAQEBAQEBAQEBAQEB\"],\"nt\":\"1\",\"n\":[\"IIyLuuaIfauEWGcPsYNVKgjYta684Cy3Akbq1avGc8aH\"],\"bt\":\"0\",\"b\":[],\"c\":[],\"a\":[]}";
-
-pub(crate) const READ_FAULT: &str = "fault 0 read\n";
-
-/// A run on a file of these parts, what it writes, and its status.
-#[derive(Clone, Copy)]
-pub(crate) struct Case {
-    pub(crate) words: &'static [&'static str],
-    pub(crate) parts: &'static [&'static str],
-    pub(crate) piece: usize,
-    pub(crate) stream_bytes: u64,
-    pub(crate) messages: u32,
-    pub(crate) failing_reads: &'static [u64],
-    pub(crate) failing_makings: &'static [u64],
-    pub(crate) failing_asks: &'static [u64],
-    pub(crate) failing_puts: &'static [u64],
-    pub(crate) text: &'static [&'static str],
-    pub(crate) status: u8,
-}
-
-impl Case {
-    /// A run of these words on a file of these parts, in which nothing fails.
-    pub(crate) fn plain(
-        words: &'static [&'static str],
-        parts: &'static [&'static str],
-        text: &'static [&'static str],
-        status: u8,
-    ) -> Case {
-        Case {
-            words,
-            parts,
-            piece: 4_096,
-            stream_bytes: 4_294_967_296,
-            messages: 1_048_576,
-            failing_reads: &[],
-            failing_makings: &[],
-            failing_asks: &[],
-            failing_puts: &[],
-            text,
-            status,
+// Each option of a row is a word `NAME=NUMBER,NUMBER` behind the words and the text.
+fn option(alloc: Global, row: &Row, name: &str) -> Result<Option<Vec<u64>>, AllocError> {
+    for place in 3..row.len() {
+        if let Some((option, values)) = row.word(place).split_once('=') {
+            if option == name {
+                let mut numbers = Vec::new(alloc);
+                for value in values.split(',') {
+                    if let Ok(number) = value.parse::<u64>() {
+                        numbers.push(number)?;
+                    }
+                }
+                return Ok(Some(numbers));
+            }
         }
     }
+    Ok(None)
 }
 
-/// The parts, one after the other.
-pub(crate) fn joined(alloc: Global, parts: &[&str]) -> Result<Vec<u8>, Fail> {
-    let mut bytes = Vec::new(alloc);
-    for part in parts {
-        bytes.extend_from_slice(part.as_bytes())?;
+fn failing(alloc: Global, row: &Row, name: &str) -> Result<Items<u64>, AllocError> {
+    match option(alloc, row, name)? {
+        Some(numbers) => Ok(Items::from_vec(numbers)),
+        None => Ok(Items::new(alloc)),
     }
-    Ok(bytes)
 }
 
-/// A helper that answers by the rule. Its asks of the numbers in `failing`, counted from 0, fail.
-pub(crate) fn helper(
-    alloc: Global,
-    name: &str,
-    rule: VerdictRule,
-    failing: &[u64],
-) -> Result<MemHelper, Fail> {
-    Ok(MemHelper {
-        name: Items::from_vec(Vec::from_slice(alloc, name.as_bytes())?),
-        rule,
-        failing: Items::from_vec(Vec::from_slice(alloc, failing)?),
-    })
+fn limit(alloc: Global, row: &Row, name: &str, most: u64) -> Result<u64, AllocError> {
+    match option(alloc, row, name)? {
+        Some(numbers) => Ok(numbers.first().copied().unwrap_or(most).min(most)),
+        None => Ok(most),
+    }
 }
 
-/// An outside with the file `a` and the helper `rehearsal`.
-pub(crate) fn outside(alloc: Global, case: &Case) -> Result<MemOutside, Fail> {
-    let file = MemFile {
-        name: Items::from_vec(Vec::from_slice(alloc, b"a")?),
-        bytes: Items::from_vec(joined(alloc, case.parts)?),
-        piece: case.piece.max(1),
-        failing: Items::from_vec(Vec::from_slice(alloc, case.failing_reads)?),
-    };
-    let mut files = Items::new(alloc);
-    files.push(file)?;
-    let failing_puts = Items::from_vec(Vec::from_slice(alloc, case.failing_puts)?);
-    let failing_makings = Items::from_vec(Vec::from_slice(alloc, case.failing_makings)?);
-    let sink = MemSink::new(alloc, failing_puts);
+fn limits(alloc: Global, row: &Row) -> Result<Limits, AllocError> {
     let mut limits = Limits::standard();
-    limits.stream_bytes = case.stream_bytes.min(4_294_967_296);
-    limits.messages = case.messages.min(1_048_576);
+    limits.stream_bytes = limit(alloc, row, "stream-bytes", 4_294_967_296)?;
+    limits.messages = limit(alloc, row, "messages", 1_048_576)? as u32;
+    Ok(limits)
+}
+
+// An outside with the file `a`, which is given in pieces of so many bytes, and the helper `rehearsal`.
+fn outside(alloc: Global, row: &Row, piece: usize) -> Result<MemOutside, AllocError> {
+    let mut files = Items::new(alloc);
+    files.push(MemFile {
+        name: Items::from_vec(Vec::from_slice(alloc, b"a")?),
+        bytes: Items::from_vec(row.bytes(alloc, 2)?),
+        piece,
+        failing: failing(alloc, row, "reads")?,
+    })?;
     let mut helpers = Items::new(alloc);
-    let rehearsal = helper(
-        alloc,
-        "rehearsal",
-        VerdictRule::Rehearsal,
-        case.failing_asks,
-    )?;
-    helpers.push(rehearsal)?;
-    let outside = MemOutside::new(alloc, files, sink, failing_makings, limits);
+    helpers.push(MemHelper {
+        name: Items::from_vec(Vec::from_slice(alloc, b"rehearsal")?),
+        rule: VerdictRule::Rehearsal,
+        failing: failing(alloc, row, "asks")?,
+    })?;
+    let sink = MemSink::new(alloc, failing(alloc, row, "puts")?);
+    let makings = failing(alloc, row, "makings")?;
+    let outside = MemOutside::new(alloc, files, sink, makings, limits(alloc, row)?);
     Ok(outside.with_helpers(helpers))
 }
 
-/// The words of a command line.
-pub(crate) fn owned(alloc: Global, words: &[&str]) -> Result<Vec<String>, Fail> {
-    let mut list = Vec::new(alloc);
-    for word in words {
-        list.push(String::from_str(alloc, word)?)?;
+// The words of the command line, which stand with commas between them.
+fn words(alloc: Global, row: &Row) -> Result<Vec<String>, AllocError> {
+    let mut words = Vec::new(alloc);
+    if !row.word(1).is_empty() {
+        for word in row.word(1).split(',') {
+            words.push(String::from_str(alloc, word)?)?;
+        }
     }
-    Ok(list)
+    Ok(words)
+}
+
+// The status, and the lines that were written, each with a `/` behind it.
+fn answer(alloc: Global, done: &Done<MemOutside>, outside: &MemOutside) -> Result<String, AllocError> {
+    let status = done.status;
+    let written = String::from_utf8_lossy(alloc, outside.sink().bytes())?;
+    let mut text = format!(in alloc; "{status} ")?;
+    for line in written.as_str().lines() {
+        text.push_str(line)?;
+        text.push_str("/")?;
+    }
+    Ok(text)
+}
+
+// The answer of a run in which the file is given in pieces of so many bytes.
+fn run_in(alloc: Global, row: &Row, piece: usize) -> Result<String, AllocError> {
+    let mut outside = outside(alloc, row, piece)?;
+    let done = run(alloc, &words(alloc, row)?, &mut outside);
+    answer(alloc, &done, &outside)
+}
+
+/// `run WORD,WORD TEXT OPTION..`: the status of the run on a file `a` of this text, and what it writes. With the option
+/// `pieces=N` it is so in pieces of each length from 1 to N too.
+pub(crate) fn run_row(alloc: Global, row: &Row) -> Result<String, AllocError> {
+    let whole = run_in(alloc, row, 4_096)?;
+    let pieces = option(alloc, row, "pieces")?.and_then(|numbers| numbers.first().copied()).unwrap_or(0);
+    for piece in 1..=pieces.min(4_096) {
+        let found = run_in(alloc, row, piece as usize)?;
+        if found.as_str() != whole.as_str() {
+            return format!(in alloc; "differs in pieces of {piece}");
+        }
+    }
+    Ok(whole)
+}
+
+/// `done WORD,WORD TEXT OPTION..`: what the run hands back of its readers, journal and makings.
+pub(crate) fn done_row(alloc: Global, row: &Row) -> Result<String, AllocError> {
+    let mut outside = outside(alloc, row, 4_096)?;
+    let done = run(alloc, &words(alloc, row)?, &mut outside);
+    let mut text = String::new(alloc);
+    for reader in &done.readers {
+        let close = reader.close;
+        write!(text, "{close:?} ")?;
+        for refusal in &reader.refused {
+            let (place, reason) = (refusal.place, refusal.reason);
+            write!(text, "{reason:?}@{place} ")?;
+        }
+    }
+    let (bodies, entries) = (done.journal.bodies.len(), done.journal.entries.len());
+    write!(text, "bodies={bodies} entries={entries}")?;
+    for making in outside.makings() {
+        let (kind, failed) = (making.kind, making.failed);
+        write!(text, " {kind:?}:{failed}")?;
+    }
+    Ok(text)
 }

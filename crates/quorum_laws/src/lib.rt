@@ -3,8 +3,6 @@
 
 mod binding;
 mod laws;
-#[cfg(test)]
-mod tests;
 mod unions;
 
 pub use binding::binds;

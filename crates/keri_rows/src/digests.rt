@@ -1,0 +1,65 @@
+//! Digests.
+
+use crate::row::Row;
+use blake3_hash::{Hasher, digest};
+use cesr_codes::{Digest, DigestCode};
+use said_digest::{digest_of, holds, said_of};
+use std::alloc::{AllocError, Global};
+
+/// The code that the word names.
+pub(crate) fn code(word: &str) -> DigestCode {
+    match word {
+        "E" => DigestCode::Blake3,
+        _ => DigestCode::Sha256,
+    }
+}
+
+/// The digest as it is written.
+pub(crate) fn spelled(alloc: Global, digest: &Digest) -> Result<String, AllocError> {
+    let mut text = [0; 44];
+    digest.write(&mut text);
+    String::from_utf8_lossy(alloc, &text)
+}
+
+/// `blake3 LENGTH PIECE`: the digest of the bytes 0 to 250 and so on again, so many, fed in pieces of so many; in one
+/// call where PIECE is 0.
+pub(crate) fn blake3(alloc: Global, row: &Row) -> Result<String, AllocError> {
+    let mut bytes = Vec::new(alloc);
+    for place in 0..row.number(1) {
+        bytes.push((place % 251) as u8)?;
+    }
+    let piece = row.number(2);
+    let found = if piece == 0 {
+        digest(bytes.as_slice())
+    } else {
+        let mut hasher = Hasher::new();
+        let mut fed = 0u64;
+        for part in bytes.chunks(piece as usize) {
+            if fed < 1 << 40 && part.len() < 1 << 40 {
+                fed += part.len() as u64;
+                hasher.update(part);
+            }
+        }
+        hasher.finish()
+    };
+    let mut text = String::new(alloc);
+    for byte in found {
+        text.push_str(format!(in alloc; "{byte:02x}")?.as_str())?;
+    }
+    Ok(text)
+}
+
+/// `said CODE PLACE,PLACE TEXT`: the digest of the text with `#` at the places, whether it holds there, and whether it
+/// does with nothing replaced.
+pub(crate) fn said(alloc: Global, row: &Row) -> Result<String, AllocError> {
+    let text = row.bytes(alloc, 3)?;
+    let mut places = Vec::new(alloc);
+    for place in row.numbers(alloc, 2)? {
+        places.push(u32::from(place))?;
+    }
+    let said = said_of(code(row.word(1)), text.as_slice(), places.as_slice());
+    let held = holds(text.as_slice(), places.as_slice(), &said);
+    let plain = digest_of(code(row.word(1)), text.as_slice()) == said;
+    let said = spelled(alloc, &said)?;
+    format!(in alloc; "{said} {held} {plain}")
+}

@@ -1,0 +1,127 @@
+//! A row: the name of a call and its arguments, with a blank between two of them.
+
+use crate::{backing, bodies, codes, cores, digests, runs, states, streams, trees};
+use std::alloc::{AllocError, Global};
+
+/// The arguments of a row.
+#[derive(Drop)]
+pub(crate) struct Row<'a> {
+    words: Vec<&'a str>,
+}
+
+impl<'a> Row<'a> {
+    /// How many words the row has, the call's name among them.
+    pub(crate) fn len(&self) -> usize {
+        self.words.len()
+    }
+
+    /// The argument of this number, from 1 on, as it stands; the empty text where there is none.
+    pub(crate) fn word(&self, number: usize) -> &'a str {
+        self.words.get(number).copied().unwrap_or("")
+    }
+
+    /// The argument as a number; 0 where it is none.
+    pub(crate) fn number(&self, place: usize) -> u64 {
+        self.word(place).parse::<u64>().unwrap_or(0)
+    }
+
+    /// The numbers of the argument, with a comma between two of them.
+    pub(crate) fn numbers(&self, alloc: Global, place: usize) -> Result<Vec<u16>, AllocError> {
+        let mut numbers = Vec::new(alloc);
+        for word in self.word(place).split(',') {
+            if let Ok(number) = word.parse::<u16>() {
+                numbers.push(number)?;
+            }
+        }
+        Ok(numbers)
+    }
+
+    /// The bytes that the argument writes: parts, with a `&` between two of them. A part is a text, which may have
+    /// `N*` before it, for as many of it. In a text a `%` and two hexadecimal digits are the byte of that value.
+    pub(crate) fn bytes(&self, alloc: Global, place: usize) -> Result<Vec<u8>, AllocError> {
+        let mut bytes = Vec::new(alloc);
+        for part in self.word(place).split('&') {
+            match part.split_once('*') {
+                Some((count, text)) => {
+                    let text = unescaped(alloc, text)?;
+                    for _ in 0..count.parse::<u32>().unwrap_or(0) {
+                        bytes.extend_from_slice(text.as_slice())?;
+                    }
+                }
+                None => bytes.extend_from_slice(unescaped(alloc, part)?.as_slice())?,
+            }
+        }
+        Ok(bytes)
+    }
+}
+
+fn unescaped(alloc: Global, text: &str) -> Result<Vec<u8>, AllocError> {
+    let mut bytes = Vec::new(alloc);
+    let mut rest = text.as_bytes();
+    while let Some((first, behind)) = rest.split_first() {
+        rest = behind;
+        match (first, behind) {
+            (b'%', [high, low, ..]) => {
+                bytes.push(digit(*high) * 16 + digit(*low))?;
+                rest = &behind[2..];
+            }
+            _ => bytes.push(*first)?,
+        }
+    }
+    Ok(bytes)
+}
+
+fn digit(symbol: u8) -> u8
+    ensures { result < 16 }
+{
+    match symbol {
+        b'0'..=b'9' => symbol - b'0',
+        b'a'..=b'f' => symbol - b'a' + 10,
+        _ => 0,
+    }
+}
+
+/// What the line is answered by.
+pub(crate) fn answer(alloc: Global, line: &str) -> Result<String, AllocError> {
+    let mut words = Vec::new(alloc);
+    for word in line.split(' ') {
+        words.push(word)?;
+    }
+    let row = Row { words };
+    match row.word(0) {
+        "key" => codes::key(alloc, &row),
+        "digest" => codes::digest(alloc, &row),
+        "prefix" => codes::prefix(alloc, &row),
+        "sig" => codes::sig(alloc, &row),
+        "number" => codes::number(alloc, &row),
+        "moment" => codes::moment(alloc, &row),
+        "new-moment" => codes::new_moment(alloc, &row),
+        "indexed" => codes::indexed(alloc, &row),
+        "new-indexed" => codes::new_indexed(alloc, &row),
+        "tree" => trees::tree(alloc, &row),
+        "json" => trees::json(alloc, &row),
+        "threshold" => trees::threshold(alloc, &row),
+        "met" => trees::met(alloc, &row),
+        "blake3" => digests::blake3(alloc, &row),
+        "said" => digests::said(alloc, &row),
+        "fields" => bodies::fields(alloc, &row),
+        "body" => bodies::body(alloc, &row),
+        "seal" => bodies::seal(alloc, &row),
+        "change" => bodies::change(alloc, &row),
+        "items" => streams::items(alloc, &row),
+        "messages" => streams::messages(alloc, &row),
+        "put" => streams::put(alloc, &row),
+        "state" => states::state(alloc, &row),
+        "witnesses" => states::witnesses(alloc, &row),
+        "exposed" => states::exposed(alloc, &row),
+        "backers" => backing::backers(alloc, &row),
+        "seals" => backing::seals_of(alloc, &row),
+        "anchors" => backing::anchored(alloc, &row),
+        "binds" => backing::bound(alloc, &row),
+        "run" => runs::run_row(alloc, &row),
+        "done" => runs::done_row(alloc, &row),
+        "core" => cores::core(alloc, &row),
+        "rehearse" => cores::rehearsed(alloc, &row),
+        _ => String::from_str(alloc, line),
+    }
+}

@@ -1,0 +1,93 @@
+//! Key states after events.
+
+use crate::row::Row;
+use cesr_codes::{IndexedSig, Sig};
+use event_body::{Event, read_body};
+use key_state::{KeyState, StateFault, first};
+use lists::CopyValue;
+use std::alloc::{AllocError, Global};
+use std::fmt::Write;
+
+// The state after one more event.
+fn moved(
+    alloc: Global,
+    state: &Option<KeyState>,
+    event: &Event,
+) -> Result<KeyState, StateFault> {
+    match state {
+        Some(state) => state.after(alloc, event),
+        None => first(alloc, event),
+    }
+}
+
+// The state after the events of the arguments from one number to another, and what is said of each.
+fn fold(
+    alloc: Global,
+    row: &Row,
+    from: usize,
+    to: usize,
+    text: &mut String,
+) -> Result<Option<KeyState>, AllocError> {
+    let mut state: Option<KeyState> = None;
+    for number in from..to {
+        let Ok(event) = read_body(alloc, row.bytes(alloc, number)?.as_slice()) else {
+            text.push_str("no-event ")?;
+            return Ok(None);
+        };
+        match moved(alloc, &state, &event) {
+            Ok(next) => {
+                let copy = next.copy(alloc)?;
+                let (est_sn, sn, since) = (copy.est_sn, copy.sn(), copy.since.len());
+                write!(text, "{est_sn}..{sn}({since}) ")?;
+                state = Some(copy);
+            }
+            Err(StateFault::Misfit(misfit)) => {
+                write!(text, "{misfit:?} ")?;
+                return Ok(state);
+            }
+            Err(StateFault::OutOfMemory) => return Err(AllocError),
+        }
+    }
+    Ok(state)
+}
+
+/// `state TEXT..`: after each event the numbers of the last establishment event and of the last event, and how many
+/// digests are kept; or the rule that the event breaks, with which the row ends.
+pub(crate) fn state(alloc: Global, row: &Row) -> Result<String, AllocError> {
+    let mut text = String::new(alloc);
+    let _ = fold(alloc, row, 1, row.len(), &mut text)?;
+    Ok(text)
+}
+
+/// `witnesses TEXT..`: the own list of the last event, after the others.
+pub(crate) fn witnesses(alloc: Global, row: &Row) -> Result<String, AllocError> {
+    let mut text = String::new(alloc);
+    let last = row.len().saturating_sub(1);
+    let Some(state) = fold(alloc, row, 1, last, &mut text)? else {
+        return Ok(text);
+    };
+    if let Ok(event) = read_body(alloc, row.bytes(alloc, last)?.as_slice()) {
+        for key in state.list_of(alloc, &event)?.as_slice() {
+            let mut spelled = [0; 44];
+            key.write(&mut spelled);
+            text.push_str(String::from_utf8_lossy(alloc, &spelled)?.as_str())?;
+            text.push_str(" ")?;
+        }
+    }
+    Ok(text)
+}
+
+/// `exposed SIGNATURE TEXT..`: the places that the indexed signature exposes at the last event, after the others.
+pub(crate) fn exposed(alloc: Global, row: &Row) -> Result<String, AllocError> {
+    let mut text = String::new(alloc);
+    let last = row.len().saturating_sub(1);
+    let sig = IndexedSig::read(row.bytes(alloc, 1)?.as_slice());
+    let Some(state) = fold(alloc, row, 2, last, &mut text)? else {
+        return Ok(text);
+    };
+    if let (Ok(event), Ok((sig, _))) = (read_body(alloc, row.bytes(alloc, last)?.as_slice()), sig) {
+        let places = state.exposed(alloc, &event, &[sig])?;
+        write!(text, "{:?}", places.as_slice())?;
+    }
+    Ok(text)
+}

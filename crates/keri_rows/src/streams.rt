@@ -1,0 +1,183 @@
+//! Streams: their items, their messages, and items written.
+
+use crate::row::Row;
+use cesr_codes::{Digest, IndexedSig, Key, Moment, Number, Sig};
+use cesr_stream::{
+    AnchorCouple, Assembler, Couple, Group, Item, Message, Reader, Seen, Step, write_item,
+};
+use keri_outside::{Limits, MemSink};
+use lists::Items;
+use std::alloc::{AllocError, Global};
+use std::fmt::Write;
+
+fn letter(group: &Group) -> char {
+    match group {
+        Group::Held(_) => 'A',
+        Group::Witness(_) => 'B',
+        Group::Couples(_) => 'C',
+        Group::FirstSeen(_) => 'E',
+        Group::Anchor(_) => 'G',
+    }
+}
+
+// An item: its kind, how much it has, and its place.
+fn item_word(text: &mut String, item: &Item, place: u64) -> Result<(), AllocError> {
+    match item {
+        Item::Body(bytes) => {
+            let size = bytes.len();
+            write!(text, "body:{size}@{place} ")
+        }
+        Item::Group(group) => {
+            let letter = letter(group);
+            let count = group.len();
+            write!(text, "{letter}:{count}@{place} ")
+        }
+        Item::Wrapped(groups) => {
+            let count = groups.len();
+            write!(text, "V:{count}@{place} ")
+        }
+    }
+}
+
+// The items that are whole by now.
+fn take_items(
+    text: &mut String,
+    reader: &mut Reader,
+    most: usize,
+) -> Result<(), AllocError> {
+    for _ in 0..most {
+        match reader.next()? {
+            Step::Item(item, place) => item_word(text, &item, place)?,
+            Step::NeedMore | Step::Bad(_) => return Ok(()),
+        }
+    }
+    Ok(())
+}
+
+/// `items PIECE TEXT`: the items of the text in pieces of so many bytes, and how it ends.
+pub(crate) fn items(alloc: Global, row: &Row) -> Result<String, AllocError> {
+    let bytes = row.bytes(alloc, 2)?;
+    let mut text = String::new(alloc);
+    let mut reader = Reader::new(alloc, Limits::standard());
+    for piece in bytes.chunks((row.number(1) as usize).max(1)) {
+        reader.feed(piece)?;
+        take_items(&mut text, &mut reader, bytes.len())?;
+    }
+    match reader.next()? {
+        Step::Item(item, place) => item_word(&mut text, &item, place)?,
+        Step::Bad(bad) => {
+            let place = bad.place;
+            let reason = bad.reason;
+            write!(text, "{reason:?}@{place}")?;
+        }
+        Step::NeedMore => match reader.end() {
+            Some(bad) => {
+                let place = bad.place;
+                let reason = bad.reason;
+                write!(text, "{reason:?}@{place}")?;
+            }
+            None => text.push_str("end")?,
+        },
+    }
+    Ok(text)
+}
+
+fn message_word(text: &mut String, message: &Message) -> Result<(), AllocError> {
+    let place = message.place;
+    let size = message.body.len();
+    write!(text, "body:{size}@{place}[")?;
+    for group in message.groups.as_slice() {
+        let letter = letter(group);
+        let count = group.len();
+        write!(text, "{letter}:{count}")?;
+    }
+    text.push_str(if message.excess { "] excess " } else { "] " })
+}
+
+/// `messages SIGNATURES TEXT`: the messages of the text, where a message may have so many elements.
+pub(crate) fn messages(alloc: Global, row: &Row) -> Result<String, AllocError> {
+    let bytes = row.bytes(alloc, 2)?;
+    let mut text = String::new(alloc);
+    let mut limits = Limits::standard();
+    limits.message_signatures = row.number(1).min(1_024) as u16;
+    let mut reader = Reader::new(alloc, limits);
+    let mut assembler = Assembler::new(alloc, limits);
+    reader.feed(bytes.as_slice())?;
+    for _ in 0..=bytes.len() {
+        match reader.next()? {
+            Step::Item(item, place) => {
+                if let Some(message) = assembler.push(item, place)? {
+                    message_word(&mut text, &message)?;
+                }
+            }
+            Step::NeedMore | Step::Bad(_) => break,
+        }
+    }
+    if let Some(message) = assembler.finish() {
+        message_word(&mut text, &message)?;
+    }
+    Ok(text)
+}
+
+fn only<T: Drop>(alloc: Global, value: T) -> Result<Items<T>, AllocError> {
+    let mut items = Items::new(alloc);
+    items.push(value)?;
+    Ok(items)
+}
+
+fn pair<A: Drop, B: Drop, E: Drop>(
+    first: Result<(A, usize), E>,
+    second: Result<(B, usize), E>,
+) -> Option<(A, B)> {
+    match (first, second) {
+        (Ok((first, _)), Ok((second, _))) => Some((first, second)),
+        _ => None,
+    }
+}
+
+// The group of the one element that the two texts write.
+fn group(alloc: Global, row: &Row) -> Result<Option<Group>, AllocError> {
+    let first = row.bytes(alloc, 2)?;
+    let second = row.bytes(alloc, 3)?;
+    let (first, second) = (first.as_slice(), second.as_slice());
+    match row.word(1) {
+        "A" => match IndexedSig::read(first) {
+            Ok((sig, _)) => Ok(Some(Group::Held(only(alloc, sig)?))),
+            Err(_) => Ok(None),
+        },
+        "B" => match IndexedSig::read(first) {
+            Ok((sig, _)) => Ok(Some(Group::Witness(only(alloc, sig)?))),
+            Err(_) => Ok(None),
+        },
+        "C" => match pair(Key::read(first), Sig::read(second)) {
+            Some((key, sig)) => couple(alloc, key, sig),
+            None => Ok(None),
+        },
+        "E" => match pair(Number::read(first), Moment::read(second)) {
+            Some((number, moment)) => {
+                Ok(Some(Group::FirstSeen(only(alloc, Seen { number, moment })?)))
+            }
+            None => Ok(None),
+        },
+        _ => match pair(Number::read(first), Digest::read(second)) {
+            Some((number, digest)) => {
+                Ok(Some(Group::Anchor(only(alloc, AnchorCouple { number, digest })?)))
+            }
+            None => Ok(None),
+        },
+    }
+}
+
+fn couple(alloc: Global, key: Key, sig: Sig) -> Result<Option<Group>, AllocError> {
+    Ok(Some(Group::Couples(only(alloc, Couple { key, sig })?)))
+}
+
+/// `put LETTER TEXT TEXT`: the group of the element that the texts write, put into a sink.
+pub(crate) fn put(alloc: Global, row: &Row) -> Result<String, AllocError> {
+    let mut sink = MemSink::new(alloc, Items::new(alloc));
+    let Some(group) = group(alloc, row)? else {
+        return String::from_str(alloc, "none");
+    };
+    let _ = write_item(&Item::Group(group), &mut sink);
+    String::from_utf8_lossy(alloc, sink.bytes())
+}
