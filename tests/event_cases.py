@@ -1,47 +1,13 @@
 #!/usr/bin/env python3
 """Makes the cases under tests/cases in which bodies of all kinds are read: good ones, and ones that fail each rule.
 
-The bodies are made here with Python's json and hashlib, by the field maps of docs/FORMATS.md. A body is written with
-placeholders where its own digest stands, and the digest is put in last; what is written of a broken one says which rule
-it fails first.
+The bodies are made with Python's json and hashlib, by the field maps of docs/FORMATS.md (`kit.py`). What is written of a
+broken one says which rule it fails first.
 """
 import json
 
-from stream_cases import digest, key
-from validate_cases import rehearsed, write
-
-PLACEHOLDER = "#" * 44
-KINDS = {
-    "icp": ["d", "i", "s", "kt", "k", "nt", "n", "bt", "b", "c", "a"],
-    "rot": ["d", "i", "s", "p", "kt", "k", "nt", "n", "bt", "br", "ba", "a"],
-    "ixn": ["d", "i", "s", "p", "a"],
-    "dip": ["d", "i", "s", "kt", "k", "nt", "n", "bt", "b", "c", "a", "di"],
-    "drt": ["d", "i", "s", "p", "kt", "k", "nt", "n", "bt", "br", "ba", "a"],
-    "rct": ["d", "i", "s"],
-}
-PLAIN = {
-    "s": "0", "kt": "1", "k": [key(1)], "nt": "1", "n": [digest(key(2))], "bt": "0", "b": [], "br": [], "ba": [],
-    "c": [], "a": [],
-}
-
-
-def compact(value):
-    return json.dumps(value, separators=(",", ":"), ensure_ascii=False)
-
-
-def body(kind, **values):
-    """The body of the kind with these values, and those of the plain inception for the others."""
-    fields = {**PLAIN, "d": PLACEHOLDER, **values}
-    fields.setdefault("i", PLACEHOLDER)
-    members = [("v", "KERI10JSONSIZE___"), ("t", kind)] + [(name, fields[name]) for name in KINDS[kind]]
-    text = "{%s}" % ",".join("%s:%s" % (compact(name), compact(value)) for name, value in members)
-    text = text.replace("SIZE__", "%06x" % len(text.encode()), 1)
-    return text.replace(PLACEHOLDER, digest(text))
-
-
-def said(text):
-    return text[40:84]
-
+from kit import body, digest, key, rehearsed, said
+from validate_cases import write
 
 ICP = body("icp")
 PREFIX = said(ICP)
@@ -59,7 +25,7 @@ DIP = body("dip", di=PREFIX)
 GOOD = [
     ICP, ROT, OTHER_ROT, body("ixn", i=PREFIX, s="ffffffffffffffff", p=said(ROT)), DIP,
     body("drt", i=said(DIP), s="1", p=said(DIP), k=[key(2)], bt="2", br=WITNESSES[:1], ba=WITNESSES[1:]), WEIGHTED, BASIC, FIXED,
-    body("rct", d=PREFIX, i=PREFIX, s="10"),
+    body("rct", d=PREFIX, i=PREFIX, s="10"), body("icp", kt=[{"1/2": ["1/2", "1/2"]}, "1/2"], k=[key(n) for n in (1, 2, 3)]),
 ]
 
 # What was known before: these digests were computed by others.
@@ -81,7 +47,7 @@ BROKEN = [
     (body("icp", s="1"), "field 4"),
     (body("ixn", i=PREFIX, s="0", p=PREFIX), "field 4"),
     (body("ixn", i=PREFIX, s="01", p=PREFIX), "field 4"),
-    (body("icp", kt=[[["1"]]]), "field 5"),
+    (body("icp", kt=[[[[["1"]]]]]), "field 5"),
     (body("icp", k=["x"]), "field 6"),
     (body("rot", i=PREFIX, s="1", p=PREFIX, ba=[key(1)]), "field 12"),
     (body("icp", b=[key(1)], bt="1"), "field 10"),
@@ -99,6 +65,8 @@ BROKEN = [
     (body("icp", kt="2"), "threshold"),
     (body("icp", kt=["1/2"]), "threshold"),
     (body("icp", kt=[1]), "threshold"),
+    (body("icp", kt=[[["1"]]]), "threshold"),
+    (body("icp", kt=[{"1/2": ["1/2", "1/2"]}, "1/2"]), "threshold"),
     (body("icp", nt="0"), "threshold"),
     # witnesses
     (body("icp", b=TWICE, bt="1"), "witnesses"),

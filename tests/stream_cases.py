@@ -1,57 +1,17 @@
 #!/usr/bin/env python3
 """Makes the cases under tests/cases in which `check` reads a stream.
 
-The primitives are made here with Python's base64 and hashlib. Each case names what the stream's bytes are and what is to
+Primitives and bodies are made with Python's base64 and hashlib (`kit.py`). Each case names what the stream's bytes are and what is to
 be written, as docs/FORMATS.md says it.
 """
-import base64
-import hashlib
 import pathlib
 import shutil
 
+from kit import PLAIN_ICP as INCEPTION, body, digest, indexed, key, primitive, signature
+
 CASES = pathlib.Path(__file__).resolve().parent / "cases"
-
-
-def primitive(code, raw):
-    """The code, and the characters of the raw bytes; as many are left out as zero bytes come before them."""
-    lead = -len(raw) % 3
-    return code + base64.urlsafe_b64encode(bytes(lead) + raw).decode()[lead:]
-
-
-def key(number, code="D"):
-    return primitive(code, bytes([number]) * 32)
-
-
-def digest(text):
-    return primitive("I", hashlib.sha256(text.encode()).digest())
-
-
-def signature(text):
-    return primitive("0B", hashlib.sha512(text.encode()).digest())
-
-
-def indexed(code, text):
-    return primitive(code, hashlib.sha512(text.encode()).digest())
-
-
-def with_size(body):
-    return body.replace("SIZE__", f"{len(body):06x}", 1)
-
-
-def inception():
-    body = (
-        '{"v":"KERI10JSONSIZE___","t":"icp","d":"%s","i":"%s","s":"0","kt":"1","k":["%s"],"nt":"1","n":["%s"],"bt":"0",'
-        '"b":[],"c":[],"a":[]}'
-    )
-    body = with_size(body % ("#" * 44, "#" * 44, key(1), digest(key(2))))
-    return body.replace("#" * 44, digest(body))
-
-
-RECEIPT = with_size(
-    '{"v":"KERI10JSONSIZE___","t":"rct","d":"EK8TSbn1-aGmoEBN6jbcyUmbyyXJrcESt8yak8rkHzJi","i":"%s","s":"0"}' % key(0)
-)
+RECEIPT = body("rct", d="EK8TSbn1-aGmoEBN6jbcyUmbyyXJrcESt8yak8rkHzJi", i=key(0))
 LINE = "rct %s 0 EK8TSbn1-aGmoEBN6jbcyUmbyyXJrcESt8yak8rkHzJi size=145 signatures=%d receipts=%d\n"
-INCEPTION = inception()
 BARE = LINE % (key(0), 0, 0)
 COUPLE = key(1, "B") + signature("couple")
 FIRST_SEEN = primitive("0A", bytes(16)) + "1AAG2020-08-22T17c50c09d988921p00c00"

@@ -1,39 +1,31 @@
 #!/usr/bin/env python3
 """Makes the cases under tests/cases in which `validate` reads a stream with the rehearsal, and its sample.
 
-The primitives are made here with Python's base64 and hashlib, and b3sum. Each case names what the stream's bytes are and what is to
+Primitives and bodies are made with Python's base64 and hashlib (`kit.py`). Each case names what the stream's bytes are and what is to
 be written, as docs/FORMATS.md says it.
 """
-import hashlib
 import pathlib
 import shutil
 
-from said_table import INCEPTION as UNNAMED, PLACEHOLDER, spelling
-from stream_cases import CASES, COUPLE, INCEPTION, RECEIPT, indexed, key, malformed, primitive, with_size
+from kit import body, indexed, key, rehearsed, said as said_of
+from stream_cases import CASES, COUPLE, INCEPTION, RECEIPT, malformed
 
 SAMPLES = pathlib.Path(__file__).resolve().parent.parent / "samples"
-
-
-def rehearsed(number, body):
-    """The rehearsal's signature of a key on a body, with the index 0."""
-    return primitive("AA", hashlib.sha512(b"keri rehearsal" + key(number).encode() + body.encode()).digest())
 
 
 def accepted(said):
     return "event %s 0 icp %s live\n" % (said, said), "state %s 0 %s keys=1 witnesses=0 toad=0\n" % (said, said)
 
 
-SAID = INCEPTION[40:84]
+SAID = said_of(INCEPTION)
 SIGNED = INCEPTION + "-AAB" + rehearsed(1, INCEPTION)
 EVENT, STATE = accepted(SAID)
-BLAKE3 = UNNAMED.replace(PLACEHOLDER, spelling("E", UNNAMED))
+BLAKE3 = body("icp", "E", k=[key(0)], n=["EK8TSbn1-aGmoEBN6jbcyUmbyyXJrcESt8yak8rkHzJi"])
 BLAKE3_SIGNED = BLAKE3 + "-AAB" + rehearsed(0, BLAKE3)
-BLAKE3_LINES = "".join(accepted(BLAKE3[40:84]))
+BLAKE3_LINES = "".join(accepted(said_of(BLAKE3)))
 OTHER_PREFIX = BLAKE3[:100] + ("A" if BLAKE3[100] != "A" else "B") + BLAKE3[101:]
 OTHER_KEY = BLAKE3.replace(key(0), key(3))
-COUPLED = with_size(
-    '{"v":"KERI10JSONSIZE___","t":"rct","d":"%s","i":"%s","s":"0"}' % (SAID, SAID)
-) + "-CAB" + COUPLE
+COUPLED = body("rct", d=SAID, i=SAID) + "-CAB" + COUPLE
 IN_A_WRAP = INCEPTION + "-VAX-AAB" + rehearsed(1, INCEPTION)
 WAITS = "waits %s 0 %s signatures\n" % (SAID, SAID)
 UNSIGNED = "refused 0 %d unsigned\n"

@@ -20,6 +20,9 @@ GOOD = [
     ("icp", body("icp", kt=GROUPED, k=[key(n) for n in (1, 2, 3)])),
     ("icp", body("icp", kt=[[{"1": ["1/2", "1/2"]}], ["1"]], k=[key(n) for n in (1, 2, 3)])),
 ]
+# Two inceptions of one identifier that worked instances of the law of agreement are about.
+RIVALS = [body("icp", "E", i=key(9), k=[key(9)], nt="0", n=[], bt="1", b=[witness]) for witness in FIXED[:2]]
+GOOD += [("icp", text) for text in RIVALS]
 TWICE = [key(1, "B")] * 2
 # Bodies, and the first rule that each fails.
 BAD = [
