@@ -2,9 +2,11 @@
 #![tactic(auto)]
 
 mod chunk;
+mod chunk_lanes;
 mod compression;
 mod flags;
 mod hasher;
+mod lanes;
 mod laws;
 mod parent;
 mod stack;
@@ -12,5 +14,6 @@ mod stack;
 mod tests;
 mod words;
 
+pub use chunk_lanes::lanes8;
 pub use hasher::{Hasher, digest};
 pub use laws::{digest_of_pieces, tree_law};
