@@ -1,16 +1,12 @@
 #!/usr/bin/env python3
-"""The digests of crates/said_digest/src/tests.rt, as hashlib and b3sum give them.
+"""The digests of bodies that hold their own digest, as hashlib and b3sum give them.
 
-Prints each body with its digest in it, its places and its digest, and says whether the source has them; ends with 1
-where it has not.
+Prints each body with its digest in it, its digest and its places.
 """
 import base64
 import hashlib
-import pathlib
 import subprocess
-import sys
 
-SOURCE = pathlib.Path(__file__).resolve().parent.parent / "crates/said_digest/src/tests.rt"
 PLACEHOLDER = "#" * 44
 KEY = "D" + "A" * 43
 OTHER = "EK8TSbn1-aGmoEBN6jbcyUmbyyXJrcESt8yak8rkHzJi"
@@ -34,8 +30,6 @@ def spelling(code, text):
 
 
 def main():
-    source = SOURCE.read_text()
-    missing = 0
     for code, text in TEXTS:
         if text:
             assert int(text[16:22], 16) == len(text), len(text)
@@ -43,10 +37,7 @@ def main():
         digest = spelling(code, text)
         for line in (text.replace(PLACEHOLDER, digest), digest, str(places)):
             print(line)
-            missing += line not in source
-    print("the source has them" if not missing else f"the source lacks {missing}")
-    return 1 if missing else 0
 
 
 if __name__ == "__main__":
-    sys.exit(main())
+    main()

@@ -118,9 +118,7 @@ impl Hasher {
     {
         let groups = (bytes.len() - 1) / GROUP_LEN;
         'groups: for n in 0..groups {
-            self.add_group(group_of(
-                &bytes[GROUP_LEN * n..GROUP_LEN * n + GROUP_LEN],
-            ));
+            self.add_group(group_of(&bytes[GROUP_LEN * n..GROUP_LEN * n + GROUP_LEN]));
         }
         self.add_each(&bytes[GROUP_LEN * groups..]);
     }

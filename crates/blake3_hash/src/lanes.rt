@@ -188,7 +188,12 @@ fn first_states(value: &[u32x4; 8], first: u64, flags: u32) -> [u32x4; 16]
         u32x4::splat(IV[2]),
         u32x4::splat(IV[3]),
         u32x4::from_array([low(first), low(first + 1), low(first + 2), low(first + 3)]),
-        u32x4::from_array([high(first), high(first + 1), high(first + 2), high(first + 3)]),
+        u32x4::from_array([
+            high(first),
+            high(first + 1),
+            high(first + 2),
+            high(first + 3),
+        ]),
         u32x4::splat(BLOCK_LEN),
         u32x4::splat(flags),
     ]
@@ -212,7 +217,12 @@ fn joined(v: [u32x4; 16]) -> [u32x4; 8]
 
 /// The compression of whole blocks, where lane j has the counter `first` + j.
 #[inline(never)]
-pub(crate) fn compress_lanes(value: &[u32x4; 8], words: &[u32x4; 16], first: u64, flags: u32) -> [u32x4; 8]
+pub(crate) fn compress_lanes(
+    value: &[u32x4; 8],
+    words: &[u32x4; 16],
+    first: u64,
+    flags: u32,
+) -> [u32x4; 8]
     requires { first + 3 < 2 ^ 64 }
     ensures { (j : ℕ) → j < 4
         → eight_words j result ≡ compress (eight_words j value.now) (sixteen_words j words.now) (first + j) 64 flags }

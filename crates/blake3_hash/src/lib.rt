@@ -10,8 +10,6 @@ mod lanes;
 mod laws;
 mod parent;
 mod stack;
-#[cfg(test)]
-mod tests;
 mod words;
 
 pub use chunk_lanes::lanes8;

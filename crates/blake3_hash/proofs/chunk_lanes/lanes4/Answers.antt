@@ -1,4 +1,4 @@
-use Rattle.std.proofs.Common.{◌≡◌, ◌∙◌, ◌+◌, ◌*◌, ap, length, arith, length-drop}
+use Rattle.std.proofs.Common.{◌≡◌, ◌∙◌, ◌+◌, ap, length, arith, length-drop}
 use Rattle.std.proofs.lemmas.List.{length-take}
 use Rattle.blake3_hash.specs.Chunk.{value_after}
 use Rattle.blake3_hash.specs.Lanes.{whole_chunk}
