@@ -1,8 +1,9 @@
 -- How a hasher follows the bytes that are given to it.
-use Rattle.std.proofs.Common.{◌≡◌, ◌∙◌, ℕ, ◌+◌, ◌*◌, ◌^◌, ◌≤◌, ◌++◌, List, length, take, drop, take-add, refl, sym, arith, length-append, length-drop}
-use Rattle.std.proofs.lemmas.List.{drop-append-le, take_all}
+use Rattle.std.proofs.Common.{◌≡◌, ◌∙◌, ℕ, ◌+◌, ◌*◌, ◌^◌, ◌≤◌, ◌++◌, List, length, take, drop, take-add, refl, sym, ap, arith, length-append, length-drop}
+use Rattle.std.proofs.lemmas.List.{drop-append-le, drop_at, drop-drop, length-take, take_all}
 use Rattle.std.proofs.lemmas.Slice.{take-put_mid}
 use Rattle.blake3_hash.specs.Chunk.{chunk_value}
+use Rattle.blake3_hash.specs.Lanes.{whole_chunk}
 use Rattle.blake3_hash.specs.Hasher.{HasBytes, Holds, total}
 use Rattle.blake3_hash.specs.Stack.{subtree, tree_from}
 use Rattle.blake3_hash.specs.declared.hasher.Hasher.{Hasher}
@@ -35,11 +36,28 @@ HasBytes-keep s n before more ys k has room fits same stack used chunk =
       kept ∙ rw has.2 (sym (drop-append-le (1024 * s.stack.count) before more at)),
     )
 
--- a chunk more of the bytes
-pub take-chunk : (bytes : List ℕ) (n m k : ℕ) → m ≡ 1024 * (n + 1) → k ≡ 1024 → take m bytes ≡ take (1024 * n) bytes ++ take k (drop (1024 * n) bytes)
-take-chunk bytes n m k to width =
-    let at : m ≡ 1024 * n + 1024 = omega arith in
-    rw (at, width) (take-add (1024 * n) 1024 bytes)
+-- a part more of the bytes, which are cut into parts of w bytes
+pub take-part : (w : ℕ) (bytes : List ℕ) (n m k : ℕ) → m ≡ w * (n + 1) → k ≡ w → take m bytes ≡ take (w * n) bytes ++ take k (drop (w * n) bytes)
+take-part w bytes n m k to width =
+    let at : m ≡ w * n + w = omega arith in
+    rw (at, width) (take-add (w * n) w bytes)
+
+-- the value of a whole chunk
+pub subtree-chunk : (n : ℕ) (bytes : List ℕ) → subtree 0 n bytes ≡ chunk_value n (whole_chunk bytes n) 0
+unfolding subtree
+subtree-chunk n bytes =
+    let at : n * 2 ^ 0 ≡ n = omega arith in
+    rw at (tree-chunk n (whole_chunk bytes n) 0 (omega (arith, length-take 1024 (drop (1024 * n) bytes))))
+
+-- the value of chunk number j of those that are added
+pub subtree-added : (n j : ℕ) (before more value : List ℕ) → length before ≡ 1024 * n
+    → value ≡ chunk_value (n + j) (whole_chunk more j) 0 → value ≡ subtree 0 (n + j) (before ++ more)
+subtree-added n j before more value at made =
+    let far : 1024 * (n + j) ≡ 1024 * n + 1024 * j = omega arith in
+    let behind : drop (1024 * n) (before ++ more) ≡ more = drop_at before more (1024 * n) at in
+    let here : drop (1024 * (n + j)) (before ++ more) ≡ drop (1024 * j) more =
+    rw far (sym (drop-drop (1024 * j) (1024 * n) (before ++ more)) ∙ ap (drop (1024 * j)) behind) in
+    made ∙ sym (subtree-chunk (n + j) (before ++ more) ∙ ap (λ (l : List ℕ). chunk_value (n + j) (take 1024 l) 0) here)
 
 -- the tree over what is left after n chunks, which is one chunk
 pub tree_from-last : (n c : ℕ) (bytes chunk : List ℕ) (flags f : ℕ) (value : List ℕ) → length bytes ≤ 1024 * (n + 1) → chunk ≡ drop (1024 * n) bytes

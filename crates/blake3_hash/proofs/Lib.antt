@@ -6,3 +6,4 @@ pub mod Halves
 pub mod Subtrees
 pub mod Bytes
 pub mod Pieces
+mod FourLanes

@@ -3,6 +3,7 @@ ghost use Rattle.std.specs.Prelude.{◌≡◌, ℕ, ◌+◌, ◌*◌, ◌^◌, �
 ghost use Rattle.blake3_hash.specs.Tree.{blake3};
 
 use crate::chunk::{CHUNK_LEN, chunk_value};
+use crate::chunk_lanes::{GROUP_LEN, lanes8};
 use crate::flags::root_flag;
 use crate::stack::Stack;
 use crate::words::bytes_of;
@@ -71,6 +72,20 @@ impl Hasher {
         self.stack.push(value);
     }
 
+    // Adds eight whole chunks where none is open.
+    fn add_group(&mut self, group: &[u8; GROUP_LEN])
+        requires none_open { self.old.used ≡ 0 }
+        requires countable { total self.old + 8192 < 2 ^ 64 }
+        ensures used { self.new.used ≡ 0 }
+        ensures count { self.new.stack.count ≡ self.old.stack.count + 8 }
+        ensures has { (before : List ℕ) → HasBytes self.old before → HasBytes self.new (before ++ group.now) }
+    {
+        let values = lanes8(group, self.stack.count());
+        'values: for value in values {
+            self.stack.push(value);
+        }
+    }
+
     /// Adds bytes.
     pub fn update(&mut self, bytes: &[u8])
         requires countable { total self.old + length bytes.now < 2 ^ 64 }
@@ -82,14 +97,34 @@ impl Hasher {
             self.keep(bytes);
             return;
         }
+        if self.used == 0 {
+            self.add_chunks(bytes);
+            return;
+        }
         let (front, rest) = bytes.split_at(room);
         self.keep(front);
         self.close();
         self.add_chunks(rest);
     }
 
-    // Adds bytes where no chunk is open, and leaves the last one open.
+    // Adds bytes where no chunk is open, eight chunks at a time, and leaves the last one open.
     fn add_chunks(&mut self, bytes: &[u8])
+        requires some { 0 < length bytes.now }
+        requires none_open { self.old.used ≡ 0 }
+        requires countable { total self.old + length bytes.now < 2 ^ 64 }
+        ensures total { total self.new ≡ total self.old + length bytes.now }
+        ensures open { 0 < self.new.used }
+        ensures has { (before : List ℕ) → HasBytes self.old before → HasBytes self.new (before ++ bytes.now) }
+    {
+        let groups = (bytes.len() - 1) / GROUP_LEN;
+        'groups: for n in 0..groups {
+            self.add_group(group_of(&bytes[GROUP_LEN * n..GROUP_LEN * n + GROUP_LEN]));
+        }
+        self.add_each(&bytes[GROUP_LEN * groups..]);
+    }
+
+    // The same, one chunk at a time.
+    fn add_each(&mut self, bytes: &[u8])
         requires some { 0 < length bytes.now }
         requires none_open { self.old.used ≡ 0 }
         requires countable { total self.old + length bytes.now < 2 ^ 64 }
@@ -111,6 +146,17 @@ impl Hasher {
         let count = self.stack.count();
         let last = chunk_value(count, &self.chunk[..self.used], root_flag(count));
         bytes_of(&self.stack.root(last))
+    }
+}
+
+// The bytes of eight chunks.
+fn group_of(bytes: &[u8]) -> &[u8; GROUP_LEN]
+    requires { length bytes.now ≡ 8192 }
+    ensures { result.now ≡ bytes.now }
+{
+    match bytes.as_array() {
+        Some(group) => group,
+        None => unreachable!(),
     }
 }
 

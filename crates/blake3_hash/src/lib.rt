@@ -2,15 +2,16 @@
 #![tactic(auto)]
 
 mod chunk;
+mod chunk_lanes;
 mod compression;
 mod flags;
 mod hasher;
+mod lanes;
 mod laws;
 mod parent;
 mod stack;
-#[cfg(test)]
-mod tests;
 mod words;
 
+pub use chunk_lanes::lanes8;
 pub use hasher::{Hasher, digest};
 pub use laws::{digest_of_pieces, tree_law};

@@ -6,7 +6,7 @@ mod sum;
 use std::io;
 
 // The bytes that are read at a time.
-const PIECE_LEN: usize = 65_536;
+const PIECE_LEN: usize = 262_144;
 
 fn main(rt: HostRuntime) -> io::Result<()> {
     let mut piece = vec![in rt.alloc(); 0u8; PIECE_LEN]?;

@@ -4,7 +4,5 @@
 mod coded_hasher;
 mod digests;
 mod placeholder;
-#[cfg(test)]
-mod tests;
 
 pub use digests::{digest_of, holds, said_of};

@@ -16,4 +16,8 @@ returns-clause-holds c = λ before held.
     let parts = c.split_at.ensures in
     let both : (before ++ c.split_at.result.0.now) ++ c.split_at.result.1.now ≡ before ++ bytes =
     rw (append_assoc, parts.front, parts.back, take-append-drop) refl in
-    (rw (← both) (c.add_chunks.ensures.has _ (c.close.ensures.has _ (c.keep-2.ensures.has before held.0))), λ some. c.add_chunks.ensures.open)
+    (rw (← both) (c.add_chunks-2.ensures.has _ (c.close.ensures.has _ (c.keep-2.ensures.has before held.0))), λ some. c.add_chunks-2.ensures.open)
+
+pub returns-then-self-eq0-clause-holds : goal.returns-then-self-eq0-clause-holds
+unfolding Holds
+returns-then-self-eq0-clause-holds c = λ before held. (c.add_chunks.ensures.has before held.0, λ some. c.add_chunks.ensures.open)

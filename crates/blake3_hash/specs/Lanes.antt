@@ -1,0 +1,24 @@
+-- Four blocks side by side: a word is a vector of four lanes, one for each block.
+use Rattle.std.specs.Prelude.{ℕ, ◌*◌, List, [], ◌∷◌, take, drop, slice_index, slice_index_or}
+
+-- word k in lane j
+abbrev pub lane_at : List (List ℕ) → ℕ → ℕ → ℕ
+lane_at x k j = slice_index (slice_index_or x k []) j
+
+-- the chaining value in lane j
+abbrev pub eight_words : ℕ → List (List ℕ) → List ℕ
+eight_words j x =
+    lane_at x 0 j ∷ lane_at x 1 j ∷ lane_at x 2 j ∷ lane_at x 3 j
+    ∷ lane_at x 4 j ∷ lane_at x 5 j ∷ lane_at x 6 j ∷ lane_at x 7 j ∷ []
+
+-- the state, or the words of the message, in lane j
+abbrev pub sixteen_words : ℕ → List (List ℕ) → List ℕ
+sixteen_words j x =
+    lane_at x 0 j ∷ lane_at x 1 j ∷ lane_at x 2 j ∷ lane_at x 3 j
+    ∷ lane_at x 4 j ∷ lane_at x 5 j ∷ lane_at x 6 j ∷ lane_at x 7 j
+    ∷ lane_at x 8 j ∷ lane_at x 9 j ∷ lane_at x 10 j ∷ lane_at x 11 j
+    ∷ lane_at x 12 j ∷ lane_at x 13 j ∷ lane_at x 14 j ∷ lane_at x 15 j ∷ []
+
+-- chunk number j of bytes that begin with a chunk, which is whole
+abbrev pub whole_chunk : List ℕ → ℕ → List ℕ
+whole_chunk bytes j = take 1024 (drop (1024 * j) bytes)
