@@ -8,13 +8,13 @@ INTERACTION = body("ixn", i=key(0), s="1", p=OTHER)
 # These digests were made with b3sum.
 assert said(INCEPTION) == "EIztxbMtr25MaUhZd6rtypua_vkIdfaiatrtI_6S2Wdj"
 assert digest(b"", "E") == OTHER and digest(b"") == "IOOwxEKY_BwUmvv0yJlvuSQnrkHkZJuTTKSVmRt4UrhV"
-PIECES = {8191: (1, 1024), 8192: (1, 8192), 8193: (1, 8192), 16385: (1, 8193, 9000), 65535: (1, 4096, 8193)}
+PIECES = {8191: (1, 1000), 8192: (1, 1000), 8193: (1, 8192), 16385: (1, 1024, 8193, 9000), 65535: (1, 1000, 8193)}
 
 
 def rows():
     yield "# BLAKE3"
     for length, known in KNOWN.items():
-        for piece in (0, *PIECES.get(length, (1, 64))):
+        for piece in (0, *PIECES.get(length, (1, 7, 64, 1000))):
             yield "blake3 %d %d" % (length, piece), known
     for length, piece in ((24577, 0), (24577, 24577), (100000, 33000)):
         yield "blake3 %d %d" % (length, piece), blake3(pattern(length)).hex()
