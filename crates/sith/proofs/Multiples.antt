@@ -3,11 +3,12 @@ use Rattle.std.proofs.Common.{◌≡◌, ℕ, zero, suc, ◌+◌, ◌<◌, ◌^�
 use Prim.Native.Nat.{◌∣◌}
 use native.Mathlib.Nat.{dvd_trans, one-dvd, le_of_dvd}
 use Rattle.std.specs.List.{AllByRecursion}
-use Rattle.std.proofs.lemmas.List.{take_more, map-append}
+use Rattle.std.proofs.lemmas.List.{map-append}
 use Rattle.sith.specs.declared.weight.Weight.{Weight}
 use Rattle.sith.specs.Weights.{IsWeight, denominator}
 use Rattle.sith.specs.Divisors.{AllDivide, IsLeastMultiple, IsMultipleOfBoth}
 use Rattle.sith.specs.Clauses.{IsTooFine}
+use Rattle.sith.proofs.Lists.{taken}
 
 divide_more : (ds : List ℕ) (m n : ℕ) → AllDivide ds m → m ∣ n → AllDivide ds n
 divide_more [] m n all divides = tt
@@ -30,28 +31,31 @@ least_push ds d a m least both = record {
   least = λ n all. let split = divide_front ds d n all in both.least n (least.least n split.0) split.1;
 }
 
--- one weight more
-pub taken_more : (weights : List Weight) (i : ℕ) (default : Weight) → i < length weights → map denominator (take (i + 1) weights) ≡ map denominator (take i weights) ++ denominator (get_or weights i default) ∷ []
-taken_more weights i default within =
-    ap (map denominator) (take_more weights i default within) ∙ map-append denominator (take i weights) (get_or weights i default ∷ [])
+module _ {A : Type 0} (weight : A → Weight) where
+  -- the denominators of the weights of these
+  abbrev pub denominators_of : List A → List ℕ
+  denominators_of members = map denominator (map weight members)
 
-pub next_least : (weights : List Weight) (i : ℕ) (default : Weight) (d a m : ℕ) → i < length weights → d ≡ denominator (get_or weights i default) → IsLeastMultiple (map denominator (take i weights)) a → IsMultipleOfBoth a d m → IsLeastMultiple (map denominator (take (i + 1) weights)) m
-next_least weights i default d a m within is least both =
-    subst (λ l. IsLeastMultiple l m) (sym (taken_more weights i default within))
-    (least_push (map denominator (take i weights)) (denominator (get_or weights i default)) a m least (subst (λ e. IsMultipleOfBoth a e m) is both))
+  -- one weight more
+  pub next_least : (members : List A) (i : ℕ) (member : A) (w : Weight) (d a m : ℕ) → i < length members → member ≡ get_or members i member → w ≡ weight member → d ≡ denominator w
+      → IsLeastMultiple (denominators_of (take i members)) a → IsMultipleOfBoth a d m → IsLeastMultiple (denominators_of (take (i + 1) members)) m
+  next_least members i member w d a m within is weighed divides least both =
+      let more = ap denominators_of (taken members i member within is) ∙ ap (map denominator) (map-append weight (take i members) (member ∷ [])) ∙ map-append denominator (map weight (take i members)) (weight member ∷ []) in
+      subst (λ l. IsLeastMultiple l m) (sym more)
+      (least_push (denominators_of (take i members)) (denominator (weight member)) a m least (subst (λ e. IsMultipleOfBoth a e m) (divides ∙ ap denominator weighed) both))
 
-divide_taken : (weights : List Weight) (i m : ℕ) → AllDivide (map denominator weights) m → AllDivide (map denominator (take i weights)) m
-divide_taken [] zero m all = tt
-divide_taken [] (suc i) m all = tt
-divide_taken (w ∷ weights) zero m all = tt
-divide_taken (w ∷ weights) (suc i) m all = (all.0, divide_taken weights i m all.1)
+  divide_taken : (members : List A) (i m : ℕ) → AllDivide (denominators_of members) m → AllDivide (denominators_of (take i members)) m
+  divide_taken [] zero m all = tt
+  divide_taken [] (suc i) m all = tt
+  divide_taken (a ∷ members) zero m all = tt
+  divide_taken (a ∷ members) (suc i) m all = (all.0, divide_taken members i m all.1)
 
--- a multiple of some of them that is too great is one of all of them
-pub too_fine : (weights : List Weight) (i m : ℕ) → IsLeastMultiple (map denominator (take i weights)) m → 2 ^ 64 < m → IsTooFine weights
-too_fine weights i m least over n some most all =
-    omega (arith, le_of_dvd some (least.least n (divide_taken weights i n all)))
+  -- a multiple of some of them that is too great is one of all of them
+  pub too_fine : (members : List A) (i m : ℕ) → IsLeastMultiple (denominators_of (take i members)) m → 2 ^ 64 < m → IsTooFine (map weight members)
+  too_fine members i m least over n some most all =
+      omega (arith, le_of_dvd some (least.least n (divide_taken members i n all)))
 
-pub weight_at : (weights : List Weight) (i : ℕ) (weight : Weight) → AllByRecursion IsWeight weights → i < length weights → weight ≡ get_or weights i weight → IsWeight weight
-weight_at [] i weight all within is = absurd (omega arith)
-weight_at (w ∷ weights) zero weight all within is = subst IsWeight (sym is) all.0
-weight_at (w ∷ weights) (suc i) weight all within is = weight_at weights i weight all.1 (omega arith) is
+  pub weight_at : (members : List A) (i : ℕ) (member : A) (w : Weight) → AllByRecursion IsWeight (map weight members) → i < length members → member ≡ get_or members i member → w ≡ weight member → IsWeight w
+  weight_at [] i member w all within is weighed = absurd (omega arith)
+  weight_at (a ∷ members) zero member w all within is weighed = subst IsWeight (sym (weighed ∙ ap weight is)) all.0
+  weight_at (a ∷ members) (suc i) member w all within is weighed = weight_at members i member w all.1 (omega arith) is weighed

@@ -2,42 +2,20 @@
 use Rattle.std.proofs.Common.{◌≡◌, ◌≢◌, ℕ, zero, suc, ◌+◌, ◌*◌, ◌/◌, ◌%◌, ◌^◌, ◌<◌, inl, inr, List, [], ◌∷◌, ◌++◌, length, map, get_or, true, false, Bool, refl, sym, ap, subst, ◌∙◌, arith, append_assoc, append-nil, length-append}
 use Rattle.std.specs.Prelude.{◌==◌, if◌then◌else◌}
 use Rattle.std.specs.List.{list_all}
-use Rattle.std.specs.Fmt.{digits, digits_onto, digit_glyph, decimal}
+use Rattle.std.specs.Fmt.{digits, digits_onto, digit_glyph}
 use Rattle.std.specs.Int.Digits.{number_from_digits}
-use Rattle.std.proofs.lemmas.Fmt.{digits_is_IsNumeral, first_decimal, decimal_digit}
 use Rattle.std.proofs.lemmas.Int.Digits.{number_push}
 use Rattle.std.proofs.lemmas.List.{map-append}
 use Rattle.std.proofs.lemmas.Bool.Decides.{nat_tests}
 use Rattle.std.proofs.lemmas.Bool.{cases_Bool, eqb-true}
 use native.Mathlib.Nat.{mod-lt, div-add-mod, pow-suc, pow-zero}
 use Rattle.keri_specs.specs.Hex.{is_hex, hex_digit, hex_value, IsHexOf}
-use Rattle.sith.specs.Decimals.{IsDecimalOf}
-use Rattle.sith.specs.Parts.{IsPart, SpellsPart}
 
 glyph_hex : (d : ℕ) → d < 16 → is_hex (digit_glyph false d) ≡ true
 glyph_hex d small = grind (arith, nat_tests)
 
 glyph_value : (d : ℕ) → d < 16 → hex_digit (digit_glyph false d) ≡ d
 glyph_value d small = grind (arith, nat_tests)
-
--- a decimal number is spelled without leading zeros
-pub decimal_is : (n : ℕ) → n < 2 ^ 32 → IsDecimalOf n (decimal n)
-decimal_is zero few = record { numeral = (digits_is_IsNumeral 10 false (omega arith) (omega arith) 0 (omega arith)).0; leading = inr (ap length (decimal_digit 0 (omega arith))); value = (digits_is_IsNumeral 10 false (omega arith) (omega arith) 0 (omega arith)).1 }
-decimal_is (suc n) few =
-    let is = digits_is_IsNumeral 10 false (omega arith) (omega arith) (suc n) (omega arith) in
-    let first = first_decimal (suc n) (omega arith) (omega arith) in
-    record { numeral = is.0; leading = inl (λ e. omega (arith, first, e)); value = is.1 }
-
--- two numbers with a slash between them
-pub part_is_spelled : (n d : ℕ) (text : List ℕ) → IsPart n d → text ≡ decimal n ++ 47 ∷ decimal d → SpellsPart n d text
-part_is_spelled n d text part e = record {
-  top = decimal n;
-  bottom = decimal d;
-  part = part;
-  numerator = decimal_is n (omega (arith, part));
-  denominator = decimal_is d (omega (arith, part));
-  whole = e;
-}
 
 hex_all_push : (ds : List ℕ) (c : ℕ) → list_all is_hex ds ≡ true → is_hex c ≡ true → list_all is_hex (ds ++ c ∷ []) ≡ true
 hex_all_push [] c all here = rw here refl

@@ -1,23 +1,23 @@
 -- A clause by the product of its denominators and by another common multiple.
-use Rattle.std.proofs.Common.{◌≡◌, ℕ, zero, suc, ◌+◌, ◌*◌, ◌/◌, ◌<◌, ◌≤◌, List, [], ◌∷◌, map, true, false, inl, inr, refl, sym, ap, subst, ◌∙◌, arith}
+use Rattle.std.proofs.Common.{◌≡◌, ℕ, zero, suc, ◌+◌, ◌*◌, ◌/◌, ◌-◌, ◌^◌, ◌<◌, ◌≤◌, min, Bool, List, [], ◌∷◌, map, true, false, inl, inr, refl, sym, ap, subst, ◌∙◌, arith}
 use Prim.Native.Nat.{◌∣◌}
 use native.Mathlib.Nat.{dvd-mul_left_of_dvd, dvd-mul_right, div-mul_cancel, div-eq_of_eq-mul_left, mul_assoc, mul_comm, mul-le-mul_right, add-mul}
-use Rattle.std.specs.Prelude.{◌↔◌, IsTrue}
+use Rattle.std.specs.Prelude.{◌↔◌}
 use Rattle.std.specs.List.{AllByRecursion}
-use Rattle.std.proofs.lemmas.Bool.{cases_lt, leb-true, le-leb}
+use Rattle.std.proofs.lemmas.Bool.{cases_Bool, cases_lt, leb-true, le-leb, false≢true}
 use Rattle.std.proofs.Math.Dec.{leb}
 use Rattle.sith.proofs.DivisorSteps.{factor_some}
 use Rattle.sith.specs.declared.weight.Weight.{Weight}
 use Rattle.sith.specs.declared.weight.Weight.TheVariants.{Zero, One, Part}
 use Rattle.sith.specs.Weights.{IsWeight, numerator, denominator}
 use Rattle.sith.specs.Divisors.{AllDivide, IsLeastMultiple}
-use Rattle.sith.specs.Clauses.{Term, product, sum_met, IsMet, terms_at, all_met, IsFine, IsTooFine}
+use Rattle.sith.specs.Clauses.{Share, product, sum_met, reach_whole, shares_at, all_met, IsFine, IsTooFine}
 
-abbrev pub denominators : List Term → List ℕ
+abbrev pub denominators : List Share → List ℕ
 denominators terms = map (λ t. denominator t.0) terms
 
 -- no denominator is 0
-abbrev pub AreSome : List Term → Type 0
+abbrev pub AreSome : List Share → Type 0
 AreSome terms = AllByRecursion (λ t. 0 < denominator t.0) terms
 
 divide_times : (ds : List ℕ) (d m : ℕ) → AllDivide ds m → AllDivide ds (d * m)
@@ -25,7 +25,7 @@ divide_times [] d m all = tt
 divide_times (e ∷ ds) d m all = (dvd-mul_left_of_dvd e all.0 d, divide_times ds d m all.1)
 
 -- the product is a common multiple
-pub product_common : (terms : List Term) → AllDivide (denominators terms) (product terms)
+pub product_common : (terms : List Share) → AllDivide (denominators terms) (product terms)
 product_common [] = tt
 product_common (t ∷ terms) = (dvd-mul_right (denominator t.0) (product terms), divide_times (denominators terms) (denominator t.0) (product terms) (product_common terms))
 
@@ -34,7 +34,7 @@ times_some zero b x y = absurd (omega (arith, x))
 times_some a zero x y = absurd (omega (arith, y))
 times_some (suc a) (suc b) x y = grind arith
 
-pub product_some : (terms : List Term) → AreSome terms → 0 < product terms
+pub product_some : (terms : List Share) → AreSome terms → 0 < product terms
 product_some [] some = omega arith
 product_some (t ∷ terms) some = times_some (denominator t.0) (product terms) some.0 (product_some terms some.1)
 
@@ -45,7 +45,7 @@ scaled_part n m k d some divides =
     ap (λ x. n * x) (div-eq_of_eq-mul_left some whole) ∙ sym (mul_assoc n (m / d) k)
 
 -- the sum of a scaled whole
-pub sum_scaled : (terms : List Term) (m k : ℕ) → AreSome terms → AllDivide (denominators terms) m → sum_met (m * k) terms ≡ sum_met m terms * k
+pub sum_scaled : (terms : List Share) (m k : ℕ) → AreSome terms → AllDivide (denominators terms) m → sum_met (m * k) terms ≡ sum_met m terms * k
 sum_scaled [] m k some all = omega arith
 sum_scaled ((w, true) ∷ terms) m k some all =
     ap (λ x. x + sum_met (m * k) terms) (scaled_part (numerator w) m k (denominator w) some.0 all.0)
@@ -61,7 +61,7 @@ less_scaled a b k some h = elim (cases_lt b a) [
 ]
 
 -- A common multiple that divides the product tells as well as the product whether the clause is met.
-pub met_by : (terms : List Term) (m : ℕ) → AreSome terms → AllDivide (denominators terms) m → m ∣ product terms → (m ≤ sum_met m terms) ↔ IsMet terms
+pub met_by : (terms : List Share) (m : ℕ) → AreSome terms → AllDivide (denominators terms) m → m ∣ product terms → (m ≤ sum_met m terms) ↔ (product terms ≤ sum_met (product terms) terms)
 met_by terms m some all divides =
     let k = product terms / m in
     let whole : m * k ≡ product terms = mul_comm m k ∙ div-mul_cancel m divides in
@@ -70,10 +70,6 @@ met_by terms m some all divides =
       λ enough. subst (λ s. product terms ≤ s) (sym sums) (subst (λ p. p ≤ sum_met m terms * k) whole (mul-le-mul_right k enough)),
       λ met. less_scaled m (sum_met m terms) k k_some (subst (λ p. p ≤ sum_met m terms * k) (sym whole) (subst (λ s. product terms ≤ s) sums met)),
     )
-
-denominators-terms_at : (weights : List Weight) (start : ℕ) (indices : List ℕ) → denominators (terms_at weights start indices) ≡ map denominator weights
-denominators-terms_at [] start indices = refl
-denominators-terms_at (w ∷ weights) start indices = ap (λ l. denominator w ∷ l) (denominators-terms_at weights (start + 1) indices)
 
 denominators-all_met : (weights : List Weight) → denominators (all_met weights) ≡ map denominator weights
 denominators-all_met [] = refl
@@ -84,28 +80,43 @@ some_denominator Zero is = omega arith
 some_denominator One is = omega arith
 some_denominator (Part n d) is = omega (arith, is)
 
-some_terms_at : (weights : List Weight) (start : ℕ) (indices : List ℕ) → AllByRecursion IsWeight weights → AreSome (terms_at weights start indices)
-some_terms_at [] start indices all = tt
-some_terms_at (w ∷ weights) start indices all = (some_denominator w all.0, some_terms_at weights (start + 1) indices all.1)
-
 some_all_met : (weights : List Weight) → AllByRecursion IsWeight weights → AreSome (all_met weights)
 some_all_met [] all = tt
 some_all_met (w ∷ weights) all = (some_denominator w all.0, some_all_met weights all.1)
 
-tells : (terms : List Term) (weights : List Weight) (m : ℕ) → denominators terms ≡ map denominator weights → AreSome terms → IsLeastMultiple (map denominator weights) m → (m ≤ sum_met m terms) ↔ IsMet terms
-tells terms weights m same some least =
-    met_by terms m some (subst (λ l. AllDivide l m) (sym same) least.common) (least.least (product terms) (subst (λ l. AllDivide l (product terms)) same (product_common terms)))
+-- tests of orders that stand together are the same
+same_tests : (a b c d : ℕ) → (a ≤ b) ↔ (c ≤ d) → leb a b ≡ leb c d
+same_tests a b c d both = elim (cases_Bool (leb a b)) [
+  | inl t ↦ t ∙ sym (le-leb c d (both.0 (leb-true a b t)))
+  | inr f ↦ elim (cases_Bool (leb c d)) [
+    | inl t ↦ absurd (false≢true (sym f ∙ le-leb a b (both.1 (leb-true c d t))))
+    | inr g ↦ f ∙ sym g
+  ]
+]
 
--- the least common multiple of a clause tells whether it is met
-pub met_at : (weights : List Weight) (start : ℕ) (indices : List ℕ) (m : ℕ) → AllByRecursion IsWeight weights → IsLeastMultiple (map denominator weights) m → (m ≤ sum_met m (terms_at weights start indices)) ↔ IsMet (terms_at weights start indices)
-met_at weights start indices m all least = tells (terms_at weights start indices) weights m (denominators-terms_at weights start indices) (some_terms_at weights start indices all) least
+-- the least common multiple tells as well as the product whether the weights that are met reach a whole
+pub tells : (shares : List Share) (weights : List Weight) (m : ℕ) → denominators shares ≡ map denominator weights → AreSome shares → IsLeastMultiple (map denominator weights) m → m ≤ 2 ^ 64
+    → leb m (min (sum_met m shares) (2 ^ 128 - 1)) ≡ reach_whole shares
+tells shares weights m same some least few =
+    let by = met_by shares m some (subst (λ l. AllDivide l m) (sym same) least.common) (least.least (product shares) (subst (λ l. AllDivide l (product shares)) same (product_common shares))) in
+    same_tests m (min (sum_met m shares) (2 ^ 128 - 1)) (product shares) (sum_met (product shares) shares) (λ enough. by.0 (omega (arith, enough)), λ met. omega (arith, by.1 met, few))
 
-pub met_all : (weights : List Weight) (m : ℕ) → AllByRecursion IsWeight weights → IsLeastMultiple (map denominator weights) m → (m ≤ sum_met m (all_met weights)) ↔ IsMet (all_met weights)
-met_all weights m all least = tells (all_met weights) weights m (denominators-all_met weights) (some_all_met weights all) least
+module _ {A : Type 0} (weight : A → Weight) (size : A → ℕ) (met : A → ℕ → List ℕ → Bool) (indices : List ℕ) where
+  denominators-shares_at : (members : List A) (start : ℕ) → denominators (shares_at weight size met members start indices) ≡ map denominator (map weight members)
+  denominators-shares_at [] start = refl
+  denominators-shares_at (a ∷ members) start = ap (λ l. denominator (weight a) ∷ l) (denominators-shares_at members (start + size a))
 
--- the test of the sum, as the code makes it
-pub test_is : (m s sum : ℕ) (P : Type 0) → s ≡ sum → (m ≤ sum) ↔ P → IsTrue (leb m s) ↔ P
-test_is m s sum P same tells = (λ holds. tells.0 (omega (arith, leb-true m s holds, same)), λ p. le-leb m s (omega (arith, tells.1 p, same)))
+  some_shares_at : (members : List A) (start : ℕ) → AllByRecursion IsWeight (map weight members) → AreSome (shares_at weight size met members start indices)
+  some_shares_at [] start all = tt
+  some_shares_at (a ∷ members) start all = (some_denominator (weight a) all.0, some_shares_at members (start + size a) all.1)
+
+  pub met_at : (members : List A) (start m : ℕ) → AllByRecursion IsWeight (map weight members) → IsLeastMultiple (map denominator (map weight members)) m → m ≤ 2 ^ 64
+      → leb m (min (sum_met m (shares_at weight size met members start indices)) (2 ^ 128 - 1)) ≡ reach_whole (shares_at weight size met members start indices)
+  met_at members start m all least few = tells _ (map weight members) m (denominators-shares_at members start) (some_shares_at members start all) least few
+
+pub met_all : (weights : List Weight) (m : ℕ) → AllByRecursion IsWeight weights → IsLeastMultiple (map denominator weights) m → m ≤ 2 ^ 64
+    → leb m (min (sum_met m (all_met weights)) (2 ^ 128 - 1)) ≡ reach_whole (all_met weights)
+met_all weights m all least few = tells (all_met weights) weights m (denominators-all_met weights) (some_all_met weights all) least few
 
 pub not_both : (weights : List Weight) → IsFine weights → IsTooFine weights → ⊥
 not_both weights fine too = too fine.0 fine.1 fine.2 fine.3

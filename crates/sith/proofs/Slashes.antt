@@ -1,10 +1,11 @@
 -- Two numbers with a slash between them.
-use Rattle.std.proofs.Common.{◌≡◌, ◌≢◌, ℕ, suc, ◌+◌, ◌<◌, List, [], ◌∷◌, ◌++◌, length, take, drop, get_or, refl, sym, ap, subst, ◌∙◌, arith, add-one, drop-cons}
+use Rattle.std.proofs.Common.{◌≡◌, ◌≢◌, ℕ, suc, ◌+◌, ◌^◌, ◌<◌, List, [], ◌∷◌, ◌++◌, length, take, drop, get_or, refl, sym, ap, subst, ◌∙◌, arith, add-one, drop-cons}
 use Rattle.std.specs.Str.Parse.{AllDigits}
 use Rattle.std.specs.Char.{digit_value}
 use Rattle.std.proofs.lemmas.List.{take-append-drop, take_more}
-use Rattle.sith.specs.Decimals.{IsDecimalOf, HasNoSlash}
-use Rattle.sith.specs.Parts.{SpellsPart}
+use Rattle.std.specs.Fmt.{decimal}
+use Rattle.std.proofs.lemmas.Fmt.{decimal_is_IsNumeral, decimal_injective}
+use Rattle.sith.specs.Weights.{HasNoSlash, IsPart}
 
 pub first_same : (a b : ℕ) (x y : List ℕ) → a ∷ x ≡ b ∷ y → a ≡ b
 first_same a b x y e = cc
@@ -34,17 +35,19 @@ digits_no_slash : (digits : List ℕ) → AllDigits 10 digits → HasNoSlash dig
 digits_no_slash [] all = tt
 digits_no_slash (c ∷ digits) all = (slash_is_no_digit c all.0, digits_no_slash digits all.1)
 
-pub decimal_no_slash : (n : ℕ) (digits : List ℕ) → IsDecimalOf n digits → HasNoSlash digits
-decimal_no_slash n digits is = digits_no_slash digits is.numeral.1
+pub decimal_no_slash : (n : ℕ) → n < 2 ^ 64 → HasNoSlash (decimal n)
+decimal_no_slash n few = digits_no_slash (decimal n) (decimal_is_IsNumeral n few).0.1
 
 -- the two numbers are what stands on both sides of the slash
-pub part_is : (n d : ℕ) (text top bottom : List ℕ) → HasNoSlash top → text ≡ top ++ 47 ∷ bottom → SpellsPart n d text → IsDecimalOf n top × IsDecimalOf d bottom
-part_is n d text top bottom none whole part =
-    let same = one_slash part.top top part.bottom bottom (decimal_no_slash n part.top part.numerator) none (sym part.whole ∙ whole) in
-    (subst (IsDecimalOf n) same.0 part.numerator, subst (IsDecimalOf d) same.1 part.denominator)
+pub part_is : (n d : ℕ) (text top bottom : List ℕ) → IsPart n d → HasNoSlash top → text ≡ top ++ 47 ∷ bottom → text ≡ decimal n ++ 47 ∷ decimal d → (top ≡ decimal n) × (bottom ≡ decimal d)
+part_is n d text top bottom part none whole is =
+    one_slash top (decimal n) bottom (decimal d) none (decimal_no_slash n (omega (arith, part))) (sym whole ∙ is)
 
-pub one_decimal : (m n : ℕ) (digits : List ℕ) → IsDecimalOf m digits → IsDecimalOf n digits → m ≡ n
-one_decimal m n digits ours theirs = sym ours.value ∙ theirs.value
+-- a part has one spelling
+pub one_part : (n d m e : ℕ) → IsPart n d → IsPart m e → decimal n ++ 47 ∷ decimal d ≡ decimal m ++ 47 ∷ decimal e → (n ≡ m) × (d ≡ e)
+one_part n d m e ours theirs same =
+    let both = one_slash (decimal n) (decimal m) (decimal d) (decimal e) (decimal_no_slash n (omega (arith, ours))) (decimal_no_slash m (omega (arith, theirs))) same in
+    (decimal_injective n m (omega (arith, ours)) (omega (arith, theirs)) both.0, decimal_injective d e (omega (arith, ours)) (omega (arith, theirs)) both.1)
 
 -- the text before a place, the byte there and the text behind it
 pub split_there : (text : List ℕ) (place : ℕ) (byte : ℕ) → place < length text → get_or text place 0 ≡ byte → text ≡ take place text ++ byte ∷ drop (place + 1) text

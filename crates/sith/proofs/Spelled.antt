@@ -1,73 +1,86 @@
 -- Where a value spells a threshold that is read for so many keys, no fault has a cause.
-use Rattle.std.proofs.Common.{◌≡◌, ℕ, zero, suc, List, [], ◌∷◌, refl, inl, inr, sym, ap, subst, ◌∙◌, Result, Ok, Err, IfOk, IfErr}
-use Rattle.std.specs.List.{AllByRecursion}
+use Rattle.std.proofs.Common.{◌≡◌, ◌≢◌, ℕ, List, [], ◌∷◌, ◌++◌, map, refl, inl, inr, sym, ap, ◌∙◌, Result, Ok, Err, IfOk, IfErr}
 use Rattle.std.specs.Prelude.{◌⊎◌}
+use Rattle.std.specs.List.{AllByRecursion, flat_map}
 use Rattle.std.specs.Result.{IsErr}
 use Rattle.json_tree.specs.declared.tree.Tree.{Tree}
+use Rattle.json_tree.specs.declared.tree.Tree.TheVariants.{Str, List as TreeList, Object as TreeObject}
 use Rattle.sith.specs.declared.weight.Weight.{Weight}
+use Rattle.sith.specs.declared.term.Term.{Term}
+use Rattle.sith.specs.declared.term.Term.TheVariants.{Single, Group}
 use Rattle.sith.specs.declared.threshold.Threshold.{Threshold}
 use Rattle.sith.specs.declared.threshold.Threshold.TheVariants.{Count, Flat, Nested}
 use Rattle.sith.specs.declared.sith_fault.SithFault.{SithFault}
 use Rattle.sith.specs.declared.sith_fault.SithFault.TheVariants.{Form, BadWeight, OutOfRange, TooFine, Unreachable, OutOfMemory}
-use Rattle.sith.specs.Clauses.{IsTooFine, IsReachable}
-use Rattle.sith.specs.Thresholds.{IsText, IsTextList, HasForm, Each, SpellsText, SpellsList, Spells, IsFirstBad, IsFirstBadIn, IsBadWeight, IsFormFault}
-use Rattle.sith.specs.Rules.{Some, clauses_of, IsReadClause, IsReadFor, IsRuleFault}
-use Rattle.sith.proofs.Values.{list_injective, list_or_text}
-use Rattle.sith.proofs.OneThreshold.{one_threshold}
+use Rattle.sith.specs.Weights.{IsWeight}
+use Rattle.sith.specs.Clauses.{IsTooFine, IsReachable, AreRead}
+use Rattle.sith.specs.Thresholds.{weight_text, weight_value, term_value, clause_value, clause_weights, Written, single, group, written_value, written_clause, clause_texts, HasForm, Spells, IsFirstBad, IsBadWeight, IsFormFault}
+use Rattle.sith.specs.Rules.{AnyByRecursion, all_sums, IsReadFor, IsRuleFault}
+use Rattle.sith.proofs.FirstBad.{texts_are, clause_same}
+use Rattle.sith.proofs.OneThreshold.{one_threshold, term_or_list}
+use Rattle.sith.proofs.Values.{list_injective, list_or_text, object_or_list}
 
-module _ {A B : Type 0} (R : A → B → Type 0) (P : B → Type 0) (is : (a : A) (b : B) → R a b → P b) where
-  each_is : (xs : List A) (ys : List B) → Each R xs ys → AllByRecursion P ys
-  each_is xs [] each = tt
-  each_is [] (y ∷ ys) each = absurd each
-  each_is (x ∷ xs) (y ∷ ys) each = (is x y each.0, each_is xs ys each.1)
+module _ {A W : Type 0} (f : A → Tree) (value : W → Tree) (written : A → W) (is : (a : A) → f a ≡ value (written a)) where
+  map_written : (xs : List A) → map f xs ≡ map value (map written xs)
+  map_written [] = refl
+  map_written (x ∷ xs) = ap (λ t. t ∷ map f xs) (is x) ∙ ap (λ l. value (written x) ∷ l) (map_written xs)
 
-is_text : (weight : Weight) (tree : Tree) → SpellsText weight tree → IsText tree
-is_text weight tree spells = (spells.0, spells.1)
+-- what is written of a term
+written_of : Term → Written
+written_of (Single weight) = single (weight_text weight)
+written_of (Group weight inner) = group (weight_text weight) (map weight_text inner)
 
-is_text_list : (weights : List Weight) (tree : Tree) → SpellsList weights tree → IsTextList tree
-is_text_list weights tree spells = (spells.0, spells.1, each_is SpellsText IsText is_text weights spells.0 spells.2)
+term_written : (term : Term) → term_value term ≡ written_value (written_of term)
+unfolding written_of
+term_written (Single weight) = refl
+term_written (Group weight inner) = ap (λ l. TreeObject (record { name = weight_text weight; value = TreeList l } ∷ [])) (map_written weight_value (λ text. Str text) weight_text (λ w. refl) inner)
+
+clause_written : (terms : List Term) → clause_value terms ≡ written_clause (map written_of terms)
+clause_written terms = ap TreeList (map_written term_value written_value written_of term_written terms)
 
 has_form : (threshold : Threshold) (tree : Tree) → Spells threshold tree → HasForm tree
 has_form (Count n) tree spells = inl (spells.0, spells.1, spells.2)
-has_form (Flat weights) tree spells = inr (inl (is_text_list weights tree spells.1))
-has_form (Nested clauses) tree spells = inr (inr (spells.0, spells.1, each_is SpellsList IsTextList is_text_list clauses spells.0 spells.2))
+has_form (Flat terms) tree spells = inr (inl (map written_of terms, spells.2 ∙ clause_written terms))
+has_form (Nested clauses) tree spells = inr (inr (map (λ terms. map written_of terms) clauses, spells.1 ∙ ap TreeList (map_written clause_value written_clause (λ terms. map written_of terms) clause_written clauses)))
 
--- texts that spell weights have none that is bad
-no_bad : (weights : List Weight) (texts : List Tree) (place : ℕ) → Each SpellsText weights texts → IsFirstBad texts place → ⊥
-no_bad weights [] place each bad = bad
-no_bad [] (t ∷ texts) place each bad = absurd each
-no_bad (w ∷ weights) (t ∷ texts) zero each bad = bad w each.0
-no_bad (w ∷ weights) (t ∷ texts) (suc place) each bad = no_bad weights texts place each.1 bad.1
+-- texts of weights have none that is bad
+spelled_text : (before weights : List Weight) (bad : List ℕ) (behind : List (List ℕ)) → AllByRecursion IsWeight weights → map weight_text weights ≡ map weight_text before ++ bad ∷ behind → (w : Weight) × IsWeight w × (bad ≡ weight_text w)
+spelled_text [] [] bad behind all e = cc e
+spelled_text [] (w ∷ weights) bad behind all e = (w, all.0, cc e)
+spelled_text (b ∷ before) [] bad behind all e = cc e
+spelled_text (b ∷ before) (w ∷ weights) bad behind all e =
+    let rest : map weight_text weights ≡ map weight_text before ++ bad ∷ behind = cc e in
+    spelled_text before weights bad behind all.1 rest
 
-no_bad_in : (clauses : List (List Weight)) (lists : List Tree) (place : ℕ) → Each SpellsList clauses lists → IsFirstBadIn lists place → ⊥
-no_bad_in clauses [] place each bad = bad
-no_bad_in [] (l ∷ lists) place each bad = absurd each
-no_bad_in (c ∷ clauses) (l ∷ lists) place each (inl here) =
-    no_bad c each.0.0 place each.0.2 (subst (λ texts. IsFirstBad texts place) (list_injective here.0 each.0.0 (sym here.1 ∙ each.0.1)) here.2)
-no_bad_in (c ∷ clauses) (l ∷ lists) place each (inr behind) = no_bad_in clauses lists behind.1 each.1 behind.4
+no_bad : (n : ℕ) (weights : List Weight) (texts : List (List ℕ)) → AllByRecursion IsWeight weights → texts ≡ map weight_text weights → IsFirstBad 0 n texts → ⊥
+no_bad n weights texts all are b = let found = spelled_text b.before weights b.bad b.behind all (sym are ∙ b.are) in b.none found.0 found.1 found.2
 
--- texts that spell weights aren't lists, and the other way round
-no_bad_list : (weights : List Weight) (values : List Tree) (place : ℕ) → Each SpellsText weights values → AllByRecursion IsTextList values → IsFirstBadIn values place → ⊥
-no_bad_list weights [] place each lists bad = bad
-no_bad_list [] (v ∷ values) place each lists bad = absurd each
-no_bad_list (w ∷ weights) (v ∷ values) place each lists bad = list_or_text lists.0.0 each.0.0 (sym lists.0.1 ∙ each.0.1)
+-- a list of terms is no list of clauses
+no_clauses : (terms : List Term) (clauses : List (List Written)) → terms ≢ [] → map term_value terms ≡ map written_clause clauses → ⊥
+no_clauses [] clauses some e = some refl
+no_clauses (t ∷ terms) [] some e = cc e
+no_clauses (t ∷ terms) (c ∷ clauses) some e = let first : term_value t ≡ written_clause c = cc e in term_or_list t (map written_value c) first
 
-no_bad_text : (clauses : List (List Weight)) (values : List Tree) (place : ℕ) → Each SpellsList clauses values → AllByRecursion IsText values → IsFirstBad values place → ⊥
-no_bad_text clauses [] place each texts bad = bad
-no_bad_text [] (v ∷ values) place each texts bad = absurd each
-no_bad_text (c ∷ clauses) (v ∷ values) place each texts bad = list_or_text each.0.0 texts.0.0 (sym each.0.1 ∙ texts.0.1)
+list_or_written : (trees : List Tree) (w : Written) → TreeList trees ≢ written_value w
+list_or_written trees (single text) e = list_or_text trees text e
+list_or_written trees (group outer inner) e = object_or_list _ trees (sym e)
+
+no_terms : (n : ℕ) (clauses : List (List Term)) (ws : List Written) → map clause_value clauses ≡ map written_value ws → IsFirstBad 0 n (clause_texts ws) → ⊥
+no_terms n [] [] e bad = no_bad n [] [] tt refl bad
+no_terms n [] (w ∷ ws) e bad = cc e
+no_terms n (c ∷ clauses) [] e bad = cc e
+no_terms n (c ∷ clauses) (w ∷ ws) e bad = let first : clause_value c ≡ written_value w = cc e in list_or_written (map term_value c) w first
 
 module _ (n : ℕ) (tree : Tree) where
   no_bad_weight : (threshold : Threshold) → Spells threshold tree → IsBadWeight n tree → ⊥
-  no_bad_weight (Count m) spells bad = list_or_text bad.0 spells.0 (sym bad.1 ∙ spells.1)
-  no_bad_weight (Flat weights) spells (values, is, place, counts, inl here) =
-      no_bad weights values place (subst (Each SpellsText weights) (list_injective spells.1.0 values (sym spells.1.1 ∙ is)) spells.1.2) here.1
-  no_bad_weight (Flat weights) spells (values, is, place, counts, inr here) =
-      no_bad_list weights values place (subst (Each SpellsText weights) (list_injective spells.1.0 values (sym spells.1.1 ∙ is)) spells.1.2) here.0 here.1
-  no_bad_weight (Nested clauses) spells (values, is, place, counts, inl here) =
-      no_bad_text clauses values place (subst (Each SpellsList clauses) (list_injective spells.0 values (sym spells.1 ∙ is)) spells.2) here.0 here.1
-  no_bad_weight (Nested clauses) spells (values, is, place, counts, inr here) =
-      no_bad_in clauses values place (subst (Each SpellsList clauses) (list_injective spells.0 values (sym spells.1 ∙ is)) spells.2) here.1
+  no_bad_weight (Count m) spells (inl (ws, is, bad)) = list_or_text (map written_value ws) spells.0 (sym is ∙ spells.1)
+  no_bad_weight (Count m) spells (inr (cs, is, bad)) = list_or_text (map written_clause cs) spells.0 (sym is ∙ spells.1)
+  no_bad_weight (Flat terms) spells (inl (ws, is, bad)) = no_bad n (clause_weights terms) (clause_texts ws) spells.1 (clause_same terms ws (sym spells.2 ∙ is)) bad
+  no_bad_weight (Flat terms) spells (inr (cs, is, bad)) = no_clauses terms cs spells.0 (list_injective (map term_value terms) (map written_clause cs) (sym spells.2 ∙ is))
+  no_bad_weight (Nested clauses) spells (inl (ws, is, bad)) = no_terms n clauses ws (list_injective (map clause_value clauses) (map written_value ws) (sym spells.1 ∙ is)) bad
+  no_bad_weight (Nested clauses) spells (inr (cs, is, bad)) =
+      no_bad n (flat_map clause_weights clauses) (flat_map clause_texts cs) spells.0
+      (texts_are clause_value written_clause clause_texts clause_weights clause_same clauses cs (list_injective (map clause_value clauses) (map written_clause cs) (sym spells.1 ∙ is))) bad
 
 -- the form of a value that spells a threshold has no fault but want of memory
 pub form_is_good : (threshold : Threshold) (tree : Tree) (fault : SithFault) → Spells threshold tree → IsFormFault fault tree → fault ≡ OutOfMemory
@@ -78,26 +91,26 @@ form_is_good threshold tree OutOfRange spells bad = absurd bad
 form_is_good threshold tree TooFine spells bad = absurd bad
 form_is_good threshold tree Unreachable spells bad = absurd bad
 
-module _ (Bad : List Weight → Type 0) (good : (clause : List Weight) → IsReadClause clause → Bad clause → ⊥) where
-  no_clause : (clauses : List (List Weight)) → AllByRecursion IsReadClause clauses → Some Bad clauses → ⊥
-  no_clause [] all bad = bad
-  no_clause (c ∷ clauses) all (inl here) = good c all.0 here
-  no_clause (c ∷ clauses) all (inr there) = no_clause clauses all.1 there
+module _ (Bad : List Weight → Type 0) (good : (weights : List Weight) → AreRead weights → Bad weights → ⊥) where
+  no_sum : (sums : List (List Weight)) → AllByRecursion AreRead sums → AnyByRecursion Bad sums → ⊥
+  no_sum [] all bad = bad
+  no_sum (s ∷ sums) all (inl here) = good s all.0 here
+  no_sum (s ∷ sums) all (inr there) = no_sum sums all.1 there
 
-not_too_fine : (clause : List Weight) → IsReadClause clause → IsTooFine clause → ⊥
-not_too_fine clause good bad = bad good.1.0 good.1.1 good.1.2 good.1.3
+not_too_fine : (weights : List Weight) → AreRead weights → IsTooFine weights → ⊥
+not_too_fine weights good bad = bad good.1.0 good.1.1 good.1.2 good.1.3
 
-not_unreachable : (clause : List Weight) → IsReadClause clause → ¬ IsReachable clause → ⊥
-not_unreachable clause good bad = bad good.2
+not_unreachable : (weights : List Weight) → AreRead weights → ¬ IsReachable weights → ⊥
+not_unreachable weights good bad = bad good.2
 
 -- a threshold that is read for so many keys breaks no rule
 pub no_rule : (threshold : Threshold) (keys : ℕ) (fault : SithFault) → IsReadFor threshold keys → IsRuleFault fault threshold keys → ⊥
 no_rule threshold keys OutOfRange good bad = bad good.0
-no_rule threshold keys TooFine good bad = no_clause IsTooFine not_too_fine (clauses_of threshold) good.1 bad.1
-no_rule threshold keys Unreachable good bad = no_clause (λ clause. ¬ IsReachable clause) not_unreachable (clauses_of threshold) good.1 bad.2
-no_rule threshold keys Form good bad = bad
-no_rule threshold keys (BadWeight n) good bad = bad
-no_rule threshold keys OutOfMemory good bad = bad
+no_rule threshold keys TooFine good bad = no_sum IsTooFine not_too_fine (all_sums threshold) good.1 bad.1
+no_rule threshold keys Unreachable good bad = no_sum (λ weights. ¬ IsReachable weights) not_unreachable (all_sums threshold) good.1 bad.1.1
+no_rule threshold keys Form good bad = bad.1
+no_rule threshold keys (BadWeight n) good bad = bad.1
+no_rule threshold keys OutOfMemory good bad = bad.1
 
 pub memory_ran_out : {T : Type 0} (r : Result T SithFault) → IsErr r → IfErr r (λ fault. fault ≡ OutOfMemory) → r ≡ Err OutOfMemory
 memory_ran_out (Ok value) fails is = cc fails

@@ -1,36 +1,34 @@
--- Which weights meet a clause.
-use Rattle.std.specs.Prelude.{◌<◌, ◌≤◌, ◌^◌, ◌*◌, ◌+◌, ◌/◌, ◌==◌, ℕ, List, [], ◌∷◌, Bool, true, if◌then◌else◌, map}
-use Rattle.std.specs.List.{list_any}
+-- Which weights reach a whole.
+use Rattle.std.specs.Prelude.{◌<◌, ◌≤◌, ◌^◌, ◌*◌, ◌+◌, ◌/◌, nat_le, ℕ, List, [], ◌∷◌, Bool, true, IsTrue, if◌then◌else◌, map}
+use Rattle.std.specs.List.{AllByRecursion}
 use Rattle.sith.specs.declared.weight.Weight.{Weight}
 use Rattle.sith.specs.Divisors.{AllDivide}
-use Rattle.sith.specs.Weights.{numerator, denominator}
+use Rattle.sith.specs.Weights.{IsWeight, numerator, denominator}
 
 -- a weight, and whether it is met
-abbrev pub Term : Type 0
-Term = Weight × Bool
+abbrev pub Share : Type 0
+Share = Weight × Bool
 
--- the product of all denominators of the clause
-abbrev pub product : List Term → ℕ
+-- the product of all denominators
+abbrev pub product : List Share → ℕ
 product [] = 1
-product (t ∷ ts) = denominator t.0 * product ts
+product (s ∷ shares) = denominator s.0 * product shares
 
 -- the sum of the weights that are met, in parts of a whole of so many parts
-abbrev pub sum_met : ℕ → List Term → ℕ
+abbrev pub sum_met : ℕ → List Share → ℕ
 sum_met whole [] = 0
-sum_met whole (t ∷ ts) = (if t.1 then numerator t.0 * (whole / denominator t.0) else 0) + sum_met whole ts
+sum_met whole (s ∷ shares) = (if s.1 then numerator s.0 * (whole / denominator s.0) else 0) + sum_met whole shares
 
--- A clause is met where the weights that are met sum to at least 1.
-abbrev pub IsMet : List Term → Type 0
-IsMet terms = product terms ≤ sum_met (product terms) terms
+-- the weights that are met sum to at least 1
+abbrev pub reach_whole : List Share → Bool
+reach_whole shares = nat_le (product shares) (sum_met (product shares) shares)
 
--- the weights of a clause whose first has this index, each met where its index is among these
-abbrev pub terms_at : List Weight → ℕ → List ℕ → List Term
-terms_at [] start indices = []
-terms_at (w ∷ ws) start indices = (w, list_any (λ i. i == start) indices) ∷ terms_at ws (start + 1) indices
-
--- all weights of a clause, met
-abbrev pub all_met : List Weight → List Term
-all_met weights = map (λ w. (w, true)) weights
+module _ {A : Type 0} (weight : A → Weight) (size : A → ℕ) (is_met : A → ℕ → List ℕ → Bool) where
+  -- the weights of these, each with whether it is met by these indices: the first has this index, and each takes as many
+  -- as its size
+  abbrev pub shares_at : List A → ℕ → List ℕ → List Share
+  shares_at [] start indices = []
+  shares_at (a ∷ others) start indices = (weight a, is_met a start indices) ∷ shares_at others (start + size a) indices
 
 -- no number up to 2^64 is a common multiple of the denominators: the least one is over 2^64
 abbrev pub IsTooFine : List Weight → Type 0
@@ -40,6 +38,14 @@ IsTooFine weights = (m : ℕ) → 0 < m → m ≤ 2 ^ 64 → ¬ AllDivide (map d
 abbrev pub IsFine : List Weight → Type 0
 IsFine weights = (m : ℕ) × (0 < m) × (m ≤ 2 ^ 64) × AllDivide (map denominator weights) m
 
+-- all these weights, met
+abbrev pub all_met : List Weight → List Share
+all_met weights = map (λ w. (w, true)) weights
+
 -- the weights sum to at least 1
 abbrev pub IsReachable : List Weight → Type 0
-IsReachable weights = IsMet (all_met weights)
+IsReachable weights = IsTrue (reach_whole (all_met weights))
+
+-- weights that a reading lets pass together
+abbrev pub AreRead : List Weight → Type 0
+AreRead weights = AllByRecursion IsWeight weights × IsFine weights × IsReachable weights

@@ -1,8 +1,7 @@
-pub mod Decimals
-pub mod Parts
 pub mod Weights
 pub mod Divisors
 pub mod Clauses
+pub mod Terms
 pub mod Thresholds
 pub mod Rules
 pub mod Tests

@@ -1,19 +1,21 @@
 //! Signing thresholds: how they are spelled as JSON values, and which sets of key indices meet them.
 #![tactic(auto)]
 
-mod clause;
 mod decimal;
 mod divisors;
 mod form;
+mod member;
+mod reader;
 mod rules;
 mod signers;
 mod sith_fault;
-mod spelling;
-#[cfg(test)]
-mod tests;
+mod sum;
+mod term;
 mod threshold;
+mod threshold_value;
 mod weight;
 
 pub use sith_fault::SithFault;
+pub use term::Term;
 pub use threshold::Threshold;
 pub use weight::Weight;

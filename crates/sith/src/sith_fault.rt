@@ -4,18 +4,24 @@ ghost use Rattle.sith.specs.declared.sith_fault.SithFault.TheVariants.{OutOfMemo
 
 use std::alloc::{AllocError, AllocFailed};
 
+/// The first rule that a value breaks which is read as a threshold of so many keys, in this order.
 #[derive(Clone, Copy, PartialEq, Eq, Debug)]
 pub enum SithFault {
-    /// It is no hexadecimal text, list of texts or list of lists of texts.
+    /// It is no hexadecimal text, no list of texts and groups, and no list of such lists. A group is an object with exactly
+    /// one member, whose value is a list of texts.
     Form,
-    /// The number of the first weight, counted over all clauses, that is none. 65,535 stands for every greater number too.
+    /// The number of the first weight that is not `0`, `1` or a fraction of at most 1. They are counted from 0 in the order
+    /// of the text, a group's outer weight before its inner ones. 65,535 stands for every greater number too.
     BadWeight(u16),
-    /// It is not of so many keys.
+    /// A number is not from 1 to the number of keys (for no keys: not 0), a list's single and inner weights aren't as many as
+    /// the keys, or it has no clause.
     OutOfRange,
-    /// A clause's denominators have no common multiple up to 2^64.
+    /// The denominators of a clause's single and outer weights, or of a group's inner weights, have no common multiple up to
+    /// 2^64.
     TooFine,
-    /// A clause's weights sum to less than 1.
+    /// A clause's single and outer weights, or a group's inner weights, sum to less than 1.
     Unreachable,
+    /// There was no memory for it.
     OutOfMemory,
 }
 

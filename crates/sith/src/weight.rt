@@ -1,7 +1,7 @@
 //! One weight of a threshold.
 ghost use Rattle.std.specs.Prelude.{◌≡◌, ◌≢◌, ◌++◌, ◌∷◌, ◌<◌, ℕ, List, take, length, slice_index, IfSome, IfNone};
-ghost use Rattle.sith.specs.Decimals.{HasNoSlash};
-ghost use Rattle.sith.specs.Parts.{SpellsPart};
+ghost use Rattle.std.specs.Fmt.{decimal};
+ghost use Rattle.sith.specs.Weights.{HasNoSlash, IsPart};
 
 use crate::decimal::read_decimal;
 use lists::CopyValue;
@@ -10,7 +10,9 @@ use std::alloc::{AllocError, Global};
 /// A weight: nothing, the whole, or so many parts of the whole.
 #[derive(Clone, Copy, PartialEq, Eq, Debug)]
 pub enum Weight {
+    /// Nothing, written `0`.
     Zero,
+    /// The whole, written `1`.
     One,
     /// The numerator and the denominator, as they are written: lowest terms are not required.
     Part(u32, u32),
@@ -45,8 +47,8 @@ fn split_at_slash(text: &[u8]) -> Option<(&[u8], &[u8])>
 
 /// The numerator and the denominator.
 fn read_part(text: &[u8]) -> Option<(u32, u32)>
-    ensures some { IfSome result (λ r. SpellsPart r.0 r.1 text.now) }
-    ensures none { IfNone result ((n d : ℕ) → ¬ SpellsPart n d text.now) }
+    ensures some { IfSome result (λ r. IsPart r.0 r.1 × (text.now ≡ decimal r.0 ++ 47 ∷ decimal r.1)) }
+    ensures none { IfNone result ((n d : ℕ) → IsPart n d → text.now ≢ decimal n ++ 47 ∷ decimal d) }
 {
     let Some((top, bottom)) = split_at_slash(text) else {
         return None;
@@ -65,13 +67,14 @@ fn read_part(text: &[u8]) -> Option<(u32, u32)>
 
 impl Weight {
     ghost use Rattle.sith.specs.declared.weight.Weight.{Weight};
-    ghost use Rattle.sith.specs.Weights.{SpellsWeight};
+    ghost use Rattle.sith.specs.Weights.{IsWeight};
+    ghost use Rattle.sith.specs.Thresholds.{weight_text};
 
     /// The weight that the text spells: `0`, `1`, or two decimal numbers without leading zeros with a slash between
     /// them, the first from 1 to the second.
     pub fn read(text: &[u8]) -> Option<Weight>
-        ensures some { IfSome result (λ weight. SpellsWeight weight text.now) }
-        ensures none { IfNone result ((weight : Weight) → ¬ SpellsWeight weight text.now) }
+        ensures some { IfSome result (λ weight. IsWeight weight × (text.now ≡ weight_text weight)) }
+        ensures none { IfNone result ((weight : Weight) → IsWeight weight → text.now ≢ weight_text weight) }
     {
         if text == b"0".as_slice() {
             return Some(Weight::Zero);

@@ -1,5 +1,5 @@
 use Rattle.std.proofs.Common.{take}
-use Rattle.sith.specs.Decimals.{HasNoSlash}
+use Rattle.sith.specs.Weights.{HasNoSlash}
 use Rattle.sith.proofs.weight.slash_place.Given as goal
 
 -- no byte so far is a slash
