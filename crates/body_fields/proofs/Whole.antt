@@ -5,12 +5,12 @@ use Rattle.keri_specs.specs.Hex.{hex_value}
 use Rattle.json_tree.specs.declared.tree.Tree.{Tree}
 use Rattle.body_fields.specs.declared.kind.Kind.{Kind}
 use Rattle.body_fields.specs.declared.fields.Fields.{Fields}
-use Rattle.body_fields.specs.declared.no_fields.NoFields.{NoFields}
-use Rattle.body_fields.specs.declared.no_fields.NoFields.TheVariants.{OtherSize, Ends, OutOfMemory}
+use Rattle.body_fields.specs.declared.fields_fault.FieldsFault.{FieldsFault}
+use Rattle.body_fields.specs.declared.fields_fault.FieldsFault.TheVariants.{OtherSize, Ends, OutOfMemory}
 use Rattle.body_fields.specs.Maps.{fields_of}
 use Rattle.body_fields.specs.Versions.{version_text}
 use Rattle.body_fields.specs.Bodies.{kind_text, members_text, AreOfForms, IsBody, Stand}
-use Rattle.body_fields.specs.Reading.{IsFault}
+use Rattle.body_fields.specs.Faults.{IsFault}
 use Rattle.body_fields.proofs.Fronts.{same_version}
 use Rattle.body_fields.proofs.Heads.{same_head}
 use Rattle.body_fields.proofs.Members.{same_members, all_begin}
@@ -33,7 +33,7 @@ one_body k l v w bytes ours theirs =
     (same.1, values theirs.of_forms same.2)
 
 -- what is a body is read, but for want of memory
-pub whole : (bytes : List ℕ) (r : Result Fields NoFields) → IfOk r (λ fields. IsBody fields.kind fields.values bytes) → IfErr r (λ fault. IsFault bytes fault)
+pub whole : (bytes : List ℕ) (r : Result Fields FieldsFault) → IfOk r (λ fields. IsBody fields.kind fields.values bytes) → IfErr r (λ fault. IsFault bytes fault)
     → (kind : Kind) (values : List Tree) → IsBody kind values bytes → (r ≡ Ok (record { kind = kind; values = values })) ⊎ (r ≡ Err OutOfMemory)
 whole bytes (Ok fields) read fault kind values body =
     let same = one_body fields.kind kind fields.values values bytes read body in

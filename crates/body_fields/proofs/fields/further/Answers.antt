@@ -4,7 +4,7 @@ use Rattle.body_fields.specs.declared.field.Field.{Field}
 use Rattle.body_fields.specs.declared.field.Field.TheVariants.{Said}
 use Rattle.body_fields.specs.Bodies.{Begins, AreOfForms, members_text}
 use Rattle.body_fields.proofs.Members.{one_more, stops, no_next, no_end}
-use Rattle.body_fields.proofs.reading.further.Goals as goal
+use Rattle.body_fields.proofs.fields.further.Goals as goal
 
 -- how many fields stand, those before these among them
 counted : (fields map : List Field) (i n : ℕ) (bytes : List ℕ) → fields ≡ map → n ≡ i → Begins i fields bytes × ¬ Begins (suc i) fields bytes

@@ -50,7 +50,7 @@ same_digits a b ia ib long e =
     let counts : length (map hex_digit a) ≡ length (map hex_digit b) = length-map a hex_digit ∙ long ∙ sym (length-map b hex_digit) in
     one_row a b ia ib (sym there ∙ ap (λ k. digits_in 16 k (hex_value a)) counts ∙ ap (digits_in 16 (length (map hex_digit b))) e ∙ here)
 
-value_low : (ds : List ℕ) → list_all is_hex ds ≡ true → hex_value ds < 16 ^ length ds
+pub value_low : (ds : List ℕ) → list_all is_hex ds ≡ true → hex_value ds < 16 ^ length ds
 value_low ds all = subst (λ k. hex_value ds < 16 ^ k) (length-map ds hex_digit) (number_lt 16 (map hex_digit ds) (below ds all))
 
 value_high : (c : ℕ) (ds : List ℕ) → 0 < hex_digit c → 16 ^ length ds ≤ hex_value (c ∷ ds)
