@@ -8,6 +8,8 @@ pub mod Scales
 pub mod RuleSteps
 pub mod ReadFor
 pub mod Numerals
+pub mod Digits
+pub mod ThresholdValues
 pub mod OneThreshold
 pub mod Spelled
 pub mod Tested

@@ -1,15 +1,35 @@
 -- What a threshold is, and how it is spelled as a JSON value.
-use Rattle.std.specs.Prelude.{◌≡◌, ◌≢◌, ◌+◌, ◌-◌, ◌^◌, ◌⊎◌, min, ℕ, zero, suc, List, [], ◌∷◌, ⊤, length}
+use Rattle.std.specs.Prelude.{◌≡◌, ◌≢◌, ◌+◌, ◌-◌, ◌^◌, ◌⊎◌, min, ℕ, zero, suc, false, List, [], ◌∷◌, ◌++◌, ⊤, length, map, codes}
 use Rattle.std.specs.List.{AllByRecursion}
+use Rattle.std.specs.Fmt.{digits, decimal}
 use Rattle.keri_specs.specs.Hex.{IsHexNumber, hex_value}
 use Rattle.json_tree.specs.declared.tree.Tree.{Tree}
 use Rattle.json_tree.specs.declared.tree.Tree.TheVariants.{Str, List as TreeList}
 use Rattle.sith.specs.declared.weight.Weight.{Weight}
+use Rattle.sith.specs.declared.weight.Weight.TheVariants.{Zero, One, Part}
 use Rattle.sith.specs.declared.threshold.Threshold.{Threshold}
 use Rattle.sith.specs.declared.threshold.Threshold.TheVariants.{Count, Flat, Nested}
 use Rattle.sith.specs.declared.sith_fault.SithFault.{SithFault}
 use Rattle.sith.specs.declared.sith_fault.SithFault.TheVariants.{Form, BadWeight, OutOfMemory}
 use Rattle.sith.specs.Weights.{SpellsWeight}
+
+-- nothing, the whole, or so many parts of it, in decimal without leading zeros
+abbrev pub weight_text : Weight → List ℕ
+weight_text Zero = codes "0"
+weight_text One = codes "1"
+weight_text (Part n d) = decimal n ++ 47 ∷ decimal d
+
+abbrev pub weight_value : Weight → Tree
+weight_value weight = Str (weight_text weight)
+
+abbrev pub clause_value : List Weight → Tree
+clause_value weights = TreeList (map weight_value weights)
+
+-- the value that a threshold is written as: a number in lower-case hexadecimal digits without leading zeros
+abbrev pub threshold_value : Threshold → Tree
+threshold_value (Count n) = Str (digits 16 false n)
+threshold_value (Flat weights) = clause_value weights
+threshold_value (Nested clauses) = TreeList (map clause_value clauses)
 
 -- each stands for the one in its place
 abbrev pub Each : {A B : Type 0} → (A → B → Type 0) → List A → List B → Type 0

@@ -8,10 +8,10 @@ mod form;
 mod rules;
 mod signers;
 mod sith_fault;
-mod spelling;
 #[cfg(test)]
 mod tests;
 mod threshold;
+mod threshold_value;
 mod weight;
 
 pub use sith_fault::SithFault;

@@ -1,10 +1,8 @@
 //! The spelling of a threshold.
-ghost use Rattle.std.specs.Prelude.{◌≡◌, ◌∷◌, [], ℕ, IfOk};
-ghost use Rattle.keri_specs.specs.Hex.{IsHexOf};
-ghost use Rattle.std.specs.List.{AllByRecursion};
-ghost use Rattle.sith.specs.Parts.{IsPart, SpellsPart};
-ghost use Rattle.sith.specs.Weights.{SpellsWeight, IsWeight};
-ghost use Rattle.sith.specs.Thresholds.{SpellsList, SpellsLists};
+ghost use Rattle.std.specs.Prelude.{◌≡◌, ◌++◌, ◌∷◌, [], map, false, IfOk};
+ghost use Rattle.std.specs.Fmt.{decimal, digits};
+ghost use Rattle.json_tree.specs.declared.tree.Tree.TheVariants.{List as TreeList};
+ghost use Rattle.sith.specs.Thresholds.{clause_value, threshold_value, weight_text as text_of};
 
 use crate::threshold::Threshold;
 use crate::weight::Weight;
@@ -13,7 +11,7 @@ use lists::Items;
 use std::alloc::{AllocError, Global};
 
 fn number_text(alloc: Global, number: u64) -> Result<Text, AllocError>
-    ensures { IfOk result (λ text. IsHexOf number text) }
+    ensures { IfOk result (λ text. text ≡ digits 16 false number) }
 {
     let text = format!(in alloc; "{number:x}")?;
     Ok(Items::from_vec(text.into_bytes()))
@@ -28,16 +26,14 @@ fn digit_text(alloc: Global, digit: u8) -> Result<Text, AllocError>
 }
 
 fn part_text(alloc: Global, numerator: u32, denominator: u32) -> Result<Text, AllocError>
-    requires { IsPart numerator denominator }
-    ensures { IfOk result (λ text. SpellsPart numerator denominator text) }
+    ensures { IfOk result (λ text. text ≡ decimal numerator ++ 47 ∷ decimal denominator) }
 {
     let text = format!(in alloc; "{numerator}/{denominator}")?;
     Ok(Items::from_vec(text.into_bytes()))
 }
 
 fn weight_text(alloc: Global, weight: Weight) -> Result<Text, AllocError>
-    requires { IsWeight weight }
-    ensures { IfOk result (λ text. SpellsWeight weight text) }
+    ensures { IfOk result (λ text. text ≡ text_of weight) }
 {
     match weight {
         Weight::Zero => digit_text(alloc, b'0'),
@@ -47,8 +43,7 @@ fn weight_text(alloc: Global, weight: Weight) -> Result<Text, AllocError>
 }
 
 fn clause_tree(alloc: Global, weights: &[Weight]) -> Result<Tree, AllocError>
-    requires { AllByRecursion IsWeight weights.now }
-    ensures { IfOk result (λ tree. SpellsList weights.now tree) }
+    ensures { IfOk result (λ tree. tree ≡ clause_value weights.now) }
 {
     let mut texts = Vec::new(alloc);
     for weight in weights {
@@ -58,8 +53,7 @@ fn clause_tree(alloc: Global, weights: &[Weight]) -> Result<Tree, AllocError>
 }
 
 fn clauses_tree(alloc: Global, clauses: &[Items<Weight>]) -> Result<Tree, AllocError>
-    requires { AllByRecursion (AllByRecursion IsWeight) clauses.now }
-    ensures { IfOk result (λ tree. SpellsLists clauses.now tree) }
+    ensures { IfOk result (λ tree. tree ≡ TreeList (map clause_value clauses.now)) }
 {
     let mut lists = Vec::new(alloc);
     for clause in clauses {
@@ -69,13 +63,9 @@ fn clauses_tree(alloc: Global, clauses: &[Items<Weight>]) -> Result<Tree, AllocE
 }
 
 impl Threshold {
-    ghost use Rattle.sith.specs.Thresholds.{Spells};
-    ghost use Rattle.sith.specs.Rules.{IsReadFor};
-
     /// The value that spells the threshold.
     pub fn tree(&self, alloc: Global) -> Result<Tree, AllocError>
-        requires { (keys : ℕ) × IsReadFor self.now keys }
-        ensures { IfOk result (λ tree. Spells self.now tree) }
+        ensures { IfOk result (λ tree. tree ≡ threshold_value self.now) }
     {
         match self {
             Threshold::Count(count) => Ok(Tree::Str(number_text(alloc, *count)?)),
