@@ -7,5 +7,4 @@ pub mod Members
 pub mod Heads
 pub mod Whole
 mod Objects
-pub mod Hex
 pub mod Texts

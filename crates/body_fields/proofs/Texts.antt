@@ -15,7 +15,7 @@ use Rattle.body_fields.specs.Forms.{IsNumberValue, number_value}
 use Rattle.body_fields.specs.Maps.{fields_of, form_of}
 use Rattle.body_fields.specs.Bodies.{kind_text, head_text, members_text, behind_version, body_text, AreOfForms, IsBody}
 use Rattle.body_fields.proofs.Depths.{form_fits}
-use Rattle.body_fields.proofs.Hex.{same_digits, value_low, printed}
+use Rattle.sith.proofs.Digits.{same_digits, value_low, printed}
 
 glyph_hex : (d : ℕ) → d < 16 → is_hex (digit_glyph false d) ≡ true
 glyph_hex d small = grind (arith, nat_tests)
