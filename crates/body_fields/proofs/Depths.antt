@@ -11,7 +11,8 @@ use Rattle.json_tree.proofs.Unique.{one_at_front}
 use Rattle.body_fields.specs.declared.form.Form.{Form}
 use Rattle.body_fields.specs.declared.form.Form.TheVariants.{Digest as OneDigest, Prefix as OnePrefix, Zero, Positive, Number, Threshold, Keys, FixedKeys, Digests, Strings, Values}
 use Rattle.body_fields.specs.Forms.{IsOfForm, depth_of, IsStringOrList}
-use Rattle.body_fields.proofs.Plain.{digest_string, key_string, prefix_string, number_string}
+use Rattle.sith.proofs.Plain.{number_string}
+use Rattle.body_fields.proofs.Plain.{digest_string, key_string, prefix_string}
 
 -- a string
 string_fits : (value : Tree) (text : List ℕ) → value ≡ Str text → IsString text → Fits 0 value × IsStringOrList value

@@ -13,3 +13,5 @@ pub mod ThresholdValues
 pub mod OneThreshold
 pub mod Spelled
 pub mod Tested
+pub mod Plain
+pub mod OwnValues

@@ -6,3 +6,4 @@ pub mod Clauses
 pub mod Thresholds
 pub mod Rules
 pub mod Tests
+pub mod OwnValues

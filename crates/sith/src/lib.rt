@@ -5,6 +5,7 @@ mod clause;
 mod decimal;
 mod divisors;
 mod form;
+mod own_value;
 mod rules;
 mod signers;
 mod sith_fault;
