@@ -1,4 +1,4 @@
-//! Reading a whole body.
+//! A whole body, and its reader.
 ghost use Rattle.std.specs.Prelude.{◌≡◌, ◌⊎◌, ◌≤◌, Ok, Err, IfNone, IfSome, length};
 ghost use Rattle.body_fields.specs.Bodies.{IsBody};
 ghost use Rattle.event_body.specs.Judging.{HasEvent, IsFirstFault, Judges, SpellsEvent};
@@ -11,11 +11,8 @@ use crate::said_rule::has_said;
 use crate::value_rules::{are_few, are_short};
 use crate::witness_rule::are_witnesses;
 use crate::{BodyFault, Event, ReadBody};
-use body_fields::{Fields, NoFields, read_fields};
+use body_fields::{Fields, FieldsFault, LARGEST, read_fields};
 use std::alloc::Global;
-
-/// A body has at most so many bytes.
-const LARGEST: usize = 65_535;
 
 /// Reads a whole body.
 pub fn read_body(alloc: Global, bytes: &[u8]) -> Result<Event, ReadBody>
@@ -36,9 +33,9 @@ fn judge(alloc: Global, bytes: &[u8]) -> Result<Event, ReadBody>
     }
     match read_fields(alloc, bytes) {
         Ok(fields) => judge_fields(alloc, bytes, &fields),
-        Err(NoFields::OtherSize) => Err(ReadBody::Fault(BodyFault::SizeField)),
-        Err(NoFields::Ends(fields)) => Err(ReadBody::Fault(BodyFault::Field(fields))),
-        Err(NoFields::OutOfMemory) => Err(ReadBody::OutOfMemory),
+        Err(FieldsFault::OtherSize) => Err(ReadBody::Fault(BodyFault::SizeField)),
+        Err(FieldsFault::Ends(fields)) => Err(ReadBody::Fault(BodyFault::Field(fields))),
+        Err(FieldsFault::OutOfMemory) => Err(ReadBody::OutOfMemory),
     }
 }
 
