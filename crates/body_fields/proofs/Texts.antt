@@ -7,14 +7,14 @@ use Rattle.std.proofs.lemmas.Bool.Decides.{nat_tests}
 use Rattle.keri_specs.specs.Hex.{is_hex, hex_digit, hex_value, IsHexNumber}
 use Rattle.json_tree.specs.declared.tree.Tree.{Tree}
 use Rattle.json_tree.specs.declared.tree.Tree.TheVariants.{Str}
-use Rattle.json_tree.specs.Spelling.{IsJson}
 use Rattle.body_fields.specs.declared.kind.Kind.{Kind}
-use Rattle.body_fields.specs.declared.field.Field.{Field}
 use Rattle.body_fields.specs.Versions.{IsSize, size_text, version_text}
 use Rattle.body_fields.specs.Forms.{IsNumberValue, number_value}
-use Rattle.body_fields.specs.Maps.{fields_of, form_of}
+use Rattle.body_fields.specs.Maps.{fields_of}
 use Rattle.body_fields.specs.Bodies.{kind_text, head_text, members_text, behind_version, body_text, AreOfForms, IsBody}
-use Rattle.body_fields.proofs.Depths.{form_fits}
+use Rattle.body_fields.proofs.Depths.{IsValue}
+use Rattle.body_fields.proofs.Heads.{same_head}
+use Rattle.body_fields.proofs.Members.{same_members}
 use Rattle.sith.proofs.Digits.{same_digits, value_low, printed}
 
 glyph_hex : (d : ℕ) → d < 16 → is_hex (digit_glyph false d) ≡ true
@@ -101,12 +101,13 @@ is_body kind values forms few = record {
   text = headed kind values;
 }
 
--- values of the forms are JSON
-pub forms_json : (fields : List Field) (values : List Tree) → AreOfForms fields values → AllByRecursion IsJson values
-forms_json [] [] forms = tt
-forms_json [] (value ∷ values) forms = absurd forms
-forms_json (field ∷ fields) [] forms = absurd forms
-forms_json (field ∷ fields) (value ∷ values) forms = ((form_fits (form_of field) value forms.0).0.0, forms_json fields values forms.1)
+-- a text is one of a kind and of values
+pub same_text : (k l : Kind) (v w : List Tree) → AllByRecursion IsValue v → AllByRecursion IsValue w → length v ≡ length (fields_of k) → length w ≡ length (fields_of l)
+    → body_text k v ≡ body_text l w → (k ≡ l) × (v ≡ w)
+same_text k l v w iv iw lv lw e =
+    let same = same_head (size_of k v) (size_of l w) k l _ _ (sized (24 + length (behind_version k v))) (sized (24 + length (behind_version l w))) (sym (headed k v) ∙ e ∙ headed l w) in
+    let count : length w ≡ length (fields_of k) = lw ∙ ap (λ kind. length (fields_of kind)) (sym same.1) in
+    (same.1, same_members (fields_of k) v w (codes "}") (codes "}") iv iw lv count (same.2 ∙ ap (λ kind. members_text (fields_of kind) w ++ codes "}") (sym same.1)))
 
 -- at most 16 digits are those of their number
 pub number_is : (text : List ℕ) (value : Tree) → IsNumberValue text value → length text ≤ 16 → value ≡ number_value (hex_value text)
