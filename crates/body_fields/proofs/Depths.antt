@@ -4,14 +4,15 @@ use Rattle.std.specs.List.{AllByRecursion}
 use Rattle.cesr_codes.specs.Spelling.{digest_text, key_text, IsDigest, IsKey}
 use Rattle.json_tree.specs.declared.tree.Tree.{Tree}
 use Rattle.json_tree.specs.declared.tree.Tree.TheVariants.{Str, List as TreeList}
-use Rattle.json_tree.specs.Spelling.{spelling, separated, Fits, EndsBefore}
+use Rattle.json_tree.specs.Spelling.{spelling, separated, IsJson, Fits, EndsBefore}
 use Rattle.json_tree.specs.Strings.{IsString}
 use Rattle.json_tree.proofs.Readers.{reads_list}
 use Rattle.json_tree.proofs.Unique.{one_at_front}
 use Rattle.body_fields.specs.declared.form.Form.{Form}
 use Rattle.body_fields.specs.declared.form.Form.TheVariants.{Digest as OneDigest, Prefix as OnePrefix, Zero, Positive, Number, Threshold, Keys, FixedKeys, Digests, Strings, Values}
 use Rattle.body_fields.specs.Forms.{IsOfForm, depth_of, IsStringOrList}
-use Rattle.body_fields.proofs.Plain.{digest_string, key_string, prefix_string, number_string}
+use Rattle.sith.proofs.Plain.{number_string}
+use Rattle.body_fields.proofs.Plain.{digest_string, key_string, prefix_string}
 
 -- a string
 string_fits : (value : Tree) (text : List ℕ) → value ≡ Str text → IsString text → Fits 0 value × IsStringOrList value
@@ -41,14 +42,23 @@ form_fits Digests value is = list_fits 0 value _ is.2 (strings_fit digest_text I
 form_fits Strings value is = list_fits 0 value _ is.2 (strings_fit (λ text. text) IsString (λ text held. held) is.0 is.1)
 form_fits Values value is = list_fits 8 value is.0 is.2 is.1
 
+-- a string or a list of JSON
+abbrev pub IsValue : Tree → Type 0
+IsValue value = IsJson value × IsStringOrList value
+
+pub form_value : (form : Form) (value : Tree) → IsOfForm form value → IsValue value
+form_value form value is = let fits = form_fits form value is in (fits.0.0, fits.1)
+
 -- nothing that follows can belong to it
-pub form_ends : (form : Form) (value : Tree) (rest : List ℕ) → IsOfForm form value → EndsBefore value rest
-form_ends form value rest is = elim (form_fits form value is).1 [
+value_ends : (value : Tree) (rest : List ℕ) → IsStringOrList value → EndsBefore value rest
+value_ends value rest is = elim is [
   | inl text ↦ subst (λ v. EndsBefore v rest) (sym text.1) tt
   | inr list ↦ subst (λ v. EndsBefore v rest) (sym list.1) tt
 ]
 
--- values of a form are one where they stand at the front of the same bytes
-pub same_value : (form : Form) (a b : Tree) (r s : List ℕ) → IsOfForm form a → IsOfForm form b → spelling a ++ r ≡ spelling b ++ s → (a ≡ b) × (r ≡ s)
-same_value form a b r s ia ib e =
-    one_at_front a b r s (form_fits form a ia).0.0 (form_fits form b ib).0.0 (form_ends form a r ia) (form_ends form b s ib) e
+pub form_ends : (form : Form) (value : Tree) (rest : List ℕ) → IsOfForm form value → EndsBefore value rest
+form_ends form value rest is = value_ends value rest (form_fits form value is).1
+
+-- such values are one where they stand at the front of the same bytes
+pub same_value : (a b : Tree) (r s : List ℕ) → IsValue a → IsValue b → spelling a ++ r ≡ spelling b ++ s → (a ≡ b) × (r ≡ s)
+same_value a b r s ia ib e = one_at_front a b r s ia.0 ib.0 (value_ends a r ia.1) (value_ends b s ib.1) e

@@ -4,12 +4,12 @@ use Rattle.std.proofs.lemmas.List.{append_cancel_left}
 use Rattle.keri_specs.specs.Hex.{hex_value}
 use Rattle.body_fields.specs.declared.kind.Kind.{Kind}
 use Rattle.body_fields.specs.declared.kind.Kind.TheVariants.{Icp, Rot, Ixn, Dip, Drt, Rct}
-use Rattle.body_fields.specs.declared.no_fields.NoFields.{NoFields}
-use Rattle.body_fields.specs.declared.no_fields.NoFields.TheVariants.{OtherSize, Ends, OutOfMemory}
+use Rattle.body_fields.specs.declared.fields_fault.FieldsFault.{FieldsFault}
+use Rattle.body_fields.specs.declared.fields_fault.FieldsFault.TheVariants.{OtherSize, Ends, OutOfMemory}
 use Rattle.body_fields.specs.Maps.{fields_of}
 use Rattle.body_fields.specs.Versions.{IsSize, version_text, HasOtherSize}
 use Rattle.body_fields.specs.Bodies.{kind_text, head_text, Begins}
-use Rattle.body_fields.specs.Reading.{IsFault, StopsAt}
+use Rattle.body_fields.specs.Faults.{IsFault, StopsAt}
 use Rattle.body_fields.proofs.Fronts.{same_version}
 
 -- the kind that a text names, by two of its letters
@@ -72,7 +72,7 @@ module _ (bytes size rest : List ℕ) (sized : IsSize size) (at : bytes ≡ vers
         ),
       )
 
-  pub first_fault : (kind : Kind) (behind : List ℕ) (fault : NoFields) → rest ≡ kind_text kind ++ behind → StopsAt kind behind fault → IsFault bytes fault
+  pub first_fault : (kind : Kind) (behind : List ℕ) (fault : FieldsFault) → rest ≡ kind_text kind ++ behind → StopsAt kind behind fault → IsFault bytes fault
   first_fault kind behind OtherSize next stops = absurd stops
   first_fault kind behind (Ends n) next stops = more_stand kind behind n stops.0 next stops.1 stops.2 stops.3
   first_fault kind behind OutOfMemory next stops = tt

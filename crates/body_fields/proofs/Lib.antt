@@ -1,9 +1,10 @@
 mod Primitives
 mod Fronts
 pub mod Lists
-mod Plain
-mod Depths
-mod Members
+pub mod Plain
+pub mod Depths
+pub mod Members
 pub mod Heads
 pub mod Whole
 mod Objects
+pub mod Texts

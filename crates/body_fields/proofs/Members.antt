@@ -1,5 +1,6 @@
 -- The further fields of a body, one after the other.
 use Rattle.std.proofs.Common.{◌≡◌, ◌≢◌, ℕ, zero, suc, ◌+◌, ◌<◌, ◌≤◌, List, [], ◌∷◌, ◌++◌, length, take, drop, get_or, refl, sym, ap, ◌∙◌, subst, arith, append_assoc, append-nil, drop-cons, codes}
+use Rattle.std.specs.List.{AllByRecursion}
 use Rattle.std.proofs.lemmas.List.{append_cancel_left, take_more, drop_all}
 use Rattle.json_tree.specs.declared.tree.Tree.{Tree}
 use Rattle.json_tree.specs.Spelling.{spelling}
@@ -7,27 +8,36 @@ use Rattle.body_fields.specs.declared.field.Field.{Field}
 use Rattle.body_fields.specs.Maps.{form_of}
 use Rattle.body_fields.specs.Forms.{IsOfForm}
 use Rattle.body_fields.specs.Bodies.{name_text, member_text, members_text, AreOfForms, Begins}
-use Rattle.body_fields.proofs.Depths.{same_value}
+use Rattle.body_fields.proofs.Depths.{IsValue, form_value, same_value}
 
 member_whole : (field : Field) (value : Tree) (rest : List ℕ) → member_text field value ++ rest ≡ name_text field ++ (spelling value ++ rest)
 member_whole field value rest = append_assoc (name_text field) (spelling value) rest
 
 -- what stands in a field is one value
-same_member : (field : Field) (a b : Tree) (r s : List ℕ) → IsOfForm (form_of field) a → IsOfForm (form_of field) b → member_text field a ++ r ≡ member_text field b ++ s → (a ≡ b) × (r ≡ s)
-same_member field a b r s ia ib e =
-    same_value (form_of field) a b r s ia ib (append_cancel_left (name_text field) _ _ (sym (member_whole field a r) ∙ e ∙ member_whole field b s))
+same_member : (field : Field) (a b : Tree) (r s : List ℕ) → IsValue a → IsValue b → member_text field a ++ r ≡ member_text field b ++ s → (a ≡ b) × (r ≡ s)
+same_member field a b r s ia ib e = same_value a b r s ia ib (append_cancel_left (name_text field) _ _ (sym (member_whole field a r) ∙ e ∙ member_whole field b s))
 
--- what stands in fields is one list of values
-pub same_members : (fields : List Field) (vs ws : List Tree) (r s : List ℕ) → AreOfForms fields vs → AreOfForms fields ws → members_text fields vs ++ r ≡ members_text fields ws ++ s → vs ≡ ws
-same_members [] [] [] r s iv iw e = refl
-same_members [] [] (w ∷ ws) r s iv iw e = absurd iw
-same_members [] (v ∷ vs) ws r s iv iw e = absurd iv
-same_members (field ∷ fields) [] ws r s iv iw e = absurd iv
-same_members (field ∷ fields) (v ∷ vs) [] r s iv iw e = absurd iw
-same_members (field ∷ fields) (v ∷ vs) (w ∷ ws) r s iv iw e =
+-- what stands in fields is one list of as many values
+pub same_members : (fields : List Field) (vs ws : List Tree) (r s : List ℕ) → AllByRecursion IsValue vs → AllByRecursion IsValue ws → length vs ≡ length fields → length ws ≡ length fields
+    → members_text fields vs ++ r ≡ members_text fields ws ++ s → vs ≡ ws
+same_members [] [] [] r s iv iw lv lw e = refl
+same_members [] [] (w ∷ ws) r s iv iw lv lw e = absurd (omega (arith, lw))
+same_members [] (v ∷ vs) ws r s iv iw lv lw e = absurd (omega (arith, lv))
+same_members (field ∷ fields) [] ws r s iv iw lv lw e = absurd (omega (arith, lv))
+same_members (field ∷ fields) (v ∷ vs) [] r s iv iw lv lw e = absurd (omega (arith, lw))
+same_members (field ∷ fields) (v ∷ vs) (w ∷ ws) r s iv iw lv lw e =
     let same = same_member field v w (members_text fields vs ++ r) (members_text fields ws ++ s) iv.0 iw.0
     (sym (append_assoc (member_text field v) (members_text fields vs) r) ∙ e ∙ append_assoc (member_text field w) (members_text fields ws) s) in
-    cc (same.0, same_members fields vs ws r s iv.1 iw.1 same.1)
+    cc (same.0, same_members fields vs ws r s iv.1 iw.1 (omega (arith, lv)) (omega (arith, lw)) same.1)
+
+-- values of the forms are as many, and strings and lists of JSON
+pub forms_values : (fields : List Field) (values : List Tree) → AreOfForms fields values → AllByRecursion IsValue values × (length values ≡ length fields)
+forms_values [] [] forms = (tt, refl)
+forms_values [] (value ∷ values) forms = absurd forms
+forms_values (field ∷ fields) [] forms = absurd forms
+forms_values (field ∷ fields) (value ∷ values) forms =
+    let rest = forms_values fields values forms.1 in
+    ((form_value (form_of field) value forms.0, rest.0), omega (arith, rest.1))
 
 -- one more field
 forms_push : (fields : List Field) (values : List Tree) (field : Field) (value : Tree) → AreOfForms fields values → IsOfForm (form_of field) value → AreOfForms (fields ++ field ∷ []) (values ++ value ∷ [])
@@ -69,7 +79,7 @@ stops (field ∷ fields) (suc i) (value ∷ values) bytes left le forms at none 
     let rest : List ℕ = members_text (take i fields) values ++ left in
     let front : bytes ≡ member_text field value ++ rest = at ∙ append_assoc (member_text field value) (members_text (take i fields) values) left in
     let behind = stops fields i values rest left (omega (arith, le)) forms.1 refl none in
-    ((value, rest, forms.0, front, behind.0), λ more. behind.1 (subst (Begins (suc i) fields) (same_member field more.0 value more.1 rest more.2 forms.0 (sym more.3 ∙ front)).1 more.4))
+    ((value, rest, forms.0, front, behind.0), λ more. behind.1 (subst (Begins (suc i) fields) (same_member field more.0 value more.1 rest (form_value (form_of field) more.0 more.2) (form_value (form_of field) value forms.0) (sym more.3 ∙ front)).1 more.4))
 
 -- the next field doesn't stand, and behind the last one the end doesn't
 pub no_next : (fields : List Field) (i : ℕ) (d : Field) (left : List ℕ) → i < length fields
@@ -89,43 +99,3 @@ all_begin [] (v ∷ values) (suc n) forms = absurd forms
 all_begin (field ∷ fields) [] (suc n) forms = absurd forms
 all_begin (field ∷ fields) (v ∷ values) (suc n) forms =
     (v, members_text fields values ++ codes "}", forms.0, append_assoc (member_text field v) (members_text fields values) (codes "}"), all_begin fields values n forms.1)
-
--- the values of fields, place by place
-pub forms_length : (fields : List Field) (values : List Tree) → AreOfForms fields values → length values ≡ length fields
-forms_length [] [] forms = refl
-forms_length [] (v ∷ values) forms = absurd forms
-forms_length (f ∷ fields) [] forms = absurd forms
-forms_length (f ∷ fields) (v ∷ values) forms = omega (arith, forms_length fields values forms.1)
-
-pub form_at : (fields : List Field) (values : List Tree) (i : ℕ) (d : Field) (e : Tree) → AreOfForms fields values → i < length values → IsOfForm (form_of (get_or fields i d)) (get_or values i e)
-form_at [] [] i d e forms lt = absurd (omega (arith, lt))
-form_at [] (v ∷ values) i d e forms lt = absurd forms
-form_at (f ∷ fields) [] i d e forms lt = absurd forms
-form_at (f ∷ fields) (v ∷ values) zero d e forms lt = forms.0
-form_at (f ∷ fields) (v ∷ values) (suc i) d e forms lt = form_at fields values i d e forms.1 (omega (arith, lt))
-
-forms_take : (fields : List Field) (values : List Tree) (i : ℕ) → AreOfForms fields values → AreOfForms (take i fields) (take i values)
-forms_take [] [] zero forms = tt
-forms_take [] [] (suc i) forms = tt
-forms_take [] (v ∷ values) i forms = absurd forms
-forms_take (f ∷ fields) [] i forms = absurd forms
-forms_take (f ∷ fields) (v ∷ values) zero forms = tt
-forms_take (f ∷ fields) (v ∷ values) (suc i) forms = (forms.0, forms_take fields values i forms.1)
-
--- one more field is written
-pub written : (fields : List Field) (values : List Tree) (i : ℕ) (d : Field) (e : Tree) (start before now : List ℕ) → AreOfForms fields values → i < length values
-    → before ≡ start ++ members_text (take i fields) (take i values) → now ≡ before ++ member_text (get_or fields i d) (get_or values i e)
-    → now ≡ start ++ members_text (take (i + 1) fields) (take (i + 1) values)
-written fields values i d e start before now forms lt so_far more =
-    let field : Field = get_or fields i d in
-    let value : Tree = get_or values i e in
-    let texts = text_push (take i fields) (take i values) field value [] (forms_take fields values i forms) in
-    let lengths = forms_length fields values forms in
-    let names : take (i + 1) fields ≡ take i fields ++ field ∷ [] = take_more fields i d (omega (arith, lt, lengths)) in
-    let both : take (i + 1) values ≡ take i values ++ value ∷ [] = take_more values i e lt in
-    rw (names, both) (
-    more
-    ∙ ap (λ x. x ++ member_text field value) so_far
-    ∙ append_assoc start (members_text (take i fields) (take i values)) (member_text field value)
-    ∙ ap (λ x. start ++ x) (ap (λ x. members_text (take i fields) (take i values) ++ x) (sym (append-nil (member_text field value))) ∙ texts ∙ append-nil _)
-    )

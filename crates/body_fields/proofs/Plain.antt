@@ -1,11 +1,8 @@
--- Texts of primitives and numbers are strings: they have no quote, no escape and nothing beyond ASCII.
+-- Texts of primitives are strings: they have no quote, no escape and nothing beyond ASCII.
 use Rattle.std.proofs.Common.{◌≡◌, ℕ, zero, suc, ◌<◌, ◌==◌, ◌&&◌, ◌||◌, Bool, true, List, [], ◌∷◌, nat_le, nat_lt, refl, sym, ap, ◌∙◌, arith, inl, inr}
 use Rattle.std.proofs.lemmas.Bool.{cases_Bool, eqb-true}
-use Rattle.std.proofs.lemmas.Str.{IsUtf8-from_ascii}
 use Rattle.std.specs.List.{list_all, list_any}
-use Rattle.std.specs.Str.{IsAscii}
 use Rattle.keri_specs.specs.Base64.{characters, is_character, base64_text, whole_number}
-use Rattle.keri_specs.specs.Hex.{is_hex, IsHexNumber}
 use Rattle.cesr_codes.specs.declared.digest.Digest.{Digest}
 use Rattle.cesr_codes.specs.declared.digest.DigestCode.{DigestCode}
 use Rattle.cesr_codes.specs.declared.digest.DigestCode.TheVariants.{Blake3, Sha256}
@@ -16,39 +13,8 @@ use Rattle.cesr_codes.specs.declared.prefix.Prefix.{Prefix}
 use Rattle.cesr_codes.specs.declared.prefix.Prefix.TheVariants.{Basic, Said}
 use Rattle.cesr_codes.specs.Spelling.{primitive_text, digest_text, key_text, prefix_text, digest_code, key_code}
 use Rattle.cesr_codes.proofs.Numbers.{characters-text}
-use Rattle.json_tree.specs.Strings.{IsUnescaped, unescaped, AreChars, IsString}
-
--- what stands in a string as it is
-abbrev is_plain : ℕ → Bool
-is_plain c = nat_le 45 c && (nat_lt c 92 || (nat_lt 92 c && nat_lt c 128))
-
-plain_is : (c : ℕ) → is_plain c ≡ true → IsUnescaped c × (c < 128)
-plain_is c plain = grind arith
-
-plain_chars : (text : List ℕ) → list_all is_plain text ≡ true → AreChars text
-plain_chars [] all = record { chars = []; each = tt; whole = refl }
-plain_chars (c ∷ text) all = elim (cases_Bool (is_plain c)) [
-  | inl t ↦
-      let rest = plain_chars text (rw t at all) in
-      record { chars = (c ∷ []) ∷ rest.chars; each = (unescaped c (plain_is c t).0 refl, rest.each); whole = ap (λ l. c ∷ l) rest.whole }
-  | inr f ↦ cc (rw f at all)
-]
-
-plain_ascii : (text : List ℕ) → list_all is_plain text ≡ true → IsAscii text
-plain_ascii [] all i = omega arith
-plain_ascii (c ∷ text) all zero = elim (cases_Bool (is_plain c)) [ inl t ↦ (plain_is c t).1 | inr f ↦ cc (rw f at all) ]
-plain_ascii (c ∷ text) all (suc i) = elim (cases_Bool (is_plain c)) [ inl t ↦ plain_ascii text (rw t at all) i | inr f ↦ cc (rw f at all) ]
-
-plain_string : (text : List ℕ) → list_all is_plain text ≡ true → IsString text
-plain_string text all = record { chars = plain_chars text all; utf8 = IsUtf8-from_ascii text (plain_ascii text all) }
-
--- where each that passes one test passes the other
-all_pass : (p q : ℕ → Bool) → ((c : ℕ) → p c ≡ true → q c ≡ true) → (text : List ℕ) → list_all p text ≡ true → list_all q text ≡ true
-all_pass p q also [] all = refl
-all_pass p q also (c ∷ text) all = elim (cases_Bool (p c)) [
-  | inl t ↦ rw (also c t) (all_pass p q also text (rw t at all))
-  | inr f ↦ cc (rw f at all)
-]
+use Rattle.json_tree.specs.Strings.{IsString}
+use Rattle.sith.proofs.Plain.{is_plain, plain_string, all_pass}
 
 -- one of a list that passes the test
 one_of : (p : ℕ → Bool) (c : ℕ) (xs : List ℕ) → list_all p xs ≡ true → list_any (λ x. x == c) xs ≡ true → p c ≡ true
@@ -63,9 +29,6 @@ one_of p c (x ∷ xs) all any = elim (cases_Bool (p x)) [
 
 character_plain : (c : ℕ) → is_character c ≡ true → is_plain c ≡ true
 character_plain c is = one_of is_plain c characters refl is
-
-hex_plain : (c : ℕ) → is_hex c ≡ true → is_plain c ≡ true
-hex_plain c is = grind arith
 
 primitive_string : (code : ℕ) (raw : List ℕ) → is_plain code ≡ true → IsString (primitive_text code raw)
 primitive_string code raw plain =
@@ -88,6 +51,3 @@ key_string key = primitive_string (key_code key.code) key.raw (key_plain key.cod
 pub prefix_string : (prefix : Prefix) → IsString (prefix_text prefix)
 prefix_string (Basic key) = key_string key
 prefix_string (Said digest) = digest_string digest
-
-pub number_string : (digits : List ℕ) → IsHexNumber digits → IsString digits
-number_string digits is = plain_string digits (all_pass is_hex is_plain hex_plain digits is.0)

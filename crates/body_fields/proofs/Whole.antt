@@ -5,15 +5,15 @@ use Rattle.keri_specs.specs.Hex.{hex_value}
 use Rattle.json_tree.specs.declared.tree.Tree.{Tree}
 use Rattle.body_fields.specs.declared.kind.Kind.{Kind}
 use Rattle.body_fields.specs.declared.fields.Fields.{Fields}
-use Rattle.body_fields.specs.declared.no_fields.NoFields.{NoFields}
-use Rattle.body_fields.specs.declared.no_fields.NoFields.TheVariants.{OtherSize, Ends, OutOfMemory}
+use Rattle.body_fields.specs.declared.fields_fault.FieldsFault.{FieldsFault}
+use Rattle.body_fields.specs.declared.fields_fault.FieldsFault.TheVariants.{OtherSize, Ends, OutOfMemory}
 use Rattle.body_fields.specs.Maps.{fields_of}
 use Rattle.body_fields.specs.Versions.{version_text}
 use Rattle.body_fields.specs.Bodies.{kind_text, members_text, AreOfForms, IsBody, Stand}
-use Rattle.body_fields.specs.Reading.{IsFault}
+use Rattle.body_fields.specs.Faults.{IsFault}
 use Rattle.body_fields.proofs.Fronts.{same_version}
 use Rattle.body_fields.proofs.Heads.{same_head}
-use Rattle.body_fields.proofs.Members.{same_members, all_begin}
+use Rattle.body_fields.proofs.Members.{same_members, forms_values, all_begin}
 
 -- the text behind the version string and the kind
 abbrev behind : Kind → List Tree → List ℕ
@@ -29,11 +29,12 @@ body_stands kind values bytes body (suc (suc n)) = (body.size, behind kind value
 pub one_body : (k l : Kind) (v w : List Tree) (bytes : List ℕ) → IsBody k v bytes → IsBody l w bytes → (k ≡ l) × (v ≡ w)
 one_body k l v w bytes ours theirs =
     let same = same_head ours.size theirs.size k l (behind k v) (behind l w) ours.sized theirs.sized (sym ours.text ∙ theirs.text) in
-    let values = subst (λ kind. AreOfForms (fields_of kind) w → behind k v ≡ behind kind w → v ≡ w) same.1 (λ forms e. same_members (fields_of k) v w (codes "}") (codes "}") ours.of_forms forms e) in
-    (same.1, values theirs.of_forms same.2)
+    let one = forms_values (fields_of k) v ours.of_forms in
+    let other = forms_values (fields_of k) w (subst (λ kind. AreOfForms (fields_of kind) w) (sym same.1) theirs.of_forms) in
+    (same.1, same_members (fields_of k) v w (codes "}") (codes "}") one.0 other.0 one.1 other.1 (same.2 ∙ ap (λ kind. behind kind w) (sym same.1)))
 
 -- what is a body is read, but for want of memory
-pub whole : (bytes : List ℕ) (r : Result Fields NoFields) → IfOk r (λ fields. IsBody fields.kind fields.values bytes) → IfErr r (λ fault. IsFault bytes fault)
+pub whole : (bytes : List ℕ) (r : Result Fields FieldsFault) → IfOk r (λ fields. IsBody fields.kind fields.values bytes) → IfErr r (λ fault. IsFault bytes fault)
     → (kind : Kind) (values : List Tree) → IsBody kind values bytes → (r ≡ Ok (record { kind = kind; values = values })) ⊎ (r ≡ Err OutOfMemory)
 whole bytes (Ok fields) read fault kind values body =
     let same = one_body fields.kind kind fields.values values bytes read body in

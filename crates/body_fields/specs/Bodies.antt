@@ -1,11 +1,11 @@
 -- A body as a JSON object: what it is, and how far bytes are one.
-use Rattle.std.specs.Prelude.{◌≡◌, ◌<◌, ℕ, zero, suc, List, [], ◌∷◌, ◌++◌, length, codes}
+use Rattle.std.specs.Prelude.{◌+◌, ◌≡◌, ◌<◌, ℕ, zero, suc, List, [], ◌∷◌, ◌++◌, length, codes}
 use Rattle.keri_specs.specs.Hex.{hex_value}
 use Rattle.json_tree.specs.declared.tree.Tree.{Tree}
 use Rattle.json_tree.specs.Spelling.{spelling}
 use Rattle.body_fields.specs.declared.kind.Kind.{Kind}
 use Rattle.body_fields.specs.declared.field.Field.{Field}
-use Rattle.body_fields.specs.Versions.{IsSize, version_text}
+use Rattle.body_fields.specs.Versions.{IsSize, size_text, version_text}
 use Rattle.body_fields.specs.Maps.{kind_name, name_of, form_of, fields_of}
 use Rattle.body_fields.specs.Forms.{IsOfForm}
 
@@ -30,6 +30,15 @@ abbrev pub members_text : List Field → List Tree → List ℕ
 members_text (field ∷ fields) (value ∷ values) = member_text field value ++ members_text fields values
 members_text _ _ = []
 
+-- what stands behind the version string: the kind, each value under its field's name, and the closing brace
+abbrev pub behind_version : Kind → List Tree → List ℕ
+behind_version kind values = kind_text kind ++ (members_text (fields_of kind) values ++ codes "}")
+
+-- The text of the values. The version string has 24 characters, with the opening brace and its name, and says the size of
+-- the whole.
+abbrev pub body_text : Kind → List Tree → List ℕ
+body_text kind values = version_text (size_text (24 + length (behind_version kind values))) ++ behind_version kind values
+
 -- as many values as fields, each of its field's form
 abbrev pub AreOfForms : List Field → List Tree → Type 0
 AreOfForms [] [] = Unit {0}
@@ -45,10 +54,6 @@ pub record IsBody (kind : Kind) (values : List Tree) (bytes : List ℕ) : Type 0
   pub size_is : hex_value size ≡ length bytes
   pub of_forms : AreOfForms (fields_of kind) values
   pub text : bytes ≡ head_text size kind ++ (members_text (fields_of kind) values ++ codes "}")
-
--- the body of the kind with these values would have more than 65,535 bytes, whatever size it said
-abbrev pub IsTooLarge : Kind → List Tree → Type 0
-IsTooLarge kind values = (size : List ℕ) → IsSize size → 65535 < length (head_text size kind ++ (members_text (fields_of kind) values ++ codes "}"))
 
 -- so many of the fields stand at the front, one after the other; behind the last, the closing brace and the end count
 -- as one more

@@ -1,5 +1,6 @@
 -- What a field's value may be, as a JSON value (KERI: field maps; this project's profile).
-use Rattle.std.specs.Prelude.{◌≡◌, ◌≢◌, ◌⊎◌, ℕ, List, map, codes}
+use Rattle.std.specs.Prelude.{◌≡◌, ◌≢◌, ◌⊎◌, ℕ, false, List, map, codes}
+use Rattle.std.specs.Fmt.{digits}
 use Rattle.std.specs.List.{AllByRecursion}
 use Rattle.keri_specs.specs.Hex.{IsHexNumber}
 use Rattle.cesr_codes.specs.declared.digest.Digest.{Digest}
@@ -24,6 +25,10 @@ key_value k = Str (key_text k)
 abbrev pub prefix_value : Prefix → Tree
 prefix_value p = Str (prefix_text p)
 
+-- a number in lower-case hexadecimal digits
+abbrev pub number_value : ℕ → Tree
+number_value n = Str (digits 16 false n)
+
 -- lists of keys, digests and strings
 abbrev pub keys_value : List Key → Tree
 keys_value keys = TreeList (map key_value keys)
@@ -36,7 +41,7 @@ strings_value texts = TreeList (map (λ text. Str text) texts)
 
 -- the digits of a number
 abbrev pub IsNumberValue : List ℕ → Tree → Type 0
-IsNumberValue digits tree = IsHexNumber digits × (tree ≡ Str digits)
+IsNumberValue text tree = IsHexNumber text × (tree ≡ Str text)
 
 -- keys that can't be rotated
 abbrev pub AreFixed : List Key → Type 0
@@ -46,6 +51,10 @@ AreFixed keys = AllByRecursion (λ k. k.code ≡ Fixed) keys
 abbrev pub IsStringOrList : Tree → Type 0
 IsStringOrList tree = ((text : List ℕ) × (tree ≡ Str text)) ⊎ ((values : List Tree) × (tree ≡ TreeList values))
 
+-- how deep a threshold may nest: a list of clauses, each a list, with groups that are objects of a list
+abbrev pub threshold_depth : ℕ
+threshold_depth = 4
+
 -- how deep a value of the form may nest
 abbrev pub depth_of : Form → ℕ
 depth_of OneDigest = 0
@@ -53,21 +62,21 @@ depth_of OnePrefix = 0
 depth_of Zero = 0
 depth_of Positive = 0
 depth_of Number = 0
-depth_of Threshold = 2
+depth_of Threshold = threshold_depth
 depth_of Keys = 1
 depth_of FixedKeys = 1
 depth_of Digests = 1
 depth_of Strings = 1
 depth_of Values = 9
 
--- The value is of the form. A threshold nests at most 2 deep, and each value of a list of values at most 8 deep.
+-- The value is of the form. A threshold nests no deeper than it may, and each value of a list of values at most 8 deep.
 abbrev pub IsOfForm : Form → Tree → Type 0
 IsOfForm OneDigest tree = (d : Digest) × IsDigest d × (tree ≡ digest_value d)
 IsOfForm OnePrefix tree = (p : Prefix) × IsPrefix p × (tree ≡ prefix_value p)
 IsOfForm Zero tree = tree ≡ Str (codes "0")
-IsOfForm Positive tree = (digits : List ℕ) × IsNumberValue digits tree × (digits ≢ codes "0")
-IsOfForm Number tree = (digits : List ℕ) × IsNumberValue digits tree
-IsOfForm Threshold tree = Fits 2 tree × IsStringOrList tree
+IsOfForm Positive tree = (text : List ℕ) × IsNumberValue text tree × (text ≢ codes "0")
+IsOfForm Number tree = (text : List ℕ) × IsNumberValue text tree
+IsOfForm Threshold tree = Fits threshold_depth tree × IsStringOrList tree
 IsOfForm Keys tree = (keys : List Key) × AllByRecursion IsKey keys × (tree ≡ keys_value keys)
 IsOfForm FixedKeys tree = (keys : List Key) × AllByRecursion IsKey keys × AreFixed keys × (tree ≡ keys_value keys)
 IsOfForm Digests tree = (digests : List Digest) × AllByRecursion IsDigest digests × (tree ≡ digests_value digests)

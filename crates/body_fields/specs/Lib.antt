@@ -4,5 +4,5 @@ pub mod Forms
 pub mod Strings
 pub mod Fronts
 pub mod Bodies
-pub mod Reading
+pub mod Faults
 pub mod Objects

@@ -10,6 +10,9 @@ use crate::strings::{digits, is_list_of, is_string_list, one};
 use cesr_codes::{Digest, Key, Prefix};
 use json_tree::Tree;
 
+/// A threshold nests at most so deep: a list of clauses, each a list, with groups that are objects of a list.
+const THRESHOLD_DEPTH: u8 = 4;
+
 /// What a field's value is.
 #[derive(Clone, Copy, PartialEq, Eq, Debug)]
 pub enum Form {
@@ -37,7 +40,7 @@ impl Form {
         match self {
             Form::Digest | Form::Prefix | Form::Zero | Form::Positive | Form::Number => 0,
             Form::Keys | Form::FixedKeys | Form::Digests | Form::Strings => 1,
-            Form::Threshold => 2,
+            Form::Threshold => THRESHOLD_DEPTH,
             Form::Values => 9,
         }
     }

@@ -1,33 +1,29 @@
 //! Bodies as JSON objects: the fields of each kind, read in order and written back.
 #![tactic(auto)]
 
+mod body_text;
 mod field;
 mod fields;
+mod fields_fault;
 mod form;
 mod front;
 mod kind;
 mod laws;
 mod member;
-mod no_fields;
 mod primitive;
-mod reading;
 mod strings;
-#[cfg(test)]
-mod tests;
 mod trees;
 mod typed;
-mod writing;
 
+pub use body_text::{LARGEST, write_fields};
 pub use field::Field;
-pub use fields::Fields;
+pub use fields::{Fields, read_fields};
+pub use fields_fault::FieldsFault;
 pub use form::Form;
 pub use kind::Kind;
-pub use laws::{is_object, numbers, one_body};
-pub use no_fields::NoFields;
-pub use reading::read_fields;
+pub use laws::{is_object, numbers, one_body, one_number, one_text};
 pub use trees::{digest_tree, digests_tree, keys_tree, number_tree, prefix_tree, strings_tree};
 pub use typed::{
     digest_in, digests_in, fixed_keys_in, keys_in, members_in, number_in, prefix_in, strings_in,
     values_in,
 };
-pub use writing::write_fields;

@@ -1,8 +1,7 @@
 //! The values of fields, from what they say.
-ghost use Rattle.std.specs.Prelude.{◌≡◌, List, ℕ, IfOk, map};
-ghost use Rattle.keri_specs.specs.Hex.{IsHexOf};
+ghost use Rattle.std.specs.Prelude.{◌≡◌, IfOk, map};
 ghost use Rattle.json_tree.specs.declared.tree.Tree.TheVariants.{Str, List as TreeList};
-ghost use Rattle.body_fields.specs.Forms.{digest_value, digests_value, keys_value, prefix_value, strings_value};
+ghost use Rattle.body_fields.specs.Forms.{digest_value, digests_value, keys_value, number_value, prefix_value, strings_value};
 
 use crate::primitive::Primitive;
 use cesr_codes::{Digest, Key, Prefix};
@@ -10,38 +9,43 @@ use json_tree::{Text, Tree};
 use lists::{CopyValue, Items};
 use std::alloc::{AllocError, Global};
 
+/// A string of the digest's 44 characters.
 pub fn digest_tree(alloc: Global, digest: &Digest) -> Result<Tree, AllocError>
     ensures { IfOk result (λ tree. tree ≡ digest_value digest.now) }
 {
     one_tree(alloc, digest)
 }
 
+/// A string of the identifier's 44 characters.
 pub fn prefix_tree(alloc: Global, prefix: &Prefix) -> Result<Tree, AllocError>
     ensures { IfOk result (λ tree. tree ≡ prefix_value prefix.now) }
 {
     one_tree(alloc, prefix)
 }
 
-/// The number's digits.
+/// A string of the number's lower-case hexadecimal digits, without leading zeros.
 pub fn number_tree(alloc: Global, number: u64) -> Result<Tree, AllocError>
-    ensures { IfOk result (λ tree. (digits : List ℕ) × IsHexOf number digits × (tree ≡ Str digits)) }
+    ensures { IfOk result (λ tree. tree ≡ number_value number) }
 {
     let text = format!(in alloc; "{number:x}")?;
     Ok(Tree::Str(Items::from_vec(text.into_bytes())))
 }
 
+/// A list of the keys' strings, in order.
 pub fn keys_tree(alloc: Global, keys: &Items<Key>) -> Result<Tree, AllocError>
     ensures { IfOk result (λ tree. tree ≡ keys_value keys.now) }
 {
     list_tree(alloc, keys.as_slice())
 }
 
+/// A list of the digests' strings, in order.
 pub fn digests_tree(alloc: Global, digests: &Items<Digest>) -> Result<Tree, AllocError>
     ensures { IfOk result (λ tree. tree ≡ digests_value digests.now) }
 {
     list_tree(alloc, digests.as_slice())
 }
 
+/// A list of strings with these texts between their quotes, escapes as they are written.
 pub fn strings_tree(alloc: Global, texts: &Items<Text>) -> Result<Tree, AllocError>
     ensures { IfOk result (λ tree. tree ≡ strings_value texts.now) }
 {

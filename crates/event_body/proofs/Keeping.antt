@@ -58,34 +58,20 @@ kept_rotation e ranges some keys next cuts adds witnesses = record {
 
 pub kept : (event : Event) (bytes : List ℕ) → SpellsEvent event bytes → IsKept event
 kept (Icp e) bytes spells =
-    let p = spells.has.parts in
-    let lists = subst (AreFew kinds.Icp) p.are spells.has.few in
-    let from_keys = lists.1.1.1.1 in
-    let thresholds = subst (HasThresholds kinds.Icp) p.are spells.has.thresholds in
-    let forms = subst (AreOfForms inception_fields) p.are spells.has.body.of_forms in (
-      kept_inception e p.ranges thresholds.0 from_keys.0 from_keys.1.1.0 from_keys.1.1.1.1.0 from_keys.1.1.1.1.1.0 spells.witnesses,
-      no_delegator e.delegator forms.1.1.1.1.1.1.1.1.1.1.1,
+    let from_keys = spells.has.few.1.1.1.1 in (
+      kept_inception e spells.has.ranges spells.has.thresholds.0 from_keys.0 from_keys.1.1.0 from_keys.1.1.1.1.0 from_keys.1.1.1.1.1.0 spells.witnesses,
+      no_delegator e.delegator spells.has.forms.1.1.1.1.1.1.1.1.1.1.1,
     )
 kept (Dip e) bytes spells =
-    let p = spells.has.parts in
-    let lists = subst (AreFew kinds.Dip) p.are spells.has.few in
-    let from_keys = lists.1.1.1.1 in
-    let thresholds = subst (HasThresholds kinds.Dip) p.are spells.has.thresholds in
-    let forms = subst (AreOfForms delegated_inception_fields) p.are spells.has.body.of_forms in (
-      kept_inception e p.ranges thresholds.0 from_keys.0 from_keys.1.1.0 from_keys.1.1.1.1.0 from_keys.1.1.1.1.1.0 spells.witnesses,
-      some_delegator e.delegator forms.1.1.1.1.1.1.1.1.1.1.1,
+    let from_keys = spells.has.few.1.1.1.1 in (
+      kept_inception e spells.has.ranges spells.has.thresholds.0 from_keys.0 from_keys.1.1.0 from_keys.1.1.1.1.0 from_keys.1.1.1.1.1.0 spells.witnesses,
+      some_delegator e.delegator spells.has.forms.1.1.1.1.1.1.1.1.1.1.1,
     )
 kept (Rot e) bytes spells =
-    let p = spells.has.parts in
-    let lists = subst (AreFew kinds.Rot) p.are spells.has.few in
-    let from_keys = lists.1.1.1.1.1 in
-    let thresholds = subst (HasThresholds kinds.Rot) p.are spells.has.thresholds in
-    kept_rotation e p.ranges thresholds.0 from_keys.0 from_keys.1.1.0 from_keys.1.1.1.1.0 from_keys.1.1.1.1.1.0 spells.witnesses
+    let from_keys = spells.has.few.1.1.1.1.1 in
+    kept_rotation e spells.has.ranges spells.has.thresholds.0 from_keys.0 from_keys.1.1.0 from_keys.1.1.1.1.0 from_keys.1.1.1.1.1.0 spells.witnesses
 kept (Drt e) bytes spells =
-    let p = spells.has.parts in
-    let lists = subst (AreFew kinds.Drt) p.are spells.has.few in
-    let from_keys = lists.1.1.1.1.1 in
-    let thresholds = subst (HasThresholds kinds.Drt) p.are spells.has.thresholds in
-    kept_rotation e p.ranges thresholds.0 from_keys.0 from_keys.1.1.0 from_keys.1.1.1.1.0 from_keys.1.1.1.1.1.0 spells.witnesses
-kept (Ixn e) bytes spells = spells.has.parts.ranges
-kept (Rct e) bytes spells = spells.has.parts.ranges
+    let from_keys = spells.has.few.1.1.1.1.1 in
+    kept_rotation e spells.has.ranges spells.has.thresholds.0 from_keys.0 from_keys.1.1.0 from_keys.1.1.1.1.0 from_keys.1.1.1.1.1.0 spells.witnesses
+kept (Ixn e) bytes spells = spells.has.ranges
+kept (Rct e) bytes spells = spells.has.ranges

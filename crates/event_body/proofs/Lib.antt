@@ -1,5 +1,6 @@
 pub mod Values
 pub mod Parts
-pub mod Places
+pub mod Digested
+mod Places
 pub mod Whole
 pub mod Keeping

@@ -4,8 +4,6 @@ use Rattle.std.proofs.lemmas.List.{take_at, drop_at}
 use Rattle.std.proofs.lemmas.Grind.{common_steps}
 use Rattle.cesr_codes.specs.declared.digest.Digest.{Digest}
 use Rattle.cesr_codes.specs.declared.digest.DigestCode.{DigestCode}
-use Rattle.cesr_codes.specs.declared.prefix.Prefix.{Prefix}
-use Rattle.cesr_codes.specs.declared.prefix.Prefix.TheVariants as prefixes
 use Rattle.cesr_codes.specs.Spelling.{digest_text, prefix_text}
 use Rattle.cesr_codes.proofs.Same.{length-digest_text, length-prefix_text}
 use Rattle.json_tree.specs.declared.tree.Tree.{Tree}
@@ -17,15 +15,14 @@ use Rattle.body_fields.specs.declared.kind.Kind.TheVariants as kinds
 use Rattle.body_fields.specs.declared.field.Field.{Field}
 use Rattle.body_fields.specs.declared.field.Field.TheVariants.{Said, Identifier}
 use Rattle.body_fields.specs.Bodies.{head_text, members_text}
-use Rattle.body_fields.specs.Forms.{digest_value, prefix_value}
 use Rattle.body_fields.specs.Maps.{kind_name, fields_of}
 use Rattle.event_body.specs.declared.event.Event.{Event}
 use Rattle.event_body.specs.declared.event.Event.TheVariants.{Icp, Rot, Ixn, Dip, Drt, Rct}
-use Rattle.event_body.specs.Events.{said_of, prefix_of, is_receipt}
-use Rattle.event_body.specs.Spelling.{body_kind, AreParts}
-use Rattle.event_body.specs.Rules.{without_digest, without_digests, digested_values, IsDigestOf, HasSaid}
-use Rattle.event_body.specs.Reading.{is_said, hides_prefix, places_of}
-use Rattle.event_body.specs.Judging.{HasEvent}
+use Rattle.body_fields.proofs.Texts.{size_of, headed}
+use Rattle.event_body.specs.Events.{said_of, prefix_of, is_receipt, hides_prefix, places_of}
+use Rattle.event_body.specs.Spelling.{body_kind, further_values, values_of, text_of}
+use Rattle.event_body.specs.Rules.{digested_values, digested_text, IsDigested, HasSaid}
+use Rattle.event_body.proofs.Digested.{hidden_text, digested, same_size}
 
 -- the fields behind the first two
 further : List Field → List Field
@@ -48,15 +45,6 @@ name_long kinds.Ixn = refl
 name_long kinds.Dip = refl
 name_long kinds.Drt = refl
 name_long kinds.Rct = refl
-
--- an event's first values are its digest and its prefix
-begins : (event : Event) (values : List Tree) → AreParts event values → (rest : List Tree) × (values ≡ digest_value (said_of event) ∷ prefix_value (prefix_of event) ∷ rest)
-begins (Icp e) values parts = (_, parts.are)
-begins (Rot e) values parts = (_, parts.are)
-begins (Ixn e) values parts = (_, parts.are)
-begins (Dip e) values parts = (_, parts.are)
-begins (Drt e) values parts = (_, parts.are)
-begins (Rct e) values parts = (_, parts.are)
 
 -- a placeholder stands for a text at a place
 put : (front text rest : List ℕ) (place : ℕ) → length front ≡ place → length text ≡ 44 → with_placeholder place (front ++ (text ++ rest)) ≡ front ++ (placeholder ++ rest)
@@ -115,33 +103,18 @@ lie_in true bytes few (suc zero) x below = omega (arith, few)
 lie_in true bytes few (suc (suc k)) x below = absurd (omega (arith, below))
 lie_in false bytes few (suc k) x below = absurd (omega (arith, below))
 
--- the values with placeholders
-without : (p : Prefix) (d : Tree) (rest : List Tree) → without_digests p (d ∷ prefix_value p ∷ rest) ≡ Str placeholder ∷ Str (if is_said p then placeholder else prefix_text p) ∷ rest
-without (prefixes.Basic key) d rest = refl
-without (prefixes.Said digest) d rest = refl
-
-digested : (event : Event) (values rest : List Tree) → is_receipt event ≡ false → values ≡ digest_value (said_of event) ∷ prefix_value (prefix_of event) ∷ rest
-    → digested_values event values ≡ Str placeholder ∷ Str (if hides_prefix event then placeholder else prefix_text (prefix_of event)) ∷ rest
-digested (Icp e) values rest none is = ap (without_digests e.prefix) is ∙ without e.prefix (digest_value e.said) rest
-digested (Dip e) values rest none is = ap (without_digests e.prefix) is ∙ without e.prefix (digest_value e.said) rest
-digested (Rot e) values rest none is = ap without_digest is
-digested (Ixn e) values rest none is = ap without_digest is
-digested (Drt e) values rest none is = ap without_digest is
-digested (Rct e) values rest none is = cc none
-
-module _ (event : Event) (bytes : List ℕ) (has : HasEvent event bytes) where
+module _ (event : Event) (bytes : List ℕ) (is : bytes ≡ text_of event) where
   abbrev kind : Kind
   kind = body_kind event
 
-  abbrev others : List Tree
-  others = (begins event has.values has.parts).0
+  abbrev size : List ℕ
+  size = size_of kind (values_of event)
 
   abbrev spelled : List ℕ → List ℕ → List ℕ
-  spelled = text has.body.size kind (further (fields_of kind)) others has.body.sized.0
+  spelled = text size kind (further (fields_of kind)) (further_values event) refl
 
-  text_of : (values : List Tree) (d i : List ℕ) → values ≡ Str d ∷ Str i ∷ others → head_text has.body.size kind ++ (members_text (fields_of kind) values ++ codes "}") ≡ spelled d i
-  text_of values d i is = ap (λ v. head_text has.body.size kind ++ (members_text (fields_of kind) v ++ codes "}")) is
-      ∙ ap (λ f. head_text has.body.size kind ++ (members_text f (Str d ∷ Str i ∷ others) ++ codes "}")) (first_two kind)
+  two_values : (d i : List ℕ) → head_text size kind ++ (members_text (fields_of kind) (Str d ∷ Str i ∷ further_values event) ++ codes "}") ≡ spelled d i
+  two_values d i = ap (λ f. head_text size kind ++ (members_text f (Str d ∷ Str i ∷ further_values event) ++ codes "}")) (first_two kind)
 
   abbrev d : List ℕ
   d = digest_text (said_of event)
@@ -156,44 +129,40 @@ module _ (event : Event) (bytes : List ℕ) (has : HasEvent event bytes) where
   i_long = length-prefix_text (prefix_of event)
 
   bytes_are : bytes ≡ spelled d i
-  bytes_are = has.body.text ∙ text_of has.values d i (begins event has.values has.parts).1
+  bytes_are = is ∙ headed kind (values_of event) ∙ two_values d i
 
   -- the places lie in the body
   pub places_lie_in : LieIn bytes (places_of event)
-  places_lie_in =
-      lie_in (hides_prefix event) bytes (omega (arith, ap length bytes_are, enough has.body.size kind (further (fields_of kind)) others has.body.sized.0 d i d_long i_long))
+  places_lie_in = lie_in (hides_prefix event) bytes (omega (arith, ap length bytes_are, enough size kind (further (fields_of kind)) (further_values event) refl d i d_long i_long))
 
-  -- the digest with the places replaced is that of the values with placeholders
-  said_at_places : (code : DigestCode) → is_receipt event ≡ false
-      → said code bytes (places_of event) ≡ digest_of code (head_text has.body.size kind ++ (members_text (fields_of kind) (digested_values event has.values) ++ codes "}"))
+  digested_is : spelled placeholder (hidden_text event) ≡ digested_text event
+  digested_is =
+      sym (two_values placeholder (hidden_text event))
+      ∙ ap (λ vs. head_text size kind ++ (members_text (fields_of kind) vs ++ codes "}")) (sym (digested event))
+      ∙ ap (λ s. head_text s kind ++ (members_text (fields_of kind) (digested_values event) ++ codes "}")) (same_size event)
+      ∙ sym (headed kind (digested_values event))
+
+  -- the digest with the places replaced is that of the text with placeholders
+  said_at_places : (code : DigestCode) → said code bytes (places_of event) ≡ digest_of code (digested_text event)
   unfolding said
-  said_at_places code none = ap (digest_of code)
+  said_at_places code = ap (digest_of code)
       (ap (λ b. replaced b (places_of event)) bytes_are
-      ∙ replaced_text has.body.size kind (further (fields_of kind)) others has.body.sized.0 (hides_prefix event) d i d_long i_long
-      ∙ sym (text_of (digested_values event has.values) placeholder (if hides_prefix event then placeholder else i) (digested event has.values others none (begins event has.values has.parts).1)))
+      ∙ replaced_text size kind (further (fields_of kind)) (further_values event) refl (hides_prefix event) d i d_long i_long
+      ∙ digested_is)
 
 -- the rule is that of the digest, but for a receipt
-said_rule : (event : Event) (r : Bool) (size : List ℕ) (values : List Tree) → is_receipt event ≡ false
-    → IsTrue r ↔ IsDigestOf (said_of event) (body_kind event) size (digested_values event values) → IsTrue r ↔ HasSaid event size values
-said_rule (Icp e) r size values none rule = rule
-said_rule (Rot e) r size values none rule = rule
-said_rule (Ixn e) r size values none rule = rule
-said_rule (Dip e) r size values none rule = rule
-said_rule (Drt e) r size values none rule = rule
-said_rule (Rct e) r size values none rule = cc none
-
-pub receipts_free : (event : Event) (size : List ℕ) (values : List Tree) → is_receipt event ≡ true → HasSaid event size values
-receipts_free (Rct e) size values is = tt
-receipts_free (Icp e) size values is = cc is
-receipts_free (Rot e) size values is = cc is
-receipts_free (Ixn e) size values is = cc is
-receipts_free (Dip e) size values is = cc is
-receipts_free (Drt e) size values is = cc is
+said_rule : (event : Event) (r : Bool) → is_receipt event ≡ false → IsTrue r ↔ IsDigested event → IsTrue r ↔ HasSaid event
+said_rule (Icp e) r none rule = rule
+said_rule (Rot e) r none rule = rule
+said_rule (Ixn e) r none rule = rule
+said_rule (Dip e) r none rule = rule
+said_rule (Drt e) r none rule = rule
+said_rule (Rct e) r none rule = cc none
 
 -- a test of the digest with the places replaced is one of the rule
-pub tests_said : (event : Event) (bytes : List ℕ) (has : HasEvent event bytes) (digest : Digest) (places : List ℕ) (r : Bool) → is_receipt event ≡ false
-    → digest ≡ said_of event → places ≡ places_of event → IsTrue r ↔ (digest ≡ said digest.code bytes places) → IsTrue r ↔ HasSaid event has.body.size has.values
-tests_said event bytes has digest places r none digest_is places_are tests =
-    let placed = said_at_places event bytes has (said_of event).code none in
+pub tests_said : (event : Event) (bytes : List ℕ) (digest : Digest) (places : List ℕ) (r : Bool) → bytes ≡ text_of event → is_receipt event ≡ false
+    → digest ≡ said_of event → places ≡ places_of event → IsTrue r ↔ (digest ≡ said digest.code bytes places) → IsTrue r ↔ HasSaid event
+tests_said event bytes digest places r is none digest_is places_are tests =
+    let placed = said_at_places event bytes is (said_of event).code in
     let rule = subst (λ d. IsTrue r ↔ (d ≡ said d.code bytes (places_of event))) digest_is (subst (λ p. IsTrue r ↔ (digest ≡ said digest.code bytes p)) places_are tests) in
-    said_rule event r has.body.size has.values none ((λ yes. rule.0 yes ∙ placed), (λ is. rule.1 (is ∙ sym placed)))
+    said_rule event r none ((λ yes. rule.0 yes ∙ placed), (λ same. rule.1 (same ∙ sym placed)))

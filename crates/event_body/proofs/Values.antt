@@ -1,6 +1,8 @@
 -- Values of fields that are lists and thresholds.
-use Rattle.std.proofs.Common.{◌≡◌, ◌≢◌, ◌⊎◌, ℕ, List, [], ◌∷◌, length, map, refl, sym, ap, subst, ◌∙◌, inl, inr, Ok, Err, Result}
+use Rattle.std.proofs.Common.{◌≡◌, ◌≢◌, ◌⊎◌, ℕ, List, [], ◌∷◌, length, map, false, codes, refl, sym, ap, subst, ◌∙◌, arith, inl, inr, Ok, Err, Result}
 use Rattle.std.specs.List.{AllByRecursion}
+use Rattle.std.proofs.lemmas.Fmt.{hex_one_digit}
+use Rattle.keri_specs.specs.Hex.{hex_value}
 use Rattle.std.proofs.lemmas.List.{length-map}
 use Rattle.json_tree.specs.declared.tree.Tree.{Tree}
 use Rattle.json_tree.specs.declared.tree.Tree.TheVariants.{Str, List as TreeList}
@@ -14,8 +16,9 @@ use Rattle.sith.specs.Rules.{IsReadFor}
 use Rattle.sith.proofs.OneThreshold.{text_injective}
 use Rattle.sith.proofs.Values.{list_injective}
 use Rattle.body_fields.specs.declared.form.Form.TheVariants.{Strings, Values}
-use Rattle.body_fields.specs.Forms.{IsOfForm, strings_value}
-use Rattle.event_body.specs.Rules.{IsThresholdOf}
+use Rattle.body_fields.specs.Forms.{IsOfForm, IsNumberValue, strings_value, number_value}
+use Rattle.body_fields.proofs.Texts.{number_is}
+use Rattle.event_body.specs.Rules.{HasFewDigits, IsThresholdOf}
 
 -- a list of the spellings of values has as many members
 pub length_listed : {A : Type 0} (f : A → Tree) (members : List Tree) (xs : List A) → TreeList members ≡ TreeList (map f xs) → length members ≡ length xs
@@ -57,3 +60,11 @@ strings_held value texts (others, held, is) e = subst (AllByRecursion IsString) 
 
 pub values_held : (value : Tree) (values : List Tree) → IsOfForm Values value → value ≡ TreeList values → AllByRecursion (Fits 8) values
 values_held value values (others, held, is) e = subst (AllByRecursion (Fits 8)) (list_injective _ _ (sym is ∙ e)) held
+
+-- the number 0 is written as one digit
+pub zero_written : Str (codes "0") ≡ number_value 0
+zero_written = ap Str (sym (hex_one_digit false 0 (omega arith)))
+
+-- a number of few digits is that of its value
+pub number_written : (text : List ℕ) (value : Tree) → IsNumberValue text value → HasFewDigits value → value ≡ number_value (hex_value text)
+number_written text value is few = number_is text value is (few text is.1 is.0)

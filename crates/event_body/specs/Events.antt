@@ -1,7 +1,8 @@
 -- The parts of an event (KERI: field maps of key event messages; the fields t, i, s, d, p, a).
-use Rattle.std.specs.Prelude.{ℕ, Bool, true, false, ◌||◌, Option, Some, None, List, [], codes}
+use Rattle.std.specs.Prelude.{ℕ, Bool, true, false, ◌||◌, if◌then◌else◌, Option, Some, None, List, [], ◌∷◌, codes}
 use Rattle.cesr_codes.specs.declared.digest.Digest.{Digest}
 use Rattle.cesr_codes.specs.declared.prefix.Prefix.{Prefix}
+use Rattle.cesr_codes.specs.declared.prefix.Prefix.TheVariants.{Basic, Said}
 use Rattle.event_body.specs.declared.event.Event.{Event}
 use Rattle.event_body.specs.declared.event.Event.TheVariants.{Icp, Rot, Ixn, Dip, Drt, Rct}
 use Rattle.json_tree.specs.declared.tree.Tree.{Tree}
@@ -99,3 +100,18 @@ kind_of (Ixn e) = codes "ixn"
 kind_of (Dip e) = codes "dip"
 kind_of (Drt e) = codes "drt"
 kind_of (Rct e) = codes "rct"
+
+-- the prefix is a digest
+abbrev pub is_said : Prefix → Bool
+is_said (Basic key) = false
+is_said (Said digest) = true
+
+-- a placeholder stands for the prefix too when the digest is computed
+abbrev pub hides_prefix : Event → Bool
+hides_prefix (Icp e) = is_said e.prefix
+hides_prefix (Dip e) = is_said e.prefix
+hides_prefix _ = false
+
+-- where placeholders stand when the digest is computed
+abbrev pub places_of : Event → List ℕ
+places_of event = if hides_prefix event then 40 ∷ 91 ∷ [] else 40 ∷ []

@@ -1,12 +1,14 @@
 -- How a body is judged: the event that it spells, or the first rule that it fails.
-use Rattle.std.specs.Prelude.{ℕ, ◌<◌, ◌≤◌, List, length}
+use Rattle.std.specs.Prelude.{◌≡◌, ℕ, ◌<◌, ◌≤◌, ◌^◌, List, length}
 use Rattle.std.specs.declared.result.Result.{Result}
 use Rattle.std.specs.declared.result.Result.TheVariants.{Ok, Err}
 use Rattle.json_tree.specs.declared.tree.Tree.{Tree}
 use Rattle.body_fields.specs.declared.kind.Kind.{Kind}
 use Rattle.body_fields.specs.Versions.{HasOtherSize}
-use Rattle.body_fields.specs.Bodies.{IsBody, EndsAt}
-use Rattle.event_body.specs.Spelling.{body_kind, AreParts}
+use Rattle.body_fields.specs.Bodies.{IsBody, EndsAt, AreOfForms}
+use Rattle.body_fields.specs.Maps.{fields_of}
+use Rattle.event_body.specs.Ranges.{AreInRange}
+use Rattle.event_body.specs.Spelling.{body_kind, values_of, text_of}
 use Rattle.event_body.specs.Rules.{AreFew, AreShort, HasThresholds, AreWitnesses, HasPrefix, HasSaid}
 use Rattle.event_body.specs.declared.event.Event.{Event}
 use Rattle.event_body.specs.declared.body_fault.BodyFault.{BodyFault}
@@ -14,21 +16,23 @@ use Rattle.event_body.specs.declared.body_fault.BodyFault.TheVariants.{Field, Si
 use Rattle.event_body.specs.declared.body_fault.ReadBody.{ReadBody}
 use Rattle.event_body.specs.declared.body_fault.ReadBody.TheVariants.{Fault, OutOfMemory}
 
--- The bytes are a body of the event's kind, and its values are the event's parts. No rule of the values fails.
+-- The bytes are the event's text, whose values are of their forms, and no rule of the values fails. The version string
+-- has six digits for the size.
 pub record HasEvent (event : Event) (bytes : List ℕ) : Type 0 where
-  pub values : List Tree
-  pub body : IsBody (body_kind event) values bytes
-  pub few : AreFew (body_kind event) values
-  pub short : AreShort (body_kind event) values
-  pub thresholds : HasThresholds (body_kind event) values
-  pub parts : AreParts event values
+  pub text : bytes ≡ text_of event
+  pub sized : length bytes < 2 ^ 24
+  pub ranges : AreInRange event
+  pub forms : AreOfForms (fields_of (body_kind event)) (values_of event)
+  pub few : AreFew (body_kind event) (values_of event)
+  pub short : AreShort (body_kind event) (values_of event)
+  pub thresholds : HasThresholds (body_kind event) (values_of event)
 
--- The body spells this event: no rule fails.
+-- The bytes are the event's text, and no rule fails.
 pub record SpellsEvent (event : Event) (bytes : List ℕ) : Type 0 where
   pub has : HasEvent event bytes
   pub witnesses : AreWitnesses event
   pub prefix : HasPrefix event
-  pub said : HasSaid event has.body.size has.values
+  pub said : HasSaid event
 
 -- a body spells the event
 abbrev pub IsSpelled : Event → Type 0
@@ -38,9 +42,9 @@ IsSpelled event = (bytes : List ℕ) × SpellsEvent event bytes × (length bytes
 abbrev pub HasValues : (Kind → List Tree → Type 0) → List ℕ → Type 0
 HasValues P bytes = (kind : Kind) × (values : List Tree) × IsBody kind values bytes × P kind values
 
--- the bytes are a body of an event of which this is so
-abbrev pub HasEventThat : ((event : Event) → List ℕ → List Tree → Type 0) → List ℕ → Type 0
-HasEventThat P bytes = (event : Event) × (has : HasEvent event bytes) × P event has.body.size has.values
+-- the bytes are the text of an event of which this is so
+abbrev pub HasEventThat : (Event → Type 0) → List ℕ → Type 0
+HasEventThat P bytes = (event : Event) × HasEvent event bytes × P event
 
 -- The rule that fails, where those before it don't. The order is: too large, another size than it says, not of the
 -- form, too many members, a number too large, the thresholds, the witnesses, the prefix, the digest.
@@ -51,9 +55,9 @@ IsFirstFault bytes (Field n) = (length bytes ≤ 65535) × ¬ HasOtherSize bytes
 IsFirstFault bytes TooMany = (length bytes ≤ 65535) × HasValues (λ kind values. ¬ AreFew kind values) bytes
 IsFirstFault bytes NumberTooLarge = (length bytes ≤ 65535) × HasValues (λ kind values. AreFew kind values × ¬ AreShort kind values) bytes
 IsFirstFault bytes Threshold = (length bytes ≤ 65535) × HasValues (λ kind values. AreFew kind values × AreShort kind values × ¬ HasThresholds kind values) bytes
-IsFirstFault bytes Witnesses = (length bytes ≤ 65535) × HasEventThat (λ event size values. ¬ AreWitnesses event) bytes
-IsFirstFault bytes Prefix = (length bytes ≤ 65535) × HasEventThat (λ event size values. AreWitnesses event × ¬ HasPrefix event) bytes
-IsFirstFault bytes Said = (length bytes ≤ 65535) × HasEventThat (λ event size values. AreWitnesses event × HasPrefix event × ¬ HasSaid event size values) bytes
+IsFirstFault bytes Witnesses = (length bytes ≤ 65535) × HasEventThat (λ event. ¬ AreWitnesses event) bytes
+IsFirstFault bytes Prefix = (length bytes ≤ 65535) × HasEventThat (λ event. AreWitnesses event × ¬ HasPrefix event) bytes
+IsFirstFault bytes Said = (length bytes ≤ 65535) × HasEventThat (λ event. AreWitnesses event × HasPrefix event × ¬ HasSaid event) bytes
 
 -- the event that the body spells, or the first rule that it fails; or there was no memory
 abbrev pub Judges : List ℕ → Result Event ReadBody → Type 0

@@ -2,7 +2,8 @@ pub mod Events
 pub mod Ranges
 pub mod Spelling
 pub mod Rules
-pub mod Reading
+pub mod KeySets
+pub mod Held
 pub mod Kept
 pub mod Judging
 pub mod Inception

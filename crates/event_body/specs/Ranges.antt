@@ -5,7 +5,10 @@ use Rattle.cesr_codes.specs.Spelling.{IsDigest, IsKey, IsPrefix}
 use Rattle.json_tree.specs.Spelling.{Fits}
 use Rattle.json_tree.specs.Strings.{IsString}
 use Rattle.sith.specs.Rules.{IsReadFor}
+use Rattle.sith.specs.Thresholds.{Spells, threshold_value}
 use Rattle.body_fields.specs.Forms.{AreFixed}
+use Rattle.event_body.specs.declared.event.Event.{Event}
+use Rattle.event_body.specs.declared.event.Event.TheVariants.{Icp, Rot, Ixn, Dip, Drt, Rct}
 use Rattle.event_body.specs.declared.inception.Inception.{Inception}
 use Rattle.event_body.specs.declared.rotation.Rotation.{Rotation}
 use Rattle.event_body.specs.declared.interaction.Interaction.{Interaction}
@@ -17,8 +20,10 @@ pub record IsInception (e : Inception) : Type 0 where
   pub said_held : IsDigest e.said
   pub prefix_held : IsPrefix e.prefix
   pub kt_read : IsReadFor e.kt (length e.keys)
+  pub kt_spelled : Spells e.kt (threshold_value e.kt)
   pub keys_held : AllByRecursion IsKey e.keys
   pub nt_read : IsReadFor e.nt (length e.next)
+  pub nt_spelled : Spells e.nt (threshold_value e.nt)
   pub next_held : AllByRecursion IsDigest e.next
   pub toad_held : e.toad < 2 ^ 64
   pub list_held : AllByRecursion IsKey e.list
@@ -34,8 +39,10 @@ pub record IsRotation (e : Rotation) : Type 0 where
   pub sn_held : e.sn < 2 ^ 64
   pub prior_held : IsDigest e.prior
   pub kt_read : IsReadFor e.kt (length e.keys)
+  pub kt_spelled : Spells e.kt (threshold_value e.kt)
   pub keys_held : AllByRecursion IsKey e.keys
   pub nt_read : IsReadFor e.nt (length e.next)
+  pub nt_spelled : Spells e.nt (threshold_value e.nt)
   pub next_held : AllByRecursion IsDigest e.next
   pub toad_held : e.toad < 2 ^ 64
   pub cuts_held : AllByRecursion IsKey e.cuts
@@ -57,3 +64,12 @@ pub record IsReceipt (receipt : ReceiptBody) : Type 0 where
   pub said_held : IsDigest receipt.said
   pub prefix_held : IsPrefix receipt.prefix
   pub sn_held : receipt.sn < 2 ^ 64
+
+-- the event's parts are in their ranges
+abbrev pub AreInRange : Event → Type 0
+AreInRange (Icp e) = IsInception e
+AreInRange (Rot e) = IsRotation e
+AreInRange (Ixn e) = IsInteraction e
+AreInRange (Dip e) = IsInception e
+AreInRange (Drt e) = IsRotation e
+AreInRange (Rct receipt) = IsReceipt receipt

@@ -1,9 +1,8 @@
 -- The rules of bodies, beyond the form (KERI: key event messages; this project's profile): those of the values of a
 -- body's fields, and then those of the event that they are the parts of.
-use Rattle.std.specs.Prelude.{◌≡◌, ◌≢◌, ◌≤◌, ◌⊎◌, ℕ, List, [], ◌∷◌, ◌++◌, length, codes, Contains}
+use Rattle.std.specs.Prelude.{◌≡◌, ◌≢◌, ◌≤◌, ◌⊎◌, ℕ, if◌then◌else◌, List, [], ◌∷◌, length, Contains}
 use Rattle.std.specs.List.{AllZip}
 use Rattle.keri_specs.specs.Hex.{IsHexNumber}
-use Rattle.cesr_codes.specs.declared.digest.Digest.{Digest}
 use Rattle.cesr_codes.specs.declared.key.Key.{Key}
 use Rattle.cesr_codes.specs.declared.key.KeyCode.TheVariants.{Fixed}
 use Rattle.cesr_codes.specs.declared.prefix.Prefix.{Prefix}
@@ -20,9 +19,10 @@ use Rattle.body_fields.specs.declared.form.Form.TheVariants as forms
 use Rattle.body_fields.specs.declared.kind.Kind.{Kind}
 use Rattle.body_fields.specs.declared.kind.Kind.TheVariants as kinds
 use Rattle.body_fields.specs.Maps.{form_of, fields_of}
-use Rattle.body_fields.specs.Bodies.{head_text, members_text}
-use Rattle.event_body.specs.Spelling.{body_kind}
-use Rattle.event_body.specs.Events.{said_of}
+use Rattle.body_fields.specs.Bodies.{body_text}
+use Rattle.body_fields.specs.Forms.{prefix_value}
+use Rattle.event_body.specs.Spelling.{body_kind, further_values}
+use Rattle.event_body.specs.Events.{prefix_of, said_of, hides_prefix}
 use Rattle.event_body.specs.declared.event.Event.{Event}
 use Rattle.event_body.specs.declared.event.Event.TheVariants.{Icp, Rot, Dip, Drt, Rct}
 use Rattle.event_body.specs.declared.inception.Inception.{Inception}
@@ -123,32 +123,24 @@ HasPrefix (Icp e) = IsPrefixOf e.prefix e
 HasPrefix (Dip e) = e.prefix ≡ Said e.said
 HasPrefix _ = Unit {0}
 
--- the values with a placeholder for the digest
-abbrev pub without_digest : List Tree → List Tree
-without_digest (d ∷ values) = Str placeholder ∷ values
-without_digest [] = []
-
--- the values with placeholders for the digest and the prefix
-abbrev pub without_prefix : List Tree → List Tree
-without_prefix (d ∷ i ∷ values) = Str placeholder ∷ Str placeholder ∷ values
-without_prefix values = values
-
--- in an inception whose prefix is a digest, which is its own by the rule of prefixes, a placeholder stands for that too
-abbrev pub without_digests : Prefix → List Tree → List Tree
-without_digests (Basic key) values = without_digest values
-without_digests (Said digest) values = without_prefix values
+-- what stands for the prefix when the digest is computed: in an inception whose prefix is a digest, which is its own by
+-- the rule of prefixes, a placeholder
+abbrev pub hidden_prefix : Event → Tree
+hidden_prefix event = if hides_prefix event then Str placeholder else prefix_value (prefix_of event)
 
 -- the values of which an event's digest is made (KERI: self-addressing identifiers)
-abbrev pub digested_values : Event → List Tree → List Tree
-digested_values (Icp e) values = without_digests e.prefix values
-digested_values (Dip e) values = without_digests e.prefix values
-digested_values _ values = without_digest values
+abbrev pub digested_values : Event → List Tree
+digested_values event = Str placeholder ∷ hidden_prefix event ∷ further_values event
 
--- the digest is that of the body with these values
-abbrev pub IsDigestOf : Digest → Kind → List ℕ → List Tree → Type 0
-IsDigestOf digest kind size values = digest ≡ digest_of digest.code (head_text size kind ++ (members_text (fields_of kind) values ++ codes "}"))
+-- the text of which it is made
+abbrev pub digested_text : Event → List ℕ
+digested_text event = body_text (body_kind event) (digested_values event)
+
+-- the event's digest is that of its text with placeholders, under its own code
+abbrev pub IsDigested : Event → Type 0
+IsDigested event = said_of event ≡ digest_of (said_of event).code (digested_text event)
 
 -- the rule of digests: a receipt's is that of another event
-abbrev pub HasSaid : Event → List ℕ → List Tree → Type 0
-HasSaid (Rct receipt) size values = Unit {0}
-HasSaid event size values = IsDigestOf (said_of event) (body_kind event) size (digested_values event values)
+abbrev pub HasSaid : Event → Type 0
+HasSaid (Rct receipt) = Unit {0}
+HasSaid event = IsDigested event

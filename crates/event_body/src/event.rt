@@ -85,6 +85,16 @@ pub fn is_receipt(event: &Event) -> bool
     matches!(event, Event::Rct(_))
 }
 
+/// Whether a placeholder stands for the prefix too when the digest is computed: in an inception whose prefix is a digest.
+pub fn hides_prefix(event: &Event) -> bool
+    ensures { result ≡ events.hides_prefix event.now }
+{
+    match event {
+        Event::Icp(event) | Event::Dip(event) => matches!(event.prefix, Prefix::Said(_)),
+        Event::Rot(_) | Event::Ixn(_) | Event::Drt(_) | Event::Rct(_) => false,
+    }
+}
+
 impl CopyValue for Event {
     fn copy(&self, alloc: Global) -> Result<Event, AllocError> {
         match self {

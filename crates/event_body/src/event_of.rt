@@ -2,9 +2,10 @@
 ghost use Rattle.std.specs.Prelude.{◌≡◌, IfOk, IfErr};
 ghost use Rattle.body_fields.specs.Bodies.{AreOfForms};
 ghost use Rattle.body_fields.specs.Maps.{fields_of, interaction_fields, receipt_fields};
-ghost use Rattle.event_body.specs.Reading.{IsThresholdFault};
+ghost use Rattle.event_body.specs.KeySets.{IsThresholdFault};
+ghost use Rattle.event_body.specs.Ranges.{AreInRange, IsInteraction, IsReceipt};
 ghost use Rattle.event_body.specs.Rules.{AreFew, AreShort, HasThresholds};
-ghost use Rattle.event_body.specs.Spelling.{AreParts, SpellsInteraction, SpellsReceipt, body_kind};
+ghost use Rattle.event_body.specs.Spelling.{body_kind, values_of};
 
 use crate::field_values::split;
 use crate::inception_of::{dip, icp};
@@ -19,7 +20,8 @@ use std::alloc::{AllocError, Global};
 fn ixn(alloc: Global, values: &[Tree]) -> Result<Interaction, AllocError>
     requires forms { AreOfForms interaction_fields values.now }
     requires short { AreShort Kind.Ixn values.now }
-    ensures { IfOk result (λ e. SpellsInteraction e values.now) }
+    ensures ranges { IfOk result (λ e. IsInteraction e) }
+    ensures parts { IfOk result (λ e. values.now ≡ values_of (Event.Ixn e)) }
 {
     let (said, rest) = split(values);
     let (prefix, rest) = split(rest);
@@ -38,7 +40,8 @@ fn ixn(alloc: Global, values: &[Tree]) -> Result<Interaction, AllocError>
 fn rct(values: &[Tree]) -> ReceiptBody
     requires forms { AreOfForms receipt_fields values.now }
     requires short { AreShort Kind.Rct values.now }
-    ensures { SpellsReceipt result values.now }
+    ensures ranges { IsReceipt result }
+    ensures parts { values.now ≡ values_of (Event.Rct result) }
 {
     let (said, rest) = split(values);
     let (prefix, rest) = split(rest);
@@ -56,7 +59,8 @@ pub(crate) fn event_of(alloc: Global, kind: Kind, values: &[Tree]) -> Result<Eve
     requires few { AreFew kind values.now }
     requires short { AreShort kind values.now }
     ensures kind { IfOk result (λ event. body_kind event ≡ kind) }
-    ensures parts { IfOk result (λ event. AreParts event values.now) }
+    ensures ranges { IfOk result (λ event. AreInRange event) }
+    ensures parts { IfOk result (λ event. values.now ≡ values_of event) }
     ensures thresholds { IfOk result (λ _. HasThresholds kind values.now) }
     ensures fault { IfErr result (λ fault. IsThresholdFault (HasThresholds kind values.now) fault) }
 {

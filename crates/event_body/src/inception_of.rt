@@ -3,14 +3,15 @@ ghost use Rattle.std.specs.Prelude.{◌≡◌, ◌∷◌, [], IfOk, IfErr, IfSom
 ghost use Rattle.cesr_codes.specs.Spelling.{IsPrefix};
 ghost use Rattle.body_fields.specs.Bodies.{AreOfForms};
 ghost use Rattle.body_fields.specs.Maps.{delegated_inception_fields, inception_fields};
-ghost use Rattle.event_body.specs.Reading.{IsThresholdFault};
+ghost use Rattle.event_body.specs.KeySets.{IsThresholdFault};
+ghost use Rattle.event_body.specs.Ranges.{IsInception};
 ghost use Rattle.event_body.specs.Rules.{AreFew, AreShort, AreThresholds, HasFewDigits, HasFewMembers, HasThresholds};
-ghost use Rattle.event_body.specs.Spelling.{SpellsInception, delegator_values};
+ghost use Rattle.event_body.specs.Spelling.{delegator_values, values_of};
 
 use crate::field_values::{InceptionValues, inception_values};
 use crate::key_set::key_set;
 use crate::numbers::number;
-use crate::{Inception, ReadBody};
+use crate::{Event, Inception, ReadBody};
 use body_fields::{Kind, digest_in, fixed_keys_in, prefix_in, strings_in, values_in};
 use cesr_codes::Prefix;
 use json_tree::Tree;
@@ -27,8 +28,9 @@ fn inception(
     requires few { HasFewMembers values.now.keys.now × HasFewMembers values.now.next.now }
     requires short { HasFewDigits values.now.toad.now }
     requires delegator { IfSome delegator IsPrefix }
-    ensures parts { IfOk result (λ e. SpellsInception e (values.now.said.now ∷ values.now.prefix.now ∷ values.now.first.now ∷ values.now.kt.now ∷ values.now.keys.now
-        ∷ values.now.nt.now ∷ values.now.next.now ∷ values.now.toad.now ∷ values.now.list.now ∷ values.now.traits.now ∷ values.now.anchors.now ∷ delegator_values delegator)) }
+    ensures ranges { IfOk result (λ e. IsInception e) }
+    ensures parts { IfOk result (λ e. (values.now.said.now ∷ values.now.prefix.now ∷ values.now.first.now ∷ values.now.kt.now ∷ values.now.keys.now
+        ∷ values.now.nt.now ∷ values.now.next.now ∷ values.now.toad.now ∷ values.now.list.now ∷ values.now.traits.now ∷ values.now.anchors.now ∷ delegator_values delegator) ≡ values_of (Event.Icp e)) }
     ensures thresholds { IfOk result (λ _. AreThresholds values.now.kt.now values.now.keys.now values.now.nt.now values.now.next.now) }
     ensures fault { IfErr result (λ fault. IsThresholdFault (AreThresholds values.now.kt.now values.now.keys.now values.now.nt.now values.now.next.now) fault) }
 {
@@ -56,7 +58,8 @@ pub(crate) fn icp(alloc: Global, values: &[Tree]) -> Result<Inception, ReadBody>
     requires forms { AreOfForms inception_fields values.now }
     requires few { AreFew Kind.Icp values.now }
     requires short { AreShort Kind.Icp values.now }
-    ensures parts { IfOk result (λ e. SpellsInception e values.now) }
+    ensures ranges { IfOk result (λ e. IsInception e) }
+    ensures parts { IfOk result (λ e. values.now ≡ values_of (Event.Icp e)) }
     ensures thresholds { IfOk result (λ _. HasThresholds Kind.Icp values.now) }
     ensures fault { IfErr result (λ fault. IsThresholdFault (HasThresholds Kind.Icp values.now) fault) }
 {
@@ -68,7 +71,8 @@ pub(crate) fn dip(alloc: Global, values: &[Tree]) -> Result<Inception, ReadBody>
     requires forms { AreOfForms delegated_inception_fields values.now }
     requires few { AreFew Kind.Dip values.now }
     requires short { AreShort Kind.Dip values.now }
-    ensures parts { IfOk result (λ e. SpellsInception e values.now) }
+    ensures ranges { IfOk result (λ e. IsInception e) }
+    ensures parts { IfOk result (λ e. values.now ≡ values_of (Event.Dip e)) }
     ensures thresholds { IfOk result (λ _. HasThresholds Kind.Dip values.now) }
     ensures fault { IfErr result (λ fault. IsThresholdFault (HasThresholds Kind.Dip values.now) fault) }
 {

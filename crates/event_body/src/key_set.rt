@@ -3,9 +3,9 @@ ghost use Rattle.std.specs.Prelude.{◌≡◌, ◌↔◌, ◌≤◌, List, lengt
 ghost use Rattle.json_tree.specs.declared.tree.Tree.{Tree};
 ghost use Rattle.json_tree.specs.declared.tree.Tree.TheVariants.{List as TreeList};
 ghost use Rattle.sith.specs.Rules.{IsReadFor};
-ghost use Rattle.sith.specs.Thresholds.{Spells};
+ghost use Rattle.sith.specs.Thresholds.{Spells, threshold_value};
 ghost use Rattle.body_fields.specs.Forms.{IsOfForm};
-ghost use Rattle.event_body.specs.Reading.{IsThresholdFault, SpellsKeySet};
+ghost use Rattle.event_body.specs.KeySets.{AreOfKeySet, IsThresholdFault};
 ghost use Rattle.event_body.specs.Rules.{AreThresholds, HasFewMembers, IsThresholdOf};
 
 use crate::{BodyFault, ReadBody};
@@ -34,6 +34,7 @@ fn is_out_of_memory(fault: SithFault) -> bool
 // The threshold that the value spells, for so many as the list has.
 fn threshold(alloc: Global, value: &Tree, members: &[Tree]) -> Result<Threshold, ReadBody>
     requires { length members.now ≤ 64 }
+    ensures value { IfOk result (λ threshold. value.now ≡ threshold_value threshold) }
     ensures spelled { IfOk result (λ threshold. Spells threshold value.now) }
     ensures read { IfOk result (λ threshold. IsReadFor threshold (length members.now)) }
     ensures fault { IfErr result (λ fault. IsThresholdFault (IsThresholdOf value.now (TreeList members.now)) fault) }
@@ -55,7 +56,7 @@ pub(crate) fn key_set(
 ) -> Result<KeySet, ReadBody>
     requires forms { IsOfForm Form.Keys keys.now × IsOfForm Form.Digests next.now }
     requires few { HasFewMembers keys.now × HasFewMembers next.now }
-    ensures spelled { IfOk result (λ set. SpellsKeySet set kt.now keys.now nt.now next.now) }
+    ensures values { IfOk result (λ set. AreOfKeySet set kt.now keys.now nt.now next.now) }
     ensures thresholds { IfOk result (λ set. AreThresholds kt.now keys.now nt.now next.now) }
     ensures fault { IfErr result (λ fault. IsThresholdFault (AreThresholds kt.now keys.now nt.now next.now) fault) }
 {

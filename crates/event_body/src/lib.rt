@@ -1,6 +1,7 @@
 //! Bodies of key events, and their one spelling.
 #![tactic(auto)]
 
+mod body;
 mod body_fault;
 mod event;
 mod event_of;
@@ -12,21 +13,20 @@ mod key_set;
 mod laws;
 mod numbers;
 mod prefix_rule;
-mod reading;
 mod receipt_body;
 mod rotation;
 mod rotation_of;
 mod said_rule;
-#[cfg(test)]
-mod tests;
 mod value_rules;
 mod witness_rule;
 
+pub use body::read_body;
 pub use body_fault::{BodyFault, ReadBody};
-pub use event::{Event, is_establishment, is_receipt, kind_of, prefix_of, said_of_event, sn_of};
+pub use event::{
+    Event, hides_prefix, is_establishment, is_receipt, kind_of, prefix_of, said_of_event, sn_of,
+};
 pub use inception::Inception;
 pub use interaction::Interaction;
 pub use laws::{kept, one_event};
-pub use reading::read_body;
 pub use receipt_body::ReceiptBody;
 pub use rotation::Rotation;

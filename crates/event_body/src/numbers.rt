@@ -1,7 +1,7 @@
 //! Numbers that the values of fields spell.
-ghost use Rattle.body_fields.specs.Forms.{IsOfForm};
+ghost use Rattle.std.specs.Prelude.{◌≡◌};
+ghost use Rattle.body_fields.specs.Forms.{IsOfForm, number_value};
 ghost use Rattle.event_body.specs.Rules.{HasFewDigits};
-ghost use Rattle.event_body.specs.Spelling.{SpellsNumber};
 
 use body_fields::{Form, number_in, numbers};
 use hex_numbers::hex_value;
@@ -11,7 +11,7 @@ use json_tree::Tree;
 pub(crate) fn number(value: &Tree) -> u64
     requires form { IsOfForm Form.Number value.now }
     requires few { HasFewDigits value.now }
-    ensures { SpellsNumber result value.now }
+    ensures { value.now ≡ number_value result }
 {
     hex_value(number_in(value))
 }
@@ -20,7 +20,7 @@ pub(crate) fn number(value: &Tree) -> u64
 pub(crate) fn later_number(value: &Tree) -> u64
     requires form { IsOfForm Form.Positive value.now }
     requires few { HasFewDigits value.now }
-    ensures { SpellsNumber result value.now }
+    ensures { value.now ≡ number_value result }
 {
     numbers();
     number(value)

@@ -2,14 +2,15 @@
 ghost use Rattle.std.specs.Prelude.{◌≡◌, ◌∷◌, [], IfOk, IfErr};
 ghost use Rattle.body_fields.specs.Bodies.{AreOfForms};
 ghost use Rattle.body_fields.specs.Maps.{rotation_fields};
-ghost use Rattle.event_body.specs.Reading.{IsThresholdFault};
+ghost use Rattle.event_body.specs.KeySets.{IsThresholdFault};
+ghost use Rattle.event_body.specs.Ranges.{IsRotation};
 ghost use Rattle.event_body.specs.Rules.{AreFew, AreShort, AreThresholds, HasFewDigits, HasFewMembers, HasThresholds};
-ghost use Rattle.event_body.specs.Spelling.{SpellsRotation};
+ghost use Rattle.event_body.specs.Spelling.{values_of};
 
 use crate::field_values::{RotationValues, rotation_values};
 use crate::key_set::key_set;
 use crate::numbers::{later_number, number};
-use crate::{ReadBody, Rotation};
+use crate::{Event, ReadBody, Rotation};
 use body_fields::{Kind, digest_in, fixed_keys_in, prefix_in, values_in};
 use json_tree::Tree;
 use std::alloc::Global;
@@ -20,8 +21,9 @@ fn rotation(alloc: Global, values: &RotationValues<'_>) -> Result<Rotation, Read
         ∷ values.now.keys.now ∷ values.now.nt.now ∷ values.now.next.now ∷ values.now.toad.now ∷ values.now.cuts.now ∷ values.now.adds.now ∷ values.now.anchors.now ∷ []) }
     requires few { HasFewMembers values.now.keys.now × HasFewMembers values.now.next.now }
     requires short { HasFewDigits values.now.sn.now × HasFewDigits values.now.toad.now }
-    ensures parts { IfOk result (λ e. SpellsRotation e (values.now.said.now ∷ values.now.prefix.now ∷ values.now.sn.now ∷ values.now.prior.now ∷ values.now.kt.now
-        ∷ values.now.keys.now ∷ values.now.nt.now ∷ values.now.next.now ∷ values.now.toad.now ∷ values.now.cuts.now ∷ values.now.adds.now ∷ values.now.anchors.now ∷ [])) }
+    ensures ranges { IfOk result (λ e. IsRotation e) }
+    ensures parts { IfOk result (λ e. (values.now.said.now ∷ values.now.prefix.now ∷ values.now.sn.now ∷ values.now.prior.now ∷ values.now.kt.now
+        ∷ values.now.keys.now ∷ values.now.nt.now ∷ values.now.next.now ∷ values.now.toad.now ∷ values.now.cuts.now ∷ values.now.adds.now ∷ values.now.anchors.now ∷ []) ≡ values_of (Event.Rot e)) }
     ensures thresholds { IfOk result (λ _. AreThresholds values.now.kt.now values.now.keys.now values.now.nt.now values.now.next.now) }
     ensures fault { IfErr result (λ fault. IsThresholdFault (AreThresholds values.now.kt.now values.now.keys.now values.now.nt.now values.now.next.now) fault) }
 {
@@ -50,7 +52,8 @@ pub(crate) fn rot(alloc: Global, values: &[Tree]) -> Result<Rotation, ReadBody>
     requires forms { AreOfForms rotation_fields values.now }
     requires few { AreFew Kind.Rot values.now }
     requires short { AreShort Kind.Rot values.now }
-    ensures parts { IfOk result (λ e. SpellsRotation e values.now) }
+    ensures ranges { IfOk result (λ e. IsRotation e) }
+    ensures parts { IfOk result (λ e. values.now ≡ values_of (Event.Rot e)) }
     ensures thresholds { IfOk result (λ _. HasThresholds Kind.Rot values.now) }
     ensures fault { IfErr result (λ fault. IsThresholdFault (HasThresholds Kind.Rot values.now) fault) }
 {

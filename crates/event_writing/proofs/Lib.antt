@@ -1,11 +1,6 @@
-mod Hex
+mod JsonValues
 mod Pushes
-mod Plain
-mod Json
-mod Thresholds
-mod Same
-mod Whole
+mod Read
+pub mod Spelled
 mod Digested
-mod Spelled
-mod Parts
 mod OwnDigest

@@ -1,16 +1,12 @@
 -- An event with the digest of its own text has no fault in its digest.
-use Rattle.std.proofs.Common.{◌≡◌, ◌≢◌, ◌⊎◌, ℕ, ◌+◌, List, ◌++◌, codes, sym, ap, subst, ◌∙◌, inl, inr, Result, Ok, Err}
+use Rattle.std.proofs.Common.{◌≡◌, ◌≢◌, ◌⊎◌, refl, sym, ap, subst, ◌∙◌, inl, inr, ℕ, List, Result, Ok, Err}
 use Rattle.std.specs.Prelude.{IfOk, IfErr}
 use Rattle.cesr_codes.specs.declared.digest.Digest.{Digest}
 use Rattle.cesr_codes.specs.declared.digest.DigestCode.{DigestCode}
 use Rattle.cesr_codes.specs.declared.prefix.Prefix.{Prefix}
 use Rattle.cesr_codes.specs.declared.prefix.Prefix.TheVariants.{Basic, Said as SaidPrefix}
 use Rattle.cesr_codes.specs.Spelling.{IsDigest, IsPrefix}
-use Rattle.json_tree.specs.declared.tree.Tree.{Tree}
 use Rattle.said_digest.specs.Digests.{digest_of}
-use Rattle.body_fields.specs.declared.kind.Kind.{Kind}
-use Rattle.body_fields.specs.Maps.{fields_of}
-use Rattle.body_fields.specs.Bodies.{head_text, members_text}
 use Rattle.event_body.specs.declared.event.Event.{Event}
 use Rattle.event_body.specs.declared.event.Event.TheVariants.{Icp, Rot, Ixn, Dip, Drt, Rct}
 use Rattle.event_body.specs.declared.inception.Inception.{Inception}
@@ -18,16 +14,15 @@ use Rattle.event_body.specs.declared.rotation.Rotation.{Rotation}
 use Rattle.event_body.specs.declared.body_fault.BodyFault.TheVariants.{Said, TooLarge}
 use Rattle.event_body.specs.declared.body_fault.ReadBody.{ReadBody}
 use Rattle.event_body.specs.declared.body_fault.ReadBody.TheVariants.{Fault, OutOfMemory}
+use Rattle.event_body.specs.Held.{IsHeld, IsHeldInception, IsHeldRotation}
 use Rattle.event_body.specs.Judging.{IsFirstFault, IsSpelled}
-use Rattle.event_body.specs.Rules.{digested_values, IsDigestOf, HasSaid}
-use Rattle.event_body.specs.Spelling.{body_kind}
-use Rattle.event_writing.specs.Held.{IsHeld, IsHeldInception, IsHeldRotation, IsWritable}
-use Rattle.event_writing.specs.Sealing.{sealed_prefix, with_digest, digested_text, digest_in, sealed_event}
-use Rattle.event_writing.specs.Texts.{size_text, text_of, IsFaultOf, IsLengthFault}
-use Rattle.event_writing.specs.Values.{values_of}
-use Rattle.event_writing.proofs.Digested.{same_digested, sealed_long, still_writable}
-use Rattle.event_writing.proofs.Parts.{no_other}
-use Rattle.event_writing.proofs.Whole.{size_of, headed, size_again, values_again, event_again}
+use Rattle.event_body.specs.Rules.{digested_text, HasSaid}
+use Rattle.event_body.specs.Spelling.{text_of}
+use Rattle.event_writing.specs.Faults.{IsFaultOf, IsLengthFault}
+use Rattle.event_writing.specs.Sealed.{sealed_prefix, with_digest, digest_in, sealed_event}
+use Rattle.event_writing.specs.Writable.{IsWritable, HasOwnThresholds}
+use Rattle.event_writing.proofs.Digested.{same_digested}
+use Rattle.event_writing.proofs.Read.{event_again, no_other}
 
 -- the parts stay in the ranges of their types
 prefix_held : (prefix : Prefix) (digest : Digest) → IsPrefix prefix → IsDigest digest → IsPrefix (sealed_prefix prefix digest)
@@ -38,9 +33,7 @@ inception_held : (digest : Digest) (e : Inception) → IsDigest digest → IsHel
 inception_held digest e valid held = record {
   said = valid;
   prefix = prefix_held e.prefix digest held.prefix valid;
-  kt = held.kt;
   keys = held.keys;
-  nt = held.nt;
   next = held.next;
   toad = held.toad;
   list = held.list;
@@ -53,9 +46,7 @@ rotation_held digest e valid held = record {
   prefix = held.prefix;
   sn = held.sn;
   prior = held.prior;
-  kt = held.kt;
   keys = held.keys;
-  nt = held.nt;
   next = held.next;
   toad = held.toad;
   cuts = held.cuts;
@@ -70,58 +61,47 @@ still_held digest (Drt e) valid held = rotation_held digest e valid held
 still_held digest (Ixn e) valid held = record { said = valid; prefix = held.prefix; sn = held.sn; prior = held.prior }
 still_held digest (Rct receipt) valid held = held
 
+-- the digest leaves the rest
+pub still_writable : (digest : Digest) (event : Event) → IsWritable event → IsWritable (with_digest digest event)
+still_writable digest (Icp e) writable = writable
+still_writable digest (Rot e) writable = writable
+still_writable digest (Ixn e) writable = writable
+still_writable digest (Dip e) writable = writable
+still_writable digest (Drt e) writable = writable
+still_writable digest (Rct receipt) writable = writable
+
+still_own : (digest : Digest) (event : Event) → HasOwnThresholds event → HasOwnThresholds (with_digest digest event)
+still_own digest (Icp e) own = own
+still_own digest (Rot e) own = own
+still_own digest (Ixn e) own = own
+still_own digest (Dip e) own = own
+still_own digest (Drt e) own = own
+still_own digest (Rct receipt) own = own
+
 -- the rule of digests of such an event
-has_said : (digest : Digest) (event : Event) (size : List ℕ) (values : List Tree) → IsDigestOf digest (body_kind event) size (digested_values (with_digest digest event) values) → HasSaid (with_digest digest event) size values
-has_said digest (Icp e) size values is = is
-has_said digest (Rot e) size values is = is
-has_said digest (Ixn e) size values is = is
-has_said digest (Dip e) size values is = is
-has_said digest (Drt e) size values is = is
-has_said digest (Rct receipt) size values is = tt
+has_said : (digest : Digest) (event : Event) → digest ≡ digest_of digest.code (digested_text (with_digest digest event)) → HasSaid (with_digest digest event)
+has_said digest (Icp e) is = is
+has_said digest (Rot e) is = is
+has_said digest (Ixn e) is = is
+has_said digest (Dip e) is = is
+has_said digest (Drt e) is = is
+has_said digest (Rct receipt) is = tt
 
-module _ (code : DigestCode) (event : Event) where
-  abbrev kind : Kind
-  kind = body_kind event
-
+module _ (code : DigestCode) (event : Event) (held : IsHeld event) (own : HasOwnThresholds event) (writable : IsWritable event) (valid : IsDigest (digest_in code event)) where
   abbrev digest : Digest
   digest = digest_in code event
 
-  abbrev own : Event
-  own = sealed_event code event
+  own_said : HasSaid (sealed_event code event)
+  own_said = has_said digest event (ap (digest_of code) (sym (same_digested digest event)))
 
-  abbrev own_size : List ℕ
-  own_size = size_of (body_kind own) (values_of own)
+  no_said_fault : ¬ IsFirstFault (text_of (sealed_event code event)) Said
+  no_said_fault (few, (other, has, (witnesses, prefix, none))) =
+      let same = event_again (sealed_event code event) (still_held digest event valid held) (still_own digest event own) (still_writable digest event writable) other has in
+      none (subst HasSaid (sym same) own_said)
 
-  abbrev placed : List Tree
-  placed = digested_values event (values_of event)
-
-  same_size : size_of kind placed ≡ own_size
-  same_size = ap (λ n. size_text (24 + n)) (sym (sealed_long digest event))
-
-  text_is : digested_text event ≡ head_text own_size kind ++ (members_text (fields_of kind) (digested_values own (values_of own)) ++ codes "}")
-  text_is =
-      headed kind placed ∙ ap (λ size. head_text size kind ++ (members_text (fields_of kind) placed ++ codes "}")) same_size
-      ∙ ap (λ vs. head_text own_size kind ++ (members_text (fields_of kind) vs ++ codes "}")) (sym (same_digested digest event))
-
-  own_said : HasSaid own own_size (values_of own)
-  own_said = has_said digest event own_size (values_of own) (ap (digest_of code) text_is)
-
-  module _ (held : IsHeld event) (writable : IsWritable event) (valid : IsDigest digest) where
-    own_held : IsHeld own
-    own_held = still_held digest event valid held
-
-    own_writable : IsWritable own
-    own_writable = still_writable digest event writable
-
-    no_said_fault : ¬ IsFirstFault (text_of own) Said
-    no_said_fault (few, (other, has, (witnesses, prefix, none))) =
-        let sizes = subst (λ size. HasSaid own size (values_of own)) (size_again other own own_held own_writable has) own_said in
-        let values = subst (HasSaid own has.body.size) (values_again other own own_held own_writable has) sizes in
-        none (subst (λ e. HasSaid e has.body.size has.values) (sym (event_again other own own_held own_writable has)) values)
-
-    pub not_said : (r : Result Event ReadBody) → IfErr r (λ fault. IsFaultOf own fault) → r ≢ Err (Fault Said)
-    not_said (Ok e) faulty is = cc is
-    not_said (Err fault) faulty is = let same : fault ≡ Fault Said = cc is in no_said_fault (subst (IsFaultOf own) same faulty)
+  pub not_said : (r : Result Event ReadBody) → IfErr r (λ fault. IsFaultOf (sealed_event code event) fault) → r ≢ Err (Fault Said)
+  not_said (Ok e) faulty is = cc is
+  not_said (Err fault) faulty is = let same : fault ≡ Fault Said = cc is in no_said_fault (subst (IsFaultOf (sealed_event code event)) same faulty)
 
 -- a text that is too large has no such fault
 pub large_not_said : (text : List ℕ) (fault : ReadBody) → IsLengthFault text fault → fault ≢ Fault Said

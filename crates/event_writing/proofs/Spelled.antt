@@ -1,11 +1,18 @@
--- An event that a body spells can be written, and its body is its text.
+-- An event that a body spells can be written.
+use Rattle.std.proofs.Common.{ℕ, List, [], ◌∷◌}
+use Rattle.std.specs.List.{AllByRecursion}
+use Rattle.json_tree.specs.declared.tree.Tree.{Tree}
+use Rattle.json_tree.specs.Spelling.{IsJson, Fits}
 use Rattle.event_body.specs.declared.event.Event.{Event}
 use Rattle.event_body.specs.declared.event.Event.TheVariants.{Icp, Rot, Ixn, Dip, Drt, Rct}
 use Rattle.event_body.specs.Judging.{IsSpelled}
 use Rattle.event_body.specs.Kept.{IsKept}
 use Rattle.event_body.proofs.Keeping.{kept}
-use Rattle.event_writing.specs.Held.{IsWritable}
-use Rattle.event_writing.proofs.Json.{fit_json}
+use Rattle.event_writing.specs.Writable.{IsWritable}
+
+fit_json : (n : ℕ) (values : List Tree) → AllByRecursion (Fits n) values → AllByRecursion IsJson values
+fit_json n [] all = tt
+fit_json n (value ∷ values) all = (all.0.0, fit_json n values all.1)
 
 kept_writable : (event : Event) → IsKept event → IsWritable event
 kept_writable (Icp e) kept = (fit_json 8 e.anchors kept.0.ranges.anchors_held, kept.0.ranges.traits_held, kept.1)

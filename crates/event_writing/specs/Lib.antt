@@ -1,4 +1,3 @@
-pub mod Values
-pub mod Held
-pub mod Texts
-pub mod Sealing
+pub mod Writable
+pub mod Faults
+pub mod Sealed

@@ -3,12 +3,12 @@
 ghost use Rattle.std.specs.Prelude.{◌<◌, ◌^◌, IfSome};
 ghost use Rattle.std.specs.List.{AllByRecursion};
 ghost use Rattle.cesr_codes.specs.Spelling.{IsDigest, IsKey, IsPrefix};
-ghost use Rattle.event_writing.specs.Held.{IsHeld, IsHeldInception, IsHeldInteraction, IsHeldReceipt, IsHeldRotation, IsHeldThreshold, IsHeldWeight};
+ghost use Rattle.sith.specs.OwnValues.{HasOwnValue};
+ghost use Rattle.event_body.specs.Held.{IsHeld, IsHeldInception, IsHeldInteraction, IsHeldReceipt, IsHeldRotation};
+ghost use Rattle.event_writing.specs.Writable.{HasOwnThresholds};
 
 use cesr_codes::{Digest, Key, Prefix};
 use event_body::{Event, Inception, Interaction, ReceiptBody, Rotation};
-use lists::Items;
-use sith::{Threshold, Weight};
 
 fn digest(_digest: Digest)
     ensures { IsDigest _digest }
@@ -55,44 +55,15 @@ fn number(_number: u64)
     ensures { _number < 2 ^ 64 }
 {}
 
-fn weight(_weight: Weight)
-    ensures { IsHeldWeight _weight }
-{}
-
-fn weights(weights: &[Weight])
-    ensures { AllByRecursion IsHeldWeight weights.now }
-{
-    for found in weights {
-        weight(*found);
-    }
-}
-
-fn clauses(clauses: &[Items<Weight>])
-    ensures { AllByRecursion (AllByRecursion IsHeldWeight) clauses.now }
-{
-    for found in clauses {
-        weights(found.as_slice());
-    }
-}
-
-fn threshold(threshold: &Threshold)
-    ensures { IsHeldThreshold threshold.now }
-{
-    match threshold {
-        Threshold::Count(count) => number(*count),
-        Threshold::Flat(found) => weights(found.as_slice()),
-        Threshold::Nested(found) => clauses(found.as_slice()),
-    }
-}
-
 fn inception(event: &Inception)
-    ensures { IsHeldInception event.now }
+    ensures held { IsHeldInception event.now }
+    ensures thresholds { HasOwnValue event.now.kt × HasOwnValue event.now.nt }
 {
     digest(event.said);
     prefix(event.prefix);
-    threshold(&event.kt);
+    event.kt.own_value();
     keys(event.keys.as_slice());
-    threshold(&event.nt);
+    event.nt.own_value();
     digests(event.next.as_slice());
     number(event.toad);
     keys(event.list.as_slice());
@@ -100,15 +71,16 @@ fn inception(event: &Inception)
 }
 
 fn rotation(event: &Rotation)
-    ensures { IsHeldRotation event.now }
+    ensures held { IsHeldRotation event.now }
+    ensures thresholds { HasOwnValue event.now.kt × HasOwnValue event.now.nt }
 {
     digest(event.said);
     prefix(event.prefix);
     number(event.sn);
     digest(event.prior);
-    threshold(&event.kt);
+    event.kt.own_value();
     keys(event.keys.as_slice());
-    threshold(&event.nt);
+    event.nt.own_value();
     digests(event.next.as_slice());
     number(event.toad);
     keys(event.cuts.as_slice());
@@ -133,7 +105,8 @@ fn receipt(receipt: &ReceiptBody)
 }
 
 pub(crate) fn held(event: &Event)
-    ensures { IsHeld event.now }
+    ensures held { IsHeld event.now }
+    ensures thresholds { HasOwnThresholds event.now }
 {
     match event {
         Event::Icp(event) | Event::Dip(event) => inception(event),

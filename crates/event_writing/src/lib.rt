@@ -1,17 +1,12 @@
 //! Writing bodies of key events, and sealing events with the digest of their own text.
 #![tactic(auto)]
 
+mod body;
 mod held;
 mod laws;
-mod sealing;
-mod size;
-#[cfg(test)]
-mod tests;
-mod text;
-mod threshold_value;
+mod sealed_event;
 mod values;
-mod writing;
 
+pub use body::write_body;
 pub use laws::writable;
-pub use sealing::sealed;
-pub use writing::write_body;
+pub use sealed_event::sealed;

@@ -1,11 +1,13 @@
 //! The values of an event's fields.
 ghost use Rattle.std.specs.Prelude.{◌≡◌, ◌++◌, ◌∷◌, [], IfOk, OnOk};
-ghost use Rattle.body_fields.specs.Forms.{digest_value, digests_value, keys_value};
+ghost use Rattle.sith.specs.Thresholds.{threshold_value};
+ghost use Rattle.body_fields.specs.Forms.{digest_value, digests_value, keys_value, number_value};
+ghost use Rattle.event_body.specs.Spelling as spelling;
 ghost use Rattle.event_body.specs.Spelling.{body_kind, delegator_values};
-ghost use Rattle.event_writing.specs.Values as specs;
 
-use crate::threshold_value::{number, threshold_value};
-use body_fields::{Kind, digest_tree, digests_tree, keys_tree, prefix_tree, strings_tree};
+use body_fields::{
+    Kind, digest_tree, digests_tree, keys_tree, number_tree, prefix_tree, strings_tree,
+};
 use cesr_codes::{Digest, Key, Prefix};
 use event_body::{Event, Inception, Interaction, ReceiptBody, Rotation};
 use json_tree::Tree;
@@ -34,14 +36,14 @@ pub(crate) fn values(
     prefix: Tree,
     event: &Event,
 ) -> Result<Items<Tree>, AllocError>
-    ensures { IfOk result (λ values. values ≡ said ∷ prefix ∷ specs.further_values event.now) }
+    ensures { IfOk result (λ values. values ≡ said ∷ prefix ∷ spelling.further_values event.now) }
 {
     let mut values = vec![in alloc; said, prefix]?;
     match event {
         Event::Icp(event) | Event::Dip(event) => push_inception(alloc, &mut values, event)?,
         Event::Rot(event) | Event::Drt(event) => push_rotation(alloc, &mut values, event)?,
         Event::Ixn(event) => push_interaction(alloc, &mut values, event)?,
-        Event::Rct(receipt) => values.push(number(alloc, receipt.sn)?)?,
+        Event::Rct(receipt) => values.push(number_tree(alloc, receipt.sn)?)?,
     }
     Ok(Items::from_vec(values))
 }
@@ -51,12 +53,12 @@ fn push_inception(
     values: &mut Vec<Tree>,
     event: &Inception,
 ) -> Result<(), AllocError>
-    ensures { OnOk result (values.new.items ≡ values.old.items ++ specs.inception_values event.now) }
+    ensures { OnOk result (values.new.items ≡ values.old.items ++ spelling.inception_values event.now) }
 {
-    values.push(number(alloc, 0)?)?;
+    values.push(number_tree(alloc, 0)?)?;
     push_keys(alloc, values, &event.kt, &event.keys)?;
     push_next(alloc, values, &event.nt, &event.next)?;
-    values.push(number(alloc, event.toad)?)?;
+    values.push(number_tree(alloc, event.toad)?)?;
     values.push(keys_tree(alloc, &event.list)?)?;
     values.push(strings_tree(alloc, &event.traits)?)?;
     values.push(Tree::List(event.anchors.copy(alloc)?))?;
@@ -82,9 +84,9 @@ fn push_keys(
     kt: &Threshold,
     keys: &Items<Key>,
 ) -> Result<(), AllocError>
-    ensures { OnOk result (values.new.items ≡ values.old.items ++ specs.threshold_value kt.now ∷ keys_value keys.now ∷ []) }
+    ensures { OnOk result (values.new.items ≡ values.old.items ++ threshold_value kt.now ∷ keys_value keys.now ∷ []) }
 {
-    values.push(threshold_value(alloc, kt)?)?;
+    values.push(kt.tree(alloc)?)?;
     values.push(keys_tree(alloc, keys)?)?;
     Ok(())
 }
@@ -95,15 +97,15 @@ fn push_next(
     nt: &Threshold,
     next: &Items<Digest>,
 ) -> Result<(), AllocError>
-    ensures { OnOk result (values.new.items ≡ values.old.items ++ specs.threshold_value nt.now ∷ digests_value next.now ∷ []) }
+    ensures { OnOk result (values.new.items ≡ values.old.items ++ threshold_value nt.now ∷ digests_value next.now ∷ []) }
 {
-    values.push(threshold_value(alloc, nt)?)?;
+    values.push(nt.tree(alloc)?)?;
     values.push(digests_tree(alloc, next)?)?;
     Ok(())
 }
 
 fn push_rotation(alloc: Global, values: &mut Vec<Tree>, event: &Rotation) -> Result<(), AllocError>
-    ensures { OnOk result (values.new.items ≡ values.old.items ++ specs.rotation_values event.now) }
+    ensures { OnOk result (values.new.items ≡ values.old.items ++ spelling.rotation_values event.now) }
 {
     push_place(alloc, values, event.sn, &event.prior)?;
     push_keys(alloc, values, &event.kt, &event.keys)?;
@@ -114,9 +116,9 @@ fn push_rotation(alloc: Global, values: &mut Vec<Tree>, event: &Rotation) -> Res
 }
 
 fn push_changes(alloc: Global, values: &mut Vec<Tree>, event: &Rotation) -> Result<(), AllocError>
-    ensures { OnOk result (values.new.items ≡ values.old.items ++ specs.number_value event.now.toad ∷ keys_value event.now.cuts ∷ keys_value event.now.adds ∷ []) }
+    ensures { OnOk result (values.new.items ≡ values.old.items ++ number_value event.now.toad ∷ keys_value event.now.cuts ∷ keys_value event.now.adds ∷ []) }
 {
-    values.push(number(alloc, event.toad)?)?;
+    values.push(number_tree(alloc, event.toad)?)?;
     values.push(keys_tree(alloc, &event.cuts)?)?;
     values.push(keys_tree(alloc, &event.adds)?)?;
     Ok(())
@@ -128,9 +130,9 @@ fn push_place(
     sn: u64,
     prior: &Digest,
 ) -> Result<(), AllocError>
-    ensures { OnOk result (values.new.items ≡ values.old.items ++ specs.number_value sn ∷ digest_value prior.now ∷ []) }
+    ensures { OnOk result (values.new.items ≡ values.old.items ++ number_value sn ∷ digest_value prior.now ∷ []) }
 {
-    values.push(number(alloc, sn)?)?;
+    values.push(number_tree(alloc, sn)?)?;
     values.push(digest_tree(alloc, prior)?)?;
     Ok(())
 }
@@ -140,7 +142,7 @@ fn push_interaction(
     values: &mut Vec<Tree>,
     event: &Interaction,
 ) -> Result<(), AllocError>
-    ensures { OnOk result (values.new.items ≡ values.old.items ++ specs.interaction_values event.now) }
+    ensures { OnOk result (values.new.items ≡ values.old.items ++ spelling.interaction_values event.now) }
 {
     push_place(alloc, values, event.sn, &event.prior)?;
     values.push(Tree::List(event.anchors.copy(alloc)?))?;

@@ -13,3 +13,5 @@ pub mod OneThreshold
 pub mod Spelled
 pub mod ReadFor
 pub mod ThresholdValues
+pub mod Plain
+pub mod OwnValues

@@ -44,10 +44,10 @@ part_is n d text top bottom part none whole is =
     one_slash top (decimal n) bottom (decimal d) none (decimal_no_slash n (omega (arith, part))) (sym whole ∙ is)
 
 -- a part has one spelling
-pub one_part : (n d m e : ℕ) → IsPart n d → IsPart m e → decimal n ++ 47 ∷ decimal d ≡ decimal m ++ 47 ∷ decimal e → (n ≡ m) × (d ≡ e)
+pub one_part : (n d m e : ℕ) → (n < 2 ^ 32) × (d < 2 ^ 32) → (m < 2 ^ 32) × (e < 2 ^ 32) → decimal n ++ 47 ∷ decimal d ≡ decimal m ++ 47 ∷ decimal e → (n ≡ m) × (d ≡ e)
 one_part n d m e ours theirs same =
-    let both = one_slash (decimal n) (decimal m) (decimal d) (decimal e) (decimal_no_slash n (omega (arith, ours))) (decimal_no_slash m (omega (arith, theirs))) same in
-    (decimal_injective n m (omega (arith, ours)) (omega (arith, theirs)) both.0, decimal_injective d e (omega (arith, ours)) (omega (arith, theirs)) both.1)
+    let both = one_slash (decimal n) (decimal m) (decimal d) (decimal e) (decimal_no_slash n (omega (arith, ours.0))) (decimal_no_slash m (omega (arith, theirs.0))) same in
+    (decimal_injective n m (omega (arith, ours.0)) (omega (arith, theirs.0)) both.0, decimal_injective d e (omega (arith, ours.1)) (omega (arith, theirs.1)) both.1)
 
 -- the text before a place, the byte there and the text behind it
 pub split_there : (text : List ℕ) (place : ℕ) (byte : ℕ) → place < length text → get_or text place 0 ≡ byte → text ≡ take place text ++ byte ∷ drop (place + 1) text

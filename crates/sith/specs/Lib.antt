@@ -5,3 +5,4 @@ pub mod Terms
 pub mod Thresholds
 pub mod Rules
 pub mod Tests
+pub mod OwnValues

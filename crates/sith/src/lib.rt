@@ -5,6 +5,7 @@ mod decimal;
 mod divisors;
 mod form;
 mod member;
+mod own_value;
 mod reader;
 mod rules;
 mod signers;

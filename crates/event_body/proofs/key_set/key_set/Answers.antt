@@ -5,13 +5,15 @@ use Rattle.body_fields.specs.Forms.{key_value, digest_value}
 use Rattle.event_body.proofs.Values.{length_listed}
 use Rattle.event_body.proofs.key_set.key_set.Goals as goal
 
-pub returns-clause-spelled : goal.returns-clause-spelled
-returns-clause-spelled c = record {
-  kt_is = c.in_ok-kt.ensures.spelled;
+pub returns-clause-values : goal.returns-clause-values
+returns-clause-values c = record {
+  kt_is = c.in_ok-kt.ensures.value;
+  kt_spells = c.in_ok-kt.ensures.spelled;
   kt_read = subst (IsReadFor c.in_ok-kt.kt) (length_listed key_value _ _ (sym c.members_in-members.ensures ∙ c.in_ok-keys.ensures.value)) c.in_ok-kt.ensures.read;
   keys_are = c.in_ok-keys.ensures.value;
   keys_held = c.in_ok-keys.ensures.valid;
-  nt_is = c.in_ok-nt.ensures.spelled;
+  nt_is = c.in_ok-nt.ensures.value;
+  nt_spells = c.in_ok-nt.ensures.spelled;
   nt_read = subst (IsReadFor c.in_ok-nt.nt) (length_listed digest_value _ _ (sym c.members_in.ensures ∙ c.in_ok-next.ensures.value)) c.in_ok-nt.ensures.read;
   next_are = c.in_ok-next.ensures.value;
   next_held = c.in_ok-next.ensures.valid;

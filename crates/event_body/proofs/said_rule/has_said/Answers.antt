@@ -4,9 +4,9 @@ use Rattle.event_body.proofs.Places.{places_lie_in, tests_said}
 use Rattle.event_body.proofs.said_rule.has_said.Goals as goal
 
 pub holds-requires : goal.holds-requires
-holds-requires c = subst (LieIn c.args.bytes.now) (sym c.places.ensures) (places_lie_in c.args.event.now c.args.bytes.now c.requires)
+holds-requires c = subst (LieIn c.args.bytes.now) (sym c.places.ensures) (places_lie_in c.args.event.now c.args.bytes.now c.requires.text)
 
 pub returns : goal.returns
-returns c = λ has.
-    tests_said c.args.event.now c.args.bytes.now has c.said_of_event.result c.places.result.now c.holds.result (sym c.is_receipt.ensures ∙ c.if-is_receipt.false)
+returns c =
+    tests_said c.args.event.now c.args.bytes.now c.said_of_event.result c.places.result.now c.holds.result c.requires.text (sym c.is_receipt.ensures ∙ c.if-is_receipt.false)
     c.said_of_event.ensures c.places.ensures c.holds.ensures

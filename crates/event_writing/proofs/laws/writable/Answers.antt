@@ -1,5 +1,5 @@
-use Rattle.event_writing.proofs.Spelled as spelled
+use Rattle.event_writing.proofs.Spelled as written
 use Rattle.event_writing.proofs.laws.writable.Goals as goal
 
 pub returns : goal.returns
-returns c = spelled.writable
+returns c = written.writable

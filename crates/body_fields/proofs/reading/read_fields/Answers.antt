@@ -1,5 +1,0 @@
-use Rattle.body_fields.proofs.Whole.{whole}
-use Rattle.body_fields.proofs.reading.read_fields.Goals as goal
-
-pub returns-clause-only : goal.returns-clause-only
-returns-clause-only c = whole c.args.bytes.now c.read.result c.read.ensures.read c.read.ensures.fault

@@ -1,0 +1,50 @@
+-- What the types of an event's parts hold by themselves.
+use Rattle.std.specs.Prelude.{◌<◌, ◌^◌, IfSome}
+use Rattle.std.specs.List.{AllByRecursion}
+use Rattle.cesr_codes.specs.Spelling.{IsDigest, IsKey, IsPrefix}
+use Rattle.event_body.specs.declared.event.Event.{Event}
+use Rattle.event_body.specs.declared.event.Event.TheVariants.{Icp, Rot, Ixn, Dip, Drt, Rct}
+use Rattle.event_body.specs.declared.inception.Inception.{Inception}
+use Rattle.event_body.specs.declared.rotation.Rotation.{Rotation}
+use Rattle.event_body.specs.declared.interaction.Interaction.{Interaction}
+use Rattle.event_body.specs.declared.receipt_body.ReceiptBody.{ReceiptBody}
+
+pub record IsHeldInception (e : Inception) : Type 0 where
+  pub said : IsDigest e.said
+  pub prefix : IsPrefix e.prefix
+  pub keys : AllByRecursion IsKey e.keys
+  pub next : AllByRecursion IsDigest e.next
+  pub toad : e.toad < 2 ^ 64
+  pub list : AllByRecursion IsKey e.list
+  pub delegator : IfSome e.delegator IsPrefix
+
+pub record IsHeldRotation (e : Rotation) : Type 0 where
+  pub said : IsDigest e.said
+  pub prefix : IsPrefix e.prefix
+  pub sn : e.sn < 2 ^ 64
+  pub prior : IsDigest e.prior
+  pub keys : AllByRecursion IsKey e.keys
+  pub next : AllByRecursion IsDigest e.next
+  pub toad : e.toad < 2 ^ 64
+  pub cuts : AllByRecursion IsKey e.cuts
+  pub adds : AllByRecursion IsKey e.adds
+
+pub record IsHeldInteraction (e : Interaction) : Type 0 where
+  pub said : IsDigest e.said
+  pub prefix : IsPrefix e.prefix
+  pub sn : e.sn < 2 ^ 64
+  pub prior : IsDigest e.prior
+
+pub record IsHeldReceipt (receipt : ReceiptBody) : Type 0 where
+  pub said : IsDigest receipt.said
+  pub prefix : IsPrefix receipt.prefix
+  pub sn : receipt.sn < 2 ^ 64
+
+-- Its digests, keys and prefixes have their bytes, and its numbers their bits, as the types of its parts have it.
+abbrev pub IsHeld : Event → Type 0
+IsHeld (Icp e) = IsHeldInception e
+IsHeld (Rot e) = IsHeldRotation e
+IsHeld (Ixn e) = IsHeldInteraction e
+IsHeld (Dip e) = IsHeldInception e
+IsHeld (Drt e) = IsHeldRotation e
+IsHeld (Rct receipt) = IsHeldReceipt receipt

@@ -1,6 +1,0 @@
-use Rattle.event_writing.specs.Sealing.{sealed_event}
-use Rattle.event_writing.proofs.OwnDigest.{answered_whole}
-use Rattle.event_writing.proofs.sealing.sealed.Goals as goal
-
-pub returns-clause-whole : goal.returns-clause-whole
-returns-clause-whole c = answered_whole (sealed_event c.args.code c.args.event.now) c.seal.result c.seal.ensures.sealed c.seal.ensures.fault

@@ -1,5 +1,0 @@
-use Rattle.std.proofs.Common.{length}
-use Rattle.event_writing.proofs.text.+push_members.Given as goal
-
-abbrev pub decreases-push_members : goal.decreases-push_members
-decreases-push_members l = length l.values.now

@@ -1,7 +1,0 @@
-use Rattle.std.proofs.Common.{◌≡◌, map, take}
-use Rattle.event_writing.specs.Values.{weight_value}
-use Rattle.event_writing.proofs.threshold_value.clause.Given as goal
-
--- the values of the weights so far
-abbrev pub invariant-loop-weight : goal.invariant-loop-weight
-invariant-loop-weight l = l.texts.items ≡ map weight_value (take l.weight-index l.weights)

@@ -1,5 +1,0 @@
-use Rattle.event_writing.proofs.Parts.{answered}
-use Rattle.event_writing.proofs.writing.write_body.Goals as goal
-
-pub returns-clause-whole : goal.returns-clause-whole
-returns-clause-whole c = λ bytes spells few. answered c.args.event.now bytes spells few (λ text. text.items) c.written.result c.written.ensures.text c.written.ensures.fault

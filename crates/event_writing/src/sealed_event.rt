@@ -1,0 +1,163 @@
+//! An event with the digest of its own text.
+ghost use Rattle.std.specs.Prelude.{◌≡◌, ◌≢◌, ◌⊎◌, ◌≤◌, Ok, Err, length, IfOk, IfErr};
+ghost use Rattle.json_tree.specs.declared.tree.Tree.TheVariants.{Str};
+ghost use Rattle.said_digest.specs.Replaced.{placeholder};
+ghost use Rattle.event_body.specs.Held.{IsHeld};
+ghost use Rattle.event_body.specs.Judging.{IsSpelled};
+ghost use Rattle.event_body.specs.Rules as rules;
+ghost use Rattle.event_writing.specs.Faults.{IsFaultOf, IsLengthFault};
+ghost use Rattle.event_writing.specs.Sealed as specs;
+ghost use Rattle.event_writing.specs.Writable.{HasOwnThresholds, IsWritable};
+
+use crate::body::{body_text, write_body};
+use crate::held::held;
+use crate::values::{kind_of, values};
+use body_fields::prefix_tree;
+use cesr_codes::{Digest, DigestCode, Prefix};
+use event_body::{
+    BodyFault, Event, Inception, Interaction, ReadBody, Rotation, hides_prefix, prefix_of,
+};
+use json_tree::Tree;
+use lists::{CopyValue, Items};
+use said_digest::digest_of;
+use std::alloc::{AllocError, Global};
+
+/// The event with the digest of its own text under this code, or the fault that its text has then. An inception's
+/// prefix that is a digest becomes this one. A receipt stays as it is.
+pub fn sealed(alloc: Global, event: &Event, code: DigestCode) -> Result<Event, ReadBody>
+    requires { IsWritable event.now }
+    ensures sealed { IfOk result (λ sealed. sealed ≡ specs.sealed_event code event.now) }
+    ensures spelled { IfOk result (λ sealed. IsSpelled sealed) }
+
+    // A fault is the first that the text has. It is never one of the digest.
+    ensures fault { IfErr result (λ fault. IsFaultOf (specs.sealed_event code event.now) fault) }
+    ensures said { result ≢ Err (ReadBody.Fault BodyFault.Said) }
+
+    // Where a body spells the event with its digest, that is the answer, but for want of memory.
+    ensures whole { IsSpelled (specs.sealed_event code event.now)
+        → (result ≡ Ok (specs.sealed_event code event.now)) ⊎ (result ≡ Err ReadBody.OutOfMemory) }
+{
+    seal(alloc, event, code)
+}
+
+fn seal(alloc: Global, event: &Event, code: DigestCode) -> Result<Event, ReadBody>
+    requires { IsWritable event.now }
+    ensures sealed { IfOk result (λ sealed. sealed ≡ specs.sealed_event code event.now) }
+    ensures spelled { IfOk result (λ sealed. IsSpelled sealed) }
+    ensures fault { IfErr result (λ fault. IsFaultOf (specs.sealed_event code event.now) fault) }
+    ensures said { result ≢ Err (ReadBody.Fault BodyFault.Said) }
+{
+    held(event);
+    match digested_text(alloc, event) {
+        Ok(text) => sealed_with(alloc, event, digest_of(code, &text)),
+        Err(fault) => Err(fault),
+    }
+}
+
+// The event with this digest, where its text is a body.
+fn sealed_with(alloc: Global, event: &Event, said: Digest) -> Result<Event, ReadBody>
+    requires { IsWritable event.now }
+    ensures sealed { IfOk result (λ sealed. sealed ≡ specs.with_digest said event.now) }
+    ensures spelled { IfOk result (λ sealed. IsSpelled sealed) }
+    ensures fault { IfErr result (λ fault. IsFaultOf (specs.with_digest said event.now) fault) }
+{
+    let sealed = with_digest(alloc, event, said)?;
+    match write_body(alloc, &sealed) {
+        Ok(_) => Ok(sealed),
+        Err(fault) => Err(fault),
+    }
+}
+
+// The event's text with placeholders, where it has at most 65,535 bytes.
+fn digested_text(alloc: Global, event: &Event) -> Result<Vec<u8>, ReadBody>
+    requires held { IsHeld event.now }
+    requires thresholds { HasOwnThresholds event.now }
+    requires writable { IsWritable event.now }
+    ensures text { IfOk result (λ text. (text.items ≡ rules.digested_text event.now) × (length text.items ≤ 65535)) }
+    ensures large { IfErr result (λ fault. IsLengthFault (rules.digested_text event.now) fault) }
+{
+    let values = digested_values(alloc, event)?;
+    body_text(alloc, kind_of(event), values.as_slice())
+}
+
+// The values of the event's fields with placeholders.
+fn digested_values(alloc: Global, event: &Event) -> Result<Items<Tree>, AllocError>
+    ensures { IfOk result (λ values. values ≡ rules.digested_values event.now) }
+{
+    let said = placeholder_tree(alloc)?;
+    let prefix = hidden_prefix(alloc, event)?;
+    let values = values(alloc, said, prefix, event)?;
+    Ok(values)
+}
+
+// What stands for the prefix when the digest is computed.
+fn hidden_prefix(alloc: Global, event: &Event) -> Result<Tree, AllocError>
+    ensures { IfOk result (λ tree. tree ≡ rules.hidden_prefix event.now) }
+{
+    if hides_prefix(event) {
+        placeholder_tree(alloc)
+    } else {
+        prefix_tree(alloc, &prefix_of(event))
+    }
+}
+
+// What stands for a digest while it is computed.
+#[tactic(auto, unfolding(said_digest::specs::Replaced::placeholder))]
+fn placeholder_tree(alloc: Global) -> Result<Tree, AllocError>
+    ensures { IfOk result (λ tree. tree ≡ Str placeholder) }
+{
+    Ok(Tree::Str(Items::from_vec(vec![in alloc; b'#'; 44]?)))
+}
+
+// The event with this digest.
+fn with_digest(alloc: Global, event: &Event, said: Digest) -> Result<Event, AllocError>
+    ensures { IfOk result (λ sealed. sealed ≡ specs.with_digest said event.now) }
+{
+    match event {
+        Event::Icp(event) => Ok(Event::Icp(sealed_inception(alloc, event, said)?)),
+        Event::Rot(event) => Ok(Event::Rot(sealed_rotation(alloc, event, said)?)),
+        Event::Ixn(event) => Ok(Event::Ixn(sealed_interaction(alloc, event, said)?)),
+        Event::Dip(event) => Ok(Event::Dip(sealed_inception(alloc, event, said)?)),
+        Event::Drt(event) => Ok(Event::Drt(sealed_rotation(alloc, event, said)?)),
+        Event::Rct(receipt) => Ok(Event::Rct(*receipt)),
+    }
+}
+
+fn sealed_inception(alloc: Global, event: &Inception, said: Digest) -> Result<Inception, AllocError>
+    ensures { IfOk result (λ sealed. sealed ≡ record event.now { said = said; prefix = specs.sealed_prefix event.now.prefix said }) }
+{
+    let mut sealed = event.copy(alloc)?;
+    sealed.said = said;
+    sealed.prefix = sealed_prefix(event.prefix, said);
+    Ok(sealed)
+}
+
+fn sealed_rotation(alloc: Global, event: &Rotation, said: Digest) -> Result<Rotation, AllocError>
+    ensures { IfOk result (λ sealed. sealed ≡ record event.now { said = said }) }
+{
+    let mut sealed = event.copy(alloc)?;
+    sealed.said = said;
+    Ok(sealed)
+}
+
+fn sealed_interaction(
+    alloc: Global,
+    event: &Interaction,
+    said: Digest,
+) -> Result<Interaction, AllocError>
+    ensures { IfOk result (λ sealed. sealed ≡ record event.now { said = said }) }
+{
+    let mut sealed = event.copy(alloc)?;
+    sealed.said = said;
+    Ok(sealed)
+}
+
+// A prefix that is a digest becomes this one.
+fn sealed_prefix(prefix: Prefix, said: Digest) -> Prefix
+    ensures { result ≡ specs.sealed_prefix prefix said }
+{
+    match prefix {
+        Prefix::Basic(key) => Prefix::Basic(key),
+        Prefix::Said(_) => Prefix::Said(said),
+    }
+}

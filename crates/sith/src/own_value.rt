@@ -1,0 +1,73 @@
+//! What holds of the value of each threshold, stated for proofs: a proof learns a number's range where the number is read.
+//! Nothing else is done here.
+ghost use Rattle.std.specs.Prelude.{◌<◌, ◌^◌};
+ghost use Rattle.std.specs.List.{AllByRecursion};
+ghost use Rattle.sith.specs.OwnValues.{HasOwnValue, IsHeldTerm, IsHeldThreshold, IsHeldWeight};
+
+use crate::term::Term;
+use crate::threshold::Threshold;
+use crate::weight::Weight;
+use lists::Items;
+
+fn number(_number: u64)
+    ensures { _number < 2 ^ 64 }
+{}
+
+fn weight(_weight: Weight)
+    ensures { IsHeldWeight _weight }
+{}
+
+fn weights(weights: &[Weight])
+    ensures { AllByRecursion IsHeldWeight weights.now }
+{
+    for found in weights {
+        weight(*found);
+    }
+}
+
+fn term(term: &Term)
+    ensures { IsHeldTerm term.now }
+{
+    match term {
+        Term::Single(found) => weight(*found),
+        Term::Group(outer, inner) => {
+            weight(*outer);
+            weights(inner.as_slice());
+        }
+    }
+}
+
+fn terms(terms: &[Term])
+    ensures { AllByRecursion IsHeldTerm terms.now }
+{
+    for found in terms {
+        term(found);
+    }
+}
+
+fn clauses(clauses: &[Items<Term>])
+    ensures { AllByRecursion (AllByRecursion IsHeldTerm) clauses.now }
+{
+    for found in clauses {
+        terms(found.as_slice());
+    }
+}
+
+fn held(threshold: &Threshold)
+    ensures { IsHeldThreshold threshold.now }
+{
+    match threshold {
+        Threshold::Count(count) => number(*count),
+        Threshold::Flat(found) => terms(found.as_slice()),
+        Threshold::Nested(found) => clauses(found.as_slice()),
+    }
+}
+
+impl Threshold {
+    /// The threshold's value is JSON, and that of no other threshold that is read.
+    pub fn own_value(&self)
+        ensures { HasOwnValue self.now }
+    {
+        held(self);
+    }
+}
