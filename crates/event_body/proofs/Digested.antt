@@ -16,7 +16,7 @@ use Rattle.body_fields.specs.Bodies.{kind_text, name_text, member_text, members_
 use Rattle.body_fields.proofs.Texts.{size_of, text_long}
 use Rattle.event_body.specs.declared.event.Event.{Event}
 use Rattle.event_body.specs.Events.{prefix_of, said_of, hides_prefix}
-use Rattle.event_body.specs.Rules.{hidden_prefix, digested_values, digested_text}
+use Rattle.event_body.specs.Rules.{digested_values, digested_text}
 use Rattle.event_body.specs.Spelling.{body_kind, further_values, values_of, text_of}
 
 -- texts of one length stand for each other

@@ -5,11 +5,9 @@ use Rattle.std.proofs.lemmas.List.{length-map}
 use Rattle.cesr_codes.specs.declared.prefix.Prefix.{Prefix}
 use Rattle.json_tree.specs.declared.tree.Tree.{Tree}
 use Rattle.json_tree.specs.declared.tree.Tree.TheVariants.{Str, List as TreeList}
-use Rattle.body_fields.specs.declared.kind.Kind.TheVariants as kinds
 use Rattle.body_fields.specs.declared.field.Field.TheVariants.{Delegator}
 use Rattle.body_fields.specs.Bodies.{AreOfForms}
 use Rattle.body_fields.specs.Forms.{key_value, digest_value, keys_value, digests_value, strings_value}
-use Rattle.body_fields.specs.Maps.{inception_fields, delegated_inception_fields}
 use Rattle.event_body.specs.declared.event.Event.{Event}
 use Rattle.event_body.specs.declared.event.Event.TheVariants.{Icp, Rot, Ixn, Dip, Drt, Rct}
 use Rattle.event_body.specs.declared.inception.Inception.{Inception}
@@ -17,7 +15,7 @@ use Rattle.event_body.specs.declared.rotation.Rotation.{Rotation}
 use Rattle.event_body.specs.Kept.{IsKept, IsKeptInception, IsKeptRotation}
 use Rattle.event_body.specs.Ranges.{IsInception, IsRotation}
 use Rattle.event_body.specs.Spelling.{delegator_values}
-use Rattle.event_body.specs.Rules.{HasFewMembers, AreFew, HasThresholds, HasWitnesses, ChangesWitnesses}
+use Rattle.event_body.specs.Rules.{HasFewMembers, HasWitnesses, ChangesWitnesses}
 use Rattle.event_body.specs.Judging.{SpellsEvent}
 
 -- a list of spellings has few members where the list of what they spell has

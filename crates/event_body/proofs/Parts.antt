@@ -8,7 +8,6 @@ use Rattle.cesr_codes.specs.declared.key.Key.{Key}
 use Rattle.cesr_codes.specs.declared.prefix.Prefix.{Prefix}
 use Rattle.cesr_codes.specs.Spelling.{digest_text, key_text, prefix_text, IsDigest, IsKey, IsPrefix}
 use Rattle.cesr_codes.proofs.Same.{same_digest, same_key, same_prefix}
-use Rattle.json_tree.specs.declared.tree.Tree.{Tree}
 use Rattle.json_tree.specs.declared.tree.Tree.TheVariants.{Str}
 use Rattle.sith.specs.declared.threshold.Threshold.{Threshold}
 use Rattle.sith.specs.Thresholds.{Spells, threshold_value}

@@ -1,5 +1,5 @@
 -- What is spelled is read, and each list of bytes spells one event at most.
-use Rattle.std.proofs.Common.{◌≡◌, ℕ, ◌^◌, ◌<◌, ◌≤◌, ◌≢◌, ◌⊎◌, List, length, refl, sym, ap, subst, ◌∙◌, arith, inl, inr, Ok, Err, Result}
+use Rattle.std.proofs.Common.{◌≡◌, ℕ, ◌^◌, ◌<◌, ◌≤◌, ◌≢◌, ◌⊎◌, List, length, refl, sym, ap, subst, arith, inl, inr, Ok, Err, Result}
 use Rattle.json_tree.specs.declared.tree.Tree.{Tree}
 use Rattle.body_fields.specs.declared.kind.Kind.{Kind}
 use Rattle.body_fields.specs.declared.fields_fault.FieldsFault.TheVariants.{OtherSize, Ends}

@@ -1,5 +1,5 @@
 -- The text of which a digest is made stays as it is in the event with that digest.
-use Rattle.std.proofs.Common.{◌≡◌, ℕ, if◌then◌else◌, ◌∷◌, length, refl, ap, ◌∙◌}
+use Rattle.std.proofs.Common.{◌≡◌, if◌then◌else◌, ◌∷◌, length, refl, ap, ◌∙◌}
 use Rattle.cesr_codes.specs.declared.digest.Digest.{Digest}
 use Rattle.cesr_codes.specs.declared.prefix.Prefix.{Prefix}
 use Rattle.cesr_codes.specs.declared.prefix.Prefix.TheVariants.{Basic, Said}

@@ -1,18 +1,16 @@
 -- What is read of an event's text is that event.
-use Rattle.std.proofs.Common.{◌≡◌, ℕ, ◌<◌, ◌≤◌, Result, Ok, Err, List, length, refl, sym, ap, subst, ◌∙◌, arith, Option}
+use Rattle.std.proofs.Common.{◌≡◌, ℕ, ◌≤◌, Result, Ok, Err, List, length, refl, sym, subst, ◌∙◌, arith, Option}
 use Rattle.std.specs.Prelude.{IfNone, IfSome, IfOk, IfErr}
 use Rattle.std.specs.Result.{result_err}
 use Rattle.sith.specs.declared.threshold.Threshold.{Threshold}
 use Rattle.sith.specs.OwnValues.{HasOwnValue}
 use Rattle.sith.specs.Rules.{IsReadFor}
 use Rattle.sith.specs.Thresholds.{Spells, threshold_value}
-use Rattle.body_fields.specs.declared.kind.Kind.{Kind}
 use Rattle.body_fields.specs.Maps.{fields_of}
 use Rattle.body_fields.proofs.Members.{forms_values}
 use Rattle.body_fields.proofs.Texts.{same_text}
 use Rattle.event_body.specs.declared.event.Event.{Event}
-use Rattle.event_body.specs.declared.event.Event.TheVariants.{Icp, Rot, Ixn, Dip, Drt, Rct}
-use Rattle.event_body.specs.declared.body_fault.BodyFault.{BodyFault}
+use Rattle.event_body.specs.declared.event.Event.TheVariants.{Icp, Rot, Dip, Drt}
 use Rattle.event_body.specs.declared.body_fault.ReadBody.{ReadBody}
 use Rattle.event_body.specs.declared.body_fault.ReadBody.TheVariants.{Fault, OutOfMemory}
 use Rattle.event_body.specs.Held.{IsHeld}
