@@ -4,7 +4,6 @@ pub mod Keeping
 pub mod Distinct
 pub mod Readings
 pub mod StateSteps
-pub mod Rows
 pub mod Narrowed
 pub mod Premises
 pub mod Locality
