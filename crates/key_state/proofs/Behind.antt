@@ -1,5 +1,5 @@
 -- The state behind a live event.
-use Rattle.std.proofs.Common.{◌≡◌, ℕ, ◌≤◌, List, length, take, ap, arith}
+use Rattle.std.proofs.Common.{◌≡◌, List, length, ap, arith}
 use Rattle.std.proofs.lemmas.List.{take_all}
 use Rattle.cesr_codes.specs.declared.digest.Digest.{Digest}
 use Rattle.key_state.specs.KeyStates.{state_behind}
