@@ -1,4 +1,4 @@
-//! What a state asks of an event that follows it: who signs it, who witnesses it, and what a signature opens.
+//! What a state asks of an event that follows it: who signs it, who witnesses it, and whether that is enough.
 #![tactic(auto)]
 
 mod delegation;
@@ -6,14 +6,12 @@ mod order;
 mod places;
 mod signing;
 mod support;
-#[cfg(test)]
-mod tests;
 mod verdicts;
 mod witnesses;
 
 pub use delegation::{delegator_of, forbids_delegation, is_delegated};
 pub use order::{is_behind, is_inception, prior_of, takes};
-pub use signing::{claimed_key, claimed_sig, meets_next, meets_own, opens, signing_keys};
+pub use signing::{claimed_key, claimed_sig, meets_next, meets_own, signing_keys};
 pub use support::{is_backed, is_signed, opens_enough};
 pub use verdicts::Verdicts;
 pub use witnesses::{has_witness, toad_of, witness, witness_count};

@@ -14,7 +14,6 @@ use key_state::KeyState;
 /// Whether the event may come next: an inception where there is no state, else an event that follows the state. It takes
 /// no memory.
 pub fn takes(state: Option<&KeyState>, event: &Event) -> bool
-    requires { IsKept event.now }
     ensures { result ≡ logs.takes (option_copied state.entry) event.now }
 {
     match state {

@@ -1,20 +1,18 @@
 //! The signing keys of an event, their threshold, and what their signatures open.
-ghost use Rattle.std.specs.Prelude.{◌≡◌, ◌≤◌, List, ℕ, Some, length};
+ghost use Rattle.std.specs.Prelude.{◌≡◌, ◌≤◌, List, ℕ, length};
 ghost use Rattle.std.specs.Option.{option_copied};
 ghost use Rattle.event_rules.specs.Places.{AreSameBelow};
 ghost use Rattle.journal.specs.History as history;
-ghost use Rattle.key_state.specs.Exposure as exposure;
 ghost use Rattle.key_state.specs.Exposure.{own_rules};
 ghost use Rattle.key_state.specs.Kept.{IsKept};
 ghost use Rattle.sith.specs.Rules.{IsReadFor};
 ghost use Rattle.sith.specs.Tests.{satisfied};
 
 use crate::witnesses::{has_witness, witness};
-use cesr_codes::{Digest, IndexedSig, Key, Sig};
+use cesr_codes::{Key, Sig};
 use event_body::Event;
 use journal::Claim;
 use key_state::KeyState;
-use said_digest::digest_of;
 use sith::Threshold;
 
 /// The keys that sign the event: its own, or for an interaction those of the state before it.
@@ -92,27 +90,4 @@ pub fn claimed_sig(claim: &Claim) -> Sig
         Claim::Held(sig) | Claim::Witness(sig) => sig.sig,
         Claim::Couple(_, sig) => *sig,
     }
-}
-
-/// Whether the signature names the place of a commitment, where the key at its index is the one that was committed to
-/// (KERI, pre-rotation). It takes no memory.
-pub fn opens(next: &[Digest], keys: &[Key], place: u16, sig: &IndexedSig) -> bool
-    ensures { result ≡ exposure.opens next.now keys.now place sig.now }
-{
-    if sig.ondex != Some(place) {
-        return false;
-    }
-    match (next.get(place as usize), keys.get(sig.index as usize)) {
-        (Some(digest), Some(key)) => commits(digest, key),
-        _ => false,
-    }
-}
-
-// Whether the digest is that of the key's spelling.
-fn commits(digest: &Digest, key: &Key) -> bool
-    ensures { result ≡ exposure.commits (Some digest.now) (Some key.now) }
-{
-    let mut text = [0; 44];
-    key.write(&mut text);
-    *digest == digest_of(digest.code, &text)
 }

@@ -12,12 +12,12 @@ ghost use Rattle.sith.specs.Tests.{satisfied};
 
 use crate::Verdicts;
 use crate::places::Places;
-use crate::signing::{claimed_key, claimed_sig, meets_next, meets_own, opens};
+use crate::signing::{claimed_key, claimed_sig, meets_next, meets_own};
 use crate::witnesses::{is_earlier, toad_of, witness, witness_count};
 use cesr_codes::{IndexedSig, Key};
 use event_body::Event;
 use journal::Claim;
-use key_state::KeyState;
+use key_state::{KeyState, opens};
 
 /// Whether the good signatures among the claims meet the threshold of the signing keys. It takes no memory.
 pub fn is_signed<V: Verdicts>(

@@ -8,7 +8,7 @@ ghost use Rattle.key_state.specs.Same as same;
 
 use cesr_codes::Key;
 use event_body::{Event, Rotation};
-use key_state::KeyState;
+use key_state::{KeyState, changed_count, has_key, left_count};
 
 /// How many witnesses must have signed a receipt for the event: for an interaction, as the state before it says.
 pub fn toad_of(state: Option<&KeyState>, event: &Event) -> u64
@@ -122,24 +122,6 @@ fn left_witness(old: &[Key], cuts: &[Key], number: usize) -> Option<Key>
     None
 }
 
-// How many members aren't cut.
-fn left_count(old: &[Key], cuts: &[Key]) -> usize
-    ensures { result ≡ length (filter (λ k. not (same.has_key cuts.now k)) old.now) }
-{
-    old.iter().filter(|key| !has_key(cuts, key)).count()
-}
-
-// How many members that list has.
-fn changed_count(old: &[Key], event: &Rotation) -> usize
-    ensures { result ≡ length (changed_list old.now event.now) }
-{
-    let cuts = event.cuts.as_slice();
-    old.iter()
-        .filter(|key| !has_key(cuts, key))
-        .chain(event.adds.as_slice().iter())
-        .count()
-}
-
 // Whether the key is in that list.
 fn is_changed_witness(old: &[Key], event: &Rotation, key: &Key) -> bool
     ensures { result ≡ same.has_key (changed_list old.now event.now) key.now }
@@ -149,10 +131,4 @@ fn is_changed_witness(old: &[Key], event: &Rotation, key: &Key) -> bool
         .filter(|key| !has_key(cuts, key))
         .chain(event.adds.as_slice().iter())
         .any(|held| held == key)
-}
-
-fn has_key(keys: &[Key], key: &Key) -> bool
-    ensures { result ≡ same.has_key keys.now key.now }
-{
-    keys.iter().any(|held| held == key)
 }

@@ -1,7 +1,6 @@
 pub mod Same
-pub mod Kit
-pub mod Rows
 mod Spelled
-mod WitnessLists
-mod NoMisfit
+pub mod WitnessLists
+pub mod NoMisfit
+pub mod Behind
 mod Numbers

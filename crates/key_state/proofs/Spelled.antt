@@ -1,7 +1,7 @@
 -- What bodies spell is kept in order.
-use Rattle.std.proofs.Common.{◌≡◌, ℕ, true, false, not, List, [], ◌∷◌, refl, sym, inl, inr}
-use Rattle.std.specs.Prelude.{Contains, IsTrue}
-use Rattle.std.proofs.lemmas.Bool.{cases_Bool, and_from}
+use Rattle.std.proofs.Common.{◌≡◌, ℕ, true, false, List, [], ◌∷◌, refl, sym, inl, inr}
+use Rattle.std.specs.Prelude.{Contains}
+use Rattle.std.proofs.lemmas.Bool.{cases_Bool}
 use Rattle.std.proofs.lemmas.Map.Views.{Contains-from_any}
 use Rattle.body_fields.specs.Forms.{AreFixed}
 use Rattle.cesr_codes.specs.declared.key.Key.{Key}
@@ -14,7 +14,7 @@ use Rattle.event_body.specs.Kept as bodies
 use Rattle.event_body.specs.Rules.{AreDistinct}
 use Rattle.event_body.proofs.Keeping.{kept}
 use Rattle.key_state.specs.Kept.{IsKept, IsKeptInception, IsKeptRotation}
-use Rattle.key_state.specs.Same.{same_key, has_key, is_fixed, are_witnesses}
+use Rattle.key_state.specs.Same.{has_key, are_witnesses}
 use Rattle.key_state.proofs.Same.{same_key_is}
 
 -- a key that isn't in the list is told not to be

@@ -35,7 +35,7 @@ any-filter p q (x ∷ xs) h =
     elim (cases_Bool (p x)) [ inl k ↦ rw (k, parts.0) ih | inr k ↦ rw k ih ]
 
 -- witnesses of which some were left out, and others that weren't among them
-witnesses-changed : (p : Key → Bool) (old adds : List Key) → are_witnesses old ≡ true → are_witnesses adds ≡ true
+pub witnesses-changed : (p : Key → Bool) (old adds : List Key) → are_witnesses old ≡ true → are_witnesses adds ≡ true
     → list_any (has_key old) adds ≡ false → are_witnesses (filter p old ++ adds) ≡ true
 witnesses-changed p [] adds h k n = k
 witnesses-changed p (x ∷ old) adds h k n =
@@ -59,6 +59,7 @@ module _ (old : List Key) (e : Rotation) (good : is_bad_change old e ≡ false) 
   parts = none_of (list_any (λ k. not (has_key old k)) e.cuts) (list_any (has_key old) e.adds) (nat_lt 64 (length (changed_list old e)))
       (not (fits_count e.toad (length (changed_list old e)))) good
 
+  -- what a good change leaves: at most 64, who are witnesses
   pub few_changed : length (changed_list old e) ≤ 64
   few_changed = let few = parts.1 in grind (arith, nat_tests, few)
 

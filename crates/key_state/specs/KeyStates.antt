@@ -1,5 +1,5 @@
 -- Key states: what the first event of an identifier makes, and what each later one changes (KERI, key state).
-use Rattle.std.specs.Prelude.{◌≡◌, ℕ, ◌+◌, ◌-◌, Bool, false, not, ◌&&◌, ◌||◌, ◌==◌, nat_le, nat_lt, List, [], ◌∷◌, ◌++◌, length, filter, codes, slice_get, Option, Some, None, is_some, is_none, if◌then◌else◌, Result, Ok, Err}
+use Rattle.std.specs.Prelude.{◌≡◌, ℕ, ◌+◌, ◌-◌, Bool, false, not, ◌&&◌, ◌||◌, ◌==◌, nat_le, nat_lt, List, [], ◌∷◌, ◌++◌, length, filter, take, codes, slice_get, Option, Some, None, is_some, is_none, if◌then◌else◌, Result, Ok, Err}
 use Rattle.std.specs.List.{list_any}
 use Rattle.cesr_codes.specs.declared.digest.Digest.{Digest}
 use Rattle.cesr_codes.specs.declared.key.Key.{Key}
@@ -93,6 +93,11 @@ misfit_rules s e =
 -- the first rule by which the event doesn't follow the state
 unfoldable pub misfit : State → Event → Option Misfit
 misfit s e = first_true (misfit_rules s e)
+
+-- the state just behind one of the live events, counted from 1, which is the last establishment event: that event is the
+-- head, since only interactions are behind it
+abbrev pub state_behind : ℕ → State → State
+state_behind place s = record s { since = take place s.since }
 
 -- the state after an inception
 abbrev pub begun : Inception → State

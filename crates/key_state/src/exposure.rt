@@ -73,8 +73,9 @@ fn is_opened(next: &[Digest], keys: &[Key], sigs: &[IndexedSig], place: u16) -> 
     sigs.iter().any(|sig| opens(next, keys, place, sig))
 }
 
-// Whether the signature names the place, where the key at its index is the one that was committed to.
-fn opens(next: &[Digest], keys: &[Key], place: u16, sig: &IndexedSig) -> bool
+/// Whether the signature names the place of a commitment, where the key at its index is the one that was committed to
+/// (KERI, pre-rotation). It takes no memory.
+pub fn opens(next: &[Digest], keys: &[Key], place: u16, sig: &IndexedSig) -> bool
     ensures { result ≡ exposure.opens next.now keys.now place sig.now }
 {
     if sig.ondex != Some(place) {

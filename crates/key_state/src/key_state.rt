@@ -1,5 +1,5 @@
 //! What is known of an identifier's keys.
-ghost use Rattle.std.specs.Prelude.{◌≡◌, Some};
+ghost use Rattle.std.specs.Prelude.{◌≡◌, ◌+◌, ◌-◌, ◌<◌, ◌≤◌, length, Some};
 ghost use Rattle.key_state.specs.Heads.{head_sn, head_said};
 
 use cesr_codes::{Digest, Key, Prefix};
@@ -85,7 +85,16 @@ impl KeyState {
     pub fn sn(&self) -> u64
         ensures { result ≡ head_sn self.now }
     {
-        self.est_sn + (self.since.len() as u64 - 1)
+        self.sn_at(self.since.len())
+    }
+
+    /// The sequence number of a live event, counted from 1, which is the last establishment event.
+    pub(crate) fn sn_at(&self, place: usize) -> u64
+        requires some { 0 < place }
+        requires live { place ≤ length self.now.since }
+        ensures { result ≡ self.now.est_sn + (place - 1) }
+    {
+        self.est_sn + (place as u64 - 1)
     }
 
     /// The digest of the head. It takes no memory.

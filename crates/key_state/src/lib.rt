@@ -8,11 +8,11 @@ mod key_state;
 mod laws;
 mod moving;
 mod state_fault;
-#[cfg(test)]
-mod tests;
 mod witnesses;
 
 pub use beginning::first;
+pub use exposure::opens;
 pub use key_state::KeyState;
 pub use laws::spelled_is_kept;
 pub use state_fault::{Misfit, StateFault};
+pub use witnesses::{changed_count, has_key, left_count};

@@ -1,7 +1,6 @@
 //! Changes of a witness list.
-ghost use Rattle.std.specs.Prelude.{◌≡◌, ◌≤◌, filter, length, not, IfOk};
+ghost use Rattle.std.specs.Prelude.{◌≡◌, filter, length, not, IfOk};
 ghost use Rattle.std.specs.List.{list_any};
-ghost use Rattle.key_state.specs.Kept.{IsKeptRotation};
 ghost use Rattle.key_state.specs.KeyStates as states;
 ghost use Rattle.key_state.specs.Same as same;
 
@@ -13,8 +12,8 @@ use std::alloc::{AllocError, Global};
 // How many members a witness list may have.
 const MOST: usize = 64;
 
-// Whether the key is in the list.
-fn has_key(keys: &[Key], key: &Key) -> bool
+/// Whether the key is in the list.
+pub fn has_key(keys: &[Key], key: &Key) -> bool
     ensures { result ≡ same.has_key keys.now key.now }
 {
     keys.iter().any(|held| held == key)
@@ -34,21 +33,22 @@ fn adds_again(old: &[Key], adds: &[Key]) -> bool
     adds.iter().any(|key| has_key(old, key))
 }
 
-// How many members of the list aren't cut.
-fn left(old: &[Key], cuts: &[Key]) -> usize
-    ensures left { result ≡ length (filter (λ k. not (same.has_key cuts.now k)) old.now) }
-    ensures few { result ≤ length old.now }
+/// How many members of the list aren't cut.
+pub fn left_count(old: &[Key], cuts: &[Key]) -> usize
+    ensures { result ≡ length (filter (λ k. not (same.has_key cuts.now k)) old.now) }
 {
     old.iter().filter(|key| !has_key(cuts, key)).count()
 }
 
-// How many members the list has after the rotation.
-fn count_after(old: &[Key], event: &Rotation) -> usize
-    requires few { length old.now ≤ 64 }
-    requires kept { IsKeptRotation event.now }
+/// How many members the list has after the rotation: those that aren't cut, and the adds.
+pub fn changed_count(old: &[Key], event: &Rotation) -> usize
     ensures { result ≡ length (states.changed_list old.now event.now) }
 {
-    left(old, event.cuts.as_slice()) + event.adds.len()
+    let cuts = event.cuts.as_slice();
+    old.iter()
+        .filter(|key| !has_key(cuts, key))
+        .chain(event.adds.as_slice().iter())
+        .count()
 }
 
 // Whether the number of receipts that are wanted fits so many witnesses.
@@ -65,11 +65,9 @@ fn fits_count(toad: u64, witnesses: usize) -> bool
 /// Whether the rotation cuts or adds what it can't, or leaves more witnesses than may be, or a number of receipts that
 /// doesn't fit them. It takes no memory.
 pub(crate) fn is_bad_change(old: &[Key], event: &Rotation) -> bool
-    requires few { length old.now ≤ 64 }
-    requires kept { IsKeptRotation event.now }
     ensures { result ≡ states.is_bad_change old.now event.now }
 {
-    let count = count_after(old, event);
+    let count = changed_count(old, event);
     cuts_other(old, event.cuts.as_slice())
         || adds_again(old, event.adds.as_slice())
         || count > MOST

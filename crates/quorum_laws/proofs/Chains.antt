@@ -14,6 +14,7 @@ use Rattle.key_state.specs.Heads.{head_sn}
 use Rattle.key_state.specs.KeyStates.{digest_at, misfit, are_same, is_other_sn}
 use Rattle.key_state.specs.Same.{same_digest}
 use Rattle.key_state.specs.States.{State}
+use Rattle.key_state.proofs.NoMisfit.{fits_prior, fits_sn}
 use Rattle.key_state.proofs.Same.{same_prefix_is, same_prefix_itself}
 use Rattle.journal.specs.declared.body.Body.{Body}
 use Rattle.journal.specs.Logs.{is_in, is_of, state, takes, precedes, predecessor}
@@ -21,7 +22,7 @@ use Rattle.journal.specs.Grown.{IsGrown, fits, chain_back}
 use Rattle.journal.proofs.Settling.{find-true}
 use Rattle.quorum_laws.specs.Agreement.{NoClash}
 use Rattle.quorum_laws.proofs.Members.{find_contains, find_some, member_any, parts_at}
-use Rattle.quorum_laws.proofs.StateNames.{NamesIf, misfit_none, state_names}
+use Rattle.quorum_laws.proofs.StateNames.{NamesIf, state_names}
 
 -- digests are identifiers too, so their test decides as that of identifiers does
 same_digest_is : (d e : Digest) → same_digest d e ≡ true → d ≡ e
@@ -58,9 +59,9 @@ taken_precedes : (front : List Body) (b : Body) (o : Option State) → NamesIf (
     → is_inception b.event ≡ false → is_receipt b.event ≡ false → takes o b.event ≡ true → list_any (precedes b) front ≡ true
 taken_precedes front b None names i r h = cc
 taken_precedes front b (Some s) names i r h =
-    let two = misfit_none s b.event (none_is (misfit s b.event) h) in
-    let positive = sn_positive s b.event two.0 i r in
-    let prior = are_same-some (prior_of b.event) (digest_at s (sn_of b.event - 1)) (not-false _ two.1) in
+    let none = none_is (misfit s b.event) h in
+    let positive = sn_positive s b.event (fits_sn s b.event none) i r in
+    let prior = are_same-some (prior_of b.event) (digest_at s (sn_of b.event - 1)) (not-false _ (fits_prior s b.event none)) in
     let m = names.named (sn_of b.event - 1) prior.0 prior.2 in
     let sn : sn_of m.body.event ≡ sn_of b.event - 1 = m.sn in
     let named : prior_of b.event ≡ Some (said_of m.body.event) = prior.1 ∙ ap Some (sym m.said) in

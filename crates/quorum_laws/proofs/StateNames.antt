@@ -1,5 +1,5 @@
 -- The digests that a state keeps are those of events in the list, each under its number.
-use Rattle.std.proofs.Common.{◌≡◌, ℕ, zero, suc, ◌+◌, ◌-◌, ◌<◌, ◌≤◌, Bool, true, false, nat_lt, List, [], ◌∷◌, ◌++◌, ◌⊎◌, length, filter, fold, Option, Some, None, is_none, if◌then◌else◌, Contains, slice_get, refl, ◌∙◌, ap, arith, append-nil, append_assoc, length-append, inl, inr}
+use Rattle.std.proofs.Common.{◌≡◌, ℕ, zero, suc, ◌+◌, ◌-◌, ◌<◌, ◌≤◌, true, nat_lt, List, [], ◌∷◌, ◌++◌, ◌⊎◌, length, filter, fold, Option, Some, None, is_none, if◌then◌else◌, Contains, slice_get, refl, ◌∙◌, ap, arith, append-nil, append_assoc, length-append, inl, inr}
 use Rattle.std.proofs.lemmas.List.Elements.{Contains-push, Contains-append_left}
 use Rattle.std.proofs.lemmas.Bool.{cases_Bool, ltb-false, le-ltb, eqb-true, not-false}
 use Rattle.std.specs.Result.{result_ok}
@@ -9,8 +9,9 @@ use Rattle.event_body.specs.declared.event.Event.{Event}
 use Rattle.event_body.specs.declared.event.Event.TheVariants.{Icp, Rot, Ixn, Dip, Drt, Rct}
 use Rattle.event_body.specs.Events.{sn_of, said_of}
 use Rattle.key_state.specs.Heads.{head_sn}
-use Rattle.key_state.specs.KeyStates.{digest_at, misfit, moved, begun, first, first_true, misfit_rules, is_other_sn, is_other_prior}
+use Rattle.key_state.specs.KeyStates.{digest_at, misfit, moved, begun, first}
 use Rattle.key_state.specs.States.{State}
+use Rattle.key_state.proofs.NoMisfit.{fits_sn}
 use Rattle.journal.specs.declared.body.Body.{Body}
 use Rattle.journal.specs.Logs.{is_of, state, stepped}
 
@@ -30,24 +31,6 @@ pub record Names (prefix : Prefix) (log : List Body) (s : State) : Type 0 where
 abbrev pub NamesIf : Prefix → List Body → Option State → Type 0
 NamesIf prefix log None = Unit {0}
 NamesIf prefix log (Some s) = Names prefix log s
-
--- each test is false
-abbrev AllFalse : {X : Type 0} → List (Bool × X) → Type 0
-AllFalse [] = Unit {0}
-AllFalse (t ∷ ts) = (t.0 ≡ false) × AllFalse ts
-
--- where no first true test is found, each is false
-first_true-none : {X : Type 0} (ts : List (Bool × X)) → first_true ts ≡ None → AllFalse ts
-first_true-none [] e = tt
-first_true-none (t ∷ ts) e = elim (cases_Bool t.0) [
-  | inl h ↦ (let found : Some t.1 ≡ None = rw h at e in cc)
-  | inr h ↦ (h, first_true-none ts (rw h at e))
-]
-
--- an event without a misfit has the right number and the right prior digest
-pub misfit_none : (s : State) (e : Event) → misfit s e ≡ None → (is_other_sn s e ≡ false) × (is_other_prior s e ≡ false)
-unfolding misfit
-misfit_none s e none = let all = first_true-none (misfit_rules s e) none in (all.1.1.1.0, all.1.1.1.1.0)
 
 -- what a digest at a number says of the list of digests
 digest_at-some : (s : State) (n : ℕ) (d : Digest) → digest_at s n ≡ Some d → (s.est_sn ≤ n) × (slice_get s.since (n - s.est_sn) ≡ Some d)
@@ -106,7 +89,7 @@ module _ (prefix : Prefix) (log : List Body) where
     moves s (Rot e) is h none = push (moved s (Rot e)) [] e.said refl (rw (← is) (omega arith)) (rw (← is) refl) (none_known (moved s (Rot e)))
     moves s (Drt e) is h none = push (moved s (Drt e)) [] e.said refl (rw (← is) (omega arith)) (rw (← is) refl) (none_known (moved s (Drt e)))
     moves s (Ixn e) is h none =
-        let next = eqb-true e.sn (head_sn s + 1) (not-false _ (misfit_none s (Ixn e) none).0) in
+        let next = eqb-true e.sn (head_sn s + 1) (not-false _ (fits_sn s (Ixn e) none)) in
         let some = h.some in
         push (moved s (Ixn e)) s.since e.said refl (rw (← is) (omega arith)) (rw (← is) refl)
         (λ n d low found. (Names-more (b ∷ []) s h).named n d (let low' = le-ltb n s.est_sn low in rw low' found))
