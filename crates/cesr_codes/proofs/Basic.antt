@@ -31,7 +31,7 @@ stands_coded layouts code text raw coded = record {
   front = parts layouts (layout (code ∷ []) 0 43 32) text raw coded;
 }
 
-primitive_good : (code : ℕ) (raw rest : List ℕ) → list_all is_character (code ∷ []) ≡ true → AreBytes 32 raw → has_other_index (layout (code ∷ []) 0 43 32) (primitive_text code raw) ≡ false
+pub primitive_good : (code : ℕ) (raw rest : List ℕ) → list_all is_character (code ∷ []) ≡ true → AreBytes 32 raw → has_other_index (layout (code ∷ []) 0 43 32) (primitive_text code raw) ≡ false
     → layout_verdict (Some (layout (code ∷ []) 0 43 32)) (primitive_text code raw ++ rest) ≡ good 44
 primitive_good code raw rest all bytes other = coded_good (code ∷ []) [] 0 43 32 (whole_number raw) rest refl all (bytes_low 32 raw bytes) (omega (arith, bytes_low 32 raw bytes)) other
 

@@ -1,11 +1,11 @@
 mod Groups
 pub mod Numbers
 mod Decoded
-mod Front
-mod Basic
-mod Sigs
-mod Indexed
-mod Figures
-mod Dates
+pub mod Front
+pub mod Basic
+pub mod Sigs
+pub mod Indexed
+pub mod Figures
+pub mod Dates
 mod Texts
 pub mod Same

@@ -1,41 +1,83 @@
 -- The item at the front stays the same, whatever follows, and is no longer than what is there.
-use Rattle.std.proofs.Common.{◌≡◌, ◌≢◌, ℕ, zero, suc, ◌+◌, ◌-◌, ◌*◌, ◌%◌, ◌≤◌, ◌==◌, nat_lt, if◌then◌else◌, Bool, true, false, List, [], ◌∷◌, ◌++◌, length, drop, slice_index, refl, ap, ◌∙◌, arith, inl, inr, Option, None, Some, length-drop}
+use Rattle.std.proofs.Common.{◌≡◌, ◌≢◌, ℕ, zero, suc, ◌+◌, ◌-◌, ◌*◌, ◌%◌, ◌<◌, ◌≤◌, ◌==◌, nat_lt, if◌then◌else◌, Bool, true, false, List, [], ◌∷◌, ◌++◌, length, drop, slice_index, refl, ap, ◌∙◌, arith, inl, inr, Option, None, Some, length-drop, lit≤}
 use Rattle.std.proofs.lemmas.Bool.{cases_Bool}
 use Rattle.std.proofs.lemmas.List.{drop-append-le}
 use Rattle.cesr_codes.specs.Table.{verdict, sig_layouts, number_layouts, digest_layouts, indexed_layouts}
 use Rattle.cesr_codes.specs.Dates.{moment_verdict}
 use Rattle.cesr_stream.specs.declared.bad.BadReason.TheVariants.{NoStart}
 use Rattle.cesr_stream.specs.Parts.{Part, whole, refused, unfinished, shifted, less, followed_by}
-use Rattle.cesr_stream.specs.Front.{fixed_layouts, moment_layouts, pair_part, primitive_part, signature_part, couple_part, seen_part, anchor_part, element_part, elements_part, counter_part, count_of, counted_part, behind_counter, is_group, group_part, begun_group, groups_part, wrap_part, attached_part, behind_body, front}
+use Rattle.cesr_stream.specs.Front.{fixed_layouts, moment_layouts, primitive_part, signature_part, couple_part, seen_part, anchor_part, element_part, elements_part, counter_part, count_of, counted_part, behind_counter, is_group, group_part, begun_group, groups_part, wrap_part, attached_part, behind_body, front}
 use Rattle.cesr_stream.proofs.Stays.{Stays, Fits, stays-followed_by, fits-followed_by, fits-shifted, stays-body_part, fits-body_part, stays-counter_part, fits-counter_part, whole-counter_part, count_same, letter_same, byte_same, enough}
-use Rattle.cesr_stream.proofs.Primitives.{InRoom, Judging, stays-primitive_part, fits-primitive_part, in_room-primitive_part, fours-primitive_part, judging-verdict, judging-moment_verdict}
+use Rattle.cesr_stream.proofs.Primitives.{InRoom, IsFew, AreFours, extent, few-primitive_part, Judging, stays-primitive_part, fits-primitive_part, in_room-primitive_part, fours-primitive_part, judging-verdict, judging-moment_verdict}
 
--- what is judged stays, and a whole part is within the bytes and within the wrap
-pub record Holds (part : Option ℕ → List ℕ → Part) : Type 0 where
+-- what is judged stays; a whole part is within the bytes and within the wrap, and has characters in fours; of one that isn't
+-- whole less is there
+pub record Holds (most : ℕ) (part : Option ℕ → List ℕ → Part) : Type 0 where
   pub stays : (room : Option ℕ) → Stays (part room)
   pub fits : (room : Option ℕ) → Fits (part room)
-  pub in_room : InRoom part
+  pub in_room : InRoom most part
   pub fours : (room : Option ℕ) (x : List ℕ) (n : ℕ) → part room x ≡ whole n → n % 4 ≡ 0
+  pub few : IsFew most part
 
-holds-primitive_part : (layouts : _) (judge : _) → Judging layouts judge → Holds (primitive_part layouts judge)
-holds-primitive_part layouts judge judging = record {
-  stays = stays-primitive_part layouts judge judging;
-  fits = fits-primitive_part layouts judge judging;
-  in_room = in_room-primitive_part layouts judge judging;
-  fours = fours-primitive_part layouts judge judging;
+-- what is whole stays whole
+pub whole_stays : (most : ℕ) (part : Option ℕ → List ℕ → Part) → Holds most part → (room : Option ℕ) (x y : List ℕ) (n : ℕ) → part room x ≡ whole n → part room (x ++ y) ≡ whole n
+whole_stays most part holds room x y n is = holds.stays room x y (λ e. cc (is, e)) ∙ is
+
+holds-primitive_part : (most : ℕ) (layouts : _) (judge : _) → Judging most layouts judge → Holds most (primitive_part layouts judge)
+holds-primitive_part most layouts judge judging = record {
+  stays = stays-primitive_part most layouts judge judging;
+  fits = fits-primitive_part most layouts judge judging;
+  in_room = in_room-primitive_part most layouts judge judging;
+  fours = fours-primitive_part most layouts judge judging;
+  few = few-primitive_part most layouts judge judging;
 }
 
--- a part behind another, within the wrap
-room-followed_by : (room : ℕ) (first : Part) (next : ℕ → List ℕ → Part) (x : List ℕ) (n : ℕ) → ((k : ℕ) → first ≡ whole k → k ≤ room)
-    → ((k m : ℕ) → next k (drop k x) ≡ whole m → m ≤ room - k) → followed_by first next x ≡ whole n → n ≤ room
-room-followed_by room (whole k) next x n fits fits' e = more (next k (drop k x)) refl e
-  where
-    more : (part : Part) → next k (drop k x) ≡ part → shifted k part ≡ whole n → n ≤ room
-    more (whole m) is e = let sum : k + m ≡ n = cc e in omega (arith, sum, fits k refl, fits' k m is)
-    more (refused place reason) is e = cc e
-    more unfinished is e = cc e
-room-followed_by room (refused place reason) next x n fits fits' e = cc e
-room-followed_by room unfinished next x n fits fits' e = cc e
+-- what is left of a wrap behind so many characters
+extent-less : (most most' k n : ℕ) (room : Option ℕ) → k ≤ extent most room → n ≤ extent most' (less k room) → k + n ≤ extent (most + most') room
+extent-less most most' k n None le le' = omega (arith, le, le')
+extent-less most most' k n (Some room) le le' = omega (arith, le, le')
+
+extent-more : (most most' n : ℕ) (room : Option ℕ) → n ≤ extent most room → most ≤ most' → n ≤ extent most' room
+extent-more most most' n None le more = omega (arith, le, more)
+extent-more most most' n (Some room) le more = le
+
+fours-less : (room : Option ℕ) (k : ℕ) → AreFours room → k % 4 ≡ 0 → AreFours (less k room)
+fours-less None k fours e = tt
+fours-less (Some room) k fours e = omega (arith, fours, e)
+
+-- a part behind another
+module _ (most most' : ℕ) (room : Option ℕ) (first : Part) (next : ℕ → List ℕ → Part) (x : List ℕ) where
+  room-followed_by : (n : ℕ) → ((k : ℕ) → first ≡ whole k → k ≤ extent most room) → ((k m : ℕ) → next k (drop k x) ≡ whole m → m ≤ extent most' (less k room))
+      → followed_by first next x ≡ whole n → n ≤ extent (most + most') room
+  room-followed_by n fits fits' e = go first refl e
+    where
+      more : (k : ℕ) (part : Part) → first ≡ whole k → next k (drop k x) ≡ part → shifted k part ≡ whole n → n ≤ extent (most + most') room
+      more k (whole m) is is' e = let sum : k + m ≡ n = cc e in let le = extent-less most most' k m room (fits k is) (fits' k m is') in omega (arith, sum, le)
+      more k (refused place reason) is is' e = cc e
+      more k unfinished is is' e = cc e
+
+      go : (part : Part) → first ≡ part → followed_by part next x ≡ whole n → n ≤ extent (most + most') room
+      go (whole k) is e = more k (next k (drop k x)) is refl e
+      go (refused place reason) is e = cc e
+      go unfinished is e = cc e
+
+  few-followed_by : (first ≡ unfinished → length x < extent most room) → ((k : ℕ) → first ≡ whole k → (k ≤ length x) × (k ≤ extent most room))
+      → ((k : ℕ) → first ≡ whole k → next k (drop k x) ≡ unfinished → length (drop k x) < extent most' (less k room)) → followed_by first next x ≡ unfinished → length x < extent (most + most') room
+  few-followed_by few fits few' e = go first refl e
+    where
+      more : (k : ℕ) (part : Part) → first ≡ whole k → next k (drop k x) ≡ part → shifted k part ≡ unfinished → length x < extent (most + most') room
+      more k (whole m) is is' e = cc e
+      more k (refused place reason) is is' e = cc e
+      more k unfinished is is' e =
+          let le = fits k is in
+          let rest = few' k is is' in
+          let sum = extent-less most most' k (length (drop k x) + 1) room le.1 (omega (arith, rest)) in
+          omega (arith, sum, le.0, length-drop k x)
+
+      go : (part : Part) → first ≡ part → followed_by part next x ≡ unfinished → length x < extent (most + most') room
+      go (whole k) is e = more k (next k (drop k x)) is refl e
+      go (refused place reason) is e = cc e
+      go unfinished is e = let lt = few is in let le = extent-more most (most + most') (length x + 1) room (omega (arith, lt)) (omega arith) in omega (arith, le)
 
 -- a part behind another has characters in fours where both have
 fours-followed_by : (first : Part) (next : ℕ → List ℕ → Part) (x : List ℕ) (n : ℕ) → ((k : ℕ) → first ≡ whole k → k % 4 ≡ 0)
@@ -49,64 +91,80 @@ fours-followed_by (whole k) next x n fours fours' e = more (next k (drop k x)) r
 fours-followed_by (refused place reason) next x n fours fours' e = cc e
 fours-followed_by unfinished next x n fours fours' e = cc e
 
-holds-pair_part : (first second : Option ℕ → List ℕ → Part) → Holds first → Holds second → Holds (pair_part first second)
-holds-pair_part first second holds holds' = record {
-  stays = λ room x y ne. stays-followed_by (first room) (λ n. second (less n room)) (λ n. second (less n room)) (holds.stays room) (holds.fits room) x y
+holds-followed_by : (most most' : ℕ) (first : Option ℕ → List ℕ → Part) (next : Option ℕ → List ℕ → Part) → Holds most first → Holds most' next
+    → Holds (most + most') (λ room x. followed_by (first room x) (λ n. next (less n room)) x)
+holds-followed_by most most' first next holds holds' = record {
+  stays = λ room x y ne. stays-followed_by (first room) (λ n. next (less n room)) (λ n. next (less n room)) (holds.stays room) (holds.fits room) x y
       (λ n is judged. holds'.stays (less n room) (drop n x) y judged) ne;
-  fits = λ room. fits-followed_by (first room) (λ n. second (less n room)) (holds.fits room) (λ k. holds'.fits (less k room));
-  in_room = λ room x n e. room-followed_by room (first (Some room) x) (λ n. second (less n (Some room))) x n (holds.in_room room x) (λ k m. holds'.in_room (room - k) (drop k x) m) e;
-  fours = λ room x n e. fours-followed_by (first room x) (λ n. second (less n room)) x n (holds.fours room x) (λ k m. holds'.fours (less k room) (drop k x) m) e;
+  fits = λ room. fits-followed_by (first room) (λ n. next (less n room)) (holds.fits room) (λ k. holds'.fits (less k room));
+  in_room = λ room x n e. room-followed_by most most' room (first room x) (λ n. next (less n room)) x n (λ k is. holds.in_room room x k is) (λ k m is. holds'.in_room (less k room) (drop k x) m is) e;
+  fours = λ room x n e. fours-followed_by (first room x) (λ n. next (less n room)) x n (holds.fours room x) (λ k m. holds'.fours (less k room) (drop k x) m) e;
+  few = λ room x fours e. few-followed_by most most' room (first room x) (λ n. next (less n room)) x (holds.few room x fours) (λ k is. (holds.fits room x k is, holds.in_room room x k is))
+      (λ k is is'. holds'.few (less k room) (drop k x) (fours-less room k fours (holds.fours room x k is)) is') e;
 }
 
-module _ (element : Option ℕ → List ℕ → Part) (holds : Holds element) where
-  stays-elements_part : (count : ℕ) (room : Option ℕ) → Stays (elements_part element count room)
-  unfolding elements_part
-  stays-elements_part zero room x y ne = refl
-  stays-elements_part (suc count) room x y ne =
-      stays-followed_by (element room) (λ n. elements_part element count (less n room)) (λ n. elements_part element count (less n room)) (holds.stays room) (holds.fits room) x y
-      (λ n is judged. stays-elements_part count (less n room) (drop n x) y judged) ne
+holds-more : (most most' : ℕ) (part : Option ℕ → List ℕ → Part) → most ≤ most' → Holds most part → Holds most' part
+holds-more most most' part more holds = record {
+  stays = holds.stays;
+  fits = holds.fits;
+  in_room = λ room x n e. extent-more most most' n room (holds.in_room room x n e) more;
+  fours = holds.fours;
+  few = λ room x fours e. let lt = holds.few room x fours e in let le = extent-more most most' (length x + 1) room (omega (arith, lt)) more in omega (arith, le);
+}
 
-  fits-elements_part : (count : ℕ) (room : Option ℕ) → Fits (elements_part element count room)
-  unfolding elements_part
-  fits-elements_part zero room x n e = let same : 0 ≡ n = cc e in omega (arith, same)
-  fits-elements_part (suc count) room x n e =
-      fits-followed_by (element room) (λ n. elements_part element count (less n room)) (holds.fits room) (λ k. fits-elements_part count (less k room)) x n e
+-- elements one behind the other
+holds-elements_part : (most : ℕ) (element : Option ℕ → List ℕ → Part) → Holds most element → (count : ℕ) → Holds (count * most) (elements_part element count)
+unfolding elements_part
+holds-elements_part most element holds zero = record {
+  stays = λ room x y ne. refl;
+  fits = λ room x n e. let same : 0 ≡ n = cc e in omega (arith, same);
+  in_room = λ room x n e. let same : 0 ≡ n = cc e in omega (arith, same);
+  fours = λ room x n e. let same : 0 ≡ n = cc e in omega (arith, same);
+  few = λ room x fours e. cc e;
+}
+holds-elements_part most element holds (suc count) =
+    holds-more (most + count * most) (suc count * most) (elements_part element (suc count)) (omega arith)
+    (holds-followed_by most (count * most) element (elements_part element count) holds (holds-elements_part most element holds count))
 
-  room-elements_part : (count : ℕ) → InRoom (elements_part element count)
-  unfolding elements_part
-  room-elements_part zero room x n e = let same : 0 ≡ n = cc e in omega (arith, same)
-  room-elements_part (suc count) room x n e =
-      room-followed_by room (element (Some room) x) (λ n. elements_part element count (less n (Some room))) x n (holds.in_room room x) (λ k m. room-elements_part count (room - k) (drop k x) m) e
+pub holds_key : Holds 44 (primitive_part fixed_layouts (verdict fixed_layouts))
+holds_key = holds-primitive_part 44 fixed_layouts (verdict fixed_layouts) (judging-verdict 44 fixed_layouts refl (lit≤ tt))
 
-  fours-elements_part : (count : ℕ) (room : Option ℕ) (x : List ℕ) (n : ℕ) → elements_part element count room x ≡ whole n → n % 4 ≡ 0
-  unfolding elements_part
-  fours-elements_part zero room x n e = let same : 0 ≡ n = cc e in omega (arith, same)
-  fours-elements_part (suc count) room x n e =
-      fours-followed_by (element room x) (λ n. elements_part element count (less n room)) x n (holds.fours room x) (λ k m. fours-elements_part count (less k room) (drop k x) m) e
+pub holds_sig : Holds 88 (primitive_part sig_layouts (verdict sig_layouts))
+holds_sig = holds-primitive_part 88 sig_layouts (verdict sig_layouts) (judging-verdict 88 sig_layouts refl (lit≤ tt))
 
-pub holds_key : Holds (primitive_part fixed_layouts (verdict fixed_layouts))
-holds_key = holds-primitive_part fixed_layouts (verdict fixed_layouts) (judging-verdict fixed_layouts refl)
+pub holds_number : Holds 24 (primitive_part number_layouts (verdict number_layouts))
+holds_number = holds-primitive_part 24 number_layouts (verdict number_layouts) (judging-verdict 24 number_layouts refl (lit≤ tt))
 
-pub holds_sig : Holds (primitive_part sig_layouts (verdict sig_layouts))
-holds_sig = holds-primitive_part sig_layouts (verdict sig_layouts) (judging-verdict sig_layouts refl)
+pub holds_digest : Holds 44 (primitive_part digest_layouts (verdict digest_layouts))
+holds_digest = holds-primitive_part 44 digest_layouts (verdict digest_layouts) (judging-verdict 44 digest_layouts refl (lit≤ tt))
 
-pub holds_number : Holds (primitive_part number_layouts (verdict number_layouts))
-holds_number = holds-primitive_part number_layouts (verdict number_layouts) (judging-verdict number_layouts refl)
+pub holds_moment : Holds 36 (primitive_part moment_layouts moment_verdict)
+holds_moment = holds-primitive_part 36 moment_layouts moment_verdict judging-moment_verdict
 
-pub holds_digest : Holds (primitive_part digest_layouts (verdict digest_layouts))
-holds_digest = holds-primitive_part digest_layouts (verdict digest_layouts) (judging-verdict digest_layouts refl)
+pub holds_signature : Holds 92 signature_part
+holds_signature = holds-primitive_part 92 indexed_layouts (verdict indexed_layouts) (judging-verdict 92 indexed_layouts refl (lit≤ tt))
 
-pub holds_moment : Holds (primitive_part moment_layouts moment_verdict)
-holds_moment = holds-primitive_part moment_layouts moment_verdict judging-moment_verdict
+pub holds_couple : Holds 132 couple_part
+holds_couple = holds-followed_by 44 88 (primitive_part fixed_layouts (verdict fixed_layouts)) (primitive_part sig_layouts (verdict sig_layouts)) holds_key holds_sig
 
-pub holds-element_part : (letter : ℕ) → Holds (element_part letter)
+pub holds_seen : Holds 60 seen_part
+holds_seen = holds-followed_by 24 36 (primitive_part number_layouts (verdict number_layouts)) (primitive_part moment_layouts moment_verdict) holds_number holds_moment
+
+pub holds_anchor : Holds 68 anchor_part
+holds_anchor = holds-followed_by 24 44 (primitive_part number_layouts (verdict number_layouts)) (primitive_part digest_layouts (verdict digest_layouts)) holds_number holds_digest
+
+-- a key and its signature are the greatest element
+pub holds-element_part : (letter : ℕ) → Holds 132 (element_part letter)
 holds-element_part letter = at (letter == 67) (letter == 69) (letter == 71)
   where
-    at : (couple seen anchor : Bool) → Holds (if couple then couple_part else if seen then seen_part else if anchor then anchor_part else signature_part)
-    at true seen anchor = holds-pair_part (primitive_part fixed_layouts (verdict fixed_layouts)) (primitive_part sig_layouts (verdict sig_layouts)) holds_key holds_sig
-    at false true anchor = holds-pair_part (primitive_part number_layouts (verdict number_layouts)) (primitive_part moment_layouts moment_verdict) holds_number holds_moment
-    at false false true = holds-pair_part (primitive_part number_layouts (verdict number_layouts)) (primitive_part digest_layouts (verdict digest_layouts)) holds_number holds_digest
-    at false false false = holds-primitive_part indexed_layouts (verdict indexed_layouts) (judging-verdict indexed_layouts refl)
+    at : (couple seen anchor : Bool) → Holds 132 (if couple then couple_part else if seen then seen_part else if anchor then anchor_part else signature_part)
+    at true seen anchor = holds_couple
+    at false true anchor = holds-more 60 132 seen_part (lit≤ tt) holds_seen
+    at false false true = holds-more 68 132 anchor_part (lit≤ tt) holds_anchor
+    at false false false = holds-more 92 132 signature_part (lit≤ tt) holds_signature
+
+pub holds-group_elements : (letter count : ℕ) → Holds (count * 132) (elements_part (element_part letter) count)
+holds-group_elements letter count = holds-elements_part 132 (element_part letter) (holds-element_part letter) count
 
 -- a whole counter is there whole
 pub four : (supported : Bool) (x : List ℕ) (n : ℕ) → counter_part supported x ≡ whole n → 4 ≤ length x
@@ -142,7 +200,7 @@ unfolding counted_part
 stays_counted letter room x y le ne =
     ap (λ k. shifted 4 (elements_part (element_part letter) k (less 4 room) (drop 4 (x ++ y)))) (count_same x y le)
     ∙ ap (λ rest. shifted 4 (elements_part (element_part letter) (count_of x) (less 4 room) rest)) (drop-append-le 4 x y le)
-    ∙ ap (shifted 4) (stays-elements_part (element_part letter) (holds-element_part letter) (count_of x) (less 4 room) (drop 4 x) y (λ e. ne (ap (shifted 4) e)))
+    ∙ ap (shifted 4) ((holds-group_elements letter (count_of x)).stays (less 4 room) (drop 4 x) y (λ e. ne (ap (shifted 4) e)))
 
 stays-group_part : (room : Option ℕ) → Stays (group_part room)
 unfolding group_part
@@ -166,13 +224,13 @@ group_whole room x n e =
 fits-group_part : (room : Option ℕ) → Fits (group_part room)
 fits-group_part room x n e =
     let is = group_whole room x n e in
-    omega (arith, is.2, is.3, length-drop 4 x, fits-elements_part (element_part (slice_index x 1)) (holds-element_part (slice_index x 1)) (count_of x) (less 4 room) (drop 4 x) is.0 is.1)
+    omega (arith, is.2, is.3, length-drop 4 x, (holds-group_elements (slice_index x 1) (count_of x)).fits (less 4 room) (drop 4 x) is.0 is.1)
 
 room-group_part : (room : ℕ) (x : List ℕ) (n : ℕ) → group_part (Some room) x ≡ whole n → 4 ≤ room → (4 ≤ n) × (n ≤ room) × (n % 4 ≡ 0)
 room-group_part room x n e le =
     let is = group_whole (Some room) x n e in
-    let few = room-elements_part (element_part (slice_index x 1)) (holds-element_part (slice_index x 1)) (count_of x) (room - 4) (drop 4 x) is.0 is.1 in
-    let fours = fours-elements_part (element_part (slice_index x 1)) (holds-element_part (slice_index x 1)) (count_of x) (Some (room - 4)) (drop 4 x) is.0 is.1 in
+    let few = (holds-group_elements (slice_index x 1) (count_of x)).in_room (Some (room - 4)) (drop 4 x) is.0 is.1 in
+    let fours = (holds-group_elements (slice_index x 1) (count_of x)).fours (Some (room - 4)) (drop 4 x) is.0 is.1 in
     (omega (arith, is.2), omega (arith, is.2, few), omega (arith, is.2, fours))
 
 pub stays-begun_group : (room : ℕ) → Stays (begun_group room)
@@ -194,7 +252,7 @@ begun_whole room (b ∷ x) n e = at (b == 45) e
 pub begun_sizes : (room : ℕ) (x : List ℕ) (n : ℕ) → begun_group room x ≡ whole n → 4 ≤ room → (4 ≤ n) × (n ≤ room) × (n % 4 ≡ 0)
 begun_sizes room x n e le = room-group_part room x n (begun_whole room x n e) le
 
-fits-begun_group : (room : ℕ) → Fits (begun_group room)
+pub fits-begun_group : (room : ℕ) → Fits (begun_group room)
 fits-begun_group room x n e = fits-group_part (Some room) x n (begun_whole room x n e)
 
 stays-groups_part : (most room : ℕ) → Stays (groups_part most room)

@@ -27,10 +27,10 @@ pub part_same : (x y : List ℕ) (n k : ℕ) → k + n ≤ length x → take n (
 part_same x y n k le =
     ap (take n) (drop-append-le k x y (omega arith)) ∙ take-append-le n (drop k x) y (omega (arith, length-drop k x))
 
-version_same : (x y : List ℕ) → 24 ≤ length x → has_version (x ++ y) ≡ has_version x
+pub version_same : (x y : List ℕ) → 24 ≤ length x → has_version (x ++ y) ≡ has_version x
 version_same x y le = rw (take-append-le 16 x y (omega arith), part_same x y 6 16 (omega arith), part_same x y 2 22 (omega arith)) refl
 
-size_same : (x y : List ℕ) → 24 ≤ length x → size_of (x ++ y) ≡ size_of x
+pub size_same : (x y : List ℕ) → 24 ≤ length x → size_of (x ++ y) ≡ size_of x
 size_same x y le = rw (part_same x y 6 16 (omega arith)) refl
 
 -- the rules of a body, where only the last test may change

@@ -1,7 +1,7 @@
 -- How a primitive at the front is judged stays the same, whatever follows.
 use Rattle.std.proofs.Common.{◌≡◌, ◌≢◌, ℕ, zero, suc, ◌+◌, ◌^◌, ◌<◌, ◌≤◌, ◌&&◌, ◌%◌, ◌==◌, not, nat_lt, nat_le, if◌then◌else◌, Bool, true, false, List, [], ◌∷◌, ◌++◌, length, take, drop, refl, sym, ap, ◌∙◌, arith, inl, inr, length-append, find, position, Option, None, Some, option_map, bytes_eq}
 use Rattle.std.specs.List.{list_all}
-use Rattle.std.proofs.lemmas.Bool.{eqb-true, cases_Bool, le-ltb, ltb-false, ltb-true, lt-ltb, false_from_ne_true}
+use Rattle.std.proofs.lemmas.Bool.{eqb-true, leb-true, cases_Bool, le-ltb, ltb-false, ltb-true, lt-ltb, false_from_ne_true}
 use Rattle.std.proofs.lemmas.List.{take-append-le, take_all}
 use Rattle.std.proofs.lemmas.Slice.Eq.{bytes_eq-Decides}
 use Rattle.keri_specs.specs.Base64.{is_character, number_of_text}
@@ -108,25 +108,81 @@ fits-verdict layouts x n e = at (is_within_code layouts x) (find (has_code x) la
     at true l e = cc e
     at false l e = layouts_at l e
 
--- all the layouts have characters in fours
-abbrev pub are_fours : List Layout → Bool
-are_fours layouts = list_all (λ l. total l % 4 == 0) layouts
+-- each layout has characters in fours, at most so many, and its code has at most four
+abbrev is_sized : ℕ → Layout → Bool
+is_sized most l = total l % 4 == 0 && nat_le (total l) most && nat_le (length l.code) 4
 
-fours-find : (x : List ℕ) (layouts : List Layout) (n : ℕ) → are_fours layouts ≡ true → option_map total (find (has_code x) layouts) ≡ Some n → n % 4 ≡ 0
-fours-find x [] n all e = cc e
-fours-find x (l ∷ layouts) n all e = elim (cases_Bool (total l % 4 == 0)) [
-  | inr f ↦ cc (rw f at all)
-  | inl t ↦ elim (cases_Bool (has_code x l)) [
-    | inl h ↦ let same : Some (total l) ≡ Some n = rw h at e in let n_is : total l ≡ n = cc same in ap (λ k. k % 4) (sym n_is) ∙ eqb-true (total l % 4) 0 t
-    | inr g ↦ fours-find x layouts n (rw t at all) (rw g at e)
+abbrev pub are_sized : ℕ → List Layout → Bool
+are_sized most layouts = list_all (is_sized most) layouts
+
+sizes_of : (most : ℕ) (l : Layout) → is_sized most l ≡ true → (total l % 4 ≡ 0) × (total l ≤ most) × (length l.code ≤ 4)
+sizes_of most l e = elim (cases_Bool (total l % 4 == 0)) [
+  | inr f ↦ cc (rw f at e)
+  | inl t ↦ elim (cases_Bool (nat_le (total l) most)) [
+    | inr f ↦ cc (rw (t, f) at e)
+    | inl u ↦ (eqb-true (total l % 4) 0 t, leb-true (total l) most u, leb-true (length l.code) 4 (rw (t, u) at e))
   ]
 ]
 
-pub fours-shown : (x : List ℕ) (layouts : List Layout) (n : ℕ) → are_fours layouts ≡ true → shown layouts x ≡ Some n → n % 4 ≡ 0
-fours-shown x layouts n all e = elim (cases_Bool (is_within_code layouts x)) [
-  | inl t ↦ cc (rw t at e)
-  | inr f ↦ fours-find x layouts n all (rw f at e)
+sized-find : (most : ℕ) (x : List ℕ) (layouts : List Layout) (n : ℕ) → are_sized most layouts ≡ true → option_map total (find (has_code x) layouts) ≡ Some n → (n % 4 ≡ 0) × (n ≤ most)
+sized-find most x [] n all e = cc e
+sized-find most x (l ∷ layouts) n all e = elim (cases_Bool (is_sized most l)) [
+  | inr f ↦ cc (rw f at all)
+  | inl t ↦ elim (cases_Bool (has_code x l)) [
+    | inl h ↦
+        let same : Some (total l) ≡ Some n = rw h at e in
+        let n_is : total l ≡ n = cc same in
+        let sizes = sizes_of most l t in
+        (ap (λ k. k % 4) (sym n_is) ∙ sizes.0, omega (arith, n_is, sizes.1))
+    | inr g ↦ sized-find most x layouts n (rw t at all) (rw g at e)
+  ]
 ]
+
+-- so many characters as the code shows
+pub sized-shown : (most : ℕ) (x : List ℕ) (layouts : List Layout) (n : ℕ) → are_sized most layouts ≡ true → shown layouts x ≡ Some n → (n % 4 ≡ 0) × (n ≤ most)
+sized-shown most x layouts n all e = elim (cases_Bool (is_within_code layouts x)) [
+  | inl t ↦ cc (rw t at e)
+  | inr f ↦ sized-find most x layouts n all (rw f at e)
+]
+
+within_few : (most : ℕ) (x : List ℕ) (layouts : List Layout) → are_sized most layouts ≡ true → is_within_code layouts x ≡ true → length x < 4
+within_few most x [] all e = cc e
+within_few most x (l ∷ layouts) all e = elim (cases_Bool (is_sized most l)) [
+  | inr f ↦ cc (rw f at all)
+  | inl t ↦ elim (cases_Bool (nat_lt (length x) (length l.code))) [
+    | inl u ↦ let code = (sizes_of most l t).2 in omega (arith, ltb-true (length x) (length l.code) u, code)
+    | inr f ↦ within_few most x layouts (rw t at all) (rw f at e)
+  ]
+]
+
+-- fewer characters than the code shows, or than a code has
+abbrev pub IsShort : Option ℕ → List ℕ → Type 0
+IsShort None x = length x < 4
+IsShort (Some n) x = length x < n
+
+pub short-verdict : (most : ℕ) (layouts : List Layout) (x : List ℕ) → are_sized most layouts ≡ true → verdict layouts x ≡ short → IsShort (shown layouts x) x
+short-verdict most layouts x all e = elim (cases_Bool (is_within_code layouts x)) [
+  | inl t ↦ rw t (within_few most x layouts all t)
+  | inr f ↦ rw f (at (find (has_code x) layouts) (rw f at e))
+]
+  where
+    rules : (l : Layout) (large other : Bool) → (if large then bad PadBits else if other then bad OtherIndex else good (total l)) ≡ short → length x < total l
+    rules l true other e = cc e
+    rules l false true e = cc e
+    rules l false false e = cc e
+
+    chars : (l : Layout) (place : Option ℕ) → whole_verdict l (take (total l) x) place ≡ short → length x < total l
+    chars l (Some place) e = cc e
+    chars l None e = rules l (nat_le (256 ^ l.bytes) (number_of_text (drop (length l.code + l.index) (take (total l) x)))) (has_other_index l (take (total l) x)) e
+
+    sized : (l : Layout) (few : Bool) → nat_lt (length x) (total l) ≡ few
+        → (if few then short else whole_verdict l (take (total l) x) (position (λ c. not (is_character c)) (take (total l) x))) ≡ short → length x < total l
+    sized l true is e = ltb-true (length x) (total l) is
+    sized l false is e = chars l (position (λ c. not (is_character c)) (take (total l) x)) e
+
+    at : (l : Option Layout) → layout_verdict l x ≡ short → IsShort (option_map total l) x
+    at None e = cc e
+    at (Some l) e = sized l (nat_lt (length x) (total l)) refl e
 
 -- of a good primitive the code shows so many characters
 pub shown-good : (layouts : List Layout) (x : List ℕ) (n : ℕ) → verdict layouts x ≡ good n → shown layouts x ≡ Some n

@@ -1,11 +1,13 @@
 pub mod Parts
 pub mod Front
+pub mod Stops
 pub mod Judged
 pub mod Groups
 pub mod Texts
-pub mod FrontItem
+pub mod Begun
 pub mod Items
 pub mod Messages
 pub mod Assembly
 pub mod Reading
+pub mod Reader
 pub mod Written

@@ -1,5 +1,5 @@
 -- What a reader knows, and what its calls answer and change.
-use Rattle.std.specs.Prelude.{◌≡◌, ℕ, ◌+◌, Bool, true, false, ◌⊎◌, List, [], ◌++◌, take, drop}
+use Rattle.std.specs.Prelude.{◌≡◌, ℕ, ◌+◌, ◌<◌, ◌≤◌, Bool, true, false, ◌⊎◌, List, [], ◌++◌, length, take, drop}
 use Rattle.std.specs.declared.option.Option.{Option}
 use Rattle.std.specs.declared.option.Option.TheVariants.{None, Some}
 use Rattle.std.specs.declared.result.Result.{Result}
@@ -14,31 +14,32 @@ use Rattle.cesr_stream.specs.Parts.{Part, whole, refused, unfinished}
 use Rattle.cesr_stream.specs.Front.{front}
 use Rattle.cesr_stream.specs.Texts.{SpellsItem}
 
--- How many bytes a body may have; all bytes that were fed; where the rest begins, behind the items that were answered;
+-- How many bytes a body may have; how many bytes the items have that were answered; the bytes that were fed behind them;
 -- whether a body was among them; why the stream was refused; whether no item was there since the last piece.
 pub record Reading : Type 0 where
   pub limit : ℕ
-  pub fed : List ℕ
   pub place : ℕ
+  pub rest : List ℕ
   pub begun : Bool
   pub bad : Option Bad
   pub drained : Bool
 
 -- a reader to which nothing was fed
 abbrev pub fresh : ℕ → Reading
-fresh limit = record { limit = limit; fed = []; place = 0; begun = false; bad = None; drained = true }
+fresh limit = record { limit = limit; place = 0; rest = []; begun = false; bad = None; drained = true }
 
--- the bytes behind the items that were answered
-abbrev pub rest : Reading → List ℕ
-rest reading = drop reading.place reading.fed
+-- All bytes that were fed. Those behind the items that were answered are left.
+pub record HasFed (reading : Reading) (fed : List ℕ) : Type 0 where
+  pub within : reading.place ≤ length fed
+  pub behind : drop reading.place fed ≡ reading.rest
 
 -- how the rest is judged
 abbrev pub judged : Reading → Part
-judged reading = front reading.limit reading.begun (rest reading)
+judged reading = front reading.limit reading.begun reading.rest
 
 -- after a further piece, which a refused stream doesn't take
 abbrev pub fed_with : Reading → List ℕ → Option Bad → Reading
-fed_with reading piece None = record reading { fed = reading.fed ++ piece; drained = false }
+fed_with reading piece None = record reading { rest = reading.rest ++ piece; drained = false }
 fed_with reading piece (Some bad) = reading
 
 -- why the stream is refused from then on
@@ -54,8 +55,9 @@ pub record AnswersItem (old new : Reading) (item : Item) (place : ℕ) : Type 0 
   pub length_of : ℕ
   pub at : place ≡ old.place
   pub is_whole : judged old ≡ whole length_of
-  pub spelled : SpellsItem (take length_of (rest old)) item
-  pub moved : new ≡ record old { place = old.place + length_of; begun = true; drained = false }
+  pub spelled : SpellsItem (take length_of old.rest) item
+  pub within : length_of ≤ length old.rest
+  pub moved : new ≡ record old { place = old.place + length_of; rest = drop length_of old.rest; begun = true; drained = false }
 
 -- a rule refuses the rest for the first time
 pub record AnswersBad (old new : Reading) (bad : Bad) : Type 0 where
@@ -65,18 +67,19 @@ pub record AnswersBad (old new : Reading) (bad : Bad) : Type 0 where
   pub at : bad.place ≡ old.place + within
   pub refused_now : new ≡ refused_by old bad
 
--- what is answered where no item is whole
-abbrev pub Stops : Reading → Reading → Step → Type 0
-Stops old new (ItemStep item place) = ⊥
-Stops old new NeedMore = (old.bad ≡ None) × (judged old ≡ unfinished) × (new ≡ record old { drained = true })
-Stops old new (BadStep bad) = AnswersBad old new bad
-
 -- what `next` answers
 abbrev pub Answers : {E : Type 0} → Reading → Reading → Result Step E → Type 0
 Answers old new (Ok (ItemStep item place)) = AnswersItem old new item place
 Answers old new (Ok NeedMore) = (old.bad ≡ None) × (judged old ≡ unfinished) × (new ≡ record old { drained = true })
 Answers old new (Ok (BadStep bad)) = ((old.bad ≡ Some bad) × (new ≡ old)) ⊎ AnswersBad old new bad
 Answers old new (Err e) = new ≡ old
+
+-- where more bytes are needed, fewer are held than the greatest item has: a counter of four characters, and 4,095 elements of
+-- 132 each
+abbrev pub HoldsFew : Reading → Step → Type 0
+HoldsFew reading (ItemStep item place) = Unit {0}
+HoldsFew reading NeedMore = length reading.rest < 540544
+HoldsFew reading (BadStep bad) = Unit {0}
 
 -- no item is there: one was refused, or `next` said so after the last piece, or there was no piece
 abbrev pub IsDrained : Reading → Type 0
@@ -85,5 +88,5 @@ IsDrained reading = ((bad : Bad) × (reading.bad ≡ Some bad)) ⊎ (reading.dra
 -- what `end` answers: the earlier refusal, or that an item is cut short, or nothing where none was begun
 abbrev pub Ends : Reading → Reading → Option Bad → Type 0
 Ends old new (Some bad) = ((old.bad ≡ Some bad) × (new ≡ old))
-    ⊎ ((old.bad ≡ None) × (rest old ≡ [] → ⊥) × (judged old ≡ unfinished) × (bad ≡ bad_at old.place Truncated) × (new ≡ refused_by old bad))
-Ends old new None = (old.bad ≡ None) × (rest old ≡ []) × (new ≡ old)
+    ⊎ ((old.bad ≡ None) × (old.rest ≡ [] → ⊥) × (judged old ≡ unfinished) × (bad ≡ bad_at old.place Truncated) × (new ≡ refused_by old bad))
+Ends old new None = (old.bad ≡ None) × (old.rest ≡ []) × (new ≡ old)

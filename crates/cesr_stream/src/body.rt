@@ -1,39 +1,36 @@
 //! Bodies at the front of a stream.
-ghost use Rattle.std.specs.Prelude.{◌≡◌, ◌≤◌, ℕ, length, bytes_eq};
-ghost use Rattle.cesr_stream.specs.Front.{body_part, has_version, size_of};
-ghost use Rattle.cesr_stream.specs.Judged.{part_of, IsWithin};
+ghost use Rattle.std.specs.Prelude.{◌≡◌, ◌≤◌, IfOk, IfErr, length, bytes_eq};
+ghost use Rattle.cesr_stream.specs.Begun.{IsBodySize};
+ghost use Rattle.cesr_stream.specs.Front.{body_part, has_version};
+ghost use Rattle.cesr_stream.specs.Stops.{Stops};
 
 use crate::BadReason;
-use crate::part::Part;
+use crate::stop::Stop;
 use hex_numbers::{all_hex, hex_value};
 
 /// The version string and what stands before it have so many bytes.
 const HEAD: usize = 24;
 
-/// How the body at the front is judged, where a body may have so many bytes.
+/// The size that the body at the front says, where a body may have so many bytes.
 #[tactic(auto, unfolding(crate::specs::Front::body_part))]
-pub(crate) fn judge_body(bytes: &[u8], limit: u32) -> Part
-    ensures judged { part_of result ≡ body_part limit bytes.now }
-    ensures within { IsWithin bytes.now result }
-    ensures head { (n : ℕ) → result ≡ Part.Whole n → 24 ≤ n }
+pub(crate) fn body_size(bytes: &[u8], limit: u32) -> Result<usize, Stop>
+    ensures ok { IfOk result (IsBodySize limit bytes.now) }
+    ensures err { IfErr result (Stops bytes.now (body_part limit bytes.now)) }
 {
     if bytes.len() < HEAD {
-        return Part::Unfinished;
+        return Err(Stop::Unfinished);
     }
     if !has_head(bytes) {
-        return Part::Refused(0, BadReason::Version);
+        return Err(Stop::Refused(0, BadReason::Version));
     }
     let size = hex_value(&bytes[16..22]) as usize;
     if size < HEAD {
-        return Part::Refused(0, BadReason::Version);
+        return Err(Stop::Refused(0, BadReason::Version));
     }
     if size > limit as usize {
-        return Part::Refused(0, BadReason::TooLarge);
+        return Err(Stop::Refused(0, BadReason::TooLarge));
     }
-    if bytes.len() < size {
-        return Part::Unfinished;
-    }
-    Part::Whole(size)
+    Ok(size)
 }
 
 // Whether the version string stands at the front.

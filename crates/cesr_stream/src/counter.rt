@@ -1,36 +1,36 @@
 //! Counters at the front of a stream.
-ghost use Rattle.std.specs.Prelude.{◌≡◌, ◌≤◌, ◌<◌, ◌^◌, ◌∷◌, ℕ, length, slice_index};
+ghost use Rattle.std.specs.Prelude.{◌≡◌, ◌≤◌, ◌<◌, ◌^◌, ◌∷◌, OnOk, IfErr, length, slice_index};
 ghost use Rattle.keri_specs.specs.Base64.{base64_text};
 ghost use Rattle.cesr_stream.specs.Front.{counter_part, count_of, is_group};
-ghost use Rattle.cesr_stream.specs.Judged.{part_of, IsWithin};
+ghost use Rattle.cesr_stream.specs.Parts.{whole};
+ghost use Rattle.cesr_stream.specs.Stops.{Stops};
 
 use crate::BadReason;
-use crate::part::Part;
+use crate::stop::Stop;
 use cesr_codes::{CodeFault, Number, digit, is_symbol};
 
-/// How the counter at the front is judged, whose letter is supported there or not.
+/// Judges the counter at the front, whose letter is supported there or not.
 #[tactic(auto, unfolding(crate::specs::Front::counter_part))]
-pub(crate) fn judge_counter(bytes: &[u8], supported: bool) -> Part
-    ensures judged { part_of result ≡ counter_part supported bytes.now }
-    ensures within { IsWithin bytes.now result }
-    ensures head { (n : ℕ) → result ≡ Part.Whole n → (n ≡ 4) × (4 ≤ length bytes.now) }
+pub(crate) fn judge_counter(bytes: &[u8], supported: bool) -> Result<(), Stop>
+    ensures ok { OnOk result ((counter_part supported bytes.now ≡ whole 4) × (4 ≤ length bytes.now)) }
+    ensures err { IfErr result (Stops bytes.now (counter_part supported bytes.now)) }
 {
     if bytes.len() < 2 {
-        return Part::Unfinished;
+        return Err(Stop::Unfinished);
     }
     if !supported {
-        return Part::Refused(0, BadReason::GroupNotSupported);
+        return Err(Stop::Refused(0, BadReason::GroupNotSupported));
     }
     if bytes.len() < 4 {
-        return Part::Unfinished;
+        return Err(Stop::Unfinished);
     }
     if !is_symbol(bytes[2]) {
-        return Part::Refused(0, BadReason::Code(CodeFault::BadCharacter(2)));
+        return Err(Stop::Refused(0, BadReason::Code(CodeFault::BadCharacter(2))));
     }
     if !is_symbol(bytes[3]) {
-        return Part::Refused(0, BadReason::Code(CodeFault::BadCharacter(3)));
+        return Err(Stop::Refused(0, BadReason::Code(CodeFault::BadCharacter(3))));
     }
-    Part::Whole(4)
+    Ok(())
 }
 
 /// How many elements a whole counter counts.

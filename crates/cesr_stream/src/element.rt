@@ -1,11 +1,11 @@
 //! What counters count.
-ghost use Rattle.std.specs.Prelude.{List, ℕ, Option};
-ghost use Rattle.cesr_stream.specs.Parts.{Part as PartOf};
+ghost use Rattle.std.specs.Prelude.{◌≡◌, ◌++◌, List, ℕ, Option, IfOk};
+ghost use Rattle.cesr_stream.specs.Parts.{Part as PartOf, whole};
 ghost use Rattle.cesr_stream.specs.Judged.{JudgesElement};
 
 use crate::pair::read_pair;
-use crate::part::Part;
 use crate::primitive::read_primitive;
+use crate::stop::Stop;
 use crate::{AnchorCouple, Seen};
 use cesr_codes::{Digest, IndexedSig, Moment, Number};
 
@@ -18,8 +18,11 @@ pub(crate) trait Element: Drop {
     ghost judged: { Option ℕ → List ℕ → PartOf };
 
     /// The element at the front and its length, or how it is judged where none is whole.
-    fn at_front(bytes: &[u8], room: Option<usize>) -> Result<(Self, usize), Part>
-        ensures { JudgesElement (judged room) text bytes.now result };
+    fn at_front(bytes: &[u8], room: Option<usize>) -> Result<(Self, usize), Stop>
+        ensures judged { JudgesElement (judged room) text bytes.now result }
+
+        // A whole one stays whole, whatever follows.
+        ensures stays { IfOk result (λ found. (more : List ℕ) → judged room (bytes.now ++ more) ≡ whole found.1) };
 }
 
 impl Element for IndexedSig {
@@ -30,7 +33,7 @@ impl Element for IndexedSig {
 
     ghost judged = { signature_part };
 
-    fn at_front(bytes: &[u8], room: Option<usize>) -> Result<(IndexedSig, usize), Part> {
+    fn at_front(bytes: &[u8], room: Option<usize>) -> Result<(IndexedSig, usize), Stop> {
         read_primitive::<IndexedSig>(bytes, room)
     }
 }
@@ -43,10 +46,10 @@ impl Element for Seen {
 
     ghost judged = { seen_part };
 
-    fn at_front(bytes: &[u8], room: Option<usize>) -> Result<(Seen, usize), Part> {
+    fn at_front(bytes: &[u8], room: Option<usize>) -> Result<(Seen, usize), Stop> {
         match read_pair::<Number, Moment>(bytes, room) {
             Ok(((number, moment), length)) => Ok((Seen { number, moment }, length)),
-            Err(part) => Err(part),
+            Err(stop) => Err(stop),
         }
     }
 }
@@ -59,10 +62,10 @@ impl Element for AnchorCouple {
 
     ghost judged = { anchor_part };
 
-    fn at_front(bytes: &[u8], room: Option<usize>) -> Result<(AnchorCouple, usize), Part> {
+    fn at_front(bytes: &[u8], room: Option<usize>) -> Result<(AnchorCouple, usize), Stop> {
         match read_pair::<Number, Digest>(bytes, room) {
             Ok(((number, digest), length)) => Ok((AnchorCouple { number, digest }, length)),
-            Err(part) => Err(part),
+            Err(stop) => Err(stop),
         }
     }
 }

@@ -1,35 +1,40 @@
 //! Elements one behind the other.
-ghost use Rattle.std.specs.Prelude.{◌≡◌, ◌≤◌, IfOk, length, drop};
-ghost use Rattle.cesr_stream.specs.Judged.{JudgesElements};
+ghost use Rattle.std.specs.Prelude.{◌≡◌, ◌≤◌, ◌+◌, OnOk, IfErr, length, drop, flat_map};
+ghost use Rattle.cesr_stream.specs.Begun.{AreRead};
+ghost use Rattle.cesr_stream.specs.Front.{elements_part};
+ghost use Rattle.cesr_stream.specs.Stops.{Halts};
 
 use crate::element::Element;
 use crate::pair::less;
-use crate::part::Part;
+use crate::progress::Progress;
+use crate::stop::Stop;
 use lists::Items;
-use std::alloc::{AllocError, Global};
 
-/// The elements at the front, so many and of this length, where so much of a wrap is left, or how they are judged where
-/// not all are whole.
+/// Reads the elements that are left, as far as they are there, where so much of a wrap is left from the first one on.
 pub(crate) fn read_elements<E: Element>(
-    alloc: Global,
     bytes: &[u8],
-    count: usize,
     room: Option<usize>,
-) -> Result<Result<(Items<E>, usize), Part>, AllocError>
-    ensures { IfOk result (λ judged. JudgesElements E.judged E.text count room bytes.now judged) }
+    elements: &mut Items<E>,
+    progress: &mut Progress,
+) -> Result<(), Stop>
+    requires { AreRead E.judged room bytes.now (length elements.old) (flat_map E.text elements.old) progress.old }
+    ensures read { AreRead E.judged room bytes.now (length elements.new) (flat_map E.text elements.new) progress.new }
+    ensures counted { length elements.new + progress.new.left ≡ length elements.old + progress.old.left }
+    ensures all { OnOk result (progress.new.left ≡ 0) }
+    ensures err { IfErr result (Halts bytes.now (elements_part E.judged (length elements.old + progress.old.left) room bytes.now)) }
 {
-    let mut elements = Items::new(alloc);
-    let mut place = 0;
-    while elements.len() < count {
+    while progress.left > 0 {
+        let place = progress.place;
         match E::at_front(behind(bytes, place), less(room, place)) {
             Ok((element, length)) => {
                 elements.push(element)?;
-                place += length;
+                progress.left -= 1;
+                progress.place = place + length;
             }
-            Err(part) => return Ok(Err(part.behind(place))),
+            Err(stop) => return Err(stop.behind(place)),
         }
     }
-    Ok(Ok((elements, place)))
+    Ok(())
 }
 
 /// The bytes from a place on.

@@ -5,8 +5,8 @@ ghost use Rattle.cesr_codes.specs.declared.key.KeyCode.TheVariants.{Fixed};
 use crate::Couple;
 use crate::element::Element;
 use crate::pair::read_pair;
-use crate::part::Part;
 use crate::primitive::Primitive;
+use crate::stop::Stop;
 use cesr_codes::{CodeFault, Key, KeyCode, Sig};
 
 /// A key that can't be rotated.
@@ -56,13 +56,13 @@ impl Element for Couple {
 
     ghost judged = { couple_part };
 
-    fn at_front(bytes: &[u8], room: Option<usize>) -> Result<(Couple, usize), Part> {
+    fn at_front(bytes: &[u8], room: Option<usize>) -> Result<(Couple, usize), Stop> {
         match read_pair::<FixedKey, Sig>(bytes, room) {
             Ok(((fixed, sig), length)) => {
                 let key = fixed.key;
                 Ok((Couple { key, sig }, length))
             }
-            Err(part) => Err(part),
+            Err(stop) => Err(stop),
         }
     }
 }

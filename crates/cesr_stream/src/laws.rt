@@ -1,8 +1,9 @@
 //! Laws of the definition of a stream.
-ghost use Rattle.std.specs.Prelude.{◌≡◌, ◌≢◌, ◌∷◌, ◌++◌, [], ℕ, Bool, List, length, take, true};
+ghost use Rattle.std.specs.Prelude.{◌≡◌, ◌≢◌, ◌+◌, ◌∷◌, ◌++◌, [], ℕ, Bool, List, None, length, take, true};
 ghost use Rattle.cesr_stream.specs.Parts.{unfinished, whole};
 ghost use Rattle.cesr_stream.specs.Front.{front};
 ghost use Rattle.cesr_stream.specs.Items.{Placed, Stand, placed};
+ghost use Rattle.cesr_stream.specs.Reading.{AnswersItem, HasFed, Reading, fed_with, fresh};
 ghost use Rattle.cesr_stream.specs.Texts.{SpellsItem};
 ghost use Rattle.cesr_stream.specs.Written.{item_text, IsItem, IsWritable, MayStand};
 ghost use Rattle.cesr_stream.specs.declared.item.Item.{Item};
@@ -14,6 +15,20 @@ pub fn in_any_pieces()
 
     // The items that stand from the front stand there, whatever follows.
     ensures items { (limit : ℕ) (bytes more : List ℕ) (items : List Placed) (begun : Bool) (place : ℕ) → Stand limit bytes items begun place → Stand limit (bytes ++ more) items begun place }
+{}
+
+/// A reader reads the items of all bytes that it was fed, in any pieces, and holds those behind the items that it answered.
+pub fn reads_all_that_was_fed()
+    ensures fresh { (limit : ℕ) → HasFed (fresh limit) [] }
+
+    // A piece comes behind those that were fed before.
+    ensures fed { (reading : Reading) (fed piece : List ℕ) → HasFed reading fed → HasFed (fed_with reading piece None) (fed ++ piece) }
+
+    // The next item stands in all that was fed behind those before it.
+    ensures answered { (old new : Reading) (item : Item) (place : ℕ) (fed : List ℕ) (items : List Placed) → AnswersItem old new item place → HasFed old fed → Stand old.limit fed items old.begun old.place → HasFed new fed × Stand new.limit fed (items ++ placed place item ∷ []) new.begun new.place }
+
+    // As many bytes are held as were fed less those of the items.
+    ensures held { (reading : Reading) (fed : List ℕ) → HasFed reading fed → length reading.rest + reading.place ≡ length fed }
 {}
 
 /// What is written of an item is read as that item.

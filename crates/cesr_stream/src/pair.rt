@@ -5,24 +5,24 @@ ghost use Rattle.cesr_stream.specs.Judged.{JudgesElement, pair_text};
 ghost use Rattle.cesr_stream.specs.Parts.{less};
 
 use crate::elements::behind;
-use crate::part::Part;
 use crate::primitive::{Primitive, read_primitive};
+use crate::stop::Stop;
 
 /// The two primitives at the front, where so much of a wrap is left, or how the front is judged.
 pub(crate) fn read_pair<P: Primitive, Q: Primitive>(
     bytes: &[u8],
     room: Option<usize>,
-) -> Result<((P, Q), usize), Part>
+) -> Result<((P, Q), usize), Stop>
     ensures { JudgesElement (pair_part (primitive_part P.layouts P.judge) (primitive_part Q.layouts Q.judge) room) (pair_text P.text Q.text) bytes.now result }
 {
     match read_primitive::<P>(bytes, room) {
         Ok((first, head)) => {
             match read_primitive::<Q>(behind(bytes, head), less(room, head)) {
                 Ok((second, length)) => Ok(((first, second), head + length)),
-                Err(part) => Err(part.behind(head)),
+                Err(stop) => Err(stop.behind(head)),
             }
         }
-        Err(part) => Err(part),
+        Err(stop) => Err(stop),
     }
 }
 

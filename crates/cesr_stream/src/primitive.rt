@@ -5,7 +5,7 @@ ghost use Rattle.cesr_stream.specs.Front.{is_past, primitive_part, shown};
 ghost use Rattle.cesr_stream.specs.Judged.{JudgesElement, ReadsFront};
 
 use crate::BadReason;
-use crate::part::Part;
+use crate::stop::Stop;
 use cesr_codes::{CodeFault, Digest, IndexedSig, Moment, Number, Sig};
 
 /// A type of primitives, or some of one.
@@ -32,16 +32,16 @@ pub(crate) trait Primitive: Copy {
 pub(crate) fn read_primitive<P: Primitive>(
     bytes: &[u8],
     room: Option<usize>,
-) -> Result<(P, usize), Part>
+) -> Result<(P, usize), Stop>
     ensures { JudgesElement (primitive_part P.layouts P.judge room) P.text bytes.now result }
 {
     if is_past(room, P::shown(bytes)) {
-        return Err(Part::Refused(0, BadReason::WrapLength));
+        return Err(Stop::Refused(0, BadReason::WrapLength));
     }
     match P::read_front(bytes) {
         Ok(found) => Ok(found),
-        Err(CodeFault::Short) => Err(Part::Unfinished),
-        Err(fault) => Err(Part::Refused(0, BadReason::Code(fault))),
+        Err(CodeFault::Short) => Err(Stop::Unfinished),
+        Err(fault) => Err(Stop::Refused(0, BadReason::Code(fault))),
     }
 }
 

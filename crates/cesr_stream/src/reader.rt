@@ -1,53 +1,54 @@
 //! Reading a stream in any pieces.
 
-use crate::front::read_item;
-use crate::part::Part;
+use crate::begun_item::{BegunItem, read_item};
+use crate::stop::Stop;
 use crate::{Bad, BadReason, Step};
+use bytes::BytesMut;
 use keri_outside::Limits;
 use std::alloc::{AllocError, Global};
 use std::marker::Model;
 
-/// Reads the items of a stream that is fed in any pieces. It keeps every byte that was fed.
+/// Reads the items of a stream that is fed in any pieces. It keeps the bytes behind the items that were answered, and
+/// what was read of the next item, so that no element of a group is read again when more bytes come.
 #[derive(Drop)]
 pub struct Reader {
     alloc: Global,
     limit: u32,
-    bytes: Vec<u8>,
-    place: usize,
+    bytes: BytesMut,
+    place: u64,
     begun: bool,
+    item: Option<BegunItem>,
     bad: Option<Bad>,
     drained: bool,
 }
 
 impl Model for Reader {
-    ghost use Rattle.std.specs.Prelude.{◌≡◌, ◌≤◌, length, drop, true, None};
-    ghost use Rattle.cesr_stream.specs.Parts.{unfinished};
-    ghost use Rattle.cesr_stream.specs.Front.{front};
     ghost use Rattle.cesr_stream.specs.Reading.{Reading};
 
     ghost Value = { Reading };
 
-    ghost view = { λ r. record { limit = r.limit; fed = r.bytes.items; place = r.place; begun = r.begun; bad = r.bad; drained = r.drained } };
+    ghost use Rattle.cesr_stream.specs.Reader.{reading_of, IsReader};
 
-    ghost invariant = { λ r. (r.place ≤ length r.bytes.items) × (r.drained ≡ true → r.bad ≡ None → front r.limit r.begun (drop r.place r.bytes.items) ≡ unfinished) };
+    ghost view = { reading_of };
+
+    ghost invariant = { IsReader };
 }
 
 impl Reader {
-    ghost use Rattle.std.specs.Prelude.{◌≡◌, None, OnOk, OnErr};
-    ghost use Rattle.cesr_stream.specs.Reading.{Answers, Stops, Ends, IsDrained, fed_with, fresh, judged, rest};
-    ghost use Rattle.cesr_stream.specs.Judged.{part_of, EndsWithin};
+    ghost use Rattle.std.specs.Prelude.{◌≡◌, ◌+◌, ◌<◌, ◌^◌, IfOk, OnOk, OnErr, length};
+    ghost use Rattle.cesr_stream.specs.Reading.{Answers, Ends, HoldsFew, IsDrained, fed_with, fresh};
 
     /// A reader of a stream whose bodies are within the limits.
-    #[tactic(auto, unfolding(crate::specs::Front::front))]
     pub fn new(alloc: Global, limits: Limits) -> Reader
         ensures { result ≡ fresh limits.body }
     {
         Reader {
             alloc,
             limit: limits.body,
-            bytes: Vec::new(alloc),
+            bytes: BytesMut::new(alloc),
             place: 0,
             begun: false,
+            item: None,
             bad: None,
             drained: true,
         }
@@ -55,6 +56,7 @@ impl Reader {
 
     /// Takes the next piece of the stream.
     pub fn feed(&mut self, piece: &[u8]) -> Result<(), AllocError>
+        requires { self.old.place + length self.old.rest + length piece.now < 2 ^ 64 }
         ensures ok { OnOk result (self.new ≡ fed_with self.old piece.now self.old.bad) }
         ensures err { OnErr result (self.new ≡ self.old) }
     {
@@ -68,22 +70,43 @@ impl Reader {
 
     /// The next item of the stream, where one is whole.
     pub fn next(&mut self) -> Result<Step, AllocError>
-        ensures { Answers self.old self.new result }
+        ensures answer { Answers self.old self.new result }
+
+        // The greatest item is a group of 4,095 receipts with their keys.
+        ensures few { IfOk result (HoldsFew self.new) }
     {
         if let Some(bad) = self.bad {
             return Ok(Step::Bad(bad));
         }
-        let (_, rest) = self.bytes.as_slice().split_at(self.place);
-        match read_item(self.alloc, rest, self.begun, self.limit)? {
+        let bytes = self.bytes.as_slice();
+        match read_item(self.alloc, bytes, self.limit, self.begun, &mut self.item) {
             Ok((item, length)) => {
                 let place = self.place;
-                self.place += length;
+                self.bytes.advance(length);
+                self.place = place + length as u64;
                 self.begun = true;
                 self.drained = false;
-                Ok(Step::Item(item, place as u64))
+                Ok(Step::Item(item, place))
             }
-            Err(part) => Ok(self.judge(part)),
+            Err(Stop::Refused(within, reason)) => {
+                let place = self.place + within as u64;
+                let bad = Bad { place, reason };
+                self.bad = Some(bad);
+                Ok(Step::Bad(bad))
+            }
+            Err(Stop::Unfinished) => {
+                self.drained = true;
+                Ok(Step::NeedMore)
+            }
+            Err(Stop::OutOfMemory) => Err(AllocError),
         }
+    }
+
+    /// How many bytes it holds, which are those that were fed less those of the items that were answered.
+    pub fn held(&self) -> u64
+        ensures { result ≡ length self.now.rest }
+    {
+        self.bytes.len() as u64
     }
 
     /// Says that the input has ended.
@@ -94,37 +117,14 @@ impl Reader {
         if let Some(bad) = self.bad {
             return Some(bad);
         }
-        if self.place == self.bytes.len() {
+        if self.bytes.is_empty() {
             return None;
         }
         let bad = Bad {
-            place: self.place as u64,
+            place: self.place,
             reason: BadReason::Truncated,
         };
         self.bad = Some(bad);
         Some(bad)
-    }
-
-    // What the rest is where no item is whole in it.
-    fn judge(&mut self, part: Part) -> Step
-        requires not_bad { self.old.bad ≡ None }
-        requires ends { EndsWithin (rest self.old) part }
-        requires judged { judged self.old ≡ part_of part }
-        ensures { Stops self.old self.new result }
-    {
-        match part {
-            Part::Refused(within, reason) => {
-                let bad = Bad {
-                    place: (self.place + within) as u64,
-                    reason,
-                };
-                self.bad = Some(bad);
-                Step::Bad(bad)
-            }
-            _ => {
-                self.drained = true;
-                Step::NeedMore
-            }
-        }
     }
 }

@@ -5,6 +5,7 @@ use Rattle.keri_specs.specs.Told.{before, IsAtEnd}
 use Rattle.cesr_stream.specs.declared.message.Message.{Message}
 use Rattle.cesr_stream.specs.Reading.{Reading, fed_with}
 use Rattle.cesr_stream.specs.Assembly.{Assembly}
+use Rattle.cesr_stream.proofs.Fed.{fed_on}
 use Rattle.cesr_stream.proofs.Items.{stand_more}
 use Rattle.message_feed.specs.declared.feed_close.FeedClose.{FeedClose}
 use Rattle.message_feed.specs.declared.feed_close.FeedClose.TheVariants.{End, Bad, ReadFault, Full, OutOfMemory, Stopped}
@@ -32,25 +33,29 @@ gave_none first middle last bytes piece a b e =
 
 module _ {T : Type 0} (has_taken : T → List Message → Type 0) where
   -- what was taken is taken still when a piece is fed
-  pub serves_fed : (old : Reading) (piece : List ℕ) (assembler : Assembly) (taker : T) → Serves has_taken old assembler taker → Serves has_taken (fed_with old piece None) assembler taker
-  serves_fed old piece assembler taker s = record {
+  pub serves_fed : (fed : List ℕ) (old : Reading) (piece : List ℕ) (assembler : Assembly) (taker : T) → Serves has_taken fed old assembler taker
+      → Serves has_taken (fed ++ piece) (fed_with old piece None) assembler taker
+  serves_fed fed old piece assembler taker s = record {
+    has_fed = fed_on old fed piece s.has_fed;
     items = s.items;
     answered = s.answered;
-    stand = stand_more old.limit old.fed piece s.items old.begun old.place s.stand;
+    stand = stand_more old.limit fed piece s.items old.begun old.place s.stand;
     assembled = s.assembled;
     taken = s.taken;
   }
 
-  module _ {St : Type 0} (has_stopped : T → St → List Message → Type 0) (most : ℕ) (first now : Option (List ℕ)) (faults_first faults_now : ℕ) (reading_first reading : Reading)
-      (assembler_first assembler : Assembly) (taker : T) (s : Serves has_taken reading assembler taker) (body_limit : reading.limit ≡ reading_first.limit)
-      (message_limit : assembler.limit ≡ assembler_first.limit) (few : length reading.fed ≤ most) where
+  module _ {St : Type 0} (has_stopped : T → St → List Message → Type 0) (most : ℕ) (first now : Option (List ℕ)) (faults_first faults_now : ℕ) (reading_first : Reading) (fed : List ℕ) (reading : Reading)
+      (assembler_first assembler : Assembly) (taker : T) (s : Serves has_taken fed reading assembler taker) (body_limit : reading.limit ≡ reading_first.limit)
+      (message_limit : assembler.limit ≡ assembler_first.limit) (few : length fed ≤ most) where
     -- reading closes by its cause, when the messages were taken
-    pub runs : (close : FeedClose St) → ClosesBy most first now faults_first faults_now reading close → TakesBy has_taken has_stopped close s.answered taker
+    pub runs : (close : FeedClose St) → ClosesBy most first now faults_first faults_now fed reading close → TakesBy has_taken has_stopped close s.answered taker
         → Runs has_taken has_stopped most first now faults_first faults_now reading_first assembler_first assembler taker close
     runs close closes takes = record {
+      fed = fed;
       reading = reading;
       items = s.items;
       answered = s.answered;
+      has_fed = s.has_fed;
       stand = s.stand;
       assembled = s.assembled;
       body_limit = body_limit;
@@ -61,7 +66,7 @@ module _ {T : Type 0} (has_taken : T → List Message → Type 0) where
     }
 
     -- at the end of input
-    pub ends : (new : Reading) (close : FeedClose St) → IsIdle reading → Gave first now reading.fed → IsAtEnd now → faults_now ≡ faults_first → EndsSo reading new close
+    pub ends : (new : Reading) (close : FeedClose St) → IsIdle reading → Gave first now fed → IsAtEnd now → faults_now ≡ faults_first → EndsSo reading new close
         → Runs has_taken has_stopped most first now faults_first faults_now reading_first assembler_first assembler taker close
     ends new End idle gave at_end same e = runs End (gave, at_end, e.0, same) s.taken
     ends new (Bad bad) idle gave at_end same e = runs (Bad bad) (gave, inr (record { at_end = at_end; unfinished_item = idle.unfinished_item; some = e.0; is = e.1 }), same) s.taken
@@ -71,26 +76,32 @@ module _ {T : Type 0} (has_taken : T → List Message → Type 0) where
     ends new (Stopped stop) idle gave at_end same e = absurd e
 
     -- past the greatest number of bytes
-    pub passes : (middle : Option (List ℕ)) (faults_middle : ℕ) (new : Reading) (close : FeedClose St) → IsIdle reading → Gave first middle reading.fed → faults_middle ≡ faults_first
-        → length reading.fed ≡ most → PassesEnd middle now faults_middle faults_now reading new close
+    pub passes : (middle : Option (List ℕ)) (faults_middle : ℕ) (new : Reading) (close : FeedClose St) → IsIdle reading → Gave first middle fed → faults_middle ≡ faults_first
+        → length fed ≡ most → PassesEnd middle now faults_middle faults_now reading new close
         → Runs has_taken has_stopped most first now faults_first faults_now reading_first assembler_first assembler taker close
-    passes middle faults_middle new End idle gave later all e = runs End (gave_same first middle now reading.fed gave e.0, e.1, e.2, e.4 ∙ later) s.taken
+    passes middle faults_middle new End idle gave later all e = runs End (gave_same first middle now fed gave e.0, e.1, e.2, e.4 ∙ later) s.taken
     passes middle faults_middle new (Bad bad) idle gave later all e =
-        runs (Bad bad) (gave_same first middle now reading.fed gave e.0, inr (record { at_end = e.1; unfinished_item = idle.unfinished_item; some = e.2; is = e.3 }), e.5 ∙ later) s.taken
+        runs (Bad bad) (gave_same first middle now fed gave e.0, inr (record { at_end = e.1; unfinished_item = idle.unfinished_item; some = e.2; is = e.3 }), e.5 ∙ later) s.taken
     passes middle faults_middle new ReadFault idle gave later all e =
-        runs ReadFault (gave_same first middle now reading.fed gave e.0, rose, idle.unfinished_item) s.taken
+        runs ReadFault (gave_same first middle now fed gave e.0, rose, idle.unfinished_item) s.taken
       where
         rose : Rose faults_first faults_now
         rose = let risen = e.1 in omega (arith, later, risen)
     passes middle faults_middle new Full idle gave later all e =
-        runs Full (record { all = all; unfinished_item = idle.unfinished_item; more = e.0.0; gave = gave_more first middle now reading.fed (e.0.0 ∷ []) gave e.0.1 }, e.2 ∙ later) s.taken
+        runs Full (record { all = all; unfinished_item = idle.unfinished_item; more = e.0.0; gave = gave_more first middle now fed (e.0.0 ∷ []) gave e.0.1 }, e.2 ∙ later) s.taken
     passes middle faults_middle new OutOfMemory idle gave later all e = absurd e
     passes middle faults_middle new (Stopped stop) idle gave later all e = absurd e
 
--- all bytes that were fed, with a piece more
-pub fed_on : (old fed now : Reading) (piece : List ℕ) → fed ≡ fed_with old piece None → now.fed ≡ fed.fed → now.fed ≡ old.fed ++ piece
-fed_on old fed now piece more same = same ∙ ap (λ r. r.fed) more
+-- how many bytes were fed, with a piece more
+pub counted_on : (fed piece : List ℕ) (room count most : ℕ) → length piece ≡ count → count ≤ room → length fed + room ≡ most → length (fed ++ piece) + (room - count) ≡ most
+counted_on fed piece room count most counted few all = omega (arith, length-append fed piece, counted, few, all)
 
--- and how many there are
-pub counted_on : (old piece now : List ℕ) (room count most : ℕ) → now ≡ old ++ piece → length piece ≡ count → count ≤ room → length old + room ≡ most → length now + (room - count) ≡ most
-counted_on old piece now room count most e counted few all = omega (arith, ap length e, length-append old piece, counted, few, all)
+-- These bytes were read so far, no item is whole in the rest, and there is room for so many more.
+pub record IsRead {T : Type 0} (has_taken : T → List Message → Type 0) (first now : Option (List ℕ)) (most room : ℕ) (reading_first reading : Reading) (assembler_first assembler : Assembly) (taker : T) : Type 0 where
+  pub fed : List ℕ
+  pub idle : IsIdle reading
+  pub serves : Serves has_taken fed reading assembler taker
+  pub gave : Gave first now fed
+  pub counted : length fed + room ≡ most
+  pub body_limit : reading.limit ≡ reading_first.limit
+  pub message_limit : assembler.limit ≡ assembler_first.limit

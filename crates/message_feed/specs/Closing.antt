@@ -6,7 +6,7 @@ use Rattle.keri_specs.specs.Told.{before, IsAtEnd}
 use Rattle.cesr_stream.specs.declared.bad.Bad.{Bad}
 use Rattle.cesr_stream.specs.declared.bad.BadReason.TheVariants.{Truncated}
 use Rattle.cesr_stream.specs.Parts.{unfinished}
-use Rattle.cesr_stream.specs.Reading.{Reading, rest, judged, bad_at}
+use Rattle.cesr_stream.specs.Reading.{Reading, judged, bad_at}
 use Rattle.message_feed.specs.Serving.{IsRefused}
 use Rattle.message_feed.specs.declared.feed_close.FeedClose.{FeedClose}
 use Rattle.message_feed.specs.declared.feed_close.FeedClose.TheVariants.{End, Bad as BadClose, ReadFault, Full, OutOfMemory, Stopped}
@@ -19,22 +19,22 @@ Gave old new bytes = old ≡ before bytes new
 pub record IsCutShort (left : Option (List ℕ)) (reading : Reading) (bad : Bad) : Type 0 where
   pub at_end : IsAtEnd left
   pub unfinished_item : judged reading ≡ unfinished
-  pub some : rest reading ≢ []
+  pub some : reading.rest ≢ []
   pub is : bad ≡ bad_at reading.place Truncated
 
 -- So many bytes were read as may be, no item is whole in the rest, and the source gave one byte more.
-pub record IsFull (most : ℕ) (old new : Option (List ℕ)) (reading : Reading) : Type 0 where
-  pub all : length reading.fed ≡ most
+pub record IsFull (most : ℕ) (old new : Option (List ℕ)) (fed : List ℕ) (reading : Reading) : Type 0 where
+  pub all : length fed ≡ most
   pub unfinished_item : judged reading ≡ unfinished
   pub more : ℕ
-  pub gave : Gave old new (reading.fed ++ more ∷ [])
+  pub gave : Gave old new (fed ++ more ∷ [])
 
--- Why reading closed: what the source had left before and has left now, how often it had failed and has now, and what
--- was read.
-abbrev pub ClosesBy : {T : Type 0} → ℕ → Option (List ℕ) → Option (List ℕ) → ℕ → ℕ → Reading → FeedClose T → Type 0
-ClosesBy most old new faults_old faults_new reading End = Gave old new reading.fed × IsAtEnd new × (rest reading ≡ []) × (faults_new ≡ faults_old)
-ClosesBy most old new faults_old faults_new reading (BadClose bad) = Gave old new reading.fed × (IsRefused reading bad ⊎ IsCutShort new reading bad) × (faults_new ≡ faults_old)
-ClosesBy most old new faults_old faults_new reading ReadFault = Gave old new reading.fed × Rose faults_old faults_new × (judged reading ≡ unfinished)
-ClosesBy most old new faults_old faults_new reading Full = IsFull most old new reading × (faults_new ≡ faults_old)
-ClosesBy most old new faults_old faults_new reading OutOfMemory = (more : List ℕ) × Gave old new (reading.fed ++ more)
-ClosesBy most old new faults_old faults_new reading (Stopped stop) = Gave old new reading.fed
+-- Why reading closed: what the source had left before and has left now, how often it had failed and has now, all bytes
+-- that were read, and what is known of them.
+abbrev pub ClosesBy : {T : Type 0} → ℕ → Option (List ℕ) → Option (List ℕ) → ℕ → ℕ → List ℕ → Reading → FeedClose T → Type 0
+ClosesBy most old new faults_old faults_new fed reading End = Gave old new fed × IsAtEnd new × (reading.rest ≡ []) × (faults_new ≡ faults_old)
+ClosesBy most old new faults_old faults_new fed reading (BadClose bad) = Gave old new fed × (IsRefused reading bad ⊎ IsCutShort new reading bad) × (faults_new ≡ faults_old)
+ClosesBy most old new faults_old faults_new fed reading ReadFault = Gave old new fed × Rose faults_old faults_new × (judged reading ≡ unfinished)
+ClosesBy most old new faults_old faults_new fed reading Full = IsFull most old new fed reading × (faults_new ≡ faults_old)
+ClosesBy most old new faults_old faults_new fed reading OutOfMemory = (more : List ℕ) × Gave old new (fed ++ more)
+ClosesBy most old new faults_old faults_new fed reading (Stopped stop) = Gave old new fed

@@ -6,7 +6,7 @@ use Rattle.keri_specs.specs.Causes.{Rose}
 use Rattle.keri_specs.specs.Told.{IsAtEnd}
 use Rattle.keri_outside.specs.declared.failed.Failed.{Failed}
 use Rattle.cesr_stream.specs.declared.bad.BadReason.TheVariants.{Truncated}
-use Rattle.cesr_stream.specs.Reading.{Reading, rest, bad_at, fed_with, refused_by}
+use Rattle.cesr_stream.specs.Reading.{Reading, bad_at, fed_with, refused_by}
 use Rattle.message_feed.specs.declared.feed_close.FeedClose.{FeedClose}
 use Rattle.message_feed.specs.declared.feed_close.FeedClose.TheVariants.{End, Bad, ReadFault, Full, OutOfMemory, Stopped}
 use Rattle.message_feed.specs.declared.halt.Halt.{Halt}
@@ -30,8 +30,8 @@ FeedsNone left_old left_new faults_old faults_new old new (Halted failed) = (lef
 
 -- the input ended: nothing is left, or an item is cut short
 abbrev pub EndsSo : {T : Type 0} → Reading → Reading → FeedClose T → Type 0
-EndsSo old new End = (rest old ≡ []) × (new ≡ old)
-EndsSo old new (Bad bad) = (rest old ≢ []) × (bad ≡ bad_at old.place Truncated) × (new ≡ refused_by old bad)
+EndsSo old new End = (old.rest ≡ []) × (new ≡ old)
+EndsSo old new (Bad bad) = (old.rest ≢ []) × (bad ≡ bad_at old.place Truncated) × (new ≡ refused_by old bad)
 EndsSo old new ReadFault = ⊥
 EndsSo old new Full = ⊥
 EndsSo old new OutOfMemory = ⊥
@@ -39,8 +39,8 @@ EndsSo old new (Stopped stop) = ⊥
 
 -- one more byte was asked for
 abbrev pub PassesEnd : {T : Type 0} → Option (List ℕ) → Option (List ℕ) → ℕ → ℕ → Reading → Reading → FeedClose T → Type 0
-PassesEnd left_old left_new faults_old faults_new old new End = (left_new ≡ left_old) × IsAtEnd left_new × (rest old ≡ []) × (new ≡ old) × (faults_new ≡ faults_old)
-PassesEnd left_old left_new faults_old faults_new old new (Bad bad) = (left_new ≡ left_old) × IsAtEnd left_new × (rest old ≢ []) × (bad ≡ bad_at old.place Truncated) × (new ≡ refused_by old bad)
+PassesEnd left_old left_new faults_old faults_new old new End = (left_new ≡ left_old) × IsAtEnd left_new × (old.rest ≡ []) × (new ≡ old) × (faults_new ≡ faults_old)
+PassesEnd left_old left_new faults_old faults_new old new (Bad bad) = (left_new ≡ left_old) × IsAtEnd left_new × (old.rest ≢ []) × (bad ≡ bad_at old.place Truncated) × (new ≡ refused_by old bad)
     × (faults_new ≡ faults_old)
 PassesEnd left_old left_new faults_old faults_new old new ReadFault = (left_new ≡ left_old) × Rose faults_old faults_new × (new ≡ old)
 PassesEnd left_old left_new faults_old faults_new old new Full = ((more : ℕ) × Gave left_old left_new (more ∷ [])) × (new ≡ old) × (faults_new ≡ faults_old)

@@ -9,14 +9,13 @@ use Rattle.cesr_stream.specs.declared.item.Item.{Item}
 use Rattle.cesr_stream.specs.declared.message.Message.{Message}
 use Rattle.cesr_stream.specs.Parts.{refused, unfinished}
 use Rattle.cesr_stream.specs.Items.{Placed, placed, Stand}
-use Rattle.cesr_stream.specs.Reading.{Reading, judged}
+use Rattle.cesr_stream.specs.Reading.{Reading, HasFed, judged}
 use Rattle.cesr_stream.specs.Assembly.{Assembly, IsAssembled}
 use Rattle.message_feed.specs.declared.halt.Halt.{Halt}
 use Rattle.message_feed.specs.declared.halt.Halt.TheVariants.{OutOfMemory, Stopped}
 
--- the stream and the limits are the same
-pub record SameStream (old new : Reading) (assembler_old assembler_new : Assembly) : Type 0 where
-  pub fed : new.fed ≡ old.fed
+-- the limits are the same
+pub record SameLimits (old new : Reading) (assembler_old assembler_new : Assembly) : Type 0 where
   pub body_limit : new.limit ≡ old.limit
   pub message_limit : assembler_new.limit ≡ assembler_old.limit
 
@@ -38,27 +37,29 @@ StandsAt None reading = IsIdle reading
 StandsAt (Some bad) reading = IsRefused reading bad
 
 module _ {T : Type 0} (has_taken : T → List Message → Type 0) where
-  -- the messages that are ended were taken
-  pub record Serves (reading : Reading) (assembler : Assembly) (taker : T) : Type 0 where
+  -- of these bytes, which were fed, the messages that are ended were taken
+  pub record Serves (fed : List ℕ) (reading : Reading) (assembler : Assembly) (taker : T) : Type 0 where
+    pub has_fed : HasFed reading fed
     pub items : List Placed
     pub answered : List Message
-    pub stand : Stand reading.limit reading.fed items reading.begun reading.place
+    pub stand : Stand reading.limit fed items reading.begun reading.place
     pub assembled : IsAssembled assembler.limit items answered assembler
     pub taken : has_taken taker answered
 
   module _ {St : Type 0} (has_stopped : T → St → List Message → Type 0) where
     -- the taker stopped at the last message that is ended
-    pub record StopsAt (stop : St) (reading : Reading) (assembler : Assembly) (taker : T) : Type 0 where
+    pub record StopsAt (fed : List ℕ) (stop : St) (reading : Reading) (assembler : Assembly) (taker : T) : Type 0 where
+      pub has_fed : HasFed reading fed
       pub items : List Placed
       pub answered : List Message
-      pub stand : Stand reading.limit reading.fed items reading.begun reading.place
+      pub stand : Stand reading.limit fed items reading.begun reading.place
       pub assembled : IsAssembled assembler.limit items answered assembler
       pub stopped : has_stopped taker stop answered
 
     -- why items are taken no further; the last one may be lost where there is no memory
-    abbrev pub Halts : Halt St → Reading → Assembly → T → Type 0
-    Halts OutOfMemory reading assembler taker = (earlier : Reading) × (earlier.fed ≡ reading.fed) × (earlier.limit ≡ reading.limit) × Serves earlier assembler taker
-    Halts (Stopped stop) reading assembler taker = StopsAt stop reading assembler taker
+    abbrev pub Halts : List ℕ → Halt St → Reading → Assembly → T → Type 0
+    Halts fed OutOfMemory reading assembler taker = (earlier : Reading) × (earlier.limit ≡ reading.limit) × Serves fed earlier assembler taker
+    Halts fed (Stopped stop) reading assembler taker = StopsAt fed stop reading assembler taker
 
     -- An item was pushed, and the message that it ends was taken; or there was no memory, and nothing has changed; or the
     -- taker stopped at that message.

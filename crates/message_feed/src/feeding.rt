@@ -1,5 +1,5 @@
 //! Reading a source to the end of its stream.
-ghost use Rattle.std.specs.Prelude.{◌≡◌, ◌≤◌, ◌<◌, [], None, IfOk, IfErr};
+ghost use Rattle.std.specs.Prelude.{◌≡◌, ◌≤◌, ◌<◌, ◌+◌, ◌^◌, [], None, IfOk, IfErr, length};
 ghost use Rattle.message_feed.specs.Serving.{Serves, IsIdle};
 ghost use Rattle.message_feed.specs.Feeds.{Feeds, Runs};
 ghost use Rattle.message_feed.specs.Pieces.{FeedsPiece, FeedsNone, EndsSo, PassesEnd};
@@ -47,9 +47,8 @@ fn feed_pieces<S: Source, T: Taker>(
     taker: &mut T,
 ) -> FeedClose<T::Stop>
     ghost first: { T }
-    requires empty { reader.old.fed ≡ [] }
     requires idle { IsIdle reader.old }
-    requires serves { Serves (T.has_taken first) reader.old assembler.old taker.old }
+    requires serves { Serves (T.has_taken first) [] reader.old assembler.old taker.old }
     ensures runs { Runs (T.has_taken first) (T.has_stopped first) most (S.left source.old) (S.left source.new) (S.faults source.old) (S.faults source.new) reader.old assembler.old assembler.new taker.new result }
     ensures later { S.faults source.old ≤ S.faults source.new }
 {
@@ -79,6 +78,7 @@ fn feed_piece<S: Source>(
 ) -> Result<usize, Halt<Failed>>
     requires some { 0 < room }
     requires not_bad { reader.old.bad ≡ None }
+    requires short { reader.old.place + length reader.old.rest + room < 2 ^ 64 }
     ensures ok { IfOk result (λ count. FeedsPiece (S.left source.old) (S.left source.new) (S.faults source.old) (S.faults source.new) room reader.old reader.new count) }
     ensures err { IfErr result (λ halt. FeedsNone (S.left source.old) (S.left source.new) (S.faults source.old) (S.faults source.new) reader.old reader.new halt) }
     ensures later { S.faults source.old ≤ S.faults source.new }

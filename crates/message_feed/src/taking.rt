@@ -1,6 +1,6 @@
 //! Taking the items that are whole.
-ghost use Rattle.std.specs.Prelude.{◌≡◌, None, IfOk, IfErr};
-ghost use Rattle.message_feed.specs.Serving.{Serves, Halts, HandsOn, StandsAt, SameStream};
+ghost use Rattle.std.specs.Prelude.{◌≡◌, ℕ, List, None, IfOk, IfErr, OnOk};
+ghost use Rattle.message_feed.specs.Serving.{Serves, Halts, HandsOn, StandsAt, SameLimits};
 
 use crate::Taker;
 use crate::halt::Halt;
@@ -14,19 +14,21 @@ pub(crate) fn take_items<T: Taker>(
 ) -> Result<Option<Bad>, Halt<T::Stop>>
     ghost first: { T }
     requires not_bad { reader.old.bad ≡ None }
-    requires serves { Serves (T.has_taken first) reader.old assembler.old taker.old }
-    ensures same { SameStream reader.old reader.new assembler.old assembler.new }
-    ensures ok { IfOk result (λ bad. Serves (T.has_taken first) reader.new assembler.new taker.new × StandsAt bad reader.new) }
-    ensures err { IfErr result (λ halt. Halts (T.has_taken first) (T.has_stopped first) halt reader.new assembler.new taker.new) }
+    ensures stands { IfOk result (λ bad. StandsAt bad reader.new) }
+
+    // Whatever was fed, of that the messages that are ended were taken, where it was so before.
+    ensures ok { OnOk result ((fed : List ℕ) → Serves (T.has_taken first) fed reader.old assembler.old taker.old → Serves (T.has_taken first) fed reader.new assembler.new taker.new × SameLimits reader.old reader.new assembler.old assembler.new) }
+    ensures err { IfErr result (λ halt. (fed : List ℕ) → Serves (T.has_taken first) fed reader.old assembler.old taker.old → Halts (T.has_taken first) (T.has_stopped first) fed halt reader.new assembler.new taker.new × SameLimits reader.old reader.new assembler.old assembler.new) }
 {
     loop {
-        match reader.next()? {
-            Step::NeedMore => return Ok(None),
-            Step::Bad(bad) => return Ok(Some(bad)),
-            Step::Item(item, place) => match hand_on(assembler, taker, item, place) {
+        match reader.next() {
+            Ok(Step::NeedMore) => return Ok(None),
+            Ok(Step::Bad(bad)) => return Ok(Some(bad)),
+            Ok(Step::Item(item, place)) => match hand_on(assembler, taker, item, place) {
                 Ok(()) => {}
                 Err(halt) => return Err(halt),
             },
+            Err(error) => return Err(Halt::from(error)),
         }
     }
 }

@@ -1,43 +1,36 @@
-use Rattle.std.proofs.Common.{◌≡◌, ◌∙◌, ◌+◌, ◌-◌, ◌≤◌, ◌++◌, ◌∷◌, [], sym, ap, arith, length, take, drop, length-append, length-drop, flat_map, subst}
-use Rattle.cesr_stream.specs.Judged.{part_of, EndsWithin}
-use Rattle.cesr_stream.specs.Parts.{whole, shifted, less}
-use Rattle.cesr_stream.specs.Front.{elements_part}
-use Rattle.cesr_stream.proofs.ElementSteps.{rest-more, rest-ends, rest-done, ends-behind, text-more}
+use Rattle.std.proofs.Common.{◌≡◌, ◌∙◌, ◌-◌, ◌++◌, ◌∷◌, [], ℕ, List, suc, sym, ap, arith, length, take, drop, length-append, subst}
+use Rattle.cesr_stream.specs.Parts.{less}
+use Rattle.cesr_stream.specs.Stops.{Stops}
+use Rattle.cesr_stream.proofs.ReadElements.{element_more, element_stops}
 use Rattle.cesr_stream.proofs.elements.read_elements.Goals as goal
 
-pub loop-room-preserved : goal.loop-room-preserved
-loop-room-preserved g c =
+pub loop-progress-preserved : goal.loop-progress-preserved
+loop-progress-preserved g c =
     let bytes = c.args.bytes.now in
-    let room = c.args.room in
-    let here : g.E.Element.judged (less c.loop-room.place room) (drop c.loop-room.place bytes) ≡ whole c.in-Ok.length
-    = ap (λ left. g.E.Element.judged left (drop c.loop-room.place bytes)) (sym c.less.ensures) ∙ ap (g.E.Element.judged c.less.result) (sym c.behind.ensures) ∙ c.in-Ok.ensures.0 in
-    let text : take c.in-Ok.length (drop c.loop-room.place bytes) ≡ g.E.Element.text c.in-Ok.element = ap (take c.in-Ok.length) (sym c.behind.ensures) ∙ c.in-Ok.ensures.1 in
-    let fits : c.in-Ok.length ≤ length (drop c.loop-room.place bytes) = omega (arith, c.in-Ok.ensures.2, ap length c.behind.ensures) in
-    let pushed : c.push.new.self ≡ c.loop-room.elements ++ c.in-Ok.element ∷ [] = c.in_ok-push-in-Ok.ensures.ok in
-    let count : length c.push.new.self ≡ length c.loop-room.elements + 1 = omega (arith, ap length pushed, length-append c.loop-room.elements (c.in-Ok.element ∷ [])) in
+    let judged = g.E.Element.judged in
+    let text = g.E.Element.text in
+    let place = c.loop-progress.progress.place in
+    let n = c.in-Ok.length in
+    let one : c.loop-progress.progress.left ≡ suc (c.loop-progress.progress.left - 1) = omega (arith, c.loop-progress-test.true) in
+    let pushed : c.push.new.self ≡ c.loop-progress.elements ++ c.in-Ok.element ∷ [] = c.in_ok-push-in-Ok.ensures.ok in
+    let is = λ (more : List ℕ). ap (λ room. judged room (drop place bytes ++ more)) (sym c.less.ensures)
+    ∙ ap (λ behind. judged c.less.result (behind ++ more)) (sym c.behind.ensures) ∙ c.in-Ok.ensures.stays more in
     record {
-      few = omega arith;
-      within = omega (arith, fits, length-drop c.loop-room.place bytes);
-      text = text-more g.E.Element.text bytes c.loop-room.place c.in-Ok.length c.loop-room.elements c.in-Ok.element c.loop-room.invariant.text text ∙ sym (ap (λ es. flat_map g.E.Element.text es) pushed);
-      rest = ap (λ k. shifted (c.loop-room.place + c.in-Ok.length) (elements_part g.E.Element.judged (c.args.count - k) (less (c.loop-room.place + c.in-Ok.length) room) (drop (c.loop-room.place + c.in-Ok.length) bytes))) count
-          ∙ rest-more g.E.Element.judged bytes c.args.count room (length c.loop-room.elements) c.loop-room.place c.in-Ok.length (elements_part g.E.Element.judged c.args.count room bytes) (omega arith) here c.loop-room.invariant.rest;
+      read = element_more judged c.args.room bytes text c.loop-progress.elements c.push.new.self c.in-Ok.element c.loop-progress.progress.left (c.loop-progress.progress.left - 1) place n
+          c.loop-progress.invariant.read one is (ap (take n) (sym c.behind.ensures) ∙ c.in-Ok.ensures.judged.1)
+          (let fits = c.in-Ok.ensures.judged.2 in omega (arith, fits, ap length c.behind.ensures)) pushed;
+      counted = omega (arith, one, ap length pushed, length-append c.loop-progress.elements (c.in-Ok.element ∷ []), c.loop-progress.invariant.counted);
     }
 
-pub returns-in-Err : goal.returns-in-Err
-returns-in-Err g c =
+pub returns-in-Err-clause-err : goal.returns-in-Err-clause-err
+returns-in-Err-clause-err g c =
     let bytes = c.args.bytes.now in
-    let here : g.E.Element.judged (less c.loop-room.place c.args.room) (drop c.loop-room.place bytes) ≡ part_of c.in-Err.part
-    = ap (λ left. g.E.Element.judged left (drop c.loop-room.place bytes)) (sym c.less.ensures) ∙ ap (g.E.Element.judged c.less.result) (sym c.behind.ensures) ∙ c.in-Err.ensures.0 in
-    let ends : EndsWithin (drop c.loop-room.place bytes) c.in-Err.part = subst (λ rest. EndsWithin rest c.in-Err.part) c.behind.ensures c.in-Err.ensures.1 in (
-      rest-ends g.E.Element.judged bytes c.args.count c.args.room (length c.loop-room.elements) c.loop-room.place (elements_part g.E.Element.judged c.args.count c.args.room bytes) c.in-Err.part (omega arith) here ends
-          c.loop-room.invariant.rest ∙ sym c.behind-in-Err.ensures,
-      ends-behind bytes c.loop-room.place c.in-Err.part c.behind-in-Err.result c.loop-room.invariant.within ends c.behind-in-Err.ensures,
-    )
-
-pub returns : goal.returns
-returns g c = (
-  rest-done g.E.Element.judged c.args.bytes.now c.args.count c.args.room (length c.loop-room.elements) c.loop-room.place (elements_part g.E.Element.judged c.args.count c.args.room c.args.bytes.now) (omega arith) c.loop-room.invariant.rest,
-  c.loop-room.invariant.text,
-  omega arith,
-  c.loop-room.invariant.within,
-)
+    let judged = g.E.Element.judged in
+    let place = c.loop-progress.progress.place in
+    let left = c.loop-progress.progress.left in
+    let count = length c.loop-progress.elements in
+    let one : left ≡ suc (left - 1) = omega (arith, c.loop-progress-test.true) in
+    let stops = subst (λ behind. Stops behind (judged (less place c.args.room) behind) c.in-Err.stop) c.behind.ensures
+    (subst (λ room. Stops c.behind.result.now (judged room c.behind.result.now) c.in-Err.stop) c.less.ensures c.in-Err.ensures.judged) in
+    rw (c.behind-in-Err.ensures, ← c.loop-progress.invariant.counted)
+    (element_stops judged c.args.room bytes count left (left - 1) place (take place bytes) c.in-Err.stop (rw (c.loop-progress.invariant.read.spelled) c.loop-progress.invariant.read) one stops)

@@ -1,16 +1,13 @@
-use Rattle.std.proofs.Common.{◌≡◌, ◌-◌, ◌≤◌, take, drop, length, flat_map}
-use Rattle.cesr_stream.specs.Parts.{shifted, less}
-use Rattle.cesr_stream.specs.Front.{elements_part}
+use Rattle.std.proofs.Common.{◌≡◌, ◌+◌, length, flat_map}
+use Rattle.cesr_stream.specs.Begun.{AreRead}
 use Rattle.cesr_stream.proofs.elements.read_elements.Given as goal
 
--- The elements so far are the first bytes, and the others are judged as all are.
-abbrev pub invariant-loop-room : goal.invariant-loop-room
-invariant-loop-room g l = record {
-  few : length l.elements ≤ l.count;
-  within : l.place ≤ length l.bytes;
-  text : take l.place l.bytes ≡ flat_map g.E.Element.text l.elements;
-  rest : shifted l.place (elements_part g.E.Element.judged (l.count - length l.elements) (less l.place l.room) (drop l.place l.bytes)) ≡ elements_part g.E.Element.judged l.count l.room l.bytes;
+-- the elements so far were read, and those left are the others
+abbrev pub invariant-loop-progress : goal.invariant-loop-progress
+invariant-loop-progress g l = record {
+  read : AreRead g.E.Element.judged l.room l.bytes (length l.elements) (flat_map g.E.Element.text l.elements) l.progress;
+  counted : length l.elements + l.progress.left ≡ length l.fn.elements + l.fn.progress.left;
 }
 
-abbrev pub decreases-loop-room : goal.decreases-loop-room
-decreases-loop-room g l = l.count - length l.elements
+abbrev pub decreases-loop-progress : goal.decreases-loop-progress
+decreases-loop-progress g l = l.progress.left
