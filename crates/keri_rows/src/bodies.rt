@@ -2,7 +2,7 @@
 
 use crate::digests::code;
 use crate::row::Row;
-use body_fields::{NoFields, read_fields, write_fields};
+use body_fields::{FieldsFault, read_fields, write_fields};
 use cesr_codes::{Digest, DigestCode, Key, Prefix};
 use event_body::{Event, Inception, ReadBody, Rotation, kind_of, read_body};
 use event_writing::{sealed, write_body};
@@ -22,7 +22,7 @@ pub(crate) fn fields(alloc: Global, row: &Row) -> Result<String, AllocError> {
             let same = written.is_some_and(|written| written.as_slice() == text.as_slice());
             format!(in alloc; "{kind:?} {count} {same}")
         }
-        Err(NoFields::OutOfMemory) => Err(AllocError),
+        Err(FieldsFault::OutOfMemory) => Err(AllocError),
         Err(fault) => format!(in alloc; "{fault:?}"),
     }
 }
