@@ -29,18 +29,26 @@ STARTS = [
 ]
 
 
+def ended(text, answer):
+    """The answer, and where the text is cut short how many bytes are held at its end."""
+    word, _, place = answer.rpartition("@")
+    return answer + " held=%d" % (len(text) - int(place)) if word.endswith("Truncated") else answer
+
+
 def items():
     for behind, answer in STREAMS:
+        text = RECEIPT + behind
         for piece in (1, 7, 4096):
-            yield "items %d %s" % (piece, argument(RECEIPT + behind)), "body:145@0 " + answer
+            yield "items %d %s" % (piece, argument(text)), ended(text, "body:145@0 " + answer)
     for start, answer in STARTS:
         for piece in (1, 4096):
-            yield "items %d %s" % (piece, argument(start)), answer
+            yield "items %d %s" % (piece, argument(start)), ended(start, answer)
     # after a refusal nothing more is read
     yield "items 146 %s" % argument(RECEIPT + "x" + RECEIPT), "body:145@0 NoStart@145"
     # the longest group there can be
     for piece in (4096, 1000000):
         yield "items %d %s&-C__&4095*%s" % (piece, argument(RECEIPT), COUPLE), "body:145@0 C:4095@145 end"
+        yield "items %d %s&-C__&4094*%s&%s" % (piece, argument(RECEIPT), COUPLE, COUPLE[:-1]), "body:145@0 Truncated@145 held=540543"
 
 
 def messages():

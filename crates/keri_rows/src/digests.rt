@@ -1,5 +1,8 @@
 //! Digests.
 
+ghost use Rattle.std.specs.Prelude.{◌<◌, ◌↔◌, IsTrue};
+ghost use Rattle.said_digest.specs.Replaced.{LieIn};
+
 use crate::row::Row;
 use blake3_hash::{Hasher, digest};
 use cesr_codes::{Digest, DigestCode};
@@ -21,6 +24,20 @@ pub(crate) fn spelled(alloc: Global, digest: &Digest) -> Result<String, AllocErr
     String::from_utf8_lossy(alloc, &text)
 }
 
+fn in_pieces(bytes: &[u8], size: usize) -> [u8; 32]
+    requires { 0 < size }
+{
+    let mut hasher = Hasher::new();
+    let mut rest = bytes;
+    'pieces: while rest.len() > size {
+        let (piece, more) = rest.split_at(size);
+        hasher.update(piece);
+        rest = more;
+    }
+    hasher.update(rest);
+    hasher.finish()
+}
+
 /// `blake3 LENGTH PIECE`: the digest of the bytes 0 to 250 and so on again, so many, fed in pieces of so many; in one
 /// call where PIECE is 0.
 pub(crate) fn blake3(alloc: Global, row: &Row) -> Result<String, AllocError> {
@@ -28,25 +45,23 @@ pub(crate) fn blake3(alloc: Global, row: &Row) -> Result<String, AllocError> {
     for place in 0..row.number(1) {
         bytes.push((place % 251) as u8)?;
     }
-    let piece = row.number(2);
-    let found = if piece == 0 {
-        digest(bytes.as_slice())
-    } else {
-        let mut hasher = Hasher::new();
-        let mut fed = 0u64;
-        for part in bytes.chunks(piece as usize) {
-            if fed < 1 << 40 && part.len() < 1 << 40 {
-                fed += part.len() as u64;
-                hasher.update(part);
-            }
-        }
-        hasher.finish()
+    let found = match row.number(2) {
+        0 => digest(bytes.as_slice()),
+        piece => in_pieces(bytes.as_slice(), piece as usize),
     };
     let mut text = String::new(alloc);
     for byte in found {
         text.push_str(format!(in alloc; "{byte:02x}")?.as_str())?;
     }
     Ok(text)
+}
+
+fn lie_in(bytes: &[u8], places: &[u32]) -> bool
+    ensures { IsTrue result ↔ LieIn bytes.now places.now }
+{
+    places
+        .iter()
+        .all(|place| *place as usize + 44 <= bytes.len())
 }
 
 /// `said CODE PLACE,PLACE TEXT`: the digest of the text with `#` at the places, whether it holds there, and whether it
@@ -56,6 +71,9 @@ pub(crate) fn said(alloc: Global, row: &Row) -> Result<String, AllocError> {
     let mut places = Vec::new(alloc);
     for place in row.numbers(alloc, 2)? {
         places.push(u32::from(place))?;
+    }
+    if !lie_in(text.as_slice(), places.as_slice()) {
+        return String::from_str(alloc, "no-place");
     }
     let said = said_of(code(row.word(1)), text.as_slice(), places.as_slice());
     let held = holds(text.as_slice(), places.as_slice(), &said);

@@ -1,5 +1,7 @@
 //! A row: the name of a call and its arguments, with a blank between two of them.
 
+ghost use Rattle.std.specs.Prelude.{◌<◌};
+
 use crate::{backing, bodies, codes, cores, digests, runs, states, streams, trees};
 use std::alloc::{AllocError, Global};
 
@@ -58,14 +60,17 @@ impl<'a> Row<'a> {
 fn unescaped(alloc: Global, text: &str) -> Result<Vec<u8>, AllocError> {
     let mut bytes = Vec::new(alloc);
     let mut rest = text.as_bytes();
-    while let Some((first, behind)) = rest.split_first() {
-        rest = behind;
-        match (first, behind) {
-            (b'%', [high, low, ..]) => {
+    for _ in 0..text.len() {
+        match rest {
+            [] => break,
+            [b'%', high, low, behind @ ..] => {
                 bytes.push(digit(*high) * 16 + digit(*low))?;
-                rest = &behind[2..];
+                rest = behind;
             }
-            _ => bytes.push(*first)?,
+            [first, behind @ ..] => {
+                bytes.push(*first)?;
+                rest = behind;
+            }
         }
     }
     Ok(bytes)
@@ -114,6 +119,7 @@ pub(crate) fn answer(alloc: Global, line: &str) -> Result<String, AllocError> {
         "state" => states::state(alloc, &row),
         "witnesses" => states::witnesses(alloc, &row),
         "exposed" => states::exposed(alloc, &row),
+        "behind" => states::behind(alloc, &row),
         "backers" => backing::backers(alloc, &row),
         "seals" => backing::seals_of(alloc, &row),
         "anchors" => backing::anchored(alloc, &row),

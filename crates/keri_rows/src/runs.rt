@@ -1,4 +1,5 @@
 //! Runs of the program's commands over an outside in memory.
+ghost use Rattle.std.specs.Prelude.{◌<◌, ◌≤◌, IfOk};
 
 use crate::row::Row;
 use keri_outside::{Limits, MemFile, MemHelper, MemOutside, MemSink, VerdictRule};
@@ -32,7 +33,9 @@ fn failing(alloc: Global, row: &Row, name: &str) -> Result<Items<u64>, AllocErro
     }
 }
 
-fn limit(alloc: Global, row: &Row, name: &str, most: u64) -> Result<u64, AllocError> {
+fn limit(alloc: Global, row: &Row, name: &str, most: u64) -> Result<u64, AllocError>
+    ensures { IfOk result (λ limit. limit ≤ most) }
+{
     match option(alloc, row, name)? {
         Some(numbers) => Ok(numbers.first().copied().unwrap_or(most).min(most)),
         None => Ok(most),
@@ -47,7 +50,9 @@ fn limits(alloc: Global, row: &Row) -> Result<Limits, AllocError> {
 }
 
 // An outside with the file `a`, which is given in pieces of so many bytes, and the helper `rehearsal`.
-fn outside(alloc: Global, row: &Row, piece: usize) -> Result<MemOutside, AllocError> {
+fn outside(alloc: Global, row: &Row, piece: usize) -> Result<MemOutside, AllocError>
+    requires { 0 < piece }
+{
     let mut files = Items::new(alloc);
     files.push(MemFile {
         name: Items::from_vec(Vec::from_slice(alloc, b"a")?),
@@ -91,7 +96,9 @@ fn answer(alloc: Global, done: &Done<MemOutside>, outside: &MemOutside) -> Resul
 }
 
 // The answer of a run in which the file is given in pieces of so many bytes.
-fn run_in(alloc: Global, row: &Row, piece: usize) -> Result<String, AllocError> {
+fn run_in(alloc: Global, row: &Row, piece: usize) -> Result<String, AllocError>
+    requires { 0 < piece }
+{
     let mut outside = outside(alloc, row, piece)?;
     let done = run(alloc, &words(alloc, row)?, &mut outside);
     answer(alloc, &done, &outside)

@@ -1,19 +1,37 @@
 //! Key states after events.
+ghost use Rattle.std.specs.Prelude.{IfOk};
+ghost use Rattle.key_state.specs.Kept.{IsKept};
 
+use crate::bodies::event;
 use crate::row::Row;
-use cesr_codes::{IndexedSig, Sig};
-use event_body::{Event, read_body};
-use key_state::{KeyState, StateFault, first};
+use cesr_codes::IndexedSig;
+use event_body::{Event, ReadBody};
+use key_state::{KeyState, StateFault, first, spelled_is_kept};
 use lists::CopyValue;
 use std::alloc::{AllocError, Global};
 use std::fmt::Write;
+
+// The event that the text spells, of which a state can be asked.
+fn kept_event(alloc: Global, text: &[u8]) -> Result<Event, ReadBody>
+    ensures kept { IfOk result IsKept }
+{
+    match event(alloc, text) {
+        Ok(event) => {
+            spelled_is_kept();
+            Ok(event)
+        }
+        Err(fault) => Err(fault),
+    }
+}
 
 // The state after one more event.
 fn moved(
     alloc: Global,
     state: &Option<KeyState>,
     event: &Event,
-) -> Result<KeyState, StateFault> {
+) -> Result<KeyState, StateFault>
+    requires { IsKept event.now }
+{
     match state {
         Some(state) => state.after(alloc, event),
         None => first(alloc, event),
@@ -30,7 +48,7 @@ fn fold(
 ) -> Result<Option<KeyState>, AllocError> {
     let mut state: Option<KeyState> = None;
     for number in from..to {
-        let Ok(event) = read_body(alloc, row.bytes(alloc, number)?.as_slice()) else {
+        let Ok(event) = kept_event(alloc, row.bytes(alloc, number)?.as_slice()) else {
             text.push_str("no-event ")?;
             return Ok(None);
         };
@@ -66,7 +84,7 @@ pub(crate) fn witnesses(alloc: Global, row: &Row) -> Result<String, AllocError> 
     let Some(state) = fold(alloc, row, 1, last, &mut text)? else {
         return Ok(text);
     };
-    if let Ok(event) = read_body(alloc, row.bytes(alloc, last)?.as_slice()) {
+    if let Ok(event) = kept_event(alloc, row.bytes(alloc, last)?.as_slice()) {
         for key in state.list_of(alloc, &event)?.as_slice() {
             let mut spelled = [0; 44];
             key.write(&mut spelled);
@@ -85,9 +103,28 @@ pub(crate) fn exposed(alloc: Global, row: &Row) -> Result<String, AllocError> {
     let Some(state) = fold(alloc, row, 2, last, &mut text)? else {
         return Ok(text);
     };
-    if let (Ok(event), Ok((sig, _))) = (read_body(alloc, row.bytes(alloc, last)?.as_slice()), sig) {
+    if let (Ok(event), Ok((sig, _))) = (kept_event(alloc, row.bytes(alloc, last)?.as_slice()), sig) {
         let places = state.exposed(alloc, &event, &[sig])?;
         write!(text, "{:?}", places.as_slice())?;
+    }
+    Ok(text)
+}
+
+/// `behind PLACE TEXT..`: the rule by which the last event doesn't follow the state behind the live event of this place,
+/// counted from 1, after the others; or `None`.
+pub(crate) fn behind(alloc: Global, row: &Row) -> Result<String, AllocError> {
+    let mut text = String::new(alloc);
+    let last = row.len().saturating_sub(1);
+    let place = row.number(1) as usize;
+    let Some(state) = fold(alloc, row, 2, last, &mut text)? else {
+        return Ok(text);
+    };
+    if place == 0 || place > state.since.len() {
+        return String::from_str(alloc, "no-place");
+    }
+    if let Ok(event) = kept_event(alloc, row.bytes(alloc, last)?.as_slice()) {
+        let misfit = state.misfit_behind(place, &event);
+        write!(text, "{misfit:?}")?;
     }
     Ok(text)
 }

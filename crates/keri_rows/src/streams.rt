@@ -1,9 +1,11 @@
 //! Streams: their items, their messages, and items written.
+ghost use Rattle.std.specs.Prelude.{◌≡◌, ◌+◌, ◌<◌, ◌∷◌, [], length, IfOk, IfSome, OnOk};
+ghost use Rattle.cesr_stream.specs.Groups.{elements_of};
 
 use crate::row::Row;
-use cesr_codes::{Digest, IndexedSig, Key, Moment, Number, Sig};
+use cesr_codes::{Digest, IndexedSig, Key, KeyCode, Moment, Number, Sig};
 use cesr_stream::{
-    AnchorCouple, Assembler, Couple, Group, Item, Message, Reader, Seen, Step, write_item,
+    AnchorCouple, Assembler, Bad, Couple, Group, Item, Message, Reader, Seen, Step, write_item,
 };
 use keri_outside::{Limits, MemSink};
 use lists::Items;
@@ -44,7 +46,9 @@ fn take_items(
     text: &mut String,
     reader: &mut Reader,
     most: usize,
-) -> Result<(), AllocError> {
+) -> Result<(), AllocError>
+    ensures fed { OnOk result (reader.new.place + length reader.new.rest ≡ reader.old.place + length reader.old.rest) }
+{
     for _ in 0..most {
         match reader.next()? {
             Step::Item(item, place) => item_word(text, &item, place)?,
@@ -54,30 +58,53 @@ fn take_items(
     Ok(())
 }
 
-/// `items PIECE TEXT`: the items of the text in pieces of so many bytes, and how it ends.
+// Feeds the bytes in pieces of so many, and takes the items as they come.
+fn feed_pieces(
+    text: &mut String,
+    reader: &mut Reader,
+    bytes: &[u8],
+    size: usize,
+) -> Result<(), AllocError>
+    requires some { 0 < size }
+    requires fresh { reader.old.place + length reader.old.rest ≡ 0 }
+{
+    let mut rest = bytes;
+    'pieces: while rest.len() > size {
+        let (piece, more) = rest.split_at(size);
+        reader.feed(piece)?;
+        take_items(text, reader, bytes.len())?;
+        rest = more;
+    }
+    reader.feed(rest)?;
+    take_items(text, reader, bytes.len())
+}
+
+fn bad_word(text: &mut String, bad: &Bad) -> Result<(), AllocError> {
+    let (place, reason) = (bad.place, bad.reason);
+    write!(text, "{reason:?}@{place}")
+}
+
+/// `items PIECE TEXT`: the items of the text in pieces of so many bytes, and how it ends; where it is cut short, also how
+/// many bytes are held then.
 pub(crate) fn items(alloc: Global, row: &Row) -> Result<String, AllocError> {
     let bytes = row.bytes(alloc, 2)?;
     let mut text = String::new(alloc);
     let mut reader = Reader::new(alloc, Limits::standard());
-    for piece in bytes.chunks((row.number(1) as usize).max(1)) {
-        reader.feed(piece)?;
-        take_items(&mut text, &mut reader, bytes.len())?;
-    }
+    let size = (row.number(1) as usize).max(1);
+    feed_pieces(&mut text, &mut reader, bytes.as_slice(), size)?;
     match reader.next()? {
         Step::Item(item, place) => item_word(&mut text, &item, place)?,
-        Step::Bad(bad) => {
-            let place = bad.place;
-            let reason = bad.reason;
-            write!(text, "{reason:?}@{place}")?;
-        }
-        Step::NeedMore => match reader.end() {
-            Some(bad) => {
-                let place = bad.place;
-                let reason = bad.reason;
-                write!(text, "{reason:?}@{place}")?;
+        Step::Bad(bad) => bad_word(&mut text, &bad)?,
+        Step::NeedMore => {
+            let held = reader.held();
+            match reader.end() {
+                Some(bad) => {
+                    bad_word(&mut text, &bad)?;
+                    write!(text, " held={held}")?;
+                }
+                None => text.push_str("end")?,
             }
-            None => text.push_str("end")?,
-        },
+        }
     }
     Ok(text)
 }
@@ -119,7 +146,9 @@ pub(crate) fn messages(alloc: Global, row: &Row) -> Result<String, AllocError> {
     Ok(text)
 }
 
-fn only<T: Drop>(alloc: Global, value: T) -> Result<Items<T>, AllocError> {
+fn only<T: Drop>(alloc: Global, value: T) -> Result<Items<T>, AllocError>
+    ensures { IfOk result (λ items. items ≡ value ∷ []) }
+{
     let mut items = Items::new(alloc);
     items.push(value)?;
     Ok(items)
@@ -136,7 +165,9 @@ fn pair<A: Drop, B: Drop, E: Drop>(
 }
 
 // The group of the one element that the two texts write.
-fn group(alloc: Global, row: &Row) -> Result<Option<Group>, AllocError> {
+fn group(alloc: Global, row: &Row) -> Result<Option<Group>, AllocError>
+    ensures one { IfOk result (λ found. IfSome found (λ group. elements_of group ≡ 1)) }
+{
     let first = row.bytes(alloc, 2)?;
     let second = row.bytes(alloc, 3)?;
     let (first, second) = (first.as_slice(), second.as_slice());
@@ -168,8 +199,13 @@ fn group(alloc: Global, row: &Row) -> Result<Option<Group>, AllocError> {
     }
 }
 
-fn couple(alloc: Global, key: Key, sig: Sig) -> Result<Option<Group>, AllocError> {
-    Ok(Some(Group::Couples(only(alloc, Couple { key, sig })?)))
+fn couple(alloc: Global, key: Key, sig: Sig) -> Result<Option<Group>, AllocError>
+    ensures one { IfOk result (λ found. IfSome found (λ group. elements_of group ≡ 1)) }
+{
+    match key.code {
+        KeyCode::Fixed => Ok(Some(Group::Couples(only(alloc, Couple { key, sig })?))),
+        KeyCode::Rotating => Ok(None),
+    }
 }
 
 /// `put LETTER TEXT TEXT`: the group of the element that the texts write, put into a sink.
