@@ -59,9 +59,19 @@ STATES += [
 CHANGED = of(LISTED, "rot", bt="3", br=WITNESSES[:1], ba=WITNESSES[4:], k=[key(4)])
 
 
+OTHER_2 = ixn(2, IXN_1, a=[1])
+# The place of a live event of the log, an event, and the rule by which that doesn't follow the state behind that place.
+BEHIND = [
+    (4, ixn(4, IXN_3), "None"), (2, OTHER_2, "None"), (2, ixn(4, IXN_3), "Some(Sn)"), (2, ixn(2, IXN_2), "Some(Prior)"),
+    (1, rot(1, PLAIN_ICP), "None"), (1, ROT_2, "Some(Sn)"), (2, ROT_2, "None"), (1, PLAIN_ICP, "Some(Kind)"),
+]
+
+
 def states():
     for log, answer in STATES:
         yield "state %s" % texts(*log), answer
+    for place, event, answer in BEHIND:
+        yield "behind %d %s" % (place, texts(*LOG, event)), BEGUN + answer
     yield "witnesses %s" % texts(LISTED, CHANGED), "0..0(1) " + " ".join(WITNESSES[1:]) + " "
     yield "witnesses %s" % texts(LISTED, of(LISTED)), "0..0(1) " + " ".join(WITNESSES[:4]) + " "
     for head, places in (("2AAAAC", "[2]"), ("BA", "[]"), ("2AAAAB", "[]"), ("2AABAC", "[]"), ("AA", "[]")):
