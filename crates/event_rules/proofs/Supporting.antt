@@ -1,17 +1,17 @@
 -- The places of good signatures, one after the other.
-use Rattle.std.proofs.Common.{◌≡◌, ℕ, zero, suc, ◌+◌, ◌<◌, Bool, true, false, ◌&&◌, ◌||◌, ◌==◌, ◌≤◌, List, [], ◌∷◌, ◌++◌, refl, sym, ◌∙◌, ap, arith, inl, inr, map, cond, add-one, length, Option, Some, None}
+use Rattle.std.proofs.Common.{◌≡◌, ℕ, zero, suc, ◌+◌, ◌<◌, Bool, true, false, ◌&&◌, ◌||◌, ◌==◌, ◌≤◌, List, [], ◌∷◌, ◌++◌, refl, sym, ◌∙◌, ap, arith, inl, inr, map, cond, length, Option, Some, None}
 use Rattle.std.proofs.lemmas.List.{length-append}
 use Rattle.std.specs.Prelude.{filter}
 use Rattle.std.specs.List.{list_any}
 use Rattle.std.proofs.lemmas.Bool.{cases_Bool, cases_eq}
 use Rattle.std.proofs.Math.Bool.{and-false, and-true, or-false}
 use Rattle.std.proofs.lemmas.List.Folds.{list_any-append}
-use Rattle.std.proofs.lemmas.List.Elements.{filter-append}
 use Rattle.cesr_codes.specs.declared.indexed_sig.IndexedSig.{IndexedSig}
 use Rattle.cesr_codes.specs.declared.key.Key.{Key}
 use Rattle.cesr_codes.specs.declared.sig.Sig.{Sig}
 use Rattle.journal.specs.declared.claim.Claim.{Claim}
 use Rattle.journal.specs.declared.claim.Claim.TheVariants.{Held, Witness, Couple}
+use Rattle.key_state.proofs.Numbers.{filter_below, filter_below-suc}
 use Rattle.key_state.proofs.Same.{number_itself, numbers}
 use Rattle.key_state.specs.Exposure.{Rules, exposed, numbers_below}
 use Rattle.key_state.specs.States.{State}
@@ -43,18 +43,6 @@ pub any_index : (sigs : List IndexedSig) (n : ℕ) → is_among (map (λ s. s.in
 any_index [] n = refl
 any_index (s ∷ sigs) n = let ih = any_index sigs n in rw ih refl
 
--- one more number
-step : (p : ℕ → Bool) (n : ℕ) → filter p (numbers_below (suc n)) ≡ filter p (numbers_below n) ++ cond (p n) (n ∷ []) []
-unfolding numbers_below
-step p n = rw filter-append refl
-
-pub filter_below : (p : ℕ → Bool) (n : ℕ) → filter p (numbers_below (n + 1)) ≡ filter p (numbers_below n) ++ cond (p n) (n ∷ []) []
-filter_below p n = ap (λ k. filter p (numbers_below k)) (add-one n) ∙ step p n
-
-pub none_below : numbers_below 0 ≡ []
-unfolding numbers_below
-none_below = refl
-
 differ : (m n : ℕ) → (m ≡ n → ⊥) → (m == n) ≡ false
 differ m n other = elim (cases_Bool (m == n)) [
   | inl k ↦ absurd (other (numbers m n k))
@@ -70,14 +58,14 @@ none_from : (p : ℕ → Bool) (bound n : ℕ) → bound ≤ n → is_among (fil
 unfolding numbers_below
 none_from p zero n h = refl
 none_from p (suc bound) n h =
-    let more = step p bound in let ih = none_from p bound n (omega (arith, h)) in
+    let more = filter_below-suc p bound in let ih = none_from p bound n (omega (arith, h)) in
     let other : (bound == n) ≡ false = differ bound n (λ e. omega (arith, h, e)) in
     ap (λ xs. is_among xs n) more ∙ among_push (filter p (numbers_below bound)) (p bound) bound n ∙ rw (ih, other) (and-false (p bound))
 
 -- a number below the bound is among those that pass a test exactly where it passes
 pub among_below : (p : ℕ → Bool) (bound n : ℕ) → n < bound → is_among (filter p (numbers_below bound)) n ≡ p n
 among_below p zero n h = absurd (omega (arith, h))
-among_below p (suc bound) n h = ap (λ xs. is_among xs n) (step p bound) ∙ among_push (filter p (numbers_below bound)) (p bound) bound n ∙ elim (cases_eq bound n) [
+among_below p (suc bound) n h = ap (λ xs. is_among xs n) (filter_below-suc p bound) ∙ among_push (filter p (numbers_below bound)) (p bound) bound n ∙ elim (cases_eq bound n) [
   | inl same ↦ (let none = none_from p bound n (omega (arith, same)) in let itself : (bound == n) ≡ true = ap (λ k. bound == k) (sym same) ∙ number_itself bound in
       rw (none, itself) (and-true (p bound) ∙ ap p same))
   | inr other ↦ (let apart : (bound == n) ≡ false = differ bound n other in let ih = among_below p bound n (omega (arith, h, other)) in

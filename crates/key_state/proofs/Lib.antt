@@ -3,4 +3,4 @@ mod Spelled
 pub mod WitnessLists
 pub mod NoMisfit
 pub mod Behind
-mod Numbers
+pub mod Numbers

@@ -2,7 +2,8 @@ use Rattle.std.proofs.Common.{◌≤◌, arith, rules, sym, ◌∙◌, ap, lengt
 use Rattle.std.specs.Option.{option_copied}
 use Rattle.key_state.specs.Exposure.{own_rules}
 use Rattle.event_rules.specs.Places.{is_among}
-use Rattle.event_rules.proofs.Supporting.{more_places, none_below, places_are, push_few}
+use Rattle.key_state.proofs.Numbers.{none_below}
+use Rattle.event_rules.proofs.Supporting.{more_places, places_are, push_few}
 use Rattle.event_rules.proofs.support.is_signed.Goals as goal
 
 pub loop-index-init : goal.loop-index-init

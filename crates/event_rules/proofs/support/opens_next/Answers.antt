@@ -4,7 +4,8 @@ use Rattle.event_rules.specs.Support.{is_held_so}
 use Rattle.std.specs.Prelude.{filter}
 use Rattle.key_state.specs.Exposure.{numbers_below, opens, own_rules}
 use Rattle.sith.specs.Tests.{satisfied}
-use Rattle.event_rules.proofs.Supporting.{any_good, more_places, none_below, push_few}
+use Rattle.key_state.proofs.Numbers.{none_below}
+use Rattle.event_rules.proofs.Supporting.{any_good, more_places, push_few}
 use Rattle.event_rules.proofs.support.opens_next.Goals as goal
 
 pub loop-place-init : goal.loop-place-init
