@@ -18,8 +18,8 @@ pub const LARGEST: usize = 65_535;
 /// The version string has so many, with the opening brace and its name.
 const VERSION: usize = 24;
 
-/// The text of the kind with these values, in the order of the kind's field map, or none where it would have more than
-/// 65,535 bytes. It is a body where each value is of its field's form.
+/// The text of a body of this kind with these values, in the order of the kind's field map, or none where it would have
+/// more than 65,535 bytes. Where each value is of its field's form, the text is a body.
 pub fn write_fields(
     alloc: Global,
     kind: Kind,

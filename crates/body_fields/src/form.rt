@@ -25,7 +25,7 @@ pub enum Form {
     Number,
     Threshold,
     Keys,
-    /// Keys that can't be rotated.
+    /// Non-transferable keys, which can't be rotated.
     FixedKeys,
     Digests,
     Strings,

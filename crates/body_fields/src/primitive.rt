@@ -90,7 +90,7 @@ impl Primitive for Key {
     }
 }
 
-/// A key that can't be rotated.
+/// A non-transferable key, which can't be rotated.
 #[derive(Clone, Copy)]
 pub(crate) struct FixedKey(Key);
 

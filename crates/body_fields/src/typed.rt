@@ -68,7 +68,7 @@ pub fn keys_in(alloc: Global, value: &Tree) -> Result<Items<Key>, AllocError>
     all::<Key>(alloc, members_in(value))
 }
 
-/// The keys in the list, none of which can be rotated.
+/// The keys in the list, which are non-transferable: none can be rotated.
 pub fn fixed_keys_in(alloc: Global, value: &Tree) -> Result<Items<Key>, AllocError>
     requires { IsOfForm Form.FixedKeys value.now }
     ensures value { IfOk result (λ keys. value.now ≡ keys_value keys) }

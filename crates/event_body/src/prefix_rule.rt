@@ -41,7 +41,7 @@ fn is_same(one: Digest, other: Digest) -> bool
 }
 
 // Whether a delegated inception's prefix is its digest.
-fn is_said(event: &Inception) -> bool
+fn has_own_prefix(event: &Inception) -> bool
     ensures { IsTrue result ↔ (event.now.prefix ≡ Prefix.Said event.now.said) }
 {
     match event.prefix {
@@ -56,7 +56,7 @@ pub(crate) fn has_prefix(event: &Event) -> bool
 {
     match event {
         Event::Icp(event) => is_prefix_of(event.prefix, event),
-        Event::Dip(event) => is_said(event),
+        Event::Dip(event) => has_own_prefix(event),
         Event::Rot(_) | Event::Ixn(_) | Event::Drt(_) | Event::Rct(_) => true,
     }
 }
