@@ -9,7 +9,7 @@ use Rattle.cesr_stream.specs.Assembly.{all_of}
 use Rattle.cesr_stream.specs.Front.{front}
 use Rattle.cesr_stream.specs.Items.{Placed, IsEnd, none as no_item}
 use Rattle.cesr_stream.specs.Messages.{messages}
-use Rattle.cesr_stream.specs.Reading.{Reading, rest, judged}
+use Rattle.cesr_stream.specs.Reading.{Reading, judged}
 use Rattle.keri_outside.specs.declared.limits.Limits.{Limits}
 use Rattle.journal.specs.declared.mode.Mode.TheVariants as mode
 use Rattle.journal.specs.Feeds.{AreFirst, AreMessages}
@@ -28,13 +28,13 @@ use Rattle.keri_roles.specs.declared.validating.Validating.{Validating}
 use Rattle.keri_roles.specs.Ends.{is_stopped, ClosesReader, ReadsStream, IsRead, IsReadSoFar}
 use Rattle.keri_roles.specs.Offering.{Offers, HasTaken, HasStopped, IsTurnedAway, Finishes}
 
-module _ (limits : Limits) (reading : Reading) (items : List Placed) (stream : Stream limits reading items) where
-  behind : front limits.body reading.begun (drop reading.place reading.fed) ≡ judged reading
-  behind = ap (λ l. front l reading.begun (rest reading)) (sym stream.limit)
+module _ (limits : Limits) (bytes : List ℕ) (reading : Reading) (items : List Placed) (stream : Stream limits bytes reading items) where
+  behind : front limits.body reading.begun (drop reading.place bytes) ≡ judged reading
+  behind = ap (front limits.body reading.begun) stream.has_fed.behind ∙ ap (λ l. front l reading.begun reading.rest) (sym stream.limit)
 
   -- messages that others may come behind are the first
   first_of : (offered later : List Message) → offered ++ later ≡ messages limits.message_signatures items → (later ≡ [] → IsEnd (judged reading))
-      → AreFirst limits reading.fed offered
+      → AreFirst limits bytes offered
   first_of offered later made whole = record {
     items = items;
     begun = reading.begun;
@@ -46,7 +46,7 @@ module _ (limits : Limits) (reading : Reading) (items : List Placed) (stream : S
   }
 
   -- all messages, where no item is whole behind them
-  all_from : (offered : List Message) → offered ≡ messages limits.message_signatures items → IsEnd (judged reading) → AreMessages limits reading.fed offered
+  all_from : (offered : List Message) → offered ≡ messages limits.message_signatures items → IsEnd (judged reading) → AreMessages limits bytes offered
   all_from offered made ends = record {
     items = items;
     end = judged reading;
@@ -55,7 +55,7 @@ module _ (limits : Limits) (reading : Reading) (items : List Placed) (stream : S
   }
 
 -- no item is whole in the rest
-at_end : (reading : Reading) → rest reading ≡ [] → IsEnd (judged reading)
+at_end : (reading : Reading) → reading.rest ≡ [] → IsEnd (judged reading)
 unfolding front
 at_end reading none = rw none tt
 
@@ -105,27 +105,26 @@ first_none limits = record { items = []; begun = false; place = 0; later = []; s
 module _ {V : Type 0} (says : V → Key → List ℕ → Sig → Option Bool) (verifier_faults : V → ℕ) (limits : Limits) (left_old left_new : Option (List ℕ))
     (faults : ℕ)
     (first new : Validating V) (is_full : first.core.mode ≡ mode.Full) (limits_are : first.core.limits ≡ limits) (unfailed : verifier_faults first.verifier ≡ 0)
-    (reading : Reading) (items : List Placed) (stream : Stream limits reading items) where
+    (bytes : List ℕ) (reading : Reading) (items : List Placed) (stream : Stream limits bytes reading items) where
   -- these messages were offered, and the reader closes so
   read_so : (close : Close) (ms later : List Message) (o : Offers says verifier_faults first new ms)
       → ms ++ later ≡ messages limits.message_signatures items → (later ≡ [] → IsEnd (judged reading))
-      → (is_stopped close ≡ false → later ≡ []) → ClosesReader limits left_old left_new faults (verifier_faults new.verifier) reading
+      → (is_stopped close ≡ false → later ≡ []) → ClosesReader limits left_old left_new faults (verifier_faults new.verifier) bytes reading
       (told_of new.core) ms close
       → (open_of new.core ≡ []) ⊎ Rose 0 (verifier_faults new.verifier) → IsRead says verifier_faults limits left_old left_new faults first.verifier new close
   read_so close ms later o made whole unless closes asked = record {
-    bytes = reading.fed;
+    bytes = bytes;
     reads = record {
       reading = reading;
       items = items;
       stream = stream;
-      bytes_are = refl;
       feeds_are = record {
         offered = o.offered;
-        first = rw o.messages_are (first_of limits reading items stream ms later made whole);
+        first = rw o.messages_are (first_of limits bytes reading items stream ms later made whole);
         bodies_are = o.stands.bodies_are;
         taken = o.stands.taken;
         refused = o.stands.refused_are;
-        all = λ unstopped. rw o.messages_are (all_from limits reading items stream ms
+        all = λ unstopped. rw o.messages_are (all_from limits bytes reading items stream ms
             (sym (append-nil ms) ∙ (ap (λ l. ms ++ l) (sym (unless unstopped)) ∙ made)) (whole (unless unstopped)));
       };
       closes = rw o.messages_are closes;
@@ -141,7 +140,7 @@ module _ {V : Type 0} (says : V → Key → List ℕ → Sig → Option Bool) (v
   -- the reader stopped at the last of these messages
   stopped_so : (close : Close) (ms later : List Message) → HasStopped says verifier_faults first new close ms
       → ms ++ later ≡ messages limits.message_signatures items
-      → (later ≡ [] → (earlier : List Message) (m : Message) → ms ≡ earlier ++ m ∷ [] → IsEnd (judged reading)) → Gave left_old left_new reading.fed
+      → (later ≡ [] → (earlier : List Message) (m : Message) → ms ≡ earlier ++ m ∷ [] → IsEnd (judged reading)) → Gave left_old left_new bytes
       → close ≢ OutOfMemory
       → IsRead says verifier_faults limits left_old left_new faults first.verifier new close
   stopped_so VerifierFault ms later s made whole gave some =
@@ -155,7 +154,7 @@ module _ {V : Type 0} (says : V → Key → List ℕ → Sig → Option Bool) (v
           gave,
           record {
             next = s.last;
-            first = first_of limits reading items stream (s.earlier ++ s.last ∷ []) later (ap (λ l. l ++ later) (sym s.all) ∙ made)
+            first = first_of limits bytes reading items stream (s.earlier ++ s.last ∷ []) later (ap (λ l. l ++ later) (sym s.all) ∙ made)
                 (λ none. whole none s.earlier s.last s.all);
             turned_away = subst (λ l. IsTurnedAway l (told_of new.core) s.last) (s.taken.offers.follows.limits ∙ limits_are) s.turned_away;
           },
@@ -171,8 +170,8 @@ module _ {V : Type 0} (says : V → Key → List ℕ → Sig → Option Bool) (v
   -- the source was read as far as it goes, and the last message was taken too, or the reader stopped there
   ended_so : (own close : Close) (ms : List Message) → (HasTaken says verifier_faults first new ms × (close ≡ own))
       ⊎ HasStopped says verifier_faults first new close ms → ms ≡ messages limits.message_signatures items
-      → IsEnd (judged reading) → Gave left_old left_new reading.fed
-      → (verifier_faults new.verifier ≡ 0 → ClosesReader limits left_old left_new faults (verifier_faults new.verifier) reading (told_of new.core) ms own)
+      → IsEnd (judged reading) → Gave left_old left_new bytes
+      → (verifier_faults new.verifier ≡ 0 → ClosesReader limits left_old left_new faults (verifier_faults new.verifier) bytes reading (told_of new.core) ms own)
       → close ≢ OutOfMemory
       → IsRead says verifier_faults limits left_old left_new faults first.verifier new close
   ended_so own close ms (inl taken) all ends gave closes some =
@@ -184,13 +183,13 @@ module _ {V : Type 0} (says : V → Key → List ℕ → Sig → Option Bool) (v
   -- the same where there was no memory, of bytes of which the items are
   far_so : (ms later : List Message) (o : Offers says verifier_faults first new ms)
       → ms ++ later ≡ messages limits.message_signatures items → (later ≡ [] → IsEnd (judged reading))
-      → (more : List ℕ) → Gave left_old left_new (reading.fed ++ more) → IsReadSoFar says verifier_faults limits left_old left_new first.verifier new
-  far_so ms later o made whole more gave = far_by says verifier_faults limits left_old left_new first new is_full limits_are reading.fed more ms o
-      (first_of limits reading items stream ms later made whole) gave
+      → (more : List ℕ) → Gave left_old left_new (bytes ++ more) → IsReadSoFar says verifier_faults limits left_old left_new first.verifier new
+  far_so ms later o made whole more gave = far_by says verifier_faults limits left_old left_new first new is_full limits_are bytes more ms o
+      (first_of limits bytes reading items stream ms later made whole) gave
 
   run_out : (ms later : List Message) → HasStopped says verifier_faults first new OutOfMemory ms
       → ms ++ later ≡ messages limits.message_signatures items
-      → (later ≡ [] → (earlier : List Message) (m : Message) → ms ≡ earlier ++ m ∷ [] → IsEnd (judged reading)) → Gave left_old left_new reading.fed
+      → (later ≡ [] → (earlier : List Message) (m : Message) → ms ≡ earlier ++ m ∷ [] → IsEnd (judged reading)) → Gave left_old left_new bytes
       → IsReadSoFar says verifier_faults limits left_old left_new first.verifier new
   run_out ms later s made whole gave = elim s.offers [
     | inl all ↦ far_so ms later all made (λ none. whole none s.earlier s.last s.all) [] (rw append-nil gave)
@@ -202,14 +201,14 @@ module _ {V : Type 0} (says : V → Key → List ℕ → Sig → Option Bool) (v
     (faults : ℕ)
     (first middle new : Validating V) (is_full : first.core.mode ≡ mode.Full) (limits_are : first.core.limits ≡ limits)
     (unfailed : verifier_faults first.verifier ≡ 0) where
-  ended_out : (own close : Close) (last : Option Message) (reading : Reading) (items : List Placed) → Stream limits reading items
+  ended_out : (own close : Close) (last : Option Message) (bytes : List ℕ) (reading : Reading) (items : List Placed) → Stream limits bytes reading items
       → (answered : List Message) → (HasTaken says verifier_faults first new (answered ++ all_of last) × (close ≡ own))
       ⊎ HasStopped says verifier_faults first new close (answered ++ all_of last) → answered ++ all_of last ≡ messages limits.message_signatures items
-      → IsEnd (judged reading) → Gave left_old left_new reading.fed → close ≡ OutOfMemory → own ≢ OutOfMemory
+      → IsEnd (judged reading) → Gave left_old left_new bytes → close ≡ OutOfMemory → own ≢ OutOfMemory
       → IsReadSoFar says verifier_faults limits left_old left_new first.verifier new
-  ended_out own close last reading items stream answered (inl taken) all ends gave out some = absurd (some (sym taken.1 ∙ out))
-  ended_out own close last reading items stream answered (inr stopped) all ends gave out some =
-      run_out says verifier_faults limits left_old left_new faults first new is_full limits_are unfailed reading items stream
+  ended_out own close last bytes reading items stream answered (inl taken) all ends gave out some = absurd (some (sym taken.1 ∙ out))
+  ended_out own close last bytes reading items stream answered (inr stopped) all ends gave out some =
+      run_out says verifier_faults limits left_old left_new faults first new is_full limits_are unfailed bytes reading items stream
       (answered ++ all_of last) [] (subst (λ c. HasStopped says verifier_faults first new c (answered ++ all_of last)) out stopped)
       (append-nil (answered ++ all_of last) ∙ all) (λ none earlier m e. ends) gave
 
@@ -219,21 +218,21 @@ module _ {V : Type 0} (says : V → Key → List ℕ → Sig → Option Bool) (v
       → Finishes says verifier_faults own last middle new close
       → close ≢ OutOfMemory → IsRead says verifier_faults limits left_old left_new faults first.verifier new close
   is_read feed.End close last f e some =
-      ended_so says verifier_faults limits left_old left_new faults first new is_full limits_are unfailed f.reading f.items f.stream End close
+      ended_so says verifier_faults limits left_old left_new faults first new is_full limits_are unfailed f.fed f.reading f.items f.stream End close
       (f.answered ++ all_of last) (e first f.answered f.takes) f.all
       (at_end f.reading f.closes.2) f.closes.0 (λ kept. (f.closes, kept)) some
   is_read (feed.Bad bad) close last f e some =
-      ended_so says verifier_faults limits left_old left_new faults first new is_full limits_are unfailed f.reading f.items f.stream (Bad bad) close
+      ended_so says verifier_faults limits left_old left_new faults first new is_full limits_are unfailed f.fed f.reading f.items f.stream (Bad bad) close
       (f.answered ++ all_of last) (e first f.answered f.takes) f.all
       (at_bad left_new f.reading bad f.closes.1) f.closes.0 (λ kept. (f.closes, kept)) some
   is_read feed.ReadFault close last f e some =
-      ended_so says verifier_faults limits left_old left_new faults first new is_full limits_are unfailed f.reading f.items f.stream ReadFault close
+      ended_so says verifier_faults limits left_old left_new faults first new is_full limits_are unfailed f.fed f.reading f.items f.stream ReadFault close
       (f.answered ++ all_of last) (e first f.answered f.takes) f.all
       (rw f.closes.2 tt) f.closes.0 (λ kept. (f.closes, kept)) some
   is_read feed.Full close last f e some =
       subst (λ c. IsRead says verifier_faults limits left_old left_new faults first.verifier new c) (sym e.0)
       (subst (λ v. IsRead says verifier_faults limits left_old left_new faults first.verifier v Full) (sym e.1)
-      (read_so says verifier_faults limits left_old left_new faults first middle is_full limits_are unfailed f.reading f.items f.stream Full
+      (read_so says verifier_faults limits left_old left_new faults first middle is_full limits_are unfailed f.fed f.reading f.items f.stream Full
       f.answered (all_of last) f.takes.offers f.all
       (λ none. rw f.closes.0.unfinished_item tt) (λ e. cc)
       (inl f.closes, f.takes.none_failed ∙ unfailed) (inl f.takes.none_open)))
@@ -241,7 +240,7 @@ module _ {V : Type 0} (says : V → Key → List ℕ → Sig → Option Bool) (v
   is_read (feed.Stopped stop) close last f e some =
       subst (λ c. IsRead says verifier_faults limits left_old left_new faults first.verifier new c) (sym e.0)
       (subst (λ v. IsRead says verifier_faults limits left_old left_new faults first.verifier v stop) (sym e.1)
-      (stopped_so says verifier_faults limits left_old left_new faults first middle is_full limits_are unfailed f.reading f.items f.stream stop
+      (stopped_so says verifier_faults limits left_old left_new faults first middle is_full limits_are unfailed f.fed f.reading f.items f.stream stop
       f.answered (all_of last) f.takes f.all
       (λ none earlier m is. absurd (some_open last f.answered none earlier m is f.begun f.all)) f.closes (λ none. some (e.0 ∙ none))))
 
@@ -250,11 +249,11 @@ module _ {V : Type 0} (says : V → Key → List ℕ → Sig → Option Bool) (v
       → Feeds (HasTaken says verifier_faults first) (HasStopped says verifier_faults first) limits left_old left_new 0 faults middle own last
       → Finishes says verifier_faults own last middle new close
       → close ≡ OutOfMemory → IsReadSoFar says verifier_faults limits left_old left_new first.verifier new
-  is_out feed.End close last f e out = ended_out End close last f.reading f.items f.stream f.answered (e first f.answered f.takes) f.all
+  is_out feed.End close last f e out = ended_out End close last f.fed f.reading f.items f.stream f.answered (e first f.answered f.takes) f.all
       (at_end f.reading f.closes.2) f.closes.0 out (λ h. cc)
-  is_out (feed.Bad bad) close last f e out = ended_out (Bad bad) close last f.reading f.items f.stream f.answered (e first f.answered f.takes) f.all
+  is_out (feed.Bad bad) close last f e out = ended_out (Bad bad) close last f.fed f.reading f.items f.stream f.answered (e first f.answered f.takes) f.all
       (at_bad left_new f.reading bad f.closes.1) f.closes.0 out (λ h. cc)
-  is_out feed.ReadFault close last f e out = ended_out ReadFault close last f.reading f.items f.stream f.answered (e first f.answered f.takes) f.all
+  is_out feed.ReadFault close last f e out = ended_out ReadFault close last f.fed f.reading f.items f.stream f.answered (e first f.answered f.takes) f.all
       (rw f.closes.2 tt) f.closes.0 out (λ h. cc)
   is_out feed.Full close last f e out = let clash : Full ≡ OutOfMemory = sym e.0 ∙ out in cc
   is_out feed.OutOfMemory close last f e out =
@@ -264,15 +263,15 @@ module _ {V : Type 0} (says : V → Key → List ℕ → Sig → Option Bool) (v
           → f.answered ++ all_of last ≡ messages limits.message_signatures f.items
           → IsReadSoFar says verifier_faults limits left_old left_new first.verifier middle
       fed_out (Some message) begun all =
-          far_so says verifier_faults limits left_old left_new faults first middle is_full limits_are unfailed f.reading f.items f.stream
+          far_so says verifier_faults limits left_old left_new faults first middle is_full limits_are unfailed f.fed f.reading f.items f.stream
           f.answered (message ∷ []) f.takes.offers all (λ e. cc) f.closes.0 f.closes.1
       fed_out None begun all =
           let nothing : f.answered ≡ [] = sym (append-nil f.answered) ∙ (all ∙ begun refl) in
-          far_by says verifier_faults limits left_old left_new first middle is_full limits_are [] (f.reading.fed ++ f.closes.0) f.answered f.takes.offers
+          far_by says verifier_faults limits left_old left_new first middle is_full limits_are [] (f.fed ++ f.closes.0) f.answered f.takes.offers
           (rw nothing (first_none limits)) f.closes.1
   is_out (feed.Stopped stop) close last f e out =
       subst (λ v. IsReadSoFar says verifier_faults limits left_old left_new first.verifier v) (sym e.1)
-      (run_out says verifier_faults limits left_old left_new faults first middle is_full limits_are unfailed f.reading f.items f.stream
+      (run_out says verifier_faults limits left_old left_new faults first middle is_full limits_are unfailed f.fed f.reading f.items f.stream
       f.answered (all_of last) (subst (λ c. HasStopped says verifier_faults first middle c f.answered) (sym e.0 ∙ out) f.takes) f.all
       (λ none earlier m is. absurd (some_open last f.answered none earlier m is f.begun f.all)) f.closes)
 
@@ -286,7 +285,7 @@ so_far says verifier_faults limits left_old left_new faults verifier now close r
     record {
       bytes = r.bytes;
       more = given.0;
-      gave = subst (λ b. Gave left_old left_new (b ++ given.0)) (sym r.reads.bytes_are) given.1;
+      gave = given.1;
       feeds_are = record
           { offered = f.offered; first = f.first; bodies_are = f.bodies_are; taken = f.taken; refused = f.refused; all = λ e. cc };
       heard_are = r.heard_are;
@@ -296,12 +295,12 @@ so_far says verifier_faults limits left_old left_new faults verifier now close r
       same_says = r.same_says;
     }
   where
-    exactly : Gave left_old left_new r.reads.reading.fed → (more : List ℕ) × Gave left_old left_new (r.reads.reading.fed ++ more)
+    exactly : Gave left_old left_new r.bytes → (more : List ℕ) × Gave left_old left_new (r.bytes ++ more)
     exactly g = ([], rw append-nil g)
 
     gave : (close : Close) (told : List Told) (offered : List Message)
-        → ClosesReader limits left_old left_new faults (verifier_faults now.verifier) r.reads.reading told offered close
-        → (more : List ℕ) × Gave left_old left_new (r.reads.reading.fed ++ more)
+        → ClosesReader limits left_old left_new faults (verifier_faults now.verifier) r.bytes r.reads.reading told offered close
+        → (more : List ℕ) × Gave left_old left_new (r.bytes ++ more)
     gave End told offered c = exactly c.0.0
     gave (Bad bad) told offered c = exactly c.0.0
     gave ReadFault told offered c = exactly c.0.0

@@ -24,10 +24,11 @@ use Rattle.keri_roles.specs.Writing.{Writes}
 -- A stream was read: what is written are the lines of its messages, and then how reading closed.
 pub record ChecksStream (limits : Limits) (left_old left_new : Option (List ℕ)) (faults : ℕ) (close : Close) (refused : List Refusal)
     (text : List ℕ) : Type 0 where
+  pub bytes : List ℕ
   pub reading : Reading
   pub items : List Placed
-  pub stream : Stream limits reading items
-  pub closes : Closes limits.stream_bytes left_old left_new 0 faults reading close
+  pub stream : Stream limits bytes reading items
+  pub closes : Closes limits.stream_bytes left_old left_new 0 faults bytes reading close
   pub lines : List ℕ
   pub answered : Answered (messages limits.message_signatures items) lines refused
   pub text_is : text ≡ lines ++ ending_text 0 close

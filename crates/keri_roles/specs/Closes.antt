@@ -9,13 +9,13 @@ use Rattle.keri_roles.specs.declared.close.Close.{Close}
 use Rattle.keri_roles.specs.declared.close.Close.TheVariants.{End, Bad, ReadFault, VerifierFault, Full, OutOfMemory}
 
 -- the source closed the reading, by its cause
-abbrev pub Closes : ℕ → Option (List ℕ) → Option (List ℕ) → ℕ → ℕ → Reading → Close → Type 0
-Closes most old new faults_old faults_new reading End = ClosesBy {T = ℕ} most old new faults_old faults_new reading FeedEnd
-Closes most old new faults_old faults_new reading (Bad bad) = ClosesBy {T = ℕ} most old new faults_old faults_new reading (FeedBad bad)
-Closes most old new faults_old faults_new reading ReadFault = ClosesBy {T = ℕ} most old new faults_old faults_new reading FeedReadFault
-Closes most old new faults_old faults_new reading Full = ClosesBy {T = ℕ} most old new faults_old faults_new reading FeedFull
-Closes most old new faults_old faults_new reading VerifierFault = ⊥
-Closes most old new faults_old faults_new reading OutOfMemory = ⊥
+abbrev pub Closes : ℕ → Option (List ℕ) → Option (List ℕ) → ℕ → ℕ → List ℕ → Reading → Close → Type 0
+Closes most old new faults_old faults_new fed reading End = ClosesBy {T = ℕ} most old new faults_old faults_new fed reading FeedEnd
+Closes most old new faults_old faults_new fed reading (Bad bad) = ClosesBy {T = ℕ} most old new faults_old faults_new fed reading (FeedBad bad)
+Closes most old new faults_old faults_new fed reading ReadFault = ClosesBy {T = ℕ} most old new faults_old faults_new fed reading FeedReadFault
+Closes most old new faults_old faults_new fed reading Full = ClosesBy {T = ℕ} most old new faults_old faults_new fed reading FeedFull
+Closes most old new faults_old faults_new fed reading VerifierFault = ⊥
+Closes most old new faults_old faults_new fed reading OutOfMemory = ⊥
 
 -- the line of a reader's close, where it has one
 abbrev pub ending_text : ℕ → Close → List ℕ

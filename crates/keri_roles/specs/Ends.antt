@@ -43,28 +43,27 @@ pub record NextFindsNoRoom (limits : Limits) (bytes : List ℕ) (told : List Tol
 -- Why the reader closed: by its source, by its verifier's fault, or because a limit was reached: of the bytes that are
 -- read, where there were more, or of what is taken, at the next message. Unless the verifier's fault closed it, that one
 -- never failed.
-abbrev pub ClosesReader : Limits → Option (List ℕ) → Option (List ℕ) → ℕ → ℕ → Reading → List Told → List Message → Close → Type 0
-ClosesReader limits old new faults verifier_faults reading told offered End =
-    Closes limits.stream_bytes old new 0 faults reading End × (verifier_faults ≡ 0)
-ClosesReader limits old new faults verifier_faults reading told offered (Bad bad) =
-    Closes limits.stream_bytes old new 0 faults reading (Bad bad) × (verifier_faults ≡ 0)
-ClosesReader limits old new faults verifier_faults reading told offered ReadFault =
-    Closes limits.stream_bytes old new 0 faults reading ReadFault × (verifier_faults ≡ 0)
-ClosesReader limits old new faults verifier_faults reading told offered Full =
-    (Closes limits.stream_bytes old new 0 faults reading Full ⊎ (Gave old new reading.fed × NextFindsNoRoom limits reading.fed told offered))
+abbrev pub ClosesReader : Limits → Option (List ℕ) → Option (List ℕ) → ℕ → ℕ → List ℕ → Reading → List Told → List Message → Close → Type 0
+ClosesReader limits old new faults verifier_faults bytes reading told offered End =
+    Closes limits.stream_bytes old new 0 faults bytes reading End × (verifier_faults ≡ 0)
+ClosesReader limits old new faults verifier_faults bytes reading told offered (Bad bad) =
+    Closes limits.stream_bytes old new 0 faults bytes reading (Bad bad) × (verifier_faults ≡ 0)
+ClosesReader limits old new faults verifier_faults bytes reading told offered ReadFault =
+    Closes limits.stream_bytes old new 0 faults bytes reading ReadFault × (verifier_faults ≡ 0)
+ClosesReader limits old new faults verifier_faults bytes reading told offered Full =
+    (Closes limits.stream_bytes old new 0 faults bytes reading Full ⊎ (Gave old new bytes × NextFindsNoRoom limits bytes told offered))
     × (verifier_faults ≡ 0)
-ClosesReader limits old new faults verifier_faults reading told offered VerifierFault = Gave old new reading.fed × Rose 0 verifier_faults
-ClosesReader limits old new faults verifier_faults reading told offered OutOfMemory = ⊥
+ClosesReader limits old new faults verifier_faults bytes reading told offered VerifierFault = Gave old new bytes × Rose 0 verifier_faults
+ClosesReader limits old new faults verifier_faults bytes reading told offered OutOfMemory = ⊥
 
 -- A stream was read: its first messages were offered, and the reader closed by its cause. All verdicts are its.
 pub record ReadsStream (limits : Limits) (left_old left_new : Option (List ℕ)) (faults : ℕ) (says : Key → List ℕ → Sig → Option Bool) (verifier_faults : ℕ)
     (refused : List Refusal) (close : Close) (told : List Told) (bytes : List ℕ) : Type 0 where
   pub reading : Reading
   pub items : List Placed
-  pub stream : Stream limits reading items
-  pub bytes_are : bytes ≡ reading.fed
+  pub stream : Stream limits bytes reading items
   pub feeds_are : Feeds limits told 0 (end_of bytes says refused close) bytes
-  pub closes : ClosesReader limits left_old left_new faults verifier_faults reading told (map (λ j. j.message) feeds_are.offered) close
+  pub closes : ClosesReader limits left_old left_new faults verifier_faults bytes reading told (map (λ j. j.message) feeds_are.offered) close
 
 module _ {V : Type 0} (says : V → Key → List ℕ → Sig → Option Bool) (verifier_faults : V → ℕ) where
   -- A core of these limits was told a stream's messages and its verifier's verdicts. A question is open only where the
