@@ -5,6 +5,7 @@ ghost use Rattle.key_state.specs.Same as same;
 
 use crate::witness::Witness;
 use cesr_codes::{Key, KeyCode};
+use key_state::has_key;
 use std::alloc::{AllocError, Global};
 use std::marker::Model;
 
@@ -66,12 +67,6 @@ impl Backers {
     {
         count_added(self.witnesses.as_slice()) as u16
     }
-}
-
-fn has_key(keys: &[Key], key: &Key) -> bool
-    ensures { result ≡ same.has_key keys.now key.now }
-{
-    keys.iter().any(|held| held == key)
 }
 
 // Whether the key can't be rotated.

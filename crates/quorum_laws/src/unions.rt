@@ -4,13 +4,7 @@ ghost use Rattle.key_state.specs.Same.{same_key, has_key, distinct};
 ghost use Rattle.quorum_laws.specs.Agreement.{union};
 
 use cesr_codes::Key;
-
-// Whether the key is in the list.
-fn has_key(keys: &[Key], key: &Key) -> bool
-    ensures { result ≡ has_key keys.now key.now }
-{
-    keys.iter().any(|held| held == key)
-}
+use key_state::has_key;
 
 // Whether the key is in neither list.
 fn is_new(known: &[Key], earlier: &[Key], key: &Key) -> bool
