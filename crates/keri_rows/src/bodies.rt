@@ -118,11 +118,7 @@ pub(crate) fn change(alloc: Global, row: &Row) -> Result<String, AllocError> {
     }
 }
 
-fn changed_inception(
-    alloc: Global,
-    row: &Row,
-    event: Inception,
-) -> Result<Inception, AllocError>
+fn changed_inception(alloc: Global, row: &Row, event: Inception) -> Result<Inception, AllocError>
     ensures anchors { IfOk result (λ changed. changed.anchors ≡ event.anchors) }
     ensures traits { IfOk result (λ changed. changed.traits ≡ event.traits) }
     ensures delegator { IfOk result (λ changed. changed.delegator ≡ event.delegator) }

@@ -12,7 +12,10 @@ fn read(
 ) -> Result<String, AllocError> {
     match found {
         Ok((value, length, text)) => {
-            format!(in alloc; "{value} {length} {}", String::from_utf8_lossy(alloc, text)?.as_str())
+            format!(in alloc;
+                "{value} {length} {}",
+                String::from_utf8_lossy(alloc, text)?.as_str()
+            )
         }
         Err(fault) => format!(in alloc; "{fault:?}"),
     }
@@ -145,7 +148,10 @@ pub(crate) fn indexed(alloc: Global, row: &Row) -> Result<String, AllocError> {
             let mut text = [0; 92];
             let count = sig.write(&mut text);
             let value = form(alloc, &sig)?;
-            read(alloc, Ok((value.as_str(), length, text.get(..count).unwrap_or(&[]))))
+            read(
+                alloc,
+                Ok((value.as_str(), length, text.get(..count).unwrap_or(&[]))),
+            )
         }
         Err(fault) => read(alloc, Err(fault)),
     }

@@ -95,7 +95,10 @@ pub(crate) fn core(alloc: Global, row: &Row) -> Result<String, AllocError> {
     };
     trial.take(alloc, bytes.as_slice(), &mut text)?;
     for place in 2..row.len() {
-        let (step, number) = row.word(place).split_once(':').unwrap_or((row.word(place), "0"));
+        let (step, number) = row
+            .word(place)
+            .split_once(':')
+            .unwrap_or((row.word(place), "0"));
         let number = number.parse::<u32>().unwrap_or(0);
         match step {
             "ask" => trial.ask(number, &mut text)?,

@@ -84,7 +84,11 @@ fn words(alloc: Global, row: &Row) -> Result<Vec<String>, AllocError> {
 }
 
 // The status, and the lines that were written, each with a `/` behind it.
-fn answer(alloc: Global, done: &Done<MemOutside>, outside: &MemOutside) -> Result<String, AllocError> {
+fn answer(
+    alloc: Global,
+    done: &Done<MemOutside>,
+    outside: &MemOutside,
+) -> Result<String, AllocError> {
     let status = done.status;
     let written = String::from_utf8_lossy(alloc, outside.sink().bytes())?;
     let mut text = format!(in alloc; "{status} ")?;
@@ -108,7 +112,9 @@ fn run_in(alloc: Global, row: &Row, piece: usize) -> Result<String, AllocError>
 /// `pieces=N` it is so in pieces of each length from 1 to N too.
 pub(crate) fn run_row(alloc: Global, row: &Row) -> Result<String, AllocError> {
     let whole = run_in(alloc, row, 4_096)?;
-    let pieces = option(alloc, row, "pieces")?.and_then(|numbers| numbers.first().copied()).unwrap_or(0);
+    let pieces = option(alloc, row, "pieces")?
+        .and_then(|numbers| numbers.first().copied())
+        .unwrap_or(0);
     for piece in 1..=pieces.min(4_096) {
         let found = run_in(alloc, row, piece as usize)?;
         if found.as_str() != whole.as_str() {

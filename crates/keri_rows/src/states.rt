@@ -25,11 +25,7 @@ fn kept_event(alloc: Global, text: &[u8]) -> Result<Event, ReadBody>
 }
 
 // The state after one more event.
-fn moved(
-    alloc: Global,
-    state: &Option<KeyState>,
-    event: &Event,
-) -> Result<KeyState, StateFault>
+fn moved(alloc: Global, state: &Option<KeyState>, event: &Event) -> Result<KeyState, StateFault>
     requires { IsKept event.now }
 {
     match state {
@@ -103,7 +99,10 @@ pub(crate) fn exposed(alloc: Global, row: &Row) -> Result<String, AllocError> {
     let Some(state) = fold(alloc, row, 2, last, &mut text)? else {
         return Ok(text);
     };
-    if let (Ok(event), Ok((sig, _))) = (kept_event(alloc, row.bytes(alloc, last)?.as_slice()), sig) {
+    if let (Ok(event), Ok((sig, _))) = (
+        kept_event(alloc, row.bytes(alloc, last)?.as_slice()),
+        sig,
+    ) {
         let places = state.exposed(alloc, &event, &[sig])?;
         write!(text, "{:?}", places.as_slice())?;
     }

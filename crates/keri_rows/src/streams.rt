@@ -42,11 +42,7 @@ fn item_word(text: &mut String, item: &Item, place: u64) -> Result<(), AllocErro
 }
 
 // The items that are whole by now.
-fn take_items(
-    text: &mut String,
-    reader: &mut Reader,
-    most: usize,
-) -> Result<(), AllocError>
+fn take_items(text: &mut String, reader: &mut Reader, most: usize) -> Result<(), AllocError>
     ensures fed { OnOk result (reader.new.place + length reader.new.rest ≡ reader.old.place + length reader.old.rest) }
 {
     for _ in 0..most {
