@@ -1,7 +1,7 @@
 //! Witnesses that back an event, seals, and numbers of receipts that bind.
 
 use crate::digests::spelled;
-use crate::row::Row;
+use crate::row::{Row, given};
 use cesr_codes::{Digest, Key, KeyCode, Prefix};
 use event_backing::{Backers, anchors, seals};
 use event_body::{prefix_of, read_body};
@@ -22,7 +22,7 @@ fn keys(alloc: Global, row: &Row, place: usize) -> Result<Vec<Key>, AllocError> 
 
 /// `backers KEY,KEY KEY,KEY`: whether each further key is a member that wasn't added before, and how many were; or
 /// `none`, where no witnesses are listed so.
-pub(crate) fn backers(alloc: Global, row: &Row) -> Result<String, AllocError> {
+fn backers(alloc: Global, row: &Row) -> Result<String, AllocError> {
     let list = keys(alloc, row, 1)?;
     if list.len() > 65_535 {
         return String::from_str(alloc, "too-many");
@@ -41,7 +41,7 @@ pub(crate) fn backers(alloc: Global, row: &Row) -> Result<String, AllocError> {
 }
 
 /// `seals TEXT`: the number and the digest of each event seal of the event.
-pub(crate) fn seals_of(alloc: Global, row: &Row) -> Result<String, AllocError> {
+fn seals_of(alloc: Global, row: &Row) -> Result<String, AllocError> {
     let mut text = String::new(alloc);
     let Ok(event) = read_body(alloc, row.bytes(alloc, 1)?.as_slice()) else {
         return String::from_str(alloc, "no-event");
@@ -55,7 +55,7 @@ pub(crate) fn seals_of(alloc: Global, row: &Row) -> Result<String, AllocError> {
 }
 
 /// `anchors PREFIX NUMBER DIGEST TEXT`: whether the event holds this seal.
-pub(crate) fn anchored(alloc: Global, row: &Row) -> Result<String, AllocError> {
+fn anchored(alloc: Global, row: &Row) -> Result<String, AllocError> {
     let prefix = Prefix::read(row.bytes(alloc, 1)?.as_slice());
     let said = Digest::read(row.bytes(alloc, 3)?.as_slice());
     let event = read_body(alloc, row.bytes(alloc, 4)?.as_slice());
@@ -82,7 +82,7 @@ fn listed(alloc: Global, numbers: &[u16]) -> Result<Vec<Key>, AllocError> {
 
 /// `binds WITNESSES RECEIPTS WITNESSES RECEIPTS FAULTY`: how many different witnesses there are, and whether so many
 /// receipts bind both to one event.
-pub(crate) fn bound(alloc: Global, row: &Row) -> Result<String, AllocError> {
+fn bound(alloc: Global, row: &Row) -> Result<String, AllocError> {
     let first = listed(alloc, row.numbers(alloc, 1)?.as_slice())?;
     let second = listed(alloc, row.numbers(alloc, 3)?.as_slice())?;
     let (first, second) = (first.as_slice(), second.as_slice());
@@ -90,4 +90,22 @@ pub(crate) fn bound(alloc: Global, row: &Row) -> Result<String, AllocError> {
     let union = union_size(first, second);
     let bound = binds(first, one, second, other, row.number(5).min(64));
     format!(in alloc; "{union} {bound}")
+}
+
+/// The answer of the row, where it is one of these calls.
+pub(crate) fn answer(alloc: Global, row: &Row) -> Result<Option<String>, AllocError> {
+    let name = row.word(0);
+    if name == "backers" {
+        return given(backers(alloc, row));
+    }
+    if name == "seals" {
+        return given(seals_of(alloc, row));
+    }
+    if name == "anchors" {
+        return given(anchored(alloc, row));
+    }
+    if name == "binds" {
+        return given(bound(alloc, row));
+    }
+    Ok(None)
 }

@@ -7,7 +7,7 @@ ghost use Rattle.event_body.specs.Judging.{IsSpelled};
 ghost use Rattle.event_writing.specs.Writable.{IsWritable};
 
 use crate::digests::code;
-use crate::row::Row;
+use crate::row::{Row, given};
 use body_fields::{FieldsFault, read_fields, write_fields};
 use cesr_codes::{Digest, DigestCode, Key, Prefix};
 use event_body::{Event, Inception, ReadBody, Rotation, kind_of, read_body};
@@ -53,7 +53,7 @@ fn are_json(values: &[Tree]) -> bool
 
 /// `fields TEXT`: the kind, how many values its fields have, and whether they are written as they were read; or the
 /// fault.
-pub(crate) fn fields(alloc: Global, row: &Row) -> Result<String, AllocError> {
+fn fields(alloc: Global, row: &Row) -> Result<String, AllocError> {
     let text = row.bytes(alloc, 1)?;
     match read_fields(alloc, text.as_slice()) {
         Ok(fields) => {
@@ -73,7 +73,7 @@ pub(crate) fn fields(alloc: Global, row: &Row) -> Result<String, AllocError> {
 }
 
 /// `body TEXT`: the kind of the event, and whether a copy of it is written as it was read; or the fault.
-pub(crate) fn body(alloc: Global, row: &Row) -> Result<String, AllocError> {
+fn body(alloc: Global, row: &Row) -> Result<String, AllocError> {
     let text = row.bytes(alloc, 1)?;
     match writable_event(alloc, text.as_slice()) {
         Ok(event) => {
@@ -90,7 +90,7 @@ pub(crate) fn body(alloc: Global, row: &Row) -> Result<String, AllocError> {
 }
 
 /// `seal CODE TEXT`: the body of the event of the text, sealed under the code; or the fault.
-pub(crate) fn seal(alloc: Global, row: &Row) -> Result<String, AllocError> {
+fn seal(alloc: Global, row: &Row) -> Result<String, AllocError> {
     match writable_event(alloc, row.bytes(alloc, 2)?.as_slice()) {
         Ok(event) => match sealed(alloc, &event, code(row.word(1))) {
             Ok(event) => {
@@ -104,7 +104,7 @@ pub(crate) fn seal(alloc: Global, row: &Row) -> Result<String, AllocError> {
 }
 
 /// `change FIELD VALUE TEXT`: the body of the event of the text with a field changed, or the fault.
-pub(crate) fn change(alloc: Global, row: &Row) -> Result<String, AllocError> {
+fn change(alloc: Global, row: &Row) -> Result<String, AllocError> {
     match writable_event(alloc, row.bytes(alloc, 3)?.as_slice()) {
         Ok(Event::Icp(event)) => {
             written(alloc, &Event::Icp(changed_inception(alloc, row, event)?))
@@ -124,19 +124,43 @@ fn changed_inception(alloc: Global, row: &Row, event: Inception) -> Result<Incep
     ensures delegator { IfOk result (λ changed. changed.delegator ≡ event.delegator) }
 {
     let mut event = event;
-    let first = event.keys.as_slice().first().copied();
-    let number = row.number(2);
-    match (row.word(1), first) {
-        ("d", _) => {
-            event.said = blank();
-            event.prefix = Prefix::Said(blank());
-        }
-        ("kt", _) => event.kt = Threshold::Count(number),
-        ("bt", _) => event.toad = number,
-        ("i", Some(key)) => event.prefix = Prefix::Basic(key),
-        ("k", Some(key)) => event.keys = copies(alloc, key, number)?,
-        ("b", Some(key)) => event.list = copies(alloc, key, number)?,
-        _ => {}
+    let field = row.word(1);
+    if field == "d" {
+        event.said = blank();
+        event.prefix = Prefix::Said(blank());
+    }
+    if field == "kt" {
+        event.kt = Threshold::Count(row.number(2));
+    }
+    if field == "bt" {
+        event.toad = row.number(2);
+    }
+    match event.keys.as_slice().first().copied() {
+        Some(key) => changed_keys(alloc, row, event, key),
+        None => Ok(event),
+    }
+}
+
+fn changed_keys(
+    alloc: Global,
+    row: &Row,
+    event: Inception,
+    key: Key,
+) -> Result<Inception, AllocError>
+    ensures anchors { IfOk result (λ changed. changed.anchors ≡ event.anchors) }
+    ensures traits { IfOk result (λ changed. changed.traits ≡ event.traits) }
+    ensures delegator { IfOk result (λ changed. changed.delegator ≡ event.delegator) }
+{
+    let mut event = event;
+    let field = row.word(1);
+    if field == "i" {
+        event.prefix = Prefix::Basic(key);
+    }
+    if field == "k" {
+        event.keys = copies(alloc, key, row.number(2))?;
+    }
+    if field == "b" {
+        event.list = copies(alloc, key, row.number(2))?;
     }
     Ok(event)
 }
@@ -181,4 +205,22 @@ fn refused(alloc: Global, fault: ReadBody) -> Result<String, AllocError> {
         ReadBody::Fault(fault) => format!(in alloc; "{fault:?}"),
         ReadBody::OutOfMemory => Err(AllocError),
     }
+}
+
+/// The answer of the row, where it is one of these calls.
+pub(crate) fn answer(alloc: Global, row: &Row) -> Result<Option<String>, AllocError> {
+    let name = row.word(0);
+    if name == "fields" {
+        return given(fields(alloc, row));
+    }
+    if name == "body" {
+        return given(body(alloc, row));
+    }
+    if name == "seal" {
+        return given(seal(alloc, row));
+    }
+    if name == "change" {
+        return given(change(alloc, row));
+    }
+    Ok(None)
 }

@@ -1,6 +1,6 @@
 //! Primitives: what is read of a text, and how it is written again.
 
-use crate::row::Row;
+use crate::row::{Row, given};
 use cesr_codes::{CodeFault, Digest, IndexedSig, Key, Moment, Number, Prefix, Sig};
 use std::alloc::{AllocError, Global};
 use std::fmt::Debug;
@@ -35,7 +35,7 @@ fn coded<C: Debug>(alloc: Global, code: &C, raw: &[u8]) -> Result<String, AllocE
 }
 
 /// `key TEXT`
-pub(crate) fn key(alloc: Global, row: &Row) -> Result<String, AllocError> {
+fn key(alloc: Global, row: &Row) -> Result<String, AllocError> {
     match Key::read(row.bytes(alloc, 1)?.as_slice()) {
         Ok((key, length)) => {
             let mut text = [0; 44];
@@ -48,7 +48,7 @@ pub(crate) fn key(alloc: Global, row: &Row) -> Result<String, AllocError> {
 }
 
 /// `digest TEXT`
-pub(crate) fn digest(alloc: Global, row: &Row) -> Result<String, AllocError> {
+fn digest(alloc: Global, row: &Row) -> Result<String, AllocError> {
     match Digest::read(row.bytes(alloc, 1)?.as_slice()) {
         Ok((digest, length)) => {
             let mut text = [0; 44];
@@ -61,7 +61,7 @@ pub(crate) fn digest(alloc: Global, row: &Row) -> Result<String, AllocError> {
 }
 
 /// `prefix TEXT`
-pub(crate) fn prefix(alloc: Global, row: &Row) -> Result<String, AllocError> {
+fn prefix(alloc: Global, row: &Row) -> Result<String, AllocError> {
     match Prefix::read(row.bytes(alloc, 1)?.as_slice()) {
         Ok((prefix, length)) => {
             let mut text = [0; 44];
@@ -77,7 +77,7 @@ pub(crate) fn prefix(alloc: Global, row: &Row) -> Result<String, AllocError> {
 }
 
 /// `sig TEXT`
-pub(crate) fn sig(alloc: Global, row: &Row) -> Result<String, AllocError> {
+fn sig(alloc: Global, row: &Row) -> Result<String, AllocError> {
     match Sig::read(row.bytes(alloc, 1)?.as_slice()) {
         Ok((sig, length)) => {
             let mut text = [0; 88];
@@ -89,7 +89,7 @@ pub(crate) fn sig(alloc: Global, row: &Row) -> Result<String, AllocError> {
 }
 
 /// `number TEXT`
-pub(crate) fn number(alloc: Global, row: &Row) -> Result<String, AllocError> {
+fn number(alloc: Global, row: &Row) -> Result<String, AllocError> {
     match Number::read(row.bytes(alloc, 1)?.as_slice()) {
         Ok((number, length)) => {
             let mut text = [0; 24];
@@ -103,7 +103,7 @@ pub(crate) fn number(alloc: Global, row: &Row) -> Result<String, AllocError> {
 }
 
 /// `moment TEXT`
-pub(crate) fn moment(alloc: Global, row: &Row) -> Result<String, AllocError> {
+fn moment(alloc: Global, row: &Row) -> Result<String, AllocError> {
     match Moment::read(row.bytes(alloc, 1)?.as_slice()) {
         Ok((moment, length)) => {
             let mut text = [0; 36];
@@ -116,7 +116,7 @@ pub(crate) fn moment(alloc: Global, row: &Row) -> Result<String, AllocError> {
 }
 
 /// `new-moment TEXT`: how the date-time is written, or `none`.
-pub(crate) fn new_moment(alloc: Global, row: &Row) -> Result<String, AllocError> {
+fn new_moment(alloc: Global, row: &Row) -> Result<String, AllocError> {
     let bytes = row.bytes(alloc, 1)?;
     let made = match bytes.first_chunk::<32>() {
         Some(text) => Moment::new(*text),
@@ -142,7 +142,7 @@ fn form(alloc: Global, sig: &IndexedSig) -> Result<String, AllocError> {
 }
 
 /// `indexed TEXT`
-pub(crate) fn indexed(alloc: Global, row: &Row) -> Result<String, AllocError> {
+fn indexed(alloc: Global, row: &Row) -> Result<String, AllocError> {
     match IndexedSig::read(row.bytes(alloc, 1)?.as_slice()) {
         Ok((sig, length)) => {
             let mut text = [0; 92];
@@ -158,7 +158,7 @@ pub(crate) fn indexed(alloc: Global, row: &Row) -> Result<String, AllocError> {
 }
 
 /// `new-indexed SIZE INDEX ONDEX`, with `none` in the place of a number that isn't there: its form, or `none`.
-pub(crate) fn new_indexed(alloc: Global, row: &Row) -> Result<String, AllocError> {
+fn new_indexed(alloc: Global, row: &Row) -> Result<String, AllocError> {
     let index = row.number(2).min(65_535) as u16;
     let ondex = match row.word(3) {
         "none" => None,
@@ -168,4 +168,37 @@ pub(crate) fn new_indexed(alloc: Global, row: &Row) -> Result<String, AllocError
         Some(sig) => form(alloc, &sig),
         None => String::from_str(alloc, "none"),
     }
+}
+
+/// The answer of the row, where it is one of these calls.
+pub(crate) fn answer(alloc: Global, row: &Row) -> Result<Option<String>, AllocError> {
+    let name = row.word(0);
+    if name == "key" {
+        return given(key(alloc, row));
+    }
+    if name == "digest" {
+        return given(digest(alloc, row));
+    }
+    if name == "prefix" {
+        return given(prefix(alloc, row));
+    }
+    if name == "sig" {
+        return given(sig(alloc, row));
+    }
+    if name == "number" {
+        return given(number(alloc, row));
+    }
+    if name == "moment" {
+        return given(moment(alloc, row));
+    }
+    if name == "new-moment" {
+        return given(new_moment(alloc, row));
+    }
+    if name == "indexed" {
+        return given(indexed(alloc, row));
+    }
+    if name == "new-indexed" {
+        return given(new_indexed(alloc, row));
+    }
+    Ok(None)
 }

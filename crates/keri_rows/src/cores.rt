@@ -1,6 +1,6 @@
 //! A validator's core, call by call.
 
-use crate::row::Row;
+use crate::row::{Row, given};
 use cesr_stream::{Assembler, Message, Reader, Step};
 use journal::{Mode, Question};
 use keri_outside::{Limits, Steps};
@@ -76,6 +76,20 @@ impl Trial {
         }
     }
 
+    fn step(&mut self, step: &str, number: u32, text: &mut String) -> Result<(), AllocError> {
+        if step == "ask" {
+            return self.ask(number, text);
+        }
+        if step == "forge" {
+            self.forge();
+            return Ok(());
+        }
+        if step == "tell" {
+            return self.tell(number, text);
+        }
+        self.answer(step == "yes", text)
+    }
+
     fn tell(&self, body: u32, text: &mut String) -> Result<(), AllocError> {
         let accepted = self.core.accepted();
         let why = self.core.why_waits(body);
@@ -85,7 +99,7 @@ impl Trial {
 
 /// `core STREAM STEP..`: takes the messages of the stream, and makes the steps: `ask:N`, `yes`, `no`, `forge`, `again`
 /// (the stream), `tell:BODY`.
-pub(crate) fn core(alloc: Global, row: &Row) -> Result<String, AllocError> {
+fn core(alloc: Global, row: &Row) -> Result<String, AllocError> {
     let bytes = row.bytes(alloc, 1)?;
     let mut text = String::new(alloc);
     let mut trial = Trial {
@@ -100,20 +114,17 @@ pub(crate) fn core(alloc: Global, row: &Row) -> Result<String, AllocError> {
             .split_once(':')
             .unwrap_or((row.word(place), "0"));
         let number = number.parse::<u32>().unwrap_or(0);
-        match step {
-            "ask" => trial.ask(number, &mut text)?,
-            "yes" => trial.answer(true, &mut text)?,
-            "no" => trial.answer(false, &mut text)?,
-            "forge" => trial.forge(),
-            "again" => trial.take(alloc, bytes.as_slice(), &mut text)?,
-            _ => trial.tell(number, &mut text)?,
+        if step == "again" {
+            trial.take(alloc, bytes.as_slice(), &mut text)?;
+        } else {
+            trial.step(step, number, &mut text)?;
         }
     }
     Ok(text)
 }
 
 /// `rehearse KEY TEXT`: the rehearsal's signature of the key on the text.
-pub(crate) fn rehearsed(alloc: Global, row: &Row) -> Result<String, AllocError> {
+fn rehearsed(alloc: Global, row: &Row) -> Result<String, AllocError> {
     match cesr_codes::Key::read(row.word(1).as_bytes()) {
         Ok((key, _)) => {
             let mut text = [0; 88];
@@ -122,4 +133,16 @@ pub(crate) fn rehearsed(alloc: Global, row: &Row) -> Result<String, AllocError> 
         }
         Err(fault) => format!(in alloc; "{fault:?}"),
     }
+}
+
+/// The answer of the row, where it is one of these calls.
+pub(crate) fn answer(alloc: Global, row: &Row) -> Result<Option<String>, AllocError> {
+    let name = row.word(0);
+    if name == "core" {
+        return given(core(alloc, row));
+    }
+    if name == "rehearse" {
+        return given(rehearsed(alloc, row));
+    }
+    Ok(None)
 }

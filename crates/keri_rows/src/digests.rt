@@ -3,7 +3,7 @@
 ghost use Rattle.std.specs.Prelude.{◌<◌, ◌↔◌, IsTrue};
 ghost use Rattle.said_digest.specs.Replaced.{LieIn};
 
-use crate::row::Row;
+use crate::row::{Row, given};
 use blake3_hash::{Hasher, digest};
 use cesr_codes::{Digest, DigestCode};
 use said_digest::{digest_of, holds, said_of};
@@ -40,7 +40,7 @@ fn in_pieces(bytes: &[u8], size: usize) -> [u8; 32]
 
 /// `blake3 LENGTH PIECE`: the digest of the bytes 0 to 250 and so on again, so many, fed in pieces of so many; in one
 /// call where PIECE is 0.
-pub(crate) fn blake3(alloc: Global, row: &Row) -> Result<String, AllocError> {
+fn blake3(alloc: Global, row: &Row) -> Result<String, AllocError> {
     let mut bytes = Vec::new(alloc);
     for place in 0..row.number(1) {
         bytes.push((place % 251) as u8)?;
@@ -66,7 +66,7 @@ fn lie_in(bytes: &[u8], places: &[u32]) -> bool
 
 /// `said CODE PLACE,PLACE TEXT`: the digest of the text with `#` at the places, whether it holds there, and whether it
 /// does with nothing replaced.
-pub(crate) fn said(alloc: Global, row: &Row) -> Result<String, AllocError> {
+fn said(alloc: Global, row: &Row) -> Result<String, AllocError> {
     let text = row.bytes(alloc, 3)?;
     let mut places = Vec::new(alloc);
     for place in row.numbers(alloc, 2)? {
@@ -80,4 +80,16 @@ pub(crate) fn said(alloc: Global, row: &Row) -> Result<String, AllocError> {
     let plain = digest_of(code(row.word(1)), text.as_slice()) == said;
     let said = spelled(alloc, &said)?;
     format!(in alloc; "{said} {held} {plain}")
+}
+
+/// The answer of the row, where it is one of these calls.
+pub(crate) fn answer(alloc: Global, row: &Row) -> Result<Option<String>, AllocError> {
+    let name = row.word(0);
+    if name == "blake3" {
+        return given(blake3(alloc, row));
+    }
+    if name == "said" {
+        return given(said(alloc, row));
+    }
+    Ok(None)
 }

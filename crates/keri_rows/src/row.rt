@@ -86,48 +86,51 @@ fn digit(symbol: u8) -> u8
     }
 }
 
+/// What a call gives, where it is one of these.
+pub(crate) fn given(answer: Result<String, AllocError>) -> Result<Option<String>, AllocError> {
+    match answer {
+        Ok(answer) => Ok(Some(answer)),
+        Err(error) => Err(error),
+    }
+}
+
+// The answer of the first part of the library that has the call.
+fn called(alloc: Global, row: &Row) -> Result<Option<String>, AllocError> {
+    if let Some(answer) = codes::answer(alloc, row)? {
+        return Ok(Some(answer));
+    }
+    if let Some(answer) = trees::answer(alloc, row)? {
+        return Ok(Some(answer));
+    }
+    if let Some(answer) = digests::answer(alloc, row)? {
+        return Ok(Some(answer));
+    }
+    if let Some(answer) = bodies::answer(alloc, row)? {
+        return Ok(Some(answer));
+    }
+    if let Some(answer) = streams::answer(alloc, row)? {
+        return Ok(Some(answer));
+    }
+    if let Some(answer) = states::answer(alloc, row)? {
+        return Ok(Some(answer));
+    }
+    if let Some(answer) = backing::answer(alloc, row)? {
+        return Ok(Some(answer));
+    }
+    if let Some(answer) = cores::answer(alloc, row)? {
+        return Ok(Some(answer));
+    }
+    runs::answer(alloc, row)
+}
+
 /// What the line is answered by.
 pub(crate) fn answer(alloc: Global, line: &str) -> Result<String, AllocError> {
     let mut words = Vec::new(alloc);
     for word in line.split(' ') {
         words.push(word)?;
     }
-    let row = Row { words };
-    match row.word(0) {
-        "key" => codes::key(alloc, &row),
-        "digest" => codes::digest(alloc, &row),
-        "prefix" => codes::prefix(alloc, &row),
-        "sig" => codes::sig(alloc, &row),
-        "number" => codes::number(alloc, &row),
-        "moment" => codes::moment(alloc, &row),
-        "new-moment" => codes::new_moment(alloc, &row),
-        "indexed" => codes::indexed(alloc, &row),
-        "new-indexed" => codes::new_indexed(alloc, &row),
-        "tree" => trees::tree(alloc, &row),
-        "json" => trees::json(alloc, &row),
-        "threshold" => trees::threshold(alloc, &row),
-        "met" => trees::met(alloc, &row),
-        "blake3" => digests::blake3(alloc, &row),
-        "said" => digests::said(alloc, &row),
-        "fields" => bodies::fields(alloc, &row),
-        "body" => bodies::body(alloc, &row),
-        "seal" => bodies::seal(alloc, &row),
-        "change" => bodies::change(alloc, &row),
-        "items" => streams::items(alloc, &row),
-        "messages" => streams::messages(alloc, &row),
-        "put" => streams::put(alloc, &row),
-        "state" => states::state(alloc, &row),
-        "witnesses" => states::witnesses(alloc, &row),
-        "exposed" => states::exposed(alloc, &row),
-        "behind" => states::behind(alloc, &row),
-        "backers" => backing::backers(alloc, &row),
-        "seals" => backing::seals_of(alloc, &row),
-        "anchors" => backing::anchored(alloc, &row),
-        "binds" => backing::bound(alloc, &row),
-        "run" => runs::run_row(alloc, &row),
-        "done" => runs::done_row(alloc, &row),
-        "core" => cores::core(alloc, &row),
-        "rehearse" => cores::rehearsed(alloc, &row),
-        _ => String::from_str(alloc, line),
+    match called(alloc, &Row { words })? {
+        Some(answer) => Ok(answer),
+        None => String::from_str(alloc, line),
     }
 }

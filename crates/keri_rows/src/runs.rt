@@ -1,7 +1,7 @@
 //! Runs of the program's commands over an outside in memory.
 ghost use Rattle.std.specs.Prelude.{◌<◌, ◌≤◌, IfOk};
 
-use crate::row::Row;
+use crate::row::{Row, given};
 use keri_outside::{Limits, MemFile, MemHelper, MemOutside, MemSink, VerdictRule};
 use keri_roles::{Done, run};
 use lists::Items;
@@ -84,7 +84,7 @@ fn words(alloc: Global, row: &Row) -> Result<Vec<String>, AllocError> {
 }
 
 // The status, and the lines that were written, each with a `/` behind it.
-fn answer(
+fn outcome(
     alloc: Global,
     done: &Done<MemOutside>,
     outside: &MemOutside,
@@ -105,12 +105,12 @@ fn run_in(alloc: Global, row: &Row, piece: usize) -> Result<String, AllocError>
 {
     let mut outside = outside(alloc, row, piece)?;
     let done = run(alloc, &words(alloc, row)?, &mut outside);
-    answer(alloc, &done, &outside)
+    outcome(alloc, &done, &outside)
 }
 
 /// `run WORD,WORD TEXT OPTION..`: the status of the run on a file `a` of this text, and what it writes. With the option
 /// `pieces=N` it is so in pieces of each length from 1 to N too.
-pub(crate) fn run_row(alloc: Global, row: &Row) -> Result<String, AllocError> {
+fn run_row(alloc: Global, row: &Row) -> Result<String, AllocError> {
     let whole = run_in(alloc, row, 4_096)?;
     let pieces = option(alloc, row, "pieces")?
         .and_then(|numbers| numbers.first().copied())
@@ -125,7 +125,7 @@ pub(crate) fn run_row(alloc: Global, row: &Row) -> Result<String, AllocError> {
 }
 
 /// `done WORD,WORD TEXT OPTION..`: what the run hands back of its readers, journal and makings.
-pub(crate) fn done_row(alloc: Global, row: &Row) -> Result<String, AllocError> {
+fn done_row(alloc: Global, row: &Row) -> Result<String, AllocError> {
     let mut outside = outside(alloc, row, 4_096)?;
     let done = run(alloc, &words(alloc, row)?, &mut outside);
     let mut text = String::new(alloc);
@@ -144,4 +144,16 @@ pub(crate) fn done_row(alloc: Global, row: &Row) -> Result<String, AllocError> {
         write!(text, " {kind:?}:{failed}")?;
     }
     Ok(text)
+}
+
+/// The answer of the row, where it is one of these calls.
+pub(crate) fn answer(alloc: Global, row: &Row) -> Result<Option<String>, AllocError> {
+    let name = row.word(0);
+    if name == "run" {
+        return given(run_row(alloc, row));
+    }
+    if name == "done" {
+        return given(done_row(alloc, row));
+    }
+    Ok(None)
 }

@@ -3,7 +3,7 @@ ghost use Rattle.std.specs.Prelude.{IfOk};
 ghost use Rattle.key_state.specs.Kept.{IsKept};
 
 use crate::bodies::event;
-use crate::row::Row;
+use crate::row::{Row, given};
 use cesr_codes::IndexedSig;
 use event_body::{Event, ReadBody};
 use key_state::{KeyState, StateFault, first, spelled_is_kept};
@@ -67,14 +67,14 @@ fn fold(
 
 /// `state TEXT..`: after each event the numbers of the last establishment event and of the last event, and how many
 /// digests are kept; or the rule that the event breaks, with which the row ends.
-pub(crate) fn state(alloc: Global, row: &Row) -> Result<String, AllocError> {
+fn state(alloc: Global, row: &Row) -> Result<String, AllocError> {
     let mut text = String::new(alloc);
     let _ = fold(alloc, row, 1, row.len(), &mut text)?;
     Ok(text)
 }
 
 /// `witnesses TEXT..`: the own list of the last event, after the others.
-pub(crate) fn witnesses(alloc: Global, row: &Row) -> Result<String, AllocError> {
+fn witnesses(alloc: Global, row: &Row) -> Result<String, AllocError> {
     let mut text = String::new(alloc);
     let last = row.len().saturating_sub(1);
     let Some(state) = fold(alloc, row, 1, last, &mut text)? else {
@@ -92,7 +92,7 @@ pub(crate) fn witnesses(alloc: Global, row: &Row) -> Result<String, AllocError> 
 }
 
 /// `exposed SIGNATURE TEXT..`: the places that the indexed signature exposes at the last event, after the others.
-pub(crate) fn exposed(alloc: Global, row: &Row) -> Result<String, AllocError> {
+fn exposed(alloc: Global, row: &Row) -> Result<String, AllocError> {
     let mut text = String::new(alloc);
     let last = row.len().saturating_sub(1);
     let sig = IndexedSig::read(row.bytes(alloc, 1)?.as_slice());
@@ -111,7 +111,7 @@ pub(crate) fn exposed(alloc: Global, row: &Row) -> Result<String, AllocError> {
 
 /// `behind PLACE TEXT..`: the rule by which the last event doesn't follow the state behind the live event of this place,
 /// counted from 1, after the others; or `None`.
-pub(crate) fn behind(alloc: Global, row: &Row) -> Result<String, AllocError> {
+fn behind(alloc: Global, row: &Row) -> Result<String, AllocError> {
     let mut text = String::new(alloc);
     let last = row.len().saturating_sub(1);
     let place = row.number(1) as usize;
@@ -126,4 +126,22 @@ pub(crate) fn behind(alloc: Global, row: &Row) -> Result<String, AllocError> {
         write!(text, "{misfit:?}")?;
     }
     Ok(text)
+}
+
+/// The answer of the row, where it is one of these calls.
+pub(crate) fn answer(alloc: Global, row: &Row) -> Result<Option<String>, AllocError> {
+    let name = row.word(0);
+    if name == "state" {
+        return given(state(alloc, row));
+    }
+    if name == "witnesses" {
+        return given(witnesses(alloc, row));
+    }
+    if name == "exposed" {
+        return given(exposed(alloc, row));
+    }
+    if name == "behind" {
+        return given(behind(alloc, row));
+    }
+    Ok(None)
 }

@@ -2,7 +2,7 @@
 ghost use Rattle.std.specs.Prelude.{◌≡◌, ◌+◌, ◌<◌, ◌∷◌, [], length, IfOk, IfSome, OnOk};
 ghost use Rattle.cesr_stream.specs.Groups.{elements_of};
 
-use crate::row::Row;
+use crate::row::{Row, given};
 use cesr_codes::{Digest, IndexedSig, Key, KeyCode, Moment, Number, Sig};
 use cesr_stream::{
     AnchorCouple, Assembler, Bad, Couple, Group, Item, Message, Reader, Seen, Step, write_item,
@@ -82,7 +82,7 @@ fn bad_word(text: &mut String, bad: &Bad) -> Result<(), AllocError> {
 
 /// `items PIECE TEXT`: the items of the text in pieces of so many bytes, and how it ends; where it is cut short, also how
 /// many bytes are held then.
-pub(crate) fn items(alloc: Global, row: &Row) -> Result<String, AllocError> {
+fn items(alloc: Global, row: &Row) -> Result<String, AllocError> {
     let bytes = row.bytes(alloc, 2)?;
     let mut text = String::new(alloc);
     let mut reader = Reader::new(alloc, Limits::standard());
@@ -118,7 +118,7 @@ fn message_word(text: &mut String, message: &Message) -> Result<(), AllocError> 
 }
 
 /// `messages SIGNATURES TEXT`: the messages of the text, where a message may have so many elements.
-pub(crate) fn messages(alloc: Global, row: &Row) -> Result<String, AllocError> {
+fn messages(alloc: Global, row: &Row) -> Result<String, AllocError> {
     let bytes = row.bytes(alloc, 2)?;
     let mut text = String::new(alloc);
     let mut limits = Limits::standard();
@@ -150,52 +150,70 @@ fn only<T: Drop>(alloc: Global, value: T) -> Result<Items<T>, AllocError>
     Ok(items)
 }
 
-fn pair<A: Drop, B: Drop, E: Drop>(
-    first: Result<(A, usize), E>,
-    second: Result<(B, usize), E>,
-) -> Option<(A, B)> {
-    match (first, second) {
-        (Ok((first, _)), Ok((second, _))) => Some((first, second)),
-        _ => None,
-    }
-}
-
 // The group of the one element that the two texts write.
 fn group(alloc: Global, row: &Row) -> Result<Option<Group>, AllocError>
     ensures one { IfOk result (λ found. IfSome found (λ group. elements_of group ≡ 1)) }
 {
     let first = row.bytes(alloc, 2)?;
     let second = row.bytes(alloc, 3)?;
-    let (first, second) = (first.as_slice(), second.as_slice());
-    match row.word(1) {
-        "A" => match IndexedSig::read(first) {
-            Ok((sig, _)) => Ok(Some(Group::Held(only(alloc, sig)?))),
-            Err(_) => Ok(None),
-        },
-        "B" => match IndexedSig::read(first) {
-            Ok((sig, _)) => Ok(Some(Group::Witness(only(alloc, sig)?))),
-            Err(_) => Ok(None),
-        },
-        "C" => match pair(Key::read(first), Sig::read(second)) {
-            Some((key, sig)) => couple(alloc, key, sig),
-            None => Ok(None),
-        },
-        "E" => match pair(Number::read(first), Moment::read(second)) {
-            Some((number, moment)) => {
-                Ok(Some(Group::FirstSeen(only(alloc, Seen { number, moment })?)))
-            }
-            None => Ok(None),
-        },
-        _ => match pair(Number::read(first), Digest::read(second)) {
-            Some((number, digest)) => {
-                Ok(Some(Group::Anchor(only(alloc, AnchorCouple { number, digest })?)))
-            }
-            None => Ok(None),
-        },
+    let letter = row.word(1);
+    if letter == "A" {
+        return signatures(alloc, first.as_slice(), false);
+    }
+    if letter == "B" {
+        return signatures(alloc, first.as_slice(), true);
+    }
+    if letter == "C" {
+        return couple(alloc, first.as_slice(), second.as_slice());
+    }
+    if letter == "E" {
+        return first_seen(alloc, first.as_slice(), second.as_slice());
+    }
+    anchor(alloc, first.as_slice(), second.as_slice())
+}
+
+fn signatures(alloc: Global, text: &[u8], by_witness: bool) -> Result<Option<Group>, AllocError>
+    ensures one { IfOk result (λ found. IfSome found (λ group. elements_of group ≡ 1)) }
+{
+    match IndexedSig::read(text) {
+        Ok((sig, _)) if by_witness => Ok(Some(Group::Witness(only(alloc, sig)?))),
+        Ok((sig, _)) => Ok(Some(Group::Held(only(alloc, sig)?))),
+        Err(_) => Ok(None),
     }
 }
 
-fn couple(alloc: Global, key: Key, sig: Sig) -> Result<Option<Group>, AllocError>
+fn first_seen(alloc: Global, first: &[u8], second: &[u8]) -> Result<Option<Group>, AllocError>
+    ensures one { IfOk result (λ found. IfSome found (λ group. elements_of group ≡ 1)) }
+{
+    match (Number::read(first), Moment::read(second)) {
+        (Ok((number, _)), Ok((moment, _))) => {
+            Ok(Some(Group::FirstSeen(only(alloc, Seen { number, moment })?)))
+        }
+        _ => Ok(None),
+    }
+}
+
+fn anchor(alloc: Global, first: &[u8], second: &[u8]) -> Result<Option<Group>, AllocError>
+    ensures one { IfOk result (λ found. IfSome found (λ group. elements_of group ≡ 1)) }
+{
+    match (Number::read(first), Digest::read(second)) {
+        (Ok((number, _)), Ok((digest, _))) => {
+            Ok(Some(Group::Anchor(only(alloc, AnchorCouple { number, digest })?)))
+        }
+        _ => Ok(None),
+    }
+}
+
+fn couple(alloc: Global, first: &[u8], second: &[u8]) -> Result<Option<Group>, AllocError>
+    ensures one { IfOk result (λ found. IfSome found (λ group. elements_of group ≡ 1)) }
+{
+    match (Key::read(first), Sig::read(second)) {
+        (Ok((key, _)), Ok((sig, _))) => couple_of(alloc, key, sig),
+        _ => Ok(None),
+    }
+}
+
+fn couple_of(alloc: Global, key: Key, sig: Sig) -> Result<Option<Group>, AllocError>
     ensures one { IfOk result (λ found. IfSome found (λ group. elements_of group ≡ 1)) }
 {
     match key.code {
@@ -205,11 +223,26 @@ fn couple(alloc: Global, key: Key, sig: Sig) -> Result<Option<Group>, AllocError
 }
 
 /// `put LETTER TEXT TEXT`: the group of the element that the texts write, put into a sink.
-pub(crate) fn put(alloc: Global, row: &Row) -> Result<String, AllocError> {
+fn put(alloc: Global, row: &Row) -> Result<String, AllocError> {
     let mut sink = MemSink::new(alloc, Items::new(alloc));
     let Some(group) = group(alloc, row)? else {
         return String::from_str(alloc, "none");
     };
     let _ = write_item(&Item::Group(group), &mut sink);
     String::from_utf8_lossy(alloc, sink.bytes())
+}
+
+/// The answer of the row, where it is one of these calls.
+pub(crate) fn answer(alloc: Global, row: &Row) -> Result<Option<String>, AllocError> {
+    let name = row.word(0);
+    if name == "items" {
+        return given(items(alloc, row));
+    }
+    if name == "messages" {
+        return given(messages(alloc, row));
+    }
+    if name == "put" {
+        return given(put(alloc, row));
+    }
+    Ok(None)
 }

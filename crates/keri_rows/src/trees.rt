@@ -1,6 +1,6 @@
 //! JSON values and thresholds.
 
-use crate::row::Row;
+use crate::row::{Row, given};
 use json_tree::{Text, Tree, TreeFault, is_json, is_json_string, read_tree, tree_text};
 use lists::{CopyValue, Items};
 use sith::{SithFault, Threshold};
@@ -30,7 +30,7 @@ fn written(alloc: Global, tree: &Tree) -> Result<String, AllocError> {
 }
 
 /// `tree DEPTH TEXT`: the kind and the size of what is read at the front, its length, and a copy of it written.
-pub(crate) fn tree(alloc: Global, row: &Row) -> Result<String, AllocError> {
+fn tree(alloc: Global, row: &Row) -> Result<String, AllocError> {
     let depth = row.number(1).min(255) as u8;
     match read_tree(alloc, row.bytes(alloc, 2)?.as_slice(), depth) {
         Ok((tree, length)) => {
@@ -45,12 +45,15 @@ pub(crate) fn tree(alloc: Global, row: &Row) -> Result<String, AllocError> {
 }
 
 /// `json KIND TEXT`: whether the number, string or member's name of this text is of the grammar.
-pub(crate) fn json(alloc: Global, row: &Row) -> Result<String, AllocError> {
+fn json(alloc: Global, row: &Row) -> Result<String, AllocError> {
     let text: Text = Items::from_vec(row.bytes(alloc, 2)?);
-    let is_json = match row.word(1) {
-        "number" => is_json(&Tree::Number(text)),
-        "text" => is_json_string(text.as_slice()),
-        _ => is_json(&Tree::Str(text)),
+    let kind = row.word(1);
+    let is_json = if kind == "number" {
+        is_json(&Tree::Number(text))
+    } else if kind == "text" {
+        is_json_string(text.as_slice())
+    } else {
+        is_json(&Tree::Str(text))
     };
     format!(in alloc; "{is_json}")
 }
@@ -64,7 +67,7 @@ fn threshold_of(alloc: Global, text: &[u8], keys: u16) -> Result<Threshold, Sith
 }
 
 /// `threshold KEYS TEXT`: a copy of the threshold for so many keys, written, or the fault.
-pub(crate) fn threshold(alloc: Global, row: &Row) -> Result<String, AllocError> {
+fn threshold(alloc: Global, row: &Row) -> Result<String, AllocError> {
     let keys = row.number(1).min(65_535) as u16;
     match threshold_of(alloc, row.bytes(alloc, 2)?.as_slice(), keys) {
         Ok(threshold) => {
@@ -77,7 +80,7 @@ pub(crate) fn threshold(alloc: Global, row: &Row) -> Result<String, AllocError> 
 }
 
 /// `met KEYS INDEX,INDEX TEXT`: whether these indices meet the threshold for so many keys.
-pub(crate) fn met(alloc: Global, row: &Row) -> Result<String, AllocError> {
+fn met(alloc: Global, row: &Row) -> Result<String, AllocError> {
     let keys = row.number(1).min(65_535) as u16;
     let indices = row.numbers(alloc, 2)?;
     let text = row.bytes(alloc, 3)?;
@@ -89,4 +92,22 @@ pub(crate) fn met(alloc: Global, row: &Row) -> Result<String, AllocError> {
         Err(_) => None,
     };
     format!(in alloc; "{is_met:?}")
+}
+
+/// The answer of the row, where it is one of these calls.
+pub(crate) fn answer(alloc: Global, row: &Row) -> Result<Option<String>, AllocError> {
+    let name = row.word(0);
+    if name == "tree" {
+        return given(tree(alloc, row));
+    }
+    if name == "json" {
+        return given(json(alloc, row));
+    }
+    if name == "threshold" {
+        return given(threshold(alloc, row));
+    }
+    if name == "met" {
+        return given(met(alloc, row));
+    }
+    Ok(None)
 }
