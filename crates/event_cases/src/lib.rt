@@ -12,8 +12,6 @@ mod footing;
 mod keys;
 mod names;
 mod settling;
-#[cfg(test)]
-mod tests;
 
 pub use asked::Asked;
 pub use cases::Cases;
