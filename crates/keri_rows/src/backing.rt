@@ -71,7 +71,7 @@ fn anchored(alloc: Global, row: &Row) -> Result<String, AllocError> {
 // The witnesses of these numbers.
 fn listed(alloc: Global, numbers: &[u16]) -> Result<Vec<Key>, AllocError> {
     let mut keys = Vec::new(alloc);
-    for number in numbers.iter().take(64) {
+    for number in numbers {
         keys.push(Key {
             code: KeyCode::Fixed,
             raw: [(*number).min(255) as u8; 32],
@@ -86,6 +86,9 @@ fn bound(alloc: Global, row: &Row) -> Result<String, AllocError> {
     let first = listed(alloc, row.numbers(alloc, 1)?.as_slice())?;
     let second = listed(alloc, row.numbers(alloc, 3)?.as_slice())?;
     let (first, second) = (first.as_slice(), second.as_slice());
+    if first.len() > 64 || second.len() > 64 {
+        return String::from_str(alloc, "too-many");
+    }
     let (one, other) = (row.number(2).min(64), row.number(4).min(64));
     let union = union_size(first, second);
     let bound = binds(first, one, second, other, row.number(5).min(64));

@@ -112,13 +112,14 @@ fn run_in(alloc: Global, row: &Row, piece: usize) -> Result<String, AllocError>
 /// `pieces=N` it is so in pieces of each length from 1 to N too.
 fn run_row(alloc: Global, row: &Row) -> Result<String, AllocError> {
     let whole = run_in(alloc, row, 4_096)?;
-    let pieces = option(alloc, row, "pieces")?
-        .and_then(|numbers| numbers.first().copied())
-        .unwrap_or(0);
-    for piece in 1..=pieces.min(4_096) {
-        let found = run_in(alloc, row, piece as usize)?;
+    let pieces = match option(alloc, row, "pieces")? {
+        Some(numbers) => numbers.first().copied().unwrap_or(0),
+        None => 0,
+    };
+    for less in 0..pieces.min(4_096) {
+        let found = run_in(alloc, row, less as usize + 1)?;
         if found.as_str() != whole.as_str() {
-            return format!(in alloc; "differs in pieces of {piece}");
+            return format!(in alloc; "differs in pieces of {less} and one");
         }
     }
     Ok(whole)
