@@ -3,15 +3,8 @@
 //! out are made by tests/rows, never by this program.
 #![tactic(auto)]
 
-mod backing;
-mod bodies;
 mod codes;
-mod cores;
-mod digests;
 mod row;
-mod runs;
-mod states;
-mod streams;
 mod trees;
 
 use anyhow::Result;

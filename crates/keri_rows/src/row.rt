@@ -2,7 +2,7 @@
 
 ghost use Rattle.std.specs.Prelude.{◌<◌};
 
-use crate::{backing, bodies, codes, cores, digests, runs, states, streams, trees};
+use crate::{codes, trees};
 use std::alloc::{AllocError, Global};
 
 /// The arguments of a row.
@@ -12,11 +12,6 @@ pub(crate) struct Row<'a> {
 }
 
 impl<'a> Row<'a> {
-    /// How many words the row has, the call's name among them.
-    pub(crate) fn len(&self) -> usize {
-        self.words.len()
-    }
-
     /// The argument of this number, from 1 on, as it stands; the empty text where there is none.
     pub(crate) fn word(&self, number: usize) -> &'a str {
         self.words.get(number).copied().unwrap_or("")
@@ -99,28 +94,7 @@ fn called(alloc: Global, row: &Row) -> Result<Option<String>, AllocError> {
     if let Some(answer) = codes::answer(alloc, row)? {
         return Ok(Some(answer));
     }
-    if let Some(answer) = trees::answer(alloc, row)? {
-        return Ok(Some(answer));
-    }
-    if let Some(answer) = digests::answer(alloc, row)? {
-        return Ok(Some(answer));
-    }
-    if let Some(answer) = bodies::answer(alloc, row)? {
-        return Ok(Some(answer));
-    }
-    if let Some(answer) = streams::answer(alloc, row)? {
-        return Ok(Some(answer));
-    }
-    if let Some(answer) = states::answer(alloc, row)? {
-        return Ok(Some(answer));
-    }
-    if let Some(answer) = backing::answer(alloc, row)? {
-        return Ok(Some(answer));
-    }
-    if let Some(answer) = cores::answer(alloc, row)? {
-        return Ok(Some(answer));
-    }
-    runs::answer(alloc, row)
+    trees::answer(alloc, row)
 }
 
 /// What the line is answered by.
