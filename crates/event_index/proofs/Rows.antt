@@ -32,7 +32,7 @@ filter-reverse p (x ∷ xs) =
 
 filter_map-reverse : {X Y : Type 0} (h : X → Option Y) (xs : List X) → filter_map h (reverse xs) ≡ reverse (filter_map h xs)
 filter_map-reverse h [] = refl
-filter_map-reverse h (x ∷ xs) =
+filter_map-reverse {Y = Y} h (x ∷ xs) =
     ap (filter_map h) (reverse-cons x xs) ∙ filter_map-append h (reverse xs) (x ∷ []) ∙ ap (λ ys. ys ++ filter_map h (x ∷ [])) (filter_map-reverse h xs) ∙ last (h x)
   where
     last : (o : Option Y) → reverse (filter_map h xs) ++ cons_option o [] ≡ reverse (cons_option o (filter_map h xs))
@@ -47,14 +47,14 @@ filter_map-map : {X Y Z : Type 0} (h : Y → Option Z) (f : X → Y) (xs : List 
 filter_map-map h f [] = refl
 filter_map-map h f (x ∷ xs) = ap (cons_option (h (f x))) (filter_map-map h f xs)
 
-range-suc : (a n : ℕ) → range_with_len (suc a) n ≡ map suc (range_with_len a n)
+range-suc : (a n : ℕ) → range_with_len (a + 1) n ≡ map suc (range_with_len a n)
 range-suc a zero = refl
-range-suc a (suc n) = ap (λ ks. suc a ∷ ks) (range-suc (a + 1) n)
+range-suc a (suc n) = let one : a + 1 ≡ suc a = omega arith in λ i. one i ∷ range-suc (a + 1) n i
 
 Contains-range : (n i : ℕ) → Contains (range_with_len 0 n) i ↔ (i < n)
 Contains-range n i = (
     λ h. let long = length-range_with_len 0 n in let at = get_or-range_with_len 0 n h.0 i (omega (arith, long, h.1)) in omega (arith, long, at, h.1, h.2),
-    λ lt. let long = length-range_with_len 0 n in (i, omega (arith, long, lt), get_or-range_with_len 0 n i i lt),
+    λ lt. let long = length-range_with_len 0 n in let at = get_or-range_with_len 0 n i i lt in (i, omega (arith, long, lt), omega (arith, at)),
   )
 
 range-rising : (n : ℕ) → IsStrictlyIncreasing (range_with_len 0 n)
@@ -95,10 +95,10 @@ module _ {X : Type 0} (test : X → Bool) (rows : List X) (numbers : List ℕ) (
   -- of the numbers those of the rows that are meant, in order
   pub filter-numbers : filter (is_row test rows) numbers ≡ numbers_of test rows
   filter-numbers = rising_same _ _ (IsStrictlyIncreasing-filter (is_row test rows) numbers has.rising) (IsStrictlyIncreasing-filter (is_row test rows) (range_with_len 0 (length rows)) (range-rising (length rows)))
-  (λ n. (
-    λ h. let t = ((Contains-filter (is_row test rows) numbers n).0 h).0 in (Contains-filter (is_row test rows) (range_with_len 0 (length rows)) n).1 (t, (Contains-range (length rows) n).1 (row_at test rows n t).3),
-    λ h. let t = ((Contains-filter (is_row test rows) (range_with_len 0 (length rows)) n).0 h).0 in let row = row_at test rows n t in (Contains-filter (is_row test rows) numbers n).1 (t, has.each n row.0 row.1 row.2),
-  ))
+      (λ n. (
+        λ h. let t = ((Contains-filter (is_row test rows) numbers n).0 h).0 in (Contains-filter (is_row test rows) (range_with_len 0 (length rows)) n).1 (t, (Contains-range (length rows) n).1 (row_at test rows n t).3),
+        λ h. let t = ((Contains-filter (is_row test rows) (range_with_len 0 (length rows)) n).0 h).0 in let row = row_at test rows n t in (Contains-filter (is_row test rows) numbers n).1 (t, has.each n row.0 row.1 row.2),
+      ))
 
   -- all rows that are meant, in order
   pub filter_map-numbers : filter_map (slice_get rows) (filter (is_row test rows) numbers) ≡ filter test rows
