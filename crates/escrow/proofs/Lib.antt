@@ -1,2 +1,4 @@
-pub mod Orders
-pub mod Listed
+mod Digests
+mod Held
+mod Lists
+mod Tables

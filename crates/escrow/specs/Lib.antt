@@ -1,2 +1,2 @@
 pub mod Escrow
-pub mod Numbers
+pub mod Tables

@@ -1,6 +1,7 @@
 //! Escrow: events that wait to be accepted, by the numbers of their bodies.
 #![tactic(auto)]
 
+mod digest_numbers;
 mod room;
 mod waiter;
 mod waiting;

@@ -1,0 +1,42 @@
+-- The numbers of the events that wait, by digests.
+use Rattle.std.specs.Prelude.{◌≡◌, ℕ, ◌<◌, ◌↔◌, Bool, List, [], Contains, Option, Some, None}
+use Rattle.std.specs.Option.{ForSome}
+use Rattle.std.specs.declared.cmp.PartialEq as equality
+use Rattle.indexmap.specs.IndexMap.{get}
+use Rattle.cesr_codes.specs.contracts.digest.DigestPartialEq.TheImpl as digest_equality
+use Rattle.cesr_codes.specs.declared.digest.Digest.{Digest}
+use Rattle.event_index.specs.Numbers.{Numbers}
+use Rattle.escrow.specs.declared.digest_numbers.DigestNumbers.{DigestNumbers}
+use Rattle.escrow.specs.declared.room.Room.{Room}
+use Rattle.escrow.specs.declared.waiter.Waiter.{Waiter}
+use denote.Param as param
+
+-- whether two digests are equal
+abbrev pub digest_eq : Digest → Digest → Bool
+digest_eq = param.read (equality.Ghosts.eq {X-1 = Digest}) digest_equality.ghosts
+
+-- the numbers of an entry, and none where there is no entry
+abbrev pub numbers_in : Option Numbers → List ℕ
+numbers_in None = []
+numbers_in (Some those) = those.list
+
+-- the room of an entry
+abbrev pub room_in : Option Numbers → ℕ
+room_in None = 0
+room_in (Some those) = those.free
+
+-- the numbers at a digest
+abbrev pub numbers_at : DigestNumbers → Digest → List ℕ
+numbers_at table d = numbers_in (get digest_eq table.lists d)
+
+-- how many more there is room for at a digest
+abbrev pub room_at : DigestNumbers → Digest → ℕ
+room_at table d = room_in (get digest_eq table.lists d)
+
+-- at each digest stand the numbers of the events that have it as their key
+abbrev pub HasNumbers : (Waiter → Option Digest) → (ℕ → Option Waiter) → (Digest → List ℕ) → Type 0
+HasNumbers key at numbers = (d : Digest) (n : ℕ) → Contains (numbers d) n ↔ ((w : Waiter) × (at n ≡ Some w) × (key w ≡ Some d))
+
+-- where room is kept, there is a place for one more event, and for its number at its prior and at its digest
+abbrev pub HasRoom : Option Room → ℕ → (Digest → ℕ) → (Digest → ℕ) → Type 0
+HasRoom room spare prior said = ForSome room (λ r. (0 < spare) × ForSome r.prior (λ d. 0 < prior d) × (0 < said r.said))
