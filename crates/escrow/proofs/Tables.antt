@@ -50,8 +50,9 @@ module _ (key : Waiter → Option Digest) (at now : ℕ → Option Waiter) (numb
         not_both : {b : Bool} → b ≡ false → b ≡ true → ⊥
         not_both f t = cc (f, t)
 
--- what is kept stays kept where there is no less room
-pub room-kept : (room : Option Room) (spare more : ℕ) (prior priors said saids : Digest → ℕ) → HasRoom room spare prior said → spare ≤ more → ((d : Digest) → prior d ≤ priors d) → ((d : Digest) → said d ≤ saids d) → HasRoom room more priors saids
+-- what is kept stays kept where there is no less room for it
+pub room-kept : (room : Option Room) (spare more : ℕ) (prior priors said saids : Digest → ℕ) → HasRoom room spare prior said → spare ≤ more
+    → ((r : Room) (d : Digest) → room ≡ Some r → r.prior ≡ Some d → prior d ≤ priors d) → ((r : Room) → room ≡ Some r → said r.said ≤ saids r.said) → HasRoom room more priors saids
 room-kept room spare more prior priors said saids has one two three r is =
     let h = has r is in
-    (omega (arith, h.0, one), λ d e. omega (arith, h.1 d e, two d), omega (arith, h.2, three r.said))
+    (omega (arith, h.0, one), λ d e. omega (arith, h.1 d e, two r d is e), omega (arith, h.2, three r is))

@@ -10,7 +10,7 @@ use event_index::Rising;
 use indexmap::IndexMap;
 use std::alloc::{AllocError, Global};
 
-/// For a digest the numbers of events, each greater than the one before it. A digest keeps its list when that is empty.
+/// For a digest the numbers of events, each greater than the one before it.
 #[derive(Drop)]
 pub struct DigestNumbers {
     alloc: Global,
@@ -79,6 +79,19 @@ impl DigestNumbers {
             && let Some(those) = self.lists.get_mut(&digest)
         {
             those.remove(number);
+        }
+    }
+
+    /// Lets go of the empty list of a digest, if there is one, but not of that for which room is reserved.
+    pub fn let_go(&mut self, digest: Option<Digest>, reserved: Option<Digest>)
+        ensures same { (d : Digest) → numbers_at self.new d ≡ numbers_at self.old d }
+        ensures room { ForSome reserved (λ d. room_at self.old d ≤ room_at self.new d) }
+    {
+        if let Some(digest) = digest
+            && reserved != Some(digest)
+            && self.numbers(&digest).is_empty()
+        {
+            self.lists.swap_remove(&digest);
         }
     }
 }

@@ -16,7 +16,7 @@ invariant_of-self c =
     (
       has-same (λ v. v.prior) (get nat_eq inside.waiters) (get nat_eq c.reserve.new.self) (numbers_at inside.by_prior) (numbers_at inside.by_prior) c.self.invariant.0 is (λ d. refl),
       has-same (λ v. Some v.said) (get nat_eq inside.waiters) (get nat_eq c.reserve.new.self) (numbers_at inside.by_said) (numbers_at inside.by_said) c.self.invariant.1 is (λ d. refl),
-      room-kept inside.room (spare inside.waiters) (spare c.reserve.new.self) (room_at inside.by_prior) (room_at inside.by_prior) (room_at inside.by_said) (room_at inside.by_said) c.self.invariant.2 c.reserve.ensures.room.0 (λ d. omega arith) (λ d. omega arith),
+      room-kept inside.room (spare inside.waiters) (spare c.reserve.new.self) (room_at inside.by_prior) (room_at inside.by_prior) (room_at inside.by_said) (room_at inside.by_said) c.self.invariant.2 c.reserve.ensures.room.0 (λ r d is e. omega arith) (λ r is. omega arith),
     )
 
 pub invariant_of-self-in_err-reserve-2 : goal.invariant_of-self-in_err-reserve-2
@@ -26,7 +26,7 @@ invariant_of-self-in_err-reserve-2 c =
     (
       has-same (λ v. v.prior) (get nat_eq inside.waiters) (get nat_eq c.reserve.new.self) (numbers_at inside.by_prior) (numbers_at c.reserve-2.new.self) c.self.invariant.0 is c.reserve-2.ensures.same,
       has-same (λ v. Some v.said) (get nat_eq inside.waiters) (get nat_eq c.reserve.new.self) (numbers_at inside.by_said) (numbers_at inside.by_said) c.self.invariant.1 is (λ d. refl),
-      room-kept inside.room (spare inside.waiters) (spare c.reserve.new.self) (room_at inside.by_prior) (room_at c.reserve-2.new.self) (room_at inside.by_said) (room_at inside.by_said) c.self.invariant.2 c.reserve.ensures.room.0 c.reserve-2.ensures.kept (λ d. omega arith),
+      room-kept inside.room (spare inside.waiters) (spare c.reserve.new.self) (room_at inside.by_prior) (room_at c.reserve-2.new.self) (room_at inside.by_said) (room_at inside.by_said) c.self.invariant.2 c.reserve.ensures.room.0 (λ r d is e. c.reserve-2.ensures.kept d) (λ r is. omega arith),
     )
 
 pub invariant_of-self-in_err-reserve-3 : goal.invariant_of-self-in_err-reserve-3
@@ -36,7 +36,7 @@ invariant_of-self-in_err-reserve-3 c =
     (
       has-same (λ v. v.prior) (get nat_eq inside.waiters) (get nat_eq c.reserve.new.self) (numbers_at inside.by_prior) (numbers_at c.reserve-2.new.self) c.self.invariant.0 is c.reserve-2.ensures.same,
       has-same (λ v. Some v.said) (get nat_eq inside.waiters) (get nat_eq c.reserve.new.self) (numbers_at inside.by_said) (numbers_at c.reserve-3.new.self) c.self.invariant.1 is c.reserve-3.ensures.same,
-      room-kept inside.room (spare inside.waiters) (spare c.reserve.new.self) (room_at inside.by_prior) (room_at c.reserve-2.new.self) (room_at inside.by_said) (room_at c.reserve-3.new.self) c.self.invariant.2 c.reserve.ensures.room.0 c.reserve-2.ensures.kept c.reserve-3.ensures.kept,
+      room-kept inside.room (spare inside.waiters) (spare c.reserve.new.self) (room_at inside.by_prior) (room_at c.reserve-2.new.self) (room_at inside.by_said) (room_at c.reserve-3.new.self) c.self.invariant.2 c.reserve.ensures.room.0 (λ r d is e. c.reserve-2.ensures.kept d) (λ r is. c.reserve-3.ensures.kept r.said),
     )
 
 pub invariant_of-self-2 : goal.invariant_of-self-2

@@ -16,7 +16,7 @@ invariant_of-self c =
     (
       has-same (λ v. v.prior) (get nat_eq inside.waiters) (get nat_eq c.swap_remove.new.self) (numbers_at inside.by_prior) (numbers_at inside.by_prior) c.self.invariant.0 is (λ d. refl),
       has-same (λ v. Some v.said) (get nat_eq inside.waiters) (get nat_eq c.swap_remove.new.self) (numbers_at inside.by_said) (numbers_at inside.by_said) c.self.invariant.1 is (λ d. refl),
-      room-kept inside.room (spare inside.waiters) (spare c.swap_remove.new.self) (room_at inside.by_prior) (room_at inside.by_prior) (room_at inside.by_said) (room_at inside.by_said) c.self.invariant.2 c.swap_remove.ensures.room.0 (λ d. omega arith) (λ d. omega arith),
+      room-kept inside.room (spare inside.waiters) (spare c.swap_remove.new.self) (room_at inside.by_prior) (room_at inside.by_prior) (room_at inside.by_said) (room_at inside.by_said) c.self.invariant.2 c.swap_remove.ensures.room.0 (λ r d is e. omega arith) (λ r is. omega arith),
     )
 
 pub returns-in_err-waiter-clause-found : goal.returns-in_err-waiter-clause-found
@@ -35,10 +35,14 @@ invariant_of-self-2 c =
     let now = get nat_eq c.swap_remove.new.self in
     let w = c.in_ok-waiter.waiter in
     let some : at c.args.number ≡ Some w = sym c.in_ok-waiter.ensures.value in
+    let priors = has-without (λ v. v.prior) at now (numbers_at inside.by_prior) (numbers_at c.remove.new.self) c.self.invariant.0 c.args.number w some c.swap_remove.ensures.updates.0 c.remove.ensures.left in
+    let saids = has-without (λ v. Some v.said) at now (numbers_at inside.by_said) (numbers_at c.remove-2.new.self) c.self.invariant.1 c.args.number w some c.swap_remove.ensures.updates.0 c.remove-2.ensures.left in
     (
-      has-without (λ v. v.prior) at now (numbers_at inside.by_prior) (numbers_at c.remove.new.self) c.self.invariant.0 c.args.number w some c.swap_remove.ensures.updates.0 c.remove.ensures.left,
-      has-without (λ v. Some v.said) at now (numbers_at inside.by_said) (numbers_at c.remove-2.new.self) c.self.invariant.1 c.args.number w some c.swap_remove.ensures.updates.0 c.remove-2.ensures.left,
-      room-kept inside.room (spare inside.waiters) (spare c.swap_remove.new.self) (room_at inside.by_prior) (room_at c.remove.new.self) (room_at inside.by_said) (room_at c.remove-2.new.self) c.self.invariant.2 c.swap_remove.ensures.room.0 c.remove.ensures.kept c.remove-2.ensures.kept,
+      has-same (λ v. v.prior) now now (numbers_at c.remove.new.self) (numbers_at c.let_go.new.self) priors (λ q. refl) c.let_go.ensures.same,
+      has-same (λ v. Some v.said) now now (numbers_at c.remove-2.new.self) (numbers_at c.let_go-2.new.self) saids (λ q. refl) c.let_go-2.ensures.same,
+      room-kept inside.room (spare inside.waiters) (spare c.swap_remove.new.self) (room_at inside.by_prior) (room_at c.let_go.new.self) (room_at inside.by_said) (room_at c.let_go-2.new.self) c.self.invariant.2 c.swap_remove.ensures.room.0
+      (λ r d is e. omega (arith, c.remove.ensures.kept d, c.let_go.ensures.room d (c.prior_of.ensures r is ∙ e)))
+      (λ r is. omega (arith, c.remove-2.ensures.kept r.said, c.let_go-2.ensures.room r.said (c.said_of.ensures r is))),
     )
 
 pub returns-clause-found : goal.returns-clause-found
