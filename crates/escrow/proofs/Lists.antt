@@ -1,10 +1,10 @@
 -- The lists at each digest, after that of one digest was written.
-use Rattle.std.proofs.Common.{◌≡◌, ◌≢◌, ℕ, ◌≤◌, Bool, true, false, cond, refl, sym, ap, subst, ◌∙◌, inl, inr, Some, arith}
+use Rattle.std.proofs.Common.{◌≡◌, ◌≢◌, ℕ, Bool, true, false, cond, sym, ap, subst, ◌∙◌, inl, inr, Some}
 use Rattle.std.specs.Prelude.{◌↔◌, ◌⊎◌, Contains, Option}
 use Rattle.std.proofs.lemmas.Bool.{cases_Bool}
 use Rattle.cesr_codes.specs.declared.digest.Digest.{Digest}
 use Rattle.event_index.specs.Numbers.{Numbers}
-use Rattle.escrow.specs.Tables.{digest_eq, numbers_in, room_in}
+use Rattle.escrow.specs.Tables.{digest_eq, numbers_in}
 use Rattle.escrow.proofs.Digests.{Decides-digest_eq}
 
 module _ (old new : Digest → Option Numbers) (key : Digest) (was is : Numbers) (got : old key ≡ Some was) (updates : (q : Digest) → new q ≡ cond (digest_eq key q) (Some is) (old q)) where

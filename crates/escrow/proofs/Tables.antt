@@ -1,5 +1,5 @@
 -- The tables by digests, after an event is added or taken out.
-use Rattle.std.proofs.Common.{◌≡◌, ◌≢◌, ℕ, ◌<◌, ◌≤◌, Bool, true, false, cond, List, refl, sym, ap, subst, ◌∙◌, inl, inr, Some, None, arith, nat_eq}
+use Rattle.std.proofs.Common.{◌≡◌, ℕ, ◌≤◌, Bool, true, false, cond, List, sym, ap, subst, ◌∙◌, inl, inr, Some, None, arith}
 use Rattle.std.specs.Prelude.{◌↔◌, ◌⊎◌, ◌==◌, Contains, Option}
 use Rattle.std.proofs.lemmas.Bool.{cases_Bool}
 use Rattle.std.proofs.lemmas.Bool.Decides.{Decides-eqb}
@@ -12,37 +12,37 @@ module _ (key : Waiter → Option Digest) (at now : ℕ → Option Waiter) (numb
   -- where neither changes
   pub has-same : ((q : ℕ) → now q ≡ at q) → ((d : Digest) → those d ≡ numbers d) → HasNumbers key now those
   has-same is same d n = (
-      λ h. let w = (has d n).0 (subst (λ ks. Contains ks n) (same d) h) in (w.0, is n ∙ w.1, w.2),
-      λ w. subst (λ ks. Contains ks n) (sym (same d)) ((has d n).1 (w.0, sym (is n) ∙ w.1, w.2)),
-    )
+    λ h. let w = (has d n).0 (subst (λ ks. Contains ks n) (same d) h) in (w.0, is n ∙ w.1, w.2),
+    λ w. subst (λ ks. Contains ks n) (sym (same d)) ((has d n).1 (w.0, sym (is n) ∙ w.1, w.2)),
+  )
 
   module _ (m : ℕ) (w : Waiter) where
     pub has-with : at m ≡ None → ((q : ℕ) → now q ≡ cond (m == q) (Some w) (at q)) → ((d : Digest) (n : ℕ) → Contains (those d) n ↔ (((key w ≡ Some d) × (n ≡ m)) ⊎ Contains (numbers d) n)) → HasNumbers key now those
     has-with none updates more d n = (
-        λ h. elim ((more d n).0 h) [
-          | inl there ↦ (w, updates n ∙ ap (λ b. cond b (Some w) (at n)) ((Decides-eqb m n).1 (sym there.1)), there.0)
-          | inr held ↦ (let v = (has d n).0 held in (v.0, updates n ∙ ap (λ b. cond b (Some w) (at n)) (another n v.0 v.1) ∙ v.1, v.2))
-        ],
-        λ v. (more d n).1 (elim (cases_Bool (m == n)) [
-          | inl t ↦ (let same : Some w ≡ Some v.0 = sym (updates n ∙ ap (λ b. cond b (Some w) (at n)) t) ∙ v.1 in let one : w ≡ v.0 = cc in inl (ap key one ∙ v.2, sym ((Decides-eqb m n).0 t)))
-          | inr f ↦ inr ((has d n).1 (v.0, sym (updates n ∙ ap (λ b. cond b (Some w) (at n)) f) ∙ v.1, v.2))
-        ]),
-      )
+      λ h. elim ((more d n).0 h) [
+        | inl there ↦ (w, updates n ∙ ap (λ b. cond b (Some w) (at n)) ((Decides-eqb m n).1 (sym there.1)), there.0)
+        | inr held ↦ (let v = (has d n).0 held in (v.0, updates n ∙ ap (λ b. cond b (Some w) (at n)) (another n v.0 v.1) ∙ v.1, v.2))
+      ],
+      λ v. (more d n).1 (elim (cases_Bool (m == n)) [
+        | inl t ↦ (let same : Some w ≡ Some v.0 = sym (updates n ∙ ap (λ b. cond b (Some w) (at n)) t) ∙ v.1 in let one : w ≡ v.0 = cc in inl (ap key one ∙ v.2, sym ((Decides-eqb m n).0 t)))
+        | inr f ↦ inr ((has d n).1 (v.0, sym (updates n ∙ ap (λ b. cond b (Some w) (at n)) f) ∙ v.1, v.2))
+      ]),
+    )
       where
         another : (n : ℕ) (v : Waiter) → at n ≡ Some v → (m == n) ≡ false
         another n v is = elim (cases_Bool (m == n)) [ inl t ↦ (let there : at n ≡ None = subst (λ q. at q ≡ None) ((Decides-eqb m n).0 t) none in cc (there, is)) | inr f ↦ f ]
 
     pub has-without : at m ≡ Some w → ((q : ℕ) → now q ≡ cond (m == q) None (at q)) → ((d : Digest) (n : ℕ) → Contains (those d) n ↔ ((((key w ≡ Some d) × (n ≡ m)) → ⊥) × Contains (numbers d) n)) → HasNumbers key now those
     has-without some updates less d n = (
-        λ h. let both = (less d n).0 h in let v = (has d n).0 both.1 in elim (cases_Bool (m == n)) [
-          | inl t ↦ absurd (let there : at n ≡ Some w = subst (λ q. at q ≡ Some w) ((Decides-eqb m n).0 t) some in let one : w ≡ v.0 = cc (there, v.1) in both.0 (ap key one ∙ v.2, sym ((Decides-eqb m n).0 t)))
-          | inr f ↦ (v.0, updates n ∙ ap (λ b. cond b None (at n)) f ∙ v.1, v.2)
-        ],
-        λ v. elim (cases_Bool (m == n)) [
-          | inl t ↦ (let gone : now n ≡ None = updates n ∙ ap (λ b. cond b None (at n)) t in absurd (no v.0 (sym gone ∙ v.1)))
-          | inr f ↦ (less d n).1 (λ there. not_both f ((Decides-eqb m n).1 (sym there.1)), (has d n).1 (v.0, sym (updates n ∙ ap (λ b. cond b None (at n)) f) ∙ v.1, v.2))
-        ],
-      )
+      λ h. let both = (less d n).0 h in let v = (has d n).0 both.1 in elim (cases_Bool (m == n)) [
+        | inl t ↦ absurd (let there : at n ≡ Some w = subst (λ q. at q ≡ Some w) ((Decides-eqb m n).0 t) some in let one : w ≡ v.0 = cc (there, v.1) in both.0 (ap key one ∙ v.2, sym ((Decides-eqb m n).0 t)))
+        | inr f ↦ (v.0, updates n ∙ ap (λ b. cond b None (at n)) f ∙ v.1, v.2)
+      ],
+      λ v. elim (cases_Bool (m == n)) [
+        | inl t ↦ (let gone : now n ≡ None = updates n ∙ ap (λ b. cond b None (at n)) t in absurd (no v.0 (sym gone ∙ v.1)))
+        | inr f ↦ (less d n).1 (λ there. not_both f ((Decides-eqb m n).1 (sym there.1)), (has d n).1 (v.0, sym (updates n ∙ ap (λ b. cond b None (at n)) f) ∙ v.1, v.2))
+      ],
+    )
       where
         no : (v : Waiter) → None ≡ Some v → ⊥
         no v e = cc e

@@ -97,7 +97,8 @@ impl Waiting {
         let waiter = self.waiters.swap_remove(&number)?;
         self.by_prior.remove(waiter.prior, number);
         self.by_said.remove(Some(waiter.said), number);
-        self.by_prior.let_go(waiter.prior, Room::prior_of(self.room));
+        self.by_prior
+            .let_go(waiter.prior, Room::prior_of(self.room));
         self.by_said
             .let_go(Some(waiter.said), Room::said_of(self.room));
         Some(waiter)

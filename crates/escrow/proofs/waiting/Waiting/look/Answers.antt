@@ -1,6 +1,5 @@
-use Rattle.std.proofs.Common.{sym, ap, ◌∙◌, nat_eq}
+use Rattle.std.proofs.Common.{sym, ap, ◌∙◌}
 use Rattle.escrow.specs.Escrow.{held}
-use Rattle.escrow.proofs.Digests.{Decides-digest_eq}
 use Rattle.escrow.proofs.Held.{get-entries}
 use Rattle.escrow.proofs.waiting.Waiting.look.Goals as goal
 

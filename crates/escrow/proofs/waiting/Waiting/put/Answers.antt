@@ -1,9 +1,8 @@
 use Rattle.std.proofs.Common.{◌≡◌, ◌<◌, ℕ, cond, sym, ap, subst, ◌∙◌, nat_eq, Some, None}
-use Rattle.std.specs.Prelude.{◌==◌, Contains, Option}
-use Rattle.indexmap.specs.IndexMap.{get, spare}
+use Rattle.std.specs.Prelude.{◌==◌}
+use Rattle.indexmap.specs.IndexMap.{get}
 use Rattle.escrow.specs.Escrow.{held, room_for}
-use Rattle.escrow.specs.Tables.{HasNumbers, numbers_at, room_at}
-use Rattle.escrow.specs.declared.waiter.Waiter.{Waiter}
+use Rattle.escrow.specs.Tables.{numbers_at, room_at}
 use Rattle.escrow.proofs.Held.{get-entries, held-changed, some_of}
 use Rattle.escrow.proofs.Tables.{has-with}
 use Rattle.escrow.proofs.waiting.Waiting.put.Goals as goal
@@ -36,8 +35,7 @@ invariant_of-self c =
     let at = get nat_eq c.self.inside.waiters in
     let now = get nat_eq c.insert-3.new.self in
     let none : at w.number ≡ None = sym (get-entries w.number c.self.inside.waiters.entries) ∙ ap (held w.number) c.self.view_is ∙ c.requires.new in
-    let changed : (q : ℕ) → now q ≡ cond (nat_eq w.number q) (Some w) (at q) = (rw c.unwrap.ensures at c.insert-3.ensures.updates).0 in
-    (
+    let changed : (q : ℕ) → now q ≡ cond (nat_eq w.number q) (Some w) (at q) = (rw c.unwrap.ensures at c.insert-3.ensures.updates).0 in (
       has-with (λ v. v.prior) at now (numbers_at c.self.inside.by_prior) (numbers_at c.insert.new.self) c.self.invariant.0 w.number w none changed c.insert.ensures,
       has-with (λ v. Some v.said) at now (numbers_at c.self.inside.by_said) (numbers_at c.insert-2.new.self) c.self.invariant.1 w.number w none changed c.insert-2.ensures,
       λ r e. let no : ⊥ = cc e in absurd no,
