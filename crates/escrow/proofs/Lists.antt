@@ -4,7 +4,8 @@ use Rattle.std.specs.Prelude.{◌↔◌, ◌⊎◌, Contains, Option}
 use Rattle.std.proofs.lemmas.Bool.{cases_Bool}
 use Rattle.cesr_codes.specs.declared.digest.Digest.{Digest}
 use Rattle.event_index.specs.Numbers.{Numbers}
-use Rattle.escrow.specs.Tables.{digest_eq, numbers_in}
+use Rattle.event_index.specs.Keys.{numbers_in}
+use Rattle.escrow.specs.Tables.{digest_eq}
 use Rattle.escrow.proofs.Digests.{Decides-digest_eq}
 
 module _ (old new : Digest → Option Numbers) (key : Digest) (was is : Numbers) (got : old key ≡ Some was) (updates : (q : Digest) → new q ≡ cond (digest_eq key q) (Some is) (old q)) where

@@ -1,10 +1,11 @@
 -- The numbers of the events that wait, by digests.
-use Rattle.std.specs.Prelude.{◌≡◌, ℕ, ◌<◌, ◌↔◌, Bool, List, [], Contains, Option, Some, None}
+use Rattle.std.specs.Prelude.{◌≡◌, ℕ, ◌<◌, ◌↔◌, Bool, List, Contains, Option, Some, None}
 use Rattle.std.specs.Option.{ForSome}
 use Rattle.std.specs.declared.cmp.PartialEq as equality
 use Rattle.indexmap.specs.IndexMap.{get}
 use Rattle.cesr_codes.specs.contracts.digest.DigestPartialEq.TheImpl as digest_equality
 use Rattle.cesr_codes.specs.declared.digest.Digest.{Digest}
+use Rattle.event_index.specs.Keys.{numbers_in}
 use Rattle.event_index.specs.Numbers.{Numbers}
 use Rattle.escrow.specs.declared.digest_numbers.DigestNumbers.{DigestNumbers}
 use Rattle.escrow.specs.declared.room.Room.{Room}
@@ -15,12 +16,7 @@ use denote.Param as param
 abbrev pub digest_eq : Digest → Digest → Bool
 digest_eq = param.read (equality.Ghosts.eq {X-1 = Digest}) digest_equality.ghosts
 
--- the numbers of an entry, and none where there is no entry
-abbrev pub numbers_in : Option Numbers → List ℕ
-numbers_in None = []
-numbers_in (Some those) = those.list
-
--- the room of an entry
+-- the room of an entry, and none where there is no entry
 abbrev pub room_in : Option Numbers → ℕ
 room_in None = 0
 room_in (Some those) = those.free

@@ -39,7 +39,7 @@ impl DigestNumbers {
         }
     }
 
-    /// Makes room for one more number at the digest, if there is one.
+    /// Makes room for one more number at the digest, if there is one. The list of a digest may so be empty.
     pub fn reserve(&mut self, digest: Option<Digest>) -> Result<(), AllocError>
         ensures same { (d : Digest) → numbers_at self.new d ≡ numbers_at self.old d }
         ensures kept { (d : Digest) → room_at self.old d ≤ room_at self.new d }

@@ -1,7 +1,8 @@
 use Rattle.std.proofs.Common.{◌≡◌, ℕ, cond, List, [], ◌∷◌, length, refl, sym, ap, subst, ◌∙◌, inl, inr, None, arith, rules, tests}
 use Rattle.std.proofs.lemmas.Bool.{cases_Bool}
 use Rattle.indexmap.specs.IndexMap.{get}
-use Rattle.escrow.specs.Tables.{digest_eq, numbers_at, numbers_in}
+use Rattle.event_index.specs.Keys.{numbers_in}
+use Rattle.escrow.specs.Tables.{digest_eq, numbers_at}
 use Rattle.escrow.proofs.Digests.{Decides-digest_eq}
 use Rattle.escrow.proofs.digest_numbers.DigestNumbers.let_go.Goals as goal
 
