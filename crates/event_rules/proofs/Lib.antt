@@ -1,4 +1,5 @@
-pub mod Below
-pub mod Searching
-pub mod Supporting
-pub mod Backing
+mod Searching
+mod Filters
+mod KeyPlaces
+mod Added
+mod Supported

@@ -1,0 +1,19 @@
+pub mod Alike
+pub mod Finding
+pub mod Predecessors
+pub mod Raised
+pub mod Members
+pub mod States
+pub mod Waking
+pub mod Running
+pub mod Entries
+mod Below
+mod GoodSigs
+pub mod Enough
+pub mod Adding
+pub mod Claimed
+pub mod Standing
+pub mod Looks
+pub mod Ends
+pub mod Cuts
+pub mod Sound
