@@ -1,11 +1,10 @@
 -- The predecessor of a body, and the state just after an event, in a log with one more event.
-use Rattle.std.proofs.Common.{◌≡◌, Bool, true, false, List, [], ◌∷◌, ◌++◌, Option, Some, None, refl, sym, ◌∙◌, ap, inl, inr, if◌then◌else◌}
+use Rattle.std.proofs.Common.{◌≡◌, Bool, true, false, List, [], ◌∷◌, ◌++◌, Some, None, refl, ◌∙◌, ap, inl, inr, if◌then◌else◌}
 use Rattle.std.specs.Prelude.{find}
-use Rattle.std.specs.List.{list_any}
 use Rattle.std.proofs.lemmas.Bool.{cases_Bool, or_left, or_parts, or_right, or_cases}
 use Rattle.event_body.specs.Events.{prefix_of}
 use Rattle.journal.specs.declared.body.Body.{Body}
-use Rattle.journal.specs.Logs.{is_in, precedes, predecessor, same_body, state, state_at, state_behind, up_to}
+use Rattle.journal.specs.Logs.{is_in, precedes, predecessor, same_body, state, up_to}
 use Rattle.journal.specs.Questions.{state_before}
 use Rattle.journal.proofs.Accepting.{same_body-refl}
 use Rattle.acceptance_laws.proofs.Finding.{find-kept, find-next}

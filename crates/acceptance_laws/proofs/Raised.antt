@@ -1,11 +1,10 @@
 -- What stands in a log with one more event, and what it raises.
-use Rattle.std.proofs.Common.{◌≡◌, true, false, List, [], ◌∷◌, ◌++◌, Some, None, refl, ap}
-use Rattle.event_body.specs.Events.{prefix_of}
+use Rattle.std.proofs.Common.{◌≡◌, false, List, [], ◌∷◌, ◌++◌, Some, None, refl}
 use Rattle.journal.specs.declared.body.Body.{Body}
 use Rattle.journal.specs.History.{Told}
-use Rattle.journal.specs.Logs.{is_in, precedes, predecessor, stands, state, state_behind}
+use Rattle.journal.specs.Logs.{precedes, predecessor, stands}
 use Rattle.journal.specs.Questions.{raised_by, state_before}
-use Rattle.acceptance_laws.proofs.Predecessors.{state_before-kept, state_before-none, state_before-next}
+use Rattle.acceptance_laws.proofs.Predecessors.{state_before-kept, state_before-none}
 
 -- what stands by the same state before it, stands
 stands-same : (log more : List Body) (b : Body) → state_before more b ≡ state_before log b → stands more b ≡ stands log b

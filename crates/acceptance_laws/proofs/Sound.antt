@@ -13,8 +13,8 @@ use Rattle.acceptance_laws.proofs.Predecessors.{state_before-next, state_before-
 use Rattle.acceptance_laws.specs.Standing.{BehindLaw, SoundLaw, ReadyKeptLaw}
 use Rattle.event_rules.specs.Parts.{has_signed, has_backed}
 use Rattle.acceptance_laws.proofs.Enough.{ready_is}
-use Rattle.acceptance_laws.proofs.Looks.{parts_of}
-use Rattle.acceptance_laws.proofs.Waking.{rules_of_taken}
+use Rattle.acceptance_laws.proofs.Woken.{parts_of}
+use Rattle.acceptance_laws.proofs.NextEvents.{rules_of_taken}
 
 -- BEHIND
 pub behind : BehindLaw

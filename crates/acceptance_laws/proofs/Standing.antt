@@ -1,31 +1,20 @@
 -- The state that an event follows is alike to the current state of its identifier, where that takes it.
-use Rattle.std.proofs.Common.{◌≡◌, ℕ, zero, suc, ◌+◌, ◌-◌, ◌<◌, ◌≤◌, ◌⊎◌, true, false, not, ◌&&◌, ◌==◌, nat_lt, List, [], ◌∷◌, ◌++◌, length, Option, Some, None, is_none, slice_get, Contains, refl, sym, ◌∙◌, ap, subst, arith, inl, inr, if◌then◌else◌, append-nil, append_assoc, length-append, eq-eqb}
-use Rattle.std.proofs.lemmas.Bool.Decides.{nat_tests}
-use Rattle.std.specs.Result.{result_ok}
+use Rattle.std.proofs.Common.{◌≡◌, ◌+◌, ◌-◌, true, false, not, ◌&&◌, ◌==◌, List, [], ◌∷◌, ◌++◌, Option, Some, None, Contains, refl, sym, ◌∙◌, ap, subst, arith, eq-eqb}
 use Rattle.std.specs.Prelude.{bytes_eq}
 use Rattle.std.specs.Cmp.Lexicographic.{bytes_decides}
-use Rattle.std.proofs.lemmas.Bool.{cases_Bool, and_parts, and_from, or_parts, not-true, not-false, ltb-false, leb-false, eqb-true}
-use Rattle.std.proofs.lemmas.List.Elements.{Contains-append_right}
-use Rattle.cesr_codes.specs.declared.digest.Digest.{Digest}
+use Rattle.std.proofs.lemmas.Bool.{and_parts, and_from, or_parts, not-true, not-false, eqb-true}
 use Rattle.cesr_codes.specs.declared.prefix.Prefix.{Prefix}
-use Rattle.cesr_codes.specs.declared.prefix.Prefix.TheVariants.{Said}
-use Rattle.event_body.specs.declared.event.Event.{Event}
-use Rattle.event_body.specs.declared.event.Event.TheVariants.{Icp, Rot, Ixn, Dip, Drt, Rct}
 use Rattle.event_body.specs.Events.{prefix_of, sn_of, said_of, prior_of, is_inception, is_receipt}
-use Rattle.key_state.specs.Heads.{head_sn}
-use Rattle.key_state.specs.KeyStates.{digest_at, misfit, moved, begun, first, are_same, is_other_sn}
+use Rattle.key_state.specs.KeyStates.{digest_at, misfit, are_same}
 use Rattle.key_state.specs.Same.{same_digest}
 use Rattle.key_state.specs.States.{State}
-use Rattle.key_state.proofs.Same.{same_prefix_is, same_prefix_itself}
+use Rattle.key_state.proofs.Same.{same_prefix_is}
 use Rattle.journal.specs.declared.body.Body.{Body}
 use Rattle.journal.specs.Grown.{IsGrown, fits}
-use Rattle.journal.specs.Logs.{is_in, is_of, same_body, state, stepped, takes, precedes, predecessor, state_behind, up_to}
+use Rattle.journal.specs.Logs.{is_in, is_of, same_body, state, takes, precedes, predecessor, state_behind, up_to}
 use Rattle.journal.specs.History.{Told}
 use Rattle.journal.specs.Questions.{state_before}
 use Rattle.journal.proofs.Settling.{find-true}
-use Rattle.journal.proofs.StateSteps.{state-own, state-other}
-use Rattle.acceptance_laws.specs.Alike.{AreAlike}
-use Rattle.acceptance_laws.proofs.Alike.{alike-grown, alike-itself}
 use Rattle.acceptance_laws.proofs.Members.{find_contains, find_some, member_any}
 use Rattle.key_state.proofs.NoMisfit.{fits_sn, fits_prior}
 use Rattle.acceptance_laws.specs.Standing.{AreAlikeIf, HasNoClash, CurrentLaw, StandingReadyLaw, InceptionReadyLaw}

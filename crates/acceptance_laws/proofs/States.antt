@@ -1,29 +1,26 @@
 -- The events behind which a state stands, by the digests that it keeps.
-use Rattle.std.proofs.Common.{◌≡◌, ℕ, zero, suc, ◌+◌, ◌-◌, ◌<◌, ◌≤◌, ◌⊎◌, true, false, not, ◌&&◌, ◌==◌, nat_lt, List, [], ◌∷◌, ◌++◌, length, Option, Some, None, is_none, slice_get, Contains, refl, sym, ◌∙◌, ap, subst, arith, inl, inr, if◌then◌else◌, append-nil, append_assoc, length-append, eq-eqb}
+use Rattle.std.proofs.Common.{◌≡◌, ℕ, zero, suc, ◌+◌, ◌-◌, ◌<◌, ◌≤◌, ◌⊎◌, true, false, nat_lt, List, [], ◌∷◌, ◌++◌, length, Option, Some, None, is_none, slice_get, Contains, refl, sym, ◌∙◌, ap, subst, arith, inl, inr, if◌then◌else◌, append-nil, append_assoc, length-append}
 use Rattle.std.proofs.lemmas.Bool.Decides.{nat_tests}
 use Rattle.std.specs.Result.{result_ok}
-use Rattle.std.specs.Prelude.{bytes_eq}
-use Rattle.std.specs.Cmp.Lexicographic.{bytes_decides}
-use Rattle.std.proofs.lemmas.Bool.{cases_Bool, and_parts, and_from, or_parts, not-true, not-false, ltb-false, leb-false, eqb-true}
+use Rattle.std.proofs.lemmas.Bool.{cases_Bool, or_parts, not-false, ltb-false, leb-false, eqb-true}
 use Rattle.std.proofs.lemmas.List.Elements.{Contains-append_right}
 use Rattle.cesr_codes.specs.declared.digest.Digest.{Digest}
 use Rattle.cesr_codes.specs.declared.prefix.Prefix.{Prefix}
 use Rattle.cesr_codes.specs.declared.prefix.Prefix.TheVariants.{Said}
 use Rattle.event_body.specs.declared.event.Event.{Event}
 use Rattle.event_body.specs.declared.event.Event.TheVariants.{Icp, Rot, Ixn, Dip, Drt, Rct}
-use Rattle.event_body.specs.Events.{prefix_of, sn_of, said_of, prior_of, is_inception, is_receipt}
+use Rattle.event_body.specs.Events.{sn_of, said_of, is_inception, is_receipt}
 use Rattle.key_state.specs.Heads.{head_sn}
 use Rattle.key_state.specs.KeyStates.{digest_at, misfit, moved, begun, first, are_same, is_other_sn}
 use Rattle.key_state.specs.Same.{same_digest}
 use Rattle.key_state.specs.States.{State}
 use Rattle.key_state.proofs.Same.{same_prefix_is, same_prefix_itself}
 use Rattle.journal.specs.declared.body.Body.{Body}
-use Rattle.journal.specs.Logs.{is_in, is_of, same_body, state, stepped, takes, precedes, predecessor, state_behind, up_to}
-use Rattle.journal.proofs.Settling.{find-true}
+use Rattle.journal.specs.Logs.{is_of, state, stepped}
 use Rattle.journal.proofs.StateSteps.{state-own, state-other}
 use Rattle.acceptance_laws.specs.Alike.{AreAlike}
 use Rattle.acceptance_laws.proofs.Alike.{alike-grown, alike-itself}
-use Rattle.key_state.proofs.NoMisfit.{fits_sn, fits_prior}
+use Rattle.key_state.proofs.NoMisfit.{fits_sn}
 
 -- an event of the identifier with this number and digest stands in the list, and the state just behind it is alike
 pub record IsStanding (prefix : Prefix) (log : List Body) (s : State) (n : ℕ) (d : Digest) : Type 0 where

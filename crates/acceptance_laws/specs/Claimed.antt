@@ -1,15 +1,12 @@
 -- The claims on a body whose keys are found, each with its key: one for each claim, also where two have one key and signature.
-use Rattle.std.specs.Prelude.{◌≡◌, Bool, false, ◌&&◌, ◌==◌, List, map, filter_map, Option, option_map}
+use Rattle.std.specs.Prelude.{◌≡◌, Bool, List, map, filter_map, Option, option_map}
 use Rattle.std.specs.List.{list_any}
-use Rattle.cesr_codes.specs.declared.indexed_sig.IndexedSig.{IndexedSig}
 use Rattle.cesr_codes.specs.declared.key.Key.{Key}
 use Rattle.cesr_codes.specs.declared.sig.Sig.{Sig}
-use Rattle.event_body.specs.declared.event.Event.{Event}
 use Rattle.key_state.specs.Exposure.{Rules, own_rules}
 use Rattle.key_state.specs.States.{State}
 use Rattle.journal.specs.declared.body.Body.{Body}
 use Rattle.journal.specs.declared.claim.Claim.{Claim}
-use Rattle.journal.specs.declared.claim.Claim.TheVariants.{Held, Witness, Couple}
 use Rattle.journal.specs.History.{claimed_key, claimed_sig, triple_of}
 use Rattle.event_rules.specs.Parts.{Part, Row, brings, parts_in}
 

@@ -4,6 +4,7 @@ pub mod Waking
 pub mod Entries
 pub mod Support
 pub mod Claimed
+pub mod Additions
 pub mod Standing
 pub mod Looks
 pub mod Ends

@@ -1,15 +1,10 @@
 -- A set that has just the parts of a body decides of it, and what changes the parts of a body.
-use Rattle.std.specs.Prelude.{◌≡◌, ℕ, Bool, true, false, ◌&&◌, ◌||◌, ◌==◌, not, nat_le, List, [], ◌∷◌, ◌++◌, length, filter, slice_get, Option, Some, None, IsTrue}
-use Rattle.std.specs.List.{list_any}
-use Rattle.cesr_codes.specs.declared.indexed_sig.IndexedSig.{IndexedSig}
+use Rattle.std.specs.Prelude.{◌≡◌, ℕ, Bool, true, ◌&&◌, ◌||◌, not, List, [], ◌∷◌, ◌++◌, length, slice_get, Option, Some, IsTrue}
 use Rattle.cesr_codes.specs.declared.key.Key.{Key}
 use Rattle.cesr_codes.specs.declared.sig.Sig.{Sig}
-use Rattle.event_body.specs.declared.event.Event.{Event}
-use Rattle.event_body.specs.declared.event.Event.TheVariants.{Icp, Rot, Ixn, Dip, Drt, Rct}
-use Rattle.event_body.specs.Events.{prefix_of, is_rotation, is_receipt, is_inception}
+use Rattle.event_body.specs.Events.{prefix_of, is_receipt, is_inception}
 use Rattle.sith.specs.Rules.{IsReadFor}
-use Rattle.sith.specs.Tests.{satisfied}
-use Rattle.key_state.specs.Exposure.{Rules, own_rules, opens, numbers_below}
+use Rattle.key_state.specs.Exposure.{Rules, own_rules}
 use Rattle.key_state.specs.Same.{same_key, same_sig, are_witnesses}
 use Rattle.key_state.specs.States.{State}
 use Rattle.journal.specs.declared.body.Body.{Body}
@@ -17,9 +12,9 @@ use Rattle.journal.specs.declared.claim.Claim.{Claim}
 use Rattle.journal.specs.declared.mode.Mode.{Mode}
 use Rattle.journal.specs.Logs.{is_in, same_body, state, takes, predecessor}
 use Rattle.journal.specs.Seals.{anchored}
-use Rattle.journal.specs.History.{Told, took, heard, claims_in, claims_on, said_yes}
+use Rattle.journal.specs.History.{Told, took, heard, claims_in, claims_on}
 use Rattle.journal.specs.Questions.{state_before}
-use Rattle.journal.specs.Readiness.{is_ready, is_local, is_backed, signed, backs}
+use Rattle.journal.specs.Readiness.{is_ready, is_local, is_backed, signed}
 use Rattle.event_rules.specs.Claims.{is_so}
 use Rattle.event_rules.specs.Parts.{Part, index, reveal, backer, has_backed, has_signed, parts_in, says_of, supports}
 use Rattle.acceptance_laws.specs.Alike.{AreAlike}

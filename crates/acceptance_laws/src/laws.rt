@@ -1,4 +1,5 @@
 //! Laws of acceptance by candidates.
+ghost use Rattle.acceptance_laws.specs.Additions.{CameLaw, YesLaw};
 ghost use Rattle.acceptance_laws.specs.Claimed.{RowsLaw};
 ghost use Rattle.acceptance_laws.specs.Cuts.{CutLaw, PlaceLaw};
 ghost use Rattle.acceptance_laws.specs.Ends.{JournalLaw, ReasonsLaw};
@@ -147,4 +148,14 @@ pub fn kept_parts_make_ready()
 /// The triples and the parts of claims are those of the claims whose keys are found, one for each.
 pub fn claims_are_rows()
     ensures { RowsLaw }
+{}
+
+/// A body that comes adds what those of its rows bring whose signatures have a yes.
+pub fn came_rows_add_parts()
+    ensures { CameLaw }
+{}
+
+/// A yes on the key and signature of a row adds what each row with them brings.
+pub fn yes_rows_add_parts()
+    ensures { YesLaw }
 {}
