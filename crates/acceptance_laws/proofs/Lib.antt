@@ -8,8 +8,8 @@ pub mod NextEvents
 pub mod Waking
 pub mod Running
 pub mod Entries
-mod Below
-mod GoodSigs
+pub mod Below
+pub mod GoodSigs
 pub mod Enough
 pub mod Adding
 pub mod Claimed

@@ -1,5 +1,5 @@
 mod Searching
-mod Filters
-mod KeyPlaces
-mod Added
-mod Supported
+pub mod Filters
+pub mod KeyPlaces
+pub mod Added
+pub mod Supported

@@ -17,6 +17,7 @@ use key_state::KeyState;
 
 /// The support of an event behind a state, found by going over the claims on it each time: for an event whose parts weren't
 /// kept under that state. It takes no memory. [`crate::claims_support`] says whose verdicts give what a journal supports.
+#[derive(Drop)]
 pub struct ClaimSupport<'a, V: Verdicts> {
     pub verdicts: &'a V,
     pub claims: &'a [Claim],
