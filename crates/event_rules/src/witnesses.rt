@@ -58,7 +58,7 @@ pub fn has_witness(state: Option<&KeyState>, event: &Event, key: &Key) -> bool
     }
 }
 
-/// How many witnesses the event's own list has, as a body spells at most 64 and adds at most 64. It takes no memory.
+/// How many witnesses the event's own list has: at most 128, 64 of the state and 64 that a body adds. It takes no memory.
 #[tactic(auto, using(crate::proofs::KeyPlaces::few_changed))]
 pub(crate) fn place_count(state: Option<&KeyState>, event: &Event) -> u16
     requires { IsKept event.now }
