@@ -1,4 +1,5 @@
-pub mod Below
-pub mod Searching
-pub mod Supporting
-pub mod Backing
+mod Searching
+pub mod Filters
+pub mod KeyPlaces
+pub mod Added
+pub mod Supported

@@ -1,2 +1,3 @@
-pub mod Places
-pub mod Support
+pub mod Claims
+pub mod Parts
+pub mod Additions

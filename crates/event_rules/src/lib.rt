@@ -1,17 +1,25 @@
 //! What a state asks of an event that follows it: who signs it, who witnesses it, and whether that is enough.
 #![tactic(auto)]
 
+mod additions;
+mod claim_support;
 mod delegation;
+mod laws;
 mod order;
 mod places;
-mod signing;
+mod signers;
 mod support;
+mod thresholds;
 mod verdicts;
 mod witnesses;
 
+pub use additions::Additions;
+pub use claim_support::ClaimSupport;
 pub use delegation::{delegator_of, forbids_delegation, is_delegated};
+pub use laws::claims_support;
 pub use order::{is_behind, is_inception, prior_of, takes};
-pub use signing::{claimed_key, claimed_sig, meets_next, meets_own, signing_keys};
-pub use support::{is_backed, is_signed, opens_enough};
+pub use signers::{claimed_key, claimed_sig, signing_keys};
+pub use support::Support;
+pub use thresholds::{is_backed, meets_before, meets_own};
 pub use verdicts::Verdicts;
 pub use witnesses::{has_witness, toad_of, witness, witness_count};

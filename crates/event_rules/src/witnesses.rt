@@ -1,8 +1,9 @@
 //! The witnesses of an event, and how many of them must agree.
-ghost use Rattle.std.specs.Prelude.{◌≡◌, ◌≤◌, filter, length, not, slice_get, take};
+ghost use Rattle.std.specs.Prelude.{◌≡◌, ◌≤◌, true, false, filter, length, not, slice_get, IfSome, IfNone};
 ghost use Rattle.std.specs.Option.{option_copied};
-ghost use Rattle.event_rules.specs.Support.{has_this};
+ghost use Rattle.event_rules.specs.Claims.{has_this};
 ghost use Rattle.key_state.specs.Exposure.{own_rules, rules_of};
+ghost use Rattle.key_state.specs.Kept.{IsKept};
 ghost use Rattle.key_state.specs.KeyStates.{changed_list};
 ghost use Rattle.key_state.specs.Same as same;
 
@@ -57,17 +58,31 @@ pub fn has_witness(state: Option<&KeyState>, event: &Event, key: &Key) -> bool
     }
 }
 
-/// Whether the key is among the first witnesses of the event's own list, so many of them. It takes no memory.
-pub(crate) fn is_earlier(state: Option<&KeyState>, event: &Event, count: usize, key: &Key) -> bool
-    requires { count ≤ length (own_rules (option_copied state) event.now).witnesses }
-    ensures { result ≡ same.has_key (take count (own_rules (option_copied state.entry) event.now).witnesses) key.now }
+/// How many witnesses the event's own list has: at most 128, 64 of the state and 64 that a body adds. It takes no memory.
+#[tactic(auto, using(crate::proofs::KeyPlaces::few_changed))]
+pub(crate) fn place_count(state: Option<&KeyState>, event: &Event) -> u16
+    requires { IsKept event.now }
+    ensures { result ≡ length (own_rules (option_copied state.entry) event.now).witnesses }
 {
-    for number in 0..count {
-        if is_witness(state, event, number, key) {
-            return true;
+    match event {
+        Event::Icp(event) | Event::Dip(event) => event.list.len() as u16,
+        Event::Rot(event) | Event::Drt(event) => changed_count(listed(state), event) as u16,
+        Event::Ixn(_) | Event::Rct(_) => listed(state).len() as u16,
+    }
+}
+
+/// A place of the key in the event's own list. It takes no memory.
+pub(crate) fn place_of(state: Option<&KeyState>, event: &Event, key: &Key) -> Option<u16>
+    requires { IsKept event.now }
+    ensures found { IfSome result (λ place. has_this (slice_get (own_rules (option_copied state.entry) event.now).witnesses place) key.now ≡ true) }
+    ensures none { IfNone result (same.has_key (own_rules (option_copied state.entry) event.now).witnesses key.now ≡ false) }
+{
+    for place in 0..place_count(state, event) {
+        if is_witness(state, event, usize::from(place), key) {
+            return Some(place);
         }
     }
-    false
+    None
 }
 
 // Whether the witness of a number has the key.
@@ -82,7 +97,8 @@ fn is_witness(state: Option<&KeyState>, event: &Event, number: usize, key: &Key)
 
 // The witnesses of a state, where there is one.
 fn listed(state: Option<&KeyState>) -> &[Key]
-    ensures { result.now ≡ (rules_of (option_copied state.entry)).witnesses }
+    ensures list { result.now ≡ (rules_of (option_copied state.entry)).witnesses }
+    ensures few { length result.now ≤ 64 }
 {
     match state {
         Some(state) => state.list.as_slice(),

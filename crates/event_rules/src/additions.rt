@@ -1,0 +1,68 @@
+//! What a claim adds to the support of its event.
+ghost use Rattle.std.specs.Prelude.{◌≡◌, ◌==◌, ℕ, true};
+ghost use Rattle.std.specs.Option.{option_copied};
+ghost use Rattle.event_rules.specs.Additions.{adds, is_number};
+ghost use Rattle.event_rules.specs.Claims.{is_held_as};
+ghost use Rattle.event_rules.specs.Parts.{Part, brings_all, opens_at};
+ghost use Rattle.key_state.specs.Exposure.{own_rules};
+ghost use Rattle.key_state.specs.Kept.{IsKept};
+ghost use Rattle.key_state.specs.Same.{are_witnesses};
+
+use crate::signers::opens_commitment;
+use crate::witnesses::place_of;
+use cesr_codes::Key;
+use event_body::Event;
+use journal::Claim;
+use key_state::KeyState;
+
+/// The parts that a claim adds to the support of its event, once its signature has a yes.
+#[derive(Clone, Copy, PartialEq, Eq, Debug)]
+pub struct Additions {
+    /// The index of a signature of the controller.
+    pub index: Option<u16>,
+    /// The place of the commitment that it opens, where the event is a rotation.
+    pub reveal: Option<u16>,
+    /// The place of its key among the witnesses of the event.
+    pub backer: Option<u16>,
+}
+
+impl Additions {
+    /// What a claim on an event behind a state adds, by its key, which [`crate::claimed_key`] finds. It takes no memory.
+    /// Where a witness stood twice, one of its places is given; in the list of an event that follows a state each stands once.
+    pub fn of(state: Option<&KeyState>, event: &Event, claim: &Claim, key: &Key) -> Additions
+        requires { IsKept event.now }
+        ensures { are_witnesses (own_rules (option_copied state.entry) event.now).witnesses ≡ true → (p : Part)
+            → adds result p ≡ brings_all (option_copied state.entry) event.now (record { claim = claim.now; key = key.now }) p }
+    {
+        Additions {
+            index: index_of(claim),
+            reveal: revealed_by(state, event, claim),
+            backer: place_of(state, event, key),
+        }
+    }
+}
+
+// The index of a signature of the controller.
+fn index_of(claim: &Claim) -> Option<u16>
+    ensures { (n : ℕ) → is_number result n ≡ is_held_as (λ s. s.index == n) claim.now }
+{
+    match claim {
+        Claim::Held(sig) => Some(sig.index),
+        Claim::Witness(_) | Claim::Couple(..) => None,
+    }
+}
+
+// The place of the commitment that a signature of the controller opens.
+fn revealed_by(state: Option<&KeyState>, event: &Event, claim: &Claim) -> Option<u16>
+    ensures { (n : ℕ) → is_number result n ≡ is_held_as (opens_at (option_copied state.entry) event.now n) claim.now }
+{
+    let Claim::Held(sig) = claim else {
+        return None;
+    };
+    let place = sig.ondex?;
+    if opens_commitment(state, event, place, sig) {
+        Some(place)
+    } else {
+        None
+    }
+}

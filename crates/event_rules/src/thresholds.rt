@@ -1,0 +1,130 @@
+//! Whether what supports an event is enough. None of these takes memory, and each asks for at most as many parts as the event
+//! has signing keys, commitments or witnesses.
+ghost use Rattle.std.specs.Prelude.{◌≡◌, ◌≤◌, ◌||◌, filter, length, not};
+ghost use Rattle.std.specs.Option.{option_copied};
+ghost use Rattle.event_body.specs.Events.{is_rotation};
+ghost use Rattle.event_rules.specs.Parts as parts;
+ghost use Rattle.key_state.specs.Exposure.{numbers_below, own_rules};
+ghost use Rattle.key_state.specs.Kept.{IsKept};
+ghost use Rattle.sith.specs.Tests.{satisfied};
+
+use crate::Support;
+use crate::places::Places;
+use crate::witnesses::{place_count, toad_of};
+use event_body::Event;
+use key_state::KeyState;
+
+/// Whether the indices of the good signatures meet the threshold of the signing keys.
+pub fn meets_own<S: Support>(support: &S, state: Option<&KeyState>, event: &Event) -> bool
+    requires { IsKept event.now }
+    ensures { result ≡ parts.has_own (S.has support.now) (own_rules (option_copied state.entry) event.now) }
+{
+    let indices = indices_below(support, key_count(state, event));
+    meets_keys(state, event, indices.as_slice())
+}
+
+// How many keys sign the event.
+fn key_count(state: Option<&KeyState>, event: &Event) -> u16
+    requires { IsKept event.now }
+    ensures count { result ≡ length (own_rules (option_copied state.entry) event.now).keys }
+    ensures few { result ≤ 64 }
+{
+    match event {
+        Event::Icp(event) | Event::Dip(event) => event.keys.len() as u16,
+        Event::Rot(event) | Event::Drt(event) => event.keys.len() as u16,
+        Event::Ixn(_) | Event::Rct(_) => match state {
+            Some(state) => state.keys.len() as u16,
+            None => 0,
+        },
+    }
+}
+
+// The indices below a bound that good signatures have.
+fn indices_below<S: Support>(support: &S, count: u16) -> Places
+    requires { count ≤ 64 }
+    ensures { result ≡ filter (λ n. S.has support.now (parts.index n)) (numbers_below count) }
+{
+    let mut indices = Places::new();
+    for index in 0..count {
+        let signed = support.has_index(index);
+        indices.push_if(index, signed);
+    }
+    indices
+}
+
+// Whether these indices meet the threshold of the signing keys.
+#[tactic(auto, unfolding(sith::specs::Tests::satisfied))]
+fn meets_keys(state: Option<&KeyState>, event: &Event, indices: &[u16]) -> bool
+    requires { IsKept event.now }
+    ensures { result ≡ satisfied (own_rules (option_copied state.entry) event.now).kt (length (own_rules (option_copied state.entry) event.now).keys) indices.now }
+{
+    let count = key_count(state, event);
+    match event {
+        Event::Icp(event) | Event::Dip(event) => event.kt.satisfied(count, indices),
+        Event::Rot(event) | Event::Drt(event) => event.kt.satisfied(count, indices),
+        Event::Ixn(_) | Event::Rct(_) => match state {
+            Some(state) => state.kt.satisfied(count, indices),
+            None => false,
+        },
+    }
+}
+
+/// Whether the commitments that the good signatures on a rotation open meet the threshold of the state before it; true of
+/// every other event, which opens nothing (KERI, pre-rotation).
+pub fn meets_before<S: Support>(support: &S, state: Option<&KeyState>, event: &Event) -> bool
+    ensures { result ≡ (not (is_rotation event.now) || parts.has_next (S.has support.now) (option_copied state.entry)) }
+{
+    match event {
+        Event::Rot(_) | Event::Drt(_) => meets_next(support, state),
+        Event::Icp(_) | Event::Ixn(_) | Event::Dip(_) | Event::Rct(_) => true,
+    }
+}
+
+// Whether the commitments that the good signatures open meet the threshold of the state, where there is one.
+fn meets_next<S: Support>(support: &S, state: Option<&KeyState>) -> bool
+    ensures { result ≡ parts.has_next (S.has support.now) (option_copied state.entry) }
+{
+    let Some(before) = state else {
+        return false;
+    };
+    let count = before.next.len() as u16;
+    let revealed = revealed_below(support, count);
+    before.nt.satisfied(count, revealed.as_slice())
+}
+
+// The places below a bound of the commitments that good signatures open.
+fn revealed_below<S: Support>(support: &S, count: u16) -> Places
+    requires { count ≤ 64 }
+    ensures { result ≡ filter (λ n. S.has support.now (parts.reveal n)) (numbers_below count) }
+{
+    let mut places = Places::new();
+    for place in 0..count {
+        let revealed = support.reveals(place);
+        places.push_if(place, revealed);
+    }
+    places
+}
+
+/// Whether as many witnesses of the event's own list as it wants have a good signature (KERI, receipts). Places are
+/// counted, so a key that stood twice would count twice: the witnesses that a body spells, and those of what follows a
+/// state, stand once.
+pub fn is_backed<S: Support>(support: &S, state: Option<&KeyState>, event: &Event) -> bool
+    requires { IsKept event.now }
+    ensures { result ≡ parts.has_backed (S.has support.now) (own_rules (option_copied state.entry) event.now) }
+{
+    toad_of(state, event) <= u64::from(backer_count(support, place_count(state, event)))
+}
+
+// How many of the witnesses below a bound have a good signature.
+#[tactic(auto, using(crate::proofs::Filters::passing_more, key_state::proofs::Numbers::none_below))]
+fn backer_count<S: Support>(support: &S, count: u16) -> u16
+    ensures { result ≡ length (filter (λ n. S.has support.now (parts.backer n)) (numbers_below count)) }
+{
+    let mut backers = 0;
+    for place in 0..count {
+        if support.backs(place) {
+            backers += 1;
+        }
+    }
+    backers
+}

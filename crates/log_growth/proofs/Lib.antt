@@ -1,4 +1,0 @@
-pub mod Finding
-pub mod Predecessors
-pub mod Standing
-pub mod Alike
