@@ -1,7 +1,8 @@
 -- What is kept beside the rows stays right.
 use Rattle.std.proofs.Common.{◌≡◌, ℕ, ◌+◌, ◌-◌, ◌<◌, ◌≤◌, ◌^◌, Bool, true, false, cond, ◌||◌, ◌&&◌, List, [], ◌∷◌, ◌++◌, length, take, Option, Some, None, refl, sym, ◌∙◌, ap, subst, arith}
-use Rattle.std.specs.Prelude.{slice_get, not, is_some, Contains, count_by}
+use Rattle.std.specs.Prelude.{slice_get, not, is_some, Contains, count_by, if◌then◌else◌}
 use Rattle.std.specs.BTreeMap.{is_at}
+use Rattle.std.specs.Option.{option_flatten, option_map}
 use Rattle.std.proofs.lemmas.List.{length-append, length-map}
 use Rattle.std.proofs.Math.Seq.{take-append_seam}
 use Rattle.claim_table.specs.declared.claim_rows.Pending.{Pending}
@@ -13,10 +14,11 @@ use Rattle.claim_table.specs.declared.spot.Spot.{Spot}
 use Rattle.claim_table.specs.Counts.{bit}
 use Rattle.claim_table.specs.Keeping.{AreCounted, AreEntered, AreHinted, DoAgree, IsFirstAt, IsKept, IsPending, IsPendingBelow, spot_at, spot_cmp}
 use Rattle.claim_table.specs.Parts.{brings, supports}
+use Rattle.claim_table.specs.Table.{KeepsPending}
 use Rattle.claim_table.specs.Rows.{heard, is_raised, raised, signature_of, unheard, verdict_of, with_verdict}
 use Rattle.claim_table.proofs.Hints.{entered_added, entered_front, entered_more, entered_set, hinted_added, hinted_front, hinted_more, hinted_set}
 use Rattle.claim_table.proofs.Lists.{count_end}
-use Rattle.claim_table.proofs.Rows.{agree_front, agree_raised, agree_set, first_front, first_longer, first_raised, first_set, verdict_front, verdict_heard, verdict_longer, verdict_none}
+use Rattle.claim_table.proofs.Rows.{agree_front, agree_raised, agree_set, first_front, first_longer, first_raised, first_set, first_within, verdict_front, verdict_heard, verdict_longer, verdict_none}
 use Rattle.claim_table.proofs.Spots.{had_verdict, open_added, open_closed, open_heard, open_popped, open_unheard}
 
 same_entries : (rows : List Row) (old new : BodyPart → Bool) → ((q : BodyPart) → new q ≡ old q) → AreEntered rows old → AreEntered rows new
@@ -121,3 +123,24 @@ kept_popped rows r hint counts entered pending old spots new entered_now updates
         let first = subst (λ rows. IsFirstAt rows p.signature p.row) front (first_front (rows ++ r ∷ []) p.signature p.row (length rows) b h.0) in
         let there = subst (λ rows. is_raised rows p.signature ≡ true) (sym front) (first_raised rows p.signature p.row first) in
         (first, ap (λ rows. is_some (verdict_of rows p.signature)) (sym front) ∙ ap is_some (verdict_front (length rows) (rows ++ r ∷ []) p.signature there) ∙ h.1)
+
+-- where the first rows keep a row of the pending signature, they keep its first one
+pub pending_within : (len : ℕ) (rows : List Row) (pending : Option Pending) → IsPending rows pending → KeepsPending len rows (option_map (λ p. p.signature) pending) → IsPendingBelow len pending
+pending_within len rows None h k = tt
+pending_within len rows (Some p) h k = first_within rows p.signature p.row len h.0 k
+
+-- what `verdict` tells of a signature: its verdict, and whether it is new
+pub known_verdict : (there : Bool) (v : Option Bool) → (there ≡ false → v ≡ None) → option_flatten (if there then Some v else None) ≡ v
+known_verdict true v none = refl
+known_verdict false v none = sym (none refl)
+
+pub known_new : (there : Bool) (v : Option Bool) (is_new : Bool) → is_some (if there then Some v else None) ≡ not is_new → is_new ≡ not there
+known_new true v true h = h
+known_new true v false h = refl
+known_new false v true h = refl
+known_new false v false h = h
+
+-- no question is pending
+pub none_pending : (pending : Option Pending) → option_map (λ p. p.signature) pending ≡ None → pending ≡ None
+none_pending None h = refl
+none_pending (Some p) h = cc

@@ -128,7 +128,8 @@ count_at test f (y ∷ xs) zero x e =
     let old = count_cons test y xs in let new = count_cons test (f y) xs in omega (arith, a, b, old, new)
 count_at test f (y ∷ xs) (suc k) x e = let more = count_at test f xs k x e in let old = count_cons test y xs in let new = count_cons test y (at_place k f xs) in omega (arith, more, old, new)
 
-pub length-at_place : {X : Type 0} (f : X → X) (xs : List X) (k : ℕ) → length (at_place k f xs) ≡ length xs
-length-at_place f [] k = refl
-length-at_place f (x ∷ xs) zero = refl
-length-at_place f (x ∷ xs) (suc k) = ap (λ n. suc n) (length-at_place f xs k)
+-- what passes is counted
+pub bit_within : {X : Type 0} (test : X → Bool) (xs : List X) (k : ℕ) (x : X) → slice_get xs k ≡ Some x → bit (test x) ≤ count_by test xs
+bit_within test [] k x e = cc
+bit_within test (y ∷ xs) zero x e = let is : y ≡ x = cc in let a = ap (λ z. bit (test z)) is in let all = count_cons test y xs in omega (arith, a, all)
+bit_within test (y ∷ xs) (suc k) x e = let more = bit_within test xs k x e in let all = count_cons test y xs in omega (arith, more, all)

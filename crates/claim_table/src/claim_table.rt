@@ -133,8 +133,10 @@ impl ClaimTable {
         requires { self.now.pending ≡ None }
         ensures { (bodies : ℕ) → AreBelow bodies self.now.rows → result ≡ option_map (λ r. signature_of r.claimed) (slice_get (open_rows bodies self.now.rows) skip) }
     {
-        let spot = nth_spot(&self.inner.spots, skip)?;
-        signature_at(self.inner.rows.as_slice(), spot.row)
+        match nth_spot(&self.inner.spots, skip) {
+            Some(spot) => signature_at(self.inner.rows.as_slice(), spot.row),
+            None => None,
+        }
     }
 
     /// Whether a controller's claim at this index has a yes.
