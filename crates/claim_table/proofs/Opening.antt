@@ -19,7 +19,7 @@ use Rattle.claim_table.specs.declared.row.Row.{Row}
 use Rattle.claim_table.specs.declared.signature.Signature.{Signature}
 use Rattle.claim_table.specs.declared.spot.Spot.{Spot}
 use Rattle.claim_table.specs.Keeping.{AreOpen, is_open_at, opens, spot_at, spot_cmp}
-use Rattle.claim_table.specs.Rows.{first_rows, is_of, is_open_on, is_raised, numbers_from, open_rows, same_signature, signature_of}
+use Rattle.claim_table.specs.Rows.{first_rows, is_of, is_open_on, is_raised, open_rows, same_signature, signature_of}
 use Rattle.claim_table.specs.Table.{AreBelow}
 use Rattle.claim_table.proofs.Lists.{differ}
 use Rattle.claim_table.proofs.Rows.{same_is, same_itself}

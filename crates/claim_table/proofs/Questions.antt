@@ -1,6 +1,7 @@
 -- The rows at the spots are the open rows of the definition.
 use Rattle.std.proofs.Common.{◌≡◌, ℕ, zero, suc, ◌+◌, Bool, true, false, cond, ◌&&◌, ◌||◌, List, [], ◌∷◌, ◌++◌, length, map, Option, Some, None, refl, sym, ◌∙◌, ap, inl, inr, arith, append_assoc}
 use Rattle.std.specs.Prelude.{slice_get, filter, flat_map, not, is_none, ◌==◌}
+use Rattle.std.specs.List.{range_with_len}
 use Rattle.std.specs.Option.{option_map}
 use Rattle.std.specs.BTreeSet.{BTreeSet, IsOrdered, contains}
 use Rattle.std.proofs.lemmas.Bool.{cases_Bool}
@@ -11,7 +12,7 @@ use Rattle.claim_table.specs.declared.row.Row.{Row}
 use Rattle.claim_table.specs.declared.signature.Signature.{Signature}
 use Rattle.claim_table.specs.declared.spot.Spot.{Spot}
 use Rattle.claim_table.specs.Keeping.{AreOpen, opens, spot_at, spot_cmp}
-use Rattle.claim_table.specs.Rows.{first_rows, is_of, is_open_on, is_raised, numbers_from, open_rows, same_signature, signature_of}
+use Rattle.claim_table.specs.Rows.{first_rows, is_of, is_open_on, is_raised, open_rows, same_signature, signature_of}
 use Rattle.claim_table.specs.Table.{AreBelow}
 use Rattle.claim_table.proofs.Opening.{keys_are, open_from, open_of}
 use Rattle.claim_table.proofs.Rows.{same_is, same_itself}
@@ -83,13 +84,14 @@ map_both : {X Y : Type 0} (f : X → Y) (xs ys : List X) → map f (xs ++ ys) �
 map_both f [] ys = refl
 map_both f (x ∷ xs) ys = ap (λ ys. f x ∷ ys) (map_both f xs ys)
 
-rows_of : (rows : List Row) (n count : ℕ) → map (λ (s : Spot). slice_get rows s.row) (open_of n count rows) ≡ map (λ r. Some r) (flat_map (λ n. filter (is_open_on n) (first_rows rows)) (numbers_from n count))
+rows_of : (rows : List Row) (n count : ℕ) → map (λ (s : Spot). slice_get rows s.row) (open_of n count rows) ≡ map (λ r. Some r) (flat_map (λ n. filter (is_open_on n) (first_rows rows)) (range_with_len n count))
 rows_of rows n zero = refl
 rows_of rows n (suc count) =
     let first = rows_from rows n [] 0 rows refl refl ∙ ap (λ xs. map (λ r. Some r) (filter (is_open_on n) xs)) (filter_new (first_rows rows)) in
-    let more = rows_of rows (suc n) count in
+    let next : suc n ≡ n + 1 = omega arith in
+    let more = rows_of rows (suc n) count ∙ ap (λ k. map (λ r. Some r) (flat_map (λ n. filter (is_open_on n) (first_rows rows)) (range_with_len k count))) next in
     map_both (λ (s : Spot). slice_get rows s.row) (open_from n [] 0 rows) (open_of (suc n) count rows) ∙ (λ j. first j ++ more j)
-    ∙ sym (map_both (λ r. Some r) (filter (is_open_on n) (first_rows rows)) (flat_map (λ n. filter (is_open_on n) (first_rows rows)) (numbers_from (suc n) count)))
+    ∙ sym (map_both (λ r. Some r) (filter (is_open_on n) (first_rows rows)) (flat_map (λ n. filter (is_open_on n) (first_rows rows)) (range_with_len (n + 1) count)))
 
 abbrev pub row_at_spot : List Row → Option Spot → Option Row
 row_at_spot rows None = None

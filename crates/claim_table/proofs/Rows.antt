@@ -197,11 +197,19 @@ unheard_heard s v rows agree none = map_back (with_verdict s (Some v)) (with_ver
   | inr k ↦ set_again s (Some v) None r ∙ set_elsewhere s None r k
 ])
 
--- hearing, raising claims, cutting them back and taking the verdict back gives the rows
-pub back_to_rows : (s : Signature) (v : Bool) (rows : List Row) (claims : List Claimed) → DoAgree rows → verdict_of rows s ≡ None → unheard s (take (length rows) (raised_all (heard s v rows) claims)) ≡ rows
-back_to_rows s v rows claims agree none =
+-- after hearing, claims that are raised and cut back leave the rows
+pub cut_to_heard : (s : Signature) (v : Bool) (rows : List Row) (claims : List Claimed) → take (length rows) (raised_all (heard s v rows) claims) ≡ heard s v rows
+cut_to_heard s v rows claims =
     let same = length-map rows (with_verdict s (Some v)) in
-    ap (λ n. unheard s (take n (raised_all (heard s v rows) claims))) (sym same) ∙ ap (unheard s) (take_raised_all (heard s v rows) claims) ∙ unheard_heard s v rows agree none
+    ap (λ n. take n (raised_all (heard s v rows) claims)) (sym same) ∙ take_raised_all (heard s v rows) claims
+
+-- hearing, raising claims, cutting them back and taking the verdict back gives the rows, where hearing and taking back does
+pub back_to_rows : (s : Signature) (v : Bool) (rows : List Row) (claims : List Claimed) → unheard s (heard s v rows) ≡ rows → unheard s (take (length rows) (raised_all (heard s v rows) claims)) ≡ rows
+back_to_rows s v rows claims back = ap (unheard s) (cut_to_heard s v rows claims) ∙ back
+
+-- and the signature is still raised before it is taken back
+pub cut_keeps_raised : (s : Signature) (v : Bool) (rows : List Row) (claims : List Claimed) → is_raised rows s ≡ true → is_raised (take (length rows) (raised_all (heard s v rows) claims)) s ≡ true
+cut_keeps_raised s v rows claims there = ap (λ rows. is_raised rows s) (cut_to_heard s v rows claims) ∙ raised_set s s (Some v) rows ∙ there
 
 -- the first row of a signature stays the first
 pub first_set : (s t : Signature) (v : Option Bool) (rows : List Row) (i : ℕ) → IsFirstAt rows t i → IsFirstAt (with_verdicts s v rows) t i

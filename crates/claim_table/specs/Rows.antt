@@ -1,6 +1,6 @@
 -- Rows of claims, and what hearing a verdict makes of them.
-use Rattle.std.specs.Prelude.{ℕ, zero, suc, Bool, true, false, ◌&&◌, ◌==◌, not, List, [], ◌∷◌, ◌++◌, map, filter, flat_map, Option, Some, None, is_none, if◌then◌else◌, bytes_eq}
-use Rattle.std.specs.List.{list_any}
+use Rattle.std.specs.Prelude.{ℕ, Bool, true, false, ◌&&◌, ◌==◌, not, List, [], ◌∷◌, ◌++◌, map, filter, flat_map, Option, Some, None, is_none, if◌then◌else◌, bytes_eq}
+use Rattle.std.specs.List.{list_any, range_with_len}
 use Rattle.cesr_codes.specs.Spelling.{key_code}
 use Rattle.cesr_codes.specs.declared.key.Key.{Key}
 use Rattle.claim_table.specs.declared.claimed.Claimed.{Claimed}
@@ -63,14 +63,9 @@ first_rows (r ∷ rows) = r ∷ filter (λ q. not (is_of (signature_of r.claimed
 abbrev pub is_open_on : ℕ → Row → Bool
 is_open_on n r = (r.claimed.body == n) && is_none r.verdict
 
--- the numbers below another, rising
-abbrev pub numbers_from : ℕ → ℕ → List ℕ
-numbers_from first zero = []
-numbers_from first (suc count) = first ∷ numbers_from (suc first) count
-
 -- body by body, the first rows of their signatures that have no verdict
 abbrev pub open_rows : ℕ → List Row → List Row
-open_rows bodies rows = flat_map (λ n. filter (is_open_on n) (first_rows rows)) (numbers_from 0 bodies)
+open_rows bodies rows = flat_map (λ n. filter (is_open_on n) (first_rows rows)) (range_with_len 0 bodies)
 
 abbrev pub is_yes : Option Bool → Bool
 is_yes None = false

@@ -3,7 +3,7 @@ ghost use Rattle.std.specs.Prelude.{◌≡◌, ◌-◌, ◌≤◌, ◌^◌, ◌|
 ghost use Rattle.std.specs.BTreeMap.{is_at};
 ghost use Rattle.std.specs.BTreeSet as set;
 ghost use Rattle.std.specs.List.Sorted.{IsStrictlyIncreasing};
-ghost use Rattle.std.specs.Option.{option_map};
+ghost use Rattle.std.specs.Option.{option_flatten, option_map};
 ghost use Rattle.claim_table.specs.Counts.{amount, is_entered};
 ghost use Rattle.claim_table.specs.Keeping.{AreCounted, AreEntered, IsFirstOf, IsLeast, IsPendingBelow, IsSound, at_place, is_of_at, seen};
 ghost use Rattle.claim_table.specs.Rows.{heard, is_raised, raised, unheard, verdict_of, with_verdict, with_verdicts};
@@ -83,10 +83,7 @@ impl ClaimRows {
             row,
         };
         open_new(&mut self.spots, spot, verdict.is_none())?;
-        let added = Row {
-            claimed,
-            verdict: verdict.flatten(),
-        };
+        let added = row_of(claimed, verdict);
         self.counts.count_yes(&added);
         self.rows.push_reserved(added);
         Ok(())
@@ -186,6 +183,16 @@ impl ClaimRows {
             row: pending.row,
         };
         self.spots.remove(&spot);
+    }
+}
+
+// The row of a claim, with the verdict of its signature where some row is of it.
+fn row_of(claimed: Claimed, verdict: Option<Option<bool>>) -> Row
+    ensures { result ≡ record { claimed = claimed; verdict = option_flatten verdict } }
+{
+    Row {
+        claimed,
+        verdict: verdict.flatten(),
     }
 }
 

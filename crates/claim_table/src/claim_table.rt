@@ -199,6 +199,6 @@ fn any_yes_by(rows: &[Row], body: u32, key: &Key) -> bool
     ensures { result ≡ has_yes_by rows.now body key.now }
 {
     rows.iter().any(|row| {
-        row.verdict == Some(true) && row.claimed.body == body && row.claimed.key == *key
+        row.has_yes() && row.claimed.body == body && row.claimed.key == *key
     })
 }

@@ -10,7 +10,8 @@ use crate::row::Row;
 use std::alloc::{AllocError, Global};
 use std::collections::BTreeMap;
 
-/// A count for each part that was entered. An entry stays when its count falls to 0, and does no harm.
+/// A count for each part that was entered. An entry stays when its count falls to 0, and does no harm. No count is greater
+/// than the number of rows, which are numbered by `u32`, so none overflows.
 #[derive(Drop)]
 pub(crate) struct PartCounts {
     counts: BTreeMap<BodyPart, usize>,
@@ -76,7 +77,7 @@ impl PartCounts {
         ensures amounts { (q : BodyPart) → amount self.new q ≡ amount self.old q + bit (supports q row.now) }
         ensures kept { (q : BodyPart) → is_entered self.new q ≡ is_entered self.old q }
     {
-        if row.verdict == Some(true) {
+        if row.has_yes() {
             self.count(row.claimed.body, &row.claimed.parts);
         }
     }
@@ -86,7 +87,7 @@ impl PartCounts {
         ensures amounts { (q : BodyPart) → amount self.new q ≡ amount self.old q - bit (supports q row.now) }
         ensures kept { (q : BodyPart) → is_entered self.new q ≡ is_entered self.old q }
     {
-        if row.verdict == Some(true) {
+        if row.has_yes() {
             self.uncount(row.claimed.body, &row.claimed.parts);
         }
     }

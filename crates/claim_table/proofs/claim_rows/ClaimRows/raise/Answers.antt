@@ -26,15 +26,15 @@ returns-in_err-open_new-clause-sound c =
     kept_more t.rows.items (numbers_at signature_cmp t.by_signature) (amount t.counts) (is_entered t.counts) t.pending (contains spot_cmp t.spots) (contains spot_cmp c.open_new.new.spots) _ (numbers_at signature_cmp c.add.new.self) _ (is_entered c.enter.new.self)
     c.in_ok-number.number c.in_ok-reserve.ensures.items (λ q. ap (λ spots. contains spot_cmp spots q) c.in_err-open_new.ensures.err) place c.in_ok-add.ensures.kept c.in_ok-enter.ensures.amounts c.in_ok-enter.ensures.kept c.requires
 
-verdict_is : (c : goal.After-push_reserved) → c.flatten.result ≡ verdict_of c.args.self.now.rows.items (signature_of c.args.claimed)
-verdict_is c =
+row_is : (c : goal.After-push_reserved) → c.row_of-added.result ≡ record { claimed = c.args.claimed; verdict = verdict_of c.args.self.now.rows.items (signature_of c.args.claimed) }
+row_is c =
     let rows = c.args.self.now.rows.items in let s = c.signature-signature.result in
-    c.flatten.ensures ∙ ap option_flatten c.verdict-verdict.ensures ∙ known_verdict (is_raised rows s) (verdict_of rows s) (verdict_none rows s) ∙ ap (verdict_of rows) c.signature-signature.ensures
+    let verdict = ap option_flatten c.verdict-verdict.ensures ∙ known_verdict (is_raised rows s) (verdict_of rows s) (verdict_none rows s) ∙ ap (verdict_of rows) c.signature-signature.ensures in
+    c.row_of-added.ensures ∙ ap (λ v. record { claimed = c.args.claimed; verdict = v }) verdict
 
 rows_are : (c : goal.After-push_reserved) → c.push_reserved.new.self.items ≡ raised c.args.self.now.rows.items c.args.claimed
 rows_are c =
-    c.push_reserved.ensures.items ∙ ap (λ rows. rows ++ record { claimed = c.args.claimed; verdict = c.flatten.result } ∷ []) c.in_ok-reserve.ensures.items
-    ∙ ap (λ v. c.args.self.now.rows.items ++ record { claimed = c.args.claimed; verdict = v } ∷ []) (verdict_is c)
+    c.push_reserved.ensures.items ∙ ap (λ rows. rows ++ c.row_of-added.result ∷ []) c.in_ok-reserve.ensures.items ∙ ap (λ r. c.args.self.now.rows.items ++ r ∷ []) (row_is c)
 
 pub returns-clause-ok : goal.returns-clause-ok
 returns-clause-ok c = rows_are c
@@ -52,6 +52,6 @@ returns-clause-sound c =
     ∙ ap (λ s. not (is_raised rows s)) c.signature-signature.ensures in
     let updates = subst (λ n. (q : Spot) → contains spot_cmp c.open_new.new.spots q ≡ (contains spot_cmp t.spots q || (c.is_none.result && is_at (spot_cmp (spot_at claimed.body n)) q))) row c.in_ok-open_new.ensures.ok in
     let added = subst (λ s. Contains (hint s) (length rows)) c.signature-signature.ensures (subst (λ n. Contains (hint c.signature-signature.result) n) place c.in_ok-add.ensures.added) in
-    let more = λ (q : BodyPart). subst (λ v. amount c.count_yes.new.self q ≡ counts q + bit (supports q (record { claimed = claimed; verdict = v }))) (verdict_is c) (c.count_yes.ensures.amounts q) in
+    let more = λ (q : BodyPart). subst (λ r. amount c.count_yes.new.self q ≡ counts q + bit (supports q r)) (row_is c) (c.count_yes.ensures.amounts q) in
     kept_raised rows hint counts entered t.pending (contains spot_cmp t.spots) (contains spot_cmp c.open_new.new.spots) c.is_none.result claimed c.push_reserved.new.self.items (amount c.count_yes.new.self)
     (rows_are c) first updates added more (λ q b. c.count_yes.ensures.kept q ∙ c.in_ok-enter.ensures.entered q b) (omega (arith, fits, place)) kept
