@@ -1,5 +1,5 @@
 -- What hints say while rows are raised, cut and heard.
-use Rattle.std.proofs.Common.{◌≡◌, ℕ, zero, suc, ◌+◌, ◌<◌, ◌≤◌, Bool, true, false, List, [], ◌∷◌, ◌++◌, length, take, Option, Some, None, refl, sym, ◌∙◌, ap, subst, inl, inr, arith}
+use Rattle.std.proofs.Common.{◌≡◌, ℕ, zero, suc, ◌<◌, ◌≤◌, Bool, true, false, List, [], ◌∷◌, ◌++◌, length, take, Option, Some, None, refl, sym, ◌∙◌, ap, subst, inl, inr, arith}
 use Rattle.std.specs.Prelude.{slice_get, slice_index_or, Contains}
 use Rattle.std.specs.List.Sorted.{IsStrictlyIncreasing}
 use Rattle.std.proofs.lemmas.Map.Keys.{below_from_sorted, sorted_from_strictly_increasing}
@@ -11,8 +11,8 @@ use Rattle.claim_table.specs.declared.row.Row.{Row}
 use Rattle.claim_table.specs.declared.signature.Signature.{Signature}
 use Rattle.claim_table.specs.Keeping.{AreEntered, AreHinted, IsFirstOf, IsLeast, is_of_at}
 use Rattle.claim_table.specs.Parts.{brings}
-use Rattle.claim_table.specs.Rows.{is_of, is_raised, signature_of, with_verdict, with_verdicts}
-use Rattle.claim_table.proofs.Lists.{any_none, at_end, in_front, not_at_end, of_front}
+use Rattle.claim_table.specs.Rows.{is_of, is_raised, signature_of, with_verdicts}
+use Rattle.claim_table.proofs.Lists.{any_none, at_end, not_at_end, of_front}
 use Rattle.claim_table.proofs.Rows.{same_is, set_at, set_claimed}
 
 -- within a list no default counts

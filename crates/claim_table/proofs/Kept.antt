@@ -1,6 +1,6 @@
 -- What is kept beside the rows stays right.
 use Rattle.std.proofs.Common.{◌≡◌, ℕ, ◌+◌, ◌-◌, ◌<◌, ◌≤◌, ◌^◌, Bool, true, false, cond, ◌||◌, ◌&&◌, List, [], ◌∷◌, ◌++◌, length, take, Option, Some, None, refl, sym, ◌∙◌, ap, subst, arith}
-use Rattle.std.specs.Prelude.{slice_get, not, is_some, Contains, count_by, if◌then◌else◌}
+use Rattle.std.specs.Prelude.{not, is_some, Contains, if◌then◌else◌}
 use Rattle.std.specs.BTreeMap.{is_at}
 use Rattle.std.specs.Option.{option_flatten, option_map}
 use Rattle.std.proofs.lemmas.List.{length-append, length-map}
@@ -12,10 +12,10 @@ use Rattle.claim_table.specs.declared.row.Row.{Row}
 use Rattle.claim_table.specs.declared.signature.Signature.{Signature}
 use Rattle.claim_table.specs.declared.spot.Spot.{Spot}
 use Rattle.claim_table.specs.Counts.{bit}
-use Rattle.claim_table.specs.Keeping.{AreCounted, AreEntered, AreHinted, DoAgree, IsFirstAt, IsKept, IsPending, IsPendingBelow, spot_at, spot_cmp}
+use Rattle.claim_table.specs.Keeping.{AreCounted, AreEntered, AreHinted, IsFirstAt, IsKept, IsPending, IsPendingBelow, spot_at, spot_cmp}
 use Rattle.claim_table.specs.Parts.{brings, supports}
 use Rattle.claim_table.specs.Table.{KeepsPending}
-use Rattle.claim_table.specs.Rows.{heard, is_raised, raised, signature_of, unheard, verdict_of, with_verdict}
+use Rattle.claim_table.specs.Rows.{DoAgree, heard, is_raised, raised, signature_of, unheard, verdict_of, with_verdict}
 use Rattle.claim_table.proofs.Hints.{entered_added, entered_front, entered_more, entered_set, hinted_added, hinted_front, hinted_more, hinted_set}
 use Rattle.claim_table.proofs.Lists.{count_end}
 use Rattle.claim_table.proofs.Rows.{agree_front, agree_raised, agree_set, first_front, first_longer, first_raised, first_set, first_within, verdict_front, verdict_heard, verdict_longer, verdict_none}

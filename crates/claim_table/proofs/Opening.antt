@@ -1,28 +1,22 @@
 -- The spots are those of the open rows, body by body.
-use Rattle.std.proofs.Common.{◌≡◌, ℕ, zero, suc, ◌⊎◌, ◌+◌, ◌<◌, ◌≤◌, Bool, true, false, ◌&&◌, ◌||◌, List, [], ◌∷◌, ◌++◌, length, map, take, Option, Some, None, refl, sym, ◌∙◌, ap, subst, inl, inr, arith, append-nil, append_assoc}
-use Rattle.std.specs.Prelude.{slice_get, filter, flat_map, not, is_none, if◌then◌else◌}
+use Rattle.std.proofs.Common.{◌≡◌, ℕ, zero, suc, ◌⊎◌, ◌+◌, ◌<◌, ◌≤◌, Bool, true, false, List, [], ◌∷◌, ◌++◌, take, Option, Some, None, refl, sym, ◌∙◌, ap, subst, inl, inr, arith, append-nil, append_assoc}
+use Rattle.std.specs.Prelude.{slice_get, if◌then◌else◌}
 use Rattle.std.specs.List.{AllByRecursion, list_any}
 use Rattle.std.specs.List.Sorted.{IsStrictlySortedBy}
 use Rattle.std.specs.declared.cmp.Ordering.TheVariants.{Less, Equal}
 use Rattle.std.specs.Cmp.{nat_cmp_is}
-use Rattle.std.specs.Option.{option_map}
 use Rattle.std.specs.Ordering.{is_eq}
 use Rattle.std.specs.BTreeMap.{is_at}
 use Rattle.std.specs.BTreeSet.{BTreeSet, IsOrdered, contains}
 use Rattle.std.proofs.lemmas.Bool.{cases_Bool, cases_lt}
-use Rattle.std.proofs.Math.Bool.{and-false, and-true, or-false}
-use Rattle.std.proofs.lemmas.List.{length-append, length-map}
+use Rattle.std.proofs.Math.Bool.{or-false}
 use Rattle.std.proofs.lemmas.List.Folds.{list_any-append}
 use Rattle.std.proofs.lemmas.Map.Lookups.{btree_set_from_contains}
-use Rattle.std.proofs.lemmas.Option.{slice_get-map}
 use Rattle.claim_table.specs.declared.row.Row.{Row}
-use Rattle.claim_table.specs.declared.signature.Signature.{Signature}
 use Rattle.claim_table.specs.declared.spot.Spot.{Spot}
 use Rattle.claim_table.specs.Keeping.{AreOpen, is_open_at, opens, spot_at, spot_cmp}
-use Rattle.claim_table.specs.Rows.{first_rows, is_of, is_open_on, is_raised, open_rows, same_signature, signature_of}
 use Rattle.claim_table.specs.Table.{AreBelow}
 use Rattle.claim_table.proofs.Lists.{differ}
-use Rattle.claim_table.proofs.Rows.{same_is, same_itself}
 use Rattle.claim_table.proofs.Spots.{spot_is, spot_itself, spot_total}
 
 -- the spots of a body's open rows, after some rows, the first of the rest having this place
@@ -111,7 +105,8 @@ hit_from n before i zero (r ∷ rows) =
       | inr k ↦ (let first : Hits n (i + 0) (open_from n before i (r ∷ rows)) ≡ false = rw k none in first ∙ sym k ∙ sym same)
     ]
 hit_from n before i (suc k) (r ∷ rows) =
-    let more = subst (λ j. Hits n j (open_from n (before ++ r ∷ []) (suc i) rows) ≡ opens n ((before ++ r ∷ []) ++ take k rows) (slice_get rows k)) (omega arith) (hit_from n (before ++ r ∷ []) (suc i) k rows)
+    let place : suc i + k ≡ i + suc k = omega arith in
+    let more = subst (λ j. Hits n j (open_from n (before ++ r ∷ []) (suc i) rows) ≡ opens n ((before ++ r ∷ []) ++ take k rows) (slice_get rows k)) place (hit_from n (before ++ r ∷ []) (suc i) k rows)
     ∙ ap (λ before. opens n before (slice_get rows k)) (append_assoc before (r ∷ []) (take k rows)) in
     let other : is_at (spot_cmp (spot_at n (i + suc k))) (spot_at n i) ≡ false = miss n (i + suc k) n i (λ h. absurd (omega (arith, h.1))) in
     elim (cases_Bool (opens n before (Some r))) [

@@ -11,7 +11,7 @@ use Rattle.std.proofs.lemmas.Option.{slice_get-map}
 use Rattle.claim_table.specs.declared.row.Row.{Row}
 use Rattle.claim_table.specs.declared.signature.Signature.{Signature}
 use Rattle.claim_table.specs.declared.spot.Spot.{Spot}
-use Rattle.claim_table.specs.Keeping.{AreOpen, opens, spot_at, spot_cmp}
+use Rattle.claim_table.specs.Keeping.{AreOpen, opens, spot_cmp}
 use Rattle.claim_table.specs.Rows.{first_rows, is_of, is_open_on, is_raised, open_rows, same_signature, signature_of}
 use Rattle.claim_table.specs.Table.{AreBelow}
 use Rattle.claim_table.proofs.Opening.{keys_are, open_from, open_of}

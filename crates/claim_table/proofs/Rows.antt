@@ -1,5 +1,5 @@
 -- Laws of rows: raising, hearing, taking back and cutting.
-use Rattle.std.proofs.Common.{◌≡◌, ℕ, zero, suc, ◌<◌, ◌≤◌, Bool, true, false, ◌||◌, List, [], ◌∷◌, ◌++◌, length, map, take, Option, Some, None, refl, sym, ◌∙◌, ap, subst, inl, inr, arith}
+use Rattle.std.proofs.Common.{◌≡◌, ℕ, zero, suc, ◌<◌, ◌≤◌, Bool, true, false, ◌||◌, List, [], ◌∷◌, ◌++◌, length, take, Option, Some, None, refl, sym, ◌∙◌, ap, subst, inl, inr, arith}
 use Rattle.std.specs.Prelude.{slice_get, bytes_eq, ◌==◌, ◌&&◌}
 use Rattle.std.specs.Option.{option_map}
 use Rattle.std.specs.Cmp.Lexicographic.{bytes_decides}
@@ -10,14 +10,13 @@ use Rattle.std.proofs.lemmas.List.Folds.{list_any-append}
 use Rattle.std.proofs.lemmas.Option.{slice_get-map, slice_get_within}
 use Rattle.std.proofs.Math.Seq.{take-append_seam, take-length}
 use Rattle.cesr_codes.specs.Spelling.{key_code}
-use Rattle.cesr_codes.specs.declared.key.Key.{Key}
 use Rattle.cesr_codes.specs.declared.key.KeyCode.{KeyCode}
 use Rattle.cesr_codes.specs.declared.key.KeyCode.TheVariants.{Fixed, Rotating}
 use Rattle.claim_table.specs.declared.claimed.Claimed.{Claimed}
 use Rattle.claim_table.specs.declared.row.Row.{Row}
 use Rattle.claim_table.specs.declared.signature.Signature.{Signature}
-use Rattle.claim_table.specs.Keeping.{DoAgree, IsFirstAt}
-use Rattle.claim_table.specs.Rows.{heard, is_of, is_raised, raised, raised_all, same_key, same_signature, signature_of, unheard, verdict_of, with_verdict, with_verdicts}
+use Rattle.claim_table.specs.Keeping.{IsFirstAt}
+use Rattle.claim_table.specs.Rows.{DoAgree, heard, is_of, is_raised, raised, raised_all, same_key, same_signature, signature_of, unheard, verdict_of, with_verdict, with_verdicts}
 use Rattle.claim_table.proofs.Lists.{any_front, any_some, at_end, in_front, map_back, not_at_end, of_front, take_before, take_map}
 
 numbers : (m n : ℕ) → (m == n) ≡ true → m ≡ n
@@ -213,9 +212,12 @@ cut_keeps_raised s v rows claims there = ap (λ rows. is_raised rows s) (cut_to_
 
 -- the first row of a signature stays the first
 pub first_set : (s t : Signature) (v : Option Bool) (rows : List Row) (i : ℕ) → IsFirstAt rows t i → IsFirstAt (with_verdicts s v rows) t i
-first_set s t v rows i h =
-    (with_verdict s v h.0, slice_get-map (with_verdict s v) rows i ∙ ap (option_map (with_verdict s v)) h.1, set_of s v h.0 t ∙ h.2,
-      ap (λ rows. is_raised rows t) (take_map (with_verdict s v) i rows) ∙ raised_set s t v (take i rows) ∙ h.3)
+first_set s t v rows i h = (
+  with_verdict s v h.0,
+  slice_get-map (with_verdict s v) rows i ∙ ap (option_map (with_verdict s v)) h.1,
+  set_of s v h.0 t ∙ h.2,
+  ap (λ rows. is_raised rows t) (take_map (with_verdict s v) i rows) ∙ raised_set s t v (take i rows) ∙ h.3,
+)
 
 pub first_raised : (rows : List Row) (s : Signature) (i : ℕ) → IsFirstAt rows s i → is_raised rows s ≡ true
 first_raised rows s i h = any_some (is_of s) rows i h.0 h.1 h.2

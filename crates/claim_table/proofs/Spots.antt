@@ -1,5 +1,5 @@
 -- The spots of open questions, while rows are raised, cut, heard and closed.
-use Rattle.std.proofs.Common.{◌≡◌, ℕ, ◌+◌, ◌<◌, ◌≤◌, Bool, true, false, cond, ◌&&◌, ◌||◌, List, [], ◌∷◌, ◌++◌, length, map, take, Option, Some, None, refl, sym, ◌∙◌, ap, subst, inl, inr, arith, rules, tests}
+use Rattle.std.proofs.Common.{◌≡◌, ℕ, ◌<◌, Bool, true, false, cond, ◌&&◌, ◌||◌, List, [], ◌∷◌, ◌++◌, length, take, Option, Some, None, refl, sym, ◌∙◌, ap, inl, inr, arith, rules, tests}
 use Rattle.std.specs.Prelude.{slice_get, not, ◌==◌, is_none, is_some}
 use Rattle.std.specs.BTreeMap.{is_at}
 use Rattle.std.specs.Cmp.{IsTotalOrder}
@@ -8,15 +8,15 @@ use Rattle.std.proofs.lemmas.Bool.{and_parts, cases_Bool, cases_eq, cases_lt}
 use Rattle.std.proofs.Math.Seq.{take-length}
 use Rattle.std.proofs.Math.Bool.{and-false, or-false}
 use Rattle.std.proofs.lemmas.Bool.Decides.{Decides-eqb}
-use Rattle.std.proofs.lemmas.Option.{slice_get-map, slice_get_past, slice_get_within}
+use Rattle.std.proofs.lemmas.Option.{slice_get-map, slice_get_past}
 use Rattle.claim_table.specs.contracts.spot.SpotOrd.TheImpl.Laws as spot_laws
 use Rattle.claim_table.specs.contracts.spot.SpotPartialEq.TheImpl as spot_eq
 use Rattle.claim_table.specs.declared.claim_rows.Pending.{Pending}
 use Rattle.claim_table.specs.declared.row.Row.{Row}
 use Rattle.claim_table.specs.declared.signature.Signature.{Signature}
 use Rattle.claim_table.specs.declared.spot.Spot.{Spot}
-use Rattle.claim_table.specs.Keeping.{AreOpen, DoAgree, IsFirstAt, IsPendingBelow, is_open_at, is_pending, opens, spot_at, spot_cmp}
-use Rattle.claim_table.specs.Rows.{heard, is_of, is_raised, same_signature, signature_of, unheard, verdict_of, with_verdict, with_verdicts}
+use Rattle.claim_table.specs.Keeping.{AreOpen, IsFirstAt, IsPendingBelow, is_open_at, is_pending, opens, spot_at, spot_cmp}
+use Rattle.claim_table.specs.Rows.{DoAgree, heard, is_of, is_raised, signature_of, unheard, verdict_of, with_verdict, with_verdicts}
 use Rattle.claim_table.proofs.Lists.{any_some, at_end, differ, in_front, not_at_end, take_before, take_map}
 use Rattle.claim_table.proofs.Rows.{agree_set, first_raised, first_set, raised_set, same_is, set_elsewhere, set_there, unheard_heard, verdict_heard}
 

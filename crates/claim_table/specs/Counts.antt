@@ -1,5 +1,5 @@
 -- Counts of parts.
-use Rattle.std.specs.Prelude.{ℕ, Bool, true, false, cond, ◌&&◌, ◌==◌, Option, Some, None, is_some}
+use Rattle.std.specs.Prelude.{ℕ, Bool, false, cond, ◌&&◌, ◌==◌, Option, Some, None, is_some}
 use Rattle.std.specs.BTreeMap as tree
 use Rattle.std.specs.declared.cmp.Ordering.{Ordering}
 use Rattle.std.specs.declared.cmp.Ord as ord

@@ -15,7 +15,7 @@ use Rattle.claim_table.specs.declared.signature.Signature.{Signature}
 use Rattle.claim_table.specs.declared.spot.Spot.{Spot}
 use Rattle.claim_table.specs.Counts.{amount, is_entered}
 use Rattle.claim_table.specs.Parts.{brings, supports}
-use Rattle.claim_table.specs.Rows.{is_of, is_raised, signature_of, verdict_of}
+use Rattle.claim_table.specs.Rows.{DoAgree, is_of, is_raised, signature_of, verdict_of}
 use Rattle.claim_table.specs.Table.{Table}
 use denote.Param as param
 
@@ -48,10 +48,6 @@ AreOpen rows pending open_spots = (n i : ℕ) → open_spots (spot_at n i) ≡ (
 -- the place of each row is among the numbers of its signature
 abbrev pub AreHinted : List Row → (Signature → List ℕ) → Type 0
 AreHinted rows numbers = (i : ℕ) (r : Row) → slice_get rows i ≡ Some r → Contains (numbers (signature_of r.claimed)) i
-
--- the rows of a signature have one verdict
-abbrev pub DoAgree : List Row → Type 0
-DoAgree rows = (i : ℕ) (r : Row) → slice_get rows i ≡ Some r → r.verdict ≡ verdict_of rows (signature_of r.claimed)
 
 -- the row at a place is the first of a signature
 abbrev pub IsFirstAt : List Row → Signature → ℕ → Type 0

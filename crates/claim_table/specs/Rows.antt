@@ -1,5 +1,5 @@
 -- Rows of claims, and what hearing a verdict makes of them.
-use Rattle.std.specs.Prelude.{ℕ, Bool, true, false, ◌&&◌, ◌==◌, not, List, [], ◌∷◌, ◌++◌, map, filter, flat_map, Option, Some, None, is_none, if◌then◌else◌, bytes_eq}
+use Rattle.std.specs.Prelude.{◌≡◌, ℕ, Bool, false, ◌&&◌, ◌==◌, not, List, [], ◌∷◌, ◌++◌, map, filter, flat_map, Option, Some, None, is_none, slice_get, if◌then◌else◌, bytes_eq}
 use Rattle.std.specs.List.{list_any, range_with_len}
 use Rattle.cesr_codes.specs.Spelling.{key_code}
 use Rattle.cesr_codes.specs.declared.key.Key.{Key}
@@ -31,6 +31,10 @@ is_raised rows s = list_any (is_of s) rows
 abbrev pub verdict_of : List Row → Signature → Option Bool
 verdict_of [] s = None
 verdict_of (r ∷ rows) s = if is_of s r then r.verdict else verdict_of rows s
+
+-- the rows of a signature have one verdict
+abbrev pub DoAgree : List Row → Type 0
+DoAgree rows = (i : ℕ) (r : Row) → slice_get rows i ≡ Some r → r.verdict ≡ verdict_of rows (signature_of r.claimed)
 
 -- a claim is raised: its row has the verdict that was heard on its signature, where there is one
 abbrev pub raised : List Row → Claimed → List Row

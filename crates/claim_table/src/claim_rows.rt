@@ -154,10 +154,9 @@ impl ClaimRows {
         ensures pending { self.new.pending ≡ None }
         ensures sound { IsSound self.new }
     {
-        let Some(pending) = self.pending else {
+        let Some(pending) = self.pending.take() else {
             return;
         };
-        self.pending = None;
         set_verdicts(
             &mut self.rows,
             &mut self.counts,
@@ -174,10 +173,9 @@ impl ClaimRows {
         ensures pending { self.new.pending ≡ None }
         ensures sound { IsSound self.new }
     {
-        let Some(pending) = self.pending else {
+        let Some(pending) = self.pending.take() else {
             return;
         };
-        self.pending = None;
         let spot = Spot {
             body: pending.signature.body,
             row: pending.row,

@@ -3,7 +3,7 @@ ghost use Rattle.std.specs.Prelude.{◌≡◌, ◌≢◌, ℕ, true, length, tak
 ghost use Rattle.std.specs.BTreeSet.{IsOrdered};
 ghost use Rattle.std.specs.Option.{option_map};
 ghost use Rattle.claim_table.specs.Parts.{has_part};
-ghost use Rattle.claim_table.specs.Rows.{has_yes_by, heard, is_raised, open_rows, raised, signature_of, unheard, verdict_of};
+ghost use Rattle.claim_table.specs.Rows.{DoAgree, has_yes_by, heard, is_raised, open_rows, raised, signature_of, unheard, verdict_of};
 ghost use Rattle.claim_table.specs.Table.{AreBelow, KeepsPending, nothing};
 ghost use Rattle.claim_table.specs.declared.part.Part.TheVariants.{Indexed, Revealed, Backed};
 ghost use Rattle.claim_table.specs.declared.signature.Signature.{Signature};
@@ -84,9 +84,10 @@ impl ClaimTable {
         self.inner.truncate(len);
     }
 
-    /// The verdict of a signature, where some row is of it.
+    /// The verdict of a signature, where some row is of it. All of its rows have that one.
     pub fn verdict(&self, signature: &Signature) -> Option<Option<bool>>
-        ensures { result ≡ (if is_raised self.now.rows signature.now then Some (verdict_of self.now.rows signature.now) else None) }
+        ensures verdict { result ≡ (if is_raised self.now.rows signature.now then Some (verdict_of self.now.rows signature.now) else None) }
+        ensures agree { DoAgree self.now.rows }
     {
         self.inner.verdict(signature)
     }
@@ -198,7 +199,5 @@ fn signature_at(rows: &[Row], place: usize) -> Option<Signature>
 fn any_yes_by(rows: &[Row], body: u32, key: &Key) -> bool
     ensures { result ≡ has_yes_by rows.now body key.now }
 {
-    rows.iter().any(|row| {
-        row.has_yes() && row.claimed.body == body && row.claimed.key == *key
-    })
+    rows.iter().any(|row| { row.has_yes() && row.claimed.body == body && row.claimed.key == *key })
 }

@@ -5,6 +5,6 @@ use Rattle.claim_table.proofs.claim_rows.first_of.Goals as goal
 
 pub returns-then-is_row_of : goal.returns-then-is_row_of
 returns-then-is_row_of c = (
-    sym c.is_row_of.ensures ∙ c.if-is_row_of.true,
-    least (λ n. is_of_at c.args.signature.now (slice_get c.args.rows.now n)) c.args.numbers.now c.loop-number.number-index c.requires c.loop-number-test.true c.loop-number.invariant,
-  )
+  sym c.is_row_of.ensures ∙ c.if-is_row_of.true,
+  least (λ n. is_of_at c.args.signature.now (slice_get c.args.rows.now n)) c.args.numbers.now c.loop-number.number-index c.requires c.loop-number-test.true c.loop-number.invariant,
+)

@@ -1,4 +1,4 @@
-use Rattle.std.proofs.Common.{◌≡◌, ◌∷◌, ◌-◌, [], length, false, cond, sym, subst, ap, arith}
+use Rattle.std.proofs.Common.{◌≡◌, ◌∷◌, ◌-◌, [], length, false, cond, subst, ap, arith}
 use Rattle.std.specs.BTreeMap.{is_at}
 use Rattle.std.specs.BTreeSet.{contains}
 use Rattle.std.proofs.lemmas.List.{length-append}

@@ -1,4 +1,4 @@
-use Rattle.std.proofs.Common.{sym, subst}
+use Rattle.std.proofs.Common.{sym, subst, ◌∙◌}
 use Rattle.std.specs.Prelude.{Contains}
 use Rattle.std.specs.BTreeSet.{contains}
 use Rattle.event_index.specs.Keys.{numbers_at}
@@ -15,5 +15,5 @@ set_verdicts-requires-clause-all c = λ i of.
 pub returns-clause-sound : goal.returns-clause-sound
 returns-clause-sound c =
     let t = c.args.self.now in
-    let kept = subst (λ pending. IsKept t.rows.items pending (contains spot_cmp t.spots) (numbers_at signature_cmp t.by_signature) (amount t.counts) (is_entered t.counts)) c.in-Some.is c.requires in
-    kept_unheard _ _ _ _ c.in-Some.pending (contains spot_cmp t.spots) _ _ (is_entered c.set_verdicts.new.counts) c.set_verdicts.ensures.rows c.set_verdicts.ensures.counted c.set_verdicts.ensures.entries kept
+    let kept = subst (λ pending. IsKept t.rows.items pending (contains spot_cmp t.spots) (numbers_at signature_cmp t.by_signature) (amount t.counts) (is_entered t.counts)) (sym c.take.ensures.value ∙ c.in-Some.is) c.requires in
+    rw c.take.ensures.after (kept_unheard _ _ _ _ c.in-Some.pending (contains spot_cmp t.spots) _ _ (is_entered c.set_verdicts.new.counts) c.set_verdicts.ensures.rows c.set_verdicts.ensures.counted c.set_verdicts.ensures.entries kept)

@@ -1,4 +1,4 @@
-use Rattle.std.proofs.Common.{None, slice_get, subst, sym, ◌∙◌, ap}
+use Rattle.std.proofs.Common.{slice_get, subst, sym, ◌∙◌, ap}
 use Rattle.std.specs.BTreeSet.{contains}
 use Rattle.std.specs.Option.{option_map}
 use Rattle.claim_table.specs.declared.row.Row.{Row}
