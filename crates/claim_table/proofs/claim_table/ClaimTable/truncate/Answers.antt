@@ -1,0 +1,9 @@
+use Rattle.std.proofs.Common.{sym, subst}
+use Rattle.claim_table.specs.Table.{KeepsPending}
+use Rattle.claim_table.proofs.Kept.{pending_within}
+use Rattle.claim_table.proofs.claim_table.ClaimTable.truncate.Goals as goal
+
+pub truncate-requires-clause-kept : goal.truncate-requires-clause-kept
+truncate-requires-clause-kept c =
+    let inner = c.self.inside.inner in
+    pending_within c.args.len inner.rows.items inner.pending c.self.invariant.first (subst (λ v. KeepsPending c.args.len v.rows v.pending) (sym c.self.view_is) c.requires)

@@ -1,0 +1,5 @@
+pub mod Rows
+pub mod Parts
+pub mod Counts
+pub mod Table
+pub mod Keeping

@@ -1,0 +1,31 @@
+-- What the yes verdicts of a body add up to.
+use Rattle.std.specs.Prelude.{ℕ, Bool, false, ◌&&◌, ◌==◌, List, Option, Some, None}
+use Rattle.std.specs.List.{list_any}
+use Rattle.claim_table.specs.declared.claimed.Parts.{Parts}
+use Rattle.claim_table.specs.declared.part.BodyPart.{BodyPart}
+use Rattle.claim_table.specs.declared.part.Part.{Part}
+use Rattle.claim_table.specs.declared.part.Part.TheVariants.{Indexed, Revealed, Backed}
+use Rattle.claim_table.specs.declared.row.Row.{Row}
+use Rattle.claim_table.specs.Rows.{is_yes}
+
+abbrev pub is_number : Option ℕ → ℕ → Bool
+is_number None n = false
+is_number (Some m) n = m == n
+
+-- a claim brings the part
+abbrev pub brings_part : Parts → Part → Bool
+brings_part parts (Indexed n) = is_number parts.index n
+brings_part parts (Revealed n) = is_number parts.reveal n
+brings_part parts (Backed n) = is_number parts.backer n
+
+-- a claim on the body of a number brings the part of a body
+abbrev pub brings : ℕ → Parts → BodyPart → Bool
+brings body parts q = (body == q.body) && brings_part parts q.part
+
+-- the row has a yes, and brings the part
+abbrev pub supports : BodyPart → Row → Bool
+supports q r = is_yes r.verdict && brings r.claimed.body r.claimed.parts q
+
+-- some row of the body with a yes brings the part
+abbrev pub has_part : List Row → ℕ → Part → Bool
+has_part rows n part = list_any (supports (record { body = n; part = part })) rows

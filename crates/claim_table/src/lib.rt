@@ -1,0 +1,16 @@
+//! The claims on bodies, with the verdicts that were heard on them, and what the yes verdicts of a body add up to.
+#![tactic(auto)]
+
+mod claim_rows;
+mod claim_table;
+mod claimed;
+mod part;
+mod part_counts;
+mod row;
+mod signature;
+mod spot;
+
+pub use claim_table::ClaimTable;
+pub use claimed::{Claimed, Parts};
+pub use row::Row;
+pub use signature::Signature;
