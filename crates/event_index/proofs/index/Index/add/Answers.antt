@@ -1,0 +1,48 @@
+use Rattle.std.proofs.Common.{rules, arith, ◌≡◌, ◌<◌, ℕ, true, cond, List, [], ◌∷◌, Some, None, refl, sym, subst, inl, inr}
+use Rattle.std.specs.Prelude.{Contains}
+use Rattle.std.specs.declared.cmp.Ordering.{Ordering}
+use Rattle.std.specs.BTreeMap as tree
+use Rattle.std.specs.BTreeMap.{BTreeMap, is_at}
+use Rattle.std.specs.Cmp.{IsTotalOrder}
+use Rattle.std.specs.Map.{lookup}
+use Rattle.std.proofs.lemmas.Cmp.{eq_by_cmp_equiv}
+use Rattle.std.proofs.lemmas.Bool.{cases_Bool}
+use Rattle.event_index.specs.Keys.{numbers_in}
+use Rattle.event_index.specs.Numbers.{Numbers}
+use Rattle.event_index.proofs.index.Index.add.Goals as goal
+
+-- keys that the order doesn't tell apart are looked up alike
+alike : {K X : Type 0} {R : K → K → Ordering} → IsTotalOrder R → (k q : K) → is_at (R k) q ≡ true → (es : List (K × X)) → lookup (is_at (R q)) es ≡ lookup (is_at (R k)) es
+alike o k q h [] = refl
+alike {R = R} o k q h (e ∷ es) =
+    let here : is_at (R k) e.0 ≡ is_at (R q) e.0 = (eq_by_cmp_equiv o).congr k q e.0 h in
+    let rest = alike o k q h es in
+    rw (here, rest) refl
+
+-- where what an entry has stays in what is written there, everything stays
+stays : {K : Type 0} {R : K → K → Ordering} → IsTotalOrder R → (old new : BTreeMap K (Numbers)) (key : K) (written : Numbers) (number : ℕ)
+    → ((q : K) → tree.get R new q ≡ cond (is_at (R key) q) (Some written) (tree.get R old q))
+    → ((n : ℕ) → n < number → Contains (numbers_in (tree.get R old key)) n → Contains written.list n)
+    → (q : K) (n : ℕ) → n < number → Contains (numbers_in (tree.get R old q)) n → Contains (numbers_in (tree.get R new q)) n
+stays {R = R} o old new key written number updates more q n low h = elim (cases_Bool (is_at (R key) q)) [
+  | inl k ↦ (let is = updates q in rw (is, k) (more n low (subst (λ o. Contains (numbers_in o) n) (alike o key q k old.entries) h)))
+  | inr k ↦ (let is = updates q in rw (is, k) h)
+]
+
+-- nothing stands in no entry
+no_number : {X : Type 0} (n : ℕ) → Contains (numbers_in None) n → X
+no_number n h = absurd (omega (arith, h.1))
+
+pub returns-in-Some-clause-kept : goal.returns-in-Some-clause-kept
+returns-in-Some-clause-kept g c =
+    let got = sym c.in-Some.ensures.value in
+    stays g.met.K.Ord.total c.args.self.now.numbers (c.get_mut.follows.lender c.replace_from.new.numbers) c.args.key c.replace_from.new.numbers c.args.number ((c.get_mut.follows.holds c.replace_from.new.numbers).3 (search rules)).0
+    (λ n low h. c.replace_from.ensures.kept n low (subst (λ o. Contains (numbers_in o) n) got h))
+
+pub returns-clause-kept : goal.returns-clause-kept
+returns-clause-kept g c =
+    let none = sym c.in_default.ensures.value in
+    let same = c.get_mut.follows.holds-at-none in
+    λ q n low h. stays g.met.K.Ord.total c.get_mut.follows.lender-at-none c.insert.new.self c.args.key c.replace_from-2.new.numbers c.args.number c.in_ok-insert.ensures.updates.0
+    (λ n low h. no_number n (subst (λ o. Contains (numbers_in o) n) none (subst (λ m. Contains (numbers_in (tree.get g.K.Ord.cmp m c.args.key)) n) same h)))
+    q n low (subst (λ m. Contains (numbers_in (tree.get g.K.Ord.cmp m q)) n) (sym same) h)
