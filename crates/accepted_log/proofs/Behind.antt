@@ -1,8 +1,9 @@
 -- The states just behind the events of an accepted log.
-use Rattle.std.proofs.Common.{◌≡◌, ℕ, zero, suc, ◌+◌, true, false, List, [], ◌∷◌, take, drop, Some, refl, ◌∙◌, ap, arith}
+use Rattle.std.proofs.Common.{◌≡◌, ℕ, zero, suc, ◌+◌, ◌-◌, ◌≤◌, length, true, false, List, [], ◌∷◌, take, drop, Some, refl, ◌∙◌, ap, arith}
 use Rattle.std.specs.Prelude.{slice_get}
 use Rattle.std.proofs.lemmas.Bool.{or_parts}
-use Rattle.event_body.specs.Events.{prefix_of, sn_of}
+use Rattle.std.proofs.lemmas.Option.{slice_get_within}
+use Rattle.event_body.specs.Events.{prefix_of, sn_of, said_of}
 use Rattle.key_state.specs.States.{State}
 use Rattle.journal.specs.declared.body.Body.{Body}
 use Rattle.journal.specs.Grown.{IsGrown}
@@ -13,7 +14,7 @@ use Rattle.accepted_log.specs.declared.place.Place.{Place}
 use Rattle.accepted_log.specs.Cuts.{AreAlike, IsLog, cut}
 use Rattle.accepted_log.specs.Values.{Log, last_from, last_of, last_place, nothing, state_there}
 use Rattle.accepted_log.proofs.Lists.{cut_at}
-use Rattle.accepted_log.proofs.StateSteps.{fits_parts}
+use Rattle.accepted_log.proofs.StateSteps.{fits_parts, live_at}
 
 -- NOTHING: no events
 pub nothing_is_log : IsLog [] nothing
@@ -30,11 +31,14 @@ up_to_at (c ∷ log) (suc i) b at new =
     let rest = up_to_at log i b at parts.1 in
     rw (other, rest) refl
 
--- the state of an event: where it stands, and that the state just behind the event is this one, cut
+-- the state of an event: where it stands, the event's place among its live events, and that the state just behind the event
+-- is this one, cut
 pub record StateOf (log : List Body) (v : Log) (b : Body) (place : ℕ) : Type 0 where
   pub state : State
   pub at : slice_get v.states place ≡ Some state
   pub its : state.prefix ≡ prefix_of b.event
+  pub from_est : state.est_sn ≤ sn_of b.event
+  pub live : sn_of b.event - state.est_sn + 1 ≤ length state.since
   pub then_is : state_at log b ≡ Some (cut (sn_of b.event) state)
 
 module _ (log : List Body) (v : Log) (is : IsLog log v) (grown : IsGrown log) (i : ℕ) (b : Body) (p : Place) (at : slice_get log i ≡ Some b) (pl : slice_get v.places i ≡ Some p) where
@@ -44,7 +48,9 @@ module _ (log : List Body) (v : Log) (is : IsLog log v) (grown : IsGrown log) (i
       let h = is.behind i b p at pl in
       let new = (fits_parts (take i log) b (grown (take i log) (drop (suc i) log) b (cut_at log i b at))).new in
       let front : up_to b log ≡ take (i + 1) log = up_to_at log i b at new ∙ ap (λ n. take n log) one in
-      record { state = h.state; at = h.at; its = h.is.prefix; then_is = ap (λ xs. state xs (prefix_of b.event)) front ∙ h.is.then_is }
+      let live = live_at h.state (sn_of b.event) (said_of b.event) h.is.live in
+      let within = slice_get_within h.state.since (sn_of b.event - h.state.est_sn) (said_of b.event) live.1 in
+      record { state = h.state; at = h.at; its = h.is.prefix; from_est = live.0; live = omega (arith, within); then_is = ap (λ xs. state xs (prefix_of b.event)) front ∙ h.is.then_is }
     where
       one : suc i ≡ i + 1
       one = omega arith

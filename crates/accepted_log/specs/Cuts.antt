@@ -3,7 +3,7 @@ use Rattle.std.specs.Prelude.{◌≡◌, ℕ, ◌+◌, ◌-◌, true, false, Lis
 use Rattle.cesr_codes.specs.declared.digest.Digest.{Digest}
 use Rattle.cesr_codes.specs.declared.prefix.Prefix.{Prefix}
 use Rattle.event_body.specs.Events.{prefix_of, sn_of, said_of, is_interaction}
-use Rattle.key_state.specs.KeyStates.{digest_at}
+use Rattle.key_state.specs.KeyStates.{digest_at, state_behind}
 use Rattle.key_state.specs.States.{State}
 use Rattle.journal.specs.declared.body.Body.{Body}
 use Rattle.journal.specs.Grown.{fits}
@@ -14,7 +14,7 @@ use Rattle.accepted_log.specs.Values.{Log, last_of}
 -- the state just behind its live event of a number: the live events up to that one, and all else the same, since only
 -- interactions are behind the first
 abbrev pub cut : ℕ → State → State
-cut n s = record s { since = take (n - s.est_sn + 1) s.since }
+cut n s = state_behind (n - s.est_sn + 1) s
 
 -- the second state is the first at another number of the log, with other events since
 abbrev pub AreAlike : State → State → Type 0

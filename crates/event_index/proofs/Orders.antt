@@ -1,9 +1,8 @@
 -- Rising numbers: those below a number, one more, and one less.
-use Rattle.std.proofs.Common.{◌≡◌, ◌≢◌, ℕ, ◌<◌, Bool, true, false, List, [], ◌∷◌, ◌++◌, length, get_or, take, drop, zero, suc, refl, sym, ap, subst, ◌∙◌, inl, inr, arith, nat_lt, not}
-use Rattle.std.specs.Prelude.{◌⊎◌, ◌==◌, ◌↔◌, insert, filter, Contains}
+use Rattle.std.proofs.Common.{◌≡◌, ℕ, Bool, true, false, List, [], ◌∷◌, ◌++◌, take, drop, zero, suc, refl, sym, subst, inl, inr, arith, nat_lt}
+use Rattle.std.specs.Prelude.{◌⊎◌, ◌↔◌, insert, filter, Contains}
 use Rattle.std.specs.List.Sorted.{IsStrictlyIncreasing, IsPartitionedBy}
 use Rattle.std.proofs.lemmas.Bool.{cases_Bool, cases_lt, ltb-true, lt-ltb}
-use Rattle.std.proofs.lemmas.Bool.Decides.{Decides-eqb}
 use Rattle.std.proofs.lemmas.List.{take-append-drop}
 use Rattle.std.proofs.lemmas.List.Elements.{Contains-append_cases, Contains-append_left, Contains-append_right}
 use Rattle.std.proofs.lemmas.Map.Keys.{below_from_sorted, sorted_from_strictly_increasing}
@@ -23,31 +22,31 @@ Contains-one x y (suc k, h, e) = absurd (omega (arith, h))
 -- what a list contains: its first element, or what the rest does
 pub Contains-cons : {X : Type 0} (x : X) (xs : List X) (y : X) → Contains (x ∷ xs) y ↔ ((x ≡ y) ⊎ Contains xs y)
 Contains-cons x xs y = (
-    λ h. elim (Contains-append_cases (x ∷ []) xs y h) [ inl one ↦ inl (Contains-one x y one) | inr rest ↦ inr rest ],
-    λ h. elim h [
-      | inl same ↦ Contains-append_left (x ∷ []) xs y (0, omega arith, same)
-      | inr rest ↦ Contains-append_right (x ∷ []) xs y rest
-    ],
-  )
+  λ h. elim (Contains-append_cases (x ∷ []) xs y h) [ inl one ↦ inl (Contains-one x y one) | inr rest ↦ inr rest ],
+  λ h. elim h [
+    | inl same ↦ Contains-append_left (x ∷ []) xs y (0, omega arith, same)
+    | inr rest ↦ Contains-append_right (x ∷ []) xs y rest
+  ],
+)
 
 -- the numbers of a list with one more
 pub Contains-insert : (ks : List ℕ) (i n q : ℕ) → Contains (insert ks i n) q ↔ ((q ≡ n) ⊎ Contains ks q)
 Contains-insert ks i n q = (
-    λ h. elim (Contains-append_cases (take i ks) (n ∷ drop i ks) q h) [
-      | inl low ↦ inr (whole (Contains-append_left (take i ks) (drop i ks) q low))
-      | inr rest ↦ elim ((Contains-cons n (drop i ks) q).0 rest) [
-        | inl same ↦ inl (sym same)
-        | inr high ↦ inr (whole (Contains-append_right (take i ks) (drop i ks) q high))
-      ]
-    ],
-    λ h. elim h [
-      | inl same ↦ Contains-append_right (take i ks) (n ∷ drop i ks) q ((Contains-cons n (drop i ks) q).1 (inl (sym same)))
-      | inr held ↦ elim (Contains-append_cases (take i ks) (drop i ks) q (subst (λ xs. Contains xs q) (sym (take-append-drop i ks)) held)) [
-        | inl low ↦ Contains-append_left (take i ks) (n ∷ drop i ks) q low
-        | inr high ↦ Contains-append_right (take i ks) (n ∷ drop i ks) q ((Contains-cons n (drop i ks) q).1 (inr high))
-      ]
-    ],
-  )
+  λ h. elim (Contains-append_cases (take i ks) (n ∷ drop i ks) q h) [
+    | inl low ↦ inr (whole (Contains-append_left (take i ks) (drop i ks) q low))
+    | inr rest ↦ elim ((Contains-cons n (drop i ks) q).0 rest) [
+      | inl same ↦ inl (sym same)
+      | inr high ↦ inr (whole (Contains-append_right (take i ks) (drop i ks) q high))
+    ]
+  ],
+  λ h. elim h [
+    | inl same ↦ Contains-append_right (take i ks) (n ∷ drop i ks) q ((Contains-cons n (drop i ks) q).1 (inl (sym same)))
+    | inr held ↦ elim (Contains-append_cases (take i ks) (drop i ks) q (subst (λ xs. Contains xs q) (sym (take-append-drop i ks)) held)) [
+      | inl low ↦ Contains-append_left (take i ks) (n ∷ drop i ks) q low
+      | inr high ↦ Contains-append_right (take i ks) (n ∷ drop i ks) q ((Contains-cons n (drop i ks) q).1 (inr high))
+    ]
+  ],
+)
   where
     whole : Contains (take i ks ++ drop i ks) q → Contains ks q
     whole h = subst (λ xs. Contains xs q) (take-append-drop i ks) h

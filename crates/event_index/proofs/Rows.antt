@@ -1,9 +1,9 @@
 -- What rising numbers tell of rows, where each row that is meant is among them.
-use Rattle.std.proofs.Common.{◌≡◌, ℕ, ◌+◌, ◌<◌, Bool, true, false, cond, List, [], ◌∷◌, ◌++◌, length, get_or, map, zero, suc, refl, append-nil, sym, ap, subst, ◌∙◌, arith, inl, inr, Option, Some, None}
-use Rattle.std.specs.Prelude.{◌↔◌, ◌⊎◌, Contains, filter, filter_map, find, reverse, slice_get}
+use Rattle.std.proofs.Common.{◌≡◌, ℕ, ◌+◌, ◌<◌, Bool, true, false, List, [], ◌∷◌, ◌++◌, length, map, zero, suc, refl, append-nil, sym, ap, ◌∙◌, arith, inl, inr, Option, Some, None}
+use Rattle.std.specs.Prelude.{◌↔◌, Contains, filter, filter_map, find, reverse, slice_get}
 use Rattle.std.specs.List.{range_with_len, cons_option}
 use Rattle.std.specs.List.Sorted.{IsStrictlyIncreasing}
-use Rattle.std.specs.Option.{option_and_then, option_map_or}
+use Rattle.std.specs.Option.{option_and_then}
 use Rattle.std.proofs.lemmas.Bool.{cases_Bool}
 use Rattle.std.proofs.lemmas.List.{reverse-append}
 use Rattle.std.proofs.lemmas.List.Elements.{filter-append, filter_map-append}
@@ -53,9 +53,9 @@ range-suc a (suc n) = let one : a + 1 ≡ suc a = omega arith in λ i. one i ∷
 
 Contains-range : (n i : ℕ) → Contains (range_with_len 0 n) i ↔ (i < n)
 Contains-range n i = (
-    λ h. let long = length-range_with_len 0 n in let at = get_or-range_with_len 0 n h.0 i (omega (arith, long, h.1)) in omega (arith, long, at, h.1, h.2),
-    λ lt. let long = length-range_with_len 0 n in let at = get_or-range_with_len 0 n i i lt in (i, omega (arith, long, lt), omega (arith, at)),
-  )
+  λ h. let long = length-range_with_len 0 n in let at = get_or-range_with_len 0 n h.0 i (omega (arith, long, h.1)) in omega (arith, long, at, h.1, h.2),
+  λ lt. let long = length-range_with_len 0 n in let at = get_or-range_with_len 0 n i i lt in (i, omega (arith, long, lt), omega (arith, at)),
+)
 
 range-rising : (n : ℕ) → IsStrictlyIncreasing (range_with_len 0 n)
 range-rising n k more =

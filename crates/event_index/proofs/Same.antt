@@ -1,5 +1,5 @@
 -- Rising lists with the same numbers are one list.
-use Rattle.std.proofs.Common.{◌≡◌, ℕ, ◌+◌, ◌<◌, ◌≤◌, List, [], ◌∷◌, length, get_or, zero, suc, refl, sym, ap, subst, arith, inl, inr}
+use Rattle.std.proofs.Common.{◌≡◌, ℕ, ◌+◌, ◌<◌, ◌≤◌, List, [], ◌∷◌, get_or, suc, refl, subst, arith, inl, inr}
 use Rattle.std.specs.Prelude.{◌↔◌, Contains}
 use Rattle.std.specs.List.Sorted.{IsStrictlyIncreasing}
 use Rattle.std.proofs.lemmas.List.Kept.{AllPairs-from_increasing}
@@ -30,6 +30,6 @@ rising_same (x ∷ xs) (y ∷ ys) up high same = λ i. heads i ∷ rising_same x
 
     rest : (n : ℕ) → Contains xs n ↔ Contains ys n
     rest n = (
-        λ h. let less = above_first x xs up n h in elim ((Contains-cons y ys n).0 ((same n).0 ((Contains-cons x xs n).1 (inr h)))) [ inl e ↦ absurd (omega (arith, e, heads, less)) | inr more ↦ more ],
-        λ h. let less = above_first y ys high n h in elim ((Contains-cons x xs n).0 ((same n).1 ((Contains-cons y ys n).1 (inr h)))) [ inl e ↦ absurd (omega (arith, e, heads, less)) | inr more ↦ more ],
-      )
+      λ h. let less = above_first x xs up n h in elim ((Contains-cons y ys n).0 ((same n).0 ((Contains-cons x xs n).1 (inr h)))) [ inl e ↦ absurd (omega (arith, e, heads, less)) | inr more ↦ more ],
+      λ h. let less = above_first y ys high n h in elim ((Contains-cons x xs n).0 ((same n).1 ((Contains-cons y ys n).1 (inr h)))) [ inl e ↦ absurd (omega (arith, e, heads, less)) | inr more ↦ more ],
+    )

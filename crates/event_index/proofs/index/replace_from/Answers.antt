@@ -1,4 +1,4 @@
-use Rattle.std.proofs.Common.{◌≡◌, ℕ, ap, sym, subst, ◌∙◌, inl, inr, arith, refl}
+use Rattle.std.proofs.Common.{sym, subst, inl, inr, arith, refl}
 use Rattle.std.specs.Prelude.{Contains}
 use Rattle.event_index.proofs.index.replace_from.Goals as goal
 

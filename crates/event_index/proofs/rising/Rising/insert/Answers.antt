@@ -1,4 +1,4 @@
-use Rattle.std.proofs.Common.{◌≡◌, ℕ, List, ap, sym, subst, ◌∙◌, rules}
+use Rattle.std.proofs.Common.{◌≡◌, ap, sym, subst, rules}
 use Rattle.std.specs.Prelude.{◌↔◌, ◌⊎◌, Contains, insert}
 use Rattle.event_index.proofs.Orders.{Contains-insert}
 use Rattle.event_index.proofs.rising.Rising.insert.Goals as goal

@@ -1,4 +1,4 @@
-use Rattle.std.proofs.Common.{◌≡◌, ◌≢◌, ℕ, true, not, refl, inl, inr, sym, ap, subst, ◌∙◌, rules, tests, arith}
+use Rattle.std.proofs.Common.{◌≡◌, ◌≢◌, ℕ, true, not, refl, inl, inr, sym, ap, subst, rules, tests}
 use Rattle.std.specs.Prelude.{◌==◌, filter, Contains}
 use Rattle.std.specs.List.Sorted.{IsStrictlyIncreasing}
 use Rattle.std.proofs.lemmas.Bool.{cases_Bool}
