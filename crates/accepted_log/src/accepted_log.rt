@@ -1,5 +1,5 @@
 //! The accepted log itself.
-ghost use Rattle.std.specs.Prelude.{◌≡◌, ◌<◌, ◌+◌, ◌^◌, [], length, slice_get, IfSome, OnOk, OnErr};
+ghost use Rattle.std.specs.Prelude.{◌≡◌, ◌<◌, ◌+◌, ◌^◌, [], length, slice_get, vec_len, vec_capacity, IfSome, IfOk, OnOk, OnErr};
 ghost use Rattle.std.specs.Option.{option_map};
 ghost use Rattle.key_state.specs.Heads.{head_sn};
 ghost use Rattle.accepted_log.specs.Cuts.{GrowsByInteraction, GrowsByState, IsLog};
@@ -76,16 +76,13 @@ impl AcceptedLog {
         ensures extends { OnOk result (Extends self.old self.new) }
         ensures err { OnErr result (self.new ≡ self.old) }
     {
-        let place = Place {
-            state: number_of(self.states.len())?,
-            entries,
-        };
-        self.numbers.reserve(1)?;
-        self.places.reserve(1)?;
-        self.states.reserve(1)?;
-        self.hints.add(state.prefix, place.state)?;
+        let place = make_room(&mut self.numbers, &mut self.places, &mut self.states)?;
+        self.hints.add(state.prefix, place)?;
         self.numbers.push_reserved(number);
-        self.places.push_reserved(place);
+        self.places.push_reserved(Place {
+            state: place,
+            entries,
+        });
         self.states.push_reserved(state);
         Ok(())
     }
@@ -168,4 +165,24 @@ impl AcceptedLog {
     {
         self.states.get(place as usize)
     }
+}
+
+// Makes room for one more in each list: the place of the state that comes next.
+fn make_room(
+    numbers: &mut Vec<u32>,
+    places: &mut Vec<Place>,
+    states: &mut Vec<KeyState>,
+) -> Result<u32, AllocError>
+    ensures numbers { numbers.new.items ≡ numbers.old.items }
+    ensures places { places.new.items ≡ places.old.items }
+    ensures states { states.new.items ≡ states.old.items }
+    ensures next { IfOk result (λ place. place ≡ length states.old.items) }
+    ensures number_room { OnOk result (vec_len numbers.new < vec_capacity numbers.new) }
+    ensures place_room { OnOk result (vec_len places.new < vec_capacity places.new) }
+    ensures state_room { OnOk result (vec_len states.new < vec_capacity states.new) }
+{
+    numbers.reserve(1)?;
+    places.reserve(1)?;
+    states.reserve(1)?;
+    number_of(states.len())
 }
