@@ -1,0 +1,9 @@
+mod Lists
+mod Last
+mod Hinted
+mod StateSteps
+mod Growth
+mod Readings
+pub mod Extensions
+pub mod Behind
+pub mod Made

@@ -1,0 +1,51 @@
+-- What an accepted log says of a list of events: the current state of each identifier, and the state just behind each event.
+use Rattle.std.specs.Prelude.{◌≡◌, ℕ, ◌+◌, ◌-◌, true, false, List, [], ◌∷◌, ◌++◌, length, take, slice_get, Some, IsTrue}
+use Rattle.cesr_codes.specs.declared.digest.Digest.{Digest}
+use Rattle.cesr_codes.specs.declared.prefix.Prefix.{Prefix}
+use Rattle.event_body.specs.Events.{prefix_of, sn_of, said_of, is_interaction}
+use Rattle.key_state.specs.KeyStates.{digest_at, state_behind}
+use Rattle.key_state.specs.States.{State}
+use Rattle.journal.specs.declared.body.Body.{Body}
+use Rattle.journal.specs.Grown.{fits}
+use Rattle.journal.specs.Logs as logs
+use Rattle.accepted_log.specs.declared.place.Place.{Place}
+use Rattle.accepted_log.specs.Values.{Log, last_of}
+
+-- the state just behind its live event of a number: the live events up to that one, and all else the same, since only
+-- interactions are behind the first
+abbrev pub cut : ℕ → State → State
+cut n s = state_behind (n - s.est_sn + 1) s
+
+-- the second state is the first at another number of the log, with other events since
+abbrev pub AreAlike : State → State → Type 0
+AreAlike s t = record s { est_sn = t.est_sn; since = t.since } ≡ t
+
+-- the body is the last of the list, a live event of the state, and the state up to it is that just behind the body
+pub record IsBehind (front : List Body) (b : Body) (s : State) : Type 0 where
+  pub prefix : s.prefix ≡ prefix_of b.event
+  pub live : digest_at s (sn_of b.event) ≡ Some (said_of b.event)
+  pub then_is : logs.state front (prefix_of b.event) ≡ Some (cut (sn_of b.event) s)
+
+-- such a state stands at the place
+pub record HasState (states : List State) (front : List Body) (b : Body) (place : ℕ) : Type 0 where
+  pub state : State
+  pub at : slice_get states place ≡ Some state
+  pub is : IsBehind front b state
+
+-- the accepted log is of these events: it has the current state of each identifier, and for each event the state that the
+-- event made or went onto
+pub record IsLog (log : List Body) (v : Log) : Type 0 where
+  pub numbers : length v.numbers ≡ length log
+  pub places : length v.places ≡ length log
+  pub current : (prefix : Prefix) → last_of prefix v.states ≡ logs.state log prefix
+  pub behind : (i : ℕ) (b : Body) (p : Place) → slice_get log i ≡ Some b → slice_get v.places i ≡ Some p → HasState v.states (take (i + 1) log) b p.state
+
+-- an establishment event that fits, and makes this state, is one more of the events
+abbrev pub GrowsByState : State → Log → Log → Type 0
+GrowsByState s old new = (log : List Body) (b : Body) → IsLog log old → IsTrue (fits log b) → is_interaction b.event ≡ false
+    → logs.state (log ++ b ∷ []) (prefix_of b.event) ≡ Some s → IsLog (log ++ b ∷ []) new
+
+-- an interaction of this identifier and digest that fits is one more of the events
+abbrev pub GrowsByInteraction : Prefix → Digest → Log → Log → Type 0
+GrowsByInteraction prefix said old new = (log : List Body) (b : Body) → IsLog log old → IsTrue (fits log b) → is_interaction b.event ≡ true
+    → prefix_of b.event ≡ prefix → said_of b.event ≡ said → IsLog (log ++ b ∷ []) new
