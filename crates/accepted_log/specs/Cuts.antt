@@ -20,7 +20,8 @@ cut n s = state_behind (n - s.est_sn + 1) s
 abbrev pub AreAlike : State → State → Type 0
 AreAlike s t = record s { est_sn = t.est_sn; since = t.since } ≡ t
 
--- the body is the last of the list, a live event of the state, and the state up to it is that just behind the body
+-- the body is a live event of the state, and behind this front of the list, which ends with the body, its identifier had
+-- the state cut there
 pub record IsBehind (front : List Body) (b : Body) (s : State) : Type 0 where
   pub prefix : s.prefix ≡ prefix_of b.event
   pub live : digest_at s (sn_of b.event) ≡ Some (said_of b.event)
