@@ -1,0 +1,2 @@
+pub mod Footing
+pub mod Turning

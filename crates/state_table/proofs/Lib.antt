@@ -1,4 +1,0 @@
-pub mod Undoing
-pub mod Found
-pub mod Of
-pub mod Changes
