@@ -60,7 +60,7 @@ found_cut n k s e (f ∷ fs) (c ∷ cs) are = let here = are.0 in (
 )
 
 module _ (log : List Body) (v : Log) (is : IsLog log v) (grown : IsGrown log) (i : ℕ) (x : Body) (p : Place) (at : slice_get log i ≡ Some x) (pl : slice_get v.places i ≡ Some p) (b : Body) (before : predecessor log b ≡ Some x) where
-  abbrev of_x : StateOf log v x p.state
+  abbrev pub of_x : StateOf log v x p.state
   of_x = state_of log v is grown i x p at pl
 
   -- FOOTING: behind its predecessor an event stands where it follows the state there

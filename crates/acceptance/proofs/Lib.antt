@@ -1,2 +1,5 @@
 pub mod Footing
 pub mod Turning
+pub mod Ready
+pub mod Turned
+pub mod Predecessor
