@@ -3,6 +3,8 @@
 //! by tests/rows, never by this program.
 #![tactic(auto)]
 
+mod backing;
+mod event;
 mod states;
 
 use anyhow::Result;
@@ -12,7 +14,10 @@ use std::io;
 
 // The answer of the first part of the library that has the call.
 fn called(alloc: Global, row: &Row) -> Result<Option<String>, AllocError> {
-    states::answer(alloc, row)
+    if let Some(answer) = states::answer(alloc, row)? {
+        return Ok(Some(answer));
+    }
+    backing::answer(alloc, row)
 }
 
 // What the line is answered by.

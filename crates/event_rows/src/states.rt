@@ -1,24 +1,13 @@
 //! Key states after events.
-ghost use Rattle.std.specs.Prelude.{IfOk};
 ghost use Rattle.key_state.specs.Kept.{IsKept};
 
+use crate::event::kept_event;
 use cesr_codes::{IndexedSig, Key};
-use event_body::{Event, ReadBody, read_body};
-use key_state::{KeyState, StateFault, first, spelled_is_kept};
+use event_body::Event;
+use key_state::{KeyState, Misfit, StateFault, first};
 use row_text::{Row, given};
 use std::alloc::{AllocError, Global};
 use std::fmt::Write;
-
-// The event that the text spells, of which a state can be asked.
-fn kept_event(alloc: Global, text: &[u8]) -> Result<Event, ReadBody>
-    ensures kept { IfOk result IsKept }
-{
-    spelled_is_kept();
-    match read_body(alloc, text) {
-        Ok(event) => Ok(event),
-        Err(fault) => Err(fault),
-    }
-}
 
 // The state after one more event.
 fn moved(alloc: Global, state: &Option<KeyState>, event: &Event) -> Result<KeyState, StateFault>
@@ -102,14 +91,28 @@ fn last(row: &Row) -> usize {
     row.len().saturating_sub(1)
 }
 
+fn key_word(alloc: Global, text: &mut String, key: &Key) -> Result<(), AllocError> {
+    let mut spelled = [0; 44];
+    key.write(&mut spelled);
+    text.push_str(String::from_utf8_lossy(alloc, &spelled)?.as_str())?;
+    text.push_str(" ")
+}
+
 fn keys_words(alloc: Global, text: &mut String, keys: &[Key]) -> Result<(), AllocError> {
     for key in keys {
-        let mut spelled = [0; 44];
-        key.write(&mut spelled);
-        text.push_str(String::from_utf8_lossy(alloc, &spelled)?.as_str())?;
-        text.push_str(" ")?;
+        key_word(alloc, text, key)?;
     }
     Ok(())
+}
+
+fn list_words(
+    alloc: Global,
+    text: &mut String,
+    state: &KeyState,
+    event: &Event,
+) -> Result<(), AllocError> {
+    let list = state.list_of(alloc, event)?;
+    keys_words(alloc, text, list.as_slice())
 }
 
 fn witnesses_words(
@@ -118,8 +121,8 @@ fn witnesses_words(
     state: &KeyState,
     bytes: &[u8],
 ) -> Result<(), AllocError> {
-    match read_body(alloc, bytes) {
-        Ok(event) => keys_words(alloc, text, state.list_of(alloc, &event)?.as_slice()),
+    match kept_event(alloc, bytes) {
+        Ok(event) => list_words(alloc, text, state, &event),
         Err(_) => Ok(()),
     }
 }
@@ -134,11 +137,26 @@ fn witnesses(alloc: Global, row: &Row) -> Result<String, AllocError> {
     Ok(text)
 }
 
+fn number_word(text: &mut String, number: u16) -> Result<(), AllocError> {
+    write!(text, "{number} ")
+}
+
 fn numbers_words(text: &mut String, numbers: &[u16]) -> Result<(), AllocError> {
     for number in numbers {
-        write!(text, "{number} ")?;
+        number_word(text, *number)?;
     }
     Ok(())
+}
+
+fn opened_words(
+    alloc: Global,
+    text: &mut String,
+    state: &KeyState,
+    event: &Event,
+    sigs: &[IndexedSig],
+) -> Result<(), AllocError> {
+    let places = state.exposed(alloc, event, sigs)?;
+    numbers_words(text, places.as_slice())
 }
 
 fn places_words(
@@ -148,30 +166,47 @@ fn places_words(
     bytes: &[u8],
     sigs: &[IndexedSig],
 ) -> Result<(), AllocError> {
-    match read_body(alloc, bytes) {
-        Ok(event) => numbers_words(text, state.exposed(alloc, &event, sigs)?.as_slice()),
+    match kept_event(alloc, bytes) {
+        Ok(event) => opened_words(alloc, text, state, &event, sigs),
         Err(_) => Ok(()),
     }
 }
 
-// The signature that the text spells.
-fn sigs_of(alloc: Global, text: &[u8]) -> Result<Vec<IndexedSig>, AllocError> {
-    let mut sigs = Vec::new(alloc);
-    if let Ok((sig, _)) = IndexedSig::read(text) {
-        sigs.push(sig)?;
+// The places that the indexed signatures expose at the last event of the row.
+fn exposed_words(
+    alloc: Global,
+    row: &Row,
+    sigs: &[IndexedSig],
+    text: &mut String,
+) -> Result<(), AllocError> {
+    let bytes = row.bytes(alloc, last(row))?;
+    match fold(alloc, row, 2, last(row), text)? {
+        Some(state) => places_words(alloc, text, &state, bytes.as_slice(), sigs),
+        None => Ok(()),
     }
+}
+
+fn only(alloc: Global, sig: IndexedSig) -> Result<Vec<IndexedSig>, AllocError> {
+    let mut sigs = Vec::new(alloc);
+    sigs.push(sig)?;
     Ok(sigs)
 }
 
 /// `exposed SIGNATURE TEXT..`: the places that the indexed signature exposes at the last event, after the others.
 fn exposed(alloc: Global, row: &Row) -> Result<String, AllocError> {
     let mut text = String::new(alloc);
-    let sigs = sigs_of(alloc, row.bytes(alloc, 1)?.as_slice())?;
-    let bytes = row.bytes(alloc, last(row))?;
-    if let Some(state) = fold(alloc, row, 2, last(row), &mut text)? {
-        places_words(alloc, &mut text, &state, bytes.as_slice(), sigs.as_slice())?;
+    match IndexedSig::read(row.bytes(alloc, 1)?.as_slice()) {
+        Ok((sig, _)) => exposed_words(alloc, row, only(alloc, sig)?.as_slice(), &mut text)?,
+        Err(_) => text.push_str("no-signature")?,
     }
     Ok(text)
+}
+
+fn follow_word(text: &mut String, misfit: Option<Misfit>) -> Result<(), AllocError> {
+    match misfit {
+        Some(misfit) => write!(text, "{misfit:?}"),
+        None => text.push_str("follows"),
+    }
 }
 
 fn misfit_word(
@@ -181,11 +216,9 @@ fn misfit_word(
     event: &Event,
 ) -> Result<(), AllocError> {
     if place == 0 || place > state.since.len() {
-        return text.push_str("no-place");
-    }
-    match state.misfit_behind(place, event) {
-        Some(misfit) => write!(text, "{misfit:?}"),
-        None => text.push_str("follows"),
+        text.push_str("no-place")
+    } else {
+        follow_word(text, state.misfit_behind(place, event))
     }
 }
 
@@ -196,7 +229,7 @@ fn behind_word(
     place: usize,
     bytes: &[u8],
 ) -> Result<(), AllocError> {
-    match read_body(alloc, bytes) {
+    match kept_event(alloc, bytes) {
         Ok(event) => misfit_word(text, state, place, &event),
         Err(_) => Ok(()),
     }
