@@ -1,8 +1,8 @@
 //! JSON values and thresholds.
 
-use crate::row::{Row, given};
 use json_tree::{Text, Tree, TreeFault, is_json, is_json_string, read_tree, tree_text};
 use lists::{CopyValue, Items};
+use row_text::{Row, given};
 use sith::{SithFault, Threshold};
 use std::alloc::{AllocError, Global};
 

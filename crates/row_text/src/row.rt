@@ -1,29 +1,42 @@
-//! A row: the name of a call and its arguments, with a blank between two of them.
+//! A row: the name of a call and its arguments.
 
 ghost use Rattle.std.specs.Prelude.{◌<◌};
 
-use crate::{codes, trees};
 use std::alloc::{AllocError, Global};
 
-/// The arguments of a row.
+/// The words of a row: the name of a call, and its arguments.
 #[derive(Drop)]
-pub(crate) struct Row<'a> {
+pub struct Row<'a> {
     words: Vec<&'a str>,
 }
 
 impl<'a> Row<'a> {
-    /// The argument of this number, from 1 on, as it stands; the empty text where there is none.
-    pub(crate) fn word(&self, number: usize) -> &'a str {
+    /// The row of a line, in which a blank stands between two words.
+    pub fn of(alloc: Global, line: &'a str) -> Result<Row<'a>, AllocError> {
+        let mut words = Vec::new(alloc);
+        for word in line.split(' ') {
+            words.push(word)?;
+        }
+        Ok(Row { words })
+    }
+
+    /// How many words there are, the call's name among them.
+    pub fn len(&self) -> usize {
+        self.words.len()
+    }
+
+    /// The word of this number as it stands, where the call's name has the number 0; the empty text where there is none.
+    pub fn word(&self, number: usize) -> &'a str {
         self.words.get(number).copied().unwrap_or("")
     }
 
-    /// The argument as a number; 0 where it is none.
-    pub(crate) fn number(&self, place: usize) -> u64 {
+    /// The word as a number; 0 where it is none.
+    pub fn number(&self, place: usize) -> u64 {
         self.word(place).parse::<u64>().unwrap_or(0)
     }
 
-    /// The numbers of the argument, with a comma between two of them.
-    pub(crate) fn numbers(&self, alloc: Global, place: usize) -> Result<Vec<u16>, AllocError> {
+    /// The numbers of the word, with a comma between two of them.
+    pub fn numbers(&self, alloc: Global, place: usize) -> Result<Vec<u16>, AllocError> {
         let mut numbers = Vec::new(alloc);
         for word in self.word(place).split(',') {
             if let Ok(number) = word.parse::<u16>() {
@@ -33,9 +46,9 @@ impl<'a> Row<'a> {
         Ok(numbers)
     }
 
-    /// The bytes that the argument writes: parts, with a `&` between two of them. A part is a text, which may have
+    /// The bytes that the word writes: parts, with a `&` between two of them. A part is a text, which may have
     /// `N*` before it, for as many of it. In a text a `%` and two hexadecimal digits are the byte of that value.
-    pub(crate) fn bytes(&self, alloc: Global, place: usize) -> Result<Vec<u8>, AllocError> {
+    pub fn bytes(&self, alloc: Global, place: usize) -> Result<Vec<u8>, AllocError> {
         let mut bytes = Vec::new(alloc);
         for part in self.word(place).split('&') {
             match part.split_once('*') {
@@ -82,29 +95,9 @@ fn digit(symbol: u8) -> u8
 }
 
 /// What a call gives, where it is one of these.
-pub(crate) fn given(answer: Result<String, AllocError>) -> Result<Option<String>, AllocError> {
+pub fn given(answer: Result<String, AllocError>) -> Result<Option<String>, AllocError> {
     match answer {
         Ok(answer) => Ok(Some(answer)),
         Err(error) => Err(error),
-    }
-}
-
-// The answer of the first part of the library that has the call.
-fn called(alloc: Global, row: &Row) -> Result<Option<String>, AllocError> {
-    if let Some(answer) = codes::answer(alloc, row)? {
-        return Ok(Some(answer));
-    }
-    trees::answer(alloc, row)
-}
-
-/// What the line is answered by.
-pub(crate) fn answer(alloc: Global, line: &str) -> Result<String, AllocError> {
-    let mut words = Vec::new(alloc);
-    for word in line.split(' ') {
-        words.push(word)?;
-    }
-    match called(alloc, &Row { words })? {
-        Some(answer) => Ok(answer),
-        None => String::from_str(alloc, line),
     }
 }

@@ -1,0 +1,185 @@
+//! Witnesses that back an event, seals, and numbers of receipts that bind.
+
+use crate::event::kept_event;
+use cesr_codes::{Digest, Key, KeyCode, Prefix};
+use event_backing::{Backers, EventSeal, anchors, seals};
+use event_body::{Event, prefix_of};
+use quorum_laws::{binds, union_size};
+use row_text::{Row, given};
+use std::alloc::{AllocError, Global};
+use std::fmt::Write;
+
+// The digest as it is written.
+fn spelled(alloc: Global, digest: &Digest) -> Result<String, AllocError> {
+    let mut text = [0; 44];
+    digest.write(&mut text);
+    String::from_utf8_lossy(alloc, &text)
+}
+
+// The keys of the word, with a comma between two of them.
+fn keys(alloc: Global, row: &Row, place: usize) -> Result<Vec<Key>, AllocError> {
+    let mut keys = Vec::new(alloc);
+    for word in row.word(place).split(',') {
+        if let Ok((key, _)) = Key::read(word.as_bytes()) {
+            keys.push(key)?;
+        }
+    }
+    Ok(keys)
+}
+
+fn added_word(text: &mut String, is_new: bool) -> Result<(), AllocError> {
+    write!(text, "{is_new} ")
+}
+
+fn count_word(text: &mut String, count: u16) -> Result<(), AllocError> {
+    write!(text, "{count}")
+}
+
+// Whether each key is a member that wasn't added before, and how many were.
+fn added_words(text: &mut String, backers: &mut Backers, keys: &[Key]) -> Result<(), AllocError> {
+    for key in keys {
+        added_word(text, backers.add(key))?;
+    }
+    count_word(text, backers.count())
+}
+
+/// `backers KEY,KEY KEY,KEY`: whether each further key is a member that wasn't added before, and how many were; or
+/// `none`, where no witnesses are listed so.
+fn backers(alloc: Global, row: &Row) -> Result<String, AllocError> {
+    let (list, added) = (keys(alloc, row, 1)?, keys(alloc, row, 2)?);
+    if list.len() > 65_535 {
+        return String::from_str(alloc, "too-many");
+    }
+    let mut text = String::new(alloc);
+    match Backers::of(alloc, list.as_slice())? {
+        Some(mut backers) => added_words(&mut text, &mut backers, added.as_slice())?,
+        None => text.push_str("none")?,
+    }
+    Ok(text)
+}
+
+fn seal_word(
+    alloc: Global,
+    text: &mut String,
+    seal: &EventSeal,
+    own: bool,
+) -> Result<(), AllocError> {
+    let said = spelled(alloc, &seal.said)?;
+    let sn = seal.sn;
+    write!(text, "{sn} {said} {own} ")
+}
+
+fn own_seal_word(
+    alloc: Global,
+    text: &mut String,
+    seal: &EventSeal,
+    event: &Event,
+) -> Result<(), AllocError> {
+    let own = seal.prefix == prefix_of(event);
+    seal_word(alloc, text, seal, own)
+}
+
+fn seals_words(alloc: Global, event: &Event) -> Result<String, AllocError> {
+    let held = seals(alloc, event)?;
+    let mut text = String::new(alloc);
+    for seal in held.as_slice() {
+        own_seal_word(alloc, &mut text, seal, event)?;
+    }
+    Ok(text)
+}
+
+/// `seals TEXT`: the number and the digest of each event seal of the event, and whether it names the event's own
+/// identifier.
+fn seals_of(alloc: Global, row: &Row) -> Result<String, AllocError> {
+    let bytes = row.bytes(alloc, 1)?;
+    match kept_event(alloc, bytes.as_slice()) {
+        Ok(event) => seals_words(alloc, &event),
+        Err(_) => String::from_str(alloc, "no-event"),
+    }
+}
+
+fn bool_word(alloc: Global, value: bool) -> Result<String, AllocError> {
+    format!(in alloc; "{value}")
+}
+
+fn held_word(
+    alloc: Global,
+    row: &Row,
+    prefix: &Prefix,
+    said: &Digest,
+) -> Result<String, AllocError> {
+    let bytes = row.bytes(alloc, 4)?;
+    match kept_event(alloc, bytes.as_slice()) {
+        Ok(event) => bool_word(alloc, anchors(&event, prefix, row.number(2), said)),
+        Err(_) => String::from_str(alloc, "no-event"),
+    }
+}
+
+/// `anchors PREFIX NUMBER DIGEST TEXT`: whether the event holds this seal.
+fn anchored(alloc: Global, row: &Row) -> Result<String, AllocError> {
+    let (prefix, said) = (row.bytes(alloc, 1)?, row.bytes(alloc, 3)?);
+    match Prefix::read(prefix.as_slice()) {
+        Ok((prefix, _)) => anchored_by(alloc, row, &prefix, said.as_slice()),
+        Err(_) => String::from_str(alloc, "no-prefix"),
+    }
+}
+
+fn anchored_by(
+    alloc: Global,
+    row: &Row,
+    prefix: &Prefix,
+    said: &[u8],
+) -> Result<String, AllocError> {
+    match Digest::read(said) {
+        Ok((said, _)) => held_word(alloc, row, prefix, &said),
+        Err(_) => String::from_str(alloc, "no-digest"),
+    }
+}
+
+// The witnesses of these numbers.
+fn listed(alloc: Global, numbers: &[u16]) -> Result<Vec<Key>, AllocError> {
+    let mut keys = Vec::new(alloc);
+    for number in numbers {
+        keys.push(Key {
+            code: KeyCode::Fixed,
+            raw: [(*number).min(255) as u8; 32],
+        })?;
+    }
+    Ok(keys)
+}
+
+/// `binds WITNESSES RECEIPTS WITNESSES RECEIPTS FAULTY`: how many different witnesses there are, and whether so many
+/// receipts bind both to one event.
+fn bound(alloc: Global, row: &Row) -> Result<String, AllocError> {
+    let first = listed(alloc, row.numbers(alloc, 1)?.as_slice())?;
+    let second = listed(alloc, row.numbers(alloc, 3)?.as_slice())?;
+    if first.len() > 64 || second.len() > 64 {
+        return String::from_str(alloc, "too-many");
+    }
+    let (one, other, faulty) = (
+        row.number(2).min(64),
+        row.number(4).min(64),
+        row.number(5).min(64),
+    );
+    let union = union_size(first.as_slice(), second.as_slice());
+    let bound = binds(first.as_slice(), one, second.as_slice(), other, faulty);
+    format!(in alloc; "{union} {bound}")
+}
+
+/// The answer of the row, where it is one of these calls.
+pub(crate) fn answer(alloc: Global, row: &Row) -> Result<Option<String>, AllocError> {
+    let name = row.word(0);
+    if name == "backers" {
+        return given(backers(alloc, row));
+    }
+    if name == "seals" {
+        return given(seals_of(alloc, row));
+    }
+    if name == "anchors" {
+        return given(anchored(alloc, row));
+    }
+    if name == "binds" {
+        return given(bound(alloc, row));
+    }
+    Ok(None)
+}
