@@ -1,0 +1,40 @@
+#include "input_output.h"
+
+#include <errno.h>
+#include <stdio.h>
+#include <unistd.h>
+
+ssize_t read_whole(int file, void *bytes, size_t length)
+{
+    size_t done = 0;
+
+    while (done < length) {
+        ssize_t count = read(file, (char *)bytes + done, length - done);
+        if (count > 0)
+            done += (size_t)count;
+        else if (count == 0)
+            break;
+        else if (errno != EINTR)
+            return -1;
+    }
+    return (ssize_t)done;
+}
+
+bool write_whole(int file, const void *bytes, size_t length)
+{
+    size_t done = 0;
+
+    while (done < length) {
+        ssize_t count = write(file, (const char *)bytes + done, length - done);
+        if (count >= 0)
+            done += (size_t)count;
+        else if (errno != EINTR)
+            return false;
+    }
+    return true;
+}
+
+void complain(const char *subject, const char *fault)
+{
+    fprintf(stderr, "keri-ed25519: %s: %s\n", subject, fault);
+}

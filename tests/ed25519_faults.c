@@ -1,0 +1,90 @@
+/* What tests/ed25519 puts before the C library (LD_PRELOAD), to have keri-ed25519 meet what seldom happens. A step is a
+   call of write, fsync, linkat or unlinkat. The environment says what is wanted:
+   FIXED_RANDOMNESS   every random byte is 7
+   TRACE              the name of each step is written to standard error
+   DIE_AT=n, FAIL_AT=n   the program is killed at the step of that number, from 1, or the step fails as on a full disk
+   CHOPPED            every other read or write is interrupted, and the others move one byte */
+#define _GNU_SOURCE
+#include <dlfcn.h>
+#include <errno.h>
+#include <signal.h>
+#include <stdio.h>
+#include <stdlib.h>
+#include <string.h>
+#include <unistd.h>
+
+typedef ssize_t moving(int, void *, size_t);
+typedef int syncing(int);
+typedef int linking(int, const char *, int, const char *, int);
+typedef int unlinking(int, const char *, int);
+
+static int number(const char *name)
+{
+    return getenv(name) ? atoi(getenv(name)) : 0;
+}
+
+/* Whether the step fails. */
+static int fails(const char *name)
+{
+    static int steps;
+
+    steps++;
+    if (getenv("TRACE"))
+        dprintf(STDERR_FILENO, "%s\n", name);
+    if (steps == number("DIE_AT"))
+        kill(getpid(), SIGKILL);
+    if (steps != number("FAIL_AT"))
+        return 0;
+    errno = ENOSPC;
+    return 1;
+}
+
+/* How many bytes are moved; none where the call is interrupted. */
+static size_t chopped(int *calls, size_t length)
+{
+    if (!getenv("CHOPPED") || length == 0)
+        return length;
+    errno = EINTR;
+    return (*calls)++ % 2;
+}
+
+ssize_t read(int file, void *bytes, size_t length)
+{
+    static int calls;
+    size_t moved = chopped(&calls, length);
+
+    return moved || !length ? ((moving *)dlsym(RTLD_NEXT, "read"))(file, bytes, moved) : -1;
+}
+
+ssize_t write(int file, const void *bytes, size_t length)
+{
+    static int calls;
+    size_t moved = chopped(&calls, length);
+
+    if (fails("write") || (!moved && length))
+        return -1;
+    return ((moving *)dlsym(RTLD_NEXT, "write"))(file, (void *)bytes, moved);
+}
+
+int fsync(int file)
+{
+    return fails("fsync") ? -1 : ((syncing *)dlsym(RTLD_NEXT, "fsync"))(file);
+}
+
+int linkat(int from, const char *name, int to, const char *other, int flags)
+{
+    return fails("linkat") ? -1 : ((linking *)dlsym(RTLD_NEXT, "linkat"))(from, name, to, other, flags);
+}
+
+int unlinkat(int folder, const char *name, int flags)
+{
+    return fails("unlinkat") ? -1 : ((unlinking *)dlsym(RTLD_NEXT, "unlinkat"))(folder, name, flags);
+}
+
+void randombytes_buf(void *bytes, size_t length)
+{
+    if (getenv("FIXED_RANDOMNESS"))
+        memset(bytes, 7, length);
+    else
+        ((void (*)(void *, size_t))dlsym(RTLD_NEXT, "randombytes_buf"))(bytes, length);
+}
