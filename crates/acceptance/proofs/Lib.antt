@@ -3,3 +3,8 @@ pub mod Turning
 pub mod Ready
 pub mod Turned
 pub mod Predecessor
+pub mod Unfit
+pub mod Telling
+pub mod Taken
+pub mod NewBody
+pub mod NewEvent

@@ -1,0 +1,43 @@
+-- What is true of the tables of a core at every moment: they stand for a grown log, with its states and its claims.
+use Rattle.std.specs.Prelude.{◌≡◌, ℕ, ◌<◌, ◌≤◌, List, length, take, slice_get, Some}
+use Rattle.event_body.specs.Judging.{SpellsEvent}
+use Rattle.journal.specs.declared.body.Body.{Body}
+use Rattle.journal.specs.declared.entry.Entry.{Entry}
+use Rattle.journal.specs.Grown.{IsGrown}
+use Rattle.journal.specs.History.{Told}
+use Rattle.journal.specs.Journals.{told_by}
+use Rattle.journal.specs.Logs.{same_body}
+use Rattle.journal.proofs.Different.{Differ}
+use Rattle.accepted_log.specs.Cuts.{IsLog}
+use Rattle.accepted_log.specs.Values.{Extends as LogExtends}
+use Rattle.claim_laws.specs.ClaimRows.{AreClaims}
+use Rattle.core_tables.specs.View.{View, log_of, number_of}
+
+-- what the entries tell
+abbrev pub told_of : View → List Told
+told_of v = told_by v.held v.entries
+
+-- a body spells its event, and has at most as many bytes as a body may have
+pub record IsHeld (b : Body) : Type 0 where
+  pub spelled : SpellsEvent b.event b.bytes
+  pub few : length b.bytes ≤ 65535
+
+-- the bodies are spelled and differ, the entries and the accepted events speak of them, the log is grown, and the states and
+-- the claims are those of the log and of what was told
+pub record IsStanding (v : View) : Type 0 where
+  pub spelled : (n : ℕ) (b : Body) → slice_get v.held n ≡ Some b → IsHeld b
+  pub differ : Differ same_body v.held
+  pub entries_held : (i : ℕ) (e : Entry) → slice_get v.entries i ≡ Some e → number_of e < length v.held
+  pub accepted_held : (i n : ℕ) → slice_get v.log.numbers i ≡ Some n → n < length v.held
+  pub grown : IsGrown (log_of v)
+  pub log : IsLog (log_of v) v.log
+  pub claims : AreClaims (told_of v) (log_of v) v.held v.claims.rows
+
+-- the second is the first with more behind it: cut back it is the first
+pub record Extends (old new : View) : Type 0 where
+  pub held : take (length old.held) new.held ≡ old.held
+  pub entries : take (length old.entries) new.entries ≡ old.entries
+  pub log : LogExtends old.log new.log
+  pub rows : take (length old.claims.rows) new.claims.rows ≡ old.claims.rows
+  pub pending : new.claims.pending ≡ old.claims.pending
+  pub settled : new.settled ≡ old.settled

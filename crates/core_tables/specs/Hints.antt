@@ -1,0 +1,72 @@
+-- What the hints say: under its key stands the number of each row (and perhaps of others).
+use Rattle.std.specs.Prelude.{◌≡◌, ℕ, ◌<◌, ◌≤◌, true, List, length, take, slice_get, Some, Contains}
+use Rattle.event_body.specs.Events.{prefix_of}
+use Rattle.escrow.specs.Escrow.{Escrow, held as held_by}
+use Rattle.claim_table.specs.declared.signature.Signature.{Signature}
+use Rattle.claim_table.specs.Rows.{is_raised}
+use Rattle.claim_table.specs.Table.{Table}
+use Rattle.event_backing.specs.EventSeals.{IsEventSeal, holds_seal}
+use Rattle.event_backing.specs.declared.event_seal.EventSeal.{EventSeal}
+use Rattle.event_body.specs.declared.event.Event.{Event}
+use Rattle.journal.specs.declared.body.Body.{Body}
+use Rattle.journal.specs.declared.claim.Claim.{Claim}
+use Rattle.journal.specs.declared.entry.Entry.{Entry}
+use Rattle.journal.specs.declared.entry.Entry.TheVariants.{Took}
+use Rattle.core_tables.specs.declared.name.Name.{Name}
+use Rattle.core_tables.specs.declared.name.SealKey.{SealKey}
+use Rattle.core_tables.specs.declared.name.ClaimKey.{ClaimKey}
+use Rattle.core_tables.specs.Names.{name_of, name_in, seal_key, claim_key}
+use Rattle.core_tables.specs.View.{number_of, waiter_at}
+
+-- each body under its name
+abbrev pub AreNamed : (Name → List ℕ) → List Body → Type 0
+AreNamed names held = (n : ℕ) (b : Body) → slice_get held n ≡ Some b → Contains (names (name_of b.event)) n
+
+-- each entry by which a body came, under the body's name
+abbrev pub AreTold : (Name → List ℕ) → List Body → List Entry → Type 0
+AreTold told held entries = (i reader n : ℕ) (claims : List Claim) (b : Body) → slice_get entries i ≡ Some (Took reader n claims)
+    → slice_get held n ≡ Some b → Contains (told (name_of b.event)) i
+
+-- each entry by which a claim came with a body, under both
+abbrev pub HaveCome : (ClaimKey → List ℕ) → List Entry → Type 0
+HaveCome came entries = (i reader n : ℕ) (claims : List Claim) (c : Claim) → slice_get entries i ≡ Some (Took reader n claims)
+    → Contains claims c → Contains (came (claim_key n c)) i
+
+-- each place of the log under the name of its event
+abbrev pub AreAccepted : (Name → List ℕ) → List Body → List ℕ → Type 0
+AreAccepted accepted held numbers = (i n : ℕ) (b : Body) → slice_get numbers i ≡ Some n → slice_get held n ≡ Some b
+    → Contains (accepted (name_of b.event)) i
+
+-- a place under each name that an event seals
+abbrev pub IsSealedAt : (SealKey → List ℕ) → Event → ℕ → Type 0
+IsSealedAt seals e i = (seal : EventSeal) → IsEventSeal seal → holds_seal e seal.prefix seal.sn seal.said ≡ true
+    → Contains (seals (seal_key (prefix_of e) (name_in seal))) i
+
+-- each place of the log under what its event seals
+abbrev pub AreSealed : (SealKey → List ℕ) → List Body → List ℕ → Type 0
+AreSealed seals held numbers = (i n : ℕ) (b : Body) → slice_get numbers i ≡ Some n → slice_get held n ≡ Some b → IsSealedAt seals b.event i
+
+-- the escrow has the events that aren't among the accepted that have left it, and no other
+abbrev pub IsEscrow : Escrow → List Body → List ℕ → Type 0
+IsEscrow escrow held done = (n : ℕ) → held_by n escrow ≡ waiter_at done n (slice_get held n)
+
+-- all of these; entries and events of the log speak of bodies that are held
+pub record AreHinted (held : List Body) (entries : List Entry) (numbers : List ℕ) (settled : ℕ) (waiting : Escrow) (by_name told_at place_at : Name → List ℕ) (came_at : ClaimKey → List ℕ) (seal_at : SealKey → List ℕ) : Type 0 where
+  pub named : AreNamed by_name held
+  pub told : AreTold told_at held entries
+  pub came : HaveCome came_at entries
+  pub accepted : AreAccepted place_at held numbers
+  pub sealed : AreSealed seal_at held numbers
+  pub escrow : IsEscrow waiting held (take settled numbers)
+  pub entries_held : (i : ℕ) (e : Entry) → slice_get entries i ≡ Some e → number_of e < length held
+  pub accepted_held : (i n : ℕ) → slice_get numbers i ≡ Some n → n < length held
+  pub settled_held : settled ≤ length numbers
+  pub few : length held ≤ 4294967296
+
+-- the pending signature, where there is one, is of some row
+abbrev pub IsPending : Table → Type 0
+IsPending t = (s : Signature) → t.pending ≡ Some s → is_raised t.rows s ≡ true
+
+-- at each key the numbers below one stay
+abbrev pub KeepsBelow : {K : Type 0} → ℕ → (K → List ℕ) → (K → List ℕ) → Type 0
+KeepsBelow {K} number old new = (q : K) (n : ℕ) → n < number → Contains (old q) n → Contains (new q) n

@@ -1,0 +1,4 @@
+pub mod View
+pub mod Names
+pub mod Hints
+pub mod Raised

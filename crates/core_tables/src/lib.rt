@@ -1,0 +1,8 @@
+//! Types alone.
+#![tactic(auto)]
+
+mod mark;
+mod name;
+
+pub use mark::Mark;
+pub use name::{ClaimKey, Name, SealKey};
