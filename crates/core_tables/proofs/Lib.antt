@@ -1,0 +1,11 @@
+pub mod Adding
+pub mod Finding
+pub mod Found
+pub mod Hints
+pub mod Orders
+pub mod Pairs
+pub mod Reading
+pub mod Rows
+pub mod Sealing
+pub mod Starting
+pub mod Waiters

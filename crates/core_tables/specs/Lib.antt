@@ -1,4 +1,5 @@
 pub mod View
 pub mod Names
 pub mod Hints
-pub mod Raised
+pub mod Reading
+pub mod Inside

@@ -1,8 +1,13 @@
-//! Types alone.
+//! The tables of a core: lists that only grow while a call runs, hints over them, and their rewinding.
 #![tactic(auto)]
 
+mod bodies;
+mod entries;
+mod log;
 mod mark;
 mod name;
+mod tables;
 
 pub use mark::Mark;
-pub use name::{ClaimKey, Name, SealKey};
+pub use name::{ClaimKey, Name, SealKey, name_of, prior_name};
+pub use tables::Tables;

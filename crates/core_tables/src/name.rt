@@ -1,6 +1,11 @@
 //! The keys of the hints.
+ghost use Rattle.std.specs.Prelude.{◌≡◌};
+ghost use Rattle.core_tables.specs.Names as names;
+ghost use Rattle.core_tables.specs.Reading.{same_name};
 
 use cesr_codes::{Digest, Prefix};
+use event_body::{Event, prefix_of, said_of_event, sn_of};
+use event_rules::prior_of;
 use journal::Claim;
 
 /// An event's identifier, number and digest, as an event seal names it (KERI).
@@ -23,4 +28,34 @@ pub struct SealKey {
 pub struct ClaimKey {
     pub body: u32,
     pub claim: Claim,
+}
+
+/// The name of an event; of a receipt, that of the event that it speaks of.
+pub fn name_of(event: &Event) -> Name
+    ensures { result ≡ names.name_of event.now }
+{
+    Name {
+        prefix: prefix_of(event),
+        sn: sn_of(event),
+        said: said_of_event(event),
+    }
+}
+
+/// Whether an event has the name.
+pub(crate) fn has_name(event: &Event, name: &Name) -> bool
+    ensures { result ≡ same_name (names.name_of event.now) name.now }
+{
+    name_of(event) == *name
+}
+
+/// The name of the event before it, where it names one.
+pub fn prior_name(event: &Event) -> Option<Name>
+    ensures { result ≡ names.prior_name event.now }
+{
+    let prior = prior_of(event)?;
+    Some(Name {
+        prefix: prefix_of(event),
+        sn: sn_of(event).saturating_sub(1),
+        said: prior,
+    })
 }

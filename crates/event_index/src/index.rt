@@ -28,13 +28,15 @@ impl<K: Ord + Drop> Index<K> {
         }
     }
 
-    /// Adds the number of the row that comes next. The lesser numbers of each key stay, after an error too.
+    /// Adds the number of the row that comes next. The lesser numbers of each key stay, after an error too; without an error the
+    /// number stays also at the other keys that have it, so that one row can have many keys.
     ///
     /// Rows are cut from the end. So where the next row has this number, this key's numbers from it on stand for no row any
     /// more: they go, and what stays rises.
     pub fn add(&mut self, key: K, number: u32) -> Result<(), AllocError>
         ensures added { OnOk result (Contains (numbers_at K.cmp self.new key) number) }
         ensures kept { (q : K) (n : ℕ) → n < number → Contains (numbers_at K.cmp self.old q) n → Contains (numbers_at K.cmp self.new q) n }
+        ensures level { OnOk result ((q : K) → Contains (numbers_at K.cmp self.old q) number → Contains (numbers_at K.cmp self.new q) number) }
     {
         if let Some(those) = self.numbers.get_mut(&key) {
             return replace_from(those, number);

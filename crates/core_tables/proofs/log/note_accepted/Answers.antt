@@ -1,0 +1,21 @@
+use Rattle.std.proofs.Common.{◌≡◌, ◌∙◌, ap, subst, sym}
+use Rattle.std.specs.Prelude.{Contains}
+use Rattle.std.proofs.lemmas.Result.{on_ok_weaker}
+use Rattle.event_backing.specs.Listing.{AreSealsOf}
+use Rattle.event_body.specs.Events.{anchors_of}
+use Rattle.event_index.specs.Keys.{numbers_at}
+use Rattle.core_tables.specs.Names.{name_of}
+use Rattle.core_tables.proofs.Adding.{on_ok}
+use Rattle.core_tables.proofs.Orders.{name_cmp, seal_cmp}
+use Rattle.core_tables.proofs.Sealing.{sealed_at}
+use Rattle.core_tables.proofs.log.note_accepted.Goals as goal
+
+pub returns-clause-named : goal.returns-clause-named
+returns-clause-named c = on_ok c.note_seals.result (subst (λ m. Contains (numbers_at name_cmp c.add.new.self m) c.args.place) c.name_of.ensures c.in_ok-add.ensures.added)
+
+pub returns-clause-sealed : goal.returns-clause-sealed
+returns-clause-sealed c =
+    on_ok_weaker c.note_seals.result
+    (λ each. sealed_at (numbers_at seal_cmp c.note_seals.new.sealed) c.args.event.now c.args.place c.prefix_of.result c.as_slice.result.now c.prefix_of.ensures
+    (subst (λ seals. AreSealsOf (anchors_of c.args.event.now) seals) (sym c.as_slice.ensures.value) c.in_ok-seals.ensures) each)
+    c.note_seals.ensures.added

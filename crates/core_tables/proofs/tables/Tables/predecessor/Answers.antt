@@ -1,0 +1,21 @@
+use Rattle.std.proofs.Common.{◌∙◌, ap, sym}
+use Rattle.std.specs.Prelude.{position}
+use Rattle.journal.specs.Logs.{precedes}
+use Rattle.core_tables.specs.View.{body_of, log_of}
+use Rattle.core_tables.proofs.Found.{first_has_none, predecessor_found, unnamed_has_none}
+use Rattle.core_tables.proofs.Pairs.{event_at}
+use Rattle.core_tables.proofs.tables.Tables.predecessor.Goals as goal
+
+pub returns-in_err-name : goal.returns-in_err-name
+returns-in_err-name c = λ bytes. rw c.from_residual.ensures (sym (unnamed_has_none bytes c.args.event.now (log_of c.args.self.now) (sym c.in_err-name.ensures)))
+
+pub returns-then-sn_of-eq0 : goal.returns-then-sn_of-eq0
+returns-then-sn_of-eq0 c = λ bytes. sym (first_has_none bytes c.args.event.now (log_of c.args.self.now) (sym c.sn_of.ensures ∙ c.if-sn_of-eq0.true))
+
+pub returns : goal.returns
+returns c = λ bytes.
+    let t = c.self.inside in
+    c.first_named.ensures
+    ∙ predecessor_found c.self.invariant.2 t.events.items (event_at t.journal.bodies t.events.items c.self.invariant.0) bytes c.args.event.now c.in_ok-name.name (sym c.in_ok-name.ensures) (λ same. c.if-sn_of-eq0.false (c.sn_of.ensures ∙ same))
+    c.as_slice.result.now c.numbers.result.now c.numbers-2.result.now c.as_slice.ensures.value c.numbers.ensures c.numbers-2.ensures.those c.numbers-2.ensures.rising
+    ∙ ap (λ v. position (precedes (body_of bytes c.args.event.now)) (log_of v)) c.self.view_is

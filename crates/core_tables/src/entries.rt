@@ -1,0 +1,104 @@
+//! Entries of the journal, found by the names of their bodies' events and by their claims.
+ghost use Rattle.std.specs.Prelude.{◌≡◌, ℕ, List, Contains, IfOk, OnOk, Some, length, slice_get};
+ghost use Rattle.std.specs.List.{list_any};
+ghost use Rattle.std.specs.List.Sorted.{IsStrictlyIncreasing};
+ghost use Rattle.event_index.specs.Keys.{numbers_at};
+ghost use Rattle.journal.specs.Replies.{same_claim};
+ghost use Rattle.journal.specs.declared.body.Body.{Body};
+ghost use Rattle.journal.specs.declared.claim.Claim.{Claim as ClaimValue};
+ghost use Rattle.journal.specs.declared.entry.Entry.TheVariants.{Took, Heard};
+ghost use Rattle.core_tables.specs.Hints.{KeepsBelow};
+ghost use Rattle.core_tables.specs.Names.{claim_key, name_of as name_of_event};
+ghost use Rattle.core_tables.specs.Reading.{has_claim};
+ghost use Rattle.core_tables.specs.View.{came_with};
+
+use crate::Tables;
+use crate::name::{ClaimKey, Name};
+use event_index::Index;
+use journal::{Claim, Entry};
+use std::alloc::AllocError;
+
+impl Tables {
+    /// The numbers of all entries by which bodies with this name came, and perhaps of others, rising: whoever asks compares.
+    pub fn told(&self, name: &Name) -> &[u32]
+        ensures all { (i reader n : ℕ) (claims : List ClaimValue) (b : Body) → slice_get self.now.entries i ≡ Some (Took reader n claims) → slice_get self.now.held n ≡ Some b → name_of_event b.event ≡ name.now → Contains result.now i }
+        ensures rising { IsStrictlyIncreasing result.now }
+    {
+        self.told.numbers(name)
+    }
+
+    /// Whether the claim came with the body of a number.
+    pub fn has_come(&self, body: u32, claim: &Claim) -> bool
+        ensures { result ≡ list_any (same_claim claim.now) (came_with body self.now.entries) }
+    {
+        let key = ClaimKey {
+            body,
+            claim: *claim,
+        };
+        came_by_some(
+            self.journal.entries.as_slice(),
+            self.came.numbers(&key),
+            body,
+            claim,
+        )
+    }
+}
+
+// Whether the claim came with the body of a number by one of these entries.
+fn came_by_some(entries: &[Entry], numbers: &[u32], body: u32, claim: &Claim) -> bool
+    ensures { result ≡ list_any (λ i. has_claim body claim.now (slice_get entries.now i)) numbers.now }
+{
+    numbers
+        .iter()
+        .any(|number| is_came_at(entries, *number, body, claim))
+}
+
+// Whether the claim came with the body of a number by the entry of a number.
+fn is_came_at(entries: &[Entry], number: u32, body: u32, claim: &Claim) -> bool
+    ensures { result ≡ has_claim body claim.now (slice_get entries.now number) }
+{
+    match entries.get(number as usize) {
+        Some(entry) => is_came_by(entry, body, claim),
+        None => false,
+    }
+}
+
+// Whether the claim came with the body of a number by an entry.
+fn is_came_by(entry: &Entry, sought: u32, claim: &Claim) -> bool
+    ensures { result ≡ has_claim sought claim.now (Some entry.now) }
+{
+    match entry {
+        Entry::Took { body, claims, .. } => { *body == sought && claims.as_slice().contains(claim) }
+        Entry::Heard { .. } => false,
+    }
+}
+
+// Adds the number of an entry under each of its claims.
+fn note_claims(
+    came: &mut Index<ClaimKey>,
+    body: u32,
+    claims: &[Claim],
+    number: u32,
+) -> Result<(), AllocError>
+    ensures added { OnOk result ((c : ClaimValue) → Contains claims.now c → Contains (numbers_at ⟦<ClaimKey as Ord>⟧.cmp came.new (claim_key body c)) number) }
+    ensures kept { KeepsBelow number (numbers_at ⟦<ClaimKey as Ord>⟧.cmp came.old) (numbers_at ⟦<ClaimKey as Ord>⟧.cmp came.new) }
+{
+    for claim in claims {
+        let key = ClaimKey {
+            body,
+            claim: *claim,
+        };
+        came.add(key, number)?;
+    }
+    Ok(())
+}
+
+/// A length as a number. More rows than numbers are more than memory holds.
+pub(crate) fn number_from(length: usize) -> Result<u32, AllocError>
+    ensures { IfOk result (λ n. n ≡ length) }
+{
+    match u32::try_from(length) {
+        Ok(number) => Ok(number),
+        Err(_) => Err(AllocError),
+    }
+}

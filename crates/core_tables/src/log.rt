@@ -1,0 +1,172 @@
+//! The accepted events, found by their names and by what they seal.
+ghost use Rattle.std.specs.Prelude.{◌≡◌, ◌==◌, ℕ, List, Contains, OnOk, None, Some, find, slice_get, position, if◌then◌else◌};
+ghost use Rattle.std.specs.List.{list_any};
+ghost use Rattle.std.specs.Option.{option_copied};
+ghost use Rattle.escrow.specs.Escrow.{held as held_by};
+ghost use Rattle.event_body.specs.Events as events;
+ghost use Rattle.event_backing.specs.declared.event_seal.EventSeal.{EventSeal as EventSealValue};
+ghost use Rattle.event_index.specs.Keys.{numbers_at};
+ghost use Rattle.journal.specs.Logs.{precedes};
+ghost use Rattle.core_tables.specs.Hints.{IsSealedAt, KeepsBelow};
+ghost use Rattle.core_tables.specs.Names.{name_in, name_of as name_of_event, seal_key};
+ghost use Rattle.core_tables.specs.Reading.{event_there, is_named, is_number, is_seal_of};
+ghost use Rattle.core_tables.specs.View.{body_of, log_of};
+
+use crate::Tables;
+use crate::name::{Name, SealKey, has_name, name_of, prior_name};
+use crate::tables::event_at;
+use cesr_codes::Prefix;
+use escrow::Waiting;
+use event_backing::{EventSeal, anchors, seals};
+use event_body::{Event, prefix_of, sn_of};
+use event_index::Index;
+use std::alloc::{AllocError, Global};
+
+impl Tables {
+    /// The place in the log of the earliest event that stands right before this one: with the number before its own, and the
+    /// digest that it names.
+    pub fn predecessor(&self, event: &Event) -> Option<u32>
+        ensures { (bytes : List ℕ) → result ≡ position (precedes (body_of bytes event.now)) (log_of self.now) }
+    {
+        let name = prior_name(event)?;
+        if sn_of(event) == 0 {
+            return None;
+        }
+        first_named(
+            self.events.as_slice(),
+            self.log.numbers(),
+            self.accepted.numbers(&name),
+            &name,
+        )
+    }
+
+    /// Whether the event of the body of a number is accepted.
+    pub fn is_accepted(&self, number: u32) -> bool
+        ensures { result ≡ list_any (λ m. m == number) self.now.log.numbers }
+    {
+        let Some(event) = event_at(self.events.as_slice(), number) else {
+            return false;
+        };
+        let name = name_of(event);
+        has_number(self.log.numbers(), self.accepted.numbers(&name), number)
+    }
+}
+
+// The first of the places at which an accepted event has the name.
+fn first_named(events: &[Event], numbers: &[u32], places: &[u32], name: &Name) -> Option<u32>
+    ensures { result ≡ find (λ i. is_named name.now (event_there events.now (slice_get numbers.now i))) places.now }
+{
+    places.iter().copied().find(|place| is_named(accepted_at(events, numbers, *place), name))
+}
+
+// Whether it is an event with the name.
+fn is_named(event: Option<&Event>, name: &Name) -> bool
+    ensures { result ≡ is_named name.now (option_copied event.entry) }
+{
+    match event {
+        Some(event) => has_name(event, name),
+        None => false,
+    }
+}
+
+// The accepted event at a place.
+fn accepted_at<'a>(events: &'a [Event], numbers: &[u32], place: u32) -> Option<&'a Event>
+    ensures { option_copied result ≡ event_there events.now (slice_get numbers.now place) }
+{
+    let number = numbers.get(place as usize)?;
+    events.get(*number as usize)
+}
+
+// Whether the number stands at one of the places.
+fn has_number(numbers: &[u32], places: &[u32], number: u32) -> bool
+    ensures { result ≡ list_any (λ i. is_number number (slice_get numbers.now i)) places.now }
+{
+    places
+        .iter()
+        .any(|place| is_number_at(numbers, *place, number))
+}
+
+// Whether the number stands at a place.
+fn is_number_at(numbers: &[u32], place: u32, number: u32) -> bool
+    ensures { result ≡ is_number number (slice_get numbers.now place) }
+{
+    match numbers.get(place as usize) {
+        Some(held) => *held == number,
+        None => false,
+    }
+}
+
+// Whether an accepted event at one of the places is the holder's, and seals the name.
+fn has_seal(events: &[Event], numbers: &[u32], places: &[u32], key: &SealKey) -> bool
+    ensures { result ≡ list_any (λ i. is_seal_of key.now.holder key.now.name (event_there events.now (slice_get numbers.now i))) places.now }
+{
+    places.iter().any(|place| is_sealing(accepted_at(events, numbers, *place), key))
+}
+
+// Whether an event is the holder's, and seals the name.
+fn is_sealing(event: Option<&Event>, key: &SealKey) -> bool
+    ensures { result ≡ is_seal_of key.now.holder key.now.name (option_copied event.entry) }
+{
+    match event {
+        Some(event) => {
+            prefix_of(event) == key.holder
+                && anchors(event, &key.name.prefix, key.name.sn, &key.name.said)
+        }
+        None => false,
+    }
+}
+
+// Adds a place of the log under the name of its event and under what that seals.
+fn note_accepted(
+    alloc: Global,
+    accepted: &mut Index<Name>,
+    sealed: &mut Index<SealKey>,
+    event: &Event,
+    place: u32,
+) -> Result<(), AllocError>
+    ensures named { OnOk result (Contains (numbers_at ⟦<Name as Ord>⟧.cmp accepted.new (name_of_event event.now)) place) }
+    ensures sealed { OnOk result (IsSealedAt (numbers_at ⟦<SealKey as Ord>⟧.cmp sealed.new) event.now place) }
+    ensures kept { KeepsBelow place (numbers_at ⟦<Name as Ord>⟧.cmp accepted.old) (numbers_at ⟦<Name as Ord>⟧.cmp accepted.new) }
+    ensures kept_sealed { KeepsBelow place (numbers_at ⟦<SealKey as Ord>⟧.cmp sealed.old) (numbers_at ⟦<SealKey as Ord>⟧.cmp sealed.new) }
+{
+    accepted.add(name_of(event), place)?;
+    let seals = seals(alloc, event)?;
+    note_seals(sealed, prefix_of(event), seals.as_slice(), place)
+}
+
+// Adds a place of the log under each name that the holder seals there.
+fn note_seals(
+    sealed: &mut Index<SealKey>,
+    holder: Prefix,
+    seals: &[EventSeal],
+    place: u32,
+) -> Result<(), AllocError>
+    ensures added { OnOk result ((seal : EventSealValue) → Contains seals.now seal → Contains (numbers_at ⟦<SealKey as Ord>⟧.cmp sealed.new (seal_key holder (name_in seal))) place) }
+    ensures kept { KeepsBelow place (numbers_at ⟦<SealKey as Ord>⟧.cmp sealed.old) (numbers_at ⟦<SealKey as Ord>⟧.cmp sealed.new) }
+{
+    for seal in seals {
+        let name = sealed_name(seal);
+        sealed.add(SealKey { holder, name }, place)?;
+    }
+    Ok(())
+}
+
+// The name that an event seal gives.
+fn sealed_name(seal: &EventSeal) -> Name
+    ensures { result ≡ name_in seal.now }
+{
+    Name {
+        prefix: seal.prefix,
+        sn: seal.sn,
+        said: seal.said,
+    }
+}
+
+// The events of these numbers leave the escrow. It takes no memory.
+fn leave(waiting: &mut Waiting, numbers: &[u32])
+    ensures { (n : ℕ) → held_by n waiting.new ≡ (if list_any (λ m. m == n) numbers.now then None else held_by n waiting.old) }
+{
+    for number in numbers {
+        waiting.take(*number);
+    }
+}
