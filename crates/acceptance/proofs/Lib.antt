@@ -8,3 +8,8 @@ pub mod Telling
 pub mod Taken
 pub mod NewBody
 pub mod NewEvent
+pub mod Verdict
+pub mod Receipt
+pub mod NewReceipt
+pub mod Nothing
+pub mod Rewound

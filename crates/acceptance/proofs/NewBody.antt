@@ -58,6 +58,32 @@ apart_at (h ∷ held) zero b c at outside = let is : h ≡ c = cc in
     bytes_differ c.bytes b.bytes (ap (λ x. same_body x b) (sym is) ∙ (or_parts (same_body h b) (is_in held b) outside).0)
 apart_at (h ∷ held) (suc m) b c at outside = apart_at held m b c at (or_parts (same_body h b) (is_in held b) outside).1
 
+module _ (held : List Body) (b : Body) where
+  pub length_more : length (held ++ b ∷ []) ≡ length held + 1
+  length_more = push held
+    where
+      push : (xs : List Body) → length (xs ++ b ∷ []) ≡ length xs + 1
+      push [] = refl
+      push (x ∷ xs) = (let ih = push xs in omega (arith, ih))
+
+  -- a body of the longer list is the last, or was held
+  pub last_or : (m : ℕ) (c : Body) → slice_get (held ++ b ∷ []) m ≡ Some c → (P : ℕ → Body → Type 0) → P (length held) b → ((slice_get held m ≡ Some c) → P m c) → P m c
+  last_or m c at P here before = elim (cases_Bool (m == length held)) [
+    | inl k ↦ (let same = numbers m (length held) k in
+        let last : Some b ≡ Some c = sym (slice_get_last held b) ∙ ap (slice_get (held ++ b ∷ [])) (sym same) ∙ at in
+        let one : b ≡ c = cc in subst (λ d. P m d) one (subst (λ k. P k b) (sym same) here))
+    | inr k ↦ before (slice_get_before held b m c (λ same. (let yes_same : (m == length held) ≡ true = ap (λ k. k == length held) same ∙ number_itself (length held) in cc)) at)
+  ]
+
+-- no verdict was heard on a body that isn't held
+pub unsaid_outside : (v : View) (b : Body) → is_in v.held b ≡ false → (key : Key) (sig : Sig) → verdict_in (told_of v) (triple_on b key sig) ≡ None
+unsaid_outside v b outside key sig = none_of (verdict_in (told_of v) (triple_on b key sig))
+    (verdict_there (told_of v) (triple_on b key sig) ∙ not_from_false _ (unheard_outside v.held v.entries b key sig outside))
+  where
+    none_of : (o : Option Bool) → is_none o ≡ true → o ≡ None
+    none_of None h = refl
+    none_of (Some y) h = cc
+
 module _ (v : View) (is : IsStanding v) (reader : ℕ) (b : Body) (is_held : IsHeld b) (outside : is_in v.held b ≡ false) (claims : List Claim) where
   -- the view with the body and its entry
   abbrev pub with_body : View
@@ -73,39 +99,24 @@ module _ (v : View) (is : IsStanding v) (reader : ℕ) (b : Body) (is_held : IsH
   pub log_body : log_of with_body ≡ log_of v
   log_body = chosen_more v.held (b ∷ []) v.log.numbers is.accepted_held
 
-  length_more : length (v.held ++ b ∷ []) ≡ length v.held + 1
-  length_more = push v.held
-    where
-      push : (xs : List Body) → length (xs ++ b ∷ []) ≡ length xs + 1
-      push [] = refl
-      push (x ∷ xs) = (let ih = push xs in omega (arith, ih))
-
-  last_or : (m : ℕ) (c : Body) → slice_get (v.held ++ b ∷ []) m ≡ Some c → (P : ℕ → Body → Type 0) → P (length v.held) b → ((slice_get v.held m ≡ Some c) → P m c) → P m c
-  last_or m c at P here before = elim (cases_Bool (m == length v.held)) [
-    | inl k ↦ (let same = numbers m (length v.held) k in
-        let last : Some b ≡ Some c = sym (slice_get_last v.held b) ∙ ap (slice_get (v.held ++ b ∷ [])) (sym same) ∙ at in
-        let one : b ≡ c = cc in subst (λ d. P m d) one (subst (λ k. P k b) (sym same) here))
-    | inr k ↦ before (slice_get_before v.held b m c (λ same. (let yes_same : (m == length v.held) ≡ true = ap (λ k. k == length v.held) same ∙ number_itself (length v.held) in cc)) at)
-  ]
-
   entry_or : (i : ℕ) (f : Entry) → slice_get (v.entries ++ Took reader (length v.held) claims ∷ []) i ≡ Some f → number_of f < length (v.held ++ b ∷ [])
   entry_or i f at = elim (cases_Bool (i == length v.entries)) [
     | inl k ↦ (let last : Some (Took reader (length v.held) claims) ≡ Some f = sym (slice_get_last v.entries (Took reader (length v.held) claims)) ∙ ap (slice_get (v.entries ++ Took reader (length v.held) claims ∷ [])) (sym (numbers i (length v.entries) k)) ∙ at in
         let one : Took reader (length v.held) claims ≡ f = cc in
-        let low : length v.held < length (v.held ++ b ∷ []) = omega (arith, length_more) in
+        let low : length v.held < length (v.held ++ b ∷ []) = omega (arith, length_more v.held b) in
         subst (λ g. number_of g < length (v.held ++ b ∷ [])) one low)
     | inr k ↦ (let old = slice_get_before v.entries (Took reader (length v.held) claims) i f (λ same. (let yes_same : (i == length v.entries) ≡ true = ap (λ m. m == length v.entries) same ∙ number_itself (length v.entries) in cc)) at in
-        let low = is.entries_held i f old in omega (arith, low, length_more))
+        let low = is.entries_held i f old in omega (arith, low, length_more v.held b))
   ]
 
   -- NEW: with the body, its entry and the rows of its claims the tables stand
   pub standing_new : is_receipt b.event ≡ false → (cs : List Claimed) → AreFound (length v.held) (state_before (log_of v) b) b.event (found_on told_then (log_of v) b) cs
       → IsStanding (with_rows (raised_all v.claims.rows cs) with_body)
   standing_new event cs are = record {
-    spelled = λ m c at. last_or m c at (λ k d. IsHeld d) is_held (λ old. is.spelled m c old);
+    spelled = λ m c at. last_or v.held b m c at (λ k d. IsHeld d) is_held (λ old. is.spelled m c old);
     differ = differ_push v.held b is.differ outside;
     entries_held = entry_or;
-    accepted_held = λ i n at. (let low = is.accepted_held i n at in omega (arith, low, length_more));
+    accepted_held = λ i n at. (let low = is.accepted_held i n at in omega (arith, low, length_more v.held b));
     grown = subst IsGrown (sym log_body) is.grown;
     log = subst (λ l. IsLog l v.log) (sym log_body) is.log;
     claims = subst (λ t. AreClaims t (log_of with_body) (v.held ++ b ∷ []) (raised_all v.claims.rows cs)) (sym told_body)
@@ -135,19 +146,14 @@ module _ (v : View) (is : IsStanding v) (reader : ℕ) (b : Body) (is_held : IsH
           (λ m c key sig there. sym (verdict_took (told_of v) reader b claims (triple_on c key sig)))
 
       unsaid : (key : Key) (sig : Sig) → verdict_in told_then (triple_on b key sig) ≡ None
-      unsaid key sig = verdict_took (told_of v) reader b claims (triple_on b key sig) ∙ none_of (verdict_in (told_of v) (triple_on b key sig))
-          (verdict_there (told_of v) (triple_on b key sig) ∙ not_from_false _ (unheard_outside v.held v.entries b key sig outside))
-        where
-          none_of : (o : Option Bool) → is_none o ≡ true → o ≡ None
-          none_of None h = refl
-          none_of (Some y) h = cc
+      unsaid key sig = verdict_took (told_of v) reader b claims (triple_on b key sig) ∙ unsaid_outside v b outside key sig
 
       more : HasClaims (state_before log) was (verdict_in told_then) (v.held ++ b ∷ []) v.claims.rows
       more = has_new (state_before log) was (verdict_in told_then) v.held v.claims.rows b begun (ap (λ y. if y then [] else found_on (told_of v) log b) (number_itself (length v.held))) unsaid
 
       raised_now : AreClaims told_then log (v.held ++ b ∷ []) (raised_all v.claims.rows cs)
       raised_now = has_raised (state_before log) was (λ m c. found_on told_then log c) (verdict_in told_then) (v.held ++ b ∷ []) v.claims.rows (length v.held) b (found_on told_then log b) cs more
-          (slice_get_last v.held b) (omega (arith, length_more)) are
+          (slice_get_last v.held b) (omega (arith, length_more v.held b)) are
           (sym (ap (λ l. l ++ found_on told_then log b) (ap (λ y. if y then [] else found_on (told_of v) log b) (number_itself (length v.held)))))
           (λ m c there other. others m c there other)
         where

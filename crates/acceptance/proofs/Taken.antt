@@ -42,7 +42,7 @@ pub told_took : (v : View) (reader n : ℕ) (b : Body) (claims : List Claim) →
 told_took v reader n b claims at = told_push v.held v.entries (Took reader n claims) (took reader b claims) (ap (λ o. option_map (λ c. took reader c claims) o) at)
 
 -- entries speak of held bodies still
-held_entry : (v : View) (e : Entry) → number_of e < length v.held → ((i : ℕ) (f : Entry) → slice_get v.entries i ≡ Some f → number_of f < length v.held)
+pub held_entry : (v : View) (e : Entry) → number_of e < length v.held → ((i : ℕ) (f : Entry) → slice_get v.entries i ≡ Some f → number_of f < length v.held)
     → (i : ℕ) (f : Entry) → slice_get (v.entries ++ e ∷ []) i ≡ Some f → number_of f < length v.held
 held_entry v e low below i f at = elim (cases_Bool (i == length v.entries)) [
   | inl k ↦ (let last : Some e ≡ Some f = sym (slice_get_last v.entries e) ∙ ap (slice_get (v.entries ++ e ∷ [])) (sym (numbers i (length v.entries) k)) ∙ at in

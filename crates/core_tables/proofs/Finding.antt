@@ -1,13 +1,13 @@
 -- What is found among the numbers of a hint is what is found in the list.
-use Rattle.std.proofs.Common.{◌≡◌, ℕ, ◌+◌, ◌<◌, zero, suc, Bool, true, false, List, [], ◌∷◌, length, refl, sym, ◌∙◌, ap, subst, inl, inr, arith, Option, Some, None}
-use Rattle.std.specs.Prelude.{Contains, filter, find, flat_map, position, slice_get}
+use Rattle.std.proofs.Common.{◌≡◌, ℕ, ◌+◌, suc, Bool, true, false, List, [], ◌∷◌, length, refl, sym, ◌∙◌, ap, inl, inr, arith, Option, Some, None}
+use Rattle.std.specs.Prelude.{filter, find, position, slice_get}
 use Rattle.std.specs.List.{list_any, position_from, range_with_len}
 use Rattle.std.specs.Option.{option_map_or}
 use Rattle.std.proofs.lemmas.Bool.{cases_Bool}
 use Rattle.std.proofs.lemmas.Iterator.Adapters.{position_from-zero}
 use Rattle.acceptance_laws.proofs.Members.{member_any}
 use Rattle.event_index.specs.Rows.{HasRows, is_row, numbers_of}
-use Rattle.event_index.proofs.Rows.{filter-numbers, find-numbers}
+use Rattle.event_index.proofs.Rows.{find-numbers}
 use Rattle.journal.proofs.Places.{any_at, found_at}
 use Rattle.core_tables.proofs.Rows.{not_some}
 

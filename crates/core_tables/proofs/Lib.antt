@@ -1,7 +1,10 @@
 pub mod Adding
+pub mod Cutting
+pub mod Entering
 pub mod Finding
 pub mod Found
 pub mod Hints
+pub mod Marking
 pub mod Orders
 pub mod Pairs
 pub mod Reading

@@ -1,24 +1,22 @@
 -- What the rows tell that a hint names: which events are accepted, which claims have come, and which bodies are held.
-use Rattle.std.proofs.Common.{◌≡◌, ℕ, ◌+◌, ◌-◌, ◌<◌, zero, suc, Bool, true, false, List, [], ◌∷◌, length, map, refl, sym, ◌∙◌, ap, subst, inl, inr, arith, Option, Some, None}
-use Rattle.std.specs.Prelude.{◌&&◌, ◌==◌, Contains, find, flat_map, option_map, position, slice_get, bytes_eq}
+use Rattle.std.proofs.Common.{◌≡◌, ℕ, ◌+◌, ◌-◌, ◌<◌, zero, suc, Bool, true, false, List, [], ◌∷◌, length, refl, sym, ◌∙◌, ap, subst, inl, inr, arith, Option, Some, None}
+use Rattle.std.specs.Prelude.{◌&&◌, ◌==◌, Contains, find, flat_map, option_map, position, slice_get}
 use Rattle.std.specs.List.{list_any}
 use Rattle.std.specs.List.Sorted.{IsStrictlyIncreasing}
 use Rattle.std.specs.Option.{option_map_or}
-use Rattle.std.specs.Cmp.Lexicographic.{bytes_decides}
 use Rattle.std.proofs.lemmas.Bool.{and_parts, cases_Bool}
 use Rattle.std.proofs.lemmas.List.Folds.{list_any-append}
 use Rattle.cesr_codes.specs.declared.digest.Digest.{Digest}
 use Rattle.cesr_codes.specs.declared.prefix.Prefix.{Prefix}
-use Rattle.event_backing.specs.EventSeals.{IsEventSeal, holds_seal}
-use Rattle.event_backing.specs.declared.event_seal.EventSeal.{EventSeal}
+use Rattle.event_backing.specs.EventSeals.{IsEventSeal}
 use Rattle.event_backing.proofs.SealMembers.{seals-named}
 use Rattle.event_body.specs.declared.event.Event.{Event}
 use Rattle.event_body.specs.Events.{prefix_of, prior_of, said_of, sn_of}
-use Rattle.event_index.specs.Rows.{HasRows, is_row}
+use Rattle.event_index.specs.Rows.{is_row}
 use Rattle.escrow.specs.Escrow.{Escrow}
 use Rattle.key_state.specs.KeyStates.{are_same}
 use Rattle.key_state.specs.Same.{same_digest, same_prefix}
-use Rattle.key_state.proofs.Same.{number_itself, numbers, same_prefix_is, same_prefix_itself}
+use Rattle.key_state.proofs.Same.{number_itself, numbers, same_prefix_is}
 use Rattle.acceptance_laws.proofs.States.{same_digest_is}
 use Rattle.journal.specs.declared.body.Body.{Body}
 use Rattle.journal.specs.declared.claim.Claim.{Claim}
@@ -34,11 +32,11 @@ use Rattle.core_tables.specs.declared.name.Name.{Name}
 use Rattle.core_tables.specs.declared.name.SealKey.{SealKey}
 use Rattle.core_tables.specs.declared.name.ClaimKey.{ClaimKey}
 use Rattle.core_tables.specs.Hints.{AreHinted}
-use Rattle.core_tables.specs.Names.{claim_key, name_in, name_of, seal_key}
+use Rattle.core_tables.specs.Names.{claim_key, name_of, seal_key}
 use Rattle.core_tables.specs.Reading.{event_there, has_claim, is_named, is_number, is_seal_of, same_name}
-use Rattle.core_tables.specs.View.{body_of, came_by, came_with}
+use Rattle.core_tables.specs.View.{came_by, came_with}
 use Rattle.core_tables.proofs.Finding.{any_place, find_place}
-use Rattle.core_tables.proofs.Rows.{contained, not_some, some_is}
+use Rattle.core_tables.proofs.Rows.{contained, not_some}
 
 -- the body of a number, where there is a number
 abbrev pub body_there : List Body → Option ℕ → Option Body

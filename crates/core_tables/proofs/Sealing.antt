@@ -1,8 +1,8 @@
 -- The seals of an event that are listed are those that it holds.
-use Rattle.std.proofs.Common.{◌≡◌, ℕ, List, true, ap, sym, ◌∙◌, subst}
+use Rattle.std.proofs.Common.{◌≡◌, ℕ, List, sym, ◌∙◌, subst}
 use Rattle.std.specs.Prelude.{Contains}
 use Rattle.cesr_codes.specs.declared.prefix.Prefix.{Prefix}
-use Rattle.event_backing.specs.EventSeals.{IsEventSeal, holds_seal, names}
+use Rattle.event_backing.specs.EventSeals.{names}
 use Rattle.event_backing.specs.Listing.{AreSealsOf}
 use Rattle.event_backing.specs.declared.event_seal.EventSeal.{EventSeal}
 use Rattle.event_backing.proofs.Held.{listed-held}

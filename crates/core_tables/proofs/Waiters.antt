@@ -1,6 +1,6 @@
 -- The escrow, as the bodies and the accepted events grow and are cut back.
-use Rattle.std.proofs.Common.{◌≡◌, ℕ, ◌<◌, ◌≤◌, Bool, true, false, List, [], ◌∷◌, ◌++◌, length, take, drop, refl, sym, ◌∙◌, ap, inl, inr, arith, Option, Some, None, nat_lt, nat_le, cond}
-use Rattle.std.specs.Prelude.{slice_get, ◌==◌, ◌||◌, ◌&&◌, if◌then◌else◌}
+use Rattle.std.proofs.Common.{◌≡◌, ℕ, true, false, List, [], ◌∷◌, ◌++◌, length, take, drop, refl, sym, ◌∙◌, ap, inl, inr, arith, Option, Some, None, nat_lt, nat_le}
+use Rattle.std.specs.Prelude.{slice_get, ◌==◌, ◌&&◌, if◌then◌else◌}
 use Rattle.std.specs.List.{list_any}
 use Rattle.std.proofs.lemmas.Bool.{cases_Bool, cases_eq, cases_lt, le-leb, le-ltb, lt-leb, lt-ltb}
 use Rattle.std.proofs.lemmas.List.{take-append-drop}
@@ -15,7 +15,7 @@ use Rattle.journal.proofs.Places.{slice_get_last}
 use Rattle.key_state.proofs.Same.{number_itself}
 use Rattle.core_tables.specs.Hints.{IsEscrow}
 use Rattle.core_tables.specs.Reading.{placed, waiter_for}
-use Rattle.core_tables.specs.View.{waiter_at, waiter_of}
+use Rattle.core_tables.specs.View.{waiter_at}
 use Rattle.core_tables.proofs.Rows.{differ, elsewhere, in_front, past_front}
 
 -- what waits under the next number, once its waiter is there

@@ -1,6 +1,5 @@
 -- The keys of the hints: names of events, seals, and claims on bodies.
-use Rattle.std.specs.Prelude.{ℕ, ◌-◌, Option, Some, None, option_map}
-use Rattle.cesr_codes.specs.declared.digest.Digest.{Digest}
+use Rattle.std.specs.Prelude.{ℕ, ◌-◌, Option, option_map}
 use Rattle.cesr_codes.specs.declared.prefix.Prefix.{Prefix}
 use Rattle.event_body.specs.declared.event.Event.{Event}
 use Rattle.event_body.specs.Events.{prefix_of, sn_of, said_of, prior_of}

@@ -1,12 +1,9 @@
 -- What the tables of a core stand for: the bodies that it holds, the entries of its journal, the log of what is accepted, and
 -- the claims on bodies whose keys are found. Each is a list that only grows while a call runs.
-use Rattle.std.specs.Prelude.{◌≡◌, ℕ, ◌<◌, ◌≤◌, Bool, ◌==◌, ◌||◌, nat_lt, List, [], ◌∷◌, ◌++◌, length, take, flat_map, bytes_eq, Option, Some, None, All, if◌then◌else◌}
+use Rattle.std.specs.Prelude.{ℕ, ◌<◌, ◌≤◌, ◌==◌, ◌||◌, List, [], length, take, flat_map, Option, Some, None, All, if◌then◌else◌}
 use Rattle.std.specs.List.{list_any}
-use Rattle.cesr_codes.specs.declared.digest.Digest.{Digest}
-use Rattle.cesr_codes.specs.declared.prefix.Prefix.{Prefix}
 use Rattle.event_body.specs.declared.event.Event.{Event}
-use Rattle.event_body.specs.Events.{prefix_of, sn_of, said_of, prior_of, is_receipt}
-use Rattle.event_body.specs.Judging.{SpellsEvent}
+use Rattle.event_body.specs.Events.{said_of, prior_of, is_receipt}
 use Rattle.escrow.specs.declared.waiter.Waiter.{Waiter}
 use Rattle.accepted_log.specs.Values.{Log, nothing as no_events, rewound as log_rewound}
 use Rattle.claim_table.specs.Table.{Table, nothing as no_claims, KeepsPending}

@@ -1,5 +1,5 @@
 //! Entries of the journal, found by the names of their bodies' events and by their claims.
-ghost use Rattle.std.specs.Prelude.{◌≡◌, ℕ, List, Contains, IfOk, OnOk, Some, length, slice_get};
+ghost use Rattle.std.specs.Prelude.{◌≡◌, ℕ, List, Contains, IfOk, OnOk, Some, length, slice_get, ◌<◌, ◌++◌, ◌∷◌, [], OnErr};
 ghost use Rattle.std.specs.List.{list_any};
 ghost use Rattle.std.specs.List.Sorted.{IsStrictlyIncreasing};
 ghost use Rattle.event_index.specs.Keys.{numbers_at};
@@ -15,7 +15,7 @@ ghost use Rattle.core_tables.specs.View.{came_with};
 use crate::Tables;
 use crate::name::{ClaimKey, Name};
 use event_index::Index;
-use journal::{Claim, Entry};
+use journal::{Claim, Entry, Question};
 use std::alloc::AllocError;
 
 impl Tables {
@@ -41,6 +41,27 @@ impl Tables {
             body,
             claim,
         )
+    }
+
+    /// Adds the entry of a verdict.
+    pub fn push_heard(
+        &mut self,
+        reader: u16,
+        question: &Question,
+        yes: bool,
+    ) -> Result<(), AllocError>
+        requires held { question.now.body < length self.old.held }
+        ensures ok { OnOk result (self.new ≡ record self.old { entries = self.old.entries ++ Heard reader question.now.body question.now.key question.now.sig yes ∷ [] }) }
+        ensures err { OnErr result (self.new ≡ self.old) }
+    {
+        self.journal.entries.push(Entry::Heard {
+            reader,
+            body: question.body,
+            key: question.key,
+            sig: question.sig,
+            yes,
+        })?;
+        Ok(())
     }
 }
 

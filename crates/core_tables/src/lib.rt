@@ -2,6 +2,7 @@
 #![tactic(auto)]
 
 mod bodies;
+mod claims;
 mod entries;
 mod log;
 mod mark;

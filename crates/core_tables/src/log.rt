@@ -1,5 +1,5 @@
 //! The accepted events, found by their names and by what they seal.
-ghost use Rattle.std.specs.Prelude.{◌≡◌, ◌==◌, ℕ, List, Contains, OnOk, None, Some, find, slice_get, position, if◌then◌else◌};
+ghost use Rattle.std.specs.Prelude.{◌≡◌, ◌==◌, ℕ, List, Contains, OnOk, None, Some, find, length, slice_get, position, if◌then◌else◌};
 ghost use Rattle.std.specs.List.{list_any};
 ghost use Rattle.std.specs.Option.{option_copied};
 ghost use Rattle.escrow.specs.Escrow.{held as held_by};
@@ -49,6 +49,15 @@ impl Tables {
         };
         let name = name_of(event);
         has_number(self.log.numbers(), self.accepted.numbers(&name), number)
+    }
+
+    /// The accepted events leave the escrow. It takes no memory.
+    pub fn settle(&mut self)
+        ensures { self.new ≡ record self.old { settled = length self.old.log.numbers } }
+    {
+        let numbers = self.log.numbers();
+        leave(&mut self.waiting, &numbers[self.settled..]);
+        self.settled = numbers.len();
     }
 }
 

@@ -1,5 +1,4 @@
 use Rattle.std.proofs.Common.{◌≡◌, ℕ, Bool, List, Some, refl, ◌∙◌, ap, sym, rules, tests}
-use Rattle.std.specs.Prelude.{◌==◌}
 use Rattle.std.specs.List.{list_any}
 use Rattle.journal.specs.contracts.claim.ClaimPartialEq.TheImpl as claims_test
 use Rattle.journal.specs.declared.claim.Claim.{Claim}

@@ -1,10 +1,9 @@
-use Rattle.std.proofs.Common.{◌≡◌, ◌∙◌, ap, subst, sym}
+use Rattle.std.proofs.Common.{subst, sym}
 use Rattle.std.specs.Prelude.{Contains}
 use Rattle.std.proofs.lemmas.Result.{on_ok_weaker}
 use Rattle.event_backing.specs.Listing.{AreSealsOf}
 use Rattle.event_body.specs.Events.{anchors_of}
 use Rattle.event_index.specs.Keys.{numbers_at}
-use Rattle.core_tables.specs.Names.{name_of}
 use Rattle.core_tables.proofs.Adding.{on_ok}
 use Rattle.core_tables.proofs.Orders.{name_cmp, seal_cmp}
 use Rattle.core_tables.proofs.Sealing.{sealed_at}

@@ -1,13 +1,11 @@
 use Rattle.std.proofs.Common.{◌≡◌, ℕ, List, Option, Some, None, ◌∙◌, ap, refl, subst, sym}
-use Rattle.std.specs.Prelude.{find, slice_get, IfNone, IfSome}
+use Rattle.std.specs.Prelude.{slice_get, IfNone, IfSome}
 use Rattle.std.specs.List.Sorted.{IsStrictlyIncreasing}
 use Rattle.event_body.specs.declared.event.Event.{Event}
 use Rattle.event_body.specs.Judging.{SpellsEvent}
 use Rattle.event_index.specs.Keys.{numbers_at}
-use Rattle.event_index.specs.Rows.{is_row}
 use Rattle.journal.specs.declared.body.Body.{Body}
-use Rattle.journal.specs.Logs.{is_in, same_body}
-use Rattle.core_tables.specs.Names.{name_of}
+use Rattle.journal.specs.Logs.{is_in}
 use Rattle.core_tables.specs.View.{View, body_of}
 use Rattle.core_tables.proofs.Found.{body_found, no_body_found, texts_found}
 use Rattle.core_tables.proofs.Orders.{name_cmp}

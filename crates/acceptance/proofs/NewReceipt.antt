@@ -1,0 +1,48 @@
+-- The tables stand when the body of a receipt comes, before its entry does.
+use Rattle.std.proofs.Common.{◌≡◌, true, false, [], ◌∷◌, ◌++◌, sym, ap, arith, subst, if◌then◌else◌}
+use Rattle.event_body.specs.Events.{is_receipt}
+use Rattle.key_state.specs.Exposure.{own_rules}
+use Rattle.journal.specs.declared.body.Body.{Body}
+use Rattle.journal.specs.Grown.{IsGrown}
+use Rattle.journal.specs.History.{claims_on}
+use Rattle.journal.specs.Logs.{is_in}
+use Rattle.journal.specs.Questions.{state_before}
+use Rattle.acceptance_laws.specs.Claimed.{rows_of}
+use Rattle.accepted_log.specs.Cuts.{IsLog}
+use Rattle.claim_laws.specs.ClaimRows.{AreClaims, found_on, verdict_in}
+use Rattle.claim_laws.proofs.Steps.{has_new}
+use Rattle.core_tables.specs.View.{View, log_of}
+use Rattle.acceptance.specs.Standing.{IsHeld, IsStanding, told_of}
+use Rattle.acceptance.proofs.NewBody.{chosen_more, differ_push, last_or, length_more, unsaid_outside}
+use Rattle.acceptance.proofs.Receipt.{receipt_stands}
+use Rattle.acceptance.proofs.Telling.{told_front}
+
+-- of a receipt nothing is found
+pub receipt_found : (v : View) (b : Body) → is_receipt b.event ≡ true → found_on (told_of v) (log_of v) b ≡ []
+unfolding found_on
+receipt_found v b receipt = ap (λ y. if y then rows_of (own_rules (state_before (log_of v) b) b.event) (claims_on (told_of v) b) else []) (receipt_stands (log_of v) b receipt)
+
+-- RECEIPT: with its body more the tables stand
+pub standing_body : (v : View) (is : IsStanding v) (b : Body) → IsHeld b → is_in v.held b ≡ false → is_receipt b.event ≡ true → IsStanding (record v { held = v.held ++ b ∷ [] })
+standing_body v is b is_held outside receipt = record {
+  spelled = λ m c at. last_or v.held b m c at (λ k d. IsHeld d) is_held (λ old. is.spelled m c old);
+  differ = differ_push v.held b is.differ outside;
+  entries_held = λ i e at. (let low = is.entries_held i e at in omega (arith, low, length_more v.held b));
+  accepted_held = λ i n at. (let low = is.accepted_held i n at in omega (arith, low, length_more v.held b));
+  grown = subst IsGrown (sym log_same) is.grown;
+  log = subst (λ l. IsLog l v.log) (sym log_same) is.log;
+  claims = subst (λ t. AreClaims t (log_of now) (v.held ++ b ∷ []) v.claims.rows) (sym told_same)
+      (subst (λ l. AreClaims (told_of v) l (v.held ++ b ∷ []) v.claims.rows) (sym log_same) more);
+}
+  where
+    now : View
+    now = record v { held = v.held ++ b ∷ [] }
+
+    told_same : told_of now ≡ told_of v
+    told_same = told_front v.held (b ∷ []) v.entries is.entries_held
+
+    log_same : log_of now ≡ log_of v
+    log_same = chosen_more v.held (b ∷ []) v.log.numbers is.accepted_held
+
+    more : AreClaims (told_of v) (log_of v) (v.held ++ b ∷ []) v.claims.rows
+    more = has_new (state_before (log_of v)) (λ m c. found_on (told_of v) (log_of v) c) (verdict_in (told_of v)) v.held v.claims.rows b is.claims (receipt_found v b receipt) (unsaid_outside v b outside)

@@ -1,0 +1,23 @@
+-- Tables that hold nothing stand.
+use Rattle.accepted_log.proofs.Behind.{nothing_is_log}
+use Rattle.journal.proofs.Premises.{nothing_grown}
+use Rattle.journal.specs.Journals.{chosen}
+use Rattle.core_tables.specs.View.{nothing}
+use Rattle.acceptance.specs.Standing.{IsStanding}
+
+pub nothing_stands : IsStanding nothing
+unfolding chosen
+nothing_stands = record {
+  spelled = λ n b at. cc;
+  differ = tt;
+  entries_held = λ i e at. cc;
+  accepted_held = λ i n at. cc;
+  grown = nothing_grown;
+  log = nothing_is_log;
+  claims = record {
+    claims = λ n b at. cc;
+    verdicts = λ n b key sig at. cc;
+    agree = λ i r at. cc;
+    below = λ i r at. cc;
+  };
+}

@@ -1,0 +1,88 @@
+-- Tables that have grown are cut back to what they were.
+use Rattle.std.proofs.Common.{◌≡◌, ◌<◌, ◌≤◌, List, [], ◌∷◌, ◌++◌, length, refl, sym, ◌∙◌, ap, subst}
+use Rattle.std.specs.Prelude.{All, take}
+use Rattle.journal.specs.declared.body.Body.{Body}
+use Rattle.journal.specs.declared.entry.Entry.{Entry}
+use Rattle.acceptance_laws.proofs.Entries.{all_from}
+use Rattle.accepted_log.proofs.Extensions.{extends_refl, extends_trans}
+use Rattle.claim_table.specs.declared.claimed.Claimed.{Claimed}
+use Rattle.claim_table.specs.declared.row.Row.{Row}
+use Rattle.claim_table.specs.Rows.{raised, raised_all}
+use Rattle.claim_table.specs.Table.{KeepsPending}
+use Rattle.core_tables.specs.View.{View, IsCut, mark_of, number_of, rewound, with_rows}
+use Rattle.acceptance.specs.Standing.{Extends, IsStanding}
+use Rattle.acceptance.proofs.Taken.{with_entry}
+
+take_all : {X : Type 0} (xs : List X) → take (length xs) xs ≡ xs
+take_all [] = refl
+take_all (x ∷ xs) = ap (λ l. x ∷ l) (take_all xs)
+
+pub take_push : {X : Type 0} (xs ys : List X) → take (length xs) (xs ++ ys) ≡ xs
+take_push [] ys = refl
+take_push (x ∷ xs) ys = ap (λ l. x ∷ l) (take_push xs ys)
+
+-- the front of a front is a front
+take_front : {X : Type 0} (xs ys zs : List X) → take (length xs) ys ≡ xs → take (length ys) zs ≡ ys → take (length xs) zs ≡ xs
+take_front [] ys zs f g = refl
+take_front (x ∷ xs) [] zs f g = cc
+take_front (x ∷ xs) (y ∷ ys) [] f g = cc
+take_front (x ∷ xs) (y ∷ ys) (z ∷ zs) f g =
+    let here : z ≡ x = cc in
+    let left : take (length xs) ys ≡ xs = cc in
+    let right : take (length ys) zs ≡ ys = cc in
+    ap (λ w. w ∷ take (length xs) zs) here ∙ ap (λ l. x ∷ l) (take_front xs ys zs left right)
+
+-- BACK: the tables that were
+pub rewound_is : (old new : View) → Extends old new → rewound (mark_of old) new ≡ old
+rewound_is old new more = λ i. record {
+  held = more.held i;
+  entries = more.entries i;
+  log = more.log.back i;
+  claims = record { rows = more.rows i; pending = more.pending i };
+  settled = more.settled i;
+}
+
+-- and what is left speaks of bodies that are left
+pub is_cut : (old new : View) → IsStanding old → old.settled ≤ length old.log.numbers → KeepsPending (length old.claims.rows) new.claims.rows new.claims.pending → Extends old new → IsCut (mark_of old) new
+is_cut old new is settled pending more = record {
+  entries_held = subst (All (λ e. number_of e < length old.held)) (sym more.entries) (all_from (λ e. number_of e < length old.held) old.entries is.entries_held);
+  accepted_held = subst (All (λ n. n < length old.held)) (sym (ap (λ l. l.numbers) more.log.back)) (all_from (λ n. n < length old.held) old.log.numbers is.accepted_held);
+  settled_held = subst (λ k. k ≤ length old.log.numbers) (sym more.settled) settled;
+  pending_held = pending;
+}
+
+-- ITSELF: nothing has come
+pub extends_itself : (v : View) → IsStanding v → Extends v v
+extends_itself v is = record {
+  held = take_all v.held;
+  entries = take_all v.entries;
+  log = extends_refl v.log (is.log.places ∙ sym is.log.numbers);
+  rows = take_all v.claims.rows;
+  pending = refl;
+  settled = refl;
+}
+
+-- THEN: more has come behind it
+pub extends_then : (u v w : View) → Extends u v → Extends v w → Extends u w
+extends_then u v w first next = record {
+  held = take_front u.held v.held w.held first.held next.held;
+  entries = take_front u.entries v.entries w.entries first.entries next.entries;
+  log = extends_trans u.log v.log w.log first.log next.log;
+  rows = take_front u.claims.rows v.claims.rows w.claims.rows first.rows next.rows;
+  pending = next.pending ∙ first.pending;
+  settled = next.settled ∙ first.settled;
+}
+
+raised_behind : (rows : List Row) (cs : List Claimed) → take (length rows) (raised_all rows cs) ≡ rows
+raised_behind rows [] = take_all rows
+raised_behind rows (c ∷ cs) = take_front rows (raised rows c) (raised_all (raised rows c) cs) (take_push rows _) (raised_behind (raised rows c) cs)
+
+-- a body, an entry, claims
+pub extends_held : (v : View) (b : Body) → IsStanding v → Extends v (record v { held = v.held ++ b ∷ [] })
+extends_held v b is = record { held = take_push v.held (b ∷ []); entries = take_all v.entries; log = (extends_itself v is).log; rows = take_all v.claims.rows; pending = refl; settled = refl }
+
+pub extends_entry : (v : View) (e : Entry) → IsStanding v → Extends v (with_entry e v)
+extends_entry v e is = record { held = take_all v.held; entries = take_push v.entries (e ∷ []); log = (extends_itself v is).log; rows = take_all v.claims.rows; pending = refl; settled = refl }
+
+pub extends_raised : (v : View) (cs : List Claimed) → IsStanding v → Extends v (with_rows (raised_all v.claims.rows cs) v)
+extends_raised v cs is = record { held = take_all v.held; entries = take_all v.entries; log = (extends_itself v is).log; rows = raised_behind v.claims.rows cs; pending = refl; settled = refl }

@@ -1,0 +1,18 @@
+use Rattle.std.proofs.Common.{◌∙◌, ap, sym}
+use Rattle.claim_table.specs.Rows.{unheard}
+use Rattle.core_tables.specs.Inside.{view_of}
+use Rattle.core_tables.specs.View.{View}
+use Rattle.core_tables.proofs.Marking.{table_is, with_new}
+use Rattle.core_tables.proofs.Rows.{not_some}
+use Rattle.core_tables.proofs.tables.Tables.unhear.Goals as goal
+
+pub unhear-requires : goal.unhear-requires
+unhear-requires c = λ none. c.requires (ap (λ (v : View). v.claims.pending) (sym c.self.view_is) ∙ none)
+
+pub invariant_of-self : goal.invariant_of-self
+invariant_of-self c = (c.self.invariant.0, λ s is. absurd (not_some s (sym c.unhear.ensures.pending ∙ is)), c.self.invariant.2)
+
+pub returns : goal.returns
+returns c = λ s is.
+    with_new (view_of c.self.inside) c.args.self.now c.unhear.new.self _ c.self.view_is
+    (table_is c.unhear.new.self _ _ (c.unhear.ensures.rows s (ap (λ (v : View). v.claims.pending) c.self.view_is ∙ is) ∙ ap (λ (v : View). unheard s v.claims.rows) c.self.view_is) c.unhear.ensures.pending)
