@@ -12,3 +12,4 @@ pub mod Rows
 pub mod Sealing
 pub mod Starting
 pub mod Waiters
+pub mod Raising

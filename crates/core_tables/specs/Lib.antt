@@ -3,3 +3,4 @@ pub mod Names
 pub mod Hints
 pub mod Reading
 pub mod Inside
+pub mod Raised

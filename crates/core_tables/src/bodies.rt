@@ -1,7 +1,7 @@
 //! Bodies, found by the names of their events.
-ghost use Rattle.std.specs.Prelude.{◌≡◌, ◌++◌, ◌∷◌, [], ℕ, false, find, Contains, IfOk, IfNone, IfSome, OnOk, OnErr, None, Some, slice_get};
+ghost use Rattle.std.specs.Prelude.{◌≡◌, ◌<◌, ◌^◌, ◌++◌, ◌∷◌, [], ℕ, false, find, Contains, IfOk, IfNone, IfSome, OnOk, OnErr, None, Some, slice_get};
 ghost use Rattle.std.specs.List.Sorted.{IsStrictlyIncreasing};
-ghost use Rattle.std.specs.Option.{ForSome};
+ghost use Rattle.std.specs.Option.{ForSome, option_copied};
 ghost use Rattle.event_body.specs.Judging.{SpellsEvent};
 ghost use Rattle.escrow.specs.Escrow.{held as held_by, room_for};
 ghost use Rattle.journal.specs.Logs.{is_in};
@@ -11,6 +11,7 @@ ghost use Rattle.core_tables.specs.Reading.{is_text, placed, waiter_for};
 ghost use Rattle.core_tables.specs.View.{body_of};
 
 use crate::Tables;
+use crate::entries::number_from;
 use crate::name::{Name, name_of};
 use escrow::{Waiter, Waiting};
 use event_body::{Event, is_receipt, one_event, said_of_event};
@@ -42,6 +43,26 @@ impl Tables {
             self.names.numbers(&name),
             bytes,
         )
+    }
+
+    /// Adds a body that isn't held. An event waits from then on.
+    pub fn push_body(&mut self, text: Text, event: Event) -> Result<(), AllocError>
+        ensures ok { OnOk result (self.new ≡ record self.old { held = self.old.held ++ body_of text event ∷ [] }) }
+        ensures err { OnErr result (self.new ≡ self.old) }
+    {
+        let number = number_from(self.events.len())?;
+        self.names.add(name_of(&event), number)?;
+        self.events.reserve(1)?;
+        push_waiting(
+            self.alloc,
+            &mut self.journal.bodies,
+            &mut self.waiting,
+            text,
+            number,
+            &event,
+        )?;
+        self.events.push_reserved(event);
+        Ok(())
     }
 }
 

@@ -1,5 +1,5 @@
 //! Entries of the journal, found by the names of their bodies' events and by their claims.
-ghost use Rattle.std.specs.Prelude.{◌≡◌, ℕ, List, Contains, IfOk, OnOk, Some, length, slice_get, ◌<◌, ◌++◌, ◌∷◌, [], OnErr};
+ghost use Rattle.std.specs.Prelude.{◌≡◌, ◌<◌, ◌++◌, ◌∷◌, [], ℕ, List, Contains, IfOk, OnOk, OnErr, Some, length, slice_get};
 ghost use Rattle.std.specs.List.{list_any};
 ghost use Rattle.std.specs.List.Sorted.{IsStrictlyIncreasing};
 ghost use Rattle.event_index.specs.Keys.{numbers_at};
@@ -13,9 +13,10 @@ ghost use Rattle.core_tables.specs.Reading.{has_claim};
 ghost use Rattle.core_tables.specs.View.{came_with};
 
 use crate::Tables;
-use crate::name::{ClaimKey, Name};
+use crate::name::{ClaimKey, Name, name_of};
 use event_index::Index;
 use journal::{Claim, Entry, Question};
+use lists::Items;
 use std::alloc::AllocError;
 
 impl Tables {
@@ -41,6 +42,29 @@ impl Tables {
             body,
             claim,
         )
+    }
+
+    /// Adds the entry of a body that came with its claims.
+    pub fn push_took(
+        &mut self,
+        reader: u16,
+        body: u32,
+        claims: Items<Claim>,
+    ) -> Result<(), AllocError>
+        requires held { body < length self.old.held }
+        ensures ok { OnOk result (self.new ≡ record self.old { entries = self.old.entries ++ Took reader body claims ∷ [] }) }
+        ensures err { OnErr result (self.new ≡ self.old) }
+    {
+        let number = number_from(self.journal.entries.len())?;
+        let name = name_of(&self.events[body as usize]);
+        self.told.add(name, number)?;
+        note_claims(&mut self.came, body, claims.as_slice(), number)?;
+        self.journal.entries.push(Entry::Took {
+            reader,
+            body,
+            claims,
+        })?;
+        Ok(())
     }
 
     /// Adds the entry of a verdict.
@@ -89,7 +113,9 @@ fn is_came_by(entry: &Entry, sought: u32, claim: &Claim) -> bool
     ensures { result ≡ has_claim sought claim.now (Some entry.now) }
 {
     match entry {
-        Entry::Took { body, claims, .. } => { *body == sought && claims.as_slice().contains(claim) }
+        Entry::Took { body, claims, .. } => {
+            *body == sought && claims.as_slice().contains(claim)
+        }
         Entry::Heard { .. } => false,
     }
 }

@@ -1,5 +1,6 @@
 //! The keys of the hints.
 ghost use Rattle.std.specs.Prelude.{◌≡◌};
+ghost use Rattle.keri_specs.specs.Base64.{AreBytes};
 ghost use Rattle.core_tables.specs.Names as names;
 ghost use Rattle.core_tables.specs.Reading.{same_name};
 
@@ -58,4 +59,11 @@ pub fn prior_name(event: &Event) -> Option<Name>
         sn: sn_of(event).saturating_sub(1),
         said: prior,
     })
+}
+
+// A key and a digest have 32 bytes.
+fn is_raw(raw: &[u8; 32])
+    ensures { AreBytes 32 raw.now }
+{
+    let _raw = *raw;
 }
