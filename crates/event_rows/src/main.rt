@@ -4,6 +4,7 @@
 #![tactic(auto)]
 
 mod backing;
+mod bodies;
 mod event;
 mod states;
 
@@ -17,7 +18,10 @@ fn called(alloc: Global, row: &Row) -> Result<Option<String>, AllocError> {
     if let Some(answer) = states::answer(alloc, row)? {
         return Ok(Some(answer));
     }
-    backing::answer(alloc, row)
+    if let Some(answer) = backing::answer(alloc, row)? {
+        return Ok(Some(answer));
+    }
+    bodies::answer(alloc, row)
 }
 
 // What the line is answered by.
