@@ -1,8 +1,9 @@
-pub mod Footing
+pub mod Behind
 pub mod Turning
 pub mod Ready
 pub mod Turned
 pub mod Predecessor
+pub mod Place
 pub mod Unfit
 pub mod Telling
 pub mod Taken

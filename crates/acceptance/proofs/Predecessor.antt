@@ -18,7 +18,7 @@ use Rattle.acceptance_laws.proofs.Woken.{parts_of}
 use Rattle.accepted_log.specs.declared.place.Place.{Place}
 use Rattle.accepted_log.specs.Values.{Log}
 use Rattle.accepted_log.specs.Cuts.{cut, IsLog}
-use Rattle.acceptance.proofs.Footing.{of_x, stands_behind, state_there_is}
+use Rattle.acceptance.proofs.Behind.{of_x, stands_behind, state_there_is}
 use Rattle.std.specs.Prelude.{is_none}
 
 -- what stands at the first place that passes is what is found

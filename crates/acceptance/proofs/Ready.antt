@@ -25,7 +25,7 @@ use Rattle.claim_table.specs.declared.row.Row.{Row}
 use Rattle.claim_laws.specs.ClaimRows.{AreClaims, part_of}
 use Rattle.claim_laws.proofs.Supported.{supported}
 use Rattle.acceptance.specs.Parts.{has_in, table_part}
-use Rattle.acceptance.proofs.Footing.{rules_cut}
+use Rattle.acceptance.proofs.Behind.{rules_cut}
 
 part_is : (p : Part) → part_of (table_part p) ≡ p
 part_is (index n) = refl

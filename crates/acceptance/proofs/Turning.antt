@@ -16,7 +16,7 @@ use Rattle.claim_table.specs.declared.row.Row.{Row}
 use Rattle.claim_laws.specs.ClaimRows.{AreFound, AreClaims, HasClaims, found_on, verdict_in}
 use Rattle.claim_laws.proofs.Accepted.{claimed-kept, claimed-none}
 use Rattle.claim_laws.proofs.Steps.{found_none, found_push, has_same}
-use Rattle.acceptance.proofs.Footing.{stands_not}
+use Rattle.acceptance.proofs.Behind.{stands_not}
 
 -- an inception names no event before it
 prior_none : (e : Event) → is_inception e ≡ true → prior_of e ≡ None

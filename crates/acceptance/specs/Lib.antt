@@ -1,3 +1,4 @@
 pub mod Parts
 pub mod Turned
 pub mod Standing
+pub mod Footing

@@ -1,2 +1,6 @@
 //! Acceptance: which events are accepted of what is told, found by cause.
 #![tactic(auto)]
+
+mod footing;
+
+pub use footing::{Footing, footing_of};
