@@ -1,11 +1,11 @@
 pub mod Behind
-pub mod Turning
+pub mod FoundClaims
 pub mod Ready
 pub mod Turned
 pub mod Predecessor
 pub mod Place
 pub mod Unfit
-pub mod Telling
+pub mod Entries
 pub mod Taken
 pub mod NewBody
 pub mod NewEvent

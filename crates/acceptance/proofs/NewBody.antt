@@ -31,8 +31,14 @@ use Rattle.claim_laws.proofs.Told.{verdict_took, verdict_there}
 use Rattle.core_tables.specs.View.{View, log_of, number_of, with_rows}
 use Rattle.acceptance.specs.Standing.{IsHeld, IsStanding, told_of}
 use Rattle.acceptance.proofs.Taken.{took_off, with_entry}
-use Rattle.acceptance.proofs.Telling.{told_front, unheard_outside}
-use Rattle.acceptance.proofs.Turning.{found_unnamed}
+use Rattle.acceptance.proofs.Entries.{told_front, unheard_outside}
+use Rattle.acceptance.proofs.FoundClaims.{found_unnamed}
+
+-- a number of the list is below its length
+pub low_at : (hs : List Body) (m : ℕ) (c : Body) → slice_get hs m ≡ Some c → m < length hs
+low_at [] m c at = cc
+low_at (h ∷ hs) zero c at = omega arith
+low_at (h ∷ hs) (suc m) c at = (let ih = low_at hs m c at in omega (arith, ih))
 
 -- numbers of held bodies choose the same when more are held
 pub chosen_more : (held more : List Body) (numbers' : List ℕ) → ((i n : ℕ) → slice_get numbers' i ≡ Some n → n < length held) → chosen (held ++ more) numbers' ≡ chosen held numbers'
@@ -131,11 +137,6 @@ module _ (v : View) (is : IsStanding v) (reader : ℕ) (b : Body) (is_held : IsH
 
       off : (m : ℕ) → m < length v.held → (m == length v.held) ≡ false
       off m low = elim (cases_Bool (m == length v.held)) [ inr k ↦ k | inl k ↦ (let same = numbers m (length v.held) k in absurd (omega (arith, low, same))) ]
-
-      low_at : (hs : List Body) (m : ℕ) (c : Body) → slice_get hs m ≡ Some c → m < length hs
-      low_at [] m c at = cc
-      low_at (h ∷ hs) zero c at = omega arith
-      low_at (h ∷ hs) (suc m) c at = (let ih = low_at hs m c at in omega (arith, ih))
 
       was_is : (m : ℕ) (c : Body) → slice_get v.held m ≡ Some c → was m c ≡ found_on (told_of v) log c
       was_is m c at = ap (λ y. if y then [] else found_on (told_of v) log c) (off m (low_at v.held m c at))

@@ -32,19 +32,15 @@ use Rattle.core_tables.specs.Hints.{IsEscrow}
 use Rattle.core_tables.specs.View.{View, log_of, waiter_at, waiter_of, with_log, with_rows}
 use Rattle.acceptance.specs.Standing.{IsStanding, told_of}
 use Rattle.acceptance.specs.Turned.{turned}
+use Rattle.acceptance.proofs.NewBody.{low_at}
 use Rattle.acceptance.proofs.Turned.{turned_begins, turned_ends}
-use Rattle.acceptance.proofs.Turning.{claims_move, found_stays}
+use Rattle.acceptance.proofs.FoundClaims.{claims_move, found_stays}
 
 slice_get_push : (xs : List ℕ) (x y n : ℕ) → slice_get (xs ++ x ∷ []) n ≡ Some y → (slice_get xs n ≡ Some y) ⊎ (x ≡ y)
 slice_get_push [] x y zero e = inr (let same : Some x ≡ Some y = e in cc)
 slice_get_push [] x y (suc n) e = cc
 slice_get_push (z ∷ xs) x y zero e = inl e
 slice_get_push (z ∷ xs) x y (suc n) e = slice_get_push xs x y n e
-
-low_at : (hs : List Body) (m : ℕ) (c : Body) → slice_get hs m ≡ Some c → m < length hs
-low_at [] m c at = cc
-low_at (h ∷ hs) zero c at = omega arith
-low_at (h ∷ hs) (suc m) c at = (let ih = low_at hs m c at in omega (arith, ih))
 
 -- what a state takes, and no inception, has a predecessor in the log
 has_one : (log : List Body) (b : Body) (o : Option State) → StandIf (prefix_of b.event) log o → takes o b.event ≡ true → is_inception b.event ≡ false → is_receipt b.event ≡ false → list_any (precedes b) log ≡ true

@@ -15,7 +15,7 @@ use Rattle.core_tables.specs.View.{View, log_of}
 use Rattle.acceptance.specs.Standing.{IsHeld, IsStanding, told_of}
 use Rattle.acceptance.proofs.NewBody.{chosen_more, differ_push, last_or, length_more, unsaid_outside}
 use Rattle.acceptance.proofs.Receipt.{receipt_stands}
-use Rattle.acceptance.proofs.Telling.{told_front}
+use Rattle.acceptance.proofs.Entries.{told_front}
 
 -- of a receipt nothing is found
 pub receipt_found : (v : View) (b : Body) → is_receipt b.event ≡ true → found_on (told_of v) (log_of v) b ≡ []

@@ -29,7 +29,7 @@ use Rattle.acceptance.specs.Turned.{turned}
 use Rattle.acceptance.proofs.Behind.{stands_not}
 use Rattle.acceptance.proofs.Taken.{found_by, held_entry, told_took, with_entry}
 use Rattle.acceptance.proofs.Turned.{turned_begins, turned_ends}
-use Rattle.acceptance.proofs.Turning.{found_unnamed}
+use Rattle.acceptance.proofs.FoundClaims.{found_unnamed}
 
 -- a receipt names no event before it, and is no inception
 receipt_kind : (e : Event) → is_receipt e ≡ true → (prior_of e ≡ None) × (is_inception e ≡ false)

@@ -1,5 +1,6 @@
 -- Tables that have grown are cut back to what they were.
 use Rattle.std.proofs.Common.{◌≡◌, ◌<◌, ◌≤◌, List, [], ◌∷◌, ◌++◌, length, refl, sym, ◌∙◌, ap, subst}
+use Rattle.std.proofs.Math.Seq.{take-append_seam, take-length}
 use Rattle.std.specs.Prelude.{All, take}
 use Rattle.journal.specs.declared.body.Body.{Body}
 use Rattle.journal.specs.declared.entry.Entry.{Entry}
@@ -12,14 +13,6 @@ use Rattle.claim_table.specs.Table.{KeepsPending}
 use Rattle.core_tables.specs.View.{View, IsCut, mark_of, number_of, rewound, with_rows}
 use Rattle.acceptance.specs.Standing.{Extends, IsStanding}
 use Rattle.acceptance.proofs.Taken.{with_entry}
-
-take_all : {X : Type 0} (xs : List X) → take (length xs) xs ≡ xs
-take_all [] = refl
-take_all (x ∷ xs) = ap (λ l. x ∷ l) (take_all xs)
-
-pub take_push : {X : Type 0} (xs ys : List X) → take (length xs) (xs ++ ys) ≡ xs
-take_push [] ys = refl
-take_push (x ∷ xs) ys = ap (λ l. x ∷ l) (take_push xs ys)
 
 -- the front of a front is a front
 take_front : {X : Type 0} (xs ys zs : List X) → take (length xs) ys ≡ xs → take (length ys) zs ≡ ys → take (length xs) zs ≡ xs
@@ -54,10 +47,10 @@ is_cut old new is settled pending more = record {
 -- ITSELF: nothing has come
 pub extends_itself : (v : View) → IsStanding v → Extends v v
 extends_itself v is = record {
-  held = take_all v.held;
-  entries = take_all v.entries;
+  held = take-length v.held;
+  entries = take-length v.entries;
   log = extends_refl v.log (is.log.places ∙ sym is.log.numbers);
-  rows = take_all v.claims.rows;
+  rows = take-length v.claims.rows;
   pending = refl;
   settled = refl;
 }
@@ -74,15 +67,15 @@ extends_then u v w first next = record {
 }
 
 raised_behind : (rows : List Row) (cs : List Claimed) → take (length rows) (raised_all rows cs) ≡ rows
-raised_behind rows [] = take_all rows
-raised_behind rows (c ∷ cs) = take_front rows (raised rows c) (raised_all (raised rows c) cs) (take_push rows _) (raised_behind (raised rows c) cs)
+raised_behind rows [] = take-length rows
+raised_behind rows (c ∷ cs) = take_front rows (raised rows c) (raised_all (raised rows c) cs) (take-append_seam rows _) (raised_behind (raised rows c) cs)
 
 -- a body, an entry, claims
 pub extends_held : (v : View) (b : Body) → IsStanding v → Extends v (record v { held = v.held ++ b ∷ [] })
-extends_held v b is = record { held = take_push v.held (b ∷ []); entries = take_all v.entries; log = (extends_itself v is).log; rows = take_all v.claims.rows; pending = refl; settled = refl }
+extends_held v b is = record { held = take-append_seam v.held (b ∷ []); entries = take-length v.entries; log = (extends_itself v is).log; rows = take-length v.claims.rows; pending = refl; settled = refl }
 
 pub extends_entry : (v : View) (e : Entry) → IsStanding v → Extends v (with_entry e v)
-extends_entry v e is = record { held = take_all v.held; entries = take_push v.entries (e ∷ []); log = (extends_itself v is).log; rows = take_all v.claims.rows; pending = refl; settled = refl }
+extends_entry v e is = record { held = take-length v.held; entries = take-append_seam v.entries (e ∷ []); log = (extends_itself v is).log; rows = take-length v.claims.rows; pending = refl; settled = refl }
 
 pub extends_raised : (v : View) (cs : List Claimed) → IsStanding v → Extends v (with_rows (raised_all v.claims.rows cs) v)
-extends_raised v cs is = record { held = take_all v.held; entries = take_all v.entries; log = (extends_itself v is).log; rows = raised_behind v.claims.rows cs; pending = refl; settled = refl }
+extends_raised v cs is = record { held = take-length v.held; entries = take-length v.entries; log = (extends_itself v is).log; rows = raised_behind v.claims.rows cs; pending = refl; settled = refl }

@@ -24,7 +24,7 @@ use Rattle.claim_laws.proofs.Steps.{found_push, has_raised, has_same}
 use Rattle.claim_laws.proofs.Told.{verdict_took}
 use Rattle.core_tables.specs.View.{View, log_of, number_of, with_rows}
 use Rattle.acceptance.specs.Standing.{IsStanding, told_of}
-use Rattle.acceptance.proofs.Turning.{found_unnamed}
+use Rattle.acceptance.proofs.FoundClaims.{found_unnamed}
 
 -- the claims that come with an event stand on it, and on no other body
 pub took_on : (reader : ℕ) (b : Body) (claims : List Claim) → claims_in b (took reader b claims) ≡ claims

@@ -16,7 +16,7 @@ use Rattle.claim_laws.proofs.Told.{verdict_heard, verdict_there}
 use Rattle.core_tables.specs.View.{View, log_of, with_rows}
 use Rattle.acceptance.specs.Standing.{IsStanding, told_of}
 use Rattle.acceptance.proofs.Taken.{held_entry, with_entry}
-use Rattle.acceptance.proofs.Turning.{found_unnamed}
+use Rattle.acceptance.proofs.FoundClaims.{found_unnamed}
 
 module _ (v : View) (is : IsStanding v) (reader n : ℕ) (b : Body) (at : slice_get v.held n ≡ Some b) (low : n < length v.held) (key : Key) (sig : Sig) (verdict : Bool) where
   told_after : told_of (with_entry (Heard reader n key sig verdict) v) ≡ told_of v ++ heard reader b key sig verdict ∷ []

@@ -29,10 +29,10 @@ use Rattle.core_tables.specs.declared.name.SealKey.{SealKey}
 use Rattle.core_tables.specs.declared.name.ClaimKey.{ClaimKey}
 use Rattle.core_tables.specs.Hints.{AreHinted}
 use Rattle.core_tables.specs.Names.{claim_key, name_of, prior_name, seal_key}
-use Rattle.core_tables.specs.Reading.{event_there, has_claim, is_named, is_number, is_seal_of, is_text}
+use Rattle.core_tables.specs.Rows.{event_there, has_claim, is_named, is_number, is_seal_of, is_text}
 use Rattle.core_tables.specs.View.{body_of, came_with}
-use Rattle.core_tables.proofs.Finding.{found_row, none_row}
-use Rattle.core_tables.proofs.Reading.{accepted_is, come_is, predecessor_is, sealed_is}
+use Rattle.core_tables.proofs.ListedNumbers.{found_row, none_row}
+use Rattle.core_tables.proofs.NamedRows.{accepted_is, come_is, predecessor_is, sealed_is}
 use Rattle.core_tables.proofs.Rows.{differ, none_below, not_some, some_is}
 
 module _ {held : List Body} {entries : List Entry} {ns : List ℕ} {settled : ℕ} {w : Escrow} {names told places : Name → List ℕ} {came : ClaimKey → List ℕ} {seals : SealKey → List ℕ} (h : AreHinted held entries ns settled w names told places came seals)

@@ -15,7 +15,7 @@ use Rattle.core_tables.specs.declared.name.SealKey.{SealKey}
 use Rattle.core_tables.specs.declared.name.ClaimKey.{ClaimKey}
 use Rattle.core_tables.specs.Hints.{AreHinted, IsSealedAt, KeepsBelow}
 use Rattle.core_tables.specs.Names.{name_of, claim_key}
-use Rattle.core_tables.specs.Reading.{placed, waiter_for}
+use Rattle.core_tables.specs.Rows.{placed, waiter_for}
 use Rattle.core_tables.specs.View.{number_of, waiter_at}
 use Rattle.core_tables.proofs.Rows.{none_below, not_some, of_front, pushed, front_of_front, some_is}
 use Rattle.core_tables.proofs.Waiters.{escrow_body, escrow_cut, escrow_settled}

@@ -14,7 +14,7 @@ use Rattle.journal.specs.declared.body.Body.{Body}
 use Rattle.journal.proofs.Places.{slice_get_last}
 use Rattle.key_state.proofs.Same.{number_itself}
 use Rattle.core_tables.specs.Hints.{IsEscrow}
-use Rattle.core_tables.specs.Reading.{placed, waiter_for}
+use Rattle.core_tables.specs.Rows.{placed, waiter_for}
 use Rattle.core_tables.specs.View.{waiter_at}
 use Rattle.core_tables.proofs.Rows.{differ, elsewhere, in_front, past_front}
 

@@ -1,5 +1,5 @@
 pub mod View
 pub mod Names
 pub mod Hints
-pub mod Reading
+pub mod Rows
 pub mod Inside

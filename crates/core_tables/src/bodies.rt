@@ -7,7 +7,7 @@ ghost use Rattle.escrow.specs.Escrow.{held as held_by, room_for};
 ghost use Rattle.journal.specs.Logs.{is_in};
 ghost use Rattle.journal.specs.declared.body.Body.{Body};
 ghost use Rattle.core_tables.specs.Names.{name_of as name_of_event};
-ghost use Rattle.core_tables.specs.Reading.{is_text, placed, waiter_for};
+ghost use Rattle.core_tables.specs.Rows.{is_text, placed, waiter_for};
 ghost use Rattle.core_tables.specs.View.{body_of};
 
 use crate::Tables;

@@ -9,7 +9,7 @@ ghost use Rattle.journal.specs.declared.claim.Claim.{Claim as ClaimValue};
 ghost use Rattle.journal.specs.declared.entry.Entry.TheVariants.{Took, Heard};
 ghost use Rattle.core_tables.specs.Hints.{KeepsBelow};
 ghost use Rattle.core_tables.specs.Names.{claim_key, name_of as name_of_event};
-ghost use Rattle.core_tables.specs.Reading.{has_claim};
+ghost use Rattle.core_tables.specs.Rows.{has_claim};
 ghost use Rattle.core_tables.specs.View.{came_with};
 
 use crate::Tables;

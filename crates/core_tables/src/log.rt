@@ -9,7 +9,7 @@ ghost use Rattle.event_index.specs.Keys.{numbers_at};
 ghost use Rattle.journal.specs.Logs.{precedes};
 ghost use Rattle.core_tables.specs.Hints.{IsSealedAt, KeepsBelow};
 ghost use Rattle.core_tables.specs.Names.{name_in, name_of as name_of_event, seal_key};
-ghost use Rattle.core_tables.specs.Reading.{event_there, is_named, is_number, is_seal_of};
+ghost use Rattle.core_tables.specs.Rows.{event_there, is_named, is_number, is_seal_of};
 ghost use Rattle.core_tables.specs.View.{body_of, log_of};
 
 use crate::Tables;

@@ -1,7 +1,7 @@
 //! The keys of the hints.
 ghost use Rattle.std.specs.Prelude.{◌≡◌};
 ghost use Rattle.core_tables.specs.Names as names;
-ghost use Rattle.core_tables.specs.Reading.{same_name};
+ghost use Rattle.core_tables.specs.Rows.{same_name};
 
 use cesr_codes::{Digest, Prefix};
 use event_body::{Event, prefix_of, said_of_event, sn_of};

@@ -7,7 +7,7 @@ use Rattle.journal.specs.declared.entry.Entry.TheVariants.{Took}
 use Rattle.journal.specs.Replies.{same_claim}
 use Rattle.journal.proofs.Same.{any_turned, same_claim_is, same_claim_itself}
 use Rattle.key_state.proofs.Same.{number_itself}
-use Rattle.core_tables.specs.Reading.{has_claim}
+use Rattle.core_tables.specs.Rows.{has_claim}
 use Rattle.core_tables.proofs.entries.is_came_by.Goals as goal
 
 alike : (x y : Claim) → (claims_test.ghosts).eq x y ≡ same_claim x y

@@ -3,7 +3,7 @@ use Rattle.std.specs.Prelude.{Contains}
 use Rattle.std.proofs.lemmas.List.{take_all}
 use Rattle.event_index.specs.Keys.{numbers_at}
 use Rattle.core_tables.specs.Names.{claim_key}
-use Rattle.core_tables.proofs.Adding.{added_more, keeps_more}
+use Rattle.core_tables.proofs.AddedNumbers.{added_more, keeps_more}
 use Rattle.core_tables.proofs.Orders.{claim_cmp}
 use Rattle.core_tables.proofs.entries.note_claims.Goals as goal
 

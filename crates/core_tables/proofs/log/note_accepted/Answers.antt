@@ -4,9 +4,9 @@ use Rattle.std.proofs.lemmas.Result.{on_ok_weaker}
 use Rattle.event_backing.specs.Listing.{AreSealsOf}
 use Rattle.event_body.specs.Events.{anchors_of}
 use Rattle.event_index.specs.Keys.{numbers_at}
-use Rattle.core_tables.proofs.Adding.{on_ok}
+use Rattle.core_tables.proofs.AddedNumbers.{on_ok}
 use Rattle.core_tables.proofs.Orders.{name_cmp, seal_cmp}
-use Rattle.core_tables.proofs.Sealing.{sealed_at}
+use Rattle.core_tables.proofs.Seals.{sealed_at}
 use Rattle.core_tables.proofs.log.note_accepted.Goals as goal
 
 pub returns-clause-named : goal.returns-clause-named

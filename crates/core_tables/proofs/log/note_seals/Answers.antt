@@ -7,7 +7,7 @@ use Rattle.core_tables.specs.declared.name.Name.{Name}
 use Rattle.core_tables.specs.declared.name.SealKey.{SealKey}
 use Rattle.event_index.specs.Keys.{numbers_at}
 use Rattle.core_tables.specs.Names.{name_in, seal_key}
-use Rattle.core_tables.proofs.Adding.{added_more, keeps_more}
+use Rattle.core_tables.proofs.AddedNumbers.{added_more, keeps_more}
 use Rattle.core_tables.proofs.Orders.{seal_cmp}
 use Rattle.core_tables.proofs.log.note_seals.Goals as goal
 

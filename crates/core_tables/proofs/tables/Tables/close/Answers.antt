@@ -1,7 +1,7 @@
 use Rattle.std.proofs.Common.{◌∙◌, ap, sym}
 use Rattle.core_tables.specs.Inside.{view_of}
 use Rattle.core_tables.specs.View.{View}
-use Rattle.core_tables.proofs.Marking.{table_is, with_new}
+use Rattle.core_tables.proofs.Marks.{table_is, with_new}
 use Rattle.core_tables.proofs.Rows.{not_some}
 use Rattle.core_tables.proofs.tables.Tables.close.Goals as goal
 

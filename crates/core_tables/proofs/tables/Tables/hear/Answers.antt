@@ -3,7 +3,7 @@ use Rattle.claim_table.specs.Rows.{heard, is_raised, verdict_of}
 use Rattle.claim_table.proofs.Rows.{raised_set}
 use Rattle.core_tables.specs.Inside.{view_of}
 use Rattle.core_tables.specs.View.{View}
-use Rattle.core_tables.proofs.Marking.{table_is, with_new}
+use Rattle.core_tables.proofs.Marks.{table_is, with_new}
 use Rattle.core_tables.proofs.Rows.{some_is}
 use Rattle.core_tables.proofs.tables.Tables.hear.Goals as goal
 

@@ -1,7 +1,7 @@
 use Rattle.std.proofs.Common.{◌∙◌, ap, subst, sym}
 use Rattle.core_tables.specs.Inside.{view_of}
 use Rattle.core_tables.specs.View.{IsCut, mark_of}
-use Rattle.core_tables.proofs.Marking.{mark_is, whole_is_cut}
+use Rattle.core_tables.proofs.Marks.{mark_is, whole_is_cut}
 use Rattle.core_tables.proofs.Pairs.{length-paired}
 use Rattle.core_tables.proofs.tables.Tables.mark.Goals as goal
 

@@ -1,4 +1,4 @@
-use Rattle.core_tables.proofs.Starting.{hinted_start, view_start}
+use Rattle.core_tables.proofs.Nothing.{hinted_start, view_start}
 use Rattle.core_tables.proofs.tables.Tables.new.Goals as goal
 
 pub invariant_of-result : goal.invariant_of-result

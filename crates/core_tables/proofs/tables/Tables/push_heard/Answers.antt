@@ -1,7 +1,7 @@
 use Rattle.std.proofs.Common.{◌<◌, length, subst, sym}
 use Rattle.core_tables.specs.Inside.{view_of}
 use Rattle.core_tables.specs.View.{View}
-use Rattle.core_tables.proofs.Entering.{on_err, view_entered, view_kept}
+use Rattle.core_tables.proofs.LastEntry.{on_err, view_entered, view_kept}
 use Rattle.core_tables.proofs.Hints.{hinted_heard}
 use Rattle.core_tables.proofs.tables.Tables.push_heard.Goals as goal
 

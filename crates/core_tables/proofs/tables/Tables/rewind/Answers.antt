@@ -4,7 +4,7 @@ use Rattle.claim_table.specs.Table.{KeepsPending}
 use Rattle.journal.proofs.Places.{all_at}
 use Rattle.core_tables.specs.Inside.{view_of}
 use Rattle.core_tables.specs.View.{View, number_of}
-use Rattle.core_tables.proofs.Cutting.{cut_even, cut_hinted, cut_pairs, cut_pending, view_cut}
+use Rattle.core_tables.proofs.Rewound.{cut_even, cut_hinted, cut_pairs, cut_pending, view_cut}
 use Rattle.core_tables.proofs.Pairs.{length-paired}
 use Rattle.core_tables.proofs.tables.Tables.rewind.Goals as goal
 

@@ -33,9 +33,9 @@ use Rattle.core_tables.specs.declared.name.SealKey.{SealKey}
 use Rattle.core_tables.specs.declared.name.ClaimKey.{ClaimKey}
 use Rattle.core_tables.specs.Hints.{AreHinted}
 use Rattle.core_tables.specs.Names.{claim_key, name_of, seal_key}
-use Rattle.core_tables.specs.Reading.{event_there, has_claim, is_named, is_number, is_seal_of, same_name}
+use Rattle.core_tables.specs.Rows.{event_there, has_claim, is_named, is_number, is_seal_of, same_name}
 use Rattle.core_tables.specs.View.{came_by, came_with}
-use Rattle.core_tables.proofs.Finding.{any_place, find_place}
+use Rattle.core_tables.proofs.ListedNumbers.{any_place, find_place}
 use Rattle.core_tables.proofs.Rows.{contained, not_some}
 
 -- the body of a number, where there is a number

@@ -12,7 +12,7 @@ use Rattle.journal.proofs.Places.{found_at}
 use Rattle.core_tables.specs.declared.name.SealKey.{SealKey}
 use Rattle.core_tables.specs.Hints.{IsSealedAt}
 use Rattle.core_tables.specs.Names.{name_in, seal_key}
-use Rattle.core_tables.proofs.Reading.{same_name_is}
+use Rattle.core_tables.proofs.NamedRows.{same_name_is}
 use Rattle.core_tables.proofs.Rows.{contained}
 
 pub sealed_at : (seals : SealKey → List ℕ) (e : Event) (place : ℕ) (holder : Prefix) (listed : List EventSeal) → holder ≡ prefix_of e → AreSealsOf (anchors_of e) listed
