@@ -27,7 +27,7 @@ use Rattle.claim_laws.proofs.Supported.{supported}
 use Rattle.acceptance.specs.Parts.{has_in, table_part}
 use Rattle.acceptance.proofs.Behind.{rules_cut}
 
-part_is : (p : Part) → part_of (table_part p) ≡ p
+pub part_is : (p : Part) → part_of (table_part p) ≡ p
 part_is (index n) = refl
 part_is (reveal n) = refl
 part_is (backer n) = refl
@@ -37,7 +37,7 @@ pub first_stands : (log : List Body) (b : Body) → is_inception b.event ≡ tru
 unfolding stands
 first_stands log b first = rw first refl
 
-first_once : (o : Option State) (e : Event) → is_inception e ≡ true → IsKept e → are_witnesses (own_rules o e).witnesses ≡ true
+pub first_once : (o : Option State) (e : Event) → is_inception e ≡ true → IsKept e → are_witnesses (own_rules o e).witnesses ≡ true
 first_once o (Icp e) first kept = kept.witnesses
 first_once o (Dip e) first kept = kept.witnesses
 first_once o (Rot e) first kept = cc

@@ -66,7 +66,7 @@ extends_then u v w first next = record {
   settled = next.settled ∙ first.settled;
 }
 
-raised_behind : (rows : List Row) (cs : List Claimed) → take (length rows) (raised_all rows cs) ≡ rows
+pub raised_behind : (rows : List Row) (cs : List Claimed) → take (length rows) (raised_all rows cs) ≡ rows
 raised_behind rows [] = take-length rows
 raised_behind rows (c ∷ cs) = take_front rows (raised rows c) (raised_all (raised rows c) cs) (take-append_seam rows _) (raised_behind (raised rows c) cs)
 
@@ -79,3 +79,24 @@ extends_entry v e is = record { held = take-length v.held; entries = take-append
 
 pub extends_raised : (v : View) (cs : List Claimed) → IsStanding v → Extends v (with_rows (raised_all v.claims.rows cs) v)
 extends_raised v cs is = record { held = take-length v.held; entries = take-length v.entries; log = (extends_itself v is).log; rows = raised_behind v.claims.rows cs; pending = refl; settled = refl }
+
+-- behind tables that extend others, an entry and claims
+pub extends_told : (u v : View) (e : Entry) → Extends u v → Extends u (with_entry e v)
+extends_told u v e more = record {
+  held = more.held;
+  entries = take_front u.entries v.entries (v.entries ++ e ∷ []) more.entries (take-append_seam v.entries (e ∷ []));
+  log = more.log;
+  rows = more.rows;
+  pending = more.pending;
+  settled = more.settled;
+}
+
+pub extends_claimed : (u v : View) (cs : List Claimed) → Extends u v → Extends u (with_rows (raised_all v.claims.rows cs) v)
+extends_claimed u v cs more = record {
+  held = more.held;
+  entries = more.entries;
+  log = more.log;
+  rows = take_front u.claims.rows v.claims.rows (raised_all v.claims.rows cs) more.rows (raised_behind v.claims.rows cs);
+  pending = more.pending;
+  settled = more.settled;
+}

@@ -2,3 +2,4 @@ pub mod Parts
 pub mod Turned
 pub mod Standing
 pub mod Footing
+pub mod Settled

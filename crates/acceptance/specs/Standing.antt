@@ -1,8 +1,9 @@
 -- What is true of the tables of a core at every moment: they stand for a grown log, with its states and its claims.
-use Rattle.std.specs.Prelude.{◌≡◌, ℕ, ◌<◌, ◌≤◌, List, length, take, slice_get, Some}
+use Rattle.std.specs.Prelude.{◌≡◌, ℕ, ◌<◌, ◌≤◌, Bool, List, [], ◌∷◌, ◌++◌, length, take, slice_get, Some}
 use Rattle.event_body.specs.Judging.{SpellsEvent}
 use Rattle.journal.specs.declared.body.Body.{Body}
 use Rattle.journal.specs.declared.entry.Entry.{Entry}
+use Rattle.journal.specs.declared.entry.Entry.TheVariants.{Heard}
 use Rattle.journal.specs.Grown.{IsGrown}
 use Rattle.journal.specs.History.{Told}
 use Rattle.journal.specs.Journals.{told_by}
@@ -11,7 +12,9 @@ use Rattle.journal.proofs.Different.{Differ}
 use Rattle.accepted_log.specs.Cuts.{IsLog}
 use Rattle.accepted_log.specs.Values.{Extends as LogExtends}
 use Rattle.claim_laws.specs.ClaimRows.{AreClaims}
-use Rattle.core_tables.specs.View.{View, log_of, number_of}
+use Rattle.claim_table.specs.declared.signature.Signature.{Signature}
+use Rattle.claim_table.specs.Rows.{heard, unheard}
+use Rattle.core_tables.specs.View.{View, log_of, number_of, with_claims}
 
 -- what the entries tell
 abbrev pub told_of : View → List Told
@@ -41,3 +44,29 @@ pub record Extends (old new : View) : Type 0 where
   pub rows : take (length old.claims.rows) new.claims.rows ≡ old.claims.rows
   pub pending : new.claims.pending ≡ old.claims.pending
   pub settled : new.settled ≡ old.settled
+
+-- some bodies and an entry come: they are last, and nothing else has changed but the rows of claims
+pub record Comes (more : List Body) (e : Entry) (old new : View) : Type 0 where
+  pub held : new.held ≡ old.held ++ more
+  pub entries : new.entries ≡ old.entries ++ e ∷ []
+  pub log : new.log ≡ old.log
+  pub pending : new.claims.pending ≡ old.claims.pending
+  pub settled : new.settled ≡ old.settled
+  pub stands : IsStanding new
+
+-- a verdict on a signature comes: its entry is last, it stands on the signature's rows and may still be taken back, and nothing
+-- else has changed
+pub record Hears (s : Signature) (verdict : Bool) (reader : ℕ) (old new : View) : Type 0 where
+  pub is : new ≡ record (with_claims (record { rows = heard s verdict old.claims.rows; pending = Some s }) old)
+      { entries = old.entries ++ Heard reader s.body s.key s.sig verdict ∷ [] }
+  pub back : unheard s new.claims.rows ≡ old.claims.rows
+  pub stands : IsStanding new
+
+-- a body is accepted: it is last in the log, and nothing else has changed but the rows of claims
+pub record Accepts (b : Body) (old new : View) : Type 0 where
+  pub held : new.held ≡ old.held
+  pub entries : new.entries ≡ old.entries
+  pub log : log_of new ≡ log_of old ++ b ∷ []
+  pub pending : new.claims.pending ≡ old.claims.pending
+  pub settled : new.settled ≡ old.settled
+  pub stands : IsStanding new

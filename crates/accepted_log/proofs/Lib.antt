@@ -1,7 +1,7 @@
 mod Lists
 mod Last
 mod Hinted
-mod StateSteps
+pub mod StateSteps
 mod Growth
 mod Readings
 pub mod Extensions

@@ -1,6 +1,8 @@
 pub mod AddedNumbers
 pub mod Rewound
 pub mod LastEntry
+pub mod LastBody
+pub mod LastAccepted
 pub mod ListedNumbers
 pub mod Found
 pub mod Hints
@@ -12,3 +14,6 @@ pub mod Rows
 pub mod Seals
 pub mod Nothing
 pub mod Waiters
+pub mod Raised
+pub mod GatheredLists
+pub mod ToldClaims

@@ -1,9 +1,10 @@
 -- Bodies with their events, as two lists of one length.
-use Rattle.std.proofs.Common.{◌≡◌, ℕ, zero, suc, List, [], ◌∷◌, ◌++◌, length, map, take, refl, sym, ap, ◌∙◌, arith}
+use Rattle.std.proofs.Common.{◌≡◌, ℕ, zero, suc, List, [], ◌∷◌, ◌++◌, length, map, take, refl, sym, ap, ◌∙◌, arith, Some, get_or}
 use Rattle.std.specs.Prelude.{option_map, slice_get}
 use Rattle.std.proofs.lemmas.List.{length-map}
-use Rattle.std.proofs.lemmas.Option.{slice_get-map}
+use Rattle.std.proofs.lemmas.Option.{get_or_from_slice_get, slice_get-map}
 use Rattle.event_body.specs.declared.event.Event.{Event}
+use Rattle.journal.specs.declared.body.Body.{Body}
 use Rattle.core_tables.specs.View.{body_of}
 use Rattle.core_tables.specs.Inside.{paired}
 
@@ -49,3 +50,7 @@ module _ (bodies : List (List ℕ)) (events : List Event) (even : length bodies 
 
   pub event_at : (n : ℕ) → slice_get events n ≡ option_map (λ b. b.event) (slice_get (paired bodies events) n)
   event_at n = ap (λ es. slice_get es n) (sym (events_of bodies events even)) ∙ slice_get-map (λ b. b.event) (paired bodies events) n
+
+  -- an element of the events is the event of the body with its number
+  pub event_is : (n : ℕ) (e : Event) (b : Body) → e ≡ get_or events n e → slice_get (paired bodies events) n ≡ Some b → b.event ≡ e
+  event_is n e b is at = sym (get_or_from_slice_get events n b.event e (event_at n ∙ ap (option_map (λ x. x.event)) at)) ∙ sym is

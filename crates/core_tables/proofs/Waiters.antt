@@ -18,6 +18,11 @@ use Rattle.core_tables.specs.Rows.{placed, waiter_for}
 use Rattle.core_tables.specs.View.{waiter_at}
 use Rattle.core_tables.proofs.Rows.{differ, elsewhere, in_front, past_front}
 
+-- nothing waits under the next number
+pub next_free : (w : Escrow) (held : List Body) (done : List ℕ) (n : ℕ) → IsEscrow w held done → n ≡ length held → held_by n w ≡ None
+unfolding waiter_at
+next_free w held done n is same = is n ∙ ap (waiter_at done n) (slice_get_past held n (omega (arith, same)))
+
 -- what waits under the next number, once its waiter is there
 last_waits : (done : List ℕ) (n : ℕ) (b : Body) (o : Option Waiter) → list_any (λ m. m == n) done ≡ false → o ≡ None → placed (waiter_for n b.event) n o ≡ waiter_at done n (Some b)
 unfolding waiter_at
@@ -37,7 +42,7 @@ pub escrow_body : (w new : Escrow) (held : List Body) (done : List ℕ) (b : Bod
     → ((n : ℕ) → held_by n new ≡ placed (waiter_for (length held) b.event) n (held_by n w)) → IsEscrow new (held ++ b ∷ []) done
 unfolding waiter_at
 escrow_body w new held done b fresh is put n = elim (cases_eq n (length held)) [
-  | inl last ↦ let none : held_by (length held) w ≡ None = is (length held) ∙ ap (waiter_at done (length held)) (slice_get_past held (length held) (omega arith)) in
+  | inl last ↦ let none = next_free w held done (length held) is refl in
       rw last (put (length held) ∙ last_waits done (length held) b (held_by (length held) w) fresh none ∙ sym (ap (waiter_at done (length held)) (slice_get_last held b)))
   | inr before ↦ put n ∙ others_wait (length held) n b (held_by n w) before ∙ is n ∙ sym (ap (waiter_at done n) (elsewhere held b n before))
 ]

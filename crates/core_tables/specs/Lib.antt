@@ -2,4 +2,5 @@ pub mod View
 pub mod Names
 pub mod Hints
 pub mod Rows
+pub mod Raised
 pub mod Inside

@@ -1,5 +1,5 @@
 -- What is read of the lists: events by their names and numbers, and the claims of an entry that stand on an event.
-use Rattle.std.specs.Prelude.{ℕ, Bool, false, ◌&&◌, ◌||◌, ◌==◌, List, [], slice_get, bytes_eq, Option, Some, None, if◌then◌else◌}
+use Rattle.std.specs.Prelude.{ℕ, Bool, false, ◌&&◌, ◌==◌, List, slice_get, bytes_eq, Option, Some, None, if◌then◌else◌}
 use Rattle.std.specs.List.{list_any}
 use Rattle.cesr_codes.specs.declared.prefix.Prefix.{Prefix}
 use Rattle.event_body.specs.declared.event.Event.{Event}
@@ -42,22 +42,6 @@ is_named name (Some e) = same_name (name_of e) name
 abbrev pub is_seal_of : Prefix → Name → Option Event → Bool
 is_seal_of holder name None = false
 is_seal_of holder name (Some e) = same_prefix (prefix_of e) holder && holds_seal e name.prefix name.sn name.said
-
--- the first is a receipt with the name of the second
-abbrev pub is_receipt_of : Option Event → Option Event → Bool
-is_receipt_of None e = false
-is_receipt_of (Some r) None = false
-is_receipt_of (Some r) (Some e) = is_receipt r && same_name (name_of r) (name_of e)
-
--- what comes with the event of the first number stands on that of the second: it is that event, or a receipt of it
-abbrev pub stands_on : List Event → ℕ → ℕ → Bool
-stands_on events m n = (m == n) || is_receipt_of (slice_get events m) (slice_get events n)
-
--- the claims of an entry that stand on the event of a number
-abbrev pub came_to : List Event → ℕ → Option Entry → List Claim
-came_to events n None = []
-came_to events n (Some (Took reader m claims)) = if stands_on events m n then claims else []
-came_to events n (Some (Heard reader m key sig verdict)) = []
 
 -- the claim came with the body of a number by the entry
 abbrev pub has_claim : ℕ → Claim → Option Entry → Bool

@@ -1,19 +1,22 @@
 //! Bodies, found by the names of their events.
-ghost use Rattle.std.specs.Prelude.{◌≡◌, ◌++◌, ◌∷◌, [], ℕ, false, find, Contains, IfOk, IfNone, IfSome, OnOk, OnErr, None, Some, slice_get};
+ghost use Rattle.std.specs.Prelude.{◌≡◌, ◌<◌, ◌++◌, ◌∷◌, [], ℕ, false, find, length, Contains, IfOk, IfNone, IfSome, OnOk, OnErr, None, Some, slice_get, vec_len, vec_capacity};
 ghost use Rattle.std.specs.List.Sorted.{IsStrictlyIncreasing};
-ghost use Rattle.std.specs.Option.{ForSome};
 ghost use Rattle.event_body.specs.Judging.{SpellsEvent};
-ghost use Rattle.escrow.specs.Escrow.{held as held_by, room_for};
+ghost use Rattle.event_index.specs.Keys.{numbers_at};
+ghost use Rattle.escrow.specs.Escrow.{held as held_by};
 ghost use Rattle.journal.specs.Logs.{is_in};
 ghost use Rattle.journal.specs.declared.body.Body.{Body};
+ghost use Rattle.core_tables.specs.Hints.{KeepsBelow};
 ghost use Rattle.core_tables.specs.Names.{name_of as name_of_event};
 ghost use Rattle.core_tables.specs.Rows.{is_text, placed, waiter_for};
-ghost use Rattle.core_tables.specs.View.{body_of};
+ghost use Rattle.core_tables.specs.View.{body_of, waiter_of as waiter};
 
 use crate::Tables;
+use crate::entries::number_from;
 use crate::name::{Name, name_of};
 use escrow::{Waiter, Waiting};
 use event_body::{Event, is_receipt, one_event, said_of_event};
+use event_index::Index;
 use event_rules::prior_of;
 use json_tree::Text;
 use lists::{CopyValue, Items};
@@ -43,6 +46,22 @@ impl Tables {
             bytes,
         )
     }
+
+    /// Adds a body that isn't held. An event waits from then on.
+    pub fn push_body(&mut self, text: Text, event: Event) -> Result<(), AllocError>
+        ensures ok { OnOk result (self.new ≡ record self.old { held = self.old.held ++ body_of text event ∷ [] }) }
+        ensures err { OnErr result (self.new ≡ self.old) }
+    {
+        push_both(
+            self.alloc,
+            &mut self.journal.bodies,
+            &mut self.events,
+            &mut self.waiting,
+            &mut self.names,
+            text,
+            event,
+        )
+    }
 }
 
 // The first of the numbers whose body has these bytes.
@@ -65,61 +84,148 @@ fn has_bytes(bodies: &[Text], number: u32, bytes: &[u8]) -> bool
     }
 }
 
-// Adds the text of the body of a number, whose event waits from then on.
-fn push_waiting(
+// Adds the body that comes next. An event waits from then on.
+fn push_both(
     alloc: Global,
     bodies: &mut Items<Text>,
+    events: &mut Vec<Event>,
     waiting: &mut Waiting,
+    names: &mut Index<Name>,
     text: Text,
+    event: Event,
+) -> Result<(), AllocError>
+    requires new { held_by (length events.old.items) waiting.old ≡ None }
+    ensures ok { OnOk result (bodies.new ≡ bodies.old ++ text ∷ []) }
+    ensures pushed { OnOk result (events.new.items ≡ events.old.items ++ event ∷ []) }
+    ensures few { OnOk result (length events.old.items < 4294967296) }
+    ensures waits { OnOk result ((n : ℕ) → held_by n waiting.new ≡ placed (waiter_for (length events.old.items) event) n (held_by n waiting.old)) }
+    ensures named { OnOk result (Contains (numbers_at ⟦<Name as Ord>⟧.cmp names.new (name_of_event event)) (length events.old.items)) }
+    ensures kept { KeepsBelow (length events.old.items) (numbers_at ⟦<Name as Ord>⟧.cmp names.old) (numbers_at ⟦<Name as Ord>⟧.cmp names.new) }
+    ensures err { OnErr result (bodies.new ≡ bodies.old) }
+    ensures same { OnErr result (events.new.items ≡ events.old.items) }
+    ensures waits_on { OnErr result ((n : ℕ) → held_by n waiting.new ≡ held_by n waiting.old) }
+{
+    if let Err(error) = push_text(alloc, bodies, events, waiting, names, text, &event) {
+        drop(event);
+        return Err(error);
+    }
+    events.push_reserved(event);
+    Ok(())
+}
+
+// Adds the body that comes next but for its event, for which there is room then. The text comes first, so that nothing else is
+// held where something fails.
+fn push_text(
+    alloc: Global,
+    bodies: &mut Items<Text>,
+    events: &mut Vec<Event>,
+    waiting: &mut Waiting,
+    names: &mut Index<Name>,
+    text: Text,
+    event: &Event,
+) -> Result<(), AllocError>
+    requires new { held_by (length events.old.items) waiting.old ≡ None }
+    ensures ok { OnOk result (bodies.new ≡ bodies.old ++ text ∷ []) }
+    ensures few { OnOk result (length events.old.items < 4294967296) }
+    ensures room { OnOk result (vec_len events.new < vec_capacity events.new) }
+    ensures events { events.new.items ≡ events.old.items }
+    ensures waits { OnOk result ((n : ℕ) → held_by n waiting.new ≡ placed (waiter_for (length events.old.items) event.now) n (held_by n waiting.old)) }
+    ensures named { OnOk result (Contains (numbers_at ⟦<Name as Ord>⟧.cmp names.new (name_of_event event.now)) (length events.old.items)) }
+    ensures kept { KeepsBelow (length events.old.items) (numbers_at ⟦<Name as Ord>⟧.cmp names.old) (numbers_at ⟦<Name as Ord>⟧.cmp names.new) }
+    ensures err { OnErr result (bodies.new ≡ bodies.old) }
+    ensures same { OnErr result ((n : ℕ) → held_by n waiting.new ≡ held_by n waiting.old) }
+{
+    let count = bodies.len();
+    bodies.push(text)?;
+    match note_waiting(alloc, events, waiting, names, event) {
+        Ok(()) => Ok(()),
+        Err(error) => {
+            bodies.truncate(count);
+            Err(error)
+        }
+    }
+}
+
+// Makes room for the event of the body that comes next, which waits from then on under its number, and is found by its name.
+fn note_waiting(
+    alloc: Global,
+    events: &mut Vec<Event>,
+    waiting: &mut Waiting,
+    names: &mut Index<Name>,
+    event: &Event,
+) -> Result<(), AllocError>
+    requires new { held_by (length events.old.items) waiting.old ≡ None }
+    ensures few { OnOk result (length events.old.items < 4294967296) }
+    ensures room { OnOk result (vec_len events.new < vec_capacity events.new) }
+    ensures events { events.new.items ≡ events.old.items }
+    ensures waits { OnOk result ((n : ℕ) → held_by n waiting.new ≡ placed (waiter_for (length events.old.items) event.now) n (held_by n waiting.old)) }
+    ensures named { OnOk result (Contains (numbers_at ⟦<Name as Ord>⟧.cmp names.new (name_of_event event.now)) (length events.old.items)) }
+    ensures kept { KeepsBelow (length events.old.items) (numbers_at ⟦<Name as Ord>⟧.cmp names.old) (numbers_at ⟦<Name as Ord>⟧.cmp names.new) }
+    ensures same { OnErr result ((n : ℕ) → held_by n waiting.new ≡ held_by n waiting.old) }
+{
+    let number = note_body(events, names, event)?;
+    note_waiter(alloc, waiting, number, event)
+}
+
+// Makes room for the event of the body that comes next, and adds its number under the event's name.
+fn note_body(
+    events: &mut Vec<Event>,
+    names: &mut Index<Name>,
+    event: &Event,
+) -> Result<u32, AllocError>
+    ensures next { IfOk result (λ n. n ≡ length events.old.items) }
+    ensures few { OnOk result (length events.old.items < 4294967296) }
+    ensures room { OnOk result (vec_len events.new < vec_capacity events.new) }
+    ensures same { events.new.items ≡ events.old.items }
+    ensures named { OnOk result (Contains (numbers_at ⟦<Name as Ord>⟧.cmp names.new (name_of_event event.now)) (length events.old.items)) }
+    ensures kept { KeepsBelow (length events.old.items) (numbers_at ⟦<Name as Ord>⟧.cmp names.old) (numbers_at ⟦<Name as Ord>⟧.cmp names.new) }
+{
+    events.reserve(1)?;
+    let number = number_from(events.len())?;
+    names.add(name_of(event), number)?;
+    Ok(number)
+}
+
+// An event waits under a number from then on.
+fn note_waiter(
+    alloc: Global,
+    waiting: &mut Waiting,
     number: u32,
     event: &Event,
 ) -> Result<(), AllocError>
     requires new { held_by number waiting.old ≡ None }
-    ensures ok { OnOk result (bodies.new ≡ bodies.old ++ text ∷ []) }
     ensures waits { OnOk result ((n : ℕ) → held_by n waiting.new ≡ placed (waiter_for number event.now) n (held_by n waiting.old)) }
-    ensures err { OnErr result (bodies.new ≡ bodies.old) }
     ensures same { OnErr result ((n : ℕ) → held_by n waiting.new ≡ held_by n waiting.old) }
 {
+    if is_receipt(event) {
+        return Ok(());
+    }
     let waiter = waiter_of(alloc, number, event)?;
-    reserve_for(waiting, &waiter)?;
-    bodies.push(text)?;
-    put_waiter(waiting, waiter);
-    Ok(())
+    put_waiter(waiting, waiter)
 }
 
-// What waits of the body of a number: nothing of a receipt.
-fn waiter_of(alloc: Global, number: u32, event: &Event) -> Result<Option<Waiter>, AllocError>
-    ensures { IfOk result (λ w. w ≡ waiter_for number event.now) }
+// An event that waits, by the number of its body.
+fn waiter_of(alloc: Global, number: u32, event: &Event) -> Result<Waiter, AllocError>
+    ensures { IfOk result (λ w. w ≡ waiter number event.now) }
 {
-    if is_receipt(event) {
-        return Ok(None);
-    }
-    Ok(Some(Waiter {
+    Ok(Waiter {
         number,
         event: event.copy(alloc)?,
         prior: prior_of(event),
         said: said_of_event(event),
-    }))
+    })
 }
 
-// Makes room in the escrow for what waits.
-fn reserve_for(waiting: &mut Waiting, waiter: &Option<Waiter>) -> Result<(), AllocError>
-    ensures room { OnOk result (ForSome waiter.now (λ w. waiting.new.room ≡ Some (room_for w))) }
-    ensures same { (n : ℕ) → held_by n waiting.new ≡ held_by n waiting.old }
+// Puts what waits into the escrow.
+fn put_waiter(waiting: &mut Waiting, waiter: Waiter) -> Result<(), AllocError>
+    requires new { held_by waiter.number waiting.old ≡ None }
+    ensures waits { OnOk result ((n : ℕ) → held_by n waiting.new ≡ placed (Some waiter) n (held_by n waiting.old)) }
+    ensures same { OnErr result ((n : ℕ) → held_by n waiting.new ≡ held_by n waiting.old) }
 {
-    match waiter {
-        Some(waiter) => waiting.reserve(waiter),
-        None => Ok(()),
+    if let Err(error) = waiting.reserve(&waiter) {
+        drop(waiter);
+        return Err(error);
     }
-}
-
-// Puts what waits into the escrow, which has room for it. It takes no memory.
-fn put_waiter(waiting: &mut Waiting, waiter: Option<Waiter>)
-    requires room { ForSome waiter (λ w. waiting.old.room ≡ Some (room_for w)) }
-    requires new { ForSome waiter (λ w. held_by w.number waiting.old ≡ None) }
-    ensures { (n : ℕ) → held_by n waiting.new ≡ placed waiter n (held_by n waiting.old) }
-{
-    if let Some(waiter) = waiter {
-        waiting.put(waiter);
-    }
+    waiting.put(waiter);
+    Ok(())
 }

@@ -1,13 +1,82 @@
-//! The verdicts on claims.
-ghost use Rattle.std.specs.Prelude.{◌≡◌, ◌≢◌, true, None, Some};
+//! The claims on bodies: raised where their keys are found, and the verdicts on them.
+ghost use Rattle.std.specs.Prelude.{◌≡◌, ◌≢◌, ◌<◌, ℕ, true, None, Some, OnOk, OnErr, length, slice_get};
+ghost use Rattle.std.specs.Option.{option_copied};
 ghost use Rattle.claim_table.specs.Rows as rows;
 ghost use Rattle.claim_table.specs.declared.signature.Signature.{Signature as SignatureValue};
+ghost use Rattle.core_tables.specs.Raised.{Raises, RaisesSome, claims_at, state_there};
 ghost use Rattle.core_tables.specs.View.{with_claims};
+ghost use Rattle.journal.specs.History.{claims_on};
+ghost use Rattle.journal.specs.Journals.{told_by};
+ghost use Rattle.journal.specs.Logs.{same_body};
+ghost use Rattle.journal.specs.declared.body.Body.{Body};
+ghost use Rattle.journal.proofs.Different.{Differ};
+ghost use Rattle.key_state.specs.Kept.{IsKept};
 
 use crate::Tables;
+use crate::name::name_of;
+use accepted_log::AcceptedLog;
 use claim_table::Signature;
+use journal::Claim;
+use key_state::KeyState;
+use raised_claims::{claims_by, raise_came, raise_told};
+use std::alloc::AllocError;
 
 impl Tables {
+    /// The claims that came by an entry and stand on the body of a number.
+    pub fn claims_by(&self, entry: u32, number: u32) -> &[Claim]
+        requires differ { Differ same_body self.now.held }
+        ensures { (b : Body) → slice_get self.now.held number ≡ Some b → result.now ≡ claims_at self.now.held b (slice_get self.now.entries entry) }
+    {
+        claims_by(
+            self.events.as_slice(),
+            self.journal.entries.as_slice().get(entry as usize),
+            number,
+        )
+    }
+
+    /// Raises the claims on the body of a number that came with one entry, behind the state at a place of the log (an inception
+    /// is behind none). After an error some of them are raised.
+    pub fn raise_entry(
+        &mut self,
+        number: u32,
+        entry: u32,
+        state: Option<u32>,
+    ) -> Result<(), AllocError>
+        requires held { number < length self.old.held }
+        requires differ { Differ same_body self.old.held }
+        requires kept { (b : Body) → slice_get self.old.held number ≡ Some b → IsKept b.event }
+        ensures ok { OnOk result ((b : Body) → slice_get self.old.held number ≡ Some b → Raises number (state_there state self.old.log.states) b.event (claims_at self.old.held b (slice_get self.old.entries entry)) self.old self.new) }
+        ensures err { OnErr result (RaisesSome number self.old self.new) }
+    {
+        raise_came(
+            &mut self.claims,
+            self.events.as_slice(),
+            self.journal.entries.as_slice().get(entry as usize),
+            number,
+            state_at(&self.log, state),
+        )
+    }
+
+    /// Raises all claims on the body of a number, behind the state at a place of the log (an inception is behind none). After an
+    /// error some of them are raised.
+    pub fn raise_body(&mut self, number: u32, state: Option<u32>) -> Result<(), AllocError>
+        requires held { number < length self.old.held }
+        requires differ { Differ same_body self.old.held }
+        requires kept { (b : Body) → slice_get self.old.held number ≡ Some b → IsKept b.event }
+        ensures ok { OnOk result ((b : Body) → slice_get self.old.held number ≡ Some b → Raises number (state_there state self.old.log.states) b.event (claims_on (told_by self.old.held self.old.entries) b) self.old self.new) }
+        ensures err { OnErr result (RaisesSome number self.old self.new) }
+    {
+        let name = name_of(&self.events[number as usize]);
+        raise_told(
+            &mut self.claims,
+            self.events.as_slice(),
+            self.journal.entries.as_slice(),
+            self.told.numbers(&name),
+            number,
+            state_at(&self.log, state),
+        )
+    }
+
     /// Sets the verdict of a signature that is raised and has none. It takes no memory, and may be taken back by `unhear` until
     /// `close`.
     pub fn hear(&mut self, signature: &Signature, verdict: bool)
@@ -34,4 +103,11 @@ impl Tables {
     {
         self.claims.close();
     }
+}
+
+// The state at a place of the log, where one is given.
+fn state_at(log: &AcceptedLog, place: Option<u32>) -> Option<&KeyState>
+    ensures { option_copied result ≡ state_there place log.now.states }
+{
+    log.state(place?)
 }

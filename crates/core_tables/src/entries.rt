@@ -13,9 +13,11 @@ ghost use Rattle.core_tables.specs.Rows.{has_claim};
 ghost use Rattle.core_tables.specs.View.{came_with};
 
 use crate::Tables;
-use crate::name::{ClaimKey, Name};
+use crate::name::{ClaimKey, Name, name_of};
+use event_body::Event;
 use event_index::Index;
 use journal::{Claim, Entry, Question};
+use lists::Items;
 use std::alloc::AllocError;
 
 impl Tables {
@@ -41,6 +43,33 @@ impl Tables {
             body,
             claim,
         )
+    }
+
+    /// Adds the entry of a body that came with its claims.
+    pub fn push_took(
+        &mut self,
+        reader: u16,
+        body: u32,
+        claims: Items<Claim>,
+    ) -> Result<(), AllocError>
+        requires held { body < length self.old.held }
+        ensures ok { OnOk result (self.new ≡ record self.old { entries = self.old.entries ++ Took reader body claims ∷ [] }) }
+        ensures err { OnErr result (self.new ≡ self.old) }
+    {
+        note_took(
+            &mut self.told,
+            &mut self.came,
+            &self.events[body as usize],
+            body,
+            claims.as_slice(),
+            self.journal.entries.len(),
+        )?;
+        self.journal.entries.push(Entry::Took {
+            reader,
+            body,
+            claims,
+        })?;
+        Ok(())
     }
 
     /// Adds the entry of a verdict.
@@ -92,6 +121,25 @@ fn is_came_by(entry: &Entry, sought: u32, claim: &Claim) -> bool
         Entry::Took { body, claims, .. } => { *body == sought && claims.as_slice().contains(claim) }
         Entry::Heard { .. } => false,
     }
+}
+
+// Adds the number of the entry that comes behind so many, under the name of its body's event and under each of its claims.
+fn note_took(
+    told: &mut Index<Name>,
+    came: &mut Index<ClaimKey>,
+    event: &Event,
+    body: u32,
+    claims: &[Claim],
+    count: usize,
+) -> Result<(), AllocError>
+    ensures told { OnOk result (Contains (numbers_at ⟦<Name as Ord>⟧.cmp told.new (name_of_event event.now)) count) }
+    ensures came { OnOk result ((c : ClaimValue) → Contains claims.now c → Contains (numbers_at ⟦<ClaimKey as Ord>⟧.cmp came.new (claim_key body c)) count) }
+    ensures kept_told { KeepsBelow count (numbers_at ⟦<Name as Ord>⟧.cmp told.old) (numbers_at ⟦<Name as Ord>⟧.cmp told.new) }
+    ensures kept_came { KeepsBelow count (numbers_at ⟦<ClaimKey as Ord>⟧.cmp came.old) (numbers_at ⟦<ClaimKey as Ord>⟧.cmp came.new) }
+{
+    let number = number_from(count)?;
+    told.add(name_of(event), number)?;
+    note_claims(came, body, claims, number)
 }
 
 // Adds the number of an entry under each of its claims.

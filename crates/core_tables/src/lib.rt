@@ -4,6 +4,7 @@
 mod bodies;
 mod claims;
 mod entries;
+mod held;
 mod log;
 mod mark;
 mod name;

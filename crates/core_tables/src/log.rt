@@ -1,25 +1,33 @@
 //! The accepted events, found by their names and by what they seal.
-ghost use Rattle.std.specs.Prelude.{◌≡◌, ◌==◌, ℕ, List, Contains, OnOk, None, Some, find, length, slice_get, position, if◌then◌else◌};
+ghost use Rattle.std.specs.Prelude.{◌≡◌, ◌==◌, ◌<◌, ◌+◌, ◌^◌, ℕ, List, Contains, IfOk, IfSome, OnOk, OnErr, None, Some, find, length, slice_get, position, if◌then◌else◌};
 ghost use Rattle.std.specs.List.{list_any};
 ghost use Rattle.std.specs.Option.{option_copied};
+ghost use Rattle.accepted_log.specs.Cuts.{GrowsByInteraction, GrowsByState};
+ghost use Rattle.accepted_log.specs.Values as logs;
 ghost use Rattle.escrow.specs.Escrow.{held as held_by};
 ghost use Rattle.event_body.specs.Events as events;
 ghost use Rattle.event_backing.specs.declared.event_seal.EventSeal.{EventSeal as EventSealValue};
 ghost use Rattle.event_index.specs.Keys.{numbers_at};
 ghost use Rattle.journal.specs.Logs.{precedes};
+ghost use Rattle.journal.specs.Seals.{is_sealed};
+ghost use Rattle.journal.specs.declared.body.Body.{Body};
+ghost use Rattle.key_state.specs.Heads.{head_sn};
 ghost use Rattle.core_tables.specs.Hints.{IsSealedAt, KeepsBelow};
 ghost use Rattle.core_tables.specs.Names.{name_in, name_of as name_of_event, seal_key};
 ghost use Rattle.core_tables.specs.Rows.{event_there, is_named, is_number, is_seal_of};
-ghost use Rattle.core_tables.specs.View.{body_of, log_of};
+ghost use Rattle.core_tables.specs.View.{body_of, log_of, with_log};
 
 use crate::Tables;
+use crate::entries::number_from;
+use crate::held::held;
 use crate::name::{Name, SealKey, has_name, name_of, prior_name};
 use crate::tables::event_at;
 use cesr_codes::Prefix;
 use escrow::Waiting;
 use event_backing::{EventSeal, anchors, seals};
-use event_body::{Event, prefix_of, sn_of};
+use event_body::{Event, prefix_of, said_of_event, sn_of};
 use event_index::Index;
+use key_state::KeyState;
 use std::alloc::{AllocError, Global};
 
 impl Tables {
@@ -49,6 +57,72 @@ impl Tables {
         };
         let name = name_of(event);
         has_number(self.log.numbers(), self.accepted.numbers(&name), number)
+    }
+
+    /// Whether an accepted event of the delegator seals this one.
+    pub fn is_sealed(&self, delegator: &Prefix, event: &Event) -> bool
+        ensures { result ≡ is_sealed (log_of self.now) delegator.now event.now }
+    {
+        let name = name_of(event);
+        held(name);
+        let key = SealKey {
+            holder: *delegator,
+            name,
+        };
+        has_seal(
+            self.events.as_slice(),
+            self.log.numbers(),
+            self.seals.numbers(&key),
+            &key,
+        )
+    }
+
+    /// Accepts the establishment event of the body of a number, behind which this is the state of its identifier.
+    pub fn establish(&mut self, number: u32, state: KeyState) -> Result<(), AllocError>
+        requires held { number < length self.old.held }
+        requires made { length state.since ≡ 1 }
+        ensures ok { OnOk result (self.new ≡ with_log (logs.established number (length self.old.entries) state self.old.log) self.old) }
+        ensures grows { OnOk result (GrowsByState state self.old.log self.new.log) }
+        ensures extends { OnOk result (logs.Extends self.old.log self.new.log) }
+        ensures err { OnErr result (self.new ≡ self.old) }
+    {
+        let noted = note_next(
+            self.alloc,
+            &mut self.accepted,
+            &mut self.seals,
+            &self.events[number as usize],
+            self.log.len(),
+            self.journal.entries.len(),
+        );
+        match noted {
+            Ok(entries) => self.log.establish(number, entries, state),
+            Err(error) => {
+                drop(state);
+                Err(error)
+            }
+        }
+    }
+
+    /// Accepts the interaction of the body of a number, which goes onto the current state of its identifier.
+    pub fn interact(&mut self, number: u32) -> Result<(), AllocError>
+        requires held { number < length self.old.held }
+        requires room { (b : Body) → slice_get self.old.held number ≡ Some b → IfSome (logs.last_of (events.prefix_of b.event) self.old.log.states) (λ s. head_sn s + 1 < 2 ^ 64) }
+        ensures ok { OnOk result ((b : Body) → slice_get self.old.held number ≡ Some b → self.new ≡ with_log (logs.interacted number (length self.old.entries) (events.prefix_of b.event) (events.said_of b.event) self.old.log) self.old) }
+        ensures grows { OnOk result ((b : Body) → slice_get self.old.held number ≡ Some b → GrowsByInteraction (events.prefix_of b.event) (events.said_of b.event) self.old.log self.new.log) }
+        ensures extends { OnOk result (logs.Extends self.old.log self.new.log) }
+        ensures err { OnErr result (self.new ≡ self.old) }
+    {
+        let event = &self.events[number as usize];
+        let entries = note_next(
+            self.alloc,
+            &mut self.accepted,
+            &mut self.seals,
+            event,
+            self.log.len(),
+            self.journal.entries.len(),
+        )?;
+        self.log
+            .interact(number, entries, &prefix_of(event), said_of_event(event))
     }
 
     /// The accepted events leave the escrow. It takes no memory.
@@ -125,6 +199,27 @@ fn is_sealing(event: Option<&Event>, key: &SealKey) -> bool
     }
 }
 
+// Adds the place of the log that comes behind so many, under the name of its event and under what that seals, and hands out
+// how many entries there are.
+fn note_next(
+    alloc: Global,
+    accepted: &mut Index<Name>,
+    sealed: &mut Index<SealKey>,
+    event: &Event,
+    count: usize,
+    entries: usize,
+) -> Result<u32, AllocError>
+    ensures entries { IfOk result (λ n. n ≡ entries) }
+    ensures named { OnOk result (Contains (numbers_at ⟦<Name as Ord>⟧.cmp accepted.new (name_of_event event.now)) count) }
+    ensures sealed { OnOk result (IsSealedAt (numbers_at ⟦<SealKey as Ord>⟧.cmp sealed.new) event.now count) }
+    ensures kept { KeepsBelow count (numbers_at ⟦<Name as Ord>⟧.cmp accepted.old) (numbers_at ⟦<Name as Ord>⟧.cmp accepted.new) }
+    ensures kept_sealed { KeepsBelow count (numbers_at ⟦<SealKey as Ord>⟧.cmp sealed.old) (numbers_at ⟦<SealKey as Ord>⟧.cmp sealed.new) }
+{
+    let place = number_from(count)?;
+    note_accepted(alloc, accepted, sealed, event, place)?;
+    number_from(entries)
+}
+
 // Adds a place of the log under the name of its event and under what that seals.
 fn note_accepted(
     alloc: Global,
@@ -176,6 +271,13 @@ fn leave(waiting: &mut Waiting, numbers: &[u32])
     ensures { (n : ℕ) → held_by n waiting.new ≡ (if list_any (λ m. m == n) numbers.now then None else held_by n waiting.old) }
 {
     for number in numbers {
-        waiting.take(*number);
+        take_out(waiting, *number);
     }
+}
+
+/// The event of a number leaves the escrow. It takes no memory.
+pub(crate) fn take_out(waiting: &mut Waiting, number: u32)
+    ensures waiters { (n : ℕ) → held_by n waiting.new ≡ (if n == number then None else held_by n waiting.old) }
+{
+    drop(waiting.take(number));
 }

@@ -4,6 +4,7 @@ ghost use Rattle.core_tables.specs.View.{IsCut, mark_of, rewound};
 ghost use Rattle.escrow.specs.Escrow.{held as held_by};
 
 use crate::Tables;
+use crate::log::take_out;
 use escrow::Waiting;
 
 /// How long each list was.
@@ -49,6 +50,6 @@ fn leave_from(waiting: &mut Waiting, from: usize, to: usize)
     ensures { (n : ℕ) → held_by n waiting.new ≡ (if nat_le from n && nat_lt n to then None else held_by n waiting.old) }
 {
     for number in from..to {
-        waiting.take(number as u32);
+        take_out(waiting, number as u32);
     }
 }

@@ -124,6 +124,13 @@ impl Tables {
         event_at(self.events.as_slice(), number)
     }
 
+    /// The events of all bodies.
+    pub fn events(&self) -> &[Event]
+        ensures { result.now ≡ map (λ b. b.event) self.now.held }
+    {
+        self.events.as_slice()
+    }
+
     /// The log of the accepted events.
     pub fn log(&self) -> &AcceptedLog
         ensures { result.now ≡ self.now.log }

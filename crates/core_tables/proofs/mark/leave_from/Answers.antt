@@ -40,7 +40,7 @@ loop-number-init c = record {
 
 pub loop-number-preserved : goal.loop-number-preserved
 loop-number-preserved c = record {
-  left = λ n. c.take.ensures.waiters n ∙ ap (λ o. if n == c.loop-number.number then None else o) (c.loop-number.invariant.left n)
+  left = λ n. c.take_out.ensures.waiters n ∙ ap (λ o. if n == c.loop-number.number then None else o) (c.loop-number.invariant.left n)
       ∙ one_more c.args.from c.loop-number.number n (held n c.args.waiting.now) c.loop-number.auto.number;
   first = λ h. absurd (omega arith);
 }

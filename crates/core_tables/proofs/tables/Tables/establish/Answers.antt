@@ -1,0 +1,54 @@
+use Rattle.std.proofs.Common.{◌<◌, ◌∙◌, ap, arith, length, refl, subst, sym}
+use Rattle.std.specs.Result.{OnOk}
+use Rattle.std.proofs.lemmas.Result.{on_err_weaker, on_ok_weaker}
+use Rattle.accepted_log.specs.Cuts.{GrowsByState}
+use Rattle.accepted_log.specs.Values.{Extends, established}
+use Rattle.journal.proofs.Places.{some_at}
+use Rattle.core_tables.specs.Inside.{held_in, view_of}
+use Rattle.core_tables.specs.View.{View}
+use Rattle.core_tables.proofs.LastAccepted.{none_accepted, on_both, one_accepted, view_accepted, view_same}
+use Rattle.core_tables.proofs.Pairs.{event_is, length-paired}
+use Rattle.core_tables.proofs.tables.Tables.establish.Goals as goal
+
+pub index-requires : goal.index-requires
+index-requires c =
+    let t = c.self.inside in
+    let held = subst (λ (v : View). c.args.number < length v.held) (sym c.self.view_is) c.requires.held in
+    let long = length-paired t.journal.bodies t.events.items c.self.invariant.0 in let ok = t.events.ok.0 in
+    omega (arith, held, long, ok)
+
+pub invariant_of-self-in-Err : goal.invariant_of-self-in-Err
+invariant_of-self-in-Err c =
+    (c.self.invariant.0, c.self.invariant.1, none_accepted c.self.invariant.2 _ _ _ c.len.ensures.numbers c.note_next-noted.ensures.kept c.note_next-noted.ensures.kept_sealed _ refl)
+
+pub returns-in-Err-clause-err : goal.returns-in-Err-clause-err
+returns-in-Err-clause-err c = c.self.view_is
+
+pub invariant_of-self : goal.invariant_of-self
+invariant_of-self c =
+    let t = c.self.inside in
+    let b = some_at (held_in t) c.args.number (subst (λ (v : View). c.args.number < length v.held) (sym c.self.view_is) c.requires.held) in
+    let event = event_is t.journal.bodies t.events.items c.self.invariant.0 c.args.number c.index.result.now b.0 c.index.ensures b.1 in (
+      c.self.invariant.0,
+      c.self.invariant.1,
+      on_both c.establish.result c.establish.ensures.ok c.establish.ensures.err
+          (λ made. one_accepted c.self.invariant.2 _ _ _ c.len.ensures.numbers c.note_next-noted.ensures.kept c.note_next-noted.ensures.kept_sealed b.0 c.args.number c.index.result.now b.1 event
+          c.in-Ok.ensures.named c.in-Ok.ensures.sealed _ (ap (λ l. l.numbers) made))
+          (λ same. none_accepted c.self.invariant.2 _ _ _ c.len.ensures.numbers c.note_next-noted.ensures.kept c.note_next-noted.ensures.kept_sealed _ (ap (λ l. l.numbers) same)),
+    )
+
+pub returns-in-Ok-clause-ok : goal.returns-in-Ok-clause-ok
+returns-in-Ok-clause-ok c =
+    let t = c.self.inside in let entries = c.in-Ok.ensures.entries ∙ c.len-2.ensures in
+    on_ok_weaker c.establish.result
+    (λ made. view_accepted (view_of t) c.args.self.now c.establish.new.self (λ v. established c.args.number (length v.entries) c.args.state v.log) c.self.view_is
+    (made ∙ ap (λ k. established c.args.number k c.args.state t.log) entries)) c.establish.ensures.ok
+
+pub returns-in-Ok-clause-grows : goal.returns-in-Ok-clause-grows
+returns-in-Ok-clause-grows c = subst (λ (v : View). OnOk c.establish.result (GrowsByState c.args.state v.log c.establish.new.self)) c.self.view_is c.establish.ensures.log
+
+pub returns-in-Ok-clause-extends : goal.returns-in-Ok-clause-extends
+returns-in-Ok-clause-extends c = subst (λ (v : View). OnOk c.establish.result (Extends v.log c.establish.new.self)) c.self.view_is c.establish.ensures.extends
+
+pub returns-in-Ok-clause-err : goal.returns-in-Ok-clause-err
+returns-in-Ok-clause-err c = on_err_weaker c.establish.result (λ same. view_same (view_of c.self.inside) c.args.self.now c.establish.new.self c.self.view_is same) c.establish.ensures.err

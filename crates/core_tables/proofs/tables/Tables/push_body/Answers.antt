@@ -1,0 +1,50 @@
+use Rattle.std.proofs.Common.{subst, sym}
+use Rattle.event_index.specs.Keys.{numbers_at}
+use Rattle.core_tables.specs.Hints.{KeepsBelow}
+use Rattle.core_tables.specs.Inside.{held_in, view_of}
+use Rattle.core_tables.specs.View.{body_of}
+use Rattle.core_tables.proofs.LastAccepted.{on_both}
+use Rattle.core_tables.proofs.LastBody.{both_err, both_ok, hinted_pushed, pushed_even, pushed_pairs, view_pushed}
+use Rattle.core_tables.proofs.Hints.{hinted_kept, keeps_itself}
+use Rattle.core_tables.proofs.Orders.{name_cmp}
+use Rattle.core_tables.proofs.Pairs.{length-paired}
+use Rattle.core_tables.proofs.Waiters.{next_free}
+use Rattle.std.proofs.lemmas.Result.{on_err_weaker, on_ok_weaker}
+use Rattle.core_tables.proofs.tables.Tables.push_body.Goals as goal
+
+pub push_both-requires : goal.push_both-requires
+push_both-requires c =
+    let t = c.self.inside in
+    record { new = next_free t.waiting (held_in t) _ _ c.self.invariant.2.escrow (sym (length-paired t.journal.bodies t.events.items c.self.invariant.0)) }
+
+pub invariant_of-self : goal.invariant_of-self
+invariant_of-self c =
+    let t = c.self.inside in
+    let long = sym (length-paired t.journal.bodies t.events.items c.self.invariant.0) in
+    let r = c.push_both.result in
+    on_both r (both_ok _ _ r c.push_both.ensures.ok (both_ok _ _ r c.push_both.ensures.pushed (both_ok _ _ r c.push_both.ensures.few (both_ok _ _ r c.push_both.ensures.named c.push_both.ensures.waits))))
+    (both_err _ _ r c.push_both.ensures.err (both_err _ _ r c.push_both.ensures.same c.push_both.ensures.waits_on))
+    (λ made. (
+      pushed_even t.journal.bodies _ t.events.items _ c.args.text c.args.event c.self.invariant.0 made.0 made.1.0,
+      c.self.invariant.1,
+      hinted_pushed c.self.invariant.2 (body_of c.args.text c.args.event) _ _ _ _ (pushed_pairs t.journal.bodies _ t.events.items _ c.args.text c.args.event c.self.invariant.0 made.0 made.1.0) long
+          made.1.1.0 made.1.1.1.0 c.push_both.ensures.kept made.1.1.1.1,
+    ))
+    (λ same.
+    let bodies = same.0 in let events = same.1.0 in
+    let kept = subst (λ k. KeepsBelow k (numbers_at name_cmp t.names) (numbers_at name_cmp c.push_both.new.names)) long c.push_both.ensures.kept in
+    rw (events, bodies)
+    (c.self.invariant.0, c.self.invariant.1, hinted_kept c.self.invariant.2 _ _ _ _ _ _ same.1.1 kept (keeps_itself _ _) (keeps_itself _ _) (keeps_itself _ _) (keeps_itself _ _)))
+
+pub returns-clause-ok : goal.returns-clause-ok
+returns-clause-ok c =
+    let t = c.self.inside in let r = c.push_both.result in
+    on_ok_weaker r
+    (λ made. view_pushed (view_of t) c.args.self.now _ (body_of c.args.text c.args.event) c.self.view_is
+    (pushed_pairs t.journal.bodies _ t.events.items _ c.args.text c.args.event c.self.invariant.0 made.0 made.1))
+    (both_ok _ _ r c.push_both.ensures.ok c.push_both.ensures.pushed)
+
+pub returns-clause-err : goal.returns-clause-err
+returns-clause-err c =
+    let r = c.push_both.result in
+    on_err_weaker r (λ same. let bodies = same.0 in let events = same.1 in rw (events, bodies) c.self.view_is) (both_err _ _ r c.push_both.ensures.err c.push_both.ensures.same)
