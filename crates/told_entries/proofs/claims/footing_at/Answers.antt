@@ -1,0 +1,10 @@
+use Rattle.std.specs.Prelude.{slice_get}
+use Rattle.acceptance.specs.Footing.{IsFooting}
+use Rattle.core_tables.specs.View.{log_of}
+use Rattle.told_entries.proofs.Found.{of_body}
+use Rattle.told_entries.proofs.claims.footing_at.Goals as goal
+
+-- src/claims.rt:65:1
+pub returns-clause-some : goal.returns-clause-some
+returns-clause-some c = of_body (λ b on. IsFooting (log_of c.args.tables.now) c.args.tables.now.log b on) c.in_ok-event.event.now (slice_get c.args.tables.now.held c.args.number) c.in_ok-event.ensures
+    c.footing_of.result c.footing_of.ensures.some
