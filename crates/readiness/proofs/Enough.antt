@@ -1,0 +1,97 @@
+-- What is wanting by the parts of an event is what is wanting by what was told.
+use Rattle.std.proofs.Common.{◌≡◌, ℕ, Bool, true, false, not, ◌&&◌, ◌||◌, List, [], ◌∷◌, length, map, Option, Some, None, is_none, refl, sym, ◌∙◌, ap}
+use Rattle.std.specs.Prelude.{filter}
+use Rattle.std.specs.List.{list_any}
+use Rattle.event_body.specs.declared.event.Event.{Event}
+use Rattle.event_body.specs.declared.event.Event.TheVariants.{Icp, Rot, Ixn, Dip, Drt, Rct}
+use Rattle.event_body.specs.Events.{prefix_of, is_rotation}
+use Rattle.sith.specs.Tests.{satisfied}
+use Rattle.key_state.specs.Exposure.{own_rules, exposed, opens, numbers_below}
+use Rattle.key_state.specs.KeyStates.{first_true}
+use Rattle.key_state.specs.States.{State}
+use Rattle.journal.specs.declared.body.Body.{Body}
+use Rattle.journal.specs.declared.mode.Mode.{Mode}
+use Rattle.journal.specs.declared.why.Why.TheVariants.{Signatures, Next, Receipts, Seal}
+use Rattle.journal.specs.Logs.{state, takes}
+use Rattle.journal.specs.Seals.{anchored}
+use Rattle.journal.specs.History.{Told, claims_on}
+use Rattle.journal.specs.Readiness.{good_sigs, is_backed, is_local, is_ready, meets_before, meets_next, meets_own, signed}
+use Rattle.event_rules.specs.Claims.{is_held_so}
+use Rattle.event_rules.specs.Parts.{Part, says_of, opens_at, supports, has_own, has_next}
+use Rattle.acceptance_laws.specs.Support.{AreSound}
+use Rattle.acceptance_laws.specs.Waking.{is_waiting}
+use Rattle.acceptance_laws.proofs.Below.{same_satisfied}
+use Rattle.acceptance_laws.proofs.Enough.{enough, good_is}
+use Rattle.acceptance_laws.proofs.GoodSigs.{any_good, places_are}
+use Rattle.acceptance.proofs.Ready.{untaken}
+use Rattle.readiness.specs.Wants.{wants, wants_by}
+
+-- OWN: the signing threshold is met by the indices, where it is by the parts
+own_is : (told : List Told) (s : Option State) (b : Body) → AreSound (own_rules s b.event) → meets_own told s b ≡ has_own (supports told s b) (own_rules s b.event)
+unfolding supports
+own_is told s b sound =
+    let rules = own_rules s b.event in
+    let says = says_of told b in
+    ap (λ sigs. satisfied rules.kt (length rules.keys) (map (λ g. g.index) sigs)) (good_is told s b)
+    ∙ sym (same_satisfied _ _ rules.kt (length rules.keys) sound.kt_read (places_are says rules (claims_on told b) (length rules.keys)))
+
+-- NEXT: and that of the state before
+next_is : (told : List Told) (s : Option State) (b : Body) (e : Event) → b.event ≡ e
+    → (not (is_rotation e) || meets_next s e (good_sigs told s b)) ≡ (not (is_rotation e) || has_next (supports told s b) s)
+unfolding supports exposed
+next_is told None b e is = refl
+next_is told (Some s) b (Icp e) is = refl
+next_is told (Some s) b (Dip e) is = refl
+next_is told (Some s) b (Ixn e) is = refl
+next_is told (Some s) b (Rct e) is = refl
+next_is told (Some s) b (Rot e) is =
+    let rules = own_rules (Some s) b.event in
+    let each : (n : ℕ) → list_any (opens s.next e.keys n) (good_sigs told (Some s) b) ≡ list_any (is_held_so (says_of told b) rules (opens_at (Some s) b.event n)) (claims_on told b)
+    = λ n. ap (list_any (opens s.next e.keys n)) (good_is told (Some s) b) ∙ sym (any_good (says_of told b) rules (opens s.next e.keys n) (claims_on told b))
+    ∙ ap (λ f. list_any (is_held_so (says_of told b) rules (opens_at (Some s) f n)) (claims_on told b)) (sym is) in
+    ap (λ test. satisfied s.nt (length s.next) (filter test (numbers_below (length s.next)))) (λ i n. each n i)
+next_is told (Some s) b (Drt e) is =
+    let rules = own_rules (Some s) b.event in
+    let each : (n : ℕ) → list_any (opens s.next e.keys n) (good_sigs told (Some s) b) ≡ list_any (is_held_so (says_of told b) rules (opens_at (Some s) b.event n)) (claims_on told b)
+    = λ n. ap (list_any (opens s.next e.keys n)) (good_is told (Some s) b) ∙ sym (any_good (says_of told b) rules (opens s.next e.keys n) (claims_on told b))
+    ∙ ap (λ f. list_any (is_held_so (says_of told b) rules (opens_at (Some s) f n)) (claims_on told b)) (sym is) in
+    ap (λ test. satisfied s.nt (length s.next) (filter test (numbers_below (length s.next)))) (λ i n. each n i)
+
+-- WANTS
+module _ (mode : Mode) (told : List Told) (log : List Body) (b : Body) where
+  pub wants_are : (s : Option State) (has : Part → Bool) → AreSound (own_rules s b.event) → ((p : Part) → has p ≡ supports told s b p)
+      → wants_by mode has s b.event (anchored log s b.event) ≡ wants mode told log s b
+  wants_are s has sound same =
+      let are : has ≡ supports told s b = λ i p. same p i in
+      let own = ap (λ h. has_own h (own_rules s b.event)) are ∙ sym (own_is told s b sound) in
+      let next = ap (λ h. not (is_rotation b.event) || has_next h s) are ∙ sym (next_is told s b b.event refl) in
+      let backed = sym (enough told s b has sound same).1 in
+      λ i. first_true (
+      (not (own i), Signatures)
+      ∷ (not (next i), Next)
+      ∷ (not (is_local mode) && not (backed i), Receipts)
+      ∷ (not (is_local mode) && not (anchored log s b.event), Seal)
+      ∷ [])
+
+  -- READY: what the current state takes is ready where nothing is wanting
+  nothing_wanting : (own next local backed sealed : Bool) → ((own && next) && (local || (backed && sealed)))
+      ≡ is_none (first_true ((not own, Signatures) ∷ (not next, Next) ∷ (not local && not backed, Receipts) ∷ (not local && not sealed, Seal) ∷ []))
+  nothing_wanting false next local backed sealed = refl
+  nothing_wanting true false local backed sealed = refl
+  nothing_wanting true true true backed sealed = refl
+  nothing_wanting true true false false sealed = refl
+  nothing_wanting true true false true false = refl
+  nothing_wanting true true false true true = refl
+
+  pub ready_wants : (s : Option State) → s ≡ state log (prefix_of b.event) → is_waiting log b ≡ true → takes s b.event ≡ true
+      → is_ready mode told log b ≡ is_none (wants mode told log s b)
+  unfolding is_ready signed
+  ready_wants s current waits taken = rw (waits, ← current, taken) (nothing_wanting (meets_own told s b) (meets_before told s b) (is_local mode) (is_backed told s b) (anchored log s b.event))
+
+  -- what doesn't wait isn't, and what the current state doesn't take
+  pub not_waiting : is_waiting log b ≡ false → is_ready mode told log b ≡ false
+  unfolding is_ready
+  not_waiting waits = rw waits refl
+
+  pub not_taken : (s : Option State) → s ≡ state log (prefix_of b.event) → takes s b.event ≡ false → is_ready mode told log b ≡ false
+  not_taken s current other = untaken mode told log b (ap (λ o. takes o b.event) (sym current) ∙ other)

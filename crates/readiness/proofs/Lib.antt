@@ -1,0 +1,10 @@
+pub mod Bodies
+pub mod Parts
+pub mod Enough
+pub mod Reasons
+pub mod Delegators
+pub mod Counting
+pub mod Verdicts
+pub mod Claims
+pub mod Wanted
+pub mod Footings

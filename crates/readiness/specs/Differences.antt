@@ -1,0 +1,11 @@
+-- Bodies differ in at most one way.
+use Rattle.std.specs.Prelude.{List, [], ◌∷◌}
+use Rattle.std.specs.Coded.{×_prop, Unit-prop}
+use Rattle.std.proofs.Math.Bool.{Bool-set}
+use Rattle.journal.specs.declared.body.Body.{Body}
+use Rattle.journal.specs.Logs.{same_body}
+use Rattle.journal.proofs.Different.{Differ}
+
+pub Differ-prop : (held : List Body) → IsProp (Differ same_body held)
+Differ-prop [] = Unit-prop
+Differ-prop (b ∷ held) = ×_prop (Bool-set _ _) (Differ-prop held)

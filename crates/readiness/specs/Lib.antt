@@ -1,0 +1,4 @@
+pub mod Current
+pub mod Wants
+pub mod Entries
+pub mod Differences

@@ -1,0 +1,33 @@
+-- What is wanting in an event that the current state of its identifier takes: the reasons to wait that are left of it.
+use Rattle.std.specs.Prelude.{Bool, ◌&&◌, ◌||◌, not, List, [], ◌∷◌, Option}
+use Rattle.event_body.specs.declared.event.Event.{Event}
+use Rattle.event_body.specs.Events.{is_rotation}
+use Rattle.event_rules.specs.Parts.{Part, has_own, has_next, has_backed}
+use Rattle.key_state.specs.Exposure.{own_rules}
+use Rattle.key_state.specs.KeyStates.{first_true}
+use Rattle.key_state.specs.States.{State}
+use Rattle.journal.specs.declared.body.Body.{Body}
+use Rattle.journal.specs.declared.mode.Mode.{Mode}
+use Rattle.journal.specs.declared.why.Why.{Why}
+use Rattle.journal.specs.declared.why.Why.TheVariants.{Signatures, Next, Receipts, Seal}
+use Rattle.journal.specs.Seals.{anchored}
+use Rattle.journal.specs.History.{Told}
+use Rattle.journal.specs.Readiness.{meets_own, meets_before, is_backed, is_local}
+
+-- by its parts, and whether it is sealed
+abbrev pub wants_by : Mode → (Part → Bool) → Option State → Event → Bool → Option Why
+wants_by mode has s e sealed = first_true (
+    (not (has_own has (own_rules s e)), Signatures)
+    ∷ (not (not (is_rotation e) || has_next has s), Next)
+    ∷ (not (is_local mode) && not (has_backed has (own_rules s e)), Receipts)
+    ∷ (not (is_local mode) && not sealed, Seal)
+    ∷ [])
+
+-- by what was told
+abbrev pub wants : Mode → List Told → List Body → Option State → Body → Option Why
+wants mode told log s b = first_true (
+    (not (meets_own told s b), Signatures)
+    ∷ (not (meets_before told s b), Next)
+    ∷ (not (is_local mode) && not (is_backed told s b), Receipts)
+    ∷ (not (is_local mode) && not (anchored log s b.event), Seal)
+    ∷ [])
