@@ -1,0 +1,9 @@
+pub mod Candidates
+pub mod DueNumbers
+pub mod Ends
+pub mod Events
+pub mod Few
+pub mod Lasts
+pub mod Steps
+pub mod Turning
+pub mod Waking

@@ -1,0 +1,13 @@
+use Rattle.std.proofs.Common.{◌≡◌, ℕ, length}
+use Rattle.core_tables.specs.View.{log_of}
+use Rattle.acceptance.specs.Standing.{told_of}
+use Rattle.acceptance.specs.Settled.{counted_on}
+use Rattle.settlement.specs.Settled.{LeadsTo}
+use Rattle.settlement.proofs.settlement.next_ready.Given as goal
+
+abbrev pub invariant-loop-number : goal.invariant-loop-number
+invariant-loop-number l = (passed : ℕ) × (l.steps ≡ counted_on l.initial.steps passed)
+    × LeadsTo l.mode (told_of l.tables) l.tables.held l.initial.due.keys (log_of l.tables) l.due.keys (log_of l.tables) passed
+
+abbrev pub decreases-loop-number : goal.decreases-loop-number
+decreases-loop-number l = length l.due.keys

@@ -1,0 +1,47 @@
+-- Between the acceptance of an event and that of the next: the log has the event, and the claims on the events behind it are
+-- raised one event after the other.
+use Rattle.std.specs.Prelude.{◌≡◌, ℕ, ◌+◌, false, List, [], ◌∷◌, ◌++◌, length, position, slice_get, Some, IsTrue}
+use Rattle.event_body.specs.Events.{is_interaction, prefix_of}
+use Rattle.key_state.specs.States.{State}
+use Rattle.journal.specs.declared.body.Body.{Body}
+use Rattle.journal.specs.Grown.{fits}
+use Rattle.journal.specs.Logs.{precedes, state}
+use Rattle.journal.specs.Questions.{state_before}
+use Rattle.accepted_log.specs.Cuts.{IsLog}
+use Rattle.accepted_log.specs.Values.{Log}
+use Rattle.claim_laws.specs.ClaimRows.{HasClaims, found_on, verdict_in}
+use Rattle.core_tables.specs.View.{View, log_of, with_log, with_rows}
+use Rattle.acceptance.specs.Standing.{IsStanding, told_of}
+use Rattle.acceptance.specs.Turned.{turned}
+
+-- the last event of the log is the first that stands right before the body
+pub record IsBehindLast (log : List Body) (b : Body) : Type 0 where
+  pub before : ℕ
+  pub first : position (precedes b) log ≡ Some before
+  pub last : before + 1 ≡ length log
+
+-- an establishment event makes the state
+pub record MakesState (log : List Body) (b : Body) (s : State) : Type 0 where
+  pub sets : is_interaction b.event ≡ false
+  pub makes : state (log ++ b ∷ []) (prefix_of b.event) ≡ Some s
+
+-- the event of a number is last in the log, and nothing else has changed
+pub record IsAppended (c : Body) (number : ℕ) (old new : View) : Type 0 where
+  pub log : Log
+  pub numbers : log.numbers ≡ old.log.numbers ++ number ∷ []
+  pub is_log : IsLog (log_of old ++ c ∷ []) log
+  pub new_is : new ≡ with_log log old
+
+-- the event is last in the log, and of the bodies of these numbers all claims are raised
+pub record IsTurning (old : View) (c : Body) (done : List ℕ) (new : View) : Type 0 where
+  pub stands : IsStanding old
+  pub number : ℕ
+  pub at : slice_get old.held number ≡ Some c
+  pub fit : IsTrue (fits (log_of old) c)
+  pub log : Log
+  pub numbers : log.numbers ≡ old.log.numbers ++ number ∷ []
+  pub is_log : IsLog (log_of old ++ c ∷ []) log
+  pub new_is : new ≡ with_rows new.claims.rows (with_log log old)
+  pub claims : HasClaims (state_before (log_of old ++ c ∷ []))
+      (turned (λ n b. found_on (told_of old) (log_of old) b) (λ n b. found_on (told_of old) (log_of old ++ c ∷ []) b) done)
+      (verdict_in (told_of old)) old.held new.claims.rows

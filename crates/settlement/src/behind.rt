@@ -1,0 +1,88 @@
+//! The events that stand right behind the last accepted one.
+ghost use Rattle.std.specs.Prelude.{◌≡◌, ◌==◌, ◌<◌, ◌+◌, ◌++◌, ◌∷◌, [], ℕ, List, Some, None, Contains, IfOk, OnOk, false, length, position, slice_get, true};
+ghost use Rattle.std.specs.List.{list_any};
+ghost use Rattle.std.specs.List.Sorted.{IsStrictlyIncreasing};
+ghost use Rattle.journal.specs.declared.body.Body.{Body};
+ghost use Rattle.journal.specs.Logs.{precedes, predecessor};
+ghost use Rattle.core_tables.specs.View.{View, log_of, with_rows};
+ghost use Rattle.acceptance.specs.Standing.{Extends, IsStanding};
+ghost use Rattle.settlement.specs.Turning.{IsBehindLast, IsTurning};
+ghost use Rattle.told_entries.specs.Told.{IsLogged};
+
+use core_tables::Tables;
+use event_body::said_of_event;
+use std::alloc::{AllocError, Global};
+use told_entries::raise_all;
+
+/// The numbers of the events that wait for one with the digest of this event, rising.
+pub(crate) fn numbers_behind(
+    alloc: Global,
+    tables: &Tables,
+    number: u32,
+) -> Result<Vec<u32>, AllocError>
+    requires stands { IsStanding tables.now }
+    ensures rising { IfOk result (λ numbers. IsStrictlyIncreasing numbers.items) }
+    ensures held { IfOk result (λ numbers. (n : ℕ) → Contains numbers.items n → n < length tables.now.held) }
+    ensures all { IfOk result (λ numbers. (c b : Body) (n : ℕ) → slice_get tables.now.held number ≡ Some c → slice_get tables.now.held n ≡ Some b
+        → precedes b c ≡ true → predecessor (log_of tables.now) b ≡ None → list_any (λ m. m == n) numbers.items ≡ true) }
+{
+    match tables.event(number) {
+        Some(event) => copied(alloc, tables.waiting().woken_by(&said_of_event(event))),
+        None => Ok(Vec::new(alloc)),
+    }
+}
+
+/// A copy of numbers.
+pub(crate) fn copied(alloc: Global, numbers: &[u32]) -> Result<Vec<u32>, AllocError>
+    ensures { IfOk result (λ copy. copy.items ≡ numbers.now) }
+{
+    Vec::from_slice(alloc, numbers)
+}
+
+/// Raises all claims on those of the events that stand right behind the last accepted one, and behind no earlier one.
+pub(crate) fn raise_behind(tables: &mut Tables, numbers: &[u32]) -> Result<(), AllocError>
+    requires logged { IsLogged tables.old }
+    requires held { (n : ℕ) → Contains numbers.now n → n < length tables.old.held }
+    requires rising { IsStrictlyIncreasing numbers.now }
+    ensures ok { OnOk result ((v : View) (c : Body) → IsTurning v c [] tables.old → IsTurning v c numbers.now tables.new) }
+    ensures extends { Extends tables.old tables.new }
+{
+    for number in numbers {
+        raise_new(tables, *number)?;
+    }
+    Ok(())
+}
+
+// Raises all claims on the event of a number, where it stands right behind the last accepted one, and behind no earlier one.
+fn raise_new(tables: &mut Tables, number: u32) -> Result<(), AllocError>
+    requires logged { IsLogged tables.old }
+    requires held { number < length tables.old.held }
+    ensures ok { OnOk result ((v : View) (c : Body) (done : List ℕ) → list_any (λ m. m == number) done ≡ false → IsTurning v c done tables.old → IsTurning v c (done ++ number ∷ []) tables.new) }
+    ensures rows { tables.new ≡ with_rows tables.new.claims.rows tables.old }
+    ensures extends { Extends tables.old tables.new }
+{
+    if is_behind_last(tables, number) {
+        raise_all(tables, number)
+    } else {
+        Ok(())
+    }
+}
+
+// Whether the last accepted event is the first that stands right before the event of a number.
+fn is_behind_last(tables: &Tables, number: u32) -> bool
+    requires logged { IsLogged tables.now }
+    ensures then { (b : Body) → slice_get tables.now.held number ≡ Some b → result ≡ true → IsBehindLast (log_of tables.now) b }
+    ensures otherwise { (b : Body) → slice_get tables.now.held number ≡ Some b → result ≡ false → IsBehindLast (log_of tables.now) b → ⊥ }
+{
+    match place_before(tables, number) {
+        Some(place) => place as usize + 1 == tables.log().len(),
+        None => false,
+    }
+}
+
+// The place in the log of the first event that stands right before the event of a number.
+fn place_before(tables: &Tables, number: u32) -> Option<u32>
+    ensures { (b : Body) → slice_get tables.now.held number ≡ Some b → result ≡ position (precedes b) (log_of tables.now) }
+{
+    tables.predecessor(tables.event(number)?)
+}
