@@ -1,6 +1,7 @@
 pub mod Differing
+mod Bodies
+mod Cuts
 mod Living
-mod Orders
-mod Grouping
 mod Numbers
-mod Steps
+mod Orders
+mod Rivals

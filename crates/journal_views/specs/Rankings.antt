@@ -1,21 +1,34 @@
 -- The order in which conflicts are shown (own: by place, then by bytes).
-use Rattle.std.specs.Prelude.{ℕ, Bool, false, List, [], ◌∷◌}
+use Rattle.std.specs.Prelude.{ℕ, List, [], ◌∷◌, Option, Some, None, slice_get}
 use Rattle.std.specs.declared.cmp.Ordering.{Ordering}
-use Rattle.std.specs.Ordering.{nat_cmp, ordering_then, is_ne}
+use Rattle.std.specs.Ordering.{nat_cmp, ordering_then}
 use Rattle.std.specs.Cmp.Lexicographic.{slice_cmp}
+use Rattle.event_body.specs.declared.event.Event.{Event}
 use Rattle.journal.specs.declared.body.Body.{Body}
 use Rattle.journal.specs.Conflicts.{place_cmp, text_cmp}
-use Rattle.journal.specs.Journals.{chosen}
 
 -- by place, then by bytes
 abbrev pub body_cmp : Body → Body → Ordering
 body_cmp b c = ordering_then (place_cmp b c) (text_cmp b.bytes c.bytes)
 
--- numbers by their bodies, and those of one body by themselves
-unfoldable pub number_cmp : List Body → ℕ → ℕ → Ordering
-number_cmp held m n = ordering_then (slice_cmp body_cmp (chosen held (m ∷ [])) (chosen held (n ∷ []))) (nat_cmp m n)
+-- places are those of the events, whatever the bytes
+abbrev pub of_event : Event → Body
+of_event e = record { bytes = []; event = e }
 
--- the body is at another place than the first of a group
-abbrev pub is_apart : List Body → Body → Bool
-is_apart [] b = false
-is_apart (c ∷ group) b = is_ne (place_cmp c b)
+abbrev pub event_cmp : Event → Event → Ordering
+event_cmp d e = place_cmp (of_event d) (of_event e)
+
+-- what is there, as a list of one or none
+abbrev pub listed : {X : Type 0} → Option X → List X
+listed None = []
+listed (Some x) = x ∷ []
+
+-- numbers by the places of their events
+abbrev pub number_place : List Event → ℕ → ℕ → Ordering
+number_place events m n = slice_cmp event_cmp (listed (slice_get events m)) (listed (slice_get events n))
+
+-- by place, then by bytes, and the numbers of one body by themselves
+unfoldable pub number_cmp : List (List ℕ) → List Event → ℕ → ℕ → Ordering
+number_cmp bodies events m n = ordering_then
+    (ordering_then (number_place events m n) (slice_cmp text_cmp (listed (slice_get bodies m)) (listed (slice_get bodies n))))
+    (nat_cmp m n)

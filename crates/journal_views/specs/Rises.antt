@@ -1,8 +1,13 @@
--- Numbers whose bodies rise along their log.
-use Rattle.std.specs.Prelude.{◌≡◌, ℕ, ◌<◌, List, Some, slice_get}
+-- The numbers of events in their logs.
+use Rattle.std.specs.Prelude.{ℕ, List, Option, Some, None, slice_get}
 use Rattle.event_body.specs.Events.{sn_of}
-use Rattle.journal.specs.declared.body.Body.{Body}
+use Rattle.event_body.specs.declared.event.Event.{Event}
 
--- the body of the first number stands below that of the second
-abbrev pub Rise : List Body → ℕ → ℕ → Type 0
-Rise held m n = (b c : Body) → slice_get held m ≡ Some b → slice_get held n ≡ Some c → sn_of b.event < sn_of c.event
+-- the number in its log, and 0 for none
+abbrev pub sn_or : Option Event → ℕ
+sn_or None = 0
+sn_or (Some e) = sn_of e
+
+-- that of the event of a number
+abbrev pub sn_at : List Event → ℕ → ℕ
+sn_at events n = sn_or (slice_get events n)

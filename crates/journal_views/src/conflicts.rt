@@ -1,14 +1,15 @@
 //! The sets of conflicting bodies.
-ghost use Rattle.std.specs.Prelude.{◌≡◌, ◌≤◌, ◌<◌, ◌↔◌, ◌∷◌, ◌++◌, [], false, List, length, slice_get, Some, map, if◌then◌else◌, nat_le, IfOk, OnOk, All, AllPairs, Contains};
+ghost use Rattle.std.specs.Prelude.{◌≡◌, ◌<◌, ◌↔◌, ◌++◌, [], ℕ, false, List, length, map, bytes_eq, IfOk, OnOk, All, AllPairs, Contains};
 ghost use Rattle.std.specs.declared.cmp.Ordering.TheVariants.{Less};
-ghost use Rattle.journal.specs.declared.body.Body.{Body as ABody};
+ghost use Rattle.journal.specs.declared.body.Body.{Body};
 ghost use Rattle.journal.specs.Conflicts.{AreConflicts};
 ghost use Rattle.journal.specs.Journals.{chosen};
-ghost use Rattle.journal.specs.Logs.{same_body};
-ghost use Rattle.journal_views.specs.Rankings.{body_cmp, is_apart};
+ghost use Rattle.journal_views.specs.Groups.{as_set, cut, is_apart};
+ghost use Rattle.journal_views.specs.Rankings.{number_cmp, number_place};
 
-use crate::places::{number_order, place_order};
-use journal::Body;
+use crate::places::{event_order, number_order};
+use event_body::Event;
+use json_tree::Text;
 use std::alloc::{AllocError, Global};
 use std::mem;
 
@@ -16,20 +17,47 @@ use std::mem;
 /// order of places, and each set in byte order.
 pub fn conflict_sets(
     alloc: Global,
-    bodies: &[Body],
+    bodies: &[Text],
+    events: &[Event],
     counted: &[u32],
 ) -> Result<Vec<Vec<u32>>, AllocError>
+    requires paired { length bodies.now ≡ length events.now }
     requires held { All (λ n. n < length bodies.now) counted.now }
-    requires differ { AllPairs (λ b c. same_body b c ≡ false) bodies.now }
-    ensures conflicts { IfOk result (λ sets. AreConflicts (chosen bodies.now counted.now) (map (λ set. chosen bodies.now set.items) sets.items)) }
+    requires differ { AllPairs (λ x y. bytes_eq x y ≡ false) bodies.now }
+    ensures conflicts { (held : List Body) → map (λ b. b.bytes) held ≡ bodies.now → map (λ b. b.event) held ≡ events.now → IfOk result (λ sets. AreConflicts (chosen held counted.now) (map (λ set. chosen held set.items) sets.items)) }
     ensures held { IfOk result (λ sets. All (λ set. All (λ n. n < length bodies.now) set.items) sets.items) }
 {
-    let numbers = in_order(alloc, bodies, counted)?;
+    let numbers = in_order(alloc, bodies, events, counted)?;
+    sets_of(alloc, events, numbers.as_slice())
+}
+
+// The numbers in the order of their bodies, each once.
+fn in_order(
+    alloc: Global,
+    bodies: &[Text],
+    events: &[Event],
+    counted: &[u32],
+) -> Result<Vec<u32>, AllocError>
+    requires held { All (λ n. n < length bodies.now) counted.now }
+    ensures rising { IfOk result (λ numbers. AllPairs (λ m n. number_cmp bodies.now events.now m n ≡ Less) numbers.items) }
+    ensures same { IfOk result (λ numbers. (n : ℕ) → Contains numbers.items n ↔ Contains counted.now n) }
+    ensures held { IfOk result (λ numbers. All (λ n. n < length bodies.now) numbers.items) }
+{
+    let mut numbers = Vec::from_slice(alloc, counted)?;
+    numbers.sort_by(|first, second| number_order(bodies, events, *first, *second))?;
+    numbers.dedup();
+    Ok(numbers)
+}
+
+// The numbers, cut where the place changes: the groups of two or more.
+fn sets_of(alloc: Global, events: &[Event], numbers: &[u32]) -> Result<Vec<Vec<u32>>, AllocError>
+    ensures { IfOk result (λ sets. map (λ set. set.items) sets.items ≡ cut (number_place events.now) [] numbers.now) }
+{
     let mut sets = Vec::new(alloc);
     let mut group = Vec::new(alloc);
     for place in 0..numbers.len() {
         let number = numbers[place];
-        if is_elsewhere(bodies, group.as_slice(), &bodies[number as usize]) {
+        if is_elsewhere(events, group.as_slice(), number) {
             let whole = mem::replace(&mut group, Vec::new(alloc));
             close(&mut sets, whole)?;
         }
@@ -39,35 +67,19 @@ pub fn conflict_sets(
     Ok(sets)
 }
 
-// The numbers in the order of their bodies, each once.
-fn in_order(alloc: Global, bodies: &[Body], counted: &[u32]) -> Result<Vec<u32>, AllocError>
-    requires held { All (λ n. n < length bodies.now) counted.now }
-    requires differ { AllPairs (λ b c. same_body b c ≡ false) bodies.now }
-    ensures rising { IfOk result (λ numbers. AllPairs (λ b c. body_cmp b c ≡ Less) (chosen bodies.now numbers.items)) }
-    ensures same { IfOk result (λ numbers. (b : ABody) → Contains (chosen bodies.now numbers.items) b ↔ Contains (chosen bodies.now counted.now) b) }
-    ensures held { IfOk result (λ numbers. All (λ n. n < length bodies.now) numbers.items) }
-{
-    let mut numbers = Vec::from_slice(alloc, counted)?;
-    numbers.sort_by(|first, second| number_order(bodies, *first, *second))?;
-    numbers.dedup();
-    Ok(numbers)
-}
-
-// Whether the body is at another place than those of the group.
-#[tactic(auto, unfolding(journal::specs::Journals::chosen))]
-fn is_elsewhere(bodies: &[Body], group: &[u32], body: &Body) -> bool
-    requires { All (λ n. n < length bodies.now) group.now }
-    ensures { result ≡ is_apart (chosen bodies.now group.now) body.now }
+// Whether the event of the number is at another place than those of the group.
+fn is_elsewhere(events: &[Event], group: &[u32], number: u32) -> bool
+    ensures { result ≡ is_apart (number_place events.now) group.now number }
 {
     match group.first() {
-        Some(first) => place_order(&bodies[*first as usize], body).is_ne(),
+        Some(first) => event_order(events, *first, number).is_ne(),
         None => false,
     }
 }
 
 // Keeps a group of two or more as a set.
 fn close(sets: &mut Vec<Vec<u32>>, group: Vec<u32>) -> Result<(), AllocError>
-    ensures { OnOk result (sets.new.items ≡ (if nat_le 2 (length group.items) then sets.old.items ++ group ∷ [] else sets.old.items)) }
+    ensures { OnOk result (map (λ set. set.items) sets.new.items ≡ map (λ set. set.items) sets.old.items ++ as_set group.items) }
 {
     if group.len() >= 2 {
         sets.push(group)?;

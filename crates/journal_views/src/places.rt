@@ -1,64 +1,77 @@
 //! The order of bodies by their places, and within a place by their bytes.
-ghost use Rattle.std.specs.Prelude.{◌≡◌};
+ghost use Rattle.std.specs.Prelude.{◌≡◌, Some, slice_get};
+ghost use Rattle.std.specs.Cmp.Lexicographic.{slice_cmp};
 ghost use Rattle.std.specs.Ordering.{nat_cmp, ordering_then};
 ghost use Rattle.cesr_codes.specs.Spelling.{prefix_text};
-ghost use Rattle.event_body.specs.Events as events;
+ghost use Rattle.event_body.specs.Events as said;
 ghost use Rattle.journal.specs.Conflicts as conflicts;
-ghost use Rattle.journal.specs.Conflicts.{place_cmp, text_cmp, prior_text};
-ghost use Rattle.journal_views.specs.Rankings.{body_cmp, number_cmp};
+ghost use Rattle.journal.specs.Conflicts.{text_cmp, prior_text};
+ghost use Rattle.journal_views.specs.Rankings.{event_cmp, number_cmp, number_place, listed, of_event};
 
 use cesr_codes::{Digest, Prefix};
 use event_body::{Event, prefix_of, sn_of};
 use event_rules::prior_of;
-use journal::Body;
+use json_tree::Text;
 use std::cmp::Ordering;
 
 /// How the bodies of two numbers are ordered; the numbers of one body by themselves, and those of none first.
-#[tactic(auto, unfolding(crate::specs::Rankings::number_cmp, journal::specs::Journals::chosen))]
-pub(crate) fn number_order(bodies: &[Body], first: u32, second: u32) -> Ordering
-    ensures { result ≡ number_cmp bodies.now first second }
+#[tactic(auto, unfolding(crate::specs::Rankings::number_cmp))]
+pub(crate) fn number_order(bodies: &[Text], events: &[Event], first: u32, second: u32) -> Ordering
+    ensures { result ≡ number_cmp bodies.now events.now first second }
 {
-    let by_body = match (bodies.get(first as usize), bodies.get(second as usize)) {
-        (Some(first), Some(second)) => body_order(first, second),
-        (None, Some(_)) => Ordering::Less,
-        (Some(_), None) => Ordering::Greater,
-        (None, None) => Ordering::Equal,
+    let by_body = match event_order(events, first, second) {
+        Ordering::Equal => bytes_order(bodies, first, second),
+        order => order,
     };
     by_body.then(first.cmp(&second))
 }
 
-// By place, then by bytes.
-fn body_order(first: &Body, second: &Body) -> Ordering
-    ensures { result ≡ body_cmp first.now second.now }
+/// By the places of the events.
+pub(crate) fn event_order(events: &[Event], first: u32, second: u32) -> Ordering
+    ensures { result ≡ number_place events.now first second }
 {
-    match place_order(first, second) {
-        Ordering::Equal => first.bytes.cmp(&second.bytes),
-        order => order,
+    match (events.get(first as usize), events.get(second as usize)) {
+        (Some(first), Some(second)) => place_order(first, second),
+        (None, Some(_)) => Ordering::Less,
+        (Some(_), None) => Ordering::Greater,
+        (None, None) => Ordering::Equal,
     }
 }
 
-/// How places are ordered: by the text of the identifier, the number, the text of the digest of the event before
-/// (none first), and establishment events before interactions.
-#[tactic(auto, unfolding(journal::specs::Conflicts::place_cmp))]
-pub(crate) fn place_order(first: &Body, second: &Body) -> Ordering
-    ensures { result ≡ place_cmp first.now second.now }
+// By the bytes of the bodies.
+fn bytes_order(bodies: &[Text], first: u32, second: u32) -> Ordering
+    ensures { result ≡ slice_cmp text_cmp (listed (slice_get bodies.now first)) (listed (slice_get bodies.now second)) }
 {
-    match prefix_order(prefix_of(&first.event), prefix_of(&second.event)) {
+    match (bodies.get(first as usize), bodies.get(second as usize)) {
+        (Some(first), Some(second)) => first.as_slice().cmp(second.as_slice()),
+        (None, Some(_)) => Ordering::Less,
+        (Some(_), None) => Ordering::Greater,
+        (None, None) => Ordering::Equal,
+    }
+}
+
+// How places are ordered: by the text of the identifier, the number, the text of the digest of the event before
+// (none first), and establishment events before interactions.
+#[tactic(auto, unfolding(journal::specs::Conflicts::place_cmp))]
+fn place_order(first: &Event, second: &Event) -> Ordering
+    ensures { result ≡ event_cmp first.now second.now }
+{
+    match prefix_order(prefix_of(first), prefix_of(second)) {
         Ordering::Equal => order_in_log(first, second),
         order => order,
     }
 }
 
 // How places of one identifier are ordered.
-fn order_in_log(first: &Body, second: &Body) -> Ordering
-    ensures { result ≡ ordering_then (nat_cmp (events.sn_of first.now.event) (events.sn_of second.now.event))
-        (ordering_then (text_cmp (prior_text (events.prior_of first.now.event)) (prior_text (events.prior_of second.now.event)))
-        (nat_cmp (conflicts.sort_of first.now) (conflicts.sort_of second.now))) }
+fn order_in_log(first: &Event, second: &Event) -> Ordering
+    ensures { result ≡ ordering_then (nat_cmp (said.sn_of first.now) (said.sn_of second.now))
+        (ordering_then (text_cmp (prior_text (said.prior_of first.now)) (prior_text (said.prior_of second.now)))
+        (nat_cmp (conflicts.sort_of (of_event first.now)) (conflicts.sort_of (of_event second.now)))) }
 {
-    match sn_of(&first.event).cmp(&sn_of(&second.event)) {
-        Ordering::Equal => prior_order(prior_of(&first.event), prior_of(&second.event)).then(
-            sort_of(first).cmp(&sort_of(second)),
-        ),
+    match sn_of(first).cmp(&sn_of(second)) {
+        Ordering::Equal => prior_order(prior_of(first), prior_of(second)).then(sort_of(first).cmp(
+            &sort_of(second),
+        )),
         order => order,
     }
 }
@@ -95,12 +108,8 @@ fn digest_order(first: Digest, second: Digest) -> Ordering
 }
 
 // 0 for an establishment event, 1 for an interaction.
-fn sort_of(body: &Body) -> u8
-    ensures { result ≡ conflicts.sort_of body.now }
+fn sort_of(event: &Event) -> u8
+    ensures { result ≡ conflicts.sort_of (of_event event.now) }
 {
-    if matches!(body.event, Event::Ixn(_)) {
-        1
-    } else {
-        0
-    }
+    if matches!(event, Event::Ixn(_)) { 1 } else { 0 }
 }

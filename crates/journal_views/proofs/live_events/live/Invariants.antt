@@ -1,14 +1,15 @@
-use Rattle.std.proofs.Common.{◌≡◌, ◌<◌, length, take, All}
+use Rattle.std.proofs.Common.{◌≡◌, ◌<◌, List, length, map, take, All}
 use Rattle.std.specs.Prelude.{AllPairs}
+use Rattle.journal.specs.declared.body.Body.{Body}
 use Rattle.journal.specs.Journals.{chosen}
 use Rattle.journal.specs.Logs.{live}
-use Rattle.journal_views.specs.Rises.{Rise}
+use Rattle.journal_views.specs.Rises.{sn_at}
 use Rattle.journal_views.proofs.live_events.live.Given as goal
 
 -- what is live among those so far
 abbrev pub invariant-loop-place : goal.invariant-loop-place
 invariant-loop-place l = record {
-  live : chosen l.bodies l.numbers.items ≡ live (chosen l.bodies (take l.place l.accepted)) l.prefix;
-  held : All (λ n. n < length l.bodies) l.numbers.items;
-  rising : AllPairs (Rise l.bodies) l.numbers.items;
+  live : (held : List Body) → map (λ b. b.event) held ≡ l.events → chosen held l.numbers.items ≡ live (chosen held (take l.place l.accepted)) l.prefix;
+  held : All (λ n. n < length l.events) l.numbers.items;
+  rising : AllPairs (λ m n. sn_at l.events m < sn_at l.events n) l.numbers.items;
 }
