@@ -1,0 +1,15 @@
+pub mod Bodies
+pub mod Counts
+pub mod Verdicts
+pub mod Replies
+pub mod Candidates
+pub mod Cuts
+pub mod Entries
+pub mod Cores
+pub mod Questions
+pub mod Outcomes
+pub mod Takes
+pub mod NotedVerdicts
+pub mod Unheard
+pub mod Waits
+pub mod Rivals

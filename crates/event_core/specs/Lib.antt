@@ -1,0 +1,6 @@
+pub mod View
+pub mod Tally
+pub mod Tables
+pub mod Calls
+pub mod Inside
+pub mod Views

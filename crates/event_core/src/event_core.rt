@@ -1,0 +1,128 @@
+//! The core: its tables, and how much it took.
+ghost use Rattle.std.specs.Prelude.{◌≡◌, ◌≤◌, ◌<◌, [], All, IfSome, map, length, slice_get};
+ghost use Rattle.std.specs.Option.{option_map};
+ghost use Rattle.core_tables.specs.Hints.{IsEscrow};
+ghost use Rattle.journal.specs.Journals.{chosen};
+ghost use Rattle.event_core.specs.View.{Stands, accepted_by, state_of};
+
+use crate::tally::Tally;
+use cesr_codes::Prefix;
+use core_tables::Tables;
+use escrow::Waiting;
+use event_body::Event;
+use journal::{Journal, Mode};
+use keri_outside::Limits;
+use key_state::KeyState;
+use std::alloc::Global;
+use std::marker::Model;
+
+/// What was told, the questions that are open, and what is accepted of it.
+#[derive(Drop)]
+pub struct EventCore {
+    pub(crate) alloc: Global,
+    pub(crate) mode: Mode,
+    pub(crate) limits: Limits,
+    /// How many bodies were there from the start.
+    pub(crate) base: u32,
+    pub(crate) tables: Tables,
+    pub(crate) tally: Tally,
+}
+
+impl Model for EventCore {
+    ghost use Rattle.event_core.specs.View.{CoreView};
+    ghost use Rattle.event_core.specs.Inside.{core_of, is_core};
+    ghost use Rattle.json_tree.specs.contracts.tree.Tree as tree;
+    ghost use Rattle.std.specs.Coded.{codes};
+
+    ghost Value = { CoreView };
+
+    ghost coded = { Prim.hlevel (codes, tree.the_row.coded) };
+
+    ghost view = { λ c. core_of c };
+
+    ghost invariant = { λ c. is_core c };
+}
+
+impl EventCore {
+    /// A core that was told nothing.
+    pub fn new(alloc: Global, mode: Mode, limits: Limits) -> EventCore
+        ensures { result ≡ record { mode = mode; limits = limits; base = 0; held = []; entries = []; accepted = [] } }
+    {
+        EventCore {
+            alloc,
+            mode,
+            limits,
+            base: 0,
+            tables: Tables::new(alloc),
+            tally: Tally {
+                messages: 0,
+                body_bytes: 0,
+                signatures: 0,
+            },
+        }
+    }
+
+    /// The journal: what was told. It takes no memory.
+    pub fn journal(&self) -> &Journal
+        ensures bodies { result.now.bodies ≡ map (λ b. b.bytes) self.now.held }
+        ensures entries { result.now.entries ≡ self.now.entries }
+        ensures stands { Stands self.now }
+    {
+        self.tables.journal()
+    }
+
+    /// The journal, for which the core is given up. It takes no memory.
+    pub fn into_journal(self) -> Journal
+        ensures bodies { result.bodies ≡ map (λ b. b.bytes) self.held }
+        ensures entries { result.entries ≡ self.entries }
+        ensures stands { Stands self }
+    {
+        let EventCore { tables, .. } = self;
+        tables.into_journal()
+    }
+
+    /// How many bodies there are. It takes no memory.
+    pub fn len(&self) -> usize
+        ensures { result ≡ length self.now.held }
+    {
+        self.tables.len()
+    }
+
+    /// The body of a number. It takes no memory.
+    pub fn body(&self, number: u32) -> Option<&[u8]>
+        ensures body { option_map (λ bytes. bytes.now) result ≡ option_map (λ b. b.bytes) (slice_get self.now.held number) }
+        ensures few { IfSome result (λ bytes. length bytes.now ≤ 65535) }
+    {
+        self.tables.body(number)
+    }
+
+    /// The event of the body of a number. It takes no memory.
+    pub fn event(&self, number: u32) -> Option<&Event>
+        ensures { option_map (λ event. event.now) result ≡ option_map (λ b. b.event) (slice_get self.now.held number) }
+    {
+        self.tables.event(number)
+    }
+
+    /// The numbers of the accepted bodies, in order of acceptance. It takes no memory.
+    pub fn accepted(&self) -> &[u32]
+        ensures numbers { result.now ≡ self.now.accepted }
+        ensures held { All (λ n. n < length self.now.held) result.now }
+        ensures accepted { chosen self.now.held result.now ≡ accepted_by self.now }
+    {
+        self.tables.log().numbers()
+    }
+
+    /// The state of an identifier, where it has an accepted event. It takes no memory.
+    pub fn state(&self, prefix: &Prefix) -> Option<&KeyState>
+        ensures { option_map (λ state. state.now) result ≡ state_of self.now prefix.now }
+    {
+        self.tables.log().current(prefix)
+    }
+
+    /// The events that aren't accepted, each with the number of its body. It takes no memory.
+    pub fn waiting(&self) -> &Waiting
+        ensures { IsEscrow result.now self.now.held self.now.accepted }
+    {
+        self.tables.waiting()
+    }
+}
