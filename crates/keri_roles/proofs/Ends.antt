@@ -94,6 +94,7 @@ far_by says verifier_faults limits left_old left_new first new is_full limits_ar
   only = o.stands.only;
   mode_is = o.follows.mode ∙ is_full;
   limits_are = o.follows.limits ∙ limits_are;
+  no_base = o.no_base;
   same_says = o.same_says;
 }
 
@@ -134,6 +135,7 @@ module _ {V : Type 0} (says : V → Key → List ℕ → Sig → Option Bool) (v
     asked = asked;
     mode_is = o.follows.mode ∙ is_full;
     limits_are = o.follows.limits ∙ limits_are;
+    no_base = o.no_base;
     same_says = o.same_says;
   }
 

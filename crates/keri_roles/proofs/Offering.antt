@@ -28,9 +28,9 @@ use Rattle.journal.specs.Accepted.{accepted}
 use Rattle.journal.specs.History.{bodies}
 use Rattle.journal.specs.Journals.{told_by}
 use Rattle.journal.specs.Questions.{questions, raised}
-use Rattle.validator_core.specs.View.{CoreView, Follows, TakesMessage, told_of, open_of}
+use Rattle.validator_core.specs.View.{CoreView, Follows, TakesMessage, base_of, told_of, open_of}
 use Rattle.keri_roles.specs.declared.validating.Validating.{Validating}
-use Rattle.keri_roles.proofs.Questions.{asks_nothing}
+use Rattle.keri_roles.proofs.Questions.{asks_nothing, follows_itself, follows_on, no_bodies}
 use Rattle.keri_roles.specs.declared.close.Close.{Close}
 use Rattle.keri_roles.specs.declared.close.Close.TheVariants.{End, Bad, ReadFault, VerifierFault, Full as FullClose, OutOfMemory}
 use Rattle.keri_roles.specs.Asking.{Asks, IsVerdict, StopsAsking}
@@ -48,22 +48,22 @@ pub record IsOffered (told told' : List Told) (m : Message) (gives : Result Even
   pub behind : told' ≡ told ++ entry_unless (refusal m gives) 0 m gives
   pub noted : refused_as m.place reply ≡ noted_at m.place (refusal m gives)
 
-module _ (limits : Limits) (told told' : List Told) (m : Message) where
-  replies : (b : Body) (claims : List Claim) → (reply_to limits [] told b claims ≡ Full)
-      ⊎ ((reply_to limits [] told b claims ≡ Again) ⊎ (reply_to limits [] told b claims ≡ Taken))
+module _ (limits : Limits) (base : List Body) (told told' : List Told) (m : Message) where
+  replies : (b : Body) (claims : List Claim) → (reply_to limits base told b claims ≡ Full)
+      ⊎ ((reply_to limits base told b claims ≡ Again) ⊎ (reply_to limits base told b claims ≡ Taken))
   unfolding reply_to
-  replies b claims = elim (cases_Bool (is_full limits [] told b claims)) [
+  replies b claims = elim (cases_Bool (is_full limits base told b claims)) [
     | inl k ↦ inl (rw k refl)
-    | inr k ↦ elim (cases_Bool (is_again [] told b claims)) [ inl l ↦ inr (inl (rw (k, l) refl)) | inr l ↦ inr (inr (rw (k, l) refl)) ]
+    | inr k ↦ elim (cases_Bool (is_again base told b claims)) [ inl l ↦ inr (inl (rw (k, l) refl)) | inr l ↦ inr (inr (rw (k, l) refl)) ]
   ]
 
-  event_offered : (e : Event) (reply : Reply) (r : Option Reason) → refusal m (Ok e) ≡ r → Takes limits [] told 0 m (Ok e) reply told' → reply ≢ Full
+  event_offered : (e : Event) (reply : Reply) (r : Option Reason) → refusal m (Ok e) ≡ r → Takes limits base told 0 m (Ok e) reply told' → reply ≢ Full
       → IsOffered told told' m (Ok e) reply
   event_offered e reply (Some reason) is takes roomy =
       let same : reply ≡ Refused reason = rw is at takes.0 in
       record { behind = rw is (rw same at takes.1 ∙ sym (append-nil told)); noted = rw (same, is) refl }
   event_offered e reply None is takes roomy =
-      let same : reply ≡ reply_to limits [] told (record { bytes = m.body; event = e }) (claims_of m) = rw is at takes.0 in
+      let same : reply ≡ reply_to limits base told (record { bytes = m.body; event = e }) (claims_of m) = rw is at takes.0 in
       elim (replies (record { bytes = m.body; event = e }) (claims_of m)) [
         | inl full ↦ absurd (roomy (same ∙ full))
         | inr rest ↦ elim rest [
@@ -73,7 +73,7 @@ module _ (limits : Limits) (told told' : List Told) (m : Message) where
       ]
 
   fault_offered : (fault : BodyFault) (reply : Reply) (r : Option Reason) → refusal m (Err fault) ≡ r
-      → Takes limits [] told 0 m (Err fault) reply told' → IsOffered told told' m (Err fault) reply
+      → Takes limits base told 0 m (Err fault) reply told' → IsOffered told told' m (Err fault) reply
   fault_offered fault reply None is takes = let none : Some reply ≡ None = rw is at takes.0 in cc
   fault_offered fault reply (Some reason) is takes =
       let some : Some reply ≡ Some (Refused reason) = rw is at takes.0 in
@@ -81,16 +81,16 @@ module _ (limits : Limits) (told told' : List Told) (m : Message) where
       record { behind = rw is (takes.1 ∙ sym (append-nil told)); noted = rw (same, is) refl }
 
   -- a message for which there is room has its entry, or is noted as refused
-  pub offered : (gives : Result Event BodyFault) (reply : Reply) → Takes limits [] told 0 m gives reply told' → reply ≢ Full
+  pub offered : (gives : Result Event BodyFault) (reply : Reply) → Takes limits base told 0 m gives reply told' → reply ≢ Full
       → IsOffered told told' m gives reply
   offered (Ok e) reply takes roomy = event_offered e reply (refusal m (Ok e)) refl takes roomy
   offered (Err fault) reply takes roomy = fault_offered fault reply (refusal m (Err fault)) refl takes
 
   -- one for which there is none changes nothing
-  pub turned_away : (gives : Result Event BodyFault) → GivesBody m.body gives → Takes limits [] told 0 m gives Full told' → (told' ≡ told)
+  pub turned_away : base ≡ [] → (gives : Result Event BodyFault) → GivesBody m.body gives → Takes limits base told 0 m gives Full told' → (told' ≡ told)
       × IsTurnedAway limits told m
-  turned_away (Ok e) judged takes = (takes.1, record { gives = Ok e; judged = judged; full = (takes.0, refl) })
-  turned_away (Err fault) judged takes = (takes.1, record { gives = Err fault; judged = judged; full = (takes.0, refl) })
+  turned_away none (Ok e) judged takes = (takes.1, record { gives = Ok e; judged = judged; full = (rw none at takes.0, refl) })
+  turned_away none (Err fault) judged takes = (takes.1, record { gives = Err fault; judged = judged; full = (takes.0, refl) })
 
 -- the entry of a message is the first reader's, and no verdict
 entry_taken : (r : Option Reason) (m : Message) (gives : Result Event BodyFault) → filter (is_taken_by 0) (entry_unless r 0 m gives) ≡ entry_unless r 0 m gives
@@ -153,7 +153,7 @@ module _ (says : Key → List ℕ → Sig → Option Bool) (told : List Told) (r
 -- a message that is refused tells nothing
 pub refused_told : (old new : CoreView) (m : Message) (reason : Reason) → TakesMessage old 0 m (Refused reason) new → told_of new ≡ told_of old
 refused_told old new m reason takes =
-    let was = offered old.limits (told_of old) (told_of new) m takes.gives (Refused reason) takes.takes (λ e. cc) in
+    let was = offered old.limits (base_of old) (told_of old) (told_of new) m takes.gives (Refused reason) takes.takes (λ e. cc) in
     was.behind ∙ (ap (λ ts. told_of old ++ ts) (none_told (refusal m takes.gives) was.noted) ∙ append-nil (told_of old))
   where
     none_told : (r : Option Reason) → refused_as m.place (Refused reason) ≡ noted_at m.place r → entry_unless r 0 m takes.gives ≡ []
@@ -161,7 +161,7 @@ refused_told old new m reason takes =
     none_told (Some other) e = refl
 
 -- nothing is told at first
-pub told_nothing : (core : CoreView) (limits : Limits) → core ≡ record { mode = mode.Full; limits = limits; held = []; entries = []; accepted = [] }
+pub told_nothing : (core : CoreView) (limits : Limits) → core ≡ record { mode = mode.Full; limits = limits; base = 0; held = []; entries = []; accepted = [] }
     → told_of core ≡ []
 unfolding told_by
 told_nothing core limits e = ap told_of e
@@ -173,7 +173,7 @@ asked_nothing = refl
 module _ {V : Type 0} (says : V → Key → List ℕ → Sig → Option Bool) (faults : V → ℕ) where
   -- a core that was told nothing, and a reader that refused nothing
   pub begins : (limits : Limits) (first : Validating V) → first.core ≡ record
-      { mode = mode.Full; limits = limits; held = []; entries = []; accepted = [] } → first.refused.items ≡ []
+      { mode = mode.Full; limits = limits; base = 0; held = []; entries = []; accepted = [] } → first.refused.items ≡ []
       → HasTaken says faults first first []
   begins limits first core none = record {
     offers = record {
@@ -187,7 +187,8 @@ module _ {V : Type 0} (says : V → Key → List ℕ → Sig → Option Bool) (f
         only = rw (told_nothing first.core limits core) (All-nil _);
       };
       same_says = refl;
-      follows = record { mode = refl; limits = refl };
+      no_base = ap (λ c. c.base) core;
+      follows = follows_itself first.core;
     };
     none_open = ap open_of core ∙ asked_nothing;
     none_failed = refl;
@@ -201,7 +202,7 @@ module _ {V : Type 0} (says : V → Key → List ℕ → Sig → Option Bool) (f
     offers_more core reply takes roomy asks noted same =
         let o = t.offers in
         let j : Judged = record { message = m; gives = takes.gives } in
-        let was = offered old.core.limits (told_of old.core) (told_of core) m takes.gives reply takes.takes roomy in
+        let was = offered old.core.limits (base_of old.core) (told_of old.core) (told_of core) m takes.gives reply takes.takes roomy in
         let more = stands_more (says first.verifier) (told_of old.core) old.refused.items o.offered o.stands (told_of core) new.refused.items j
         takes.judged was.behind (rw was.noted at noted) in
         record {
@@ -210,10 +211,8 @@ module _ {V : Type 0} (says : V → Key → List ℕ → Sig → Option Bool) (f
           stands = stands_asked (says first.verifier) (told_of core) new.refused.items (o.offered ++ j ∷ []) more (told_of new.core) asks.verdicts
               asks.behind (rw o.same_says at asks.each);
           same_says = same ∙ o.same_says;
-          follows = record {
-            mode = asks.follows.mode ∙ (takes.follows.mode ∙ o.follows.mode);
-            limits = asks.follows.limits ∙ (takes.follows.limits ∙ o.follows.limits);
-          };
+          no_base = asks.follows.base ∙ (takes.follows.base ∙ o.no_base);
+          follows = follows_on o.follows (follows_on takes.follows asks.follows);
         }
 
   -- a message was refused, and nothing else has changed
@@ -223,7 +222,7 @@ module _ {V : Type 0} (says : V → Key → List ℕ → Sig → Option Bool) (f
   refused_on old new m reason takes same (Err e) noted = tt
   refused_on old new m reason takes same (Ok done) noted = λ first before t. record {
     offers = offers_more first old new before m t new.core (Refused reason) takes (λ e. cc) (asks_nothing (says old.verifier) new.core) noted (ap says same);
-    none_open = rw (takes.follows.mode, refused_told old.core new.core m reason takes) t.none_open;
+    none_open = rw (takes.follows.mode, takes.follows.bodies, refused_told old.core new.core m reason takes) t.none_open;
     none_failed = ap faults same ∙ t.none_failed;
   }
 
@@ -243,7 +242,8 @@ module _ {V : Type 0} (says : V → Key → List ℕ → Sig → Option Bool) (f
           messages_are = o.messages_are;
           stands = rw (told, refused) o.stands;
           same_says = ap says same ∙ o.same_says;
-          follows = record { mode = follows.mode ∙ o.follows.mode; limits = follows.limits ∙ o.follows.limits };
+          no_base = follows.base ∙ o.no_base;
+          follows = follows_on o.follows follows;
         });
       }
 

@@ -8,13 +8,13 @@ use Rattle.journal.specs.History.{Told, took, heard}
 use Rattle.journal.specs.Journals.{Names}
 use Rattle.journal.specs.declared.body.Body.{Body}
 use Rattle.journal.specs.Questions.{next_question}
-use Rattle.validator_core.specs.View.{CoreView, Follows, told_of}
+use Rattle.validator_core.specs.View.{CoreView, Follows, base_of, told_of}
 use Rattle.keri_roles.specs.declared.close.Close.{Close}
 use Rattle.keri_roles.specs.declared.close.Close.TheVariants.{End, Bad, ReadFault, VerifierFault, Full, OutOfMemory}
 
 -- the question is open
 abbrev pub IsOpen : CoreView → Question → Type 0
-IsOpen core q = Names core.held (Some q) (next_question core.mode [] (told_of core) 0)
+IsOpen core q = Names core.held (Some q) (next_question core.mode (base_of core) (told_of core) 0)
 
 -- the verdict is what is said of the question's key, body and signature, where its body is held
 abbrev pub IsSaid : (Key → List ℕ → Sig → Option Bool) → CoreView → Question → Bool → Type 0

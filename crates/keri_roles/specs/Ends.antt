@@ -76,6 +76,7 @@ module _ {V : Type 0} (says : V → Key → List ℕ → Sig → Option Bool) (v
     pub asked : (open_of now.core ≡ []) ⊎ Rose 0 (verifier_faults now.verifier)
     pub mode_is : now.core.mode ≡ mode.Full
     pub limits_are : now.core.limits ≡ limits
+    pub no_base : now.core.base ≡ 0
     pub same_says : says now.verifier ≡ says verifier
 
   -- The same as far as is said where there was no memory: the first messages of bytes that the source gave were offered.
@@ -88,4 +89,5 @@ module _ {V : Type 0} (says : V → Key → List ℕ → Sig → Option Bool) (v
     pub only : All (λ t. reader_of t < 1) (told_of now.core)
     pub mode_is : now.core.mode ≡ mode.Full
     pub limits_are : now.core.limits ≡ limits
+    pub no_base : now.core.base ≡ 0
     pub same_says : says now.verifier ≡ says verifier

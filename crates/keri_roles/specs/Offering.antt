@@ -36,12 +36,13 @@ pub record IsTurnedAway (limits : Limits) (told : List Told) (m : Message) : Typ
   pub full : Takes limits [] told 0 m gives FullReply told
 
 module _ {V : Type 0} (says : V → Key → List ℕ → Sig → Option Bool) (faults : V → ℕ) where
-  -- Since it had the first of these values these messages were offered.
+  -- Since it had the first of these values these messages were offered, to a core that began with nothing.
   pub record Offers (first now : Validating V) (messages : List Message) : Type 0 where
     pub offered : List Judged
     pub messages_are : map (λ j. j.message) offered ≡ messages
     pub stands : Stands (says first.verifier) (told_of now.core) now.refused.items offered
     pub same_says : says now.verifier ≡ says first.verifier
+    pub no_base : now.core.base ≡ 0
     pub follows : Follows first.core now.core
 
   -- They were offered, no question is open, and the verifier hasn't failed.

@@ -1,6 +1,6 @@
 //! Asking the open questions.
-ghost use Rattle.std.specs.Prelude.{◌≡◌, ◌+◌, [], length, IfOk, IfErr, OnOk, OnErr};
-ghost use Rattle.validator_core.specs.View.{open_of};
+ghost use Rattle.std.specs.Prelude.{◌≡◌, ◌<◌, [], IfOk, IfErr, OnOk, OnErr};
+ghost use Rattle.validator_core.specs.View.{open_of, unheard_of};
 ghost use Rattle.keri_roles.specs.Asking.{Asks, IsOpen, IsSaid, Notes, StopsAsking};
 
 use crate::Close;
@@ -9,7 +9,7 @@ use keri_outside::{Failed, Steps, Verifier};
 use std::alloc::AllocError;
 use validator_core::Core;
 
-/// Asks the verifier each open question and notes its verdict, until none is open.
+/// Asks the verifier each open question and notes its verdict, until none is open. A verdict may open further questions.
 pub(crate) fn ask_open<V: Verifier>(
     core: &mut Core,
     verifier: &mut V,
@@ -48,7 +48,7 @@ fn verdict<V: Verifier>(core: &Core, verifier: &mut V, question: &Question) -> R
 // Notes the verdict on an open question, which is open no more.
 fn note(core: &mut Core, question: &Question, yes: bool, steps: &mut Steps) -> Result<(), Close>
     requires { IsOpen core.old question.now }
-    ensures fewer { OnOk result (length (open_of core.new) + 1 ≡ length (open_of core.old)) }
+    ensures fewer { OnOk result (unheard_of core.new < unheard_of core.old) }
     ensures noted { OnOk result (Notes core.old question.now yes core.new) }
     ensures err { OnErr result (core.new ≡ core.old) }
     ensures stops { IfErr result (λ close. close ≡ Close.OutOfMemory) }

@@ -40,7 +40,7 @@ impl<V: Verifier + Drop> Validating<V> {
 
     /// A core that was told nothing, in the mode of a validator.
     pub(crate) fn new(alloc: Global, limits: Limits, verifier: V) -> Validating<V>
-        ensures core { result.core ≡ record { mode = Mode.Full; limits = limits; held = []; entries = []; accepted = [] } }
+        ensures core { result.core ≡ record { mode = Mode.Full; limits = limits; base = 0; held = []; entries = []; accepted = [] } }
         ensures verifier { result.verifier ≡ verifier }
         ensures begins { HasTaken V.says V.faults result result [] }
     {

@@ -1,14 +1,13 @@
 //! Why messages are refused.
-ghost use Rattle.std.specs.Prelude.{◌≡◌, true, false, not, None, IfOk};
+ghost use Rattle.std.specs.Prelude.{◌≡◌, true, false, not, IfOk};
 ghost use Rattle.event_body.specs.Events as events;
 ghost use Rattle.validator_core.specs.Messages.{JudgesMessage, first_refusal};
-ghost use Rattle.journal.specs.Narrow.{narrow_fault};
 ghost use Rattle.journal.specs.Replies as replies;
 ghost use Rattle.std.specs.List.{list_any, list_all};
 
 use cesr_stream::{Group, Message};
-use event_body::{Event, ReadBody, read_body};
-use journal::{Reason, narrow_fault};
+use event_body::{Event, ReadBody, is_receipt, read_body};
+use journal::Reason;
 use std::alloc::{AllocError, Global};
 
 /// The event of a message's body, or why the message is refused.
@@ -31,14 +30,11 @@ pub(crate) fn judge_message(
 
 // Why a message with this event is refused, where it is.
 fn refusal_of(message: &Message, event: &Event) -> Option<Reason>
-    ensures { result ≡ first_refusal message.now.excess (narrow_fault event.now) (events.is_receipt event.now) message.now.groups }
+    ensures { result ≡ first_refusal message.now.excess (events.is_receipt event.now) message.now.groups }
 {
     let groups = message.groups.as_slice();
     if message.excess {
         return Some(Reason::TooManySigs);
-    }
-    if let Some(fault) = narrow_fault(event) {
-        return Some(Reason::Body(fault));
     }
     if is_receipt(event) {
         receipt_refusal(groups)
@@ -51,7 +47,7 @@ fn refusal_of(message: &Message, event: &Event) -> Option<Reason>
 
 // Why a receipt with these groups is refused, where it is.
 fn receipt_refusal(groups: &[Group]) -> Option<Reason>
-    ensures { result ≡ first_refusal false None true groups.now }
+    ensures { result ≡ first_refusal false true groups.now }
 {
     if any_held_group(groups) {
         Some(Reason::WrongGroup)
@@ -60,13 +56,6 @@ fn receipt_refusal(groups: &[Group]) -> Option<Reason>
     } else {
         Some(Reason::DigestOnly)
     }
-}
-
-/// Whether the event is a receipt.
-pub(crate) fn is_receipt(event: &Event) -> bool
-    ensures { result ≡ events.is_receipt event.now }
-{
-    matches!(event, Event::Rct(_))
 }
 
 fn any_held_group(groups: &[Group]) -> bool

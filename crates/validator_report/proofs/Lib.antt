@@ -2,4 +2,3 @@ pub mod Ordered
 pub mod Prefixes
 pub mod Listing
 pub mod Held
-pub mod Alone

@@ -1,2 +1,4 @@
 pub mod Report
+pub mod Parts
+pub mod Logs
 pub mod Rows

@@ -1,5 +1,5 @@
 -- The report of a core: the events that it accepted, the state of each identifier, and the events that wait.
-use Rattle.std.specs.Prelude.{◌≡◌, ℕ, List, [], ◌++◌, length, map, filter, flat_map, Option, Some, None, is_some, if◌then◌else◌}
+use Rattle.std.specs.Prelude.{◌≡◌, ◌==◌, ℕ, List, [], ◌++◌, length, map, filter, flat_map, slice_get, Option, Some, None, is_some, if◌then◌else◌}
 use Rattle.std.specs.declared.cmp.Ordering.{Ordering}
 use Rattle.std.specs.Ordering.{nat_cmp, ordering_then}
 use Rattle.std.specs.Cmp.Lexicographic.{slice_cmp}
@@ -47,6 +47,14 @@ prefixes_of log = distinct same_prefix (map (λ b. prefix_of b.event) log)
 abbrev pub standing_in : List Body → Body → Standing
 standing_in live_events b = if is_in live_events b then Live else Superseded
 
+-- the standing of a number, where so many of the live ones come before it
+abbrev pub standing_at : List ℕ → ℕ → ℕ → Standing
+standing_at live passed n = of (slice_get live passed)
+  where
+    of : Option ℕ → Standing
+    of None = Superseded
+    of (Some m) = if m == n then Live else Superseded
+
 -- the line of a state, where there is one, with its head's number and digest
 abbrev pub state_lines : Option State → List ℕ
 state_lines None = []
@@ -57,10 +65,17 @@ state_lines (Some s) = of (head_said s)
     of (Some said) = state_text s.prefix (head_sn s) said
         (record { keys = length s.keys; witnesses = length s.list; toad = s.toad })
 
+-- the accepted events of an identifier, in order of acceptance
+abbrev pub own_of : Prefix → List Body → List Body
+own_of prefix log = filter (is_of prefix) log
+
+-- the lines of accepted events, of which some are live
+abbrev pub events_lines : List Body → List Body → List ℕ
+events_lines live_events events = flat_map (λ b. accepted_text b.event (standing_in live_events b)) events
+
 -- the lines of an identifier: its accepted events, in order of acceptance, and then its state
 abbrev pub log_lines : List Body → Prefix → List ℕ
-log_lines log prefix = flat_map (λ b. accepted_text b.event (standing_in (live log prefix) b)) (filter (is_of prefix) log)
-    ++ state_lines (state log prefix)
+log_lines log prefix = events_lines (live log prefix) (own_of prefix log) ++ state_lines (state log prefix)
 
 -- why a body waits, where it does
 abbrev pub reason_of : CoreView → Body → Option Why

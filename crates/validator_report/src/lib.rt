@@ -2,6 +2,7 @@
 #![tactic(auto)]
 
 mod accepted;
+mod logs;
 mod row;
 mod rows;
 mod standing;

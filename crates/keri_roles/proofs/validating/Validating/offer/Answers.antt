@@ -50,13 +50,13 @@ returns-in-Ok-Again-clause-err g c =
 pub returns-in-Ok-Refused-clause-ok : goal.returns-in-Ok-Refused-clause-ok
 returns-in-Ok-Refused-clause-ok g c =
     refused_on g.V.Verifier.says g.V.Verifier.faults c.args.self.now
-    (record { core = c.take.new.self; verifier = c.args.self.now.verifier; refused = c.note.new.refused; steps = c.take.new._steps })
+    (record { core = c.take.new.self; verifier = c.args.self.now.verifier; refused = c.note.new.refused; steps = c.take.new.steps })
     c.args.message.now c.in-Ok-Refused.reason
     (rw c.in-Ok-Refused.field-0-is at c.in-Ok-Refused.ensures.takes) refl c.note.result c.note.ensures.ok
 
 pub returns-in-Ok-Refused-clause-err : goal.returns-in-Ok-Refused-clause-err
 returns-in-Ok-Refused-clause-err g c =
     unnoted_on g.V.Verifier.says g.V.Verifier.faults c.args.self.now
-    (record { core = c.take.new.self; verifier = c.args.self.now.verifier; refused = c.note.new.refused; steps = c.take.new._steps })
+    (record { core = c.take.new.self; verifier = c.args.self.now.verifier; refused = c.note.new.refused; steps = c.take.new.steps })
     c.args.message.now c.in-Ok-Refused.reason
     (rw c.in-Ok-Refused.field-0-is at c.in-Ok-Refused.ensures.takes) refl c.note.result c.note.ensures.err c.note.ensures.kept
