@@ -13,3 +13,4 @@ pub mod NotedVerdicts
 pub mod Unheard
 pub mod Waits
 pub mod Rivals
+pub mod Bases

@@ -4,3 +4,4 @@ pub mod Tables
 pub mod Calls
 pub mod Inside
 pub mod Views
+pub mod Resumed

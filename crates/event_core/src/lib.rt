@@ -4,6 +4,7 @@
 mod answered;
 mod came;
 mod event_core;
+mod resumed;
 mod taken;
 mod tally;
 mod views;
