@@ -3,16 +3,17 @@ ghost use Rattle.std.specs.Prelude.{◌≡◌, ◌≤◌, ◌<◌, [], All, IfSo
 ghost use Rattle.std.specs.Option.{option_map};
 ghost use Rattle.core_tables.specs.Hints.{IsEscrow};
 ghost use Rattle.journal.specs.Journals.{chosen};
-ghost use Rattle.event_core.specs.View.{Stands, accepted_by, state_of};
+ghost use Rattle.event_core.specs.View.{Stands, accepted_by, state_of, waits_for};
 
 use crate::tally::Tally;
 use cesr_codes::Prefix;
 use core_tables::Tables;
 use escrow::Waiting;
 use event_body::Event;
-use journal::{Journal, Mode};
+use journal::{Journal, Mode, Why};
 use keri_outside::Limits;
 use key_state::KeyState;
+use readiness::why_waits;
 use std::alloc::Global;
 use std::marker::Model;
 
@@ -124,5 +125,12 @@ impl EventCore {
         ensures { IsEscrow result.now self.now.held self.now.accepted }
     {
         self.tables.waiting()
+    }
+
+    /// Why the event of a number isn't accepted; none where it is, or where the number is no event's. It takes no memory.
+    pub fn why_waits(&self, body: u32) -> Option<Why>
+        ensures { result ≡ waits_for self.now body }
+    {
+        why_waits(&self.tables, self.mode, body)
     }
 }

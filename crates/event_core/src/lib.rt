@@ -7,6 +7,5 @@ mod event_core;
 mod taken;
 mod tally;
 mod views;
-mod waiting;
 
 pub use event_core::EventCore;
