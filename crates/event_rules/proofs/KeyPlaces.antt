@@ -1,10 +1,8 @@
 -- Witnesses by their places in a list.
-use Rattle.std.proofs.Common.{◌≡◌, ℕ, zero, suc, ◌+◌, ◌<◌, ◌≤◌, Bool, true, not, ◌||◌, ◌&&◌, List, [], ◌∷◌, ◌++◌, Option, Some, None, refl, ◌∙◌, ap, arith, inl, inr, length, add-one}
-use Rattle.std.specs.Prelude.{filter, slice_get, take}
+use Rattle.std.proofs.Common.{◌≡◌, ℕ, zero, suc, ◌+◌, ◌≤◌, Bool, true, not, ◌&&◌, List, [], ◌∷◌, refl, ◌∙◌, ap, arith, inl, inr, length}
+use Rattle.std.specs.Prelude.{filter, slice_get}
 use Rattle.std.proofs.lemmas.Bool.{and_parts, cases_Bool, or_left, or_right, not-true}
-use Rattle.std.proofs.Math.Bool.{or-false}
 use Rattle.std.proofs.lemmas.List.{length-append}
-use Rattle.std.proofs.lemmas.List.Folds.{list_any-append}
 use Rattle.cesr_codes.specs.declared.key.Key.{Key}
 use Rattle.event_body.specs.declared.rotation.Rotation.{Rotation}
 use Rattle.key_state.specs.KeyStates.{changed_list}
@@ -20,28 +18,6 @@ filter_few p (k ∷ keys) = (let ih = filter_few p keys in elim (cases_Bool (p k
 -- a changed list has no more than the old one and the adds
 pub few_changed : (old : List Key) (e : Rotation) → length (changed_list old e) ≤ length old + length e.adds
 few_changed old e = (let few = filter_few (λ k. not (has_key e.cuts k)) old in omega (arith, few, length-append (filter (λ k. not (has_key e.cuts k)) old) e.adds))
-
--- the first so many, and one more
-first_more : (keys : List Key) (n : ℕ) (key : Key) → slice_get keys n ≡ Some key → take (n + 1) keys ≡ take n keys ++ key ∷ []
-first_more keys n key at = ap (λ k. take k keys) (add-one n) ∙ next keys n at
-  where
-    next : (keys : List Key) (n : ℕ) → slice_get keys n ≡ Some key → take (suc n) keys ≡ take n keys ++ key ∷ []
-    next [] n at = cc
-    next (k ∷ keys) zero at = let same : k ≡ key = cc in ap (λ k. k ∷ []) same
-    next (k ∷ keys) (suc n) at = ap (λ ks. k ∷ ks) (next keys n at)
-
--- there is one at each place within
-never : (keys : List Key) (n : ℕ) → slice_get keys n ≡ None → n < length keys → ⊥
-never [] n at inside = absurd (omega (arith, inside))
-never (k ∷ keys) zero at inside = cc
-never (k ∷ keys) (suc n) at inside = never keys n at (omega (arith, inside))
-
--- a key is among the first so many and one more where it is among those, or is this one
-pub has_more : (keys : List Key) (n : ℕ) (o : Option Key) → slice_get keys n ≡ o → n < length keys → (key : Key)
-    → has_key (take (n + 1) keys) key ≡ (has_key (take n keys) key || has_this o key)
-has_more keys n None at inside key = absurd (never keys n at inside)
-has_more keys n (Some held) at inside key =
-    ap (λ ks. has_key ks key) (first_more keys n held at) ∙ list_any-append (λ l. same_key l key) (take n keys) (held ∷ []) ∙ ap (λ t. has_key (take n keys) key || t) (or-false (same_key held key))
 
 -- a key at a place is in the list
 pub has_at : (keys : List Key) (n : ℕ) (key : Key) → has_this (slice_get keys n) key ≡ true → has_key keys key ≡ true

@@ -72,27 +72,42 @@ pub(crate) fn place_count(state: Option<&KeyState>, event: &Event) -> u16
 }
 
 /// A place of the key in the event's own list. It takes no memory.
+#[tactic(auto, using(crate::proofs::KeyPlaces::few_changed, crate::proofs::ChangedPlaces::place_within))]
 pub(crate) fn place_of(state: Option<&KeyState>, event: &Event, key: &Key) -> Option<u16>
     requires { IsKept event.now }
     ensures found { IfSome result (λ place. has_this (slice_get (own_rules (option_copied state.entry) event.now).witnesses place) key.now ≡ true) }
     ensures none { IfNone result (same.has_key (own_rules (option_copied state.entry) event.now).witnesses key.now ≡ false) }
 {
-    for place in 0..place_count(state, event) {
-        if is_witness(state, event, usize::from(place), key) {
-            return Some(place);
-        }
-    }
-    None
+    let place = match event {
+        Event::Icp(event) | Event::Dip(event) => place_in(event.list.as_slice(), key)?,
+        Event::Rot(event) | Event::Drt(event) => changed_place(listed(state), event, key)?,
+        Event::Ixn(_) | Event::Rct(_) => place_in(listed(state), key)?,
+    };
+    Some(place as u16)
 }
 
-// Whether the witness of a number has the key.
-fn is_witness(state: Option<&KeyState>, event: &Event, number: usize, key: &Key) -> bool
-    ensures { result ≡ has_this (slice_get (own_rules (option_copied state.entry) event.now).witnesses number) key.now }
+// The first place of the key in the list.
+fn place_in(keys: &[Key], key: &Key) -> Option<usize>
+    ensures found { IfSome result (λ place. has_this (slice_get keys.now place) key.now ≡ true) }
+    ensures none { IfNone result (same.has_key keys.now key.now ≡ false) }
 {
-    match witness(state, event, number) {
-        Some(held) => held == *key,
-        None => false,
+    keys.iter().position(|held| held == key)
+}
+
+// A place of the key in the list without the cuts, with the adds behind it. It goes over each list once, and over the cuts for
+// each member of the old one.
+fn changed_place(old: &[Key], event: &Rotation, key: &Key) -> Option<usize>
+    ensures found { IfSome result (λ place. has_this (slice_get (changed_list old.now event.now) place) key.now ≡ true) }
+    ensures none { IfNone result (same.has_key (changed_list old.now event.now) key.now ≡ false) }
+{
+    let cuts = event.cuts.as_slice();
+    if !has_key(cuts, key) {
+        if let Some(place) = place_in(old, key) {
+            return Some(left_count(&old[..place], cuts));
+        }
     }
+    let place = place_in(event.adds.as_slice(), key)?;
+    Some(left_count(old, cuts) + place)
 }
 
 // The witnesses of a state, where there is one.
