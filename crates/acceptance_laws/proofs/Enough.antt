@@ -41,7 +41,7 @@ unfolding good good_sigs
 good_is told s b = ap (λ test. filter_map held_sig (filter test (claims_on told b))) (λ i c. sym (yes_is told (own_rules s b.event) b c) i)
 
 -- a threshold is met by the indices, where it is by the parts
-own_is : (told : List Told) (s : Option State) (b : Body) → AreSound (own_rules s b.event)
+pub own_is : (told : List Told) (s : Option State) (b : Body) → AreSound (own_rules s b.event)
     → satisfied (own_rules s b.event).kt (length (own_rules s b.event).keys) (map (λ g. g.index) (good_sigs told s b)) ≡ has_own (supports told s b) (own_rules s b.event)
 unfolding supports
 own_is told s b sound =
@@ -51,7 +51,7 @@ own_is told s b sound =
     ∙ sym (same_satisfied _ _ rules.kt (length rules.keys) sound.kt_read (places_are says rules (claims_on told b) (length rules.keys)))
 
 -- what opens by the signatures, opens by the parts
-next_is : (told : List Told) (s : Option State) (b : Body) (e : Event) → b.event ≡ e
+pub next_is : (told : List Told) (s : Option State) (b : Body) (e : Event) → b.event ≡ e
     → (not (is_rotation e) || meets_next s e (good_sigs told s b)) ≡ (not (is_rotation e) || has_next (supports told s b) s)
 unfolding supports exposed
 next_is told None b e is = refl

@@ -40,7 +40,7 @@ any-members p q (x ∷ xs) same =
     λ i. here i || ih i
 
 -- a yes was heard where it is the verdict
-yes_there : (told : List Told) (t : Triple) → is_yes (verdict_in told t) ≡ said_yes told t
+pub yes_there : (told : List Told) (t : Triple) → is_yes (verdict_in told t) ≡ said_yes told t
 unfolding verdict_in
 yes_there told t = elim (cases_Bool (said_yes told t)) [
   | inl k ↦ rw k refl
@@ -48,7 +48,7 @@ yes_there told t = elim (cases_Bool (said_yes told t)) [
 ]
 
 -- what has a verdict is raised
-verdict_raised : (rows : List Row) (s : Signature) → is_raised rows s ≡ false → verdict_of rows s ≡ None
+pub verdict_raised : (rows : List Row) (s : Signature) → is_raised rows s ≡ false → verdict_of rows s ≡ None
 verdict_raised [] s h = refl
 verdict_raised (r ∷ rows) s h = elim (cases_Bool (is_of s r)) [
   | inl k ↦ (let yes_too : (is_of s r || is_raised rows s) ≡ true = ap (λ y. y || is_raised rows s) k in cc)
@@ -56,7 +56,7 @@ verdict_raised (r ∷ rows) s h = elim (cases_Bool (is_of s r)) [
 ]
 
 -- two tests are equal where each follows from the other
-both_ways : (p q : Bool) → (p ≡ true → q ≡ true) → (q ≡ true → p ≡ true) → p ≡ q
+pub both_ways : (p q : Bool) → (p ≡ true → q ≡ true) → (q ≡ true → p ≡ true) → p ≡ q
 both_ways true q to from = sym (to refl)
 both_ways false true to from = from refl
 both_ways false false to from = refl

@@ -1,12 +1,7 @@
 -- What is wanting by the parts of an event is what is wanting by what was told.
-use Rattle.std.proofs.Common.{◌≡◌, ℕ, Bool, true, false, not, ◌&&◌, ◌||◌, List, [], ◌∷◌, length, map, Option, Some, None, is_none, refl, sym, ◌∙◌, ap}
-use Rattle.std.specs.Prelude.{filter}
-use Rattle.std.specs.List.{list_any}
-use Rattle.event_body.specs.declared.event.Event.{Event}
-use Rattle.event_body.specs.declared.event.Event.TheVariants.{Icp, Rot, Ixn, Dip, Drt, Rct}
+use Rattle.std.proofs.Common.{◌≡◌, Bool, true, false, not, ◌&&◌, ◌||◌, List, [], ◌∷◌, Option, is_none, refl, sym, ◌∙◌, ap}
 use Rattle.event_body.specs.Events.{prefix_of, is_rotation}
-use Rattle.sith.specs.Tests.{satisfied}
-use Rattle.key_state.specs.Exposure.{own_rules, exposed, opens, numbers_below}
+use Rattle.key_state.specs.Exposure.{own_rules}
 use Rattle.key_state.specs.KeyStates.{first_true}
 use Rattle.key_state.specs.States.{State}
 use Rattle.journal.specs.declared.body.Body.{Body}
@@ -14,48 +9,14 @@ use Rattle.journal.specs.declared.mode.Mode.{Mode}
 use Rattle.journal.specs.declared.why.Why.TheVariants.{Signatures, Next, Receipts, Seal}
 use Rattle.journal.specs.Logs.{state, takes}
 use Rattle.journal.specs.Seals.{anchored}
-use Rattle.journal.specs.History.{Told, claims_on}
-use Rattle.journal.specs.Readiness.{good_sigs, is_backed, is_local, is_ready, meets_before, meets_next, meets_own, signed}
-use Rattle.event_rules.specs.Claims.{is_held_so}
-use Rattle.event_rules.specs.Parts.{Part, says_of, opens_at, supports, has_own, has_next}
+use Rattle.journal.specs.History.{Told}
+use Rattle.journal.specs.Readiness.{is_backed, is_local, is_ready, meets_before, meets_own, signed}
+use Rattle.event_rules.specs.Parts.{Part, supports, has_own, has_next}
 use Rattle.acceptance_laws.specs.Support.{AreSound}
 use Rattle.acceptance_laws.specs.Waking.{is_waiting}
-use Rattle.acceptance_laws.proofs.Below.{same_satisfied}
-use Rattle.acceptance_laws.proofs.Enough.{enough, good_is}
-use Rattle.acceptance_laws.proofs.GoodSigs.{any_good, places_are}
+use Rattle.acceptance_laws.proofs.Enough.{enough, next_is, own_is}
 use Rattle.acceptance.proofs.Ready.{untaken}
 use Rattle.readiness.specs.Wants.{wants, wants_by}
-
--- OWN: the signing threshold is met by the indices, where it is by the parts
-own_is : (told : List Told) (s : Option State) (b : Body) → AreSound (own_rules s b.event) → meets_own told s b ≡ has_own (supports told s b) (own_rules s b.event)
-unfolding supports
-own_is told s b sound =
-    let rules = own_rules s b.event in
-    let says = says_of told b in
-    ap (λ sigs. satisfied rules.kt (length rules.keys) (map (λ g. g.index) sigs)) (good_is told s b)
-    ∙ sym (same_satisfied _ _ rules.kt (length rules.keys) sound.kt_read (places_are says rules (claims_on told b) (length rules.keys)))
-
--- NEXT: and that of the state before
-next_is : (told : List Told) (s : Option State) (b : Body) (e : Event) → b.event ≡ e
-    → (not (is_rotation e) || meets_next s e (good_sigs told s b)) ≡ (not (is_rotation e) || has_next (supports told s b) s)
-unfolding supports exposed
-next_is told None b e is = refl
-next_is told (Some s) b (Icp e) is = refl
-next_is told (Some s) b (Dip e) is = refl
-next_is told (Some s) b (Ixn e) is = refl
-next_is told (Some s) b (Rct e) is = refl
-next_is told (Some s) b (Rot e) is =
-    let rules = own_rules (Some s) b.event in
-    let each : (n : ℕ) → list_any (opens s.next e.keys n) (good_sigs told (Some s) b) ≡ list_any (is_held_so (says_of told b) rules (opens_at (Some s) b.event n)) (claims_on told b)
-    = λ n. ap (list_any (opens s.next e.keys n)) (good_is told (Some s) b) ∙ sym (any_good (says_of told b) rules (opens s.next e.keys n) (claims_on told b))
-    ∙ ap (λ f. list_any (is_held_so (says_of told b) rules (opens_at (Some s) f n)) (claims_on told b)) (sym is) in
-    ap (λ test. satisfied s.nt (length s.next) (filter test (numbers_below (length s.next)))) (λ i n. each n i)
-next_is told (Some s) b (Drt e) is =
-    let rules = own_rules (Some s) b.event in
-    let each : (n : ℕ) → list_any (opens s.next e.keys n) (good_sigs told (Some s) b) ≡ list_any (is_held_so (says_of told b) rules (opens_at (Some s) b.event n)) (claims_on told b)
-    = λ n. ap (list_any (opens s.next e.keys n)) (good_is told (Some s) b) ∙ sym (any_good (says_of told b) rules (opens s.next e.keys n) (claims_on told b))
-    ∙ ap (λ f. list_any (is_held_so (says_of told b) rules (opens_at (Some s) f n)) (claims_on told b)) (sym is) in
-    ap (λ test. satisfied s.nt (length s.next) (filter test (numbers_below (length s.next)))) (λ i n. each n i)
 
 -- WANTS
 module _ (mode : Mode) (told : List Told) (log : List Body) (b : Body) where

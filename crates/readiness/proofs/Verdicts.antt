@@ -1,15 +1,15 @@
 -- The verdicts of a table on the body of a number are those that were heard.
-use Rattle.std.proofs.Common.{◌≡◌, ℕ, suc, Bool, true, false, ◌&&◌, ◌==◌, List, [], ◌∷◌, Option, Some, None, refl, sym, ◌∙◌, ap, inl, inr, if◌then◌else◌}
+use Rattle.std.proofs.Common.{◌≡◌, ℕ, suc, Bool, true, ◌&&◌, ◌==◌, List, [], ◌∷◌, Option, Some, None, refl, sym, ◌∙◌, ap, inl, inr, if◌then◌else◌}
 use Rattle.std.specs.Prelude.{bytes_eq, flat_map, slice_get}
 use Rattle.std.specs.List.{list_any}
 use Rattle.std.specs.Cmp.Lexicographic.{bytes_decides}
-use Rattle.std.proofs.lemmas.Bool.{and_from, and_parts, cases_Bool, or_parts}
+use Rattle.std.proofs.lemmas.Bool.{and_from, and_parts, cases_Bool}
 use Rattle.cesr_codes.specs.declared.key.Key.{Key}
 use Rattle.cesr_codes.specs.declared.sig.Sig.{Sig}
 use Rattle.key_state.specs.Same.{same_key}
 use Rattle.key_state.proofs.Same.{numbers, same_key_is}
 use Rattle.journal.specs.declared.body.Body.{Body}
-use Rattle.journal.specs.History.{Told, Triple, has_verdict, said_yes, same_triple, yes_in}
+use Rattle.journal.specs.History.{Told, said_yes, same_triple, yes_in}
 use Rattle.journal.specs.Readiness.{backs}
 use Rattle.journal.proofs.Places.{any_at, found_at}
 use Rattle.journal.proofs.Same.{same_triple_is, same_triple_itself}
@@ -17,20 +17,15 @@ use Rattle.event_rules.specs.Parts.{says_of}
 use Rattle.claim_table.specs.declared.row.Row.{Row}
 use Rattle.claim_table.specs.declared.signature.Signature.{Signature}
 use Rattle.claim_table.specs.Rows.{has_yes_by, is_of, is_raised, is_yes, verdict_of}
-use Rattle.claim_laws.specs.ClaimRows.{AreClaims, triple_on, verdict_in}
+use Rattle.claim_laws.proofs.Supported.{both_ways, verdict_raised, yes_there}
+use Rattle.claim_laws.specs.ClaimRows.{AreClaims, triple_on}
 use Rattle.readiness.specs.Entries.{says_in, yes_of}
 
--- a signature that isn't raised has no verdict
-pub no_verdict : (rows : List Row) (s : Signature) → is_raised rows s ≡ false → verdict_of rows s ≡ None
-no_verdict [] s h = refl
-no_verdict (r ∷ rows) s h = let parts = or_parts (is_of s r) (is_raised rows s) h in
-    let here = parts.0 in let rest = no_verdict rows s parts.1 in rw here rest
-
--- and else the table's answer is the verdict
+-- where a signature is raised the table's answer is the verdict, and else there is none
 pub answered : (rows : List Row) (s : Signature) (o : Option (Option Bool)) → o ≡ (if is_raised rows s then Some (verdict_of rows s) else None) → yes_of o ≡ is_yes (verdict_of rows s)
 answered rows s o e = ap yes_of e ∙ elim (cases_Bool (is_raised rows s)) [
   | inl k ↦ rw k refl
-  | inr k ↦ (let none = no_verdict rows s k in rw (k, none) refl)
+  | inr k ↦ (let none = verdict_raised rows s k in rw (k, none) refl)
 ]
 
 -- a verdict of yes stands on a row of the signature
@@ -40,20 +35,6 @@ yes_at (r ∷ rows) s h = elim (cases_Bool (is_of s r)) [
   | inl k ↦ (0, r, refl, k, rw k at h)
   | inr k ↦ (let rest = yes_at rows s (rw k at h) in (suc rest.0, rest.1, rest.2, rest.3, rest.4))
 ]
-
--- a yes was heard where it is the verdict
-yes_there : (told : List Told) (t : Triple) → is_yes (verdict_in told t) ≡ said_yes told t
-unfolding verdict_in
-yes_there told t = elim (cases_Bool (said_yes told t)) [
-  | inl k ↦ rw k refl
-  | inr k ↦ elim (cases_Bool (has_verdict told t)) [ inl l ↦ rw (k, l) refl | inr l ↦ rw (k, l) refl ]
-]
-
--- two tests are equal where each follows from the other
-both_ways : (p q : Bool) → (p ≡ true → q ≡ true) → (q ≡ true → p ≡ true) → p ≡ q
-both_ways true q to from = sym (to refl)
-both_ways false true to from = from refl
-both_ways false false to from = refl
 
 module _ (told : List Told) (log held : List Body) (rows : List Row) (are : AreClaims told log held rows) (n : ℕ) (b : Body) (at : slice_get held n ≡ Some b) where
   -- VERDICTS: those of the table are those that were heard
