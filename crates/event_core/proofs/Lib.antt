@@ -5,7 +5,9 @@ pub mod Replies
 pub mod Candidates
 pub mod Cuts
 pub mod Entries
+pub mod Looks
 pub mod Cores
+pub mod CallLooks
 pub mod Questions
 pub mod Outcomes
 pub mod Takes
@@ -13,3 +15,4 @@ pub mod NotedVerdicts
 pub mod Unheard
 pub mod Waits
 pub mod Rivals
+pub mod Bases

@@ -23,8 +23,10 @@ use Rattle.keri_outside.specs.declared.limits.Limits.{Limits}
 use Rattle.told_entries.specs.Told.{signature_asked}
 use Rattle.event_core.specs.declared.tally.Tally.{Tally}
 use Rattle.event_core.specs.Calls.{TakesVerdict}
+use Rattle.event_core.specs.Looks.{LooksByVerdict}
 use Rattle.event_core.specs.Tables.{AddsVerdict, IsCore, base_in}
 use Rattle.event_core.specs.View.{unheard_of, unheard_on}
+use Rattle.event_core.proofs.CallLooks.{looks_verdict}
 use Rattle.event_core.proofs.Cores.{base_verdict, core_verdict, seen, told_verdict}
 use Rattle.event_core.proofs.Unheard.{fewer_unheard, raised_stands, stays}
 use Rattle.event_core.proofs.Verdicts.{new_is_open}
@@ -123,6 +125,10 @@ module _ (mode : Mode) (limits : Limits) (base : ℕ) (old : View) (tally : Tall
             bodies = base_verdict mode limits base old tally core new s verdict reader steps steps_then b.0 b.1 (new_is_open mode bs told (triple_on b.0 q.key q.sig) (sym (is_new b.0 b.1 up none))) adds;
           };
         }
+
+    -- and of how many events that looks
+    pub few_new : LooksByVerdict (seen mode limits base old) q New (seen mode limits base new) steps steps_then
+    few_new c at = looks_verdict mode limits base old tally core new core_answered s verdict reader steps steps_then c at (new_is_open mode bs told (triple_on c q.key q.sig) (sym (is_new c at up none))) adds
 
     -- and fewer claims have no verdict
     unheard_new : unheard_of (seen mode limits base new) ≡ sum_by (unheard_on (told ++ heard reader b.0 q.key q.sig verdict ∷ []) (log_of adds.before)) old.held

@@ -5,6 +5,7 @@ use Rattle.std.specs.List.{list_all, list_any}
 use Rattle.std.proofs.lemmas.Bool.{or_parts}
 use Rattle.acceptance.specs.Standing.{told_of}
 use Rattle.core_tables.specs.View.{View, came_with}
+use Rattle.event_body.specs.Events.{said_of}
 use Rattle.journal.specs.declared.body.Body.{Body}
 use Rattle.journal.specs.declared.claim.Claim.{Claim}
 use Rattle.journal.specs.declared.entry.Entry.TheVariants.{Took}
@@ -18,8 +19,11 @@ use Rattle.journal.proofs.Places.{any_at}
 use Rattle.keri_outside.specs.declared.limits.Limits.{Limits}
 use Rattle.event_core.specs.declared.tally.Tally.{Tally}
 use Rattle.event_core.specs.Calls.{TakesBody, told_then}
+use Rattle.event_core.specs.Looks.{LooksAtFew, LooksByReply}
 use Rattle.event_core.specs.Tables.{AddsEntry, IsCore, base_in}
 use Rattle.event_core.specs.Tally.{is_crowded, is_spent, tally_with}
+use Rattle.event_core.specs.View.{CoreView}
+use Rattle.event_core.proofs.CallLooks.{looks_again, looks_new}
 use Rattle.event_core.proofs.Cores.{base_again, base_new, core_again, core_new, seen, told_again, told_then_new}
 use Rattle.event_core.proofs.Counts.{not_crowded, not_spent}
 use Rattle.event_core.proofs.Replies.{again_is, again_new, full_again, full_new, reply_full, reply_taken}
@@ -29,6 +33,11 @@ reply_then : (limits : Limits) (base : List Body) (told : List Told) (b : Body) 
     → (if p then Again else Taken) ≡ reply_to limits base told b claims
 unfolding reply_to
 reply_then limits base told b claims p room again = rw room (ap (λ q. if q then Again else Taken) again)
+
+-- what is told is looked at alike, new or not
+by_reply : (old : CoreView) (b : Body) (new : CoreView) (steps steps_then : ℕ) → LooksAtFew old (said_of b.event) new steps steps_then → (p : Bool) → LooksByReply old b (if p then Again else Taken) new steps steps_then
+by_reply old b new steps steps_then few true = few
+by_reply old b new steps steps_then few false = few
 
 told_either : (told : List Told) (reader : ℕ) (b : Body) (claims : List Claim) (p : Bool) → told ++ took reader b claims ∷ [] ≡ told_then told reader b claims (if p then Again else Taken)
 told_either told reader b claims true = refl
@@ -65,6 +74,10 @@ module _ (mode : Mode) (limits : Limits) (base : ℕ) (old : View) (tally : Tall
         follows = record { mode = refl; limits = refl; base = refl; bodies = base_again mode limits base old tally core new number reader steps steps_then claims b at (not_spent limits tally (length claims) spent) adds };
       }
 
+      -- and of how many events that looks
+      pub few_held : (p : Bool) → LooksByReply (seen mode limits base old) b (if p then Again else Taken) (seen mode limits base new) steps steps_then
+      few_held p = by_reply (seen mode limits base old) b (seen mode limits base new) steps steps_then (looks_again mode limits base old tally core new (tally_with tally 0 (length claims)) core_held number reader steps steps_then claims b at adds) p
+
   -- NEW: a body that isn't held
   module _ (outside : is_in old.held b ≡ false) where
     beyond : is_in (bodies bs told) b ≡ false
@@ -92,3 +105,6 @@ module _ (mode : Mode) (limits : Limits) (base : ℕ) (old : View) (tally : Tall
           bodies = base_new mode limits base old tally core new reader steps steps_then claims b outside (not_spent limits tally (length claims) rooms.0) (not_crowded limits tally (length b.bytes) rooms.1) adds;
         };
       }
+
+      pub few_first : LooksByReply (seen mode limits base old) b Taken (seen mode limits base new) steps steps_then
+      few_first = looks_new mode limits base old tally core new (tally_with tally (length b.bytes) (length claims)) core_first reader steps steps_then claims b outside adds

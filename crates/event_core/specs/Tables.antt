@@ -1,11 +1,14 @@
 -- What is true of the tables of a core between two calls, and what becomes of them when an entry comes.
 use Rattle.std.specs.Prelude.{◌≡◌, ℕ, ◌≤◌, Bool, true, ◌||◌, List, length, take, slice_get, Some, None, Contains}
+use Rattle.std.specs.List.Sorted.{IsStrictlySortedBy}
+use Rattle.std.specs.Ordering.{nat_cmp}
 use Rattle.keri_outside.specs.declared.limits.Limits.{Limits}
 use Rattle.acceptance.specs.Settled.{IsSettled}
 use Rattle.acceptance.specs.Standing.{Comes, Hears, IsStanding, told_of}
 use Rattle.acceptance_laws.specs.Waking.{is_waiting}
 use Rattle.claim_table.specs.declared.signature.Signature.{Signature}
 use Rattle.core_tables.specs.View.{View, log_of, with_claims}
+use Rattle.event_body.specs.Events.{said_of}
 use Rattle.journal.specs.declared.body.Body.{Body}
 use Rattle.journal.specs.declared.entry.Entry.{Entry}
 use Rattle.journal.specs.declared.mode.Mode.{Mode}
@@ -16,6 +19,7 @@ use Rattle.journal.specs.Logs.{same_body}
 use Rattle.journal.specs.Questions.{IsRegular}
 use Rattle.journal.specs.Replies.{IsWithin}
 use Rattle.event_core.specs.declared.tally.Tally.{Tally}
+use Rattle.event_core.specs.Looks.{waits_with}
 use Rattle.event_core.specs.Tally.{IsTally}
 use Rattle.event_core.specs.View.{bytes_of}
 
@@ -41,10 +45,17 @@ abbrev pub HaveNumbers : View → ℕ → List ℕ → Type 0
 HaveNumbers v number due = (m n : ℕ) (c b : Body) → m ≡ number → slice_get v.held m ≡ Some c → slice_get v.held n ≡ Some b
     → is_waiting (log_of v) b ≡ true → (same_body c b || is_receipt_for c b) ≡ true → Contains due n
 
+-- and no others: each is the number of an event that waits with the digest that the body names, and stands there once
+pub record HaveNoOthers (v : View) (number : ℕ) (due : List ℕ) : Type 0 where
+  pub rising : IsStrictlySortedBy nat_cmp due
+  pub waits : (c : Body) (n : ℕ) → slice_get v.held number ≡ Some c → Contains due n
+      → (b : Body) × (slice_get v.held n ≡ Some b) × (waits_with (log_of v) (said_of c.event) b ≡ true)
+
 -- the tables settle from the waiting events that an entry of the body of a number names
 pub record SettlesFrom (mode : Mode) (number : ℕ) (old new : View) (steps steps_then : ℕ) : Type 0 where
   pub due : List ℕ
   pub named : HaveNumbers old number due
+  pub no_others : HaveNoOthers old number due
   pub settled : IsSettled mode due old new steps steps_then
 
 -- some bodies and an entry come, and the tables settle from what the entry names

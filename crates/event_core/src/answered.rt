@@ -8,6 +8,7 @@ ghost use Rattle.journal.specs.Journals.{Names};
 ghost use Rattle.journal.specs.Questions.{next_question};
 ghost use Rattle.told_entries.specs.Told.{signature_asked};
 ghost use Rattle.event_core.specs.Calls.{TakesVerdict, question_of};
+ghost use Rattle.event_core.specs.Looks.{LooksByVerdict};
 ghost use Rattle.event_core.specs.View.{base_of, told_of, unheard_of};
 
 use crate::EventCore;
@@ -31,7 +32,8 @@ impl EventCore {
         question_at(claims, skip as usize % count)
     }
 
-    /// Notes what the verifier of a reader says of a question.
+    /// Notes what the verifier of a reader says of a question. Of the waiting events it looks at those with the digest of the
+    /// question's body, and at those behind an event that it accepts.
     pub fn answer(
         &mut self,
         reader: u16,
@@ -41,6 +43,7 @@ impl EventCore {
     ) -> Result<Noted, AllocError>
         ensures answers { IfOk result (λ noted. TakesVerdict self.old reader question.now yes noted self.new) }
         ensures fewer { IfOk result (λ noted. noted ≡ New → unheard_of self.new < unheard_of self.old) }
+        ensures few { IfOk result (λ noted. LooksByVerdict self.old question.now noted self.new steps.old steps.new) }
         ensures err { OnErr result (self.new ≡ self.old) }
     {
         match verdict_on(&self.tables, question) {

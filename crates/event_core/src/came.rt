@@ -1,18 +1,17 @@
 //! Entries that come, with all that they make ready; after an error the tables are as before.
-ghost use Rattle.std.specs.Prelude.{◌≡◌, ◌<◌, ◌∷◌, [], ℕ, false, true, None, Contains, IfOk, OnOk, OnErr, length, slice_get, if◌then◌else◌, Some};
+ghost use Rattle.std.specs.Prelude.{◌≡◌, ◌<◌, ◌∷◌, ◌⊎◌, ◌↔◌, [], ℕ, false, true, None, Contains, IfOk, OnOk, OnErr, length};
+ghost use Rattle.std.specs.List.Sorted.{IsStrictlySortedBy};
+ghost use Rattle.std.specs.Ordering.{nat_cmp};
 ghost use Rattle.acceptance.specs.Standing.{Comes, Extends, Hears, IsHeld, IsStanding};
 ghost use Rattle.claim_table.specs.Rows.{is_raised, verdict_of};
 ghost use Rattle.core_tables.specs.View.{IsCut, body_of, rewound};
-ghost use Rattle.event_body.specs.Events as events;
-ghost use Rattle.journal.specs.declared.body.Body.{Body};
 ghost use Rattle.journal.specs.declared.entry.Entry.TheVariants.{Took};
 ghost use Rattle.journal.specs.Logs.{is_in};
 ghost use Rattle.told_entries.specs.Told.{signature_asked};
-ghost use Rattle.event_core.specs.Tables.{AddsEntry, AddsVerdict, BringsEntry, HaveNumbers, SettlesFrom};
+ghost use Rattle.event_core.specs.Tables.{AddsEntry, AddsVerdict, BringsEntry, HaveNoOthers, HaveNumbers, SettlesFrom};
 
-use cesr_codes::Digest;
 use core_tables::{Mark, Tables};
-use event_body::{Event, is_receipt, said_of_event};
+use event_body::{Event, said_of_event};
 use journal::{Claim, Mode, Question};
 use json_tree::Text;
 use keri_outside::Steps;
@@ -109,6 +108,7 @@ fn bring_again(
     steps: &mut Steps,
 ) -> Result<(), AllocError>
     requires stands { IsStanding tables.old }
+    requires left { tables.old.settled ≡ length tables.old.log.numbers }
     requires held { number < length tables.old.held }
     ensures ok { OnOk result (BringsEntry mode number [] (Took reader number claims) tables.old tables.new steps.old steps.new) }
     ensures extends { Extends tables.old tables.new }
@@ -129,6 +129,7 @@ fn bring_new(
     steps: &mut Steps,
 ) -> Result<(), AllocError>
     requires stands { IsStanding tables.old }
+    requires left { tables.old.settled ≡ length tables.old.log.numbers }
     requires held { IsHeld (body_of text event) }
     requires outside { is_in tables.old.held (body_of text event) ≡ false }
     ensures ok { OnOk result (BringsEntry mode (length tables.old.held) (body_of text event ∷ []) (Took reader (length tables.old.held) claims) tables.old tables.new steps.old steps.new) }
@@ -166,7 +167,8 @@ fn settle_from(
     number: u32,
     steps: &mut Steps,
 ) -> Result<(), AllocError>
-    requires { IsStanding tables.old }
+    requires stands { IsStanding tables.old }
+    requires left { tables.old.settled ≡ length tables.old.log.numbers }
     ensures ok { OnOk result (SettlesFrom mode number tables.old tables.new steps.old steps.new) }
     ensures extends { Extends tables.old tables.new }
 {
@@ -174,20 +176,24 @@ fn settle_from(
     settle(alloc, tables, mode, &mut due, steps)
 }
 
-// The numbers of the waiting events that an entry of the body of a number names.
+// The numbers of the waiting events with the digest that the body of a number names: its own, or of a receipt that of the
+// event it speaks of.
 fn candidates(alloc: Global, tables: &Tables, number: u32) -> Result<BTreeSet<u32>, AllocError>
-    requires { IsStanding tables.now }
-    ensures { IfOk result (λ due. HaveNumbers tables.now number due.keys) }
+    requires stands { IsStanding tables.now }
+    requires left { tables.now.settled ≡ length tables.now.log.numbers }
+    ensures named { IfOk result (λ due. HaveNumbers tables.now number due.keys) }
+    ensures no_others { IfOk result (λ due. HaveNoOthers tables.now number due.keys) }
 {
-    match receipted(tables, number) {
-        Some(said) => all_numbers(alloc, tables.waiting().named(&said)),
-        None => one_number(alloc, number),
+    match tables.event(number) {
+        Some(event) => set_of(alloc, tables.waiting().named(&said_of_event(event))),
+        None => Ok(BTreeSet::new(alloc)),
     }
 }
 
 // The set of some numbers.
-fn all_numbers(alloc: Global, numbers: &[u32]) -> Result<BTreeSet<u32>, AllocError>
-    ensures { IfOk result (λ due. (n : ℕ) → Contains numbers.now n → Contains due.keys n) }
+fn set_of(alloc: Global, numbers: &[u32]) -> Result<BTreeSet<u32>, AllocError>
+    ensures all { IfOk result (λ due. (n : ℕ) → Contains due.keys n ↔ Contains numbers.now n) }
+    ensures rising { IfOk result (λ due. IsStrictlySortedBy nat_cmp due.keys) }
 {
     let mut due = BTreeSet::new(alloc);
     for number in numbers {
@@ -196,34 +202,13 @@ fn all_numbers(alloc: Global, numbers: &[u32]) -> Result<BTreeSet<u32>, AllocErr
     Ok(due)
 }
 
-// The set of one number.
-fn one_number(alloc: Global, number: u32) -> Result<BTreeSet<u32>, AllocError>
-    ensures { IfOk result (λ due. Contains due.keys number) }
-{
-    let mut due = BTreeSet::new(alloc);
-    add_number(&mut due, number)?;
-    Ok(due)
-}
-
 // Adds a number to a set.
 fn add_number(due: &mut BTreeSet<u32>, number: u32) -> Result<(), AllocError>
-    ensures kept { (n : ℕ) → Contains due.old.keys n → Contains due.new.keys n }
-    ensures there { OnOk result (Contains due.new.keys number) }
+    ensures ok { OnOk result ((n : ℕ) → Contains due.new.keys n ↔ (Contains due.old.keys n ⊎ (number ≡ n))) }
+    ensures rising { IsStrictlySortedBy nat_cmp due.old.keys → IsStrictlySortedBy nat_cmp due.new.keys }
 {
     due.insert(number)?;
     Ok(())
-}
-
-// The digest that the receipt of a number speaks of.
-fn receipted(tables: &Tables, number: u32) -> Option<Digest>
-    ensures { (b : Body) → slice_get tables.now.held number ≡ Some b → result ≡ (if events.is_receipt b.event then Some (events.said_of b.event) else None) }
-{
-    let event = tables.event(number)?;
-    if is_receipt(event) {
-        Some(said_of_event(event))
-    } else {
-        None
-    }
 }
 
 /// A length as a number. More bodies than numbers are more than memory holds.

@@ -104,6 +104,13 @@ impl EventCore {
         self.tables.event(number)
     }
 
+    /// The events of all bodies, in order. It takes no memory.
+    pub fn events(&self) -> &[Event]
+        ensures { result.now ≡ map (λ b. b.event) self.now.held }
+    {
+        self.tables.events()
+    }
+
     /// The numbers of the accepted bodies, in order of acceptance. It takes no memory.
     pub fn accepted(&self) -> &[u32]
         ensures numbers { result.now ≡ self.now.accepted }

@@ -2,6 +2,7 @@
 #![tactic(auto)]
 
 mod answered;
+mod base;
 mod came;
 mod event_core;
 mod taken;

@@ -8,6 +8,7 @@ ghost use Rattle.journal.specs.declared.reply.Reply.TheVariants.{Again, Taken};
 ghost use Rattle.journal.specs.Logs.{is_in};
 ghost use Rattle.journal.specs.Replies.{same_claim};
 ghost use Rattle.event_core.specs.Calls.{TakesBody};
+ghost use Rattle.event_core.specs.Looks.{LooksByReply};
 
 use crate::EventCore;
 use crate::came::{add_again, add_new};
@@ -20,7 +21,8 @@ use lists::{CopyValue, Items};
 use std::alloc::AllocError;
 
 impl EventCore {
-    /// Takes a body, which spells the event, with its claims: what is said of it, by the reader of a number.
+    /// Takes a body, which spells the event, with its claims: what is said of it, by the reader of a number. Of the waiting
+    /// events it looks at those with the digest that the body names, and at those behind an event that it accepts.
     pub fn take(
         &mut self,
         reader: u16,
@@ -31,6 +33,7 @@ impl EventCore {
     ) -> Result<Reply, AllocError>
         requires held { IsHeld (body_of body.now event) }
         ensures takes { IfOk result (λ reply. TakesBody self.old reader (body_of body.now event) claims reply self.new) }
+        ensures few { IfOk result (λ reply. LooksByReply self.old (body_of body.now event) reply self.new steps.old steps.new) }
         ensures err { OnErr result (self.new ≡ self.old) }
     {
         match self.tables.number_of(body.as_slice(), &event) {
@@ -49,6 +52,7 @@ impl EventCore {
     ) -> Result<Reply, AllocError>
         requires held { number < length self.old.held }
         ensures takes { IfOk result (λ reply. (b : Body) → slice_get self.old.held number ≡ Some b → TakesBody self.old reader b claims reply self.new) }
+        ensures few { IfOk result (λ reply. (b : Body) → slice_get self.old.held number ≡ Some b → LooksByReply self.old b reply self.new steps.old steps.new) }
         ensures err { OnErr result (self.new ≡ self.old) }
     {
         let count = claims.len();
@@ -81,6 +85,7 @@ impl EventCore {
         requires held { IsHeld (body_of body.now event) }
         requires outside { is_in self.old.held (body_of body.now event) ≡ false }
         ensures takes { IfOk result (λ reply. TakesBody self.old reader (body_of body.now event) claims reply self.new) }
+        ensures few { IfOk result (λ reply. LooksByReply self.old (body_of body.now event) reply self.new steps.old steps.new) }
         ensures err { OnErr result (self.new ≡ self.old) }
     {
         let count = claims.len();

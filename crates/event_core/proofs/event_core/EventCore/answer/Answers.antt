@@ -3,7 +3,8 @@ use Rattle.claim_table.specs.Rows.{is_raised, verdict_of}
 use Rattle.journal.specs.declared.question.Noted.TheVariants.{New, Known, Unasked}
 use Rattle.told_entries.specs.Told.{signature_asked}
 use Rattle.event_core.specs.Calls.{TakesVerdict}
-use Rattle.event_core.proofs.NotedVerdicts.{core_answered, fewer, found_none, found_some, raised_held, takes_known, takes_new, takes_unasked}
+use Rattle.event_core.specs.Looks.{LooksByVerdict}
+use Rattle.event_core.proofs.NotedVerdicts.{core_answered, few_new, fewer, found_none, found_some, raised_held, takes_known, takes_new, takes_unasked}
 use Rattle.event_core.specs.View.{unheard_of}
 use Rattle.event_core.proofs.Cores.{seen}
 use Rattle.event_core.proofs.event_core.EventCore.answer.Goals as goal
@@ -56,3 +57,12 @@ returns-in_ok-add_verdict-in-Some-None-clause-fewer c = λ is_new.
     subst (λ core. unheard_of (seen i.mode i.limits i.base c.add_verdict.new.tables) < unheard_of core) c.self.view_is
     (fewer i.mode i.limits i.base i.tables i.tally c.self.invariant c.args.reader c.args.question.now c.args.yes found.0 (found.1 ∙ c.in-Some-None.field-0-is)
     c.add_verdict.new.tables _ _ c.in_ok-add_verdict-in-Some-None.ensures.ok))
+
+pub returns-in_ok-add_verdict-in-Some-None-clause-few : goal.returns-in_ok-add_verdict-in-Some-None-clause-few
+returns-in_ok-add_verdict-in-Some-None-clause-few c =
+    let i = c.self.inside in
+    let s = signature_asked c.args.question.now in
+    let found = found_some (is_raised i.tables.claims.rows s) (verdict_of i.tables.claims.rows s) _ (sym c.in-Some-None.is ∙ c.verdict_on.ensures) in
+    subst (λ core. LooksByVerdict core c.args.question.now New (seen i.mode i.limits i.base c.add_verdict.new.tables) c.args.steps.now c.add_verdict.new.steps) c.self.view_is
+    (few_new i.mode i.limits i.base i.tables i.tally c.self.invariant c.args.reader c.args.question.now c.args.yes found.0 (found.1 ∙ c.in-Some-None.field-0-is)
+    c.add_verdict.new.tables _ _ c.in_ok-add_verdict-in-Some-None.ensures.ok)

@@ -4,10 +4,11 @@ use Rattle.journal.specs.declared.body.Body.{Body}
 use Rattle.journal.specs.declared.reply.Reply.TheVariants.{Full}
 use Rattle.journal.proofs.Places.{some_at}
 use Rattle.event_core.specs.Calls.{TakesBody}
+use Rattle.event_core.specs.Looks.{LooksByReply}
 use Rattle.event_core.specs.Tables.{IsCore}
 use Rattle.event_core.specs.Tally.{tally_with}
 use Rattle.event_core.proofs.Cores.{seen}
-use Rattle.event_core.proofs.Takes.{core_held, takes_full_again, takes_held}
+use Rattle.event_core.proofs.Takes.{core_held, few_held, takes_full_again, takes_held}
 use Rattle.event_core.proofs.event_core.EventCore.take_again.Goals as goal
 
 pub returns-then-is_spent-clause-takes : goal.returns-then-is_spent-clause-takes
@@ -32,3 +33,11 @@ returns-clause-takes c =
     (λ b at. subst (λ r. TakesBody (seen i.mode i.limits i.base i.tables) c.args.reader b c.args.claims r (seen i.mode i.limits i.base c.add_again.new.tables)) (sym c.reply_by.ensures)
     (takes_held i.mode i.limits i.base i.tables i.tally c.self.invariant c.args.reader b c.args.claims c.args.number at (rw c.len-count.ensures at (sym c.is_spent.ensures ∙ c.if-is_spent.false))
     c.add_again.new.tables _ _ c.in_ok-add_again.ensures.ok c.have_come-again.result (rw c.as_slice.ensures at c.have_come-again.ensures)))
+
+pub returns-clause-few : goal.returns-clause-few
+returns-clause-few c =
+    let i = c.self.inside in
+    subst (λ core. (b : Body) → slice_get core.held c.args.number ≡ Some b → LooksByReply core b c.reply_by.result (seen i.mode i.limits i.base c.add_again.new.tables) c.args.steps.now c.add_again.new.steps) c.self.view_is
+    (λ b at. subst (λ r. LooksByReply (seen i.mode i.limits i.base i.tables) b r (seen i.mode i.limits i.base c.add_again.new.tables) c.args.steps.now c.add_again.new.steps) (sym c.reply_by.ensures)
+    (few_held i.mode i.limits i.base i.tables i.tally c.self.invariant c.args.reader b c.args.claims c.args.number at (rw c.len-count.ensures at (sym c.is_spent.ensures ∙ c.if-is_spent.false))
+    c.add_again.new.tables _ _ c.in_ok-add_again.ensures.ok c.have_come-again.result))

@@ -2,10 +2,11 @@ use Rattle.std.proofs.Common.{sym, ◌∙◌, subst}
 use Rattle.core_tables.specs.View.{body_of}
 use Rattle.journal.specs.declared.reply.Reply.TheVariants.{Full, Taken}
 use Rattle.event_core.specs.Calls.{TakesBody}
+use Rattle.event_core.specs.Looks.{LooksByReply}
 use Rattle.event_core.specs.Tables.{IsCore}
 use Rattle.event_core.specs.Tally.{tally_with}
 use Rattle.event_core.proofs.Cores.{seen}
-use Rattle.event_core.proofs.Takes.{core_first, takes_first, takes_full_new}
+use Rattle.event_core.proofs.Takes.{core_first, few_first, takes_first, takes_full_new}
 use Rattle.event_core.proofs.event_core.EventCore.take_new.Goals as goal
 
 pub returns-then-lacks_room-clause-takes : goal.returns-then-lacks_room-clause-takes
@@ -36,3 +37,13 @@ returns-clause-takes c =
     let adds = rw c.in_ok-text.ensures at c.in_ok-add_new.ensures.ok in
     subst (λ core. TakesBody core c.args.reader b c.args.claims Taken (seen i.mode i.limits i.base c.add_new.new.tables)) is
     (takes_first i.mode i.limits i.base i.tables i.tally c.self.invariant c.args.reader b c.args.claims (rw (← is) at c.requires.outside) room c.add_new.new.tables _ _ adds)
+
+pub returns-clause-few : goal.returns-clause-few
+returns-clause-few c =
+    let i = c.self.inside in
+    let is = c.self.view_is in
+    let b = body_of c.args.body.now c.args.event in
+    let room = rw (c.len-count.ensures, c.len-bytes.ensures) at (sym c.lacks_room.ensures ∙ c.if-lacks_room.false) in
+    let adds = rw c.in_ok-text.ensures at c.in_ok-add_new.ensures.ok in
+    subst (λ core. LooksByReply core b Taken (seen i.mode i.limits i.base c.add_new.new.tables) c.args.steps.now c.add_new.new.steps) is
+    (few_first i.mode i.limits i.base i.tables i.tally c.self.invariant c.args.reader b c.args.claims (rw (← is) at c.requires.outside) room c.add_new.new.tables _ _ adds)
