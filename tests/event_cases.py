@@ -6,7 +6,7 @@ broken one says which rule it fails first.
 """
 import json
 
-from kit import body, digest, key, rehearsed, said
+from kit import body, digest, key, said
 from validate_cases import write
 
 ICP = body("icp")
@@ -94,9 +94,3 @@ def refusals(bodies):
 if __name__ == "__main__":
     write("bodies_of_all_kinds", ["check", "a"], "".join(GOOD), "".join(line(text) for text in GOOD), 0)
     write("bodies_that_fail_each_rule", ["check", "a"], "".join(text for text, _ in BROKEN), refusals(BROKEN), 3)
-    SIGNED = [
-        (text + "-AAB" + rehearsed(1, text), reason) for text, reason in
-        [(ROT, "field 1"), (BASIC, "field 3"), (body("icp", bt="1", b=WITNESSES), "field 9"), (WEIGHTED, "field 5")]
-    ]
-    write("validated_kinds_not_taken", ["validate", "--helper", "rehearsal", "a"], "".join(text for text, _ in SIGNED),
-          refusals(SIGNED), 3)

@@ -8,6 +8,7 @@ import hashlib
 import json
 import struct
 
+CHARACTERS = "ABCDEFGHIJKLMNOPQRSTUVWXYZabcdefghijklmnopqrstuvwxyz0123456789-_"
 PLACEHOLDER = "#" * 44
 
 IV = [0x6A09E667, 0xBB67AE85, 0x3C6EF372, 0xA54FF53A, 0x510E527F, 0x9B05688C, 0x1F83D9AB, 0x5BE0CD19]
@@ -115,10 +116,36 @@ def indexed(head, text):
     return head + primitive("AA", hashlib.sha512(text.encode()).digest())[2:]
 
 
-def rehearsed(number, body, head="AA"):
+def rehearsal(number, body, code="D"):
+    """The rehearsal's signature of a key on a body."""
+    return hashlib.sha512(b"keri rehearsal" + key(number, code).encode() + body.encode()).digest()
+
+
+def rehearsed(number, body, head="AA", code="D"):
     """The rehearsal's signature of a key on a body, as an indexed signature."""
-    raw = hashlib.sha512(b"keri rehearsal" + key(number).encode() + body.encode()).digest()
-    return head + primitive("AA", raw)[2:]
+    return head + primitive("AA", rehearsal(number, body, code))[2:]
+
+
+def counter(letter, count):
+    """The counter of a group of so many."""
+    return "-%s%s%s" % (letter, CHARACTERS[count // 64], CHARACTERS[count % 64])
+
+
+def signed(body, *numbers):
+    """A body with the signatures of its keys, each by its index."""
+    sigs = [rehearsed(number, body, "A" + CHARACTERS[index]) for index, number in enumerate(numbers)]
+    return body + counter("A", len(sigs)) + "".join(sigs)
+
+
+def receipts(body, *numbers):
+    """A group of the signatures of witnesses, each by its index."""
+    sigs = [rehearsed(number, body, "A" + CHARACTERS[index], "B") for index, number in enumerate(numbers)]
+    return counter("B", len(sigs)) + "".join(sigs)
+
+
+def couples(body, *numbers):
+    """A group of the signatures of witnesses, each behind its key."""
+    return counter("C", len(numbers)) + "".join(key(number, "B") + primitive("0B", rehearsal(number, body, "B")) for number in numbers)
 
 
 KINDS = {

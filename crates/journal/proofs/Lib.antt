@@ -4,11 +4,8 @@ pub mod Keeping
 pub mod Distinct
 pub mod Readings
 pub mod StateSteps
-pub mod Narrowed
 pub mod Premises
 pub mod Locality
-pub mod Inceptions
-pub mod One
 pub mod Apart
 pub mod Different
 pub mod Asking

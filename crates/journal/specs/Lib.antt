@@ -8,7 +8,6 @@ pub mod Questions
 pub mod Waiting
 pub mod Grown
 pub mod Conflicts
-pub mod Narrow
 pub mod Replies
 pub mod CoreCalls
 pub mod Journals

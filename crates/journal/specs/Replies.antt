@@ -1,5 +1,5 @@
 -- What becomes of a message.
-use Rattle.std.specs.Prelude.{◌+◌, Bool, true, false, ◌&&◌, ◌||◌, ◌==◌, not, nat_le, nat_lt, List, [], ◌∷◌, length, map, sum_by, flat_map, Option, Some, None, option_map, if◌then◌else◌, Result, Ok, Err, ◌≤◌}
+use Rattle.std.specs.Prelude.{◌+◌, Bool, true, false, ◌&&◌, ◌||◌, ◌==◌, not, nat_le, nat_lt, List, [], ◌∷◌, length, map, sum_by, flat_map, Option, Some, if◌then◌else◌, Result, Ok, Err, ◌≤◌}
 use Rattle.std.specs.List.{list_any, list_all}
 use Rattle.std.specs.Option.{option_eq}
 use Rattle.cesr_codes.specs.declared.indexed_sig.IndexedSig.{IndexedSig}
@@ -18,7 +18,6 @@ use Rattle.journal.specs.declared.reply.Reply.TheVariants.{Taken, Again, Full}
 use Rattle.key_state.specs.Same.{same_key, same_sig}
 use Rattle.event_body.specs.Events.{is_receipt}
 use Rattle.key_state.specs.KeyStates.{first_true}
-use Rattle.journal.specs.Narrow.{narrow_fault}
 use Rattle.journal.specs.Logs.{Body, same_body, is_in}
 use Rattle.journal.specs.History.{Told, took, heard, bodies, taken}
 
@@ -48,11 +47,6 @@ is_held_group (Couples couples) = false
 is_held_group (FirstSeen seen) = false
 is_held_group (Anchor couples) = false
 
--- the first answer, where there is one, and else the other
-abbrev pub or_else : {X : Type 0} → Option X → Option X → Option X
-or_else (Some x) other = Some x
-or_else None other = other
-
 -- what a good body and its groups are refused for
 abbrev pub group_refusal : Message → Event → Option Reason
 group_refusal m e = first_true (
@@ -64,7 +58,7 @@ group_refusal m e = first_true (
 -- the first reason to refuse the message, by itself and by what reading its body gave
 unfoldable pub refusal : Message → Result Event BodyFault → Option Reason
 refusal m (Err fault) = Some (if m.excess then TooManySigs else BodyReason fault)
-refusal m (Ok e) = if m.excess then Some TooManySigs else or_else (option_map (λ fault. BodyReason fault) (narrow_fault e)) (group_refusal m e)
+refusal m (Ok e) = if m.excess then Some TooManySigs else group_refusal m e
 
 -- the indexed signatures are the same
 abbrev pub same_indexed : IndexedSig → IndexedSig → Bool

@@ -24,9 +24,9 @@ use Rattle.cesr_stream.specs.declared.bad.Bad.{Bad as BadValue}
 use Rattle.validator_core.specs.View.{told_of, open_of}
 use Rattle.keri_roles.specs.declared.close.Close.{Close}
 use Rattle.keri_roles.specs.declared.close.Close.TheVariants.{End, Bad, ReadFault, VerifierFault, Full, OutOfMemory}
-use Rattle.keri_roles.specs.declared.validating.Validating.{Validating}
+use Rattle.keri_roles.specs.declared.validator.Validator.{Validator}
 use Rattle.keri_roles.specs.Ends.{is_stopped, ClosesReader, ReadsStream, IsRead, IsReadSoFar}
-use Rattle.keri_roles.specs.Offering.{Offers, HasTaken, HasStopped, IsTurnedAway, Finishes}
+use Rattle.keri_roles.specs.Offers.{Offers, HasTaken, HasStopped, IsTurnedAway, Finishes}
 
 module _ (limits : Limits) (bytes : List ℕ) (reading : Reading) (items : List Placed) (stream : Stream limits bytes reading items) where
   behind : front limits.body reading.begun (drop reading.place bytes) ≡ judged reading
@@ -75,7 +75,7 @@ some_open None answered none earlier m is begun all = no_end earlier m (sym is �
 
 -- these messages were offered, the first of bytes that the source gave
 far_by : {V : Type 0} (says : V → Key → List ℕ → Sig → Option Bool) (verifier_faults : V → ℕ) (limits : Limits) (left_old left_new : Option (List ℕ))
-    (first new : Validating V) → first.core.mode ≡ mode.Full → first.core.limits ≡ limits → (bytes more : List ℕ) (ms : List Message)
+    (first new : Validator V) → first.core.mode ≡ mode.Full → first.core.limits ≡ limits → (bytes more : List ℕ) (ms : List Message)
     → Offers says verifier_faults first new ms → AreFirst limits bytes ms → Gave left_old left_new (bytes ++ more)
     → IsReadSoFar says verifier_faults limits left_old left_new first.verifier new
 far_by says verifier_faults limits left_old left_new first new is_full limits_are bytes more ms o are gave = record {
@@ -94,6 +94,7 @@ far_by says verifier_faults limits left_old left_new first new is_full limits_ar
   only = o.stands.only;
   mode_is = o.follows.mode ∙ is_full;
   limits_are = o.follows.limits ∙ limits_are;
+  no_base = o.no_base;
   same_says = o.same_says;
 }
 
@@ -104,7 +105,7 @@ first_none limits = record { items = []; begun = false; place = 0; later = []; s
 
 module _ {V : Type 0} (says : V → Key → List ℕ → Sig → Option Bool) (verifier_faults : V → ℕ) (limits : Limits) (left_old left_new : Option (List ℕ))
     (faults : ℕ)
-    (first new : Validating V) (is_full : first.core.mode ≡ mode.Full) (limits_are : first.core.limits ≡ limits) (unfailed : verifier_faults first.verifier ≡ 0)
+    (first new : Validator V) (is_full : first.core.mode ≡ mode.Full) (limits_are : first.core.limits ≡ limits) (unfailed : verifier_faults first.verifier ≡ 0)
     (bytes : List ℕ) (reading : Reading) (items : List Placed) (stream : Stream limits bytes reading items) where
   -- these messages were offered, and the reader closes so
   read_so : (close : Close) (ms later : List Message) (o : Offers says verifier_faults first new ms)
@@ -134,6 +135,7 @@ module _ {V : Type 0} (says : V → Key → List ℕ → Sig → Option Bool) (v
     asked = asked;
     mode_is = o.follows.mode ∙ is_full;
     limits_are = o.follows.limits ∙ limits_are;
+    no_base = o.no_base;
     same_says = o.same_says;
   }
 
@@ -199,7 +201,7 @@ module _ {V : Type 0} (says : V → Key → List ℕ → Sig → Option Bool) (v
 
 module _ {V : Type 0} (says : V → Key → List ℕ → Sig → Option Bool) (verifier_faults : V → ℕ) (limits : Limits) (left_old left_new : Option (List ℕ))
     (faults : ℕ)
-    (first middle new : Validating V) (is_full : first.core.mode ≡ mode.Full) (limits_are : first.core.limits ≡ limits)
+    (first middle new : Validator V) (is_full : first.core.mode ≡ mode.Full) (limits_are : first.core.limits ≡ limits)
     (unfailed : verifier_faults first.verifier ≡ 0) where
   ended_out : (own close : Close) (last : Option Message) (bytes : List ℕ) (reading : Reading) (items : List Placed) → Stream limits bytes reading items
       → (answered : List Message) → (HasTaken says verifier_faults first new (answered ++ all_of last) × (close ≡ own))
@@ -277,7 +279,7 @@ module _ {V : Type 0} (says : V → Key → List ℕ → Sig → Option Bool) (v
 
 -- how far a reader had read that ended otherwise
 pub so_far : {V : Type 0} (says : V → Key → List ℕ → Sig → Option Bool) (verifier_faults : V → ℕ) (limits : Limits) (left_old left_new : Option (List ℕ))
-    (faults : ℕ) (verifier : V) (now : Validating V) (close : Close) → IsRead says verifier_faults limits left_old left_new faults verifier now close
+    (faults : ℕ) (verifier : V) (now : Validator V) (close : Close) → IsRead says verifier_faults limits left_old left_new faults verifier now close
     → IsReadSoFar says verifier_faults limits left_old left_new verifier now
 so_far says verifier_faults limits left_old left_new faults verifier now close r =
     let f = r.reads.feeds_are in
@@ -292,6 +294,7 @@ so_far says verifier_faults limits left_old left_new faults verifier now close r
       only = r.only;
       mode_is = r.mode_is;
       limits_are = r.limits_are;
+      no_base = r.no_base;
       same_says = r.same_says;
     }
   where
@@ -311,7 +314,7 @@ so_far says verifier_faults limits left_old left_new faults verifier now close r
 module _ {limits : Limits} {old new : Option (List ℕ)} {faults : ℕ} {says : Key → List ℕ → Sig → Option Bool} {verifier_faults : ℕ}
     {refused : List Refusal} {told : List Told} {bytes : List ℕ} where
   -- a reader closes by a fault only where the count rose
-  pub closed_by_source : (close : Close) → ReadsStream limits old new faults says verifier_faults refused close told bytes → close ≡ ReadFault → Rose 0 faults
+  closed_by_source : (close : Close) → ReadsStream limits old new faults says verifier_faults refused close told bytes → close ≡ ReadFault → Rose 0 faults
   closed_by_source ReadFault reads e = reads.closes.0.1
   closed_by_source End reads e = cc
   closed_by_source (Bad bad) reads e = cc
@@ -319,7 +322,7 @@ module _ {limits : Limits} {old new : Option (List ℕ)} {faults : ℕ} {says : 
   closed_by_source Full reads e = cc
   closed_by_source OutOfMemory reads e = cc
 
-  pub closed_by_verifier : (close : Close) → ReadsStream limits old new faults says verifier_faults refused close told bytes → close ≡ VerifierFault
+  closed_by_verifier : (close : Close) → ReadsStream limits old new faults says verifier_faults refused close told bytes → close ≡ VerifierFault
       → Rose 0 verifier_faults
   closed_by_verifier VerifierFault reads e = reads.closes.1
   closed_by_verifier End reads e = cc
@@ -327,3 +330,13 @@ module _ {limits : Limits} {old new : Option (List ℕ)} {faults : ℕ} {says : 
   closed_by_verifier ReadFault reads e = cc
   closed_by_verifier Full reads e = cc
   closed_by_verifier OutOfMemory reads e = cc
+
+module _ {V : Type 0} {says : V → Key → List ℕ → Sig → Option Bool} {verifier_faults : V → ℕ} {limits : Limits} {left_old left_new : Option (List ℕ)}
+    {faults : ℕ} {verifier : V} {now : Validator V} where
+  -- the same of a reader that validates
+  pub read_rose : (close : Close) → IsRead says verifier_faults limits left_old left_new faults verifier now close → close ≡ ReadFault → Rose 0 faults
+  read_rose close r e = closed_by_source close r.reads e
+
+  pub verifier_rose : (close : Close) → IsRead says verifier_faults limits left_old left_new faults verifier now close → close ≡ VerifierFault
+      → Rose 0 (verifier_faults now.verifier)
+  verifier_rose close r e = closed_by_verifier close r.reads e

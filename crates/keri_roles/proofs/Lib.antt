@@ -1,5 +1,6 @@
 pub mod Messages
 pub mod Questions
-pub mod Offering
+pub mod Offers
 pub mod Ends
 pub mod Outcomes
+pub mod Unverified

@@ -1,5 +1,5 @@
 -- The report of a core and its one reader.
-use Rattle.std.proofs.Common.{◌≡◌, ◌≢◌, ℕ, ◌<◌, ◌⊎◌, inl, inr, Bool, List, [], ◌∷◌, Option, Some, None, refl, sym, ◌∙◌, ap, subst}
+use Rattle.std.proofs.Common.{◌≡◌, ◌≢◌, ℕ, ◌<◌, ◌⊎◌, inl, inr, Bool, List, [], ◌∷◌, Option, Some, None, refl, sym, ◌∙◌, ap, subst, arith}
 use Rattle.std.specs.Prelude.{All, IfSome, MatchOption}
 use Rattle.std.proofs.lemmas.List.Elements.{All-nil, All-weaker}
 use Rattle.keri_specs.specs.Causes.{Rose}
@@ -15,28 +15,40 @@ use Rattle.journal.specs.declared.journal.Journal.{Journal}
 use Rattle.journal.specs.declared.mode.Mode.TheVariants as mode
 use Rattle.journal.specs.declared.refusal.Refusal.{Refusal}
 use Rattle.journal.specs.Feeds.{End as EndOf, Feeds, FeedsOne, IsFed, reader_of}
+use Rattle.journal.specs.Journals.{InOrder}
 use Rattle.journal.specs.Questions.{questions, IsRegular}
 use Rattle.journal.specs.Replies.{IsWithin}
-use Rattle.validator_core.specs.View.{CoreView, IsHeld, told_of, open_of}
+use Rattle.acceptance.specs.Standing.{IsHeld}
+use Rattle.validator_core.specs.View.{CoreView, Stands, told_of, open_of}
+use Rattle.validator_report.specs.Report.{IsStandingText}
 use Rattle.keri_roles.specs.declared.close.Close.{Close}
 use Rattle.keri_roles.specs.declared.close.Close.TheVariants.{End, Bad, ReadFault, VerifierFault, Full, OutOfMemory}
 use Rattle.keri_roles.specs.declared.done.ReaderEnd.{ReaderEnd}
 use Rattle.keri_roles.specs.Ends.{end_of, IsRead, IsReadSoFar}
 use Rattle.keri_roles.specs.Reports.{Reports, IsJournalOf, core_of}
 use Rattle.keri_roles.specs.Validate.{said_by, Reads, ReadsSoFar, ReadsMade, IsFedSoFar, IsReported, IsUnmade}
-use Rattle.keri_roles.specs.declared.validating.Validating.{Validating}
+use Rattle.keri_roles.specs.declared.validator.Validator.{Validator}
 use Rattle.cesr_stream.specs.declared.message.Message.{Message}
 use Rattle.message_feed.specs.declared.feed_close.FeedClose.{FeedClose}
 use Rattle.message_feed.specs.Feeds.{Feeds as FeedsMessages}
-use Rattle.keri_roles.specs.Offering.{HasTaken, HasStopped, Finishes}
-use Rattle.keri_roles.proofs.Ends.{is_read, is_out, so_far, closed_by_source, closed_by_verifier}
-use Rattle.keri_roles.proofs.Offering.{told_nothing, asked_nothing}
+use Rattle.keri_roles.specs.Offers.{HasTaken, HasStopped, Finishes}
+use Rattle.keri_roles.proofs.Ends.{is_read, is_out, so_far, read_rose, verifier_rose}
+use Rattle.keri_roles.proofs.Offers.{told_nothing, asked_nothing}
+use Rattle.keri_roles.proofs.Questions.{no_bodies}
+
+-- what is true of a core that began with nothing
+regular_of : (core : CoreView) → core.base ≡ 0 → Stands core → IsRegular core.mode [] (told_of core)
+regular_of core b stands = subst (λ bodies. IsRegular core.mode bodies (told_of core)) (no_bodies core b) stands.regular
+
+within_of : (core : CoreView) → core.base ≡ 0 → Stands core → IsWithin core.limits [] (told_of core)
+within_of core b stands = let none = no_bodies core b in let within = rw none at stands.within in within (omega arith)
 
 -- a report is by the bodies and the entries alone
 reports_by_parts : (core : CoreView) (limits : Limits) (entries : List Entry) (refused : List Refusal) (close : Close) (text : List ℕ)
-    → core.mode ≡ mode.Full → entries ≡ core.entries → Reports core refused close text → Reports (core_of limits core.held entries) refused close text
-reports_by_parts core limits entries refused close text m e r =
-    let s = r.stands in
+    → core.mode ≡ mode.Full → core.base ≡ 0 → entries ≡ core.entries → Reports core refused close text → Reports (core_of limits core.held entries) refused close text
+reports_by_parts core limits entries refused close text m b e r =
+    let s : IsStandingText (record core { base = 0 }) r.standing
+    = subst (λ n. IsStandingText (record core { base = n }) r.standing) b r.stands in
     record {
       standing = r.standing;
       stands = record {
@@ -50,15 +62,15 @@ reports_by_parts core limits entries refused close text m e r =
     }
 
 -- the reader fed its core's journal
-abbrev is_fed : (limits : Limits) (core : CoreView) (journal : Journal) (end : EndOf) → IsJournalOf core journal → FeedsOne limits (told_of core) 0 end
+abbrev is_fed : (limits : Limits) (core : CoreView) (journal : Journal) (end : EndOf) → core.base ≡ 0 → IsJournalOf core journal → FeedsOne limits (told_of core) 0 end
     → All (λ t. reader_of t < 1) (told_of core) → IsFed limits 0 (end ∷ []) journal
-is_fed limits core journal end of feeds only = record {
+is_fed limits core journal end b of feeds only = record {
   held = core.held;
   reading = record {
     bytes_are = sym of.bodies;
     spelled = All-weaker IsHeld (λ b. SpellsEvent b.event b.bytes) (λ b h. h.spelled) core.held of.stands.spelled;
   };
-  in_order = rw of.entries of.stands.in_order;
+  in_order = rw of.entries (subst (λ n. InOrder n core.held core.entries) b of.stands.in_order);
   all_held = rw of.entries of.stands.all_held;
   fed = rw of.entries (record { each = (feeds, tt); only = only });
 }
@@ -89,63 +101,63 @@ module _ {S V : Type 0} (left : S → Option (List ℕ)) (faults : S → ℕ) (s
   -- what was read and told is reported
   reported : (held : Option (List ℕ)) (said : Key → List ℕ → Sig → Option Bool) (source : Option S) (verifier : Option V) (refused : List Refusal)
       (close : Close) (core : CoreView) (journal : Journal) (text bytes : List ℕ)
-      → IsJournalOf core journal → core.mode ≡ mode.Full → core.limits ≡ limits → Reports core refused close text
+      → IsJournalOf core journal → core.mode ≡ mode.Full → core.limits ≡ limits → core.base ≡ 0 → Reports core refused close text
       → FeedsOne limits (told_of core) 0 (end_of bytes (said_by left faults says verifier_faults verifier) refused close)
       → All (λ t. reader_of t < 1) (told_of core)
       → Reads left faults says verifier_faults limits held said source verifier refused close (told_of core) bytes
       → (open_of core ≡ []) ⊎ MatchOption verifier ⊥ (λ v. Rose 0 (verifier_faults v))
       → IsReported left faults says verifier_faults limits held said source verifier refused close journal text
-  reported held said source verifier refused close core journal text bytes of m l reports feeds only reads asked = record {
+  reported held said source verifier refused close core journal text bytes of m l b reports feeds only reads asked = record {
     bytes = bytes;
-    fed = is_fed limits core journal _ of feeds only;
+    fed = is_fed limits core journal _ b of feeds only;
     reads = rw of.entries reads;
     asked = rw of.entries (still asked);
-    regular = rw of.entries (subst (λ x. IsRegular x [] (told_of core)) m of.stands.regular);
-    within = rw of.entries (subst (λ x. IsWithin x [] (told_of core)) l of.stands.within);
-    reports = reports_by_parts core limits journal.entries refused close text m of.entries reports;
+    regular = rw of.entries (subst (λ x. IsRegular x [] (told_of core)) m (regular_of core b of.stands));
+    within = rw of.entries (subst (λ x. IsWithin x [] (told_of core)) l (within_of core b of.stands));
+    reports = reports_by_parts core limits journal.entries refused close text m b of.entries reports;
   }
     where
       still : (open_of core ≡ []) ⊎ MatchOption verifier ⊥ (λ v. Rose 0 (verifier_faults v)) → (questions mode.Full [] (told_of core) ≡ [])
           ⊎ MatchOption verifier ⊥ (λ v. Rose 0 (verifier_faults v))
-      still (inl e) = inl (subst (λ x. questions x [] (told_of core) ≡ []) m e)
+      still (inl e) = inl (subst (λ x. questions x [] (told_of core) ≡ []) m (subst (λ bodies. questions core.mode bodies (told_of core) ≡ []) (no_bodies core b) e))
       still (inr rose) = inr rose
 
   -- what was told so far
   fed_so_far : (held : Option (List ℕ)) (said : Key → List ℕ → Sig → Option Bool) (source : Option S) (verifier : Option V) (refused : List Refusal)
       (core : CoreView) (journal : Journal) (bytes : List ℕ)
-      → IsJournalOf core journal → core.mode ≡ mode.Full → core.limits ≡ limits
+      → IsJournalOf core journal → core.mode ≡ mode.Full → core.limits ≡ limits → core.base ≡ 0
       → FeedsOne limits (told_of core) 0 (end_of bytes (said_by left faults says verifier_faults verifier) refused OutOfMemory)
       → All (λ t. reader_of t < 1) (told_of core)
       → ReadsSoFar left faults says verifier_faults held said source verifier bytes
       → IsFedSoFar left faults says verifier_faults limits held said source verifier refused journal
-  fed_so_far held said source verifier refused core journal bytes of m l feeds only reads = record {
+  fed_so_far held said source verifier refused core journal bytes of m l b feeds only reads = record {
     bytes = bytes;
     reads = reads;
-    fed = is_fed limits core journal _ of feeds only;
-    regular = rw of.entries (subst (λ x. IsRegular x [] (told_of core)) m of.stands.regular);
-    within = rw of.entries (subst (λ x. IsWithin x [] (told_of core)) l of.stands.within);
+    fed = is_fed limits core journal _ b of feeds only;
+    regular = rw of.entries (subst (λ x. IsRegular x [] (told_of core)) m (regular_of core b of.stands));
+    within = rw of.entries (subst (λ x. IsWithin x [] (told_of core)) l (within_of core b of.stands));
   }
 
   -- of a stream
-  pub reported_stream : (source_old source : S) (verifier : V) (now : Validating V) (close : Close) (journal : Journal) (text : List ℕ)
+  pub reported_stream : (source_old source : S) (verifier : V) (now : Validator V) (close : Close) (journal : Journal) (text : List ℕ)
       → IsRead says verifier_faults limits (left source_old) (left source) (faults source) verifier now close → IsJournalOf now.core journal
       → Reports now.core now.refused.items close text
       → IsReported left faults says verifier_faults limits (left source_old) (says verifier) (Some source) (Some now.verifier) now.refused.items close
       journal text
   reported_stream source_old source verifier now close journal text r of reports =
       reported (left source_old) (says verifier) (Some source) (Some now.verifier) now.refused.items close now.core journal text r.bytes of r.mode_is
-      r.limits_are reports
+      r.limits_are r.no_base reports
       (feeds, rw r.same_says r.heard_are) r.only (r.same_says, r.reads) r.asked
     where
       feeds : Feeds limits (told_of now.core) 0 (end_of r.bytes (says now.verifier) now.refused.items close) r.bytes
       feeds = let f = r.reads.feeds_are in record
           { offered = f.offered; first = f.first; bodies_are = f.bodies_are; taken = f.taken; refused = f.refused; all = f.all }
 
-  fed_of_stream : (source_old source : S) (verifier : V) (now : Validating V) (journal : Journal)
+  fed_of_stream : (source_old source : S) (verifier : V) (now : Validator V) (journal : Journal)
       → IsReadSoFar says verifier_faults limits (left source_old) (left source) verifier now → IsJournalOf now.core journal
       → IsFedSoFar left faults says verifier_faults limits (left source_old) (says verifier) (Some source) (Some now.verifier) now.refused.items journal
   fed_of_stream source_old source verifier now journal r of =
-      fed_so_far (left source_old) (says verifier) (Some source) (Some now.verifier) now.refused.items now.core journal r.bytes of r.mode_is r.limits_are
+      fed_so_far (left source_old) (says verifier) (Some source) (Some now.verifier) now.refused.items now.core journal r.bytes of r.mode_is r.limits_are r.no_base
       (rw r.same_says r.feeds_are, rw r.same_says r.heard_are) r.only (r.same_says, (r.more, r.gave))
 
   reads_nothing : (held : Option (List ℕ)) (said : Key → List ℕ → Sig → Option Bool) (source : Option S) (verifier : Option V) (close : Close)
@@ -163,11 +175,11 @@ module _ {S V : Type 0} (left : S → Option (List ℕ)) (faults : S → ℕ) (s
 
   fed_nothing : (held : Option (List ℕ)) (said : Key → List ℕ → Sig → Option Bool) (source : Option S) (verifier : Option V) (close : Close)
       (core : CoreView) (journal : Journal)
-      → core ≡ record { mode = mode.Full; limits = limits; held = []; entries = []; accepted = [] } → IsUnmade source verifier close
+      → core ≡ record { mode = mode.Full; limits = limits; base = 0; held = []; entries = []; accepted = [] } → IsUnmade source verifier close
       → IfSome source (λ s. left s ≡ held) → IsJournalOf core journal
       → IsFedSoFar left faults says verifier_faults limits held said source verifier [] journal
   fed_nothing held said source verifier close core journal fresh unmade is of =
-      fed_so_far held said source verifier [] core journal [] of (ap (λ c. c.mode) fresh) (ap (λ c. c.limits) fresh)
+      fed_so_far held said source verifier [] core journal [] of (ap (λ c. c.mode) fresh) (ap (λ c. c.limits) fresh) (ap (λ c. c.base) fresh)
       (rw none_told (feeds_nothing limits _ OutOfMemory), rw none_told (All-nil _)) (rw none_told (All-nil _))
       (none_so_far held said source verifier close unmade is)
     where
@@ -177,12 +189,12 @@ module _ {S V : Type 0} (left : S → Option (List ℕ)) (faults : S → ℕ) (s
   -- of nothing, where one of both couldn't be made
   pub reported_nothing : (held : Option (List ℕ)) (said : Key → List ℕ → Sig → Option Bool) (source : Option S) (verifier : Option V) (close : Close)
       (core : CoreView) (journal : Journal) (text : List ℕ)
-      → core ≡ record { mode = mode.Full; limits = limits; held = []; entries = []; accepted = [] } → IsUnmade source verifier close
+      → core ≡ record { mode = mode.Full; limits = limits; base = 0; held = []; entries = []; accepted = [] } → IsUnmade source verifier close
       → IfSome source (λ s. left s ≡ held)
       → IsJournalOf core journal → Reports core [] close text → IsReported left faults says verifier_faults limits held said source verifier [] close
       journal text
   reported_nothing held said source verifier close core journal text fresh unmade is of reports =
-      reported held said source verifier [] close core journal text [] of (ap (λ c. c.mode) fresh) (ap (λ c. c.limits) fresh) reports
+      reported held said source verifier [] close core journal text [] of (ap (λ c. c.mode) fresh) (ap (λ c. c.limits) fresh) (ap (λ c. c.base) fresh) reports
       (rw none_told (feeds_nothing limits _ close), rw none_told (All-nil _)) (rw none_told (All-nil _))
       (rw none_told (reads_nothing held said source verifier close unmade is))
       (inl (ap open_of fresh ∙ asked_nothing))
@@ -193,9 +205,9 @@ module _ {S V : Type 0} (left : S → Option (List ℕ)) (faults : S → ℕ) (s
 module _ {S V : Type 0} (left : S → Option (List ℕ)) (faults : S → ℕ) (says : V → Key → List ℕ → Sig → Option Bool) (verifier_faults : V → ℕ) (limits : Limits)
     (reader : ReaderEnd S V) (journal : Journal) (text : List ℕ) (close : Close) (closes : reader.close ≢ OutOfMemory → reader.close ≡ close) where
   -- a stream was read
-  pub made_stream : (source_old source : S) (first middle new : Validating V) (own : FeedClose Close) (last : Option Message) → faults source_old ≡ 0
+  pub made_stream : (source_old source : S) (first middle new : Validator V) (own : FeedClose Close) (last : Option Message) → faults source_old ≡ 0
       → verifier_faults first.verifier ≡ 0
-      → first.core ≡ record { mode = mode.Full; limits = limits; held = []; entries = []; accepted = [] }
+      → first.core ≡ record { mode = mode.Full; limits = limits; base = 0; held = []; entries = []; accepted = [] }
       → FeedsMessages (HasTaken says verifier_faults first) (HasStopped says verifier_faults first) limits (left source_old) (left source)
       (faults source_old) (faults source) middle own last
       → Finishes says verifier_faults own last middle new close
@@ -211,8 +223,8 @@ module _ {S V : Type 0} (left : S → Option (List ℕ)) (faults : S → ℕ) (s
         (fed_of_stream left faults says verifier_faults limits source_old source first.verifier new journal far of);
     no_source = rw source_is refl;
     no_verifier = rw verifier_is refl;
-    read_fault = λ e. rw source_is (read_rose (closes (not_memory ReadFault e (λ f. cc))) e);
-    verifier_fault = λ e. rw verifier_is (verifier_rose (closes (not_memory VerifierFault e (λ f. cc))) e);
+    read_fault = λ e. let some = not_memory ReadFault e (λ f. cc) in rw source_is (read_rose close (read some) (sym (closes some) ∙ e));
+    verifier_fault = λ e. let some = not_memory VerifierFault e (λ f. cc) in rw verifier_is (verifier_rose close (read some) (sym (closes some) ∙ e));
   }
     where
       not_memory : (c : Close) → reader.close ≡ c → c ≢ OutOfMemory → reader.close ≢ OutOfMemory
@@ -235,15 +247,9 @@ module _ {S V : Type 0} (left : S → Option (List ℕ)) (faults : S → ℕ) (s
       read : reader.close ≢ OutOfMemory → IsRead says verifier_faults limits (left source_old) (left source) (faults source) first.verifier new close
       read some = read_to (λ m. some (closes some ∙ m))
 
-      read_rose : reader.close ≡ close → reader.close ≡ ReadFault → Rose 0 (faults source)
-      read_rose same e = let r = read (not_memory ReadFault e (λ f. cc)) in closed_by_source close r.reads (sym same ∙ e)
-
-      verifier_rose : reader.close ≡ close → reader.close ≡ VerifierFault → Rose 0 (verifier_faults new.verifier)
-      verifier_rose same e = let r = read (not_memory VerifierFault e (λ f. cc)) in closed_by_verifier close r.reads (sym same ∙ e)
-
   -- nothing was read
   pub made_nothing : (source : Option S) (verifier : Option V) (core : CoreView) → IsUnmade source verifier close
-      → core ≡ record { mode = mode.Full; limits = limits; held = []; entries = []; accepted = [] }
+      → core ≡ record { mode = mode.Full; limits = limits; base = 0; held = []; entries = []; accepted = [] }
       → reader.source ≡ source → reader.verifier ≡ verifier → reader.refused.items ≡ [] → IsJournalOf core journal
       → (reader.close ≢ OutOfMemory → Reports core [] close text)
       → ReadsMade left faults says verifier_faults limits source verifier reader journal text

@@ -15,11 +15,11 @@ use Rattle.keri_roles.specs.declared.done.ReaderEnd.{ReaderEnd}
 use Rattle.journal.specs.declared.journal.Journal.{Journal}
 use Rattle.journal.specs.declared.refusal.Refusal.{Refusal}
 use Rattle.keri_roles.specs.Status.{status_of}
-use Rattle.keri_roles.specs.Settling.{found}
+use Rattle.keri_roles.specs.RunStatus.{found}
 use Rattle.keri_roles.specs.Closes.{Closes, ending_text}
 use Rattle.keri_roles.specs.Answers.{Answered}
 use Rattle.keri_roles.specs.NoJournal.{no_journal}
-use Rattle.keri_roles.specs.Writing.{Writes}
+use Rattle.keri_roles.specs.SinkText.{Writes}
 
 -- A stream was read: what is written are the lines of its messages, and then how reading closed.
 pub record ChecksStream (limits : Limits) (left_old left_new : Option (List ℕ)) (faults : ℕ) (close : Close) (refused : List Refusal)

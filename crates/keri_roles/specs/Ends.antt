@@ -17,9 +17,9 @@ use Rattle.message_feed.specs.Closing.{Gave}
 use Rattle.message_feed.specs.Feeds.{Stream}
 use Rattle.keri_roles.specs.declared.close.Close.{Close}
 use Rattle.keri_roles.specs.declared.close.Close.TheVariants.{End, Bad, ReadFault, VerifierFault, Full, OutOfMemory}
-use Rattle.keri_roles.specs.declared.validating.Validating.{Validating}
+use Rattle.keri_roles.specs.declared.validator.Validator.{Validator}
 use Rattle.keri_roles.specs.Closes.{Closes}
-use Rattle.keri_roles.specs.Offering.{IsTurnedAway}
+use Rattle.keri_roles.specs.Offers.{IsTurnedAway}
 
 -- the reader was stopped before it had taken all that it read
 abbrev pub is_stopped : Close → Bool
@@ -68,7 +68,7 @@ pub record ReadsStream (limits : Limits) (left_old left_new : Option (List ℕ))
 module _ {V : Type 0} (says : V → Key → List ℕ → Sig → Option Bool) (verifier_faults : V → ℕ) where
   -- A core of these limits was told a stream's messages and its verifier's verdicts. A question is open only where the
   -- verifier has failed.
-  pub record IsRead (limits : Limits) (left_old left_new : Option (List ℕ)) (faults : ℕ) (verifier : V) (now : Validating V) (close : Close) : Type 0 where
+  pub record IsRead (limits : Limits) (left_old left_new : Option (List ℕ)) (faults : ℕ) (verifier : V) (now : Validator V) (close : Close) : Type 0 where
     pub bytes : List ℕ
     pub reads : ReadsStream limits left_old left_new faults (says verifier) (verifier_faults now.verifier) now.refused.items close (told_of now.core) bytes
     pub heard_are : All (IsHeardFrom 0 (says verifier)) (told_of now.core)
@@ -76,10 +76,11 @@ module _ {V : Type 0} (says : V → Key → List ℕ → Sig → Option Bool) (v
     pub asked : (open_of now.core ≡ []) ⊎ Rose 0 (verifier_faults now.verifier)
     pub mode_is : now.core.mode ≡ mode.Full
     pub limits_are : now.core.limits ≡ limits
+    pub no_base : now.core.base ≡ 0
     pub same_says : says now.verifier ≡ says verifier
 
   -- The same as far as is said where there was no memory: the first messages of bytes that the source gave were offered.
-  pub record IsReadSoFar (limits : Limits) (left_old left_new : Option (List ℕ)) (verifier : V) (now : Validating V) : Type 0 where
+  pub record IsReadSoFar (limits : Limits) (left_old left_new : Option (List ℕ)) (verifier : V) (now : Validator V) : Type 0 where
     pub bytes : List ℕ
     pub more : List ℕ
     pub gave : Gave left_old left_new (bytes ++ more)
@@ -88,4 +89,5 @@ module _ {V : Type 0} (says : V → Key → List ℕ → Sig → Option Bool) (v
     pub only : All (λ t. reader_of t < 1) (told_of now.core)
     pub mode_is : now.core.mode ≡ mode.Full
     pub limits_are : now.core.limits ≡ limits
+    pub no_base : now.core.base ≡ 0
     pub same_says : says now.verifier ≡ says verifier

@@ -42,7 +42,7 @@ pub record Reports (core : CoreView) (refused : List Refusal) (close : Close) (t
 
 -- a validator's core of a journal: its bodies and its entries, by which alone it is reported
 abbrev pub core_of : Limits → List Body → List Entry → CoreView
-core_of limits held entries = record { mode = mode.Full; limits = limits; held = held; entries = entries; accepted = [] }
+core_of limits held entries = record { mode = mode.Full; limits = limits; base = 0; held = held; entries = entries; accepted = [] }
 
 -- the journal is the core's
 pub record IsJournalOf (core : CoreView) (journal : Journal) : Type 0 where

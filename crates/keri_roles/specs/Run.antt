@@ -9,7 +9,7 @@ use Rattle.journal.specs.declared.journal.Journal.{Journal}
 use Rattle.keri_roles.specs.declared.done.ReaderEnd.{ReaderEnd}
 use Rattle.keri_roles.specs.NoJournal.{no_journal}
 use Rattle.keri_roles.specs.Status.{status_of, nothing}
-use Rattle.keri_roles.specs.Writing.{Writes}
+use Rattle.keri_roles.specs.SinkText.{Writes}
 use Rattle.keri_roles.specs.Check.{Checks, ChecksNot}
 use Rattle.keri_roles.specs.Validate.{Validates, ValidatesNot}
 

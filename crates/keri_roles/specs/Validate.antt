@@ -22,9 +22,9 @@ use Rattle.keri_roles.specs.declared.done.ReaderEnd.{ReaderEnd}
 use Rattle.keri_roles.specs.Ends.{end_of, ReadsStream}
 use Rattle.keri_roles.specs.NoJournal.{no_journal}
 use Rattle.keri_roles.specs.Reports.{Reports, core_of}
-use Rattle.keri_roles.specs.Settling.{found}
+use Rattle.keri_roles.specs.RunStatus.{found}
 use Rattle.keri_roles.specs.Status.{status_of}
-use Rattle.keri_roles.specs.Writing.{Writes}
+use Rattle.keri_roles.specs.SinkText.{Writes}
 
 -- Two makings came behind those of before: that of the source, and then that of the verifier. Where none failed the
 -- count stands still.

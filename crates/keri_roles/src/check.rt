@@ -6,9 +6,9 @@ ghost use Rattle.keri_outside.specs.declared.making.MakingKind.TheVariants.{Sour
 ghost use Rattle.keri_roles.specs.Check.{Checks, ChecksNot, ChecksNothing, ChecksStream, IsUnverified};
 ghost use Rattle.keri_roles.specs.Faults.{FaultHasCause, FaultsHaveCause, VerifierFaultsHaveCause};
 
-use crate::checking::Checking;
+use crate::checker::Checker;
 use crate::nothing_told::nothing_told;
-use crate::settling::settle;
+use crate::run_status::settle;
 use crate::{Close, Done, Findings, ReaderEnd};
 use keri_outside::{Failed, Limits, Outside, Source};
 use message_feed::feed_messages;
@@ -94,13 +94,13 @@ fn check_stream<S: Source, V>(alloc: Global, source: S, limits: Limits) -> (Read
     ensures cause { result.0.close ≡ Close.ReadFault → IfSome result.0.source (λ now. Rose 0 (S.faults now)) }
 {
     let mut source = source;
-    let mut checking = Checking::new(alloc);
-    let (close, last) = feed_messages(alloc, &mut source, limits, &mut checking);
-    let close = match checking.finish(close, last) {
+    let mut checker = Checker::new(alloc);
+    let (close, last) = feed_messages(alloc, &mut source, limits, &mut checker);
+    let close = match checker.finish(close, last) {
         Ok(close) => close,
         Err(AllocError) => Close::OutOfMemory,
     };
-    let Checking { lines, refused, .. } = checking;
+    let Checker { lines, refused, .. } = checker;
     let end = ReaderEnd {
         source: Some(source),
         verifier: None,

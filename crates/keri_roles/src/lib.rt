@@ -2,22 +2,22 @@
 #![tactic(auto)]
 
 mod answer;
-mod asking;
 mod check;
-mod checking;
+mod checker;
 mod close;
 mod done;
 mod findings;
-mod making;
 mod nothing_told;
+mod open_questions;
+mod outcome;
 mod program;
-mod reading;
-mod reporting;
-mod settling;
+mod providers;
+mod report;
+mod run_status;
+mod sink;
 mod sizes;
 mod validate;
-mod validating;
-mod writing;
+mod validator;
 
 pub use close::Close;
 pub use done::{Done, ReaderEnd};

@@ -7,8 +7,8 @@ ghost use Rattle.keri_roles.specs.Faults.{HasReadFault, HasVerifierFault, HasFul
 
 use crate::check::check;
 use crate::nothing_told::nothing_told;
+use crate::sink::put_text;
 use crate::validate::validate;
-use crate::writing::put_text;
 use crate::{Done, Findings};
 use command_words::{Command, command_of};
 use keri_outside::Outside;

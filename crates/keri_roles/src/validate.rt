@@ -4,10 +4,10 @@ ghost use Rattle.keri_specs.specs.Causes.{Rose};
 ghost use Rattle.keri_roles.specs.Faults.{FaultHasCause, FaultsHaveCause, VerifierFaultHasCause, VerifierFaultsHaveCause};
 ghost use Rattle.keri_roles.specs.Validate.{GrowsByTwo, IsFedSoFar, IsReported, Validates, ValidatesNot};
 
-use crate::making::make;
 use crate::nothing_told::nothing_told;
-use crate::reading::{Outcome, read_made};
-use crate::settling::settle;
+use crate::outcome::{Outcome, read_made};
+use crate::providers::make;
+use crate::run_status::settle;
 use crate::{Close, Done, Findings};
 use keri_outside::Outside;
 use std::alloc::Global;
@@ -71,6 +71,6 @@ fn validate_file<O: Outside>(
     ensures sink { O.sink outside.new ≡ O.sink outside.old }
 {
     let limits = outside.limits();
-    let made = make(name, helper, outside);
-    read_made(alloc, limits, made)
+    let providers = make(name, helper, outside);
+    read_made(alloc, limits, providers)
 }

@@ -1,24 +1,20 @@
 -- Which groups have signatures of the controller, and which have receipts.
-use Rattle.std.proofs.Common.{◌≡◌, Bool, true, false, not, ◌&&◌, ◌||◌, List, [], ◌∷◌, map, Option, Some, None, option_map, Ok, refl, sym, ◌∙◌, ap, if◌then◌else◌}
+use Rattle.std.proofs.Common.{◌≡◌, Bool, true, false, not, ◌&&◌, ◌||◌, List, [], ◌∷◌, map, Option, Some, None, Ok, refl, sym, ◌∙◌, ap, if◌then◌else◌}
 use Rattle.std.specs.Prelude.{flat_map}
 use Rattle.std.specs.Bool.{IsTrue}
 use Rattle.std.specs.List.{list_any, list_all}
-use Rattle.std.proofs.lemmas.Bool.{or_parts}
 use Rattle.std.proofs.lemmas.List.Folds.{list_any-append, list_all-append}
 use Rattle.cesr_codes.specs.declared.indexed_sig.IndexedSig.{IndexedSig}
 use Rattle.cesr_stream.specs.declared.couple.Couple.{Couple}
 use Rattle.cesr_stream.specs.declared.group.Group.{Group}
-use Rattle.cesr_stream.specs.declared.group.Group.TheVariants as group
 use Rattle.journal.specs.declared.claim.Claim.TheVariants.{Held, Witness, Couple as CoupleClaim}
 use Rattle.event_body.specs.declared.event.Event.{Event}
 use Rattle.event_body.specs.Events.{is_receipt}
 use Rattle.cesr_stream.specs.declared.message.Message.{Message}
 use Rattle.key_state.specs.KeyStates.{first_true}
 use Rattle.journal.specs.declared.reply.Reason.{Reason}
-use Rattle.journal.specs.declared.reply.Reason.TheVariants.{Body as BodyReason, TooManySigs, WrongGroup, DigestOnly, Unsigned}
-use Rattle.event_body.specs.declared.body_fault.BodyFault.{BodyFault}
-use Rattle.journal.specs.Narrow.{narrow_fault}
-use Rattle.journal.specs.Replies.{is_held, is_held_group, claims_of_group, or_else, refusal}
+use Rattle.journal.specs.declared.reply.Reason.TheVariants.{TooManySigs, WrongGroup, DigestOnly, Unsigned}
+use Rattle.journal.specs.Replies.{is_held, is_held_group, claims_of_group, refusal}
 use Rattle.validator_core.specs.Messages.{first_refusal}
 
 -- r says that the list is empty
@@ -69,59 +65,31 @@ receipts_groups (g ∷ groups) = both (list_all is_held (claims_of_group g)) _ �
     both true q = refl
     both false q = refl
 
--- without a group of the controller's signatures there is no claim of the controller
-one_group : (g : Group) → is_held_group g ≡ false → list_any is_held (claims_of_group g) ≡ false
-one_group (group.Held sigs) h = cc
-one_group (group.Witness sigs) h = no_witness_held sigs
-one_group (group.Couples couples) h = no_couple_held couples
-one_group (group.FirstSeen seen) h = refl
-one_group (group.Anchor couples) h = refl
-
-pub no_held_claims : (groups : List Group) → list_any is_held_group groups ≡ false → list_any is_held (flat_map claims_of_group groups) ≡ false
-no_held_claims [] h = refl
-no_held_claims (g ∷ groups) h =
-    let parts = or_parts (is_held_group g) (list_any is_held_group groups) h in
-    let here = one_group g parts.0 in
-    let more = no_held_claims groups parts.1 in
-    list_any-append is_held (claims_of_group g) (flat_map claims_of_group groups) ∙ rw (here, more) refl
-
 -- the first refusal is that of the definition
-abbrev first_of : (excess : Bool) (fault : Option BodyFault) (receipt wrong some signed : Bool) → Option Reason
-first_of true fault receipt wrong some signed = Some TooManySigs
-first_of false (Some fault) receipt wrong some signed = Some (BodyReason fault)
-first_of false None true wrong some signed = if wrong then Some WrongGroup else (if some then None else Some DigestOnly)
-first_of false None false wrong some signed = if signed then None else Some Unsigned
+abbrev first_of : (excess receipt wrong some signed : Bool) → Option Reason
+first_of true receipt wrong some signed = Some TooManySigs
+first_of false true wrong some signed = if wrong then Some WrongGroup else (if some then None else Some DigestOnly)
+first_of false false wrong some signed = if signed then None else Some Unsigned
 
-as_first : (excess : Bool) (fault : Option BodyFault) (receipt : Bool) (groups : List Group) → first_refusal excess fault receipt groups
-    ≡ first_of excess fault receipt (list_any (λ g. is_held_group g) groups) (list_any (λ g. not (list_all is_held (claims_of_group g))) groups) (list_any (λ g. list_any is_held (claims_of_group g)) groups)
-as_first true fault receipt groups = refl
-as_first false (Some fault) receipt groups = refl
-as_first false None true groups = refl
-as_first false None false groups = refl
+as_first : (excess receipt : Bool) (groups : List Group) → first_refusal excess receipt groups
+    ≡ first_of excess receipt (list_any (λ g. is_held_group g) groups) (list_any (λ g. not (list_all is_held (claims_of_group g))) groups) (list_any (λ g. list_any is_held (claims_of_group g)) groups)
+as_first true receipt groups = refl
+as_first false true groups = refl
+as_first false false groups = refl
 
-pub refusal_is : (m : Message) (e : Event) → first_refusal m.excess (narrow_fault e) (is_receipt e) m.groups ≡ refusal m (Ok e)
+pub refusal_is : (m : Message) (e : Event) → first_refusal m.excess (is_receipt e) m.groups ≡ refusal m (Ok e)
 unfolding refusal
-refusal_is m e = as_first m.excess (narrow_fault e) (is_receipt e) m.groups ∙ chain m.excess (narrow_fault e) (is_receipt e) (list_any is_held_group m.groups)
+refusal_is m e = as_first m.excess (is_receipt e) m.groups ∙ chain m.excess (is_receipt e) (list_any is_held_group m.groups)
     (list_any (λ g. not (list_all is_held (claims_of_group g))) m.groups) (list_all is_held (flat_map claims_of_group m.groups))
     (list_any (λ g. list_any is_held (claims_of_group g)) m.groups) (list_any is_held (flat_map claims_of_group m.groups)) (receipts_groups m.groups) (any_groups m.groups)
   where
-    chain : (excess : Bool) (fault : Option BodyFault) (receipt wrong some none signed claimed : Bool) → not some ≡ none → signed ≡ claimed
-        → first_of excess fault receipt wrong some signed
-        ≡ (if excess then Some TooManySigs else or_else (option_map (λ fault. BodyReason fault) fault)
+    chain : (excess receipt wrong some none signed claimed : Bool) → not some ≡ none → signed ≡ claimed
+        → first_of excess receipt wrong some signed
+        ≡ (if excess then Some TooManySigs else
         (first_true ((receipt && wrong, WrongGroup) ∷ (receipt && none, DigestOnly) ∷ (not receipt && not claimed, Unsigned) ∷ [])))
-    chain true fault receipt wrong some none signed claimed e f = refl
-    chain false (Some fault) receipt wrong some none signed claimed e f = refl
-    chain false None true true some none signed claimed e f = refl
-    chain false None true false true none signed claimed e f = rw (← e) refl
-    chain false None true false false none signed claimed e f = rw (← e) refl
-    chain false None false wrong some none signed true e f = rw f refl
-    chain false None false wrong some none signed false e f = rw f refl
-
--- an event that isn't refused is one that a core takes
-pub taken_narrow : (m : Message) (e : Event) → refusal m (Ok e) ≡ None → narrow_fault e ≡ None
-taken_narrow m e none = by_parts m.excess (narrow_fault e) (is_receipt e) m.groups (refusal_is m e ∙ none)
-  where
-    by_parts : (excess : Bool) (fault : Option BodyFault) (receipt : Bool) (groups : List Group) → first_refusal excess fault receipt groups ≡ None → fault ≡ None
-    by_parts true fault receipt groups e = cc
-    by_parts false (Some fault) receipt groups e = cc
-    by_parts false None receipt groups e = refl
+    chain true receipt wrong some none signed claimed e f = refl
+    chain false true true some none signed claimed e f = refl
+    chain false true false true none signed claimed e f = rw (← e) refl
+    chain false true false false none signed claimed e f = rw (← e) refl
+    chain false false wrong some none signed true e f = rw f refl
+    chain false false wrong some none signed false e f = rw f refl

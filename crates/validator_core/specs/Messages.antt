@@ -6,7 +6,7 @@ use Rattle.event_body.specs.declared.event.Event.{Event}
 use Rattle.event_body.specs.declared.body_fault.BodyFault.{BodyFault}
 use Rattle.cesr_stream.specs.declared.group.Group.{Group}
 use Rattle.journal.specs.declared.reply.Reason.{Reason}
-use Rattle.journal.specs.declared.reply.Reason.TheVariants.{Body as BodyReason, TooManySigs, WrongGroup, DigestOnly, Unsigned}
+use Rattle.journal.specs.declared.reply.Reason.TheVariants.{TooManySigs, WrongGroup, DigestOnly, Unsigned}
 use Rattle.journal.specs.Feeds.{GivesBody}
 use Rattle.journal.specs.Replies.{refusal, is_held, is_held_group, claims_of_group}
 
@@ -15,10 +15,9 @@ abbrev pub JudgesMessage : Message → Result Event Reason → Type 0
 JudgesMessage m (Ok e) = GivesBody m.body (Ok e) × (refusal m (Ok e) ≡ None)
 JudgesMessage m (Err reason) = (gives : Result Event BodyFault) × GivesBody m.body gives × (refusal m gives ≡ Some reason)
 
--- the first reason to refuse a message with an event, by the fault that a core finds in it and by its groups
-abbrev pub first_refusal : Bool → Option BodyFault → Bool → List Group → Option Reason
-first_refusal true fault receipt groups = Some TooManySigs
-first_refusal false (Some fault) receipt groups = Some (BodyReason fault)
-first_refusal false None true groups = if list_any (λ g. is_held_group g) groups then Some WrongGroup
+-- the first reason to refuse a message whose body is an event's, by its groups
+abbrev pub first_refusal : Bool → Bool → List Group → Option Reason
+first_refusal true receipt groups = Some TooManySigs
+first_refusal false true groups = if list_any (λ g. is_held_group g) groups then Some WrongGroup
     else (if list_any (λ g. not (list_all is_held (claims_of_group g))) groups then None else Some DigestOnly)
-first_refusal false None false groups = if list_any (λ g. list_any is_held (claims_of_group g)) groups then None else Some Unsigned
+first_refusal false false groups = if list_any (λ g. list_any is_held (claims_of_group g)) groups then None else Some Unsigned

@@ -1,41 +1,35 @@
-//! The core: its tables.
-ghost use Rattle.std.specs.Prelude.{◌≡◌, ◌≤◌, ◌<◌, [], All, IfSome, map, length, slice_get};
+//! The core: it judges messages, and has those that aren't refused taken.
+ghost use Rattle.std.specs.Prelude.{◌≡◌, ◌≤◌, ◌<◌, [], All, IfOk, IfSome, Ok, OnErr, map, length, slice_get};
 ghost use Rattle.std.specs.Option.{option_map};
-ghost use Rattle.journal.specs.Journals.{chosen};
-ghost use Rattle.validator_core.specs.View.{Stands, accepted_by, state_of};
+ghost use Rattle.core_tables.specs.Hints.{IsEscrow};
+ghost use Rattle.journal.specs.Journals.{Names, chosen};
+ghost use Rattle.journal.specs.Questions.{next_question};
+ghost use Rattle.journal.specs.declared.question.Noted.TheVariants.{New};
+ghost use Rattle.validator_core.specs.Messages.{JudgesMessage};
+ghost use Rattle.validator_core.specs.View.{LooksByMessage, LooksByVerdict, Stands, TakesMessage, TakesVerdict, accepted_by, base_of, state_of, told_of, unheard_of, waits_for};
 
-use crate::states::States;
-use crate::tally::Tally;
-use body_cases::Cases;
+use crate::claims::claims_of;
+use crate::judgement::judge_message;
 use cesr_codes::Prefix;
+use cesr_stream::Message;
+use escrow::Waiting;
 use event_body::Event;
-use journal::{Journal, Mode};
-use keri_outside::Limits;
+use event_core::EventCore;
+use journal::{Journal, Mode, Noted, Question, Reply, Why};
+use keri_outside::{Limits, Steps};
 use key_state::KeyState;
-use lists::Items;
-use std::alloc::Global;
+use std::alloc::{AllocError, Global};
 use std::marker::Model;
 
-/// What a validator was told, what it knows of each body, and what it has accepted.
+/// What a validator was told, what it asks, and what it accepts of that.
 #[derive(Drop)]
 pub struct Core {
     pub(crate) alloc: Global,
-    pub(crate) mode: Mode,
-    pub(crate) limits: Limits,
-    pub(crate) journal: Journal,
-    /// One for each body of the journal.
-    pub(crate) cases: Cases,
-    /// The numbers of the accepted bodies, in order.
-    pub(crate) accepted: Vec<u32>,
-    /// The states after the accepted bodies, in the same order.
-    pub(crate) states: States,
-    pub(crate) tally: Tally,
+    pub(crate) events: EventCore,
 }
 
 impl Model for Core {
-    ghost use Rattle.validator_core.specs.View.{CoreView};
-    ghost use Rattle.validator_core.specs.Inside.{tables_of};
-    ghost use Rattle.validator_core.specs.Tables.{view_of, IsCore};
+    ghost use Rattle.event_core.specs.View.{CoreView};
     ghost use Rattle.json_tree.specs.contracts.tree.Tree as tree;
     ghost use Rattle.std.specs.Coded.{codes};
 
@@ -43,33 +37,79 @@ impl Model for Core {
 
     ghost coded = { Prim.hlevel (codes, tree.the_row.coded) };
 
-    ghost view = { λ c. view_of (tables_of c) };
-
-    ghost invariant = { λ c. IsCore (tables_of c) };
+    ghost view = { λ c. c.events };
 }
 
 impl Core {
     /// A core that was told nothing.
     pub fn new(alloc: Global, mode: Mode, limits: Limits) -> Core
-        ensures { result ≡ record { mode = mode; limits = limits; held = []; entries = []; accepted = [] } }
+        ensures { result ≡ record { mode = mode; limits = limits; base = 0; held = []; entries = []; accepted = [] } }
     {
         Core {
             alloc,
-            mode,
-            limits,
-            journal: Journal {
-                bodies: Items::new(alloc),
-                entries: Items::new(alloc),
-            },
-            cases: Cases::new(alloc),
-            accepted: Vec::new(alloc),
-            states: States::new(alloc),
-            tally: Tally {
-                messages: 0,
-                body_bytes: 0,
-                signatures: 0,
-            },
+            events: EventCore::new(alloc, mode, limits),
         }
+    }
+
+    /// Takes a message: what is said of it, by the reader of a number. Of the waiting events it looks at those with the digest
+    /// that the body names, and at those behind an event that it accepts.
+    pub fn take(
+        &mut self,
+        reader: u16,
+        message: &Message,
+        steps: &mut Steps,
+    ) -> Result<Reply, AllocError>
+        ensures takes { IfOk result (λ reply. TakesMessage self.old reader message.now reply self.new) }
+        ensures few { IfOk result (λ reply. LooksByMessage self.old message.now reply self.new steps.old steps.new) }
+        ensures err { OnErr result (self.new ≡ self.old) }
+    {
+        let event = match judge_message(self.alloc, message)? {
+            Ok(event) => event,
+            Err(reason) => return Ok(Reply::Refused(reason)),
+        };
+        self.take_judged(reader, message, event, steps)
+    }
+
+    // Takes a message that isn't refused, and has this event.
+    fn take_judged(
+        &mut self,
+        reader: u16,
+        message: &Message,
+        event: Event,
+        steps: &mut Steps,
+    ) -> Result<Reply, AllocError>
+        requires judged { JudgesMessage message.now (Ok event) }
+        ensures takes { IfOk result (λ reply. TakesMessage self.old reader message.now reply self.new) }
+        ensures few { IfOk result (λ reply. LooksByMessage self.old message.now reply self.new steps.old steps.new) }
+        ensures err { OnErr result (self.new ≡ self.old) }
+    {
+        let claims = claims_of(self.alloc, message)?;
+        self.events
+            .take(reader, &message.body, event, claims, steps)
+    }
+
+    /// The open question of a number modulo their count, or none where none is open. It takes no memory.
+    pub fn next_question(&self, skip: u32) -> Option<Question>
+        ensures { Names self.now.held result (next_question self.now.mode (base_of self.now) (told_of self.now) skip) }
+    {
+        self.events.next_question(skip)
+    }
+
+    /// Notes what the verifier of a reader says of a question. Of the claims on the bodies, fewer have no verdict then. It looks
+    /// at the waiting events as `take` does.
+    pub fn answer(
+        &mut self,
+        reader: u16,
+        question: &Question,
+        yes: bool,
+        steps: &mut Steps,
+    ) -> Result<Noted, AllocError>
+        ensures answers { IfOk result (λ noted. TakesVerdict self.old reader question.now yes noted self.new) }
+        ensures fewer { IfOk result (λ noted. noted ≡ New → unheard_of self.new < unheard_of self.old) }
+        ensures few { IfOk result (λ noted. LooksByVerdict self.old question.now noted self.new steps.old steps.new) }
+        ensures err { OnErr result (self.new ≡ self.old) }
+    {
+        self.events.answer(reader, question, yes, steps)
     }
 
     /// The journal: what was told. It takes no memory.
@@ -78,7 +118,7 @@ impl Core {
         ensures entries { result.now.entries ≡ self.now.entries }
         ensures stands { Stands self.now }
     {
-        &self.journal
+        self.events.journal()
     }
 
     /// The journal, for which the core is given up. It takes no memory.
@@ -87,8 +127,15 @@ impl Core {
         ensures entries { result.entries ≡ self.entries }
         ensures stands { Stands self }
     {
-        let Core { journal, .. } = self;
-        journal
+        let Core { events, .. } = self;
+        events.into_journal()
+    }
+
+    /// How many bodies there are. It takes no memory.
+    pub fn len(&self) -> usize
+        ensures { result ≡ length self.now.held }
+    {
+        self.events.len()
     }
 
     /// The body of a number. It takes no memory.
@@ -96,15 +143,21 @@ impl Core {
         ensures body { option_map (λ bytes. bytes.now) result ≡ option_map (λ b. b.bytes) (slice_get self.now.held number) }
         ensures few { IfSome result (λ bytes. length bytes.now ≤ 65535) }
     {
-        let body = self.journal.bodies.as_slice().get(number as usize)?;
-        Some(body.as_slice())
+        self.events.body(number)
     }
 
     /// The event of the body of a number. It takes no memory.
     pub fn event(&self, number: u32) -> Option<&Event>
         ensures { option_map (λ event. event.now) result ≡ option_map (λ b. b.event) (slice_get self.now.held number) }
     {
-        self.cases.event(number)
+        self.events.event(number)
+    }
+
+    /// The events of all bodies, in order. It takes no memory.
+    pub fn events(&self) -> &[Event]
+        ensures { result.now ≡ map (λ b. b.event) self.now.held }
+    {
+        self.events.events()
     }
 
     /// The numbers of the accepted bodies, in order of acceptance. It takes no memory.
@@ -113,13 +166,27 @@ impl Core {
         ensures held { All (λ n. n < length self.now.held) result.now }
         ensures accepted { chosen self.now.held result.now ≡ accepted_by self.now }
     {
-        self.accepted.as_slice()
+        self.events.accepted()
     }
 
     /// The state of an identifier, where it has an accepted event. It takes no memory.
     pub fn state(&self, prefix: &Prefix) -> Option<&KeyState>
         ensures { option_map (λ state. state.now) result ≡ state_of self.now prefix.now }
     {
-        self.states.find(prefix)
+        self.events.state(prefix)
+    }
+
+    /// Why the event of a number isn't accepted; none where it is, or where the number is no event's. It takes no memory.
+    pub fn why_waits(&self, body: u32) -> Option<Why>
+        ensures { result ≡ waits_for self.now body }
+    {
+        self.events.why_waits(body)
+    }
+
+    /// The events that aren't accepted, each with the number of its body. It takes no memory.
+    pub fn waiting(&self) -> &Waiting
+        ensures { IsEscrow result.now self.now.held self.now.accepted }
+    {
+        self.events.waiting()
     }
 }

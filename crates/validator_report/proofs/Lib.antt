@@ -1,5 +1,8 @@
 pub mod Ordered
-pub mod Prefixes
 pub mod Listing
-pub mod Held
-pub mod Alone
+pub mod Waits
+pub mod Entries
+pub mod Chosen
+pub mod LogGrowth
+pub mod LogLines
+pub mod LiveNumbers

@@ -57,10 +57,17 @@ state_lines (Some s) = of (head_said s)
     of (Some said) = state_text s.prefix (head_sn s) said
         (record { keys = length s.keys; witnesses = length s.list; toad = s.toad })
 
+-- the accepted events of an identifier, in order of acceptance
+abbrev pub own_of : Prefix → List Body → List Body
+own_of prefix log = filter (is_of prefix) log
+
+-- the lines of accepted events, of which some are live
+abbrev pub events_lines : List Body → List Body → List ℕ
+events_lines live_events events = flat_map (λ b. accepted_text b.event (standing_in live_events b)) events
+
 -- the lines of an identifier: its accepted events, in order of acceptance, and then its state
 abbrev pub log_lines : List Body → Prefix → List ℕ
-log_lines log prefix = flat_map (λ b. accepted_text b.event (standing_in (live log prefix) b)) (filter (is_of prefix) log)
-    ++ state_lines (state log prefix)
+log_lines log prefix = events_lines (live log prefix) (own_of prefix log) ++ state_lines (state log prefix)
 
 -- why a body waits, where it does
 abbrev pub reason_of : CoreView → Body → Option Why

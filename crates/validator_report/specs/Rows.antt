@@ -1,12 +1,8 @@
 -- Rows of bodies with their lines.
-use Rattle.std.specs.Prelude.{◌≡◌, ℕ, List, ◌++◌, map, All, Option, Some, None, IfSome, is_some, option_map, string_bytes, if◌then◌else◌}
-use Rattle.event_body.specs.Events.{prefix_of}
-use Rattle.event_body.specs.declared.event.Event.{Event}
+use Rattle.std.specs.Prelude.{◌≡◌, ℕ, List, map, All, Option, Some, None, IfSome, is_some, option_map, string_bytes, if◌then◌else◌}
 use Rattle.journal.specs.declared.body.Body.{Body}
-use Rattle.report_lines.specs.Lines.{accepted_text}
-use Rattle.report_lines.specs.declared.standing.Standing.TheVariants.{Live}
-use Rattle.validator_core.specs.View.{CoreView, state_of}
-use Rattle.validator_report.specs.Report.{reason_of, state_lines}
+use Rattle.validator_core.specs.View.{CoreView}
+use Rattle.validator_report.specs.Report.{reason_of}
 use Rattle.validator_report.specs.declared.row.Row.{Row}
 
 -- the body of a row
@@ -26,13 +22,6 @@ pub record AreRows (lines : Body → List ℕ) (bodies : List Body) (rows : List
 pub record IsRow (lines : Body → List ℕ) (b : Option Body) (row : Option Row) : Type 0 where
   pub body_is : option_map body_of row ≡ b
   pub has_lines : IfSome row (HasLines lines)
-
--- the line of an event that is the only one of its identifier, and that of its state
-abbrev pub event_lines : CoreView → Event → List ℕ
-event_lines core e = accepted_text e Live ++ state_lines (state_of core (prefix_of e))
-
-abbrev pub own_lines : CoreView → Body → List ℕ
-own_lines core b = event_lines core b.event
 
 -- the body, where it waits
 abbrev pub if_waits : CoreView → Option Body → Option Body

@@ -1,14 +1,19 @@
 //! The accepted events, and the states of their identifiers.
-ghost use Rattle.std.specs.Prelude.{◌≡◌, Some, IfOk, slice_get, string_bytes};
+ghost use Rattle.std.specs.Prelude.{◌≡◌, ◌<◌, ◌==◌, All, IfOk, IsSorted, List, Some, length, option_map, string_bytes, if◌then◌else◌};
+ghost use Rattle.std.specs.List.{list_any};
+ghost use Rattle.std.specs.Ordering.{nat_cmp};
+ghost use Rattle.journal.specs.declared.body.Body.{Body};
 ghost use Rattle.journal.specs.Journals.{chosen};
+ghost use Rattle.journal.specs.Logs as logs;
+ghost use Rattle.report_lines.specs.declared.standing.Standing.TheVariants.{Live, Superseded};
 ghost use Rattle.validator_core.specs.View.{accepted_by};
+ghost use Rattle.validator_report.specs.Logs.{Marks};
 ghost use Rattle.validator_report.specs.Report as report;
-ghost use Rattle.validator_report.specs.Report.{IsListing, log_lines, prefix_cmp, prefixes_of};
-ghost use Rattle.validator_report.specs.Rows.{AreRows, IsRow, event_lines, own_lines};
+ghost use Rattle.validator_report.specs.Report.{IsListing, events_lines, log_lines, prefix_cmp, prefixes_of};
 
-use crate::row::Row;
-use crate::rows::{add_row, ordered_lines};
-use event_body::{Event, prefix_of};
+use crate::logs::logs_of;
+use cesr_codes::Prefix;
+use journal_views::live;
 use key_state::KeyState;
 use report_lines::{Standing, StateSizes, accepted_line, state_line};
 use std::alloc::{AllocError, Global};
@@ -18,47 +23,92 @@ use validator_core::Core;
 pub(crate) fn accepted_lines(alloc: Global, core: &Core) -> Result<String, AllocError>
     ensures { let log = accepted_by core.now in IfOk result (λ text. IsListing prefix_cmp (log_lines log) (prefixes_of log) (string_bytes text)) }
 {
-    // A journal's bodies are inceptions and receipts, so an accepted event is the only one of its identifier.
-    let _journal = core.journal();
-    let rows = rows_of(alloc, core, core.accepted())?;
-    ordered_lines(alloc, rows)
-}
-
-// The rows of the bodies of the numbers.
-fn rows_of<'a>(alloc: Global, core: &'a Core, numbers: &[u32]) -> Result<Vec<Row<'a>>, AllocError>
-    ensures { IfOk result (λ rows. AreRows (own_lines core.now) (chosen core.now.held numbers.now) rows.items) }
-{
-    let mut rows = Vec::new(alloc);
-    for number in numbers {
-        let row = row_of(alloc, core, *number)?;
-        add_row(&mut rows, row)?;
-    }
-    Ok(rows)
-}
-
-// The row of a body.
-fn row_of(alloc: Global, core: &Core, number: u32) -> Result<Option<Row<'_>>, AllocError>
-    ensures { IfOk result (λ row. IsRow (own_lines core.now) (slice_get core.now.held number) row) }
-{
-    match (core.body(number), core.event(number)) {
-        (Some(body), Some(event)) => {
-            let lines = live_lines(alloc, core, event)?;
-            Ok(Some(Row::new(body, event, lines)))
-        }
-        _ => Ok(None),
-    }
-}
-
-// The line of an event that is the only one of its identifier, and that of its state.
-fn live_lines(alloc: Global, core: &Core, event: &Event) -> Result<String, AllocError>
-    ensures { IfOk result (λ text. string_bytes text ≡ event_lines core.now event.now) }
-{
-    let mut text = accepted_line(alloc, event, Standing::Live)?;
-    if let Some(state) = core.state(&prefix_of(event)) {
-        let line = line_of_state(alloc, state)?;
-        text.push_str(line.as_str())?;
+    let logs = logs_of(alloc, core)?;
+    let mut text = String::new(alloc);
+    for log in logs.values() {
+        let lines = lines_of_log(alloc, core, &log.prefix, log.numbers.as_slice())?;
+        text.push_str(lines.as_str())?;
     }
     Ok(text)
+}
+
+// The lines of an identifier, whose accepted events have these numbers, in order of acceptance.
+fn lines_of_log(
+    alloc: Global,
+    core: &Core,
+    prefix: &Prefix,
+    numbers: &[u32],
+) -> Result<String, AllocError>
+    requires held { All (λ n. n < length core.now.held) numbers.now }
+    requires own { chosen core.now.held numbers.now ≡ report.own_of prefix.now (accepted_by core.now) }
+    ensures { IfOk result (λ text. string_bytes text ≡ log_lines (accepted_by core.now) prefix.now) }
+{
+    let live = live_numbers(alloc, core, prefix, numbers)?;
+    let mut text = lines_of_events(alloc, core, numbers, live.as_slice())?;
+    let state = lines_of_state(alloc, core.state(prefix))?;
+    text.push_str(state.as_str())?;
+    Ok(text)
+}
+
+// The numbers of the live events of an identifier, whose accepted events have these numbers; the least comes first.
+fn live_numbers(
+    alloc: Global,
+    core: &Core,
+    prefix: &Prefix,
+    numbers: &[u32],
+) -> Result<Vec<u32>, AllocError>
+    requires held { All (λ n. n < length core.now.held) numbers.now }
+    requires own { chosen core.now.held numbers.now ≡ report.own_of prefix.now (accepted_by core.now) }
+    ensures rising { IfOk result (λ found. IsSorted nat_cmp found.items) }
+    ensures those { IfOk result (λ found. Marks core.now.held found.items (logs.live (accepted_by core.now) prefix.now)) }
+{
+    // No two bodies are the same: the journal says so.
+    let _journal = core.journal();
+    let mut found = live(alloc, core.events(), numbers, prefix)?;
+    found.sort_unstable();
+    Ok(found)
+}
+
+// The lines of the events of these numbers, of which some are live.
+fn lines_of_events(
+    alloc: Global,
+    core: &Core,
+    numbers: &[u32],
+    live: &[u32],
+) -> Result<String, AllocError>
+    requires rising { IsSorted nat_cmp live.now }
+    ensures { (live_events : List Body) → Marks core.now.held live.now live_events
+        → IfOk result (λ text. string_bytes text ≡ events_lines live_events (chosen core.now.held numbers.now)) }
+{
+    let mut text = String::new(alloc);
+    for number in numbers {
+        if let Some(event) = core.event(*number) {
+            let line = accepted_line(alloc, event, standing_among(live, *number))?;
+            text.push_str(line.as_str())?;
+        }
+    }
+    Ok(text)
+}
+
+// How the event of a number stands, where these are the live ones.
+fn standing_among(live: &[u32], number: u32) -> Standing
+    requires { IsSorted nat_cmp live.now }
+    ensures { result ≡ (if list_any (λ m. m == number) live.now then Live else Superseded) }
+{
+    match live.binary_search(&number) {
+        Ok(_) => Standing::Live,
+        Err(_) => Standing::Superseded,
+    }
+}
+
+// The line of a state, where there is one.
+fn lines_of_state(alloc: Global, state: Option<&KeyState>) -> Result<String, AllocError>
+    ensures { IfOk result (λ text. string_bytes text ≡ report.state_lines (option_map (λ s. s.now) state.entry)) }
+{
+    match state {
+        Some(state) => line_of_state(alloc, state),
+        None => Ok(String::new(alloc)),
+    }
 }
 
 fn line_of_state(alloc: Global, state: &KeyState) -> Result<String, AllocError>

@@ -2,6 +2,8 @@
 #![tactic(auto)]
 
 mod accepted;
+mod held;
+mod logs;
 mod row;
 mod rows;
 mod standing;

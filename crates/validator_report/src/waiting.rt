@@ -21,13 +21,23 @@ pub(crate) fn waiting_lines(alloc: Global, core: &Core) -> Result<String, AllocE
 fn waiting_rows(alloc: Global, core: &Core) -> Result<Vec<Row<'_>>, AllocError>
     ensures { IfOk result (λ rows. AreRows (waits_lines core.now) (waiting_of core.now) rows.items) }
 {
-    let count = core.journal().bodies.len() as u32;
     let mut rows = Vec::new(alloc);
-    for number in 0..count {
+    for place in 0..core.len() {
+        let number = number_from(place)?;
         let row = waiting_row(alloc, core, number)?;
         add_row(&mut rows, row)?;
     }
     Ok(rows)
+}
+
+// A place as a number. More bodies than numbers are more than memory holds.
+fn number_from(place: usize) -> Result<u32, AllocError>
+    ensures { IfOk result (λ n. n ≡ place) }
+{
+    match u32::try_from(place) {
+        Ok(number) => Ok(number),
+        Err(_) => Err(AllocError),
+    }
 }
 
 // The row of a body, where it waits.

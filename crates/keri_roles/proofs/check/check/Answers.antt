@@ -1,7 +1,8 @@
 use Rattle.std.proofs.Common.{◌≡◌, false, [], ◌∷◌, inl, inr, rules, string_bytes, is_none}
 use Rattle.keri_outside.specs.Told.{Grows}
 use Rattle.keri_outside.specs.declared.making.MakingKind.TheVariants.{Source}
-use Rattle.keri_roles.specs.Settling.{Settles}
+use Rattle.keri_roles.specs.RunStatus.{Settles}
+use Rattle.keri_roles.proofs.Unverified.{no_fault}
 use Rattle.keri_roles.proofs.check.check.Goals as goal
 
 pub returns-clause-checked : goal.returns-clause-checked
@@ -41,4 +42,5 @@ returns-clause-read_faults g c =
 pub returns-clause-no_verifier : goal.returns-clause-no_verifier
 returns-clause-no_verifier g c =
     let one : c.push.new.self.items ≡ c.check_file-reader.result.0 ∷ [] = search rules in
-    rw one ((λ e. absurd (c.check_file-reader.ensures.no_verifier.no_fault e)), tt)
+    rw one (no_fault g.O.Verifier.Verifier.faults (g.O.Outside.told c.args.outside.now).faults (g.O.Outside.told c.settle-status.new.outside).faults
+    c.check_file-reader.result.0 c.check_file-reader.ensures.no_verifier)

@@ -1,5 +1,5 @@
 use Rattle.std.proofs.Common.{◌≡◌, [], ◌∷◌, inl, inr, rules, string_bytes, is_none}
-use Rattle.keri_roles.specs.Settling.{Settles}
+use Rattle.keri_roles.specs.RunStatus.{Settles}
 use Rattle.keri_roles.specs.Validate.{GrowsByTwo}
 use Rattle.keri_roles.proofs.validate.validate.Goals as goal
 

@@ -5,5 +5,5 @@ use Rattle.validator_report.specs.Rows.{AreRows}
 use Rattle.validator_report.proofs.waiting.waiting_rows.Given as goal
 
 -- the rows are those of the bodies so far
-abbrev pub invariant-loop-number : goal.invariant-loop-number
-invariant-loop-number l = let core = l.fn.core in AreRows (waits_lines core) (filter (λ b. is_some (reason_of core b)) (take l.number core.held)) l.rows.items
+abbrev pub invariant-loop-place : goal.invariant-loop-place
+invariant-loop-place l = let core = l.fn.core in AreRows (waits_lines core) (filter (λ b. is_some (reason_of core b)) (take l.place core.held)) l.rows.items

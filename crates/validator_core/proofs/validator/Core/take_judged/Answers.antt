@@ -1,33 +1,25 @@
-use Rattle.std.proofs.Common.{◌≡◌, Some, sym, ◌∙◌}
-use Rattle.validator_core.specs.Tables.{body_of}
-use Rattle.validator_core.proofs.Groups.{taken_narrow}
-use Rattle.validator_core.proofs.Judged.{receipt_claims, takes_message, if_ok}
+use Rattle.std.proofs.Common.{subst}
+use Rattle.core_tables.specs.View.{body_of}
+use Rattle.event_core.specs.Calls.{TakesBody}
+use Rattle.event_core.specs.Looks.{LooksByReply}
+use Rattle.journal.specs.Replies.{claims_of}
+use Rattle.validator_core.proofs.Takes.{if_ok, looks_message, takes_message}
 use Rattle.validator_core.proofs.validator.Core.take_judged.Goals as goal
 
-pub take_again-requires-clause-no_held : goal.take_again-requires-clause-no_held
-take_again-requires-clause-no_held c = λ b held. (
-    let found = rw c.as_slice.ensures at c.in-Some.ensures.some in
-    let both : Some (body_of c.args.message.now.body c.args.event) ≡ Some b = sym found ∙ held in
-    let is : body_of c.args.message.now.body c.args.event ≡ b = cc in
-    rw (← is, c.in_ok-claims.ensures) (receipt_claims c.args.message.now c.args.event c.args.reader c.requires.judged.1))
+pub take-requires : goal.take-requires
+take-requires c = record { held = record { spelled = c.requires.judged.0.1; few = c.requires.judged.0.0 } }
 
-pub take_new-requires-clause-held : goal.take_new-requires-clause-held
-take_new-requires-clause-held c = record {
-  spelled = c.requires.judged.0.1;
-  narrow = taken_narrow c.args.message.now c.args.event c.requires.judged.1;
-  few = c.requires.judged.0.0;
-}
+pub returns-clause-takes : goal.returns-clause-takes
+returns-clause-takes c =
+    let message = c.args.message.now in
+    if_ok c.take.result c.take.ensures.takes (λ reply takes.
+    takes_message c.args.self.now c.take.new.self c.args.reader message c.args.event reply c.requires.judged
+    (subst (λ core. TakesBody core c.args.reader (body_of message.body c.args.event) (claims_of message) reply c.take.new.self) c.self.view_is
+    (rw c.in_ok-claims.ensures at takes)))
 
-pub take_new-requires-clause-no_held : goal.take_new-requires-clause-no_held
-take_new-requires-clause-no_held c = rw c.in_ok-claims.ensures (receipt_claims c.args.message.now c.args.event c.args.reader c.requires.judged.1)
-
-pub returns-in-Some-clause-takes : goal.returns-in-Some-clause-takes
-returns-in-Some-clause-takes c =
-    let found = rw c.as_slice.ensures at c.in-Some.ensures.some in
-    if_ok c.take_again.result c.take_again.ensures.takes (λ reply takes.
-    takes_message c.args.self.now c.take_again.new.self c.args.reader c.args.message.now c.args.event reply c.requires.judged
-    (rw c.in_ok-claims.ensures at (takes (body_of c.args.message.now.body c.args.event) found)))
-
-pub returns-in-None-clause-takes : goal.returns-in-None-clause-takes
-returns-in-None-clause-takes c = if_ok c.take_new.result c.take_new.ensures.takes (λ reply takes.
-    takes_message c.args.self.now c.take_new.new.self c.args.reader c.args.message.now c.args.event reply c.requires.judged (rw c.in_ok-claims.ensures at takes))
+pub returns-clause-few : goal.returns-clause-few
+returns-clause-few c =
+    let message = c.args.message.now in
+    if_ok c.take.result c.take.ensures.few (λ reply few.
+    looks_message c.args.self.now c.take.new.self message c.args.event reply _ _ c.requires.judged
+    (subst (λ core. LooksByReply core (body_of message.body c.args.event) reply c.take.new.self c.args.steps.now c.take.new.steps) c.self.view_is few))

@@ -1,0 +1,15 @@
+use Rattle.std.proofs.Common.{◌≡◌}
+use Rattle.validator_core.specs.View.{unheard_of}
+use Rattle.keri_roles.specs.Verdicts.{Asks}
+use Rattle.keri_roles.proofs.open_questions.ask_open.Given as goal
+
+-- verdicts alone were noted, and the verifier hasn't failed
+abbrev pub invariant-loop-question : goal.invariant-loop-question
+invariant-loop-question g l = record {
+  asks : Asks (g.V.Verifier.says l.fn.verifier) l.fn.core l.core;
+  same : g.V.Verifier.says l.verifier ≡ g.V.Verifier.says l.fn.verifier;
+  none_failed : g.V.Verifier.faults l.verifier ≡ g.V.Verifier.faults l.fn.verifier;
+}
+
+abbrev pub decreases-loop-question : goal.decreases-loop-question
+decreases-loop-question g l = unheard_of l.core

@@ -1,0 +1,31 @@
+-- What stands while `check` takes messages, and when it has taken the last.
+use Rattle.std.specs.Prelude.{◌≡◌, ℕ, List, ◌++◌, string_bytes}
+use Rattle.std.specs.declared.option.Option.{Option}
+use Rattle.std.specs.declared.alloc.AllocError.{AllocError}
+use Rattle.cesr_stream.specs.declared.message.Message.{Message}
+use Rattle.cesr_stream.specs.Assembly.{all_of}
+use Rattle.message_feed.specs.declared.feed_close.FeedClose.{FeedClose}
+use Rattle.message_feed.specs.declared.feed_close.FeedClose.TheVariants as feed
+use Rattle.keri_roles.specs.declared.checker.Checker.{Checker}
+use Rattle.keri_roles.specs.declared.close.Close.{Close}
+use Rattle.keri_roles.specs.declared.close.Close.TheVariants.{End, Bad, ReadFault, Full}
+use Rattle.keri_roles.specs.Answers.{Answered}
+use Rattle.keri_roles.specs.Closes.{ending_text}
+
+-- these messages have been answered
+abbrev pub HasAnswered : Checker → List Message → Type 0
+HasAnswered checker messages = Answered messages (string_bytes checker.lines) checker.refused.items
+
+-- reading a source closed so
+abbrev pub IsClose : FeedClose AllocError → Close → Type 0
+IsClose feed.End close = close ≡ End
+IsClose (feed.Bad bad) close = close ≡ Bad bad
+IsClose feed.ReadFault close = close ≡ ReadFault
+IsClose feed.Full close = close ≡ Full
+IsClose feed.OutOfMemory close = ⊥
+IsClose (feed.Stopped stop) close = ⊥
+
+-- behind the messages answered so far the last one was answered, and behind its line stands that of how reading closed
+abbrev pub Finishes : Close → Option Message → Checker → Checker → Type 0
+Finishes close last old new = (messages : List Message) → HasAnswered old messages
+    → (lines : List ℕ) × Answered (messages ++ all_of last) lines new.refused.items × (string_bytes new.lines ≡ lines ++ ending_text 0 close)

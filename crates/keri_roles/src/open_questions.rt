@@ -1,0 +1,60 @@
+//! The open questions, which the verifier is asked.
+ghost use Rattle.std.specs.Prelude.{◌≡◌, ◌<◌, [], IfOk, IfErr, OnOk, OnErr};
+ghost use Rattle.validator_core.specs.View.{open_of, unheard_of};
+ghost use Rattle.keri_roles.specs.Verdicts.{Asks, IsOpen, IsSaid, Notes, StopsAsking};
+
+use crate::Close;
+use journal::Question;
+use keri_outside::{Failed, Steps, Verifier};
+use std::alloc::AllocError;
+use validator_core::Core;
+
+/// Asks the verifier each open question and notes its verdict, until none is open. A verdict may open further questions.
+pub(crate) fn ask_open<V: Verifier>(
+    core: &mut Core,
+    verifier: &mut V,
+    steps: &mut Steps,
+) -> Result<(), Close>
+    ensures asks { Asks (V.says verifier.old) core.old core.new }
+    ensures same { V.says verifier.new ≡ V.says verifier.old }
+    ensures none_open { OnOk result (open_of core.new ≡ []) }
+    ensures none_failed { OnOk result (V.faults verifier.new ≡ V.faults verifier.old) }
+    ensures stops { IfErr result (λ close. StopsAsking (V.faults verifier.old) (V.faults verifier.new) close) }
+{
+    while let Some(question) = core.next_question(0) {
+        let yes = verdict(core, verifier, &question)?;
+        note(core, &question, yes, steps)?;
+    }
+    Ok(())
+}
+
+// What the verifier says of a question.
+fn verdict<V: Verifier>(core: &Core, verifier: &mut V, question: &Question) -> Result<bool, Close>
+    requires { IsOpen core.now question.now }
+    ensures said { IfOk result (λ yes. IsSaid (V.says verifier.old) core.now question.now yes) }
+    ensures same { V.says verifier.new ≡ V.says verifier.old }
+    ensures none_failed { OnOk result (V.faults verifier.new ≡ V.faults verifier.old) }
+    ensures stops { IfErr result (λ close. StopsAsking (V.faults verifier.old) (V.faults verifier.new) close) }
+{
+    let Some(body) = core.body(question.body) else {
+        unreachable!()
+    };
+    match verifier.ask(&question.key, body, &question.sig) {
+        Ok(yes) => Ok(yes),
+        Err(Failed) => Err(Close::VerifierFault),
+    }
+}
+
+// Notes the verdict on an open question, which is open no more.
+fn note(core: &mut Core, question: &Question, yes: bool, steps: &mut Steps) -> Result<(), Close>
+    requires { IsOpen core.old question.now }
+    ensures fewer { OnOk result (unheard_of core.new < unheard_of core.old) }
+    ensures noted { OnOk result (Notes core.old question.now yes core.new) }
+    ensures err { OnErr result (core.new ≡ core.old) }
+    ensures stops { IfErr result (λ close. close ≡ Close.OutOfMemory) }
+{
+    match core.answer(0, question, yes, steps) {
+        Ok(_) => Ok(()),
+        Err(AllocError) => Err(Close::OutOfMemory),
+    }
+}

@@ -1,0 +1,14 @@
+use Rattle.std.proofs.Common.{not, ap, ◌∙◌, sym}
+use Rattle.std.specs.List.{list_all}
+use Rattle.journal.specs.Replies.{is_held, claims_of_group}
+use Rattle.validator_core.proofs.Groups.{all_held, witness_some, couple_some}
+use Rattle.validator_core.proofs.judgement.has_receipts.Goals as goal
+
+pub returns-in-Witness : goal.returns-in-Witness
+returns-in-Witness c = witness_some c.is_empty.result c.in-Witness.sigs c.is_empty.ensures ∙ sym (ap (λ g. not (list_all is_held (claims_of_group g))) c.in-Witness.is)
+
+pub returns-in-Couples : goal.returns-in-Couples
+returns-in-Couples c = couple_some c.is_empty-in-Couples.result c.in-Couples.couples c.is_empty-in-Couples.ensures ∙ sym (ap (λ g. not (list_all is_held (claims_of_group g))) c.in-Couples.is)
+
+pub returns-in-Held : goal.returns-in-Held
+returns-in-Held c = sym (ap (λ g. not (list_all is_held (claims_of_group g))) c.in-Held.is ∙ ap not (all_held c.in-Held.field-0))

@@ -1,0 +1,202 @@
+#!/usr/bin/env python3
+"""Makes the cases under tests/cases in which `validate` reads events of whole logs with the rehearsal.
+
+Primitives and bodies are made with Python's base64 and hashlib (`kit.py`). Each case names its messages and what is to be written
+of them, as docs/FORMATS.md says it. It is made thrice: with its messages in the order given, in the reversed one, and with those
+of its second half put between those of its first. Where what is written depends on the order, the case says so.
+"""
+from kit import PLAIN_ICP as ICP, body, couples, counter, digest, indexed, key, primitive, receipts, rehearsed, said, signed
+from event_cases import BASIC, ROT, WEIGHTED, WITNESSES
+from validate_cases import WORDS, write
+
+
+def field(text, name):
+    return text.split('"%s":"' % name, 1)[1].split('"', 1)[0]
+
+
+def behind(kind, prior, **values):
+    """An event of the kind behind another."""
+    return body(kind, i=field(prior, "i"), s="%x" % (int(field(prior, "s"), 16) + 1), p=said(prior), **values)
+
+
+def ixn(prior, **values):
+    return behind("ixn", prior, **values)
+
+
+def rot(prior, number, kind="rot", **values):
+    """A rotation to the key of the number, which commits to the next one."""
+    return behind(kind, prior, **{"k": [key(number)], "n": [digest(key(number + 1))], **values})
+
+
+def seal(text):
+    return {"i": field(text, "i"), "s": field(text, "s"), "d": said(text)}
+
+
+def event(text, standing="live"):
+    return "event %s %s %s %s %s\n" % (field(text, "i"), field(text, "s"), field(text, "t"), said(text), standing)
+
+
+def state(text, keys=1, witnesses=0, toad=0):
+    return "state %s %s %s keys=%d witnesses=%d toad=%d\n" % (field(text, "i"), field(text, "s"), said(text), keys, witnesses, toad)
+
+
+def waits(text, why):
+    return "waits %s %s %s %s\n" % (field(text, "i"), field(text, "s"), said(text), why)
+
+
+def log(*events, **sizes):
+    """The lines of an identifier whose events are all live."""
+    return "".join(event(text) for text in events) + state(events[-1], **sizes)
+
+
+def by_prefix(*logs):
+    return "".join(sorted(logs, key=lambda lines: lines.split(" ")[1]))
+
+
+IXN_1 = ixn(ICP)
+IXN_2, OTHER_2 = ixn(IXN_1), ixn(IXN_1, a=[1])
+IXN_3 = ixn(IXN_2)
+IXN_4 = ixn(IXN_3)
+ROT_2 = rot(IXN_1, 2)
+ROT_3 = rot(ROT_2, 3)
+RECOVERY = [
+    signed(ICP, 1), signed(IXN_1, 1), signed(IXN_2, 1), signed(IXN_3, 1), signed(ROT_2, 2), signed(ROT_3, 3), signed(IXN_4, 1),
+]
+RECOVERED = (
+    event(ICP) + event(IXN_1) + event(IXN_2, "superseded") + event(IXN_3, "superseded") + event(ROT_2) + event(ROT_3) + state(ROT_3)
+    + waits(IXN_4, "never")
+)
+# Where the rotation comes first no interaction that it takes the place of is accepted any more.
+ROTATED = log(ICP, IXN_1, ROT_2, ROT_3) + waits(IXN_2, "never") + waits(IXN_3, "predecessor") + waits(IXN_4, "predecessor")
+
+# Three commitments, and a rotation to the key of the third alone.
+THREE = body("icp", n=[digest(key(number)) for number in (2, 3, 4)])
+THIRD = rot(THREE, 4)
+
+OTHER_1 = rot(ICP, 2, n=[digest(key(100))])
+
+# A delegated identifier, and its delegator.
+CHILD = body("dip", k=[key(10)], n=[digest(key(11))], di=said(ICP))
+CHILD_1 = rot(CHILD, 11, "drt")
+SEALING = ixn(ICP, a=[seal(CHILD)])
+SEALING_2 = ixn(SEALING, a=[seal(CHILD_1)])
+CLOSED = body("icp", c=["DND"])
+BARRED = body("dip", k=[key(10)], n=[digest(key(11))], di=said(CLOSED))
+VAIN = ixn(CLOSED, a=[seal(BARRED)])
+
+# A log with weighted keys and witnesses, each event with its groups in one wrap.
+HALVES = ["1/2", "1/2", "1/2"]
+FIRST_SEEN = "1AAG2020-08-22T17c50c09d988921p00c00"
+
+
+def keys(*numbers):
+    return [key(number) for number in numbers]
+
+
+def digests(*numbers):
+    return [digest(key(number)) for number in numbers]
+
+
+LOG = [body("icp", kt=HALVES, k=keys(1, 2, 3), nt=HALVES, n=digests(4, 5, 6), b=WITNESSES, bt="3")]
+LOG += [ixn(LOG[0])]
+LOG += [ixn(LOG[1])]
+LOG += [rot(LOG[2], 4, kt=HALVES, k=keys(4, 5, 6), nt=HALVES, n=digests(7, 8, 9), bt="3")]
+LOG += [ixn(LOG[3])]
+LOG += [ixn(LOG[4])]
+
+
+def wrapped(place):
+    text = LOG[place]
+    first = 1 if place < 3 else 4
+    groups = signed(text, first, first + 1)[len(text):] + receipts(text, 1, 2, 3)
+    groups += counter("E", 1) + primitive("0A", place.to_bytes(16, "big")) + FIRST_SEEN
+    assert len(groups) == 512
+    return text + counter("V", 128) + groups
+
+
+REALISTIC = [wrapped(place) for place in range(6)]
+REALISTIC_LINES = log(*LOG, keys=3, witnesses=4, toad=3)
+
+TWICE = body("icp", kt="2", k=keys(1, 1))
+OWN = body("icp", k=[key(1, "B")], b=[key(1, "B")], bt="1")
+LISTED = body("icp", b=WITNESSES[:2], bt="2")
+CHANGED = rot(LISTED, 2, bt="2", br=WITNESSES[:1], ba=[key(5, "B")])
+BACKED = signed(LISTED, 1) + receipts(LISTED, 1, 2)
+RECEIPT = body("rct", d=said(LISTED), i=said(LISTED))
+MANY = [body("icp", k=[key(number)]) for number in range(20, 60)]
+WAITING = [ixn(first) for first in MANY]
+
+# Of each case its messages and what is written; for other orders, where that is other, by the order's name.
+CASES = {
+    "validated_log_behind_its_interaction": ([signed(IXN_1, 1), signed(ICP, 1)], log(ICP, IXN_1), {}),
+    "validated_rotation_to_a_later_commitment": (
+        [signed(THREE, 1), THIRD + "-AAB" + rehearsed(4, THIRD, "2AAAAC")], log(THREE, THIRD), {},
+    ),
+    "validated_rotation_without_its_commitment": (
+        [signed(THREE, 1), THIRD + "-AAB" + rehearsed(4, THIRD, "BA")], log(THREE) + waits(THIRD, "next"), {},
+    ),
+    "validated_recovery": (RECOVERY, RECOVERED, {"reversed": ROTATED, "mixed": ROTATED}),
+    "validated_delegation": (
+        [signed(CHILD, 10), signed(ICP, 1), signed(SEALING, 1)], by_prefix(log(ICP, SEALING), log(CHILD)), {},
+    ),
+    "validated_delegation_not_sealed": ([signed(CHILD, 10), signed(ICP, 1)], log(ICP) + waits(CHILD, "seal"), {}),
+    "validated_delegation_forbidden": (
+        [signed(BARRED, 10), signed(CLOSED, 1), signed(VAIN, 1)], log(CLOSED, VAIN) + waits(BARRED, "never"), {},
+    ),
+    "validated_delegated_rotation": (
+        [signed(SEALING, 1), signed(CHILD, 10), signed(CHILD_1, 11), signed(SEALING_2, 1), signed(ICP, 1)],
+        by_prefix(log(ICP, SEALING, SEALING_2), log(CHILD, CHILD_1)), {},
+    ),
+    "validated_two_rotations": (
+        [signed(ICP, 1), signed(ROT, 2), signed(OTHER_1, 2)], log(ICP, ROT) + waits(OTHER_1, "never"),
+        {"reversed": log(ICP, OTHER_1) + waits(ROT, "never"), "mixed": log(ICP, OTHER_1) + waits(ROT, "never")},
+    ),
+    "validated_two_interactions": (
+        [signed(ICP, 1), signed(IXN_1, 1), signed(IXN_2, 1), signed(OTHER_2, 1)], log(ICP, IXN_1, IXN_2) + waits(OTHER_2, "never"),
+        {"reversed": log(ICP, IXN_1, OTHER_2) + waits(IXN_2, "never")},
+    ),
+    "validated_witnessed_log": (REALISTIC, REALISTIC_LINES, {}),
+    "validated_witnessed_log_thrice": (REALISTIC * 3, REALISTIC_LINES, {}),
+    "validated_signature_at_two_indices": (
+        [TWICE + "-AAB" + rehearsed(1, TWICE, head) for head in ("AA", "AB")], log(TWICE, keys=2), {},
+    ),
+    "validated_key_that_is_its_witness": ([OWN + "-AAB" + rehearsed(1, OWN, code="B")], log(OWN, witnesses=1, toad=1), {}),
+    "validated_receipts_of_one_witness": (
+        [signed(LISTED, 1) + receipts(LISTED, 1), RECEIPT + couples(LISTED, 1)], waits(LISTED, "receipts"), {},
+    ),
+    "validated_receipts_in_a_receipt": (
+        [signed(LISTED, 1) + receipts(LISTED, 1), RECEIPT + couples(LISTED, 2)], log(LISTED, witnesses=2, toad=2), {},
+    ),
+    "validated_receipts_of_former_witnesses": (
+        [BACKED, signed(CHANGED, 2) + couples(CHANGED, 1, 2)], log(LISTED, witnesses=2, toad=2) + waits(CHANGED, "receipts"), {},
+    ),
+    "validated_receipts_of_new_witnesses": (
+        [BACKED, signed(CHANGED, 2) + couples(CHANGED, 5, 2)], log(LISTED, CHANGED, witnesses=2, toad=2), {},
+    ),
+    "validated_many_that_wait": (
+        [signed(text, number) for number, text in enumerate(WAITING, 20)] + [signed(MANY[0], 20)],
+        log(MANY[0], WAITING[0]) + "".join(sorted(waits(text, "predecessor") for text in WAITING[1:])), {},
+    ),
+    "validated_kinds": (
+        [signed(ROT, 1), signed(BASIC, 1), signed(LISTED, 1), signed(WEIGHTED, 1)],
+        event(BASIC) + state(BASIC) + "".join(sorted(
+            [waits(ROT, "predecessor"), waits(LISTED, "receipts"), waits(WEIGHTED, "signatures")])), {},
+    ),
+}
+
+
+def orders(messages):
+    half = (len(messages) + 1) // 2
+    mixed = [message for place in range(half) for message in messages[place::half]]
+    return {"": messages, "reversed": messages[::-1], "mixed": mixed}
+
+
+if __name__ == "__main__":
+    count = 0
+    for name, (messages, lines, others) in CASES.items():
+        for order, arranged in orders(messages).items():
+            if order and arranged == messages:
+                continue
+            write(name + ("_" + order if order else ""), WORDS, "".join(arranged), others.get(order, lines), 0)
+            count += 1
+    print(count, "cases")
