@@ -1,31 +1,8 @@
-"""The calls of one core after another.
-
-Where a call is given a number of steps it is twice the number of events that it may look at: those that the message or the question
-names, and those that wait for an event that it accepts.
-"""
+"""What a core says call by call: questions and verdicts, limits, refusals, and what an event needs to be accepted."""
 from kit import PLAIN_ICP as ICP, body, couples, digest, indexed, key, receipts, rehearsed, said, signed
-from row_tables import argument
+from log_cases import LISTED, LOG, OWN, REALISTIC, THIRD, THREE
+from row_tables.core_calls import accept, accepted, answer, asked, live, logged, start, take, waiting
 from row_tables.states import IXN_1, IXN_2, OTHER_2, PREFIX, ixn
-
-
-def start(mode="full", messages=0, size=0, signatures=0):
-    yield "core %s %d %d %d" % (mode, messages, size, signatures), "begun"
-
-
-def take(text, answer="Taken", waiting=0):
-    yield "take 0 %d %s" % (2 * (1 + waiting), argument(text)), answer + " true"
-
-
-def answer(verdict, noted="New", waiting=0):
-    yield "answer %s %d" % (verdict, 2 * (1 + waiting)), noted + " true"
-
-
-def accept(text, numbers, waiting=0):
-    """A message with one open question, whose yes makes these bodies the accepted ones."""
-    yield from take(text)
-    yield "next 0", "%d %s" % (numbers[-1], key(1))
-    yield from answer("yes", "New", waiting)
-    yield "accepted", "".join("%d " % number for number in numbers)
 
 
 def questions():
@@ -33,7 +10,9 @@ def questions():
     yield from take(signed(IXN_1, 1))
     yield "next 0", "none"
     yield "why 0", "Predecessor"
+    yield from waiting(0)
     yield from take(signed(ICP, 1))
+    yield from waiting(0, 1)
     yield "next 0", "1 " + key(1)
     yield from answer("yes", waiting=1)
     yield from answer("yes", "Known")
@@ -44,6 +23,8 @@ def questions():
     yield from answer("yes")
     yield "accepted", "1 0 "
     yield "state %s" % PREFIX, "1 1 0"
+    yield from live(1, 0)
+    yield from waiting()
     yield "next 0", "none"
     yield "why 0", "none"
     yield "why 7", "none"
@@ -58,12 +39,42 @@ def questions():
     yield "why 3", "Never"
 
 
+def order_of_questions():
+    # By body, then by first coming, and counted round.
+    first, second = body("icp", kt="2", k=[key(1), key(2)]), body("icp", a=[1])
+    groups = [signed(first, 1, 2), first + "-AAB" + rehearsed(2, first, "AB") + "-AAB" + rehearsed(1, first, "AA")]
+    for text, people in zip(groups, ((1, 2), (2, 1))):
+        yield from start()
+        yield from take(text)
+        for skip in (0, 1, 2, 3):
+            yield "next %d" % skip, "0 " + key(people[skip % 2])
+    yield from start()
+    for text in (first + "-AAB" + rehearsed(2, first, "AB"), signed(second, 1), first + "-AAB" + rehearsed(1, first, "AA")):
+        yield from take(text)
+    questions = ["0 " + key(2), "0 " + key(1), "1 " + key(1)]
+    for skip in range(4):
+        yield "next %d" % skip, questions[skip % 3]
+    yield "next 1", questions[1]
+    yield from answer("no")
+    for skip in range(3):
+        yield "next %d" % skip, questions[skip % 2 * 2]
+
+
 def limits():
-    for sizes in ({"messages": 2}, {"size": 299}, {"signatures": 2}):
+    # Where so many were taken a message is too much though its body is held; of bytes it adds none.
+    for sizes in ({"messages": 2}, {"signatures": 2}):
         yield from start(**sizes)
         yield from take(signed(ICP, 1))
         yield from take(signed(ICP, 1), "Again")
-        yield from take(signed(IXN_1, 1), "Full")
+        yield from take(signed(ICP, 1), "Full")
+        yield "ask", "1"
+        yield from accepted(0)
+        yield "state %s" % PREFIX, "0 1 0"
+    yield from start(size=299)
+    yield from take(signed(ICP, 1))
+    yield from take(signed(ICP, 1), "Again")
+    yield from take(signed(IXN_1, 1), "Full")
+    yield from take(signed(ICP, 1), "Again")
     yield from start(size=298)
     yield from take(signed(ICP, 1), "Full")
 
@@ -82,7 +93,6 @@ def refusals():
 CHILD = body("dip", k=[key(10)], n=[digest(key(11))], di=said(ICP))
 CLOSED = body("icp", c=["DND"])
 BARRED = body("dip", k=[key(10)], n=[digest(key(11))], di=said(CLOSED))
-LISTED = body("icp", b=[key(1, "B"), key(2, "B")], bt="2")
 SEALING = ixn(1, ICP, a=[{"i": said(CHILD), "s": "0", "d": said(CHILD)}])
 
 
@@ -118,6 +128,69 @@ def modes():
     yield "accepted", "1 2 0 "
 
 
+def commitments():
+    # A signature that names the commitment that it reveals, and one that names none.
+    for head, why in (("2AAAAC", "none"), ("BA", "Next")):
+        rotation = THIRD + "-AAB" + rehearsed(4, THIRD, head)
+        yield from start()
+        yield from take(signed(THREE, 1))
+        yield from asked(0, key(1))
+        yield from take(rotation)
+        yield from asked(1, key(4))
+        yield "why 1", why
+        yield from accepted(*[0, 1] if why == "none" else [0])
+        yield from start()
+        yield from take(rotation)
+        yield from take(signed(THREE, 1))
+        yield from asked(1, key(1), waiting=1)
+        yield from asked(0, key(4))
+        yield "why 0", why
+        yield from accepted(*[1, 0] if why == "none" else [1])
+    # The signature that was heard comes by the name of its commitment.
+    yield from take(THIRD + "-AAB" + rehearsed(4, THIRD, "2AAAAC"))
+    yield from accepted(1, 0)
+    yield "next 0", "none"
+
+
+def witnesses():
+    # The signing key is the one witness.
+    yield from start()
+    yield from take(OWN + "-AAB" + rehearsed(1, OWN, code="B"))
+    yield from asked(0, key(1, "B"))
+    yield from accepted(0)
+    # Of a body's five questions all but the last are answered, and all but the first, from the last on.
+    people = [key(1), key(2), key(1, "B"), key(2, "B"), key(3, "B")]
+    for skips, why in (([0, 0, 0, 0], "Receipts"), ([4, 3, 2, 1], "Signatures")):
+        yield from start()
+        yield from take(REALISTIC[0])
+        unheard = list(people)
+        for skip in skips:
+            yield "next %d" % skip, "0 " + unheard.pop(skip)
+            yield from answer("yes")
+        yield "why 0", why
+        yield from accepted()
+        yield from asked(0, unheard[0])
+        yield "why 0", "none"
+        yield from accepted(0)
+
+
+def witnessed_log():
+    yield from start()
+    for text in REALISTIC:
+        yield from take(text)
+        yield "ask", "5"
+    yield from logged(LOG, "5 3 4")
+    for reader in (1, 2):
+        for text in REALISTIC:
+            yield from take(text, "Again", reader=reader)
+    yield from logged(LOG, "5 3 4")
+    yield from start()
+    for text in REALISTIC[::-1]:
+        yield from take(text)
+    yield "ask", "30"
+    yield from logged(LOG[::-1], "5 3 4")
+
+
 TWICE = body("icp", kt="2", k=[key(1), key(1)])
 MANY = [body("icp", a=[number]) for number in range(1000)]
 
@@ -144,11 +217,16 @@ def looks():
 def rows():
     yield "# questions and verdicts"
     yield from questions()
+    yield from order_of_questions()
     yield "# limits"
     yield from limits()
     yield "# refused messages"
     yield from refusals()
     yield "# validators, and cores that wait for neither receipts nor seals"
     yield from modes()
+    yield "# commitments, and witnesses"
+    yield from commitments()
+    yield from witnesses()
+    yield from witnessed_log()
     yield "# what is looked at"
     yield from looks()

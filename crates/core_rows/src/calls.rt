@@ -2,14 +2,13 @@
 
 use crate::message::message_of;
 use crate::session::{Session, limits_of, mode_of};
-use cesr_codes::{Prefix, Sig};
+use crate::{base, views};
+use cesr_codes::Sig;
 use cesr_stream::Message;
 use journal::Question;
 use keri_outside::{Rehearsal, Verifier};
-use key_state::KeyState;
 use row_text::{Row, given};
 use std::alloc::{AllocError, Global};
-use std::fmt::Write;
 
 // How many questions `ask` answers at most.
 const MOST_QUESTIONS: u32 = 1_000_000;
@@ -19,8 +18,8 @@ fn reader_of(row: &Row) -> u16 {
     u16::try_from(row.number(1)).unwrap_or(0)
 }
 
-// The first argument as a number of 32 bits; the greatest of those where it is beyond.
-fn number_of(row: &Row) -> u32 {
+/// The first argument as a number of 32 bits; the greatest of those where it is beyond.
+pub(crate) fn number_of(row: &Row) -> u32 {
     u32::try_from(row.number(1)).unwrap_or(u32::MAX)
 }
 
@@ -149,45 +148,6 @@ fn asked(alloc: Global, session: &mut Session) -> Result<String, AllocError> {
     String::from_str(alloc, "too-many")
 }
 
-/// `why NUMBER`: why the event of a number waits, or `none`.
-fn why(alloc: Global, session: &Session, row: &Row) -> Result<String, AllocError> {
-    match session.core.why_waits(number_of(row)) {
-        Some(why) => format!(in alloc; "{why:?}"),
-        None => String::from_str(alloc, "none"),
-    }
-}
-
-fn number_word(text: &mut String, number: u32) -> Result<(), AllocError> {
-    write!(text, "{number} ")
-}
-
-/// `accepted`: the numbers of the accepted bodies.
-fn accepted(alloc: Global, session: &Session) -> Result<String, AllocError> {
-    let mut text = String::new(alloc);
-    for number in session.core.accepted() {
-        number_word(&mut text, *number)?;
-    }
-    Ok(text)
-}
-
-// The number of the last live event, and how many keys and witnesses there are.
-fn state_words(alloc: Global, state: &KeyState) -> Result<String, AllocError> {
-    let (sn, keys, witnesses) = (state.sn(), state.keys.len(), state.list.len());
-    format!(in alloc; "{sn} {keys} {witnesses}")
-}
-
-/// `state PREFIX`: the number of the last live event and how many keys and witnesses there are, or `none`.
-fn state(alloc: Global, session: &Session, row: &Row) -> Result<String, AllocError> {
-    let word = row.bytes(alloc, 1)?;
-    match Prefix::read(word.as_slice()) {
-        Ok((prefix, _)) => match session.core.state(&prefix) {
-            Some(state) => state_words(alloc, state),
-            None => String::from_str(alloc, "none"),
-        },
-        Err(_) => String::from_str(alloc, "no-prefix"),
-    }
-}
-
 /// The answer of the row, where it is one of these calls.
 pub(crate) fn answer(
     alloc: Global,
@@ -201,9 +161,7 @@ pub(crate) fn answer(
         "answer" => given(answered(alloc, session, row)),
         "strange" => given(strange(alloc, session)),
         "ask" => given(asked(alloc, session)),
-        "why" => given(why(alloc, session, row)),
-        "accepted" => given(accepted(alloc, session)),
-        "state" => given(state(alloc, session, row)),
-        _ => Ok(None),
+        "resume" => given(base::resumed(alloc, session, row)),
+        _ => views::answer(alloc, session, row),
     }
 }

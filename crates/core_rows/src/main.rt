@@ -3,9 +3,11 @@
 //! come out are made by tests/rows, never by this program.
 #![tactic(auto)]
 
+mod base;
 mod calls;
 mod message;
 mod session;
+mod views;
 
 use anyhow::Result;
 use row_text::Row;

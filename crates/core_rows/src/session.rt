@@ -23,8 +23,13 @@ impl Session {
 
     /// A core of this mode and these limits.
     pub(crate) fn of(alloc: Global, mode: Mode, limits: Limits) -> Session {
+        Session::with(Core::new(alloc, mode, limits))
+    }
+
+    /// This core.
+    pub(crate) fn with(core: Core) -> Session {
         Session {
-            core: Core::new(alloc, mode, limits),
+            core,
             steps: Steps::new(),
             question: None,
         }

@@ -1,9 +1,13 @@
 //! The core: it judges messages, and has those that aren't refused taken.
-ghost use Rattle.std.specs.Prelude.{◌≡◌, ◌≤◌, ◌<◌, [], All, IfOk, IfSome, Ok, OnErr, map, length, slice_get};
+ghost use Rattle.std.specs.Prelude.{◌≡◌, ◌≤◌, ◌<◌, [], All, IfErr, IfOk, IfSome, List, Ok, OnErr, map, length, slice_get};
 ghost use Rattle.std.specs.Option.{option_map};
 ghost use Rattle.core_tables.specs.Hints.{IsEscrow};
-ghost use Rattle.journal.specs.Journals.{Names, chosen};
+ghost use Rattle.journal.specs.Conflicts.{IsConflictList};
+ghost use Rattle.event_core.specs.Base.{AreRefused, IsResumed};
+ghost use Rattle.journal.specs.Logs as logs;
+ghost use Rattle.journal.specs.Journals.{NameConflicts, Names, chosen};
 ghost use Rattle.journal.specs.Questions.{next_question};
+ghost use Rattle.journal.specs.declared.body.Body.{Body};
 ghost use Rattle.journal.specs.declared.question.Noted.TheVariants.{New};
 ghost use Rattle.validator_core.specs.Messages.{JudgesMessage};
 ghost use Rattle.validator_core.specs.View.{LooksByMessage, LooksByVerdict, Stands, TakesMessage, TakesVerdict, accepted_by, base_of, state_of, told_of, unheard_of, waits_for};
@@ -15,7 +19,8 @@ use cesr_stream::Message;
 use escrow::Waiting;
 use event_body::Event;
 use event_core::EventCore;
-use journal::{Journal, Mode, Noted, Question, Reply, Why};
+use journal::{Conflict, Journal, Mode, Noted, Question, Reply, ResumeFault, Why};
+use json_tree::Text;
 use keri_outside::{Limits, Steps};
 use key_state::KeyState;
 use std::alloc::{AllocError, Global};
@@ -48,6 +53,23 @@ impl Core {
         Core {
             alloc,
             events: EventCore::new(alloc, mode, limits),
+        }
+    }
+
+    /// A core that begins with a list of texts, which count as accepted in their order.
+    pub fn resume(
+        alloc: Global,
+        mode: Mode,
+        limits: Limits,
+        base: Vec<Text>,
+    ) -> Result<Core, ResumeFault>
+        requires { length base.items ≤ 1048576 }
+        ensures ok { IfOk result (λ core. IsResumed mode limits base.items core) }
+        ensures err { IfErr result (λ fault. AreRefused base.items fault) }
+    {
+        match EventCore::resume(alloc, mode, limits, base) {
+            Ok(events) => Ok(Core { alloc, events }),
+            Err(fault) => Err(fault),
         }
     }
 
@@ -181,6 +203,21 @@ impl Core {
         ensures { result ≡ waits_for self.now body }
     {
         self.events.why_waits(body)
+    }
+
+    /// The numbers of the live events of an identifier, in order.
+    pub fn log(&self, prefix: &Prefix) -> Result<Vec<u32>, AllocError>
+        ensures live { IfOk result (λ numbers. chosen self.now.held numbers.items ≡ logs.live (accepted_by self.now) prefix.now) }
+        ensures held { IfOk result (λ numbers. All (λ n. n < length self.now.held) numbers.items) }
+    {
+        self.events.log(prefix)
+    }
+
+    /// The conflicts: each place with two or more bodies that stand in the log and are signed, with the numbers of these bodies.
+    pub fn conflicts(&self) -> Result<Vec<Conflict>, AllocError>
+        ensures { IfOk result (λ found. (sets : List (List Body)) × NameConflicts self.now.held found.items sets × IsConflictList self.now.mode (base_of self.now) (told_of self.now) sets) }
+    {
+        self.events.conflicts()
     }
 
     /// The events that aren't accepted, each with the number of its body. It takes no memory.
