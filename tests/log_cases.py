@@ -1,5 +1,5 @@
 #!/usr/bin/env python3
-"""Makes the cases under tests/cases in which `validate` reads events of whole logs with the rehearsal.
+"""Makes the cases under tests/cases in which `validate` reads events of whole logs with the rehearsal, and its samples.
 
 Primitives and bodies are made with Python's base64 and hashlib (`kit.py`). Each case names its messages and what is to be written
 of them, as docs/FORMATS.md says it. It is made thrice: with its messages in the order given, in the reversed one, and with those
@@ -7,7 +7,7 @@ of its second half put between those of its first. Where what is written depends
 """
 from kit import PLAIN_ICP as ICP, body, couples, counter, digest, indexed, key, primitive, receipts, rehearsed, said, signed
 from event_cases import BASIC, ROT, WEIGHTED, WITNESSES
-from validate_cases import WORDS, write
+from validate_cases import SAMPLES, WORDS, write
 
 
 def field(text, name):
@@ -44,6 +44,17 @@ def waits(text, why):
     return "waits %s %s %s %s\n" % (field(text, "i"), field(text, "s"), said(text), why)
 
 
+def wait(why, *texts):
+    """The lines of events of one place that wait for the same reason."""
+    return "".join(waits(text, why) for text in sorted(texts, key=str.encode))
+
+
+def conflict(*texts):
+    """The line of bodies of one place."""
+    saids = [said(text) for text in sorted(texts, key=str.encode)]
+    return "conflict %s %s %s\n" % (field(texts[0], "i"), field(texts[0], "s"), " ".join(saids))
+
+
 def log(*events, **sizes):
     """The lines of an identifier whose events are all live."""
     return "".join(event(text) for text in events) + state(events[-1], **sizes)
@@ -74,6 +85,19 @@ THREE = body("icp", n=[digest(key(number)) for number in (2, 3, 4)])
 THIRD = rot(THREE, 4)
 
 OTHER_1 = rot(ICP, 2, n=[digest(key(100))])
+THIRD_1 = rot(ICP, 2, n=[digest(key(101))])
+OTHER_IXN_1 = ixn(ICP, a=[1])
+BOTH = conflict(ROT, OTHER_1)
+
+# A rotation to a key that wasn't committed to, and another inception of an identifier that is a key.
+STRAY_1 = rot(ICP, 3)
+OTHER_BASIC = body("icp", i=key(1), n=[digest(key(3))])
+
+# What was known before.
+assert BOTH == (
+    "conflict IBbsIK4OIV7l0tzgR6RRQcAGFz42J71lEhjGDv6OqgUS 1 "
+    "IBouV5C9yvEAF7jq3TMMwmTlxKuaQm_nBkMFHV3xqjnG IOKxTh5-zgZ-gDRSzHUFR2ZWaq2lPLRNyPyiE48rOhv2\n"
+)
 
 # A delegated identifier, and its delegator.
 CHILD = body("dip", k=[key(10)], n=[digest(key(11))], di=said(ICP))
@@ -121,6 +145,7 @@ TWICE = body("icp", kt="2", k=keys(1, 1))
 OWN = body("icp", k=[key(1, "B")], b=[key(1, "B")], bt="1")
 LISTED = body("icp", b=WITNESSES[:2], bt="2")
 CHANGED = rot(LISTED, 2, bt="2", br=WITNESSES[:1], ba=[key(5, "B")])
+OTHER_CHANGED = rot(LISTED, 2, bt="2", br=WITNESSES[:1], ba=[key(6, "B")])
 BACKED = signed(LISTED, 1) + receipts(LISTED, 1, 2)
 RECEIPT = body("rct", d=said(LISTED), i=said(LISTED))
 MANY = [body("icp", k=[key(number)]) for number in range(20, 60)]
@@ -148,12 +173,50 @@ CASES = {
         by_prefix(log(ICP, SEALING, SEALING_2), log(CHILD, CHILD_1)), {},
     ),
     "validated_two_rotations": (
-        [signed(ICP, 1), signed(ROT, 2), signed(OTHER_1, 2)], log(ICP, ROT) + waits(OTHER_1, "never"),
-        {"reversed": log(ICP, OTHER_1) + waits(ROT, "never"), "mixed": log(ICP, OTHER_1) + waits(ROT, "never")},
+        [signed(ICP, 1), signed(ROT, 2), signed(OTHER_1, 2)], log(ICP, ROT) + waits(OTHER_1, "never") + BOTH,
+        {"reversed": log(ICP, OTHER_1) + waits(ROT, "never") + BOTH, "mixed": log(ICP, OTHER_1) + waits(ROT, "never") + BOTH},
+    ),
+    "validated_two_rotations_and_a_refusal": (
+        [ICP + "-AAA", signed(ICP, 1), signed(ROT, 2), signed(OTHER_1, 2)],
+        "refused 0 0 unsigned\n" + log(ICP, ROT) + waits(OTHER_1, "never") + BOTH,
+        {"reversed": "refused 0 %d unsigned\n" % len(signed(OTHER_1, 2) + signed(ROT, 2) + signed(ICP, 1))
+            + log(ICP, OTHER_1) + waits(ROT, "never") + BOTH},
+    ),
+    "validated_three_rotations": (
+        [signed(ICP, 1), signed(ROT, 2), signed(OTHER_1, 2), signed(THIRD_1, 2)],
+        log(ICP, ROT) + wait("never", OTHER_1, THIRD_1) + conflict(ROT, OTHER_1, THIRD_1),
+        {
+            "reversed": log(ICP, THIRD_1) + wait("never", OTHER_1, ROT) + conflict(ROT, OTHER_1, THIRD_1),
+            "mixed": log(ICP, OTHER_1) + wait("never", ROT, THIRD_1) + conflict(ROT, OTHER_1, THIRD_1),
+        },
+    ),
+    "validated_rotations_and_interactions": (
+        [signed(ICP, 1), signed(IXN_1, 1), signed(OTHER_IXN_1, 1), signed(ROT, 2), signed(OTHER_1, 2)],
+        event(ICP) + event(IXN_1, "superseded") + event(ROT) + state(ROT) + wait("never", OTHER_IXN_1, OTHER_1)
+        + BOTH + conflict(IXN_1, OTHER_IXN_1),
+        {
+            "reversed": log(ICP, OTHER_1) + wait("never", IXN_1, OTHER_IXN_1, ROT) + BOTH + conflict(IXN_1, OTHER_IXN_1),
+            "mixed": log(ICP, ROT) + wait("never", IXN_1, OTHER_IXN_1, OTHER_1) + BOTH + conflict(IXN_1, OTHER_IXN_1),
+        },
+    ),
+    "validated_rotation_beside_one_by_another_key": (
+        [signed(ICP, 1), signed(ROT, 2), OTHER_1 + "-AAB" + rehearsed(3, OTHER_1)], log(ICP, ROT) + waits(OTHER_1, "never"), {},
+    ),
+    "validated_rotation_beside_one_not_committed_to": (
+        [signed(ICP, 1), signed(ROT, 2), signed(STRAY_1, 3)], log(ICP, ROT) + waits(STRAY_1, "never"), {},
+    ),
+    "validated_two_inceptions": (
+        [signed(BASIC, 1), signed(OTHER_BASIC, 1)], log(BASIC) + waits(OTHER_BASIC, "never") + conflict(BASIC, OTHER_BASIC),
+        {"reversed": log(OTHER_BASIC) + waits(BASIC, "never") + conflict(BASIC, OTHER_BASIC)},
+    ),
+    "validated_two_rotations_that_wait": (
+        [BACKED, signed(CHANGED, 2), signed(OTHER_CHANGED, 2)],
+        log(LISTED, witnesses=2, toad=2) + wait("receipts", CHANGED, OTHER_CHANGED) + conflict(CHANGED, OTHER_CHANGED), {},
     ),
     "validated_two_interactions": (
-        [signed(ICP, 1), signed(IXN_1, 1), signed(IXN_2, 1), signed(OTHER_2, 1)], log(ICP, IXN_1, IXN_2) + waits(OTHER_2, "never"),
-        {"reversed": log(ICP, IXN_1, OTHER_2) + waits(IXN_2, "never")},
+        [signed(ICP, 1), signed(IXN_1, 1), signed(IXN_2, 1), signed(OTHER_2, 1)],
+        log(ICP, IXN_1, IXN_2) + waits(OTHER_2, "never") + conflict(IXN_2, OTHER_2),
+        {"reversed": log(ICP, IXN_1, OTHER_2) + waits(IXN_2, "never") + conflict(IXN_2, OTHER_2)},
     ),
     "validated_witnessed_log": (REALISTIC, REALISTIC_LINES, {}),
     "validated_witnessed_log_thrice": (REALISTIC * 3, REALISTIC_LINES, {}),
@@ -185,10 +248,33 @@ CASES = {
 }
 
 
+# The samples, and the cases that they show.
+SAMPLE_CASES = {
+    "validated": "validated_witnessed_log",
+    "recovered": "validated_recovery",
+    "delegated": "validated_delegated_rotation",
+    "conflict": "validated_two_rotations",
+}
+
+
 def orders(messages):
     half = (len(messages) + 1) // 2
     mixed = [message for place in range(half) for message in messages[place::half]]
     return {"": messages, "reversed": messages[::-1], "mixed": mixed}
+
+
+def status(lines):
+    """4 where there is a conflict, and else 3 where a message is refused."""
+    heads = [line.split(" ")[0] for line in lines.splitlines()]
+    return 4 if "conflict" in heads else 3 if "refused" in heads else 0
+
+
+def write_sample(name, stream, lines):
+    (SAMPLES / (name + ".cesr")).write_text(stream)
+    (SAMPLES / (name + ".words")).write_text("validate\n--helper\nrehearsal\n%s.cesr\n" % name)
+    (SAMPLES / (name + ".stdout")).write_text(lines)
+    if status(lines):
+        (SAMPLES / (name + ".status")).write_text("%d\n" % status(lines))
 
 
 if __name__ == "__main__":
@@ -197,6 +283,10 @@ if __name__ == "__main__":
         for order, arranged in orders(messages).items():
             if order and arranged == messages:
                 continue
-            write(name + ("_" + order if order else ""), WORDS, "".join(arranged), others.get(order, lines), 0)
+            written = others.get(order, lines)
+            write(name + ("_" + order if order else ""), WORDS, "".join(arranged), written, status(written))
             count += 1
+    for sample, name in SAMPLE_CASES.items():
+        messages, lines, _ = CASES[name]
+        write_sample(sample, "".join(messages), lines)
     print(count, "cases")

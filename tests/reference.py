@@ -265,6 +265,17 @@ class Reference:
         tests = (("signatures", self.is_signed), ("next", self.is_revealed), ("receipts", self.is_backed))
         return next((reason for reason, test in tests if not test(state, event)), "seal")
 
+    def conflicts(self):
+        """The bodies of one place that differ, where each stands and is signed, by places; those of each place in byte order."""
+        places = {}
+        for event in self.bodies:
+            state = self.state_before(event)
+            if not event.is_receipt and self.stands(event) and self.is_signed(state, event) and self.is_revealed(state, event):
+                place = (event.prefix, event.number, event.prior or "", event.kind == "ixn")
+                places.setdefault(place, []).append(event)
+        sets = [sorted(places[place], key=lambda event: event.text.encode()) for place in sorted(places)]
+        return [events for events in sets if len(events) > 1]
+
     def report(self):
         lines = ["refused 0 %d %s" % refused for refused in self.refused]
         for prefix in sorted({event.prefix for event in self.accepted}):
@@ -278,6 +289,9 @@ class Reference:
         waiting = [event for event in self.bodies if not event.is_receipt and event not in self.accepted]
         for event in sorted(waiting, key=lambda event: (event.prefix, event.number, event.text.encode())):
             lines.append("waits %s %x %s %s" % (event.prefix, event.number, event.said, self.reason(event)))
+        for events in self.conflicts():
+            saids = " ".join(event.said for event in events)
+            lines.append("conflict %s %x %s" % (events[0].prefix, events[0].number, saids))
         return "".join(line + "\n" for line in lines)
 
 

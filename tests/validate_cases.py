@@ -1,5 +1,5 @@
 #!/usr/bin/env python3
-"""Makes the cases under tests/cases in which `validate` reads a stream with the rehearsal, and its sample.
+"""Makes the cases under tests/cases in which `validate` reads a stream with the rehearsal.
 
 Primitives and bodies are made with Python's base64 and hashlib (`kit.py`). Each case names what the stream's bytes are and what is to
 be written, as docs/FORMATS.md says it.
@@ -72,7 +72,4 @@ if __name__ == "__main__":
         write(name, WORDS, stream, text, status)
     write("validated_missing_file", WORDS, None, "fault 0 read\n", 5)
     write("another_helper", ["validate", "--helper", "other", "a"], SIGNED, "words\n", 2)
-    (SAMPLES / "validated.cesr").write_text(SIGNED)
-    (SAMPLES / "validated.words").write_text("validate\n--helper\nrehearsal\nvalidated.cesr\n")
-    (SAMPLES / "validated.stdout").write_text(EVENT + STATE)
     print(len(STREAMS) + 2, "cases")

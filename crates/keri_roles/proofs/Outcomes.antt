@@ -44,18 +44,25 @@ within_of : (core : CoreView) → core.base ≡ 0 → Stands core → IsWithin c
 within_of core b stands = let none = no_bodies core b in let within = rw none at stands.within in within (omega arith)
 
 -- a report is by the bodies and the entries alone
-reports_by_parts : (core : CoreView) (limits : Limits) (entries : List Entry) (refused : List Refusal) (close : Close) (text : List ℕ)
-    → core.mode ≡ mode.Full → core.base ≡ 0 → entries ≡ core.entries → Reports core refused close text → Reports (core_of limits core.held entries) refused close text
-reports_by_parts core limits entries refused close text m b e r =
-    let s : IsStandingText (record core { base = 0 }) r.standing
-    = subst (λ n. IsStandingText (record core { base = n }) r.standing) b r.stands in
+reports_by_parts : (core : CoreView) (limits : Limits) (entries : List Entry) (refused : List Refusal) (close : Close) (text : List ℕ) (has : Bool)
+    → core.mode ≡ mode.Full → core.base ≡ 0 → entries ≡ core.entries → Reports core refused close text has → Reports (core_of limits core.held entries) refused close text has
+reports_by_parts core limits entries refused close text has m b e r =
+    let s : IsStandingText (record core { base = 0 }) r.standing has
+    = subst (λ n. IsStandingText (record core { base = n }) r.standing has) b r.stands in
     record {
       standing = r.standing;
       stands = record {
         logs = s.logs;
         waits = s.waits;
+        conflicts = s.conflicts;
         logs_are = rw (sym m, e) s.logs_are;
         waits_are = rw (sym m, e) s.waits_are;
+        conflicts_are = record {
+          sets = s.conflicts_are.sets;
+          sets_are = rw (sym m, e) s.conflicts_are.sets_are;
+          text_is = s.conflicts_are.text_is;
+          has_conflicts_is = s.conflicts_are.has_conflicts_is;
+        };
         text_is = s.text_is;
       };
       text_is = r.text_is;
@@ -100,21 +107,21 @@ module _ {S V : Type 0} (left : S → Option (List ℕ)) (faults : S → ℕ) (s
     (limits : Limits) where
   -- what was read and told is reported
   reported : (held : Option (List ℕ)) (said : Key → List ℕ → Sig → Option Bool) (source : Option S) (verifier : Option V) (refused : List Refusal)
-      (close : Close) (core : CoreView) (journal : Journal) (text bytes : List ℕ)
-      → IsJournalOf core journal → core.mode ≡ mode.Full → core.limits ≡ limits → core.base ≡ 0 → Reports core refused close text
+      (close : Close) (core : CoreView) (journal : Journal) (text : List ℕ) (has : Bool) (bytes : List ℕ)
+      → IsJournalOf core journal → core.mode ≡ mode.Full → core.limits ≡ limits → core.base ≡ 0 → Reports core refused close text has
       → FeedsOne limits (told_of core) 0 (end_of bytes (said_by left faults says verifier_faults verifier) refused close)
       → All (λ t. reader_of t < 1) (told_of core)
       → Reads left faults says verifier_faults limits held said source verifier refused close (told_of core) bytes
       → (open_of core ≡ []) ⊎ MatchOption verifier ⊥ (λ v. Rose 0 (verifier_faults v))
-      → IsReported left faults says verifier_faults limits held said source verifier refused close journal text
-  reported held said source verifier refused close core journal text bytes of m l b reports feeds only reads asked = record {
+      → IsReported left faults says verifier_faults limits held said source verifier refused close journal text has
+  reported held said source verifier refused close core journal text has bytes of m l b reports feeds only reads asked = record {
     bytes = bytes;
     fed = is_fed limits core journal _ b of feeds only;
     reads = rw of.entries reads;
     asked = rw of.entries (still asked);
     regular = rw of.entries (subst (λ x. IsRegular x [] (told_of core)) m (regular_of core b of.stands));
     within = rw of.entries (subst (λ x. IsWithin x [] (told_of core)) l (within_of core b of.stands));
-    reports = reports_by_parts core limits journal.entries refused close text m b of.entries reports;
+    reports = reports_by_parts core limits journal.entries refused close text has m b of.entries reports;
   }
     where
       still : (open_of core ≡ []) ⊎ MatchOption verifier ⊥ (λ v. Rose 0 (verifier_faults v)) → (questions mode.Full [] (told_of core) ≡ [])
@@ -139,13 +146,13 @@ module _ {S V : Type 0} (left : S → Option (List ℕ)) (faults : S → ℕ) (s
   }
 
   -- of a stream
-  pub reported_stream : (source_old source : S) (verifier : V) (now : Validator V) (close : Close) (journal : Journal) (text : List ℕ)
+  pub reported_stream : (source_old source : S) (verifier : V) (now : Validator V) (close : Close) (journal : Journal) (text : List ℕ) (has : Bool)
       → IsRead says verifier_faults limits (left source_old) (left source) (faults source) verifier now close → IsJournalOf now.core journal
-      → Reports now.core now.refused.items close text
+      → Reports now.core now.refused.items close text has
       → IsReported left faults says verifier_faults limits (left source_old) (says verifier) (Some source) (Some now.verifier) now.refused.items close
-      journal text
-  reported_stream source_old source verifier now close journal text r of reports =
-      reported (left source_old) (says verifier) (Some source) (Some now.verifier) now.refused.items close now.core journal text r.bytes of r.mode_is
+      journal text has
+  reported_stream source_old source verifier now close journal text has r of reports =
+      reported (left source_old) (says verifier) (Some source) (Some now.verifier) now.refused.items close now.core journal text has r.bytes of r.mode_is
       r.limits_are r.no_base reports
       (feeds, rw r.same_says r.heard_are) r.only (r.same_says, r.reads) r.asked
     where
@@ -188,13 +195,13 @@ module _ {S V : Type 0} (left : S → Option (List ℕ)) (faults : S → ℕ) (s
 
   -- of nothing, where one of both couldn't be made
   pub reported_nothing : (held : Option (List ℕ)) (said : Key → List ℕ → Sig → Option Bool) (source : Option S) (verifier : Option V) (close : Close)
-      (core : CoreView) (journal : Journal) (text : List ℕ)
+      (core : CoreView) (journal : Journal) (text : List ℕ) (has : Bool)
       → core ≡ record { mode = mode.Full; limits = limits; base = 0; held = []; entries = []; accepted = [] } → IsUnmade source verifier close
       → IfSome source (λ s. left s ≡ held)
-      → IsJournalOf core journal → Reports core [] close text → IsReported left faults says verifier_faults limits held said source verifier [] close
-      journal text
-  reported_nothing held said source verifier close core journal text fresh unmade is of reports =
-      reported held said source verifier [] close core journal text [] of (ap (λ c. c.mode) fresh) (ap (λ c. c.limits) fresh) (ap (λ c. c.base) fresh) reports
+      → IsJournalOf core journal → Reports core [] close text has → IsReported left faults says verifier_faults limits held said source verifier [] close
+      journal text has
+  reported_nothing held said source verifier close core journal text has fresh unmade is of reports =
+      reported held said source verifier [] close core journal text has [] of (ap (λ c. c.mode) fresh) (ap (λ c. c.limits) fresh) (ap (λ c. c.base) fresh) reports
       (rw none_told (feeds_nothing limits _ close), rw none_told (All-nil _)) (rw none_told (All-nil _))
       (rw none_told (reads_nothing held said source verifier close unmade is))
       (inl (ap open_of fresh ∙ asked_nothing))
@@ -203,7 +210,7 @@ module _ {S V : Type 0} (left : S → Option (List ℕ)) (faults : S → ℕ) (s
       none_told = told_nothing core limits fresh
 
 module _ {S V : Type 0} (left : S → Option (List ℕ)) (faults : S → ℕ) (says : V → Key → List ℕ → Sig → Option Bool) (verifier_faults : V → ℕ) (limits : Limits)
-    (reader : ReaderEnd S V) (journal : Journal) (text : List ℕ) (close : Close) (closes : reader.close ≢ OutOfMemory → reader.close ≡ close) where
+    (reader : ReaderEnd S V) (journal : Journal) (text : List ℕ) (has : Bool) (close : Close) (closes : reader.close ≢ OutOfMemory → reader.close ≡ close) where
   -- a stream was read
   pub made_stream : (source_old source : S) (first middle new : Validator V) (own : FeedClose Close) (last : Option Message) → faults source_old ≡ 0
       → verifier_faults first.verifier ≡ 0
@@ -212,12 +219,12 @@ module _ {S V : Type 0} (left : S → Option (List ℕ)) (faults : S → ℕ) (s
       (faults source_old) (faults source) middle own last
       → Finishes says verifier_faults own last middle new close
       → reader.source ≡ Some source → reader.verifier ≡ Some new.verifier → reader.refused.items ≡ new.refused.items → IsJournalOf new.core journal
-      → (reader.close ≢ OutOfMemory → Reports new.core new.refused.items close text)
-      → ReadsMade left faults says verifier_faults limits (Some source_old) (Some first.verifier) reader journal text
+      → (reader.close ≢ OutOfMemory → Reports new.core new.refused.items close text has)
+      → ReadsMade left faults says verifier_faults limits (Some source_old) (Some first.verifier) reader journal text has
   made_stream source_old source first middle new own last unfailed unfailed_verifier fresh feeds finishes source_is verifier_is refused_is of reports = record {
     reported = λ held said is_held is_said some.
         rw (source_is, verifier_is, refused_is, closes some, sym is_held, sym is_said)
-        (reported_stream left faults says verifier_faults limits source_old source first.verifier new close journal text (read some) of (reports some));
+        (reported_stream left faults says verifier_faults limits source_old source first.verifier new close journal text has (read some) of (reports some));
     so_far = λ held said is_held is_said.
         rw (source_is, verifier_is, refused_is, sym is_held, sym is_said)
         (fed_of_stream left faults says verifier_faults limits source_old source first.verifier new journal far of);
@@ -251,12 +258,12 @@ module _ {S V : Type 0} (left : S → Option (List ℕ)) (faults : S → ℕ) (s
   pub made_nothing : (source : Option S) (verifier : Option V) (core : CoreView) → IsUnmade source verifier close
       → core ≡ record { mode = mode.Full; limits = limits; base = 0; held = []; entries = []; accepted = [] }
       → reader.source ≡ source → reader.verifier ≡ verifier → reader.refused.items ≡ [] → IsJournalOf core journal
-      → (reader.close ≢ OutOfMemory → Reports core [] close text)
-      → ReadsMade left faults says verifier_faults limits source verifier reader journal text
+      → (reader.close ≢ OutOfMemory → Reports core [] close text has)
+      → ReadsMade left faults says verifier_faults limits source verifier reader journal text has
   made_nothing source verifier core unmade fresh source_is verifier_is refused_is of reports = record {
     reported = λ held said is_held is_said some.
         rw (source_is, verifier_is, refused_is, closes some)
-        (reported_nothing left faults says verifier_faults limits held said source verifier close core journal text fresh unmade is_held of (reports some));
+        (reported_nothing left faults says verifier_faults limits held said source verifier close core journal text has fresh unmade is_held of (reports some));
     so_far = λ held said is_held is_said.
         rw (source_is, verifier_is, refused_is)
         (fed_nothing left faults says verifier_faults limits held said source verifier close core journal fresh unmade is_held of);

@@ -54,7 +54,7 @@ module _ {S V : Type 0} (left : S → Option (List ℕ)) (faults : S → ℕ) wh
     pub checks : MatchOption reader.source (ChecksNothing reader.close reader.refused.items text)
         (λ source. ChecksStream told_old.limits (told_old.holds name) (left source) (faults source) reader.close reader.refused.items text)
     pub writes : Writes text sink_failed written_old written_new
-    pub status_is : status ≡ status_of (found sink_failed reader.close reader.refused.items)
+    pub status_is : status ≡ status_of (found sink_failed reader.close reader.refused.items false)
 
 module _ {S V : Type 0} where
   -- no verifier was asked for, and none failed

@@ -1,5 +1,5 @@
 -- The report of a journal and its one reader.
-use Rattle.std.specs.Prelude.{◌≡◌, ℕ, List, [], ◌++◌, map, flat_map}
+use Rattle.std.specs.Prelude.{◌≡◌, ℕ, Bool, List, [], ◌++◌, map, flat_map}
 use Rattle.keri_outside.specs.declared.limits.Limits.{Limits}
 use Rattle.journal.specs.declared.body.Body.{Body}
 use Rattle.journal.specs.declared.entry.Entry.{Entry}
@@ -34,10 +34,10 @@ stopped_line reader OutOfMemory = memory_text reader
 stopped_line reader End = []
 stopped_line reader (Bad bad) = []
 
--- the text: what the reader refused, how the core stands, and what ended the reader
-pub record Reports (core : CoreView) (refused : List Refusal) (close : Close) (text : List ℕ) : Type 0 where
+-- the text: what the reader refused, how the core stands, and what ended the reader; and whether there are conflicts
+pub record Reports (core : CoreView) (refused : List Refusal) (close : Close) (text : List ℕ) (has_conflicts : Bool) : Type 0 where
   pub standing : List ℕ
-  pub stands : IsStandingText core standing
+  pub stands : IsStandingText core standing has_conflicts
   pub text_is : text ≡ (refused_lines 0 refused ++ malformed_line 0 close) ++ (standing ++ stopped_line 0 close)
 
 -- a validator's core of a journal: its bodies and its entries, by which alone it is reported

@@ -54,18 +54,19 @@ module _ {S V : Type 0} (left : S → Option (List ℕ)) (faults : S → ℕ) (s
   Reads limits held said (Some source) (Some verifier) refused close told bytes =
       (says verifier ≡ said) × ReadsStream limits held (left source) (faults source) said (verifier_faults verifier) refused close told bytes
 
-  -- What is told in the journal is what the reader fed, within the limits, and what is written is their report. Each
+  -- What is told in the journal is what the reader fed, within the limits, what is written is their report, and it is said
+  -- whether there are conflicts. Each
   -- verdict was given to a question that was open, and one is open still only where the verifier's count rose.
   pub record IsReported (limits : Limits) (held : Option (List ℕ)) (said : Key → List ℕ → Sig → Option Bool) (source : Option S) (verifier : Option V)
       (refused : List Refusal) (close : Close)
-      (journal : Journal) (text : List ℕ) : Type 0 where
+      (journal : Journal) (text : List ℕ) (has_conflicts : Bool) : Type 0 where
     pub bytes : List ℕ
     pub fed : IsFed limits 0 (end_of bytes (said_by verifier) refused close ∷ []) journal
     pub reads : Reads limits held said source verifier refused close (told_by fed.held journal.entries) bytes
     pub asked : (questions mode.Full [] (told_by fed.held journal.entries) ≡ []) ⊎ MatchOption verifier ⊥ (λ v. Rose 0 (verifier_faults v))
     pub regular : IsRegular mode.Full [] (told_by fed.held journal.entries)
     pub within : IsWithin limits [] (told_by fed.held journal.entries)
-    pub reports : Reports (core_of limits fed.held journal.entries) refused close text
+    pub reports : Reports (core_of limits fed.held journal.entries) refused close text has_conflicts
 
   -- The first of the bytes that the source gave were read with the verifier; or nothing was.
   abbrev pub ReadsSoFar : Option (List ℕ) → (Key → List ℕ → Sig → Option Bool) → Option S → Option V → List ℕ → Type 0
@@ -85,10 +86,11 @@ module _ {S V : Type 0} (left : S → Option (List ℕ)) (faults : S → ℕ) (s
     pub within : IsWithin limits [] (told_by fed.held journal.entries)
 
   -- What a reader makes of what it is given: unless there was no memory, its report. A fault has its cause.
-  pub record ReadsMade (limits : Limits) (source : Option S) (verifier : Option V) (reader : ReaderEnd S V) (journal : Journal) (text : List ℕ) : Type 0 where
+  pub record ReadsMade (limits : Limits) (source : Option S) (verifier : Option V) (reader : ReaderEnd S V) (journal : Journal) (text : List ℕ)
+      (has_conflicts : Bool) : Type 0 where
     pub reported : (held : Option (List ℕ)) (said : Key → List ℕ → Sig → Option Bool) → IfSome source (λ s. left s ≡ held)
         → IfSome verifier (λ v. says v ≡ said)
-        → reader.close ≢ OutOfMemory → IsReported limits held said reader.source reader.verifier reader.refused.items reader.close journal text
+        → reader.close ≢ OutOfMemory → IsReported limits held said reader.source reader.verifier reader.refused.items reader.close journal text has_conflicts
     pub so_far : (held : Option (List ℕ)) (said : Key → List ℕ → Sig → Option Bool) → IfSome source (λ s. left s ≡ held)
         → IfSome verifier (λ v. says v ≡ said)
         → IsFedSoFar limits held said reader.source reader.verifier reader.refused.items journal
@@ -103,13 +105,14 @@ module _ {S V : Type 0} (left : S → Option (List ℕ)) (faults : S → ℕ) (s
       (written_old written_new : Option (List ℕ)) : Type 0 where
     pub reader : ReaderEnd S V
     pub text : List ℕ
+    pub has_conflicts : Bool
     pub sink_failed : Bool
     pub one : readers ≡ reader ∷ []
     pub made : GrowsByTwo told_old told_new name helper (is_none reader.source) (is_none reader.verifier)
     pub reported : IsReported told_old.limits (told_old.holds name) (told_old.says helper) reader.source reader.verifier reader.refused.items
-        reader.close journal text
+        reader.close journal text has_conflicts
     pub writes : Writes text sink_failed written_old written_new
-    pub status_is : status ≡ status_of (found sink_failed reader.close reader.refused.items)
+    pub status_is : status ≡ status_of (found sink_failed reader.close reader.refused.items has_conflicts)
 
   -- There was no memory: 10 is answered, nothing is written, and the two makings were made or not yet. What is told is
   -- what was fed so far.

@@ -34,7 +34,7 @@ pub(crate) fn check<O: Outside>(alloc: Global, name: &str, outside: &mut O) -> D
         };
     };
     let (reader, text) = check_file(alloc, name, outside);
-    let status = settle(outside, &reader, text.as_str());
+    let status = settle(outside, &reader, false, text.as_str());
     readers.push(reader).unwrap();
     Done {
         status,

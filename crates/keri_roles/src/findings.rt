@@ -17,6 +17,8 @@ pub struct Findings {
     pub verifier_failed: bool,
     /// A reader had read or taken as much as it may, and there was more.
     pub limit_reached: bool,
+    /// There is a conflict.
+    pub conflict_found: bool,
     /// A message or a stream was refused.
     pub refused: bool,
 }
@@ -36,6 +38,7 @@ impl Findings {
             source_failed: false,
             verifier_failed: false,
             limit_reached: false,
+            conflict_found: false,
             refused: false,
         }
     }
@@ -66,6 +69,8 @@ impl Findings {
             7
         } else if self.limit_reached {
             9
+        } else if self.conflict_found {
+            4
         } else if self.refused {
             3
         } else {

@@ -4,7 +4,7 @@ ghost use Rattle.keri_roles.specs.Reports.{Reports, IsJournalOf};
 ghost use Rattle.keri_roles.specs.Validate.{IsUnmade, ReadsMade};
 
 use crate::providers::Providers;
-use crate::report::report;
+use crate::report::{Report, report_of};
 use crate::validator::Validator;
 use crate::{Close, ReaderEnd};
 use journal::{Journal, Mode, Refusal};
@@ -13,12 +13,13 @@ use message_feed::feed_messages;
 use std::alloc::{AllocError, Global};
 use validator_core::Core;
 
-/// A reader's end, what was told, and what is to be written, unless there was no memory.
+/// A reader's end, what was told, and what is to be written and whether there are conflicts, unless there was no memory.
 #[derive(Drop)]
 pub(crate) struct Outcome<S, V> {
     pub(crate) reader: ReaderEnd<S, V>,
     pub(crate) journal: Journal,
     pub(crate) text: String,
+    pub(crate) has_conflicts: bool,
 }
 
 /// Reads the stream where both were made, and else nothing.
@@ -29,7 +30,7 @@ pub(crate) fn read_made<S: Source + Drop, V: Verifier + Drop>(
 ) -> Outcome<S, V>
     requires source { IfSome providers.source (λ source. S.faults source ≡ 0) }
     requires verifier { IfSome providers.verifier (λ verifier. V.faults verifier ≡ 0) }
-    ensures reads { ReadsMade S.left S.faults V.says V.faults limits providers.source providers.verifier result.reader result.journal (string_bytes result.text) }
+    ensures reads { ReadsMade S.left S.faults V.says V.faults limits providers.source providers.verifier result.reader result.journal (string_bytes result.text) result.has_conflicts }
 {
     let Providers { source, verifier } = providers;
     let Some(source) = source else {
@@ -50,7 +51,7 @@ fn read_nothing<S: Source + Drop, V: Verifier + Drop>(
     close: Close,
 ) -> Outcome<S, V>
     requires { IsUnmade source verifier close }
-    ensures reads { ReadsMade S.left S.faults V.says V.faults limits source verifier result.reader result.journal (string_bytes result.text) }
+    ensures reads { ReadsMade S.left S.faults V.says V.faults limits source verifier result.reader result.journal (string_bytes result.text) result.has_conflicts }
 {
     let core = Core::new(alloc, Mode::Full, limits);
     conclude(alloc, core, source, verifier, Vec::new(alloc), close)
@@ -65,7 +66,7 @@ fn read_stream<S: Source + Drop, V: Verifier + Drop>(
 ) -> Outcome<S, V>
     requires source { S.faults source ≡ 0 }
     requires verifier { V.faults verifier ≡ 0 }
-    ensures reads { ReadsMade S.left S.faults V.says V.faults limits (Some source) (Some verifier) result.reader result.journal (string_bytes result.text) }
+    ensures reads { ReadsMade S.left S.faults V.says V.faults limits (Some source) (Some verifier) result.reader result.journal (string_bytes result.text) result.has_conflicts }
 {
     let mut source = source;
     let mut validator = Validator::new(alloc, limits, verifier);
@@ -94,16 +95,20 @@ fn conclude<S: Drop, V: Drop>(
     ensures refused { result.reader.refused.items ≡ refused.items }
     ensures journal { IsJournalOf core result.journal }
     ensures close { result.reader.close ≢ Close.OutOfMemory → result.reader.close ≡ close }
-    ensures reports { result.reader.close ≢ Close.OutOfMemory → Reports core refused.items close (string_bytes result.text) }
+    ensures reports { result.reader.close ≢ Close.OutOfMemory → Reports core refused.items close (string_bytes result.text) result.has_conflicts }
 {
     let reported = match close {
         Close::OutOfMemory => Err(AllocError),
-        _ => report(alloc, &core, refused.as_slice(), close),
+        _ => report_of(alloc, &core, refused.as_slice(), close),
     };
-    let (close, text) = match reported {
-        Ok(text) => (close, text),
-        Err(AllocError) => (Close::OutOfMemory, String::new(alloc)),
+    let (close, report) = match reported {
+        Ok(report) => (close, report),
+        Err(AllocError) => (Close::OutOfMemory, no_report(alloc)),
     };
+    let Report {
+        text,
+        has_conflicts,
+    } = report;
     let reader = ReaderEnd {
         source,
         verifier,
@@ -114,5 +119,14 @@ fn conclude<S: Drop, V: Drop>(
         reader,
         journal: core.into_journal(),
         text,
+        has_conflicts,
+    }
+}
+
+// What stands in place of a report for which there was no memory.
+fn no_report(alloc: Global) -> Report {
+    Report {
+        text: String::new(alloc),
+        has_conflicts: false,
     }
 }

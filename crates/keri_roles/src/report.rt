@@ -9,25 +9,38 @@ use report_lines::{
 };
 use std::alloc::{AllocError, Global};
 use validator_core::Core;
-use validator_report::standing_text;
+use validator_report::{CoreStanding, standing_of};
 
-/// The text: what the reader refused, how the core stands, and what ended the reader.
-pub(crate) fn report(
+/// The text of a report, and whether there are conflicts.
+#[derive(Drop)]
+pub(crate) struct Report {
+    pub(crate) text: String,
+    pub(crate) has_conflicts: bool,
+}
+
+/// The report: what the reader refused, how the core stands, and what ended the reader.
+pub(crate) fn report_of(
     alloc: Global,
     core: &Core,
     refused: &[Refusal],
     close: Close,
-) -> Result<String, AllocError>
-    ensures { IfOk result (λ text. Reports core.now refused.now close (string_bytes text)) }
+) -> Result<Report, AllocError>
+    ensures { IfOk result (λ report. Reports core.now refused.now close (string_bytes report.text) report.has_conflicts) }
 {
     let mut text = refused_text(alloc, refused)?;
     let malformed = malformed_text(alloc, close)?;
     text.push_str(malformed.as_str())?;
-    let standing = standing_text(alloc, core)?;
+    let CoreStanding {
+        text: standing,
+        has_conflicts,
+    } = standing_of(alloc, core)?;
     let stopped = stopped_text(alloc, close)?;
     text.push_str(standing.as_str())?;
     text.push_str(stopped.as_str())?;
-    Ok(text)
+    Ok(Report {
+        text,
+        has_conflicts,
+    })
 }
 
 // The lines of the refused messages.

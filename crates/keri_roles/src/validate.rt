@@ -40,8 +40,9 @@ pub(crate) fn validate<O: Outside>(
         reader,
         journal,
         text,
+        has_conflicts,
     } = validate_file(alloc, helper, name, outside);
-    let status = settle(outside, &reader, text.as_str());
+    let status = settle(outside, &reader, has_conflicts, text.as_str());
     readers.push(reader).unwrap();
     // A last round over the questions that are open has nothing to do: one reader leaves none open but where its
     // verifier failed, and then no verifier is left that never did.
@@ -62,7 +63,7 @@ fn validate_file<O: Outside>(
     ensures made { GrowsByTwo (O.told outside.old) (O.told outside.new) name.now helper.now (is_none result.reader.source) (is_none result.reader.verifier) }
     ensures reported { result.reader.close ≢ Close.OutOfMemory → IsReported O.Source.left O.Source.faults O.Verifier.says O.Verifier.faults
         (O.told outside.old).limits ((O.told outside.old).holds name.now) ((O.told outside.old).says helper.now)
-        result.reader.source result.reader.verifier result.reader.refused.items result.reader.close result.journal (string_bytes result.text) }
+        result.reader.source result.reader.verifier result.reader.refused.items result.reader.close result.journal (string_bytes result.text) result.has_conflicts }
     ensures so_far { IsFedSoFar O.Source.left O.Source.faults O.Verifier.says O.Verifier.faults
         (O.told outside.old).limits ((O.told outside.old).holds name.now) ((O.told outside.old).says helper.now)
         result.reader.source result.reader.verifier result.reader.refused.items result.journal }

@@ -1,5 +1,5 @@
 -- The lines that are written: words that are parted by one space, and a line feed.
-use Rattle.std.specs.Prelude.{ℕ, false, List, [], ◌∷◌, ◌++◌, codes}
+use Rattle.std.specs.Prelude.{ℕ, false, List, [], ◌∷◌, ◌++◌, map, codes}
 use Rattle.std.specs.Fmt.{decimal, digits}
 use Rattle.cesr_codes.specs.Spelling.{digest_text, prefix_text}
 use Rattle.cesr_codes.specs.declared.digest.Digest.{Digest}
@@ -63,6 +63,10 @@ state_sizes_text sizes = spaced (named (codes "keys") sizes.keys ∷ named (code
 abbrev pub state_text : Prefix → ℕ → Digest → StateSizes → List ℕ
 state_text prefix sn said sizes = line (codes "state" ∷ prefix_text prefix ∷ number sn
     ∷ digest_text said ∷ state_sizes_text sizes ∷ [])
+
+-- `conflict`, the prefix, the number, and the digests of the bodies
+abbrev pub conflict_text : Prefix → ℕ → List Digest → List ℕ
+conflict_text prefix sn saids = line (codes "conflict" ∷ prefix_text prefix ∷ number sn ∷ map digest_text saids)
 
 -- `refused`, the reader's number, the message's place, and why
 abbrev pub refused_text : ℕ → ℕ → Reason → List ℕ

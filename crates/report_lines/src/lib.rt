@@ -12,7 +12,7 @@ mod standing;
 mod state_sizes;
 mod why_word;
 
-pub use lines::{WORDS, accepted_line, event_line, state_line, waits_line};
+pub use lines::{WORDS, accepted_line, conflict_line, event_line, state_line, waits_line};
 pub use reader_lines::{
     full_line, malformed_line, memory_line, read_fault_line, refused_line, verifier_fault_line,
 };

@@ -1,6 +1,7 @@
 //! Lines, each with its line feed.
-ghost use Rattle.std.specs.Prelude.{◌≡◌, IfOk, string_bytes};
-ghost use Rattle.report_lines.specs.Lines.{accepted_text, event_text, state_text, waits_text};
+ghost use Rattle.std.specs.Prelude.{◌≡◌, ◌++◌, IfOk, codes, flat_map, string_bytes};
+ghost use Rattle.cesr_codes.specs.Spelling.{digest_text};
+ghost use Rattle.report_lines.specs.Lines.{accepted_text, conflict_text, event_text, state_text, waits_text};
 
 use crate::why_word::WhyWord;
 use crate::{Sizes, Standing, StateSizes};
@@ -56,4 +57,29 @@ pub fn state_line(
     ensures { IfOk result (λ line. string_bytes line ≡ state_text prefix.now sn said.now sizes) }
 {
     format!(in alloc; "state {prefix} {sn:x} {said} {sizes}\n")
+}
+
+/// The line of a conflict: the identifier, the number, and the digests of the bodies.
+pub fn conflict_line(
+    alloc: Global,
+    prefix: &Prefix,
+    sn: u64,
+    saids: &[Digest],
+) -> Result<String, AllocError>
+    ensures { IfOk result (λ line. string_bytes line ≡ conflict_text prefix.now sn saids.now) }
+{
+    let words = words_of_saids(alloc, saids)?;
+    format!(in alloc; "conflict {prefix} {sn:x}{words}\n")
+}
+
+// The digests, each behind a space.
+fn words_of_saids(alloc: Global, saids: &[Digest]) -> Result<String, AllocError>
+    ensures { IfOk result (λ text. string_bytes text ≡ flat_map (λ d. codes " " ++ digest_text d) saids.now) }
+{
+    let mut text = String::new(alloc);
+    for said in saids {
+        let word = format!(in alloc; " {said}")?;
+        text.push_str(word.as_str())?;
+    }
+    Ok(text)
 }

@@ -1,9 +1,10 @@
--- The bodies of numbers, one number more, and the lines of their events.
+-- The bodies of numbers, one number more, and the lines and digests of their events.
 use Rattle.std.proofs.Common.{◌≡◌, ℕ, ◌+◌, ◌<◌, ◌==◌, List, [], ◌∷◌, ◌++◌, length, Option, Some, None, refl, ◌∙◌, ap, append-nil, get_or, take, if◌then◌else◌}
 use Rattle.std.specs.Prelude.{filter_map, option_map, option_to_list, slice_get}
 use Rattle.std.specs.List.{cons_option, list_any}
-use Rattle.std.proofs.lemmas.List.{take_more}
+use Rattle.std.proofs.lemmas.List.{map-append, take_more}
 use Rattle.std.proofs.lemmas.List.Elements.{filter_map-append}
+use Rattle.event_body.specs.Events.{said_of}
 use Rattle.event_body.specs.declared.event.Event.{Event}
 use Rattle.journal.specs.declared.body.Body.{Body}
 use Rattle.journal.specs.Journals.{chosen}
@@ -11,7 +12,7 @@ use Rattle.journal.proofs.Locality.{flat_map-push}
 use Rattle.report_lines.specs.Lines.{accepted_text}
 use Rattle.report_lines.specs.declared.standing.Standing.TheVariants.{Live, Superseded}
 use Rattle.validator_report.specs.Logs.{Marks}
-use Rattle.validator_report.specs.Report.{events_lines, standing_in}
+use Rattle.validator_report.specs.Report.{events_lines, saids_of, standing_in}
 
 -- a body has the event that is given, or there is none
 pub with_event : (o : Option Body) (e : Event) → Some e ≡ option_map (λ b. b.event) o → (b : Body) × (o ≡ Some b) × (b.event ≡ e)
@@ -40,6 +41,19 @@ module _ (held : List Body) (ns : List ℕ) (i : ℕ) (low : i < length ns) wher
 
   pub with_none : slice_get held (get_or ns i 0) ≡ None → chosen held (take (i + 1) ns) ≡ chosen held (take i ns)
   with_none at = chosen_more held ns i low ∙ ap (λ o. chosen held (take i ns) ++ option_to_list o) at ∙ append-nil (chosen held (take i ns))
+
+  -- DIGESTS
+  pub said_more : (e : Event) → Some e ≡ option_map (λ b. b.event) (slice_get held (get_or ns i 0))
+      → saids_of (chosen held (take (i + 1) ns)) ≡ saids_of (chosen held (take i ns)) ++ said_of e ∷ []
+  said_more e is =
+      let found = with_event (slice_get held (get_or ns i 0)) e is in
+      ap saids_of (with_one found.0 found.1)
+      ∙ map-append (λ b. said_of b.event) (chosen held (take i ns)) (found.0 ∷ [])
+      ∙ ap (λ e. saids_of (chosen held (take i ns)) ++ said_of e ∷ []) found.2
+
+  pub said_same : None ≡ option_map (λ (b : Body). b.event) (slice_get held (get_or ns i 0))
+      → saids_of (chosen held (take (i + 1) ns)) ≡ saids_of (chosen held (take i ns))
+  said_same is = ap saids_of (with_none (without_event (slice_get held (get_or ns i 0)) is))
 
   -- LINES
   module _ (live : List ℕ) (live_events : List Body) (marks : Marks held live live_events) where

@@ -6,3 +6,4 @@ pub mod Chosen
 pub mod LogGrowth
 pub mod LogLines
 pub mod LiveNumbers
+pub mod ConflictLines

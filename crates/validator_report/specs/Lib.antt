@@ -1,3 +1,4 @@
 pub mod Report
 pub mod Logs
 pub mod Rows
+pub mod Conflicts

@@ -1,5 +1,5 @@
--- The report of a core: the events that it accepted, the state of each identifier, and the events that wait.
-use Rattle.std.specs.Prelude.{◌≡◌, ℕ, List, [], ◌++◌, length, map, filter, flat_map, Option, Some, None, is_some, if◌then◌else◌}
+-- The report of a core: the events that it accepted, the state of each identifier, the events that wait, and the conflicts.
+use Rattle.std.specs.Prelude.{◌≡◌, ℕ, ◌==◌, Bool, not, List, [], ◌∷◌, ◌++◌, length, map, filter, flat_map, Option, Some, None, is_some, if◌then◌else◌}
 use Rattle.std.specs.declared.cmp.Ordering.{Ordering}
 use Rattle.std.specs.Ordering.{nat_cmp, ordering_then}
 use Rattle.std.specs.Cmp.Lexicographic.{slice_cmp}
@@ -7,18 +7,19 @@ use Rattle.std.specs.List.Sorted.{IsPermutation, IsSorted}
 use Rattle.cesr_codes.specs.Spelling.{prefix_text}
 use Rattle.cesr_codes.specs.declared.digest.Digest.{Digest}
 use Rattle.cesr_codes.specs.declared.prefix.Prefix.{Prefix}
-use Rattle.event_body.specs.Events.{prefix_of, sn_of}
+use Rattle.event_body.specs.Events.{prefix_of, sn_of, said_of}
 use Rattle.key_state.specs.Heads.{head_sn, head_said}
 use Rattle.key_state.specs.Same.{same_prefix, distinct}
 use Rattle.key_state.specs.States.{State}
+use Rattle.journal.specs.Conflicts.{IsConflictList}
 use Rattle.journal.specs.Logs.{is_in, is_of, live, state}
 use Rattle.journal.specs.Waiting.{why_waits}
 use Rattle.journal.specs.declared.body.Body.{Body}
 use Rattle.journal.specs.declared.why.Why.{Why}
-use Rattle.report_lines.specs.Lines.{accepted_text, state_text, waits_text}
+use Rattle.report_lines.specs.Lines.{accepted_text, conflict_text, state_text, waits_text}
 use Rattle.report_lines.specs.declared.standing.Standing.{Standing}
 use Rattle.report_lines.specs.declared.standing.Standing.TheVariants.{Live, Superseded}
-use Rattle.validator_core.specs.View.{CoreView, told_of, accepted_by}
+use Rattle.validator_core.specs.View.{CoreView, base_of, told_of, accepted_by}
 
 -- prefixes are ordered by their texts, byte by byte
 abbrev pub prefix_cmp : Prefix → Prefix → Ordering
@@ -85,11 +86,29 @@ waits_lines core b = of (reason_of core b)
     of None = []
     of (Some why) = waits_text b.event why
 
+-- the digests of bodies
+abbrev pub saids_of : List Body → List Digest
+saids_of bodies = map (λ b. said_of b.event) bodies
+
+-- the line of a set of conflicting bodies: the place of the first, which is that of all, and the digests of all
+abbrev pub conflict_lines : List Body → List ℕ
+conflict_lines [] = []
+conflict_lines (b ∷ set) = conflict_text (prefix_of b.event) (sn_of b.event) (saids_of (b ∷ set))
+
+-- the text is the lines of the conflicts, in order, and it is said whether there are any
+pub record AreConflictLines (core : CoreView) (text : List ℕ) (has_conflicts : Bool) : Type 0 where
+  pub sets : List (List Body)
+  pub sets_are : IsConflictList core.mode (base_of core) (told_of core) sets
+  pub text_is : text ≡ flat_map conflict_lines sets
+  pub has_conflicts_is : has_conflicts ≡ not (length sets == 0)
+
 -- The text: the lines of each identifier that has an accepted event, in order; then those of each event that waits, in
--- order.
-pub record IsStandingText (core : CoreView) (text : List ℕ) : Type 0 where
+-- order; then those of the conflicts. It is said beside it whether there are conflicts.
+pub record IsStandingText (core : CoreView) (text : List ℕ) (has_conflicts : Bool) : Type 0 where
   pub logs : List ℕ
   pub waits : List ℕ
+  pub conflicts : List ℕ
   pub logs_are : IsListing prefix_cmp (log_lines (accepted_by core)) (prefixes_of (accepted_by core)) logs
   pub waits_are : IsListing body_cmp (waits_lines core) (waiting_of core) waits
-  pub text_is : text ≡ logs ++ waits
+  pub conflicts_are : AreConflictLines core conflicts has_conflicts
+  pub text_is : text ≡ logs ++ (waits ++ conflicts)

@@ -1,7 +1,8 @@
-//! The report of a core: the events that it accepted, the state of each identifier, and the events that wait.
+//! The report of a core: the events that it accepted, the state of each identifier, the events that wait, and the conflicts.
 #![tactic(auto)]
 
 mod accepted;
+mod conflicts;
 mod held;
 mod logs;
 mod row;
@@ -9,4 +10,4 @@ mod rows;
 mod standing;
 mod waiting;
 
-pub use standing::standing_text;
+pub use standing::{CoreStanding, standing_of};

@@ -14,7 +14,7 @@ returns-clause-checked g c =
     = rw c.settle-status.ensures.told c.check_file-reader.ensures.making in
     let kept : is_none reader.source ≡ false → (g.O.Outside.told c.settle-status.new.outside).faults ≡ (g.O.Outside.told c.args.outside.now).faults
     = rw c.settle-status.ensures.told c.check_file-reader.ensures.kept in
-    let settles : Settles reader.close reader.refused.items (string_bytes c.check_file-reader.result.1) c.settle-status.result
+    let settles : Settles reader.close reader.refused.items false (string_bytes c.check_file-reader.result.1) c.settle-status.result
     (g.O.Sink.Sink.written (g.O.Outside.sink c.args.outside.now)) (g.O.Sink.Sink.written (g.O.Outside.sink c.settle-status.new.outside))
     = rw (c.as_str.ensures.value, c.check_file-reader.ensures.sink) at c.settle-status.ensures.settles in
     elim settles [

@@ -11,10 +11,10 @@ returns g c =
     let ends = c.conclude.ensures in
     record {
       reads = subst (λ v. ReadsMade g.S.Source.left g.S.Source.faults g.V.Verifier.says g.V.Verifier.faults c.args.limits (Some c.args.source)
-          (Some v) done.reader done.journal (string_bytes done.text))
+          (Some v) done.reader done.journal (string_bytes done.text) done.has_conflicts)
           c.new-validator.ensures.verifier
           (made_stream g.S.Source.left g.S.Source.faults g.V.Verifier.says g.V.Verifier.faults c.args.limits done.reader done.journal
-          (string_bytes done.text) c.finish-close.result ends.close
+          (string_bytes done.text) done.has_conflicts c.finish-close.result ends.close
           c.args.source c.feed_messages-close.new.source first c.feed_messages-close.new.taker now c.feed_messages-close.result.0
           c.feed_messages-close.result.1 c.requires.source
           (ap g.V.Verifier.faults c.new-validator.ensures.verifier ∙ c.requires.verifier) c.new-validator.ensures.core

@@ -11,7 +11,7 @@ returns-clause-validated g c =
     let made : GrowsByTwo (g.O.Outside.told c.args.outside.now) (g.O.Outside.told c.settle-status.new.outside) c.args.name.now
     c.args.helper.now (is_none reader.source) (is_none reader.verifier)
     = rw c.settle-status.ensures.told c.validate_file-reader.ensures.made in
-    let settles : Settles reader.close reader.refused.items (string_bytes outcome.text) c.settle-status.result
+    let settles : Settles reader.close reader.refused.items outcome.has_conflicts (string_bytes outcome.text) c.settle-status.result
     (g.O.Sink.Sink.written (g.O.Outside.sink c.args.outside.now)) (g.O.Sink.Sink.written (g.O.Outside.sink c.settle-status.new.outside))
     = rw (c.as_str.ensures.value, c.validate_file-reader.ensures.sink) at c.settle-status.ensures.settles in
     elim settles [
@@ -19,6 +19,7 @@ returns-clause-validated g c =
       | inr some ↦ inl (record {
         reader = reader;
         text = string_bytes outcome.text;
+        has_conflicts = outcome.has_conflicts;
         sink_failed = some.1.0;
         one = one;
         made = made;
