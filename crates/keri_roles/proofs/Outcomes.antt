@@ -1,5 +1,5 @@
 -- The report of a core and its one reader.
-use Rattle.std.proofs.Common.{◌≡◌, ◌≢◌, ℕ, ◌<◌, ◌⊎◌, inl, inr, Bool, List, [], ◌∷◌, Option, Some, None, refl, sym, ◌∙◌, ap, subst, arith}
+use Rattle.std.proofs.Common.{◌≡◌, ◌≢◌, ℕ, ◌<◌, ◌⊎◌, inl, inr, Bool, false, List, [], ◌∷◌, Option, Some, None, refl, sym, ◌∙◌, ap, subst, arith}
 use Rattle.std.specs.Prelude.{All, IfSome, MatchOption}
 use Rattle.std.proofs.lemmas.List.Elements.{All-nil, All-weaker}
 use Rattle.keri_specs.specs.Causes.{Rose}
@@ -16,7 +16,9 @@ use Rattle.journal.specs.declared.mode.Mode.TheVariants as mode
 use Rattle.journal.specs.declared.refusal.Refusal.{Refusal}
 use Rattle.journal.specs.Feeds.{End as EndOf, Feeds, FeedsOne, IsFed, reader_of}
 use Rattle.journal.specs.Journals.{InOrder}
+use Rattle.journal.specs.Accepted.{accepted}
 use Rattle.journal.specs.Questions.{questions, IsRegular}
+use Rattle.journal.specs.Readiness.{is_ready}
 use Rattle.journal.specs.Replies.{IsWithin}
 use Rattle.acceptance.specs.Standing.{IsHeld}
 use Rattle.validator_core.specs.View.{CoreView, Stands, told_of, open_of}
@@ -26,7 +28,7 @@ use Rattle.keri_roles.specs.declared.close.Close.TheVariants.{End, Bad, ReadFaul
 use Rattle.keri_roles.specs.declared.done.ReaderEnd.{ReaderEnd}
 use Rattle.keri_roles.specs.Ends.{end_of, IsRead, IsReadSoFar}
 use Rattle.keri_roles.specs.Reports.{Reports, IsJournalOf, core_of}
-use Rattle.keri_roles.specs.Validate.{said_by, Reads, ReadsSoFar, ReadsMade, IsFedSoFar, IsReported, IsUnmade}
+use Rattle.keri_roles.specs.Validate.{AreSettled, said_by, Reads, ReadsSoFar, ReadsMade, IsFedSoFar, IsReported, IsUnmade}
 use Rattle.keri_roles.specs.declared.validator.Validator.{Validator}
 use Rattle.cesr_stream.specs.declared.message.Message.{Message}
 use Rattle.message_feed.specs.declared.feed_close.FeedClose.{FeedClose}
@@ -42,6 +44,12 @@ regular_of core b stands = subst (λ bodies. IsRegular core.mode bodies (told_of
 
 within_of : (core : CoreView) → core.base ≡ 0 → Stands core → IsWithin core.limits [] (told_of core)
 within_of core b stands = let none = no_bodies core b in let within = rw none at stands.within in within (omega arith)
+
+settled_of : (core : CoreView) → core.base ≡ 0 → core.mode ≡ mode.Full → Stands core → AreSettled core.held (told_of core)
+settled_of core b m stands =
+    let none : All (λ c. is_ready core.mode (told_of core) (accepted core.mode [] (told_of core)) c ≡ false) core.held
+    = subst (λ bodies. All (λ c. is_ready core.mode (told_of core) (accepted core.mode bodies (told_of core)) c ≡ false) core.held) (no_bodies core b) stands.settled in
+    subst (λ x. All (λ c. is_ready x (told_of core) (accepted x [] (told_of core)) c ≡ false) core.held) m none
 
 -- a report is by the bodies and the entries alone
 reports_by_parts : (core : CoreView) (limits : Limits) (entries : List Entry) (refused : List Refusal) (close : Close) (text : List ℕ) (has : Bool)
@@ -121,6 +129,7 @@ module _ {S V : Type 0} (left : S → Option (List ℕ)) (faults : S → ℕ) (s
     asked = rw of.entries (still asked);
     regular = rw of.entries (subst (λ x. IsRegular x [] (told_of core)) m (regular_of core b of.stands));
     within = rw of.entries (subst (λ x. IsWithin x [] (told_of core)) l (within_of core b of.stands));
+    settled = rw of.entries (settled_of core b m of.stands);
     reports = reports_by_parts core limits journal.entries refused close text has m b of.entries reports;
   }
     where

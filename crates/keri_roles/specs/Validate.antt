@@ -1,5 +1,5 @@
 -- What `validate --helper HELPER FILE` does.
-use Rattle.std.specs.Prelude.{◌≡◌, ◌≢◌, ℕ, ◌⊎◌, Bool, false, List, [], ◌∷◌, ◌++◌, IfSome, MatchOption, is_none, Option, Some, None}
+use Rattle.std.specs.Prelude.{◌≡◌, ◌≢◌, ℕ, ◌⊎◌, Bool, false, List, [], ◌∷◌, ◌++◌, All, IfSome, MatchOption, is_none, Option, Some, None}
 use Rattle.keri_specs.specs.Causes.{Rose}
 use Rattle.cesr_codes.specs.declared.key.Key.{Key}
 use Rattle.cesr_codes.specs.declared.sig.Sig.{Sig}
@@ -7,13 +7,16 @@ use Rattle.keri_outside.specs.declared.limits.Limits.{Limits}
 use Rattle.keri_outside.specs.Told.{Told, Grows}
 use Rattle.keri_outside.specs.declared.making.Making.{Making}
 use Rattle.keri_outside.specs.declared.making.MakingKind.TheVariants.{Source as SourceKind, Verifier as VerifierKind}
+use Rattle.journal.specs.declared.body.Body.{Body}
 use Rattle.journal.specs.declared.journal.Journal.{Journal}
 use Rattle.journal.specs.declared.refusal.Refusal.{Refusal}
 use Rattle.journal.specs.declared.mode.Mode.TheVariants as mode
+use Rattle.journal.specs.Accepted.{accepted}
 use Rattle.journal.specs.Feeds.{IsFed}
 use Rattle.journal.specs.History.{Told as ToldEntry}
 use Rattle.journal.specs.Journals.{told_by}
 use Rattle.journal.specs.Questions.{questions, IsRegular}
+use Rattle.journal.specs.Readiness.{is_ready}
 use Rattle.journal.specs.Replies.{IsWithin}
 use Rattle.message_feed.specs.Closing.{Gave}
 use Rattle.keri_roles.specs.declared.close.Close.{Close}
@@ -40,6 +43,10 @@ IsUnmade None verifier close = close ≡ ReadFault
 IsUnmade (Some source) None close = close ≡ VerifierFault
 IsUnmade (Some source) (Some verifier) close = ⊥
 
+-- no body is ready behind what is accepted
+abbrev pub AreSettled : List Body → List ToldEntry → Type 0
+AreSettled held told = All (λ b. is_ready mode.Full told (accepted mode.Full [] told) b ≡ false) held
+
 module _ {S V : Type 0} (left : S → Option (List ℕ)) (faults : S → ℕ) (says : V → Key → List ℕ → Sig → Option Bool) (verifier_faults : V → ℕ) where
   -- what the verifier says, where there is one
   abbrev pub said_by : Option V → Key → List ℕ → Sig → Option Bool
@@ -55,8 +62,8 @@ module _ {S V : Type 0} (left : S → Option (List ℕ)) (faults : S → ℕ) (s
       (says verifier ≡ said) × ReadsStream limits held (left source) (faults source) said (verifier_faults verifier) refused close told bytes
 
   -- What is told in the journal is what the reader fed, within the limits, what is written is their report, and it is said
-  -- whether there are conflicts. Each
-  -- verdict was given to a question that was open, and one is open still only where the verifier's count rose.
+  -- whether there are conflicts. Each verdict was given to a question that was open, and one is open still only where the
+  -- verifier's count rose. No event is ready that isn't accepted.
   pub record IsReported (limits : Limits) (held : Option (List ℕ)) (said : Key → List ℕ → Sig → Option Bool) (source : Option S) (verifier : Option V)
       (refused : List Refusal) (close : Close)
       (journal : Journal) (text : List ℕ) (has_conflicts : Bool) : Type 0 where
@@ -66,6 +73,7 @@ module _ {S V : Type 0} (left : S → Option (List ℕ)) (faults : S → ℕ) (s
     pub asked : (questions mode.Full [] (told_by fed.held journal.entries) ≡ []) ⊎ MatchOption verifier ⊥ (λ v. Rose 0 (verifier_faults v))
     pub regular : IsRegular mode.Full [] (told_by fed.held journal.entries)
     pub within : IsWithin limits [] (told_by fed.held journal.entries)
+    pub settled : AreSettled fed.held (told_by fed.held journal.entries)
     pub reports : Reports (core_of limits fed.held journal.entries) refused close text has_conflicts
 
   -- The first of the bytes that the source gave were read with the verifier; or nothing was.
