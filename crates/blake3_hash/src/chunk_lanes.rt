@@ -1,8 +1,8 @@
 //! The chaining values of whole chunks, four side by side.
-ghost use Rattle.std.specs.Prelude.{◌≡◌, ℕ, ◌+◌, ◌*◌, ◌^◌, ◌<◌, ◌≤◌, [], drop, take, length, slice_index, slice_index_or};
+ghost use Rattle.std.specs.Prelude.{◌≡◌, ℕ, ◌+◌, ◌*◌, ◌^◌, ◌<◌, ◌≤◌, ◌∷◌, [], drop, take, length, slice_index, slice_index_or};
 ghost use Rattle.blake3_hash.specs.Chunk.{block, block_words, chunk_value, word_at};
 ghost use Rattle.blake3_hash.specs.Compression.{iv};
-ghost use Rattle.blake3_hash.specs.Lanes.{eight_words, sixteen_words, whole_chunk};
+ghost use Rattle.blake3_hash.specs.Lanes.{eight_words, lane_at, sixteen_words, whole_chunk};
 
 use crate::compression::IV;
 use crate::flags::{CHUNK_END, start_flag};
@@ -16,19 +16,50 @@ const HALF_LEN: usize = 4096;
 /// The bytes of eight chunks.
 pub(crate) const GROUP_LEN: usize = 8192;
 
-// The words at byte i of each chunk.
+// The four words at byte i.
 #[inline(always)]
-fn words_at(chunks: &[u8], i: usize) -> u32x4
-    requires four { length chunks.now ≡ 4096 }
-    requires inside { i + 4 ≤ 1024 }
-    ensures { (j : ℕ) → j < 4 → slice_index result j ≡ word_at chunks.now (1024 * j + i) }
+fn words_at(bytes: &[u8], i: usize) -> u32x4
+    requires inside { i + 16 ≤ length bytes.now }
+    ensures long { length result ≡ 4 }
+    ensures words { (k : ℕ) → k < 4 → slice_index result k ≡ word_at bytes.now (i + 4 * k) }
 {
     u32x4::from_array([
-        word_at(chunks, i),
-        word_at(chunks, 1024 + i),
-        word_at(chunks, 2048 + i),
-        word_at(chunks, 3072 + i),
+        word_at(bytes, i),
+        word_at(bytes, i + 4),
+        word_at(bytes, i + 8),
+        word_at(bytes, i + 12),
     ])
+}
+
+// Four rows of four words, by columns.
+#[inline(always)]
+fn transposed(a: u32x4, b: u32x4, c: u32x4, d: u32x4) -> [u32x4; 4]
+    requires a { length a ≡ 4 }
+    requires b { length b ≡ 4 }
+    requires c { length c ≡ 4 }
+    requires d { length d ≡ 4 }
+    ensures { (k : ℕ) → k < 4
+        → slice_index_or result k [] ≡ slice_index a k ∷ slice_index b k ∷ slice_index c k ∷ slice_index d k ∷ [] }
+{
+    let (low_even, high_even) = a.interleave(c);
+    let (low_odd, high_odd) = b.interleave(d);
+    let (first, second) = low_even.interleave(low_odd);
+    let (third, fourth) = high_even.interleave(high_odd);
+    [first, second, third, fourth]
+}
+
+// The four words at byte i of each chunk.
+#[inline(always)]
+fn chunk_words_at(chunks: &[u8], i: usize) -> [u32x4; 4]
+    requires four { length chunks.now ≡ 4096 }
+    requires inside { i + 16 ≤ 1024 }
+    ensures { (j k : ℕ) → j < 4 → k < 4 → lane_at result k j ≡ word_at chunks.now (1024 * j + (i + 4 * k)) }
+{
+    let a = words_at(chunks, i);
+    let b = words_at(chunks, 1024 + i);
+    let c = words_at(chunks, 2048 + i);
+    let d = words_at(chunks, 3072 + i);
+    transposed(a, b, c, d)
 }
 
 // The words of block number n of each chunk.
@@ -39,23 +70,13 @@ fn block_words_at(chunks: &[u8], n: usize) -> [u32x4; 16]
     ensures { (j : ℕ) → j < 4 → sixteen_words j result ≡ block_words (block (whole_chunk chunks.now j) n) }
 {
     let i = 64 * n;
+    let a = chunk_words_at(chunks, i);
+    let b = chunk_words_at(chunks, i + 16);
+    let c = chunk_words_at(chunks, i + 32);
+    let d = chunk_words_at(chunks, i + 48);
     [
-        words_at(chunks, i),
-        words_at(chunks, i + 4),
-        words_at(chunks, i + 8),
-        words_at(chunks, i + 12),
-        words_at(chunks, i + 16),
-        words_at(chunks, i + 20),
-        words_at(chunks, i + 24),
-        words_at(chunks, i + 28),
-        words_at(chunks, i + 32),
-        words_at(chunks, i + 36),
-        words_at(chunks, i + 40),
-        words_at(chunks, i + 44),
-        words_at(chunks, i + 48),
-        words_at(chunks, i + 52),
-        words_at(chunks, i + 56),
-        words_at(chunks, i + 60),
+        a[0], a[1], a[2], a[3], b[0], b[1], b[2], b[3], c[0], c[1], c[2], c[3], d[0], d[1], d[2],
+        d[3],
     ]
 }
 

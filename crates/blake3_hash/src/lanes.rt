@@ -1,8 +1,8 @@
 //! The compression of four blocks of 64 bytes side by side: each word is a vector, with one lane for each block.
-ghost use Rattle.std.specs.Prelude.{◌≡◌, ℕ, ◌+◌, ◌/◌, ◌%◌, ◌^◌, ◌<◌, ◌∷◌, [], bit_xor, slice_index};
+ghost use Rattle.std.specs.Prelude.{◌≡◌, ℕ, ◌+◌, ◌/◌, ◌%◌, ◌^◌, ◌<◌, bit_xor, slice_index};
 ghost use Rattle.std.specs.Int.{w32, rotate_right};
-ghost use Rattle.blake3_hash.specs.Compression.{add32, columns, compress, diagonals, first_state, halves_joined, mixed, permuted, round, rounds};
-ghost use Rattle.blake3_hash.specs.Lanes.{eight_words, sixteen_words};
+ghost use Rattle.blake3_hash.specs.Compression.{add32, columns, compress, diagonals, first_state, halves_joined, permuted, round, rounds};
+ghost use Rattle.blake3_hash.specs.Lanes.{eight_words, lane_at, sixteen_words};
 
 use crate::compression::IV;
 use std::simd::u32x4;
@@ -32,85 +32,74 @@ fn xor_rotate(a: u32x4, b: u32x4, k: u32) -> u32x4
     (x >> u32x4::splat(k)) | (x << u32x4::splat(32 - k))
 }
 
-// G in each lane.
+// The same on four words of each lane.
 #[inline(always)]
-fn mix(a: u32x4, b: u32x4, c: u32x4, d: u32x4, x: u32x4, y: u32x4) -> (u32x4, u32x4, u32x4, u32x4)
-    ensures { (j : ℕ) → j < 4
-        → slice_index result.0 j ∷ slice_index result.1 j ∷ slice_index result.2 j ∷ slice_index result.3 j ∷ []
-        ≡ mixed (slice_index a j) (slice_index b j) (slice_index c j) (slice_index d j) (slice_index x j) (slice_index y j) }
+fn add4(a: [u32x4; 4], b: [u32x4; 4]) -> [u32x4; 4]
+    ensures { (i j : ℕ) → i < 4 → j < 4 → lane_at result i j ≡ add32 (lane_at a i j) (lane_at b i j) }
 {
-    let ab1 = add(a, b);
-    let a1 = add(ab1, x);
-    let d1 = xor_rotate(d, a1, 16);
-    let c1 = add(c, d1);
-    let b1 = xor_rotate(b, c1, 12);
-    let ab2 = add(a1, b1);
-    let a2 = add(ab2, y);
-    let d2 = xor_rotate(d1, a2, 8);
-    let c2 = add(c1, d2);
-    let b2 = xor_rotate(b1, c2, 7);
-    (a2, b2, c2, d2)
-}
-
-#[inline(always)]
-fn mix_columns(v: [u32x4; 16], m: &[u32x4; 16]) -> [u32x4; 16]
-    ensures { (j : ℕ) → j < 4 → sixteen_words j result ≡ columns (sixteen_words j v) (sixteen_words j m.now) }
-{
-    let [
-        v0,
-        v1,
-        v2,
-        v3,
-        v4,
-        v5,
-        v6,
-        v7,
-        v8,
-        v9,
-        v10,
-        v11,
-        v12,
-        v13,
-        v14,
-        v15,
-    ] = v;
-    let (v0, v4, v8, v12) = mix(v0, v4, v8, v12, m[0], m[1]);
-    let (v1, v5, v9, v13) = mix(v1, v5, v9, v13, m[2], m[3]);
-    let (v2, v6, v10, v14) = mix(v2, v6, v10, v14, m[4], m[5]);
-    let (v3, v7, v11, v15) = mix(v3, v7, v11, v15, m[6], m[7]);
     [
-        v0, v1, v2, v3, v4, v5, v6, v7, v8, v9, v10, v11, v12, v13, v14, v15,
+        add(a[0], b[0]),
+        add(a[1], b[1]),
+        add(a[2], b[2]),
+        add(a[3], b[3]),
     ]
 }
 
 #[inline(always)]
+fn xor_rotate4(a: [u32x4; 4], b: [u32x4; 4], k: u32) -> [u32x4; 4]
+    requires { (0 < k) × (k < 32) }
+    ensures { (i j : ℕ) → i < 4 → j < 4 → lane_at result i j ≡ rotate_right w32 (bit_xor (lane_at a i j) (lane_at b i j)) k }
+{
+    [
+        xor_rotate(a[0], b[0], k),
+        xor_rotate(a[1], b[1], k),
+        xor_rotate(a[2], b[2], k),
+        xor_rotate(a[3], b[3], k),
+    ]
+}
+
+// G on the four columns, which go step by step together, since none waits for another: with the eight words m.
+#[inline(always)]
+fn mix_columns(v: [u32x4; 16], m: [u32x4; 8]) -> [u32x4; 16]
+    ensures { (j : ℕ) → j < 4 → sixteen_words j result ≡ columns (sixteen_words j v) (eight_words j m) }
+{
+    let a = [v[0], v[1], v[2], v[3]];
+    let b = [v[4], v[5], v[6], v[7]];
+    let c = [v[8], v[9], v[10], v[11]];
+    let d = [v[12], v[13], v[14], v[15]];
+    let x = [m[0], m[2], m[4], m[6]];
+    let y = [m[1], m[3], m[5], m[7]];
+    let ab1 = add4(a, b);
+    let a1 = add4(ab1, x);
+    let d1 = xor_rotate4(d, a1, 16);
+    let c1 = add4(c, d1);
+    let b1 = xor_rotate4(b, c1, 12);
+    let ab2 = add4(a1, b1);
+    let a2 = add4(ab2, y);
+    let d2 = xor_rotate4(d1, a2, 8);
+    let c2 = add4(c1, d2);
+    let b2 = xor_rotate4(b1, c2, 7);
+    [
+        a2[0], a2[1], a2[2], a2[3], b2[0], b2[1], b2[2], b2[3], c2[0], c2[1], c2[2], c2[3], d2[0],
+        d2[1], d2[2], d2[3],
+    ]
+}
+
+// The same on the four diagonals: they are the columns, once each row of the state is turned left by its number.
+#[inline(always)]
 fn mix_diagonals(v: [u32x4; 16], m: &[u32x4; 16]) -> [u32x4; 16]
     ensures { (j : ℕ) → j < 4 → sixteen_words j result ≡ diagonals (sixteen_words j v) (sixteen_words j m.now) }
 {
-    let [
-        v0,
-        v1,
-        v2,
-        v3,
-        v4,
-        v5,
-        v6,
-        v7,
-        v8,
-        v9,
-        v10,
-        v11,
-        v12,
-        v13,
-        v14,
-        v15,
-    ] = v;
-    let (v0, v5, v10, v15) = mix(v0, v5, v10, v15, m[8], m[9]);
-    let (v1, v6, v11, v12) = mix(v1, v6, v11, v12, m[10], m[11]);
-    let (v2, v7, v8, v13) = mix(v2, v7, v8, v13, m[12], m[13]);
-    let (v3, v4, v9, v14) = mix(v3, v4, v9, v14, m[14], m[15]);
+    let v = mix_columns(
+        [
+            v[0], v[1], v[2], v[3], v[5], v[6], v[7], v[4], v[10], v[11], v[8], v[9], v[15], v[12],
+            v[13], v[14],
+        ],
+        [m[8], m[9], m[10], m[11], m[12], m[13], m[14], m[15]],
+    );
     [
-        v0, v1, v2, v3, v4, v5, v6, v7, v8, v9, v10, v11, v12, v13, v14, v15,
+        v[0], v[1], v[2], v[3], v[7], v[4], v[5], v[6], v[10], v[11], v[8], v[9], v[13], v[14],
+        v[15], v[12],
     ]
 }
 
@@ -118,7 +107,8 @@ fn mix_diagonals(v: [u32x4; 16], m: &[u32x4; 16]) -> [u32x4; 16]
 fn mix_round(v: [u32x4; 16], m: &[u32x4; 16]) -> [u32x4; 16]
     ensures { (j : ℕ) → j < 4 → sixteen_words j result ≡ round (sixteen_words j v) (sixteen_words j m.now) }
 {
-    mix_diagonals(mix_columns(v, m), m)
+    let front = [m[0], m[1], m[2], m[3], m[4], m[5], m[6], m[7]];
+    mix_diagonals(mix_columns(v, front), m)
 }
 
 // The message words of the next round.
@@ -216,7 +206,7 @@ fn joined(v: [u32x4; 16]) -> [u32x4; 8]
 }
 
 /// The compression of whole blocks, where lane j has the counter `first` + j.
-#[inline(never)]
+#[inline(always)]
 pub(crate) fn compress_lanes(
     value: &[u32x4; 8],
     words: &[u32x4; 16],

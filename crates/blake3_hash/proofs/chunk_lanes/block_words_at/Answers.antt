@@ -1,4 +1,4 @@
-use Rattle.std.proofs.Common.{◌≡◌, ◌∙◌, ◌+◌, ◌*◌, ◌≤◌, ℕ, arith}
+use Rattle.std.proofs.Common.{◌≡◌, ◌∙◌, ◌+◌, ◌*◌, ◌≤◌, ℕ, arith, lit<}
 use Rattle.blake3_hash.specs.Chunk.{block, block_words, word_at}
 use Rattle.blake3_hash.specs.Lanes.{whole_chunk}
 use Rattle.blake3_hash.proofs.Blocks.{word_at-block}
@@ -12,20 +12,20 @@ returns c j h =
     let word : (i m : ℕ) → i + 4 ≤ 64 → m ≡ 1024 * j + (64 * n + i) → word_at chunks m ≡ word_at (block (whole_chunk chunks j) n) i =
     λ i m low is. word_at-block chunks j n i m low c.requires.inside is in
     rw (
-      c.words_at.ensures j h ∙ word 0 _ (omega arith) (omega arith),
-      c.words_at-2.ensures j h ∙ word 4 _ (omega arith) (omega arith),
-      c.words_at-3.ensures j h ∙ word 8 _ (omega arith) (omega arith),
-      c.words_at-4.ensures j h ∙ word 12 _ (omega arith) (omega arith),
-      c.words_at-5.ensures j h ∙ word 16 _ (omega arith) (omega arith),
-      c.words_at-6.ensures j h ∙ word 20 _ (omega arith) (omega arith),
-      c.words_at-7.ensures j h ∙ word 24 _ (omega arith) (omega arith),
-      c.words_at-8.ensures j h ∙ word 28 _ (omega arith) (omega arith),
-      c.words_at-9.ensures j h ∙ word 32 _ (omega arith) (omega arith),
-      c.words_at-10.ensures j h ∙ word 36 _ (omega arith) (omega arith),
-      c.words_at-11.ensures j h ∙ word 40 _ (omega arith) (omega arith),
-      c.words_at-12.ensures j h ∙ word 44 _ (omega arith) (omega arith),
-      c.words_at-13.ensures j h ∙ word 48 _ (omega arith) (omega arith),
-      c.words_at-14.ensures j h ∙ word 52 _ (omega arith) (omega arith),
-      c.words_at-15.ensures j h ∙ word 56 _ (omega arith) (omega arith),
-      c.words_at-16.ensures j h ∙ word 60 _ (omega arith) (omega arith),
+      c.chunk_words_at-a.ensures j 0 h (lit< tt) ∙ word 0 _ (omega arith) (omega arith),
+      c.chunk_words_at-a.ensures j 1 h (lit< tt) ∙ word 4 _ (omega arith) (omega arith),
+      c.chunk_words_at-a.ensures j 2 h (lit< tt) ∙ word 8 _ (omega arith) (omega arith),
+      c.chunk_words_at-a.ensures j 3 h (lit< tt) ∙ word 12 _ (omega arith) (omega arith),
+      c.chunk_words_at-b.ensures j 0 h (lit< tt) ∙ word 16 _ (omega arith) (omega arith),
+      c.chunk_words_at-b.ensures j 1 h (lit< tt) ∙ word 20 _ (omega arith) (omega arith),
+      c.chunk_words_at-b.ensures j 2 h (lit< tt) ∙ word 24 _ (omega arith) (omega arith),
+      c.chunk_words_at-b.ensures j 3 h (lit< tt) ∙ word 28 _ (omega arith) (omega arith),
+      c.chunk_words_at-c.ensures j 0 h (lit< tt) ∙ word 32 _ (omega arith) (omega arith),
+      c.chunk_words_at-c.ensures j 1 h (lit< tt) ∙ word 36 _ (omega arith) (omega arith),
+      c.chunk_words_at-c.ensures j 2 h (lit< tt) ∙ word 40 _ (omega arith) (omega arith),
+      c.chunk_words_at-c.ensures j 3 h (lit< tt) ∙ word 44 _ (omega arith) (omega arith),
+      c.chunk_words_at-d.ensures j 0 h (lit< tt) ∙ word 48 _ (omega arith) (omega arith),
+      c.chunk_words_at-d.ensures j 1 h (lit< tt) ∙ word 52 _ (omega arith) (omega arith),
+      c.chunk_words_at-d.ensures j 2 h (lit< tt) ∙ word 56 _ (omega arith) (omega arith),
+      c.chunk_words_at-d.ensures j 3 h (lit< tt) ∙ word 60 _ (omega arith) (omega arith),
     )
