@@ -7,3 +7,4 @@ pub mod Subtrees
 pub mod Bytes
 pub mod Pieces
 mod FourLanes
+mod ByteTurns

@@ -22,3 +22,12 @@ sixteen_words j x =
 -- chunk number j of bytes that begin with a chunk, which is whole
 abbrev pub whole_chunk : List ℕ → ℕ → List ℕ
 whole_chunk bytes j = take 1024 (drop (1024 * j) bytes)
+
+-- from which place each byte of four words of four bytes comes, as each word is rotated right by 16
+-- bits: by two of its bytes
+abbrev pub right_16 : List ℕ
+right_16 = 2 ∷ 3 ∷ 0 ∷ 1 ∷ 6 ∷ 7 ∷ 4 ∷ 5 ∷ 10 ∷ 11 ∷ 8 ∷ 9 ∷ 14 ∷ 15 ∷ 12 ∷ 13 ∷ []
+
+-- as it is by 8 bits: by one of its bytes
+abbrev pub right_8 : List ℕ
+right_8 = 1 ∷ 2 ∷ 3 ∷ 0 ∷ 5 ∷ 6 ∷ 7 ∷ 4 ∷ 9 ∷ 10 ∷ 11 ∷ 8 ∷ 13 ∷ 14 ∷ 15 ∷ 12 ∷ []

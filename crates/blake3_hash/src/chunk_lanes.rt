@@ -99,7 +99,7 @@ fn first_values() -> [u32x4; 8]
 // The chaining values of four chunks, which are numbered from `first`.
 fn lanes4(chunks: &[u8], first: u64) -> [u32x4; 8]
     requires four { length chunks.now ≡ 4096 }
-    requires countable { first + 3 < 2 ^ 64 }
+    requires countable { first < 2 ^ 63 }
     ensures { (j : ℕ) → j < 4 → eight_words j result ≡ chunk_value (first + j) (whole_chunk chunks.now j) 0 }
 {
     let mut value = first_values();

@@ -5,6 +5,7 @@ ghost use Rattle.blake3_hash.specs.Compression.{add32, columns, compress, diagon
 ghost use Rattle.blake3_hash.specs.Lanes.{eight_words, lane_at, sixteen_words};
 
 use crate::compression::IV;
+use crate::turns::Turns;
 use std::simd::u32x4;
 
 const BLOCK_LEN: u32 = 64;
@@ -46,6 +47,18 @@ fn add4(a: [u32x4; 4], b: [u32x4; 4]) -> [u32x4; 4]
 }
 
 #[inline(always)]
+fn xor4(a: [u32x4; 4], b: [u32x4; 4]) -> [u32x4; 4]
+    ensures { (i j : ℕ) → i < 4 → j < 4 → lane_at result i j ≡ bit_xor (lane_at a i j) (lane_at b i j) }
+{
+    [
+        xor(a[0], b[0]),
+        xor(a[1], b[1]),
+        xor(a[2], b[2]),
+        xor(a[3], b[3]),
+    ]
+}
+
+#[inline(always)]
 fn xor_rotate4(a: [u32x4; 4], b: [u32x4; 4], k: u32) -> [u32x4; 4]
     requires { (0 < k) × (k < 32) }
     ensures { (i j : ℕ) → i < 4 → j < 4 → lane_at result i j ≡ rotate_right w32 (bit_xor (lane_at a i j) (lane_at b i j)) k }
@@ -60,7 +73,7 @@ fn xor_rotate4(a: [u32x4; 4], b: [u32x4; 4], k: u32) -> [u32x4; 4]
 
 // G on the four columns, which go step by step together, since none waits for another: with the eight words m.
 #[inline(always)]
-fn mix_columns(v: [u32x4; 16], m: [u32x4; 8]) -> [u32x4; 16]
+fn mix_columns(v: [u32x4; 16], m: [u32x4; 8], turns: &Turns) -> [u32x4; 16]
     ensures { (j : ℕ) → j < 4 → sixteen_words j result ≡ columns (sixteen_words j v) (eight_words j m) }
 {
     let a = [v[0], v[1], v[2], v[3]];
@@ -71,12 +84,12 @@ fn mix_columns(v: [u32x4; 16], m: [u32x4; 8]) -> [u32x4; 16]
     let y = [m[1], m[3], m[5], m[7]];
     let ab1 = add4(a, b);
     let a1 = add4(ab1, x);
-    let d1 = xor_rotate4(d, a1, 16);
+    let d1 = turns.right_16(xor4(d, a1));
     let c1 = add4(c, d1);
     let b1 = xor_rotate4(b, c1, 12);
     let ab2 = add4(a1, b1);
     let a2 = add4(ab2, y);
-    let d2 = xor_rotate4(d1, a2, 8);
+    let d2 = turns.right_8(xor4(d1, a2));
     let c2 = add4(c1, d2);
     let b2 = xor_rotate4(b1, c2, 7);
     [
@@ -87,7 +100,7 @@ fn mix_columns(v: [u32x4; 16], m: [u32x4; 8]) -> [u32x4; 16]
 
 // The same on the four diagonals: they are the columns, once each row of the state is turned left by its number.
 #[inline(always)]
-fn mix_diagonals(v: [u32x4; 16], m: &[u32x4; 16]) -> [u32x4; 16]
+fn mix_diagonals(v: [u32x4; 16], m: &[u32x4; 16], turns: &Turns) -> [u32x4; 16]
     ensures { (j : ℕ) → j < 4 → sixteen_words j result ≡ diagonals (sixteen_words j v) (sixteen_words j m.now) }
 {
     let v = mix_columns(
@@ -96,6 +109,7 @@ fn mix_diagonals(v: [u32x4; 16], m: &[u32x4; 16]) -> [u32x4; 16]
             v[13], v[14],
         ],
         [m[8], m[9], m[10], m[11], m[12], m[13], m[14], m[15]],
+        turns,
     );
     [
         v[0], v[1], v[2], v[3], v[7], v[4], v[5], v[6], v[10], v[11], v[8], v[9], v[13], v[14],
@@ -104,11 +118,11 @@ fn mix_diagonals(v: [u32x4; 16], m: &[u32x4; 16]) -> [u32x4; 16]
 }
 
 #[inline(always)]
-fn mix_round(v: [u32x4; 16], m: &[u32x4; 16]) -> [u32x4; 16]
+fn mix_round(v: [u32x4; 16], m: &[u32x4; 16], turns: &Turns) -> [u32x4; 16]
     ensures { (j : ℕ) → j < 4 → sixteen_words j result ≡ round (sixteen_words j v) (sixteen_words j m.now) }
 {
     let front = [m[0], m[1], m[2], m[3], m[4], m[5], m[6], m[7]];
-    mix_diagonals(mix_columns(v, front), m)
+    mix_diagonals(mix_columns(v, front, turns), m, turns)
 }
 
 // The message words of the next round.
@@ -125,22 +139,22 @@ fn permute(m: &[u32x4; 16]) -> [u32x4; 16]
 
 // The seven rounds.
 #[inline(always)]
-fn seven_rounds(v: [u32x4; 16], m0: &[u32x4; 16]) -> [u32x4; 16]
+fn seven_rounds(v: [u32x4; 16], m0: &[u32x4; 16], turns: &Turns) -> [u32x4; 16]
     ensures { (j : ℕ) → j < 4 → sixteen_words j result ≡ rounds 7 (sixteen_words j v) (sixteen_words j m0.now) }
 {
-    let v1 = mix_round(v, m0);
+    let v1 = mix_round(v, m0, turns);
     let m1 = permute(m0);
-    let v2 = mix_round(v1, &m1);
+    let v2 = mix_round(v1, &m1, turns);
     let m2 = permute(&m1);
-    let v3 = mix_round(v2, &m2);
+    let v3 = mix_round(v2, &m2, turns);
     let m3 = permute(&m2);
-    let v4 = mix_round(v3, &m3);
+    let v4 = mix_round(v3, &m3, turns);
     let m4 = permute(&m3);
-    let v5 = mix_round(v4, &m4);
+    let v5 = mix_round(v4, &m4, turns);
     let m5 = permute(&m4);
-    let v6 = mix_round(v5, &m5);
+    let v6 = mix_round(v5, &m5, turns);
     let m6 = permute(&m5);
-    mix_round(v6, &m6)
+    mix_round(v6, &m6, turns)
 }
 
 // The lower word of a counter, and its upper one.
@@ -213,10 +227,11 @@ pub(crate) fn compress_lanes(
     first: u64,
     flags: u32,
 ) -> [u32x4; 8]
-    requires { first + 3 < 2 ^ 64 }
+    requires { first < 2 ^ 63 }
     ensures { (j : ℕ) → j < 4
         → eight_words j result ≡ compress (eight_words j value.now) (sixteen_words j words.now) (first + j) 64 flags }
 {
+    let turns = Turns::new(first);
     let states = first_states(value, first, flags);
-    joined(seven_rounds(states, words))
+    joined(seven_rounds(states, words, &turns))
 }

@@ -10,6 +10,7 @@ mod lanes;
 mod laws;
 mod parent;
 mod stack;
+mod turns;
 mod words;
 
 pub use chunk_lanes::lanes8;
