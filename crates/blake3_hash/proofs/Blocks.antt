@@ -1,5 +1,5 @@
 -- The chaining value of a chunk, block by block.
-use Rattle.std.proofs.Common.{◌≡◌, ℕ, ◌+◌, ◌*◌, ◌-◌, ◌<◌, ◌≤◌, List, length, drop, take, slice_index, bit_or, refl, arith, add-one, length-drop}
+use Rattle.std.proofs.Common.{◌≡◌, ◌∙◌, ap, ℕ, ◌+◌, ◌*◌, ◌-◌, ◌<◌, ◌≤◌, List, length, drop, take, slice_index, bit_or, refl, arith, add-one, length-drop}
 use Rattle.std.proofs.lemmas.List.{append-nil, drop-drop, drop-take, get_or-drop, get_or-take, take-take, take_all}
 use Rattle.blake3_hash.specs.Compression.{chunk_end, compress}
 use Rattle.blake3_hash.specs.Chunk.{block, block_words, blocks_before_last, chunk_value, filled, start_flag, value_after, word_at}
@@ -47,12 +47,13 @@ chunk_value-whole number chunk value whole before =
     let made = chunk_value-last number chunk 0 15 value last count before refl in
     rw all (rw (long, append-nil last) at made)
 
--- the chunks of the first half of eight, and of the second
-pub whole_chunk-front : (bytes : List ℕ) (j : ℕ) → j < 4 → whole_chunk (take 4096 bytes) j ≡ whole_chunk bytes j
-whole_chunk-front bytes j low =
-    let rest : 4096 ≡ 1024 * j + (4096 - 1024 * j) = omega arith in
-    let room : 1024 ≤ 4096 - 1024 * j = omega arith in
-    rw (rest, drop-take, take-take 1024 (4096 - 1024 * j) (drop (1024 * j) bytes) room) refl
+-- the chunks of the first w bytes, and of the second half of eight
+pub whole_chunk-front : (w : ℕ) (bytes : List ℕ) (j : ℕ) → 1024 * (j + 1) ≤ w → whole_chunk (take w bytes) j ≡ whole_chunk bytes j
+whole_chunk-front w bytes j low =
+    let rest : w ≡ 1024 * j + (w - 1024 * j) = omega arith in
+    let room : 1024 ≤ w - 1024 * j = omega arith in
+    ap (λ (n : ℕ). whole_chunk (take n bytes) j) rest
+    ∙ rw (drop-take, take-take 1024 (w - 1024 * j) (drop (1024 * j) bytes) room) refl
 
 pub whole_chunk-back : (bytes rest : List ℕ) (j : ℕ) → rest ≡ drop 4096 bytes → whole_chunk rest j ≡ whole_chunk bytes (4 + j)
 whole_chunk-back bytes rest j is =

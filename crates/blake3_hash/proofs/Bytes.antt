@@ -1,11 +1,12 @@
 -- How a hasher follows the bytes that are given to it.
-use Rattle.std.proofs.Common.{◌≡◌, ◌∙◌, ℕ, ◌+◌, ◌*◌, ◌^◌, ◌≤◌, ◌++◌, List, length, take, drop, take-add, refl, sym, ap, arith, length-append, length-drop}
+use Rattle.std.proofs.Common.{◌≡◌, ◌∙◌, ℕ, ◌+◌, ◌*◌, ◌/◌, ◌%◌, ◌^◌, ◌≤◌, ◌++◌, List, length, take, drop, take-add, refl, sym, ap, arith, length-append, length-drop}
 use Rattle.std.proofs.lemmas.List.{drop-append-le, drop_at, drop-drop, length-take, take_all}
 use Rattle.std.proofs.lemmas.Slice.{take-put_mid}
 use Rattle.blake3_hash.specs.Chunk.{chunk_value}
 use Rattle.blake3_hash.specs.Lanes.{whole_chunk}
 use Rattle.blake3_hash.specs.Hasher.{HasBytes, Holds, total}
 use Rattle.blake3_hash.specs.Stack.{subtree, tree_from}
+use Rattle.blake3_hash.specs.Tree.{tree}
 use Rattle.blake3_hash.specs.declared.hasher.Hasher.{Hasher}
 use Rattle.blake3_hash.proofs.Subtrees.{HasSubtrees-append}
 use Rattle.blake3_hash.proofs.Trees.{tree-chunk}
@@ -58,6 +59,15 @@ subtree-added n j before more value at made =
     let here : drop (1024 * (n + j)) (before ++ more) ≡ drop (1024 * j) more =
     rw far (sym (drop-drop (1024 * j) (1024 * n) (before ++ more)) ∙ ap (drop (1024 * j)) behind) in
     made ∙ sym (subtree-chunk (n + j) (before ++ more) ∙ ap (λ (l : List ℕ). chunk_value (n + j) (take 1024 l) 0) here)
+
+-- the value of eight chunks that are added after eights
+pub subtree-eight : (n : ℕ) (before group value : List ℕ) → length before ≡ 1024 * n → n % 8 ≡ 0 → length group ≡ 8192
+    → value ≡ tree n group 0 → value ≡ subtree 3 (n / 8) (before ++ group)
+unfolding subtree
+subtree-eight n before group value at eights long made =
+    let here : n / 8 * 2 ^ 3 ≡ n = omega arith in
+    let behind : drop (1024 * n) (before ++ group) ≡ group = drop_at before group (1024 * n) at in
+    made ∙ sym (rw (here, behind, take_all 8192 group (omega arith)) refl)
 
 -- the tree over what is left after n chunks, which is one chunk
 pub tree_from-last : (n c : ℕ) (bytes chunk : List ℕ) (flags f : ℕ) (value : List ℕ) → length bytes ≤ 1024 * (n + 1) → chunk ≡ drop (1024 * n) bytes

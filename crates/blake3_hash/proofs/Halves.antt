@@ -1,9 +1,10 @@
 -- A count halved again and again.
 use Rattle.std.proofs.Common.{◌≡◌, ◌∙◌, ℕ, ◌+◌, ◌-◌, ◌*◌, ◌/◌, ◌%◌, ◌^◌, ◌<◌, ◌≤◌, sym, ap, inl, inr, arith}
-use Rattle.std.proofs.Math.Nat.{div-mul-le_self, mul-le-mul_right}
+use Rattle.std.proofs.Math.Nat.{div-mul-le_self, mul-div_cancel, mul-le-mul_right}
 use Rattle.std.proofs.Math.Pow.{pow_mono}
 use Rattle.std.proofs.lemmas.Bool.{cases_lt}
-use Rattle.std.proofs.lemmas.Nat.{div-add-mod', mod_below, pow_pos, shr-shr}
+use Rattle.std.proofs.lemmas.Grind.{pow_more}
+use Rattle.std.proofs.lemmas.Nat.{div-add-mod', mod_below, pow-add, pow_pos, shr-shr}
 
 -- halved once more
 pub half-more : (n k : ℕ) → n / 2 ^ (k + 1) ≡ n / 2 ^ k / 2
@@ -41,3 +42,13 @@ half-same m n h k q m_is n_is even above =
     let at : k ≡ (h + 1) + j = omega arith in
     let once : n / 2 ^ (h + 1) ≡ m / 2 ^ (h + 1) = half-more n h ∙ (let e : n / 2 ^ h / 2 ≡ m / 2 ^ h / 2 = omega arith in e) ∙ sym (half-more m h) in
     rw at (sym (shr-shr n (h + 1) j) ∙ ap (λ (x : ℕ). x / 2 ^ j) once ∙ shr-shr m (h + 1) j)
+
+-- a multiple of 2 ^ k, halved fewer times than k, is even
+pub multiple_even : (m k j : ℕ) → j < k → m * 2 ^ k / 2 ^ j % 2 ≡ 0
+multiple_even m k j below =
+    let rest : ℕ = k - (j + 1) in
+    let at : k ≡ (rest + 1) + j = omega arith in
+    let once : 2 ^ (rest + 1) ≡ 2 ^ rest * 2 = pow_more 2 rest in
+    let power : 2 ^ k ≡ 2 ^ rest * 2 * 2 ^ j = ap (λ (n : ℕ). 2 ^ n) at ∙ pow-add 2 (rest + 1) j ∙ ap (λ (n : ℕ). n * 2 ^ j) once in
+    let parts : m * (2 ^ rest * 2 * 2 ^ j) ≡ m * 2 ^ rest * 2 * 2 ^ j = grind arith in
+    rw (power, parts, mul-div_cancel (m * 2 ^ rest * 2) (pow_pos j)) (omega arith)

@@ -8,3 +8,4 @@ pub mod Bytes
 pub mod Pieces
 mod FourLanes
 mod ByteTurns
+mod Eights

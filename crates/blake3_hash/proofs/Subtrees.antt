@@ -25,16 +25,16 @@ second_of_two w at bytes =
     let width : 1024 * (w + w) ≡ 1024 * w + 1024 * w = omega arith in
     rw (width, drop-take, rest_from) refl
 
--- the tree over two neighbours of 2 ^ k whole chunks each
-two_subtrees : (k at : ℕ) (bytes : List ℕ) → 1024 * (at + 2 ^ k + 2 ^ k) ≤ length bytes
-    → tree at (take (1024 * (2 ^ k + 2 ^ k)) (drop (1024 * at) bytes)) 0
-    ≡ parent_value (tree at (take (1024 * 2 ^ k) (drop (1024 * at) bytes)) 0) (tree (at + 2 ^ k) (take (1024 * 2 ^ k) (drop (1024 * (at + 2 ^ k)) bytes)) 0) 0
-two_subtrees k at bytes fits =
+-- the tree over two neighbours of 2 ^ k whole chunks each, which are numbered from `number`
+pub two_subtrees : (k number at : ℕ) (bytes : List ℕ) → 1024 * (at + 2 ^ k + 2 ^ k) ≤ length bytes
+    → tree number (take (1024 * (2 ^ k + 2 ^ k)) (drop (1024 * at) bytes)) 0
+    ≡ parent_value (tree number (take (1024 * 2 ^ k) (drop (1024 * at) bytes)) 0) (tree (number + 2 ^ k) (take (1024 * 2 ^ k) (drop (1024 * (at + 2 ^ k)) bytes)) 0) 0
+two_subtrees k number at bytes fits =
     let w : ℕ = 2 ^ k in
     let both : List ℕ = take (1024 * (w + w)) (drop (1024 * at) bytes) in
     let one = pow_pos k in
     let len : length both ≡ 1024 * w + 1024 * w = simp (length-take, length-drop) (omega arith) in
-    tree-split k at both 0 (omega arith) (omega arith) ∙ rw (first_of_two, second_of_two) refl
+    tree-split k number both 0 (omega arith) (omega arith) ∙ rw (first_of_two, second_of_two) refl
 
 -- two subtrees, side by side, are one
 pub subtree-merge : (k n : ℕ) (bytes : List ℕ) → 1024 * ((2 * n + 2) * 2 ^ k) ≤ length bytes
@@ -45,7 +45,7 @@ subtree-merge k n bytes fits =
     let double : 2 ^ (k + 1) ≡ w + w = rw add-one (two-pow-succ k) in
     let left : n * (w + w) ≡ 2 * n * w = omega arith in
     let right : (2 * n + 1) * w ≡ 2 * n * w + w = omega arith in
-    rw (double, left, right) (sym (two_subtrees k (2 * n * w) bytes (omega arith)))
+    rw (double, left, right) (sym (two_subtrees k (2 * n * w) (2 * n * w) bytes (omega arith)))
 
 -- a subtree with a sibling before it, and all that is left after it
 pub tree_from-merge : (k n : ℕ) (bytes : List ℕ) (flags : ℕ) → 1024 * ((2 * n + 1) * 2 ^ k) < length bytes → length bytes ≤ 1024 * ((2 * n + 2) * 2 ^ k)
@@ -78,12 +78,12 @@ waiting values count bytes k n has is =
     let before : count / 2 ^ k - 1 ≡ 2 * n = omega arith in
     has k (omega arith) ∙ ap (λ (m : ℕ). subtree k m bytes) before
 
--- the subtree that a chunk completes, one higher
-pub completed-next : (values : List (List ℕ)) (count : ℕ) (bytes : List ℕ) (k n : ℕ) → HasSubtrees values count bytes
-    → count / 2 ^ k ≡ 2 * n + 1 → (count + 1) / 2 ^ k ≡ 2 * n + 2 → 1024 * (count + 1) ≤ length bytes
+-- the subtree that the next chunks complete, one higher
+pub completed-next : (values : List (List ℕ)) (count next : ℕ) (bytes : List ℕ) (k n : ℕ) → HasSubtrees values count bytes
+    → count / 2 ^ k ≡ 2 * n + 1 → next / 2 ^ k ≡ 2 * n + 2 → 1024 * next ≤ length bytes
     → parent_value (slice_index_or values k []) (subtree k (2 * n + 1) bytes) 0 ≡ subtree (k + 1) n bytes
-completed-next values count bytes k n has is next fits =
-    let whole = half-fits (count + 1) k (2 * n + 2) next in
+completed-next values count next bytes k n has is counted fits =
+    let whole = half-fits next k (2 * n + 2) counted in
     rw (waiting values count bytes k n has is) (subtree-merge k n bytes (omega arith))
 
 -- the tree over all that is left, one higher
@@ -110,16 +110,16 @@ pub root_flag-some : (before : ℕ) → 0 < before → root_flag before ≡ 0
 root_flag-some before some = grind (arith, nat_tests)
 
 -- a value more at the height of the subtree that is completed
-pub HasSubtrees-push : (values : List (List ℕ)) (count : ℕ) (bytes value : List ℕ) (k : ℕ) → k < length values → HasSubtrees values count bytes
-    → Completes k count → value ≡ subtree k (count / 2 ^ k) bytes → HasSubtrees (set values k value) (count + 1) bytes
+pub HasSubtrees-push : (values : List (List ℕ)) (count next : ℕ) (bytes value : List ℕ) (k : ℕ) → k < length values → HasSubtrees values count bytes
+    → Completes k count next → value ≡ subtree k (count / 2 ^ k) bytes → HasSubtrees (set values k value) next bytes
 unfolding HasSubtrees
-HasSubtrees-push values count bytes value k low has completes is j odd = elim (cases_order j k) [
+HasSubtrees-push values count next bytes value k low has completes is j odd = elim (cases_order j k) [
   | inl here ↦
-      let before : (count + 1) / 2 ^ k - 1 ≡ count / 2 ^ k = omega (arith, completes.carried) in
+      let before : next / 2 ^ k - 1 ≡ count / 2 ^ k = omega (arith, completes.carried) in
       rw (here, before) (get_or-set_same values k value [] low ∙ is)
   | inr (inl below) ↦ absurd (omega (arith, completes.even_below j below))
   | inr (inr above) ↦
-      let same = half-same count (count + 1) k j (count / 2 ^ k) refl completes.carried completes.even above in
+      let same = half-same count next k j (count / 2 ^ k) refl completes.carried completes.even above in
       let apart : j ≡ k → ⊥ = omega arith in
       get_or-set_other values k j value [] apart ∙ rw same (has j (rw (← same) odd))
 ]

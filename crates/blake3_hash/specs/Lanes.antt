@@ -11,6 +11,12 @@ eight_words j x =
     lane_at x 0 j ∷ lane_at x 1 j ∷ lane_at x 2 j ∷ lane_at x 3 j
     ∷ lane_at x 4 j ∷ lane_at x 5 j ∷ lane_at x 6 j ∷ lane_at x 7 j ∷ []
 
+-- the chaining values in the lanes of two
+abbrev pub eight_values : List (List ℕ) → List (List ℕ) → List (List ℕ)
+eight_values x y =
+    eight_words 0 x ∷ eight_words 1 x ∷ eight_words 2 x ∷ eight_words 3 x
+    ∷ eight_words 0 y ∷ eight_words 1 y ∷ eight_words 2 y ∷ eight_words 3 y ∷ []
+
 -- the state, or the words of the message, in lane j
 abbrev pub sixteen_words : ℕ → List (List ℕ) → List ℕ
 sixteen_words j x =

@@ -26,8 +26,9 @@ HasSubtrees values count bytes = (k : ℕ) → (count / 2 ^ k) % 2 ≡ 1
 abbrev pub EndsAfter : ℕ → List ℕ → Type 0
 EndsAfter count bytes = (0 < count → 1024 * count < length bytes) × (length bytes ≤ 1024 * (count + 1))
 
--- the next chunk after so many completes a subtree of 2 ^ k chunks, and none that is higher
-pub record Completes (k count : ℕ) : Type 0 where
-  pub carried : (count + 1) / 2 ^ k ≡ count / 2 ^ k + 1
+-- the chunks up to `next`, which come after so many, complete a subtree of 2 ^ k chunks, and none that
+-- is higher
+pub record Completes (k count next : ℕ) : Type 0 where
+  pub carried : next / 2 ^ k ≡ count / 2 ^ k + 1
   pub even : (count / 2 ^ k) % 2 ≡ 0
-  pub even_below : (j : ℕ) → j < k → ((count + 1) / 2 ^ j) % 2 ≡ 0
+  pub even_below : (j : ℕ) → j < k → (next / 2 ^ j) % 2 ≡ 0

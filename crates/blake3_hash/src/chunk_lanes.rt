@@ -10,8 +10,8 @@ use crate::lanes::compress_lanes;
 use crate::words::word_at;
 use std::simd::u32x4;
 
-// The bytes of four chunks.
-const HALF_LEN: usize = 4096;
+/// The bytes of four chunks.
+pub(crate) const HALF_LEN: usize = 4096;
 
 /// The bytes of eight chunks.
 pub(crate) const GROUP_LEN: usize = 8192;
@@ -96,8 +96,8 @@ fn first_values() -> [u32x4; 8]
     ]
 }
 
-// The chaining values of four chunks, which are numbered from `first`.
-fn lanes4(chunks: &[u8], first: u64) -> [u32x4; 8]
+/// The chaining values of four chunks, which are numbered from `first`.
+pub(crate) fn lanes4(chunks: &[u8], first: u64) -> [u32x4; 8]
     requires four { length chunks.now ≡ 4096 }
     requires countable { first < 2 ^ 63 }
     ensures { (j : ℕ) → j < 4 → eight_words j result ≡ chunk_value (first + j) (whole_chunk chunks.now j) 0 }
@@ -109,8 +109,8 @@ fn lanes4(chunks: &[u8], first: u64) -> [u32x4; 8]
     compress_lanes(&value, &block_words_at(chunks, 15), first, CHUNK_END)
 }
 
-// The chaining values, each by itself.
-fn unpacked(value: [u32x4; 8]) -> [[u32; 8]; 4]
+/// The chaining values, each by itself.
+pub(crate) fn unpacked(value: [u32x4; 8]) -> [[u32; 8]; 4]
     ensures { (j : ℕ) → j < 4 → slice_index_or result j [] ≡ eight_words j value }
 {
     let [a0, a1, a2, a3] = value[0].to_array();

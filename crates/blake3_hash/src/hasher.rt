@@ -1,10 +1,11 @@
 //! Bytes hashed piece by piece.
-ghost use Rattle.std.specs.Prelude.{◌≡◌, ℕ, ◌+◌, ◌*◌, ◌^◌, ◌<◌, ◌≤◌, ◌++◌, List, [], length};
+ghost use Rattle.std.specs.Prelude.{◌≡◌, ℕ, ◌+◌, ◌*◌, ◌^◌, ◌<◌, ◌≤◌, ◌++◌, ◌%◌, List, [], length, take};
 ghost use Rattle.blake3_hash.specs.Tree.{blake3};
 
 use crate::chunk::{CHUNK_LEN, chunk_value};
 use crate::chunk_lanes::{GROUP_LEN, lanes8};
 use crate::flags::root_flag;
+use crate::parent_lanes::tree8;
 use crate::stack::Stack;
 use crate::words::bytes_of;
 
@@ -72,6 +73,34 @@ impl Hasher {
         self.stack.push(value);
     }
 
+    // Adds the first chunks of eight whole ones where none is open.
+    fn add_first(&mut self, group: &[u8; GROUP_LEN], chunks: usize)
+        requires eight { chunks ≤ 8 }
+        requires none_open { self.old.used ≡ 0 }
+        requires countable { total self.old + 1024 * chunks < 2 ^ 64 }
+        ensures used { self.new.used ≡ 0 }
+        ensures count { self.new.stack.count ≡ self.old.stack.count + chunks }
+        ensures has { (before : List ℕ) → HasBytes self.old before → HasBytes self.new (before ++ take (1024 * chunks) group.now) }
+    {
+        let values = lanes8(group, self.stack.count());
+        'values: for i in 0..chunks {
+            self.stack.push(values[i]);
+        }
+    }
+
+    // Adds eight whole chunks where none is open, and those before are eights.
+    fn add_eight(&mut self, group: &[u8; GROUP_LEN])
+        requires eights { self.old.stack.count % 8 ≡ 0 }
+        requires none_open { self.old.used ≡ 0 }
+        requires countable { total self.old + 8192 < 2 ^ 64 }
+        ensures used { self.new.used ≡ 0 }
+        ensures count { self.new.stack.count ≡ self.old.stack.count + 8 }
+        ensures has { (before : List ℕ) → HasBytes self.old before → HasBytes self.new (before ++ group.now) }
+    {
+        let eight = tree8(group, self.stack.count());
+        self.stack.push8(eight);
+    }
+
     // Adds eight whole chunks where none is open.
     fn add_group(&mut self, group: &[u8; GROUP_LEN])
         requires none_open { self.old.used ≡ 0 }
@@ -80,10 +109,23 @@ impl Hasher {
         ensures count { self.new.stack.count ≡ self.old.stack.count + 8 }
         ensures has { (before : List ℕ) → HasBytes self.old before → HasBytes self.new (before ++ group.now) }
     {
-        let values = lanes8(group, self.stack.count());
-        'values: for value in values {
-            self.stack.push(value);
+        if self.stack.count() % 8 == 0 {
+            self.add_eight(group);
+        } else {
+            self.add_first(group, 8);
         }
+    }
+
+    // Adds eight whole chunks where none is open, and leaves the last one open.
+    fn add_last_group(&mut self, group: &[u8; GROUP_LEN])
+        requires none_open { self.old.used ≡ 0 }
+        requires countable { total self.old + 8192 < 2 ^ 64 }
+        ensures total { total self.new ≡ total self.old + 8192 }
+        ensures open { 0 < self.new.used }
+        ensures has { (before : List ℕ) → HasBytes self.old before → HasBytes self.new (before ++ group.now) }
+    {
+        self.add_first(group, 7);
+        self.keep(&group[GROUP_LEN - CHUNK_LEN..]);
     }
 
     /// Adds bytes.
@@ -120,7 +162,12 @@ impl Hasher {
         'groups: for n in 0..groups {
             self.add_group(group_of(&bytes[GROUP_LEN * n..GROUP_LEN * n + GROUP_LEN]));
         }
-        self.add_each(&bytes[GROUP_LEN * groups..]);
+        let rest = &bytes[GROUP_LEN * groups..];
+        if rest.len() == GROUP_LEN {
+            self.add_last_group(group_of(rest));
+        } else {
+            self.add_each(rest);
+        }
     }
 
     // The same, one chunk at a time.

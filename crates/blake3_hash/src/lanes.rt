@@ -1,10 +1,11 @@
 //! The compression of four blocks of 64 bytes side by side: each word is a vector, with one lane for each block.
 ghost use Rattle.std.specs.Prelude.{◌≡◌, ℕ, ◌+◌, ◌/◌, ◌%◌, ◌^◌, ◌<◌, bit_xor, slice_index};
 ghost use Rattle.std.specs.Int.{w32, rotate_right};
-ghost use Rattle.blake3_hash.specs.Compression.{add32, columns, compress, diagonals, first_state, halves_joined, permuted, round, rounds};
+ghost use Rattle.blake3_hash.specs.Compression.{add32, columns, compress, diagonals, first_state, halves_joined, iv, parent, permuted, round, rounds};
 ghost use Rattle.blake3_hash.specs.Lanes.{eight_words, lane_at, sixteen_words};
 
 use crate::compression::IV;
+use crate::flags::PARENT;
 use crate::turns::Turns;
 use std::simd::u32x4;
 
@@ -234,4 +235,39 @@ pub(crate) fn compress_lanes(
     let turns = Turns::new(first);
     let states = first_states(value, first, flags);
     joined(seven_rounds(states, words, &turns))
+}
+
+// The states of parents before the rounds.
+#[inline(always)]
+fn parent_states() -> [u32x4; 16]
+    ensures { (j : ℕ) → j < 4 → sixteen_words j result ≡ first_state iv 0 64 parent }
+{
+    [
+        u32x4::splat(IV[0]),
+        u32x4::splat(IV[1]),
+        u32x4::splat(IV[2]),
+        u32x4::splat(IV[3]),
+        u32x4::splat(IV[4]),
+        u32x4::splat(IV[5]),
+        u32x4::splat(IV[6]),
+        u32x4::splat(IV[7]),
+        u32x4::splat(IV[0]),
+        u32x4::splat(IV[1]),
+        u32x4::splat(IV[2]),
+        u32x4::splat(IV[3]),
+        u32x4::splat(0),
+        u32x4::splat(0),
+        u32x4::splat(BLOCK_LEN),
+        u32x4::splat(PARENT),
+    ]
+}
+
+/// The compression of the messages of parents. `small` is any number whose top bit is 0.
+#[inline(always)]
+pub(crate) fn compress_parents(words: &[u32x4; 16], small: u64) -> [u32x4; 8]
+    requires { small < 2 ^ 63 }
+    ensures { (j : ℕ) → j < 4 → eight_words j result ≡ compress iv (sixteen_words j words.now) 0 64 parent }
+{
+    let turns = Turns::new(small);
+    joined(seven_rounds(parent_states(), words, &turns))
 }

@@ -9,6 +9,7 @@ mod hasher;
 mod lanes;
 mod laws;
 mod parent;
+mod parent_lanes;
 mod stack;
 mod turns;
 mod words;

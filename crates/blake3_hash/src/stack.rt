@@ -1,5 +1,5 @@
 //! The chaining values of the subtrees that wait for their right siblings.
-ghost use Rattle.std.specs.Prelude.{◌≡◌, ℕ, ◌+◌, ◌*◌, ◌/◌, ◌^◌, ◌<◌, ◌≤◌, List, length};
+ghost use Rattle.std.specs.Prelude.{◌≡◌, ℕ, ◌+◌, ◌*◌, ◌/◌, ◌%◌, ◌^◌, ◌<◌, ◌≤◌, List, length};
 ghost use Rattle.blake3_hash.specs.Compression.{root};
 ghost use Rattle.blake3_hash.specs.Stack.{Completes, EndsAfter, HasSubtrees, root_flag, subtree, tree_from};
 ghost use Rattle.blake3_hash.specs.Tree.{tree};
@@ -37,19 +37,21 @@ impl Stack {
         self.count
     }
 
-    // The subtree that the next chunk completes, and its height. Each subtree that waits just below
-    // becomes a left child, as a carry runs through the ones of a binary count.
-    fn completed(&self, chunk: [u32; 8]) -> (usize, [u32; 8])
-        requires { self.now.count + 1 < 2 ^ 54 }
+    // The subtree that the next one completes, and its height. The next one has the height `least`, and all chunks before it
+    // are in `before` such subtrees. Each subtree that waits just below becomes a left child, as a carry runs through the
+    // ones of a binary count.
+    fn completed(&self, least: usize, before: u64, next: [u32; 8]) -> (usize, [u32; 8])
+        requires whole { self.now.count ≡ before * 2 ^ least }
+        requires few { (before + 1) * 2 ^ least < 2 ^ 54 }
         ensures low { result.0 < 54 }
-        ensures completes { Completes result.0 self.now.count }
-        ensures subtree { (bytes : List ℕ) → 1024 * (self.now.count + 1) ≤ length bytes
-            → HasSubtrees self.now.values self.now.count bytes → chunk ≡ subtree 0 self.now.count bytes
+        ensures completes { Completes result.0 self.now.count ((before + 1) * 2 ^ least) }
+        ensures subtree { (bytes : List ℕ) → 1024 * ((before + 1) * 2 ^ least) ≤ length bytes
+            → HasSubtrees self.now.values self.now.count bytes → next ≡ subtree least before bytes
             → result.1 ≡ subtree result.0 (self.now.count / 2 ^ result.0) bytes }
     {
-        let mut value = chunk;
-        let mut left = self.count;
-        let mut height = 0;
+        let mut value = next;
+        let mut left = before;
+        let mut height = least;
         'merges: while left % 2 == 1 {
             value = parent_value(&self.values[height], &value, 0);
             left /= 2;
@@ -66,9 +68,23 @@ impl Stack {
             → HasSubtrees self.old.values self.old.count bytes → chunk ≡ subtree 0 self.old.count bytes
             → HasSubtrees self.new.values self.new.count bytes }
     {
-        let (height, value) = self.completed(chunk);
+        let (height, value) = self.completed(0, self.count, chunk);
         self.values[height] = value;
         self.count += 1;
+    }
+
+    /// Adds the next eight chunks, whose tree's value is given, where the chunks before are eights too.
+    pub(crate) fn push8(&mut self, eight: [u32; 8])
+        requires eights { self.old.count % 8 ≡ 0 }
+        requires few { self.old.count + 8 < 2 ^ 54 }
+        ensures counted { self.new.count ≡ self.old.count + 8 }
+        ensures subtrees { (bytes : List ℕ) → 1024 * (self.old.count + 8) ≤ length bytes
+            → HasSubtrees self.old.values self.old.count bytes → eight ≡ subtree 3 (self.old.count / 8) bytes
+            → HasSubtrees self.new.values self.new.count bytes }
+    {
+        let (height, value) = self.completed(3, self.count / 8, eight);
+        self.values[height] = value;
+        self.count += 8;
     }
 
     /// The root, where the tree over the bytes after the pushed chunks is one chunk.

@@ -11,7 +11,7 @@ returns c =
     let chunks = c.args.chunks.now in
     let first = c.args.first in
     let front : (i : ℕ) → i < 4 → slice_index_or c.unpacked.result i [] ≡ chunk_value (first + i) (whole_chunk chunks i) 0 =
-    λ i h. c.unpacked.ensures i h ∙ c.lanes4.ensures i h ∙ ap (λ (k : List ℕ). chunk_value (first + i) k 0) (whole_chunk-front chunks i h) in
+    λ i h. c.unpacked.ensures i h ∙ c.lanes4.ensures i h ∙ ap (λ (k : List ℕ). chunk_value (first + i) k 0) (whole_chunk-front 4096 chunks i (omega arith)) in
     let back : (i : ℕ) → i < 4 → slice_index_or c.unpacked-2.result i [] ≡ chunk_value (first + (4 + i)) (whole_chunk chunks (4 + i)) 0 =
     λ i h.
     let number : first + 4 + i ≡ first + (4 + i) = omega arith in
