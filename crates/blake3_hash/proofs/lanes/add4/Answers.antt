@@ -1,4 +1,4 @@
-use Rattle.std.proofs.Common.{◌≡◌, ℕ, [], ◌∷◌}
+use Rattle.std.proofs.Common.{◌≡◌, [], ◌∷◌}
 use Rattle.blake3_hash.specs.Compression.{add32}
 use Rattle.blake3_hash.specs.Lanes.{lane_at}
 use Rattle.blake3_hash.proofs.FourLanes.{below_four}

@@ -1,4 +1,4 @@
-use Rattle.std.proofs.Common.{◌≡◌, ◌+◌, ◌*◌, ◌<◌, ℕ, List, [], ◌∷◌, lit<, refl}
+use Rattle.std.proofs.Common.{◌≡◌, ◌<◌, ℕ, [], ◌∷◌, lit<, refl}
 use Rattle.blake3_hash.specs.Compression.{columns, g, mixed}
 use Rattle.blake3_hash.specs.Lanes.{lane_at}
 use Rattle.blake3_hash.proofs.FourLanes.{four}

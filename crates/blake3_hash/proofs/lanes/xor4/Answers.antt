@@ -1,4 +1,4 @@
-use Rattle.std.proofs.Common.{◌≡◌, ℕ, [], ◌∷◌, bit_xor}
+use Rattle.std.proofs.Common.{◌≡◌, [], ◌∷◌, bit_xor}
 use Rattle.blake3_hash.specs.Lanes.{lane_at}
 use Rattle.blake3_hash.proofs.FourLanes.{below_four}
 use Rattle.blake3_hash.proofs.lanes.xor4.Goals as goal

@@ -1,4 +1,4 @@
-use Rattle.std.proofs.Common.{◌≡◌, ℕ, [], ◌∷◌, bit_xor}
+use Rattle.std.proofs.Common.{◌≡◌, [], ◌∷◌, bit_xor}
 use Rattle.std.specs.Int.{w32, rotate_right}
 use Rattle.blake3_hash.specs.Lanes.{lane_at}
 use Rattle.blake3_hash.proofs.FourLanes.{below_four}

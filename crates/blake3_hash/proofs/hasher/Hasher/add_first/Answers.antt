@@ -1,7 +1,6 @@
 use Rattle.std.proofs.Common.{◌≡◌, ◌∙◌, ◌+◌, ◌*◌, ◌++◌, List, ℕ, length, take, sym, ap, ap₂, arith, length-append}
 use Rattle.std.proofs.lemmas.List.{drop_all, length-take}
 use Rattle.blake3_hash.specs.Hasher.{HasBytes}
-use Rattle.blake3_hash.specs.Lanes.{whole_chunk}
 use Rattle.blake3_hash.specs.Chunk.{chunk_value}
 use Rattle.blake3_hash.specs.Stack.{subtree}
 use Rattle.blake3_hash.proofs.Blocks.{whole_chunk-front}

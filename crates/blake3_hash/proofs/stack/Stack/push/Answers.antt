@@ -1,4 +1,4 @@
-use Rattle.std.proofs.Common.{◌≡◌, ◌+◌, ◌*◌, ◌/◌, ◌^◌, ℕ, arith, subst}
+use Rattle.std.proofs.Common.{◌≡◌, ◌+◌, ◌*◌, ◌^◌, ℕ, arith, subst}
 use Rattle.blake3_hash.specs.Stack.{Completes}
 use Rattle.blake3_hash.proofs.Subtrees.{HasSubtrees-push}
 use Rattle.blake3_hash.proofs.stack.Stack.push.Goals as goal
