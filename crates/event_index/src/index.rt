@@ -38,13 +38,8 @@ impl<K: Ord + Drop> Index<K> {
         ensures kept { (q : K) (n : ℕ) → n < number → Contains (numbers_at K.cmp self.old q) n → Contains (numbers_at K.cmp self.new q) n }
         ensures level { OnOk result ((q : K) → Contains (numbers_at K.cmp self.old q) number → Contains (numbers_at K.cmp self.new q) number) }
     {
-        if let Some(those) = self.numbers.get_mut(&key) {
-            return replace_from(those, number);
-        }
-        let mut those = Rising::new(self.alloc);
-        replace_from(&mut those, number)?;
-        self.numbers.insert(key, those)?;
-        Ok(())
+        let those = self.numbers.entry(key)?.or_insert(Rising::new(self.alloc));
+        replace_from(those, number)
     }
 
     /// The numbers of a key, each greater than the one before it.

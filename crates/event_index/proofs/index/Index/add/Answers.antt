@@ -1,8 +1,8 @@
-use Rattle.std.proofs.Common.{rules, arith, ◌≡◌, ℕ, true, cond, List, [], ◌∷◌, Some, None, refl, sym, subst, inl, inr}
+use Rattle.std.proofs.Common.{rules, arith, ◌≡◌, ℕ, true, cond, List, [], ◌∷◌, Option, Some, None, refl, sym, ap, ◌∙◌, subst, inl, inr, unwrap_or}
 use Rattle.std.specs.Prelude.{Contains}
 use Rattle.std.specs.declared.cmp.Ordering.{Ordering}
-use Rattle.std.specs.BTreeMap as tree
-use Rattle.std.specs.BTreeMap.{BTreeMap, is_at}
+use Rattle.std.specs.BTreeMap.{is_at}
+use Rattle.std.specs.BTreeMap.Entry.{map_with_value}
 use Rattle.std.specs.Cmp.{IsTotalOrder}
 use Rattle.std.specs.Map.{lookup}
 use Rattle.std.proofs.lemmas.Cmp.{eq_by_cmp_equiv}
@@ -21,45 +21,46 @@ alike {R = R} o k q h (e ∷ es) =
     rw (here, rest) refl
 
 -- where a number of an entry stays in what is written there, it stays everywhere
-stays : {K : Type 0} {R : K → K → Ordering} → IsTotalOrder R → (old new : BTreeMap K (Numbers)) (key : K) (written : Numbers) (n : ℕ)
-    → ((q : K) → tree.get R new q ≡ cond (is_at (R key) q) (Some written) (tree.get R old q))
-    → (Contains (numbers_in (tree.get R old key)) n → Contains written.list n)
-    → (q : K) → Contains (numbers_in (tree.get R old q)) n → Contains (numbers_in (tree.get R new q)) n
-stays {R = R} o old new key written n updates more q h = elim (cases_Bool (is_at (R key) q)) [
-  | inl k ↦ (let is = updates q in rw (is, k) (more (subst (λ o. Contains (numbers_in o) n) (alike o key q k old.entries) h)))
+stays : {K : Type 0} {R : K → K → Ordering} → IsTotalOrder R → (old made new : List (K × Numbers)) (key : K) (written : Numbers) (n : ℕ) → new ≡ made
+    → ((q : K) → lookup (is_at (R q)) made ≡ cond (is_at (R key) q) (Some written) (lookup (is_at (R q)) old))
+    → (Contains (numbers_in (lookup (is_at (R key)) old)) n → Contains written.list n)
+    → (q : K) → Contains (numbers_in (lookup (is_at (R q)) old)) n → Contains (numbers_in (lookup (is_at (R q)) new)) n
+stays {R = R} o old made new key written n is_made updates more q h = subst (λ es. Contains (numbers_in (lookup (is_at (R q)) es)) n) (sym is_made) (elim (cases_Bool (is_at (R key) q)) [
+  | inl k ↦ (let is = updates q in rw (is, k) (more (subst (λ o. Contains (numbers_in o) n) (alike o key q k old) h)))
   | inr k ↦ (let is = updates q in rw (is, k) h)
-]
+])
 
--- nothing stands in no entry
-no_number : {X : Type 0} (n : ℕ) → Contains (numbers_in None) n → X
-no_number n h = absurd (omega (arith, h.1))
+-- what is written there is there
+is_there : {K : Type 0} {R : K → K → Ordering} → IsTotalOrder R → (old made new : List (K × Numbers)) (key : K) (written : Numbers) (n : ℕ) → new ≡ made
+    → ((q : K) → lookup (is_at (R q)) made ≡ cond (is_at (R key) q) (Some written) (lookup (is_at (R q)) old))
+    → Contains written.list n → Contains (numbers_in (lookup (is_at (R key)) new)) n
+is_there {R = R} o old made new key written n is_made updates h =
+    let own : is_at (R key) key ≡ true = (eq_by_cmp_equiv o).refl key in
+    let is = updates key in
+    subst (λ es. Contains (numbers_in (lookup (is_at (R key)) es)) n) (sym is_made) (rw (is, own) h)
 
-pub returns-in-Some-clause-kept : goal.returns-in-Some-clause-kept
-returns-in-Some-clause-kept g c =
-    let got = sym c.in-Some.ensures.value in
-    λ q n low. stays g.met.K.Ord.total c.args.self.now.numbers (c.get_mut.follows.lender c.replace_from.new.numbers) c.args.key c.replace_from.new.numbers n ((c.get_mut.follows.holds c.replace_from.new.numbers).3 (search rules)).0
-    (λ h. c.replace_from.ensures.kept n low (subst (λ o. Contains (numbers_in o) n) got h)) q
+-- a number of an entry is in the numbers that are written over, where there are any
+in_entry : (o : Option Numbers) (none : Numbers) (n : ℕ) → Contains (numbers_in o) n → Contains (unwrap_or o none).list n
+in_entry None none n h = absurd (omega (arith, h.1))
+in_entry (Some those) none n h = h
 
-pub returns-in-Some-clause-level : goal.returns-in-Some-clause-level
-returns-in-Some-clause-level g c =
+pub returns-clause-added : goal.returns-clause-added
+returns-clause-added g c =
+    let written = c.replace_from.new.numbers in
     on_ok_weaker c.replace_from.result
-    (λ there q. stays g.met.K.Ord.total c.args.self.now.numbers (c.get_mut.follows.lender c.replace_from.new.numbers) c.args.key c.replace_from.new.numbers c.args.number ((c.get_mut.follows.holds c.replace_from.new.numbers).3 (search rules)).0 (λ h. there) q)
+    (λ there. is_there g.met.K.Ord.total c.args.self.now.numbers.entries (map_with_value c.in_ok-self.field-0 written).entries _ c.args.key written c.args.number (search (rules, c)) (c.in_ok-self.ensures.update.0 written).0 there)
     c.replace_from.ensures.added
-
--- without an entry at the key, what is written there takes nothing away
-apart : {K : Type 0} {R : K → K → Ordering} → IsTotalOrder R → (before old new : BTreeMap K (Numbers)) (key : K) (written : Numbers) (n : ℕ) → before ≡ old → None ≡ tree.get R before key
-    → ((q : K) → tree.get R new q ≡ cond (is_at (R key) q) (Some written) (tree.get R old q))
-    → (q : K) → Contains (numbers_in (tree.get R before q)) n → Contains (numbers_in (tree.get R new q)) n
-apart {R = R} o before old new key written n same none updates q h =
-    stays o old new key written n updates (λ k. no_number n (subst (λ o. Contains (numbers_in o) n) (sym none) (subst (λ m. Contains (numbers_in (tree.get R m key)) n) (sym same) k)))
-    q (subst (λ m. Contains (numbers_in (tree.get R m q)) n) same h)
 
 pub returns-clause-kept : goal.returns-clause-kept
 returns-clause-kept g c =
-    λ q n low h. apart g.met.K.Ord.total c.args.self.now.numbers c.get_mut.follows.lender-at-none c.insert.new.self c.args.key c.replace_from-2.new.numbers n (sym c.get_mut.follows.holds-at-none) c.in_default.ensures.value
-    c.in_ok-insert.ensures.updates.0 q h
+    let written = c.replace_from.new.numbers in
+    let over = sym (c.or_insert-those.ensures.value ∙ ap (λ o. unwrap_or o c.new.result) c.in_ok-self.ensures.value) in
+    λ q n low. stays g.met.K.Ord.total c.args.self.now.numbers.entries (map_with_value c.in_ok-self.field-0 written).entries _ c.args.key written n (search (rules, c)) (c.in_ok-self.ensures.update.0 written).0
+    (λ h. c.replace_from.ensures.kept n low (subst (λ those. Contains those.list n) over (in_entry (lookup (is_at (g.K.Ord.cmp c.args.key)) c.args.self.now.numbers.entries) c.new.result n h))) q
 
 pub returns-clause-level : goal.returns-clause-level
 returns-clause-level g c =
-    λ q h. apart g.met.K.Ord.total c.args.self.now.numbers c.get_mut.follows.lender-at-none c.insert.new.self c.args.key c.replace_from-2.new.numbers c.args.number (sym c.get_mut.follows.holds-at-none) c.in_default.ensures.value
-    c.in_ok-insert.ensures.updates.0 q h
+    let written = c.replace_from.new.numbers in
+    on_ok_weaker c.replace_from.result
+    (λ there q. stays g.met.K.Ord.total c.args.self.now.numbers.entries (map_with_value c.in_ok-self.field-0 written).entries _ c.args.key written c.args.number (search (rules, c)) (c.in_ok-self.ensures.update.0 written).0 (λ h. there) q)
+    c.replace_from.ensures.added
