@@ -1,8 +1,9 @@
 -- Where keys stand in a list, and in a list without the cuts with the adds behind it.
-use Rattle.std.proofs.Common.{◌≡◌, ℕ, zero, suc, ◌+◌, ◌<◌, ◌≤◌, Bool, true, false, not, List, [], ◌∷◌, ◌++◌, Option, Some, None, refl, sym, ◌∙◌, ap, arith, inl, inr, length}
+use Rattle.std.proofs.Common.{◌≡◌, ℕ, zero, suc, ◌+◌, ◌<◌, ◌≤◌, Bool, true, false, not, ◌&&◌, ◌||◌, List, [], ◌∷◌, ◌++◌, Option, Some, None, refl, sym, ◌∙◌, ap, arith, inl, inr, length}
 use Rattle.std.specs.Prelude.{IfNone, IfSome, filter, position, slice_get, take}
 use Rattle.std.specs.List.{position_or_len}
-use Rattle.std.proofs.lemmas.Bool.{cases_Bool, cases_lt, cond_below, false_from_ne_true, not_from_false, not_from_true, or_from, or_parts}
+use Rattle.std.proofs.lemmas.Bool.{and_left, and_right, cases_Bool, cases_lt, cond_below, not_from_false, not_from_true, or_from}
+use Rattle.std.proofs.Math.Bool.{or_comm}
 use Rattle.std.proofs.lemmas.List.Folds.{list_any-append, list_any_none}
 use Rattle.std.proofs.lemmas.List.Quantifiers.{position-Some}
 use Rattle.std.proofs.lemmas.List.Sums.{fails_before_first}
@@ -57,22 +58,17 @@ kept_at p [] n key kept at = cc
 kept_at p (x ∷ old) zero key kept at = let same : x ≡ key = cc in let yes : p x ≡ true = ap p same ∙ kept in rw yes at
 kept_at p (x ∷ old) (suc n) key kept at = (let ih = kept_at p old n key kept at in elim (cases_Bool (p x)) [ inl y ↦ rw y ih | inr k ↦ rw k ih ])
 
--- a key that isn't kept isn't left
-cut_gone : (p : Key → Bool) (old : List Key) (key : Key) → p key ≡ false → has_key (filter p old) key ≡ false
-cut_gone p [] key cut = refl
-cut_gone p (x ∷ old) key cut = (let ih = cut_gone p old key cut in
-    elim (cases_Bool (p x)) [
-      | inl y ↦ rw y (or_from _ _ (false_from_ne_true (same_key x key) (λ h. let same = ap p (same_key_is x key h) in cc)) ih)
-      | inr k ↦ rw k ih
+-- a key is left where it was there and is kept
+has_left : (p : Key → Bool) (old : List Key) (key : Key) → has_key (filter p old) key ≡ (has_key old key && p key)
+has_left p [] key = refl
+has_left p (x ∷ old) key = (let ih = has_left p old key in
+    elim (cases_Bool (same_key x key)) [
+      | inl s ↦ (let own : p x ≡ p key = ap p (same_key_is x key s) in elim (cases_Bool (p key)) [
+        | inl y ↦ (let here = own ∙ y in rw (here, s, y) refl)
+        | inr k ↦ (let here = own ∙ k in let none = ih ∙ and_right _ _ k in rw (here, s, k) none)
+      ])
+      | inr o ↦ elim (cases_Bool (p x)) [ inl y ↦ rw (y, o) ih | inr k ↦ rw (k, o) ih ]
     ])
-
--- a key that wasn't there isn't left
-none_left : (p : Key → Bool) (old : List Key) (key : Key) → has_key old key ≡ false → has_key (filter p old) key ≡ false
-none_left p [] key absent = refl
-none_left p (x ∷ old) key absent =
-    (let parts = or_parts (same_key x key) (has_key old key) absent in
-    let ih = none_left p old key parts.1 in
-    elim (cases_Bool (p x)) [ inl y ↦ rw y (or_from _ _ parts.0 ih) | inr k ↦ rw k ih ])
 
 module _ (old : List Key) (e : Rotation) (key : Key) where
   abbrev is_left : Key → Bool
@@ -88,10 +84,14 @@ module _ (old : List Key) (e : Rotation) (key : Key) where
   pub added_at : (n : ℕ) → has_this (slice_get e.adds n) key ≡ true → has_this (slice_get (changed_list old e) (length (filter is_left old) + n)) key ≡ true
   added_at n has = ap (λ held. has_this held key) (back_at (filter is_left old) e.adds n) ∙ has
 
-  -- a key that is cut and isn't added isn't in the changed list
+  -- a key is in the changed list where it is an add, or was there and isn't cut
+  pub has_changed : has_key (changed_list old e) key ≡ (has_key e.adds key || (has_key old key && is_left key))
+  has_changed = list_any-append (λ held. same_key held key) (filter is_left old) e.adds ∙ ap (λ b. b || has_key e.adds key) (has_left is_left old key) ∙ or_comm (has_key old key && is_left key) (has_key e.adds key)
+
+  -- so one that is cut and isn't added isn't there
   pub cut_not_added : has_key e.cuts key ≡ true → has_key e.adds key ≡ false → has_key (changed_list old e) key ≡ false
-  cut_not_added cut unadded = list_any-append (λ held. same_key held key) (filter is_left old) e.adds ∙ or_from _ _ (cut_gone is_left old key (not_from_true _ cut)) unadded
+  cut_not_added cut unadded = has_changed ∙ or_from _ _ unadded (and_right _ _ (not_from_true _ cut))
 
   -- nor is one that wasn't there and isn't added
   pub never_there : has_key old key ≡ false → has_key e.adds key ≡ false → has_key (changed_list old e) key ≡ false
-  never_there absent unadded = list_any-append (λ held. same_key held key) (filter is_left old) e.adds ∙ or_from _ _ (none_left is_left old key absent) unadded
+  never_there absent unadded = has_changed ∙ or_from _ _ unadded (and_left _ _ absent)

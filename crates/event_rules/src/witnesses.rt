@@ -9,7 +9,7 @@ ghost use Rattle.key_state.specs.Same as same;
 
 use cesr_codes::Key;
 use event_body::{Event, Rotation};
-use key_state::{KeyState, changed_count, has_key, left_count};
+use key_state::{KeyState, changed_count, has_key, is_key, left_count};
 
 /// How many witnesses must have signed a receipt for the event: for an interaction, as the state before it says.
 pub fn toad_of(state: Option<&KeyState>, event: &Event) -> u64
@@ -91,7 +91,7 @@ fn place_in(keys: &[Key], key: &Key) -> Option<usize>
     ensures found { IfSome result (λ place. has_this (slice_get keys.now place) key.now ≡ true) }
     ensures none { IfNone result (same.has_key keys.now key.now ≡ false) }
 {
-    keys.iter().position(|held| held == key)
+    keys.iter().position(|held| is_key(held, key))
 }
 
 // A place of the key in the list without the cuts, with the adds behind it. It goes over each list once, and over the cuts for
@@ -153,13 +153,11 @@ fn left_witness(old: &[Key], cuts: &[Key], number: usize) -> Option<Key>
     None
 }
 
-// Whether the key is in that list.
+// Whether the key is in that list. It goes over each list once.
+#[tactic(auto, using(crate::proofs::ChangedPlaces::has_changed))]
 fn is_changed_witness(old: &[Key], event: &Rotation, key: &Key) -> bool
     ensures { result ≡ same.has_key (changed_list old.now event.now) key.now }
 {
-    let cuts = event.cuts.as_slice();
-    old.iter()
-        .filter(|key| !has_key(cuts, key))
-        .chain(event.adds.as_slice().iter())
-        .any(|held| held == key)
+    has_key(event.adds.as_slice(), key)
+        || (has_key(old, key) && !has_key(event.cuts.as_slice(), key))
 }
