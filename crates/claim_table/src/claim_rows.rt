@@ -131,7 +131,8 @@ impl ClaimRows {
         ensures back { unheard signature.now self.new.rows.items ≡ self.old.rows.items }
         ensures sound { IsSound self.new }
     {
-        let Some(row) = self.first_row(signature) else {
+        let places = self.by_signature.numbers(signature);
+        let Some(row) = first_of(self.rows.as_slice(), places, signature) else {
             return;
         };
         self.pending = Some(Pending {
@@ -141,7 +142,7 @@ impl ClaimRows {
         set_verdicts(
             &mut self.rows,
             &mut self.counts,
-            self.by_signature.numbers(signature),
+            places,
             signature,
             Some(verdict),
         );
