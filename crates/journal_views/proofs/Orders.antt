@@ -1,5 +1,5 @@
 -- The orders of places and of numbers are total.
-use Rattle.std.proofs.Common.{◌≡◌, ℕ, false, List, refl, sym, ◌∙◌, ap, Ordering, eqb, inl, inr, arith}
+use Rattle.std.proofs.Common.{◌≡◌, ℕ, true, false, List, refl, sym, ◌∙◌, ap, Ordering, eqb, inl, inr, arith}
 use Rattle.std.proofs.lemmas.Bool.Decides.{nat_tests}
 use Rattle.std.specs.declared.cmp.Ordering.TheVariants.{Less, Equal, Greater}
 use Rattle.std.specs.Prelude.{slice_get}
@@ -9,10 +9,17 @@ use Rattle.std.specs.Cmp.Lexicographic.{slice_cmp}
 use Rattle.std.proofs.lemmas.Cmp.{nat_cmp_total, nat_list_cmp_total, lists_total, on_total, then_total, tied_itself}
 use Rattle.std.proofs.lemmas.Bool.{cases_eq, eq-eqb, ne_eqb}
 use Rattle.cesr_codes.specs.Spelling.{prefix_text}
+use Rattle.cesr_codes.specs.declared.prefix.Prefix.{Prefix}
 use Rattle.event_body.specs.declared.event.Event.{Event}
 use Rattle.event_body.specs.Events.{prefix_of, sn_of, prior_of}
+use Rattle.key_state.specs.Same.{same_prefix}
+use Rattle.key_state.proofs.Same.{same_prefix_is}
 use Rattle.journal.specs.Conflicts.{place_cmp, text_cmp, prior_text, sort_of}
 use Rattle.journal_views.specs.Rankings.{event_cmp, number_cmp, number_place, of_event, listed}
+
+-- one prefix has one text
+pub same_text : (p q : Prefix) → same_prefix p q ≡ true → Equal ≡ text_cmp (prefix_text p) (prefix_text q)
+same_text p q same = sym (ap (λ r. text_cmp (prefix_text p) (prefix_text r)) (sym (same_prefix_is p q same)) ∙ tied_itself nat_list_cmp_total (prefix_text p))
 
 pub place_total : IsTotalOrder place_cmp
 unfolding place_cmp

@@ -76,9 +76,13 @@ fn order_in_log(first: &Event, second: &Event) -> Ordering
     }
 }
 
+// Bodies mostly come log by log, so the texts of one prefix aren't spelled.
 fn prefix_order(first: Prefix, second: Prefix) -> Ordering
     ensures { result ≡ text_cmp (prefix_text first) (prefix_text second) }
 {
+    if first == second {
+        return Ordering::Equal;
+    }
     let mut first_text = [0; 44];
     let mut second_text = [0; 44];
     first.write(&mut first_text);
