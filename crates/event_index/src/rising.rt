@@ -2,23 +2,29 @@
 ghost use Rattle.std.specs.Prelude.{◌≡◌, ◌≢◌, ◌≤◌, ◌<◌, ◌⊎◌, ◌↔◌, ℕ, [], length, slice_index, Contains, OnOk};
 ghost use Rattle.std.specs.List.Sorted.{IsStrictlyIncreasing};
 
+use smallvec::SmallVec;
 use std::alloc::{AllocError, Global};
 use std::marker::Model;
+
+// So many numbers stand in the value itself and take no memory of their own: as many as fit into the room of a `Vec`. Mostly a
+// key has one number.
+const INSIDE: usize = 4;
 
 /// Numbers, each greater than the one before it.
 #[derive(Drop)]
 pub struct Rising {
-    numbers: Vec<u32>,
+    numbers: SmallVec<u32, INSIDE>,
 }
 
 impl Model for Rising {
-    ghost use Rattle.std.specs.Prelude.{◌-◌, vec_len, vec_capacity};
+    ghost use Rattle.std.specs.Prelude.{◌-◌};
+    ghost use Rattle.smallvec.specs.SmallVec.{small_vec_len};
     ghost use Rattle.std.specs.List.Sorted.{IsStrictlyIncreasing};
     ghost use Rattle.event_index.specs.Numbers.{Numbers};
 
     ghost Value = { Numbers };
 
-    ghost view = { λ r. record { list = r.numbers.items; free = vec_capacity r.numbers - vec_len r.numbers } };
+    ghost view = { λ r. record { list = r.numbers.items; free = r.numbers.capacity - small_vec_len r.numbers } };
 
     ghost invariant = { λ r. IsStrictlyIncreasing r.numbers.items };
 }
@@ -29,7 +35,7 @@ impl Rising {
         ensures { result.list ≡ [] }
     {
         Rising {
-            numbers: Vec::new(alloc),
+            numbers: SmallVec::new(alloc),
         }
     }
 

@@ -1,7 +1,13 @@
-use Rattle.std.proofs.Common.{◌≡◌, ap, sym, subst, rules}
+use Rattle.std.proofs.Common.{◌≡◌, arith, ap, sym, subst, rules}
 use Rattle.std.specs.Prelude.{◌↔◌, ◌⊎◌, Contains, insert}
+use Rattle.std.proofs.lemmas.Grind.{elements}
 use Rattle.event_index.proofs.Orders.{Contains-insert}
 use Rattle.event_index.proofs.rising.Rising.insert.Goals as goal
+
+pub invariant_of-self : goal.invariant_of-self
+invariant_of-self c =
+    let is : c.insert.new.self.items ≡ insert c.self.inside.numbers.items c.place_of-place.result c.args.number = search rules in
+    λ k h. grind (arith, elements, is)
 
 pub returns : goal.returns
 returns c = λ n.

@@ -3,7 +3,7 @@ use Rattle.std.specs.Prelude.{◌==◌, filter, Contains}
 use Rattle.std.specs.List.Sorted.{IsStrictlyIncreasing}
 use Rattle.std.proofs.lemmas.Bool.{cases_Bool}
 use Rattle.std.proofs.lemmas.Bool.Decides.{Decides-eqb}
-use Rattle.std.proofs.lemmas.Fn.{filter_same}
+use Rattle.arrayvec.proofs.ArrayVecLemmas.{filter-from_retain}
 use Rattle.std.proofs.lemmas.List.Kept.{IsStrictlyIncreasing-filter}
 use Rattle.event_index.proofs.Orders.{Contains-filter}
 use Rattle.event_index.proofs.rising.Rising.remove.Goals as goal
@@ -11,7 +11,7 @@ use Rattle.event_index.proofs.rising.Rising.remove.Goals as goal
 pub invariant_of-self : goal.invariant_of-self
 invariant_of-self c =
     let kept : c.retain.new.self.items ≡ filter (λ k. not (k == c.args.number)) c.self.inside.numbers.items
-    = filter_same _ (λ k. not (k == c.args.number)) _ (λ x b f k. search (rules, tests)) _ _ c.retain.ensures.filtered in
+    = filter-from_retain _ (λ k. not (k == c.args.number)) _ (λ x b f y k. search (rules, tests)) _ _ c.retain.ensures.filtered in
     subst IsStrictlyIncreasing (sym kept) (IsStrictlyIncreasing-filter (λ k. not (k == c.args.number)) c.self.inside.numbers.items c.self.invariant)
 
 pub returns-clause-left : goal.returns-clause-left
@@ -19,7 +19,7 @@ returns-clause-left c = λ n.
     let number = c.args.number in
     let was : c.self.inside.numbers.items ≡ c.args.self.now.list = ap (λ r. r.list) c.self.view_is in
     let kept : c.retain.new.self.items ≡ filter (λ k. not (k == number)) c.self.inside.numbers.items
-    = filter_same _ (λ k. not (k == number)) _ (λ x b f k. search (rules, tests)) _ _ c.retain.ensures.filtered in
+    = filter-from_retain _ (λ k. not (k == number)) _ (λ x b f y k. search (rules, tests)) _ _ c.retain.ensures.filtered in
     let some = Contains-filter (λ k. not (k == number)) c.self.inside.numbers.items n in (
       λ h. let both = some.0 (subst (λ xs. Contains xs n) kept h) in (λ e. absurd (other e both.0), subst (λ xs. Contains xs n) was both.1),
       λ h. subst (λ xs. Contains xs n) (sym kept) (some.1 (another h.0, subst (λ xs. Contains xs n) (sym was) h.1)),
