@@ -100,10 +100,7 @@ impl PartCounts {
         let Some(part) = part else {
             return Ok(());
         };
-        let place = BodyPart { body, part };
-        if self.counts.get(&place).is_none() {
-            self.counts.insert(place, 0)?;
-        }
+        self.counts.entry(BodyPart { body, part })?.or_insert(0);
         Ok(())
     }
 

@@ -1,4 +1,4 @@
-use Rattle.std.proofs.Common.{rules, arith, ◌≡◌, ℕ, true, cond, List, [], ◌∷◌, Option, Some, None, refl, sym, ap, ◌∙◌, subst, inl, inr, unwrap_or}
+use Rattle.std.proofs.Common.{rules, arith, ◌≡◌, ℕ, true, cond, List, Option, Some, None, sym, ap, ◌∙◌, subst, inl, inr, unwrap_or}
 use Rattle.std.specs.Prelude.{Contains}
 use Rattle.std.specs.declared.cmp.Ordering.{Ordering}
 use Rattle.std.specs.BTreeMap.{is_at}
@@ -10,15 +10,8 @@ use Rattle.std.proofs.lemmas.Result.{on_ok_weaker}
 use Rattle.std.proofs.lemmas.Bool.{cases_Bool}
 use Rattle.event_index.specs.Keys.{numbers_in}
 use Rattle.event_index.specs.Numbers.{Numbers}
+use Rattle.event_index.proofs.Lookups.{alike}
 use Rattle.event_index.proofs.index.Index.add.Goals as goal
-
--- keys that the order doesn't tell apart are looked up alike
-alike : {K X : Type 0} {R : K → K → Ordering} → IsTotalOrder R → (k q : K) → is_at (R k) q ≡ true → (es : List (K × X)) → lookup (is_at (R q)) es ≡ lookup (is_at (R k)) es
-alike o k q h [] = refl
-alike {R = R} o k q h (e ∷ es) =
-    let here : is_at (R k) e.0 ≡ is_at (R q) e.0 = (eq_by_cmp_equiv o).congr k q e.0 h in
-    let rest = alike o k q h es in
-    rw (here, rest) refl
 
 -- where a number of an entry stays in what is written there, it stays everywhere
 stays : {K : Type 0} {R : K → K → Ordering} → IsTotalOrder R → (old made new : List (K × Numbers)) (key : K) (written : Numbers) (n : ℕ) → new ≡ made
