@@ -1,0 +1,39 @@
+-- Evidence of signed bodies of one place that differ (KERI, duplicity): the bodies themselves, with the signatures on them.
+use Rattle.std.specs.Prelude.{◌≡◌, ℕ, ◌==◌, Bool, not, List, ◌∷◌, length, map, flat_map}
+use Rattle.std.specs.Simd.{first_chunks}
+use Rattle.std.specs.Slice.Iter.{chunk_count}
+use Rattle.cesr_codes.specs.declared.indexed_sig.IndexedSig.{IndexedSig}
+use Rattle.cesr_stream.specs.Written.{item_text}
+use Rattle.cesr_stream.specs.declared.group.Group.TheVariants.{Held}
+use Rattle.cesr_stream.specs.declared.item.Item.{Item}
+use Rattle.cesr_stream.specs.declared.item.Item.TheVariants.{Body as BodyItem, Group as GroupItem}
+use Rattle.key_state.specs.Same.{distinct}
+use Rattle.journal.specs.Conflicts.{IsConflictList}
+use Rattle.journal.specs.Questions.{state_before}
+use Rattle.journal.specs.Readiness.{good_sigs}
+use Rattle.journal.specs.Replies.{same_indexed}
+use Rattle.journal.specs.declared.body.Body.{Body}
+use Rattle.validator_core.specs.View.{CoreView, base_of, told_of, accepted_by}
+
+-- the controller's signatures on a body that have a yes verdict, by the state that the body follows, each at its first coming
+abbrev pub signatures_of : CoreView → Body → List IndexedSig
+signatures_of core b = distinct same_indexed (good_sigs (told_of core) (state_before (accepted_by core) b) b)
+
+-- signatures, cut from the front into groups of 4,095, the last of what is left (CESR: two digits count a group)
+abbrev pub groups_of : List IndexedSig → List (List IndexedSig)
+groups_of sigs = first_chunks 4095 (chunk_count (length sigs) 4095) sigs
+
+-- a body, and behind it the groups of its signatures (CESR, `-A`)
+abbrev pub items_of : CoreView → Body → List Item
+items_of core b = BodyItem b.bytes ∷ map (λ sigs. GroupItem (Held sigs)) (groups_of (signatures_of core b))
+
+-- the items of all bodies of some sets
+abbrev pub items_of_sets : CoreView → List (List Body) → List Item
+items_of_sets core sets = flat_map (λ set. flat_map (items_of core) set) sets
+
+-- the text is that of the items of the conflicts, in order, and it is said whether there are any
+pub record IsEvidenceText (core : CoreView) (text : List ℕ) (has_conflicts : Bool) : Type 0 where
+  pub sets : List (List Body)
+  pub sets_are : IsConflictList core.mode (base_of core) (told_of core) sets
+  pub text_is : text ≡ flat_map item_text (items_of_sets core sets)
+  pub has_conflicts_is : has_conflicts ≡ not (length sets == 0)
