@@ -16,3 +16,4 @@ pub mod Unheard
 pub mod Waits
 pub mod Rivals
 pub mod Bases
+pub mod GoodSignatures

@@ -6,3 +6,4 @@ pub mod Calls
 pub mod Inside
 pub mod Views
 pub mod Base
+pub mod Signatures

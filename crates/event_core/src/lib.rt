@@ -5,6 +5,7 @@ mod answered;
 mod base;
 mod came;
 mod event_core;
+mod signatures;
 mod taken;
 mod tally;
 mod views;

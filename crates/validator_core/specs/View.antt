@@ -8,6 +8,7 @@ pub use Rattle.event_core.specs.Calls.{TakesVerdict}
 use Rattle.core_tables.specs.View.{body_of}
 use Rattle.event_core.specs.Looks.{LooksByReply}
 pub use Rattle.event_core.specs.Looks.{LooksByVerdict}
+pub use Rattle.event_core.specs.Signatures.{good_on}
 pub use Rattle.event_core.specs.View.{CoreView, base_of, told_of, accepted_by, open_of, state_of, unheard_of, waits_for, Stands, Follows}
 use Rattle.journal.specs.declared.reply.Reply.{Reply}
 use Rattle.journal.specs.declared.reply.Reply.TheVariants.{Taken, Again, Refused, Full}

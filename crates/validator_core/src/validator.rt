@@ -1,5 +1,5 @@
 //! The core: it judges messages, and has those that aren't refused taken.
-ghost use Rattle.std.specs.Prelude.{◌≡◌, ◌≤◌, ◌<◌, [], All, IfErr, IfOk, IfSome, List, Ok, OnErr, map, length, slice_get};
+ghost use Rattle.std.specs.Prelude.{◌≡◌, ◌≤◌, ◌<◌, [], All, IfErr, IfOk, IfSome, List, Ok, OnErr, Some, map, length, slice_get};
 ghost use Rattle.std.specs.Option.{option_map};
 ghost use Rattle.core_tables.specs.Hints.{IsEscrow};
 ghost use Rattle.journal.specs.Conflicts.{IsConflictList};
@@ -10,11 +10,11 @@ ghost use Rattle.journal.specs.Questions.{next_question};
 ghost use Rattle.journal.specs.declared.body.Body.{Body};
 ghost use Rattle.journal.specs.declared.question.Noted.TheVariants.{New};
 ghost use Rattle.validator_core.specs.Messages.{JudgesMessage};
-ghost use Rattle.validator_core.specs.View.{LooksByMessage, LooksByVerdict, Stands, TakesMessage, TakesVerdict, accepted_by, base_of, state_of, told_of, unheard_of, waits_for};
+ghost use Rattle.validator_core.specs.View.{LooksByMessage, LooksByVerdict, Stands, TakesMessage, TakesVerdict, accepted_by, base_of, good_on, state_of, told_of, unheard_of, waits_for};
 
 use crate::claims::claims_of;
 use crate::judgement::judge_message;
-use cesr_codes::Prefix;
+use cesr_codes::{IndexedSig, Prefix};
 use cesr_stream::Message;
 use escrow::Waiting;
 use event_body::Event;
@@ -218,6 +218,15 @@ impl Core {
         ensures { IfOk result (λ found. (sets : List (List Body)) × NameConflicts self.now.held found.items sets × IsConflictList self.now.mode (base_of self.now) (told_of self.now) sets) }
     {
         self.events.conflicts()
+    }
+
+    /// The controller's signatures on the body of a number that have a yes verdict, in order of coming; one that came more
+    /// than once comes so often. There are none where the body doesn't stand in the log. Only the entries by which bodies
+    /// with the name of its event came are gone over.
+    pub fn good_signatures(&self, number: u32) -> Result<Vec<IndexedSig>, AllocError>
+        ensures { IfOk result (λ sigs. (b : Body) → slice_get self.now.held number ≡ Some b → sigs.items ≡ good_on self.now b) }
+    {
+        self.events.good_signatures(number)
     }
 
     /// The events that aren't accepted, each with the number of its body. It takes no memory.

@@ -1,8 +1,10 @@
 -- Evidence of signed bodies of one place that differ (KERI, duplicity): the bodies themselves, with the signatures on them.
-use Rattle.std.specs.Prelude.{◌≡◌, ℕ, ◌==◌, Bool, not, List, ◌∷◌, length, map, flat_map}
+use Rattle.std.specs.Prelude.{◌≡◌, ℕ, ◌+◌, ◌==◌, Bool, not, List, [], ◌∷◌, length, map, flat_map}
 use Rattle.std.specs.Simd.{first_chunks}
 use Rattle.std.specs.Slice.Iter.{chunk_count}
 use Rattle.cesr_codes.specs.declared.indexed_sig.IndexedSig.{IndexedSig}
+use Rattle.cesr_stream.specs.Items.{Items, Placed, placed}
+use Rattle.cesr_stream.specs.Parts.{unfinished}
 use Rattle.cesr_stream.specs.Written.{item_text}
 use Rattle.cesr_stream.specs.declared.group.Group.TheVariants.{Held}
 use Rattle.cesr_stream.specs.declared.item.Item.{Item}
@@ -23,13 +25,22 @@ signatures_of core b = distinct same_indexed (good_sigs (told_of core) (state_be
 abbrev pub groups_of : List IndexedSig → List (List IndexedSig)
 groups_of sigs = first_chunks 4095 (chunk_count (length sigs) 4095) sigs
 
--- a body, and behind it the groups of its signatures (CESR, `-A`)
+-- a body, and behind it groups of these signatures (CESR, `-A`)
+abbrev pub items_with : Body → List IndexedSig → List Item
+items_with b sigs = BodyItem b.bytes ∷ map (λ group. GroupItem (Held group)) (groups_of sigs)
+
+-- a body with its good signatures
 abbrev pub items_of : CoreView → Body → List Item
-items_of core b = BodyItem b.bytes ∷ map (λ sigs. GroupItem (Held sigs)) (groups_of (signatures_of core b))
+items_of core b = items_with b (signatures_of core b)
 
 -- the items of all bodies of some sets
 abbrev pub items_of_sets : CoreView → List (List Body) → List Item
 items_of_sets core sets = flat_map (λ set. flat_map (items_of core) set) sets
+
+-- items one behind the other, each with the place where its text begins
+abbrev pub placed_from : ℕ → List Item → List Placed
+placed_from place [] = []
+placed_from place (item ∷ items) = placed place item ∷ placed_from (place + length (item_text item)) items
 
 -- the text is that of the items of the conflicts, in order, and it is said whether there are any
 pub record IsEvidenceText (core : CoreView) (text : List ℕ) (has_conflicts : Bool) : Type 0 where
@@ -37,3 +48,9 @@ pub record IsEvidenceText (core : CoreView) (text : List ℕ) (has_conflicts : B
   pub sets_are : IsConflictList core.mode (base_of core) (told_of core) sets
   pub text_is : text ≡ flat_map item_text (items_of_sets core sets)
   pub has_conflicts_is : has_conflicts ≡ not (length sets == 0)
+
+-- A reader of the text reads just the items of the conflicts, in order, and holds nothing of a further one.
+pub record ReadsAsEvidence (core : CoreView) (text : List ℕ) : Type 0 where
+  pub sets : List (List Body)
+  pub sets_are : IsConflictList core.mode (base_of core) (told_of core) sets
+  pub items_are : Items 65535 text (placed_from 0 (items_of_sets core sets)) unfinished

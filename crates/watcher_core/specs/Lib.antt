@@ -1,1 +1,3 @@
 pub mod Evidence
+pub mod Named
+pub mod Writing

@@ -1,7 +1,10 @@
 //! The evidence of a core.
 ghost use Rattle.std.specs.Prelude.{IfOk};
-ghost use Rattle.watcher_core.specs.Evidence.{IsEvidenceText};
+ghost use Rattle.validator_core.specs.View.{Stands};
+ghost use Rattle.watcher_core.specs.Evidence.{IsEvidenceText, ReadsAsEvidence};
 
+use crate::bodies::put_sets;
+use crate::stream_text::StreamText;
 use std::alloc::{AllocError, Global};
 use validator_core::Core;
 
@@ -15,7 +18,25 @@ pub struct Evidence {
 /// The bodies of each conflict of a core, in order, each byte for byte and with its good signatures behind it: those of its
 /// controller that have a yes verdict, each once, in order of first coming, in groups of at most 4,095.
 pub fn evidence_of(alloc: Global, core: &Core) -> Result<Evidence, AllocError>
-    ensures { IfOk result (λ evidence. IsEvidenceText core.now evidence.text.items evidence.has_conflicts) }
+    ensures text { IfOk result (λ evidence. IsEvidenceText core.now evidence.text.items evidence.has_conflicts) }
+
+    // Whoever reads it reads just these bodies and groups.
+    ensures reads { IfOk result (λ evidence. ReadsAsEvidence core.now evidence.text.items) }
 {
-    Err(AllocError)
+    stands(core);
+    let conflicts = core.conflicts()?;
+    let mut text = StreamText::new(alloc);
+    put_sets(alloc, core, conflicts.as_slice(), &mut text)?;
+    let has_conflicts = !conflicts.is_empty();
+    Ok(Evidence {
+        text: text.into_bytes(),
+        has_conflicts,
+    })
+}
+
+// What is true of each core.
+fn stands(core: &Core)
+    ensures { Stands core.now }
+{
+    let _journal = core.journal();
 }

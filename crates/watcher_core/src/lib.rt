@@ -1,6 +1,14 @@
-//! A watcher: the evidence that a core holds of bodies that conflict.
+//! A watcher: the evidence that a core holds of signed bodies that conflict.
 #![tactic(auto)]
 
+mod bodies;
 mod evidence;
+mod evidence_fault;
+mod groups;
+mod once;
+mod stream_text;
+mod watcher;
 
 pub use evidence::{Evidence, evidence_of};
+pub use evidence_fault::EvidenceFault;
+pub use watcher::Watcher;

@@ -1,0 +1,110 @@
+-- Items that are written one behind the other are read as these items.
+use Rattle.std.proofs.Common.{◌≡◌, ℕ, ◌+◌, ◌<◌, ◌≤◌, ◌^◌, Bool, true, false, List, [], ◌∷◌, ◌++◌, length, map, take, drop, zero, suc, refl, sym, ◌∙◌, ap, arith, subst, append-nil, append_assoc, length-append, length-take}
+use Rattle.std.specs.Prelude.{All, codes, flat_map}
+use Rattle.keri_specs.specs.Hex.{hex_value}
+use Rattle.json_tree.specs.declared.tree.Tree.{Tree}
+use Rattle.body_fields.specs.Bodies.{IsBody, kind_text, members_text}
+use Rattle.body_fields.specs.Maps.{fields_of}
+use Rattle.body_fields.specs.Versions.{IsSize, version_text}
+use Rattle.body_fields.specs.declared.kind.Kind.{Kind}
+use Rattle.std.specs.Simd.{first_chunks}
+use Rattle.std.specs.Slice.Iter.{chunk_count}
+use Rattle.std.proofs.lemmas.List.{drop_all}
+use Rattle.std.proofs.lemmas.List.Elements.{All-drop, All-head, All-tail, All-take}
+use Rattle.body_fields.proofs.Texts.{is_body}
+use Rattle.event_body.specs.Judging.{HasEvent}
+use Rattle.event_body.specs.Spelling.{body_kind, text_of, values_of}
+use Rattle.event_body.specs.declared.event.Event.{Event}
+use Rattle.cesr_codes.specs.Indexed.{IsIndexed}
+use Rattle.cesr_codes.specs.declared.indexed_sig.IndexedSig.{IndexedSig}
+use Rattle.cesr_stream.specs.Front.{front, has_version, size_of}
+use Rattle.cesr_stream.specs.Items.{Items, Placed, Stand, none, placed}
+use Rattle.cesr_stream.specs.Parts.{unfinished}
+use Rattle.cesr_stream.specs.Written.{IsItem, IsWritable, MayStand, item_text}
+use Rattle.cesr_stream.specs.declared.group.Group.TheVariants.{Held}
+use Rattle.cesr_stream.specs.declared.item.Item.{Item}
+use Rattle.cesr_stream.specs.declared.item.Item.TheVariants.{Body as BodyItem, Group as GroupItem}
+use Rattle.cesr_stream.proofs.WrittenItems.{written_more}
+use Rattle.journal.specs.declared.body.Body.{Body}
+use Rattle.watcher_core.specs.Evidence.{groups_of, items_with, placed_from}
+
+-- a version string at the front
+version_there : (size rest : List ℕ) → IsSize size → (has_version (version_text size ++ rest) ≡ true) × (size_of (version_text size ++ rest) ≡ hex_value size)
+version_there (a ∷ b ∷ c ∷ d ∷ e ∷ f ∷ []) rest sized = let hex = sized.1 in (rw hex refl, refl)
+version_there [] rest sized = absurd (omega (arith, sized.0))
+version_there (a ∷ []) rest sized = absurd (omega (arith, sized.0))
+version_there (a ∷ b ∷ []) rest sized = absurd (omega (arith, sized.0))
+version_there (a ∷ b ∷ c ∷ []) rest sized = absurd (omega (arith, sized.0))
+version_there (a ∷ b ∷ c ∷ d ∷ []) rest sized = absurd (omega (arith, sized.0))
+version_there (a ∷ b ∷ c ∷ d ∷ e ∷ []) rest sized = absurd (omega (arith, sized.0))
+version_there (a ∷ b ∷ c ∷ d ∷ e ∷ f ∷ g ∷ more) rest sized = absurd (omega (arith, sized.0))
+
+-- a body says its own size
+body_writable : (kind : Kind) (values : List Tree) (bytes : List ℕ) → IsBody kind values bytes → IsWritable (BodyItem bytes)
+body_writable kind values bytes body =
+    let rest : List ℕ = kind_text kind ++ (members_text (fields_of kind) values ++ codes "}") in
+    let parts : bytes ≡ version_text body.size ++ rest = body.text ∙ append_assoc (version_text body.size) (kind_text kind) (members_text (fields_of kind) values ++ codes "}") in
+    let version = version_there body.size rest body.sized in
+    (ap has_version parts ∙ version.0, ap size_of parts ∙ version.1 ∙ body.size_is)
+
+event_writable : (event : Event) (bytes : List ℕ) → HasEvent event bytes → IsWritable (BodyItem bytes)
+event_writable event bytes has = subst (λ text. IsWritable (BodyItem text)) (sym has.text) (body_writable (body_kind event) (values_of event) (text_of event)
+    (is_body (body_kind event) (values_of event) has.forms (subst (λ text. length text < 2 ^ 24) has.text has.sized)))
+
+-- each item may be written, and stand behind those before it, where a body is among these or not
+abbrev pub MayFollow : Bool → List Item → Type 0
+MayFollow begun [] = Unit {0}
+MayFollow begun (item ∷ items) = IsItem item × IsWritable item × MayStand 65535 begun item × MayFollow true items
+
+-- items that may be behind any others
+abbrev pub MayCome : List Item → Type 0
+MayCome items = (begun : Bool) → MayFollow begun items
+
+follow-append : (begun : Bool) (xs ys : List Item) → MayFollow begun xs → MayCome ys → MayFollow begun (xs ++ ys)
+follow-append begun [] ys first behind = behind begun
+follow-append begun (x ∷ xs) ys first behind = (first.0, first.1, first.2, follow-append true xs ys first.3 behind)
+
+pub come_all : {X : Type 0} (items : X → List Item) (xs : List X) → All (λ x. MayCome (items x)) xs → MayCome (flat_map items xs)
+come_all items [] each = λ begun. tt
+come_all items (x ∷ xs) each = λ begun. follow-append begun (items x) (flat_map items xs) (All-head (λ x. MayCome (items x)) x xs each begun) (come_all items xs (All-tail (λ x. MayCome (items x)) x xs each))
+
+-- groups of at most 4,095 signatures each
+groups_follow : (k : ℕ) (sigs : List IndexedSig) → All IsIndexed sigs → MayFollow true (map (λ group. GroupItem (Held group)) (first_chunks 4095 k sigs))
+groups_follow zero sigs raw = tt
+groups_follow (suc k) sigs raw = (All-take IsIndexed 4095 sigs raw, omega (arith, length-take 4095 sigs), refl, groups_follow k (drop 4095 sigs) (All-drop IsIndexed 4095 sigs raw))
+
+-- BODY: a body with its signatures may come anywhere
+pub body_comes : (b : Body) (sigs : List IndexedSig) → HasEvent b.event b.bytes → length b.bytes ≤ 65535 → All IsIndexed sigs → MayCome (items_with b sigs)
+body_comes b sigs has few raw = λ begun. (tt, event_writable b.event b.bytes has, few, groups_follow (chunk_count (length sigs) 4095) sigs raw)
+
+-- STAND: the items stand behind those before them
+written_all : (items : List Item) (bytes : List ℕ) (done : List Placed) (begun : Bool) → Stand 65535 bytes done begun (length bytes) → MayFollow begun items
+    → (then : Bool) × Stand 65535 (bytes ++ flat_map item_text items) (done ++ placed_from (length bytes) items) then (length (bytes ++ flat_map item_text items))
+written_all [] bytes done begun stand follow = (begun, rw (append-nil bytes, append-nil done) stand)
+written_all (item ∷ items) bytes done begun stand follow =
+    let text = item_text item in
+    let more = written_more 65535 bytes done begun item stand follow.0 follow.1 follow.2 in
+    let rest = written_all items (bytes ++ text) (done ++ placed (length bytes) item ∷ []) true more follow.3 in (
+      rest.0,
+      subst (λ all. Stand 65535 all (done ++ placed_from (length bytes) (item ∷ items)) rest.0 (length all)) (append_assoc bytes text (flat_map item_text items))
+          (subst (λ found. Stand 65535 ((bytes ++ text) ++ flat_map item_text items) found rest.0 (length ((bytes ++ text) ++ flat_map item_text items)))
+          (append_assoc done (placed (length bytes) item ∷ []) (placed_from (length (bytes ++ text)) items)
+          ∙ ap (λ place. done ++ placed (length bytes) item ∷ placed_from place items) (length-append bytes text)) rest.1),
+    )
+
+nothing_begun : (begun : Bool) → front 65535 begun [] ≡ unfinished
+unfolding front
+nothing_begun begun = refl
+
+-- READ: and they are all that is read
+pub written_reads : (items : List Item) → MayCome items → Items 65535 (flat_map item_text items) (placed_from 0 items) unfinished
+written_reads items come =
+    let all = written_all items [] [] false none (come false) in
+    let text = flat_map item_text items in
+    record {
+      begun = all.0;
+      place = length text;
+      stand = all.1;
+      behind = ap (front 65535 all.0) (drop_all (length text) text (omega arith)) ∙ nothing_begun all.0;
+      ends = tt;
+    }
