@@ -1,7 +1,7 @@
 -- The bodies of conflicts stand in the log, so the signatures that a core answers of them are their good ones; and they spell
 -- events, so that what is written of them is read.
-use Rattle.std.proofs.Common.{◌≡◌, ℕ, List, [], ◌∷◌, ◌++◌, ◌<◌, length, refl, sym, ◌∙◌, ap, get_or, subst, true}
-use Rattle.std.specs.Prelude.{All, Contains, filter, flat_map}
+use Rattle.std.proofs.Common.{◌≡◌, ℕ, List, [], ◌∷◌, refl, sym, ◌∙◌, ap, get_or, subst, true}
+use Rattle.std.specs.Prelude.{All, Contains, flat_map}
 use Rattle.std.proofs.lemmas.Bool.{and_parts}
 use Rattle.std.proofs.lemmas.List.{get_or_default}
 use Rattle.std.proofs.lemmas.List.Elements.{All-append, All-filter, All-head, All-nil, All-tail, Contains-get_or, filter_passes}

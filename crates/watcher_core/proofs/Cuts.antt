@@ -1,5 +1,5 @@
 -- Groups of at most 4,095 signatures, one off the front of the others.
-use Rattle.std.proofs.Common.{◌≡◌, ℕ, ◌+◌, ◌-◌, ◌<◌, ◌≤◌, min, suc, List, [], ◌∷◌, ◌++◌, length, take, drop, refl, sym, ◌∙◌, ap, inl, inr, arith, length-append, append-nil}
+use Rattle.std.proofs.Common.{◌≡◌, ℕ, ◌-◌, ◌<◌, min, suc, List, [], ◌∷◌, ◌++◌, length, take, drop, ◌∙◌, ap, inl, inr, arith, length-append, append-nil}
 use Rattle.std.specs.Simd.{first_chunks}
 use Rattle.std.specs.Slice.Iter.{chunk_count}
 use Rattle.std.proofs.lemmas.Bool.{cases_lt}

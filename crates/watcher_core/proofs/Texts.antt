@@ -1,5 +1,5 @@
 -- The text of items, by bodies and by groups.
-use Rattle.std.proofs.Common.{◌≡◌, ℕ, List, [], ◌∷◌, ◌++◌, map, Option, Some, None, append-nil, append_assoc, subst, get_or, length, take, refl, sym, ◌∙◌, ap, ◌<◌, ◌+◌}
+use Rattle.std.proofs.Common.{◌≡◌, ℕ, List, [], ◌∷◌, ◌++◌, Option, Some, None, append-nil, append_assoc, subst, get_or, length, take, refl, sym, ◌∙◌, ap, ◌<◌, ◌+◌}
 use Rattle.std.specs.Prelude.{All, filter_map, flat_map, option_map, slice_get}
 use Rattle.std.specs.List.{cons_option}
 use Rattle.std.proofs.lemmas.List.{take_more}

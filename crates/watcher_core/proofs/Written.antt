@@ -1,5 +1,5 @@
 -- Items that are written one behind the other are read as these items.
-use Rattle.std.proofs.Common.{◌≡◌, ℕ, ◌+◌, ◌<◌, ◌≤◌, ◌^◌, Bool, true, false, List, [], ◌∷◌, ◌++◌, length, map, take, drop, zero, suc, refl, sym, ◌∙◌, ap, arith, subst, append-nil, append_assoc, length-append, length-take}
+use Rattle.std.proofs.Common.{◌≡◌, ℕ, ◌<◌, ◌≤◌, ◌^◌, Bool, true, false, List, [], ◌∷◌, ◌++◌, length, map, drop, zero, suc, refl, sym, ◌∙◌, ap, arith, subst, append-nil, append_assoc, length-append, length-take}
 use Rattle.std.specs.Prelude.{All, codes, flat_map}
 use Rattle.keri_specs.specs.Hex.{hex_value}
 use Rattle.json_tree.specs.declared.tree.Tree.{Tree}
@@ -26,7 +26,7 @@ use Rattle.cesr_stream.specs.declared.item.Item.{Item}
 use Rattle.cesr_stream.specs.declared.item.Item.TheVariants.{Body as BodyItem, Group as GroupItem}
 use Rattle.cesr_stream.proofs.WrittenItems.{written_more}
 use Rattle.journal.specs.declared.body.Body.{Body}
-use Rattle.watcher_core.specs.Evidence.{groups_of, items_with, placed_from}
+use Rattle.watcher_core.specs.Evidence.{items_with, placed_from}
 
 -- a version string at the front
 version_there : (size rest : List ℕ) → IsSize size → (has_version (version_text size ++ rest) ≡ true) × (size_of (version_text size ++ rest) ≡ hex_value size)

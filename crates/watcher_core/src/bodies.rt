@@ -4,7 +4,7 @@ ghost use Rattle.journal.specs.Journals.{chosen};
 ghost use Rattle.watcher_core.specs.Named.{PutsBodies, PutsBody};
 
 use crate::groups::put_groups;
-use crate::once::distinct;
+use crate::signatures::first_comings;
 use crate::stream_text::StreamText;
 use journal::Conflict;
 use std::alloc::{AllocError, Global};
@@ -54,6 +54,6 @@ fn put_body(
     };
     text.put_body(bytes)?;
     let came = core.good_signatures(number)?;
-    let firsts = distinct(alloc, came.as_slice())?;
+    let firsts = first_comings(alloc, came.as_slice())?;
     put_groups(alloc, firsts.as_slice(), text)
 }

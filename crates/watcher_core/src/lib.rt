@@ -5,7 +5,7 @@ mod bodies;
 mod evidence;
 mod evidence_fault;
 mod groups;
-mod once;
+mod signatures;
 mod stream_text;
 mod watcher;
 

@@ -1,11 +1,11 @@
-use Rattle.std.proofs.Common.{◌≡◌, ◌++◌, [], map, rules, length, sym, ◌∙◌, ap, subst}
+use Rattle.std.proofs.Common.{◌++◌, rules, length, sym, ◌∙◌, ap, subst}
 use Rattle.std.specs.Prelude.{flat_map}
 use Rattle.std.proofs.lemmas.List.{length-map}
 use Rattle.cesr_stream.specs.Items.{Items}
 use Rattle.cesr_stream.specs.Parts.{unfinished}
 use Rattle.journal.specs.Journals.{chosen}
 use Rattle.watcher_core.specs.Evidence.{items_of_sets, placed_from}
-use Rattle.watcher_core.specs.Named.{PutsBodies, text_on}
+use Rattle.watcher_core.specs.Named.{text_on}
 use Rattle.watcher_core.proofs.Counted.{puts_sets, sets_read, text_of_sets}
 use Rattle.watcher_core.proofs.evidence.evidence_of.Goals as goal
 

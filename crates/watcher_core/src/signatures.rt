@@ -2,15 +2,18 @@
 ghost use Rattle.std.specs.Prelude.{◌≡◌, All, IfOk};
 ghost use Rattle.cesr_codes.specs.Indexed.{IsIndexed};
 ghost use Rattle.journal.specs.Replies.{same_indexed};
-ghost use Rattle.key_state.specs.Same as same;
+ghost use Rattle.key_state.specs.Same.{distinct};
 
 use cesr_codes::IndexedSig;
 use std::alloc::{AllocError, Global};
 use std::collections::BTreeSet;
 
 /// Each signature at its first coming.
-pub(crate) fn distinct(alloc: Global, sigs: &[IndexedSig]) -> Result<Vec<IndexedSig>, AllocError>
-    ensures firsts { IfOk result (λ firsts. firsts.items ≡ same.distinct same_indexed sigs.now) }
+pub(crate) fn first_comings(
+    alloc: Global,
+    sigs: &[IndexedSig],
+) -> Result<Vec<IndexedSig>, AllocError>
+    ensures firsts { IfOk result (λ firsts. firsts.items ≡ distinct same_indexed sigs.now) }
     ensures raw { IfOk result (λ firsts. All IsIndexed firsts.items) }
 {
     let mut seen = BTreeSet::new(alloc);

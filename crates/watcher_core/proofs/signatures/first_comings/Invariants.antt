@@ -7,7 +7,7 @@ use Rattle.cesr_codes.specs.declared.indexed_sig.IndexedSig.{IndexedSig}
 use Rattle.journal.specs.Replies.{same_indexed}
 use Rattle.key_state.specs.Same.{distinct}
 use Rattle.watcher_core.proofs.Orders.{sig_cmp}
-use Rattle.watcher_core.proofs.once.distinct.Given as goal
+use Rattle.watcher_core.proofs.signatures.first_comings.Given as goal
 
 -- the first comings so far are found, and what came so far is seen
 abbrev pub invariant-loop-sig : goal.invariant-loop-sig

@@ -1,19 +1,17 @@
-use Rattle.std.proofs.Common.{◌≡◌, ◌++◌, ◌∷◌, ◌+◌, [], ◌<◌, Bool, true, false, not, take, refl, sym, ◌∙◌, ap}
+use Rattle.std.proofs.Common.{◌≡◌, ◌++◌, ◌∷◌, ◌+◌, [], Bool, true, false, not, take, refl, sym, ◌∙◌, ap}
 use Rattle.std.specs.BTreeMap.{is_at}
 use Rattle.std.specs.BTreeSet.{contains}
 use Rattle.std.specs.List.{list_any}
-use Rattle.std.proofs.lemmas.Bool.{cases_Bool}
 use Rattle.std.proofs.lemmas.List.{take_more}
 use Rattle.std.proofs.lemmas.List.Elements.{All-nil, All-push}
 use Rattle.cesr_codes.specs.Indexed.{IsIndexed}
-use Rattle.cesr_codes.specs.declared.indexed_sig.IndexedSig.{IndexedSig}
 use Rattle.journal.specs.Replies.{same_indexed}
 use Rattle.journal.proofs.Distinct.{distinct-push_new, distinct-push_old}
 use Rattle.key_state.specs.Same.{distinct}
 use Rattle.watcher_core.proofs.FirstComings.{seen_more}
 use Rattle.watcher_core.proofs.Orders.{at_is, sig_cmp}
-use Rattle.watcher_core.proofs.once.distinct.Goals as goal
-use Rattle.watcher_core.proofs.once.distinct.Goals.{then-branch+in_ok-push, else-branch}
+use Rattle.watcher_core.proofs.signatures.first_comings.Goals as goal
+use Rattle.watcher_core.proofs.signatures.first_comings.Goals.{then-branch+in_ok-push, else-branch}
 
 not_true : (b : Bool) → not b ≡ true → b ≡ false
 not_true true h = cc
