@@ -116,6 +116,15 @@ def indexed(head, text):
     return head + primitive("AA", hashlib.sha512(text.encode()).digest())[2:]
 
 
+def indexed_signature(index, other, raw):
+    """An indexed signature, by the code that has room for its indices; without another index where that is none."""
+    rest = primitive("AA", raw)[2:]
+    pair = lambda number: CHARACTERS[number // 64] + CHARACTERS[number % 64]
+    if index < 64 and other in (index, None):
+        return ("B" if other is None else "A") + CHARACTERS[index] + rest
+    return ("2B" if other is None else "2A") + pair(index) + pair(other or 0) + rest
+
+
 def rehearsal(number, body, code="D"):
     """The rehearsal's signature of a key on a body."""
     return hashlib.sha512(b"keri rehearsal" + key(number, code).encode() + body.encode()).digest()

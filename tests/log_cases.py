@@ -1,5 +1,5 @@
 #!/usr/bin/env python3
-"""Makes the cases under tests/cases in which `validate` reads events of whole logs with the rehearsal, and its samples.
+"""Makes the cases under tests/cases in which `validate` and `watch` read events of whole logs with the rehearsal, and their samples.
 
 Primitives and bodies are made with Python's base64 and hashlib (`kit.py`). Each case names its messages and what is to be written
 of them, as docs/FORMATS.md says it. It is made thrice: with its messages in the order given, in the reversed one, and with those
@@ -8,6 +8,8 @@ of its second half put between those of its first. Where what is written depends
 from kit import PLAIN_ICP as ICP, body, couples, counter, digest, indexed, key, primitive, receipts, rehearsed, said, signed
 from event_cases import BASIC, ROT, WEIGHTED, WITNESSES
 from validate_cases import SAMPLES, WORDS, write
+
+WATCH_WORDS = ["watch", *WORDS[1:]]
 
 
 def field(text, name):
@@ -247,6 +249,38 @@ CASES = {
     ),
 }
 
+# The evidence of a watcher: of each case its messages, and those of them that are written, in order; for other orders, where that is
+# other, by the order's name. A watcher waits for neither receipts nor seals, so more may conflict than for a validator.
+OTHER_CHILD_1 = rot(CHILD, 11, "drt", n=[digest(key(100))])
+ONE_WAY = ROT + counter("A", 2) + rehearsed(2, ROT) + rehearsed(2, ROT, "BA")
+OTHER_WAY = ROT + counter("A", 2) + rehearsed(2, ROT, "BA") + rehearsed(2, ROT)
+CONFLICTING = sorted([signed(ROT, 2), signed(OTHER_1, 2)])
+WATCHED = {
+    "watched_no_conflict": ([signed(ICP, 1), signed(IXN_1, 1), signed(ROT_2, 2)], []),
+    "watched_two_rotations": ([signed(ICP, 1), signed(ROT, 2), signed(OTHER_1, 2)], CONFLICTING),
+    "watched_two_rotations_twice": ([signed(ICP, 1), signed(ROT, 2), signed(OTHER_1, 2)] * 2, CONFLICTING),
+    "watched_evidence_behind_its_log": ([signed(ICP, 1)] + CONFLICTING, CONFLICTING),
+    "watched_two_inceptions": ([signed(BASIC, 1), signed(OTHER_BASIC, 1)], sorted([signed(BASIC, 1), signed(OTHER_BASIC, 1)])),
+    "watched_rotation_with_two_signatures": (
+        [signed(ICP, 1), ROT + "-AAB" + rehearsed(2, ROT), signed(OTHER_1, 2), ROT + "-AAB" + rehearsed(2, ROT, "BA")],
+        sorted([ONE_WAY, signed(OTHER_1, 2)]), {"reversed": sorted([OTHER_WAY, signed(OTHER_1, 2)])},
+    ),
+    "watched_rotation_with_a_wrong_signature": (
+        [signed(ICP, 1), signed(OTHER_1, 2), ROT + counter("A", 2) + rehearsed(9, ROT) + rehearsed(2, ROT)], CONFLICTING,
+    ),
+    "watched_rotations_without_receipts": (
+        [signed(LISTED, 1), signed(CHANGED, 2), signed(OTHER_CHANGED, 2)], sorted([signed(CHANGED, 2), signed(OTHER_CHANGED, 2)]),
+    ),
+    "watched_delegation_not_sealed": (
+        [signed(CHILD, 10), signed(CHILD_1, 11), signed(OTHER_CHILD_1, 11)], sorted([signed(CHILD_1, 11), signed(OTHER_CHILD_1, 11)]),
+    ),
+    "watched_rotation_beside_one_by_another_key": ([signed(ICP, 1), signed(ROT, 2), OTHER_1 + "-AAB" + rehearsed(3, OTHER_1)], []),
+    "watched_rotations_and_interactions": (
+        [signed(ICP, 1), signed(IXN_1, 1), signed(OTHER_IXN_1, 1), signed(ROT, 2), signed(OTHER_1, 2)],
+        CONFLICTING + sorted([signed(IXN_1, 1), signed(OTHER_IXN_1, 1)]),
+    ),
+}
+
 
 # The samples, and the cases that they show.
 SAMPLE_CASES = {
@@ -277,8 +311,17 @@ def write_sample(name, stream, lines):
         (SAMPLES / (name + ".status")).write_text("%d\n" % status(lines))
 
 
+def write_watched(name, messages, evidence, others={}):
+    """The case of a watcher, in each order: whatever came first, the same bodies are written, in the same order."""
+    arrangements = {"".join(arranged): order for order, arranged in reversed(orders(messages).items())}
+    for stream, order in arrangements.items():
+        text = "".join(others.get(order, evidence))
+        write(name + ("_" + order if order else ""), WATCH_WORDS, stream, text, 4 if evidence else 0)
+    return len(arrangements)
+
+
 if __name__ == "__main__":
-    count = 0
+    count = sum(write_watched(name, *case) for name, case in WATCHED.items())
     for name, (messages, lines, others) in CASES.items():
         for order, arranged in orders(messages).items():
             if order and arranged == messages:
@@ -289,4 +332,7 @@ if __name__ == "__main__":
     for sample, name in SAMPLE_CASES.items():
         messages, lines, _ = CASES[name]
         write_sample(sample, "".join(messages), lines)
+    (SAMPLES / "evidence.words").write_text("watch\n--helper\nrehearsal\nconflict.cesr\n")
+    (SAMPLES / "evidence.stdout").write_text("".join(CONFLICTING))
+    (SAMPLES / "evidence.status").write_text("4\n")
     print(count, "cases")

@@ -5,19 +5,10 @@ A stream is made by its seed alone. Each message has its text, and the parts tha
 """
 import random
 
-from kit import CHARACTERS, body, counter, digest, key, primitive
+from kit import body, counter, digest, indexed_signature, key, primitive
 from reference import Claim, Event, rehearsal
 
 WITNESSES = [key(number, "B") for number in range(1, 10)]
-
-
-def indexed(index, other, raw):
-    """An indexed signature, by the code that has room for its indices."""
-    rest = primitive("AA", raw)[2:]
-    pair = lambda number: CHARACTERS[number // 64] + CHARACTERS[number % 64]
-    if index < 64 and other in (index, None):
-        return ("B" if other is None else "A") + CHARACTERS[index] + rest
-    return ("2B" if other is None else "2A") + pair(index) + pair(other or 0) + rest
 
 
 class Message:
@@ -36,7 +27,7 @@ class Message:
     def add_indexed(self, sort, signers):
         """Signatures, each by its signer, or nobody, with its index and its other index."""
         claims = [Claim(sort, rehearsal(signer or "nobody", self.signed), index, other) for signer, index, other in signers]
-        self.add("A" if sort == "controller" else "B", [indexed(claim.index, claim.other, claim.signature) for claim in claims], claims)
+        self.add("A" if sort == "controller" else "B", [indexed_signature(claim.index, claim.other, claim.signature) for claim in claims], claims)
 
     def add_couples(self, signers):
         """Receipts, each by its witness, and whether it is right."""

@@ -1,5 +1,5 @@
-"""A validator by the definitions of acceptance, which goes over everything it was told each time: a peer of the program, written
-apart from it, for streams whose messages are in form.
+"""A validator and a watcher by the definitions of acceptance, which go over everything they were told each time: a peer of the
+program, written apart from it, for streams whose messages are in form.
 
 The verifier is the rehearsal. Nothing is kept but the bodies, what was told, and the accepted events.
 """
@@ -7,7 +7,9 @@ import hashlib
 import json
 from fractions import Fraction
 
-from kit import digest
+from kit import counter, digest, indexed_signature
+
+MOST_OF_A_GROUP = 4095
 
 
 class Event:
@@ -133,9 +135,10 @@ class Claim:
 
 
 class Reference:
-    """What a validator was told, and what it accepts of that."""
+    """What a validator was told, and what it accepts of that; or a watcher, who waits for neither receipts nor seals."""
 
-    def __init__(self):
+    def __init__(self, watches=False):
+        self.watches = watches
         self.bodies, self.came, self.verdicts, self.accepted, self.refused = [], [], {}, [], []
 
     # What the accepted events say.
@@ -219,7 +222,7 @@ class Reference:
             return False
         state = self.state(event.prefix)
         takes = event.is_inception if state is None else not state.misfits(event)
-        tests = (self.is_signed, self.is_revealed, self.is_backed, self.is_anchored)
+        tests = (self.is_signed, self.is_revealed) + (() if self.watches else (self.is_backed, self.is_anchored))
         return takes and all(test(state, event) for test in tests)
 
     # What it is told.
@@ -275,6 +278,16 @@ class Reference:
                 places.setdefault(place, []).append(event)
         sets = [sorted(places[place], key=lambda event: event.text.encode()) for place in sorted(places)]
         return [events for events in sets if len(events) > 1]
+
+    def evidence(self):
+        """Each body in conflict, and behind it the groups of its controller's good signatures, each once."""
+        text = ""
+        for event in (event for events in self.conflicts() for event in events):
+            good = self.good(self.state_before(event), event)
+            sigs = list(dict.fromkeys(indexed_signature(claim.index, claim.other, claim.signature) for claim in good))
+            groups = [sigs[first:first + MOST_OF_A_GROUP] for first in range(0, len(sigs), MOST_OF_A_GROUP)]
+            text += event.text + "".join(counter("A", len(group)) + "".join(group) for group in groups)
+        return text
 
     def report(self):
         lines = ["refused 0 %d %s" % refused for refused in self.refused]

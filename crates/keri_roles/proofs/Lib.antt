@@ -1,6 +1,8 @@
 pub mod Messages
 pub mod Questions
 pub mod Offers
-pub mod Ends
-pub mod Outcomes
-pub mod Unverified
+pub mod Tells
+pub mod CoreTold
+pub mod Causes
+pub mod RunStatus
+pub mod Agreed

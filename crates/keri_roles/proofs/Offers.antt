@@ -21,7 +21,7 @@ use Rattle.journal.specs.CoreCalls.{Takes}
 use Rattle.journal.specs.Feeds.{GivesBody, Judged, entry_of, entry_unless, refusal_of, noted_at, reader_of, is_taken_by, IsHeardFrom}
 use Rattle.journal.specs.History.{Told, took, heard}
 use Rattle.journal.specs.Replies.{refusal, reply_to, claims_of, is_full, is_again}
-use Rattle.journal.specs.declared.mode.Mode.TheVariants as mode
+use Rattle.journal.specs.declared.mode.Mode.{Mode}
 use Rattle.key_state.specs.Same.{distinct}
 use Rattle.journal.specs.Acceptance.{grown_by}
 use Rattle.journal.specs.Accepted.{accepted}
@@ -161,36 +161,36 @@ refused_told old new m reason takes =
     none_told (Some other) e = refl
 
 -- nothing is told at first
-pub told_nothing : (core : CoreView) (limits : Limits) → core ≡ record { mode = mode.Full; limits = limits; base = 0; held = []; entries = []; accepted = [] }
-    → told_of core ≡ []
+pub told_nothing : (core : CoreView) (mode : Mode) (limits : Limits)
+    → core ≡ record { mode = mode; limits = limits; base = 0; held = []; entries = []; accepted = [] } → told_of core ≡ []
 unfolding told_by
-told_nothing core limits e = ap told_of e
+told_nothing core mode limits e = ap told_of e
 
-pub asked_nothing : questions mode.Full [] (told_by [] []) ≡ []
+pub asked_nothing : (mode : Mode) → questions mode [] (told_by [] []) ≡ []
 unfolding told_by questions raised accepted grown_by bodies distinct
-asked_nothing = refl
+asked_nothing mode = refl
 
 module _ {V : Type 0} (says : V → Key → List ℕ → Sig → Option Bool) (faults : V → ℕ) where
   -- a core that was told nothing, and a reader that refused nothing
-  pub begins : (limits : Limits) (first : Validator V) → first.core ≡ record
-      { mode = mode.Full; limits = limits; base = 0; held = []; entries = []; accepted = [] } → first.refused.items ≡ []
+  pub begins : (mode : Mode) (limits : Limits) (first : Validator V) → first.core ≡ record
+      { mode = mode; limits = limits; base = 0; held = []; entries = []; accepted = [] } → first.refused.items ≡ []
       → HasTaken says faults first first []
-  begins limits first core none = record {
+  begins mode limits first core none = record {
     offers = record {
       offered = [];
       messages_are = refl;
       stands = record {
         bodies_are = All-nil _;
-        taken = rw (told_nothing first.core limits core) refl;
+        taken = rw (told_nothing first.core mode limits core) refl;
         refused_are = none;
-        heard_are = rw (told_nothing first.core limits core) (All-nil _);
-        only = rw (told_nothing first.core limits core) (All-nil _);
+        heard_are = rw (told_nothing first.core mode limits core) (All-nil _);
+        only = rw (told_nothing first.core mode limits core) (All-nil _);
       };
       same_says = refl;
       no_base = ap (λ c. c.base) core;
       follows = follows_itself first.core;
     };
-    none_open = ap open_of core ∙ asked_nothing;
+    none_open = ap open_of core ∙ asked_nothing mode;
     none_failed = refl;
   }
 

@@ -5,17 +5,18 @@ use Rattle.cesr_stream.specs.Reading.{Reading}
 use Rattle.message_feed.specs.declared.feed_close.FeedClose.TheVariants.{End as FeedEnd, Bad as FeedBad, ReadFault as FeedReadFault, Full as FeedFull}
 use Rattle.message_feed.specs.Closing.{ClosesBy}
 use Rattle.report_lines.specs.Lines.{malformed_text, read_fault_text, full_text}
+use Rattle.keri_roles.specs.Run.{SourceTold}
 use Rattle.keri_roles.specs.declared.close.Close.{Close}
 use Rattle.keri_roles.specs.declared.close.Close.TheVariants.{End, Bad, ReadFault, VerifierFault, Full, OutOfMemory}
 
--- the source closed the reading, by its cause
-abbrev pub Closes : ℕ → Option (List ℕ) → Option (List ℕ) → ℕ → ℕ → List ℕ → Reading → Close → Type 0
-Closes most old new faults_old faults_new fed reading End = ClosesBy {T = ℕ} most old new faults_old faults_new fed reading FeedEnd
-Closes most old new faults_old faults_new fed reading (Bad bad) = ClosesBy {T = ℕ} most old new faults_old faults_new fed reading (FeedBad bad)
-Closes most old new faults_old faults_new fed reading ReadFault = ClosesBy {T = ℕ} most old new faults_old faults_new fed reading FeedReadFault
-Closes most old new faults_old faults_new fed reading Full = ClosesBy {T = ℕ} most old new faults_old faults_new fed reading FeedFull
-Closes most old new faults_old faults_new fed reading VerifierFault = ⊥
-Closes most old new faults_old faults_new fed reading OutOfMemory = ⊥
+-- The source, which had failed not yet and held this, closed the reading by its cause.
+abbrev pub Closes : ℕ → Option (List ℕ) → SourceTold → List ℕ → Reading → Close → Type 0
+Closes most held source bytes reading End = ClosesBy {T = ℕ} most held source.left 0 source.faults bytes reading FeedEnd
+Closes most held source bytes reading (Bad bad) = ClosesBy {T = ℕ} most held source.left 0 source.faults bytes reading (FeedBad bad)
+Closes most held source bytes reading ReadFault = ClosesBy {T = ℕ} most held source.left 0 source.faults bytes reading FeedReadFault
+Closes most held source bytes reading Full = ClosesBy {T = ℕ} most held source.left 0 source.faults bytes reading FeedFull
+Closes most held source bytes reading VerifierFault = ⊥
+Closes most held source bytes reading OutOfMemory = ⊥
 
 -- the line of a reader's close, where it has one
 abbrev pub ending_text : ℕ → Close → List ℕ
@@ -57,3 +58,12 @@ is_verifier_fault (Bad bad) = false
 is_verifier_fault ReadFault = false
 is_verifier_fault Full = false
 is_verifier_fault OutOfMemory = false
+
+-- the reader was stopped before it had taken all that it read
+abbrev pub is_stopped : Close → Bool
+is_stopped End = false
+is_stopped (Bad bad) = false
+is_stopped ReadFault = false
+is_stopped VerifierFault = true
+is_stopped Full = true
+is_stopped OutOfMemory = true

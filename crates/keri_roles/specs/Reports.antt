@@ -1,13 +1,8 @@
 -- The report of a journal and its one reader.
-use Rattle.std.specs.Prelude.{◌≡◌, ℕ, Bool, List, [], ◌++◌, map, flat_map}
-use Rattle.keri_outside.specs.declared.limits.Limits.{Limits}
-use Rattle.journal.specs.declared.body.Body.{Body}
-use Rattle.journal.specs.declared.entry.Entry.{Entry}
-use Rattle.journal.specs.declared.journal.Journal.{Journal}
-use Rattle.journal.specs.declared.mode.Mode.TheVariants as mode
+use Rattle.std.specs.Prelude.{◌≡◌, ℕ, Bool, List, [], ◌++◌, flat_map}
 use Rattle.journal.specs.declared.refusal.Refusal.{Refusal}
 use Rattle.report_lines.specs.Lines.{refused_text, malformed_text, read_fault_text, verifier_fault_text, full_text, memory_text}
-use Rattle.validator_core.specs.View.{CoreView, Stands}
+use Rattle.validator_core.specs.View.{CoreView}
 use Rattle.validator_report.specs.Report.{IsStandingText}
 use Rattle.keri_roles.specs.declared.close.Close.{Close}
 use Rattle.keri_roles.specs.declared.close.Close.TheVariants.{End, Bad, ReadFault, VerifierFault, Full, OutOfMemory}
@@ -39,13 +34,3 @@ pub record Reports (core : CoreView) (refused : List Refusal) (close : Close) (t
   pub standing : List ℕ
   pub stands : IsStandingText core standing has_conflicts
   pub text_is : text ≡ (refused_lines 0 refused ++ malformed_line 0 close) ++ (standing ++ stopped_line 0 close)
-
--- a validator's core of a journal: its bodies and its entries, by which alone it is reported
-abbrev pub core_of : Limits → List Body → List Entry → CoreView
-core_of limits held entries = record { mode = mode.Full; limits = limits; base = 0; held = held; entries = entries; accepted = [] }
-
--- the journal is the core's
-pub record IsJournalOf (core : CoreView) (journal : Journal) : Type 0 where
-  pub bodies : journal.bodies ≡ map (λ b. b.bytes) core.held
-  pub entries : journal.entries ≡ core.entries
-  pub stands : Stands core

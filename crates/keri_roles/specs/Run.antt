@@ -1,36 +1,135 @@
--- What a run of the program does.
-use Rattle.std.specs.Prelude.{◌≡◌, ℕ, ◌⊎◌, Bool, true, List, [], codes}
+-- What is seen of a run, and of what a command came to before that was written.
+use Rattle.std.specs.Prelude.{◌≡◌, ◌≢◌, ℕ, ◌⊎◌, Bool, true, false, List, [], ◌∷◌, ◌++◌, map, option_map, MatchOption}
+use Rattle.std.specs.List.{list_any}
 use Rattle.std.specs.declared.option.Option.{Option}
+use Rattle.std.specs.declared.option.Option.TheVariants.{None, Some}
+use Rattle.keri_specs.specs.Causes.{Rose}
 use Rattle.cesr_codes.specs.declared.key.Key.{Key}
 use Rattle.cesr_codes.specs.declared.sig.Sig.{Sig}
-use Rattle.command_words.specs.Words.{Asked, check, validate}
 use Rattle.keri_outside.specs.Told.{Told}
+use Rattle.keri_outside.specs.declared.making.Making.{Making}
 use Rattle.journal.specs.declared.journal.Journal.{Journal}
+use Rattle.journal.specs.declared.refusal.Refusal.{Refusal}
+use Rattle.keri_roles.specs.declared.close.Close.{Close}
+use Rattle.keri_roles.specs.declared.close.Close.TheVariants.{ReadFault, VerifierFault, OutOfMemory}
 use Rattle.keri_roles.specs.declared.done.ReaderEnd.{ReaderEnd}
-use Rattle.keri_roles.specs.NoJournal.{no_journal}
-use Rattle.keri_roles.specs.Status.{status_of, nothing}
-use Rattle.keri_roles.specs.SinkText.{Writes}
-use Rattle.keri_roles.specs.Check.{Checks, ChecksNot}
-use Rattle.keri_roles.specs.Validate.{Validates, ValidatesNot}
+use Rattle.keri_roles.specs.declared.findings.Findings.{Findings}
+use Rattle.keri_roles.specs.declared.outcome.Outcome.{Outcome}
 
-module _ {S V : Type 0} where
-  -- Words that aren't in the form: the line `words` is written, and nothing is made or read.
-  pub record Refuses (told_old told_new : Told) (status : ℕ) (readers : List (ReaderEnd S V)) (journal : Journal)
-      (written_old written_new : Option (List ℕ)) : Type 0 where
-    pub sink_failed : Bool
-    pub none_made : told_new ≡ told_old
-    pub none_read : readers ≡ []
-    pub none_told : journal ≡ no_journal
-    pub writes : Writes (codes "words\n") sink_failed written_old written_new
-    pub status_is : status ≡ status_of (record nothing { sink_failed = sink_failed; words_refused = true })
+-- what objects of the outside tell: what a source has left, what a verifier says, what was written; and how often each
+-- has failed
+pub record SourceTold : Type 0 where
+  pub left : Option (List ℕ)
+  pub faults : ℕ
 
-  -- the command that is asked for was carried out, or there was no memory for it
-  abbrev pub Answers : Asked → (S → Option (List ℕ)) → (S → ℕ) → (V → Key → List ℕ → Sig → Option Bool) → (V → ℕ) → Told → Told → ℕ
-      → List (ReaderEnd S V) → Journal
-      → Option (List ℕ) → Option (List ℕ) → Type 0
-  Answers (check name) left faults says verifier_faults told_old told_new status readers journal written_old written_new =
-      Checks left faults name told_old told_new status readers journal written_old written_new
-      ⊎ ChecksNot name told_old told_new status readers journal written_old written_new
-  Answers (validate helper name) left faults says verifier_faults told_old told_new status readers journal written_old written_new =
-      Validates left faults says verifier_faults name helper told_old told_new status readers journal written_old written_new
-      ⊎ ValidatesNot left faults says verifier_faults name helper told_old told_new status readers journal written_old written_new
+pub record VerifierTold : Type 0 where
+  pub says : Key → List ℕ → Sig → Option Bool
+  pub faults : ℕ
+
+pub record SinkTold : Type 0 where
+  pub written : Option (List ℕ)
+  pub faults : ℕ
+
+-- how a reader ended
+pub record Reader : Type 0 where
+  pub source : Option SourceTold
+  pub verifier : Option VerifierTold
+  pub refused : List Refusal
+  pub close : Close
+
+-- What a command did with the outside: its readers, what was told, the text that it owes, unless there was no memory for
+-- that, and what it found besides its readers' ends.
+pub record Work : Type 0 where
+  pub before : Told
+  pub after : Told
+  pub readers : List Reader
+  pub journal : Journal
+  pub owed : Option (List ℕ)
+  pub own : Findings
+
+-- what a run did
+pub record Run : Type 0 where
+  pub before : Told
+  pub after : Told
+  pub sink_before : SinkTold
+  pub sink_after : SinkTold
+  pub readers : List Reader
+  pub journal : Journal
+  pub status : ℕ
+
+-- the work of a run
+abbrev pub work_in : Run → Option (List ℕ) → Findings → Work
+work_in run owed own = record { before = run.before; after = run.after; readers = run.readers; journal = run.journal; owed = owed; own = own }
+
+-- these makings came behind those of before, where they are told
+abbrev pub Noted : Option (List Making) → Option (List Making) → List Making → Type 0
+Noted old None makings = Unit {0}
+Noted old (Some new) makings = (earlier : List Making) × (old ≡ Some earlier) × (new ≡ earlier ++ makings)
+
+abbrev pub some_failed : List Making → Bool
+some_failed makings = list_any (λ m. m.failed) makings
+
+-- A command's makings, in order, are these and no others. The count rose where one failed, and stood still where none did.
+pub record Makes (makings : List Making) (before after : Told) : Type 0 where
+  pub noted : Noted before.makings after.makings makings
+  pub rose : some_failed makings ≡ true → Rose before.faults after.faults
+  pub kept : some_failed makings ≡ false → after.faults ≡ before.faults
+
+-- the text of a reader that closed so, unless there was no memory
+abbrev pub Owes : Option (List ℕ) → Close → (List ℕ → Type 0) → Type 0
+Owes None close is_text = close ≡ OutOfMemory
+Owes (Some text) close is_text = (close ≢ OutOfMemory) × is_text text
+
+-- A reader closes by a fault of its source or its verifier only where the count of that rose from zero, or where it
+-- couldn't be made and the count of the outside rose.
+pub record IsCaused (before after : Told) (reader : Reader) : Type 0 where
+  pub source : reader.close ≡ ReadFault → MatchOption reader.source (Rose before.faults after.faults) (λ s. Rose 0 s.faults)
+  pub verifier : reader.close ≡ VerifierFault → MatchOption reader.verifier (Rose before.faults after.faults) (λ v. Rose 0 v.faults)
+
+abbrev pub AreCaused : Told → Told → List Reader → Type 0
+AreCaused before after [] = Unit {0}
+AreCaused before after (reader ∷ readers) = IsCaused before after reader × AreCaused before after readers
+
+-- a reader closed so
+abbrev pub HasClose : Close → List Reader → Type 0
+HasClose close [] = ⊥
+HasClose close (reader ∷ readers) = (reader.close ≡ close) ⊎ HasClose close readers
+
+module _ {S V : Type 0} (left : S → Option (List ℕ)) (faults : S → ℕ) (says : V → Key → List ℕ → Sig → Option Bool) (verifier_faults : V → ℕ) where
+  abbrev pub source_seen : S → SourceTold
+  source_seen source = record { left = left source; faults = faults source }
+
+  abbrev pub verifier_seen : V → VerifierTold
+  verifier_seen verifier = record { says = says verifier; faults = verifier_faults verifier }
+
+  abbrev pub reader_seen : ReaderEnd S V → Reader
+  reader_seen end = record {
+    source = option_map source_seen end.source;
+    verifier = option_map verifier_seen end.verifier;
+    refused = end.refused.items;
+    close = end.close;
+  }
+
+  abbrev pub work_seen : Told → Told → Outcome S V → Work
+  work_seen before after outcome = record {
+    before = before;
+    after = after;
+    readers = map reader_seen outcome.readers.items;
+    journal = outcome.journal;
+    owed = option_map (λ text. text.items) outcome.owed;
+    own = outcome.own;
+  }
+
+  abbrev pub run_seen : Told → Told → SinkTold → SinkTold → ℕ → List (ReaderEnd S V) → Journal → Run
+  run_seen before after sink_before sink_after status ends journal = record {
+    before = before;
+    after = after;
+    sink_before = sink_before;
+    sink_after = sink_after;
+    readers = map reader_seen ends;
+    journal = journal;
+    status = status;
+  }
+
+abbrev pub sink_seen : {K : Type 0} → (K → Option (List ℕ)) → (K → ℕ) → K → SinkTold
+sink_seen written faults sink = record { written = written sink; faults = faults sink }

@@ -1,46 +1,53 @@
 //! `check FILE`: reads the stream of a file, and says of each message what it is.
-ghost use Rattle.std.specs.Prelude.{◌≡◌, ◌≢◌, ◌⊎◌, false, is_none, IsSome, IfSome, MatchOption, string_bytes};
-ghost use Rattle.keri_specs.specs.Causes.{Rose};
-ghost use Rattle.keri_outside.specs.Told.{Grows};
+ghost use Rattle.std.specs.Prelude.{◌≡◌, ◌≢◌, ◌∷◌, ◌<◌, ℕ, List, Option, [], None, is_none, IsSome, option_map, string_bytes};
+ghost use Rattle.std.specs.Vec.{vec_capacity};
+ghost use Rattle.keri_outside.specs.Told.{making};
+ghost use Rattle.keri_outside.specs.declared.limits.Limits.{Limits as LimitsValue};
 ghost use Rattle.keri_outside.specs.declared.making.MakingKind.TheVariants.{Source as SourceKind};
-ghost use Rattle.keri_roles.specs.Check.{Checks, ChecksNot, ChecksNothing, ChecksStream, IsUnverified};
-ghost use Rattle.keri_roles.specs.Faults.{FaultHasCause, FaultsHaveCause, VerifierFaultsHaveCause};
+ghost use Rattle.keri_roles.specs.Check.{ChecksReader, IsChecked};
+ghost use Rattle.keri_roles.specs.Run.{Makes, Owes, reader_seen, work_seen};
 
 use crate::checker::Checker;
 use crate::nothing_told::nothing_told;
-use crate::run_status::settle;
-use crate::{Close, Done, Findings, ReaderEnd};
-use keri_outside::{Failed, Limits, Outside, Source};
+use crate::outcome::Outcome;
+use crate::{Close, Findings, ReaderEnd};
+use keri_outside::{Failed, Limits, Outside, Source, Verifier};
 use message_feed::feed_messages;
 use report_lines::read_fault_line;
 use std::alloc::{AllocError, Global};
 
-/// Reads the stream of the file, and writes its lines.
-pub(crate) fn check<O: Outside>(alloc: Global, name: &str, outside: &mut O) -> Done<O>
-    ensures checked { Checks O.Source.left O.Source.faults name.now (O.told outside.old) (O.told outside.new) result.status result.readers.items result.journal
-        (O.Sink.written (O.sink outside.old)) (O.Sink.written (O.sink outside.new))
-        ⊎ ChecksNot name.now (O.told outside.old) (O.told outside.new) result.status result.readers.items result.journal
-        (O.Sink.written (O.sink outside.old)) (O.Sink.written (O.sink outside.new)) }
-    ensures no_verifier { VerifierFaultsHaveCause O.Verifier.faults (O.told outside.old).faults (O.told outside.new).faults result.readers.items }
-    ensures read_faults { FaultsHaveCause O.Source.faults (O.told outside.old).faults (O.told outside.new).faults result.readers.items }
-    ensures six { result.status ≡ 6 → Rose (O.Sink.faults (O.sink outside.old)) (O.Sink.faults (O.sink outside.new)) }
-    ensures kept { result.status ≢ 6 → O.Sink.faults (O.sink outside.new) ≡ O.Sink.faults (O.sink outside.old) }
+/// Reads the stream of the file. The readers have room for the one that there is.
+pub(crate) fn check<O: Outside>(
+    alloc: Global,
+    name: &str,
+    readers: Vec<ReaderEnd<O::Source, O::Verifier>>,
+    outside: &mut O,
+) -> Outcome<O::Source, O::Verifier>
+    requires none_yet { readers.items ≡ [] }
+    requires room { 0 < vec_capacity readers }
+    ensures checked { IsChecked name.now (work_seen O.Source.left O.Source.faults O.Verifier.says O.Verifier.faults (O.told outside.old) (O.told outside.new) result) }
+    ensures sink { O.sink outside.new ≡ O.sink outside.old }
 {
-    let Ok(mut readers) = Vec::with_capacity(alloc, 1) else {
-        return Done {
-            status: Findings::no_memory().status(),
-            journal: nothing_told(alloc),
-            readers: Vec::new(alloc),
-        };
-    };
-    let (reader, text) = check_file(alloc, name, outside);
-    let status = settle(outside, &reader, false, text.as_str());
+    let mut readers = readers;
+    let (reader, lines) = check_file(alloc, name, outside);
+    let owed = owe(reader.close, lines);
     readers.push(reader).unwrap();
-    Done {
-        status,
-        journal: nothing_told(alloc),
+    Outcome {
         readers,
+        journal: nothing_told(alloc),
+        owed,
+        own: Findings::nothing(),
     }
+}
+
+// The bytes of the lines, unless there was no memory for them.
+fn owe(close: Close, lines: String) -> Option<Vec<u8>>
+    ensures { Owes (option_map (λ text. text.items) result) close (λ text. text ≡ string_bytes lines) }
+{
+    if close == Close::OutOfMemory {
+        return None;
+    }
+    Some(lines.into_bytes())
 }
 
 // Makes the source of the file, and reads its stream: how that ended, and what is to be written, unless there was no
@@ -50,13 +57,11 @@ fn check_file<O: Outside>(
     name: &str,
     outside: &mut O,
 ) -> (ReaderEnd<O::Source, O::Verifier>, String)
-    ensures making { Grows (O.told outside.old).makings (O.told outside.new).makings SourceKind name.now (is_none result.0.source) }
-    ensures kept { is_none result.0.source ≡ false → (O.told outside.new).faults ≡ (O.told outside.old).faults }
-    ensures checks { result.0.close ≢ Close.OutOfMemory → MatchOption result.0.source (ChecksNothing result.0.close result.0.refused.items (string_bytes result.1))
-        (λ source. ChecksStream (O.told outside.old).limits ((O.told outside.old).holds name.now) (O.Source.left source) (O.Source.faults source) result.0.close result.0.refused.items (string_bytes result.1)) }
+    ensures makes { Makes (making SourceKind name.now (is_none result.0.source) ∷ []) (O.told outside.old) (O.told outside.new) }
+    ensures checks { result.0.close ≢ Close.OutOfMemory → ChecksReader (O.told outside.old).limits ((O.told outside.old).holds name.now)
+        (reader_seen O.Source.left O.Source.faults O.Verifier.says O.Verifier.faults result.0) (string_bytes result.1) }
+    ensures no_verifier { result.0.verifier ≡ None }
     ensures sink { O.sink outside.new ≡ O.sink outside.old }
-    ensures cause { FaultHasCause O.Source.faults (O.told outside.old).faults (O.told outside.new).faults result.0 }
-    ensures no_verifier { IsUnverified result.0 }
 {
     let limits = outside.limits();
     match outside.source(name) {
@@ -66,13 +71,14 @@ fn check_file<O: Outside>(
 }
 
 // The end of a reader whose source couldn't be made, and what is to be written.
-fn check_nothing<S, V>(alloc: Global) -> (ReaderEnd<S, V>, String)
+fn check_nothing<S: Source + Drop, V: Verifier + Drop>(alloc: Global) -> (ReaderEnd<S, V>, String)
     ensures none { result.0.source ≡ None }
-    ensures no_verifier { IsUnverified result.0 }
-    ensures checks { result.0.close ≢ Close.OutOfMemory → ChecksNothing result.0.close result.0.refused.items (string_bytes result.1) }
+    ensures no_verifier { result.0.verifier ≡ None }
+    ensures checks { (limits : LimitsValue) (held : Option (List ℕ)) → result.0.close ≢ Close.OutOfMemory
+        → ChecksReader limits held (reader_seen S.left S.faults V.says V.faults result.0) (string_bytes result.1) }
 {
-    let (close, text) = match read_fault_line(alloc, 0) {
-        Ok(text) => (Close::ReadFault, text),
+    let (close, line) = match read_fault_line(alloc, 0) {
+        Ok(line) => (Close::ReadFault, line),
         Err(AllocError) => (Close::OutOfMemory, String::new(alloc)),
     };
     let end = ReaderEnd {
@@ -81,17 +87,20 @@ fn check_nothing<S, V>(alloc: Global) -> (ReaderEnd<S, V>, String)
         refused: Vec::new(alloc),
         close,
     };
-    (end, text)
+    (end, line)
 }
 
 // Reads the stream of a source: how that ended, and what is to be written, unless there was no memory.
-fn check_stream<S: Source, V>(alloc: Global, source: S, limits: Limits) -> (ReaderEnd<S, V>, String)
+fn check_stream<S: Source + Drop, V: Verifier + Drop>(
+    alloc: Global,
+    source: S,
+    limits: Limits,
+) -> (ReaderEnd<S, V>, String)
     requires { S.faults source ≡ 0 }
     ensures source { IsSome result.0.source }
-    ensures no_verifier { IsUnverified result.0 }
+    ensures no_verifier { result.0.verifier ≡ None }
     ensures checks { result.0.close ≢ Close.OutOfMemory
-        → IfSome result.0.source (λ now. ChecksStream limits (S.left source) (S.left now) (S.faults now) result.0.close result.0.refused.items (string_bytes result.1)) }
-    ensures cause { result.0.close ≡ Close.ReadFault → IfSome result.0.source (λ now. Rose 0 (S.faults now)) }
+        → ChecksReader limits (S.left source) (reader_seen S.left S.faults V.says V.faults result.0) (string_bytes result.1) }
 {
     let mut source = source;
     let mut checker = Checker::new(alloc);

@@ -2,23 +2,28 @@
 #![tactic(auto)]
 
 mod answer;
+mod backed_list;
 mod check;
 mod checker;
 mod close;
+mod core_reader;
+mod core_text;
 mod done;
 mod findings;
 mod nothing_told;
 mod open_questions;
 mod outcome;
+mod over_core;
 mod program;
 mod providers;
 mod report;
 mod run_status;
-mod sink;
 mod sizes;
 mod validate;
 mod validator;
+mod watch;
 
+pub use backed_list::backed;
 pub use close::Close;
 pub use done::{Done, ReaderEnd};
 pub use findings::Findings;

@@ -1,14 +1,16 @@
 //! The top call.
-ghost use Rattle.std.specs.Prelude.{◌≡◌, ◌≢◌, ◌⊎◌, IsNone, MatchOption, map, string_bytes};
-ghost use Rattle.keri_specs.specs.Causes.{Rose};
-ghost use Rattle.command_words.specs.Words.{asks};
-ghost use Rattle.keri_roles.specs.Run.{Refuses, Answers};
-ghost use Rattle.keri_roles.specs.Faults.{HasReadFault, HasVerifierFault, HasFull, FaultsHaveCause, VerifierFaultsHaveCause};
+ghost use Rattle.std.specs.Prelude.{◌≡◌, ◌⊎◌, None, map, option_map, string_bytes};
+ghost use Rattle.command_words.specs.Words.{asks, asked_by};
+ghost use Rattle.keri_roles.specs.Commands.{Answers, CarriesOut, IsUnbegun};
+ghost use Rattle.keri_roles.specs.Run.{run_seen, work_seen, sink_seen};
+ghost use Rattle.keri_roles.specs.RunStatus.{HasCauses};
 
 use crate::check::check;
 use crate::nothing_told::nothing_told;
-use crate::sink::put_text;
+use crate::outcome::Outcome;
+use crate::run_status::settle;
 use crate::validate::validate;
+use crate::watch::watch;
 use crate::{Done, Findings};
 use command_words::{Command, command_of};
 use keri_outside::Outside;
@@ -18,44 +20,87 @@ use std::alloc::Global;
 /// Does all that the program does: what the words ask for, over the outside that is handed in.
 pub fn run<O: Outside>(alloc: Global, words: &Vec<String>, outside: &mut O) -> Done<O>
     // Words that aren't in the form of a command are refused, and nothing is made. Others are answered as they ask.
-    ensures answered { MatchOption (asks (map string_bytes words.now.items))
-        (Refuses (O.told outside.old) (O.told outside.new) result.status result.readers.items result.journal
-        (O.Sink.written (O.sink outside.old)) (O.Sink.written (O.sink outside.new)))
-        (λ asked. Answers asked O.Source.left O.Source.faults O.Verifier.says O.Verifier.faults (O.told outside.old) (O.told outside.new) result.status result.readers.items result.journal
-        (O.Sink.written (O.sink outside.old)) (O.Sink.written (O.sink outside.new))) }
+    ensures answered { Answers (asks (map string_bytes words.now.items)) (run_seen O.Source.left O.Source.faults O.Verifier.says O.Verifier.faults (O.told outside.old) (O.told outside.new)
+        (sink_seen O.Sink.written O.Sink.faults (O.sink outside.old)) (sink_seen O.Sink.written O.Sink.faults (O.sink outside.new)) result.status result.readers.items result.journal) }
 
     // Each fault that is answered has its cause.
-    ensures two { result.status ≡ 2 → IsNone (asks (map string_bytes words.now.items)) }
-    ensures five { result.status ≡ 5 → HasReadFault result.readers.items }
-    ensures seven { result.status ≡ 7 → HasVerifierFault result.readers.items }
-    ensures nine { result.status ≡ 9 → HasFull result.readers.items }
-    ensures six { result.status ≡ 6 → Rose (O.Sink.faults (O.sink outside.old)) (O.Sink.faults (O.sink outside.new)) }
-    ensures kept { result.status ≢ 6 → O.Sink.faults (O.sink outside.new) ≡ O.Sink.faults (O.sink outside.old) }
-    ensures read_faults { FaultsHaveCause O.Source.faults (O.told outside.old).faults (O.told outside.new).faults result.readers.items }
-    ensures verifier_faults { VerifierFaultsHaveCause O.Verifier.faults (O.told outside.old).faults (O.told outside.new).faults result.readers.items }
+    ensures causes { HasCauses (asks (map string_bytes words.now.items)) (run_seen O.Source.left O.Source.faults O.Verifier.says O.Verifier.faults (O.told outside.old) (O.told outside.new)
+        (sink_seen O.Sink.written O.Sink.faults (O.sink outside.old)) (sink_seen O.Sink.written O.Sink.faults (O.sink outside.new)) result.status result.readers.items result.journal) }
 {
-    match command_of(words.as_slice()) {
-        Some(Command::Check { file }) => check(alloc, file, outside),
-        Some(Command::Validate { helper, file }) => validate(alloc, helper, file, outside),
-        None => refuse(alloc, outside),
+    answer(alloc, words, outside)
+}
+
+// The same; that each fault has its cause follows.
+fn answer<O: Outside>(alloc: Global, words: &Vec<String>, outside: &mut O) -> Done<O>
+    ensures answered { Answers (asks (map string_bytes words.now.items)) (run_seen O.Source.left O.Source.faults O.Verifier.says O.Verifier.faults (O.told outside.old) (O.told outside.new)
+        (sink_seen O.Sink.written O.Sink.faults (O.sink outside.old)) (sink_seen O.Sink.written O.Sink.faults (O.sink outside.new)) result.status result.readers.items result.journal) }
+{
+    let Some(command) = command_of(words.as_slice()) else {
+        return refuse(alloc, outside);
+    };
+    let Outcome {
+        readers,
+        journal,
+        owed,
+        own,
+    } = carry_out(alloc, command, outside);
+    let status = settle(outside, text_of(&owed), own, readers.as_slice());
+    Done {
+        status,
+        journal,
+        readers,
+    }
+}
+
+// The bytes of a text that is owed.
+fn text_of(owed: &Option<Vec<u8>>) -> Option<&[u8]>
+    ensures { option_map (λ text. text.now) result ≡ option_map (λ text. text.items) owed.now }
+{
+    match owed {
+        Some(text) => Some(text.as_slice()),
+        None => None,
+    }
+}
+
+// Does what the command asks for, but for writing.
+fn carry_out<O: Outside>(
+    alloc: Global,
+    command: Command,
+    outside: &mut O,
+) -> Outcome<O::Source, O::Verifier>
+    ensures does { CarriesOut (asked_by command.entry) (work_seen O.Source.left O.Source.faults O.Verifier.says O.Verifier.faults (O.told outside.old) (O.told outside.new) result)
+        ⊎ IsUnbegun (work_seen O.Source.left O.Source.faults O.Verifier.says O.Verifier.faults (O.told outside.old) (O.told outside.new) result) }
+    ensures sink { O.sink outside.new ≡ O.sink outside.old }
+{
+    let Ok(readers) = Vec::with_capacity(alloc, 1) else {
+        return Outcome {
+            readers: Vec::new(alloc),
+            journal: nothing_told(alloc),
+            owed: None,
+            own: Findings::nothing(),
+        };
+    };
+    match command {
+        Command::Check { file } => check(alloc, file, readers, outside),
+        Command::Validate { helper, file } => validate(alloc, helper, file, readers, outside),
+        Command::Watch { helper, file } => watch(alloc, helper, file, readers, outside),
     }
 }
 
 // Says that the words aren't in the form.
 fn refuse<O: Outside>(alloc: Global, outside: &mut O) -> Done<O>
-    ensures refused { Refuses (O.told outside.old) (O.told outside.new) result.status result.readers.items result.journal
-        (O.Sink.written (O.sink outside.old)) (O.Sink.written (O.sink outside.new)) }
-    ensures six { result.status ≡ 6 → Rose (O.Sink.faults (O.sink outside.old)) (O.Sink.faults (O.sink outside.new)) }
-    ensures kept { result.status ≢ 6 → O.Sink.faults (O.sink outside.new) ≡ O.Sink.faults (O.sink outside.old) }
+    ensures answered { Answers None (run_seen O.Source.left O.Source.faults O.Verifier.says O.Verifier.faults (O.told outside.old) (O.told outside.new)
+        (sink_seen O.Sink.written O.Sink.faults (O.sink outside.old)) (sink_seen O.Sink.written O.Sink.faults (O.sink outside.new)) result.status result.readers.items result.journal) }
 {
-    let findings = Findings {
-        sink_failed: put_text(outside, WORDS),
+    let own = Findings {
         words_refused: true,
         ..Findings::nothing()
     };
+    let readers = Vec::new(alloc);
+    let status = settle(outside, Some(WORDS.as_bytes()), own, readers.as_slice());
     Done {
-        status: findings.status(),
+        status,
         journal: nothing_told(alloc),
-        readers: Vec::new(alloc),
+        readers,
     }
 }

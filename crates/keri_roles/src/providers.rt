@@ -1,7 +1,8 @@
-//! What `validate` is given by the outside.
-ghost use Rattle.std.specs.Prelude.{◌≡◌, is_none, MatchOption};
-ghost use Rattle.keri_specs.specs.Causes.{Rose};
-ghost use Rattle.keri_roles.specs.Validate.{GrowsByTwo};
+//! What a command over a core is given by the outside.
+ghost use Rattle.std.specs.Prelude.{◌≡◌, ◌∷◌, [], is_none, IfSome};
+ghost use Rattle.keri_outside.specs.Told.{making};
+ghost use Rattle.keri_outside.specs.declared.making.MakingKind.TheVariants.{Source as SourceKind, Verifier as VerifierKind};
+ghost use Rattle.keri_roles.specs.Run.{Makes};
 
 use keri_outside::Outside;
 
@@ -18,11 +19,11 @@ pub(crate) fn make<O: Outside>(
     helper: &str,
     outside: &mut O,
 ) -> Providers<O::Source, O::Verifier>
-    ensures made { GrowsByTwo (O.told outside.old) (O.told outside.new) name.now helper.now (is_none result.source) (is_none result.verifier) }
-    ensures source { MatchOption result.source (Rose (O.told outside.old).faults (O.told outside.new).faults)
-        (λ source. (O.Source.left source ≡ (O.told outside.old).holds name.now) × (O.Source.faults source ≡ 0)) }
-    ensures verifier { MatchOption result.verifier (Rose (O.told outside.old).faults (O.told outside.new).faults)
-        (λ verifier. (O.Verifier.says verifier ≡ (O.told outside.old).says helper.now) × (O.Verifier.faults verifier ≡ 0)) }
+    ensures makes { Makes (making SourceKind name.now (is_none result.source) ∷ making VerifierKind helper.now (is_none result.verifier) ∷ []) (O.told outside.old) (O.told outside.new) }
+    ensures holds { IfSome result.source (λ source. O.Source.left source ≡ (O.told outside.old).holds name.now) }
+    ensures unread { IfSome result.source (λ source. O.Source.faults source ≡ 0) }
+    ensures says { IfSome result.verifier (λ verifier. O.Verifier.says verifier ≡ (O.told outside.old).says helper.now) }
+    ensures unasked { IfSome result.verifier (λ verifier. O.Verifier.faults verifier ≡ 0) }
     ensures sink { O.sink outside.new ≡ O.sink outside.old }
 {
     let source = outside.source(name).ok();

@@ -1,31 +1,25 @@
 //! The report of `validate`.
 ghost use Rattle.std.specs.Prelude.{◌≡◌, ◌≢◌, ◌++◌, IfOk, OnOk, string_bytes, map};
+ghost use Rattle.keri_roles.specs.CoreTold.{plain};
 ghost use Rattle.keri_roles.specs.Reports.{Reports, refused_lines, malformed_line, stopped_line};
 
 use crate::Close;
+use crate::core_text::Account;
 use journal::Refusal;
-use report_lines::{
-    full_line, malformed_line, memory_line, read_fault_line, refused_line, verifier_fault_line,
-};
+use report_lines::{full_line, malformed_line, read_fault_line, refused_line, verifier_fault_line};
 use std::alloc::{AllocError, Global};
 use validator_core::Core;
 use validator_report::{CoreStanding, standing_of};
 
-/// The text of a report, and whether there are conflicts.
-#[derive(Drop)]
-pub(crate) struct Report {
-    pub(crate) text: String,
-    pub(crate) has_conflicts: bool,
-}
-
-/// The report: what the reader refused, how the core stands, and what ended the reader.
+/// The report: what the reader refused, how the core stands, and what ended the reader. There is none where it ended for want
+/// of memory.
 pub(crate) fn report_of(
     alloc: Global,
     core: &Core,
     refused: &[Refusal],
     close: Close,
-) -> Result<Report, AllocError>
-    ensures { IfOk result (λ report. Reports core.now refused.now close (string_bytes report.text) report.has_conflicts) }
+) -> Result<Account, AllocError>
+    ensures { IfOk result (λ account. (close ≢ Close.OutOfMemory) × Reports (plain core.now) refused.now close account.text.items account.has_conflicts) }
 {
     let mut text = refused_text(alloc, refused)?;
     let malformed = malformed_text(alloc, close)?;
@@ -37,8 +31,8 @@ pub(crate) fn report_of(
     let stopped = stopped_text(alloc, close)?;
     text.push_str(standing.as_str())?;
     text.push_str(stopped.as_str())?;
-    Ok(Report {
-        text,
+    Ok(Account {
+        text: text.into_bytes(),
         has_conflicts,
     })
 }
@@ -65,15 +59,15 @@ fn malformed_text(alloc: Global, close: Close) -> Result<String, AllocError>
     }
 }
 
-// The line of what ended the reader, where it wasn't its stream.
+// The line of what ended the reader, where it wasn't its stream. There is none where there was no memory.
 fn stopped_text(alloc: Global, close: Close) -> Result<String, AllocError>
-    ensures { IfOk result (λ text. string_bytes text ≡ stopped_line 0 close) }
+    ensures { IfOk result (λ text. (close ≢ Close.OutOfMemory) × (string_bytes text ≡ stopped_line 0 close)) }
 {
     match close {
         Close::ReadFault => read_fault_line(alloc, 0),
         Close::VerifierFault => verifier_fault_line(alloc, 0),
         Close::Full => full_line(alloc, 0),
-        Close::OutOfMemory => memory_line(alloc, 0),
+        Close::OutOfMemory => Err(AllocError),
         Close::End | Close::Bad(_) => Ok(String::new(alloc)),
     }
 }

@@ -1,77 +1,49 @@
-//! `validate --helper HELPER FILE`: reads the stream of a file, and says what is accepted of it.
-ghost use Rattle.std.specs.Prelude.{◌≡◌, ◌≢◌, ◌⊎◌, is_none, string_bytes};
-ghost use Rattle.keri_specs.specs.Causes.{Rose};
-ghost use Rattle.keri_roles.specs.Faults.{FaultHasCause, FaultsHaveCause, VerifierFaultHasCause, VerifierFaultsHaveCause};
-ghost use Rattle.keri_roles.specs.Validate.{GrowsByTwo, IsFedSoFar, IsReported, Validates, ValidatesNot};
+//! `validate --helper HELPER FILE`: says what is accepted of a file, what waits, and what conflicts.
+ghost use Rattle.std.specs.Prelude.{◌≡◌, ◌<◌, []};
+ghost use Rattle.std.specs.Vec.{vec_capacity};
+ghost use Rattle.keri_roles.specs.Commands.{IsValidated};
+ghost use Rattle.keri_roles.specs.Run.{work_seen};
 
-use crate::nothing_told::nothing_told;
-use crate::outcome::{Outcome, read_made};
-use crate::providers::make;
-use crate::run_status::settle;
-use crate::{Close, Done, Findings};
+use crate::core_text::{Account, CoreText};
+use crate::outcome::Outcome;
+use crate::over_core::over_core;
+use crate::report::report_of;
+use crate::{Close, ReaderEnd};
+use journal::{Mode, Refusal};
 use keri_outside::Outside;
-use std::alloc::Global;
+use std::alloc::{AllocError, Global};
+use validator_core::Core;
 
-/// Reads the stream of the file with the verifier of the helper, and writes the report.
+/// The report.
+struct Report;
+
+impl CoreText for Report {
+    ghost use Rattle.keri_roles.specs.Reports.{Reports};
+
+    ghost is_text = { Reports };
+
+    fn text_of(
+        alloc: Global,
+        core: &Core,
+        refused: &[Refusal],
+        close: Close,
+    ) -> Result<Account, AllocError> {
+        report_of(alloc, core, refused, close)
+    }
+}
+
+/// Reads the file to a core that wants receipts and seals, and makes the report.
 pub(crate) fn validate<O: Outside>(
     alloc: Global,
     helper: &str,
     name: &str,
-    outside: &mut O,
-) -> Done<O>
-    ensures validated { Validates O.Source.left O.Source.faults O.Verifier.says O.Verifier.faults name.now helper.now (O.told outside.old) (O.told outside.new)
-        result.status result.readers.items result.journal (O.Sink.written (O.sink outside.old)) (O.Sink.written (O.sink outside.new))
-        ⊎ ValidatesNot O.Source.left O.Source.faults O.Verifier.says O.Verifier.faults name.now helper.now (O.told outside.old) (O.told outside.new)
-        result.status result.readers.items result.journal
-        (O.Sink.written (O.sink outside.old)) (O.Sink.written (O.sink outside.new)) }
-    ensures read_faults { FaultsHaveCause O.Source.faults (O.told outside.old).faults (O.told outside.new).faults result.readers.items }
-    ensures verifier_faults { VerifierFaultsHaveCause O.Verifier.faults (O.told outside.old).faults (O.told outside.new).faults result.readers.items }
-    ensures six { result.status ≡ 6 → Rose (O.Sink.faults (O.sink outside.old)) (O.Sink.faults (O.sink outside.new)) }
-    ensures kept { result.status ≢ 6 → O.Sink.faults (O.sink outside.new) ≡ O.Sink.faults (O.sink outside.old) }
-{
-    let Ok(mut readers) = Vec::with_capacity(alloc, 1) else {
-        return Done {
-            status: Findings::no_memory().status(),
-            journal: nothing_told(alloc),
-            readers: Vec::new(alloc),
-        };
-    };
-    let Outcome {
-        reader,
-        journal,
-        text,
-        has_conflicts,
-    } = validate_file(alloc, helper, name, outside);
-    let status = settle(outside, &reader, has_conflicts, text.as_str());
-    readers.push(reader).unwrap();
-    // A last round over the questions that are open has nothing to do: one reader leaves none open but where its
-    // verifier failed, and then no verifier is left that never did.
-    Done {
-        status,
-        journal,
-        readers,
-    }
-}
-
-// Makes the source and the verifier, and reads the stream.
-fn validate_file<O: Outside>(
-    alloc: Global,
-    helper: &str,
-    name: &str,
+    readers: Vec<ReaderEnd<O::Source, O::Verifier>>,
     outside: &mut O,
 ) -> Outcome<O::Source, O::Verifier>
-    ensures made { GrowsByTwo (O.told outside.old) (O.told outside.new) name.now helper.now (is_none result.reader.source) (is_none result.reader.verifier) }
-    ensures reported { result.reader.close ≢ Close.OutOfMemory → IsReported O.Source.left O.Source.faults O.Verifier.says O.Verifier.faults
-        (O.told outside.old).limits ((O.told outside.old).holds name.now) ((O.told outside.old).says helper.now)
-        result.reader.source result.reader.verifier result.reader.refused.items result.reader.close result.journal (string_bytes result.text) result.has_conflicts }
-    ensures so_far { IsFedSoFar O.Source.left O.Source.faults O.Verifier.says O.Verifier.faults
-        (O.told outside.old).limits ((O.told outside.old).holds name.now) ((O.told outside.old).says helper.now)
-        result.reader.source result.reader.verifier result.reader.refused.items result.journal }
-    ensures read_fault { FaultHasCause O.Source.faults (O.told outside.old).faults (O.told outside.new).faults result.reader }
-    ensures verifier_fault { VerifierFaultHasCause O.Verifier.faults (O.told outside.old).faults (O.told outside.new).faults result.reader }
+    requires none_yet { readers.items ≡ [] }
+    requires room { 0 < vec_capacity readers }
+    ensures validated { IsValidated helper.now name.now (work_seen O.Source.left O.Source.faults O.Verifier.says O.Verifier.faults (O.told outside.old) (O.told outside.new) result) }
     ensures sink { O.sink outside.new ≡ O.sink outside.old }
 {
-    let limits = outside.limits();
-    let providers = make(name, helper, outside);
-    read_made(alloc, limits, providers)
+    over_core::<O, Report>(alloc, Mode::Full, helper, name, readers, outside)
 }

@@ -38,14 +38,14 @@ impl<V: Verifier + Drop> Validator<V> {
     ghost use Rattle.keri_roles.specs.Offers.{HasTaken, HasStopped, Finishes, TakesLast};
     ghost use Rattle.keri_roles.specs.declared.validator.Validator.{Validator as ValidatorValue};
 
-    /// A core that was told nothing, in the mode of a validator.
-    pub(crate) fn new(alloc: Global, limits: Limits, verifier: V) -> Validator<V>
-        ensures core { result.core ≡ record { mode = Mode.Full; limits = limits; base = 0; held = []; entries = []; accepted = [] } }
+    /// A core of this mode that was told nothing.
+    pub(crate) fn new(alloc: Global, mode: Mode, limits: Limits, verifier: V) -> Validator<V>
+        ensures core { result.core ≡ record { mode = mode; limits = limits; base = 0; held = []; entries = []; accepted = [] } }
         ensures verifier { result.verifier ≡ verifier }
         ensures begins { HasTaken V.says V.faults result result [] }
     {
         Validator {
-            core: Core::new(alloc, Mode::Full, limits),
+            core: Core::new(alloc, mode, limits),
             verifier,
             refused: Vec::new(alloc),
             steps: Steps::new(),

@@ -1,0 +1,70 @@
+-- What each command does, and what a run of the program does.
+use Rattle.std.specs.Prelude.{◌≡◌, ℕ, ◌⊎◌, true, Bool, List, [], codes}
+use Rattle.std.specs.declared.option.Option.{Option}
+use Rattle.std.specs.declared.option.Option.TheVariants.{None, Some}
+use Rattle.command_words.specs.Words.{Asked, check, validate, watch}
+use Rattle.journal.specs.declared.mode.Mode.TheVariants.{Full, Local}
+use Rattle.journal.specs.declared.refusal.Refusal.{Refusal}
+use Rattle.journal.specs.Journals.{told_by}
+use Rattle.validator_core.specs.View.{CoreView}
+use Rattle.watcher_core.specs.Evidence.{IsEvidenceText}
+use Rattle.keri_roles.specs.declared.close.Close.{Close}
+use Rattle.keri_roles.specs.declared.findings.Findings.{Findings}
+use Rattle.keri_roles.specs.Agreement.{IsAgreed}
+use Rattle.keri_roles.specs.Check.{IsChecked}
+use Rattle.keri_roles.specs.CoreTold.{IsOverCore}
+use Rattle.keri_roles.specs.NoJournal.{no_journal}
+use Rattle.keri_roles.specs.Reports.{Reports}
+use Rattle.keri_roles.specs.Run.{Work, Run, work_in}
+use Rattle.keri_roles.specs.RunStatus.{Settles}
+use Rattle.keri_roles.specs.Status.{nothing}
+
+-- `validate --helper HELPER FILE`: a core that wants receipts and seals is told what the file holds, and the text is its
+-- report. What it accepts agrees with what any other validator accepts.
+pub record IsValidated (helper name : List ℕ) (work : Work) : Type 0 where
+  pub over : IsOverCore Full Reports helper name work
+  pub agreed : IsAgreed (told_by over.told.fed.held work.journal.entries)
+
+-- the evidence is of the core alone, whatever was refused and however the reader closed
+abbrev pub IsEvidence : CoreView → List Refusal → Close → List ℕ → Bool → Type 0
+IsEvidence core refused close text has_conflicts = IsEvidenceText core text has_conflicts
+
+-- `watch --helper HELPER FILE`: a core that wants neither receipts nor seals is told what the file holds, and the text is
+-- its evidence.
+abbrev pub IsWatched : List ℕ → List ℕ → Work → Type 0
+IsWatched = IsOverCore Local IsEvidence
+
+-- nothing was made, read or told
+pub record IsIdle (work : Work) : Type 0 where
+  pub none_made : work.after ≡ work.before
+  pub none_read : work.readers ≡ []
+  pub none_told : work.journal ≡ no_journal
+
+-- there was no memory before anything was made
+pub record IsUnbegun (work : Work) : Type 0 where
+  pub idle : IsIdle work
+  pub owes : work.owed ≡ None
+  pub nothing_else : work.own ≡ nothing
+
+-- words that aren't in the form: the line `words` is owed
+pub record IsRefused (work : Work) : Type 0 where
+  pub idle : IsIdle work
+  pub owes : work.owed ≡ Some (codes "words\n")
+  pub nothing_else : work.own ≡ record nothing { words_refused = true }
+
+-- a row for each command
+abbrev pub CarriesOut : Asked → Work → Type 0
+CarriesOut (check name) work = IsChecked name work
+CarriesOut (validate helper name) work = IsValidated helper name work
+CarriesOut (watch helper name) work = IsWatched helper name work
+
+abbrev pub Does : Option Asked → Work → Type 0
+Does None work = IsRefused work
+Does (Some asked) work = CarriesOut asked work ⊎ IsUnbegun work
+
+-- what was asked for was done, what it owes was written, and the status is by what was found
+pub record Answers (asked : Option Asked) (run : Run) : Type 0 where
+  pub owed : Option (List ℕ)
+  pub own : Findings
+  pub does : Does asked (work_in run owed own)
+  pub settles : Settles owed own run

@@ -1,0 +1,113 @@
+//! Reading the stream of a file to a core.
+ghost use Rattle.std.specs.Prelude.{◌≡◌, IfSome, is_none, false, ℕ, List, Option, Bool};
+ghost use Rattle.cesr_codes.specs.declared.key.Key.{Key};
+ghost use Rattle.cesr_codes.specs.declared.sig.Sig.{Sig};
+ghost use Rattle.keri_roles.specs.Run.{reader_seen};
+ghost use Rattle.keri_roles.specs.CoreTold.{Given, IsUnmade, Tells};
+
+use crate::providers::Providers;
+use crate::validator::Validator;
+use crate::{Close, ReaderEnd};
+use journal::Mode;
+use keri_outside::{Limits, Source, Verifier};
+use message_feed::feed_messages;
+use std::alloc::Global;
+use validator_core::Core;
+
+/// A reader's end, and the core that was told what it read.
+#[derive(Drop)]
+pub(crate) struct CoreReader<S, V> {
+    pub(crate) reader: ReaderEnd<S, V>,
+    pub(crate) core: Core,
+}
+
+/// Reads the stream to a core of this mode where both were made, and else nothing.
+pub(crate) fn read_to_core<S: Source + Drop, V: Verifier + Drop>(
+    alloc: Global,
+    mode: Mode,
+    limits: Limits,
+    providers: Providers<S, V>,
+) -> CoreReader<S, V>
+    requires source { IfSome providers.source (λ source. S.faults source ≡ 0) }
+    requires verifier { IfSome providers.verifier (λ verifier. V.faults verifier ≡ 0) }
+    ensures tells { (held : Option (List ℕ)) (says : Key → List ℕ → Sig → Option Bool) → IfSome providers.source (λ source. S.left source ≡ held) → IfSome providers.verifier (λ verifier. V.says verifier ≡ says)
+        → Tells mode (record { limits = limits; held = held; says = says }) (reader_seen S.left S.faults V.says V.faults result.reader) result.core }
+    ensures source { is_none result.reader.source ≡ is_none providers.source }
+    ensures verifier { is_none result.reader.verifier ≡ is_none providers.verifier }
+{
+    let Providers { source, verifier } = providers;
+    let Some(source) = source else {
+        return read_nothing(alloc, mode, limits, None, verifier, Close::ReadFault);
+    };
+    let Some(verifier) = verifier else {
+        return read_nothing(
+            alloc,
+            mode,
+            limits,
+            Some(source),
+            None,
+            Close::VerifierFault,
+        );
+    };
+    read_stream(alloc, mode, limits, source, verifier)
+}
+
+// The end of a reader where one of both couldn't be made.
+fn read_nothing<S: Source + Drop, V: Verifier + Drop>(
+    alloc: Global,
+    mode: Mode,
+    limits: Limits,
+    source: Option<S>,
+    verifier: Option<V>,
+    close: Close,
+) -> CoreReader<S, V>
+    requires { IsUnmade source verifier close }
+    ensures tells { (held : Option (List ℕ)) (says : Key → List ℕ → Sig → Option Bool) → IfSome source (λ source. S.left source ≡ held)
+        → Tells mode (record { limits = limits; held = held; says = says }) (reader_seen S.left S.faults V.says V.faults result.reader) result.core }
+    ensures source { result.reader.source ≡ source }
+    ensures verifier { result.reader.verifier ≡ verifier }
+{
+    let reader = ReaderEnd {
+        source,
+        verifier,
+        refused: Vec::new(alloc),
+        close,
+    };
+    CoreReader {
+        reader,
+        core: Core::new(alloc, mode, limits),
+    }
+}
+
+// Reads the stream, and asks the verifier.
+fn read_stream<S: Source + Drop, V: Verifier + Drop>(
+    alloc: Global,
+    mode: Mode,
+    limits: Limits,
+    source: S,
+    verifier: V,
+) -> CoreReader<S, V>
+    requires source { S.faults source ≡ 0 }
+    requires verifier { V.faults verifier ≡ 0 }
+    ensures tells { Tells mode (record { limits = limits; held = S.left source; says = V.says verifier }) (reader_seen S.left S.faults V.says V.faults result.reader) result.core }
+    ensures source { is_none result.reader.source ≡ false }
+    ensures verifier { is_none result.reader.verifier ≡ false }
+{
+    let mut source = source;
+    let mut validator = Validator::new(alloc, mode, limits, verifier);
+    let (close, last) = feed_messages(alloc, &mut source, limits, &mut validator);
+    let close = validator.finish(close, last);
+    let Validator {
+        core,
+        verifier,
+        refused,
+        ..
+    } = validator;
+    let reader = ReaderEnd {
+        source: Some(source),
+        verifier: Some(verifier),
+        refused,
+        close,
+    };
+    CoreReader { reader, core }
+}

@@ -1,0 +1,34 @@
+//! What a command writes of its core.
+ghost use Rattle.std.specs.Prelude.{◌≡◌, ◌≢◌, ℕ, Bool, List, IfOk};
+ghost use Rattle.journal.specs.declared.refusal.Refusal.{Refusal as RefusalValue};
+ghost use Rattle.keri_roles.specs.declared.close.Close.{Close as CloseValue};
+ghost use Rattle.keri_roles.specs.CoreTold.{plain};
+ghost use Rattle.validator_core.specs.View.{CoreView};
+
+use crate::Close;
+use journal::Refusal;
+use std::alloc::{AllocError, Global};
+use validator_core::Core;
+
+/// A text, and whether it says that there is a conflict.
+#[derive(Drop)]
+pub(crate) struct Account {
+    pub(crate) text: Vec<u8>,
+    pub(crate) has_conflicts: bool,
+}
+
+/// What a command writes of its core and its reader.
+pub(crate) trait CoreText {
+    /// The text is that of a core, of the messages that were refused, and of how the reader closed; and it is said whether
+    /// there is a conflict.
+    ghost is_text: { CoreView → List RefusalValue → CloseValue → List ℕ → Bool → Type 0 };
+
+    /// Makes the text. There is none where the reader ended for want of memory.
+    fn text_of(
+        alloc: Global,
+        core: &Core,
+        refused: &[Refusal],
+        close: Close,
+    ) -> Result<Account, AllocError>
+        ensures { IfOk result (λ account. (close ≢ Close.OutOfMemory) × is_text (plain core.now) refused.now close account.text.items account.has_conflicts) };
+}

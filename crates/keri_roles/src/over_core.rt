@@ -1,0 +1,85 @@
+//! The commands that read a file to a core, and write of it.
+ghost use Rattle.std.specs.Prelude.{◌≡◌, ◌<◌, [], None, Some, IfOk, OnErr, option_map};
+ghost use Rattle.std.specs.Vec.{vec_capacity};
+ghost use Rattle.keri_roles.specs.Run.{work_seen};
+ghost use Rattle.keri_roles.specs.CoreTold.{IsOverCore};
+
+use crate::core_reader::{CoreReader, read_to_core};
+use crate::core_text::{Account, CoreText};
+use crate::outcome::Outcome;
+use crate::providers::make;
+use crate::{Close, Findings, ReaderEnd};
+use journal::Mode;
+use keri_outside::Outside;
+use std::alloc::{AllocError, Global};
+
+/// Reads the stream of the file with the verifier of the helper to a core of this mode, and makes the text. The readers
+/// have room for the one that there is.
+pub(crate) fn over_core<O: Outside, T: CoreText>(
+    alloc: Global,
+    mode: Mode,
+    helper: &str,
+    name: &str,
+    readers: Vec<ReaderEnd<O::Source, O::Verifier>>,
+    outside: &mut O,
+) -> Outcome<O::Source, O::Verifier>
+    requires none_yet { readers.items ≡ [] }
+    requires room { 0 < vec_capacity readers }
+    ensures done { IsOverCore mode T.is_text helper.now name.now (work_seen O.Source.left O.Source.faults O.Verifier.says O.Verifier.faults (O.told outside.old) (O.told outside.new) result) }
+    ensures sink { O.sink outside.new ≡ O.sink outside.old }
+{
+    let mut readers = readers;
+    let limits = outside.limits();
+    let providers = make(name, helper, outside);
+    let CoreReader { reader, core } = read_to_core(alloc, mode, limits, providers);
+    let account = T::text_of(alloc, &core, reader.refused.as_slice(), reader.close);
+    let Debt {
+        close,
+        owed,
+        conflict_found,
+    } = owe(reader.close, account);
+    readers.push(ReaderEnd { close, ..reader }).unwrap();
+    // A last round over the questions that are open has nothing to do: one reader leaves none open but where its
+    // verifier failed, and then no verifier is left that never did.
+    Outcome {
+        readers,
+        journal: core.into_journal(),
+        owed,
+        own: Findings {
+            conflict_found,
+            ..Findings::nothing()
+        },
+    }
+}
+
+// How a reader closes by whether there was memory for its text, the text, and whether that tells a conflict.
+#[derive(Drop)]
+struct Debt {
+    close: Close,
+    owed: Option<Vec<u8>>,
+    conflict_found: bool,
+}
+
+// What is owed where the reader closed so.
+fn owe(close: Close, account: Result<Account, AllocError>) -> Debt
+    ensures ok { IfOk account (λ account. (result.close ≡ close) × (option_map (λ text. text.items) result.owed ≡ Some account.text.items) × (result.conflict_found ≡ account.has_conflicts)) }
+    ensures err { OnErr account ((result.close ≡ Close.OutOfMemory) × (option_map (λ text. text.items) result.owed ≡ None)) }
+{
+    match account {
+        Ok(
+            Account {
+                text,
+                has_conflicts,
+            },
+        ) => Debt {
+            close,
+            owed: Some(text),
+            conflict_found: has_conflicts,
+        },
+        Err(AllocError) => Debt {
+            close: Close::OutOfMemory,
+            owed: None,
+            conflict_found: false,
+        },
+    }
+}
