@@ -4,6 +4,7 @@
 #![tactic(auto)]
 
 mod backing;
+mod bodies;
 mod event;
 mod states;
 
@@ -14,6 +15,9 @@ use std::io;
 
 // The answer of the first part of the library that has the call.
 fn called(alloc: Global, row: &Row) -> Result<Option<String>, AllocError> {
+    if let Some(answer) = bodies::answer(alloc, row)? {
+        return Ok(Some(answer));
+    }
     if let Some(answer) = states::answer(alloc, row)? {
         return Ok(Some(answer));
     }

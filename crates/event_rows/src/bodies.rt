@@ -1,0 +1,97 @@
+//! Bodies of events: read, written again and sealed.
+ghost use Rattle.std.specs.Prelude.{IfOk};
+ghost use Rattle.event_writing.specs.Writable.{IsWritable};
+
+use cesr_codes::DigestCode;
+use event_body::{Event, ReadBody, read_body};
+use event_writing::{sealed, writable, write_body};
+use row_text::{Row, given};
+use std::alloc::{AllocError, Global};
+
+// The event that the text spells, which can be written.
+fn writable_event(alloc: Global, text: &[u8]) -> Result<Event, ReadBody>
+    ensures { IfOk result IsWritable }
+{
+    writable();
+    match read_body(alloc, text) {
+        Ok(event) => Ok(event),
+        Err(fault) => Err(fault),
+    }
+}
+
+// The event sealed under the code, which can be written.
+fn writable_sealed(alloc: Global, event: &Event, code: DigestCode) -> Result<Event, ReadBody>
+    requires { IsWritable event.now }
+    ensures { IfOk result IsWritable }
+{
+    writable();
+    match sealed(alloc, event, code) {
+        Ok(event) => Ok(event),
+        Err(fault) => Err(fault),
+    }
+}
+
+// The body of the event. The contract of what it calls is left behind here, since it makes each proof above it longer.
+fn body_of(alloc: Global, event: &Event) -> Result<Vec<u8>, ReadBody>
+    requires { IsWritable event.now }
+{
+    write_body(alloc, event)
+}
+
+fn refused(alloc: Global, fault: ReadBody) -> Result<String, AllocError> {
+    match fault {
+        ReadBody::Fault(fault) => format!(in alloc; "{fault:?}"),
+        ReadBody::OutOfMemory => Err(AllocError),
+    }
+}
+
+fn written(alloc: Global, event: &Event) -> Result<String, AllocError>
+    requires { IsWritable event.now }
+{
+    match body_of(alloc, event) {
+        Ok(text) => String::from_utf8_lossy(alloc, text.as_slice()),
+        Err(fault) => refused(alloc, fault),
+    }
+}
+
+/// `body TEXT`: the body that is written of the event that the text spells, or the fault.
+fn body(alloc: Global, text: &[u8]) -> Result<String, AllocError> {
+    match writable_event(alloc, text) {
+        Ok(event) => written(alloc, &event),
+        Err(fault) => refused(alloc, fault),
+    }
+}
+
+fn written_sealed(alloc: Global, event: &Event, code: DigestCode) -> Result<String, AllocError>
+    requires { IsWritable event.now }
+{
+    match writable_sealed(alloc, event, code) {
+        Ok(event) => written(alloc, &event),
+        Err(fault) => refused(alloc, fault),
+    }
+}
+
+// The code that the word names.
+fn code(word: &str) -> DigestCode {
+    match word {
+        "E" => DigestCode::Blake3,
+        _ => DigestCode::Sha256,
+    }
+}
+
+/// `seal CODE TEXT`: the body of the event of the text, sealed under the code; or the fault.
+fn seal(alloc: Global, text: &[u8], code: DigestCode) -> Result<String, AllocError> {
+    match writable_event(alloc, text) {
+        Ok(event) => written_sealed(alloc, &event, code),
+        Err(fault) => refused(alloc, fault),
+    }
+}
+
+/// The answer of the row, where it is one of these calls.
+pub(crate) fn answer(alloc: Global, row: &Row) -> Result<Option<String>, AllocError> {
+    match row.word(0) {
+        "body" => given(body(alloc, row.bytes(alloc, 1)?.as_slice())),
+        "seal" => given(seal(alloc, row.bytes(alloc, 2)?.as_slice(), code(row.word(1)))),
+        _ => Ok(None),
+    }
+}
