@@ -59,6 +59,19 @@ fn next(
     }
 }
 
+// Moves the state on by the event of the word of this number, says what is said of it, and whether there is a state then.
+fn step(
+    alloc: Global,
+    row: &Row,
+    number: usize,
+    state: &mut Option<KeyState>,
+    text: &mut String,
+) -> Result<bool, AllocError> {
+    let bytes = row.bytes(alloc, number)?;
+    *state = next(alloc, state, bytes.as_slice(), text)?;
+    Ok(state.is_some())
+}
+
 // The state after the events of the words from one number to another, and what is said of each; none where an event
 // isn't taken.
 fn fold(
@@ -70,8 +83,7 @@ fn fold(
 ) -> Result<Option<KeyState>, AllocError> {
     let mut state = None;
     for number in from..to {
-        state = next(alloc, &state, row.bytes(alloc, number)?.as_slice(), text)?;
-        if state.is_none() {
+        if !step(alloc, row, number, &mut state, text)? {
             break;
         }
     }
