@@ -14,7 +14,7 @@ use Rattle.key_state.specs.States.{State}
 use Rattle.journal.specs.declared.body.Body.{Body}
 use Rattle.journal.specs.declared.claim.Claim.{Claim}
 use Rattle.journal.specs.declared.entry.Entry.TheVariants.{Took}
-use Rattle.journal.specs.History.{Told, claimed_key, claimed_sig, claims_on, said_yes, triple_of}
+use Rattle.journal.specs.History.{Told, claimed_key, claimed_sig, claims_on, triple_of}
 use Rattle.journal.specs.Logs.{stands, state_behind}
 use Rattle.journal.specs.Questions.{state_before}
 use Rattle.journal.specs.Readiness.{good_sigs, held_sig, yes_to}
