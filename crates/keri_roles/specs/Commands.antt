@@ -7,7 +7,7 @@ use Rattle.journal.specs.declared.mode.Mode.TheVariants.{Full, Local}
 use Rattle.journal.specs.declared.refusal.Refusal.{Refusal}
 use Rattle.journal.specs.Journals.{told_by}
 use Rattle.validator_core.specs.View.{CoreView}
-use Rattle.watcher_core.specs.Evidence.{IsEvidenceText}
+use Rattle.watcher_core.specs.Evidence.{IsEvidenceText, ReadsAsEvidence}
 use Rattle.keri_roles.specs.declared.close.Close.{Close}
 use Rattle.keri_roles.specs.declared.findings.Findings.{Findings}
 use Rattle.keri_roles.specs.Agreement.{IsAgreed}
@@ -25,9 +25,11 @@ pub record IsValidated (helper name : List ℕ) (work : Work) : Type 0 where
   pub over : IsOverCore Full Reports helper name work
   pub agreed : IsAgreed (told_by over.told.fed.held work.journal.entries)
 
--- the evidence is of the core alone, whatever was refused and however the reader closed
-abbrev pub IsEvidence : CoreView → List Refusal → Close → List ℕ → Bool → Type 0
-IsEvidence core refused close text has_conflicts = IsEvidenceText core text has_conflicts
+-- The evidence is of the core alone, whatever was refused and however the reader closed; and whoever reads it reads just the
+-- bodies in conflict with their signatures.
+pub record IsEvidence (core : CoreView) (refused : List Refusal) (close : Close) (text : List ℕ) (has_conflicts : Bool) : Type 0 where
+  pub text_is : IsEvidenceText core text has_conflicts
+  pub reads : ReadsAsEvidence core text
 
 -- `watch --helper HELPER FILE`: a core that wants neither receipts nor seals is told what the file holds, and the text is
 -- its evidence.
