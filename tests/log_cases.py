@@ -5,7 +5,8 @@ Primitives and bodies are made with Python's base64 and hashlib (`kit.py`). Each
 of them, as docs/FORMATS.md says it. It is made thrice: with its messages in the order given, in the reversed one, and with those
 of its second half put between those of its first. Where what is written depends on the order, the case says so.
 """
-from kit import PLAIN_ICP as ICP, body, couples, counter, digest, indexed, key, primitive, receipts, rehearsed, said, signed
+from kit import PLAIN_ICP as ICP, body, couples, counter, digest, indexed_signature, key, primitive, receipts, rehearsal, rehearsed
+from kit import said, signed
 from event_cases import BASIC, ROT, WEIGHTED, WITNESSES
 from validate_cases import SAMPLES, WORDS, write
 
@@ -255,6 +256,9 @@ OTHER_CHILD_1 = rot(CHILD, 11, "drt", n=[digest(key(100))])
 ONE_WAY = ROT + counter("A", 2) + rehearsed(2, ROT) + rehearsed(2, ROT, "BA")
 OTHER_WAY = ROT + counter("A", 2) + rehearsed(2, ROT, "BA") + rehearsed(2, ROT)
 CONFLICTING = sorted([signed(ROT, 2), signed(OTHER_1, 2)])
+# One signature at many other indices, which are as many signatures; a message may carry 1,024.
+MANY_WAYS = [indexed_signature(0, other, rehearsal(2, ROT)) for other in range(1030)]
+IN_TWO = [ROT + counter("A", len(part)) + "".join(part) for part in (MANY_WAYS[:1000], MANY_WAYS[1000:])]
 WATCHED = {
     "watched_no_conflict": ([signed(ICP, 1), signed(IXN_1, 1), signed(ROT_2, 2)], []),
     "watched_two_rotations": ([signed(ICP, 1), signed(ROT, 2), signed(OTHER_1, 2)], CONFLICTING),
@@ -311,6 +315,24 @@ def write_sample(name, stream, lines):
         (SAMPLES / (name + ".status")).write_text("%d\n" % status(lines))
 
 
+# Further cases in one order: the words, the stream, what is written, and the status.
+FURTHER = {
+    "watched_rotation_with_many_signatures": (
+        WATCH_WORDS, signed(ICP, 1) + "".join(IN_TWO) + signed(OTHER_1, 2),
+        "".join(sorted([ROT + counter("A", len(MANY_WAYS)) + "".join(MANY_WAYS), signed(OTHER_1, 2)])), 4,
+    ),
+    "watched_nothing": (WATCH_WORDS, "", "", 0),
+    "watched_refused_message": (WATCH_WORDS, ICP + "-AAA" + signed(ICP, 1), "", 3),
+    "watched_refused_message_beside_a_conflict": (
+        WATCH_WORDS, ICP + "-AAA" + signed(ICP, 1) + "".join(CONFLICTING), "".join(CONFLICTING), 4,
+    ),
+    "watched_stream_cut_short": (WATCH_WORDS, signed(ICP, 1)[:-1], "", 3),
+    "watched_missing_file": (WATCH_WORDS, None, "", 5),
+    "watch_without_a_helper": (["watch", "a"], signed(ICP, 1), "words\n", 2),
+    "watch_with_another_helper": (["watch", "--helper", "other", "a"], signed(ICP, 1), "words\n", 2),
+}
+
+
 def write_watched(name, messages, evidence, others={}):
     """The case of a watcher, in each order: whatever came first, the same bodies are written, in the same order."""
     arrangements = {"".join(arranged): order for order, arranged in reversed(orders(messages).items())}
@@ -321,7 +343,9 @@ def write_watched(name, messages, evidence, others={}):
 
 
 if __name__ == "__main__":
-    count = sum(write_watched(name, *case) for name, case in WATCHED.items())
+    count = sum(write_watched(name, *case) for name, case in WATCHED.items()) + len(FURTHER)
+    for name, case in FURTHER.items():
+        write(name, *case)
     for name, (messages, lines, others) in CASES.items():
         for order, arranged in orders(messages).items():
             if order and arranged == messages:
