@@ -25,8 +25,7 @@ pub fn command_of(words: &[String]) -> Option<Command<'_>>
             })
         }
         [name, option, helper, file]
-            if names_helper(option.as_str(), helper.as_str()) && names_file(file.as_bytes()) =>
-        {
+            if names_helper(option.as_str(), helper.as_str()) && names_file(file.as_bytes()) => {
             over_core(name.as_str(), helper.as_str(), file.as_str())
         }
         _ => None,
