@@ -1,6 +1,6 @@
 //! Texts of what counters count.
 
-use crate::spelled::{Spelled, put_both};
+use crate::spellings::{Spelled, put_both};
 use crate::{AnchorCouple, Couple, Seen};
 use cesr_codes::IndexedSig;
 use keri_outside::{Failed, Sink};

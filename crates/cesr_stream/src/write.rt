@@ -4,7 +4,7 @@ ghost use Rattle.keri_specs.specs.Causes.{HasCause};
 ghost use Rattle.keri_specs.specs.Told.{Puts};
 ghost use Rattle.cesr_stream.specs.Written.{IsWritable, item_text};
 
-use crate::spelled::{Spelled, put_counted, size_counted, size_of_all};
+use crate::spellings::{Spelled, put_counted, size_counted, size_of_all};
 use crate::{Group, Item};
 use keri_outside::{Failed, Sink};
 

@@ -3,13 +3,13 @@
 
 mod backers;
 mod event_seal;
-mod holding;
 mod laws;
+mod seal_search;
 mod seal_texts;
-mod spelled;
+mod spellings;
 mod witness;
 
 pub use backers::Backers;
 pub use event_seal::EventSeal;
-pub use holding::{anchors, seals};
 pub use laws::{added_members, backers_of_a_body, listed_are_held, sealed_by_parts};
+pub use seal_search::{anchors, seals};

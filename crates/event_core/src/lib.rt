@@ -1,10 +1,10 @@
 //! A core: what it was told, the questions that are open, and what it accepts of that, by every rule.
 #![tactic(auto)]
 
-mod answered;
 mod base;
 mod came;
 mod event_core;
+mod open_questions;
 mod signatures;
 mod taken;
 mod tally;

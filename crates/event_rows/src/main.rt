@@ -3,7 +3,7 @@
 //! by tests/rows, never by this program.
 #![tactic(auto)]
 
-mod backing;
+mod backers;
 mod bodies;
 mod event;
 mod states;
@@ -21,7 +21,7 @@ fn called(alloc: Global, row: &Row) -> Result<Option<String>, AllocError> {
     if let Some(answer) = states::answer(alloc, row)? {
         return Ok(Some(answer));
     }
-    backing::answer(alloc, row)
+    backers::answer(alloc, row)
 }
 
 // What the line is answered by.

@@ -1,12 +1,12 @@
 //! The messages of a source, handed one by one to what takes them.
 #![tactic(auto)]
 
+mod feed;
 mod feed_close;
-mod feeding;
 mod halt;
+mod items;
 mod taker;
-mod taking;
 
+pub use feed::feed_messages;
 pub use feed_close::FeedClose;
-pub use feeding::feed_messages;
 pub use taker::Taker;

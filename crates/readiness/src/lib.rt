@@ -2,18 +2,18 @@
 //! counts as a rival of others. No call takes memory.
 #![tactic(auto)]
 
-mod counted;
+mod base_state;
+mod conflict_part;
 mod current;
 mod entry_support;
 mod ready;
 mod row_support;
 mod seals;
-mod standing;
 mod there;
-mod waiting;
+mod wait_reason;
 mod wants;
 
-pub use counted::counts;
+pub use conflict_part::counts;
 pub use ready::is_ready;
 pub use there::is_there;
-pub use waiting::why_waits;
+pub use wait_reason::why_waits;

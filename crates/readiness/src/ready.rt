@@ -5,8 +5,8 @@ ghost use Rattle.core_tables.specs.View.{log_of};
 ghost use Rattle.journal.specs.Readiness as readiness;
 ghost use Rattle.journal.specs.declared.body.Body.{Body};
 
+use crate::base_state::is_waiting;
 use crate::current::{event_of, state_of};
-use crate::standing::is_waiting;
 use crate::wants::wanting;
 use core_tables::Tables;
 use event_rules::takes;

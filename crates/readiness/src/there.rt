@@ -5,9 +5,9 @@ ghost use Rattle.acceptance_laws.specs.Waking as waking;
 ghost use Rattle.core_tables.specs.View.{log_of};
 ghost use Rattle.journal.specs.declared.body.Body.{Body};
 
+use crate::base_state::is_behind_some;
 use crate::current::{event_of, state_of};
 use crate::seals::is_seal_there;
-use crate::standing::is_behind_some;
 use core_tables::Tables;
 use journal::Mode;
 

@@ -9,11 +9,11 @@ ghost use Rattle.journal.specs.Seals as seals;
 ghost use Rattle.key_state.specs.Kept.{IsKept};
 ghost use Rattle.readiness.specs.Wants as specs;
 
+use crate::base_state::is_on_current;
 use crate::current::is_state;
 use crate::entry_support::EntrySupport;
 use crate::row_support::RowSupport;
 use crate::seals::{is_anchored, is_local};
-use crate::standing::is_on_current;
 use core_tables::{Tables, name_of};
 use event_body::Event;
 use event_rules::{Support, is_backed, meets_before, meets_own};

@@ -1,11 +1,11 @@
 //! The acceptance of events: what one more of them changes, and how all that are ready are accepted.
 #![tactic(auto)]
 
-mod accepted;
-mod awaited;
 mod behind;
+mod log_end;
 mod settlement;
+mod wait_target;
 mod woken;
 
-pub use accepted::accept;
+pub use log_end::accept;
 pub use settlement::settle;

@@ -9,7 +9,7 @@ ghost use Rattle.acceptance.specs.Standing.{Extends, IsStanding, told_of};
 ghost use Rattle.acceptance.specs.Settled.{IsSettled};
 ghost use Rattle.settlement.specs.Settled.{AcceptsNext, IsNext, IsOver, IsReadyAt};
 
-use crate::accepted::accept;
+use crate::log_end::accept;
 use crate::woken::{add_due, numbers_woken};
 use core_tables::Tables;
 use journal::Mode;

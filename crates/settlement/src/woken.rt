@@ -12,8 +12,8 @@ ghost use Rattle.core_tables.specs.View.{log_of};
 ghost use Rattle.acceptance.specs.Standing.{IsStanding};
 ghost use Rattle.settlement.specs.Awaited.{IsNextAt, is_awaited_there};
 
-use crate::awaited::is_awaited_at;
 use crate::behind::copied;
+use crate::wait_target::is_awaited_at;
 use core_tables::Tables;
 use escrow::Waiting;
 use event_backing::{EventSeal, sealed_by_parts, seals};

@@ -2,8 +2,8 @@
 #![tactic(auto)]
 
 mod attempt;
+mod history_values;
 mod pass;
-mod replayed;
 mod rule;
 mod send_sync;
 mod spent;
@@ -14,7 +14,7 @@ mod tests;
 mod turn;
 mod view;
 
+pub use history_values::Replayed;
 pub use pass::Pass;
-pub use replayed::Replayed;
 pub use spent::Spent;
 pub use turn::Turn;

@@ -2,7 +2,7 @@
 ghost use Rattle.std.specs.Prelude.{◌≡◌, length};
 ghost use Rattle.turn_lock.specs.Steps.{IsIdle, IsLive};
 
-use crate::replayed::Replayed;
+use crate::history_values::Replayed;
 use crate::rule::LockSeat;
 
 /// The right to take turns at a lock, and what its holder has learnt there: a beginning of the history, and a share

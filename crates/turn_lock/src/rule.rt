@@ -2,7 +2,7 @@
 ghost use Rattle.turn_lock.specs.Rule.{IsLock};
 ghost use Rattle.turn_lock.specs.Steps.{first_view};
 
-use crate::replayed::Replayed;
+use crate::history_values::Replayed;
 use crate::view::View;
 use atomic_table::{Seat, Table, TableRule};
 use std::alloc::Global;

@@ -1,6 +1,6 @@
 //! A lock may be shared by threads, and a lock or a pass may go to another one, where its value may.
+use crate::history_values::Replayed;
 use crate::pass::Pass;
-use crate::replayed::Replayed;
 use crate::turn::Turn;
 
 fn needs_send<T: Send>(_value: &T) {}

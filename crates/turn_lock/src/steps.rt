@@ -2,7 +2,7 @@
 //! value out, value in, giving the turn back, splitting a seat and joining a seat. There is no other.
 ghost use Rattle.turn_lock.specs.Steps.{Looked, Compared, TookTurn, TookValueOut, PutValueIn, GaveBack, left_view, right_view, joined_view, gone_view};
 
-use crate::replayed::Replayed;
+use crate::history_values::Replayed;
 use crate::view::View;
 use atomic_table::{Join, Play, Split};
 

@@ -7,8 +7,8 @@ ghost use Rattle.turn_lock.specs.Passes.{AppendsAtMostOne, Turned, Closes};
 ghost use Rattle.turn_lock.specs.Performs.{Performed};
 
 use crate::attempt::Attempt;
+use crate::history_values::Replayed;
 use crate::pass::Pass;
-use crate::replayed::Replayed;
 use crate::rule::{LockSeat, LockTable};
 use crate::spent::Spent;
 use crate::steps::{Compare, GiveBack, Look, Seats, TakeTurn, ValueIn, ValueOut};

@@ -1,13 +1,13 @@
 //! The report of a core: the events that it accepted, the state of each identifier, the events that wait, and the conflicts.
 #![tactic(auto)]
 
-mod accepted;
 mod conflicts;
+mod core_standing;
 mod held;
+mod log_lines;
 mod logs;
 mod row;
 mod rows;
-mod standing;
-mod waiting;
+mod wait_lines;
 
-pub use standing::{CoreStanding, standing_of};
+pub use core_standing::{CoreStanding, standing_of};

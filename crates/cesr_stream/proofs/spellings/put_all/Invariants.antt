@@ -1,0 +1,10 @@
+use Rattle.std.proofs.Common.{◌≡◌, take, flat_map}
+use Rattle.keri_specs.specs.Told.{after}
+use Rattle.cesr_stream.proofs.spellings.put_all.Given as goal
+
+-- the texts so far were put, and none failed
+abbrev pub invariant-loop-one : goal.invariant-loop-one
+invariant-loop-one g l = record {
+  written : g.S.Sink.written l.sink ≡ after (g.S.Sink.written l.initial.sink) (flat_map g.E.Spelled.text (take l.one-index l.all));
+  faults : g.S.Sink.faults l.sink ≡ g.S.Sink.faults l.initial.sink;
+}

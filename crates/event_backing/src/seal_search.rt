@@ -1,0 +1,78 @@
+//! Event seals that an event holds.
+ghost use Rattle.std.specs.Prelude.{◌≡◌, IfOk};
+ghost use Rattle.std.specs.List.{list_any};
+ghost use Rattle.event_body.specs.Events as events;
+ghost use Rattle.event_backing.specs.EventSeals.{holds_seal, is_seal as seal_test};
+ghost use Rattle.event_backing.specs.Listing.{AreSealsOf, Is};
+
+use crate::EventSeal;
+use crate::seal_texts::seal_texts;
+use crate::spellings::{digest_of, is_digest, is_number, is_prefix, number_of, prefix_of};
+use cesr_codes::{Digest, Prefix};
+use event_body::Event;
+use json_tree::Tree;
+use std::alloc::{AllocError, Global};
+
+/// The event seals among the values of an event, in their order.
+pub fn seals(alloc: Global, event: &Event) -> Result<Vec<EventSeal>, AllocError>
+    ensures { IfOk result (λ seals. AreSealsOf (events.anchors_of event.now) seals.items) }
+{
+    let mut seals = Vec::new(alloc);
+    for value in anchors_of(event) {
+        if let Some(seal) = seal_in(value) {
+            seals.push(seal)?;
+        }
+    }
+    Ok(seals)
+}
+
+/// Whether the event holds the event seal of an identifier, a number and a digest. It takes no memory.
+pub fn anchors(event: &Event, prefix: &Prefix, sn: u64, said: &Digest) -> bool
+    ensures { result ≡ holds_seal event.now prefix.now sn said.now }
+{
+    holds(anchors_of(event), prefix, sn, said)
+}
+
+// Whether one of the values is the event seal of these.
+fn holds(values: &[Tree], prefix: &Prefix, sn: u64, said: &Digest) -> bool
+    ensures { result ≡ list_any (seal_test prefix.now sn said.now) values.now }
+{
+    values.iter().any(|value| is_seal(value, prefix, sn, said))
+}
+
+// The values of an event.
+fn anchors_of(event: &Event) -> &[Tree]
+    ensures { result.now ≡ events.anchors_of event.now }
+{
+    match event {
+        Event::Icp(event) | Event::Dip(event) => event.anchors.as_slice(),
+        Event::Rot(event) | Event::Drt(event) => event.anchors.as_slice(),
+        Event::Ixn(event) => event.anchors.as_slice(),
+        Event::Rct(_) => &[],
+    }
+}
+
+/// The event seal that the value is.
+pub(crate) fn seal_in(value: &Tree) -> Option<EventSeal>
+    ensures { Is value.now result }
+{
+    let texts = seal_texts(value)?;
+    let prefix = prefix_of(texts.prefix)?;
+    let sn = number_of(texts.sn)?;
+    let said = digest_of(texts.said)?;
+    Some(EventSeal { prefix, sn, said })
+}
+
+/// Whether the value is the event seal of these.
+pub(crate) fn is_seal(value: &Tree, prefix: &Prefix, sn: u64, said: &Digest) -> bool
+    ensures { result ≡ seal_test prefix.now sn said.now value.now }
+{
+    match seal_texts(value) {
+        Some(texts) => {
+            is_prefix(texts.prefix, prefix)
+                && is_number(texts.sn, sn)
+                && is_digest(texts.said, said)
+        }
+        None => false,
+    }
+}
