@@ -259,6 +259,7 @@ CONFLICTING = sorted([signed(ROT, 2), signed(OTHER_1, 2)])
 # One signature at many other indices, which are as many signatures; a message may carry 1,024.
 MANY_WAYS = [indexed_signature(0, other, rehearsal(2, ROT)) for other in range(1030)]
 IN_TWO = [ROT + counter("A", len(part)) + "".join(part) for part in (MANY_WAYS[:1000], MANY_WAYS[1000:])]
+IN_FULL = [ROT + counter("A", len(part)) + "".join(part) for part in (MANY_WAYS[:1024], MANY_WAYS[1024:])]
 WATCHED = {
     "watched_no_conflict": ([signed(ICP, 1), signed(IXN_1, 1), signed(ROT_2, 2)], []),
     "watched_two_rotations": ([signed(ICP, 1), signed(ROT, 2), signed(OTHER_1, 2)], CONFLICTING),
@@ -319,7 +320,11 @@ def write_sample(name, stream, lines):
 FURTHER = {
     "watched_rotation_with_many_signatures": (
         WATCH_WORDS, signed(ICP, 1) + "".join(IN_TWO) + signed(OTHER_1, 2),
-        "".join(sorted([ROT + counter("A", len(MANY_WAYS)) + "".join(MANY_WAYS), signed(OTHER_1, 2)])), 4,
+        "".join(sorted(["".join(IN_FULL), signed(OTHER_1, 2)])), 4,
+    ),
+    "watched_evidence_with_many_signatures": (
+        WATCH_WORDS, signed(ICP, 1) + "".join(sorted(["".join(IN_FULL), signed(OTHER_1, 2)])),
+        "".join(sorted(["".join(IN_FULL), signed(OTHER_1, 2)])), 4,
     ),
     "watched_nothing": (WATCH_WORDS, "", "", 0),
     "watched_refused_message": (WATCH_WORDS, ICP + "-AAA" + signed(ICP, 1), "", 3),

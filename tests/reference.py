@@ -9,7 +9,7 @@ from fractions import Fraction
 
 from kit import counter, digest, indexed_signature
 
-MOST_OF_A_GROUP = 4095
+MOST_OF_A_MESSAGE = 1024
 
 
 class Event:
@@ -280,13 +280,13 @@ class Reference:
         return [events for events in sets if len(events) > 1]
 
     def evidence(self):
-        """Each body in conflict, and behind it the groups of its controller's good signatures, each once."""
+        """Each body in conflict with its controller's good signatures, each once, in messages of as many as one may have."""
         text = ""
         for event in (event for events in self.conflicts() for event in events):
             good = self.good(self.state_before(event), event)
             sigs = list(dict.fromkeys(indexed_signature(claim.index, claim.other, claim.signature) for claim in good))
-            groups = [sigs[first:first + MOST_OF_A_GROUP] for first in range(0, len(sigs), MOST_OF_A_GROUP)]
-            text += event.text + "".join(counter("A", len(group)) + "".join(group) for group in groups)
+            parts = [sigs[first:first + MOST_OF_A_MESSAGE] for first in range(0, len(sigs), MOST_OF_A_MESSAGE)]
+            text += "".join(event.text + counter("A", len(part)) + "".join(part) for part in parts)
         return text
 
     def report(self):

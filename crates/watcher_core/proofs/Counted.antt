@@ -78,7 +78,7 @@ module _ (core : CoreView) where
         (come_all (items_of core) all_of (λ k d h. one (get_or all_of k d) (all_held is k d h) (all_stand k d h) (raw k d h))))
       where
         one : (b : Body) → IsHeld b → stands (accepted_by core) b ≡ true → All IsIndexed (firsts_on core b) → MayCome (items_of core b)
-        one b held up raw = body_comes b (signatures_of core b) held.spelled.has held.few (subst (All IsIndexed) (firsts_are b up) raw)
+        one b held up raw = body_comes b held.spelled.has held.few (signatures_of core b) (subst (All IsIndexed) (firsts_are b up) raw)
 
 -- NUMBERS: the bodies that conflicts name are those of the sets
 pub puts_sets : (core : CoreView) (found cs : List Conflict) (sets : List (List Body)) (old new : List ℕ) → NameConflicts core.held found sets → cs ≡ found

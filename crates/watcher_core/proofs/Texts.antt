@@ -1,24 +1,20 @@
--- The text of items, by bodies and by groups.
-use Rattle.std.proofs.Common.{◌≡◌, ℕ, List, [], ◌∷◌, ◌++◌, Option, Some, None, append-nil, append_assoc, subst, get_or, length, take, refl, sym, ◌∙◌, ap, ◌<◌, ◌+◌}
+-- The text of items, by bodies.
+use Rattle.std.proofs.Common.{◌≡◌, ℕ, List, [], ◌∷◌, ◌++◌, Option, Some, None, append-nil, append_assoc, subst, get_or, length, take, refl, sym, ◌∙◌, ap, ◌<◌, ◌+◌, arith}
 use Rattle.std.specs.Prelude.{All, filter_map, flat_map, option_map, slice_get}
 use Rattle.std.specs.List.{cons_option}
 use Rattle.std.proofs.lemmas.List.{take_more}
 use Rattle.std.proofs.lemmas.List.Elements.{All-append, All-cons, All-nil, filter_map-append}
 use Rattle.cesr_codes.specs.Indexed.{IsIndexed}
 use Rattle.std.proofs.lemmas.List.Concat.{flat_map-append}
-use Rattle.std.proofs.lemmas.List.Folds.{flat_map-map}
 use Rattle.cesr_codes.specs.declared.indexed_sig.IndexedSig.{IndexedSig}
-use Rattle.cesr_stream.specs.Texts.{group_text}
 use Rattle.cesr_stream.specs.Written.{item_text}
-use Rattle.cesr_stream.specs.declared.group.Group.TheVariants.{Held}
-use Rattle.cesr_stream.specs.declared.item.Item.TheVariants.{Group as GroupItem}
 use Rattle.journal.specs.declared.body.Body.{Body}
 use Rattle.journal.specs.Journals.{chosen}
 use Rattle.journal.specs.Replies.{same_indexed}
 use Rattle.journal.proofs.Locality.{flat_map-push}
 use Rattle.key_state.specs.Same.{distinct}
 use Rattle.validator_core.specs.View.{CoreView, good_on}
-use Rattle.watcher_core.specs.Evidence.{groups_of, items_with}
+use Rattle.watcher_core.specs.Evidence.{items_with, message_of, parts_of}
 use Rattle.watcher_core.specs.Named.{PutsBodies, PutsBody, firsts_on, text_on}
 
 -- lists of lists of lists
@@ -26,9 +22,13 @@ pub flat_map-flat_map : {X Y Z : Type 0} (g : Y → List Z) (f : X → List Y) (
 flat_map-flat_map g f [] = refl
 flat_map-flat_map g f (x ∷ xs) = flat_map-append g (f x) (flat_map f xs) ∙ ap (λ zs. flat_map g (f x) ++ zs) (flat_map-flat_map g f xs)
 
--- a body, and behind it the groups
-pub text_with : (b : Body) (sigs : List IndexedSig) → b.bytes ++ flat_map (λ group. group_text (Held group)) (groups_of sigs) ≡ flat_map item_text (items_with b sigs)
-text_with b sigs = ap (λ text. b.bytes ++ text) (sym (flat_map-map item_text (λ group. GroupItem (Held group)) (groups_of sigs)))
+-- a body without signatures, and one with some
+pub text_of_none : (bytes : List ℕ) (sigs : List IndexedSig) → sigs ≡ [] → flat_map item_text (items_with bytes sigs) ≡ bytes
+text_of_none bytes sigs none = (λ i. flat_map item_text (items_with bytes (none i))) ∙ append-nil bytes
+
+pub items_of_some : (bytes : List ℕ) (sigs : List IndexedSig) → 0 < length sigs → items_with bytes sigs ≡ flat_map (message_of bytes) (parts_of sigs)
+items_of_some bytes [] some = absurd (omega (arith, some))
+items_of_some bytes (sig ∷ sigs) some = refl
 
 -- the bodies of one number more, and those of one conflict more
 pub chosen_more : (held : List Body) (ns : List ℕ) (i d : ℕ) → i < length ns
@@ -57,20 +57,17 @@ module _ (core : CoreView) where
   puts_at None old new same = subst (λ text. PutsBodies core [] old text) (sym same) (puts_none old)
   puts_at (Some b) old new puts = puts
 
-  -- a body is put, and its signatures behind it
-  module _ (number : ℕ) (bytes old mid new : List ℕ) (came firsts : List IndexedSig)
-      (put : mid ≡ old ++ bytes) (good : (b : Body) → slice_get core.held number ≡ Some b → came ≡ good_on core b) (first : firsts ≡ distinct same_indexed came) (raw : All IsIndexed firsts)
-      (groups : new ≡ mid ++ flat_map (λ group. group_text (Held group)) (groups_of firsts)) where
+  -- a body is put with its signatures
+  module _ (number : ℕ) (bytes old new : List ℕ) (came firsts : List IndexedSig)
+      (good : (b : Body) → slice_get core.held number ≡ Some b → came ≡ good_on core b) (first : firsts ≡ distinct same_indexed came) (raw : All IsIndexed firsts)
+      (put : new ≡ old ++ flat_map item_text (items_with bytes firsts)) where
     puts_if : (o : Option Body) → slice_get core.held number ≡ o → Some bytes ≡ option_map (λ b. b.bytes) o → PutsBody core o old new
     puts_if None at is = cc
     puts_if (Some b) at is =
         let own : bytes ≡ b.bytes = cc in
         let sigs : firsts ≡ firsts_on core b = first ∙ ap (distinct same_indexed) (good b at) in
-        let text : List IndexedSig → List ℕ = λ sigs. flat_map (λ group. group_text (Held group)) (groups_of sigs) in
         record {
-          text = groups ∙ ap (λ before. before ++ text firsts) put ∙ append_assoc old bytes (text firsts)
-              ∙ (λ i. old ++ (own i ++ text (sigs i)))
-              ∙ ap (λ more. old ++ more) (text_with b (firsts_on core b) ∙ sym (append-nil (text_on core b)));
+          text = put ∙ (λ i. old ++ flat_map item_text (items_with (own i) (sigs i))) ∙ ap (λ more. old ++ more) (sym (append-nil (text_on core b)));
           raw = All-cons (λ b. All IsIndexed (firsts_on core b)) b [] (subst (All IsIndexed) sigs raw) (All-nil (λ b. All IsIndexed (firsts_on core b)));
         }
 

@@ -1,5 +1,5 @@
 -- Items that are written one behind the other are read as these items.
-use Rattle.std.proofs.Common.{◌≡◌, ℕ, ◌<◌, ◌≤◌, ◌^◌, Bool, true, false, List, [], ◌∷◌, ◌++◌, length, map, drop, zero, suc, refl, sym, ◌∙◌, ap, arith, subst, append-nil, append_assoc, length-append, length-take}
+use Rattle.std.proofs.Common.{◌≡◌, ℕ, ◌<◌, ◌≤◌, ◌^◌, Bool, true, false, List, [], ◌∷◌, ◌++◌, length, drop, zero, suc, refl, sym, ◌∙◌, ap, arith, subst, append-nil, append_assoc, length-append, length-take}
 use Rattle.std.specs.Prelude.{All, codes, flat_map}
 use Rattle.keri_specs.specs.Hex.{hex_value}
 use Rattle.json_tree.specs.declared.tree.Tree.{Tree}
@@ -21,12 +21,11 @@ use Rattle.cesr_stream.specs.Front.{front, has_version, size_of}
 use Rattle.cesr_stream.specs.Items.{Items, Placed, Stand, none, placed}
 use Rattle.cesr_stream.specs.Parts.{unfinished}
 use Rattle.cesr_stream.specs.Written.{IsItem, IsWritable, MayStand, item_text}
-use Rattle.cesr_stream.specs.declared.group.Group.TheVariants.{Held}
 use Rattle.cesr_stream.specs.declared.item.Item.{Item}
-use Rattle.cesr_stream.specs.declared.item.Item.TheVariants.{Body as BodyItem, Group as GroupItem}
+use Rattle.cesr_stream.specs.declared.item.Item.TheVariants.{Body as BodyItem}
 use Rattle.cesr_stream.proofs.WrittenItems.{written_more}
 use Rattle.journal.specs.declared.body.Body.{Body}
-use Rattle.watcher_core.specs.Evidence.{items_with, placed_from}
+use Rattle.watcher_core.specs.Evidence.{items_with, message_of, placed_from}
 
 -- a version string at the front
 version_there : (size rest : List ℕ) → IsSize size → (has_version (version_text size ++ rest) ≡ true) × (size_of (version_text size ++ rest) ≡ hex_value size)
@@ -68,14 +67,21 @@ pub come_all : {X : Type 0} (items : X → List Item) (xs : List X) → All (λ 
 come_all items [] each = λ begun. tt
 come_all items (x ∷ xs) each = λ begun. follow-append begun (items x) (flat_map items xs) (All-head (λ x. MayCome (items x)) x xs each begun) (come_all items xs (All-tail (λ x. MayCome (items x)) x xs each))
 
--- groups of at most 4,095 signatures each
-groups_follow : (k : ℕ) (sigs : List IndexedSig) → All IsIndexed sigs → MayFollow true (map (λ group. GroupItem (Held group)) (first_chunks 4095 k sigs))
-groups_follow zero sigs raw = tt
-groups_follow (suc k) sigs raw = (All-take IsIndexed 4095 sigs raw, omega (arith, length-take 4095 sigs), refl, groups_follow k (drop 4095 sigs) (All-drop IsIndexed 4095 sigs raw))
+module _ (b : Body) (has : HasEvent b.event b.bytes) (few : length b.bytes ≤ 65535) where
+  -- messages of at most 1,024 signatures each
+  messages_come : (k : ℕ) (sigs : List IndexedSig) → All IsIndexed sigs → MayCome (flat_map (message_of b.bytes) (first_chunks 1024 k sigs))
+  messages_come zero sigs raw = λ begun. tt
+  messages_come (suc k) sigs raw = λ begun. (
+    tt,
+    event_writable b.event b.bytes has,
+    few,
+    (All-take IsIndexed 1024 sigs raw, omega (arith, length-take 1024 sigs), refl, messages_come k (drop 1024 sigs) (All-drop IsIndexed 1024 sigs raw) true),
+  )
 
--- BODY: a body with its signatures may come anywhere
-pub body_comes : (b : Body) (sigs : List IndexedSig) → HasEvent b.event b.bytes → length b.bytes ≤ 65535 → All IsIndexed sigs → MayCome (items_with b sigs)
-body_comes b sigs has few raw = λ begun. (tt, event_writable b.event b.bytes has, few, groups_follow (chunk_count (length sigs) 4095) sigs raw)
+  -- BODY: a body with its signatures may come anywhere
+  pub body_comes : (sigs : List IndexedSig) → All IsIndexed sigs → MayCome (items_with b.bytes sigs)
+  body_comes [] raw = λ begun. (tt, event_writable b.event b.bytes has, few, tt)
+  body_comes (sig ∷ sigs) raw = messages_come (chunk_count (length (sig ∷ sigs)) 1024) (sig ∷ sigs) raw
 
 -- STAND: the items stand behind those before them
 written_all : (items : List Item) (bytes : List ℕ) (done : List Placed) (begun : Bool) → Stand 65535 bytes done begun (length bytes) → MayFollow begun items

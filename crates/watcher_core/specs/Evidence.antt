@@ -1,5 +1,5 @@
 -- Evidence of signed bodies of one place that differ (KERI, duplicity): the bodies themselves, with the signatures on them.
-use Rattle.std.specs.Prelude.{◌≡◌, ℕ, ◌+◌, ◌==◌, Bool, not, List, [], ◌∷◌, length, map, flat_map}
+use Rattle.std.specs.Prelude.{◌≡◌, ℕ, ◌+◌, ◌==◌, Bool, not, List, [], ◌∷◌, length, flat_map}
 use Rattle.std.specs.Simd.{first_chunks}
 use Rattle.std.specs.Slice.Iter.{chunk_count}
 use Rattle.cesr_codes.specs.declared.indexed_sig.IndexedSig.{IndexedSig}
@@ -21,17 +21,22 @@ use Rattle.validator_core.specs.View.{CoreView, base_of, told_of, accepted_by}
 abbrev pub signatures_of : CoreView → Body → List IndexedSig
 signatures_of core b = distinct same_indexed (good_sigs (told_of core) (state_before (accepted_by core) b) b)
 
--- signatures, cut from the front into groups of 4,095, the last of what is left (CESR: two digits count a group)
-abbrev pub groups_of : List IndexedSig → List (List IndexedSig)
-groups_of sigs = first_chunks 4095 (chunk_count (length sigs) 4095) sigs
+-- signatures, cut from the front into parts of 1,024, the last of what is left: a reader takes no more in one message
+abbrev pub parts_of : List IndexedSig → List (List IndexedSig)
+parts_of sigs = first_chunks 1024 (chunk_count (length sigs) 1024) sigs
 
--- a body, and behind it groups of these signatures (CESR, `-A`)
-abbrev pub items_with : Body → List IndexedSig → List Item
-items_with b sigs = BodyItem b.bytes ∷ map (λ group. GroupItem (Held group)) (groups_of sigs)
+-- a message: a body, and behind it a group of signatures (CESR, `-A`)
+abbrev pub message_of : List ℕ → List IndexedSig → List Item
+message_of bytes sigs = BodyItem bytes ∷ GroupItem (Held sigs) ∷ []
+
+-- a body with signatures: as many messages as they need, and the body alone where there are none
+abbrev pub items_with : List ℕ → List IndexedSig → List Item
+items_with bytes [] = BodyItem bytes ∷ []
+items_with bytes (sig ∷ sigs) = flat_map (message_of bytes) (parts_of (sig ∷ sigs))
 
 -- a body with its good signatures
 abbrev pub items_of : CoreView → Body → List Item
-items_of core b = items_with b (signatures_of core b)
+items_of core b = items_with b.bytes (signatures_of core b)
 
 -- the items of all bodies of some sets
 abbrev pub items_of_sets : CoreView → List (List Body) → List Item

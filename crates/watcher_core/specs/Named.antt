@@ -15,7 +15,7 @@ firsts_on core b = distinct same_indexed (good_on core b)
 
 -- the text of a body with them
 abbrev pub text_on : CoreView → Body → List ℕ
-text_on core b = flat_map item_text (items_with b (firsts_on core b))
+text_on core b = flat_map item_text (items_with b.bytes (firsts_on core b))
 
 -- the text of the bodies comes behind what was there, and the raw bytes of their signatures are bytes
 pub record PutsBodies (core : CoreView) (bodies : List Body) (old new : List ℕ) : Type 0 where

@@ -3,7 +3,7 @@ ghost use Rattle.std.specs.Prelude.{OnOk, flat_map, slice_get};
 ghost use Rattle.journal.specs.Journals.{chosen};
 ghost use Rattle.watcher_core.specs.Named.{PutsBodies, PutsBody};
 
-use crate::groups::put_groups;
+use crate::messages::put_signed;
 use crate::signatures::first_comings;
 use crate::stream_text::StreamText;
 use journal::Conflict;
@@ -52,8 +52,7 @@ fn put_body(
     let Some(bytes) = core.body(number) else {
         return Ok(());
     };
-    text.put_body(bytes)?;
     let came = core.good_signatures(number)?;
     let firsts = first_comings(alloc, came.as_slice())?;
-    put_groups(alloc, firsts.as_slice(), text)
+    put_signed(alloc, bytes, firsts.as_slice(), text)
 }

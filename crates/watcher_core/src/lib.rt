@@ -4,7 +4,7 @@
 mod bodies;
 mod evidence;
 mod evidence_fault;
-mod groups;
+mod messages;
 mod signatures;
 mod stream_text;
 mod watcher;
