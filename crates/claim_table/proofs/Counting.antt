@@ -4,7 +4,7 @@ use Rattle.std.specs.Prelude.{◌==◌}
 use Rattle.std.specs.Option.{option_map}
 use Rattle.std.proofs.Math.Bool.{and-false}
 use Rattle.claim_table.specs.declared.claimed.Parts.{Parts}
-use Rattle.claim_table.specs.declared.part.BodyPart.{BodyPart}
+use Rattle.claim_table.specs.BodyParts.{BodyPart}
 use Rattle.claim_table.specs.declared.part.Part.{Part}
 use Rattle.claim_table.specs.declared.part.Part.TheVariants.{Indexed, Revealed, Backed}
 use Rattle.claim_table.specs.Counts.{bit, is_one, same_part}

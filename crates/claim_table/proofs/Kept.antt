@@ -7,7 +7,7 @@ use Rattle.std.proofs.lemmas.List.{length-append, length-map}
 use Rattle.std.proofs.Math.Seq.{take-append_seam}
 use Rattle.claim_table.specs.declared.claim_rows.Pending.{Pending}
 use Rattle.claim_table.specs.declared.claimed.Claimed.{Claimed}
-use Rattle.claim_table.specs.declared.part.BodyPart.{BodyPart}
+use Rattle.claim_table.specs.BodyParts.{BodyPart}
 use Rattle.claim_table.specs.declared.row.Row.{Row}
 use Rattle.claim_table.specs.declared.signature.Signature.{Signature}
 use Rattle.claim_table.specs.declared.spot.Spot.{Spot}

@@ -4,6 +4,7 @@ mod Hints
 mod Kept
 mod Lists
 mod Opening
+mod Places
 mod Questions
 mod Setting
 mod Spots

@@ -9,7 +9,7 @@ use Rattle.claim_table.specs.contracts.signature.SignatureOrd.TheImpl as signatu
 use Rattle.claim_table.specs.contracts.spot.SpotOrd.TheImpl as spot_order
 use Rattle.claim_table.specs.declared.claim_rows.ClaimRows.{ClaimRows}
 use Rattle.claim_table.specs.declared.claim_rows.Pending.{Pending}
-use Rattle.claim_table.specs.declared.part.BodyPart.{BodyPart}
+use Rattle.claim_table.specs.BodyParts.{BodyPart}
 use Rattle.claim_table.specs.declared.row.Row.{Row}
 use Rattle.claim_table.specs.declared.signature.Signature.{Signature}
 use Rattle.claim_table.specs.declared.spot.Spot.{Spot}

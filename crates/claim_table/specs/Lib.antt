@@ -1,3 +1,4 @@
+pub mod BodyParts
 pub mod Rows
 pub mod Parts
 pub mod Counts

@@ -2,7 +2,7 @@
 use Rattle.std.specs.Prelude.{ℕ, Bool, false, ◌&&◌, ◌==◌, List, Option, Some, None}
 use Rattle.std.specs.List.{list_any}
 use Rattle.claim_table.specs.declared.claimed.Parts.{Parts}
-use Rattle.claim_table.specs.declared.part.BodyPart.{BodyPart}
+use Rattle.claim_table.specs.BodyParts.{BodyPart}
 use Rattle.claim_table.specs.declared.part.Part.{Part}
 use Rattle.claim_table.specs.declared.part.Part.TheVariants.{Indexed, Revealed, Backed}
 use Rattle.claim_table.specs.declared.row.Row.{Row}

@@ -7,7 +7,7 @@ ghost use Rattle.std.specs.Option.{option_flatten, option_map};
 ghost use Rattle.claim_table.specs.Counts.{amount, is_entered};
 ghost use Rattle.claim_table.specs.Keeping.{AreCounted, AreEntered, IsFirstOf, IsLeast, IsPendingBelow, IsSound, at_place, is_of_at, seen};
 ghost use Rattle.claim_table.specs.Rows.{heard, is_raised, raised, unheard, verdict_of, with_verdict, with_verdicts};
-ghost use Rattle.claim_table.specs.declared.part.BodyPart.{BodyPart};
+ghost use Rattle.claim_table.specs.BodyParts.{BodyPart};
 ghost use Rattle.claim_table.specs.declared.signature.Signature.{Signature};
 ghost use Rattle.claim_table.specs.declared.spot.Spot.{Spot};
 

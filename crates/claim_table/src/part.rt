@@ -7,10 +7,3 @@ pub(crate) enum Part {
     Revealed(u16),
     Backed(u16),
 }
-
-/// A part of a body.
-#[derive(Clone, Copy, PartialEq, Eq, PartialOrd, Ord)]
-pub(crate) struct BodyPart {
-    pub(crate) body: u32,
-    pub(crate) part: Part,
-}

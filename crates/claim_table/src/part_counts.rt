@@ -1,20 +1,23 @@
 //! How many claims with a yes bring each part of a body.
-ghost use Rattle.std.specs.Prelude.{◌≡◌, ◌+◌, ◌-◌, ◌<◌, ◌^◌, ℕ, true, OnOk, nat_lt, None};
-ghost use Rattle.claim_table.specs.Counts.{amount, bit, is_entered, is_one};
+ghost use Rattle.std.specs.Prelude.{◌≡◌, ◌+◌, ◌-◌, ◌<◌, ◌^◌, ℕ, true, OnOk, nat_lt, None, Some, length, is_some, slice_get};
+ghost use Rattle.claim_table.specs.Counts.{amount, bit, entry_at, is_entered, is_one, or_zero, part_entry, same_part};
+ghost use Rattle.claim_table.specs.declared.part.Part.{Part as PartValue};
 ghost use Rattle.claim_table.specs.Parts.{brings, supports};
-ghost use Rattle.claim_table.specs.declared.part.BodyPart.{BodyPart};
+ghost use Rattle.claim_table.specs.BodyParts.{BodyPart};
 
 use crate::claimed::Parts;
-use crate::part::{BodyPart, Part};
+use crate::part::Part;
 use crate::row::Row;
 use std::alloc::{AllocError, Global};
 use std::collections::BTreeMap;
 
-/// A count for each part that was entered. An entry stays when its count falls to 0, and does no harm. No count is greater
-/// than the number of rows, which are numbered by `u32`, so none overflows.
+/// A count for each part of a body that was entered: the bodies by their numbers, so that the parts of one are found among
+/// themselves. An entry stays when its count falls to 0, and does no harm. No count is greater than the number of rows, which
+/// are numbered by `u32`, so none overflows.
 #[derive(Drop)]
 pub(crate) struct PartCounts {
-    counts: BTreeMap<BodyPart, usize>,
+    alloc: Global,
+    counts: Vec<BTreeMap<Part, usize>>,
 }
 
 impl PartCounts {
@@ -23,7 +26,8 @@ impl PartCounts {
         ensures { (q : BodyPart) → amount result q ≡ 0 }
     {
         PartCounts {
-            counts: BTreeMap::new(alloc),
+            alloc,
+            counts: Vec::new(alloc),
         }
     }
 
@@ -31,8 +35,8 @@ impl PartCounts {
     pub(crate) fn has(&self, body: u32, part: Part) -> bool
         ensures { result ≡ nat_lt 0 (amount self.now (record { body = body; part = part })) }
     {
-        match self.counts.get(&BodyPart { body, part }) {
-            Some(count) => *count > 0,
+        match count_of(self.counts.as_slice(), body, part) {
+            Some(count) => count > 0,
             None => false,
         }
     }
@@ -43,6 +47,7 @@ impl PartCounts {
         ensures amounts { (q : BodyPart) → amount self.new q ≡ amount self.old q }
         ensures kept { (q : BodyPart) → is_entered self.old q ≡ true → is_entered self.new q ≡ true }
     {
+        self.reach(body)?;
         self.enter_one(body, parts.index.map(Part::Indexed))?;
         self.enter_one(body, parts.reveal.map(Part::Revealed))?;
         self.enter_one(body, parts.backer.map(Part::Backed))
@@ -92,16 +97,29 @@ impl PartCounts {
         }
     }
 
+    // Makes a place for a body.
+    fn reach(&mut self, body: u32) -> Result<(), AllocError>
+        ensures there { OnOk result (body < length self.new.counts.items) }
+        ensures amounts { (q : BodyPart) → amount self.new q ≡ amount self.old q }
+        ensures kept { (q : BodyPart) → is_entered self.new q ≡ is_entered self.old q }
+    {
+        for place in self.counts.len()..body as usize + 1 {
+            self.counts.push(BTreeMap::new(self.alloc))?;
+        }
+        Ok(())
+    }
+
     fn enter_one(&mut self, body: u32, part: Option<Part>) -> Result<(), AllocError>
+        requires there { body < length self.old.counts.items }
         ensures entered { OnOk result ((q : BodyPart) → is_one body part q ≡ true → is_entered self.new q ≡ true) }
         ensures amounts { (q : BodyPart) → amount self.new q ≡ amount self.old q }
         ensures kept { (q : BodyPart) → is_entered self.old q ≡ true → is_entered self.new q ≡ true }
+        ensures same { length self.new.counts.items ≡ length self.old.counts.items }
     {
         let Some(part) = part else {
             return Ok(());
         };
-        self.counts.entry(BodyPart { body, part })?.or_insert(0);
-        Ok(())
+        enter_part(&mut self.counts[body as usize], part)
     }
 
     fn count_one(&mut self, body: u32, part: Option<Part>)
@@ -113,8 +131,8 @@ impl PartCounts {
         let Some(part) = part else {
             return;
         };
-        if let Some(count) = self.counts.get_mut(&BodyPart { body, part }) {
-            *count += 1;
+        if let Some(counts) = self.counts.get_mut(body as usize) {
+            count_part(counts, part);
         }
     }
 
@@ -125,8 +143,48 @@ impl PartCounts {
         let Some(part) = part else {
             return;
         };
-        if let Some(count) = self.counts.get_mut(&BodyPart { body, part }) {
-            *count = count.saturating_sub(1);
+        if let Some(counts) = self.counts.get_mut(body as usize) {
+            uncount_part(counts, part);
         }
+    }
+}
+
+// The count of a part of a body, where there is an entry for it.
+fn count_of(counts: &[BTreeMap<Part, usize>], body: u32, part: Part) -> Option<usize>
+    ensures { result ≡ entry_at (slice_get counts.now body) part }
+{
+    let counts = counts.get(body as usize)?;
+    counts.get(&part).copied()
+}
+
+// Makes an entry for a part.
+fn enter_part(counts: &mut BTreeMap<Part, usize>, part: Part) -> Result<(), AllocError>
+    ensures entered { OnOk result ((p : PartValue) → same_part part p ≡ true → is_some (part_entry counts.new p) ≡ true) }
+    ensures amounts { (p : PartValue) → or_zero (part_entry counts.new p) ≡ or_zero (part_entry counts.old p) }
+    ensures kept { (p : PartValue) → is_some (part_entry counts.old p) ≡ true → is_some (part_entry counts.new p) ≡ true }
+{
+    counts.entry(part)?.or_insert(0);
+    Ok(())
+}
+
+// Counts a part once more.
+fn count_part(counts: &mut BTreeMap<Part, usize>, part: Part)
+    requires entered { is_some (part_entry counts.old part) ≡ true }
+    requires few { or_zero (part_entry counts.old part) < 2 ^ 64 - 1 }
+    ensures amounts { (p : PartValue) → or_zero (part_entry counts.new p) ≡ or_zero (part_entry counts.old p) + bit (same_part part p) }
+    ensures kept { (p : PartValue) → is_some (part_entry counts.new p) ≡ is_some (part_entry counts.old p) }
+{
+    if let Some(count) = counts.get_mut(&part) {
+        *count += 1;
+    }
+}
+
+// Counts a part once less.
+fn uncount_part(counts: &mut BTreeMap<Part, usize>, part: Part)
+    ensures amounts { (p : PartValue) → or_zero (part_entry counts.new p) ≡ or_zero (part_entry counts.old p) - bit (same_part part p) }
+    ensures kept { (p : PartValue) → is_some (part_entry counts.new p) ≡ is_some (part_entry counts.old p) }
+{
+    if let Some(count) = counts.get_mut(&part) {
+        *count = count.saturating_sub(1);
     }
 }

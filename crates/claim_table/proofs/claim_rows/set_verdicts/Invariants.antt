@@ -1,6 +1,6 @@
 use Rattle.std.proofs.Common.{◌≡◌, ◌<◌, ℕ, Some, slice_get}
 use Rattle.std.specs.Prelude.{slice_index_or}
-use Rattle.claim_table.specs.declared.part.BodyPart.{BodyPart}
+use Rattle.claim_table.specs.BodyParts.{BodyPart}
 use Rattle.claim_table.specs.declared.row.Row.{Row}
 use Rattle.claim_table.specs.Counts.{amount, is_entered}
 use Rattle.claim_table.specs.Keeping.{AreCounted}

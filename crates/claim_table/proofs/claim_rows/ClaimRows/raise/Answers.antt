@@ -5,7 +5,7 @@ use Rattle.std.specs.Option.{option_flatten}
 use Rattle.std.specs.BTreeSet.{contains}
 use Rattle.event_index.specs.Keys.{numbers_at}
 use Rattle.claim_table.specs.Counts.{amount, bit, is_entered}
-use Rattle.claim_table.specs.declared.part.BodyPart.{BodyPart}
+use Rattle.claim_table.specs.BodyParts.{BodyPart}
 use Rattle.claim_table.specs.declared.spot.Spot.{Spot}
 use Rattle.claim_table.specs.Parts.{supports}
 use Rattle.claim_table.specs.Rows.{is_raised, raised, signature_of, verdict_of}

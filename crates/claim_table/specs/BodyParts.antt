@@ -1,0 +1,8 @@
+-- Parts of bodies.
+use Rattle.std.specs.Prelude.{ℕ}
+use Rattle.claim_table.specs.declared.part.Part.{Part}
+
+-- a part of the body of a number
+pub record BodyPart : Type 0 where
+  pub body : ℕ
+  pub part : Part
