@@ -1,11 +1,11 @@
 -- The lists at each digest, after that of one digest was written.
-use Rattle.std.proofs.Common.{◌≡◌, ◌≢◌, ℕ, Bool, true, false, cond, sym, ap, subst, ◌∙◌, inl, inr, Some}
+use Rattle.std.proofs.Common.{◌≡◌, ◌≢◌, ◌≤◌, ℕ, Bool, true, false, cond, [], sym, ap, subst, ◌∙◌, inl, inr, Some, None, arith}
 use Rattle.std.specs.Prelude.{◌↔◌, ◌⊎◌, Contains, Option}
 use Rattle.std.proofs.lemmas.Bool.{cases_Bool}
 use Rattle.cesr_codes.specs.declared.digest.Digest.{Digest}
 use Rattle.event_index.specs.Numbers.{Numbers}
 use Rattle.event_index.specs.Keys.{numbers_in}
-use Rattle.escrow.specs.Tables.{digest_eq}
+use Rattle.escrow.specs.Tables.{digest_eq, room_in}
 use Rattle.escrow.proofs.Digests.{Decides-digest_eq}
 
 module _ (old new : Digest → Option Numbers) (key : Digest) (was is : Numbers) (got : old key ≡ Some was) (updates : (q : Digest) → new q ≡ cond (digest_eq key q) (Some is) (old q)) where
@@ -18,6 +18,18 @@ module _ (old new : Digest → Option Numbers) (key : Digest) (was is : Numbers)
     where
       no : {b : Bool} → b ≡ false → b ≡ true → ⊥
       no f t = cc (f, t)
+
+  pub same_list : is.list ≡ was.list → (d : Digest) → numbers_in (new d) ≡ numbers_in (old d)
+  same_list e d = elim (written d) [
+    | inl w ↦ ap numbers_in w.1 ∙ e ∙ sym (ap numbers_in w.2)
+    | inr w ↦ ap numbers_in w.1
+  ]
+
+  pub more_room : was.free ≤ is.free → (d : Digest) → room_in (old d) ≤ room_in (new d)
+  more_room more d = elim (written d) [
+    | inl w ↦ (let now = ap room_in w.1 in let before = ap room_in w.2 in omega (arith, more, now, before))
+    | inr w ↦ (let same = ap room_in w.1 in omega (arith, same))
+  ]
 
   module _ (digest : Option Digest) (named : digest ≡ Some key) (number : ℕ) where
     pub inserted : ((n : ℕ) → Contains is.list n ↔ ((n ≡ number) ⊎ Contains was.list n))
@@ -48,3 +60,30 @@ module _ (old new : Digest → Option Numbers) (key : Digest) (was is : Numbers)
         λ h. subst (λ o. Contains (numbers_in o) n) (sym w.1) h.1,
       )
     ]
+
+-- a list that is put in where there was none
+module _ (old new : Digest → Option Numbers) (key : Digest) (is : Numbers) (none : old key ≡ None) (updates : (q : Digest) → new q ≡ cond (digest_eq key q) (Some is) (old q)) where
+  put_in : (d : Digest) → ((new d ≡ Some is) × (old d ≡ None)) ⊎ (new d ≡ old d)
+  put_in d = elim (cases_Bool (digest_eq key d)) [
+    | inl t ↦ inl (updates d ∙ ap (λ b. cond b (Some is) (old d)) t, subst (λ q. old q ≡ None) ((Decides-digest_eq key d).0 t) none)
+    | inr f ↦ inr (updates d ∙ ap (λ b. cond b (Some is) (old d)) f)
+  ]
+
+  pub none_more : is.list ≡ [] → (d : Digest) → numbers_in (new d) ≡ numbers_in (old d)
+  none_more empty d = elim (put_in d) [
+    | inl there ↦ ap numbers_in there.0 ∙ empty ∙ sym (ap numbers_in there.1)
+    | inr same ↦ ap numbers_in same
+  ]
+
+  pub no_less_room : (d : Digest) → room_in (old d) ≤ room_in (new d)
+  no_less_room d = elim (put_in d) [
+    | inl there ↦ (let before = ap room_in there.1 in omega (arith, before))
+    | inr same ↦ (let is = ap room_in same in omega (arith, is))
+  ]
+
+-- where the list of a digest goes, the others stay
+pub others_stay : (old new : Digest → Option Numbers) (key : Digest) → ((q : Digest) → new q ≡ cond (digest_eq key q) None (old q)) → (d : Digest) → key ≢ d → new d ≡ old d
+others_stay old new key updates d other = elim (cases_Bool (digest_eq key d)) [
+  | inl t ↦ absurd (other ((Decides-digest_eq key d).0 t))
+  | inr f ↦ updates d ∙ ap (λ b. cond b None (old d)) f
+]

@@ -1,9 +1,10 @@
 -- The numbers of the events that wait, by digests.
 use Rattle.std.specs.Prelude.{◌≡◌, ℕ, ◌<◌, ◌↔◌, Bool, List, Contains, Option, Some, None}
 use Rattle.std.specs.Option.{ForSome}
-use Rattle.std.specs.declared.cmp.PartialEq as equality
-use Rattle.indexmap.specs.IndexMap.{get}
-use Rattle.cesr_codes.specs.contracts.digest.DigestPartialEq.TheImpl as digest_equality
+use Rattle.std.specs.BTreeMap.{get, is_at}
+use Rattle.std.specs.declared.cmp.Ord as ord
+use Rattle.std.specs.declared.cmp.Ordering.{Ordering}
+use Rattle.cesr_codes.specs.contracts.digest.DigestOrd.TheImpl as digest_order
 use Rattle.cesr_codes.specs.declared.digest.Digest.{Digest}
 use Rattle.event_index.specs.Keys.{numbers_in}
 use Rattle.event_index.specs.Numbers.{Numbers}
@@ -12,9 +13,13 @@ use Rattle.escrow.specs.declared.room.Room.{Room}
 use Rattle.escrow.specs.declared.waiter.Waiter.{Waiter}
 use denote.Param as param
 
--- whether two digests are equal
+-- the order of digests
+abbrev pub digest_cmp : Digest → Digest → Ordering
+digest_cmp = param.read (ord.Ghosts.cmp {X-1 = Digest}) digest_order.ghosts
+
+-- whether two digests are equal in it
 abbrev pub digest_eq : Digest → Digest → Bool
-digest_eq = param.read (equality.Ghosts.eq {X-1 = Digest}) digest_equality.ghosts
+digest_eq d e = is_at (digest_cmp d) e
 
 -- the room of an entry, and none where there is no entry
 abbrev pub room_in : Option Numbers → ℕ
@@ -23,11 +28,11 @@ room_in (Some those) = those.free
 
 -- the numbers at a digest
 abbrev pub numbers_at : DigestNumbers → Digest → List ℕ
-numbers_at table d = numbers_in (get digest_eq table.lists d)
+numbers_at table d = numbers_in (get digest_cmp table.lists d)
 
 -- how many more there is room for at a digest
 abbrev pub room_at : DigestNumbers → Digest → ℕ
-room_at table d = room_in (get digest_eq table.lists d)
+room_at table d = room_in (get digest_cmp table.lists d)
 
 -- at each digest stand the numbers of the events that have it as their key
 abbrev pub HasNumbers : (Waiter → Option Digest) → (ℕ → Option Waiter) → (Digest → List ℕ) → Type 0

@@ -7,14 +7,14 @@ ghost use Rattle.escrow.specs.Tables.{numbers_at, room_at};
 
 use cesr_codes::Digest;
 use event_index::Rising;
-use indexmap::IndexMap;
 use std::alloc::{AllocError, Global};
+use std::collections::BTreeMap;
 
 /// For a digest the numbers of events, each greater than the one before it.
 #[derive(Drop)]
 pub struct DigestNumbers {
     alloc: Global,
-    lists: IndexMap<Digest, Rising>,
+    lists: BTreeMap<Digest, Rising>,
 }
 
 impl DigestNumbers {
@@ -24,7 +24,7 @@ impl DigestNumbers {
     {
         DigestNumbers {
             alloc,
-            lists: IndexMap::new(alloc),
+            lists: BTreeMap::new(alloc),
         }
     }
 
@@ -91,7 +91,7 @@ impl DigestNumbers {
             && reserved != Some(digest)
             && self.numbers(&digest).is_empty()
         {
-            self.lists.swap_remove(&digest);
+            self.lists.remove(&digest);
         }
     }
 }
