@@ -8,19 +8,20 @@ use event_body::{Event, prefix_of, said_of_event, sn_of};
 use event_rules::prior_of;
 use journal::Claim;
 
-/// An event's identifier, number and digest, as an event seal names it (KERI).
+/// An event's identifier, number and digest, as an event seal names it (KERI). Names are ordered by their numbers first: those of
+/// one log, among which names are mostly looked for, differ there.
 #[derive(Clone, Copy, PartialEq, Eq, PartialOrd, Ord, Debug)]
 pub struct Name {
-    pub prefix: Prefix,
     pub sn: u64,
     pub said: Digest,
+    pub prefix: Prefix,
 }
 
 /// A name that the controller of an identifier sealed.
 #[derive(Clone, Copy, PartialEq, Eq, PartialOrd, Ord, Debug)]
 pub struct SealKey {
-    pub holder: Prefix,
     pub name: Name,
+    pub holder: Prefix,
 }
 
 /// A claim that came with the body of a number.
@@ -45,7 +46,7 @@ pub fn name_of(event: &Event) -> Name
 pub(crate) fn has_name(event: &Event, name: &Name) -> bool
     ensures { result ≡ same_name (names.name_of event.now) name.now }
 {
-    name_of(event) == *name
+    prefix_of(event) == name.prefix && sn_of(event) == name.sn && said_of_event(event) == name.said
 }
 
 /// The name of the event before it, where it names one.
