@@ -1,15 +1,16 @@
 -- What hints say while rows are raised, cut and heard.
 use Rattle.std.proofs.Common.{◌≡◌, ℕ, zero, suc, ◌<◌, ◌≤◌, Bool, true, false, List, [], ◌∷◌, ◌++◌, length, take, Option, Some, None, refl, sym, ◌∙◌, ap, subst, inl, inr, arith}
-use Rattle.std.specs.Prelude.{slice_get, slice_index_or, Contains}
+use Rattle.std.specs.Prelude.{slice_get, slice_index_or, Contains, min}
 use Rattle.std.specs.List.Sorted.{IsStrictlyIncreasing}
 use Rattle.std.proofs.lemmas.Map.Keys.{below_from_sorted, sorted_from_strictly_increasing}
 use Rattle.std.proofs.lemmas.Bool.{cases_Bool, cases_eq, cases_lt}
 use Rattle.std.proofs.lemmas.List.{length-take}
+use Rattle.std.proofs.lemmas.List.Elements.{Contains-append_cases}
 use Rattle.std.proofs.lemmas.Option.{slice_get_within}
 use Rattle.claim_table.specs.BodyParts.{BodyPart}
 use Rattle.claim_table.specs.declared.row.Row.{Row}
 use Rattle.claim_table.specs.declared.signature.Signature.{Signature}
-use Rattle.claim_table.specs.Keeping.{AreEntered, AreHinted, IsFirstOf, IsLeast, is_of_at}
+use Rattle.claim_table.specs.Keeping.{AreEntered, AreHinted, IsFirstOf, IsLeast, is_of_at, lesser}
 use Rattle.claim_table.specs.Parts.{brings}
 use Rattle.claim_table.specs.Rows.{is_of, is_raised, signature_of, with_verdicts}
 use Rattle.claim_table.proofs.Lists.{any_none, at_end, not_at_end, of_front}
@@ -30,6 +31,16 @@ least test numbers k rising within none m has of = elim (cases_lt has.0 k) [
     | inl same ↦ (let two : slice_index_or numbers k m ≡ m = ap (λ k. slice_index_or numbers k m) (sym same) ∙ has.2 in omega (arith, one, two))
     | inr other ↦ (let less = below_from_sorted numbers k has.0 m (sorted_from_strictly_increasing numbers rising) (omega (arith, after, other)) has.1 in omega (arith, one, less, has.2))
   ])
+]
+
+-- the least of two lists that passes is the lesser of the least of each
+pub least_of_both : (test : ℕ → Bool) (few many : List ℕ) (first second : Option ℕ) → IsLeast test few first → IsLeast test many second → IsLeast test (few ++ many) (lesser first second)
+least_of_both test few many None None a b = λ n h. elim (Contains-append_cases few many n h) [ inl f ↦ a n f | inr m ↦ b n m ]
+least_of_both test few many None (Some n) a b = (b.0, λ m h of. elim (Contains-append_cases few many m h) [ inl f ↦ (let no = a m f in cc) | inr k ↦ b.1 m k of ])
+least_of_both test few many (Some m) None a b = (a.0, λ n h of. elim (Contains-append_cases few many n h) [ inl f ↦ a.1 n f of | inr k ↦ (let no = b n k in cc) ])
+least_of_both test few many (Some m) (Some n) a b = elim (cases_lt m n) [
+  | inl lt ↦ (let is : min m n ≡ m = omega (arith, lt) in (ap test is ∙ a.0, λ k h of. elim (Contains-append_cases few many k h) [ inl f ↦ (let le = a.1 k f of in omega (arith, is, le)) | inr l ↦ (let le = b.1 k l of in omega (arith, is, lt, le)) ]))
+  | inr ge ↦ (let is : min m n ≡ n = omega (arith, ge) in (ap test is ∙ b.0, λ k h of. elim (Contains-append_cases few many k h) [ inl f ↦ (let le = a.1 k f of in omega (arith, is, ge, le)) | inr l ↦ (let le = b.1 k l of in omega (arith, is, le)) ]))
 ]
 
 -- the places of the rows of a signature are among its numbers

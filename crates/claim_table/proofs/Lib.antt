@@ -1,5 +1,6 @@
 pub mod Rows
 mod Counting
+mod Hinted
 mod Hints
 mod Kept
 mod Lists

@@ -27,12 +27,13 @@ of_body : (body : ℕ) (part : Option Part) (q : BodyPart) → is_one body part 
 of_body body None q h = cc
 of_body body (Some part) q h = let parts = and_parts (body == q.body) (same_part part q.part) h in let is = parts.0 in grind (arith, nat_tests, is)
 
-set_here : {X : Type 0} (xs : List X) (k : ℕ) (x y : X) → slice_get xs k ≡ Some x → slice_get (set xs k y) k ≡ Some y
+-- what stands at a changed place, and elsewhere
+pub set_here : {X : Type 0} (xs : List X) (k : ℕ) (x y : X) → slice_get xs k ≡ Some x → slice_get (set xs k y) k ≡ Some y
 set_here [] k x y e = cc
 set_here (z ∷ xs) zero x y e = refl
 set_here (z ∷ xs) (suc k) x y e = set_here xs k x y e
 
-set_elsewhere : {X : Type 0} (xs : List X) (k i : ℕ) (y : X) → (i ≡ k → ⊥) → slice_get (set xs k y) i ≡ slice_get xs i
+pub set_elsewhere : {X : Type 0} (xs : List X) (k i : ℕ) (y : X) → (i ≡ k → ⊥) → slice_get (set xs k y) i ≡ slice_get xs i
 set_elsewhere [] k i y h = refl
 set_elsewhere (z ∷ xs) zero zero y h = absurd (h refl)
 set_elsewhere (z ∷ xs) zero (suc i) y h = refl

@@ -1,12 +1,12 @@
 -- What the table keeps beside its rows.
-use Rattle.std.specs.Prelude.{◌≡◌, ◌<◌, ◌≤◌, ◌^◌, ℕ, zero, suc, Bool, true, false, ◌&&◌, ◌||◌, ◌==◌, not, List, [], ◌∷◌, length, take, Option, Some, None, slice_get, is_none, is_some, Contains, count_by}
+use Rattle.std.specs.Prelude.{◌≡◌, ◌<◌, ◌≤◌, ◌^◌, ℕ, zero, suc, Bool, true, false, ◌&&◌, ◌||◌, ◌==◌, not, List, [], ◌∷◌, length, take, Option, Some, None, slice_get, is_none, is_some, Contains, count_by, min}
 use Rattle.std.specs.Option.{option_map}
 use Rattle.std.specs.declared.cmp.Ordering.{Ordering}
 use Rattle.std.specs.declared.cmp.Ord as ord
 use Rattle.std.specs.BTreeSet.{contains}
-use Rattle.event_index.specs.Keys.{numbers_at}
 use Rattle.claim_table.specs.contracts.signature.SignatureOrd.TheImpl as signature_order
 use Rattle.claim_table.specs.contracts.spot.SpotOrd.TheImpl as spot_order
+use Rattle.claim_table.specs.declared.body_index.BodyIndex.{BodyIndex}
 use Rattle.claim_table.specs.declared.claim_rows.ClaimRows.{ClaimRows}
 use Rattle.claim_table.specs.declared.claim_rows.Pending.{Pending}
 use Rattle.claim_table.specs.BodyParts.{BodyPart}
@@ -14,6 +14,7 @@ use Rattle.claim_table.specs.declared.row.Row.{Row}
 use Rattle.claim_table.specs.declared.signature.Signature.{Signature}
 use Rattle.claim_table.specs.declared.spot.Spot.{Spot}
 use Rattle.claim_table.specs.Counts.{amount, is_entered}
+use Rattle.claim_table.specs.Hinted.{hints_at}
 use Rattle.claim_table.specs.Parts.{brings, supports}
 use Rattle.claim_table.specs.Rows.{DoAgree, is_of, is_raised, signature_of, verdict_of}
 use Rattle.claim_table.specs.Table.{Table}
@@ -22,6 +23,10 @@ use denote.Param as param
 -- the orders of the keys
 abbrev pub signature_cmp : Signature → Signature → Ordering
 signature_cmp = param.read (ord.Ghosts.cmp {X-1 = Signature}) signature_order.ghosts
+
+-- the numbers at a signature
+abbrev pub places_of : BodyIndex Signature → Signature → List ℕ
+places_of index s = hints_at signature_cmp index s.body s
 
 abbrev pub spot_cmp : Spot → Spot → Ordering
 spot_cmp = param.read (ord.Ghosts.cmp {X-1 = Spot}) spot_order.ghosts
@@ -86,7 +91,7 @@ pub record IsKept (rows : List Row) (pending : Option Pending) (open_spots : Spo
   pub few : length rows ≤ 2 ^ 32
 
 abbrev pub IsSound : ClaimRows → Type 0
-IsSound t = IsKept t.rows.items t.pending (contains spot_cmp t.spots) (numbers_at signature_cmp t.by_signature) (amount t.counts) (is_entered t.counts)
+IsSound t = IsKept t.rows.items t.pending (contains spot_cmp t.spots) (places_of t.by_signature) (amount t.counts) (is_entered t.counts)
 
 -- what callers see
 abbrev pub seen : ClaimRows → Table
@@ -101,6 +106,12 @@ is_of_at s (Some r) = is_of s r
 abbrev pub IsLeast : (ℕ → Bool) → List ℕ → Option ℕ → Type 0
 IsLeast test numbers None = (n : ℕ) → Contains numbers n → test n ≡ false
 IsLeast test numbers (Some n) = (test n ≡ true) × ((m : ℕ) → Contains numbers m → test m ≡ true → n ≤ m)
+
+-- the lesser of two numbers, where both are there
+abbrev pub lesser : Option ℕ → Option ℕ → Option ℕ
+lesser None second = second
+lesser (Some m) None = Some m
+lesser (Some m) (Some n) = Some (min m n)
 
 -- a list with one element changed
 abbrev pub at_place : {X : Type 0} → ℕ → (X → X) → List X → List X

@@ -3,4 +3,5 @@ pub mod Rows
 pub mod Parts
 pub mod Counts
 pub mod Table
+pub mod Hinted
 pub mod Keeping

@@ -1,22 +1,22 @@
 //! The rows, and what is kept beside them so that no call goes over all of them.
-ghost use Rattle.std.specs.Prelude.{◌≡◌, ◌-◌, ◌≤◌, ◌^◌, ◌||◌, ◌&&◌, ℕ, true, length, take, slice_get, Contains, Some, None, IfOk, OnOk, OnErr, if◌then◌else◌};
+ghost use Rattle.std.specs.Prelude.{◌≡◌, ◌+◌, ◌-◌, ◌≤◌, ◌<◌, ◌^◌, ◌||◌, ◌&&◌, ◌++◌, ℕ, true, slice_index_or, length, take, slice_get, Contains, Some, None, IfOk, OnOk, OnErr, if◌then◌else◌};
 ghost use Rattle.std.specs.BTreeMap.{is_at};
 ghost use Rattle.std.specs.BTreeSet as set;
 ghost use Rattle.std.specs.List.Sorted.{IsStrictlyIncreasing};
 ghost use Rattle.std.specs.Option.{option_flatten, option_map};
 ghost use Rattle.claim_table.specs.Counts.{amount, is_entered};
-ghost use Rattle.claim_table.specs.Keeping.{AreCounted, AreEntered, IsFirstOf, IsLeast, IsPendingBelow, IsSound, at_place, is_of_at, seen};
+ghost use Rattle.claim_table.specs.Keeping.{AreCounted, AreEntered, IsFirstOf, IsLeast, IsPendingBelow, IsSound, at_place, is_of_at, lesser, seen};
 ghost use Rattle.claim_table.specs.Rows.{heard, is_raised, raised, unheard, verdict_of, with_verdict, with_verdicts};
 ghost use Rattle.claim_table.specs.BodyParts.{BodyPart};
 ghost use Rattle.claim_table.specs.declared.signature.Signature.{Signature};
 ghost use Rattle.claim_table.specs.declared.spot.Spot.{Spot};
 
+use crate::body_index::BodyIndex;
 use crate::claimed::Claimed;
 use crate::part_counts::PartCounts;
 use crate::row::Row;
 use crate::signature::Signature;
 use crate::spot::Spot;
-use event_index::Index;
 use std::alloc::AllocError;
 use std::collections::BTreeSet;
 
@@ -36,7 +36,7 @@ pub(crate) struct ClaimRows {
     /// question is closed, so that taking its verdict back puts nothing in.
     pub(crate) spots: BTreeSet<Spot>,
     pub(crate) counts: PartCounts,
-    pub(crate) by_signature: Index<Signature>,
+    pub(crate) by_signature: BodyIndex<Signature>,
 }
 
 impl ClaimRows {
@@ -45,9 +45,10 @@ impl ClaimRows {
         requires { IsSound self.now }
         ensures { IsFirstOf self.now.rows.items signature.now result }
     {
-        first_of(
+        first_hinted(
             self.rows.as_slice(),
-            self.by_signature.numbers(signature),
+            self.by_signature.few(signature.body),
+            self.by_signature.many(signature.body, signature),
             signature,
         )
     }
@@ -77,7 +78,7 @@ impl ClaimRows {
         let verdict = self.verdict(&signature);
         self.rows.reserve(1)?;
         self.counts.enter(claimed.body, &claimed.parts)?;
-        self.by_signature.add(signature, number)?;
+        self.by_signature.add(signature.body, signature, number)?;
         let spot = Spot {
             body: claimed.body,
             row,
@@ -131,8 +132,9 @@ impl ClaimRows {
         ensures back { unheard signature.now self.new.rows.items ≡ self.old.rows.items }
         ensures sound { IsSound self.new }
     {
-        let places = self.by_signature.numbers(signature);
-        let Some(row) = first_of(self.rows.as_slice(), places, signature) else {
+        let few = self.by_signature.few(signature.body);
+        let many = self.by_signature.many(signature.body, signature);
+        let Some(row) = first_hinted(self.rows.as_slice(), few, many, signature) else {
             return;
         };
         self.pending = Some(Pending {
@@ -142,7 +144,8 @@ impl ClaimRows {
         set_verdicts(
             &mut self.rows,
             &mut self.counts,
-            places,
+            few,
+            many,
             signature,
             Some(verdict),
         );
@@ -161,7 +164,9 @@ impl ClaimRows {
         set_verdicts(
             &mut self.rows,
             &mut self.counts,
-            self.by_signature.numbers(&pending.signature),
+            self.by_signature.few(pending.signature.body),
+            self.by_signature
+                .many(pending.signature.body, &pending.signature),
             &pending.signature,
             None,
         );
@@ -235,6 +240,29 @@ fn first_of(rows: &[Row], numbers: &[u32], signature: &Signature) -> Option<u32>
     None
 }
 
+// The least of the places of rows of the signature among some numbers and others.
+fn first_hinted(rows: &[Row], few: &[u32], many: &[u32], signature: &Signature) -> Option<u32>
+    requires few { IsStrictlyIncreasing few.now }
+    requires many { IsStrictlyIncreasing many.now }
+    ensures { IsLeast (λ n. is_of_at signature.now (slice_get rows.now n)) (few.now ++ many.now) result }
+{
+    lesser(
+        first_of(rows, few, signature),
+        first_of(rows, many, signature),
+    )
+}
+
+// The lesser of two numbers, where both are there.
+fn lesser(first: Option<u32>, second: Option<u32>) -> Option<u32>
+    ensures { result ≡ lesser first second }
+{
+    match (first, second) {
+        (Some(first), Some(second)) => Some(first.min(second)),
+        (Some(first), None) => Some(first),
+        (None, second) => second,
+    }
+}
+
 // Adds the spot of a question that is new.
 fn open_new(spots: &mut BTreeSet<Spot>, spot: Spot, is_new: bool) -> Result<(), AllocError>
     ensures ok { OnOk result ((q : Spot) → set.contains ⟦<Spot as Ord>⟧.cmp spots.new q ≡ (set.contains ⟦<Spot as Ord>⟧.cmp spots.old q || (is_new && is_at (⟦<Spot as Ord>⟧.cmp spot) q))) }
@@ -250,20 +278,34 @@ fn open_new(spots: &mut BTreeSet<Spot>, spot: Spot, is_new: bool) -> Result<(), 
 fn set_verdicts(
     rows: &mut Vec<Row>,
     counts: &mut PartCounts,
-    places: &[u32],
+    few: &[u32],
+    many: &[u32],
     signature: &Signature,
     verdict: Option<bool>,
 )
     requires counted { AreCounted rows.old.items (amount counts.old) }
     requires entries { AreEntered rows.old.items (is_entered counts.old) }
     requires few { length rows.old.items ≤ 2 ^ 32 }
-    requires all { (i : ℕ) → is_of_at signature.now (slice_get rows.old.items i) ≡ true → Contains places.now i }
+    requires all { (i : ℕ) → is_of_at signature.now (slice_get rows.old.items i) ≡ true → Contains (few.now ++ many.now) i }
     ensures rows { rows.new.items ≡ with_verdicts signature.now verdict rows.old.items }
     ensures counted { AreCounted rows.new.items (amount counts.new) }
     ensures entries { (q : BodyPart) → is_entered counts.new q ≡ is_entered counts.old q }
 {
-    for place in places {
-        set_verdict(rows, counts, *place, signature, verdict);
+    for k in 0..few.len() + many.len() {
+        let place = place_at(few, many, k);
+        set_verdict(rows, counts, place, signature, verdict);
+    }
+}
+
+// The place of a number in the one list and the other behind it.
+fn place_at(few: &[u32], many: &[u32], k: usize) -> u32
+    requires { k < length few.now + length many.now }
+    ensures { result ≡ slice_index_or (few.now ++ many.now) k 0 }
+{
+    if k < few.len() {
+        few[k]
+    } else {
+        many[k - few.len()]
     }
 }
 

@@ -8,6 +8,7 @@ ghost use Rattle.claim_table.specs.Table.{AreBelow, KeepsPending, nothing};
 ghost use Rattle.claim_table.specs.declared.part.Part.TheVariants.{Indexed, Revealed, Backed};
 ghost use Rattle.claim_table.specs.declared.signature.Signature.{Signature};
 
+use crate::body_index::BodyIndex;
 use crate::claim_rows::ClaimRows;
 use crate::claimed::Claimed;
 use crate::part::Part;
@@ -16,7 +17,6 @@ use crate::row::Row;
 use crate::signature::Signature;
 use crate::spot::Spot;
 use cesr_codes::Key;
-use event_index::Index;
 use std::alloc::{AllocError, Global};
 use std::collections::BTreeSet;
 use std::marker::Model;
@@ -54,7 +54,7 @@ impl ClaimTable {
                 pending: None,
                 spots: BTreeSet::new(alloc),
                 counts: PartCounts::new(alloc),
-                by_signature: Index::new(alloc),
+                by_signature: BodyIndex::new(alloc),
             },
         }
     }

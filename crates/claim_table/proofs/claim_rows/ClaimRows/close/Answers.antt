@@ -1,13 +1,12 @@
 use Rattle.std.proofs.Common.{sym, subst, ◌∙◌}
 use Rattle.std.specs.BTreeSet.{contains}
-use Rattle.event_index.specs.Keys.{numbers_at}
 use Rattle.claim_table.specs.Counts.{amount, is_entered}
-use Rattle.claim_table.specs.Keeping.{IsKept, signature_cmp, spot_cmp}
+use Rattle.claim_table.specs.Keeping.{IsKept, places_of, spot_cmp}
 use Rattle.claim_table.proofs.Kept.{kept_closed}
 use Rattle.claim_table.proofs.claim_rows.ClaimRows.close.Goals as goal
 
 pub returns-clause-sound : goal.returns-clause-sound
 returns-clause-sound c =
     let t = c.args.self.now in
-    let kept = subst (λ pending. IsKept t.rows.items pending (contains spot_cmp t.spots) (numbers_at signature_cmp t.by_signature) (amount t.counts) (is_entered t.counts)) (sym c.take.ensures.value ∙ c.in-Some.is) c.requires in
+    let kept = subst (λ pending. IsKept t.rows.items pending (contains spot_cmp t.spots) (places_of t.by_signature) (amount t.counts) (is_entered t.counts)) (sym c.take.ensures.value ∙ c.in-Some.is) c.requires in
     rw c.take.ensures.after (kept_closed _ _ _ _ c.in-Some.pending (contains spot_cmp t.spots) (contains spot_cmp c.remove.new.self) c.remove.ensures.updates.0 kept)

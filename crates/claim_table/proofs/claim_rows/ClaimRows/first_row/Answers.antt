@@ -1,8 +1,7 @@
-use Rattle.event_index.specs.Keys.{numbers_at}
-use Rattle.claim_table.specs.Keeping.{signature_cmp}
+use Rattle.claim_table.specs.Keeping.{places_of}
 use Rattle.claim_table.proofs.Hints.{found_first}
 use Rattle.claim_table.proofs.claim_rows.ClaimRows.first_row.Goals as goal
 
 pub returns : goal.returns
-returns c = found_first c.args.self.now.rows.items (numbers_at signature_cmp c.args.self.now.by_signature) c.args.signature.now c.first_of.result c.requires.hinted
-    (rw (c.as_slice.ensures.value, c.numbers.ensures.those) at c.first_of.ensures)
+returns c = found_first c.args.self.now.rows.items (places_of c.args.self.now.by_signature) c.args.signature.now c.first_hinted.result c.requires.hinted
+    (rw (c.as_slice.ensures.value, c.few.ensures.those, c.many.ensures.those) at c.first_hinted.ensures)

@@ -1,9 +1,7 @@
-use Rattle.std.proofs.Common.{◌≡◌, ℕ, true, List, Option, Some, None, rules, sym, subst, ◌∙◌, ap}
-use Rattle.std.specs.Prelude.{Contains}
+use Rattle.std.proofs.Common.{◌≡◌, ℕ, true, List, Option, Some, None, rules, subst, ◌∙◌, ap}
 use Rattle.std.specs.BTreeSet.{contains}
-use Rattle.event_index.specs.Keys.{numbers_at}
 use Rattle.claim_table.specs.Counts.{amount, is_entered}
-use Rattle.claim_table.specs.Keeping.{IsFirstOf, IsKept, signature_cmp, spot_cmp}
+use Rattle.claim_table.specs.Keeping.{IsFirstOf, IsKept, places_of, spot_cmp}
 use Rattle.claim_table.specs.Rows.{is_raised, unheard}
 use Rattle.claim_table.specs.declared.row.Row.{Row}
 use Rattle.claim_table.specs.declared.signature.Signature.{Signature}
@@ -14,7 +12,7 @@ use Rattle.claim_table.proofs.claim_rows.ClaimRows.hear.Goals as goal
 
 pub set_verdicts-requires-clause-all : goal.set_verdicts-requires-clause-all
 set_verdicts-requires-clause-all c = λ i of.
-    subst (λ numbers. Contains numbers i) (sym c.numbers-places.ensures.those) (all_hinted c.args.self.now.rows.items (numbers_at signature_cmp c.args.self.now.by_signature) c.args.signature.now c.requires.sound.hinted i of)
+    rw (c.few-few.ensures.those, c.many-many.ensures.those) (all_hinted c.args.self.now.rows.items (places_of c.args.self.now.by_signature) c.args.signature.now c.requires.sound.hinted i of)
 
 pub returns-clause-back : goal.returns-clause-back
 returns-clause-back c =
@@ -24,8 +22,8 @@ returns-clause-back c =
 pub returns-clause-sound : goal.returns-clause-sound
 returns-clause-sound c =
     let t = c.args.self.now in
-    let kept = subst (λ pending. IsKept t.rows.items pending (contains spot_cmp t.spots) (numbers_at signature_cmp t.by_signature) (amount t.counts) (is_entered t.counts)) c.requires.idle c.requires.sound in
-    let first = found_first t.rows.items (numbers_at signature_cmp t.by_signature) c.args.signature.now c.first_of.result c.requires.sound.hinted (rw (c.as_slice.ensures.value, c.numbers-places.ensures.those) at c.first_of.ensures) in
+    let kept = subst (λ pending. IsKept t.rows.items pending (contains spot_cmp t.spots) (places_of t.by_signature) (amount t.counts) (is_entered t.counts)) c.requires.idle c.requires.sound in
+    let first = found_first t.rows.items (places_of t.by_signature) c.args.signature.now c.first_hinted.result c.requires.sound.hinted (rw (c.as_slice.ensures.value, c.few-few.ensures.those, c.many-many.ensures.those) at c.first_hinted.ensures) in
     kept_heard _ _ _ _ (record { signature = c.args.signature.now; row = c.in-Some.row }) c.args.verdict (contains spot_cmp t.spots) _ _ (is_entered c.set_verdicts.new.counts)
     c.set_verdicts.ensures.rows c.set_verdicts.ensures.counted c.set_verdicts.ensures.entries (subst (IsFirstOf t.rows.items c.args.signature.now) c.in-Some.is first) c.requires.open_still kept
 
@@ -37,11 +35,11 @@ not_none rows s (Some i) first h is = cc
 pub returns-in_default-clause-seen : goal.returns-in_default-clause-seen
 returns-in_default-clause-seen c =
     let t = c.args.self.now in
-    let first = found_first t.rows.items (numbers_at signature_cmp t.by_signature) c.args.signature.now c.first_of.result c.requires.sound.hinted (rw (c.as_slice.ensures.value, c.numbers-places.ensures.those) at c.first_of.ensures) in
-    absurd (not_none t.rows.items c.args.signature.now c.first_of.result first c.requires.raised (search (rules, c)))
+    let first = found_first t.rows.items (places_of t.by_signature) c.args.signature.now c.first_hinted.result c.requires.sound.hinted (rw (c.as_slice.ensures.value, c.few-few.ensures.those, c.many-many.ensures.those) at c.first_hinted.ensures) in
+    absurd (not_none t.rows.items c.args.signature.now c.first_hinted.result first c.requires.raised (search (rules, c)))
 
 pub returns-in_default-clause-back : goal.returns-in_default-clause-back
 returns-in_default-clause-back c =
     let t = c.args.self.now in
-    let first = found_first t.rows.items (numbers_at signature_cmp t.by_signature) c.args.signature.now c.first_of.result c.requires.sound.hinted (rw (c.as_slice.ensures.value, c.numbers-places.ensures.those) at c.first_of.ensures) in
-    absurd (not_none t.rows.items c.args.signature.now c.first_of.result first c.requires.raised (search (rules, c)))
+    let first = found_first t.rows.items (places_of t.by_signature) c.args.signature.now c.first_hinted.result c.requires.sound.hinted (rw (c.as_slice.ensures.value, c.few-few.ensures.those, c.many-many.ensures.those) at c.first_hinted.ensures) in
+    absurd (not_none t.rows.items c.args.signature.now c.first_hinted.result first c.requires.raised (search (rules, c)))

@@ -1,19 +1,17 @@
 use Rattle.std.proofs.Common.{sym, subst, ◌∙◌}
-use Rattle.std.specs.Prelude.{Contains}
 use Rattle.std.specs.BTreeSet.{contains}
-use Rattle.event_index.specs.Keys.{numbers_at}
 use Rattle.claim_table.specs.Counts.{amount, is_entered}
-use Rattle.claim_table.specs.Keeping.{IsKept, signature_cmp, spot_cmp}
+use Rattle.claim_table.specs.Keeping.{IsKept, places_of, spot_cmp}
 use Rattle.claim_table.proofs.Hints.{all_hinted}
 use Rattle.claim_table.proofs.Kept.{kept_unheard}
 use Rattle.claim_table.proofs.claim_rows.ClaimRows.unhear.Goals as goal
 
 pub set_verdicts-requires-clause-all : goal.set_verdicts-requires-clause-all
 set_verdicts-requires-clause-all c = λ i of.
-    subst (λ numbers. Contains numbers i) (sym c.numbers.ensures.those) (all_hinted c.args.self.now.rows.items (numbers_at signature_cmp c.args.self.now.by_signature) c.in-Some.pending.signature c.requires.hinted i of)
+    rw (c.few.ensures.those, c.many.ensures.those) (all_hinted c.args.self.now.rows.items (places_of c.args.self.now.by_signature) c.in-Some.pending.signature c.requires.hinted i of)
 
 pub returns-clause-sound : goal.returns-clause-sound
 returns-clause-sound c =
     let t = c.args.self.now in
-    let kept = subst (λ pending. IsKept t.rows.items pending (contains spot_cmp t.spots) (numbers_at signature_cmp t.by_signature) (amount t.counts) (is_entered t.counts)) (sym c.take.ensures.value ∙ c.in-Some.is) c.requires in
+    let kept = subst (λ pending. IsKept t.rows.items pending (contains spot_cmp t.spots) (places_of t.by_signature) (amount t.counts) (is_entered t.counts)) (sym c.take.ensures.value ∙ c.in-Some.is) c.requires in
     rw c.take.ensures.after (kept_unheard _ _ _ _ c.in-Some.pending (contains spot_cmp t.spots) _ _ (is_entered c.set_verdicts.new.counts) c.set_verdicts.ensures.rows c.set_verdicts.ensures.counted c.set_verdicts.ensures.entries kept)
