@@ -1,5 +1,7 @@
 -- What is wanting by the parts of an event is what is wanting by what was told.
-use Rattle.std.proofs.Common.{◌≡◌, Bool, true, false, not, ◌&&◌, ◌||◌, List, [], ◌∷◌, Option, is_none, refl, sym, ◌∙◌, ap}
+use Rattle.std.proofs.Common.{◌≡◌, Bool, true, false, not, ◌&&◌, ◌||◌, List, [], ◌∷◌, Option, is_none, refl, sym, ◌∙◌, ap, inl, inr}
+use Rattle.std.proofs.Math.Bool.{and-false, and-true}
+use Rattle.std.proofs.lemmas.Bool.{cases_Bool}
 use Rattle.event_body.specs.Events.{prefix_of, is_rotation}
 use Rattle.key_state.specs.Exposure.{own_rules}
 use Rattle.key_state.specs.KeyStates.{first_true}
@@ -56,3 +58,10 @@ module _ (mode : Mode) (told : List Told) (log : List Body) (b : Body) where
 
   pub not_taken : (s : Option State) → s ≡ state log (prefix_of b.event) → takes s b.event ≡ false → is_ready mode told log b ≡ false
   not_taken s current other = untaken mode told log b (ap (λ o. takes o b.event) (sym current) ∙ other)
+
+  -- what the current state takes is ready where it waits and nothing is wanting
+  pub ready_is : (s : Option State) → s ≡ state log (prefix_of b.event) → takes s b.event ≡ true → is_ready mode told log b ≡ (is_none (wants mode told log s b) && is_waiting log b)
+  ready_is s current taken = elim (cases_Bool (is_waiting log b)) [
+    | inl waits ↦ ready_wants s current waits taken ∙ sym (and-true (is_none (wants mode told log s b))) ∙ ap (λ t. is_none (wants mode told log s b) && t) (sym waits)
+    | inr not ↦ not_waiting not ∙ sym (and-false (is_none (wants mode told log s b))) ∙ ap (λ t. is_none (wants mode told log s b) && t) (sym not)
+  ]

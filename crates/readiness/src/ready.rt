@@ -20,9 +20,13 @@ pub fn is_ready(tables: &Tables, mode: Mode, number: u32) -> bool
     let Some(event) = event_of(tables, number) else {
         return false;
     };
-    if !is_waiting(tables, number, event) {
+    let state = state_of(tables, event);
+    if !takes(state, event) {
         return false;
     }
-    let state = state_of(tables, event);
-    takes(state, event) && wanting(tables, mode, number, state, event).is_none()
+    // Mostly a signature or a receipt is wanting: whether the event is accepted already is asked last.
+    if wanting(tables, mode, number, state, event).is_some() {
+        return false;
+    }
+    is_waiting(tables, number, event)
 }
