@@ -17,7 +17,7 @@ use event_body::Event;
 use journal::{Claim, Reply};
 use json_tree::Text;
 use keri_outside::Steps;
-use lists::{CopyValue, Items};
+use lists::{Items, copy_items};
 use std::alloc::AllocError;
 
 impl EventCore {
@@ -93,7 +93,7 @@ impl EventCore {
         if self.tally.lacks_room(self.limits, bytes, count) {
             return Ok(Reply::Full);
         }
-        let text = body.copy(self.alloc)?;
+        let text = copy_items(body, self.alloc)?;
         add_new(
             self.alloc,
             &mut self.tables,
