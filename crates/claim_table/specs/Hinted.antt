@@ -4,6 +4,7 @@ use Rattle.std.specs.declared.cmp.Ordering.{Ordering}
 use Rattle.event_index.specs.Keys.{numbers_at, numbers_in}
 use Rattle.event_index.specs.Numbers.{Numbers}
 use Rattle.claim_table.specs.declared.body_index.BodyIndex.{BodyIndex}
+use Rattle.claim_table.specs.declared.body_numbers.BodyNumbers.{BodyNumbers}
 
 -- the numbers of a body, and none where there is no place for it
 abbrev pub few_in : List Numbers → ℕ → List ℕ
@@ -13,15 +14,15 @@ few_in lists body = numbers_in (slice_get lists body)
 abbrev pub shown : List ℕ → List ℕ → List ℕ
 shown few many = if nat_lt (length few) 8 then [] else many
 
-module _ {K : Type 0} where
-  -- the numbers at each key of a body
-  abbrev pub few_at : BodyIndex K → ℕ → List ℕ
-  few_at index body = few_in index.few.items body
+-- the numbers of a body
+abbrev pub few_at : BodyNumbers → ℕ → List ℕ
+few_at table body = few_in table.few.items body
 
+module _ {K : Type 0} where
   -- further numbers at one key
   abbrev pub many_at : (K → K → Ordering) → BodyIndex K → ℕ → K → List ℕ
-  many_at cmp index body q = shown (few_at index body) (numbers_at cmp index.many q)
+  many_at cmp index body q = shown (few_at index.few body) (numbers_at cmp index.many q)
 
   -- all numbers at a key
   abbrev pub hints_at : (K → K → Ordering) → BodyIndex K → ℕ → K → List ℕ
-  hints_at cmp index body q = few_at index body ++ many_at cmp index body q
+  hints_at cmp index body q = few_at index.few body ++ many_at cmp index body q

@@ -2,6 +2,7 @@
 #![tactic(auto)]
 
 mod body_index;
+mod body_numbers;
 mod claim_rows;
 mod claim_table;
 mod claimed;
@@ -11,6 +12,7 @@ mod row;
 mod signature;
 mod spot;
 
+pub use body_numbers::{BodyNumbers, FEW};
 pub use claim_table::ClaimTable;
 pub use claimed::{Claimed, Parts};
 pub use row::Row;

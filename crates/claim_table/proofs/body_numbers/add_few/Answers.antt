@@ -4,7 +4,7 @@ use Rattle.std.proofs.lemmas.Option.{slice_get_read}
 use Rattle.event_index.specs.Keys.{numbers_in}
 use Rattle.claim_table.proofs.Hinted.{few_changed}
 use Rattle.claim_table.proofs.Places.{set_here}
-use Rattle.claim_table.proofs.body_index.add_few.Goals as goal
+use Rattle.claim_table.proofs.body_numbers.add_few.Goals as goal
 
 pub returns-clause-added : goal.returns-clause-added
 returns-clause-added c =
