@@ -1,10 +1,10 @@
 -- Numbers that are added to a hint one after the other.
-use Rattle.std.proofs.Common.{◌≡◌, ℕ, ◌+◌, ◌<◌, List, [], ◌∷◌, length, take, subst, inl, inr, get_or}
+use Rattle.std.proofs.Common.{◌≡◌, ℕ, ◌+◌, ◌<◌, List, [], ◌∷◌, ◌++◌, length, take, subst, inl, inr, get_or}
 use Rattle.std.specs.Prelude.{Contains}
 use Rattle.std.specs.Prelude.{Result, Ok, Err}
 use Rattle.std.specs.Result.{OnOk}
 use Rattle.std.proofs.lemmas.List.{take_more}
-use Rattle.std.proofs.lemmas.List.Elements.{Contains-append_cases}
+use Rattle.std.proofs.lemmas.List.Elements.{Contains-append_cases, Contains-append_left, Contains-append_right}
 use Rattle.event_index.proofs.Orders.{Contains-one}
 use Rattle.core_tables.specs.Hints.{KeepsBelow}
 
@@ -24,3 +24,14 @@ added_more key xs i x old new number is low before level added y has =
 pub on_ok : {T E : Type 0} {P : Type 0} (r : Result T E) → P → OnOk r P
 on_ok (Ok x) p = p
 on_ok (Err e) p = tt
+
+pub under_ok : {T E P Q : Type 0} (r : Result T E) → OnOk r P → (P → Q) → OnOk r Q
+under_ok (Ok x) p f = f p
+under_ok (Err e) p f = p
+
+-- what stays in each of two lists stays in both together
+pub hinted_still : (few now many more : List ℕ) (n : ℕ) → (Contains few n → Contains now n) → (Contains many n → Contains more n) → Contains (few ++ many) n → Contains (now ++ more) n
+hinted_still few now many more n one two h = elim (Contains-append_cases few many n h) [
+  | inl among ↦ Contains-append_left now more n (one among)
+  | inr keyed ↦ Contains-append_right now more n (two keyed)
+]

@@ -63,9 +63,9 @@ module _ {held : List Body} {entries : List Entry} {ns : List ℕ} {settled : �
         | inr more ↦ more
       ]
 
-  pub come_found : (n : ℕ) (c : Claim) (those : List Entry) (at : List ℕ) → those ≡ entries → at ≡ came (claim_key n c) → IsStrictlyIncreasing at
+  pub come_found : (n : ℕ) (c : Claim) (those : List Entry) (at : List ℕ) → those ≡ entries → at ≡ came (claim_key n c)
       → list_any (λ i. has_claim n c (slice_get those i)) at ≡ list_any (same_claim c) (came_with n entries)
-  come_found n c those at entries_are at_is rising = rw (at_is, entries_are) (come_is h events same n c (subst IsStrictlyIncreasing at_is rising))
+  come_found n c those at entries_are at_is = rw (at_is, entries_are) (come_is h events same n c)
 
   pub predecessor_found : (bytes : List ℕ) (e : Event) (name : Name) → prior_name e ≡ Some name → (sn_of e ≡ 0 → ⊥) → (these : List Event) (those at : List ℕ) → these ≡ events → those ≡ ns → at ≡ places name → IsStrictlyIncreasing at
       → find (λ i. is_named name (event_there these (slice_get those i))) at ≡ position (precedes (body_of bytes e)) (chosen held ns)

@@ -1,6 +1,6 @@
 -- What is found among the numbers of a hint is what is found in the list.
 use Rattle.std.proofs.Common.{◌≡◌, ℕ, ◌+◌, suc, Bool, true, false, List, [], ◌∷◌, length, refl, sym, ◌∙◌, ap, inl, inr, arith, Option, Some, None}
-use Rattle.std.specs.Prelude.{filter, find, position, slice_get}
+use Rattle.std.specs.Prelude.{Contains, filter, find, position, slice_get}
 use Rattle.std.specs.List.{list_any, position_from, range_with_len}
 use Rattle.std.specs.Option.{option_map_or}
 use Rattle.std.proofs.lemmas.Bool.{cases_Bool}
@@ -43,23 +43,27 @@ found_passes test (y ∷ xs) x e = elim (cases_Bool (test y)) [
   | inr k ↦ (let more = rw k at e in found_passes test xs x more)
 ]
 
+-- some number is that of a row that is meant where there is such a row
+pub any_among : {X : Type 0} (test : X → Bool) (rows : List X) (numbers : List ℕ) → ((i : ℕ) (row : X) → slice_get rows i ≡ Some row → test row ≡ true → Contains numbers i)
+    → list_any (is_row test rows) numbers ≡ list_any test rows
+any_among test rows numbers each = elim (cases_Bool (list_any test rows)) [
+  | inl k ↦ (let at = found_at test rows k in
+      let there : is_row test rows at.0 ≡ true = ap (λ o. option_map_or test o false) at.2 ∙ at.3 in
+      member_any (is_row test rows) numbers at.0 (each at.0 at.1 at.2 at.3) there ∙ sym k)
+  | inr k ↦ elim (cases_Bool (list_any (is_row test rows) numbers)) [
+    | inl passes ↦ (let at = found_at (is_row test rows) numbers passes in let row = row_there test (slice_get rows at.1) at.3 in
+        let no = any_at test rows at.1 row.0 row.1 row.2 in cc)
+    | inr fails ↦ fails ∙ sym k
+  ]
+]
+
 module _ {X : Type 0} (test : X → Bool) (rows : List X) (numbers : List ℕ) (has : HasRows test rows numbers) where
   -- the first number of a row that is meant is its place
   pub find_place : find (is_row test rows) numbers ≡ position test rows
   find_place = find-numbers test rows numbers has ∙ first_place test rows
 
-  -- some number is that of a row that is meant where there is such a row
   pub any_place : list_any (is_row test rows) numbers ≡ list_any test rows
-  any_place = elim (cases_Bool (list_any test rows)) [
-    | inl k ↦ (let at = found_at test rows k in
-        let there : is_row test rows at.0 ≡ true = ap (λ o. option_map_or test o false) at.2 ∙ at.3 in
-        member_any (is_row test rows) numbers at.0 (has.each at.0 at.1 at.2 at.3) there ∙ sym k)
-    | inr k ↦ elim (cases_Bool (list_any (is_row test rows) numbers)) [
-      | inl passes ↦ (let at = found_at (is_row test rows) numbers passes in let row = row_there test (slice_get rows at.1) at.3 in
-          let no = any_at test rows at.1 row.0 row.1 row.2 in cc)
-      | inr fails ↦ fails ∙ sym k
-    ]
-  ]
+  any_place = any_among test rows numbers has.each
 
   -- a number that is found is that of a row that is meant
   pub found_row : (n : ℕ) → find (is_row test rows) numbers ≡ Some n → (x : X) × (slice_get rows n ≡ Some x) × (test x ≡ true)

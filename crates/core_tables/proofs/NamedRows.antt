@@ -35,7 +35,7 @@ use Rattle.core_tables.specs.Hints.{AreHinted}
 use Rattle.core_tables.specs.Names.{claim_key, name_of, seal_key}
 use Rattle.core_tables.specs.Rows.{event_there, has_claim, is_named, is_number, is_seal_of, same_name}
 use Rattle.core_tables.specs.View.{came_by, came_with}
-use Rattle.core_tables.proofs.ListedNumbers.{any_place, find_place}
+use Rattle.core_tables.proofs.ListedNumbers.{any_among, any_place, find_place}
 use Rattle.core_tables.proofs.Rows.{contained, not_some}
 
 -- the body of a number, where there is a number
@@ -150,13 +150,10 @@ module _ {held : List Body} {entries : List Entry} {ns : List ℕ} {settled : �
       each None = refl
       each (Some m) = refl
 
-  pub come_is : (n : ℕ) (c : Claim) → IsStrictlyIncreasing (came (claim_key n c)) → list_any (λ i. has_claim n c (slice_get entries i)) (came (claim_key n c)) ≡ list_any (same_claim c) (came_with n entries)
-  come_is n c rising =
+  pub come_is : (n : ℕ) (c : Claim) → list_any (λ i. has_claim n c (slice_get entries i)) (came (claim_key n c)) ≡ list_any (same_claim c) (came_with n entries)
+  come_is n c =
       ap (λ q. list_any q (came (claim_key n c))) (λ k i. each (slice_get entries i) k)
-      ∙ any_place (λ e. list_any (same_claim c) (came_by n e)) entries (came (claim_key n c)) (record {
-        rising = rising;
-        each = λ i e at t. known i e at t;
-      })
+      ∙ any_among (λ e. list_any (same_claim c) (came_by n e)) entries (came (claim_key n c)) known
       ∙ sym (any_flat (same_claim c) (came_by n) entries)
     where
       each : (o : Option Entry) → has_claim n c o ≡ option_map_or (λ e. list_any (same_claim c) (came_by n e)) o false

@@ -4,3 +4,4 @@ pub mod Hints
 pub mod Rows
 pub mod Raised
 pub mod Inside
+pub mod Came

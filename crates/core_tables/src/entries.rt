@@ -7,12 +7,14 @@ ghost use Rattle.journal.specs.Replies.{same_claim};
 ghost use Rattle.journal.specs.declared.body.Body.{Body};
 ghost use Rattle.journal.specs.declared.claim.Claim.{Claim as ClaimValue};
 ghost use Rattle.journal.specs.declared.entry.Entry.TheVariants.{Took, Heard};
+ghost use Rattle.core_tables.specs.Came.{came_at};
 ghost use Rattle.core_tables.specs.Hints.{KeepsBelow};
 ghost use Rattle.core_tables.specs.Names.{claim_key, name_of as name_of_event};
 ghost use Rattle.core_tables.specs.Rows.{has_claim};
 ghost use Rattle.core_tables.specs.View.{came_with};
 
 use crate::Tables;
+use crate::came::Came;
 use crate::name::{ClaimKey, Name, name_of};
 use event_body::Event;
 use event_index::Index;
@@ -37,9 +39,10 @@ impl Tables {
             body,
             claim: *claim,
         };
-        came_by_some(
+        came_by_either(
             self.journal.entries.as_slice(),
-            self.came.numbers(&key),
+            self.came.few(body),
+            self.came.many(&key),
             body,
             claim,
         )
@@ -94,6 +97,13 @@ impl Tables {
     }
 }
 
+// Whether the claim came with the body of a number by one of these entries or those.
+fn came_by_either(entries: &[Entry], few: &[u32], many: &[u32], body: u32, claim: &Claim) -> bool
+    ensures { result ≡ list_any (λ i. has_claim body claim.now (slice_get entries.now i)) (few.now ++ many.now) }
+{
+    came_by_some(entries, few, body, claim) || came_by_some(entries, many, body, claim)
+}
+
 // Whether the claim came with the body of a number by one of these entries.
 fn came_by_some(entries: &[Entry], numbers: &[u32], body: u32, claim: &Claim) -> bool
     ensures { result ≡ list_any (λ i. has_claim body claim.now (slice_get entries.now i)) numbers.now }
@@ -126,40 +136,20 @@ fn is_came_by(entry: &Entry, sought: u32, claim: &Claim) -> bool
 // Adds the number of the entry that comes behind so many, under the name of its body's event and under each of its claims.
 fn note_took(
     told: &mut Index<Name>,
-    came: &mut Index<ClaimKey>,
+    came: &mut Came,
     event: &Event,
     body: u32,
     claims: &[Claim],
     count: usize,
 ) -> Result<(), AllocError>
     ensures told { OnOk result (Contains (numbers_at ⟦<Name as Ord>⟧.cmp told.new (name_of_event event.now)) count) }
-    ensures came { OnOk result ((c : ClaimValue) → Contains claims.now c → Contains (numbers_at ⟦<ClaimKey as Ord>⟧.cmp came.new (claim_key body c)) count) }
+    ensures came { OnOk result ((c : ClaimValue) → Contains claims.now c → Contains (came_at came.new (claim_key body c)) count) }
     ensures kept_told { KeepsBelow count (numbers_at ⟦<Name as Ord>⟧.cmp told.old) (numbers_at ⟦<Name as Ord>⟧.cmp told.new) }
-    ensures kept_came { KeepsBelow count (numbers_at ⟦<ClaimKey as Ord>⟧.cmp came.old) (numbers_at ⟦<ClaimKey as Ord>⟧.cmp came.new) }
+    ensures kept_came { KeepsBelow count (came_at came.old) (came_at came.new) }
 {
     let number = number_from(count)?;
     told.add(name_of(event), number)?;
-    note_claims(came, body, claims, number)
-}
-
-// Adds the number of an entry under each of its claims.
-fn note_claims(
-    came: &mut Index<ClaimKey>,
-    body: u32,
-    claims: &[Claim],
-    number: u32,
-) -> Result<(), AllocError>
-    ensures added { OnOk result ((c : ClaimValue) → Contains claims.now c → Contains (numbers_at ⟦<ClaimKey as Ord>⟧.cmp came.new (claim_key body c)) number) }
-    ensures kept { KeepsBelow number (numbers_at ⟦<ClaimKey as Ord>⟧.cmp came.old) (numbers_at ⟦<ClaimKey as Ord>⟧.cmp came.new) }
-{
-    for claim in claims {
-        let key = ClaimKey {
-            body,
-            claim: *claim,
-        };
-        came.add(key, number)?;
-    }
-    Ok(())
+    came.add(body, claims, number)
 }
 
 /// A length as a number. More rows than numbers are more than memory holds.

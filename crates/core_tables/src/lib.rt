@@ -2,6 +2,7 @@
 #![tactic(auto)]
 
 mod bodies;
+mod came;
 mod claims;
 mod entries;
 mod held;

@@ -4,7 +4,8 @@ ghost use Rattle.std.specs.Option.{option_copied, option_map};
 ghost use Rattle.core_tables.specs.Hints.{IsEscrow};
 ghost use Rattle.core_tables.specs.View.{nothing};
 
-use crate::name::{ClaimKey, Name, SealKey};
+use crate::came::Came;
+use crate::name::{Name, SealKey};
 use accepted_log::AcceptedLog;
 use claim_table::ClaimTable;
 use escrow::Waiting;
@@ -34,7 +35,7 @@ pub struct Tables {
     /// The numbers of the entries by which bodies with a name came.
     pub(crate) told: Index<Name>,
     /// The numbers of the entries by which a claim came with a body.
-    pub(crate) came: Index<ClaimKey>,
+    pub(crate) came: Came,
     /// The places in the log of the events with a name.
     pub(crate) accepted: Index<Name>,
     /// The places in the log of the events that seal a name.
@@ -50,6 +51,7 @@ impl Model for Tables {
 
     ghost coded = { Prim.hlevel (codes, tree.the_row.coded) };
 
+    ghost use Rattle.core_tables.specs.Came.{came_at};
     ghost use Rattle.core_tables.specs.Hints.{AreHinted, IsPending};
     ghost use Rattle.core_tables.specs.Inside.{are_paired, held_in, view_of};
     ghost use Rattle.event_index.specs.Keys.{numbers_at};
@@ -59,7 +61,7 @@ impl Model for Tables {
     ghost invariant = { λ t. are_paired t × IsPending t.claims
         × AreHinted (held_in t) t.journal.entries t.log.numbers t.settled t.waiting
         (numbers_at ⟦<Name as Ord>⟧.cmp t.names) (numbers_at ⟦<Name as Ord>⟧.cmp t.told) (numbers_at ⟦<Name as Ord>⟧.cmp t.accepted)
-        (numbers_at ⟦<ClaimKey as Ord>⟧.cmp t.came) (numbers_at ⟦<SealKey as Ord>⟧.cmp t.seals) };
+        (came_at t.came) (numbers_at ⟦<SealKey as Ord>⟧.cmp t.seals) };
 }
 
 impl Tables {
@@ -80,7 +82,7 @@ impl Tables {
             settled: 0,
             names: Index::new(alloc),
             told: Index::new(alloc),
-            came: Index::new(alloc),
+            came: Came::new(alloc),
             accepted: Index::new(alloc),
             seals: Index::new(alloc),
         }

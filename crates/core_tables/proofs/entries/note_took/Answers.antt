@@ -3,10 +3,11 @@ use Rattle.std.specs.Prelude.{Contains}
 use Rattle.std.specs.Result.{OnOk}
 use Rattle.event_index.specs.Keys.{numbers_at}
 use Rattle.journal.specs.declared.claim.Claim.{Claim}
+use Rattle.core_tables.specs.Came.{came_at}
 use Rattle.core_tables.specs.Hints.{KeepsBelow}
 use Rattle.core_tables.specs.Names.{claim_key}
 use Rattle.core_tables.proofs.AddedNumbers.{on_ok}
-use Rattle.core_tables.proofs.Orders.{claim_cmp, name_cmp}
+use Rattle.core_tables.proofs.Orders.{name_cmp}
 use Rattle.core_tables.proofs.entries.note_took.Goals as goal
 
 pub returns-in_err-add-clause-kept_told : goal.returns-in_err-add-clause-kept_told
@@ -15,15 +16,15 @@ returns-in_err-add-clause-kept_told c = subst (λ k. KeepsBelow k (numbers_at na
 pub returns-clause-told : goal.returns-clause-told
 returns-clause-told c =
     let added = subst (Contains (numbers_at name_cmp c.add.new.self c.name_of.result)) c.in_ok-number.ensures c.in_ok-add.ensures.added in
-    on_ok c.note_claims.result (subst (λ m. Contains (numbers_at name_cmp c.add.new.self m) c.args.count) c.name_of.ensures added)
+    on_ok c.add-2.result (subst (λ m. Contains (numbers_at name_cmp c.add.new.self m) c.args.count) c.name_of.ensures added)
 
 pub returns-clause-came : goal.returns-clause-came
 returns-clause-came c =
-    subst (λ k. OnOk c.note_claims.result ((x : Claim) → Contains c.args.claims.now x → Contains (numbers_at claim_cmp c.note_claims.new.came (claim_key c.args.body x)) k)) c.in_ok-number.ensures
-    c.note_claims.ensures.added
+    subst (λ k. OnOk c.add-2.result ((x : Claim) → Contains c.args.claims.now x → Contains (came_at c.add-2.new.self (claim_key c.args.body x)) k)) c.in_ok-number.ensures
+    c.add-2.ensures.added
 
 pub returns-clause-kept_told : goal.returns-clause-kept_told
 returns-clause-kept_told c = subst (λ k. KeepsBelow k (numbers_at name_cmp c.args.told.now) (numbers_at name_cmp c.add.new.self)) c.in_ok-number.ensures c.add.ensures.kept
 
 pub returns-clause-kept_came : goal.returns-clause-kept_came
-returns-clause-kept_came c = subst (λ k. KeepsBelow k (numbers_at claim_cmp c.args.came.now) (numbers_at claim_cmp c.note_claims.new.came)) c.in_ok-number.ensures c.note_claims.ensures.kept
+returns-clause-kept_came c = subst (λ k. KeepsBelow k (came_at c.args.came.now) (came_at c.add-2.new.self)) c.in_ok-number.ensures c.add-2.ensures.kept
