@@ -1,10 +1,12 @@
 -- The orders of places and of numbers are total.
-use Rattle.std.proofs.Common.{◌≡◌, ℕ, true, false, List, refl, sym, ◌∙◌, ap, Ordering, eqb, inl, inr, arith}
+use Rattle.std.proofs.Common.{◌≡◌, ℕ, true, false, List, map, Option, Some, None, refl, sym, ◌∙◌, ap, Ordering, eqb, inl, inr, arith}
 use Rattle.std.proofs.lemmas.Bool.Decides.{nat_tests}
 use Rattle.std.specs.declared.cmp.Ordering.TheVariants.{Less, Equal, Greater}
 use Rattle.std.specs.Prelude.{slice_get}
 use Rattle.std.specs.Cmp.{IsTotalOrder}
 use Rattle.std.specs.Ordering.{nat_cmp, is_eq, ordering_then, eq_by_cmp}
+use Rattle.std.specs.Option.{option_map}
+use Rattle.std.proofs.lemmas.Option.{slice_get-map}
 use Rattle.std.specs.Cmp.Lexicographic.{slice_cmp}
 use Rattle.std.proofs.lemmas.Cmp.{nat_cmp_total, nat_list_cmp_total, lists_total, on_total, then_total, tied_itself}
 use Rattle.std.proofs.lemmas.Bool.{cases_eq, eq-eqb, ne_eqb}
@@ -15,7 +17,7 @@ use Rattle.event_body.specs.Events.{prefix_of, sn_of, prior_of}
 use Rattle.key_state.specs.Same.{same_prefix}
 use Rattle.key_state.proofs.Same.{same_prefix_is}
 use Rattle.journal.specs.Conflicts.{place_cmp, text_cmp, prior_text, sort_of}
-use Rattle.journal_views.specs.Rankings.{event_cmp, number_cmp, number_place, of_event, listed}
+use Rattle.journal_views.specs.Rankings.{event_cmp, listed, log_cmp, number_cmp, number_place, of_event, spelled_cmp}
 
 -- one prefix has one text
 pub same_text : (p q : Prefix) → same_prefix p q ≡ true → Equal ≡ text_cmp (prefix_text p) (prefix_text q)
@@ -52,3 +54,28 @@ number_ties bodies events m n = elim (cases_eq m n) [
     never Less apart = refl
     never Equal apart = number apart
     never Greater apart = refl
+
+-- what is there of two lists of one or none is ordered by the one order, then the other
+both_then : (o p : Ordering) → ordering_then (ordering_then o p) Equal ≡ ordering_then (ordering_then o Equal) (ordering_then p Equal)
+both_then Less p = refl
+both_then Equal p = refl
+both_then Greater p = refl
+
+spelled_events : (d e : Option Event) → ordering_then (slice_cmp text_cmp (listed (option_map (λ x. prefix_text (prefix_of x)) d)) (listed (option_map (λ x. prefix_text (prefix_of x)) e))) (slice_cmp log_cmp (listed d) (listed e))
+    ≡ slice_cmp event_cmp (listed d) (listed e)
+unfolding place_cmp
+spelled_events None None = refl
+spelled_events None (Some e) = refl
+spelled_events (Some d) None = refl
+spelled_events (Some d) (Some e) = sym (both_then (text_cmp (prefix_text (prefix_of d)) (prefix_text (prefix_of e))) (log_cmp d e))
+
+-- with the texts of the identifiers numbers are ordered alike
+pub spelled_is : (texts bodies : List (List ℕ)) (events : List Event) → texts ≡ map (λ e. prefix_text (prefix_of e)) events → spelled_cmp texts bodies events ≡ number_cmp bodies events
+unfolding number_cmp spelled_cmp
+spelled_is texts bodies events are = λ i m n. ordering_then (ordering_then (place m n i) (slice_cmp text_cmp (listed (slice_get bodies m)) (listed (slice_get bodies n)))) (nat_cmp m n)
+  where
+    at : (n : ℕ) → slice_get texts n ≡ option_map (λ e. prefix_text (prefix_of e)) (slice_get events n)
+    at n = ap (λ ts. slice_get ts n) are ∙ slice_get-map (λ e. prefix_text (prefix_of e)) events n
+
+    place : (m n : ℕ) → ordering_then (slice_cmp text_cmp (listed (slice_get texts m)) (listed (slice_get texts n))) (slice_cmp log_cmp (listed (slice_get events m)) (listed (slice_get events n))) ≡ number_place events m n
+    place m n = (λ i. ordering_then (slice_cmp text_cmp (listed (at m i)) (listed (at n i))) (slice_cmp log_cmp (listed (slice_get events m)) (listed (slice_get events n)))) ∙ spelled_events (slice_get events m) (slice_get events n)

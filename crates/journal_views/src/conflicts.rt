@@ -7,7 +7,7 @@ ghost use Rattle.journal.specs.Journals.{chosen};
 ghost use Rattle.journal_views.specs.Groups.{as_set, cut, is_apart};
 ghost use Rattle.journal_views.specs.Rankings.{number_cmp, number_place};
 
-use crate::places::{event_order, number_order};
+use crate::places::{event_order, number_order, prefix_texts};
 use event_body::Event;
 use json_tree::Text;
 use std::alloc::{AllocError, Global};
@@ -44,7 +44,9 @@ fn in_order(
     ensures held { IfOk result (λ numbers. All (λ n. n < length bodies.now) numbers.items) }
 {
     let mut numbers = Vec::from_slice(alloc, counted)?;
-    numbers.sort_by(|first, second| number_order(bodies, events, *first, *second))?;
+    let texts = prefix_texts(alloc, events)?;
+    let texts = texts.as_slice();
+    numbers.sort_by(|first, second| number_order(texts, bodies, events, *first, *second))?;
     numbers.dedup();
     Ok(numbers)
 }

@@ -1,29 +1,84 @@
 //! The order of bodies by their places, and within a place by their bytes.
-ghost use Rattle.std.specs.Prelude.{◌≡◌, Some, slice_get};
+ghost use Rattle.std.specs.Prelude.{◌≡◌, Some, map, slice_get, IfOk};
 ghost use Rattle.std.specs.Cmp.Lexicographic.{slice_cmp};
-ghost use Rattle.std.specs.Ordering.{nat_cmp, ordering_then};
 ghost use Rattle.cesr_codes.specs.Spelling.{prefix_text};
 ghost use Rattle.event_body.specs.Events as said;
 ghost use Rattle.journal.specs.Conflicts as conflicts;
 ghost use Rattle.journal.specs.Conflicts.{text_cmp, prior_text};
-ghost use Rattle.journal_views.specs.Rankings.{event_cmp, number_cmp, number_place, listed, of_event};
+ghost use Rattle.journal_views.specs.Rankings.{event_cmp, listed, log_cmp, number_place, of_event, spelled_cmp};
 
 use cesr_codes::{Digest, Prefix};
 use event_body::{Event, prefix_of, sn_of};
 use event_rules::prior_of;
 use json_tree::Text;
+use std::alloc::{AllocError, Global};
 use std::cmp::Ordering;
 
-/// How the bodies of two numbers are ordered; the numbers of one body by themselves, and those of none first.
-#[tactic(auto, unfolding(crate::specs::Rankings::number_cmp))]
-pub(crate) fn number_order(bodies: &[Text], events: &[Event], first: u32, second: u32) -> Ordering
-    ensures { result ≡ number_cmp bodies.now events.now first second }
+/// How the bodies of two numbers are ordered, by the texts of the events' identifiers; the numbers of one body by themselves, and
+/// those of none first.
+#[tactic(auto, unfolding(crate::specs::Rankings::spelled_cmp))]
+pub(crate) fn number_order(
+    texts: &[[u8; 44]],
+    bodies: &[Text],
+    events: &[Event],
+    first: u32,
+    second: u32,
+) -> Ordering
+    ensures { result ≡ spelled_cmp texts.now bodies.now events.now first second }
 {
-    let by_body = match event_order(events, first, second) {
+    let by_log = match text_order(texts, first, second) {
+        Ordering::Equal => log_order(events, first, second),
+        order => order,
+    };
+    let by_body = match by_log {
         Ordering::Equal => bytes_order(bodies, first, second),
         order => order,
     };
     by_body.then(first.cmp(&second))
+}
+
+/// The texts of the identifiers of events.
+pub(crate) fn prefix_texts(alloc: Global, events: &[Event]) -> Result<Vec<[u8; 44]>, AllocError>
+    ensures { IfOk result (λ texts. texts.items ≡ map (λ e. prefix_text (said.prefix_of e)) events.now) }
+{
+    let mut texts = Vec::with_capacity(alloc, events.len())?;
+    for event in events {
+        texts.push(text_of(prefix_of(event)))?;
+    }
+    Ok(texts)
+}
+
+// The text of a prefix.
+fn text_of(prefix: Prefix) -> [u8; 44]
+    ensures { result ≡ prefix_text prefix }
+{
+    let mut text = [0; 44];
+    prefix.write(&mut text);
+    text
+}
+
+// By the texts of the identifiers.
+fn text_order(texts: &[[u8; 44]], first: u32, second: u32) -> Ordering
+    ensures { result ≡ slice_cmp text_cmp (listed (slice_get texts.now first)) (listed (slice_get texts.now second)) }
+{
+    match (texts.get(first as usize), texts.get(second as usize)) {
+        (Some(first), Some(second)) => first.as_slice().cmp(second.as_slice()),
+        (None, Some(_)) => Ordering::Less,
+        (Some(_), None) => Ordering::Greater,
+        (None, None) => Ordering::Equal,
+    }
+}
+
+// By the places of the events in a log.
+fn log_order(events: &[Event], first: u32, second: u32) -> Ordering
+    ensures { result ≡ slice_cmp log_cmp (listed (slice_get events.now first)) (listed (slice_get events.now second)) }
+{
+    match (events.get(first as usize), events.get(second as usize)) {
+        (Some(first), Some(second)) => order_in_log(first, second),
+        (None, Some(_)) => Ordering::Less,
+        (Some(_), None) => Ordering::Greater,
+        (None, None) => Ordering::Equal,
+    }
 }
 
 /// By the places of the events.
@@ -64,9 +119,7 @@ fn place_order(first: &Event, second: &Event) -> Ordering
 
 // How places of one identifier are ordered.
 fn order_in_log(first: &Event, second: &Event) -> Ordering
-    ensures { result ≡ ordering_then (nat_cmp (said.sn_of first.now) (said.sn_of second.now))
-        (ordering_then (text_cmp (prior_text (said.prior_of first.now)) (prior_text (said.prior_of second.now)))
-        (nat_cmp (conflicts.sort_of (of_event first.now)) (conflicts.sort_of (of_event second.now)))) }
+    ensures { result ≡ log_cmp first.now second.now }
 {
     match sn_of(first).cmp(&sn_of(second)) {
         Ordering::Equal => prior_order(prior_of(first), prior_of(second)).then(sort_of(first).cmp(
