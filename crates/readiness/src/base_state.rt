@@ -2,14 +2,16 @@
 ghost use Rattle.std.specs.Prelude.{◌≡◌, ℕ, List, true, Some, is_some, slice_get};
 ghost use Rattle.std.specs.Option.{option_copied};
 ghost use Rattle.acceptance.specs.Standing.{IsStanding};
+ghost use Rattle.accepted_log.specs.Values.{last_place};
 ghost use Rattle.core_tables.specs.View.{body_of, log_of};
 ghost use Rattle.acceptance_laws.specs.Waking as waking;
+ghost use Rattle.event_body.specs.Events as events;
 ghost use Rattle.journal.specs.Logs as logs;
 ghost use Rattle.readiness.specs.Current.{IsOnCurrent, state_on};
 
 use acceptance::{Footing, footing_of};
 use core_tables::Tables;
-use event_body::{Event, is_receipt, prefix_of};
+use event_body::{Event, is_receipt};
 use event_rules::is_inception;
 use key_state::KeyState;
 
@@ -21,16 +23,15 @@ pub(crate) fn stands(tables: &Tables, event: &Event) -> bool
     footing_of(tables, event).is_some()
 }
 
-/// Whether the event stands on the current state of its identifier, or is an inception.
-pub(crate) fn is_on_current(tables: &Tables, event: &Event) -> bool
-    requires { IsStanding tables.now }
+/// Whether the event stands on the current state of its identifier, which is at the place, or is an inception.
+pub(crate) fn is_on_current(tables: &Tables, event: &Event, current: Option<u32>) -> bool
+    requires standing { IsStanding tables.now }
+    requires last { current ≡ last_place (events.prefix_of event.now) tables.now.log.states }
     ensures { (bytes : List ℕ) → result ≡ true → IsOnCurrent (log_of tables.now) (body_of bytes event.now) }
 {
     match footing_of(tables, event) {
         Some(Footing::Inception) => true,
-        Some(Footing::Behind(place)) => {
-            is_place(tables.log().current_place(&prefix_of(event)), place)
-        }
+        Some(Footing::Behind(place)) => is_place(current, place),
         None => false,
     }
 }

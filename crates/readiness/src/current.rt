@@ -2,6 +2,7 @@
 ghost use Rattle.std.specs.Prelude.{◌≡◌, slice_get, IfSome};
 ghost use Rattle.std.specs.Option.{option_copied, option_map};
 ghost use Rattle.acceptance.specs.Standing.{IsStanding};
+ghost use Rattle.accepted_log.specs.Values.{last_place, state_there};
 ghost use Rattle.core_tables.specs.View.{log_of};
 ghost use Rattle.event_body.specs.Events as events;
 ghost use Rattle.journal.specs.Logs as logs;
@@ -21,6 +22,33 @@ pub(crate) fn event_of(tables: &Tables, number: u32) -> Option<&Event>
 {
     spelled_is_kept();
     tables.event(number)
+}
+
+/// The current state of an identifier, and its place in the log.
+#[derive(Clone, Copy)]
+pub(crate) struct CurrentState<'a> {
+    pub(crate) place: Option<u32>,
+    pub(crate) state: Option<&'a KeyState>,
+}
+
+/// The current state of an event's identifier, with its place.
+pub(crate) fn current_of<'a>(tables: &'a Tables, event: &Event) -> CurrentState<'a>
+    requires { IsStanding tables.now }
+    ensures place { result.place ≡ last_place (events.prefix_of event.now) tables.now.log.states }
+    ensures state { option_copied result.state ≡ logs.state (log_of tables.now) (events.prefix_of event.now) }
+{
+    let place = tables.log().current_place(&prefix_of(event));
+    CurrentState {
+        place,
+        state: state_at(tables, place),
+    }
+}
+
+// The state at a place, where one is given.
+fn state_at(tables: &Tables, place: Option<u32>) -> Option<&KeyState>
+    ensures { option_copied result ≡ state_there tables.now.log.states place }
+{
+    tables.log().state(place?)
 }
 
 /// The current state of an event's identifier.

@@ -6,7 +6,7 @@ ghost use Rattle.journal.specs.Readiness as readiness;
 ghost use Rattle.journal.specs.declared.body.Body.{Body};
 
 use crate::base_state::is_waiting;
-use crate::current::{event_of, state_of};
+use crate::current::{current_of, event_of};
 use crate::wants::wanting;
 use core_tables::Tables;
 use event_rules::takes;
@@ -20,12 +20,12 @@ pub fn is_ready(tables: &Tables, mode: Mode, number: u32) -> bool
     let Some(event) = event_of(tables, number) else {
         return false;
     };
-    let state = state_of(tables, event);
-    if !takes(state, event) {
+    let current = current_of(tables, event);
+    if !takes(current.state, event) {
         return false;
     }
     // Mostly a signature or a receipt is wanting: whether the event is accepted already is asked last.
-    if wanting(tables, mode, number, state, event).is_some() {
+    if wanting(tables, mode, number, current, event).is_some() {
         return false;
     }
     is_waiting(tables, number, event)

@@ -9,7 +9,7 @@ ghost use Rattle.journal.specs.Waiting as waiting;
 ghost use Rattle.journal.specs.declared.body.Body.{Body};
 
 use crate::base_state::{follows_some, is_behind_some, is_waiting, stands};
-use crate::current::{event_of, state_of};
+use crate::current::{current_of, event_of};
 use crate::seals::{is_forbidden, is_local};
 use crate::wants::wanting;
 use core_tables::Tables;
@@ -29,14 +29,14 @@ pub fn why_waits(tables: &Tables, mode: Mode, number: u32) -> Option<Why>
     if !is_waiting(tables, number, event) {
         return None;
     }
-    let state = state_of(tables, event);
-    if is_lost(tables, mode, state, event) {
+    let current = current_of(tables, event);
+    if is_lost(tables, mode, current.state, event) {
         return Some(Why::Never);
     }
     if !is_behind_some(tables, event) {
         return Some(Why::Predecessor);
     }
-    wanting(tables, mode, number, state, event)
+    wanting(tables, mode, number, current, event)
 }
 
 // Whether by what is accepted it can't be: its log has another inception, it doesn't follow its predecessor, or no longer fits

@@ -2,6 +2,7 @@
 ghost use Rattle.std.specs.Prelude.{◌≡◌, ◌<◌, ℕ, List, true, length, slice_get, Some};
 ghost use Rattle.std.specs.Option.{option_copied};
 ghost use Rattle.acceptance.specs.Standing.{IsStanding, told_of};
+ghost use Rattle.accepted_log.specs.Values.{last_place};
 ghost use Rattle.core_tables.specs.View.{body_of, log_of};
 ghost use Rattle.event_body.specs.Events as events;
 ghost use Rattle.journal.specs.Logs as logs;
@@ -10,7 +11,7 @@ ghost use Rattle.key_state.specs.Kept.{IsKept};
 ghost use Rattle.readiness.specs.Wants as specs;
 
 use crate::base_state::is_on_current;
-use crate::current::is_state;
+use crate::current::{CurrentState, is_state};
 use crate::entry_support::EntrySupport;
 use crate::row_support::RowSupport;
 use crate::seals::{is_anchored, is_local};
@@ -26,19 +27,21 @@ pub(crate) fn wanting(
     tables: &Tables,
     mode: Mode,
     number: u32,
-    state: Option<&KeyState>,
+    current: CurrentState,
     event: &Event,
 ) -> Option<Why>
     requires standing { IsStanding tables.now }
+    requires last { current.place ≡ last_place (events.prefix_of event.now) tables.now.log.states }
     requires kept { IsKept event.now }
     requires held { number < length tables.now.held }
     ensures { (bytes : List ℕ) → slice_get tables.now.held number ≡ Some (body_of bytes event.now)
-        → option_copied state.entry ≡ logs.state (log_of tables.now) (events.prefix_of event.now)
-        → logs.takes (option_copied state.entry) event.now ≡ true
-        → result ≡ specs.wants mode (told_of tables.now) (log_of tables.now) (option_copied state.entry) (body_of bytes event.now) }
+        → option_copied current.entry.state ≡ logs.state (log_of tables.now) (events.prefix_of event.now)
+        → logs.takes (option_copied current.entry.state) event.now ≡ true
+        → result ≡ specs.wants mode (told_of tables.now) (log_of tables.now) (option_copied current.entry.state) (body_of bytes event.now) }
 {
+    let state = current.state;
     is_state(state);
-    if is_on_current(tables, event) {
+    if is_on_current(tables, event, current.place) {
         let rows = RowSupport {
             claims: tables.claims(),
             number,

@@ -21,7 +21,7 @@ returns-then-not-takes c =
     let v = c.args.tables.now in
     let e = c.in-Some.event.now in
     at_body v.held c.args.number e c.in-Some.ensures.event (λ b. false ≡ is_ready c.args.mode (told_of v) (log_of v) b)
-    (λ bytes at. sym (not_taken c.args.mode (told_of v) (log_of v) (body_of bytes e) (option_copied c.state_of-state.result) c.state_of-state.ensures (sym c.if-not-takes.ensures)))
+    (λ bytes at. sym (not_taken c.args.mode (told_of v) (log_of v) (body_of bytes e) (option_copied c.current_of-current.result.state) c.current_of-current.ensures.state (sym c.if-not-takes.ensures)))
 
 pub wanting-requires-clause-held : goal.wanting-requires-clause-held
 wanting-requires-clause-held c = is_below c.args.tables.now.held c.args.number c.in-Some.event.now c.in-Some.ensures.event
@@ -32,8 +32,8 @@ returns-then-is_some c =
     let e = c.in-Some.event.now in
     at_body v.held c.args.number e c.in-Some.ensures.event (λ b. false ≡ is_ready c.args.mode (told_of v) (log_of v) b)
     (λ bytes at. some_is c.wanting.result (waking.is_waiting (log_of v) (body_of bytes e)) c.if-is_some.ensures
-    ∙ ap (λ o. is_none o && waking.is_waiting (log_of v) (body_of bytes e)) (c.wanting.ensures bytes at c.state_of-state.ensures (sym c.if-not-takes.ensures))
-    ∙ sym (ready_is c.args.mode (told_of v) (log_of v) (body_of bytes e) (option_copied c.state_of-state.result) c.state_of-state.ensures (sym c.if-not-takes.ensures)))
+    ∙ ap (λ o. is_none o && waking.is_waiting (log_of v) (body_of bytes e)) (c.wanting.ensures bytes at c.current_of-current.ensures.state (sym c.if-not-takes.ensures))
+    ∙ sym (ready_is c.args.mode (told_of v) (log_of v) (body_of bytes e) (option_copied c.current_of-current.result.state) c.current_of-current.ensures.state (sym c.if-not-takes.ensures)))
 
 pub returns : goal.returns
 returns c =
@@ -41,5 +41,5 @@ returns c =
     let e = c.in-Some.event.now in
     at_body v.held c.args.number e c.in-Some.ensures.event (λ b. c.is_waiting.result ≡ is_ready c.args.mode (told_of v) (log_of v) b)
     (λ bytes at. c.is_waiting.ensures bytes at ∙ none_is c.wanting.result (waking.is_waiting (log_of v) (body_of bytes e)) c.if-is_some.ensures
-    ∙ ap (λ o. is_none o && waking.is_waiting (log_of v) (body_of bytes e)) (c.wanting.ensures bytes at c.state_of-state.ensures (sym c.if-not-takes.ensures))
-    ∙ sym (ready_is c.args.mode (told_of v) (log_of v) (body_of bytes e) (option_copied c.state_of-state.result) c.state_of-state.ensures (sym c.if-not-takes.ensures)))
+    ∙ ap (λ o. is_none o && waking.is_waiting (log_of v) (body_of bytes e)) (c.wanting.ensures bytes at c.current_of-current.ensures.state (sym c.if-not-takes.ensures))
+    ∙ sym (ready_is c.args.mode (told_of v) (log_of v) (body_of bytes e) (option_copied c.current_of-current.result.state) c.current_of-current.ensures.state (sym c.if-not-takes.ensures)))

@@ -10,7 +10,7 @@ use Rattle.readiness.proofs.wants.wanting.Goals as goal
 pub returns-then-is_on_current : goal.returns-then-is_on_current
 returns-then-is_on_current c = λ bytes at current taken.
     let v = c.args.tables.now in
-    let s = option_copied c.args.state in
+    let s = option_copied c.args.current.state in
     let e = c.args.event.now in
     c.wanting_by.ensures
     ∙ ap (λ t. wants_by c.args.mode (has_in t.rows c.args.number) s e (anchored (log_of v) s e)) c.claims.ensures
@@ -19,7 +19,7 @@ returns-then-is_on_current c = λ bytes at current taken.
 pub returns : goal.returns
 returns c = λ bytes at current taken.
     let v = c.args.tables.now in
-    let s = option_copied c.args.state in
+    let s = option_copied c.args.current.state in
     let e = c.args.event.now in
     c.wanting_by-2.ensures
     ∙ claims_wanting v c.requires.standing c.args.mode c.args.number (body_of bytes e) at c.requires.kept s c.is_state.ensures current taken c.told.result.now c.told.ensures.rising
