@@ -6,10 +6,7 @@ signature of its key and receipts of three of its four witnesses, by the rehears
 """
 import hashlib
 import multiprocessing
-import pathlib
-import sys
 
-sys.path.insert(0, str(pathlib.Path(__file__).resolve().parent.parent / "tests"))
 from kit import CHARACTERS, body, counter, digest, primitive, said
 
 FACTOR, TERM, WRAP = 6364136223846793005, 1442695040888963407, 2**64

@@ -1,22 +1,26 @@
 -- The forms of the words.
-use Rattle.std.specs.Prelude.{ℕ, Bool, true, not, ◌==◌, ◌&&◌, if◌then◌else◌, List, [], ◌∷◌, codes}
+use Rattle.std.specs.Prelude.{ℕ, option_and_then, Bool, true, not, ◌==◌, ◌&&◌, if◌then◌else◌, List, [], ◌∷◌, length, codes}
 use Rattle.std.specs.Str.{bytes_eq}
 use Rattle.std.specs.declared.option.Option.{Option}
 use Rattle.std.specs.declared.option.Option.TheVariants.{None, Some}
+use Rattle.command_words.specs.Numbers.{number_in}
 use Rattle.command_words.specs.declared.command.Command.{Command}
-use Rattle.command_words.specs.declared.command.Command.TheVariants.{Check, Validate, Watch}
+use Rattle.command_words.specs.declared.command.Command.TheVariants.{Check, Validate, Watch, Generate}
 
--- what may be asked for, by the bytes of the words: of `check` a file, of `validate` and `watch` a helper and a file
+-- what may be asked for, by the bytes of the words: of `check` a file, of `validate` and `watch` a helper and a file, of `gen`
+-- a seed, how many logs, and how many events in each
 pub data Asked : Type 0 where
   check : List ℕ → Asked
   validate : List ℕ → List ℕ → Asked
   watch : List ℕ → List ℕ → Asked
+  generate : ℕ → ℕ → ℕ → Asked
 
 -- what a command asks for
 abbrev pub asked_by : Command → Asked
 asked_by (Check file) = check file.now
 asked_by (Validate helper file) = validate helper.now file.now
 asked_by (Watch helper file) = watch helper.now file.now
+asked_by (Generate seed logs events) = generate seed logs events
 
 -- a word that names a file: `-` is standard input, and no other begins with it
 abbrev pub is_file : List ℕ → Bool
@@ -35,11 +39,38 @@ asks_over_core name helper file =
     else if bytes_eq name (codes "watch") then Some (watch helper file)
     else None
 
--- what words ask for: the forms are `check FILE`, and `validate` and `watch` with `--helper rehearsal FILE`
+-- the word behind an option, the first where it stands twice
+abbrev pub value_of : List ℕ → List (List ℕ) → Option (List ℕ)
+value_of option [] = None
+value_of option (word ∷ []) = None
+value_of option (word ∷ value ∷ words) = if bytes_eq word option then Some value else value_of option words
+
+-- the number that an option is set to, where it is in this range
+abbrev pub number_set : List ℕ → ℕ → ℕ → List (List ℕ) → Option ℕ
+number_set option least most words = option_and_then (number_in least most) (value_of option words)
+
+abbrev pub gen_of : Option ℕ → Option ℕ → Option ℕ → Option Asked
+gen_of None logs events = None
+gen_of (Some seed) None events = None
+gen_of (Some seed) (Some logs) None = None
+gen_of (Some seed) (Some logs) (Some events) = Some (generate seed logs events)
+
+-- Three options, each once, in any order: a seed of 64 bits, up to 1,000 logs, and up to 1,000 events in each.
+abbrev pub asks_gen : List (List ℕ) → Option Asked
+asks_gen words =
+    if length words == 6 then gen_of (number_set (codes "--seed") 0 18446744073709551615 words) (number_set (codes "--logs") 1 1000 words) (number_set (codes "--events") 1 1000 words)
+    else None
+
+-- what words ask for that name a file: the forms are `check FILE`, and `validate` and `watch` with `--helper rehearsal FILE`
+abbrev pub asks_of_file : List (List ℕ) → Option Asked
+asks_of_file [] = None
+asks_of_file (name ∷ []) = None
+asks_of_file (name ∷ file ∷ []) = if bytes_eq name (codes "check") && is_file file then Some (check file) else None
+asks_of_file (name ∷ option ∷ helper ∷ []) = None
+asks_of_file (name ∷ option ∷ helper ∷ file ∷ []) = if are_helper option helper && is_file file then asks_over_core name helper file else None
+asks_of_file (name ∷ option ∷ helper ∷ file ∷ word ∷ words) = None
+
+-- what words ask for: beside the commands that name a file, `gen` with `--seed`, `--logs` and `--events`
 abbrev pub asks : List (List ℕ) → Option Asked
 asks [] = None
-asks (name ∷ []) = None
-asks (name ∷ file ∷ []) = if bytes_eq name (codes "check") && is_file file then Some (check file) else None
-asks (name ∷ option ∷ helper ∷ []) = None
-asks (name ∷ option ∷ helper ∷ file ∷ []) = if are_helper option helper && is_file file then asks_over_core name helper file else None
-asks (name ∷ option ∷ helper ∷ file ∷ word ∷ words) = None
+asks (name ∷ words) = if bytes_eq name (codes "gen") then asks_gen words else asks_of_file (name ∷ words)

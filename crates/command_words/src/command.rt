@@ -1,7 +1,14 @@
 //! Commands, read from the words.
 ghost use Rattle.std.specs.Prelude.{◌≡◌, map, string_bytes};
 ghost use Rattle.std.specs.Option.{option_map};
-ghost use Rattle.command_words.specs.Words.{are_helper, asked_by, asks, asks_over_core, is_file};
+ghost use Rattle.command_words.specs.Words.{are_helper, asked_by, asks, asks_gen, asks_of_file, asks_over_core, is_file};
+
+use crate::number::{count_set, number_set};
+
+// A stream that is made has no more logs, and these no more events.
+const MOST_OF_LOGS: u16 = 1_000;
+
+const MOST_OF_EVENTS: u16 = 1_000;
 
 /// What the words ask for.
 #[derive(Clone, Copy, PartialEq, Eq, Debug)]
@@ -12,11 +19,23 @@ pub enum Command<'a> {
     Validate { helper: &'a str, file: &'a str },
     /// Reads one file and writes the evidence of its conflicts, with the verdicts of the helper.
     Watch { helper: &'a str, file: &'a str },
+    /// Makes a stream of so many logs of so many events from a seed, and says how much of it is accepted.
+    Generate { seed: u64, logs: u16, events: u16 },
 }
 
 /// What the words behind the program's name ask for, where they are in the form of a command.
 pub fn command_of(words: &[String]) -> Option<Command<'_>>
     ensures { option_map asked_by result ≡ asks (map string_bytes words.now) }
+{
+    match words {
+        [name, options @ ..] if name.as_str() == "gen" => generate(options),
+        _ => of_file(words),
+    }
+}
+
+// What is asked for by words that name a file.
+fn of_file(words: &[String]) -> Option<Command<'_>>
+    ensures { option_map asked_by result ≡ asks_of_file (map string_bytes words.now) }
 {
     match words {
         [name, file] if name.as_str() == "check" && names_file(file.as_bytes()) => {
@@ -43,6 +62,20 @@ fn over_core<'a>(name: &str, helper: &'a str, file: &'a str) -> Option<Command<'
         return Some(Command::Watch { helper, file });
     }
     None
+}
+
+// What `gen` is asked for by its options.
+fn generate<'a>(options: &[String]) -> Option<Command<'a>>
+    ensures { option_map asked_by result ≡ asks_gen (map string_bytes options.now) }
+{
+    if options.len() != 6 {
+        return None;
+    }
+    Some(Command::Generate {
+        seed: number_set(options, "--seed", 0, u64::MAX)?,
+        logs: count_set(options, "--logs", MOST_OF_LOGS)?,
+        events: count_set(options, "--events", MOST_OF_EVENTS)?,
+    })
 }
 
 // Whether the words are an option that names the one helper.

@@ -2,5 +2,6 @@
 #![tactic(auto)]
 
 mod command;
+mod number;
 
 pub use command::{Command, command_of};

@@ -60,6 +60,11 @@ module _ (f : Event) (held : IsHeld f) (own : HasOwnThresholds f) (writable : Is
       pub faulty_where_some : IfSome found (λ fault. IsFaultOf f fault)
       faulty_where_some = subst (λ o. IfSome o (λ fault. IsFaultOf f fault)) (sym found_is) (faulty r judged)
 
+-- a text that is as long as another one is as large
+pub as_large : (text other : List ℕ) (fault : ReadBody) → length text ≡ length other → IsLengthFault other fault → IsLengthFault text fault
+as_large text other (Fault fault) long large = (large.0, omega (arith, long, large.1))
+as_large text other OutOfMemory long large = tt
+
 -- a text that is too large has no other fault
 pub too_large : (event : Event) (text : List ℕ) (fault : ReadBody) → length (text_of event) ≡ length text → IsLengthFault text fault → IsFaultOf event fault
 too_large event text (Fault fault) long large = subst (IsFirstFault (text_of event)) (sym large.0) (omega (arith, long, large.1))

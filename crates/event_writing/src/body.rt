@@ -62,8 +62,8 @@ fn fault_of(alloc: Global, event: &Event, text: &[u8]) -> Option<ReadBody>
     read_body(alloc, text).err()
 }
 
-// The event's text, where it has at most 65,535 bytes.
-fn event_text(alloc: Global, event: &Event) -> Result<Vec<u8>, ReadBody>
+/// The event's text, where it has at most 65,535 bytes.
+pub(crate) fn event_text(alloc: Global, event: &Event) -> Result<Vec<u8>, ReadBody>
     requires held { IsHeld event.now }
     requires thresholds { HasOwnThresholds event.now }
     requires writable { IsWritable event.now }

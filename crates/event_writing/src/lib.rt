@@ -2,11 +2,13 @@
 #![tactic(auto)]
 
 mod body;
+mod event_text;
 mod held;
 mod laws;
 mod sealed_event;
 mod values;
 
 pub use body::write_body;
+pub use event_text::{EventText, sealed_text};
 pub use laws::writable;
 pub use sealed_event::sealed;

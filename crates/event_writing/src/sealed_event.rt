@@ -68,8 +68,8 @@ fn sealed_with(alloc: Global, event: &Event, said: Digest) -> Result<Event, Read
     }
 }
 
-// The event's text with placeholders, where it has at most 65,535 bytes.
-fn digested_text(alloc: Global, event: &Event) -> Result<Vec<u8>, ReadBody>
+/// The event's text with placeholders, where it has at most 65,535 bytes.
+pub(crate) fn digested_text(alloc: Global, event: &Event) -> Result<Vec<u8>, ReadBody>
     requires held { IsHeld event.now }
     requires thresholds { HasOwnThresholds event.now }
     requires writable { IsWritable event.now }
@@ -109,8 +109,8 @@ fn placeholder_tree(alloc: Global) -> Result<Tree, AllocError>
     Ok(Tree::Str(Items::from_vec(vec![in alloc; b'#'; 44]?)))
 }
 
-// The event with this digest.
-fn with_digest(alloc: Global, event: &Event, said: Digest) -> Result<Event, AllocError>
+/// The event with this digest.
+pub(crate) fn with_digest(alloc: Global, event: &Event, said: Digest) -> Result<Event, AllocError>
     ensures { IfOk result (λ sealed. sealed ≡ specs.with_digest said event.now) }
 {
     match event {

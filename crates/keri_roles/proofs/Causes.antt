@@ -3,7 +3,7 @@ use Rattle.std.proofs.Common.{◌≡◌, ◌≢◌, ℕ, inl, inr, Bool, true, f
 use Rattle.std.specs.Prelude.{is_none, MatchOption}
 use Rattle.keri_specs.specs.Causes.{Rose}
 use Rattle.cesr_stream.specs.declared.message.Message.{Message}
-use Rattle.command_words.specs.Words.{Asked, check, validate, watch}
+use Rattle.command_words.specs.Words.{Asked, check, generate, validate, watch}
 use Rattle.keri_outside.specs.declared.limits.Limits.{Limits}
 use Rattle.journal.specs.declared.mode.Mode.{Mode}
 use Rattle.journal.specs.declared.refusal.Refusal.{Refusal}
@@ -66,8 +66,8 @@ check_caused name work c = rw c.one (
 told_caused : (mode : Mode) (helper name : List ℕ) (work : Work) → IsTold mode helper name work → AreCaused work.before work.after work.readers
 told_caused mode helper name work t = rw t.one (
   record {
-    source = told_read _ _ t.bytes _ _ t.reader.close t.reader.source t.reader.verifier (λ none. t.makes.rose (rw none refl)) t.reads;
-    verifier = told_asked _ _ t.bytes _ _ t.reader.close t.reader.source t.reader.verifier (λ none. t.makes.rose (second (is_none t.reader.source) none)) t.reads;
+    source = told_read _ _ t.journal.bytes _ _ t.reader.close t.reader.source t.reader.verifier (λ none. t.makes.rose (rw none refl)) t.journal.reads;
+    verifier = told_asked _ _ t.journal.bytes _ _ t.reader.close t.reader.source t.reader.verifier (λ none. t.makes.rose (second (is_none t.reader.source) none)) t.journal.reads;
   },
   tt,
 )
@@ -80,6 +80,7 @@ carried_caused : (asked : Asked) (work : Work) → CarriesOut asked work → Are
 carried_caused (check name) work c = check_caused name work c
 carried_caused (validate helper name) work c = told_caused _ helper name work c.over.told
 carried_caused (watch helper name) work c = told_caused _ helper name work c.told
+carried_caused (generate seed logs events) work c = rw c.one (record { source = λ e. absurd (c.none_failed.0 e); verifier = λ e. absurd (c.none_failed.1 e) }, tt)
 
 pub are_caused : (asked : Option Asked) (work : Work) → Does asked work → AreCaused work.before work.after work.readers
 are_caused None work d = rw d.idle.none_read tt

@@ -19,7 +19,7 @@ use Rattle.validator_core.specs.View.{CoreView, Stands, told_of}
 use Rattle.keri_roles.specs.declared.close.Close.{Close}
 use Rattle.keri_roles.specs.declared.close.Close.TheVariants.{OutOfMemory}
 use Rattle.keri_roles.specs.declared.findings.Findings.{Findings}
-use Rattle.keri_roles.specs.CoreTold.{Given, ReadsBy, Tells, IsTold, IsJournalOf, AreSettled}
+use Rattle.keri_roles.specs.CoreTold.{Given, ReadsBy, Tells, IsTold, IsToldBy, IsJournalOf, AreSettled}
 use Rattle.keri_roles.specs.Run.{Reader, SourceTold, VerifierTold, Makes, Owes}
 use Rattle.keri_roles.proofs.Questions.{no_bodies}
 
@@ -94,14 +94,9 @@ pub same_journal : (core : CoreView) (journal : Journal) → IsJournalOf core jo
 same_journal core journal of = rw (sym of.bodies, sym of.entries) refl
 
 -- what a core was told is in its journal
-abbrev pub is_told : (mode : Mode) (helper name : List ℕ) (before after : Told) (reader : Reader) (core : CoreView) (owed : Option (List ℕ)) (own : Findings)
-    → Makes (making SourceKind name (is_none reader.source) ∷ making VerifierKind helper (is_none reader.verifier) ∷ []) before after
-    → Tells mode (record { limits = before.limits; held = before.holds name; says = before.says helper }) reader core → Stands core
-    → IsTold mode helper name (record { before = before; after = after; readers = reader ∷ []; journal = journal_of core; owed = owed; own = own })
-is_told mode helper name before after reader core owed own makes t stands = record {
-  reader = reader;
-  one = refl;
-  makes = makes;
+abbrev pub is_told_by : (mode : Mode) (given : Given) (reader : Reader) (core : CoreView) → Tells mode given reader core → Stands core
+    → IsToldBy mode given reader (journal_of core)
+is_told_by mode given reader core t stands = record {
   bytes = t.bytes;
   fed = record {
     held = core.held;
@@ -116,6 +111,14 @@ is_told mode helper name before after reader core owed own makes t stands = reco
   within = subst (λ l. IsWithin l [] (told_of core)) t.limits_are (within_of core t.no_base stands);
   settled = settled_of core mode t.no_base t.mode_is stands;
 }
+
+-- and so is what a core over a file was told
+abbrev pub is_told : (mode : Mode) (helper name : List ℕ) (before after : Told) (reader : Reader) (core : CoreView) (owed : Option (List ℕ)) (own : Findings)
+    → Makes (making SourceKind name (is_none reader.source) ∷ making VerifierKind helper (is_none reader.verifier) ∷ []) before after
+    → Tells mode (record { limits = before.limits; held = before.holds name; says = before.says helper }) reader core → Stands core
+    → IsTold mode helper name (record { before = before; after = after; readers = reader ∷ []; journal = journal_of core; owed = owed; own = own })
+is_told mode helper name before after reader core owed own makes t stands =
+    record { reader = reader; one = refl; makes = makes; journal = is_told_by mode (record { limits = before.limits; held = before.holds name; says = before.says helper }) reader core t stands }
 
 -- what is owed is this text, and unless there was no memory that is such a text
 pub owes_it : (is_text : List ℕ → Type 0) (owed : Option (List ℕ)) (close : Close) (text : List ℕ) → Owes owed close (λ t. t ≡ text)

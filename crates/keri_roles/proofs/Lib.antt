@@ -6,3 +6,4 @@ pub mod CoreTold
 pub mod Causes
 pub mod RunStatus
 pub mod Agreed
+pub mod Generated

@@ -2,7 +2,7 @@
 use Rattle.std.proofs.Common.{◌≡◌, ◌≢◌, ℕ, ◌⊎◌, inl, inr, Bool, true, false, ◌||◌, List, [], ◌∷◌, Option, Some, None, refl, sym, ◌∙◌, ap, if◌then◌else◌}
 use Rattle.std.specs.Prelude.{IsNone}
 use Rattle.keri_specs.specs.Causes.{Rose}
-use Rattle.command_words.specs.Words.{Asked, check, validate, watch}
+use Rattle.command_words.specs.Words.{Asked, check, generate, validate, watch}
 use Rattle.keri_roles.specs.declared.close.Close.{Close}
 use Rattle.keri_roles.specs.declared.close.Close.TheVariants.{End, Bad, ReadFault, VerifierFault, Full, OutOfMemory}
 use Rattle.keri_roles.specs.declared.findings.Findings.{Findings}
@@ -124,6 +124,7 @@ carried_quiet : (asked : Asked) (work : Work) → CarriesOut asked work → IsQu
 carried_quiet (check name) work c = quiet_but _ work.own false c.nothing_else
 carried_quiet (validate helper name) work c = quiet_but _ work.own c.over.has_conflicts c.over.nothing_else
 carried_quiet (watch helper name) work c = quiet_but _ work.own c.has_conflicts c.nothing_else
+carried_quiet (generate seed logs events) work c = quiet_but _ work.own false c.nothing_else
 
 is_quiet : (asked : Option Asked) (work : Work) → Does asked work → IsQuiet asked work.own
 is_quiet None work d = rw d.nothing_else (record { memory = refl; source = refl; verifier = refl; limit = refl; words = λ h. refl })

@@ -1,21 +1,25 @@
 -- What each command does, and what a run of the program does.
-use Rattle.std.specs.Prelude.{◌≡◌, ℕ, ◌⊎◌, true, Bool, List, [], codes}
+use Rattle.std.specs.Prelude.{◌≡◌, ◌≢◌, ℕ, ◌∷◌, ◌⊎◌, true, Bool, List, [], codes}
 use Rattle.std.specs.declared.option.Option.{Option}
 use Rattle.std.specs.declared.option.Option.TheVariants.{None, Some}
-use Rattle.command_words.specs.Words.{Asked, check, validate, watch}
+use Rattle.command_words.specs.Words.{Asked, check, generate, validate, watch}
 use Rattle.journal.specs.declared.mode.Mode.TheVariants.{Full, Local}
 use Rattle.journal.specs.declared.refusal.Refusal.{Refusal}
+use Rattle.journal.specs.Accepted.{accepted}
 use Rattle.journal.specs.Journals.{told_by}
+use Rattle.report_lines.specs.Lines.{stream_text}
 use Rattle.validator_core.specs.View.{CoreView}
 use Rattle.watcher_core.specs.Evidence.{IsEvidenceText, ReadsAsEvidence}
 use Rattle.keri_roles.specs.declared.close.Close.{Close}
+use Rattle.keri_roles.specs.declared.close.Close.TheVariants.{ReadFault, VerifierFault}
 use Rattle.keri_roles.specs.declared.findings.Findings.{Findings}
 use Rattle.keri_roles.specs.Agreement.{IsAgreed}
 use Rattle.keri_roles.specs.Check.{IsChecked}
-use Rattle.keri_roles.specs.CoreTold.{IsOverCore}
+use Rattle.keri_roles.specs.CoreTold.{IsOverCore, IsToldBy}
+use Rattle.keri_roles.specs.Generated.{counts_of, made_in}
 use Rattle.keri_roles.specs.NoJournal.{no_journal}
 use Rattle.keri_roles.specs.Reports.{Reports}
-use Rattle.keri_roles.specs.Run.{Work, Run, work_in}
+use Rattle.keri_roles.specs.Run.{Owes, Reader, Run, Work, work_in}
 use Rattle.keri_roles.specs.RunStatus.{Settles}
 use Rattle.keri_roles.specs.Status.{nothing}
 
@@ -23,7 +27,7 @@ use Rattle.keri_roles.specs.Status.{nothing}
 -- report. What it accepts agrees with what any other validator accepts.
 pub record IsValidated (helper name : List ℕ) (work : Work) : Type 0 where
   pub over : IsOverCore Full Reports helper name work
-  pub agreed : IsAgreed (told_by over.told.fed.held work.journal.entries)
+  pub agreed : IsAgreed (told_by over.told.journal.fed.held work.journal.entries)
 
 -- The evidence is of the core alone, whatever was refused and however the reader closed; and whoever reads it reads just the
 -- bodies in conflict with their signatures.
@@ -35,6 +39,19 @@ pub record IsEvidence (core : CoreView) (refused : List Refusal) (close : Close)
 -- its evidence.
 abbrev pub IsWatched : List ℕ → List ℕ → Work → Type 0
 IsWatched = IsOverCore Local IsEvidence
+
+-- `gen --seed SEED --logs LOGS --events EVENTS`: a core that wants receipts and seals is told the stream that is made of the
+-- seed, with the verdicts of the rehearsal. Nothing is made of the outside, nor failed. The line is owed that says how much
+-- the stream has, and how many of its events are accepted.
+pub record IsGenerated (seed logs events : ℕ) (work : Work) : Type 0 where
+  pub reader : Reader
+  pub one : work.readers ≡ record reader { source = None; verifier = None } ∷ []
+  pub none_made : work.after ≡ work.before
+  pub journal : IsToldBy Full (made_in work seed logs events) reader work.journal
+  pub none_failed : (reader.close ≢ ReadFault) × (reader.close ≢ VerifierFault)
+  pub owes : Owes work.owed reader.close
+      (λ text. text ≡ stream_text (counts_of seed logs events (accepted Full [] (told_by journal.fed.held work.journal.entries))))
+  pub nothing_else : work.own ≡ nothing
 
 -- nothing was made, read or told
 pub record IsIdle (work : Work) : Type 0 where
@@ -59,6 +76,7 @@ abbrev pub CarriesOut : Asked → Work → Type 0
 CarriesOut (check name) work = IsChecked name work
 CarriesOut (validate helper name) work = IsValidated helper name work
 CarriesOut (watch helper name) work = IsWatched helper name work
+CarriesOut (generate seed logs events) work = IsGenerated seed logs events work
 
 abbrev pub Does : Option Asked → Work → Type 0
 Does None work = IsRefused work

@@ -137,25 +137,29 @@ plain core = record core { accepted = [] }
 abbrev pub given_in : Work → List ℕ → List ℕ → Given
 given_in work helper name = record { limits = work.before.limits; held = work.before.holds name; says = work.before.says helper }
 
--- The two makings are the source of the file and the verifier of the helper. What is told in the journal is what the one
--- reader fed, within the limits. Each verdict was given to a question that was open. Unless there was no memory, one is
--- open still only where the verifier's count rose. No event is ready that isn't accepted.
+-- What is told in the journal is what the one reader fed, within the limits. Each verdict was given to a question that was
+-- open. Unless there was no memory, one is open still only where the verifier's count rose. No event is ready that isn't
+-- accepted.
+pub record IsToldBy (mode : Mode) (given : Given) (reader : Reader) (journal : Journal) : Type 0 where
+  pub bytes : List ℕ
+  pub fed : IsFed given.limits 0 (end_of bytes reader ∷ []) journal
+  pub reads : Reads given reader bytes (told_by fed.held journal.entries) (map (λ j. j.message) fed.fed.each.0.0.offered)
+  pub asked : reader.close ≢ OutOfMemory → AreAsked mode (told_by fed.held journal.entries) reader.verifier
+  pub regular : IsRegular mode [] (told_by fed.held journal.entries)
+  pub within : IsWithin given.limits [] (told_by fed.held journal.entries)
+  pub settled : AreSettled mode fed.held (told_by fed.held journal.entries)
+
+-- The two makings are the source of the file and the verifier of the helper, and the journal was told by the one reader.
 pub record IsTold (mode : Mode) (helper name : List ℕ) (work : Work) : Type 0 where
   pub reader : Reader
   pub one : work.readers ≡ reader ∷ []
   pub makes : Makes (making SourceKind name (is_none reader.source) ∷ making VerifierKind helper (is_none reader.verifier) ∷ []) work.before work.after
-  pub bytes : List ℕ
-  pub fed : IsFed work.before.limits 0 (end_of bytes reader ∷ []) work.journal
-  pub reads : Reads (given_in work helper name) reader bytes (told_by fed.held work.journal.entries) (map (λ j. j.message) fed.fed.each.0.0.offered)
-  pub asked : reader.close ≢ OutOfMemory → AreAsked mode (told_by fed.held work.journal.entries) reader.verifier
-  pub regular : IsRegular mode [] (told_by fed.held work.journal.entries)
-  pub within : IsWithin work.before.limits [] (told_by fed.held work.journal.entries)
-  pub settled : AreSettled mode fed.held (told_by fed.held work.journal.entries)
+  pub journal : IsToldBy mode (given_in work helper name) reader work.journal
 
 -- A file was read to a core, and the text of its journal is owed. There is a conflict where the text says so.
 pub record IsOverCore (mode : Mode) (is_text : CoreView → List Refusal → Close → List ℕ → Bool → Type 0) (helper name : List ℕ) (work : Work) : Type 0 where
   pub told : IsTold mode helper name work
   pub has_conflicts : Bool
   pub owes : Owes work.owed told.reader.close
-      (λ text. is_text (core_of mode work.before.limits told.fed.held work.journal.entries) told.reader.refused told.reader.close text has_conflicts)
+      (λ text. is_text (core_of mode work.before.limits told.journal.fed.held work.journal.entries) told.reader.refused told.reader.close text has_conflicts)
   pub nothing_else : work.own ≡ record nothing { conflict_found = has_conflicts }

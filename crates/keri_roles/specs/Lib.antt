@@ -11,4 +11,5 @@ pub mod Offers
 pub mod CoreTold
 pub mod Reports
 pub mod Agreement
+pub mod Generated
 pub mod Commands

@@ -1,17 +1,18 @@
 //! The commands that read a file to a core, and write of it.
-ghost use Rattle.std.specs.Prelude.{◌≡◌, ◌<◌, [], None, Some, IfOk, OnErr, option_map};
+ghost use Rattle.std.specs.Prelude.{◌≡◌, ◌<◌, []};
 ghost use Rattle.std.specs.Vec.{vec_capacity};
 ghost use Rattle.keri_roles.specs.Run.{work_seen};
 ghost use Rattle.keri_roles.specs.CoreTold.{IsOverCore};
 
 use crate::core_reader::{CoreReader, read_to_core};
-use crate::core_text::{Account, CoreText};
+use crate::core_text::CoreText;
+use crate::due::{Due, owe};
 use crate::outcome::Outcome;
 use crate::providers::make;
-use crate::{Close, Findings, ReaderEnd};
+use crate::{Findings, ReaderEnd};
 use journal::Mode;
 use keri_outside::Outside;
-use std::alloc::{AllocError, Global};
+use std::alloc::Global;
 
 /// Reads the stream of the file with the verifier of the helper to a core of this mode, and makes the text. The readers
 /// have room for the one that there is.
@@ -33,7 +34,7 @@ pub(crate) fn over_core<O: Outside, T: CoreText>(
     let providers = make(name, helper, outside);
     let CoreReader { reader, core } = read_to_core(alloc, mode, limits, providers);
     let account = T::text_of(alloc, &core, reader.refused.as_slice(), reader.close);
-    let Debt {
+    let Due {
         close,
         owed,
         conflict_found,
@@ -48,38 +49,6 @@ pub(crate) fn over_core<O: Outside, T: CoreText>(
         own: Findings {
             conflict_found,
             ..Findings::nothing()
-        },
-    }
-}
-
-// How a reader closes by whether there was memory for its text, the text, and whether that tells a conflict.
-#[derive(Drop)]
-struct Debt {
-    close: Close,
-    owed: Option<Vec<u8>>,
-    conflict_found: bool,
-}
-
-// What is owed where the reader closed so.
-fn owe(close: Close, account: Result<Account, AllocError>) -> Debt
-    ensures ok { IfOk account (λ account. (result.close ≡ close) × (option_map (λ text. text.items) result.owed ≡ Some account.text.items) × (result.conflict_found ≡ account.has_conflicts)) }
-    ensures err { OnErr account ((result.close ≡ Close.OutOfMemory) × (option_map (λ text. text.items) result.owed ≡ None)) }
-{
-    match account {
-        Ok(
-            Account {
-                text,
-                has_conflicts,
-            },
-        ) => Debt {
-            close,
-            owed: Some(text),
-            conflict_found: has_conflicts,
-        },
-        Err(AllocError) => Debt {
-            close: Close::OutOfMemory,
-            owed: None,
-            conflict_found: false,
         },
     }
 }

@@ -6,6 +6,7 @@ ghost use Rattle.keri_roles.specs.Run.{run_seen, work_seen, sink_seen};
 ghost use Rattle.keri_roles.specs.RunStatus.{HasCauses};
 
 use crate::check::check;
+use crate::generate::{StreamPlan, generate};
 use crate::nothing_told::nothing_told;
 use crate::outcome::Outcome;
 use crate::run_status::settle;
@@ -84,6 +85,9 @@ fn carry_out<O: Outside>(
         Command::Check { file } => check(alloc, file, readers, outside),
         Command::Validate { helper, file } => validate(alloc, helper, file, readers, outside),
         Command::Watch { helper, file } => watch(alloc, helper, file, readers, outside),
+        Command::Generate { seed, logs, events } => {
+            generate(alloc, StreamPlan { seed, logs, events }, readers, outside)
+        }
     }
 }
 

@@ -13,6 +13,7 @@ use Rattle.report_lines.specs.Words.{bad_word, reason_word, standing_word, why_w
 use Rattle.report_lines.specs.declared.sizes.Sizes.{Sizes}
 use Rattle.report_lines.specs.declared.standing.Standing.{Standing}
 use Rattle.report_lines.specs.declared.state_sizes.StateSizes.{StateSizes}
+use Rattle.report_lines.specs.declared.stream_counts.StreamCounts.{StreamCounts}
 
 -- words, parted by one space
 abbrev pub spaced : List (List ℕ) → List ℕ
@@ -63,6 +64,15 @@ state_sizes_text sizes = spaced (named (codes "keys") sizes.keys ∷ named (code
 abbrev pub state_text : Prefix → ℕ → Digest → StateSizes → List ℕ
 state_text prefix sn said sizes = line (codes "state" ∷ prefix_text prefix ∷ number sn
     ∷ digest_text said ∷ state_sizes_text sizes ∷ [])
+
+-- the numbers of logs, events, rotations, bytes, and accepted events
+abbrev pub stream_counts_text : StreamCounts → List ℕ
+stream_counts_text counts = spaced (named (codes "logs") counts.logs ∷ named (codes "events") counts.events ∷ named (codes "rotations") counts.rotations
+    ∷ named (codes "bytes") counts.bytes ∷ named (codes "accepted") counts.accepted ∷ [])
+
+-- `gen`, and the numbers of the stream
+abbrev pub stream_text : StreamCounts → List ℕ
+stream_text counts = line (codes "gen" ∷ stream_counts_text counts ∷ [])
 
 -- `conflict`, the prefix, the number, and the digests of the bodies
 abbrev pub conflict_text : Prefix → ℕ → List Digest → List ℕ

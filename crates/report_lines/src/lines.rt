@@ -1,10 +1,10 @@
 //! Lines, each with its line feed.
 ghost use Rattle.std.specs.Prelude.{◌≡◌, ◌++◌, IfOk, codes, flat_map, string_bytes};
 ghost use Rattle.cesr_codes.specs.Spelling.{digest_text};
-ghost use Rattle.report_lines.specs.Lines.{accepted_text, conflict_text, event_text, state_text, waits_text};
+ghost use Rattle.report_lines.specs.Lines.{accepted_text, conflict_text, event_text, state_text, stream_text, waits_text};
 
 use crate::why_word::WhyWord;
-use crate::{Sizes, Standing, StateSizes};
+use crate::{Sizes, Standing, StateSizes, StreamCounts};
 use cesr_codes::{Digest, Prefix};
 use event_body::{Event, kind_of, prefix_of, said_of_event, sn_of};
 use journal::Why;
@@ -57,6 +57,13 @@ pub fn state_line(
     ensures { IfOk result (λ line. string_bytes line ≡ state_text prefix.now sn said.now sizes) }
 {
     format!(in alloc; "state {prefix} {sn:x} {said} {sizes}\n")
+}
+
+/// The line of a stream that was made, and how much of it is accepted.
+pub fn stream_line(alloc: Global, counts: StreamCounts) -> Result<String, AllocError>
+    ensures { IfOk result (λ line. string_bytes line ≡ stream_text counts) }
+{
+    format!(in alloc; "gen {counts}\n")
 }
 
 /// The line of a conflict: the identifier, the number, and the digests of the bodies.

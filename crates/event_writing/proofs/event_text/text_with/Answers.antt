@@ -1,0 +1,7 @@
+use Rattle.std.proofs.Common.{sym, subst}
+use Rattle.event_writing.specs.Writable.{IsWritable}
+use Rattle.event_writing.proofs.OwnDigest.{still_writable}
+use Rattle.event_writing.proofs.event_text.text_with.Goals as goal
+
+pub event_text-requires-clause-writable : goal.event_text-requires-clause-writable
+event_text-requires-clause-writable c = subst IsWritable (sym c.in_ok-sealed.ensures) (still_writable c.args.said c.args.event.now c.requires)

@@ -1,0 +1,124 @@
+//! `gen --seed SEED --logs LOGS --events EVENTS`: makes a stream of logs, and says how much of it is accepted.
+ghost use Rattle.std.specs.Prelude.{◌≡◌, ◌≢◌, ◌<◌, [], IfOk, Some, is_none, false};
+ghost use Rattle.std.specs.Vec.{vec_capacity};
+ghost use Rattle.keri_outside.specs.Rehearsal.{rehearsal_says};
+ghost use Rattle.keri_outside.specs.declared.limits.Limits.{Limits as LimitsValue};
+ghost use Rattle.log_maker.specs.Streams.{stream_text};
+ghost use Rattle.report_lines.specs.Lines as lines;
+ghost use Rattle.validator_core.specs.View.{accepted_by};
+ghost use Rattle.keri_roles.specs.Commands.{IsGenerated};
+ghost use Rattle.keri_roles.specs.CoreTold.{Tells};
+ghost use Rattle.keri_roles.specs.Generated as specs;
+ghost use Rattle.keri_roles.specs.Run.{reader_seen, work_seen};
+
+use crate::core_reader::{CoreReader, read_to_core};
+use crate::core_text::Account;
+use crate::due::{Due, owe};
+use crate::outcome::Outcome;
+use crate::providers::Providers;
+use crate::{Close, Findings, ReaderEnd};
+use journal::Mode;
+use keri_outside::{Limits, Outside, Rehearsal, Source, Verifier};
+use log_maker::{LogMaker, totals_of};
+use report_lines::{StreamCounts, stream_line};
+use std::alloc::{AllocError, Global};
+use validator_core::Core;
+
+/// The seed of a stream, how many logs it has, and how many events each of them has.
+#[derive(Clone, Copy)]
+pub(crate) struct StreamPlan {
+    pub(crate) seed: u64,
+    pub(crate) logs: u16,
+    pub(crate) events: u16,
+}
+
+/// Reads the stream to a core that wants receipts and seals, with the verdicts of the rehearsal. The readers have room for
+/// the one that there is.
+pub(crate) fn generate<O: Outside>(
+    alloc: Global,
+    plan: StreamPlan,
+    readers: Vec<ReaderEnd<O::Source, O::Verifier>>,
+    outside: &mut O,
+) -> Outcome<O::Source, O::Verifier>
+    requires none_yet { readers.items ≡ [] }
+    requires room { 0 < vec_capacity readers }
+    ensures generated { IsGenerated plan.seed plan.logs plan.events (work_seen O.Source.left O.Source.faults O.Verifier.says O.Verifier.faults (O.told outside.old) (O.told outside.new) result) }
+    ensures sink { O.sink outside.new ≡ O.sink outside.old }
+{
+    let mut readers = readers;
+    let limits = outside.limits();
+    let CoreReader { reader, core } = read_made(alloc, plan, limits);
+    let account = account_of(alloc, plan, &core, reader.close);
+    let Due { close, owed, .. } = owe(reader.close, account);
+    let end = ReaderEnd {
+        source: None,
+        verifier: None,
+        refused: reader.refused,
+        close,
+    };
+    readers.push(end).unwrap();
+    Outcome {
+        readers,
+        journal: core.into_journal(),
+        owed,
+        own: Findings::nothing(),
+    }
+}
+
+// Makes the stream and reads it.
+fn read_made(alloc: Global, plan: StreamPlan, limits: Limits) -> CoreReader<LogMaker, Rehearsal>
+    ensures tells { Tells Mode.Full (record { limits = limits; held = Some (stream_text plan.seed plan.logs plan.events); says = rehearsal_says })
+        (reader_seen ⟦<LogMaker as Source>⟧.left ⟦<LogMaker as Source>⟧.faults ⟦<Rehearsal as Verifier>⟧.says ⟦<Rehearsal as Verifier>⟧.faults result.reader) result.core }
+    ensures source { is_none result.reader.source ≡ false }
+    ensures verifier { is_none result.reader.verifier ≡ false }
+{
+    let stream = LogMaker::new(
+        alloc,
+        plan.seed,
+        u64::from(plan.logs),
+        u64::from(plan.events),
+    );
+    let providers = Providers {
+        source: Some(stream),
+        verifier: Some(Rehearsal),
+    };
+    read_to_core(alloc, Mode::Full, limits, providers)
+}
+
+// The line, where there was memory for the stream and for the line. A stream fails to be made for want of memory alone.
+fn account_of(
+    alloc: Global,
+    plan: StreamPlan,
+    core: &Core,
+    close: Close,
+) -> Result<Account, AllocError>
+    ensures text { IfOk result (λ account. (close ≢ Close.OutOfMemory) × (account.text.items ≡ lines.stream_text (specs.counts_of plan.seed plan.logs plan.events (accepted_by core.now)))) }
+    ensures read { IfOk result (λ account. close ≢ Close.ReadFault) }
+{
+    if close == Close::OutOfMemory || close == Close::ReadFault {
+        return Err(AllocError);
+    }
+    let line = stream_line(alloc, counts_of(plan, core))?;
+    Ok(Account {
+        text: line.into_bytes(),
+        has_conflicts: false,
+    })
+}
+
+// How much the stream has, and how many of its events are accepted.
+fn counts_of(plan: StreamPlan, core: &Core) -> StreamCounts
+    ensures { result ≡ specs.counts_of plan.seed plan.logs plan.events (accepted_by core.now) }
+{
+    let logs = u64::from(plan.logs);
+    let events = u64::from(plan.events);
+    let Some(totals) = totals_of(plan.seed, logs, events) else {
+        unreachable!()
+    };
+    StreamCounts {
+        logs,
+        events: logs * events,
+        rotations: totals.rotations,
+        bytes: totals.bytes,
+        accepted: core.accepted().len() as u64,
+    }
+}

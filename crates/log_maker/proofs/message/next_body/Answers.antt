@@ -1,0 +1,9 @@
+use Rattle.std.proofs.Common.{length, ap, arith}
+use Rattle.log_maker.specs.Plans.{event_text}
+use Rattle.log_maker.proofs.Lengths.{few_bytes}
+use Rattle.log_maker.proofs.message.next_body.Goals as goal
+
+pub sealed_body-requires-clause-short : goal.sealed_body-requires-clause-short
+sealed_body-requires-clause-short c =
+    let next = c.args.log.now.next in
+    omega (arith, ap (λ event. length (event_text event)) c.in_ok-plan.ensures.event, few_bytes next.seed next.log next.sn)
