@@ -28,6 +28,7 @@ STREAMS = {
     "gen_two_events": (1, 1, 2),
     "gen_one_event": (0, 1, 1),
     "gen_ten_logs": (7, 10, 100),
+    "gen_hundred_logs": (7, 100, 100),
     "gen_greatest_seed": (GREATEST, 3, 20),
     "gen_many_logs": (5, 300, 2),
 }
