@@ -1,0 +1,8 @@
+use Rattle.std.proofs.Common.{[], ◌∷◌}
+use Rattle.keri_disk.specs.declared.disk_call.DiskCall.TheVariants.{Kept}
+use Rattle.keri_disk.proofs.Steps.{Did-then, keeps_kept}
+use Rattle.keri_disk.proofs.mem_disk.MemDisk.skip.Goals as goal
+
+pub returns-in-Ok-clause-keeps : goal.returns-in-Ok-clause-keeps
+returns-in-Ok-clause-keeps c =
+    keeps_kept c.args.self.now c.fail.new.self (Did-then (Kept ∷ []) c.args.self.now c.note.new.self c.fail.new.self c.in-Ok.ensures.ok c.fail.ensures.did)

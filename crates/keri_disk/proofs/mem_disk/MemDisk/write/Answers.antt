@@ -1,0 +1,14 @@
+use Rattle.std.proofs.Common.{◌≡◌, sym, ◌∙◌}
+use Rattle.keri_disk.specs.Images.{overwritten}
+use Rattle.keri_disk.specs.declared.disk_call.DiskCall.TheVariants.{Wrote}
+use Rattle.keri_disk.proofs.Replays.{replayed}
+use Rattle.keri_disk.proofs.mem_disk.MemDisk.write.Goals as goal
+
+pub invariant_of-self : goal.invariant_of-self
+invariant_of-self c =
+    let disk = c.args.self.now in
+    let bytes = c.from_vec-bytes.result in
+    let same : c.args.bytes.now ≡ bytes = sym (c.from_vec-bytes.ensures ∙ c.in-Ok-from_slice.ensures.items) in
+    let written : c.in-Ok.next.items ≡ overwritten disk.file.items c.args.place bytes =
+    c.in-Ok.ensures ∙ (λ i. overwritten (c.deref.ensures.value i) c.args.place (same i)) in
+    record { replayed = written ∙ replayed disk.first disk.calls _ (Wrote c.args.place bytes) disk.file.items disk.replayed c.in-Ok-push.ensures.ok }

@@ -1,0 +1,15 @@
+use Rattle.std.proofs.Common.{List, ℕ, ◌/◌, length, arith, length-take}
+use Rattle.keri_disk.specs.Images.{overwritten}
+use Rattle.keri_disk.specs.declared.disk_call.DiskCall.TheVariants.{Wrote}
+use Rattle.keri_disk.proofs.Steps.{Did-then, changes, changes_part}
+use Rattle.keri_disk.proofs.mem_disk.MemDiskDisk.write_at.Goals as goal
+
+-- the first half
+pub returns-then-next_fails-clause-written : goal.returns-then-next_fails-clause-written
+returns-then-next_fails-clause-written c =
+    let bytes = c.args.bytes.now in
+    let did = Did-then _ c.args.self.now c.write.new.self c.fail.new.self c.in_ok-write.ensures.ok c.fail.ensures.did in
+    changes_part c.args.self.now c.fail.new.self c.fail.result (λ (file : List ℕ). overwritten file c.args.place bytes) c.args.place (length bytes) _ (omega (arith, length-take (length bytes / 2) bytes)) did
+
+pub returns-clause-written : goal.returns-clause-written
+returns-clause-written c = changes c.args.self.now c.write-2.new.self (Wrote c.args.place c.args.bytes.now) c.in_ok-write-2.ensures.ok

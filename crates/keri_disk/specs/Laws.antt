@@ -1,0 +1,68 @@
+-- The laws of a disk, of one in memory.
+use Rattle.std.specs.Prelude.{◌≡◌, ◌≤◌, ◌+◌, ℕ, min, List, [], ◌∷◌, ◌++◌, length, take, drop, refl}
+use Rattle.std.proofs.Common.{sym, ◌∙◌, ap, subst, inl, inr, arith, length-append, length-take, length-drop, append_assoc}
+use Rattle.std.proofs.lemmas.Bool.{cases_lt}
+use Rattle.std.proofs.lemmas.List.{take_all, take_at, take_min, drop_at, drop_all}
+use Rattle.std.proofs.lemmas.Option.{same_Some}
+use Rattle.std.specs.declared.option.Option.TheVariants.{Some}
+use Rattle.keri_disk.specs.Images.{overwritten, Torn, CutShort}
+use Rattle.keri_disk.specs.Replay.{file_after, file_of, IsLeftBy, IsLeftByAll}
+use Rattle.keri_disk.specs.Memory.{images_at, mem_told}
+use Rattle.keri_disk.specs.declared.disk_call.DiskCall.{DiskCall}
+use Rattle.keri_disk.specs.declared.disk_call.DiskCall.TheVariants.{Kept, Synced, Wrote, CutTo}
+use Rattle.keri_disk.specs.declared.mem_disk.MemDisk.{MemDisk}
+
+-- past the range all is as before
+drop_overwritten : (file : List ℕ) (place : ℕ) (bytes : List ℕ) → drop (place + length bytes) (overwritten file place bytes) ≡ drop (place + length bytes) file
+drop_overwritten file place bytes =
+    let end = place + length bytes in
+    let front : List ℕ = take place file ++ bytes in
+    elim (cases_lt place (length file)) [
+      | inl within ↦ drop_at front (drop end file) end (simp (length-append, length-take) (omega arith))
+      | inr past ↦
+          drop_all end (front ++ drop end file) (simp (length-append, length-take, length-drop) (omega arith))
+          ∙ sym (drop_all end file (omega arith))
+    ]
+
+-- the whole of a write is one of its parts
+pub Torn-overwritten : (file : List ℕ) (place : ℕ) (bytes : List ℕ) → Torn place (length bytes) file (overwritten file place bytes)
+Torn-overwritten file place bytes = record {
+  before = ap (take (min place (length file))) (append_assoc (take place file) bytes (drop (place + length bytes) file))
+      ∙ take_at (take place file) (bytes ++ drop (place + length bytes) file) (min place (length file)) (length-take place file);
+  after = drop_overwritten file place bytes;
+  no_shorter = simp (length-append, length-take, length-drop) (omega arith);
+  no_longer = simp (length-append, length-take, length-drop) (omega arith);
+}
+
+-- and that of a cut
+pub CutShort-take : (size : ℕ) (file : List ℕ) → CutShort size file (take size file)
+CutShort-take size file = record {
+  front = ap (λ (n : ℕ). take n file) (length-take size file) ∙ take_min size file;
+  no_shorter = simp length-take (omega arith);
+}
+
+-- the file after a call is left by it, of the file before
+file_after-IsLeft : (call : DiskCall) (file : List ℕ) → IsLeftBy call file file (file_after call file)
+file_after-IsLeft Kept file = refl
+file_after-IsLeft Synced file = refl
+file_after-IsLeft (Wrote place bytes) file = Torn-overwritten file place bytes
+file_after-IsLeft (CutTo size) file = CutShort-take size file
+
+file_of-IsLeft : (calls : List DiskCall) (file : List ℕ) → IsLeftByAll calls file file (file_of file calls)
+file_of-IsLeft [] file = refl
+file_of-IsLeft (call ∷ calls) file = (file_after call file, file_after-IsLeft call file, file_of-IsLeft calls (file_after call file))
+
+pub reads_an_image : (disk : MemDisk) (file : List ℕ) → (mem_told disk).file ≡ Some file → (mem_told disk).images file
+reads_an_image disk file is =
+    let calls : List DiskCall = take (length disk.calls) disk.calls in
+    let reads : file_of disk.first calls ≡ file =
+    ap (file_of disk.first) (take_all (length disk.calls) disk.calls (omega arith)) ∙ sym disk.replayed ∙ same_Some _ _ is in
+    subst (images_at disk (length disk.calls)) reads (file_of-IsLeft calls disk.first)
+
+pub counts_now : (disk : MemDisk) (t : ℕ) (c : List ℕ) → t ≤ (mem_told disk).moment → (mem_told disk).images c → (mem_told disk).images_since t c
+counts_now disk t c le now = (length disk.calls, le, omega arith, now)
+
+pub only_now : (disk : MemDisk) (c : List ℕ) → (mem_told disk).images_since (mem_told disk).moment c → (mem_told disk).images c
+only_now disk c left =
+    let last : left.0 ≡ length disk.calls = omega (arith, left.1, left.2) in
+    subst (λ (n : ℕ). images_at disk n c) last left.3

@@ -1,0 +1,6 @@
+pub mod Calls
+pub mod Images
+pub mod Laws
+pub mod Memory
+pub mod Replay
+pub mod Shapes
