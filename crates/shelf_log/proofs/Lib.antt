@@ -1,0 +1,14 @@
+mod Blanks
+mod Changes
+mod Crash
+mod Emptied
+mod Files
+mod Migrated
+mod Moments
+mod Pieces
+mod Readings
+mod Refusals
+mod ScanSteps
+mod Sizes
+mod Stored
+mod Windows

@@ -1,0 +1,21 @@
+-- How long records are, one by one.
+use Rattle.std.proofs.Common.{◌≡◌, ℕ, ◌+◌, ◌<◌, ◌≤◌, List, [], ◌∷◌, ◌++◌, length, take, drop, get_or, sym, ◌∙◌, ap, arith, append-nil, length-append, take-append-drop}
+use Rattle.std.proofs.lemmas.List.{take_more}
+use Rattle.shelf_log.specs.Format.{record_bytes, records, shelf_front}
+use Rattle.shelf_log.specs.declared.version.Version.{Version}
+use Rattle.shelf_log.proofs.Files.{front-append, length-front-push, records-append}
+
+module _ (version : Version) (list : List (List ℕ)) (i : ℕ) where
+  pub taken : (item : List ℕ) → i < length list → item ≡ get_or list i item → take (i + 1) list ≡ take i list ++ item ∷ []
+  taken item lt is = take_more list i item lt ∙ ap (λ (x : List ℕ). take i list ++ x ∷ []) (sym is)
+
+  -- one record more
+  pub size_more : (item : List ℕ) → i < length list → item ≡ get_or list i item → length (shelf_front version (take (i + 1) list)) ≡ length (shelf_front version (take i list)) + 5 + length item
+  size_more item lt is = ap (λ (l : List (List ℕ)). length (shelf_front version l)) (taken item lt is) ∙ length-front-push version (take i list) item
+
+  pub records_more : (item : List ℕ) → i < length list → item ≡ get_or list i item → records (take (i + 1) list) ≡ records (take i list) ++ record_bytes item
+  records_more item lt is = ap records (taken item lt is) ∙ records-append (take i list) (item ∷ []) ∙ ap (λ (l : List ℕ). records (take i list) ++ l) (append-nil (record_bytes item))
+
+  -- the first of them are no longer than all
+  pub size_front : length (shelf_front version (take i list)) ≤ length (shelf_front version list)
+  size_front = omega (arith, sym (ap (λ (l : List (List ℕ)). length (shelf_front version l)) (take-append-drop i list)), ap length (front-append version (take i list) (drop i list)), length-append (shelf_front version (take i list)) (records (drop i list)))

@@ -1,0 +1,6 @@
+use Rattle.shelf_log.proofs.Blanks.{extends}
+use Rattle.shelf_log.proofs.behind.extend.Goals as goal
+
+pub returns-clause-extends : goal.returns-clause-extends
+returns-clause-extends g c =
+    extends c.args.end c.args.bytes.now (g.D.Disk.told c.args.disk.now) (g.D.Disk.told c.write_at.new.self) c.write_at.result (g.met.D.Disk.only_now c.args.disk.now) c.requires.few c.requires.end c.write_at.ensures.written

@@ -1,0 +1,11 @@
+use Rattle.std.proofs.Common.{◌≡◌, take, length}
+use Rattle.shelf_log.specs.Format.{records, shelf_front}
+use Rattle.shelf_log.specs.declared.version.Version.TheVariants.{Two}
+use Rattle.shelf_log.proofs.Blanks.{ExtendsSoFar}
+use Rattle.shelf_log.proofs.behind.write_records.Given as goal
+
+-- the records so far were written
+abbrev pub invariant-loop-payload : goal.invariant-loop-payload
+invariant-loop-payload g l =
+    (l.place ≡ length (shelf_front Two (take l.payload-index l.list))) × ((g.D.Disk.told l.disk).faults ≡ (g.D.Disk.told l.initial.disk).faults)
+    × ExtendsSoFar (records (take l.payload-index l.list)) (g.D.Disk.told l.initial.disk) (g.D.Disk.told l.disk)

@@ -1,0 +1,29 @@
+//! Changes of a file with a sync behind them.
+ghost use Rattle.std.specs.Prelude.{take, length};
+ghost use Rattle.keri_specs.specs.Causes.{HasCause};
+ghost use Rattle.keri_disk.specs.Images.{overwritten, Torn, CutShort};
+ghost use Rattle.keri_disk.specs.Calls.{IsInFile};
+ghost use Rattle.shelf_log.specs.Durable.{ChangesDurably};
+
+use keri_disk::Disk;
+use keri_outside::Failed;
+
+// Writes the bytes and syncs.
+pub(crate) fn put_durably<D: Disk>(disk: &mut D, place: u64, bytes: &[u8]) -> Result<(), Failed>
+    requires { IsInFile place 0 (D.told disk.old).file }
+    ensures puts { ChangesDurably (λ file. overwritten file place bytes.now) (Torn place (length bytes.now)) (D.told disk.old) (D.told disk.new) result }
+    ensures cause { HasCause (D.told disk.old).faults (D.told disk.new).faults result }
+{
+    disk.write_at(place, bytes)?;
+    disk.sync()
+}
+
+// Cuts the file and syncs.
+pub(crate) fn cut_durably<D: Disk>(disk: &mut D, size: u64) -> Result<(), Failed>
+    requires { IsInFile size 0 (D.told disk.old).file }
+    ensures cuts { ChangesDurably (take size) (CutShort size) (D.told disk.old) (D.told disk.new) result }
+    ensures cause { HasCause (D.told disk.old).faults (D.told disk.new).faults result }
+{
+    disk.cut(size)?;
+    disk.sync()
+}

@@ -1,0 +1,96 @@
+//! A file of records, read from its mark to its closed gate.
+ghost use Rattle.std.specs.Prelude.{◌≡◌, ◌≤◌, ◌⊎◌, ◌↔◌, ◌-◌, [], List, ℕ, OnOk, IfOk, IfSome, MatchResult, Ok, Err, IsTrue, length, take};
+ghost use Rattle.keri_specs.specs.Causes.{HasCause};
+ghost use Rattle.keri_disk.specs.Images.{IsDurable};
+ghost use Rattle.keri_disk.specs.Calls.{IsSizeOf, Keeps};
+ghost use Rattle.shelf_log.specs.Answers.{HasDiskCause, Reads};
+ghost use Rattle.shelf_log.specs.Format.{mark};
+ghost use Rattle.shelf_log.specs.Scans.{HasRead, IsWithin, Scans};
+
+use crate::piece::End;
+use crate::scan::Scan;
+use crate::{ShelfFault, Version};
+use keri_disk::Disk;
+use keri_outside::{Failed, Limits};
+use std::alloc::Global;
+
+// Bytes of a file that are read at a time: more than a record has.
+const WINDOW: u64 = 1 << 21;
+
+/// Reads the list of a file. It syncs first, and writes nothing.
+#[tactic(auto, using(crate::proofs::Moments::keeps_both))]
+pub(crate) fn read_list<D: Disk>(
+    alloc: Global,
+    disk: &mut D,
+    version: Version,
+    limits: Limits,
+) -> Result<Scan, ShelfFault>
+    ensures reads { IfSome (D.told disk.old).file (λ file. MatchResult result (λ scan. Reads version limits file (Ok scan.list)) (λ fault. Reads version limits file (Err fault))) }
+    ensures read { IfOk result (λ scan. IsWithin version limits scan) }
+    ensures durable { OnOk result (IsDurable (D.told disk.new)) }
+    ensures keeps { Keeps (D.told disk.old) (D.told disk.new) }
+    ensures cause { MatchResult result (λ _. (D.told disk.new).faults ≡ (D.told disk.old).faults) (λ fault. HasDiskCause (D.told disk.old) (D.told disk.new) fault) }
+{
+    disk.sync()?;
+    let size = disk.size()?;
+    if !has_mark(disk, size, version)? {
+        return Err(ShelfFault::NotAShelf(0));
+    }
+    let mut window = vec![in alloc; 0; WINDOW.min(size - 8) as usize]?;
+    let mut scan = Scan::new(alloc, version, limits);
+    read_records(disk, size, &mut window, &mut scan)?;
+    if scan.is_over {
+        return Err(ShelfFault::Full);
+    }
+    Ok(scan)
+}
+
+// Whether the file begins with the version's mark.
+fn has_mark<D: Disk>(disk: &mut D, size: u64, version: Version) -> Result<bool, Failed>
+    requires size { IsSizeOf (D.told disk.old).file size }
+    ensures mark { IfOk result (λ has. IfSome (D.told disk.old).file (λ file. IsTrue has ↔ (take 8 file ≡ mark version))) }
+    ensures long { IfOk result (λ has. IsTrue has → 8 ≤ size) }
+    ensures keeps { Keeps (D.told disk.old) (D.told disk.new) }
+    ensures cause { HasCause (D.told disk.old).faults (D.told disk.new).faults result }
+{
+    if size < 8 {
+        return Ok(false);
+    }
+    let mut front = [0; 8];
+    disk.read(0, &mut front)?;
+    Ok(front == version.mark())
+}
+
+// Reads the records behind the mark, up to the closed gate.
+#[tactic(auto, using(crate::proofs::Moments::keeps_both))]
+fn read_records<D: Disk>(
+    disk: &mut D,
+    size: u64,
+    window: &mut [u8],
+    scan: &mut Scan,
+) -> Result<(), ShelfFault>
+    requires size { IsSizeOf (D.told disk.old).file size }
+    requires window { (length window.old ≡ size - 8) ⊎ (length window.old ≡ 2097152) }
+    requires mark { (8 ≤ size) × IfSome (D.told disk.old).file (λ file. take 8 file ≡ mark scan.old.version) }
+    requires none_yet { HasRead scan.old [] }
+    ensures read { OnOk result ((list : List (List ℕ)) × HasRead scan.new list) }
+    ensures scans { IfSome (D.told disk.old).file (λ file. Scans file scan.new result) }
+    ensures of { (scan.new.version ≡ scan.old.version) × (scan.new.limits ≡ scan.old.limits) }
+    ensures keeps { Keeps (D.told disk.old) (D.told disk.new) }
+    ensures cause { MatchResult result (λ _. (D.told disk.new).faults ≡ (D.told disk.old).faults) (λ fault. HasDiskCause (D.told disk.old) (D.told disk.new) fault) }
+{
+    loop {
+        let left = size - scan.place;
+        let count = left.min(window.len() as u64);
+        let window = &mut window[..count as usize];
+        disk.read(scan.place, window)?;
+        match scan.take_window(window)? {
+            End::Closed => return Ok(()),
+            End::Part(offset) if count == left => return Err(ShelfFault::NotAShelf(
+                scan.place + offset,
+            )),
+            End::Part(_) => {}
+            End::OutOfRange => return Err(ShelfFault::NotAShelf(scan.place + 1)),
+        }
+    }
+}

@@ -1,0 +1,104 @@
+//! A list that is brought over to a new file.
+ghost use Rattle.std.specs.Prelude.{◌≡◌, ◌≢◌, ◌⊎◌, ◌≤◌, ◌↔◌, List, ℕ, false, length, IfOk, IfErr, OnOk, IsTrue, MatchResult};
+ghost use Rattle.std.specs.List.{All};
+ghost use Rattle.keri_specs.specs.Causes.{HasCause};
+ghost use Rattle.keri_disk.specs.Images.{LeavesOnly};
+ghost use Rattle.shelf_log.specs.Answers.{IsOver, HasDiskCause, MigrationRefuses};
+ghost use Rattle.shelf_log.specs.Format.{IsSized, IsNoShelf, shelf_front, shelf_size};
+ghost use Rattle.shelf_log.specs.Settled.{AllHold, BringsOver, IsBroughtOver};
+ghost use Rattle.shelf_log.specs.declared.version.Version.TheVariants.{One, Two};
+ghost use Rattle.shelf_log.specs.declared.fault.ShelfFault.TheVariants.{DiskFault};
+
+use crate::behind::write_behind;
+use crate::durable::{cut_durably, put_durably};
+use crate::record::HEAD;
+use crate::{Returned, Shelf, ShelfFault, Version};
+use keri_disk::Disk;
+use keri_outside::{Failed, Limits};
+use lists::{CopyValue, Items};
+use std::alloc::{AllocError, Global};
+
+impl<D: Disk + Drop> Shelf<D> {
+    /// Brings a list of payloads of 1 to 65,535 bytes over to a disk that holds no shelf of version 2. What its file held
+    /// is lost.
+    ///
+    /// A stop at any moment leaves no shelf of version 2, or the whole list.
+    pub fn migrate(
+        alloc: Global,
+        list: &[Items<u8>],
+        target: D,
+        limits: Limits,
+    ) -> Result<Shelf<D>, Returned<D>>
+        requires sized { All (IsSized One) list.now }
+        requires no_shelf { (c : List ℕ) → (D.told target).images c → IsNoShelf Two c }
+        ensures made { IfOk result (λ shelf. (shelf.list ≡ list.now) × (shelf.limits ≡ limits) × (shelf.broken ≡ false) × AllHold (D.told shelf.disk) list.now) }
+        ensures full { MatchResult result (λ _. IsOver Two limits list.now → ⊥) (λ returned. MigrationRefuses limits list.now returned.fault) }
+        ensures kept { IfErr result (λ returned. returned.fault ≢ DiskFault → returned.disk ≡ target) }
+        ensures cause { MatchResult result (λ shelf. (D.told shelf.disk).faults ≡ (D.told target).faults) (λ returned. HasDiskCause (D.told target) (D.told returned.disk) returned.fault) }
+        ensures moments { MatchResult result (λ shelf. LeavesOnly (D.told target) (D.told shelf.disk) (IsBroughtOver list.now)) (λ returned. LeavesOnly (D.told target) (D.told returned.disk) (IsBroughtOver list.now)) }
+    {
+        if is_over(list, limits) {
+            return Err(Returned {
+                disk: target,
+                fault: ShelfFault::Full,
+            });
+        }
+        let Ok(copies) = copies_of(alloc, list) else {
+            return Err(Returned {
+                disk: target,
+                fault: ShelfFault::OutOfMemory,
+            });
+        };
+        let mut disk = target;
+        match write_over(&mut disk, list) {
+            Ok(end) => Ok(Shelf::settled(alloc, disk, copies, end, limits)),
+            Err(Failed) => Err(Returned {
+                disk,
+                fault: ShelfFault::DiskFault,
+            }),
+        }
+    }
+}
+
+// Whether the list has more records or bytes than a shelf may have.
+fn is_over(list: &[Items<u8>], limits: Limits) -> bool
+    requires { All (IsSized One) list.now }
+    ensures { IsTrue result ↔ IsOver Two limits list.now }
+{
+    let mut size = 9;
+    for payload in list {
+        size += (HEAD + payload.len()) as u64;
+        if size > u64::from(limits.shelf_bytes) {
+            return true;
+        }
+    }
+    list.len() as u64 > u64::from(limits.records) || size > u64::from(limits.shelf_bytes)
+}
+
+// The same list.
+fn copies_of(alloc: Global, list: &[Items<u8>]) -> Result<Items<Items<u8>>, AllocError>
+    ensures { IfOk result (λ copies. copies ≡ list.now) }
+{
+    let mut copies = Items::new(alloc);
+    for payload in list {
+        copies.push(payload.copy(alloc)?)?;
+    }
+    Ok(copies)
+}
+
+// Empties the file, writes all but the first byte of its mark, and when that is on the disk that byte. Answers the
+// place of the closed gate.
+fn write_over<D: Disk>(disk: &mut D, list: &[Items<u8>]) -> Result<u64, Failed>
+    requires sized { All (IsSized One) list.now }
+    requires few { shelf_size Two list.now ≤ 1073741824 }
+    ensures end { IfOk result (λ end. end ≡ length (shelf_front Two list.now)) }
+    ensures brings { BringsOver list.now (D.told disk.old) (D.told disk.new) result }
+    ensures cause { HasCause (D.told disk.old).faults (D.told disk.new).faults result }
+{
+    cut_durably(disk, 0)?;
+    put_durably(disk, 0, &[0])?;
+    let end = write_behind(disk, list)?;
+    let first = Version::Two.mark()[0];
+    put_durably(disk, 0, &[first])?;
+    Ok(end)
+}

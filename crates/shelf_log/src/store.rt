@@ -1,0 +1,57 @@
+//! One payload more on a disk.
+ghost use Rattle.std.specs.Prelude.{◌≡◌, ◌+◌, ◌<◌, ◌++◌, [], ◌∷◌, ◌⊎◌, List, ℕ, OnOk, OnErr, IfErr, MatchResult, length};
+ghost use Rattle.std.specs.Int.{w32, to_be_bytes};
+ghost use Rattle.keri_specs.specs.Causes.{HasCause};
+ghost use Rattle.keri_disk.specs.Calls.{IsInFile};
+ghost use Rattle.shelf_log.specs.Answers.{HasDiskCause};
+ghost use Rattle.shelf_log.specs.Format.{shelf_front, IsSized};
+ghost use Rattle.shelf_log.specs.Settled.{IsSettled, Stores};
+ghost use Rattle.shelf_log.specs.declared.version.Version.TheVariants.{Two};
+ghost use Rattle.shelf_log.specs.declared.fault.ShelfFault.TheVariants.{DiskFault, OutOfMemory};
+
+use crate::ShelfFault;
+use crate::durable::put_durably;
+use crate::record::staged_record;
+use keri_disk::Disk;
+use keri_outside::Failed;
+use lists::Items;
+use std::alloc::Global;
+
+/// Adds a payload to the list and to the disk, whose closed gate stands at `end`. After a refusal the list is as before.
+pub(crate) fn add<D: Disk>(
+    alloc: Global,
+    disk: &mut D,
+    list: &mut Items<Items<u8>>,
+    end: u64,
+    payload: &[u8],
+) -> Result<(), ShelfFault>
+    requires inside { IsInFile (end + 1) 0 (D.told disk.old).file }
+    requires few { end < 1073741824 }
+    requires sized { IsSized Two payload.now }
+    ensures ok { OnOk result (list.new ≡ list.old ++ payload.now ∷ []) }
+    ensures err { OnErr result (list.new ≡ list.old) }
+    ensures refused { IfErr result (λ fault. (fault ≡ DiskFault) ⊎ ((fault ≡ OutOfMemory) × (disk.new ≡ disk.old))) }
+    ensures stores { IsSettled (D.told disk.old) list.old → end ≡ length (shelf_front Two list.old) → Stores list.old payload.now (D.told disk.old) (D.told disk.new) result }
+    ensures cause { MatchResult result (λ _. (D.told disk.new).faults ≡ (D.told disk.old).faults) (λ fault. HasDiskCause (D.told disk.old) (D.told disk.new) fault) }
+{
+    let staged = staged_record(alloc, payload)?;
+    let kept = Items::from_vec(Vec::from_slice(alloc, payload)?);
+    list.push(kept)?;
+    if store(disk, end, &staged).is_err() {
+        list.truncate(list.len() - 1);
+        return Err(ShelfFault::DiskFault);
+    }
+    Ok(())
+}
+
+// Writes the staged record behind the closed gate at `end`, and when that is on the disk opens the gate.
+fn store<D: Disk>(disk: &mut D, end: u64, staged: &[u8]) -> Result<(), Failed>
+    requires inside { IsInFile (end + 1) 0 (D.told disk.old).file }
+    requires few { end < 1073741824 }
+    ensures stores { (list : List (List ℕ)) (payload : List ℕ) → IsSettled (D.told disk.old) list → end ≡ length (shelf_front Two list) → IsSized Two payload
+        → staged.now ≡ to_be_bytes w32 (length payload) ++ payload ++ 0 ∷ [] → Stores list payload (D.told disk.old) (D.told disk.new) result }
+    ensures cause { HasCause (D.told disk.old).faults (D.told disk.new).faults result }
+{
+    put_durably(disk, end + 1, staged)?;
+    put_durably(disk, end, &[1])
+}
