@@ -1,0 +1,13 @@
+//! A real file as a disk. It tells nothing of its content: that the operating system and the device keep what is written
+//! is believed, and not proved.
+#![tactic(auto)]
+
+mod file_disk;
+mod open_error;
+mod opening;
+#[cfg(test)]
+mod tests;
+mod transfer;
+
+pub use file_disk::FileDisk;
+pub use open_error::OpenError;

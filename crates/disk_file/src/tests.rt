@@ -1,0 +1,41 @@
+//! A real file, in the folder in which the test runs.
+
+use crate::{FileDisk, OpenError};
+use keri_disk::Disk;
+use keri_outside::Failed;
+use std::fs;
+use std::test::Fail;
+
+const FOLDER: &str = "disk_file_test";
+
+const PATH: &str = "disk_file_test/a";
+
+#[test]
+fn is_written_cut_and_read_by_one_at_a_time(rt: HostRuntime) -> Result<(), Fail> {
+    let _ = fs::remove_dir_all(&rt, FOLDER);
+    fs::create_dir(&rt, FOLDER)?;
+    assert!(rt; matches!(FileDisk::open_existing(&rt, PATH), Err(OpenError::Io(_))));
+    let mut disk = FileDisk::open(&rt, PATH)?;
+    assert!(rt; matches!(FileDisk::open(&rt, PATH), Err(OpenError::Busy)));
+    assert!(rt; matches!(FileDisk::open(&rt, FOLDER), Err(OpenError::NotAFile)));
+    disk.write_at(0, b"abcdef")?;
+    disk.cut(5)?;
+    disk.sync()?;
+    let mut back = [0; 3];
+    disk.read(2, &mut back)?;
+    assert_eq!(rt; back, *b"cde");
+    for place in [3, 5, (1 << 63) - 1, 1 << 63, u64::MAX] {
+        assert_eq!(rt; disk.read(place, &mut back), Err(Failed), "at {place}");
+    }
+    for place in [(1 << 63) - 1, 1 << 63, u64::MAX] {
+        assert_eq!(rt; disk.write_at(place, b"ab"), Err(Failed), "at {place}");
+        assert_eq!(rt; disk.cut(place), Err(Failed), "at {place}");
+    }
+    assert_eq!(rt; disk.size()?, 5);
+    drop(disk);
+    let mut disk = FileDisk::open_existing(&rt, PATH)?;
+    assert_eq!(rt; disk.size()?, 5);
+    drop(disk);
+    fs::remove_dir_all(&rt, FOLDER)?;
+    Ok(())
+}

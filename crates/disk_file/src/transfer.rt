@@ -1,0 +1,60 @@
+//! Whole reads and writes at a place of a file.
+ghost use Rattle.std.specs.Prelude.{◌<◌, ◌≤◌, length, IfOk};
+
+use keri_outside::Failed;
+use std::fs::File;
+use std::io::ErrorKind;
+use std::os::unix::fs::FileExt;
+
+/// A call that a signal interrupted is tried again, up to so many times in all, before it counts as a fault.
+const ATTEMPTS: usize = 1_000;
+
+/// Fills the buffer with the bytes from a place on. A file that ends before is a fault, and so is a place from 2^63 on.
+pub(crate) fn read_all(file: &File, place: u64, buf: &mut [u8]) -> Result<(), Failed> {
+    let mut done = 0;
+    while done < buf.len() {
+        done += read_some(file, place.saturating_add(done as u64), &mut buf[done..])?;
+    }
+    Ok(())
+}
+
+/// Writes the bytes from a place on.
+pub(crate) fn write_all(file: &File, place: u64, bytes: &[u8]) -> Result<(), Failed> {
+    let mut done = 0;
+    while done < bytes.len() {
+        done += write_some(file, place.saturating_add(done as u64), &bytes[done..])?;
+    }
+    Ok(())
+}
+
+// Reads one byte or more to the front of the buffer, and says how many.
+fn read_some(file: &File, place: u64, buf: &mut [u8]) -> Result<usize, Failed>
+    ensures some { IfOk result (λ count. 0 < count) }
+    ensures most { IfOk result (λ count. count ≤ length buf.new) }
+{
+    for _ in 0..ATTEMPTS {
+        match file.read_at(buf, place) {
+            Ok(0) => break,
+            Ok(count) => return Ok(count),
+            Err(error) if error.kind() == ErrorKind::Interrupted => {}
+            Err(_) => break,
+        }
+    }
+    Err(Failed)
+}
+
+// Writes one byte or more from the front, and says how many.
+fn write_some(file: &File, place: u64, bytes: &[u8]) -> Result<usize, Failed>
+    ensures some { IfOk result (λ count. 0 < count) }
+    ensures most { IfOk result (λ count. count ≤ length bytes.now) }
+{
+    for _ in 0..ATTEMPTS {
+        match file.write_at(bytes, place) {
+            Ok(0) => break,
+            Ok(count) => return Ok(count),
+            Err(error) if error.kind() == ErrorKind::Interrupted => {}
+            Err(_) => break,
+        }
+    }
+    Err(Failed)
+}
