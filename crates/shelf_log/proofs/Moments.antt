@@ -1,6 +1,6 @@
 -- How a run of calls of a disk goes on.
 use Rattle.std.proofs.Common.{inl, inr, ⊎_elim, ℕ, List, refl, ◌∙◌, arith}
-use Rattle.keri_disk.specs.Images.{DiskTold, LeavesOnly}
+use Rattle.keri_disk.specs.Images.{DiskTold, IsDurable, LeavesOnly}
 use Rattle.keri_disk.specs.Calls.{Elapses, Keeps}
 
 -- no image is there that isn't told of this moment
@@ -51,3 +51,7 @@ keeps_none told = record { file = refl; images = λ c now. now; later = omega ar
 -- in time nothing else comes of them
 pub elapses_of : (old new : DiskTold) → Keeps old new → Elapses old new
 elapses_of old new keeps = record { later = keeps.later; nothing_else = λ t c le since. inl (keeps.nothing_new t c le since); keeps = keeps.keeps }
+
+-- where each image was the file, and nothing changed, each is still
+pub durable_kept : (old new : DiskTold) → IsDurable old → Keeps old new → IsDurable new
+durable_kept old new durable keeps c now = keeps.file ∙ durable c (keeps.images c now)

@@ -1,8 +1,9 @@
 //! A file of records, read from its mark to its closed gate.
-ghost use Rattle.std.specs.Prelude.{◌≡◌, ◌≤◌, ◌⊎◌, ◌↔◌, ◌-◌, [], List, ℕ, OnOk, IfOk, IfSome, MatchResult, Ok, Err, IsTrue, length, take};
+ghost use Rattle.std.specs.Prelude.{◌≡◌, ◌≢◌, ◌≤◌, ◌⊎◌, ◌↔◌, ◌-◌, [], List, ℕ, OnOk, IfOk, IfSome, MatchResult, Ok, Err, IsTrue, length, take};
 ghost use Rattle.keri_specs.specs.Causes.{HasCause};
 ghost use Rattle.keri_disk.specs.Images.{IsDurable};
 ghost use Rattle.keri_disk.specs.Calls.{IsSizeOf, Keeps};
+ghost use Rattle.shelf_log.specs.declared.fault.ShelfFault.TheVariants.{DiskFault};
 ghost use Rattle.shelf_log.specs.Answers.{HasDiskCause, Reads};
 ghost use Rattle.shelf_log.specs.Format.{mark};
 ghost use Rattle.shelf_log.specs.Scans.{HasRead, IsWithin, Scans};
@@ -18,7 +19,7 @@ use std::alloc::Global;
 const WINDOW: u64 = 1 << 21;
 
 /// Reads the list of a file. It syncs first, and writes nothing.
-#[tactic(auto, using(crate::proofs::Moments::keeps_both))]
+#[tactic(auto, using(crate::proofs::Moments::keeps_both, crate::proofs::Moments::durable_kept))]
 pub(crate) fn read_list<D: Disk>(
     alloc: Global,
     disk: &mut D,
@@ -27,7 +28,7 @@ pub(crate) fn read_list<D: Disk>(
 ) -> Result<Scan, ShelfFault>
     ensures reads { IfSome (D.told disk.old).file (λ file. MatchResult result (λ scan. Reads version limits file (Ok scan.list)) (λ fault. Reads version limits file (Err fault))) }
     ensures read { IfOk result (λ scan. IsWithin version limits scan) }
-    ensures durable { OnOk result (IsDurable (D.told disk.new)) }
+    ensures durable { MatchResult result (λ _. IsDurable (D.told disk.new)) (λ fault. fault ≢ DiskFault → IsDurable (D.told disk.new)) }
     ensures keeps { Keeps (D.told disk.old) (D.told disk.new) }
     ensures cause { MatchResult result (λ _. (D.told disk.new).faults ≡ (D.told disk.old).faults) (λ fault. HasDiskCause (D.told disk.old) (D.told disk.new) fault) }
 {

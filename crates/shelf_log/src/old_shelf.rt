@@ -16,17 +16,20 @@ pub struct OldShelf<D> {
 }
 
 impl<D: Disk + Drop> Shelf<D> {
-    ghost use Rattle.std.specs.Prelude.{◌≡◌, IfOk, IfSome, MatchResult, Ok, Err};
+    ghost use Rattle.std.specs.Prelude.{◌≡◌, ◌≢◌, IfOk, IfSome, MatchResult, Ok, Err};
     ghost use Rattle.std.specs.List.{All};
+    ghost use Rattle.keri_disk.specs.Images.{IsDurable};
     ghost use Rattle.keri_disk.specs.Calls.{Keeps};
     ghost use Rattle.shelf_log.specs.Answers.{HasDiskCause, Reads};
     ghost use Rattle.shelf_log.specs.Format.{IsSized};
     ghost use Rattle.shelf_log.specs.declared.version.Version.TheVariants.{One};
+    ghost use Rattle.shelf_log.specs.declared.fault.ShelfFault.TheVariants.{DiskFault};
 
     /// Reads a file of version 1, whose payloads have 1 to 65,535 bytes. It syncs first, and writes and cuts nothing,
     /// whatever it answers.
     pub fn read_old(alloc: Global, disk: D, limits: Limits) -> Result<OldShelf<D>, Returned<D>>
         ensures sized { IfOk result (λ old. All (IsSized One) old.list) }
+        ensures durable { MatchResult result (λ old. IsDurable (D.told old.disk)) (λ returned. returned.fault ≢ DiskFault → IsDurable (D.told returned.disk)) }
         ensures reads { IfSome (D.told disk).file (λ file. MatchResult result (λ old. Reads One limits file (Ok old.list)) (λ returned. Reads One limits file (Err returned.fault))) }
         ensures keeps { MatchResult result (λ old. Keeps (D.told disk) (D.told old.disk)) (λ returned. Keeps (D.told disk) (D.told returned.disk)) }
         ensures cause { MatchResult result (λ old. (D.told old.disk).faults ≡ (D.told disk).faults) (λ returned. HasDiskCause (D.told disk) (D.told returned.disk) returned.fault) }

@@ -34,7 +34,7 @@ pub struct Shelf<D: Disk> {
 
 impl<D: Disk + Drop> Shelf<D> {
     ghost use Rattle.std.specs.Prelude.{◌≢◌, ◌≤◌, ◌⊎◌, ◌+◌, ◌++◌, ◌∷◌, [], List, ℕ, Some, IfOk, IfErr, IfSome, OnOk, OnErr, MatchResult, true};
-    ghost use Rattle.keri_disk.specs.Images.{LeavesOnly};
+    ghost use Rattle.keri_disk.specs.Images.{IsDurable, LeavesOnly};
     ghost use Rattle.keri_disk.specs.Calls.{Keeps};
     ghost use Rattle.shelf_log.specs.Answers.{Answers, refusal, HasDiskCause, Reads};
     ghost use Rattle.shelf_log.specs.Format.{IsSized, shelf_size};
@@ -64,6 +64,7 @@ impl<D: Disk + Drop> Shelf<D> {
     /// Reads a shelf. It syncs first, and writes and cuts nothing, whatever it answers.
     pub fn read_back(alloc: Global, disk: D, limits: Limits) -> Result<Shelf<D>, Returned<D>>
         ensures made { IfOk result (λ shelf. (shelf.limits ≡ limits) × (shelf.broken ≡ false) × AllHold (D.told shelf.disk) shelf.list) }
+        ensures durable { IfErr result (λ returned. returned.fault ≢ DiskFault → IsDurable (D.told returned.disk)) }
         ensures reads { IfSome (D.told disk).file (λ file. MatchResult result (λ shelf. Reads Two limits file (Ok shelf.list)) (λ returned. Reads Two limits file (Err returned.fault))) }
         ensures keeps { MatchResult result (λ shelf. Keeps (D.told disk) (D.told shelf.disk)) (λ returned. Keeps (D.told disk) (D.told returned.disk)) }
         ensures cause { MatchResult result (λ shelf. (D.told shelf.disk).faults ≡ (D.told disk).faults) (λ returned. HasDiskCause (D.told disk) (D.told returned.disk) returned.fault) }
