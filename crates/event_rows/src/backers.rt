@@ -43,19 +43,24 @@ fn added_words(text: &mut String, backers: &mut Backers, keys: &[Key]) -> Result
     count_word(text, backers.count())
 }
 
-/// `backers KEY,KEY KEY,KEY`: whether each further key is a member that wasn't added before, and how many were; or
-/// `none`, where no witnesses are listed so.
-fn backers(alloc: Global, row: &Row) -> Result<String, AllocError> {
-    let (list, added) = (keys(alloc, row, 1)?, keys(alloc, row, 2)?);
+// What is said of each key of a list of witnesses; or `none`, where no witnesses are listed so.
+fn backed(alloc: Global, list: &[Key], added: &[Key]) -> Result<String, AllocError> {
     if list.len() > 65_535 {
         return String::from_str(alloc, "too-many");
     }
     let mut text = String::new(alloc);
-    match Backers::of(alloc, list.as_slice())? {
-        Some(mut backers) => added_words(&mut text, &mut backers, added.as_slice())?,
+    match Backers::of(alloc, list)? {
+        Some(mut backers) => added_words(&mut text, &mut backers, added)?,
         None => text.push_str("none")?,
     }
     Ok(text)
+}
+
+/// `backers KEY,KEY KEY,KEY`: whether each further key is a member that wasn't added before, and how many were; or
+/// `none`, where no witnesses are listed so.
+fn backers(alloc: Global, row: &Row) -> Result<String, AllocError> {
+    let (list, added) = (keys(alloc, row, 1)?, keys(alloc, row, 2)?);
+    backed(alloc, list.as_slice(), added.as_slice())
 }
 
 fn seal_word(
@@ -93,7 +98,11 @@ fn seals_words(alloc: Global, event: &Event) -> Result<String, AllocError> {
 fn seals_of(alloc: Global, row: &Row) -> Result<String, AllocError> {
     let bytes = row.bytes(alloc, 1)?;
     match kept_event(alloc, bytes.as_slice()) {
-        Ok(event) => seals_words(alloc, &event),
+        Ok(event) => {
+            let words = seals_words(alloc, &event);
+            drop(event);
+            words
+        }
         Err(_) => String::from_str(alloc, "no-event"),
     }
 }
@@ -110,7 +119,11 @@ fn held_word(
 ) -> Result<String, AllocError> {
     let bytes = row.bytes(alloc, 4)?;
     match kept_event(alloc, bytes.as_slice()) {
-        Ok(event) => bool_word(alloc, anchors(&event, prefix, row.number(2), said)),
+        Ok(event) => {
+            let anchored = anchors(&event, prefix, row.number(2), said);
+            drop(event);
+            bool_word(alloc, anchored)
+        }
         Err(_) => String::from_str(alloc, "no-event"),
     }
 }
@@ -136,10 +149,11 @@ fn anchored_by(
     }
 }
 
-// The witnesses of these numbers.
-fn listed(alloc: Global, numbers: &[u16]) -> Result<Vec<Key>, AllocError> {
+// The witnesses of the numbers of the word.
+fn listed(alloc: Global, row: &Row, place: usize) -> Result<Vec<Key>, AllocError> {
+    let numbers = row.numbers(alloc, place)?;
     let mut keys = Vec::new(alloc);
-    for number in numbers {
+    for number in &numbers {
         keys.push(Key {
             code: KeyCode::Fixed,
             raw: [(*number).min(255) as u8; 32],
@@ -148,11 +162,8 @@ fn listed(alloc: Global, numbers: &[u16]) -> Result<Vec<Key>, AllocError> {
     Ok(keys)
 }
 
-/// `binds WITNESSES RECEIPTS WITNESSES RECEIPTS FAULTY`: how many different witnesses there are, and whether so many
-/// receipts bind both to one event.
-fn bound(alloc: Global, row: &Row) -> Result<String, AllocError> {
-    let first = listed(alloc, row.numbers(alloc, 1)?.as_slice())?;
-    let second = listed(alloc, row.numbers(alloc, 3)?.as_slice())?;
+// How many different witnesses there are, and whether so many receipts bind both to one event.
+fn bound(alloc: Global, row: &Row, first: &[Key], second: &[Key]) -> Result<String, AllocError> {
     if first.len() > 64 || second.len() > 64 {
         return String::from_str(alloc, "too-many");
     }
@@ -161,25 +172,25 @@ fn bound(alloc: Global, row: &Row) -> Result<String, AllocError> {
         row.number(4).min(64),
         row.number(5).min(64),
     );
-    let union = union_size(first.as_slice(), second.as_slice());
-    let bound = binds(first.as_slice(), one, second.as_slice(), other, faulty);
+    let union = union_size(first, second);
+    let bound = binds(first, one, second, other, faulty);
     format!(in alloc; "{union} {bound}")
+}
+
+/// `binds WITNESSES RECEIPTS WITNESSES RECEIPTS FAULTY`: how many different witnesses there are, and whether so many
+/// receipts bind both to one event.
+fn binds_of(alloc: Global, row: &Row) -> Result<String, AllocError> {
+    let (first, second) = (listed(alloc, row, 1)?, listed(alloc, row, 3)?);
+    bound(alloc, row, first.as_slice(), second.as_slice())
 }
 
 /// The answer of the row, where it is one of these calls.
 pub(crate) fn answer(alloc: Global, row: &Row) -> Result<Option<String>, AllocError> {
-    let name = row.word(0);
-    if name == "backers" {
-        return given(backers(alloc, row));
+    match row.word(0) {
+        "backers" => given(backers(alloc, row)),
+        "seals" => given(seals_of(alloc, row)),
+        "anchors" => given(anchored(alloc, row)),
+        "binds" => given(binds_of(alloc, row)),
+        _ => Ok(None),
     }
-    if name == "seals" {
-        return given(seals_of(alloc, row));
-    }
-    if name == "anchors" {
-        return given(anchored(alloc, row));
-    }
-    if name == "binds" {
-        return given(bound(alloc, row));
-    }
-    Ok(None)
 }

@@ -13,10 +13,7 @@ fn writable_event(alloc: Global, text: &[u8]) -> Result<Event, ReadBody>
     ensures { IfOk result IsWritable }
 {
     writable();
-    match read_body(alloc, text) {
-        Ok(event) => Ok(event),
-        Err(fault) => Err(fault),
-    }
+    read_body(alloc, text)
 }
 
 // The event sealed under the code, which can be written.
@@ -25,10 +22,7 @@ fn writable_sealed(alloc: Global, event: &Event, code: DigestCode) -> Result<Eve
     ensures { IfOk result IsWritable }
 {
     writable();
-    match sealed(alloc, event, code) {
-        Ok(event) => Ok(event),
-        Err(fault) => Err(fault),
-    }
+    sealed(alloc, event, code)
 }
 
 // The body of the event. The contract of what it calls is left behind here, since it makes each proof above it longer.
@@ -45,28 +39,33 @@ fn refused(alloc: Global, fault: ReadBody) -> Result<String, AllocError> {
     }
 }
 
-fn written(alloc: Global, event: &Event) -> Result<String, AllocError>
-    requires { IsWritable event.now }
+fn written(alloc: Global, event: Event) -> Result<String, AllocError>
+    requires { IsWritable event }
 {
-    match body_of(alloc, event) {
+    let body = body_of(alloc, &event);
+    drop(event);
+    match body {
         Ok(text) => String::from_utf8_lossy(alloc, text.as_slice()),
         Err(fault) => refused(alloc, fault),
     }
 }
 
 /// `body TEXT`: the body that is written of the event that the text spells, or the fault.
-fn body(alloc: Global, text: &[u8]) -> Result<String, AllocError> {
-    match writable_event(alloc, text) {
-        Ok(event) => written(alloc, &event),
+fn body(alloc: Global, row: &Row) -> Result<String, AllocError> {
+    let text = row.bytes(alloc, 1)?;
+    match writable_event(alloc, text.as_slice()) {
+        Ok(event) => written(alloc, event),
         Err(fault) => refused(alloc, fault),
     }
 }
 
-fn written_sealed(alloc: Global, event: &Event, code: DigestCode) -> Result<String, AllocError>
-    requires { IsWritable event.now }
+fn written_sealed(alloc: Global, event: Event, code: DigestCode) -> Result<String, AllocError>
+    requires { IsWritable event }
 {
-    match writable_sealed(alloc, event, code) {
-        Ok(event) => written(alloc, &event),
+    let sealed = writable_sealed(alloc, &event, code);
+    drop(event);
+    match sealed {
+        Ok(sealed) => written(alloc, sealed),
         Err(fault) => refused(alloc, fault),
     }
 }
@@ -80,9 +79,10 @@ fn code(word: &str) -> DigestCode {
 }
 
 /// `seal CODE TEXT`: the body of the event of the text, sealed under the code; or the fault.
-fn seal(alloc: Global, text: &[u8], code: DigestCode) -> Result<String, AllocError> {
-    match writable_event(alloc, text) {
-        Ok(event) => written_sealed(alloc, &event, code),
+fn seal(alloc: Global, row: &Row) -> Result<String, AllocError> {
+    let text = row.bytes(alloc, 2)?;
+    match writable_event(alloc, text.as_slice()) {
+        Ok(event) => written_sealed(alloc, event, code(row.word(1))),
         Err(fault) => refused(alloc, fault),
     }
 }
@@ -90,8 +90,8 @@ fn seal(alloc: Global, text: &[u8], code: DigestCode) -> Result<String, AllocErr
 /// The answer of the row, where it is one of these calls.
 pub(crate) fn answer(alloc: Global, row: &Row) -> Result<Option<String>, AllocError> {
     match row.word(0) {
-        "body" => given(body(alloc, row.bytes(alloc, 1)?.as_slice())),
-        "seal" => given(seal(alloc, row.bytes(alloc, 2)?.as_slice(), code(row.word(1)))),
+        "body" => given(body(alloc, row)),
+        "seal" => given(seal(alloc, row)),
         _ => Ok(None),
     }
 }

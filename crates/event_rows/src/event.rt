@@ -11,8 +11,5 @@ pub(crate) fn kept_event(alloc: Global, text: &[u8]) -> Result<Event, ReadBody>
     ensures { IfOk result IsKept }
 {
     spelled_is_kept();
-    match read_body(alloc, text) {
-        Ok(event) => Ok(event),
-        Err(fault) => Err(fault),
-    }
+    read_body(alloc, text)
 }

@@ -8,6 +8,7 @@ use key_state::{KeyState, Misfit, StateFault, first};
 use row_text::{Row, given};
 use std::alloc::{AllocError, Global};
 use std::fmt::Write;
+use std::mem;
 
 // The state after one more event.
 fn moved(alloc: Global, state: &Option<KeyState>, event: &Event) -> Result<KeyState, StateFault>
@@ -25,16 +26,13 @@ fn state_word(text: &mut String, state: &KeyState) -> Result<(), AllocError> {
     write!(text, "{est_sn}..{sn}({since}) ")
 }
 
-// Says the state after one more event, or the rule that the event breaks.
+// The state, or the rule that the event breaks, which is said.
 fn told(
     text: &mut String,
     after: Result<KeyState, StateFault>,
 ) -> Result<Option<KeyState>, AllocError> {
     match after {
-        Ok(state) => {
-            state_word(text, &state)?;
-            Ok(Some(state))
-        }
+        Ok(state) => Ok(Some(state)),
         Err(StateFault::Misfit(misfit)) => {
             write!(text, "{misfit:?} ")?;
             Ok(None)
@@ -43,7 +41,7 @@ fn told(
     }
 }
 
-// The state after the event that the bytes spell, where there is one, and what is said of it.
+// The state after the event that the bytes spell, where there is one; else why there is none is said.
 fn next(
     alloc: Global,
     state: &Option<KeyState>,
@@ -51,11 +49,26 @@ fn next(
     text: &mut String,
 ) -> Result<Option<KeyState>, AllocError> {
     match kept_event(alloc, bytes) {
-        Ok(event) => told(text, moved(alloc, state, &event)),
+        Ok(event) => {
+            let after = moved(alloc, state, &event);
+            drop(event);
+            told(text, after)
+        }
         Err(_) => {
             text.push_str("no-event ")?;
             Ok(None)
         }
+    }
+}
+
+// Says the state, and whether there is one.
+fn standing(text: &mut String, state: &Option<KeyState>) -> Result<bool, AllocError> {
+    match state {
+        Some(state) => {
+            state_word(text, state)?;
+            Ok(true)
+        }
+        None => Ok(false),
     }
 }
 
@@ -68,39 +81,49 @@ fn step(
     text: &mut String,
 ) -> Result<bool, AllocError> {
     let bytes = row.bytes(alloc, number)?;
-    *state = next(alloc, state, bytes.as_slice(), text)?;
-    Ok(state.is_some())
+    let after = next(alloc, state, bytes.as_slice(), text)?;
+    drop(mem::replace(state, after));
+    standing(text, state)
 }
 
-// The state after the events of the words from one number to another, and what is said of each; none where an event
-// isn't taken.
+// Moves the state on by the events of the words from one number to another, and says what is said of each; there is none
+// where an event isn't taken.
 fn fold(
     alloc: Global,
     row: &Row,
     from: usize,
     to: usize,
+    state: &mut Option<KeyState>,
     text: &mut String,
-) -> Result<Option<KeyState>, AllocError> {
-    let mut state = None;
+) -> Result<(), AllocError> {
     for number in from..to {
-        if !step(alloc, row, number, &mut state, text)? {
+        if !step(alloc, row, number, state, text)? {
             break;
         }
     }
-    Ok(state)
+    Ok(())
 }
 
 /// `state TEXT..`: after each event the numbers of the last establishment event and of the last event, and how many
 /// digests are kept; or the rule that the event breaks, with which the row ends.
 fn state(alloc: Global, row: &Row) -> Result<String, AllocError> {
     let mut text = String::new(alloc);
-    let _ = fold(alloc, row, 1, row.len(), &mut text)?;
+    let mut state = None;
+    let folded = fold(alloc, row, 1, row.len(), &mut state, &mut text);
+    drop(state);
+    folded?;
     Ok(text)
 }
 
-// The last word of a row.
-fn last(row: &Row) -> usize {
-    row.len().saturating_sub(1)
+// What is asked of the state behind all events of a row but the last, and of the last event.
+#[derive(Drop)]
+enum Asked {
+    // The own list of the event.
+    Witnesses,
+    // The places that the indexed signature exposes at the event.
+    Exposed(IndexedSig),
+    // The rule by which the event doesn't follow the state behind the live event of this place, counted from 1.
+    Behind(usize),
 }
 
 fn key_word(alloc: Global, text: &mut String, key: &Key) -> Result<(), AllocError> {
@@ -127,28 +150,6 @@ fn list_words(
     keys_words(alloc, text, list.as_slice())
 }
 
-fn witnesses_words(
-    alloc: Global,
-    text: &mut String,
-    state: &KeyState,
-    bytes: &[u8],
-) -> Result<(), AllocError> {
-    match kept_event(alloc, bytes) {
-        Ok(event) => list_words(alloc, text, state, &event),
-        Err(_) => Ok(()),
-    }
-}
-
-/// `witnesses TEXT..`: the own list of the last event, after the others.
-fn witnesses(alloc: Global, row: &Row) -> Result<String, AllocError> {
-    let mut text = String::new(alloc);
-    let bytes = row.bytes(alloc, last(row))?;
-    if let Some(state) = fold(alloc, row, 1, last(row), &mut text)? {
-        witnesses_words(alloc, &mut text, &state, bytes.as_slice())?;
-    }
-    Ok(text)
-}
-
 fn number_word(text: &mut String, number: u16) -> Result<(), AllocError> {
     write!(text, "{number} ")
 }
@@ -160,58 +161,15 @@ fn numbers_words(text: &mut String, numbers: &[u16]) -> Result<(), AllocError> {
     Ok(())
 }
 
-fn opened_words(
+fn exposed_words(
     alloc: Global,
     text: &mut String,
     state: &KeyState,
     event: &Event,
-    sigs: &[IndexedSig],
+    sig: &IndexedSig,
 ) -> Result<(), AllocError> {
-    let places = state.exposed(alloc, event, sigs)?;
+    let places = state.exposed(alloc, event, &[*sig])?;
     numbers_words(text, places.as_slice())
-}
-
-fn places_words(
-    alloc: Global,
-    text: &mut String,
-    state: &KeyState,
-    bytes: &[u8],
-    sigs: &[IndexedSig],
-) -> Result<(), AllocError> {
-    match kept_event(alloc, bytes) {
-        Ok(event) => opened_words(alloc, text, state, &event, sigs),
-        Err(_) => Ok(()),
-    }
-}
-
-// The places that the indexed signatures expose at the last event of the row.
-fn exposed_words(
-    alloc: Global,
-    row: &Row,
-    sigs: &[IndexedSig],
-    text: &mut String,
-) -> Result<(), AllocError> {
-    let bytes = row.bytes(alloc, last(row))?;
-    match fold(alloc, row, 2, last(row), text)? {
-        Some(state) => places_words(alloc, text, &state, bytes.as_slice(), sigs),
-        None => Ok(()),
-    }
-}
-
-fn only(alloc: Global, sig: IndexedSig) -> Result<Vec<IndexedSig>, AllocError> {
-    let mut sigs = Vec::new(alloc);
-    sigs.push(sig)?;
-    Ok(sigs)
-}
-
-/// `exposed SIGNATURE TEXT..`: the places that the indexed signature exposes at the last event, after the others.
-fn exposed(alloc: Global, row: &Row) -> Result<String, AllocError> {
-    let mut text = String::new(alloc);
-    match IndexedSig::read(row.bytes(alloc, 1)?.as_slice()) {
-        Ok((sig, _)) => exposed_words(alloc, row, only(alloc, sig)?.as_slice(), &mut text)?,
-        Err(_) => text.push_str("no-signature")?,
-    }
-    Ok(text)
 }
 
 fn follow_word(text: &mut String, misfit: Option<Misfit>) -> Result<(), AllocError> {
@@ -234,45 +192,91 @@ fn misfit_word(
     }
 }
 
-fn behind_word(
+fn asked_words(
     alloc: Global,
     text: &mut String,
+    asked: &Asked,
     state: &KeyState,
-    place: usize,
+    event: &Event,
+) -> Result<(), AllocError> {
+    match asked {
+        Asked::Witnesses => list_words(alloc, text, state, event),
+        Asked::Exposed(sig) => exposed_words(alloc, text, state, event, sig),
+        Asked::Behind(place) => misfit_word(text, state, *place, event),
+    }
+}
+
+// Says what is asked, where the bytes spell an event.
+fn event_words(
+    alloc: Global,
+    text: &mut String,
+    asked: &Asked,
+    state: &KeyState,
     bytes: &[u8],
 ) -> Result<(), AllocError> {
     match kept_event(alloc, bytes) {
-        Ok(event) => misfit_word(text, state, place, &event),
+        Ok(event) => {
+            let said = asked_words(alloc, text, asked, state, &event);
+            drop(event);
+            said
+        }
         Err(_) => Ok(()),
     }
 }
 
-/// `behind PLACE TEXT..`: the rule by which the last event doesn't follow the state behind the live event of this place,
-/// counted from 1, after the others; or `follows`.
-fn behind(alloc: Global, row: &Row) -> Result<String, AllocError> {
-    let mut text = String::new(alloc);
-    let bytes = row.bytes(alloc, last(row))?;
-    if let Some(state) = fold(alloc, row, 2, last(row), &mut text)? {
-        let place = row.number(1) as usize;
-        behind_word(alloc, &mut text, &state, place, bytes.as_slice())?;
+// Moves the state on by the events of the words from a number to the last but one, and says what is asked of the last.
+fn fold_and_ask(
+    alloc: Global,
+    row: &Row,
+    from: usize,
+    asked: &Asked,
+    state: &mut Option<KeyState>,
+    text: &mut String,
+) -> Result<(), AllocError> {
+    let last = row.len().saturating_sub(1);
+    let bytes = row.bytes(alloc, last)?;
+    fold(alloc, row, from, last, state, text)?;
+    match state {
+        Some(state) => event_words(alloc, text, asked, state, bytes.as_slice()),
+        None => Ok(()),
     }
+}
+
+/// `witnesses TEXT..`: the own list of the last event, after the others. `exposed SIGNATURE TEXT..`: the places that the
+/// indexed signature exposes at the last event. `behind PLACE TEXT..`: the rule by which the last event doesn't follow the
+/// state behind the live event of this place, counted from 1; or `follows`.
+fn answer_asked(
+    alloc: Global,
+    row: &Row,
+    from: usize,
+    asked: &Asked,
+) -> Result<String, AllocError> {
+    let mut text = String::new(alloc);
+    let mut state = None;
+    let said = fold_and_ask(alloc, row, from, asked, &mut state, &mut text);
+    drop(state);
+    said?;
     Ok(text)
+}
+
+fn exposed(alloc: Global, row: &Row) -> Result<String, AllocError> {
+    let bytes = row.bytes(alloc, 1)?;
+    match IndexedSig::read(bytes.as_slice()) {
+        Ok((sig, _)) => answer_asked(alloc, row, 2, &Asked::Exposed(sig)),
+        Err(_) => String::from_str(alloc, "no-signature"),
+    }
 }
 
 /// The answer of the row, where it is one of these calls.
 pub(crate) fn answer(alloc: Global, row: &Row) -> Result<Option<String>, AllocError> {
-    let name = row.word(0);
-    if name == "state" {
-        return given(state(alloc, row));
+    match row.word(0) {
+        "state" => given(state(alloc, row)),
+        "witnesses" => given(answer_asked(alloc, row, 1, &Asked::Witnesses)),
+        "exposed" => given(exposed(alloc, row)),
+        "behind" => {
+            let place = row.number(1) as usize;
+            given(answer_asked(alloc, row, 2, &Asked::Behind(place)))
+        }
+        _ => Ok(None),
     }
-    if name == "witnesses" {
-        return given(witnesses(alloc, row));
-    }
-    if name == "exposed" {
-        return given(exposed(alloc, row));
-    }
-    if name == "behind" {
-        return given(behind(alloc, row));
-    }
-    Ok(None)
 }
