@@ -14,33 +14,40 @@ use row_text::{Row, given};
 use std::alloc::{AllocError, Global};
 use std::fmt::Write;
 
-fn letter(group: &Group) -> char {
+fn letter(group: &Group) -> &'static str {
     match group {
-        Group::Held(_) => 'A',
-        Group::Witness(_) => 'B',
-        Group::Couples(_) => 'C',
-        Group::FirstSeen(_) => 'E',
-        Group::Anchor(_) => 'G',
+        Group::Held(_) => "A",
+        Group::Witness(_) => "B",
+        Group::Couples(_) => "C",
+        Group::FirstSeen(_) => "E",
+        Group::Anchor(_) => "G",
     }
 }
 
-// An item: its kind, how much it has, and its place.
-fn item_word(text: &mut String, item: &Item, place: u64) -> Result<(), AllocError> {
+// What there is, and how much of it.
+fn count_word(text: &mut String, kind: &str, count: usize) -> Result<(), AllocError> {
+    write!(text, "{kind}:{count}")
+}
+
+fn place_word(text: &mut String, place: u64, behind: &str) -> Result<(), AllocError> {
+    write!(text, "@{place}{behind}")
+}
+
+// An item: its kind, and how much it has.
+fn item_word(text: &mut String, item: &Item) -> Result<(), AllocError> {
     match item {
-        Item::Body(bytes) => {
-            let size = bytes.len();
-            write!(text, "body:{size}@{place} ")
-        }
-        Item::Group(group) => {
-            let letter = letter(group);
-            let count = group.len();
-            write!(text, "{letter}:{count}@{place} ")
-        }
-        Item::Wrapped(groups) => {
-            let count = groups.len();
-            write!(text, "V:{count}@{place} ")
-        }
+        Item::Body(bytes) => count_word(text, "body", bytes.len()),
+        Item::Group(group) => count_word(text, letter(group), group.len()),
+        Item::Wrapped(groups) => count_word(text, "V", groups.len()),
     }
+}
+
+// Says the item, and its place.
+fn say_item(text: &mut String, item: Item, place: u64) -> Result<(), AllocError> {
+    let said = item_word(text, &item);
+    drop(item);
+    said?;
+    place_word(text, place, " ")
 }
 
 // Takes the next item, where one is whole, and says whether there was one.
@@ -49,7 +56,7 @@ fn take_item(text: &mut String, reader: &mut Reader) -> Result<bool, AllocError>
 {
     match reader.next()? {
         Step::Item(item, place) => {
-            item_word(text, &item, place)?;
+            say_item(text, item, place)?;
             Ok(true)
         }
         Step::NeedMore => Ok(false),
@@ -112,10 +119,33 @@ fn end_word(text: &mut String, reader: &mut Reader) -> Result<(), AllocError>
 // A further item, or how the stream ends.
 fn last_word(text: &mut String, reader: &mut Reader) -> Result<(), AllocError> {
     match reader.next()? {
-        Step::Item(item, place) => item_word(text, &item, place),
+        Step::Item(item, place) => say_item(text, item, place),
         Step::Bad(bad) => bad_word(text, &bad),
         Step::NeedMore => end_word(text, reader),
     }
+}
+
+// The items of the bytes in pieces of so many, and how they end.
+fn items_words(
+    text: &mut String,
+    reader: &mut Reader,
+    bytes: &[u8],
+    size: usize,
+) -> Result<(), AllocError>
+    requires some { 0 < size }
+    requires fresh { fed reader.old ≡ 0 }
+{
+    feed_pieces(text, reader, bytes, size)?;
+    last_word(text, reader)
+}
+
+fn items_of(alloc: Global, text: &mut String, bytes: &[u8], size: usize) -> Result<(), AllocError>
+    requires { 0 < size }
+{
+    let mut reader = Reader::new(alloc, Limits::standard());
+    let said = items_words(text, &mut reader, bytes, size);
+    drop(reader);
+    said
 }
 
 /// `items PIECE TEXT`: the items of the text in pieces of so many bytes, and how it ends; where it is cut short, also how
@@ -124,25 +154,34 @@ fn items(alloc: Global, row: &Row) -> Result<String, AllocError> {
     let bytes = row.bytes(alloc, 2)?;
     let size = (row.number(1) as usize).max(1);
     let mut text = String::new(alloc);
-    let mut reader = Reader::new(alloc, Limits::standard());
-    feed_pieces(&mut text, &mut reader, bytes.as_slice(), size)?;
-    last_word(&mut text, &mut reader)?;
+    items_of(alloc, &mut text, bytes.as_slice(), size)?;
     Ok(text)
 }
 
 fn groups_words(text: &mut String, groups: &[Group]) -> Result<(), AllocError> {
     for group in groups {
-        let (letter, count) = (letter(group), group.len());
-        write!(text, "{letter}:{count}")?;
+        count_word(text, letter(group), group.len())?;
     }
     Ok(())
 }
 
 fn message_word(text: &mut String, message: &Message) -> Result<(), AllocError> {
-    let (size, place) = (message.body.len(), message.place);
-    write!(text, "body:{size}@{place}[")?;
+    count_word(text, "body", message.body.len())?;
+    place_word(text, message.place, "[")?;
     groups_words(text, message.groups.as_slice())?;
     text.push_str(if message.excess { "] excess " } else { "] " })
+}
+
+// Says the message, where there is one.
+fn say_message(text: &mut String, message: Option<Message>) -> Result<(), AllocError> {
+    match message {
+        Some(message) => {
+            let said = message_word(text, &message);
+            drop(message);
+            said
+        }
+        None => Ok(()),
+    }
 }
 
 // The message that the item ends.
@@ -152,10 +191,7 @@ fn push_item(
     item: Item,
     place: u64,
 ) -> Result<(), AllocError> {
-    match assembler.push(item, place)? {
-        Some(message) => message_word(text, &message),
-        None => Ok(()),
-    }
+    say_message(text, assembler.push(item, place)?)
 }
 
 // The message that the next item ends, and whether there was an item.
@@ -185,10 +221,35 @@ fn push_all(
             break;
         }
     }
-    match assembler.finish() {
-        Some(message) => message_word(text, &message),
-        None => Ok(()),
-    }
+    say_message(text, assembler.finish())
+}
+
+// Feeds the bytes at once, and says the messages.
+fn messages_words(
+    text: &mut String,
+    reader: &mut Reader,
+    assembler: &mut Assembler,
+    bytes: &[u8],
+) -> Result<(), AllocError>
+    requires fresh { fed reader.old ≡ 0 }
+{
+    reader.feed(bytes)?;
+    push_all(text, reader, assembler, bytes.len())
+}
+
+// The messages of the bytes, within the limits.
+fn messages_within(
+    alloc: Global,
+    text: &mut String,
+    limits: Limits,
+    bytes: &[u8],
+) -> Result<(), AllocError> {
+    let mut reader = Reader::new(alloc, limits);
+    let mut assembler = Assembler::new(alloc, limits);
+    let done = messages_words(text, &mut reader, &mut assembler, bytes);
+    drop(assembler);
+    drop(reader);
+    done
 }
 
 /// `messages SIGNATURES TEXT`: the messages of the text, where a message may have so many elements.
@@ -197,10 +258,7 @@ fn messages(alloc: Global, row: &Row) -> Result<String, AllocError> {
     let mut limits = Limits::standard();
     limits.message_signatures = row.number(1).min(1_024) as u16;
     let mut text = String::new(alloc);
-    let mut reader = Reader::new(alloc, limits);
-    let mut assembler = Assembler::new(alloc, limits);
-    reader.feed(bytes.as_slice())?;
-    push_all(&mut text, &mut reader, &mut assembler, bytes.len())?;
+    messages_within(alloc, &mut text, limits, bytes.as_slice())?;
     Ok(text)
 }
 
@@ -213,25 +271,28 @@ fn only<T: Drop>(alloc: Global, value: T) -> Result<Items<T>, AllocError>
 }
 
 // The group of the one element that the two texts write.
+fn group_of(
+    alloc: Global,
+    letter: &str,
+    first: &[u8],
+    second: &[u8],
+) -> Result<Option<Group>, AllocError>
+    ensures one { IfOk result (λ found. IfSome found (λ group. elements_of group ≡ 1)) }
+{
+    match letter {
+        "A" => signatures(alloc, first, false),
+        "B" => signatures(alloc, first, true),
+        "C" => couple(alloc, first, second),
+        "E" => first_seen(alloc, first, second),
+        _ => anchor(alloc, first, second),
+    }
+}
+
 fn group(alloc: Global, row: &Row) -> Result<Option<Group>, AllocError>
     ensures one { IfOk result (λ found. IfSome found (λ group. elements_of group ≡ 1)) }
 {
-    let first = row.bytes(alloc, 2)?;
-    let second = row.bytes(alloc, 3)?;
-    let letter = row.word(1);
-    if letter == "A" {
-        return signatures(alloc, first.as_slice(), false);
-    }
-    if letter == "B" {
-        return signatures(alloc, first.as_slice(), true);
-    }
-    if letter == "C" {
-        return couple(alloc, first.as_slice(), second.as_slice());
-    }
-    if letter == "E" {
-        return first_seen(alloc, first.as_slice(), second.as_slice());
-    }
-    anchor(alloc, first.as_slice(), second.as_slice())
+    let (first, second) = (row.bytes(alloc, 2)?, row.bytes(alloc, 3)?);
+    group_of(alloc, row.word(1), first.as_slice(), second.as_slice())
 }
 
 fn signatures(alloc: Global, text: &[u8], by_witness: bool) -> Result<Option<Group>, AllocError>
@@ -284,27 +345,31 @@ fn couple_of(alloc: Global, key: Key, sig: Sig) -> Result<Option<Group>, AllocEr
     }
 }
 
+// The text of a group of one element.
+fn group_text(alloc: Global, group: Group) -> Result<String, AllocError>
+    requires { elements_of group ≡ 1 }
+{
+    let item = Item::Group(group);
+    let mut sink = MemSink::new(alloc, Items::new(alloc));
+    let _ = write_item(&item, &mut sink);
+    drop(item);
+    String::from_utf8_lossy(alloc, sink.bytes())
+}
+
 /// `put LETTER TEXT TEXT`: the group of the element that the texts write, put into a sink.
 fn put(alloc: Global, row: &Row) -> Result<String, AllocError> {
-    let mut sink = MemSink::new(alloc, Items::new(alloc));
-    let Some(group) = group(alloc, row)? else {
-        return String::from_str(alloc, "none");
-    };
-    let _ = write_item(&Item::Group(group), &mut sink);
-    String::from_utf8_lossy(alloc, sink.bytes())
+    match group(alloc, row)? {
+        Some(group) => group_text(alloc, group),
+        None => String::from_str(alloc, "none"),
+    }
 }
 
 /// The answer of the row, where it is one of these calls.
 pub(crate) fn answer(alloc: Global, row: &Row) -> Result<Option<String>, AllocError> {
-    let name = row.word(0);
-    if name == "items" {
-        return given(items(alloc, row));
+    match row.word(0) {
+        "items" => given(items(alloc, row)),
+        "messages" => given(messages(alloc, row)),
+        "put" => given(put(alloc, row)),
+        _ => Ok(None),
     }
-    if name == "messages" {
-        return given(messages(alloc, row));
-    }
-    if name == "put" {
-        return given(put(alloc, row));
-    }
-    Ok(None)
 }
