@@ -3,115 +3,140 @@
 use cesr_codes::{CodeFault, Digest, IndexedSig, Key, Moment, Number, Prefix, Sig};
 use row_text::{Row, given};
 use std::alloc::{AllocError, Global};
-use std::fmt::Debug;
+use std::fmt::{Debug, Write};
 
-// What was read, in a word, how many bytes it had, and how it is written; or why nothing was.
-fn read(
-    alloc: Global,
-    found: Result<(&str, usize, &[u8]), CodeFault>,
-) -> Result<String, AllocError> {
-    match found {
-        Ok((value, length, text)) => {
-            format!(in alloc;
-                "{value} {length} {}",
-                String::from_utf8_lossy(alloc, text)?.as_str()
-            )
-        }
-        Err(fault) => format!(in alloc; "{fault:?}"),
-    }
+fn refused(alloc: Global, fault: CodeFault) -> Result<String, AllocError> {
+    format!(in alloc; "{fault:?}")
 }
 
-fn hex(alloc: Global, bytes: &[u8]) -> Result<String, AllocError> {
+// What was read, in a word, how many bytes it had, and how it is written.
+fn found(alloc: Global, value: &str, length: usize, text: &[u8]) -> Result<String, AllocError> {
+    let text = String::from_utf8_lossy(alloc, text)?;
+    let text = text.as_str();
+    format!(in alloc; "{value} {length} {text}")
+}
+
+fn byte_word(text: &mut String, byte: u8) -> Result<(), AllocError> {
+    write!(text, "{byte:02x}")
+}
+
+/// The bytes in hexadecimal digits.
+pub(crate) fn hex(alloc: Global, bytes: &[u8]) -> Result<String, AllocError> {
     let mut text = String::new(alloc);
     for byte in bytes {
-        text.push_str(format!(in alloc; "{byte:02x}")?.as_str())?;
+        byte_word(&mut text, *byte)?;
     }
     Ok(text)
 }
 
-fn coded<C: Debug>(alloc: Global, code: &C, raw: &[u8]) -> Result<String, AllocError> {
+// The code and the raw bytes that were read, how many bytes they had, and how they are written.
+fn coded<C: Debug>(
+    alloc: Global,
+    code: &C,
+    raw: &[u8],
+    length: usize,
+    text: &[u8],
+) -> Result<String, AllocError> {
     let raw = hex(alloc, raw)?;
-    format!(in alloc; "{code:?} {raw}")
+    let raw = raw.as_str();
+    let value = format!(in alloc; "{code:?} {raw}")?;
+    found(alloc, value.as_str(), length, text)
+}
+
+fn key_words(alloc: Global, key: &Key, length: usize) -> Result<String, AllocError> {
+    let mut text = [0; 44];
+    key.write(&mut text);
+    coded(alloc, &key.code, &key.raw, length, &text)
 }
 
 /// `key TEXT`
 fn key(alloc: Global, row: &Row) -> Result<String, AllocError> {
-    match Key::read(row.bytes(alloc, 1)?.as_slice()) {
-        Ok((key, length)) => {
-            let mut text = [0; 44];
-            key.write(&mut text);
-            let value = coded(alloc, &key.code, &key.raw)?;
-            read(alloc, Ok((value.as_str(), length, &text)))
-        }
-        Err(fault) => read(alloc, Err(fault)),
+    let text = row.bytes(alloc, 1)?;
+    match Key::read(text.as_slice()) {
+        Ok((key, length)) => key_words(alloc, &key, length),
+        Err(fault) => refused(alloc, fault),
     }
+}
+
+fn digest_words(alloc: Global, digest: &Digest, length: usize) -> Result<String, AllocError> {
+    let mut text = [0; 44];
+    digest.write(&mut text);
+    coded(alloc, &digest.code, &digest.raw, length, &text)
 }
 
 /// `digest TEXT`
 fn digest(alloc: Global, row: &Row) -> Result<String, AllocError> {
-    match Digest::read(row.bytes(alloc, 1)?.as_slice()) {
-        Ok((digest, length)) => {
-            let mut text = [0; 44];
-            digest.write(&mut text);
-            let value = coded(alloc, &digest.code, &digest.raw)?;
-            read(alloc, Ok((value.as_str(), length, &text)))
-        }
-        Err(fault) => read(alloc, Err(fault)),
+    let text = row.bytes(alloc, 1)?;
+    match Digest::read(text.as_slice()) {
+        Ok((digest, length)) => digest_words(alloc, &digest, length),
+        Err(fault) => refused(alloc, fault),
+    }
+}
+
+fn prefix_words(alloc: Global, prefix: &Prefix, length: usize) -> Result<String, AllocError> {
+    let mut text = [0; 44];
+    prefix.write(&mut text);
+    match prefix {
+        Prefix::Basic(key) => coded(alloc, &key.code, &key.raw, length, &text),
+        Prefix::Said(digest) => coded(alloc, &digest.code, &digest.raw, length, &text),
     }
 }
 
 /// `prefix TEXT`
 fn prefix(alloc: Global, row: &Row) -> Result<String, AllocError> {
-    match Prefix::read(row.bytes(alloc, 1)?.as_slice()) {
-        Ok((prefix, length)) => {
-            let mut text = [0; 44];
-            prefix.write(&mut text);
-            let value = match prefix {
-                Prefix::Basic(key) => coded(alloc, &key.code, &key.raw)?,
-                Prefix::Said(digest) => coded(alloc, &digest.code, &digest.raw)?,
-            };
-            read(alloc, Ok((value.as_str(), length, &text)))
-        }
-        Err(fault) => read(alloc, Err(fault)),
+    let text = row.bytes(alloc, 1)?;
+    match Prefix::read(text.as_slice()) {
+        Ok((prefix, length)) => prefix_words(alloc, &prefix, length),
+        Err(fault) => refused(alloc, fault),
     }
+}
+
+fn sig_words(alloc: Global, sig: &Sig, length: usize) -> Result<String, AllocError> {
+    let mut text = [0; 88];
+    sig.write(&mut text);
+    let raw = hex(alloc, &sig.raw)?;
+    found(alloc, raw.as_str(), length, &text)
 }
 
 /// `sig TEXT`
 fn sig(alloc: Global, row: &Row) -> Result<String, AllocError> {
-    match Sig::read(row.bytes(alloc, 1)?.as_slice()) {
-        Ok((sig, length)) => {
-            let mut text = [0; 88];
-            sig.write(&mut text);
-            read(alloc, Ok((hex(alloc, &sig.raw)?.as_str(), length, &text)))
-        }
-        Err(fault) => read(alloc, Err(fault)),
+    let text = row.bytes(alloc, 1)?;
+    match Sig::read(text.as_slice()) {
+        Ok((sig, length)) => sig_words(alloc, &sig, length),
+        Err(fault) => refused(alloc, fault),
     }
+}
+
+fn number_words(alloc: Global, number: &Number, length: usize) -> Result<String, AllocError> {
+    let mut text = [0; 24];
+    number.write(&mut text);
+    let value = number.value;
+    let value = format!(in alloc; "{value}")?;
+    found(alloc, value.as_str(), length, &text)
 }
 
 /// `number TEXT`
 fn number(alloc: Global, row: &Row) -> Result<String, AllocError> {
-    match Number::read(row.bytes(alloc, 1)?.as_slice()) {
-        Ok((number, length)) => {
-            let mut text = [0; 24];
-            number.write(&mut text);
-            let value = number.value;
-            let value = format!(in alloc; "{value}")?;
-            read(alloc, Ok((value.as_str(), length, &text)))
-        }
-        Err(fault) => read(alloc, Err(fault)),
+    let text = row.bytes(alloc, 1)?;
+    match Number::read(text.as_slice()) {
+        Ok((number, length)) => number_words(alloc, &number, length),
+        Err(fault) => refused(alloc, fault),
     }
+}
+
+fn moment_words(alloc: Global, moment: &Moment, length: usize) -> Result<String, AllocError> {
+    let mut text = [0; 36];
+    moment.write(&mut text);
+    let value = String::from_utf8_lossy(alloc, &moment.text)?;
+    found(alloc, value.as_str(), length, &text)
 }
 
 /// `moment TEXT`
 fn moment(alloc: Global, row: &Row) -> Result<String, AllocError> {
-    match Moment::read(row.bytes(alloc, 1)?.as_slice()) {
-        Ok((moment, length)) => {
-            let mut text = [0; 36];
-            moment.write(&mut text);
-            let value = String::from_utf8_lossy(alloc, &moment.text)?;
-            read(alloc, Ok((value.as_str(), length, &text)))
-        }
-        Err(fault) => read(alloc, Err(fault)),
+    let text = row.bytes(alloc, 1)?;
+    match Moment::read(text.as_slice()) {
+        Ok((moment, length)) => moment_words(alloc, &moment, length),
+        Err(fault) => refused(alloc, fault),
     }
 }
 
@@ -141,19 +166,24 @@ fn form(alloc: Global, sig: &IndexedSig) -> Result<String, AllocError> {
     }
 }
 
+fn indexed_words(alloc: Global, sig: &IndexedSig, length: usize) -> Result<String, AllocError> {
+    let mut text = [0; 92];
+    let count = sig.write(&mut text);
+    let value = form(alloc, sig)?;
+    found(
+        alloc,
+        value.as_str(),
+        length,
+        text.get(..count).unwrap_or(&[]),
+    )
+}
+
 /// `indexed TEXT`
 fn indexed(alloc: Global, row: &Row) -> Result<String, AllocError> {
-    match IndexedSig::read(row.bytes(alloc, 1)?.as_slice()) {
-        Ok((sig, length)) => {
-            let mut text = [0; 92];
-            let count = sig.write(&mut text);
-            let value = form(alloc, &sig)?;
-            read(
-                alloc,
-                Ok((value.as_str(), length, text.get(..count).unwrap_or(&[]))),
-            )
-        }
-        Err(fault) => read(alloc, Err(fault)),
+    let text = row.bytes(alloc, 1)?;
+    match IndexedSig::read(text.as_slice()) {
+        Ok((sig, length)) => indexed_words(alloc, &sig, length),
+        Err(fault) => refused(alloc, fault),
     }
 }
 
@@ -172,33 +202,16 @@ fn new_indexed(alloc: Global, row: &Row) -> Result<String, AllocError> {
 
 /// The answer of the row, where it is one of these calls.
 pub(crate) fn answer(alloc: Global, row: &Row) -> Result<Option<String>, AllocError> {
-    let name = row.word(0);
-    if name == "key" {
-        return given(key(alloc, row));
+    match row.word(0) {
+        "key" => given(key(alloc, row)),
+        "digest" => given(digest(alloc, row)),
+        "prefix" => given(prefix(alloc, row)),
+        "sig" => given(sig(alloc, row)),
+        "number" => given(number(alloc, row)),
+        "moment" => given(moment(alloc, row)),
+        "new-moment" => given(new_moment(alloc, row)),
+        "indexed" => given(indexed(alloc, row)),
+        "new-indexed" => given(new_indexed(alloc, row)),
+        _ => Ok(None),
     }
-    if name == "digest" {
-        return given(digest(alloc, row));
-    }
-    if name == "prefix" {
-        return given(prefix(alloc, row));
-    }
-    if name == "sig" {
-        return given(sig(alloc, row));
-    }
-    if name == "number" {
-        return given(number(alloc, row));
-    }
-    if name == "moment" {
-        return given(moment(alloc, row));
-    }
-    if name == "new-moment" {
-        return given(new_moment(alloc, row));
-    }
-    if name == "indexed" {
-        return given(indexed(alloc, row));
-    }
-    if name == "new-indexed" {
-        return given(new_indexed(alloc, row));
-    }
-    Ok(None)
 }

@@ -3,6 +3,7 @@
 ghost use Rattle.std.specs.Prelude.{◌<◌, ◌↔◌, IsTrue};
 ghost use Rattle.said_digest.specs.Replaced.{LieIn};
 
+use crate::codes::hex;
 use blake3_hash::{Hasher, digest};
 use cesr_codes::{Digest, DigestCode};
 use row_text::{Row, given};
@@ -38,22 +39,24 @@ fn in_pieces(bytes: &[u8], size: usize) -> [u8; 32]
     hasher.finish()
 }
 
+// The bytes 0 to 250 and so on again, so many.
+fn counted(alloc: Global, length: u64) -> Result<Vec<u8>, AllocError> {
+    let mut bytes = Vec::new(alloc);
+    for place in 0..length {
+        bytes.push((place % 251) as u8)?;
+    }
+    Ok(bytes)
+}
+
 /// `blake3 LENGTH PIECE`: the digest of the bytes 0 to 250 and so on again, so many, fed in pieces of so many; in one
 /// call where PIECE is 0.
 fn blake3(alloc: Global, row: &Row) -> Result<String, AllocError> {
-    let mut bytes = Vec::new(alloc);
-    for place in 0..row.number(1) {
-        bytes.push((place % 251) as u8)?;
-    }
+    let bytes = counted(alloc, row.number(1))?;
     let found = match row.number(2) {
         0 => digest(bytes.as_slice()),
         piece => in_pieces(bytes.as_slice(), piece as usize),
     };
-    let mut text = String::new(alloc);
-    for byte in found {
-        text.push_str(format!(in alloc; "{byte:02x}")?.as_str())?;
-    }
-    Ok(text)
+    hex(alloc, &found)
 }
 
 fn lie_in(bytes: &[u8], places: &[u32]) -> bool
@@ -64,32 +67,45 @@ fn lie_in(bytes: &[u8], places: &[u32]) -> bool
         .all(|place| *place as usize + 44 <= bytes.len())
 }
 
-/// `said CODE PLACE,PLACE TEXT`: the digest of the text with `#` at the places, whether it holds there, and whether it
-/// does with nothing replaced.
-fn said(alloc: Global, row: &Row) -> Result<String, AllocError> {
-    let text = row.bytes(alloc, 3)?;
+// The places of the word.
+fn places(alloc: Global, row: &Row) -> Result<Vec<u32>, AllocError> {
+    let numbers = row.numbers(alloc, 2)?;
     let mut places = Vec::new(alloc);
-    for place in row.numbers(alloc, 2)? {
-        places.push(u32::from(place))?;
+    for place in &numbers {
+        places.push(u32::from(*place))?;
     }
-    if !lie_in(text.as_slice(), places.as_slice()) {
+    Ok(places)
+}
+
+fn said_words(
+    alloc: Global,
+    code: DigestCode,
+    text: &[u8],
+    places: &[u32],
+) -> Result<String, AllocError> {
+    if !lie_in(text, places) {
         return String::from_str(alloc, "no-place");
     }
-    let said = said_of(code(row.word(1)), text.as_slice(), places.as_slice());
-    let held = holds(text.as_slice(), places.as_slice(), &said);
-    let plain = digest_of(code(row.word(1)), text.as_slice()) == said;
+    let said = said_of(code, text, places);
+    let held = holds(text, places, &said);
+    let plain = digest_of(code, text) == said;
     let said = spelled(alloc, &said)?;
     format!(in alloc; "{said} {held} {plain}")
 }
 
+/// `said CODE PLACE,PLACE TEXT`: the digest of the text with `#` at the places, whether it holds there, and whether it
+/// does with nothing replaced.
+fn said(alloc: Global, row: &Row) -> Result<String, AllocError> {
+    let text = row.bytes(alloc, 3)?;
+    let places = places(alloc, row)?;
+    said_words(alloc, code(row.word(1)), text.as_slice(), places.as_slice())
+}
+
 /// The answer of the row, where it is one of these calls.
 pub(crate) fn answer(alloc: Global, row: &Row) -> Result<Option<String>, AllocError> {
-    let name = row.word(0);
-    if name == "blake3" {
-        return given(blake3(alloc, row));
+    match row.word(0) {
+        "blake3" => given(blake3(alloc, row)),
+        "said" => given(said(alloc, row)),
+        _ => Ok(None),
     }
-    if name == "said" {
-        return given(said(alloc, row));
-    }
-    Ok(None)
 }

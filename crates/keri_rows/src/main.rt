@@ -26,7 +26,9 @@ fn called(alloc: Global, row: &Row) -> Result<Option<String>, AllocError> {
 // What the line is answered by.
 fn answer(alloc: Global, line: &str) -> Result<String, AllocError> {
     let row = Row::of(alloc, line)?;
-    match called(alloc, &row)? {
+    let called = called(alloc, &row);
+    drop(row);
+    match called? {
         Some(answer) => Ok(answer),
         None => String::from_str(alloc, line),
     }
