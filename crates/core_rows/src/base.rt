@@ -34,12 +34,6 @@ fn texts_of(alloc: Global, row: &Row) -> Result<Vec<Text>, AllocError> {
     Ok(texts)
 }
 
-// The calls behind it are those of this core.
-fn begun_with(alloc: Global, session: &mut Session, core: Core) -> Result<String, AllocError> {
-    *session = Session::with(core);
-    String::from_str(alloc, "resumed")
-}
-
 // What becomes of the texts.
 fn resumed_with(
     alloc: Global,
@@ -50,7 +44,10 @@ fn resumed_with(
     requires { length texts.items ≤ 1048576 }
 {
     match Core::resume(alloc, mode, Limits::standard(), texts) {
-        Ok(core) => begun_with(alloc, session, core),
+        Ok(core) => {
+            session.begin(core);
+            String::from_str(alloc, "resumed")
+        }
         Err(ResumeFault::OutOfMemory) => Err(AllocError),
         Err(fault) => format!(in alloc; "{fault:?}"),
     }

@@ -9,6 +9,7 @@ use journal::Question;
 use keri_outside::{Rehearsal, Verifier};
 use row_text::{Row, given};
 use std::alloc::{AllocError, Global};
+use validator_core::Core;
 
 // How many questions `ask` answers at most.
 const MOST_QUESTIONS: u32 = 1_000_000;
@@ -25,7 +26,7 @@ pub(crate) fn number_of(row: &Row) -> u32 {
 
 /// `core MODE MESSAGES BYTES SIGNATURES`: the calls behind it are those of a new core.
 fn begun(alloc: Global, session: &mut Session, row: &Row) -> Result<String, AllocError> {
-    *session = Session::of(alloc, mode_of(row.word(1)), limits_of(row));
+    session.begin(Core::new(alloc, mode_of(row.word(1)), limits_of(row)));
     String::from_str(alloc, "begun")
 }
 

@@ -1,4 +1,5 @@
 //! Messages, as words of rows spell them.
+ghost use Rattle.std.specs.Prelude.{◌≡◌, ◌+◌, length};
 
 use cesr_stream::{Assembler, Message, Reader, Step};
 use keri_outside::Limits;
@@ -30,12 +31,26 @@ fn push_items(
     Ok(())
 }
 
+// The last message that the text spells, where it spells one, by a reader and an assembler to which nothing was given.
+fn last_message(
+    reader: &mut Reader,
+    assembler: &mut Assembler,
+    text: &[u8],
+) -> Result<Option<Message>, AllocError>
+    requires { reader.old.place + length reader.old.rest ≡ 0 }
+{
+    reader.feed(text)?;
+    push_items(reader, assembler, text.len())?;
+    Ok(assembler.finish())
+}
+
 /// The last message that the text spells, where it spells one.
 pub(crate) fn message_of(alloc: Global, text: &[u8]) -> Result<Option<Message>, AllocError> {
     let limits = Limits::standard();
     let mut reader = Reader::new(alloc, limits);
     let mut assembler = Assembler::new(alloc, limits);
-    reader.feed(text)?;
-    push_items(&mut reader, &mut assembler, text.len())?;
-    Ok(assembler.finish())
+    let message = last_message(&mut reader, &mut assembler, text);
+    drop(assembler);
+    drop(reader);
+    message
 }

@@ -5,6 +5,7 @@ use journal::{Mode, Question};
 use keri_outside::{Limits, Steps};
 use row_text::Row;
 use std::alloc::Global;
+use std::mem;
 use validator_core::Core;
 
 /// The core, the steps that its calls counted, and the last question that it gave.
@@ -18,21 +19,21 @@ pub(crate) struct Session {
 impl Session {
     /// A validator's core.
     pub(crate) fn new(alloc: Global) -> Session {
-        Session::of(alloc, Mode::Full, Limits::standard())
+        Session::with(Core::new(alloc, Mode::Full, Limits::standard()))
     }
 
-    /// A core of this mode and these limits.
-    pub(crate) fn of(alloc: Global, mode: Mode, limits: Limits) -> Session {
-        Session::with(Core::new(alloc, mode, limits))
-    }
-
-    /// This core.
-    pub(crate) fn with(core: Core) -> Session {
+    // This core.
+    fn with(core: Core) -> Session {
         Session {
             core,
             steps: Steps::new(),
             question: None,
         }
+    }
+
+    /// The calls behind it are those of this core.
+    pub(crate) fn begin(&mut self, core: Core) {
+        drop(mem::replace(self, Session::with(core)));
     }
 }
 
