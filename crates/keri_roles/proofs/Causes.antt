@@ -8,12 +8,13 @@ use Rattle.keri_outside.specs.declared.limits.Limits.{Limits}
 use Rattle.journal.specs.declared.mode.Mode.{Mode}
 use Rattle.journal.specs.declared.refusal.Refusal.{Refusal}
 use Rattle.journal.specs.History.{Told as ToldEntry}
-use Rattle.keri_roles.specs.declared.close.Close.{Close}
-use Rattle.keri_roles.specs.declared.close.Close.TheVariants.{ReadFault, VerifierFault, OutOfMemory}
+use Rattle.run_status.specs.declared.close.Close.{Close}
+use Rattle.run_status.specs.declared.close.Close.TheVariants.{ReadFault, VerifierFault, OutOfMemory}
 use Rattle.keri_roles.specs.Check.{IsChecked, OwesChecks}
 use Rattle.keri_roles.specs.Commands.{Does, CarriesOut}
-use Rattle.keri_roles.specs.CoreTold.{Given, IsTold, ReadsBy}
-use Rattle.keri_roles.specs.Run.{SourceTold, VerifierTold, Work, AreCaused}
+use Rattle.keri_roles.specs.CoreTold.{Given, ReadsToCore, ReadsBy}
+use Rattle.run_status.specs.Readers.{SourceTold, VerifierTold}
+use Rattle.keri_roles.specs.Run.{Work, AreCaused}
 
 -- where it may be that the source and the verifier couldn't be made, the count of the outside rose
 module _ (rose : Type 0) where
@@ -63,7 +64,7 @@ check_caused name work c = rw c.one (
 )
 
 -- of any command over a core
-told_caused : (mode : Mode) (helper name : List ℕ) (work : Work) → IsTold mode helper name work → AreCaused work.before work.after work.readers
+told_caused : (mode : Mode) (helper name : List ℕ) (work : Work) → ReadsToCore mode helper name work → AreCaused work.before work.after work.readers
 told_caused mode helper name work t = rw t.one (
   record {
     source = told_read _ _ t.journal.bytes _ _ t.reader.close t.reader.source t.reader.verifier (λ none. t.makes.rose (rw none refl)) t.journal.reads;

@@ -16,26 +16,27 @@ use Rattle.journal.specs.Readiness.{is_ready}
 use Rattle.journal.specs.Replies.{IsWithin}
 use Rattle.acceptance.specs.Standing.{IsHeld}
 use Rattle.validator_core.specs.View.{CoreView, Stands, told_of}
-use Rattle.keri_roles.specs.declared.close.Close.{Close}
-use Rattle.keri_roles.specs.declared.close.Close.TheVariants.{OutOfMemory}
-use Rattle.keri_roles.specs.declared.findings.Findings.{Findings}
-use Rattle.keri_roles.specs.CoreTold.{Given, ReadsBy, Tells, IsTold, IsToldBy, IsJournalOf, AreSettled}
-use Rattle.keri_roles.specs.Run.{Reader, SourceTold, VerifierTold, Makes, Owes}
+use Rattle.run_status.specs.declared.close.Close.{Close}
+use Rattle.run_status.specs.declared.close.Close.TheVariants.{OutOfMemory}
+use Rattle.run_status.specs.declared.besides.Besides.{Besides}
+use Rattle.keri_roles.specs.CoreTold.{Given, ReadsBy, Tells, ReadsToCore, IsToldBy, IsJournalOf, AreSettled}
+use Rattle.run_status.specs.Readers.{Reader, SourceTold, VerifierTold}
+use Rattle.keri_roles.specs.Run.{AreMakings, Owes}
 use Rattle.keri_roles.proofs.Questions.{no_bodies}
 
 -- what is owed by whether there was memory for its text
 pub owes : {A E : Type 0} (text_in : A → List ℕ) (has_in : A → Bool) (is_text : Close → List ℕ → Bool → Type 0) (close now : Close)
-    (account : Result A E) (owed : Option (List ℕ)) (has : Bool)
-    → IfOk account (λ a. (close ≢ OutOfMemory) × is_text close (text_in a) (has_in a))
-    → IfOk account (λ a. (now ≡ close) × (owed ≡ Some (text_in a)) × (has ≡ has_in a))
-    → OnErr account ((now ≡ OutOfMemory) × (owed ≡ None)) → Owes owed now (λ text. is_text now text has)
+    (written : Result A E) (owed : Option (List ℕ)) (has : Bool)
+    → IfOk written (λ a. (close ≢ OutOfMemory) × is_text close (text_in a) (has_in a))
+    → IfOk written (λ a. (now ≡ close) × (owed ≡ Some (text_in a)) × (has ≡ has_in a))
+    → OnErr written ((now ≡ OutOfMemory) × (owed ≡ None)) → Owes owed now (λ text. is_text now text has)
 owes text_in has_in is_text close now (Ok a) owed has some ok err = rw (ok.0, ok.1, ok.2) some
 owes text_in has_in is_text close now (Err e) owed has some ok err = rw err.1 err.0
 
 -- and so the reader closes as before, or by want of memory
-pub closes_so : {A E : Type 0} (text_in : A → List ℕ) (has_in : A → Bool) (close now : Close) (account : Result A E) (owed : Option (List ℕ)) (has : Bool)
-    → IfOk account (λ a. (now ≡ close) × (owed ≡ Some (text_in a)) × (has ≡ has_in a))
-    → OnErr account ((now ≡ OutOfMemory) × (owed ≡ None)) → (now ≡ close) ⊎ (now ≡ OutOfMemory)
+pub closes_so : {A E : Type 0} (text_in : A → List ℕ) (has_in : A → Bool) (close now : Close) (written : Result A E) (owed : Option (List ℕ)) (has : Bool)
+    → IfOk written (λ a. (now ≡ close) × (owed ≡ Some (text_in a)) × (has ≡ has_in a))
+    → OnErr written ((now ≡ OutOfMemory) × (owed ≡ None)) → (now ≡ close) ⊎ (now ≡ OutOfMemory)
 closes_so text_in has_in close now (Ok a) owed has ok err = inl ok.0
 closes_so text_in has_in close now (Err e) owed has ok err = inr err.0
 
@@ -113,11 +114,11 @@ is_told_by mode given reader core t stands = record {
 }
 
 -- and so is what a core over a file was told
-abbrev pub is_told : (mode : Mode) (helper name : List ℕ) (before after : Told) (reader : Reader) (core : CoreView) (owed : Option (List ℕ)) (own : Findings)
-    → Makes (making SourceKind name (is_none reader.source) ∷ making VerifierKind helper (is_none reader.verifier) ∷ []) before after
+abbrev pub is_told : (mode : Mode) (helper name : List ℕ) (before after : Told) (reader : Reader) (core : CoreView) (owed : Option (List ℕ)) (besides : Besides)
+    → AreMakings (making SourceKind name (is_none reader.source) ∷ making VerifierKind helper (is_none reader.verifier) ∷ []) before after
     → Tells mode (record { limits = before.limits; held = before.holds name; says = before.says helper }) reader core → Stands core
-    → IsTold mode helper name (record { before = before; after = after; readers = reader ∷ []; journal = journal_of core; owed = owed; own = own })
-is_told mode helper name before after reader core owed own makes t stands =
+    → ReadsToCore mode helper name (record { before = before; after = after; readers = reader ∷ []; journal = journal_of core; owed = owed; besides = besides })
+is_told mode helper name before after reader core owed besides makes t stands =
     record { reader = reader; one = refl; makes = makes; journal = is_told_by mode (record { limits = before.limits; held = before.holds name; says = before.says helper }) reader core t stands }
 
 -- what is owed is this text, and unless there was no memory that is such a text

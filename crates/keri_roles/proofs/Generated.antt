@@ -14,10 +14,10 @@ use Rattle.journal.proofs.Places.{some_at}
 use Rattle.log_maker.specs.Making.{maker_faults, maker_left}
 use Rattle.log_maker.specs.declared.log_maker.LogMaker.{LogMaker}
 use Rattle.validator_core.specs.View.{CoreView, accepted_by, told_of}
-use Rattle.keri_roles.specs.declared.close.Close.{Close}
-use Rattle.keri_roles.specs.declared.close.Close.TheVariants.{ReadFault, VerifierFault, OutOfMemory}
+use Rattle.run_status.specs.declared.close.Close.{Close}
+use Rattle.run_status.specs.declared.close.Close.TheVariants.{ReadFault, VerifierFault, OutOfMemory}
 use Rattle.keri_roles.specs.CoreTold.{Given, ReadsBy}
-use Rattle.keri_roles.specs.Run.{SourceTold, VerifierTold}
+use Rattle.run_status.specs.Readers.{SourceTold, VerifierTold}
 use Rattle.keri_roles.proofs.Questions.{no_bodies}
 
 -- a reader whose source and verifier were made, and whose verifier never failed, doesn't close by its fault
@@ -43,8 +43,8 @@ none_counted says None = tt
 none_counted says (Some x) = refl
 
 -- it closes as before, where that is by neither fault, or by want of memory
-pub closes_well : {A E : Type 0} (text_in : A → List ℕ) (has_in : A → Bool) (close now : Close) (account : Result A E) (owed : Option (List ℕ)) (has : Bool) → close ≢ VerifierFault
-    → IfOk account (λ a. close ≢ ReadFault) → IfOk account (λ a. (now ≡ close) × (owed ≡ Some (text_in a)) × (has ≡ has_in a)) → OnErr account ((now ≡ OutOfMemory) × (owed ≡ None))
+pub closes_well : {A E : Type 0} (text_in : A → List ℕ) (has_in : A → Bool) (close now : Close) (written : Result A E) (owed : Option (List ℕ)) (has : Bool) → close ≢ VerifierFault
+    → IfOk written (λ a. close ≢ ReadFault) → IfOk written (λ a. (now ≡ close) × (owed ≡ Some (text_in a)) × (has ≡ has_in a)) → OnErr written ((now ≡ OutOfMemory) × (owed ≡ None))
     → (now ≢ ReadFault) × (now ≢ VerifierFault)
 closes_well text_in has_in close now (Ok a) owed has never made ok err = ((λ e. made (sym ok.0 ∙ e)), (λ e. never (sym ok.0 ∙ e)))
 closes_well text_in has_in close now (Err e) owed has never made ok err = ((λ e. let clash : OutOfMemory ≡ ReadFault = sym err.0 ∙ e in cc), (λ e. let clash : OutOfMemory ≡ VerifierFault = sym err.0 ∙ e in cc))

@@ -4,6 +4,6 @@ pub mod Offers
 pub mod Tells
 pub mod CoreTold
 pub mod Causes
-pub mod RunStatus
+pub mod Statuses
 pub mod Agreed
 pub mod Generated

@@ -31,8 +31,8 @@ use Rattle.journal.specs.Questions.{questions, raised}
 use Rattle.validator_core.specs.View.{CoreView, Follows, TakesMessage, base_of, told_of, open_of}
 use Rattle.keri_roles.specs.declared.validator.Validator.{Validator}
 use Rattle.keri_roles.proofs.Questions.{asks_nothing, follows_itself, follows_on, no_bodies}
-use Rattle.keri_roles.specs.declared.close.Close.{Close}
-use Rattle.keri_roles.specs.declared.close.Close.TheVariants.{End, Bad, ReadFault, VerifierFault, Full as FullClose, OutOfMemory}
+use Rattle.run_status.specs.declared.close.Close.{Close}
+use Rattle.run_status.specs.declared.close.Close.TheVariants.{End, Bad, ReadFault, VerifierFault, Full as FullClose, OutOfMemory}
 use Rattle.keri_roles.specs.Verdicts.{Asks, IsVerdict, StopsAsking}
 use Rattle.keri_roles.specs.Offers.{Stands, IsTurnedAway, Offers, HasTaken, HasStopped}
 

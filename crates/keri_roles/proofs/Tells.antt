@@ -24,13 +24,13 @@ use Rattle.message_feed.specs.Feeds.{Stream, Feeds}
 use Rattle.message_feed.specs.declared.feed_close.FeedClose.{FeedClose}
 use Rattle.message_feed.specs.declared.feed_close.FeedClose.TheVariants as feed
 use Rattle.validator_core.specs.View.{CoreView, told_of}
-use Rattle.keri_roles.specs.declared.close.Close.{Close}
-use Rattle.keri_roles.specs.declared.close.Close.TheVariants.{End, Bad, ReadFault, VerifierFault, Full, OutOfMemory}
+use Rattle.run_status.specs.declared.close.Close.{Close}
+use Rattle.run_status.specs.declared.close.Close.TheVariants.{End, Bad, ReadFault, VerifierFault, Full, OutOfMemory}
 use Rattle.keri_roles.specs.declared.validator.Validator.{Validator}
 use Rattle.keri_roles.specs.Closes.{is_stopped}
 use Rattle.keri_roles.specs.CoreTold.{Given, ClosesReader, ClosesStream, ReadsBy, AreAsked, IsUnmade, Tells, end_of}
 use Rattle.keri_roles.specs.Offers.{Offers, HasTaken, HasStopped, IsTurnedAway, Finishes}
-use Rattle.keri_roles.specs.Run.{Reader, SourceTold, VerifierTold, source_seen, verifier_seen}
+use Rattle.run_status.specs.Readers.{Reader, SourceTold, VerifierTold, source_seen, verifier_seen}
 use Rattle.keri_roles.proofs.Offers.{told_nothing, asked_nothing}
 use Rattle.keri_roles.proofs.Questions.{no_bodies}
 
@@ -202,31 +202,31 @@ module _ {V : Type 0} (says : V → Key → List ℕ → Sig → Option Bool) (v
     tells_stopped ReadFault ms later s made whole gave = absurd s
 
     -- the source was read as far as it goes, and the last message was taken too, or the reader stopped there
-    tells_ended : (own close : Close) (ms : List Message) → (HasTaken says verifier_faults first now ms × (close ≡ own))
+    tells_ended : (source_close close : Close) (ms : List Message) → (HasTaken says verifier_faults first now ms × (close ≡ source_close))
         ⊎ HasStopped says verifier_faults first now close ms → ms ≡ messages given.limits.message_signatures items
         → IsEnd (judged reading) → Gave given.held source.left bytes
-        → (verifier_faults now.verifier ≡ 0 → ClosesReader given source asked_one bytes reading (told_of now.core) ms own)
+        → (verifier_faults now.verifier ≡ 0 → ClosesReader given source asked_one bytes reading (told_of now.core) ms source_close)
         → Tells mode given (reader_by says verifier_faults source now close) now.core
-    tells_ended own close ms (inl taken) all ends gave closes =
+    tells_ended source_close close ms (inl taken) all ends gave closes =
         subst (λ c. Tells mode given (reader_by says verifier_faults source now c) now.core) (sym taken.1)
-        (tells_so own ms [] taken.0.offers (append-nil ms ∙ all) (λ none. ends) (λ unstopped. refl) (closes (taken.0.none_failed ∙ unfailed))
+        (tells_so source_close ms [] taken.0.offers (append-nil ms ∙ all) (λ none. ends) (λ unstopped. refl) (closes (taken.0.none_failed ∙ unfailed))
         (none_asked ms taken.0))
-    tells_ended own close ms (inr stopped) all ends gave closes = tells_stopped close ms [] stopped (append-nil ms ∙ all) (λ none earlier m e. ends) gave
+    tells_ended source_close close ms (inr stopped) all ends gave closes = tells_stopped close ms [] stopped (append-nil ms ∙ all) (λ none earlier m e. ends) gave
 
 module _ {V : Type 0} (says : V → Key → List ℕ → Sig → Option Bool) (verifier_faults : V → ℕ) (mode : Mode) (given : Given) (source : SourceTold)
     (first middle new : Validator V) (mode_is : first.core.mode ≡ mode) (limits_are : first.core.limits ≡ given.limits)
     (says_are : says first.verifier ≡ given.says) (unfailed : verifier_faults first.verifier ≡ 0) where
   -- nothing has changed since the source was read
-  unmoved : (own close : Close) → close ≡ own → new ≡ middle → Tells mode given (reader_by says verifier_faults source middle own) middle.core
+  unmoved : (source_close close : Close) → close ≡ source_close → new ≡ middle → Tells mode given (reader_by says verifier_faults source middle source_close) middle.core
       → Tells mode given (reader_by says verifier_faults source new close) new.core
-  unmoved own close same kept t =
+  unmoved source_close close same kept t =
       subst (λ c. Tells mode given (reader_by says verifier_faults source new c) new.core) (sym same)
-      (subst (λ v. Tells mode given (reader_by says verifier_faults source v own) v.core) (sym kept) t)
+      (subst (λ v. Tells mode given (reader_by says verifier_faults source v source_close) v.core) (sym kept) t)
 
   -- a stream was read
-  pub tells_stream : (own : FeedClose Close) (close : Close) (last : Option Message)
-      → Feeds (HasTaken says verifier_faults first) (HasStopped says verifier_faults first) given.limits given.held source.left 0 source.faults middle own last
-      → Finishes says verifier_faults own last middle new close
+  pub tells_stream : (source_close : FeedClose Close) (close : Close) (last : Option Message)
+      → Feeds (HasTaken says verifier_faults first) (HasStopped says verifier_faults first) given.limits given.held source.left 0 source.faults middle source_close last
+      → Finishes says verifier_faults source_close last middle new close
       → Tells mode given (reader_by says verifier_faults source new close) new.core
   tells_stream feed.End close last f e =
       tells_ended says verifier_faults mode given source first new mode_is limits_are says_are unfailed f.fed f.reading f.items f.stream End close

@@ -9,12 +9,13 @@ use Rattle.cesr_stream.specs.Items.{Placed}
 use Rattle.cesr_stream.specs.Messages.{messages}
 use Rattle.cesr_stream.specs.Reading.{Reading}
 use Rattle.message_feed.specs.Feeds.{Stream}
-use Rattle.keri_roles.specs.declared.close.Close.TheVariants.{ReadFault}
-use Rattle.keri_roles.specs.Answers.{Answered}
+use Rattle.run_status.specs.declared.close.Close.TheVariants.{ReadFault}
+use Rattle.keri_roles.specs.MessageLines.{AreLinesOf}
 use Rattle.keri_roles.specs.Closes.{Closes, ending_text}
 use Rattle.keri_roles.specs.NoJournal.{no_journal}
-use Rattle.keri_roles.specs.Run.{Reader, SourceTold, Work, Makes, Owes}
-use Rattle.keri_roles.specs.Status.{nothing}
+use Rattle.run_status.specs.Readers.{Reader, SourceTold}
+use Rattle.keri_roles.specs.Run.{Work, AreMakings, Owes}
+use Rattle.run_status.specs.Status.{nothing_besides}
 
 -- A stream was read: the text has the lines of its messages, and then how reading closed.
 pub record ChecksStream (limits : Limits) (held : Option (List ℕ)) (source : SourceTold) (reader : Reader) (text : List ℕ) : Type 0 where
@@ -24,7 +25,7 @@ pub record ChecksStream (limits : Limits) (held : Option (List ℕ)) (source : S
   pub stream : Stream limits bytes reading items
   pub closes : Closes limits.stream_bytes held source bytes reading reader.close
   pub lines : List ℕ
-  pub answered : Answered (messages limits.message_signatures items) lines reader.refused
+  pub answered : AreLinesOf (messages limits.message_signatures items) lines reader.refused
   pub text_is : text ≡ lines ++ ending_text 0 reader.close
 
 -- The source couldn't be made: the text is only that.
@@ -44,8 +45,8 @@ OwesChecks reader limits held owed = Owes owed reader.close (ChecksReader limits
 pub record IsChecked (name : List ℕ) (work : Work) : Type 0 where
   pub reader : Reader
   pub one : work.readers ≡ reader ∷ []
-  pub makes : Makes (making Source name (is_none reader.source) ∷ []) work.before work.after
+  pub makes : AreMakings (making Source name (is_none reader.source) ∷ []) work.before work.after
   pub no_verifier : reader.verifier ≡ None
   pub owes : OwesChecks reader work.before.limits (work.before.holds name) work.owed
   pub none_told : work.journal ≡ no_journal
-  pub nothing_else : work.own ≡ nothing
+  pub nothing_else : work.besides ≡ nothing_besides

@@ -7,14 +7,14 @@ use Rattle.cesr_stream.specs.Assembly.{all_of}
 use Rattle.message_feed.specs.declared.feed_close.FeedClose.{FeedClose}
 use Rattle.message_feed.specs.declared.feed_close.FeedClose.TheVariants as feed
 use Rattle.keri_roles.specs.declared.checker.Checker.{Checker}
-use Rattle.keri_roles.specs.declared.close.Close.{Close}
-use Rattle.keri_roles.specs.declared.close.Close.TheVariants.{End, Bad, ReadFault, Full}
-use Rattle.keri_roles.specs.Answers.{Answered}
+use Rattle.run_status.specs.declared.close.Close.{Close}
+use Rattle.run_status.specs.declared.close.Close.TheVariants.{End, Bad, ReadFault, Full}
+use Rattle.keri_roles.specs.MessageLines.{AreLinesOf}
 use Rattle.keri_roles.specs.Closes.{ending_text}
 
--- these messages have been answered
-abbrev pub HasAnswered : Checker → List Message → Type 0
-HasAnswered checker messages = Answered messages (string_bytes checker.lines) checker.refused.items
+-- the lines of these messages have been added
+abbrev pub HasLinesOf : Checker → List Message → Type 0
+HasLinesOf checker messages = AreLinesOf messages (string_bytes checker.lines) checker.refused.items
 
 -- reading a source closed so
 abbrev pub IsClose : FeedClose AllocError → Close → Type 0
@@ -25,7 +25,7 @@ IsClose feed.Full close = close ≡ Full
 IsClose feed.OutOfMemory close = ⊥
 IsClose (feed.Stopped stop) close = ⊥
 
--- behind the messages answered so far the last one was answered, and behind its line stands that of how reading closed
+-- behind the lines added so far stands that of the last message, and then that of how reading closed
 abbrev pub Finishes : Close → Option Message → Checker → Checker → Type 0
-Finishes close last old new = (messages : List Message) → HasAnswered old messages
-    → (lines : List ℕ) × Answered (messages ++ all_of last) lines new.refused.items × (string_bytes new.lines ≡ lines ++ ending_text 0 close)
+Finishes close last old new = (messages : List Message) → HasLinesOf old messages
+    → (lines : List ℕ) × AreLinesOf (messages ++ all_of last) lines new.refused.items × (string_bytes new.lines ≡ lines ++ ending_text 0 close)

@@ -10,18 +10,19 @@ use Rattle.journal.specs.Journals.{told_by}
 use Rattle.report_lines.specs.Lines.{stream_text}
 use Rattle.validator_core.specs.View.{CoreView}
 use Rattle.watcher_core.specs.Evidence.{IsEvidenceText, ReadsAsEvidence}
-use Rattle.keri_roles.specs.declared.close.Close.{Close}
-use Rattle.keri_roles.specs.declared.close.Close.TheVariants.{ReadFault, VerifierFault}
-use Rattle.keri_roles.specs.declared.findings.Findings.{Findings}
+use Rattle.run_status.specs.declared.close.Close.{Close}
+use Rattle.run_status.specs.declared.close.Close.TheVariants.{ReadFault, VerifierFault}
+use Rattle.run_status.specs.declared.besides.Besides.{Besides}
 use Rattle.keri_roles.specs.Agreement.{IsAgreed}
 use Rattle.keri_roles.specs.Check.{IsChecked}
 use Rattle.keri_roles.specs.CoreTold.{IsOverCore, IsToldBy}
 use Rattle.keri_roles.specs.Generated.{counts_of, made_in}
 use Rattle.keri_roles.specs.NoJournal.{no_journal}
 use Rattle.keri_roles.specs.Reports.{Reports}
-use Rattle.keri_roles.specs.Run.{Owes, Reader, Run, Work, work_in}
-use Rattle.keri_roles.specs.RunStatus.{Settles}
-use Rattle.keri_roles.specs.Status.{nothing}
+use Rattle.run_status.specs.Readers.{Reader}
+use Rattle.keri_roles.specs.Run.{Owes, Run, Work, work_in}
+use Rattle.keri_roles.specs.Run.{Settles}
+use Rattle.run_status.specs.Status.{nothing_besides}
 
 -- `validate --helper HELPER FILE`: a core that wants receipts and seals is told what the file holds, and the text is its
 -- report. What it accepts agrees with what any other validator accepts.
@@ -41,8 +42,8 @@ abbrev pub IsWatched : List ℕ → List ℕ → Work → Type 0
 IsWatched = IsOverCore Local IsEvidence
 
 -- `gen --seed SEED --logs LOGS --events EVENTS`: a core that wants receipts and seals is told the stream that is made of the
--- seed, with the verdicts of the rehearsal. Nothing is made of the outside, nor failed. The line is owed that says how much
--- the stream has, and how many of its events are accepted.
+-- seed, with the verdicts of the rehearsal. Nothing is made of the outside, and no fault of a source or a verifier is answered.
+-- The line is owed that says how much the stream has, and how many of its events are accepted.
 pub record IsGenerated (seed logs events : ℕ) (work : Work) : Type 0 where
   pub reader : Reader
   pub one : work.readers ≡ record reader { source = None; verifier = None } ∷ []
@@ -51,7 +52,7 @@ pub record IsGenerated (seed logs events : ℕ) (work : Work) : Type 0 where
   pub none_failed : (reader.close ≢ ReadFault) × (reader.close ≢ VerifierFault)
   pub owes : Owes work.owed reader.close
       (λ text. text ≡ stream_text (counts_of seed logs events (accepted Full [] (told_by journal.fed.held work.journal.entries))))
-  pub nothing_else : work.own ≡ nothing
+  pub nothing_else : work.besides ≡ nothing_besides
 
 -- nothing was made, read or told
 pub record IsIdle (work : Work) : Type 0 where
@@ -63,13 +64,13 @@ pub record IsIdle (work : Work) : Type 0 where
 pub record IsUnbegun (work : Work) : Type 0 where
   pub idle : IsIdle work
   pub owes : work.owed ≡ None
-  pub nothing_else : work.own ≡ nothing
+  pub nothing_else : work.besides ≡ nothing_besides
 
 -- words that aren't in the form: the line `words` is owed
-pub record IsRefused (work : Work) : Type 0 where
+pub record RefusesWords (work : Work) : Type 0 where
   pub idle : IsIdle work
   pub owes : work.owed ≡ Some (codes "words\n")
-  pub nothing_else : work.own ≡ record nothing { words_refused = true }
+  pub nothing_else : work.besides ≡ record nothing_besides { words_refused = true }
 
 -- a row for each command
 abbrev pub CarriesOut : Asked → Work → Type 0
@@ -79,12 +80,12 @@ CarriesOut (watch helper name) work = IsWatched helper name work
 CarriesOut (generate seed logs events) work = IsGenerated seed logs events work
 
 abbrev pub Does : Option Asked → Work → Type 0
-Does None work = IsRefused work
+Does None work = RefusesWords work
 Does (Some asked) work = CarriesOut asked work ⊎ IsUnbegun work
 
 -- what was asked for was done, what it owes was written, and the status is by what was found
-pub record Answers (asked : Option Asked) (run : Run) : Type 0 where
+pub record IsRunOf (asked : Option Asked) (run : Run) : Type 0 where
   pub owed : Option (List ℕ)
-  pub own : Findings
-  pub does : Does asked (work_in run owed own)
-  pub settles : Settles owed own run
+  pub besides : Besides
+  pub does : Does asked (work_in run owed besides)
+  pub settles : Settles owed besides run

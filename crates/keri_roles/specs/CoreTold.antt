@@ -27,12 +27,13 @@ use Rattle.journal.specs.Replies.{IsWithin}
 use Rattle.validator_core.specs.View.{CoreView, Stands, told_of}
 use Rattle.message_feed.specs.Closing.{Gave}
 use Rattle.message_feed.specs.Feeds.{Stream}
-use Rattle.keri_roles.specs.declared.close.Close.{Close}
-use Rattle.keri_roles.specs.declared.close.Close.TheVariants.{End, Bad, ReadFault, VerifierFault, Full, OutOfMemory}
+use Rattle.run_status.specs.declared.close.Close.{Close}
+use Rattle.run_status.specs.declared.close.Close.TheVariants.{End, Bad, ReadFault, VerifierFault, Full, OutOfMemory}
 use Rattle.keri_roles.specs.Closes.{Closes, is_stopped}
 use Rattle.keri_roles.specs.Offers.{IsTurnedAway}
-use Rattle.keri_roles.specs.Run.{Reader, SourceTold, VerifierTold, Work, Makes, Owes}
-use Rattle.keri_roles.specs.Status.{nothing}
+use Rattle.run_status.specs.Readers.{Reader, SourceTold, VerifierTold}
+use Rattle.keri_roles.specs.Run.{Work, AreMakings, Owes}
+use Rattle.run_status.specs.Status.{nothing_besides}
 
 -- what a reader is given: the limits, what its source holds, and what its verifier says, where they tell
 pub record Given : Type 0 where
@@ -150,16 +151,16 @@ pub record IsToldBy (mode : Mode) (given : Given) (reader : Reader) (journal : J
   pub settled : AreSettled mode fed.held (told_by fed.held journal.entries)
 
 -- The two makings are the source of the file and the verifier of the helper, and the journal was told by the one reader.
-pub record IsTold (mode : Mode) (helper name : List ℕ) (work : Work) : Type 0 where
+pub record ReadsToCore (mode : Mode) (helper name : List ℕ) (work : Work) : Type 0 where
   pub reader : Reader
   pub one : work.readers ≡ reader ∷ []
-  pub makes : Makes (making SourceKind name (is_none reader.source) ∷ making VerifierKind helper (is_none reader.verifier) ∷ []) work.before work.after
+  pub makes : AreMakings (making SourceKind name (is_none reader.source) ∷ making VerifierKind helper (is_none reader.verifier) ∷ []) work.before work.after
   pub journal : IsToldBy mode (given_in work helper name) reader work.journal
 
 -- A file was read to a core, and the text of its journal is owed. There is a conflict where the text says so.
 pub record IsOverCore (mode : Mode) (is_text : CoreView → List Refusal → Close → List ℕ → Bool → Type 0) (helper name : List ℕ) (work : Work) : Type 0 where
-  pub told : IsTold mode helper name work
+  pub told : ReadsToCore mode helper name work
   pub has_conflicts : Bool
   pub owes : Owes work.owed told.reader.close
       (λ text. is_text (core_of mode work.before.limits told.journal.fed.held work.journal.entries) told.reader.refused told.reader.close text has_conflicts)
-  pub nothing_else : work.own ≡ record nothing { conflict_found = has_conflicts }
+  pub nothing_else : work.besides ≡ record nothing_besides { conflict_found = has_conflicts }

@@ -1,9 +1,7 @@
-pub mod Status
 pub mod NoJournal
 pub mod Run
 pub mod Closes
-pub mod RunStatus
-pub mod Answers
+pub mod MessageLines
 pub mod Checker
 pub mod Check
 pub mod Verdicts

@@ -16,8 +16,8 @@ use Rattle.journal.specs.History.{Told}
 use Rattle.validator_core.specs.View.{Follows, told_of, open_of}
 use Rattle.message_feed.specs.declared.feed_close.FeedClose.{FeedClose}
 use Rattle.message_feed.specs.declared.feed_close.FeedClose.TheVariants as feed
-use Rattle.keri_roles.specs.declared.close.Close.{Close}
-use Rattle.keri_roles.specs.declared.close.Close.TheVariants.{End, Bad, ReadFault, VerifierFault, Full, OutOfMemory}
+use Rattle.run_status.specs.declared.close.Close.{Close}
+use Rattle.run_status.specs.declared.close.Close.TheVariants.{End, Bad, ReadFault, VerifierFault, Full, OutOfMemory}
 use Rattle.keri_roles.specs.declared.validator.Validator.{Validator}
 
 -- These messages were offered: those that aren't refused were taken by the first reader, and the others are noted. All

@@ -4,8 +4,8 @@ use Rattle.journal.specs.declared.refusal.Refusal.{Refusal}
 use Rattle.report_lines.specs.Lines.{refused_text, malformed_text, read_fault_text, verifier_fault_text, full_text, memory_text}
 use Rattle.validator_core.specs.View.{CoreView}
 use Rattle.validator_report.specs.Report.{IsStandingText}
-use Rattle.keri_roles.specs.declared.close.Close.{Close}
-use Rattle.keri_roles.specs.declared.close.Close.TheVariants.{End, Bad, ReadFault, VerifierFault, Full, OutOfMemory}
+use Rattle.run_status.specs.declared.close.Close.{Close}
+use Rattle.run_status.specs.declared.close.Close.TheVariants.{End, Bad, ReadFault, VerifierFault, Full, OutOfMemory}
 
 -- the lines of the messages that a reader refused
 abbrev pub refused_lines : ℕ → List Refusal → List ℕ

@@ -1,5 +1,5 @@
 -- What is seen of a run, and of what a command came to before that was written.
-use Rattle.std.specs.Prelude.{◌≡◌, ◌≢◌, ℕ, ◌⊎◌, Bool, true, false, List, [], ◌∷◌, ◌++◌, map, option_map, MatchOption}
+use Rattle.std.specs.Prelude.{◌≡◌, ◌≢◌, ℕ, Bool, true, false, List, [], ◌∷◌, ◌++◌, map, option_map, IsNone, MatchOption}
 use Rattle.std.specs.List.{list_any}
 use Rattle.std.specs.declared.option.Option.{Option}
 use Rattle.std.specs.declared.option.Option.TheVariants.{None, Some}
@@ -9,33 +9,13 @@ use Rattle.cesr_codes.specs.declared.sig.Sig.{Sig}
 use Rattle.keri_outside.specs.Told.{Told}
 use Rattle.keri_outside.specs.declared.making.Making.{Making}
 use Rattle.journal.specs.declared.journal.Journal.{Journal}
-use Rattle.journal.specs.declared.refusal.Refusal.{Refusal}
-use Rattle.keri_roles.specs.declared.close.Close.{Close}
-use Rattle.keri_roles.specs.declared.close.Close.TheVariants.{ReadFault, VerifierFault, OutOfMemory}
-use Rattle.keri_roles.specs.declared.done.ReaderEnd.{ReaderEnd}
-use Rattle.keri_roles.specs.declared.findings.Findings.{Findings}
+use Rattle.run_status.specs.declared.close.Close.{Close}
+use Rattle.run_status.specs.declared.close.Close.TheVariants.{ReadFault, VerifierFault, OutOfMemory}
+use Rattle.run_status.specs.declared.besides.Besides.{Besides}
+use Rattle.run_status.specs.declared.reader_end.ReaderEnd.{ReaderEnd}
+use Rattle.run_status.specs.Readers.{Reader, SinkTold, reader_seen}
+use Rattle.run_status.specs.Settling.{FaultsHaveCauses, SettlesBy}
 use Rattle.keri_roles.specs.declared.outcome.Outcome.{Outcome}
-
--- what objects of the outside tell: what a source has left, what a verifier says, what was written; and how often each
--- has failed
-pub record SourceTold : Type 0 where
-  pub left : Option (List ℕ)
-  pub faults : ℕ
-
-pub record VerifierTold : Type 0 where
-  pub says : Key → List ℕ → Sig → Option Bool
-  pub faults : ℕ
-
-pub record SinkTold : Type 0 where
-  pub written : Option (List ℕ)
-  pub faults : ℕ
-
--- how a reader ended
-pub record Reader : Type 0 where
-  pub source : Option SourceTold
-  pub verifier : Option VerifierTold
-  pub refused : List Refusal
-  pub close : Close
 
 -- What a command did with the outside: its readers, what was told, the text that it owes, unless there was no memory for
 -- that, and what it found besides its readers' ends.
@@ -45,7 +25,7 @@ pub record Work : Type 0 where
   pub readers : List Reader
   pub journal : Journal
   pub owed : Option (List ℕ)
-  pub own : Findings
+  pub besides : Besides
 
 -- what a run did
 pub record Run : Type 0 where
@@ -58,8 +38,8 @@ pub record Run : Type 0 where
   pub status : ℕ
 
 -- the work of a run
-abbrev pub work_in : Run → Option (List ℕ) → Findings → Work
-work_in run owed own = record { before = run.before; after = run.after; readers = run.readers; journal = run.journal; owed = owed; own = own }
+abbrev pub work_in : Run → Option (List ℕ) → Besides → Work
+work_in run owed besides = record { before = run.before; after = run.after; readers = run.readers; journal = run.journal; owed = owed; besides = besides }
 
 -- these makings came behind those of before, where they are told
 abbrev pub Noted : Option (List Making) → Option (List Making) → List Making → Type 0
@@ -69,8 +49,8 @@ Noted old (Some new) makings = (earlier : List Making) × (old ≡ Some earlier)
 abbrev pub some_failed : List Making → Bool
 some_failed makings = list_any (λ m. m.failed) makings
 
--- A command's makings, in order, are these and no others. The count rose where one failed, and stood still where none did.
-pub record Makes (makings : List Making) (before after : Told) : Type 0 where
+-- These are a command's makings, in order, and there are no others. The count rose where one failed, and stood still where none did.
+pub record AreMakings (makings : List Making) (before after : Told) : Type 0 where
   pub noted : Noted before.makings after.makings makings
   pub rose : some_failed makings ≡ true → Rose before.faults after.faults
   pub kept : some_failed makings ≡ false → after.faults ≡ before.faults
@@ -90,34 +70,21 @@ abbrev pub AreCaused : Told → Told → List Reader → Type 0
 AreCaused before after [] = Unit {0}
 AreCaused before after (reader ∷ readers) = IsCaused before after reader × AreCaused before after readers
 
--- a reader closed so
-abbrev pub HasClose : Close → List Reader → Type 0
-HasClose close [] = ⊥
-HasClose close (reader ∷ readers) = (reader.close ≡ close) ⊎ HasClose close readers
+-- each fault that is answered has its cause
+pub record HasCauses {A : Type 0} (asked : Option A) (run : Run) : Type 0 where
+  pub two : run.status ≡ 2 → IsNone asked
+  pub faults : FaultsHaveCauses run.readers run.sink_before run.sink_after run.status
+  pub readers : AreCaused run.before run.after run.readers
 
 module _ {S V : Type 0} (left : S → Option (List ℕ)) (faults : S → ℕ) (says : V → Key → List ℕ → Sig → Option Bool) (verifier_faults : V → ℕ) where
-  abbrev pub source_seen : S → SourceTold
-  source_seen source = record { left = left source; faults = faults source }
-
-  abbrev pub verifier_seen : V → VerifierTold
-  verifier_seen verifier = record { says = says verifier; faults = verifier_faults verifier }
-
-  abbrev pub reader_seen : ReaderEnd S V → Reader
-  reader_seen end = record {
-    source = option_map source_seen end.source;
-    verifier = option_map verifier_seen end.verifier;
-    refused = end.refused.items;
-    close = end.close;
-  }
-
   abbrev pub work_seen : Told → Told → Outcome S V → Work
   work_seen before after outcome = record {
     before = before;
     after = after;
-    readers = map reader_seen outcome.readers.items;
+    readers = map (reader_seen left faults says verifier_faults) outcome.readers.items;
     journal = outcome.journal;
     owed = option_map (λ text. text.items) outcome.owed;
-    own = outcome.own;
+    besides = outcome.besides;
   }
 
   abbrev pub run_seen : Told → Told → SinkTold → SinkTold → ℕ → List (ReaderEnd S V) → Journal → Run
@@ -126,10 +93,10 @@ module _ {S V : Type 0} (left : S → Option (List ℕ)) (faults : S → ℕ) (s
     after = after;
     sink_before = sink_before;
     sink_after = sink_after;
-    readers = map reader_seen ends;
+    readers = map (reader_seen left faults says verifier_faults) ends;
     journal = journal;
     status = status;
   }
 
-abbrev pub sink_seen : {K : Type 0} → (K → Option (List ℕ)) → (K → ℕ) → K → SinkTold
-sink_seen written faults sink = record { written = written sink; faults = faults sink }
+abbrev pub Settles : Option (List ℕ) → Besides → Run → Type 0
+Settles owed besides run = SettlesBy owed besides run.readers run.sink_before run.sink_after run.status

@@ -9,8 +9,8 @@ use Rattle.journal.specs.Journals.{Names}
 use Rattle.journal.specs.declared.body.Body.{Body}
 use Rattle.journal.specs.Questions.{next_question}
 use Rattle.validator_core.specs.View.{CoreView, Follows, base_of, told_of}
-use Rattle.keri_roles.specs.declared.close.Close.{Close}
-use Rattle.keri_roles.specs.declared.close.Close.TheVariants.{End, Bad, ReadFault, VerifierFault, Full, OutOfMemory}
+use Rattle.run_status.specs.declared.close.Close.{Close}
+use Rattle.run_status.specs.declared.close.Close.TheVariants.{End, Bad, ReadFault, VerifierFault, Full, OutOfMemory}
 
 -- the question is open
 abbrev pub IsOpen : CoreView → Question → Type 0

@@ -5,15 +5,17 @@ ghost use Rattle.keri_outside.specs.Told.{making};
 ghost use Rattle.keri_outside.specs.declared.limits.Limits.{Limits as LimitsValue};
 ghost use Rattle.keri_outside.specs.declared.making.MakingKind.TheVariants.{Source as SourceKind};
 ghost use Rattle.keri_roles.specs.Check.{ChecksReader, IsChecked};
-ghost use Rattle.keri_roles.specs.Run.{Makes, Owes, reader_seen, work_seen};
+ghost use Rattle.run_status.specs.Readers.{reader_seen};
+ghost use Rattle.keri_roles.specs.Run.{AreMakings, Owes, work_seen};
 
 use crate::checker::Checker;
 use crate::nothing_told::nothing_told;
 use crate::outcome::Outcome;
-use crate::{Close, Findings, ReaderEnd};
+use crate::{Close, ReaderEnd};
 use keri_outside::{Failed, Limits, Outside, Source, Verifier};
 use message_feed::feed_messages;
 use report_lines::read_fault_line;
+use run_status::Besides;
 use std::alloc::{AllocError, Global};
 
 /// Reads the stream of the file. The readers have room for the one that there is.
@@ -36,7 +38,7 @@ pub(crate) fn check<O: Outside>(
         readers,
         journal: nothing_told(alloc),
         owed,
-        own: Findings::nothing(),
+        besides: Besides::nothing(),
     }
 }
 
@@ -57,7 +59,7 @@ fn check_file<O: Outside>(
     name: &str,
     outside: &mut O,
 ) -> (ReaderEnd<O::Source, O::Verifier>, String)
-    ensures makes { Makes (making SourceKind name.now (is_none result.0.source) ∷ []) (O.told outside.old) (O.told outside.new) }
+    ensures makes { AreMakings (making SourceKind name.now (is_none result.0.source) ∷ []) (O.told outside.old) (O.told outside.new) }
     ensures checks { result.0.close ≢ Close.OutOfMemory → ChecksReader (O.told outside.old).limits ((O.told outside.old).holds name.now)
         (reader_seen O.Source.left O.Source.faults O.Verifier.says O.Verifier.faults result.0) (string_bytes result.1) }
     ensures no_verifier { result.0.verifier ≡ None }

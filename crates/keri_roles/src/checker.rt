@@ -5,7 +5,7 @@ ghost use Rattle.journal.specs.Feeds.{noted_at};
 ghost use Rattle.keri_roles.specs.Closes.{ending_text};
 
 use crate::Close;
-use crate::answer::answer_message;
+use crate::message_line::line_of_message;
 use cesr_stream::Message;
 use journal::{Reason, Refusal};
 use message_feed::{FeedClose, Taker};
@@ -21,21 +21,21 @@ pub(crate) struct Checker {
 }
 
 impl Taker for Checker {
-    ghost use Rattle.keri_roles.specs.Checker.{HasAnswered};
+    ghost use Rattle.keri_roles.specs.Checker.{HasLinesOf};
 
     type Stop = AllocError;
 
-    ghost has_taken = { λ first checker messages. HasAnswered checker messages };
+    ghost has_taken = { λ first checker messages. HasLinesOf checker messages };
 
     ghost has_stopped = { λ first checker stop messages. Unit {0} };
 
     fn take(&mut self, message: Message) -> Result<(), AllocError> {
-        self.answer(message)
+        self.add_line(message)
     }
 }
 
 impl Checker {
-    ghost use Rattle.keri_roles.specs.Checker.{Finishes, HasAnswered, IsClose};
+    ghost use Rattle.keri_roles.specs.Checker.{Finishes, HasLinesOf, IsClose};
 
     /// No line yet.
     pub(crate) fn new(alloc: Global) -> Checker
@@ -50,12 +50,12 @@ impl Checker {
     }
 
     // Adds the line of a message, and notes it where it is refused.
-    fn answer(&mut self, message: Message) -> Result<(), AllocError>
-        ensures { OnOk result ((before : List MessageValue) → HasAnswered self.old before → HasAnswered self.new (before ++ message ∷ [])) }
+    fn add_line(&mut self, message: Message) -> Result<(), AllocError>
+        ensures { OnOk result ((before : List MessageValue) → HasLinesOf self.old before → HasLinesOf self.new (before ++ message ∷ [])) }
     {
-        let answer = answer_message(self.alloc, &message)?;
-        note(&mut self.refused, &message, answer.refusal)?;
-        self.lines.push_str(answer.line.as_str())?;
+        let line = line_of_message(self.alloc, &message)?;
+        note(&mut self.refused, &message, line.refusal)?;
+        self.lines.push_str(line.text.as_str())?;
         Ok(())
     }
 
@@ -75,7 +75,7 @@ impl Checker {
             FeedClose::OutOfMemory | FeedClose::Stopped(AllocError) => return Err(AllocError),
         };
         if let Some(message) = last {
-            self.answer(message)?;
+            self.add_line(message)?;
         }
         let ending = end_line(self.alloc, close)?;
         self.lines.push_str(ending.as_str())?;

@@ -2,7 +2,7 @@
 ghost use Rattle.std.specs.Prelude.{◌≡◌, IfSome, is_none, false, ℕ, List, Option, Bool};
 ghost use Rattle.cesr_codes.specs.declared.key.Key.{Key};
 ghost use Rattle.cesr_codes.specs.declared.sig.Sig.{Sig};
-ghost use Rattle.keri_roles.specs.Run.{reader_seen};
+ghost use Rattle.run_status.specs.Readers.{reader_seen};
 ghost use Rattle.keri_roles.specs.CoreTold.{Given, IsUnmade, Tells};
 
 use crate::providers::Providers;

@@ -1,7 +1,7 @@
 //! What a command writes of its core.
 ghost use Rattle.std.specs.Prelude.{◌≡◌, ◌≢◌, ℕ, Bool, List, IfOk};
 ghost use Rattle.journal.specs.declared.refusal.Refusal.{Refusal as RefusalValue};
-ghost use Rattle.keri_roles.specs.declared.close.Close.{Close as CloseValue};
+ghost use Rattle.run_status.specs.declared.close.Close.{Close as CloseValue};
 ghost use Rattle.keri_roles.specs.CoreTold.{plain};
 ghost use Rattle.validator_core.specs.View.{CoreView};
 
@@ -10,10 +10,10 @@ use journal::Refusal;
 use std::alloc::{AllocError, Global};
 use validator_core::Core;
 
-/// A text, and whether it says that there is a conflict.
+/// The text that a command is to write, and whether that says that there is a conflict.
 #[derive(Drop)]
-pub(crate) struct Account {
-    pub(crate) text: Vec<u8>,
+pub(crate) struct CommandText {
+    pub(crate) bytes: Vec<u8>,
     pub(crate) has_conflicts: bool,
 }
 
@@ -29,6 +29,6 @@ pub(crate) trait CoreText {
         core: &Core,
         refused: &[Refusal],
         close: Close,
-    ) -> Result<Account, AllocError>
-        ensures { IfOk result (λ account. (close ≢ Close.OutOfMemory) × is_text (plain core.now) refused.now close account.text.items account.has_conflicts) };
+    ) -> Result<CommandText, AllocError>
+        ensures { IfOk result (λ text. (close ≢ Close.OutOfMemory) × is_text (plain core.now) refused.now close text.bytes.items text.has_conflicts) };
 }

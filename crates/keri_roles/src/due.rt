@@ -2,7 +2,7 @@
 ghost use Rattle.std.specs.Prelude.{◌≡◌, None, Some, IfOk, OnErr, option_map};
 
 use crate::Close;
-use crate::core_text::Account;
+use crate::core_text::CommandText;
 use std::alloc::AllocError;
 
 /// How a reader closes by whether there was memory for its text, the text, and whether that tells a conflict.
@@ -14,19 +14,19 @@ pub(crate) struct Due {
 }
 
 /// What is owed where the reader closed so.
-pub(crate) fn owe(close: Close, account: Result<Account, AllocError>) -> Due
-    ensures ok { IfOk account (λ account. (result.close ≡ close) × (option_map (λ text. text.items) result.owed ≡ Some account.text.items) × (result.conflict_found ≡ account.has_conflicts)) }
-    ensures err { OnErr account ((result.close ≡ Close.OutOfMemory) × (option_map (λ text. text.items) result.owed ≡ None)) }
+pub(crate) fn owe(close: Close, text: Result<CommandText, AllocError>) -> Due
+    ensures ok { IfOk text (λ written. (result.close ≡ close) × (option_map (λ bytes. bytes.items) result.owed ≡ Some written.bytes.items) × (result.conflict_found ≡ written.has_conflicts)) }
+    ensures err { OnErr text ((result.close ≡ Close.OutOfMemory) × (option_map (λ bytes. bytes.items) result.owed ≡ None)) }
 {
-    match account {
+    match text {
         Ok(
-            Account {
-                text,
+            CommandText {
+                bytes,
                 has_conflicts,
             },
         ) => Due {
             close,
-            owed: Some(text),
+            owed: Some(bytes),
             conflict_found: has_conflicts,
         },
         Err(AllocError) => Due {

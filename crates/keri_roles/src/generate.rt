@@ -2,25 +2,26 @@
 ghost use Rattle.std.specs.Prelude.{◌≡◌, ◌≢◌, ◌<◌, [], IfOk, Some, is_none, false};
 ghost use Rattle.std.specs.Vec.{vec_capacity};
 ghost use Rattle.keri_outside.specs.Rehearsal.{rehearsal_says};
-ghost use Rattle.keri_outside.specs.declared.limits.Limits.{Limits as LimitsValue};
 ghost use Rattle.log_maker.specs.Streams.{stream_text};
 ghost use Rattle.report_lines.specs.Lines as lines;
 ghost use Rattle.validator_core.specs.View.{accepted_by};
 ghost use Rattle.keri_roles.specs.Commands.{IsGenerated};
 ghost use Rattle.keri_roles.specs.CoreTold.{Tells};
 ghost use Rattle.keri_roles.specs.Generated as specs;
-ghost use Rattle.keri_roles.specs.Run.{reader_seen, work_seen};
+ghost use Rattle.run_status.specs.Readers.{reader_seen};
+ghost use Rattle.keri_roles.specs.Run.{work_seen};
 
 use crate::core_reader::{CoreReader, read_to_core};
-use crate::core_text::Account;
+use crate::core_text::CommandText;
 use crate::due::{Due, owe};
 use crate::outcome::Outcome;
 use crate::providers::Providers;
-use crate::{Close, Findings, ReaderEnd};
+use crate::{Close, ReaderEnd};
 use journal::Mode;
 use keri_outside::{Limits, Outside, Rehearsal, Source, Verifier};
 use log_maker::{LogMaker, totals_of};
 use report_lines::{StreamCounts, stream_line};
+use run_status::Besides;
 use std::alloc::{AllocError, Global};
 use validator_core::Core;
 
@@ -48,8 +49,8 @@ pub(crate) fn generate<O: Outside>(
     let mut readers = readers;
     let limits = outside.limits();
     let CoreReader { reader, core } = read_made(alloc, plan, limits);
-    let account = account_of(alloc, plan, &core, reader.close);
-    let Due { close, owed, .. } = owe(reader.close, account);
+    let line = line_of(alloc, plan, &core, reader.close);
+    let Due { close, owed, .. } = owe(reader.close, line);
     let end = ReaderEnd {
         source: None,
         verifier: None,
@@ -61,7 +62,7 @@ pub(crate) fn generate<O: Outside>(
         readers,
         journal: core.into_journal(),
         owed,
-        own: Findings::nothing(),
+        besides: Besides::nothing(),
     }
 }
 
@@ -86,21 +87,21 @@ fn read_made(alloc: Global, plan: StreamPlan, limits: Limits) -> CoreReader<LogM
 }
 
 // The line, where there was memory for the stream and for the line. A stream fails to be made for want of memory alone.
-fn account_of(
+fn line_of(
     alloc: Global,
     plan: StreamPlan,
     core: &Core,
     close: Close,
-) -> Result<Account, AllocError>
-    ensures text { IfOk result (λ account. (close ≢ Close.OutOfMemory) × (account.text.items ≡ lines.stream_text (specs.counts_of plan.seed plan.logs plan.events (accepted_by core.now)))) }
-    ensures read { IfOk result (λ account. close ≢ Close.ReadFault) }
+) -> Result<CommandText, AllocError>
+    ensures text { IfOk result (λ text. (close ≢ Close.OutOfMemory) × (text.bytes.items ≡ lines.stream_text (specs.counts_of plan.seed plan.logs plan.events (accepted_by core.now)))) }
+    ensures read { IfOk result (λ text. close ≢ Close.ReadFault) }
 {
     if close == Close::OutOfMemory || close == Close::ReadFault {
         return Err(AllocError);
     }
     let line = stream_line(alloc, counts_of(plan, core))?;
-    Ok(Account {
-        text: line.into_bytes(),
+    Ok(CommandText {
+        bytes: line.into_bytes(),
         has_conflicts: false,
     })
 }

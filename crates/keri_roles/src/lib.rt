@@ -1,17 +1,15 @@
 //! The commands of the program, and the one call that does all that the program does.
 #![tactic(auto)]
 
-mod answer;
 mod backed_list;
 mod check;
 mod checker;
-mod close;
 mod core_reader;
 mod core_text;
 mod done;
 mod due;
-mod findings;
 mod generate;
+mod message_line;
 mod nothing_told;
 mod open_questions;
 mod outcome;
@@ -19,14 +17,12 @@ mod over_core;
 mod program;
 mod providers;
 mod report;
-mod run_status;
 mod sizes;
 mod validate;
 mod validator;
 mod watch;
 
 pub use backed_list::backed;
-pub use close::Close;
-pub use done::{Done, ReaderEnd};
-pub use findings::Findings;
+pub use done::Done;
 pub use program::run;
+pub use run_status::{Close, ReaderEnd};

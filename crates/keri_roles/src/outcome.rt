@@ -1,7 +1,8 @@
 //! What a command came to.
 
-use crate::{Findings, ReaderEnd};
+use crate::ReaderEnd;
 use journal::Journal;
+use run_status::Besides;
 
 /// The readers of a command, what was told, the text that it owes, unless there was no memory for that, and what it found
 /// besides its readers' ends.
@@ -10,5 +11,5 @@ pub(crate) struct Outcome<S, V> {
     pub(crate) readers: Vec<ReaderEnd<S, V>>,
     pub(crate) journal: Journal,
     pub(crate) owed: Option<Vec<u8>>,
-    pub(crate) own: Findings,
+    pub(crate) besides: Besides,
 }

@@ -4,14 +4,15 @@ ghost use Rattle.std.specs.Vec.{vec_capacity};
 ghost use Rattle.keri_roles.specs.Run.{work_seen};
 ghost use Rattle.keri_roles.specs.CoreTold.{IsOverCore};
 
+use crate::ReaderEnd;
 use crate::core_reader::{CoreReader, read_to_core};
 use crate::core_text::CoreText;
 use crate::due::{Due, owe};
 use crate::outcome::Outcome;
 use crate::providers::make;
-use crate::{Findings, ReaderEnd};
 use journal::Mode;
 use keri_outside::Outside;
+use run_status::Besides;
 use std::alloc::Global;
 
 /// Reads the stream of the file with the verifier of the helper to a core of this mode, and makes the text. The readers
@@ -33,12 +34,12 @@ pub(crate) fn over_core<O: Outside, T: CoreText>(
     let limits = outside.limits();
     let providers = make(name, helper, outside);
     let CoreReader { reader, core } = read_to_core(alloc, mode, limits, providers);
-    let account = T::text_of(alloc, &core, reader.refused.as_slice(), reader.close);
+    let text = T::text_of(alloc, &core, reader.refused.as_slice(), reader.close);
     let Due {
         close,
         owed,
         conflict_found,
-    } = owe(reader.close, account);
+    } = owe(reader.close, text);
     readers.push(ReaderEnd { close, ..reader }).unwrap();
     // A last round over the questions that are open has nothing to do: one reader leaves none open but where its
     // verifier failed, and then no verifier is left that never did.
@@ -46,9 +47,9 @@ pub(crate) fn over_core<O: Outside, T: CoreText>(
         readers,
         journal: core.into_journal(),
         owed,
-        own: Findings {
+        besides: Besides {
+            words_refused: false,
             conflict_found,
-            ..Findings::nothing()
         },
     }
 }

@@ -1,27 +1,27 @@
 //! The top call.
 ghost use Rattle.std.specs.Prelude.{◌≡◌, ◌⊎◌, None, map, option_map, string_bytes};
 ghost use Rattle.command_words.specs.Words.{asks, asked_by};
-ghost use Rattle.keri_roles.specs.Commands.{Answers, CarriesOut, IsUnbegun};
-ghost use Rattle.keri_roles.specs.Run.{run_seen, work_seen, sink_seen};
-ghost use Rattle.keri_roles.specs.RunStatus.{HasCauses};
+ghost use Rattle.keri_roles.specs.Commands.{CarriesOut, IsRunOf, IsUnbegun};
+ghost use Rattle.keri_roles.specs.Run.{HasCauses, run_seen, work_seen};
+ghost use Rattle.run_status.specs.Readers.{sink_seen};
 
+use crate::Done;
 use crate::check::check;
 use crate::generate::{StreamPlan, generate};
 use crate::nothing_told::nothing_told;
 use crate::outcome::Outcome;
-use crate::run_status::settle;
 use crate::validate::validate;
 use crate::watch::watch;
-use crate::{Done, Findings};
 use command_words::{Command, command_of};
 use keri_outside::Outside;
 use report_lines::WORDS;
+use run_status::{Besides, settle};
 use std::alloc::Global;
 
 /// Does all that the program does: what the words ask for, over the outside that is handed in.
 pub fn run<O: Outside>(alloc: Global, words: &Vec<String>, outside: &mut O) -> Done<O>
     // Words that aren't in the form of a command are refused, and nothing is made. Others are answered as they ask.
-    ensures answered { Answers (asks (map string_bytes words.now.items)) (run_seen O.Source.left O.Source.faults O.Verifier.says O.Verifier.faults (O.told outside.old) (O.told outside.new)
+    ensures answered { IsRunOf (asks (map string_bytes words.now.items)) (run_seen O.Source.left O.Source.faults O.Verifier.says O.Verifier.faults (O.told outside.old) (O.told outside.new)
         (sink_seen O.Sink.written O.Sink.faults (O.sink outside.old)) (sink_seen O.Sink.written O.Sink.faults (O.sink outside.new)) result.status result.readers.items result.journal) }
 
     // Each fault that is answered has its cause.
@@ -33,7 +33,7 @@ pub fn run<O: Outside>(alloc: Global, words: &Vec<String>, outside: &mut O) -> D
 
 // The same; that each fault has its cause follows.
 fn answer<O: Outside>(alloc: Global, words: &Vec<String>, outside: &mut O) -> Done<O>
-    ensures answered { Answers (asks (map string_bytes words.now.items)) (run_seen O.Source.left O.Source.faults O.Verifier.says O.Verifier.faults (O.told outside.old) (O.told outside.new)
+    ensures answered { IsRunOf (asks (map string_bytes words.now.items)) (run_seen O.Source.left O.Source.faults O.Verifier.says O.Verifier.faults (O.told outside.old) (O.told outside.new)
         (sink_seen O.Sink.written O.Sink.faults (O.sink outside.old)) (sink_seen O.Sink.written O.Sink.faults (O.sink outside.new)) result.status result.readers.items result.journal) }
 {
     let Some(command) = command_of(words.as_slice()) else {
@@ -43,9 +43,9 @@ fn answer<O: Outside>(alloc: Global, words: &Vec<String>, outside: &mut O) -> Do
         readers,
         journal,
         owed,
-        own,
+        besides,
     } = carry_out(alloc, command, outside);
-    let status = settle(outside, text_of(&owed), own, readers.as_slice());
+    let status = settle(outside, text_of(&owed), besides, readers.as_slice());
     Done {
         status,
         journal,
@@ -78,7 +78,7 @@ fn carry_out<O: Outside>(
             readers: Vec::new(alloc),
             journal: nothing_told(alloc),
             owed: None,
-            own: Findings::nothing(),
+            besides: Besides::nothing(),
         };
     };
     match command {
@@ -93,15 +93,15 @@ fn carry_out<O: Outside>(
 
 // Says that the words aren't in the form.
 fn refuse<O: Outside>(alloc: Global, outside: &mut O) -> Done<O>
-    ensures answered { Answers None (run_seen O.Source.left O.Source.faults O.Verifier.says O.Verifier.faults (O.told outside.old) (O.told outside.new)
+    ensures answered { IsRunOf None (run_seen O.Source.left O.Source.faults O.Verifier.says O.Verifier.faults (O.told outside.old) (O.told outside.new)
         (sink_seen O.Sink.written O.Sink.faults (O.sink outside.old)) (sink_seen O.Sink.written O.Sink.faults (O.sink outside.new)) result.status result.readers.items result.journal) }
 {
-    let own = Findings {
+    let besides = Besides {
         words_refused: true,
-        ..Findings::nothing()
+        conflict_found: false,
     };
     let readers = Vec::new(alloc);
-    let status = settle(outside, Some(WORDS.as_bytes()), own, readers.as_slice());
+    let status = settle(outside, Some(WORDS.as_bytes()), besides, readers.as_slice());
     Done {
         status,
         journal: nothing_told(alloc),

@@ -2,7 +2,7 @@
 ghost use Rattle.std.specs.Prelude.{◌≡◌, ◌∷◌, [], is_none, IfSome};
 ghost use Rattle.keri_outside.specs.Told.{making};
 ghost use Rattle.keri_outside.specs.declared.making.MakingKind.TheVariants.{Source as SourceKind, Verifier as VerifierKind};
-ghost use Rattle.keri_roles.specs.Run.{Makes};
+ghost use Rattle.keri_roles.specs.Run.{AreMakings};
 
 use keri_outside::Outside;
 
@@ -19,7 +19,7 @@ pub(crate) fn make<O: Outside>(
     helper: &str,
     outside: &mut O,
 ) -> Providers<O::Source, O::Verifier>
-    ensures makes { Makes (making SourceKind name.now (is_none result.source) ∷ making VerifierKind helper.now (is_none result.verifier) ∷ []) (O.told outside.old) (O.told outside.new) }
+    ensures makes { AreMakings (making SourceKind name.now (is_none result.source) ∷ making VerifierKind helper.now (is_none result.verifier) ∷ []) (O.told outside.old) (O.told outside.new) }
     ensures holds { IfSome result.source (λ source. O.Source.left source ≡ (O.told outside.old).holds name.now) }
     ensures unread { IfSome result.source (λ source. O.Source.faults source ≡ 0) }
     ensures says { IfSome result.verifier (λ verifier. O.Verifier.says verifier ≡ (O.told outside.old).says helper.now) }

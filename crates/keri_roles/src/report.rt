@@ -4,7 +4,7 @@ ghost use Rattle.keri_roles.specs.CoreTold.{plain};
 ghost use Rattle.keri_roles.specs.Reports.{Reports, refused_lines, malformed_line, stopped_line};
 
 use crate::Close;
-use crate::core_text::Account;
+use crate::core_text::CommandText;
 use journal::Refusal;
 use report_lines::{full_line, malformed_line, read_fault_line, refused_line, verifier_fault_line};
 use std::alloc::{AllocError, Global};
@@ -18,8 +18,8 @@ pub(crate) fn report_of(
     core: &Core,
     refused: &[Refusal],
     close: Close,
-) -> Result<Account, AllocError>
-    ensures { IfOk result (λ account. (close ≢ Close.OutOfMemory) × Reports (plain core.now) refused.now close account.text.items account.has_conflicts) }
+) -> Result<CommandText, AllocError>
+    ensures { IfOk result (λ text. (close ≢ Close.OutOfMemory) × Reports (plain core.now) refused.now close text.bytes.items text.has_conflicts) }
 {
     let mut text = refused_text(alloc, refused)?;
     let malformed = malformed_text(alloc, close)?;
@@ -31,8 +31,8 @@ pub(crate) fn report_of(
     let stopped = stopped_text(alloc, close)?;
     text.push_str(standing.as_str())?;
     text.push_str(stopped.as_str())?;
-    Ok(Account {
-        text: text.into_bytes(),
+    Ok(CommandText {
+        bytes: text.into_bytes(),
         has_conflicts,
     })
 }

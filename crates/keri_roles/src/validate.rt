@@ -4,7 +4,7 @@ ghost use Rattle.std.specs.Vec.{vec_capacity};
 ghost use Rattle.keri_roles.specs.Commands.{IsValidated};
 ghost use Rattle.keri_roles.specs.Run.{work_seen};
 
-use crate::core_text::{Account, CoreText};
+use crate::core_text::{CommandText, CoreText};
 use crate::outcome::Outcome;
 use crate::over_core::over_core;
 use crate::report::report_of;
@@ -27,7 +27,7 @@ impl CoreText for Report {
         core: &Core,
         refused: &[Refusal],
         close: Close,
-    ) -> Result<Account, AllocError> {
+    ) -> Result<CommandText, AllocError> {
         report_of(alloc, core, refused, close)
     }
 }

@@ -4,7 +4,7 @@ ghost use Rattle.std.specs.Vec.{vec_capacity};
 ghost use Rattle.keri_roles.specs.Commands.{IsWatched};
 ghost use Rattle.keri_roles.specs.Run.{work_seen};
 
-use crate::core_text::{Account, CoreText};
+use crate::core_text::{CommandText, CoreText};
 use crate::outcome::Outcome;
 use crate::over_core::over_core;
 use crate::{Close, ReaderEnd};
@@ -27,7 +27,7 @@ impl CoreText for Evidence {
         core: &Core,
         refused: &[Refusal],
         close: Close,
-    ) -> Result<Account, AllocError> {
+    ) -> Result<CommandText, AllocError> {
         if close == Close::OutOfMemory {
             return Err(AllocError);
         }
@@ -35,8 +35,8 @@ impl CoreText for Evidence {
             text,
             has_conflicts,
         } = evidence_of(alloc, core)?;
-        Ok(Account {
-            text,
+        Ok(CommandText {
+            bytes: text,
             has_conflicts,
         })
     }

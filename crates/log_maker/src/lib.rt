@@ -1,10 +1,10 @@
 //! Streams of key event logs that are made from a number, event by event.
 #![tactic(auto)]
 
-mod body;
 mod draw;
 mod log;
 mod log_maker;
+mod made;
 mod message;
 mod names;
 mod plans;

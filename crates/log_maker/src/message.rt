@@ -6,15 +6,15 @@ ghost use Rattle.log_maker.specs.Names as names;
 ghost use Rattle.log_maker.specs.Messages.{message_text, signature_text, signed_text, text_with};
 ghost use Rattle.log_maker.specs.Plans.{event_at, event_text};
 
-use crate::body::{Body, sealed_body};
 use crate::log::Log;
+use crate::made::{Made, sealed_body};
 use crate::names::{log_key, log_witness};
 use cesr_codes::{IndexedSig, Key, Sig};
 use keri_outside::rehearse;
 use std::alloc::{AllocError, Global};
 
 /// The message of the next event of the log, with that event's digest.
-pub(crate) fn next_message(alloc: Global, log: &Log) -> Result<Body, AllocError>
+pub(crate) fn next_message(alloc: Global, log: &Log) -> Result<Made, AllocError>
     requires { log.now.next.sn + 1 < 2 ^ 64 }
     ensures said { IfOk result (λ message. message.said ≡ said_of (event_at log.now.next.seed log.now.next.log log.now.next.sn)) }
     ensures text { IfOk result (λ message. message.text.items ≡ message_text log.now.next.seed log.now.next.log log.now.next.sn) }
@@ -23,14 +23,14 @@ pub(crate) fn next_message(alloc: Global, log: &Log) -> Result<Body, AllocError>
     let next = log.next;
     let key = log_key(alloc, next.seed, next.log, next.key_number())?;
     let text = signed(alloc, next.seed, next.log, &key, body.text)?;
-    Ok(Body {
+    Ok(Made {
         said: body.said,
         text,
     })
 }
 
 // The body of the next event of the log.
-fn next_body(alloc: Global, log: &Log) -> Result<Body, AllocError>
+fn next_body(alloc: Global, log: &Log) -> Result<Made, AllocError>
     requires { log.now.next.sn + 1 < 2 ^ 64 }
     ensures said { IfOk result (λ body. body.said ≡ said_of (event_at log.now.next.seed log.now.next.log log.now.next.sn)) }
     ensures text { IfOk result (λ body. body.text.items ≡ event_text (event_at log.now.next.seed log.now.next.log log.now.next.sn)) }

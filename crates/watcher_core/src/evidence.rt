@@ -16,8 +16,8 @@ pub struct Evidence {
 }
 
 /// The bodies of each conflict of a core, in order, each byte for byte and with its good signatures behind it: those of its
-/// controller that have a yes verdict, each once, in order of first coming, at most 1,024 in a message, before each of which
-/// the body comes again.
+/// controller that have a yes verdict, each once, in order of first coming, at most 1,024 in a message. The body comes again
+/// before each further 1,024. That is the greatest limit of a message's elements, whatever the core's own is.
 pub fn evidence_of(alloc: Global, core: &Core) -> Result<Evidence, AllocError>
     ensures text { IfOk result (λ evidence. IsEvidenceText core.now evidence.text.items evidence.has_conflicts) }
 

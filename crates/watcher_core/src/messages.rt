@@ -9,7 +9,7 @@ use cesr_stream::{Group, Item};
 use lists::Items;
 use std::alloc::{AllocError, Global};
 
-// A reader takes no more signatures in one message.
+// A reader takes no more elements in one message at the standard limits.
 const MOST_IN_A_MESSAGE: usize = 1_024;
 
 /// Puts a body with signatures, in as many messages as these need, and alone where there are none.

@@ -2,7 +2,8 @@ use Rattle.std.proofs.Common.{◌≡◌, refl, [], ◌∷◌, rules, is_none, op
 use Rattle.keri_outside.specs.Told.{making}
 use Rattle.keri_outside.specs.declared.making.MakingKind.TheVariants.{Source}
 use Rattle.keri_roles.specs.Check.{ChecksReader}
-use Rattle.keri_roles.specs.Run.{Makes, reader_seen, source_seen}
+use Rattle.run_status.specs.Readers.{reader_seen, source_seen}
+use Rattle.keri_roles.specs.Run.{AreMakings}
 use Rattle.keri_roles.proofs.CoreTold.{owes_it, seen_none}
 use Rattle.keri_roles.proofs.check.check.Goals as goal
 
@@ -12,7 +13,7 @@ returns-clause-checked g c =
     let end = c.check_file-reader.result.0 in
     let reader = reader_seen g.O.Source.Source.left g.O.Source.Source.faults g.O.Verifier.Verifier.says g.O.Verifier.Verifier.faults end in
     let one : c.push.new.self.items ≡ end ∷ [] = search rules in
-    let makes : Makes (making Source c.args.name.now (is_none reader.source) ∷ []) before (g.O.Outside.told c.check_file-reader.new.outside) = rw
+    let makes : AreMakings (making Source c.args.name.now (is_none reader.source) ∷ []) before (g.O.Outside.told c.check_file-reader.new.outside) = rw
     (seen_none (source_seen g.O.Source.Source.left g.O.Source.Source.faults g.O.Verifier.Verifier.says g.O.Verifier.Verifier.faults) end.source)
     c.check_file-reader.ensures.makes in
     rw one (record {

@@ -9,7 +9,7 @@ returns g c =
     rw (sym asked, c.settle-status.ensures.told) (record {
       answered = record {
         owed = option_map (λ text. text.items) outcome.owed;
-        own = outcome.own;
+        besides = outcome.besides;
         does = c.carry_out-readers.ensures.does;
         settles = rw (c.text_of.ensures, c.as_slice-2.ensures.value, c.carry_out-readers.ensures.sink) at c.settle-status.ensures.settles;
       };

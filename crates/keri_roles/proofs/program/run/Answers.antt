@@ -1,4 +1,4 @@
-use Rattle.keri_roles.proofs.RunStatus.{has_causes}
+use Rattle.keri_roles.proofs.Statuses.{has_causes}
 use Rattle.keri_roles.proofs.program.run.Goals as goal
 
 pub returns-clause-causes : goal.returns-clause-causes

@@ -1,6 +1,6 @@
 //! What the status of a run depends on.
 ghost use Rattle.std.specs.Prelude.{◌≡◌};
-ghost use Rattle.keri_roles.specs.Status.{status_of};
+ghost use Rattle.run_status.specs.Status.{status_of};
 
 /// What a run found.
 #[derive(Clone, Copy, PartialEq, Eq, Debug)]
@@ -24,7 +24,7 @@ pub struct Findings {
 }
 
 impl Findings {
-    ghost use Rattle.keri_roles.specs.Status.{nothing};
+    ghost use Rattle.run_status.specs.Status.{nothing};
     ghost use Rattle.std.specs.Prelude.{true};
 
     /// That nothing was found.

@@ -1,4 +1,4 @@
-//! Bodies of events that are given the digest of their own text.
+//! Texts that are made of events.
 ghost use Rattle.std.specs.Prelude.{◌≡◌, ◌≤◌, IfOk, length};
 ghost use Rattle.event_body.specs.Events.{said_of};
 ghost use Rattle.event_writing.specs.Writable.{IsWritable};
@@ -9,23 +9,23 @@ use event_body::{Event, ReadBody, said_of_event};
 use event_writing::{EventText, sealed_text};
 use std::alloc::{AllocError, Global};
 
-/// A body and its digest.
+/// What was made of an event, its body or its whole message, and the event's digest.
 #[derive(Drop)]
-pub(crate) struct Body {
+pub(crate) struct Made {
     pub(crate) said: Digest,
     pub(crate) text: Vec<u8>,
 }
 
 /// The body of the event with the digest of its own text.
 #[tactic(auto, unfolding(crate::specs::Plans::event_text, crate::specs::Plans::sealed))]
-pub(crate) fn sealed_body(alloc: Global, plan: &Event) -> Result<Body, AllocError>
+pub(crate) fn sealed_body(alloc: Global, plan: &Event) -> Result<Made, AllocError>
     requires writable { IsWritable plan.now }
     requires short { length (event_text (sealed plan.now)) ≤ 65535 }
     ensures said { IfOk result (λ body. body.said ≡ said_of (sealed plan.now)) }
     ensures text { IfOk result (λ body. body.text.items ≡ event_text (sealed plan.now)) }
 {
     match sealed_text(alloc, plan, DigestCode::Blake3) {
-        Ok(EventText { event, text }) => Ok(Body {
+        Ok(EventText { event, text }) => Ok(Made {
             said: said_of_event(&event),
             text,
         }),

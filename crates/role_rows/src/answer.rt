@@ -1,0 +1,77 @@
+//! What a row is answered by.
+
+use crate::outside::outside_of;
+use keri_outside::{Making, MemOutside, MemSource, MemVerifier};
+use keri_roles::{Close, Done, ReaderEnd, run};
+use row_text::Row;
+use std::alloc::{AllocError, Global};
+use std::fmt::Write;
+
+// The words of the command line, with a comma between two of them.
+fn words_of(alloc: Global, row: &Row) -> Result<Vec<String>, AllocError> {
+    let mut words = Vec::new(alloc);
+    for word in row.word(1).split(',') {
+        words.push(String::from_str(alloc, word)?)?;
+    }
+    Ok(words)
+}
+
+// Runs the words. The contract of what it calls is left behind here, since it makes each proof above it longer.
+fn run_words(alloc: Global, words: &Vec<String>, outside: &mut MemOutside) -> Done<MemOutside> {
+    run(alloc, words, outside)
+}
+
+fn close_word(text: &mut String, close: Close) -> Result<(), AllocError> {
+    write!(text, " {close:?}")
+}
+
+fn close_words(
+    text: &mut String,
+    readers: &[ReaderEnd<MemSource, MemVerifier>],
+) -> Result<(), AllocError> {
+    for reader in readers {
+        close_word(text, reader.close)?;
+    }
+    Ok(())
+}
+
+fn making_word(text: &mut String, making: &Making) -> Result<(), AllocError> {
+    let kind = making.kind;
+    let mark = if making.failed { "!" } else { "" };
+    write!(text, " {kind:?}{mark}")
+}
+
+fn making_words(text: &mut String, makings: &[Making]) -> Result<(), AllocError> {
+    for making in makings {
+        making_word(text, making)?;
+    }
+    Ok(())
+}
+
+// The status, and how many messages and verdicts were told.
+fn status_words(text: &mut String, done: &Done<MemOutside>) -> Result<(), AllocError> {
+    let (status, told) = (done.status, done.journal.entries.len());
+    write!(text, "= {status} told={told}")
+}
+
+/// `run WORD,WORD.. NAME VALUE..`: what is written, and right behind it `=`, the status, how many messages and verdicts were
+/// told, how each reader closed, and each making, with a `!` where it failed.
+fn ran(alloc: Global, row: &Row) -> Result<String, AllocError> {
+    let mut outside = outside_of(alloc, row)?;
+    let words = words_of(alloc, row)?;
+    let done = run_words(alloc, &words, &mut outside);
+    let mut text = String::from_utf8_lossy(alloc, outside.sink().bytes())?;
+    status_words(&mut text, &done)?;
+    close_words(&mut text, done.readers.as_slice())?;
+    making_words(&mut text, outside.makings())?;
+    Ok(text)
+}
+
+/// What a line is answered by: itself, where it names no run.
+pub(crate) fn answer(alloc: Global, line: &str) -> Result<String, AllocError> {
+    let row = Row::of(alloc, line)?;
+    if row.word(0) == "run" {
+        return ran(alloc, &row);
+    }
+    String::from_str(alloc, line)
+}

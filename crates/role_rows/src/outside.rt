@@ -1,0 +1,110 @@
+//! Outsides in memory, as rows set them up.
+ghost use Rattle.std.specs.Prelude.{◌≤◌};
+
+use keri_outside::{Limits, MemFile, MemHelper, MemOutside, MemSink, VerdictRule};
+use lists::Items;
+use row_text::Row;
+use std::alloc::{AllocError, Global};
+
+/// The name of the one file.
+const FILE: &[u8] = b"a";
+
+/// The name of the one helper.
+const HELPER: &[u8] = b"rehearsal";
+
+/// So many bytes a read gives at most, unless the row says fewer.
+const PIECE: u64 = 4_096;
+
+// The place of the word behind the name, among those behind the command line; a place behind all where the name is none of
+// them.
+fn place_of(row: &Row, name: &str) -> usize {
+    for place in 3..row.len() {
+        if row.word(place - 1) == name {
+            return place;
+        }
+    }
+    row.len()
+}
+
+// The number behind the name, or this one where there is none or a greater one.
+fn lowered(row: &Row, name: &str, most: u64) -> u64
+    ensures { result ≤ most }
+{
+    let word = row.word(place_of(row, name));
+    word.parse::<u64>().unwrap_or(most).min(most)
+}
+
+// The limits of the program, each lowered to what the row says.
+fn limits_of(row: &Row) -> Limits {
+    let mut limits = Limits::standard();
+    limits.body = lowered(row, "body", u64::from(limits.body)) as u32;
+    limits.messages = lowered(row, "messages", u64::from(limits.messages)) as u32;
+    limits.body_bytes = lowered(row, "body_bytes", u64::from(limits.body_bytes)) as u32;
+    limits.signatures = lowered(row, "signatures", u64::from(limits.signatures)) as u32;
+    let elements = u64::from(limits.message_signatures);
+    limits.message_signatures = lowered(row, "message_signatures", elements) as u16;
+    limits.stream_bytes = lowered(row, "stream_bytes", limits.stream_bytes);
+    limits
+}
+
+// The numbers of the calls that are to fail, which stand behind the name.
+fn failing(alloc: Global, row: &Row, name: &str) -> Result<Items<u64>, AllocError> {
+    let calls = row.numbers(alloc, place_of(row, name))?;
+    let mut numbers = Vec::new(alloc);
+    for call in calls.as_slice() {
+        numbers.push(u64::from(*call))?;
+    }
+    Ok(Items::from_vec(numbers))
+}
+
+// The bytes of a name.
+fn named(alloc: Global, name: &[u8]) -> Result<Items<u8>, AllocError> {
+    Ok(Items::from_vec(Vec::from_slice(alloc, name)?))
+}
+
+// The one file.
+fn files_of(alloc: Global, row: &Row) -> Result<Items<MemFile>, AllocError> {
+    let file = MemFile {
+        name: named(alloc, FILE)?,
+        bytes: Items::from_vec(row.bytes(alloc, place_of(row, "text"))?),
+        piece: lowered(row, "piece", PIECE).max(1) as usize,
+        failing: failing(alloc, row, "reads")?,
+    };
+    let mut files = Items::new(alloc);
+    files.push(file)?;
+    Ok(files)
+}
+
+// What the helper says.
+fn rule_of(row: &Row) -> VerdictRule {
+    match row.word(place_of(row, "says")) {
+        "yes" => VerdictRule::Always(true),
+        "no" => VerdictRule::Always(false),
+        _ => VerdictRule::Rehearsal,
+    }
+}
+
+// The one helper.
+fn helpers_of(alloc: Global, row: &Row) -> Result<Items<MemHelper>, AllocError> {
+    let helper = MemHelper {
+        name: named(alloc, HELPER)?,
+        rule: rule_of(row),
+        failing: failing(alloc, row, "asks")?,
+    };
+    let mut helpers = Items::new(alloc);
+    helpers.push(helper)?;
+    Ok(helpers)
+}
+
+/// The outside of a row: behind its command line stand names, each with a value behind it. `text` is what the file `a`
+/// holds, `piece` how many bytes a read gives at most, and `says yes` or `says no` what the helper says of everything; else
+/// it is the rehearsal. `reads`, `asks`, `puts` and `makings` are the numbers of the calls that fail, counted from 0, with a
+/// comma between two of them. The others are limits, by their names.
+pub(crate) fn outside_of(alloc: Global, row: &Row) -> Result<MemOutside, AllocError> {
+    let files = files_of(alloc, row)?;
+    let helpers = helpers_of(alloc, row)?;
+    let sink = MemSink::new(alloc, failing(alloc, row, "puts")?);
+    let makings = failing(alloc, row, "makings")?;
+    let outside = MemOutside::new(alloc, files, sink, makings, limits_of(row));
+    Ok(outside.with_helpers(helpers))
+}

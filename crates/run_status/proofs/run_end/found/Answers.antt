@@ -1,0 +1,25 @@
+use Rattle.std.proofs.Common.{◌≡◌, Bool, List, [], ◌∷◌, ◌||◌, map, refl, ap}
+use Rattle.std.specs.List.{list_any}
+use Rattle.run_status.specs.Readers.{is_full, is_read_fault, is_verifier_fault, reader_seen}
+use Rattle.run_status.specs.Settling.{refuses}
+use Rattle.run_status.proofs.run_end.found.Goals as goal
+
+-- whether a test holds of some value that is seen
+any-map : {A B : Type 0} (test : B → Bool) (seen : A → B) (xs : List A) → list_any test (map seen xs) ≡ list_any (λ x. test (seen x)) xs
+any-map test seen [] = refl
+any-map test seen (x ∷ xs) = ap (λ rest. test (seen x) || rest) (any-map test seen xs)
+
+pub returns : goal.returns
+returns g c =
+    let seen = reader_seen g.S.Source.left g.S.Source.faults g.V.Verifier.says g.V.Verifier.faults in
+    let readers = c.args.readers.now in
+    rw (
+      any-map (λ r. is_read_fault r.close) seen readers,
+      any-map (λ r. is_verifier_fault r.close) seen readers,
+      any-map (λ r. is_full r.close) seen readers,
+      any-map (λ r. refuses r.close r.refused) seen readers,
+      c.some_read_fault.ensures,
+      c.some_verifier_fault.ensures,
+      c.some_full.ensures,
+      c.some_refused.ensures,
+    ) refl

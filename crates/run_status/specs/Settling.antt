@@ -1,0 +1,52 @@
+-- How what was done becomes what is written, and the status.
+use Rattle.std.specs.Prelude.{◌≡◌, ◌≢◌, ℕ, ◌||◌, not, Bool, true, false, List, length, take, ◌==◌}
+use Rattle.std.specs.List.{list_any}
+use Rattle.std.specs.declared.option.Option.{Option}
+use Rattle.std.specs.declared.option.Option.TheVariants.{None, Some}
+use Rattle.keri_specs.specs.Causes.{Rose}
+use Rattle.keri_specs.specs.Told.{after}
+use Rattle.journal.specs.declared.refusal.Refusal.{Refusal}
+use Rattle.run_status.specs.declared.besides.Besides.{Besides}
+use Rattle.run_status.specs.declared.close.Close.{Close}
+use Rattle.run_status.specs.declared.close.Close.TheVariants.{ReadFault, VerifierFault, Full}
+use Rattle.run_status.specs.declared.findings.Findings.{Findings}
+use Rattle.run_status.specs.Readers.{Reader, SinkTold, HasClose, is_read_fault, is_verifier_fault, is_full, is_bad}
+use Rattle.run_status.specs.Status.{status_of}
+
+-- a reader that closed so and refused these messages refused its stream or a message
+abbrev pub refuses : Close → List Refusal → Bool
+refuses close refused = is_bad close || not (length refused == 0)
+
+-- What is found where there was memory: of putting the text whether the sink failed; of the readers whether one closed by a fault of
+-- its source, one by a fault of its verifier, and one by a limit, and whether one refused its stream or a message; and what was
+-- found besides.
+abbrev pub found : Besides → List Reader → Bool → Findings
+found besides readers sink_failed = record {
+  no_memory = false;
+  sink_failed = sink_failed;
+  words_refused = besides.words_refused;
+  source_failed = list_any (λ r. is_read_fault r.close) readers;
+  verifier_failed = list_any (λ r. is_verifier_fault r.close) readers;
+  limit_reached = list_any (λ r. is_full r.close) readers;
+  conflict_found = besides.conflict_found;
+  refused = list_any (λ r. refuses r.close r.refused) readers;
+}
+
+-- the text was put, or a front of it where the sink failed
+abbrev pub Puts : List ℕ → Bool → SinkTold → SinkTold → Type 0
+Puts text false old new = (new.written ≡ after old.written text) × (new.faults ≡ old.faults)
+Puts text true old new = ((n : ℕ) × (new.written ≡ after old.written (take n text))) × Rose old.faults new.faults
+
+-- There was no memory, and nothing is put; or the text is, and the status is by what is found.
+abbrev pub SettlesBy : Option (List ℕ) → Besides → List Reader → SinkTold → SinkTold → ℕ → Type 0
+SettlesBy None besides readers old new status = (status ≡ 10) × (new ≡ old)
+SettlesBy (Some text) besides readers old new status =
+    (sink_failed : Bool) × Puts text sink_failed old new × (status ≡ status_of (found besides readers sink_failed))
+
+-- Each fault that is answered has its cause: a reader closed by it, or it is the sink's, whose count rose.
+pub record FaultsHaveCauses (readers : List Reader) (old new : SinkTold) (status : ℕ) : Type 0 where
+  pub five : status ≡ 5 → HasClose ReadFault readers
+  pub seven : status ≡ 7 → HasClose VerifierFault readers
+  pub nine : status ≡ 9 → HasClose Full readers
+  pub six : status ≡ 6 → Rose old.faults new.faults
+  pub kept : status ≢ 6 → new.faults ≡ old.faults

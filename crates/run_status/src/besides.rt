@@ -1,0 +1,25 @@
+//! What the readers' ends don't show.
+ghost use Rattle.std.specs.Prelude.{◌≡◌};
+
+/// What a command finds besides how its readers end.
+#[derive(Clone, Copy, PartialEq, Eq, Debug)]
+pub struct Besides {
+    /// The words aren't in the form.
+    pub words_refused: bool,
+    /// There is a conflict.
+    pub conflict_found: bool,
+}
+
+impl Besides {
+    ghost use Rattle.run_status.specs.Status.{nothing_besides};
+
+    /// That nothing was found.
+    pub fn nothing() -> Besides
+        ensures { result ≡ nothing_besides }
+    {
+        Besides {
+            words_refused: false,
+            conflict_found: false,
+        }
+    }
+}

@@ -1,0 +1,14 @@
+//! How a run ends: how its readers closed, what is found of them and of writing, and the status.
+#![tactic(auto)]
+
+mod besides;
+mod close;
+mod findings;
+mod reader_end;
+mod run_end;
+
+pub use besides::Besides;
+pub use close::Close;
+pub use findings::Findings;
+pub use reader_end::ReaderEnd;
+pub use run_end::settle;

@@ -1,0 +1,181 @@
+"""Runs of the program over an outside in memory: what is written, and how the run ends, where a limit is reached or a call of
+the outside fails.
+
+A run's end is its status, how many messages and verdicts were told, how each reader closed, and what was made, with a `!`
+where that failed.
+"""
+from event_cases import ROT
+from kit import PLAIN_ICP as ICP, counter, indexed, rehearsed, said, signed
+from log_cases import BOTH, CONFLICTING, IXN_1, LOG, OTHER_1, REALISTIC, REALISTIC_LINES, log, waits
+from row_tables import argument
+from stream_cases import BARE, RECEIPT, inception_line, malformed
+from validate_cases import EVENT, SIGNED, STATE
+
+CHECK = "check,a"
+VALIDATE = "validate,--helper,rehearsal,a"
+WATCH = "watch,--helper,rehearsal,a"
+GEN = "gen,--seed,1,--logs,1,--events,2"
+REPORT = EVENT + STATE
+UNSIGNED = "refused 0 0 unsigned\n"
+FULL, READ_FAULT, VERIFIER_FAULT = "full 0\n", "fault 0 read\n", "fault 0 verifier\n"
+MADE = "Source Verifier"
+SIGNED_IXN = signed(IXN_1, 1)
+BOTH_ROTATIONS = signed(ICP, 1) + signed(ROT, 2) + signed(OTHER_1, 2)
+BOTH_LINES = log(ICP, ROT) + waits(OTHER_1, "never") + BOTH
+
+
+def run(words, written, end, text=None, **settings):
+    if text is not None:
+        settings["text"] = argument(text)
+    given = "".join(" %s %s" % setting for setting in settings.items())
+    yield "run %s%s" % (words, given), "%s= %s" % (written, end)
+
+
+def bad(place, reason):
+    return "Bad(Bad { place: %d, reason: %s })" % (place, reason)
+
+
+def made_stream(accepted):
+    return "gen logs=1 events=2 rotations=0 bytes=1409 accepted=%d\n" % accepted
+
+
+def limits_of_made_streams():
+    """The inception has 486 bytes and its message 846, the interaction 203 and 563; each message has four signatures."""
+    yield from run(GEN, made_stream(2), "0 told=10 End")
+    for limit, least in (("messages", 2), ("body_bytes", 689), ("signatures", 8), ("stream_bytes", 1409)):
+        yield from run(GEN, made_stream(2), "0 told=10 End", **{limit: least})
+        yield from run(GEN, made_stream(1), "9 told=5 Full", **{limit: least - 1})
+    yield from run(GEN, made_stream(0), "9 told=0 Full", messages=0)
+    yield from run(GEN, made_stream(2), "0 told=10 End", body=486)
+    yield from run(GEN, made_stream(0), "3 told=0 " + bad(0, "TooLarge"), body=485)
+    yield from run(GEN, made_stream(2), "0 told=10 End", message_signatures=4)
+    yield from run(GEN, made_stream(0), "3 told=0 End", message_signatures=3)
+
+
+def limits_of_check():
+    # The message that is open where reading stopped has its line.
+    for size, written, end in (
+        (290, BARE * 2, "0 told=0 End"), (289, BARE + FULL, "9 told=0 Full"), (145, BARE + FULL, "9 told=0 Full"), (144, FULL, "9 told=0 Full"),
+        (0, FULL, "9 told=0 Full"),
+    ):
+        for piece in (1, 4096):
+            yield from run(CHECK, written, end + " Source", RECEIPT * 2, stream_bytes=size, piece=piece)
+    yield from run(CHECK, "", "0 told=0 End Source", "", stream_bytes=0)
+    yield from run(CHECK, BARE, "0 told=0 End Source", RECEIPT, body=145)
+    yield from run(CHECK, malformed(0, "too-large"), "3 told=0 %s Source" % bad(0, "TooLarge"), RECEIPT, body=144)
+    two = ICP + counter("A", 2) + indexed("AA", "a") + indexed("AB", "b")
+    yield from run(CHECK, inception_line(2), "0 told=0 End Source", two, message_signatures=2)
+    yield from run(CHECK, "refused 0 0 signatures\n", "3 told=0 End Source", two, message_signatures=1)
+
+
+def limits_of_validate():
+    # Two messages and a verdict are told; the third message is too much though its body is held.
+    thrice = SIGNED * 3
+    yield from run(VALIDATE, REPORT, "0 told=4 End " + MADE, thrice, messages=3)
+    yield from run(VALIDATE, REPORT + FULL, "9 told=3 Full " + MADE, thrice, messages=2)
+    yield from run(VALIDATE, REPORT + FULL, "9 told=3 Full " + MADE, thrice, signatures=2)
+    yield from run(VALIDATE, FULL, "9 told=0 Full " + MADE, SIGNED, messages=0)
+    # Of bytes a body that is held adds none.
+    yield from run(VALIDATE, REPORT + FULL, "9 told=3 Full " + MADE, SIGNED * 2 + SIGNED_IXN, body_bytes=299)
+    yield from run(VALIDATE, REPORT + FULL, "9 told=2 Full " + MADE, SIGNED + SIGNED_IXN, body_bytes=501)
+    yield from run(VALIDATE, log(ICP, IXN_1), "0 told=4 End " + MADE, SIGNED + SIGNED_IXN, body_bytes=502)
+    yield from run(VALIDATE, FULL, "9 told=0 Full " + MADE, SIGNED, body_bytes=298)
+    # The message that is open where reading stopped isn't taken. One is open until the next body is read whole.
+    both, first = len(SIGNED + SIGNED_IXN), len(SIGNED) + 203
+    yield from run(VALIDATE, log(ICP, IXN_1), "0 told=4 End " + MADE, SIGNED + SIGNED_IXN, stream_bytes=both)
+    for size in (both - 1, first):
+        yield from run(VALIDATE, REPORT + FULL, "9 told=2 Full " + MADE, SIGNED + SIGNED_IXN, stream_bytes=size)
+    yield from run(VALIDATE, FULL, "9 told=0 Full " + MADE, SIGNED + SIGNED_IXN, stream_bytes=first - 1)
+    yield from run(VALIDATE, "refused 0 0 signatures\n", "3 told=0 End " + MADE, SIGNED, message_signatures=0)
+    # A limit comes before a refusal and before a conflict.
+    yield from run(VALIDATE, UNSIGNED + FULL, "9 told=0 Full " + MADE, ICP + SIGNED, messages=0)
+    yield from run(VALIDATE, BOTH_LINES + FULL, "9 told=6 Full " + MADE, BOTH_ROTATIONS + SIGNED, messages=3)
+
+
+def limits_of_watch():
+    evidence = "".join(CONFLICTING)
+    yield from run(WATCH, evidence, "4 told=6 End " + MADE, BOTH_ROTATIONS)
+    yield from run(WATCH, evidence, "9 told=6 Full " + MADE, BOTH_ROTATIONS + SIGNED, messages=3)
+    yield from run(WATCH, "", "9 told=4 Full " + MADE, BOTH_ROTATIONS, messages=2)
+    # Both bodies are written, whatever a message may carry.
+    yield from run(WATCH, evidence, "4 told=6 End " + MADE, BOTH_ROTATIONS, message_signatures=1)
+
+
+def makings():
+    yield from run(CHECK, READ_FAULT, "5 told=0 ReadFault Source!", RECEIPT, makings=0)
+    yield from run("check,b", READ_FAULT, "5 told=0 ReadFault Source!", RECEIPT)
+    for words, of_source, of_verifier in ((VALIDATE, READ_FAULT, VERIFIER_FAULT), (WATCH, "", "")):
+        yield from run(words, of_source, "5 told=0 ReadFault Source! Verifier", BOTH_ROTATIONS, makings=0)
+        yield from run(words, of_verifier, "7 told=0 VerifierFault Source Verifier!", BOTH_ROTATIONS, makings=1)
+        yield from run(words, of_source, "5 told=0 ReadFault Source! Verifier!", BOTH_ROTATIONS, makings="0,1")
+    yield from run(GEN, made_stream(2), "0 told=10 End", makings="0,1")
+    yield from run("check", "words\n", "2 told=0", RECEIPT, makings=0)
+
+
+def puts():
+    yield from run(CHECK, "", "6 told=0 End Source", RECEIPT, puts=0)
+    yield from run(VALIDATE, "", "6 told=2 End " + MADE, SIGNED, puts=0)
+    yield from run(WATCH, "", "6 told=6 End " + MADE, BOTH_ROTATIONS, puts=0)
+    yield from run(GEN, "", "6 told=10 End", puts=0)
+    yield from run("", "", "6 told=0", puts=0)
+    # Nothing is put where there is nothing to say, and never a second time.
+    yield from run(WATCH, "", "0 told=2 End " + MADE, SIGNED, puts=0)
+    yield from run(VALIDATE, REPORT, "0 told=2 End " + MADE, SIGNED, puts=1)
+    # It comes before any other fault.
+    yield from run(CHECK, "", "6 told=0 ReadFault Source!", RECEIPT, puts=0, makings=0)
+    yield from run(VALIDATE, "", "6 told=0 VerifierFault Source Verifier!", SIGNED, puts=0, makings=1)
+    yield from run(VALIDATE, "", "6 told=0 Full " + MADE, SIGNED, puts=0, messages=0)
+
+
+def reads():
+    """The first read fails, the one behind all bytes, and one within the inception's signature, behind its body."""
+    cuts = [{"reads": 0}, {"reads": 1}, {"reads": 3, "piece": 100}]
+    for cut, written in zip(cuts, ("", inception_line(1), inception_line(0))):
+        yield from run(CHECK, written + READ_FAULT, "5 told=0 ReadFault Source", SIGNED, **cut)
+    for cut, written, told in zip(cuts, ("", REPORT, UNSIGNED), (0, 2, 0)):
+        yield from run(VALIDATE, written + READ_FAULT, "5 told=%d ReadFault %s" % (told, MADE), SIGNED, **cut)
+    yield from run(WATCH, "", "5 told=0 ReadFault " + MADE, BOTH_ROTATIONS, reads=0)
+    # What was read is written all the same; the fault comes before a conflict.
+    yield from run(WATCH, "".join(CONFLICTING), "5 told=6 ReadFault " + MADE, BOTH_ROTATIONS, reads=1)
+    yield from run(VALIDATE, BOTH_LINES + READ_FAULT, "5 told=6 ReadFault " + MADE, BOTH_ROTATIONS, reads=1)
+    # Where as many bytes were read as may be, the read that looks for more fails.
+    yield from run(CHECK, BARE + READ_FAULT, "5 told=0 ReadFault Source", RECEIPT, reads=1, stream_bytes=145)
+
+
+def asks():
+    """Each message of the log has two signatures and three receipts."""
+    stream, prior = "".join(REALISTIC), LOG[0]
+    yield from run(VALIDATE, REALISTIC_LINES, "0 told=36 End " + MADE, stream)
+    yield from run(VALIDATE, REALISTIC_LINES, "0 told=36 End " + MADE, stream, piece=1)
+    for ask, why in ((4, "receipts"), (1, "signatures"), (0, "signatures")):
+        yield from run(VALIDATE, waits(prior, why) + VERIFIER_FAULT, "7 told=%d VerifierFault %s" % (ask + 1, MADE), stream, asks=ask)
+    yield from run(VALIDATE, log(prior, keys=3, witnesses=4, toad=3) + waits(LOG[1], "signatures") + VERIFIER_FAULT,
+                   "7 told=7 VerifierFault " + MADE, stream, asks=5)
+    yield from run(VALIDATE, REALISTIC_LINES, "0 told=36 End " + MADE, stream, asks=30)
+    # The fault comes before a refusal, and no later message is taken; a watcher's evidence is what was found until then.
+    yield from run(VALIDATE, UNSIGNED + waits(ICP, "signatures") + VERIFIER_FAULT, "7 told=1 VerifierFault " + MADE, ICP + SIGNED, asks=0)
+    yield from run(WATCH, "", "7 told=5 VerifierFault " + MADE, BOTH_ROTATIONS, asks=2)
+    yield from run(WATCH, "".join(CONFLICTING), "7 told=7 VerifierFault " + MADE, BOTH_ROTATIONS + SIGNED_IXN, asks=3)
+
+
+def helpers():
+    """Verdicts are the helper's: of one that says no to all, and of one that says yes to all."""
+    yield from run(VALIDATE, waits(ICP, "signatures"), "0 told=2 End " + MADE, SIGNED, says="no")
+    yield from run(VALIDATE, REPORT, "0 told=2 End " + MADE, ICP + "-AAB" + indexed("AA", "a"), says="yes")
+    yield from run(VALIDATE, waits(ICP, "signatures"), "0 told=2 End " + MADE, ICP + "-AAB" + rehearsed(2, ICP))
+    yield from run(WATCH, "", "0 told=4 End " + MADE, BOTH_ROTATIONS, says="no")
+
+
+def rows():
+    yield "# limits"
+    yield from limits_of_made_streams()
+    yield from limits_of_check()
+    yield from limits_of_validate()
+    yield from limits_of_watch()
+    yield "# makings, puts, reads and asks that fail"
+    yield from makings()
+    yield from puts()
+    yield from reads()
+    yield from asks()
+    yield "# helpers"
+    yield from helpers()
