@@ -11,7 +11,9 @@ use crate::draw::Draw;
 // rotation's 351 and of an interaction's 202: names, brackets and commas, and 44 characters for each key and digest, by the
 // fields of that kind. The groups behind it have 360: 4 and 88 of the signature, 4 and three times 88 of the receipts.
 const INCEPTION_SIZE: u64 = 485 + 360;
+
 const ROTATION_SIZE: u64 = 351 + 360;
+
 const INTERACTION_SIZE: u64 = 202 + 360;
 
 /// The rotations and the bytes of a whole stream.
