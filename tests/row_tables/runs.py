@@ -5,7 +5,7 @@ A run's end is its status, how many messages and verdicts were told, how each re
 where that failed.
 """
 from event_cases import ROT
-from kit import PLAIN_ICP as ICP, counter, indexed, rehearsed, said, signed
+from kit import PLAIN_ICP as ICP, counter, indexed, rehearsed, signed
 from log_cases import BOTH, CONFLICTING, IXN_1, LOG, OTHER_1, REALISTIC, REALISTIC_LINES, log, waits
 from row_tables import argument
 from stream_cases import BARE, RECEIPT, inception_line, malformed
