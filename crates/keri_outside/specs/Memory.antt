@@ -1,17 +1,15 @@
 -- What objects in memory tell.
-use Rattle.std.specs.Prelude.{ℕ, Bool, List, drop, if◌then◌else◌}
+use Rattle.std.specs.Prelude.{ℕ, Bool, List, drop}
 use Rattle.std.specs.declared.option.Option.{Option}
-use Rattle.std.specs.declared.option.Option.TheVariants.{None, Some}
+use Rattle.std.specs.declared.option.Option.TheVariants.{Some}
 use Rattle.cesr_codes.specs.declared.key.Key.{Key}
 use Rattle.cesr_codes.specs.declared.sig.Sig.{Sig}
-use Rattle.keri_outside.specs.Files.{held_under}
-use Rattle.keri_outside.specs.Helpers.{says_under}
+use Rattle.keri_outside.specs.Rehearsal.{rehearsed}
 use Rattle.keri_outside.specs.Verdicts.{told_verdict}
-use Rattle.keri_outside.specs.Told.{Told}
 use Rattle.keri_outside.specs.declared.mem_source.MemSource.{MemSource}
 use Rattle.keri_outside.specs.declared.mem_sink.MemSink.{MemSink}
 use Rattle.keri_outside.specs.declared.mem_verifier.MemVerifier.{MemVerifier}
-use Rattle.keri_outside.specs.declared.mem_outside.MemOutside.{MemOutside}
+use Rattle.keri_outside.specs.declared.mem_signer.MemSigner.{MemSigner}
 
 abbrev pub source_left : MemSource → Option (List ℕ)
 source_left source = Some (drop source.place source.bytes)
@@ -43,14 +41,13 @@ verifier_faults verifier = verifier.faults
 abbrev pub verifier_failing : MemVerifier → List ℕ
 verifier_failing verifier = verifier.failing
 
-abbrev pub outside_sink : MemOutside → MemSink
-outside_sink outside = outside.sink
+-- a signer in memory gives the rehearsal's signatures
+abbrev pub signer_gives : MemSigner → Key → List ℕ → Option Sig
+signer_gives signer = λ key body. Some (rehearsed key body)
 
-abbrev pub outside_told : MemOutside → Told
-outside_told outside = record {
-  faults = outside.faults;
-  holds = held_under outside.files;
-  says = says_under outside.helpers;
-  makings = if outside.telling then Some outside.makings else None;
-  limits = outside.limits;
-}
+abbrev pub signer_faults : MemSigner → ℕ
+signer_faults signer = signer.faults
+
+-- the signings of these numbers fail
+abbrev pub signer_failing : MemSigner → List ℕ
+signer_failing signer = signer.failing

@@ -19,3 +19,7 @@ is_rehearsed key body sig = bytes_eq (rehearsed key body).raw sig.raw
 -- what the rehearsal says, which it tells
 abbrev pub rehearsal_says : Key → List ℕ → Sig → Option Bool
 rehearsal_says = λ key body sig. Some (is_rehearsed key body sig)
+
+-- the signatures that the rehearsal gives, which it tells
+abbrev pub rehearsal_gives : Key → List ℕ → Option Sig
+rehearsal_gives = λ key body. Some (rehearsed key body)

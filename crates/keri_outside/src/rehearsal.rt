@@ -2,11 +2,11 @@
 ghost use Rattle.std.specs.Prelude.{◌≡◌};
 ghost use Rattle.keri_outside.specs.Rehearsal.{rehearsed};
 
-use crate::{Failed, Verifier};
+use crate::{Failed, Signer, Verifier};
 use cesr_codes::{Key, Sig};
 use sha2::{Digest as _, Sha512};
 
-/// A verifier that never fails and gives no security: it says yes to the rehearsal's signatures alone.
+/// A verifier and a signer that never fails and gives no security: it gives the rehearsal's signatures, and says yes to them alone.
 #[derive(Clone, Copy, PartialEq, Eq, Debug, Drop)]
 pub struct Rehearsal;
 
@@ -34,5 +34,17 @@ impl Verifier for Rehearsal {
 
     fn ask(&mut self, key: &Key, body: &[u8], sig: &Sig) -> Result<bool, Failed> {
         Ok(rehearse(key, body).raw == sig.raw)
+    }
+}
+
+impl Signer for Rehearsal {
+    ghost use Rattle.keri_outside.specs.Rehearsal.{rehearsal_gives};
+
+    ghost gives = { λ _. rehearsal_gives };
+
+    ghost faults = { λ _. 0 };
+
+    fn sign(&mut self, key: &Key, body: &[u8]) -> Result<Sig, Failed> {
+        Ok(rehearse(key, body))
     }
 }

@@ -4,8 +4,8 @@ use Rattle.std.specs.Prelude.{All, IfOk, OnErr, map, option_map, is_none}
 use Rattle.std.proofs.lemmas.List.Elements.{All-weaker}
 use Rattle.cesr_stream.specs.declared.message.Message.{Message}
 use Rattle.event_body.specs.Judging.{SpellsEvent}
-use Rattle.keri_outside.specs.Told.{Told, making}
-use Rattle.keri_outside.specs.declared.making.MakingKind.TheVariants.{Source as SourceKind, Verifier as VerifierKind}
+use Rattle.run_outside.specs.Told.{Told, making}
+use Rattle.run_outside.specs.declared.making.MakingKind.TheVariants.{Source as SourceKind, Verifier as VerifierKind}
 use Rattle.journal.specs.declared.journal.Journal.{Journal}
 use Rattle.journal.specs.declared.mode.Mode.{Mode}
 use Rattle.journal.specs.Accepted.{accepted}

@@ -2,9 +2,9 @@
 use Rattle.std.specs.Prelude.{◌≡◌, ℕ, List, [], ◌∷◌, ◌++◌, is_none, MatchOption}
 use Rattle.std.specs.declared.option.Option.{Option}
 use Rattle.std.specs.declared.option.Option.TheVariants.{None}
-use Rattle.keri_outside.specs.Told.{making}
+use Rattle.run_outside.specs.Told.{making}
 use Rattle.keri_outside.specs.declared.limits.Limits.{Limits}
-use Rattle.keri_outside.specs.declared.making.MakingKind.TheVariants.{Source}
+use Rattle.run_outside.specs.declared.making.MakingKind.TheVariants.{Source}
 use Rattle.cesr_stream.specs.Items.{Placed}
 use Rattle.cesr_stream.specs.Messages.{messages}
 use Rattle.cesr_stream.specs.Reading.{Reading}

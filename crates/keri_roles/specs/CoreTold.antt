@@ -8,9 +8,9 @@ use Rattle.cesr_codes.specs.declared.sig.Sig.{Sig}
 use Rattle.cesr_stream.specs.declared.message.Message.{Message}
 use Rattle.cesr_stream.specs.Items.{Placed}
 use Rattle.cesr_stream.specs.Reading.{Reading}
-use Rattle.keri_outside.specs.Told.{making}
+use Rattle.run_outside.specs.Told.{making}
 use Rattle.keri_outside.specs.declared.limits.Limits.{Limits}
-use Rattle.keri_outside.specs.declared.making.MakingKind.TheVariants.{Source as SourceKind, Verifier as VerifierKind}
+use Rattle.run_outside.specs.declared.making.MakingKind.TheVariants.{Source as SourceKind, Verifier as VerifierKind}
 use Rattle.journal.specs.declared.body.Body.{Body}
 use Rattle.journal.specs.declared.entry.Entry.{Entry}
 use Rattle.journal.specs.declared.journal.Journal.{Journal}

@@ -6,8 +6,8 @@ use Rattle.std.specs.declared.option.Option.TheVariants.{None, Some}
 use Rattle.keri_specs.specs.Causes.{Rose}
 use Rattle.cesr_codes.specs.declared.key.Key.{Key}
 use Rattle.cesr_codes.specs.declared.sig.Sig.{Sig}
-use Rattle.keri_outside.specs.Told.{Told}
-use Rattle.keri_outside.specs.declared.making.Making.{Making}
+use Rattle.run_outside.specs.Told.{Told}
+use Rattle.run_outside.specs.declared.making.Making.{Making}
 use Rattle.journal.specs.declared.journal.Journal.{Journal}
 use Rattle.run_status.specs.declared.close.Close.{Close}
 use Rattle.run_status.specs.declared.close.Close.TheVariants.{ReadFault, VerifierFault, OutOfMemory}

@@ -1,9 +1,9 @@
 //! `check FILE`: reads the stream of a file, and says of each message what it is.
 ghost use Rattle.std.specs.Prelude.{◌≡◌, ◌≢◌, ◌∷◌, ◌<◌, ℕ, List, Option, [], None, is_none, IsSome, option_map, string_bytes};
 ghost use Rattle.std.specs.Vec.{vec_capacity};
-ghost use Rattle.keri_outside.specs.Told.{making};
+ghost use Rattle.run_outside.specs.Told.{making};
 ghost use Rattle.keri_outside.specs.declared.limits.Limits.{Limits as LimitsValue};
-ghost use Rattle.keri_outside.specs.declared.making.MakingKind.TheVariants.{Source as SourceKind};
+ghost use Rattle.run_outside.specs.declared.making.MakingKind.TheVariants.{Source as SourceKind};
 ghost use Rattle.keri_roles.specs.Check.{ChecksReader, IsChecked};
 ghost use Rattle.run_status.specs.Readers.{reader_seen};
 ghost use Rattle.keri_roles.specs.Run.{AreMakings, Owes, work_seen};
@@ -12,9 +12,10 @@ use crate::checker::Checker;
 use crate::nothing_told::nothing_told;
 use crate::outcome::Outcome;
 use crate::{Close, ReaderEnd};
-use keri_outside::{Failed, Limits, Outside, Source, Verifier};
+use keri_outside::{Failed, Limits, Source, Verifier};
 use message_feed::feed_messages;
 use report_lines::read_fault_line;
+use run_outside::Outside;
 use run_status::Besides;
 use std::alloc::{AllocError, Global};
 

@@ -2,7 +2,7 @@
 
 use crate::ReaderEnd;
 use journal::Journal;
-use keri_outside::Outside;
+use run_outside::Outside;
 
 /// The status of a run, what was told in it, and its readers in order.
 #[derive(Drop)]

@@ -11,7 +11,7 @@ use crate::due::{Due, owe};
 use crate::outcome::Outcome;
 use crate::providers::make;
 use journal::Mode;
-use keri_outside::Outside;
+use run_outside::Outside;
 use run_status::Besides;
 use std::alloc::Global;
 

@@ -13,8 +13,8 @@ use crate::outcome::Outcome;
 use crate::validate::validate;
 use crate::watch::watch;
 use command_words::{Command, command_of};
-use keri_outside::Outside;
 use report_lines::WORDS;
+use run_outside::Outside;
 use run_status::{Besides, settle};
 use std::alloc::Global;
 

@@ -1,10 +1,10 @@
 //! What a command over a core is given by the outside.
 ghost use Rattle.std.specs.Prelude.{◌≡◌, ◌∷◌, [], is_none, IfSome};
-ghost use Rattle.keri_outside.specs.Told.{making};
-ghost use Rattle.keri_outside.specs.declared.making.MakingKind.TheVariants.{Source as SourceKind, Verifier as VerifierKind};
+ghost use Rattle.run_outside.specs.Told.{making};
+ghost use Rattle.run_outside.specs.declared.making.MakingKind.TheVariants.{Source as SourceKind, Verifier as VerifierKind};
 ghost use Rattle.keri_roles.specs.Run.{AreMakings};
 
-use keri_outside::Outside;
+use run_outside::Outside;
 
 /// The source of a file and the verifier of a helper, as far as they could be made.
 #[derive(Drop)]

@@ -10,7 +10,7 @@ use crate::over_core::over_core;
 use crate::report::report_of;
 use crate::{Close, ReaderEnd};
 use journal::{Mode, Refusal};
-use keri_outside::Outside;
+use run_outside::Outside;
 use std::alloc::{AllocError, Global};
 use validator_core::Core;
 

@@ -9,7 +9,7 @@ use crate::outcome::Outcome;
 use crate::over_core::over_core;
 use crate::{Close, ReaderEnd};
 use journal::{Mode, Refusal};
-use keri_outside::Outside;
+use run_outside::Outside;
 use std::alloc::{AllocError, Global};
 use validator_core::Core;
 use watcher_core::{Evidence as CoreEvidence, evidence_of};

@@ -1,9 +1,10 @@
 //! What a row is answered by.
 
 use crate::outside::outside_of;
-use keri_outside::{Making, MemOutside, MemSource, MemVerifier};
+use keri_outside::{MemSource, MemVerifier};
 use keri_roles::{Close, Done, ReaderEnd, run};
 use row_text::Row;
+use run_outside::{Making, MemOutside};
 use std::alloc::{AllocError, Global};
 use std::fmt::Write;
 

@@ -1,9 +1,10 @@
 //! Outsides in memory, as rows set them up.
 ghost use Rattle.std.specs.Prelude.{◌≤◌};
 
-use keri_outside::{Limits, MemFile, MemHelper, MemOutside, MemSink, VerdictRule};
+use keri_outside::{Limits, MemSink, VerdictRule};
 use lists::Items;
 use row_text::Row;
+use run_outside::{MemFile, MemHelper, MemOutside};
 use std::alloc::{AllocError, Global};
 
 /// The name of the one file.
@@ -89,7 +90,8 @@ fn helpers_of(alloc: Global, row: &Row) -> Result<Items<MemHelper>, AllocError> 
     let helper = MemHelper {
         name: named(alloc, HELPER)?,
         rule: rule_of(row),
-        failing: failing(alloc, row, "asks")?,
+        failing_asks: failing(alloc, row, "asks")?,
+        failing_signings: failing(alloc, row, "signings")?,
     };
     let mut helpers = Items::new(alloc);
     helpers.push(helper)?;
@@ -98,7 +100,7 @@ fn helpers_of(alloc: Global, row: &Row) -> Result<Items<MemHelper>, AllocError> 
 
 /// The outside of a row: behind its command line stand names, each with a value behind it. `text` is what the file `a`
 /// holds, `piece` how many bytes a read gives at most, and `says yes` or `says no` what the helper says of everything; else
-/// it is the rehearsal. `reads`, `asks`, `puts` and `makings` are the numbers of the calls that fail, counted from 0, with a
+/// it is the rehearsal. `reads`, `asks`, `signings`, `puts` and `makings` are the numbers of the calls that fail, counted from 0, with a
 /// comma between two of them. The others are limits, by their names.
 pub(crate) fn outside_of(alloc: Global, row: &Row) -> Result<MemOutside, AllocError> {
     let files = files_of(alloc, row)?;

@@ -6,7 +6,8 @@ ghost use Rattle.run_status.specs.Settling.{Puts, SettlesBy, refuses};
 ghost use Rattle.run_status.specs.Settling as settling;
 
 use crate::{Besides, Close, Findings, ReaderEnd};
-use keri_outside::{Outside, Sink, Source, Verifier};
+use keri_outside::{Sink, Source, Verifier};
+use run_outside::Outside;
 
 /// Writes the text, unless there was no memory for it, and answers the status: by that, by the readers' ends, and by what was
 /// found besides.

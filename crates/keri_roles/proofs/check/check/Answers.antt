@@ -1,6 +1,6 @@
 use Rattle.std.proofs.Common.{◌≡◌, refl, [], ◌∷◌, rules, is_none, option_map, string_bytes}
-use Rattle.keri_outside.specs.Told.{making}
-use Rattle.keri_outside.specs.declared.making.MakingKind.TheVariants.{Source}
+use Rattle.run_outside.specs.Told.{making}
+use Rattle.run_outside.specs.declared.making.MakingKind.TheVariants.{Source}
 use Rattle.keri_roles.specs.Check.{ChecksReader}
 use Rattle.run_status.specs.Readers.{reader_seen, source_seen}
 use Rattle.keri_roles.specs.Run.{AreMakings}

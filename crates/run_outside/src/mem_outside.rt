@@ -2,11 +2,9 @@
 ghost use Rattle.std.specs.Prelude.{◌≡◌, [], Some};
 
 use crate::files::source_of;
-use crate::helpers::verifier_of;
-use crate::{
-    Failed, Limits, Making, MakingKind, MemFile, MemHelper, MemSink, MemSource, MemVerifier,
-    Outside,
-};
+use crate::helpers::{signer_of, verifier_of};
+use crate::{Making, MakingKind, MemFile, MemHelper, Outside};
+use keri_outside::{Failed, Limits, MemSigner, MemSink, MemSource, MemVerifier};
 use lists::Items;
 use std::alloc::{AllocError, Global};
 
@@ -28,9 +26,9 @@ pub struct MemOutside {
 impl MemOutside {
     ghost use Rattle.std.specs.Prelude.{◌≡◌, ◌≤◌, ◌++◌, ◌∷◌, [], true, Some, IfSome, OnOk, OnErr};
     ghost use Rattle.keri_specs.specs.Causes.{Rose};
-    ghost use Rattle.keri_outside.specs.Memory.{outside_told, outside_sink};
-    ghost use Rattle.keri_outside.specs.Told.{Grows, first_told, making};
-    ghost use Rattle.keri_outside.specs.Helpers.{says_under};
+    ghost use Rattle.run_outside.specs.Memory.{outside_told, outside_sink};
+    ghost use Rattle.run_outside.specs.Told.{Grows, first_told, making};
+    ghost use Rattle.run_outside.specs.Helpers.{says_under, gives_under};
 
     /// An outside with these files, this sink and no helpers. Its makings of the numbers in `failing`, counted from 0, fail.
     pub fn new(
@@ -59,7 +57,7 @@ impl MemOutside {
 
     /// It with these helpers.
     pub fn with_helpers(self, helpers: Items<MemHelper>) -> MemOutside
-        ensures told { outside_told result ≡ record (outside_told self) { says = says_under helpers } }
+        ensures told { outside_told result ≡ record (outside_told self) { says = says_under helpers; gives = gives_under helpers } }
         ensures sink { outside_sink result ≡ outside_sink self }
     {
         MemOutside { helpers, ..self }
@@ -123,11 +121,13 @@ impl MemOutside {
 
 impl Outside for MemOutside {
     ghost use Rattle.std.proofs.Common.{refl};
-    ghost use Rattle.keri_outside.specs.Memory.{outside_told, outside_sink};
+    ghost use Rattle.run_outside.specs.Memory.{outside_told, outside_sink};
 
     type Source = MemSource;
 
     type Verifier = MemVerifier;
+
+    type Signer = MemSigner;
 
     type Sink = MemSink;
 
@@ -160,6 +160,17 @@ impl Outside for MemOutside {
                 Ok(verifier)
             }
             _ => Err(self.fail(MakingKind::Verifier, name)),
+        }
+    }
+
+    fn signer(&mut self, name: &str) -> Result<MemSigner, Failed> {
+        let fails = self.next_fails();
+        match signer_of(self.alloc, self.helpers.as_slice(), name) {
+            Some(signer) if !fails => {
+                self.note(MakingKind::Signer, name, false);
+                Ok(signer)
+            }
+            _ => Err(self.fail(MakingKind::Signer, name)),
         }
     }
 

@@ -6,18 +6,20 @@ use Rattle.std.specs.declared.result.Result.{Result}
 use Rattle.keri_specs.specs.Causes.{HasCause}
 use Rattle.cesr_codes.specs.declared.key.Key.{Key}
 use Rattle.cesr_codes.specs.declared.sig.Sig.{Sig}
-use Rattle.keri_outside.specs.Files.{held_under}
+use Rattle.run_outside.specs.Files.{held_under}
 use Rattle.keri_outside.specs.declared.limits.Limits.{Limits}
-use Rattle.keri_outside.specs.declared.making.Making.{Making}
-use Rattle.keri_outside.specs.declared.making.MakingKind.{MakingKind}
-use Rattle.keri_outside.specs.declared.mem_file.MemFile.{MemFile}
+use Rattle.run_outside.specs.declared.making.Making.{Making}
+use Rattle.run_outside.specs.declared.making.MakingKind.{MakingKind}
+use Rattle.run_outside.specs.declared.mem_file.MemFile.{MemFile}
 
 -- How often a making failed, what a source of each name holds, what a verifier of each name says of a key, a body and
--- a signature, and the makings so far, where it tells, and the limits.
+-- a signature, the signature that a signer of each name gives of a key on a body, and the makings so far, where it tells,
+-- and the limits.
 pub record Told : Type 0 where
   pub faults : ℕ
   pub holds : List ℕ → Option (List ℕ)
   pub says : List ℕ → Key → List ℕ → Sig → Option Bool
+  pub gives : List ℕ → Key → List ℕ → Option Sig
   pub makings : Option (List Making)
   pub limits : Limits
 
@@ -34,9 +36,10 @@ pub record Makes {T E : Type 0} (kind : MakingKind) (name : List ℕ) (old new :
   pub noted : Grows old.makings new.makings kind name (is_err result)
   pub names : new.holds ≡ old.holds
   pub verdicts : new.says ≡ old.says
+  pub signatures : new.gives ≡ old.gives
   pub limits : new.limits ≡ old.limits
   pub cause : HasCause old.faults new.faults result
 
 -- what an outside of these files, and no helpers, tells before anything was made
 abbrev pub first_told : List MemFile → Limits → Told
-first_told files limits = record { faults = 0; holds = held_under files; says = λ name key body sig. None; makings = Some []; limits = limits }
+first_told files limits = record { faults = 0; holds = held_under files; says = λ name key body sig. None; gives = λ name key body. None; makings = Some []; limits = limits }

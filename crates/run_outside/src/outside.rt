@@ -1,16 +1,18 @@
 //! All that a program reaches.
 ghost use Rattle.std.specs.Prelude.{◌≡◌, IfOk};
 ghost use Rattle.std.specs.Borrow.{Lends, sem};
-ghost use Rattle.keri_outside.specs.Told.{Told, Makes};
-ghost use Rattle.keri_outside.specs.declared.making.MakingKind.TheVariants.{Source as SourceKind, Verifier as VerifierKind};
+ghost use Rattle.run_outside.specs.Told.{Told, Makes};
+ghost use Rattle.run_outside.specs.declared.making.MakingKind.TheVariants.{Source as SourceKind, Verifier as VerifierKind, Signer as SignerKind};
 
-use crate::{Failed, Limits, Sink, Source, Verifier};
+use keri_outside::{Failed, Limits, Signer, Sink, Source, Verifier};
 
 /// The objects that a program is given. What it gives out starts with a count of no faults.
 pub trait Outside {
     type Source: Source + Drop;
 
     type Verifier: Verifier + Drop;
+
+    type Signer: Signer + Drop;
 
     type Sink: Sink + Drop;
 
@@ -34,6 +36,13 @@ pub trait Outside {
         ensures makes { Makes VerifierKind name.now (told self.old) (told self.new) result }
         ensures says { IfOk result (λ verifier. Self.Verifier.says verifier ≡ (told self.old).says name.now) }
         ensures none_yet { IfOk result (λ verifier. Self.Verifier.faults verifier ≡ 0) }
+        ensures same_sink { sink self.new ≡ sink self.old };
+
+    /// Makes the signer of a name.
+    fn signer(&mut self, name: &str) -> Result<Self::Signer, Failed>
+        ensures makes { Makes SignerKind name.now (told self.old) (told self.new) result }
+        ensures gives { IfOk result (λ signer. Self.Signer.gives signer ≡ (told self.old).gives name.now) }
+        ensures none_yet { IfOk result (λ signer. Self.Signer.faults signer ≡ 0) }
         ensures same_sink { sink self.new ≡ sink self.old };
 
     /// Lends the sink.

@@ -7,6 +7,7 @@ use lists::Items;
 pub enum MakingKind {
     Source,
     Verifier,
+    Signer,
 }
 
 /// A making: what, under which name, and whether it failed.

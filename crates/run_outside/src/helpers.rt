@@ -1,10 +1,11 @@
 //! What the helpers of an outside in memory say.
 ghost use Rattle.std.specs.Prelude.{◌≡◌, IfSome};
 ghost use Rattle.std.specs.Option.{option_map};
-ghost use Rattle.keri_outside.specs.Helpers.{helper_named, says_under};
-ghost use Rattle.keri_outside.specs.Memory.{verifier_says, verifier_faults};
+ghost use Rattle.run_outside.specs.Helpers.{helper_named, says_under, gives_under};
+ghost use Rattle.keri_outside.specs.Memory.{verifier_says, verifier_faults, signer_gives, signer_faults};
 
-use crate::{MemHelper, MemVerifier};
+use crate::MemHelper;
+use keri_outside::{MemSigner, MemVerifier};
 use lists::CopyValue;
 use std::alloc::Global;
 
@@ -25,8 +26,22 @@ pub(crate) fn verifier_of(alloc: Global, helpers: &[MemHelper], name: &str) -> O
     let Some(helper) = find(helpers, name) else {
         return None;
     };
-    let Ok(failing) = helper.failing.copy(alloc) else {
+    let Ok(failing) = helper.failing_asks.copy(alloc) else {
         return None;
     };
     Some(MemVerifier::new(helper.rule, failing))
+}
+
+// A signer of the name, where there is a helper and memory.
+pub(crate) fn signer_of(alloc: Global, helpers: &[MemHelper], name: &str) -> Option<MemSigner>
+    ensures gives { IfSome result (λ signer. signer_gives signer ≡ gives_under helpers.now name.now) }
+    ensures faults { IfSome result (λ signer. signer_faults signer ≡ 0) }
+{
+    let Some(helper) = find(helpers, name) else {
+        return None;
+    };
+    let Ok(failing) = helper.failing_signings.copy(alloc) else {
+        return None;
+    };
+    Some(MemSigner::new(failing))
 }

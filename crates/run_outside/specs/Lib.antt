@@ -1,0 +1,4 @@
+pub mod Files
+pub mod Helpers
+pub mod Told
+pub mod Memory

@@ -1,0 +1,22 @@
+-- What an outside in memory tells.
+use Rattle.std.specs.Prelude.{if◌then◌else◌}
+use Rattle.std.specs.declared.option.Option.{Option}
+use Rattle.std.specs.declared.option.Option.TheVariants.{None, Some}
+use Rattle.keri_outside.specs.declared.mem_sink.MemSink.{MemSink}
+use Rattle.run_outside.specs.Files.{held_under}
+use Rattle.run_outside.specs.Helpers.{says_under, gives_under}
+use Rattle.run_outside.specs.Told.{Told}
+use Rattle.run_outside.specs.declared.mem_outside.MemOutside.{MemOutside}
+
+abbrev pub outside_sink : MemOutside → MemSink
+outside_sink outside = outside.sink
+
+abbrev pub outside_told : MemOutside → Told
+outside_told outside = record {
+  faults = outside.faults;
+  holds = held_under outside.files;
+  says = says_under outside.helpers;
+  gives = gives_under outside.helpers;
+  makings = if outside.telling then Some outside.makings else None;
+  limits = outside.limits;
+}
