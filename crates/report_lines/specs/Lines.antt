@@ -9,7 +9,8 @@ use Rattle.event_body.specs.Events.{kind_of, prefix_of, sn_of, said_of}
 use Rattle.event_body.specs.declared.event.Event.{Event}
 use Rattle.journal.specs.declared.reply.Reason.{Reason}
 use Rattle.journal.specs.declared.why.Why.{Why}
-use Rattle.report_lines.specs.Words.{bad_word, reason_word, standing_word, why_word}
+use Rattle.report_lines.specs.Words.{bad_word, plan_word, reason_word, standing_word, why_word}
+use Rattle.report_lines.specs.declared.plan_refusal.PlanRefusal.{PlanRefusal}
 use Rattle.report_lines.specs.declared.sizes.Sizes.{Sizes}
 use Rattle.report_lines.specs.declared.standing.Standing.{Standing}
 use Rattle.report_lines.specs.declared.state_sizes.StateSizes.{StateSizes}
@@ -77,6 +78,10 @@ stream_text counts = line (codes "gen" ∷ stream_counts_text counts ∷ [])
 -- `conflict`, the prefix, the number, and the digests of the bodies
 abbrev pub conflict_text : Prefix → ℕ → List Digest → List ℕ
 conflict_text prefix sn saids = line (codes "conflict" ∷ prefix_text prefix ∷ number sn ∷ map digest_text saids)
+
+-- `plan`, and why no message is made of it
+abbrev pub plan_text : PlanRefusal → List ℕ
+plan_text refusal = line (codes "plan" ∷ plan_word refusal ∷ [])
 
 -- `refused`, the reader's number, the message's place, and why
 abbrev pub refused_text : ℕ → ℕ → Reason → List ℕ

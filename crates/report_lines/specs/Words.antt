@@ -11,6 +11,10 @@ use Rattle.journal.specs.declared.reply.Reason.{Reason}
 use Rattle.journal.specs.declared.reply.Reason.TheVariants.{Body, Unsigned, WrongGroup, DigestOnly, TooManySigs}
 use Rattle.journal.specs.declared.why.Why.{Why}
 use Rattle.journal.specs.declared.why.Why.TheVariants.{Predecessor, Signatures, Next, Receipts, Seal, Never}
+use Rattle.key_state.specs.declared.state_fault.Misfit.{Misfit}
+use Rattle.key_state.specs.declared.state_fault.Misfit.TheVariants.{Sn, Prior, Ended, EstOnly, Kind, WitnessChange}
+use Rattle.report_lines.specs.declared.plan_refusal.PlanRefusal.{PlanRefusal}
+use Rattle.report_lines.specs.declared.plan_refusal.PlanRefusal.TheVariants.{Line as PlanLine, Log as PlanLog, Body as PlanBody, Misfit as PlanMisfit, Unsigned as PlanUnsigned}
 use Rattle.report_lines.specs.declared.standing.Standing.{Standing}
 use Rattle.report_lines.specs.declared.standing.Standing.TheVariants.{Live, Superseded}
 
@@ -25,6 +29,23 @@ fault_word Witnesses = codes "witnesses"
 fault_word TooMany = codes "many"
 fault_word NumberTooLarge = codes "number"
 fault_word TooLarge = codes "large"
+
+-- why an event doesn't follow a state
+abbrev pub misfit_word : Misfit → List ℕ
+misfit_word Sn = codes "sn"
+misfit_word Prior = codes "prior"
+misfit_word Ended = codes "ended"
+misfit_word EstOnly = codes "est-only"
+misfit_word Kind = codes "kind"
+misfit_word WitnessChange = codes "witness-change"
+
+-- why no message is made of a plan
+abbrev pub plan_word : PlanRefusal → List ℕ
+plan_word (PlanLine n) = codes "line " ++ decimal n
+plan_word PlanLog = codes "log"
+plan_word (PlanBody fault) = codes "body " ++ fault_word fault
+plan_word (PlanMisfit misfit) = codes "misfit " ++ misfit_word misfit
+plan_word PlanUnsigned = codes "unsigned"
 
 -- why a message is refused
 abbrev pub reason_word : Reason → List ℕ

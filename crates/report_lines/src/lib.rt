@@ -5,6 +5,8 @@ mod bad_word;
 mod code_word;
 mod fault_word;
 mod lines;
+mod plan_refusal;
+mod plan_word;
 mod reader_lines;
 mod reason_word;
 mod sizes;
@@ -14,8 +16,9 @@ mod stream_counts;
 mod why_word;
 
 pub use lines::{
-    WORDS, accepted_line, conflict_line, event_line, state_line, stream_line, waits_line,
+    WORDS, accepted_line, conflict_line, event_line, plan_line, state_line, stream_line, waits_line,
 };
+pub use plan_refusal::PlanRefusal;
 pub use reader_lines::{
     full_line, malformed_line, memory_line, read_fault_line, refused_line, verifier_fault_line,
 };

@@ -1,10 +1,11 @@
 //! Lines, each with its line feed.
 ghost use Rattle.std.specs.Prelude.{◌≡◌, ◌++◌, IfOk, codes, flat_map, string_bytes};
 ghost use Rattle.cesr_codes.specs.Spelling.{digest_text};
-ghost use Rattle.report_lines.specs.Lines.{accepted_text, conflict_text, event_text, state_text, stream_text, waits_text};
+ghost use Rattle.report_lines.specs.Lines.{accepted_text, conflict_text, event_text, plan_text, state_text, stream_text, waits_text};
 
+use crate::plan_word::PlanWord;
 use crate::why_word::WhyWord;
-use crate::{Sizes, Standing, StateSizes, StreamCounts};
+use crate::{PlanRefusal, Sizes, Standing, StateSizes, StreamCounts};
 use cesr_codes::{Digest, Prefix};
 use event_body::{Event, kind_of, prefix_of, said_of_event, sn_of};
 use journal::Why;
@@ -12,6 +13,14 @@ use std::alloc::{AllocError, Global};
 
 /// The line for words that aren't in the form.
 pub const WORDS: &str = "words\n";
+
+/// The line of a plan of which no message is made.
+pub fn plan_line(alloc: Global, refusal: PlanRefusal) -> Result<String, AllocError>
+    ensures { IfOk result (λ line. string_bytes line ≡ plan_text refusal) }
+{
+    let word = PlanWord(refusal);
+    format!(in alloc; "plan {word}\n")
+}
 
 /// The line of an event with its sizes.
 pub fn event_line(alloc: Global, event: &Event, sizes: Sizes) -> Result<String, AllocError>
