@@ -1,0 +1,6 @@
+pub mod Lines
+pub mod Entries
+pub mod Sheets
+pub mod Plans
+pub mod Reading
+pub mod Drafts

@@ -1,0 +1,43 @@
+//! Values of a plan's lines.
+ghost use Rattle.std.specs.Prelude.{◌≡◌, IfOk};
+ghost use Rattle.plan_text.specs.declared.entry.Entry.{Entry};
+ghost use Rattle.plan_text.specs.Entries.{Says};
+ghost use Rattle.plan_text.specs.Reading.{Gives};
+
+use crate::entry::Entry;
+use crate::given_prefix::GivenPrefix;
+use crate::json_value::{read_json, read_threshold, read_trait};
+use crate::kind::Kind;
+use crate::line_fault::LineFault;
+use crate::name::Name;
+use crate::number::read_number;
+use crate::primitive::{read_code, read_digest, read_key, read_prefix};
+use crate::slot::read_slot;
+use std::alloc::Global;
+
+/// The entry of this name, in a plan of this kind, with the value that is spelled so.
+pub(crate) fn read_value(
+    alloc: Global,
+    kind: Kind,
+    name: Name,
+    value: &[u8],
+) -> Result<Entry, LineFault>
+    ensures some { IfOk result (λ entry. Says kind name value.now entry) }
+    ensures only { (entry : Entry) → Says kind name value.now entry → Gives result entry }
+{
+    match name {
+        Name::Prefix => Ok(Entry::Prefix(GivenPrefix::read(kind, value)?)),
+        Name::Code => Ok(Entry::Code(read_code(value)?)),
+        Name::Kt => Ok(Entry::Kt(read_threshold(alloc, value)?)),
+        Name::Nt => Ok(Entry::Nt(read_threshold(alloc, value)?)),
+        Name::Key => Ok(Entry::Key(read_key(value)?)),
+        Name::Next => Ok(Entry::Next(read_digest(value)?)),
+        Name::Cut => Ok(Entry::Cut(read_key(value)?)),
+        Name::Add => Ok(Entry::Add(read_key(value)?)),
+        Name::Bt => Ok(Entry::Bt(read_number(value)?)),
+        Name::Trait => Ok(Entry::Trait(read_trait(alloc, value)?)),
+        Name::Seal => Ok(Entry::Seal(read_json(alloc, value)?)),
+        Name::Di => Ok(Entry::Di(read_prefix(value)?)),
+        Name::Sign => Ok(Entry::Sign(read_slot(value)?)),
+    }
+}
