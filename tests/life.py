@@ -53,32 +53,32 @@ CHILD_LINES = log(CHILD, CHILD_1)
 # Each step: its plan, the messages that it is made behind (None for no log), what comes out, and, where it is appended to a log, what
 # is in the log then and what `validate` writes of that.
 STEPS = {
-    "inception": (plan("icp", *HEAD, *keys(1, 2), SIGN), None, MESSAGES[0], (MESSAGES[:1], log(ICP))),
-    "interaction": (plan("ixn", *HEAD, prefix(ICP), SIGN), MESSAGES[:1], MESSAGES[1], (MESSAGES[:2], log(ICP, IXN_1))),
-    "rotation": (
+    "incept": (plan("icp", *HEAD, *keys(1, 2), SIGN), None, MESSAGES[0], (MESSAGES[:1], log(ICP))),
+    "interact": (plan("ixn", *HEAD, prefix(ICP), SIGN), MESSAGES[:1], MESSAGES[1], (MESSAGES[:2], log(ICP, IXN_1))),
+    "rotate": (
         plan("rot", *HEAD, prefix(ICP), *keys(2, 3), SIGN), MESSAGES[:2], MESSAGES[2], (MESSAGES[:3], log(ICP, IXN_1, ROT_2)),
     ),
-    "delegated-inception": (
+    "incept-delegated": (
         plan("dip", *HEAD, "di " + said(ICP), *keys(10, 11), SIGN), None, CHILD_MESSAGES[0],
         (MESSAGES[:3] + CHILD_MESSAGES[:1], log(ICP, IXN_1, ROT_2) + waits(CHILD, "seal")),
     ),
-    "delegation": (
+    "seal-inception": (
         plan("ixn", *HEAD, prefix(ICP), sealing(CHILD), SIGN), MESSAGES[:3], MESSAGES[3],
         (MESSAGES[:4] + CHILD_MESSAGES[:1], by_prefix(log(*EVENTS[:4]), log(CHILD))),
     ),
-    "delegated-rotation": (
+    "rotate-delegated": (
         plan("drt", *HEAD, prefix(CHILD), *keys(11, 12), SIGN), CHILD_MESSAGES[:1], CHILD_MESSAGES[1],
         (MESSAGES[:4] + CHILD_MESSAGES, by_prefix(log(*EVENTS[:4]), log(CHILD)) + waits(CHILD_1, "seal")),
     ),
-    "delegation-of-the-rotation": (
+    "seal-rotation": (
         plan("ixn", *HEAD, prefix(ICP), sealing(CHILD_1), SIGN), MESSAGES[:4], MESSAGES[4],
         (MESSAGES + CHILD_MESSAGES, by_prefix(log(*EVENTS), CHILD_LINES)),
     ),
-    "stolen-key": (
+    "steal": (
         plan("ixn", *HEAD, prefix(ICP), 'seal "not mine"', SIGN), MESSAGES, STOLEN,
         (MESSAGES + CHILD_MESSAGES + [STOLEN], by_prefix(log(*EVENTS, STOLEN_5), CHILD_LINES)),
     ),
-    "recovery": (
+    "recover": (
         plan("rot", *HEAD, prefix(ICP), *keys(3, 4), SIGN), MESSAGES, RECOVERY,
         (MESSAGES + CHILD_MESSAGES + [STOLEN, RECOVERY], by_prefix(RECOVERED + state(RECOVERY_5), CHILD_LINES)),
     ),
@@ -87,7 +87,7 @@ STEPS = {
         (MESSAGES + CHILD_MESSAGES + [STOLEN, RECOVERY, END], by_prefix(RECOVERED + event(END_6) + state(END_6), CHILD_LINES)),
     ),
     "after-the-end": (plan("ixn", *HEAD, prefix(ICP), SIGN), ENDED, "plan misfit ended\n", None),
-    "other-recovery": (
+    "recover-otherwise": (
         plan("rot", *HEAD, prefix(ICP), *keys(3, 100), SIGN), MESSAGES, OTHER,
         (MESSAGES + [RECOVERY, OTHER],
             log(*EVENTS, RECOVERY_5) + waits(OTHER_5, "never") + conflict(RECOVERY_5, OTHER_5)),
