@@ -180,7 +180,7 @@ MISFITS = {
     ),
 }
 
-HALF_KEYS = [*keys(1), *keys(2), *keys(3)]
+THREE_KEYS = [*keys(1), *keys(2), *keys(3)]
 TWO_CLAUSES = [*keys(1), *keys(2), *keys(3), 'kt [["1/2","1/2"],["1"]]']
 TWO_NEXT = body("icp", nt="2", n=[digest(key(2)), digest(key(3))])
 UNSIGNED = {
@@ -196,7 +196,7 @@ UNSIGNED = {
     "other_index_of_no_slot": (plan("icp", *HEAD, *keys(1, 2), SIGN, "sign 0 4096"), None),
     "too_few": (plan("icp", *HEAD, *keys(1), *keys(2, 3), 'kt "2"', SIGN), None),
     "one_slot_twice": (plan("icp", *HEAD, *keys(1), *keys(2, 3), 'kt "2"', SIGN, SIGN), None),
-    "too_little_weight": (plan("icp", *HEAD, *HALF_KEYS, 'kt ["1/2","1/2","1/2"]', SIGN), None),
+    "too_little_weight": (plan("icp", *HEAD, *THREE_KEYS, 'kt ["1/2","1/2","1/2"]', SIGN), None),
     "one_clause_of_two": (plan("icp", *HEAD, *TWO_CLAUSES, SIGN, "sign 1 1"), None),
     "ixn_by_other_keys_than_the_states": (plan("ixn", *BEHIND, "key " + key(2), "sign 1 1"), LOG),
     "4096_slots": (plan("icp", *HEAD, *keys(1, 2), *[SIGN] * 4096), None),

@@ -8,7 +8,7 @@ import json
 
 from kit import CHARACTERS, PLACEHOLDER, counter, digest, indexed_signature
 from plan_text import BadLine, is_met, is_threshold, read_plan, threshold
-from reference import Claim, Reference, rehearsal, witnesses_of
+from reference import Claim, Reference, rehearsal
 
 MOST_BYTES, MOST_MEMBERS, MOST_SLOTS, MOST_PLACE = 65535, 64, 4095, 4095
 GOOD, REFUSED = 0, 3
