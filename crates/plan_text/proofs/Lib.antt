@@ -6,3 +6,4 @@ pub mod Sheets
 pub mod Given
 pub mod SoFar
 pub mod PlanTexts
+mod Makeable

@@ -4,3 +4,4 @@ pub mod Sheets
 pub mod Plans
 pub mod Reading
 pub mod Drafts
+pub mod Makeable

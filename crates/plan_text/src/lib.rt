@@ -7,6 +7,7 @@ mod event_plan;
 mod given_prefix;
 mod json_value;
 mod kind;
+mod laws;
 mod line_fault;
 mod name;
 mod number;
@@ -18,5 +19,6 @@ mod split;
 mod value;
 
 pub use event_plan::{EventPlan, PlannedEvent};
+pub use laws::spelled_is_makeable;
 pub use plan_reader::read_plan;
 pub use plan_text_fault::PlanTextFault;
