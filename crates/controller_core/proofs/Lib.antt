@@ -1,0 +1,6 @@
+mod Seals
+mod LastNumbers
+mod Enough
+mod More
+mod Signing
+mod Zipped

@@ -1,0 +1,9 @@
+use Rattle.std.proofs.Common.{◌∙◌, subst}
+use Rattle.controller_core.specs.LastNumbers.{IsLastRefusal}
+use Rattle.controller_core.specs.Messages.{event_text}
+use Rattle.controller_core.specs.Plans.{sealed}
+use Rattle.controller_core.proofs.last_number.last_fault.Goals as goal
+
+pub returns-in-Ok : goal.returns-in-Ok
+unfolding sealed event_text
+returns-in-Ok c = subst (λ text. IsLastRefusal text c.text_fault.result) (c.deref.ensures.value ∙ c.in-Ok.ensures.text) c.text_fault.ensures

@@ -1,0 +1,35 @@
+-- Plans behind a head of the greatest number, 2^64 - 1. The next number has 17 digits, and no event can have it, so what is
+-- said is said of the event of the greatest number: its text has one digit fewer.
+use Rattle.std.specs.Prelude.{◌<◌, ◌≤◌, ℕ, List, length, Result, Ok, Err}
+use Rattle.cesr_stream.specs.declared.message.Message.{Message}
+use Rattle.event_body.specs.Judging.{HasValues, IsFirstFault}
+use Rattle.event_body.specs.Rules.{AreFew}
+use Rattle.event_body.specs.declared.body_fault.BodyFault.{BodyFault}
+use Rattle.event_body.specs.declared.body_fault.BodyFault.TheVariants.{Field, SizeField, Said, Prefix, Threshold, Witnesses, TooMany, NumberTooLarge, TooLarge}
+use Rattle.controller_core.specs.declared.plan_fault.PlanFault.{PlanFault}
+use Rattle.controller_core.specs.declared.plan_fault.PlanFault.TheVariants.{Body, Misfit, Unsigned, SignerFault, OutOfMemory}
+
+-- The text is too long with one digit more; or it has one of the faults that are tested before a number's; or else the
+-- number is too large, whatever other rule fails.
+abbrev pub IsLastFault : List ℕ → BodyFault → Type 0
+IsLastFault text TooLarge = 65535 ≤ length text
+IsLastFault text SizeField = (length text < 65535) × IsFirstFault text SizeField
+IsLastFault text (Field n) = (length text < 65535) × IsFirstFault text (Field n)
+IsLastFault text TooMany = (length text < 65535) × IsFirstFault text TooMany
+IsLastFault text NumberTooLarge = (length text < 65535) × HasValues AreFew text
+IsLastFault text Threshold = ⊥
+IsLastFault text Witnesses = ⊥
+IsLastFault text Prefix = ⊥
+IsLastFault text Said = ⊥
+
+-- no message is made
+abbrev pub IsLastRefusal : List ℕ → PlanFault → Type 0
+IsLastRefusal text (Body fault) = IsLastFault text fault
+IsLastRefusal text OutOfMemory = Unit {0}
+IsLastRefusal text (Misfit fault) = ⊥
+IsLastRefusal text Unsigned = ⊥
+IsLastRefusal text SignerFault = ⊥
+
+abbrev pub IsLastAnswer : List ℕ → Result Message PlanFault → Type 0
+IsLastAnswer text (Ok message) = ⊥
+IsLastAnswer text (Err fault) = IsLastRefusal text fault

@@ -1,0 +1,6 @@
+pub mod Plans
+pub mod Slots
+pub mod Messages
+pub mod Refusals
+pub mod LastNumbers
+pub mod Signing

@@ -1,0 +1,52 @@
+//! Interactions that seal an event.
+ghost use Rattle.std.specs.Prelude.{◌≡◌, ◌+◌, ◌-◌, ◌<◌, ◌^◌, true, Some, IfOk, IfErr};
+ghost use Rattle.journal.specs.Seals.{seals};
+ghost use Rattle.key_state.specs.Heads.{head_sn};
+ghost use Rattle.controller_core.specs.LastNumbers.{IsLastAnswer};
+ghost use Rattle.controller_core.specs.Messages.{IsMessageOf, event_text};
+ghost use Rattle.controller_core.specs.Plans.{sealed_delegation};
+ghost use Rattle.controller_core.specs.Refusals.{CountsFaults, IsRefusal};
+ghost use Rattle.controller_core.specs.Signing.{IsSignedByYes};
+
+use crate::event_seal::event_seal;
+use crate::made::made_behind;
+use crate::planned_event::interaction;
+use crate::{Plan, PlanFault};
+use cesr_stream::Message;
+use event_body::Event;
+use keri_outside::Signer;
+use key_state::KeyState;
+use lists::Items;
+use std::alloc::Global;
+
+/// The message of an interaction behind the head of a state, whose one anchor is the event seal of an event.
+#[tactic(auto, using(crate::proofs::Seals::holds_seal))]
+pub fn delegate<S: Signer>(
+    alloc: Global,
+    state: &KeyState,
+    event: &Event,
+    plan: &Plan,
+    signer: &mut S,
+) -> Result<Message, PlanFault>
+    // The event is one by all rules and follows the state, and the message has its text and a signature in each slot.
+    ensures made { IfOk result (IsMessageOf (S.gives signer.old) (Some state.now) (sealed_delegation state.now event.now plan.now) plan.now.signers) }
+
+    // The event holds the seal.
+    ensures seal { seals (sealed_delegation state.now event.now plan.now) event.now ≡ true }
+
+    // A refusal is the first that is so. Behind the greatest number there is no message.
+    ensures refused { head_sn state.now + 1 < 2 ^ 64 → IfErr result (IsRefusal (Some state.now) (sealed_delegation state.now event.now plan.now) plan.now.signers) }
+    ensures last { head_sn state.now ≡ 2 ^ 64 - 1 → IsLastAnswer (event_text (sealed_delegation state.now event.now plan.now)) result }
+
+    // The signer's count of faults rises exactly where it failed.
+    ensures gives { S.gives signer.new ≡ S.gives signer.old }
+    ensures count { CountsFaults (S.faults signer.old) (S.faults signer.new) result }
+
+    // Once verifiers have said yes of the signatures, the body is signed.
+    ensures signed { IfOk result (IsSignedByYes (Some state.now) (sealed_delegation state.now event.now plan.now)) }
+{
+    let mut anchors = Items::new(alloc);
+    anchors.push(event_seal(alloc, event)?)?;
+    let sealing = interaction(state, anchors);
+    made_behind(alloc, state, &sealing, plan, signer)
+}

@@ -1,0 +1,40 @@
+//! Inceptions.
+ghost use Rattle.std.specs.Prelude.{◌≡◌, None, IfOk, IfErr, is_some};
+ghost use Rattle.std.specs.List.{AllByRecursion};
+ghost use Rattle.json_tree.specs.Spelling.{IsJson};
+ghost use Rattle.json_tree.specs.Strings.{IsString};
+ghost use Rattle.controller_core.specs.Messages.{IsMessageOf};
+ghost use Rattle.controller_core.specs.Plans.{sealed_inception};
+ghost use Rattle.controller_core.specs.Refusals.{CountsFaults, IsRefusal};
+ghost use Rattle.controller_core.specs.Signing.{IsSignedByYes};
+
+use crate::made::made;
+use crate::planned_event::inception;
+use crate::{Plan, PlanFault};
+use cesr_stream::Message;
+use keri_outside::Signer;
+use std::alloc::Global;
+
+/// The message of the inception that a plan says. It is a delegated one exactly where the plan is, and its witnesses are
+/// those that the plan adds.
+pub fn incept<S: Signer>(alloc: Global, plan: &Plan, signer: &mut S) -> Result<Message, PlanFault>
+    requires anchors { AllByRecursion IsJson plan.now.anchors }
+    requires traits { AllByRecursion IsString plan.now.traits }
+    requires delegator { is_some plan.now.delegator ≡ plan.now.delegated }
+
+    // The event is one by all rules, and the message has its text and a signature in each slot.
+    ensures made { IfOk result (IsMessageOf (S.gives signer.old) None (sealed_inception plan.now) plan.now.signers) }
+
+    // A refusal is the first that is so.
+    ensures refused { IfErr result (IsRefusal None (sealed_inception plan.now) plan.now.signers) }
+
+    // The signer's count of faults rises exactly where it failed.
+    ensures gives { S.gives signer.new ≡ S.gives signer.old }
+    ensures count { CountsFaults (S.faults signer.old) (S.faults signer.new) result }
+
+    // Once verifiers have said yes of the signatures, the body is signed.
+    ensures signed { IfOk result (IsSignedByYes None (sealed_inception plan.now)) }
+{
+    let event = inception(alloc, plan)?;
+    made(alloc, None, &event, plan, signer)
+}

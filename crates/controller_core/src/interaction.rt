@@ -1,0 +1,46 @@
+//! Interactions.
+ghost use Rattle.std.specs.Prelude.{◌≡◌, ◌+◌, ◌-◌, ◌<◌, ◌^◌, Some, IfOk, IfErr};
+ghost use Rattle.std.specs.List.{AllByRecursion};
+ghost use Rattle.json_tree.specs.Spelling.{IsJson};
+ghost use Rattle.key_state.specs.Heads.{head_sn};
+ghost use Rattle.controller_core.specs.LastNumbers.{IsLastAnswer};
+ghost use Rattle.controller_core.specs.Messages.{IsMessageOf, event_text};
+ghost use Rattle.controller_core.specs.Plans.{sealed_interaction};
+ghost use Rattle.controller_core.specs.Refusals.{CountsFaults, IsRefusal};
+ghost use Rattle.controller_core.specs.Signing.{IsSignedByYes};
+
+use crate::made::made_behind;
+use crate::planned_event::interaction;
+use crate::{Plan, PlanFault};
+use cesr_stream::Message;
+use keri_outside::Signer;
+use key_state::KeyState;
+use lists::CopyValue;
+use std::alloc::Global;
+
+/// The message of the interaction that a plan says behind the head of a state.
+pub fn interact<S: Signer>(
+    alloc: Global,
+    state: &KeyState,
+    plan: &Plan,
+    signer: &mut S,
+) -> Result<Message, PlanFault>
+    requires { AllByRecursion IsJson plan.now.anchors }
+
+    // The event is one by all rules and follows the state, and the message has its text and a signature in each slot.
+    ensures made { IfOk result (IsMessageOf (S.gives signer.old) (Some state.now) (sealed_interaction state.now plan.now) plan.now.signers) }
+
+    // A refusal is the first that is so. Behind the greatest number there is no message.
+    ensures refused { head_sn state.now + 1 < 2 ^ 64 → IfErr result (IsRefusal (Some state.now) (sealed_interaction state.now plan.now) plan.now.signers) }
+    ensures last { head_sn state.now ≡ 2 ^ 64 - 1 → IsLastAnswer (event_text (sealed_interaction state.now plan.now)) result }
+
+    // The signer's count of faults rises exactly where it failed.
+    ensures gives { S.gives signer.new ≡ S.gives signer.old }
+    ensures count { CountsFaults (S.faults signer.old) (S.faults signer.new) result }
+
+    // Once verifiers have said yes of the signatures, the body is signed.
+    ensures signed { IfOk result (IsSignedByYes (Some state.now) (sealed_interaction state.now plan.now)) }
+{
+    let event = interaction(state, plan.anchors.copy(alloc)?);
+    made_behind(alloc, state, &event, plan, signer)
+}
