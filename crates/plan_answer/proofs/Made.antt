@@ -1,0 +1,99 @@
+-- What is answered to a message that was made, or to why there is none.
+use Rattle.std.proofs.Common.{◌≡◌, ◌≢◌, ℕ, ◌≤◌, true, ◌&&◌, List, [], length, Option, Some, None, Result, Ok, Err, refl, sym, ◌∙◌, subst, rules}
+use Rattle.std.specs.Prelude.{All, IfOk, IfErr, OnErr, nat_le}
+use Rattle.std.specs.List.{list_all}
+use Rattle.std.proofs.lemmas.Bool.{and_parts, leb-true}
+use Rattle.std.proofs.lemmas.List.Elements.{All-nil, All-push}
+use Rattle.std.proofs.lemmas.Slice.Zip.{AllZip-long}
+use Rattle.cesr_codes.specs.declared.key.Key.{Key}
+use Rattle.cesr_codes.specs.declared.sig.Sig.{Sig}
+use Rattle.cesr_stream.specs.declared.group.Group.TheVariants.{Held}
+use Rattle.cesr_stream.specs.declared.message.Message.{Message}
+use Rattle.cesr_stream.specs.Written.{IsCounted}
+use Rattle.event_body.specs.declared.event.Event.{Event}
+
+use Rattle.event_rules.specs.Parts.{has_signed}
+use Rattle.key_state.specs.Exposure.{own_rules}
+use Rattle.key_state.specs.States.{State}
+use Rattle.report_lines.specs.declared.plan_refusal.PlanRefusal.TheVariants as why
+use Rattle.controller_core.specs.declared.plan_fault.PlanFault.{PlanFault}
+use Rattle.controller_core.specs.declared.plan_fault.PlanFault.TheVariants as fault
+use Rattle.controller_core.specs.declared.slot.Slot.{Slot}
+use Rattle.controller_core.specs.LastNumbers.{IsLastAnswer}
+use Rattle.controller_core.specs.Messages.{IsInSlot, IsMessageOf, event_text}
+use Rattle.controller_core.specs.Refusals as made
+use Rattle.controller_core.specs.Refusals.{IsRefusal}
+use Rattle.controller_core.specs.Signing.{IsSignedByYes}
+use Rattle.controller_core.specs.Slots.{are_enough, is_in_range, slots_have}
+use Rattle.plan_answer.specs.declared.answer.PlanAnswer.{PlanAnswer}
+use Rattle.plan_answer.specs.declared.answer.PlanAnswer.TheVariants.{Message as MessageAnswer, Refused, SignerFault}
+use Rattle.plan_answer.specs.Answers.{CountsFaults, IsEventAnswer, answer_to, message_text}
+use Rattle.plan_answer.specs.Asked.{Asked, HasNumber, IsPastLast}
+
+module _ (gives : Key → List ℕ → Option Sig) (s : Option State) (e : Event) (slots : List Slot) where
+  few_slots : are_enough s e slots ≡ true → length slots ≤ 4095
+  unfolding are_enough
+  few_slots enough =
+      let both = and_parts (nat_le (length slots) 4095 && list_all (is_in_range (length (own_rules s e).keys)) slots) (has_signed (slots_have s e slots) s e) enough in
+      leb-true (length slots) 4095 (and_parts (nat_le (length slots) 4095) (list_all (is_in_range (length (own_rules s e).keys)) slots) both.0).0
+
+  -- two digits count the one group of a message
+  pub counted : (message : Message) → IsMessageOf gives s e slots message → All IsCounted message.groups
+  counted message m =
+      let long = AllZip-long (IsInSlot gives (own_rules s e).keys (event_text e)) slots m.has.sigs m.has.in_slots in
+      let few = few_slots m.signable.enough in
+      subst (λ groups. All IsCounted groups) (sym m.has.group) (All-push IsCounted [] (Held m.has.sigs) (All-nil IsCounted) (subst (λ n. n ≤ 4095) (sym long) few))
+
+  pub all_counted : (answer : Result Message PlanFault) → IfOk answer (IsMessageOf gives s e slots) → IfOk answer (λ message. All IsCounted message.groups)
+  all_counted (Ok message) m = counted message m
+  all_counted (Err other) m = tt
+
+-- the answer is the event's
+module _ (gives : Key → List ℕ → Option Sig) (is : Asked) (slots : List Slot) where
+  pub answers : (answer : Result Message PlanFault) (text : PlanAnswer) → IfOk answer (IsMessageOf gives is.state is.event slots) → IfOk answer (IsSignedByYes is.state is.event)
+      → (HasNumber is.state → IfErr answer (IsRefusal is.state is.event slots)) → (IsPastLast is.state → IsLastAnswer (event_text is.event) answer)
+      → answer_to answer ≡ Some text → IsEventAnswer gives is slots text
+  answers (Ok message) text m signed refused last e =
+      let same : MessageAnswer (message_text message) ≡ text = cc e in rw (sym same) (record { message = message; made = m; signed = signed; spelled = refl })
+  answers (Err (fault.Body body)) text m signed refused last e =
+      let same : Refused (why.Body body) ≡ text = cc e in rw (sym same) (record { refused = refused; last = last })
+  answers (Err (fault.Misfit misfit)) text m signed refused last e =
+      let same : Refused (why.Misfit misfit) ≡ text = cc e in rw (sym same) (record { refused = refused; last = last })
+  answers (Err fault.Unsigned) text m signed refused last e =
+      let same : Refused why.Unsigned ≡ text = cc e in rw (sym same) (record { refused = refused; last = last })
+  answers (Err fault.SignerFault) text m signed refused last e =
+      let same : SignerFault ≡ text = cc e in rw (sym same) (record { refused = refused; last = last })
+  answers (Err fault.OutOfMemory) text m signed refused last e = cc
+
+  pub all_answers : {E : Type 0} (answer : Result Message PlanFault) (texts : Result PlanAnswer E) → IfOk answer (IsMessageOf gives is.state is.event slots) → IfOk answer (IsSignedByYes is.state is.event)
+      → (HasNumber is.state → IfErr answer (IsRefusal is.state is.event slots)) → (IsPastLast is.state → IsLastAnswer (event_text is.event) answer)
+      → IfOk texts (λ text. answer_to answer ≡ Some text) → IfOk texts (IsEventAnswer gives is slots)
+  all_answers answer (Ok text) m signed refused last e = answers answer text m signed refused last e
+  all_answers answer (Err other) m signed refused last e = tt
+
+-- and counts as it does
+module _ (before now : ℕ) where
+  count : (answer : Result Message PlanFault) (text : PlanAnswer) → made.CountsFaults before now answer → answer_to answer ≡ Some text → CountsFaults before now text
+  count (Ok message) text c e = let same : MessageAnswer (message_text message) ≡ text = cc e in rw (sym same) c
+  count (Err (fault.Body body)) text c e = let same : Refused (why.Body body) ≡ text = cc e in rw (sym same) c
+  count (Err (fault.Misfit misfit)) text c e = let same : Refused (why.Misfit misfit) ≡ text = cc e in rw (sym same) c
+  count (Err fault.Unsigned) text c e = let same : Refused why.Unsigned ≡ text = cc e in rw (sym same) c
+  count (Err fault.SignerFault) text c e = let same : SignerFault ≡ text = cc e in rw (sym same) c
+  count (Err fault.OutOfMemory) text c e = cc
+
+  pub counts : {E : Type 0} (answer : Result Message PlanFault) (texts : Result PlanAnswer E) → made.CountsFaults before now answer
+      → IfOk texts (λ text. answer_to answer ≡ Some text) → IfOk texts (CountsFaults before now)
+  counts answer (Ok text) c e = count answer text c e
+  counts answer (Err other) c e = tt
+
+  pub kept : (answer : Result Message PlanFault) → made.CountsFaults before now answer → answer ≢ Err fault.SignerFault → now ≡ before
+  kept (Ok message) c other = c
+  kept (Err (fault.Body body)) c other = c
+  kept (Err (fault.Misfit misfit)) c other = c
+  kept (Err fault.Unsigned) c other = c
+  kept (Err fault.SignerFault) c other = absurd (other refl)
+  kept (Err fault.OutOfMemory) c other = c
+
+  pub all_kept : {A E : Type 0} (answer : Result Message PlanFault) (texts : Result A E) → made.CountsFaults before now answer → OnErr texts (answer ≢ Err fault.SignerFault) → OnErr texts (now ≡ before)
+  all_kept answer (Ok text) c other = tt
+  all_kept answer (Err out) c other = kept answer c other
