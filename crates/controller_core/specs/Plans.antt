@@ -57,8 +57,8 @@ digest_or_blank None = blank
 digest_or_blank (Some digest) = digest
 
 -- the digest of the head, which each state has
-abbrev pub prior_of : State → Digest
-prior_of s = digest_or_blank (head_said s)
+abbrev pub head_digest : State → Digest
+head_digest s = digest_or_blank (head_said s)
 
 -- the number behind that of the head; in the place of 2^64, which no event has, stands the greatest
 abbrev pub next_sn : State → ℕ
@@ -70,7 +70,7 @@ rotated s plan = record {
   said = blank;
   prefix = s.prefix;
   sn = next_sn s;
-  prior = prior_of s;
+  prior = head_digest s;
   kt = plan.kt;
   keys = plan.keys;
   nt = plan.nt;
@@ -87,7 +87,7 @@ rotation s plan = if plan.delegated then Drt (rotated s plan) else Rot (rotated 
 
 -- an interaction with these anchors, behind the head of a state
 unfoldable pub interaction : State → List Tree → Event
-interaction s anchors = Ixn (record { said = blank; prefix = s.prefix; sn = next_sn s; prior = prior_of s; anchors = anchors })
+interaction s anchors = Ixn (record { said = blank; prefix = s.prefix; sn = next_sn s; prior = head_digest s; anchors = anchors })
 
 -- a member that is a string
 abbrev pub string_member : List ℕ → List ℕ → Member

@@ -56,7 +56,7 @@ fn body_of(alloc: Global, event: &Event, code: DigestCode) -> Result<EventText, 
     }
 }
 
-// The event with its text, where that is a body.
+// The event with its text, which is written once more as its rules are looked at, where that is a body.
 #[tactic(auto, unfolding(crate::specs::Messages::event_text))]
 fn body_with(alloc: Global, event: Event) -> Result<EventText, ReadBody>
     requires { IsWritable event }

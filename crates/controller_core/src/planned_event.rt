@@ -75,7 +75,7 @@ fn next_sn(state: &KeyState) -> u64
 
 // The digest of the head.
 fn head_said(state: &KeyState) -> Digest
-    ensures { result ≡ plans.prior_of state.now }
+    ensures { result ≡ plans.head_digest state.now }
 {
     state.said()
 }
