@@ -1,7 +1,6 @@
 -- Names are told apart by their texts, and hold no space.
-use Rattle.std.proofs.Common.{◌≡◌, ℕ, List, [], ◌∷◌, ◌++◌, refl, sym, ap, subst, ◌∙◌, unwrap_or, ◌<◌, length}
-use Rattle.std.specs.Prelude.{◌==◌}
-use Rattle.std.specs.List.{find, position_or_len}
+use Rattle.std.proofs.Common.{◌≡◌, ℕ, List, [], ◌∷◌, ◌++◌, refl, sym, ap, subst, ◌∙◌, unwrap_or}
+use Rattle.std.specs.List.{find}
 use Rattle.std.specs.Str.{bytes_eq}
 use Rattle.plan_text.specs.declared.kind.Kind.{Kind}
 use Rattle.plan_text.specs.declared.name.Name.{Name}
@@ -9,7 +8,7 @@ use Rattle.plan_text.specs.declared.name.Name.TheVariants.{Prefix, Code, Kt, Nt,
 use Rattle.plan_text.specs.declared.entry.Entry.{Entry}
 use Rattle.plan_text.specs.Lines.{Splits}
 use Rattle.plan_text.specs.Entries.{name_text, Says, IsLine}
-use Rattle.plan_text.proofs.Parts.{Lacks, parts_of, stands, whole}
+use Rattle.plan_text.proofs.Parts.{Lacks, parts_of, whole}
 
 abbrev names : List Name
 names = Prefix ∷ Code ∷ Kt ∷ Nt ∷ Key ∷ Next ∷ Cut ∷ Add ∷ Bt ∷ Trait ∷ Seal ∷ Di ∷ Sign ∷ []
@@ -57,15 +56,7 @@ says_of kind line front value name parts named entry is =
     let both = parts_of 32 line front value (name_text is.name) is.value (lacks_space is.name) is.whole parts in
     subst (λ v. Says kind name v entry) (sym both.1) (subst (λ n. Says kind n is.value entry) (same_name is.name name (sym both.0 ∙ named)) is.says)
 
--- the text of its name stands before the first space
-pub named_of : (kind : Kind) (line front value : List ℕ) → Splits 32 line front value → (entry : Entry) → IsLine kind line entry → (name : Name) × (front ≡ name_text name)
-named_of kind line front value parts entry is = (is.name, (parts_of 32 line front value (name_text is.name) is.value (lacks_space is.name) is.whole parts).0)
-
 -- a name and its value round the first space make a line
 pub line_of : (kind : Kind) (line front value : List ℕ) (name : Name) → Splits 32 line front value → front ≡ name_text name → (entry : Entry) → Says kind name value entry → IsLine kind line entry
 line_of kind line front value name parts named entry says =
     record { name = name; value = value; whole = whole 32 line front value parts ∙ ap (λ l. l ++ 32 ∷ value) named; says = says }
-
--- such a line has a space
-pub space_in : (kind : Kind) (line : List ℕ) (entry : Entry) → IsLine kind line entry → position_or_len (λ b. b == 32) line < length line
-space_in kind line entry is = stands 32 line (name_text is.name) is.value (lacks_space is.name) is.whole

@@ -1,5 +1,5 @@
 -- What entries give, one after the other.
-use Rattle.std.proofs.Common.{◌≡◌, ◌≤◌, List, [], ◌∷◌, ◌++◌, length, Option, Some, None, refl, arith, append-nil, length-append, unwrap_or}
+use Rattle.std.proofs.Common.{◌≡◌, ◌≤◌, List, [], ◌∷◌, ◌++◌, length, Option, Some, None, arith, append-nil, length-append}
 use Rattle.std.specs.List.{filter_map}
 use Rattle.std.specs.Option.{option_to_list}
 use Rattle.std.proofs.lemmas.List.Elements.{filter_map-append}
@@ -7,7 +7,6 @@ use Rattle.plan_text.specs.declared.entry.Entry.{Entry}
 use Rattle.plan_text.specs.declared.entry.Entry.TheVariants.{Prefix, Code, Kt, Nt, Key, Next, Cut, Add, Bt, Trait, Seal, Di, Sign}
 use Rattle.plan_text.specs.declared.draft.Draft.{Draft}
 use Rattle.plan_text.specs.Sheets.{IsOnce, sheet_of}
-use Rattle.plan_text.specs.Plans.{first_or, first_of}
 use Rattle.plan_text.specs.Drafts.{push, sheet}
 
 pub sheet_of-push : (entries : List Entry) (is : Entry) → sheet_of (entries ++ is ∷ []) ≡ push is (sheet_of entries)
@@ -53,12 +52,3 @@ once_in draft = record {
   toad = one_at_most draft.toad;
   delegator = one_at_most draft.delegator;
 }
-
--- the one value, or that which stands for it
-pub first_or-option : {A : Type 0} (value : Option A) (other : A) → unwrap_or value other ≡ first_or other (option_to_list value)
-first_or-option None other = refl
-first_or-option (Some value) other = refl
-
-pub first_of-option : {A : Type 0} (value : Option A) → first_of (option_to_list value) ≡ value
-first_of-option None = refl
-first_of-option (Some value) = refl

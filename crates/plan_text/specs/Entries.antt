@@ -1,4 +1,5 @@
--- The lines of a plan: a name, a space and a value, which has one spelling.
+-- The lines of a plan (a format of this project): a name, a space and a value, which has one spelling. Primitives are those
+-- of CESR, JSON values those of RFC 8259, and thresholds those of KERI.
 use Rattle.std.specs.Prelude.{◌≡◌, ℕ, ◌^◌, ◌<◌, ◌≤◌, List, [], ◌∷◌, ◌++◌, length, codes, ⊤, Option, Some, None}
 use Rattle.std.specs.Fmt.{decimal}
 use Rattle.keri_specs.specs.Hex.{IsHexOf}
