@@ -5,7 +5,7 @@ A run's end is its status, how many messages and verdicts were told, how each re
 where that failed.
 """
 from event_cases import ROT
-from kit import PLAIN_ICP as ICP, counter, indexed, rehearsed, signed
+from kit import PLAIN_ICP as ICP, counter, digest, indexed, key, rehearsed, said, signed
 from log_cases import BOTH, CONFLICTING, IXN_1, LOG, OTHER_1, REALISTIC, REALISTIC_LINES, log, waits
 from row_tables import argument
 from stream_cases import BARE, RECEIPT, inception_line, malformed
@@ -14,19 +14,24 @@ from validate_cases import EVENT, SIGNED, STATE
 CHECK = "check,a"
 VALIDATE = "validate,--helper,rehearsal,a"
 WATCH = "watch,--helper,rehearsal,a"
+MAKE = "make,--helper,rehearsal,--plan,p"
+BEHIND = MAKE + ",--log,a"
 GEN = "gen,--seed,1,--logs,1,--events,2"
 REPORT = EVENT + STATE
 UNSIGNED = "refused 0 0 unsigned\n"
 FULL, READ_FAULT, VERIFIER_FAULT = "full 0\n", "fault 0 read\n", "fault 0 verifier\n"
 MADE = "Source Verifier"
+BOTH_MADE = "Source Source Verifier Signer"
 SIGNED_IXN = signed(IXN_1, 1)
 BOTH_ROTATIONS = signed(ICP, 1) + signed(ROT, 2) + signed(OTHER_1, 2)
 BOTH_LINES = log(ICP, ROT) + waits(OTHER_1, "never") + BOTH
 
 
-def run(words, written, end, text=None, **settings):
+def run(words, written, end, text=None, plan=None, **settings):
     if text is not None:
         settings["text"] = argument(text)
+    if plan is not None:
+        settings["plan"] = argument(plan)
     given = "".join(" %s %s" % setting for setting in settings.items())
     yield "run %s%s" % (words, given), "%s= %s" % (written, end)
 
@@ -166,16 +171,79 @@ def helpers():
     yield from run(WATCH, "", "0 told=4 End " + MADE, BOTH_ROTATIONS, says="no")
 
 
+# What `make` is given: the plan of the plain inception, and that of the interaction behind it.
+ICP_PLAN = "kind icp\ncode I\nkey %s\nnext %s\nsign 0 0\n" % (key(1), digest(key(2)))
+IXN_PLAN = "kind ixn\nprefix %s\ncode I\nsign 0 0\n" % said(ICP)
+# The same with its signature in two slots.
+TWO_SLOTS = ICP_PLAN + "sign 0 0\n"
+
+
+def messages_of_plans():
+    """A message without a log, and one behind a log, which has two entries once it is read."""
+    yield from run(MAKE, SIGNED, "0 told=0 End Source Signer", plan=ICP_PLAN)
+    yield from run(MAKE, SIGNED, "0 told=0 End Source Signer", plan=ICP_PLAN, piece=1)
+    yield from run(BEHIND, SIGNED_IXN, "0 told=2 End End " + BOTH_MADE, SIGNED, IXN_PLAN)
+    yield from run(BEHIND, SIGNED, "0 told=0 End End " + BOTH_MADE, "", ICP_PLAN)
+    yield from run(MAKE, "plan line 2\n", "3 told=0 End Source Signer", plan="kind icp\ncode X\n")
+    yield from run(MAKE, "plan log\n", "3 told=0 End Source Signer", plan=IXN_PLAN)
+    yield from run(BEHIND, "plan log\n", "3 told=0 End End " + BOTH_MADE, ICP, ICP_PLAN)
+    # The signer is asked for nothing that the log couldn't take.
+    yield from run(MAKE, "plan unsigned\n", "3 told=0 End Source Signer", plan=ICP_PLAN + "sign 1 -\n", signings=0)
+
+
+def faults_of_make():
+    # A making that fails keeps no other from being tried, and both texts are read all the same.
+    yield from run(MAKE, "", "5 told=0 ReadFault Source! Signer", plan=ICP_PLAN, makings=0)
+    yield from run(MAKE, "", "7 told=0 End Source Signer!", plan=ICP_PLAN, makings=1)
+    yield from run(MAKE, "", "5 told=0 ReadFault Source! Signer!", plan=ICP_PLAN, makings="0,1")
+    yield from run(BEHIND, "", "5 told=2 ReadFault End Source! Source Verifier Signer", SIGNED, IXN_PLAN, makings=0)
+    yield from run(BEHIND, "", "5 told=0 End ReadFault Source Source! Verifier Signer", SIGNED, IXN_PLAN, makings=1)
+    yield from run(BEHIND, "", "7 told=0 End VerifierFault Source Source Verifier! Signer", SIGNED, IXN_PLAN, makings=2)
+    yield from run(BEHIND, "", "7 told=2 End End Source Source Verifier Signer!", SIGNED, IXN_PLAN, makings=3)
+    yield from run(BEHIND, "", "5 told=0 ReadFault ReadFault Source! Source! Verifier! Signer!", SIGNED, IXN_PLAN, makings="0,1,2,3")
+    # A plan that would be refused isn't, where something failed.
+    yield from run(MAKE, "", "7 told=0 End Source Signer!", plan="kind icp", makings=1)
+    yield from run(BEHIND, "", "7 told=0 End End Source Source Verifier Signer!", ICP, ICP_PLAN, makings=3)
+    for reads in (0, 1):
+        yield from run(MAKE, "", "5 told=0 ReadFault Source Signer", plan=ICP_PLAN, plan_reads=reads)
+        yield from run(BEHIND, "", "5 told=2 ReadFault End " + BOTH_MADE, SIGNED, IXN_PLAN, plan_reads=reads)
+    yield from run(BEHIND, "", "5 told=0 End ReadFault " + BOTH_MADE, SIGNED, IXN_PLAN, reads=0)
+    yield from run(BEHIND, "", "5 told=2 End ReadFault " + BOTH_MADE, SIGNED, IXN_PLAN, reads=1)
+    yield from run(BEHIND, "", "7 told=1 End VerifierFault " + BOTH_MADE, SIGNED, IXN_PLAN, asks=0)
+    yield from run(MAKE, "", "7 told=0 End Source Signer", plan=ICP_PLAN, signings=0)
+    yield from run(MAKE, "", "7 told=0 End Source Signer", plan=TWO_SLOTS, signings=1)
+    yield from run(BEHIND, "", "7 told=2 End End " + BOTH_MADE, SIGNED, IXN_PLAN, signings=0)
+    yield from run(MAKE, "", "6 told=0 End Source Signer", plan=ICP_PLAN, puts=0)
+    yield from run(MAKE, "", "6 told=0 End Source Signer", plan="kind icp", puts=0)
+    # Nothing is put where nothing is due.
+    yield from run(MAKE, "", "7 told=0 End Source Signer", plan=ICP_PLAN, signings=0, puts=0)
+
+
+def limits_of_make():
+    size, most = len(ICP_PLAN), len(SIGNED)
+    yield from run(MAKE, SIGNED, "0 told=0 End Source Signer", plan=ICP_PLAN, stream_bytes=size)
+    yield from run(MAKE, "", "9 told=0 Full Source Signer", plan=ICP_PLAN, stream_bytes=size - 1)
+    yield from run(MAKE, "plan line 1\n", "3 told=0 End Source Signer", plan="", stream_bytes=0)
+    yield from run(MAKE, "", "5 told=0 ReadFault Source Signer", plan=ICP_PLAN, stream_bytes=size, plan_reads=1)
+    yield from run(BEHIND, SIGNED_IXN, "0 told=2 End End " + BOTH_MADE, SIGNED, IXN_PLAN, stream_bytes=most)
+    yield from run(BEHIND, "", "9 told=0 End Full " + BOTH_MADE, SIGNED, IXN_PLAN, stream_bytes=most - 1)
+    yield from run(BEHIND, "", "9 told=0 End Full " + BOTH_MADE, SIGNED, IXN_PLAN, messages=0)
+
+
 def rows():
     yield "# limits"
     yield from limits_of_made_streams()
     yield from limits_of_check()
     yield from limits_of_validate()
     yield from limits_of_watch()
+    yield from limits_of_make()
     yield "# makings, puts, reads and asks that fail"
     yield from makings()
     yield from puts()
     yield from reads()
     yield from asks()
+    yield from faults_of_make()
     yield "# helpers"
     yield from helpers()
+    yield "# messages of plans"
+    yield from messages_of_plans()

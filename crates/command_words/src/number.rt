@@ -24,8 +24,8 @@ pub(crate) fn count_set(words: &[String], option: &str, most: u16) -> Option<u16
     u16::try_from(count).ok()
 }
 
-// The word behind an option.
-fn value_of<'a>(words: &'a [String], option: &str) -> Option<&'a str>
+/// The word behind an option.
+pub(crate) fn value_of<'a>(words: &'a [String], option: &str) -> Option<&'a str>
     ensures { option_map (λ value. value.now) result ≡ specs.value_of option.now (map string_bytes words.now) }
 {
     match words {

@@ -1,9 +1,9 @@
 -- Why a reader closed by a fault, by what its command did.
-use Rattle.std.proofs.Common.{◌≡◌, ◌≢◌, ℕ, inl, inr, Bool, true, false, ◌||◌, List, Option, Some, None, refl, sym, ◌∙◌}
+use Rattle.std.proofs.Common.{◌≡◌, ◌≢◌, ℕ, inl, inr, true, List, [], ◌∷◌, Option, Some, None, refl, sym, ◌∙◌}
 use Rattle.std.specs.Prelude.{is_none, MatchOption}
 use Rattle.keri_specs.specs.Causes.{Rose}
 use Rattle.cesr_stream.specs.declared.message.Message.{Message}
-use Rattle.command_words.specs.Words.{Asked, check, generate, validate, watch}
+use Rattle.command_words.specs.Words.{Asked, check, generate, make, validate, watch}
 use Rattle.keri_outside.specs.declared.limits.Limits.{Limits}
 use Rattle.journal.specs.declared.mode.Mode.{Mode}
 use Rattle.journal.specs.declared.refusal.Refusal.{Refusal}
@@ -14,7 +14,9 @@ use Rattle.keri_roles.specs.Check.{IsChecked, OwesChecks}
 use Rattle.keri_roles.specs.Commands.{Does, CarriesOut}
 use Rattle.keri_roles.specs.CoreTold.{Given, ReadsToCore, ReadsBy}
 use Rattle.run_status.specs.Readers.{SourceTold, VerifierTold}
+use Rattle.keri_roles.specs.Made.{IsMade, IsMadeAlone, IsMadeBehind}
 use Rattle.keri_roles.specs.Run.{Work, AreCaused}
+use Rattle.keri_roles.proofs.Made.{due_signer, fourth_of, second, second_of, text_asked, text_read, third_of}
 
 -- where it may be that the source and the verifier couldn't be made, the count of the outside rose
 module _ (rose : Type 0) where
@@ -72,15 +74,47 @@ told_caused mode helper name work t = rw t.one (
   },
   tt,
 )
-  where
-    second : (a : Bool) → {b : Bool} → b ≡ true → (a || (b || false)) ≡ true
-    second true e = refl
-    second false e = rw e refl
+
+alone_caused : (helper plan : List ℕ) (work : Work) → IsMadeAlone helper plan work → AreCaused work.before work.after work.readers
+alone_caused helper plan work m = rw m.one (
+  record {
+    source = text_read work.before.limits.stream_bytes (work.before.holds plan) m.text m.reader.close _ m.reader.source (λ none. m.makes.rose (rw none refl)) m.reads.read;
+    verifier = λ e. absurd (text_asked work.before.limits.stream_bytes (work.before.holds plan) m.text m.reader.close m.reader.source m.reads.read e);
+  },
+  tt,
+)
+
+behind_caused : (helper plan log : List ℕ) (work : Work) → IsMadeBehind helper plan log work → AreCaused work.before work.after work.readers
+behind_caused helper plan log work m = let first = is_none m.plan_reader.source in let signer = is_none work.signer in rw m.two (
+  record {
+    source = text_read work.before.limits.stream_bytes (work.before.holds plan) m.text m.plan_reader.close _ m.plan_reader.source (λ none. m.makes.rose (rw none refl)) m.reads.read;
+    verifier = λ e. absurd (text_asked work.before.limits.stream_bytes (work.before.holds plan) m.text m.plan_reader.close m.plan_reader.source m.reads.read e);
+  },
+  record {
+    source = told_read _ _ m.journal.bytes _ _ m.log_reader.close m.log_reader.source m.log_reader.verifier
+        (λ none. m.makes.rose (second_of first (is_none m.log_reader.verifier) signer none)) m.journal.reads;
+    verifier = told_asked _ _ m.journal.bytes _ _ m.log_reader.close m.log_reader.source m.log_reader.verifier
+        (λ none. m.makes.rose (third_of first (is_none m.log_reader.source) signer none)) m.journal.reads;
+  },
+  tt,
+)
+
+made_caused : (helper plan : List ℕ) (log : Option (List ℕ)) (work : Work) → IsMade helper plan log work → AreCaused work.before work.after work.readers
+made_caused helper plan None work m = alone_caused helper plan work m
+made_caused helper plan (Some log) work m = behind_caused helper plan log work m
+
+-- the signer of `make` is found to have failed only where it did
+pub made_signer : (helper plan : List ℕ) (log : Option (List ℕ)) (work : Work) → IsMade helper plan log work → work.besides.signer_failed ≡ true
+    → MatchOption work.signer (Rose work.before.faults work.after.faults) (λ s. Rose 0 s.faults)
+made_signer helper plan None work m e = due_signer _ work.owed work.besides _ (m.reader.close ∷ []) work.signer (λ none. m.makes.rose (second (is_none m.reader.source) none)) m.owes e
+made_signer helper plan (Some log) work m e = due_signer _ work.owed work.besides _ (m.plan_reader.close ∷ m.log_reader.close ∷ []) work.signer
+    (λ none. m.makes.rose (fourth_of (is_none m.plan_reader.source) (is_none m.log_reader.source) (is_none m.log_reader.verifier) none)) m.owes e
 
 carried_caused : (asked : Asked) (work : Work) → CarriesOut asked work → AreCaused work.before work.after work.readers
 carried_caused (check name) work c = check_caused name work c
 carried_caused (validate helper name) work c = told_caused _ helper name work c.over.told
 carried_caused (watch helper name) work c = told_caused _ helper name work c.told
+carried_caused (make helper plan log) work c = made_caused helper plan log work c
 carried_caused (generate seed logs events) work c = rw c.one (record { source = λ e. absurd (c.none_failed.0 e); verifier = λ e. absurd (c.none_failed.1 e) }, tt)
 
 pub are_caused : (asked : Option Asked) (work : Work) → Does asked work → AreCaused work.before work.after work.readers

@@ -117,7 +117,7 @@ is_told_by mode given reader core t stands = record {
 abbrev pub is_told : (mode : Mode) (helper name : List ℕ) (before after : Told) (reader : Reader) (core : CoreView) (owed : Option (List ℕ)) (besides : Besides)
     → AreMakings (making SourceKind name (is_none reader.source) ∷ making VerifierKind helper (is_none reader.verifier) ∷ []) before after
     → Tells mode (record { limits = before.limits; held = before.holds name; says = before.says helper }) reader core → Stands core
-    → ReadsToCore mode helper name (record { before = before; after = after; readers = reader ∷ []; journal = journal_of core; owed = owed; besides = besides })
+    → ReadsToCore mode helper name (record { before = before; after = after; readers = reader ∷ []; signer = None; journal = journal_of core; owed = owed; besides = besides })
 is_told mode helper name before after reader core owed besides makes t stands =
     record { reader = reader; one = refl; makes = makes; journal = is_told_by mode (record { limits = before.limits; held = before.holds name; says = before.says helper }) reader core t stands }
 

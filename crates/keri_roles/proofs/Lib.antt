@@ -3,6 +3,7 @@ pub mod Questions
 pub mod Offers
 pub mod Tells
 pub mod CoreTold
+pub mod Made
 pub mod Causes
 pub mod Statuses
 pub mod Agreed

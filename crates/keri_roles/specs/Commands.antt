@@ -2,7 +2,7 @@
 use Rattle.std.specs.Prelude.{◌≡◌, ◌≢◌, ℕ, ◌∷◌, ◌⊎◌, true, Bool, List, [], codes}
 use Rattle.std.specs.declared.option.Option.{Option}
 use Rattle.std.specs.declared.option.Option.TheVariants.{None, Some}
-use Rattle.command_words.specs.Words.{Asked, check, generate, validate, watch}
+use Rattle.command_words.specs.Words.{Asked, check, generate, make, validate, watch}
 use Rattle.journal.specs.declared.mode.Mode.TheVariants.{Full, Local}
 use Rattle.journal.specs.declared.refusal.Refusal.{Refusal}
 use Rattle.journal.specs.Accepted.{accepted}
@@ -17,6 +17,7 @@ use Rattle.keri_roles.specs.Agreement.{IsAgreed}
 use Rattle.keri_roles.specs.Check.{IsChecked}
 use Rattle.keri_roles.specs.CoreTold.{IsOverCore, IsToldBy}
 use Rattle.keri_roles.specs.Generated.{counts_of, made_in}
+use Rattle.keri_roles.specs.Made.{IsMade}
 use Rattle.keri_roles.specs.NoJournal.{no_journal}
 use Rattle.keri_roles.specs.Reports.{Reports}
 use Rattle.run_status.specs.Readers.{Reader}
@@ -77,6 +78,7 @@ abbrev pub CarriesOut : Asked → Work → Type 0
 CarriesOut (check name) work = IsChecked name work
 CarriesOut (validate helper name) work = IsValidated helper name work
 CarriesOut (watch helper name) work = IsWatched helper name work
+CarriesOut (make helper plan log) work = IsMade helper plan log work
 CarriesOut (generate seed logs events) work = IsGenerated seed logs events work
 
 abbrev pub Does : Option Asked → Work → Type 0

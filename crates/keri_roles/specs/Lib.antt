@@ -10,4 +10,5 @@ pub mod CoreTold
 pub mod Reports
 pub mod Agreement
 pub mod Generated
+pub mod Made
 pub mod Commands

@@ -4,6 +4,7 @@ use Rattle.std.specs.List.{list_any}
 use Rattle.std.specs.declared.option.Option.{Option}
 use Rattle.std.specs.declared.option.Option.TheVariants.{None, Some}
 use Rattle.keri_specs.specs.Causes.{Rose}
+use Rattle.command_words.specs.Words.{Asked, check, generate, make, validate, watch}
 use Rattle.cesr_codes.specs.declared.key.Key.{Key}
 use Rattle.cesr_codes.specs.declared.sig.Sig.{Sig}
 use Rattle.run_outside.specs.Told.{Told}
@@ -17,12 +18,18 @@ use Rattle.run_status.specs.Readers.{Reader, SinkTold, reader_seen}
 use Rattle.run_status.specs.Settling.{FaultsHaveCauses, SettlesBy}
 use Rattle.keri_roles.specs.declared.outcome.Outcome.{Outcome}
 
--- What a command did with the outside: its readers, what was told, the text that it owes, unless there was no memory for
--- that, and what it found besides its readers' ends.
+-- what a signer tells: the signatures that it gives, and how often it has failed
+pub record SignerTold : Type 0 where
+  pub gives : Key → List ℕ → Option Sig
+  pub faults : ℕ
+
+-- What a command did with the outside: its readers, its signer, where it made one, what was told, the text that it owes, unless
+-- there was no memory for that, and what it found besides its readers' ends.
 pub record Work : Type 0 where
   pub before : Told
   pub after : Told
   pub readers : List Reader
+  pub signer : Option SignerTold
   pub journal : Journal
   pub owed : Option (List ℕ)
   pub besides : Besides
@@ -34,12 +41,13 @@ pub record Run : Type 0 where
   pub sink_before : SinkTold
   pub sink_after : SinkTold
   pub readers : List Reader
+  pub signer : Option SignerTold
   pub journal : Journal
   pub status : ℕ
 
 -- the work of a run
 abbrev pub work_in : Run → Option (List ℕ) → Besides → Work
-work_in run owed besides = record { before = run.before; after = run.after; readers = run.readers; journal = run.journal; owed = owed; besides = besides }
+work_in run owed besides = record { before = run.before; after = run.after; readers = run.readers; signer = run.signer; journal = run.journal; owed = owed; besides = besides }
 
 -- these makings came behind those of before, where they are told
 abbrev pub Noted : Option (List Making) → Option (List Making) → List Making → Type 0
@@ -70,10 +78,22 @@ abbrev pub AreCaused : Told → Told → List Reader → Type 0
 AreCaused before after [] = Unit {0}
 AreCaused before after (reader ∷ readers) = IsCaused before after reader × AreCaused before after readers
 
+-- `make` alone has a signer. It fails where its count rose from zero, or where it couldn't be made and the count of the outside
+-- rose.
+abbrev pub SignerFails : Option Asked → Run → Type 0
+SignerFails None run = ⊥
+SignerFails (Some (check file)) run = ⊥
+SignerFails (Some (validate helper file)) run = ⊥
+SignerFails (Some (watch helper file)) run = ⊥
+SignerFails (Some (generate seed logs events)) run = ⊥
+SignerFails (Some (make helper plan log)) run = MatchOption run.signer (Rose run.before.faults run.after.faults) (λ s. Rose 0 s.faults)
+
 -- each fault that is answered has its cause
-pub record HasCauses {A : Type 0} (asked : Option A) (run : Run) : Type 0 where
+pub record HasCauses (asked : Option Asked) (run : Run) : Type 0 where
   pub two : run.status ≡ 2 → IsNone asked
-  pub faults : FaultsHaveCauses run.readers run.sink_before run.sink_after run.status
+  pub signer_failed : Bool
+  pub faults : FaultsHaveCauses run.readers signer_failed run.sink_before run.sink_after run.status
+  pub signer : signer_failed ≡ true → SignerFails asked run
   pub readers : AreCaused run.before run.after run.readers
 
 module _ {S V : Type 0} (left : S → Option (List ℕ)) (faults : S → ℕ) (says : V → Key → List ℕ → Sig → Option Bool) (verifier_faults : V → ℕ) where
@@ -82,6 +102,7 @@ module _ {S V : Type 0} (left : S → Option (List ℕ)) (faults : S → ℕ) (s
     before = before;
     after = after;
     readers = map (reader_seen left faults says verifier_faults) outcome.readers.items;
+    signer = None;
     journal = outcome.journal;
     owed = option_map (λ text. text.items) outcome.owed;
     besides = outcome.besides;
@@ -94,9 +115,21 @@ module _ {S V : Type 0} (left : S → Option (List ℕ)) (faults : S → ℕ) (s
     sink_before = sink_before;
     sink_after = sink_after;
     readers = map (reader_seen left faults says verifier_faults) ends;
+    signer = None;
     journal = journal;
     status = status;
   }
+
+-- what is seen of a signer
+abbrev pub signer_seen : {S : Type 0} → (S → Key → List ℕ → Option Sig) → (S → ℕ) → Option S → Option SignerTold
+signer_seen gives faults signer = option_map (λ s. record { gives = gives s; faults = faults s }) signer
+
+-- the same with a signer
+abbrev pub work_by : Option SignerTold → Work → Work
+work_by signer work = record work { signer = signer }
+
+abbrev pub run_by : Option SignerTold → Run → Run
+run_by signer run = record run { signer = signer }
 
 abbrev pub Settles : Option (List ℕ) → Besides → Run → Type 0
 Settles owed besides run = SettlesBy owed besides run.readers run.sink_before run.sink_after run.status

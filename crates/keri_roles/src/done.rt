@@ -4,10 +4,11 @@ use crate::ReaderEnd;
 use journal::Journal;
 use run_outside::Outside;
 
-/// The status of a run, what was told in it, and its readers in order.
+/// The status of a run, what was told in it, its readers in order, and its signer, where it made one.
 #[derive(Drop)]
 pub struct Done<O: Outside> {
     pub status: u8,
     pub journal: Journal,
     pub readers: Vec<ReaderEnd<O::Source, O::Verifier>>,
+    pub signer: Option<O::Signer>,
 }

@@ -13,3 +13,10 @@ pub(crate) struct Outcome<S, V> {
     pub(crate) owed: Option<Vec<u8>>,
     pub(crate) besides: Besides,
 }
+
+/// An outcome, and the signer, where the command made one.
+#[derive(Drop)]
+pub(crate) struct SignedOutcome<S, V, G> {
+    pub(crate) outcome: Outcome<S, V>,
+    pub(crate) signer: Option<G>,
+}

@@ -48,8 +48,8 @@ pub(crate) fn over_core<O: Outside, T: CoreText>(
         journal: core.into_journal(),
         owed,
         besides: Besides {
-            words_refused: false,
             conflict_found,
+            ..Besides::nothing()
         },
     }
 }

@@ -7,8 +7,11 @@ use row_text::Row;
 use run_outside::{MemFile, MemHelper, MemOutside};
 use std::alloc::{AllocError, Global};
 
-/// The name of the one file.
+/// The name of the file that holds a stream.
 const FILE: &[u8] = b"a";
+
+/// The name of the file that holds a plan.
+const PLAN: &[u8] = b"p";
 
 /// The name of the one helper.
 const HELPER: &[u8] = b"rehearsal";
@@ -63,16 +66,27 @@ fn named(alloc: Global, name: &[u8]) -> Result<Items<u8>, AllocError> {
     Ok(Items::from_vec(Vec::from_slice(alloc, name)?))
 }
 
-// The one file.
-fn files_of(alloc: Global, row: &Row) -> Result<Items<MemFile>, AllocError> {
-    let file = MemFile {
-        name: named(alloc, FILE)?,
-        bytes: Items::from_vec(row.bytes(alloc, place_of(row, "text"))?),
+// A file of a name, by the words for its text and for its reads that fail.
+fn file_of(
+    alloc: Global,
+    row: &Row,
+    name: &[u8],
+    text: &str,
+    reads: &str,
+) -> Result<MemFile, AllocError> {
+    Ok(MemFile {
+        name: named(alloc, name)?,
+        bytes: Items::from_vec(row.bytes(alloc, place_of(row, text))?),
         piece: lowered(row, "piece", PIECE).max(1) as usize,
-        failing: failing(alloc, row, "reads")?,
-    };
+        failing: failing(alloc, row, reads)?,
+    })
+}
+
+// The two files.
+fn files_of(alloc: Global, row: &Row) -> Result<Items<MemFile>, AllocError> {
     let mut files = Items::new(alloc);
-    files.push(file)?;
+    files.push(file_of(alloc, row, FILE, "text", "reads")?)?;
+    files.push(file_of(alloc, row, PLAN, "plan", "plan_reads")?)?;
     Ok(files)
 }
 
@@ -99,8 +113,8 @@ fn helpers_of(alloc: Global, row: &Row) -> Result<Items<MemHelper>, AllocError> 
 }
 
 /// The outside of a row: behind its command line stand names, each with a value behind it. `text` is what the file `a`
-/// holds, `piece` how many bytes a read gives at most, and `says yes` or `says no` what the helper says of everything; else
-/// it is the rehearsal. `reads`, `asks`, `signings`, `puts` and `makings` are the numbers of the calls that fail, counted from 0, with a
+/// holds, `plan` what `p` does, `piece` how many bytes a read gives at most, and `says yes` or `says no` what the helper says of everything; else
+/// it is the rehearsal. `reads`, `plan_reads`, `asks`, `signings`, `puts` and `makings` are the numbers of the calls that fail, counted from 0, with a
 /// comma between two of them. The others are limits, by their names.
 pub(crate) fn outside_of(alloc: Global, row: &Row) -> Result<MemOutside, AllocError> {
     let files = files_of(alloc, row)?;

@@ -103,7 +103,7 @@ module _ (besides : Besides) (readers : List Reader) (old new : SinkTold) (statu
   put_kept text true p e = absurd (e refl)
 
   -- each fault that is answered has its cause
-  pub faults_have_causes : (owed : Option (List ℕ)) → SettlesBy owed besides readers old new status → FaultsHaveCauses readers old new status
+  pub faults_have_causes : (owed : Option (List ℕ)) → SettlesBy owed besides readers old new status → FaultsHaveCauses readers besides.signer_failed old new status
   faults_have_causes None s = record {
     five = λ e. let clash : 10 ≡ 5 = sym s.0 ∙ e in cc;
     seven = λ e. let clash : 10 ≡ 7 = sym s.0 ∙ e in cc;
@@ -113,7 +113,10 @@ module _ (besides : Besides) (readers : List Reader) (old new : SinkTold) (statu
   }
   faults_have_causes (Some text) s = record {
     five = λ e. some_closed is_read_fault ReadFault read_fault readers (by_five _ _ _ _ _ _ _ (sym s.2 ∙ e));
-    seven = λ e. some_closed is_verifier_fault VerifierFault verifier_fault readers (by_seven _ _ _ _ _ _ _ (sym s.2 ∙ e));
+    seven = λ e. elim (either (list_any (λ r. is_verifier_fault r.close) readers) besides.signer_failed (by_seven _ _ _ _ _ _ _ (sym s.2 ∙ e))) [
+      | inl closed ↦ inl (some_closed is_verifier_fault VerifierFault verifier_fault readers closed)
+      | inr failed ↦ inr failed
+    ];
     nine = λ e. some_closed is_full Full full readers (by_nine _ _ _ _ _ _ _ (sym s.2 ∙ e));
     six = λ e. put_failed text s.0 s.1 (by_six _ _ _ _ _ _ _ (sym s.2 ∙ e));
     kept = λ other. put_kept text s.0 s.1 (λ failed. other (s.2 ∙ six_of failed));

@@ -1,5 +1,5 @@
 -- How what was done becomes what is written, and the status.
-use Rattle.std.specs.Prelude.{◌≡◌, ◌≢◌, ℕ, ◌||◌, not, Bool, true, false, List, length, take, ◌==◌}
+use Rattle.std.specs.Prelude.{◌≡◌, ◌≢◌, ℕ, ◌⊎◌, ◌||◌, not, Bool, true, false, List, length, take, ◌==◌}
 use Rattle.std.specs.List.{list_any}
 use Rattle.std.specs.declared.option.Option.{Option}
 use Rattle.std.specs.declared.option.Option.TheVariants.{None, Some}
@@ -18,8 +18,8 @@ abbrev pub refuses : Close → List Refusal → Bool
 refuses close refused = is_bad close || not (length refused == 0)
 
 -- What is found where there was memory: of putting the text whether the sink failed; of the readers whether one closed by a fault of
--- its source, one by a fault of its verifier, and one by a limit, and whether one refused its stream or a message; and what was
--- found besides.
+-- its source, one by a fault of its verifier, and one by a limit; whether one refused its stream or a message, or a plan was refused; and
+-- what was found besides.
 abbrev pub found : Besides → List Reader → Bool → Findings
 found besides readers sink_failed = record {
   no_memory = false;
@@ -27,9 +27,10 @@ found besides readers sink_failed = record {
   words_refused = besides.words_refused;
   source_failed = list_any (λ r. is_read_fault r.close) readers;
   verifier_failed = list_any (λ r. is_verifier_fault r.close) readers;
+  signer_failed = besides.signer_failed;
   limit_reached = list_any (λ r. is_full r.close) readers;
   conflict_found = besides.conflict_found;
-  refused = list_any (λ r. refuses r.close r.refused) readers;
+  refused = list_any (λ r. refuses r.close r.refused) readers || besides.plan_refused;
 }
 
 -- the text was put, or a front of it where the sink failed
@@ -43,10 +44,10 @@ SettlesBy None besides readers old new status = (status ≡ 10) × (new ≡ old)
 SettlesBy (Some text) besides readers old new status =
     (sink_failed : Bool) × Puts text sink_failed old new × (status ≡ status_of (found besides readers sink_failed))
 
--- Each fault that is answered has its cause: a reader closed by it, or it is the sink's, whose count rose.
-pub record FaultsHaveCauses (readers : List Reader) (old new : SinkTold) (status : ℕ) : Type 0 where
+-- Each fault that is answered has its cause: a reader closed by it, or it is the signer's, or the sink's, whose count rose.
+pub record FaultsHaveCauses (readers : List Reader) (signer_failed : Bool) (old new : SinkTold) (status : ℕ) : Type 0 where
   pub five : status ≡ 5 → HasClose ReadFault readers
-  pub seven : status ≡ 7 → HasClose VerifierFault readers
+  pub seven : status ≡ 7 → HasClose VerifierFault readers ⊎ (signer_failed ≡ true)
   pub nine : status ≡ 9 → HasClose Full readers
   pub six : status ≡ 6 → Rose old.faults new.faults
   pub kept : status ≢ 6 → new.faults ≡ old.faults

@@ -6,8 +6,12 @@ ghost use Rattle.std.specs.Prelude.{◌≡◌};
 pub struct Besides {
     /// The words aren't in the form.
     pub words_refused: bool,
+    /// The signer failed, or couldn't be made.
+    pub signer_failed: bool,
     /// There is a conflict.
     pub conflict_found: bool,
+    /// A plan is refused, or the log that it is for.
+    pub plan_refused: bool,
 }
 
 impl Besides {
@@ -19,7 +23,9 @@ impl Besides {
     {
         Besides {
             words_refused: false,
+            signer_failed: false,
             conflict_found: false,
+            plan_refused: false,
         }
     }
 }

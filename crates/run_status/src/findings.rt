@@ -4,23 +4,25 @@ ghost use Rattle.run_status.specs.Status.{status_of};
 
 /// What a run found.
 #[derive(Clone, Copy, PartialEq, Eq, Debug)]
-pub struct Findings {
+pub(crate) struct Findings {
     /// There was no memory.
-    pub no_memory: bool,
+    pub(crate) no_memory: bool,
     /// A sink failed.
-    pub sink_failed: bool,
+    pub(crate) sink_failed: bool,
     /// The words aren't in the form.
-    pub words_refused: bool,
+    pub(crate) words_refused: bool,
     /// A source failed, or couldn't be made.
-    pub source_failed: bool,
+    pub(crate) source_failed: bool,
     /// A verifier failed, or couldn't be made.
-    pub verifier_failed: bool,
+    pub(crate) verifier_failed: bool,
+    /// The signer failed, or couldn't be made.
+    pub(crate) signer_failed: bool,
     /// A reader had read or taken as much as it may, and there was more.
-    pub limit_reached: bool,
+    pub(crate) limit_reached: bool,
     /// There is a conflict.
-    pub conflict_found: bool,
-    /// A message or a stream was refused.
-    pub refused: bool,
+    pub(crate) conflict_found: bool,
+    /// A message, a stream, a plan or its log was refused.
+    pub(crate) refused: bool,
 }
 
 impl Findings {
@@ -28,7 +30,7 @@ impl Findings {
     ghost use Rattle.std.specs.Prelude.{true};
 
     /// That nothing was found.
-    pub fn nothing() -> Findings
+    pub(crate) fn nothing() -> Findings
         ensures { result ≡ nothing }
     {
         Findings {
@@ -37,6 +39,7 @@ impl Findings {
             words_refused: false,
             source_failed: false,
             verifier_failed: false,
+            signer_failed: false,
             limit_reached: false,
             conflict_found: false,
             refused: false,
@@ -44,7 +47,7 @@ impl Findings {
     }
 
     /// That there was no memory.
-    pub fn no_memory() -> Findings
+    pub(crate) fn no_memory() -> Findings
         ensures { result ≡ record nothing { no_memory = true } }
     {
         Findings {
@@ -54,7 +57,7 @@ impl Findings {
     }
 
     /// The status: that of the first of these causes, or 0.
-    pub fn status(&self) -> u8
+    pub(crate) fn status(&self) -> u8
         ensures { result ≡ status_of self.now }
     {
         if self.no_memory {
@@ -65,7 +68,7 @@ impl Findings {
             2
         } else if self.source_failed {
             5
-        } else if self.verifier_failed {
+        } else if self.verifier_failed || self.signer_failed {
             7
         } else if self.limit_reached {
             9

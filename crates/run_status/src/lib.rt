@@ -9,6 +9,5 @@ mod run_end;
 
 pub use besides::Besides;
 pub use close::Close;
-pub use findings::Findings;
 pub use reader_end::ReaderEnd;
 pub use run_end::settle;

@@ -1,11 +1,12 @@
 //! The end of a run: what is owed is written, and the status is found.
-ghost use Rattle.std.specs.Prelude.{◌≡◌, map, option_map};
+ghost use Rattle.std.specs.Prelude.{◌≡◌, ◌||◌, map, option_map};
 ghost use Rattle.std.specs.List.{list_any};
 ghost use Rattle.run_status.specs.Readers.{is_full, is_read_fault, is_verifier_fault, reader_seen, sink_seen};
 ghost use Rattle.run_status.specs.Settling.{Puts, SettlesBy, refuses};
 ghost use Rattle.run_status.specs.Settling as settling;
 
-use crate::{Besides, Close, Findings, ReaderEnd};
+use crate::findings::Findings;
+use crate::{Besides, Close, ReaderEnd};
 use keri_outside::{Sink, Source, Verifier};
 use run_outside::Outside;
 
@@ -53,9 +54,10 @@ fn found<S: Source, V: Verifier>(
         words_refused: besides.words_refused,
         source_failed: some_read_fault(readers),
         verifier_failed: some_verifier_fault(readers),
+        signer_failed: besides.signer_failed,
         limit_reached: some_full(readers),
         conflict_found: besides.conflict_found,
-        refused: some_refused(readers),
+        refused: some_refused(besides, readers),
     }
 }
 
@@ -84,8 +86,15 @@ fn some_full<S, V>(readers: &[ReaderEnd<S, V>]) -> bool
     readers.iter().any(|reader| reader.close == Close::Full)
 }
 
+// Whether some reader refused its stream or a message, or a plan was refused.
+fn some_refused<S, V>(besides: Besides, readers: &[ReaderEnd<S, V>]) -> bool
+    ensures { result ≡ (list_any (λ end. refuses end.close end.refused.items) readers.now || besides.plan_refused) }
+{
+    refuses_some(readers) || besides.plan_refused
+}
+
 // Whether some reader refused its stream or a message.
-fn some_refused<S, V>(readers: &[ReaderEnd<S, V>]) -> bool
+fn refuses_some<S, V>(readers: &[ReaderEnd<S, V>]) -> bool
     ensures { result ≡ list_any (λ end. refuses end.close end.refused.items) readers.now }
 {
     readers.iter().any(|reader| matches!(reader.close, Close::Bad(_)) || !reader.refused.is_empty())

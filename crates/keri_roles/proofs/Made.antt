@@ -1,0 +1,94 @@
+-- Why a reader of `make` or its signer failed, and what is found where a message is due.
+use Rattle.std.proofs.Common.{◌≡◌, ℕ, ◌⊎◌, inl, inr, Bool, true, false, ◌||◌, List, [], ◌∷◌, Option, Some, None, refl, sym, ◌∙◌, ap}
+use Rattle.std.specs.Prelude.{is_none, MatchOption}
+use Rattle.std.specs.List.{list_any, list_all}
+use Rattle.keri_specs.specs.Causes.{Rose}
+use Rattle.source_text.specs.declared.text_close.TextClose.{TextClose}
+use Rattle.source_text.specs.declared.text_close.TextClose.TheVariants as text
+use Rattle.plan_answer.specs.declared.answer.PlanAnswer.{PlanAnswer}
+use Rattle.plan_answer.specs.declared.answer.PlanAnswer.TheVariants.{Message, Refused, SignerFault}
+use Rattle.plan_answer.specs.Answers.{CountsFaults}
+use Rattle.run_status.specs.declared.besides.Besides.{Besides}
+use Rattle.run_status.specs.declared.close.Close.{Close}
+use Rattle.run_status.specs.declared.close.Close.TheVariants.{End, ReadFault, VerifierFault, Full, OutOfMemory}
+use Rattle.run_status.specs.Readers.{SourceTold}
+use Rattle.keri_roles.specs.Made.{Given, GaveText, IsDue, IsDueBy, WasRead, close_of, found_in, is_out, is_through}
+use Rattle.keri_roles.specs.Run.{SignerTold}
+
+-- the reader of a text closes so by its source alone
+by_read : (closed : TextClose) → close_of closed ≡ ReadFault → closed ≡ text.ReadFault
+by_read text.ReadFault e = refl
+by_read text.End e = cc
+by_read text.Full e = cc
+by_read text.OutOfMemory e = cc
+
+by_verifier : (closed : TextClose) → close_of closed ≡ VerifierFault → ⊥
+by_verifier text.ReadFault e = cc
+by_verifier text.End e = cc
+by_verifier text.Full e = cc
+by_verifier text.OutOfMemory e = cc
+
+module _ (most : ℕ) (held : Option (List ℕ)) (bytes : List ℕ) (close : Close) where
+  pub text_read : (rose : Type 0) (source : Option SourceTold) → (is_none source ≡ true → rose) → WasRead most held source bytes close → close ≡ ReadFault
+      → MatchOption source rose (λ s. Rose 0 s.faults)
+  text_read rose None out r e = out refl
+  text_read rose (Some source) out r e = let closes = rw (by_read r.closed (sym r.closes ∙ e)) at r.reads.closes in closes.1
+
+  pub text_asked : (source : Option SourceTold) → WasRead most held source bytes close → close ≡ VerifierFault → ⊥
+  text_asked None r e = let clash : VerifierFault ≡ ReadFault = sym e ∙ r.0 in cc
+  text_asked (Some source) r e = by_verifier r.closed (sym r.closes ∙ e)
+
+-- the words were in the form, whatever is answered
+found_words : (answer : PlanAnswer) → (found_in answer).words_refused ≡ true → ⊥
+found_words (Message bytes) e = cc
+found_words (Refused why) e = cc
+found_words SignerFault e = cc
+
+-- the signer failed, where it is found to have
+found_signer : (answer : PlanAnswer) (faults : ℕ) → CountsFaults 0 faults answer → (found_in answer).signer_failed ≡ true → Rose 0 faults
+found_signer (Message bytes) faults c e = cc
+found_signer (Refused why) faults c e = cc
+found_signer SignerFault faults c e = c
+
+module _ (given : Given) (owed : Option (List ℕ)) (besides : Besides) where
+  words_by : (out through : Bool) (signer : Option SignerTold) → IsDueBy given out through signer owed besides → besides.words_refused ≡ true → ⊥
+  words_by true through signer d e = let clash : false ≡ true = sym (ap (λ b. b.words_refused) d.1) ∙ e in cc
+  words_by false false signer d e = let clash : false ≡ true = sym (ap (λ b. b.words_refused) d.1) ∙ e in cc
+  words_by false true None d e = let clash : false ≡ true = sym (ap (λ b. b.words_refused) d.1) ∙ e in cc
+  words_by false true (Some signer) (inl o) e = found_words o.answer (sym (ap (λ b. b.words_refused) o.found) ∙ e)
+  words_by false true (Some signer) (inr n) e = let clash : false ≡ true = sym (ap (λ b. b.words_refused) n.1) ∙ e in cc
+
+  pub due_in_form : (closes : List Close) (signer : Option SignerTold) → IsDue given closes signer owed besides → besides.words_refused ≡ true → ⊥
+  due_in_form closes signer d e = words_by (list_any is_out closes) (list_all is_through closes) signer d e
+
+  signer_by : (rose : Type 0) (out through : Bool) (signer : Option SignerTold) → (is_none signer ≡ true → rose) → IsDueBy given out through signer owed besides
+      → besides.signer_failed ≡ true → MatchOption signer rose (λ s. Rose 0 s.faults)
+  signer_by rose out through None none d e = none refl
+  signer_by rose true through (Some signer) none d e = let clash : false ≡ true = sym (ap (λ b. b.signer_failed) d.1) ∙ e in cc
+  signer_by rose false false (Some signer) none d e = let clash : false ≡ true = sym (ap (λ b. b.signer_failed) d.1) ∙ e in cc
+  signer_by rose false true (Some signer) none (inl o) e = found_signer o.answer signer.faults o.counts (sym (ap (λ b. b.signer_failed) o.found) ∙ e)
+  signer_by rose false true (Some signer) none (inr n) e = let clash : false ≡ true = sym (ap (λ b. b.signer_failed) n.1) ∙ e in cc
+
+  pub due_signer : (rose : Type 0) (closes : List Close) (signer : Option SignerTold) → (is_none signer ≡ true → rose) → IsDue given closes signer owed besides
+      → besides.signer_failed ≡ true → MatchOption signer rose (λ s. Rose 0 s.faults)
+  due_signer rose closes signer none d e = signer_by rose (list_any is_out closes) (list_all is_through closes) signer none d e
+
+-- one of several tests is passed
+pub second : (a : Bool) {b : Bool} → b ≡ true → (a || (b || false)) ≡ true
+second true e = refl
+second false e = rw e refl
+
+pub second_of : (a : Bool) {b : Bool} (c d : Bool) → b ≡ true → (a || (b || (c || (d || false)))) ≡ true
+second_of true c d e = refl
+second_of false c d e = rw e refl
+
+pub third_of : (a b : Bool) {c : Bool} (d : Bool) → c ≡ true → (a || (b || (c || (d || false)))) ≡ true
+third_of true b d e = refl
+third_of false true d e = refl
+third_of false false d e = rw e refl
+
+pub fourth_of : (a b c : Bool) {d : Bool} → d ≡ true → (a || (b || (c || (d || false)))) ≡ true
+fourth_of true b c e = refl
+fourth_of false true c e = refl
+fourth_of false false true e = refl
+fourth_of false false false e = rw e refl

@@ -1,0 +1,149 @@
+-- What `make` does: it reads a plan's text and maybe a log, and owes the message of the plan's event.
+use Rattle.std.specs.Prelude.{◌≡◌, ℕ, ◌⊎◌, Bool, true, false, List, [], ◌∷◌, is_none, IfSome}
+use Rattle.std.specs.List.{list_any, list_all}
+use Rattle.std.specs.declared.option.Option.{Option}
+use Rattle.std.specs.declared.option.Option.TheVariants.{None, Some}
+use Rattle.cesr_codes.specs.declared.key.Key.{Key}
+use Rattle.cesr_codes.specs.declared.sig.Sig.{Sig}
+use Rattle.run_outside.specs.Told.{making}
+use Rattle.run_outside.specs.declared.making.MakingKind.TheVariants.{Source as SourceKind, Verifier as VerifierKind, Signer as SignerKind}
+use Rattle.journal.specs.declared.mode.Mode.TheVariants.{Local}
+use Rattle.source_text.specs.declared.text_close.TextClose.{TextClose}
+use Rattle.source_text.specs.declared.text_close.TextClose.TheVariants as text
+use Rattle.source_text.specs.Texts.{ReadsText}
+use Rattle.plan_answer.specs.declared.answer.PlanAnswer.{PlanAnswer}
+use Rattle.plan_answer.specs.declared.answer.PlanAnswer.TheVariants.{Message, Refused, SignerFault}
+use Rattle.plan_answer.specs.Answers.{IsAnswer, CountsFaults}
+use Rattle.plan_answer.specs.Asked.{LogTold}
+use Rattle.report_lines.specs.Lines.{plan_text}
+use Rattle.run_status.specs.declared.besides.Besides.{Besides}
+use Rattle.run_status.specs.declared.close.Close.{Close}
+use Rattle.run_status.specs.declared.close.Close.TheVariants.{End, Bad, ReadFault, VerifierFault, Full, OutOfMemory}
+use Rattle.run_status.specs.Readers.{Reader, SourceTold}
+use Rattle.run_status.specs.Settling.{refuses}
+use Rattle.run_status.specs.Status.{nothing_besides}
+use Rattle.keri_roles.specs.CoreTold.{IsToldBy, core_of, given_in}
+use Rattle.keri_roles.specs.NoJournal.{no_journal}
+use Rattle.keri_roles.specs.Run.{AreMakings, SignerTold, Work}
+
+-- how the reader of a text closes
+abbrev pub close_of : TextClose → Close
+close_of text.End = End
+close_of text.ReadFault = ReadFault
+close_of text.Full = Full
+close_of text.OutOfMemory = OutOfMemory
+
+-- the source, which had failed not yet and held this, gave the text, and reading closed by its cause
+pub record GaveText (most : ℕ) (held : Option (List ℕ)) (source : SourceTold) (bytes : List ℕ) (close : Close) : Type 0 where
+  pub closed : TextClose
+  pub reads : ReadsText most held source.left 0 source.faults bytes closed
+  pub closes : close ≡ close_of closed
+
+-- the source was read; or it couldn't be made
+abbrev pub WasRead : ℕ → Option (List ℕ) → Option SourceTold → List ℕ → Close → Type 0
+WasRead most held None bytes close = (close ≡ ReadFault) × (bytes ≡ [])
+WasRead most held (Some source) bytes close = GaveText most held source bytes close
+
+-- a reader of a text, with no verifier
+pub record ReadsWhole (most : ℕ) (held : Option (List ℕ)) (reader : Reader) (bytes : List ℕ) : Type 0 where
+  pub read : WasRead most held reader.source bytes reader.close
+  pub no_verifier : reader.verifier ≡ None
+  pub none_refused : reader.refused ≡ []
+
+-- there was no memory for all that a reader read
+abbrev pub is_out : Close → Bool
+is_out OutOfMemory = true
+is_out End = false
+is_out (Bad bad) = false
+is_out ReadFault = false
+is_out VerifierFault = false
+is_out Full = false
+
+-- the reader came to the end of what it read
+abbrev pub is_through : Close → Bool
+is_through End = true
+is_through (Bad bad) = true
+is_through ReadFault = false
+is_through VerifierFault = false
+is_through Full = false
+is_through OutOfMemory = false
+
+-- what an answer writes: the message, or the line of why there is none; and nothing where the signer failed
+abbrev pub written : PlanAnswer → List ℕ
+written (Message bytes) = bytes
+written (Refused why) = plan_text why
+written SignerFault = []
+
+-- what an answer is found to be
+abbrev pub found_in : PlanAnswer → Besides
+found_in (Message bytes) = nothing_besides
+found_in (Refused why) = record nothing_besides { plan_refused = true }
+found_in SignerFault = record nothing_besides { signer_failed = true }
+
+-- what a message is made from: the signatures that the signer gives, the log that was told, where there is one, and the
+-- plan's text
+pub record Given : Type 0 where
+  pub gives : Key → List ℕ → Option Sig
+  pub log : Option LogTold
+  pub text : List ℕ
+
+-- the answer is owed, of a signer that had failed not yet
+pub record OwesAnswer (given : Given) (signer : SignerTold) (owed : Option (List ℕ)) (besides : Besides) : Type 0 where
+  pub answer : PlanAnswer
+  pub is : IsAnswer given.gives given.log given.text answer
+  pub counts : CountsFaults 0 signer.faults answer
+  pub owes : owed ≡ Some (written answer)
+  pub found : besides ≡ found_in answer
+
+-- There was no memory for the answer.
+abbrev pub OwesNone : SignerTold → Option (List ℕ) → Besides → Type 0
+OwesNone signer owed besides = (owed ≡ None) × (besides ≡ nothing_besides)
+
+-- this is owed, and it is found whether the signer couldn't be made
+abbrev pub IsUnanswered : Option (List ℕ) → Option SignerTold → Option (List ℕ) → Besides → Type 0
+IsUnanswered text signer owed besides = (owed ≡ text) × (besides ≡ record nothing_besides { signer_failed = is_none signer })
+
+-- There is an answer where each reader came to the end and there is a signer. Else nothing is written.
+abbrev pub IsDueBy : Given → (out through : Bool) → Option SignerTold → Option (List ℕ) → Besides → Type 0
+IsDueBy given true through signer owed besides = IsUnanswered None signer owed besides
+IsDueBy given false false signer owed besides = IsUnanswered (Some []) signer owed besides
+IsDueBy given false true None owed besides = IsUnanswered (Some []) None owed besides
+IsDueBy given false true (Some signer) owed besides = OwesAnswer given signer owed besides ⊎ OwesNone signer owed besides
+
+-- what is owed where the readers closed so
+abbrev pub IsDue : Given → List Close → Option SignerTold → Option (List ℕ) → Besides → Type 0
+IsDue given closes signer owed besides = IsDueBy given (list_any is_out closes) (list_all is_through closes) signer owed besides
+
+-- without a log: the makings are the plan's source and the signer, and nothing is told
+pub record IsMadeAlone (helper plan : List ℕ) (work : Work) : Type 0 where
+  pub reader : Reader
+  pub one : work.readers ≡ reader ∷ []
+  pub text : List ℕ
+  pub reads : ReadsWhole work.before.limits.stream_bytes (work.before.holds plan) reader text
+  pub makes : AreMakings (making SourceKind plan (is_none reader.source) ∷ making SignerKind helper (is_none work.signer) ∷ []) work.before work.after
+  pub signs : IfSome work.signer (λ s. s.gives ≡ work.before.gives helper)
+  pub none_told : work.journal ≡ no_journal
+  pub owes : IsDue (record { gives = work.before.gives helper; log = None; text = text }) (reader.close ∷ []) work.signer work.owed work.besides
+
+-- Behind a log: the makings are the plan's source, the log's source, the verifier and the signer, and the journal was told by
+-- the log's reader, of the number 0. The log is refused where its stream is, or a message of it.
+pub record IsMadeBehind (helper plan log : List ℕ) (work : Work) : Type 0 where
+  pub plan_reader : Reader
+  pub log_reader : Reader
+  pub two : work.readers ≡ plan_reader ∷ log_reader ∷ []
+  pub text : List ℕ
+  pub reads : ReadsWhole work.before.limits.stream_bytes (work.before.holds plan) plan_reader text
+  pub makes : AreMakings (making SourceKind plan (is_none plan_reader.source) ∷ making SourceKind log (is_none log_reader.source)
+      ∷ making VerifierKind helper (is_none log_reader.verifier) ∷ making SignerKind helper (is_none work.signer) ∷ []) work.before work.after
+  pub signs : IfSome work.signer (λ s. s.gives ≡ work.before.gives helper)
+  pub journal : IsToldBy Local (given_in work helper log) log_reader work.journal
+  pub owes : IsDue (record {
+    gives = work.before.gives helper;
+    log = Some (record { core = core_of Local work.before.limits journal.fed.held work.journal.entries; is_refused = refuses log_reader.close log_reader.refused });
+    text = text;
+  }) (plan_reader.close ∷ log_reader.close ∷ []) work.signer work.owed work.besides
+
+-- `make --helper HELPER --plan PLAN`, and with `--log LOG`
+abbrev pub IsMade : List ℕ → List ℕ → Option (List ℕ) → Work → Type 0
+IsMade helper plan None work = IsMadeAlone helper plan work
+IsMade helper plan (Some log) work = IsMadeBehind helper plan log work

@@ -1,0 +1,133 @@
+//! `make --helper HELPER --plan PLAN --log LOG`: writes the message of the event that a plan asks for.
+ghost use Rattle.std.specs.Prelude.{◌≡◌, ◌<◌, ◌∷◌, []};
+ghost use Rattle.std.specs.Option.{option_map};
+ghost use Rattle.std.specs.Vec.{vec_capacity};
+ghost use Rattle.keri_roles.specs.Made.{IsMade, IsMadeAlone, IsMadeBehind};
+ghost use Rattle.keri_roles.specs.Run.{signer_seen, work_by, work_seen};
+ghost use Rattle.run_status.specs.Settling.{refuses};
+
+use crate::core_reader::{CoreReader, read_to_core};
+use crate::make_parts::{MakeBehindParts, MakeParts, make_alone, make_behind};
+use crate::message_due::{MessageDue, message_due};
+use crate::nothing_told::nothing_told;
+use crate::outcome::{Outcome, SignedOutcome};
+use crate::text_reader::{TextReader, read_whole};
+use crate::{Close, ReaderEnd};
+use journal::Mode;
+use plan_answer::ReadLog;
+use run_outside::Outside;
+use std::alloc::Global;
+
+/// The words of `make`.
+#[derive(Clone, Copy)]
+pub(crate) struct MakeWords<'a> {
+    pub(crate) helper: &'a str,
+    pub(crate) plan: &'a str,
+    pub(crate) log: Option<&'a str>,
+}
+
+/// Reads the plan and the log, where there is one, and makes the message. The readers have room for two.
+pub(crate) fn make<O: Outside>(
+    alloc: Global,
+    words: MakeWords<'_>,
+    readers: Vec<ReaderEnd<O::Source, O::Verifier>>,
+    outside: &mut O,
+) -> SignedOutcome<O::Source, O::Verifier, O::Signer>
+    requires none_yet { readers.items ≡ [] }
+    requires room { 1 < vec_capacity readers }
+    ensures made { IsMade words.helper.now words.plan.now (option_map (λ log. log.now) words.log) (work_by (signer_seen O.Signer.gives O.Signer.faults result.signer)
+        (work_seen O.Source.left O.Source.faults O.Verifier.says O.Verifier.faults (O.told outside.old) (O.told outside.new) result.outcome)) }
+    ensures sink { O.sink outside.new ≡ O.sink outside.old }
+{
+    match words.log {
+        None => made_alone(alloc, words.helper, words.plan, readers, outside),
+        Some(log) => made_behind(alloc, words.helper, words.plan, log, readers, outside),
+    }
+}
+
+// Makes the message of a plan without a log.
+fn made_alone<O: Outside>(
+    alloc: Global,
+    helper: &str,
+    plan: &str,
+    readers: Vec<ReaderEnd<O::Source, O::Verifier>>,
+    outside: &mut O,
+) -> SignedOutcome<O::Source, O::Verifier, O::Signer>
+    requires none_yet { readers.items ≡ [] }
+    requires room { 0 < vec_capacity readers }
+    ensures made { IsMadeAlone helper.now plan.now (work_by (signer_seen O.Signer.gives O.Signer.faults result.signer)
+        (work_seen O.Source.left O.Source.faults O.Verifier.says O.Verifier.faults (O.told outside.old) (O.told outside.new) result.outcome)) }
+    ensures sink { O.sink outside.new ≡ O.sink outside.old }
+{
+    let mut readers = readers;
+    let limits = outside.limits();
+    let MakeParts { plan, signer } = make_alone(plan, helper, outside);
+    let mut signer = signer;
+    let TextReader { reader, text } = read_whole(alloc, limits.stream_bytes, plan);
+    let MessageDue { owed, besides } = message_due(
+        alloc,
+        &text,
+        None,
+        &[reader.close],
+        &mut signer,
+    );
+    readers.push(reader).unwrap();
+    let outcome = Outcome {
+        readers,
+        journal: nothing_told(alloc),
+        owed,
+        besides,
+    };
+    SignedOutcome { outcome, signer }
+}
+
+// Makes the message of a plan behind a log, which is read to a core that wants neither receipts nor seals.
+fn made_behind<O: Outside>(
+    alloc: Global,
+    helper: &str,
+    plan: &str,
+    log: &str,
+    readers: Vec<ReaderEnd<O::Source, O::Verifier>>,
+    outside: &mut O,
+) -> SignedOutcome<O::Source, O::Verifier, O::Signer>
+    requires none_yet { readers.items ≡ [] }
+    requires room { 1 < vec_capacity readers }
+    ensures made { IsMadeBehind helper.now plan.now log.now (work_by (signer_seen O.Signer.gives O.Signer.faults result.signer)
+        (work_seen O.Source.left O.Source.faults O.Verifier.says O.Verifier.faults (O.told outside.old) (O.told outside.new) result.outcome)) }
+    ensures sink { O.sink outside.new ≡ O.sink outside.old }
+{
+    let mut readers = readers;
+    let limits = outside.limits();
+    let MakeBehindParts { plan, log, signer } = make_behind(plan, log, helper, outside);
+    let mut signer = signer;
+    let TextReader {
+        reader: first,
+        text,
+    } = read_whole(alloc, limits.stream_bytes, plan);
+    let CoreReader {
+        reader: second,
+        core,
+    } = read_to_core(alloc, Mode::Local, limits, log);
+    let log = ReadLog {
+        core: &core,
+        is_refused: is_refused(&second),
+    };
+    let closes = [first.close, second.close];
+    let MessageDue { owed, besides } = message_due(alloc, &text, Some(log), &closes, &mut signer);
+    readers.push(first).unwrap();
+    readers.push(second).unwrap();
+    let outcome = Outcome {
+        readers,
+        journal: core.into_journal(),
+        owed,
+        besides,
+    };
+    SignedOutcome { outcome, signer }
+}
+
+// Whether a reader refused its stream or a message.
+fn is_refused<S, V>(reader: &ReaderEnd<S, V>) -> bool
+    ensures { result ≡ refuses reader.now.close reader.now.refused.items }
+{
+    matches!(reader.close, Close::Bad(_)) || !reader.refused.is_empty()
+}

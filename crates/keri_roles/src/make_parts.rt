@@ -1,0 +1,71 @@
+//! What `make` is given by the outside.
+ghost use Rattle.std.specs.Prelude.{◌≡◌, ◌∷◌, [], is_none, IfSome};
+ghost use Rattle.run_outside.specs.Told.{making};
+ghost use Rattle.run_outside.specs.declared.making.MakingKind.TheVariants.{Source as SourceKind, Verifier as VerifierKind, Signer as SignerKind};
+ghost use Rattle.keri_roles.specs.Run.{AreMakings};
+
+use crate::providers::Providers;
+use run_outside::Outside;
+
+/// The source of a plan and the signer of a helper, as far as they could be made.
+#[derive(Drop)]
+pub(crate) struct MakeParts<S, G> {
+    pub(crate) plan: Option<S>,
+    pub(crate) signer: Option<G>,
+}
+
+/// Makes the plan's source, and then the signer.
+pub(crate) fn make_alone<O: Outside>(
+    plan: &str,
+    helper: &str,
+    outside: &mut O,
+) -> MakeParts<O::Source, O::Signer>
+    ensures makes { AreMakings (making SourceKind plan.now (is_none result.plan) ∷ making SignerKind helper.now (is_none result.signer) ∷ []) (O.told outside.old) (O.told outside.new) }
+    ensures holds { IfSome result.plan (λ source. O.Source.left source ≡ (O.told outside.old).holds plan.now) }
+    ensures unread { IfSome result.plan (λ source. O.Source.faults source ≡ 0) }
+    ensures signs { IfSome result.signer (λ signer. O.Signer.gives signer ≡ (O.told outside.old).gives helper.now) }
+    ensures unasked { IfSome result.signer (λ signer. O.Signer.faults signer ≡ 0) }
+    ensures sink { O.sink outside.new ≡ O.sink outside.old }
+{
+    let plan = outside.source(plan).ok();
+    let signer = outside.signer(helper).ok();
+    MakeParts { plan, signer }
+}
+
+/// What is made for a plan behind a log.
+#[derive(Drop)]
+pub(crate) struct MakeBehindParts<S, V, G> {
+    pub(crate) plan: Option<S>,
+    pub(crate) log: Providers<S, V>,
+    pub(crate) signer: Option<G>,
+}
+
+/// Makes the plan's source, the log's source, the verifier, and then the signer.
+pub(crate) fn make_behind<O: Outside>(
+    plan: &str,
+    log: &str,
+    helper: &str,
+    outside: &mut O,
+) -> MakeBehindParts<O::Source, O::Verifier, O::Signer>
+    ensures makes { AreMakings (making SourceKind plan.now (is_none result.plan) ∷ making SourceKind log.now (is_none result.log.source)
+        ∷ making VerifierKind helper.now (is_none result.log.verifier) ∷ making SignerKind helper.now (is_none result.signer) ∷ []) (O.told outside.old) (O.told outside.new) }
+    ensures holds { IfSome result.plan (λ source. O.Source.left source ≡ (O.told outside.old).holds plan.now) }
+    ensures unread { IfSome result.plan (λ source. O.Source.faults source ≡ 0) }
+    ensures log_holds { IfSome result.log.source (λ source. O.Source.left source ≡ (O.told outside.old).holds log.now) }
+    ensures log_unread { IfSome result.log.source (λ source. O.Source.faults source ≡ 0) }
+    ensures says { IfSome result.log.verifier (λ verifier. O.Verifier.says verifier ≡ (O.told outside.old).says helper.now) }
+    ensures unheard { IfSome result.log.verifier (λ verifier. O.Verifier.faults verifier ≡ 0) }
+    ensures signs { IfSome result.signer (λ signer. O.Signer.gives signer ≡ (O.told outside.old).gives helper.now) }
+    ensures unasked { IfSome result.signer (λ signer. O.Signer.faults signer ≡ 0) }
+    ensures sink { O.sink outside.new ≡ O.sink outside.old }
+{
+    let plan = outside.source(plan).ok();
+    let source = outside.source(log).ok();
+    let verifier = outside.verifier(helper).ok();
+    let signer = outside.signer(helper).ok();
+    MakeBehindParts {
+        plan,
+        log: Providers { source, verifier },
+        signer,
+    }
+}
