@@ -16,8 +16,8 @@ fn spelled(alloc: Global, digest: &Digest) -> Result<String, AllocError> {
     String::from_utf8_lossy(alloc, &text)
 }
 
-// The keys of the word, with a comma between two of them.
-fn keys(alloc: Global, row: &Row, place: usize) -> Result<Vec<Key>, AllocError> {
+/// The keys of the word, with a comma between two of them.
+pub(crate) fn keys(alloc: Global, row: &Row, place: usize) -> Result<Vec<Key>, AllocError> {
     let mut keys = Vec::new(alloc);
     for word in row.word(place).split(',') {
         if let Ok((key, _)) = Key::read(word.as_bytes()) {

@@ -70,8 +70,8 @@ fn written_sealed(alloc: Global, event: Event, code: DigestCode) -> Result<Strin
     }
 }
 
-// The code that the word names.
-fn code(word: &str) -> DigestCode {
+/// The code that the word names.
+pub(crate) fn code(word: &str) -> DigestCode {
     match word {
         "E" => DigestCode::Blake3,
         _ => DigestCode::Sha256,

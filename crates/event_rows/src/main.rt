@@ -6,6 +6,7 @@
 mod backers;
 mod bodies;
 mod event;
+mod plans;
 mod states;
 
 use anyhow::Result;
@@ -21,7 +22,10 @@ fn called(alloc: Global, row: &Row) -> Result<Option<String>, AllocError> {
     if let Some(answer) = states::answer(alloc, row)? {
         return Ok(Some(answer));
     }
-    backers::answer(alloc, row)
+    if let Some(answer) = backers::answer(alloc, row)? {
+        return Ok(Some(answer));
+    }
+    plans::answer(alloc, row)
 }
 
 // What the line is answered by.

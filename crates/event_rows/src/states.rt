@@ -86,9 +86,9 @@ fn step(
     standing(text, state)
 }
 
-// Moves the state on by the events of the words from one number to another, and says what is said of each; there is none
-// where an event isn't taken.
-fn fold(
+/// Moves the state on by the events of the words from one number to another, and says what is said of each; there is none
+/// where an event isn't taken.
+pub(crate) fn fold(
     alloc: Global,
     row: &Row,
     from: usize,
