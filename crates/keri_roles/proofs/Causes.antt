@@ -14,7 +14,7 @@ use Rattle.keri_roles.specs.Check.{IsChecked, OwesChecks}
 use Rattle.keri_roles.specs.Commands.{Does, CarriesOut}
 use Rattle.keri_roles.specs.CoreTold.{Given, ReadsToCore, ReadsBy}
 use Rattle.run_status.specs.Readers.{SourceTold, VerifierTold}
-use Rattle.keri_roles.specs.Made.{IsMade, IsMadeAlone, IsMadeBehind}
+use Rattle.keri_roles.specs.Made.{IsMade, IsMadeAlone, IsMadeBehind, given_alone, given_behind}
 use Rattle.keri_roles.specs.Run.{Work, AreCaused}
 use Rattle.keri_roles.proofs.Made.{due_signer, fourth_of, second, second_of, text_asked, text_read, third_of}
 
@@ -90,13 +90,15 @@ behind_caused helper plan log work m = let first = is_none m.plan_reader.source 
     source = text_read work.before.limits.stream_bytes (work.before.holds plan) m.text m.plan_reader.close _ m.plan_reader.source (λ none. m.makes.rose (rw none refl)) m.reads.read;
     verifier = λ e. absurd (text_asked work.before.limits.stream_bytes (work.before.holds plan) m.text m.plan_reader.close m.plan_reader.source m.reads.read e);
   },
-  record {
-    source = told_read _ _ m.journal.bytes _ _ m.log_reader.close m.log_reader.source m.log_reader.verifier
-        (λ none. m.makes.rose (second_of first (is_none m.log_reader.verifier) signer none)) m.journal.reads;
-    verifier = told_asked _ _ m.journal.bytes _ _ m.log_reader.close m.log_reader.source m.log_reader.verifier
-        (λ none. m.makes.rose (third_of first (is_none m.log_reader.source) signer none)) m.journal.reads;
-  },
-  tt,
+  (
+    record {
+      source = told_read _ _ m.journal.bytes _ _ m.log_reader.close m.log_reader.source m.log_reader.verifier
+          (λ none. m.makes.rose (second_of first (is_none m.log_reader.verifier) signer none)) m.journal.reads;
+      verifier = told_asked _ _ m.journal.bytes _ _ m.log_reader.close m.log_reader.source m.log_reader.verifier
+          (λ none. m.makes.rose (third_of first (is_none m.log_reader.source) signer none)) m.journal.reads;
+    },
+    tt,
+  ),
 )
 
 made_caused : (helper plan : List ℕ) (log : Option (List ℕ)) (work : Work) → IsMade helper plan log work → AreCaused work.before work.after work.readers
@@ -106,8 +108,8 @@ made_caused helper plan (Some log) work m = behind_caused helper plan log work m
 -- the signer of `make` is found to have failed only where it did
 pub made_signer : (helper plan : List ℕ) (log : Option (List ℕ)) (work : Work) → IsMade helper plan log work → work.besides.signer_failed ≡ true
     → MatchOption work.signer (Rose work.before.faults work.after.faults) (λ s. Rose 0 s.faults)
-made_signer helper plan None work m e = due_signer _ work.owed work.besides _ (m.reader.close ∷ []) work.signer (λ none. m.makes.rose (second (is_none m.reader.source) none)) m.owes e
-made_signer helper plan (Some log) work m e = due_signer _ work.owed work.besides _ (m.plan_reader.close ∷ m.log_reader.close ∷ []) work.signer
+made_signer helper plan None work m e = due_signer (given_alone helper m.text work) work.owed work.besides _ (m.reader.close ∷ []) work.signer (λ none. m.makes.rose (second (is_none m.reader.source) none)) m.owes e
+made_signer helper plan (Some log) work m e = due_signer (given_behind helper m.text m.log_reader m.journal.fed.held work) work.owed work.besides _ (m.plan_reader.close ∷ m.log_reader.close ∷ []) work.signer
     (λ none. m.makes.rose (fourth_of (is_none m.plan_reader.source) (is_none m.log_reader.source) (is_none m.log_reader.verifier) none)) m.owes e
 
 carried_caused : (asked : Asked) (work : Work) → CarriesOut asked work → AreCaused work.before work.after work.readers

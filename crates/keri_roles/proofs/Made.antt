@@ -1,8 +1,10 @@
 -- Why a reader of `make` or its signer failed, and what is found where a message is due.
-use Rattle.std.proofs.Common.{◌≡◌, ℕ, ◌⊎◌, inl, inr, Bool, true, false, ◌||◌, List, [], ◌∷◌, Option, Some, None, refl, sym, ◌∙◌, ap}
-use Rattle.std.specs.Prelude.{is_none, MatchOption}
+use Rattle.std.proofs.Common.{◌≡◌, ℕ, inl, inr, Bool, true, false, ◌||◌, List, Option, Some, None, refl, sym, ◌∙◌, ap}
+use Rattle.std.specs.Prelude.{is_none, IfSome, MatchOption}
 use Rattle.std.specs.List.{list_any, list_all}
 use Rattle.keri_specs.specs.Causes.{Rose}
+use Rattle.cesr_codes.specs.declared.key.Key.{Key}
+use Rattle.cesr_codes.specs.declared.sig.Sig.{Sig}
 use Rattle.source_text.specs.declared.text_close.TextClose.{TextClose}
 use Rattle.source_text.specs.declared.text_close.TextClose.TheVariants as text
 use Rattle.plan_answer.specs.declared.answer.PlanAnswer.{PlanAnswer}
@@ -10,10 +12,10 @@ use Rattle.plan_answer.specs.declared.answer.PlanAnswer.TheVariants.{Message, Re
 use Rattle.plan_answer.specs.Answers.{CountsFaults}
 use Rattle.run_status.specs.declared.besides.Besides.{Besides}
 use Rattle.run_status.specs.declared.close.Close.{Close}
-use Rattle.run_status.specs.declared.close.Close.TheVariants.{End, ReadFault, VerifierFault, Full, OutOfMemory}
+use Rattle.run_status.specs.declared.close.Close.TheVariants.{ReadFault, VerifierFault}
 use Rattle.run_status.specs.Readers.{SourceTold}
-use Rattle.keri_roles.specs.Made.{Given, GaveText, IsDue, IsDueBy, WasRead, close_of, found_in, is_out, is_through}
-use Rattle.keri_roles.specs.Run.{SignerTold}
+use Rattle.keri_roles.specs.Made.{Given, IsDue, IsDueBy, WasRead, close_of, found_in, is_out, is_through}
+use Rattle.keri_roles.specs.Run.{SignerTold, signer_seen}
 
 -- the reader of a text closes so by its source alone
 by_read : (closed : TextClose) → close_of closed ≡ ReadFault → closed ≡ text.ReadFault
@@ -92,3 +94,13 @@ fourth_of true b c e = refl
 fourth_of false true c e = refl
 fourth_of false false true e = refl
 fourth_of false false false e = rw e refl
+
+-- what is seen of a signer
+pub signer_none : {S : Type 0} (gives : S → Key → List ℕ → Option Sig) (faults : S → ℕ) (signer : Option S) → is_none (signer_seen gives faults signer) ≡ is_none signer
+signer_none gives faults None = refl
+signer_none gives faults (Some s) = refl
+
+pub gives_seen : {S : Type 0} (gives : S → Key → List ℕ → Option Sig) (faults : S → ℕ) (signer : Option S) (told : Key → List ℕ → Option Sig)
+    → IfSome signer (λ s. gives s ≡ told) → IfSome (signer_seen gives faults signer) (λ s. s.gives ≡ told)
+gives_seen gives faults None told e = tt
+gives_seen gives faults (Some s) told e = e

@@ -1,12 +1,12 @@
 -- Each fault that a run answers has its cause.
-use Rattle.std.proofs.Common.{◌≡◌, inl, inr, ℕ, Bool, true, false, List, Option, Some, None, refl, sym, ◌∙◌, ap}
+use Rattle.std.proofs.Common.{◌≡◌, inl, inr, ℕ, Bool, true, false, List, [], ◌∷◌, Option, Some, None, refl, sym, ◌∙◌, ap}
 use Rattle.std.specs.Prelude.{IsNone}
 use Rattle.command_words.specs.Words.{Asked, check, generate, make, validate, watch}
 use Rattle.run_status.specs.declared.besides.Besides.{Besides}
 use Rattle.run_status.specs.Status.{nothing_besides}
 use Rattle.run_status.proofs.Causes.{faults_have_causes, words_refused}
 use Rattle.keri_roles.specs.Commands.{IsRunOf, Does, CarriesOut}
-use Rattle.keri_roles.specs.Made.{IsMade}
+use Rattle.keri_roles.specs.Made.{IsMade, given_alone, given_behind}
 use Rattle.keri_roles.specs.Run.{Work, Run, HasCauses, SignerFails, work_in}
 use Rattle.keri_roles.proofs.Causes.{are_caused, made_signer}
 use Rattle.keri_roles.proofs.Made.{due_in_form}
@@ -22,8 +22,8 @@ carried_in_form (watch helper name) work c refused = in_form work.besides c.has_
 carried_in_form (make helper plan log) work c refused = made_in_form helper plan log work c refused
   where
     made_in_form : (helper plan : List ℕ) (log : Option (List ℕ)) (work : Work) → IsMade helper plan log work → work.besides.words_refused ≡ true → ⊥
-    made_in_form helper plan None work m refused = due_in_form _ work.owed work.besides _ work.signer m.owes refused
-    made_in_form helper plan (Some log) work m refused = due_in_form _ work.owed work.besides _ work.signer m.owes refused
+    made_in_form helper plan None work m refused = due_in_form (given_alone helper m.text work) work.owed work.besides (m.reader.close ∷ []) work.signer m.owes refused
+    made_in_form helper plan (Some log) work m refused = due_in_form (given_behind helper m.text m.log_reader m.journal.fed.held work) work.owed work.besides (m.plan_reader.close ∷ m.log_reader.close ∷ []) work.signer m.owes refused
 carried_in_form (generate seed logs events) work c refused = in_form work.besides false c.nothing_else refused
 
 -- the signer is found to have failed by `make` alone

@@ -7,6 +7,7 @@ use Rattle.cesr_codes.specs.declared.key.Key.{Key}
 use Rattle.cesr_codes.specs.declared.sig.Sig.{Sig}
 use Rattle.run_outside.specs.Told.{making}
 use Rattle.run_outside.specs.declared.making.MakingKind.TheVariants.{Source as SourceKind, Verifier as VerifierKind, Signer as SignerKind}
+use Rattle.journal.specs.declared.body.Body.{Body}
 use Rattle.journal.specs.declared.mode.Mode.TheVariants.{Local}
 use Rattle.source_text.specs.declared.text_close.TextClose.{TextClose}
 use Rattle.source_text.specs.declared.text_close.TextClose.TheVariants as text
@@ -114,6 +115,18 @@ IsDueBy given false true (Some signer) owed besides = OwesAnswer given signer ow
 abbrev pub IsDue : Given → List Close → Option SignerTold → Option (List ℕ) → Besides → Type 0
 IsDue given closes signer owed besides = IsDueBy given (list_any is_out closes) (list_all is_through closes) signer owed besides
 
+-- what a message is made from without a log
+abbrev pub given_alone : List ℕ → List ℕ → Work → Given
+given_alone helper text work = record { gives = work.before.gives helper; log = None; text = text }
+
+-- and behind a log: what its core was told, and whether the stream or a message of it is refused
+abbrev pub given_behind : List ℕ → List ℕ → Reader → List Body → Work → Given
+given_behind helper text reader held work = record {
+  gives = work.before.gives helper;
+  log = Some (record { core = core_of Local work.before.limits held work.journal.entries; is_refused = refuses reader.close reader.refused });
+  text = text;
+}
+
 -- without a log: the makings are the plan's source and the signer, and nothing is told
 pub record IsMadeAlone (helper plan : List ℕ) (work : Work) : Type 0 where
   pub reader : Reader
@@ -123,10 +136,10 @@ pub record IsMadeAlone (helper plan : List ℕ) (work : Work) : Type 0 where
   pub makes : AreMakings (making SourceKind plan (is_none reader.source) ∷ making SignerKind helper (is_none work.signer) ∷ []) work.before work.after
   pub signs : IfSome work.signer (λ s. s.gives ≡ work.before.gives helper)
   pub none_told : work.journal ≡ no_journal
-  pub owes : IsDue (record { gives = work.before.gives helper; log = None; text = text }) (reader.close ∷ []) work.signer work.owed work.besides
+  pub owes : IsDue (given_alone helper text work) (reader.close ∷ []) work.signer work.owed work.besides
 
 -- Behind a log: the makings are the plan's source, the log's source, the verifier and the signer, and the journal was told by
--- the log's reader, of the number 0. The log is refused where its stream is, or a message of it.
+-- the log's reader, of the number 0.
 pub record IsMadeBehind (helper plan log : List ℕ) (work : Work) : Type 0 where
   pub plan_reader : Reader
   pub log_reader : Reader
@@ -137,11 +150,7 @@ pub record IsMadeBehind (helper plan log : List ℕ) (work : Work) : Type 0 wher
       ∷ making VerifierKind helper (is_none log_reader.verifier) ∷ making SignerKind helper (is_none work.signer) ∷ []) work.before work.after
   pub signs : IfSome work.signer (λ s. s.gives ≡ work.before.gives helper)
   pub journal : IsToldBy Local (given_in work helper log) log_reader work.journal
-  pub owes : IsDue (record {
-    gives = work.before.gives helper;
-    log = Some (record { core = core_of Local work.before.limits journal.fed.held work.journal.entries; is_refused = refuses log_reader.close log_reader.refused });
-    text = text;
-  }) (plan_reader.close ∷ log_reader.close ∷ []) work.signer work.owed work.besides
+  pub owes : IsDue (given_behind helper text log_reader journal.fed.held work) (plan_reader.close ∷ log_reader.close ∷ []) work.signer work.owed work.besides
 
 -- `make --helper HELPER --plan PLAN`, and with `--log LOG`
 abbrev pub IsMade : List ℕ → List ℕ → Option (List ℕ) → Work → Type 0

@@ -35,7 +35,7 @@ pub(crate) fn make<O: Outside>(
 ) -> SignedOutcome<O::Source, O::Verifier, O::Signer>
     requires none_yet { readers.items ≡ [] }
     requires room { 1 < vec_capacity readers }
-    ensures made { IsMade words.helper.now words.plan.now (option_map (λ log. log.now) words.log) (work_by (signer_seen O.Signer.gives O.Signer.faults result.signer)
+    ensures made { IsMade words.entry.helper.now words.entry.plan.now (option_map (λ log. log.now) words.entry.log) (work_by (signer_seen O.Signer.gives O.Signer.faults result.signer)
         (work_seen O.Source.left O.Source.faults O.Verifier.says O.Verifier.faults (O.told outside.old) (O.told outside.new) result.outcome)) }
     ensures sink { O.sink outside.new ≡ O.sink outside.old }
 {

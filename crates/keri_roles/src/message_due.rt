@@ -32,7 +32,7 @@ pub(crate) fn message_due<G: Signer>(
 ) -> MessageDue
     requires { IfSome signer.old (λ signer. G.faults signer ≡ 0) }
     ensures due { (gives : Key → List ℕ → Option Sig) → IfSome signer.old (λ signer. G.gives signer ≡ gives)
-        → IsDue (record { gives = gives; log = option_map log_told log; text = plan.now }) closes.now (signer_seen G.gives G.faults signer.new) (option_map (λ text. text.items) result.owed) result.besides }
+        → IsDue (record { gives = gives; log = option_map log_told log.entry; text = plan.now }) closes.now (signer_seen G.gives G.faults signer.new) (option_map (λ text. text.items) result.owed) result.besides }
     ensures signer { is_none signer.new ≡ is_none signer.old }
     ensures gives { (gives : Key → List ℕ → Option Sig) → IfSome signer.old (λ signer. G.gives signer ≡ gives) → IfSome signer.new (λ signer. G.gives signer ≡ gives) }
 {
@@ -79,7 +79,7 @@ fn answer_due<G: Signer>(
     signer: &mut G,
 ) -> MessageDue
     requires { G.faults signer.old ≡ 0 }
-    ensures due { OwesAnswer (record { gives = G.gives signer.old; log = option_map log_told log; text = plan.now }) (record { gives = G.gives signer.new; faults = G.faults signer.new })
+    ensures due { OwesAnswer (record { gives = G.gives signer.old; log = option_map log_told log.entry; text = plan.now }) (record { gives = G.gives signer.new; faults = G.faults signer.new })
         (option_map (λ text. text.items) result.owed) result.besides
         ⊎ OwesNone (record { gives = G.gives signer.new; faults = G.faults signer.new }) (option_map (λ text. text.items) result.owed) result.besides }
     ensures gives { G.gives signer.new ≡ G.gives signer.old }

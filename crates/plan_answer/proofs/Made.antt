@@ -1,5 +1,5 @@
 -- What is answered to a message that was made, or to why there is none.
-use Rattle.std.proofs.Common.{◌≡◌, ◌≢◌, ℕ, ◌≤◌, true, ◌&&◌, List, [], length, Option, Some, None, Result, Ok, Err, refl, sym, ◌∙◌, subst, rules}
+use Rattle.std.proofs.Common.{◌≡◌, ◌≢◌, ℕ, ◌≤◌, true, ◌&&◌, List, [], length, Option, Some, Result, Ok, Err, refl, sym, subst}
 use Rattle.std.specs.Prelude.{All, IfOk, IfErr, OnErr, nat_le}
 use Rattle.std.specs.List.{list_all}
 use Rattle.std.proofs.lemmas.Bool.{and_parts, leb-true}
@@ -11,7 +11,6 @@ use Rattle.cesr_stream.specs.declared.group.Group.TheVariants.{Held}
 use Rattle.cesr_stream.specs.declared.message.Message.{Message}
 use Rattle.cesr_stream.specs.Written.{IsCounted}
 use Rattle.event_body.specs.declared.event.Event.{Event}
-
 use Rattle.event_rules.specs.Parts.{has_signed}
 use Rattle.key_state.specs.Exposure.{own_rules}
 use Rattle.key_state.specs.States.{State}

@@ -5,7 +5,6 @@ use Rattle.cesr_codes.specs.declared.key.Key.{Key}
 use Rattle.cesr_codes.specs.declared.sig.Sig.{Sig}
 use Rattle.cesr_stream.specs.declared.message.Message.{Message}
 use Rattle.cesr_stream.specs.Texts.{group_text}
-
 use Rattle.report_lines.specs.declared.plan_refusal.PlanRefusal.TheVariants.{Line, Log, Body, Misfit, Unsigned}
 use Rattle.controller_core.specs.declared.plan_fault.PlanFault.{PlanFault}
 use Rattle.controller_core.specs.declared.plan_fault.PlanFault.TheVariants as fault

@@ -1,5 +1,5 @@
 -- Which event a plan asks for, and behind which state.
-use Rattle.std.specs.Prelude.{◌≡◌, ℕ, ◌+◌, ◌-◌, ◌^◌, ◌<◌, Bool, false, ⊤, Option, Some, None, if◌then◌else◌}
+use Rattle.std.specs.Prelude.{◌≡◌, ◌+◌, ◌-◌, ◌^◌, ◌<◌, Bool, false, [], ⊤, Option, Some, None, if◌then◌else◌}
 use Rattle.std.specs.Option.{option_map}
 use Rattle.cesr_codes.specs.declared.prefix.Prefix.{Prefix}
 use Rattle.event_body.specs.declared.event.Event.{Event}
@@ -12,13 +12,13 @@ use Rattle.plan_text.specs.declared.event_plan.PlannedEvent.{PlannedEvent}
 use Rattle.plan_text.specs.declared.event_plan.PlannedEvent.TheVariants.{Inception, Rotation, Interaction}
 use Rattle.plan_answer.specs.declared.read_log.ReadLog.{ReadLog}
 
--- what a core was told of a log, and whether a message of it or its stream was refused
+-- what a core was told of a log, by which alone its states are known, and whether a message of it or its stream was refused
 pub record LogTold : Type 0 where
   pub core : CoreView
   pub is_refused : Bool
 
 abbrev pub log_told : ReadLog → LogTold
-log_told log = record { core = log.core.now; is_refused = log.is_refused }
+log_told log = record { core = record log.core.now { accepted = [] }; is_refused = log.is_refused }
 
 -- an event, with the digest of its own text, and the state that it is to follow, where it is no inception
 pub record Asked : Type 0 where

@@ -1,6 +1,5 @@
 -- What an outside in memory tells.
 use Rattle.std.specs.Prelude.{if◌then◌else◌}
-use Rattle.std.specs.declared.option.Option.{Option}
 use Rattle.std.specs.declared.option.Option.TheVariants.{None, Some}
 use Rattle.keri_outside.specs.declared.mem_sink.MemSink.{MemSink}
 use Rattle.run_outside.specs.Files.{held_under}

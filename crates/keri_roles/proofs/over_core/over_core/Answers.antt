@@ -35,5 +35,5 @@ returns-clause-done g c =
       owes = owes (λ a. a.bytes.items) (λ a. a.has_conflicts) (λ at text has. g.T.CoreText.is_text (core_of c.args.mode before.limits core.held core.entries) end.refused.items at text has) end.close debt.close
           c.text_of-text.result owed debt.conflict_found
           (rw (c.as_slice.ensures.value, tells.mode_is, tells.limits_are, tells.no_base) at c.text_of-text.ensures) c.owe-close.ensures.ok c.owe-close.ensures.err;
-      nothing_else = refl;
+      nothing_else = rw c.nothing.ensures refl;
     })
