@@ -5,19 +5,29 @@
 
 #define BASE_64 sodium_base64_VARIANT_URLSAFE_NO_PADDING
 
+_Static_assert(KEY_BYTES == crypto_sign_PUBLICKEYBYTES && KEY_BYTES == crypto_hash_sha256_BYTES
+                   && SIGNATURE_BYTES == crypto_sign_BYTES, "the sizes are libsodium's");
+
+bool read_base_64(const char *text, size_t characters, unsigned char *bytes, size_t length)
+{
+    size_t count = 0;
+
+    for (size_t place = 0; place < characters; place++)
+        if ((unsigned char)text[place] > 127) /* which libsodium 1.0.18 takes for `_` */
+            return false;
+    return sodium_base642bin(bytes, length, text, characters, NULL, &count, NULL, BASE_64) == 0 && count == length;
+}
+
 /* The characters after a code of `lead` characters, as `length` raw bytes. */
 static bool read_raw(const char *text, size_t lead, unsigned char *raw, size_t length)
 {
     char digits[SIGNATURE_CHARACTERS];
     unsigned char bytes[2 + SIGNATURE_BYTES];
     size_t characters = (lead + length) / 3 * 4;
-    size_t count;
 
     memcpy(digits, text, characters);
     memset(digits, 'A', lead);
-    if (sodium_base642bin(bytes, sizeof bytes, digits, characters, NULL, &count, NULL, BASE_64) != 0)
-        return false;
-    if (count != lead + length || !sodium_is_zero(bytes, lead))
+    if (!read_base_64(digits, characters, bytes, lead + length) || !sodium_is_zero(bytes, lead))
         return false;
     memcpy(raw, bytes + lead, length);
     return true;
@@ -31,7 +41,7 @@ static void write_raw(const char *code, const unsigned char *raw, size_t length,
     size_t characters = (lead + length) / 3 * 4;
 
     memcpy(bytes + lead, raw, length);
-    sodium_bin2base64(text, characters + 1, bytes, lead + length, BASE_64);
+    (void)sodium_bin2base64(text, characters + 1, bytes, lead + length, BASE_64);
     memcpy(text, code, lead);
 }
 
