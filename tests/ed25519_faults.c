@@ -1,9 +1,10 @@
 /* What tests/ed25519 puts before the C library (LD_PRELOAD), to have keri-ed25519 meet what seldom happens. A step is a
-   call of write, fsync, linkat or unlinkat. The environment says what is wanted:
+   call of write, fsync or renameat. The environment says what is wanted:
    FIXED_RANDOMNESS   every random byte is 7
-   TRACE              the name of each step is written to standard error
+   TRACE              the name of each step is written to standard error, and what becomes of locked memory
    DIE_AT=n, FAIL_AT=n   the program is killed at the step of that number, from 1, or the step fails as on a full disk
-   CHOPPED            every other read or write is interrupted, and the others move one byte */
+   CHOPPED            every other read or write is interrupted, and the others move one byte
+   NO_LOCKING         memory can't be locked */
 #define _GNU_SOURCE
 #include <dlfcn.h>
 #include <errno.h>
@@ -11,16 +12,23 @@
 #include <stdio.h>
 #include <stdlib.h>
 #include <string.h>
+#include <sys/mman.h>
 #include <unistd.h>
 
 typedef ssize_t moving(int, void *, size_t);
 typedef int syncing(int);
-typedef int linking(int, const char *, int, const char *, int);
-typedef int unlinking(int, const char *, int);
+typedef int renaming(int, const char *, int, const char *);
+typedef int locking(const void *, size_t);
 
 static int number(const char *name)
 {
     return getenv(name) ? atoi(getenv(name)) : 0;
+}
+
+static void trace(const char *name)
+{
+    if (getenv("TRACE"))
+        dprintf(STDERR_FILENO, "%s\n", name);
 }
 
 /* Whether the step fails. */
@@ -29,8 +37,7 @@ static int fails(const char *name)
     static int steps;
 
     steps++;
-    if (getenv("TRACE"))
-        dprintf(STDERR_FILENO, "%s\n", name);
+    trace(name);
     if (steps == number("DIE_AT"))
         kill(getpid(), SIGKILL);
     if (steps != number("FAIL_AT"))
@@ -71,14 +78,28 @@ int fsync(int file)
     return fails("fsync") ? -1 : ((syncing *)dlsym(RTLD_NEXT, "fsync"))(file);
 }
 
-int linkat(int from, const char *name, int to, const char *other, int flags)
+int renameat(int from, const char *name, int to, const char *other)
 {
-    return fails("linkat") ? -1 : ((linking *)dlsym(RTLD_NEXT, "linkat"))(from, name, to, other, flags);
+    return fails("renameat") ? -1 : ((renaming *)dlsym(RTLD_NEXT, "renameat"))(from, name, to, other);
 }
 
-int unlinkat(int folder, const char *name, int flags)
+int mlock(const void *bytes, size_t length)
 {
-    return fails("unlinkat") ? -1 : ((unlinking *)dlsym(RTLD_NEXT, "unlinkat"))(folder, name, flags);
+    trace("mlock");
+    errno = EPERM;
+    return getenv("NO_LOCKING") ? -1 : ((locking *)dlsym(RTLD_NEXT, "mlock"))(bytes, length);
+}
+
+/* Called where memory of sodium_malloc is freed. */
+int munlock(const void *bytes, size_t length)
+{
+    const unsigned char *byte = bytes;
+    size_t place = 0;
+
+    while (place < length && byte[place] == 0)
+        place++;
+    trace(place == length ? "wiped" : "unwiped");
+    return ((locking *)dlsym(RTLD_NEXT, "munlock"))(bytes, length);
 }
 
 void randombytes_buf(void *bytes, size_t length)

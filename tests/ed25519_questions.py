@@ -1,4 +1,5 @@
-"""What tests/ed25519 asks: questions of the helper protocol, the vectors of RFC 8032, and signatures to be refused."""
+"""What tests/ed25519 asks: questions of the helper protocol, the vectors of RFC 8032 and a folder of their keys, signatures to
+be refused, and questions that aren't of the form."""
 import hashlib
 import pathlib
 
@@ -29,6 +30,17 @@ def signing(public, body, code="D"):
     return b"S" + spelled(code, public) + b"%08x" % len(body) + body
 
 
+def folder_of(top, *seeds):
+    """A key folder made by its description, with both spellings of the vectors' keys."""
+    top.mkdir(0o700)
+    for seed, public in seeds:
+        for code in "BD":
+            path = top / primitive(code, public)
+            path.write_text(primitive("A", seed) + "\n")
+            path.chmod(0o600)
+    return top
+
+
 def scalar(seed):
     number = int.from_bytes(hashlib.sha512(seed).digest()[:32], "little")
     return number & (1 << 254) - 8 | 1 << 254
@@ -54,3 +66,22 @@ def forgeries():
     for point in map(bytes.fromhex, SMALL):
         answer = challenge(point, PUBLIC, MESSAGE) * scalar(SEED) % ORDER
         yield f"first half {point.hex()}", PUBLIC, with_scalar(point, answer), MESSAGE
+
+
+def malformed():
+    """Questions up to the end of the first field that isn't of the form."""
+    good = verdict(PUBLIC, SIGNATURE, MESSAGE)
+    lengths = {"in capital letters": b"0000000A", "one capital": b"0000ffFf", "with a sign": b"+0000002", "over 65535": b"00010000",
+               "greatest": b"ffffffff", "65535 in decimal": b"00065535", "without zeros": b"2       ",
+               "with spaces": b"       2", "with 0x": b"0x000002", "with a NUL": b"0000000\0"}
+    return {
+        "letter": b"Q", "line feed": b"\n", "small letter": b"v", "small signing letter": b"s",
+        "code of the key": b"VE" + good[2:45], "code of a signing question's key": b"SI" + good[2:45],
+        "character in the key": good[:20] + b"+" + good[21:45], "NUL in the key": good[:44] + b"\0",
+        "bits before the key": b"VD_" + good[3:45], "bit before the key": b"SBQ" + good[3:45],
+        "code of the signature": good[:45] + b"0A" + good[47:133],
+        "bits before the signature": good[:47] + b"Q" + good[48:133],
+        "one bit before the signature": good[:47] + b"E" + good[48:133],
+        "character in the signature": good[:132] + b"=", "eighth bit in the signature": good[:132] + b"\xc1",
+    } | {f"length {name}": good[:133] + text for name, text in lengths.items()} | {
+        f"signing length {name}": b"S" + good[1:45] + text for name, text in lengths.items()}

@@ -2,7 +2,14 @@
 
 #include <errno.h>
 #include <stdio.h>
+#include <stdlib.h>
 #include <unistd.h>
+
+void fail(enum status status, const char *subject, const char *fault)
+{
+    (void)fprintf(stderr, "keri-ed25519: %s: %s\n", subject, fault);
+    exit((int)status);
+}
 
 ssize_t read_whole(int file, void *bytes, size_t length)
 {
@@ -32,9 +39,4 @@ bool write_whole(int file, const void *bytes, size_t length)
             return false;
     }
     return true;
-}
-
-void complain(const char *subject, const char *fault)
-{
-    fprintf(stderr, "keri-ed25519: %s: %s\n", subject, fault);
 }

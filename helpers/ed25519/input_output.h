@@ -1,4 +1,4 @@
-/* Whole reads and writes, the program's statuses, and its one line on standard error. */
+/* Whole reads and writes, and the program's end with a fault. */
 #ifndef INPUT_OUTPUT_H
 #define INPUT_OUTPUT_H
 
@@ -6,20 +6,23 @@
 #include <stddef.h>
 #include <sys/types.h>
 
-/* What the program ends with. */
+/* What the program ends with where it isn't 0. A number means what it means for keri. */
 enum status {
-    DONE = 0,      /* the input ended between two questions; or the key was made */
-    REFUSED = 1,   /* there is no such key, a folder or file is open to others, or the system failed */
-    MALFORMED = 2  /* a question isn't of the form or is cut short; or the words aren't */
+    WORDS = 2,       /* the words aren't of the form */
+    MALFORMED = 3,   /* a question isn't of the form, or is cut short */
+    READ_FAULT = 5,  /* standard input couldn't be read */
+    WRITE_FAULT = 6, /* standard output couldn't be written */
+    KEY_FAULT = 7    /* there is no such key, its folder or file is refused, or a new one couldn't be kept */
 };
+
+/* Ends the program with the status, after one line on standard error: its name, the subject and the fault. No secret may
+   be held. */
+_Noreturn void fail(enum status status, const char *subject, const char *fault);
 
 /* Reads so many bytes, or fewer only where the input ends. Answers how many, or -1 where reading failed. */
 ssize_t read_whole(int file, void *bytes, size_t length);
 
 /* Writes all bytes. At false, errno says why, and some of them may have been written. */
 bool write_whole(int file, const void *bytes, size_t length);
-
-/* Writes the program's name, the subject and the fault as one line to standard error. */
-void complain(const char *subject, const char *fault);
 
 #endif

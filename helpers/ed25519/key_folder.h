@@ -1,18 +1,19 @@
 /* A folder of keys: a file for each, named by the key's 44 characters, which holds the seed's 44 characters (CESR's
-   code A) and a line feed. Folder and files are the caller's, and nobody else can read or write them. */
+   code A) and a line feed. Folder and files are the caller's, and nobody else can read or write them. What goes wrong ends
+   the program with KEY_FAULT. */
 #ifndef KEY_FOLDER_H
 #define KEY_FOLDER_H
 
-#include "input_output.h"
+#include <stddef.h>
+
 #include "primitives.h"
 
-/* Makes a key pair and keeps its seed in the folder, which is made where it isn't there. The key is spelled with the
-   code, B or D. At DONE the file outlasts a crash; at REFUSED a line was written to standard error. */
-enum status make_key(const char *folder, char code, char key[KEY_CHARACTERS + 1]);
+/* Makes a key pair and keeps its seed in the folder, which is made where it isn't there; its file outlasts a crash then.
+   The key is spelled with the code, B or D, and a NUL behind. */
+void make_key(const char *folder, char code, char key[KEY_CHARACTERS + 1]);
 
-/* Signs the body with the secret of the key, whose spelling is the file's name. At REFUSED a line was written to standard
-   error. */
-enum status sign_with(const char *folder, const char *key, const unsigned char *body, size_t length,
-                      unsigned char signature[SIGNATURE_BYTES]);
+/* Signs the body with the secret of the key, whose spelling is the file's name. */
+void sign_with(const char *folder, const char *key, const unsigned char *body, size_t length,
+               unsigned char signature[SIGNATURE_BYTES]);
 
 #endif
