@@ -1,0 +1,3 @@
+mod Lengths
+pub mod Pieces
+pub mod Putting

@@ -1,0 +1,5 @@
+pub mod Questions
+pub mod Answers
+pub mod Sides
+pub mod Exchanges
+pub mod Fields
