@@ -1,3 +1,5 @@
+pub mod Answered
+pub mod Behind
 mod Lengths
 pub mod Pieces
 pub mod Putting

@@ -7,7 +7,7 @@ use borrow.Rule.Slice.PartMut.{put_mid}
 use Rattle.keri_specs.specs.Told.{before}
 use Rattle.verifier_link.specs.Sides.{SourceTold, Gave}
 
-before_more : (first middle last : Option (List ℕ)) (bytes piece : List ℕ) → first ≡ before bytes middle → middle ≡ before piece last → first ≡ before (bytes ++ piece) last
+pub before_more : (first middle last : Option (List ℕ)) (bytes piece : List ℕ) → first ≡ before bytes middle → middle ≡ before piece last → first ≡ before (bytes ++ piece) last
 before_more first middle None bytes piece a b = a ∙ ap (before bytes) b
 before_more first middle (Some left) bytes piece a b = a ∙ (ap (before bytes) b ∙ ap (λ l. Some l) (sym (append_assoc bytes piece left)))
 

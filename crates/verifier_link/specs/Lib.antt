@@ -3,3 +3,5 @@ pub mod Answers
 pub mod Sides
 pub mod Exchanges
 pub mod Fields
+pub mod Stops
+pub mod Serving
