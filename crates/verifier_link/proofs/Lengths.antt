@@ -1,5 +1,5 @@
 -- Lengths and their 8 digits.
-use Rattle.std.proofs.Common.{◌≡◌, ℕ, ◌/◌, ◌%◌, ◌^◌, ◌<◌, true, List, [], ◌∷◌, length, map, refl, sym, ap, ◌∙◌, arith}
+use Rattle.std.proofs.Common.{◌≡◌, ℕ, ◌/◌, ◌%◌, ◌^◌, ◌<◌, ◌≤◌, true, List, [], ◌∷◌, length, map, refl, sym, ap, ◌∙◌, arith}
 use Rattle.std.specs.List.{list_all}
 use Rattle.std.specs.Int.Digits.{AllBelowBase, number_from_digits}
 use Rattle.std.proofs.lemmas.Bool.{and_parts}
@@ -7,7 +7,7 @@ use Rattle.std.proofs.lemmas.Bool.Decides.{nat_tests}
 use Rattle.std.proofs.lemmas.List.{length-map}
 use Rattle.keri_specs.specs.Base64.{digits_in}
 use Rattle.keri_specs.specs.Hex.{is_hex, hex_digit, hex_value}
-use Rattle.keri_specs.proofs.Digits.{digits_in-number, number-digits_in, all_below-digits_in}
+use Rattle.keri_specs.proofs.Digits.{digits_in-number, length-digits_in, number-digits_in, all_below-digits_in}
 use Rattle.verifier_link.specs.Questions.{hex_character, length_text}
 
 digits_are : (n : ℕ) → n < 2 ^ 16 → digits_in 16 8 n ≡ 0 ∷ 0 ∷ 0 ∷ 0 ∷ n / 4096 ∷ n / 256 % 16 ∷ n / 16 % 16 ∷ n % 16 ∷ []
@@ -76,3 +76,10 @@ all_hex-length_text n = all_hex (digits_in 16 8 n) (all_below-digits_in 16 8 n (
 pub value-length_text : (n : ℕ) → n < 16 ^ 8 → hex_value (length_text n) ≡ n
 value-length_text n small =
     ap (number_from_digits 16) (digits_back (digits_in 16 8 n) (all_below-digits_in 16 8 n (omega arith))) ∙ number-digits_in 16 8 n (omega arith) small
+
+pub length-length_text : (n : ℕ) → length (length_text n) ≡ 8
+length-length_text n = length-map (digits_in 16 8 n) hex_character ∙ length-digits_in 16 8 n
+
+-- a length is written in one way
+pub same_length : (n m : ℕ) → n ≤ 65535 → m ≤ 65535 → length_text n ≡ length_text m → n ≡ m
+same_length n m few less e = sym (value-length_text n (omega arith)) ∙ ap hex_value e ∙ value-length_text m (omega arith)

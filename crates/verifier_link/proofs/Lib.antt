@@ -3,3 +3,6 @@ pub mod Behind
 mod Lengths
 pub mod Pieces
 pub mod Putting
+pub mod Refused
+pub mod Rests
+pub mod Spelled

@@ -5,3 +5,4 @@ pub mod Exchanges
 pub mod Fields
 pub mod Stops
 pub mod Serving
+pub mod Readings

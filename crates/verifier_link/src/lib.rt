@@ -3,6 +3,7 @@
 
 mod answer;
 mod field;
+mod laws;
 mod length_digits;
 mod letter;
 mod link;
@@ -13,6 +14,7 @@ mod served;
 mod stop;
 mod wanted;
 
+pub use laws::{begun_or_refused, one_reading};
 pub use link::Link;
 pub use rehearsal_server::serve_rehearsal;
 pub use served::Served;

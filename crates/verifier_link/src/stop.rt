@@ -5,7 +5,7 @@ ghost use Rattle.verifier_link.specs.Stops.{cut_short, served_at};
 use crate::Served;
 
 /// Why a field wasn't read.
-#[derive(Clone, Copy, PartialEq, Eq, Debug)]
+#[derive(Clone, Copy)]
 pub(crate) enum Stop {
     /// The input ended before the field was whole.
     Ended,
