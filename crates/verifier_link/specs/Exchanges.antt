@@ -20,7 +20,7 @@ pub record Refuses (old new : SinkTold) (bytes : List ℕ) : Type 0 where
   pub faults : Rose old.faults new.faults
 
 -- Fewer bytes came than were due: the source failed, or its input ended.
-pub record CutShort (old new : SourceTold) (due : ℕ) : Type 0 where
+pub record ComesShort (old new : SourceTold) (due : ℕ) : Type 0 where
   pub bytes : List ℕ
   pub fewer : length bytes < due
   pub left : old.left ≡ before bytes new.left
@@ -40,7 +40,7 @@ pub record FailsToPut (question : Question) (old new : LinkTold) : Type 0 where
 -- the question was put, and fewer bytes came than the answer has
 pub record FailsToRead (due : ℕ) (question : Question) (old new : LinkTold) : Type 0 where
   pub put : Took old.sink new.sink (question_text question)
-  pub read : CutShort old.source new.source due
+  pub read : ComesShort old.source new.source due
 
 module _ {A : Type 0} (Says : A → List ℕ → Type 0) (question : Question) (old new : LinkTold) where
   -- the question was put, and the bytes that came say the answer
