@@ -31,6 +31,10 @@ source_told left faults source = record { left = left source; faults = faults so
 abbrev pub sink_told : {K : Type 0} → (K → Option (List ℕ)) → (K → ℕ) → K → SinkTold
 sink_told written faults sink = record { written = written sink; faults = faults sink }
 
+-- how often a link has failed
+abbrev pub link_faults : {S K : Type 0} → Link S K → ℕ
+link_faults link = link.faults
+
 module _ {S K : Type 0} (left : S → Option (List ℕ)) (read_faults : S → ℕ) (written : K → Option (List ℕ)) (write_faults : K → ℕ) where
   abbrev pub link_told : Link S K → LinkTold
   link_told link = record { source = source_told left read_faults link.source; sink = sink_told written write_faults link.sink; faults = link.faults }

@@ -7,8 +7,9 @@ use crate::question::put_question;
 use cesr_codes::{Key, Sig};
 use keri_outside::{Failed, Signer, Sink, Source, Verifier};
 
-/// A verifier and a signer that asks a helper: questions go to the sink, and answers come from the source. Once it has
-/// failed it is out of step with the helper, so then it fails without asking.
+/// A verifier and a signer that asks a helper: questions go to the sink, and answers come from the source. It doesn't tell
+/// what it says; beside what each verifier and each signer promises, `ask` and `sign` say of the bytes what was put and
+/// read. Once a link has failed it is out of step with the helper, so then it fails without asking.
 #[derive(Drop)]
 pub struct Link<S, K> {
     source: S,
@@ -19,10 +20,9 @@ pub struct Link<S, K> {
 impl<S: Source, K: Sink> Link<S, K> {
     ghost use Rattle.std.specs.Prelude.{◌+◌, ◌-◌, ◌^◌, ◌≤◌, min, length, OnOk, IfErr};
     ghost use Rattle.keri_specs.specs.Causes.{HasCause};
-    ghost use Rattle.verifier_link.specs.Answers.{SaysSig, SaysVerdict};
-    ghost use Rattle.verifier_link.specs.Questions.{question, signing_question, verdict_question};
-    ghost use Rattle.verifier_link.specs.Exchanges.{Exchanges, Fetches};
-    ghost use Rattle.verifier_link.specs.Sides.{link_told, source_told, sink_told};
+    ghost use Rattle.verifier_link.specs.Questions.{question};
+    ghost use Rattle.verifier_link.specs.Exchanges.{Fetches};
+    ghost use Rattle.verifier_link.specs.Sides.{link_faults, link_told, source_told, sink_told};
 
     /// A link that wasn't asked yet.
     pub fn new(source: S, sink: K) -> Link<S, K>
@@ -35,46 +35,12 @@ impl<S: Source, K: Sink> Link<S, K> {
         }
     }
 
-    /// Asks for a verdict, as `ask` does. What is said here of the bytes stands on a method of its own, since a method of
-    /// a trait promises what the trait says, and no more.
-    pub fn ask_helper(&mut self, key: &Key, body: &[u8], sig: &Sig) -> Result<bool, Failed>
-        requires { length body.now ≤ 65535 }
-
-        // The question was put and the bytes read say the verdict, or one of the faults came.
-        ensures exchanges { Exchanges SaysVerdict (verdict_question key.now body.now sig.now) (link_told S.left S.faults K.written K.faults self.old) (link_told S.left S.faults K.written K.faults self.new) result }
-        ensures cause { HasCause self.old.faults self.new.faults result }
-    {
-        let mut answer = [0u8; 1];
-        self.fetch(&Wanted::Verdict(*key, *sig), body, &mut answer)?;
-        match answer {
-            [b'Y'] => Ok(true),
-            [b'N'] => Ok(false),
-            _ => Err(self.fail()),
-        }
-    }
-
-    /// Asks for a signature, as `sign` does.
-    pub fn sign_with_helper(&mut self, key: &Key, body: &[u8]) -> Result<Sig, Failed>
-        requires { length body.now ≤ 65535 }
-
-        // The question was put and the bytes read are the signature, or one of the faults came.
-        ensures exchanges { Exchanges SaysSig (signing_question key.now body.now) (link_told S.left S.faults K.written K.faults self.old) (link_told S.left S.faults K.written K.faults self.new) result }
-        ensures cause { HasCause self.old.faults self.new.faults result }
-    {
-        let mut answer = [0u8; 88];
-        self.fetch(&Wanted::Signature(*key), body, &mut answer)?;
-        match Sig::read(&answer) {
-            Ok((sig, _)) => Ok(sig),
-            Err(_) => Err(self.fail()),
-        }
-    }
-
     // Puts a question and reads the bytes of its answer.
     fn fetch(&mut self, wanted: &Wanted, body: &[u8], answer: &mut [u8]) -> Result<(), Failed>
         requires { length body.now ≤ 65535 }
         ensures fetches { Fetches (question wanted.now body.now) (link_told S.left S.faults K.written K.faults self.old) (link_told S.left S.faults K.written K.faults self.new) answer.new result }
         ensures size { length answer.new ≡ length answer.old }
-        ensures cause { HasCause self.old.faults self.new.faults result }
+        ensures cause { HasCause (link_faults self.old) (link_faults self.new) result }
     {
         if self.faults > 0 {
             return Err(self.fail());
@@ -98,25 +64,58 @@ impl<S: Source, K: Sink> Link<S, K> {
 }
 
 impl<S: Source, K: Sink> Verifier for Link<S, K> {
-    ghost use Rattle.std.specs.Prelude.{None};
+    ghost use Rattle.std.specs.Prelude.{◌≤◌, None, length};
+    ghost use Rattle.keri_specs.specs.Causes.{HasCause};
+    ghost use Rattle.verifier_link.specs.Answers.{SaysVerdict};
+    ghost use Rattle.verifier_link.specs.Exchanges.{Exchanges};
+    ghost use Rattle.verifier_link.specs.Questions.{verdict_question};
+    ghost use Rattle.verifier_link.specs.Sides.{link_faults, link_told};
 
     ghost says = { λ _ _ _ _. None };
 
-    ghost faults = { λ link. link.faults };
+    ghost faults = { link_faults };
 
-    fn ask(&mut self, key: &Key, body: &[u8], sig: &Sig) -> Result<bool, Failed> {
-        self.ask_helper(key, body, sig)
+    fn ask(&mut self, key: &Key, body: &[u8], sig: &Sig) -> Result<bool, Failed>
+        requires { length body.now ≤ 65535 }
+
+        // The question was put and the bytes read say the verdict, or a fault came.
+        ensures exchanges { Exchanges SaysVerdict (verdict_question key.now body.now sig.now) (link_told S.left S.faults K.written K.faults self.old) (link_told S.left S.faults K.written K.faults self.new) result }
+        ensures cause { HasCause (link_faults self.old) (link_faults self.new) result }
+    {
+        let mut answer = [0u8; 1];
+        self.fetch(&Wanted::Verdict(*key, *sig), body, &mut answer)?;
+        match answer {
+            [b'Y'] => Ok(true),
+            [b'N'] => Ok(false),
+            _ => Err(self.fail()),
+        }
     }
 }
 
 impl<S: Source, K: Sink> Signer for Link<S, K> {
-    ghost use Rattle.std.specs.Prelude.{None};
+    ghost use Rattle.std.specs.Prelude.{◌≤◌, None, length};
+    ghost use Rattle.keri_specs.specs.Causes.{HasCause};
+    ghost use Rattle.verifier_link.specs.Answers.{SaysSig};
+    ghost use Rattle.verifier_link.specs.Exchanges.{Exchanges};
+    ghost use Rattle.verifier_link.specs.Questions.{signing_question};
+    ghost use Rattle.verifier_link.specs.Sides.{link_faults, link_told};
 
     ghost gives = { λ _ _ _. None };
 
-    ghost faults = { λ link. link.faults };
+    ghost faults = { link_faults };
 
-    fn sign(&mut self, key: &Key, body: &[u8]) -> Result<Sig, Failed> {
-        self.sign_with_helper(key, body)
+    fn sign(&mut self, key: &Key, body: &[u8]) -> Result<Sig, Failed>
+        requires { length body.now ≤ 65535 }
+
+        // The question was put and the bytes read are the signature, or a fault came.
+        ensures exchanges { Exchanges SaysSig (signing_question key.now body.now) (link_told S.left S.faults K.written K.faults self.old) (link_told S.left S.faults K.written K.faults self.new) result }
+        ensures cause { HasCause (link_faults self.old) (link_faults self.new) result }
+    {
+        let mut answer = [0u8; 88];
+        self.fetch(&Wanted::Signature(*key), body, &mut answer)?;
+        match Sig::read(&answer) {
+            Ok((sig, _)) => Ok(sig),
+            Err(_) => Err(self.fail()),
+        }
     }
 }

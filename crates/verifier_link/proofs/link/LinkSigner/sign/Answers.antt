@@ -1,6 +1,6 @@
 use Rattle.std.proofs.Common.{◌∙◌, [], inr, sym, arith, append-nil}
 use Rattle.cesr_codes.specs.Spelling.{sig_text}
-use Rattle.verifier_link.proofs.link.Link.sign_with_helper.Goals as goal
+use Rattle.verifier_link.proofs.link.LinkSigner.sign.Goals as goal
 
 pub returns-in-Err-clause-exchanges : goal.returns-in-Err-clause-exchanges
 returns-in-Err-clause-exchanges g c =
