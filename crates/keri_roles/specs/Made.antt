@@ -100,9 +100,9 @@ pub record OwesAnswer (given : Given) (signer : SignerTold) (owed : Option (List
 abbrev pub OwesNone : SignerTold → Option (List ℕ) → Besides → Type 0
 OwesNone signer owed besides = (owed ≡ None) × (besides ≡ nothing_besides)
 
--- this is owed, and it is found whether the signer couldn't be made
+-- this is owed, it is found whether the signer couldn't be made, and one that could hasn't failed
 abbrev pub IsUnanswered : Option (List ℕ) → Option SignerTold → Option (List ℕ) → Besides → Type 0
-IsUnanswered text signer owed besides = (owed ≡ text) × (besides ≡ record nothing_besides { signer_failed = is_none signer })
+IsUnanswered text signer owed besides = (owed ≡ text) × (besides ≡ record nothing_besides { signer_failed = is_none signer }) × IfSome signer (λ s. s.faults ≡ 0)
 
 -- There is an answer where each reader came to the end and there is a signer. Else nothing is written.
 abbrev pub IsDueBy : Given → (out through : Bool) → Option SignerTold → Option (List ℕ) → Besides → Type 0

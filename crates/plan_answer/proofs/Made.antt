@@ -53,7 +53,7 @@ module _ (gives : Key → List ℕ → Option Sig) (is : Asked) (slots : List Sl
       → (HasNumber is.state → IfErr answer (IsRefusal is.state is.event slots)) → (IsPastLast is.state → IsLastAnswer (event_text is.event) answer)
       → answer_to answer ≡ Some text → IsEventAnswer gives is slots text
   answers (Ok message) text m signed refused last e =
-      let same : MessageAnswer (message_text message) ≡ text = cc e in rw (sym same) (record { message = message; made = m; signed = signed; spelled = refl })
+      let same : MessageAnswer (message_text message) ≡ text = cc e in rw (sym same) (record { message = message; made = m; signed = signed; numbered = λ past. last past; spelled = refl })
   answers (Err (fault.Body body)) text m signed refused last e =
       let same : Refused (why.Body body) ≡ text = cc e in rw (sym same) (record { refused = refused; last = last })
   answers (Err (fault.Misfit misfit)) text m signed refused last e =

@@ -39,11 +39,13 @@ pub record IsRefusedBy (is : Asked) (slots : List Slot) (why : PlanFault) : Type
   pub refused : HasNumber is.state → IsRefusal is.state is.event slots why
   pub last : IsPastLast is.state → IsLastRefusal (event_text is.event) why
 
--- the message of the event, with a signature in each slot; once these have yes verdicts, it is signed
+-- the message of the event, whose number isn't past the greatest, with a signature in each slot; once these have yes verdicts,
+-- it is signed
 pub record IsMadeOf (gives : Key → List ℕ → Option Sig) (is : Asked) (slots : List Slot) (text : List ℕ) : Type 0 where
   pub message : Message
   pub made : IsMessageOf gives is.state is.event slots message
   pub signed : IsSignedByYes is.state is.event message
+  pub numbered : ¬ IsPastLast is.state
   pub spelled : text ≡ message_text message
 
 -- The answer to an event that is asked for.
