@@ -15,6 +15,5 @@ pub mod BegunWraps
 pub mod BegunItems
 pub mod Counters
 pub mod Bounds
-pub mod Putting
 pub mod Sizes
 pub mod Wholes

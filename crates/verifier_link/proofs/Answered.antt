@@ -16,7 +16,7 @@ use Rattle.verifier_link.specs.Sides.{SourceTold, SinkTold, Gave}
 use Rattle.verifier_link.specs.Stops.{StopsReading, served_at}
 use Rattle.verifier_link.proofs.Behind.{taken_more, left_more, rose_more, next_more}
 use Rattle.verifier_link.proofs.Pieces.{gave_more}
-use Rattle.verifier_link.proofs.Putting.{after-append}
+use Rattle.keri_specs.proofs.Putting.{after-append}
 
 -- Questions were read and answered, and so many bytes more may be read.
 pub record AreAnswered (most room : ℕ) (first now : SidesTold) : Type 0 where

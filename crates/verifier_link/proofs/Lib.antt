@@ -2,7 +2,6 @@ pub mod Answered
 pub mod Behind
 mod Lengths
 pub mod Pieces
-pub mod Putting
 pub mod Refused
 pub mod Rests
 pub mod Spelled

@@ -11,7 +11,7 @@ pub after-nil : (told : Option (List ℕ)) → told ≡ after told []
 after-nil None = refl
 after-nil (Some text) = ap Some (sym (append-nil text))
 
-after-append : (told : Option (List ℕ)) (text more : List ℕ) → after (after told text) more ≡ after told (text ++ more)
+pub after-append : (told : Option (List ℕ)) (text more : List ℕ) → after (after told text) more ≡ after told (text ++ more)
 after-append None text more = refl
 after-append (Some front) text more = ap Some (append_assoc front text more)
 
