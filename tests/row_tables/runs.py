@@ -5,7 +5,7 @@ A run's end is its status, how many messages and verdicts were told, how each re
 where that failed.
 """
 from event_cases import ROT
-from kit import PLAIN_ICP as ICP, counter, digest, indexed, key, rehearsed, said, signed
+from kit import PLAIN_ICP as ICP, counter, digest, indexed, key, primitive, rehearsal, rehearsed, said, signature, signed
 from log_cases import BOTH, CONFLICTING, IXN_1, LOG, OTHER_1, REALISTIC, REALISTIC_LINES, log, waits
 from row_tables import argument
 from stream_cases import BARE, RECEIPT, inception_line, malformed
@@ -169,6 +169,9 @@ def helpers():
     yield from run(VALIDATE, REPORT, "0 told=2 End " + MADE, ICP + "-AAB" + indexed("AA", "a"), says="yes")
     yield from run(VALIDATE, waits(ICP, "signatures"), "0 told=2 End " + MADE, ICP + "-AAB" + rehearsed(2, ICP))
     yield from run(WATCH, "", "0 told=4 End " + MADE, BOTH_ROTATIONS, says="no")
+    # Any name is a helper's; there is none of this one.
+    yield from run(VALIDATE.replace("rehearsal", "b"), VERIFIER_FAULT, "7 told=0 VerifierFault Source Verifier!", SIGNED)
+    yield from run(MAKE.replace("rehearsal", "b"), "", "7 told=0 End Source Signer!", plan=ICP_PLAN)
 
 
 # What `make` is given: the plan of the plain inception, and that of the interaction behind it.
@@ -230,6 +233,58 @@ def limits_of_make():
     yield from run(BEHIND, "", "9 told=0 End Full " + BOTH_MADE, SIGNED, IXN_PLAN, messages=0)
 
 
+def verdict_question(body, number=1, signature=None, length=None):
+    """The question whether a signature, else the rehearsal's, is a key's on a body."""
+    signature = signature or primitive("0B", rehearsal(number, body))
+    return "V%s%s%s%s" % (key(number), signature, length or "%08x" % len(body), body)
+
+
+def signing_question(body, number=1):
+    return "S%s%08x%s" % (key(number), len(body), body)
+
+
+def served(text, written, status, close, **settings):
+    yield from run("rehearse", written, "%d told=0 %s Source" % (status, close), text, **settings)
+
+
+def questions():
+    """A verdict question on the bare receipt has 286 bytes, and its answer one."""
+    verdict = verdict_question(RECEIPT)
+    assert len(verdict) == 286 and verdict[133:141] == "00000091"
+    signed_receipt = primitive("0B", rehearsal(1, RECEIPT))
+    yield from served("", "", 0, "End")
+    yield from served(verdict, "Y", 0, "End")
+    yield from served(verdict, "Y", 0, "End", piece=1)
+    yield from served(verdict_question(RECEIPT, signature=signature("a")), "N", 0, "End")
+    yield from served(verdict_question(RECEIPT, 2, signed_receipt), "N", 0, "End")
+    yield from served(verdict_question(""), "Y", 0, "End")
+    yield from served(signing_question(RECEIPT), signed_receipt, 0, "End")
+    yield from served(verdict + signing_question(ICP, 2) + verdict, "Y" + primitive("0B", rehearsal(2, ICP)) + "Y", 0, "End")
+    # Cut short; a letter, a key, a signature and a length that are none.
+    for other in ("Q", "v", "VE" + verdict[2:], "VDQ" + 42 * "A" + verdict[45:], verdict_question(RECEIPT, signature="AA" + signed_receipt[2:]),
+                  verdict_question(RECEIPT, signature="0BE" + 85 * "A"), verdict_question(RECEIPT, length="0000009A"),
+                  verdict_question(RECEIPT, length="00010000"), verdict_question(RECEIPT, length="     145"),
+                  verdict[:285], verdict[:133], verdict[:1]):
+        yield from served(other, "", 3, "Malformed(0)")
+        yield from served(verdict + other, "Y", 3, "Malformed(286)")
+    yield from served(verdict * 2 + verdict[:200], "YY", 3, "Malformed(572)")
+
+
+def faults_of_rehearse():
+    """What was answered before a fault or a limit stays written."""
+    verdict = verdict_question(RECEIPT)
+    yield from run("rehearse", "", "5 told=0 ReadFault Source!", verdict, makings=0)
+    yield from served(verdict, "", 5, "ReadFault", reads=0)
+    yield from served(verdict * 2, "Y", 5, "ReadFault", piece=1, reads=286)
+    yield from served(verdict, "", 6, "WriteFault", puts=0)
+    yield from served(verdict * 3, "Y", 6, "WriteFault", puts=1)
+    yield from served(verdict, "Y", 0, "End", stream_bytes=286)
+    yield from served(verdict, "", 9, "Full", stream_bytes=285)
+    yield from served(verdict * 2, "Y", 9, "Full", stream_bytes=286)
+    yield from served("", "", 0, "End", stream_bytes=0)
+    yield from run("rehearse,a", "words\n", "2 told=0", verdict)
+
+
 def rows():
     yield "# limits"
     yield from limits_of_made_streams()
@@ -243,7 +298,10 @@ def rows():
     yield from reads()
     yield from asks()
     yield from faults_of_make()
+    yield from faults_of_rehearse()
     yield "# helpers"
     yield from helpers()
+    yield "# questions to the rehearsal"
+    yield from questions()
     yield "# messages of plans"
     yield from messages_of_plans()

@@ -1,10 +1,15 @@
 //! Commands, read from the words.
-ghost use Rattle.std.specs.Prelude.{◌≡◌, map, string_bytes};
+ghost use Rattle.std.specs.Prelude.{◌≡◌, ◌≤◌, IfOk, IfSome, map, option_and_then, string_bytes};
 ghost use Rattle.std.specs.Option.{option_map};
+ghost use Rattle.clap.specs.Words.{first_of, subcommand_rows_of};
 ghost use Rattle.command_words.specs.Words as specs;
-ghost use Rattle.command_words.specs.Words.{are_helper, asked_by, asks, asks_gen, asks_make, asks_of_file, asks_over_core, is_file, is_helper};
+ghost use Rattle.command_words.specs.Words.{asked_by, asks, asks_by_name, asks_check, asks_gen, asks_make, asks_over_core, rows_in};
 
-use crate::number::{count_set, number_set, value_of};
+use crate::form::program;
+use crate::number::number;
+use clap::ArgMatches;
+use clap::error::ErrorKind;
+use std::alloc::{AllocError, Global};
 
 // A stream that is made has no more logs, and these no more events.
 const MOST_OF_LOGS: u16 = 1_000;
@@ -40,129 +45,107 @@ pub enum Command<'a> {
         logs: u16,
         events: u16,
     },
+    /// Serves the protocol of a helper, over standard input and output.
+    Rehearse,
 }
 
 /// What the words behind the program's name ask for, where they are in the form of a command.
-pub fn command_of(words: &[String]) -> Option<Command<'_>>
-    ensures { option_map asked_by result ≡ asks (map string_bytes words.now) }
+pub fn command_of<'a>(alloc: Global, words: &'a [String]) -> Result<Option<Command<'a>>, AllocError>
+    ensures answered { IfOk result (λ command. option_map asked_by command ≡ asks (map string_bytes words.now)) }
 {
-    match words {
-        [name, options @ ..] if name.as_str() == "gen" => generate(options),
-        [name, options @ ..] if name.as_str() == "make" => make(options),
-        _ => of_file(words),
+    match program(alloc)?.try_get_matches_from(words) {
+        Ok(matches) => Ok(command_in(&matches)),
+        Err(error) => match error.kind() {
+            ErrorKind::OutOfMemory => Err(AllocError),
+            _ => Ok(None),
+        },
     }
 }
 
-// What is asked for by words that name a file.
-fn of_file(words: &[String]) -> Option<Command<'_>>
-    ensures { option_map asked_by result ≡ asks_of_file (map string_bytes words.now) }
+// The command that was found in words.
+fn command_in<'a>(matches: &ArgMatches<'a>) -> Option<Command<'a>>
+    ensures { option_map asked_by result ≡ option_and_then (λ met. asks_by_name met.0 met.1) (subcommand_rows_of matches.now) }
 {
-    match words {
-        [name, file] if name.as_str() == "check" && names_file(file.as_bytes()) => {
-            Some(Command::Check {
-                file: file.as_str(),
-            })
-        }
-        [name, option, helper, file]
-            if names_helper(option.as_str(), helper.as_str()) && names_file(file.as_bytes()) => {
-            over_core(name.as_str(), helper.as_str(), file.as_str())
-        }
+    let (name, found) = matches.subcommand()?;
+    command_by_name(name, found)
+}
+
+// The command of this name, with the values that were found.
+fn command_by_name<'a>(name: &str, found: &ArgMatches<'a>) -> Option<Command<'a>>
+    ensures { option_map asked_by result ≡ asks_by_name name.now (rows_in found.now) }
+{
+    match name {
+        "check" => check(found),
+        "validate" => validate(found),
+        "watch" => watch(found),
+        "make" => make(found),
+        "gen" => generate(found),
+        "rehearse" => Some(Command::Rehearse),
         _ => None,
     }
 }
 
-// The command of this name that tells a core what a file holds.
-fn over_core<'a>(name: &str, helper: &'a str, file: &'a str) -> Option<Command<'a>>
-    ensures { option_map asked_by result ≡ asks_over_core name.now helper.now file.now }
+// Each command, by the values that it was given.
+fn check<'a>(found: &ArgMatches<'a>) -> Option<Command<'a>>
+    ensures { option_map asked_by result ≡ asks_check (rows_in found.now) }
 {
-    if name == "validate" {
-        return Some(Command::Validate { helper, file });
-    }
-    if name == "watch" {
-        return Some(Command::Watch { helper, file });
-    }
-    None
+    let file = value(found, "file")?;
+    Some(Command::Check { file })
 }
 
-// What `gen` is asked for by its options.
-fn generate<'a>(options: &[String]) -> Option<Command<'a>>
-    ensures { option_map asked_by result ≡ asks_gen (map string_bytes options.now) }
+fn validate<'a>(found: &ArgMatches<'a>) -> Option<Command<'a>>
+    ensures { option_map asked_by result ≡ asks_over_core specs.validate (rows_in found.now) }
 {
-    if options.len() != 6 {
-        return None;
-    }
-    Some(Command::Generate {
-        seed: number_set(options, "--seed", 0, u64::MAX)?,
-        logs: count_set(options, "--logs", MOST_OF_LOGS)?,
-        events: count_set(options, "--events", MOST_OF_EVENTS)?,
-    })
+    let helper = value(found, "helper")?;
+    let file = value(found, "file")?;
+    Some(Command::Validate { helper, file })
 }
 
-// What `make` is asked for by its options.
-fn make<'a>(options: &'a [String]) -> Option<Command<'a>>
-    ensures { option_map asked_by result ≡ asks_make (map string_bytes options.now) }
+fn watch<'a>(found: &ArgMatches<'a>) -> Option<Command<'a>>
+    ensures { option_map asked_by result ≡ asks_over_core specs.watch (rows_in found.now) }
 {
-    let helper = helper_set(options)?;
-    let plan = file_set(options, "--plan")?;
-    let log = log_set(options)?;
+    let helper = value(found, "helper")?;
+    let file = value(found, "file")?;
+    Some(Command::Watch { helper, file })
+}
+
+fn make<'a>(found: &ArgMatches<'a>) -> Option<Command<'a>>
+    ensures { option_map asked_by result ≡ asks_make (rows_in found.now) }
+{
+    let helper = value(found, "helper")?;
+    let plan = value(found, "plan")?;
+    let log = value(found, "log");
     Some(Command::Make { helper, plan, log })
 }
 
-// The helper that the option names, where that is the one helper.
-fn helper_set<'a>(options: &'a [String]) -> Option<&'a str>
-    ensures { option_map (λ word. word.now) result ≡ specs.helper_set (map string_bytes options.now) }
+fn generate<'a>(found: &ArgMatches<'a>) -> Option<Command<'a>>
+    ensures { option_map asked_by result ≡ asks_gen (rows_in found.now) }
 {
-    let helper = value_of(options, "--helper")?;
-    if is_rehearsal(helper) {
-        Some(helper)
-    } else {
-        None
-    }
+    let seed = number_set(found, "seed", 0, u64::MAX)?;
+    let logs = count_set(found, "logs", MOST_OF_LOGS)?;
+    let events = count_set(found, "events", MOST_OF_EVENTS)?;
+    Some(Command::Generate { seed, logs, events })
 }
 
-// The file that an option names.
-fn file_set<'a>(options: &'a [String], option: &str) -> Option<&'a str>
-    ensures { option_map (λ word. word.now) result ≡ specs.file_set option.now (map string_bytes options.now) }
+// The number that an option is set to, where it is in this range.
+fn number_set(found: &ArgMatches<'_>, option: &str, least: u64, most: u64) -> Option<u64>
+    ensures number { result ≡ specs.number_set option.now least most (rows_in found.now) }
+    ensures most { IfSome result (λ n. n ≤ most) }
 {
-    let file = value_of(options, option)?;
-    if names_file(file.as_bytes()) {
-        Some(file)
-    } else {
-        None
-    }
+    number(value(found, option)?.as_bytes(), least, most)
 }
 
-// The log's file, which may be left out, where the options are as many as that asks for.
-fn log_set<'a>(options: &'a [String]) -> Option<Option<&'a str>>
-    ensures { option_map (λ log. option_map (λ word. word.now) log) result ≡ specs.log_set (map string_bytes options.now) }
+// How many an option asks for, where that is one at least and not too many.
+fn count_set(found: &ArgMatches<'_>, option: &str, most: u16) -> Option<u16>
+    ensures { result ≡ specs.number_set option.now 1 most (rows_in found.now) }
 {
-    match options.len() {
-        4 => Some(None),
-        6 => Some(Some(file_set(options, "--log")?)),
-        _ => None,
-    }
+    let count = number_set(found, option, 1, u64::from(most))?;
+    u16::try_from(count).ok()
 }
 
-// Whether the word names the one helper.
-fn is_rehearsal(helper: &str) -> bool
-    ensures { result ≡ is_helper helper.now }
+// The value of an option, or the FILE, by its name.
+fn value<'a>(found: &ArgMatches<'a>, name: &str) -> Option<&'a str>
+    ensures { option_map (λ value. value.now) result ≡ first_of name.now (rows_in found.now) }
 {
-    helper == "rehearsal"
-}
-
-// Whether the words are an option that names the one helper.
-fn names_helper(option: &str, helper: &str) -> bool
-    ensures { result ≡ are_helper option.now helper.now }
-{
-    option == "--helper" && is_rehearsal(helper)
-}
-
-// Whether it is `-`, or doesn't begin with it.
-fn names_file(word: &[u8]) -> bool
-    ensures { result ≡ is_file word.now }
-{
-    match word {
-        [b'-', _, ..] => false,
-        _ => true,
-    }
+    found.get_str(name)
 }

@@ -2,6 +2,7 @@
 #![tactic(auto)]
 
 mod command;
+mod form;
 mod number;
 
 pub use command::{Command, command_of};

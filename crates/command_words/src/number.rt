@@ -1,42 +1,13 @@
 //! Numbers in decimal.
-ghost use Rattle.std.specs.Prelude.{◌≡◌, ◌≤◌, IfSome, true, map, string_bytes};
-ghost use Rattle.std.specs.Option.{option_map};
+ghost use Rattle.std.specs.Prelude.{◌≡◌, ◌≤◌, IfSome, true};
 ghost use Rattle.std.specs.List.{list_all};
 ghost use Rattle.command_words.specs.Numbers.{decimal_value as number_of, is_decimal, is_digit, number_in};
-ghost use Rattle.command_words.specs.Words as specs;
 
 // The greatest number of 64 bits has so many digits.
 const MOST_DIGITS: usize = 20;
 
-/// The number that an option is set to, where it is in this range.
-pub(crate) fn number_set(words: &[String], option: &str, least: u64, most: u64) -> Option<u64>
-    ensures number { result ≡ specs.number_set option.now least most (map string_bytes words.now) }
-    ensures most { IfSome result (λ n. n ≤ most) }
-{
-    number(value_of(words, option)?.as_bytes(), least, most)
-}
-
-/// How many an option asks for, where that is one at least and not too many.
-pub(crate) fn count_set(words: &[String], option: &str, most: u16) -> Option<u16>
-    ensures { result ≡ specs.number_set option.now 1 most (map string_bytes words.now) }
-{
-    let count = number_set(words, option, 1, u64::from(most))?;
-    u16::try_from(count).ok()
-}
-
-/// The word behind an option.
-pub(crate) fn value_of<'a>(words: &'a [String], option: &str) -> Option<&'a str>
-    ensures { option_map (λ value. value.now) result ≡ specs.value_of option.now (map string_bytes words.now) }
-{
-    match words {
-        [word, value, ..] if word.as_str() == option => Some(value.as_str()),
-        [_, _, rest @ ..] => value_of(rest, option),
-        _ => None,
-    }
-}
-
-// The number that a word spells in decimal, where it is in this range.
-fn number(word: &[u8], least: u64, most: u64) -> Option<u64>
+/// The number that a word spells in decimal, where it is in this range.
+pub(crate) fn number(word: &[u8], least: u64, most: u64) -> Option<u64>
     ensures number { result ≡ number_in least most word.now }
     ensures most { IfSome result (λ n. n ≤ most) }
 {

@@ -1,21 +1,23 @@
 -- Why a reader closed by a fault, by what its command did.
-use Rattle.std.proofs.Common.{◌≡◌, ◌≢◌, ℕ, inl, inr, true, List, [], ◌∷◌, Option, Some, None, refl, sym, ◌∙◌}
-use Rattle.std.specs.Prelude.{is_none, MatchOption}
+use Rattle.std.proofs.Common.{◌≡◌, ◌≢◌, ℕ, true, List, [], ◌∷◌, Option, Some, None, refl, sym, ◌∙◌}
+use Rattle.std.specs.Prelude.{codes, is_none, MatchOption}
 use Rattle.keri_specs.specs.Causes.{Rose}
 use Rattle.cesr_stream.specs.declared.message.Message.{Message}
-use Rattle.command_words.specs.Words.{Asked, check, generate, make, validate, watch}
 use Rattle.keri_outside.specs.declared.limits.Limits.{Limits}
 use Rattle.journal.specs.declared.mode.Mode.{Mode}
 use Rattle.journal.specs.declared.refusal.Refusal.{Refusal}
 use Rattle.journal.specs.History.{Told as ToldEntry}
+use Rattle.verifier_link.specs.declared.served.Served.{Served}
+use Rattle.verifier_link.specs.declared.served.Served.TheVariants as serving
 use Rattle.run_status.specs.declared.close.Close.{Close}
 use Rattle.run_status.specs.declared.close.Close.TheVariants.{ReadFault, VerifierFault, OutOfMemory}
 use Rattle.keri_roles.specs.Check.{IsChecked, OwesChecks}
-use Rattle.keri_roles.specs.Commands.{Does, CarriesOut}
+use Rattle.keri_roles.specs.Commands.{IsGenerated}
 use Rattle.keri_roles.specs.CoreTold.{Given, ReadsToCore, ReadsBy}
-use Rattle.run_status.specs.Readers.{SourceTold, VerifierTold}
+use Rattle.run_status.specs.Readers.{SinkTold, SourceTold, VerifierTold}
 use Rattle.keri_roles.specs.Made.{IsMade, IsMadeAlone, IsMadeBehind, given_alone, given_behind}
-use Rattle.keri_roles.specs.Run.{Work, AreCaused}
+use Rattle.keri_roles.specs.Rehearsed.{IsRehearsed, Serves, serving_close}
+use Rattle.keri_roles.specs.Run.{Run, Work, AreCaused}
 use Rattle.keri_roles.proofs.Made.{due_signer, fourth_of, second, second_of, text_asked, text_read, third_of}
 
 -- where it may be that the source and the verifier couldn't be made, the count of the outside rose
@@ -55,7 +57,7 @@ module _ (rose : Type 0) where
         let some : close ≢ OutOfMemory = λ m. let clash : VerifierFault ≡ OutOfMemory = sym e ∙ m in cc in
         let closes = rw e at (r.1.closes some).closes in closes.1
 
-check_caused : (name : List ℕ) (work : Work) → IsChecked name work → AreCaused work.before work.after work.readers
+pub check_caused : (name : List ℕ) (work : Work) → IsChecked name work → AreCaused work.before work.after work.readers
 check_caused name work c = rw c.one (
   record {
     source = check_read _ work.before.limits (work.before.holds name) c.reader.source c.reader.verifier c.reader.refused c.reader.close work.owed
@@ -66,7 +68,7 @@ check_caused name work c = rw c.one (
 )
 
 -- of any command over a core
-told_caused : (mode : Mode) (helper name : List ℕ) (work : Work) → ReadsToCore mode helper name work → AreCaused work.before work.after work.readers
+pub told_caused : (mode : Mode) (helper name : List ℕ) (work : Work) → ReadsToCore mode helper name work → AreCaused work.before work.after work.readers
 told_caused mode helper name work t = rw t.one (
   record {
     source = told_read _ _ t.journal.bytes _ _ t.reader.close t.reader.source t.reader.verifier (λ none. t.makes.rose (rw none refl)) t.journal.reads;
@@ -101,7 +103,7 @@ behind_caused helper plan log work m = let first = is_none m.plan_reader.source 
   ),
 )
 
-made_caused : (helper plan : List ℕ) (log : Option (List ℕ)) (work : Work) → IsMade helper plan log work → AreCaused work.before work.after work.readers
+pub made_caused : (helper plan : List ℕ) (log : Option (List ℕ)) (work : Work) → IsMade helper plan log work → AreCaused work.before work.after work.readers
 made_caused helper plan None work m = alone_caused helper plan work m
 made_caused helper plan (Some log) work m = behind_caused helper plan log work m
 
@@ -112,14 +114,35 @@ made_signer helper plan None work m e = due_signer (given_alone helper m.text wo
 made_signer helper plan (Some log) work m e = due_signer (given_behind helper m.text m.log_reader m.journal.fed.held work) work.owed work.besides _ (m.plan_reader.close ∷ m.log_reader.close ∷ []) work.signer
     (λ none. m.makes.rose (fourth_of (is_none m.plan_reader.source) (is_none m.log_reader.source) (is_none m.log_reader.verifier) none)) m.owes e
 
-carried_caused : (asked : Asked) (work : Work) → CarriesOut asked work → AreCaused work.before work.after work.readers
-carried_caused (check name) work c = check_caused name work c
-carried_caused (validate helper name) work c = told_caused _ helper name work c.over.told
-carried_caused (watch helper name) work c = told_caused _ helper name work c.told
-carried_caused (make helper plan log) work c = made_caused helper plan log work c
-carried_caused (generate seed logs events) work c = rw c.one (record { source = λ e. absurd (c.none_failed.0 e); verifier = λ e. absurd (c.none_failed.1 e) }, tt)
+pub generated_caused : (seed logs events : ℕ) (work : Work) → IsGenerated seed logs events work → AreCaused work.before work.after work.readers
+generated_caused seed logs events work c = rw c.one (record { source = λ e. absurd (c.none_failed.0 e); verifier = λ e. absurd (c.none_failed.1 e) }, tt)
 
-pub are_caused : (asked : Option Asked) (work : Work) → Does asked work → AreCaused work.before work.after work.readers
-are_caused None work d = rw d.idle.none_read tt
-are_caused (Some asked) work (inl c) = carried_caused asked work c
-are_caused (Some asked) work (inr u) = rw u.idle.none_read tt
+-- of `rehearse`, whose source failed or couldn't be made
+module _ (rose : Type 0) (most : ℕ) (held : Option (List ℕ)) (old new : SinkTold) where
+  served_read : (source : Option SourceTold) (served : Served) → (is_none source ≡ true → rose) → Serves most held source old new served
+      → serving_close served ≡ ReadFault → MatchOption source rose (λ s. Rose 0 s.faults)
+  served_read None served out s e = out refl
+  served_read (Some source) serving.ReadFault out s e = s.closes.2
+  served_read (Some source) serving.End out s e = cc
+  served_read (Some source) (serving.Malformed place) out s e = cc
+  served_read (Some source) serving.WriteFault out s e = cc
+  served_read (Some source) serving.Full out s e = cc
+  served_read (Some source) serving.OutOfMemory out s e = cc
+
+served_asked : (served : Served) → serving_close served ≡ VerifierFault → ⊥
+served_asked serving.End e = cc
+served_asked (serving.Malformed place) e = cc
+served_asked serving.ReadFault e = cc
+served_asked serving.WriteFault e = cc
+served_asked serving.Full e = cc
+served_asked serving.OutOfMemory e = cc
+
+pub rehearsed_caused : (run : Run) → IsRehearsed run → AreCaused run.before run.after run.readers
+rehearsed_caused run r = rw r.one (
+  record {
+    source = served_read _ run.before.limits.stream_bytes (run.before.holds (codes "-")) run.sink_before run.sink_after r.reader.source r.served
+        (λ none. r.makes.rose (rw none refl)) r.serves;
+    verifier = λ e. absurd (served_asked r.served e);
+  },
+  tt,
+)

@@ -5,6 +5,7 @@ pub mod Tells
 pub mod CoreTold
 pub mod Made
 pub mod Causes
+pub mod Rehearsed
 pub mod Statuses
 pub mod Agreed
 pub mod Generated

@@ -14,7 +14,7 @@ use Rattle.run_status.specs.declared.besides.Besides.{Besides}
 use Rattle.run_status.specs.declared.close.Close.{Close}
 use Rattle.run_status.specs.declared.close.Close.TheVariants.{ReadFault, VerifierFault}
 use Rattle.run_status.specs.Readers.{SourceTold}
-use Rattle.keri_roles.specs.Made.{Given, IsDue, IsDueBy, WasRead, close_of, found_in, is_out, is_through}
+use Rattle.keri_roles.specs.Made.{MadeFrom, IsDue, IsDueBy, WasRead, close_of, found_in, is_out, is_through}
 use Rattle.keri_roles.specs.Run.{SignerTold, signer_seen}
 
 -- the reader of a text closes so by its source alone
@@ -52,7 +52,7 @@ found_signer (Message bytes) faults c e = cc
 found_signer (Refused why) faults c e = cc
 found_signer SignerFault faults c e = c
 
-module _ (given : Given) (owed : Option (List ℕ)) (besides : Besides) where
+module _ (given : MadeFrom) (owed : Option (List ℕ)) (besides : Besides) where
   words_by : (out through : Bool) (signer : Option SignerTold) → IsDueBy given out through signer owed besides → besides.words_refused ≡ true → ⊥
   words_by true through signer d e = let clash : false ≡ true = sym (ap (λ b. b.words_refused) d.1) ∙ e in cc
   words_by false false signer d e = let clash : false ≡ true = sym (ap (λ b. b.words_refused) d.1) ∙ e in cc

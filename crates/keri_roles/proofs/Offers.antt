@@ -32,7 +32,7 @@ use Rattle.validator_core.specs.View.{CoreView, Follows, TakesMessage, base_of, 
 use Rattle.keri_roles.specs.declared.validator.Validator.{Validator}
 use Rattle.keri_roles.proofs.Questions.{asks_nothing, follows_itself, follows_on, no_bodies}
 use Rattle.run_status.specs.declared.close.Close.{Close}
-use Rattle.run_status.specs.declared.close.Close.TheVariants.{End, Bad, ReadFault, VerifierFault, Full as FullClose, OutOfMemory}
+use Rattle.run_status.specs.declared.close.Close.TheVariants.{End, Bad, ReadFault, VerifierFault, WriteFault, Malformed, Full as FullClose, OutOfMemory}
 use Rattle.keri_roles.specs.Verdicts.{Asks, IsVerdict, StopsAsking}
 use Rattle.keri_roles.specs.Offers.{Stands, IsTurnedAway, Offers, HasTaken, HasStopped}
 
@@ -321,4 +321,6 @@ module _ {V : Type 0} (says : V → Key → List ℕ → Sig → Option Bool) (f
     stopped_on (Err End) noted stops = absurd stops
     stopped_on (Err (Bad bad)) noted stops = absurd stops
     stopped_on (Err ReadFault) noted stops = absurd stops
+    stopped_on (Err WriteFault) noted stops = absurd stops
+    stopped_on (Err (Malformed place)) noted stops = absurd stops
     stopped_on (Err FullClose) noted stops = absurd stops

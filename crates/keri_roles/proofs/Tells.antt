@@ -25,7 +25,7 @@ use Rattle.message_feed.specs.declared.feed_close.FeedClose.{FeedClose}
 use Rattle.message_feed.specs.declared.feed_close.FeedClose.TheVariants as feed
 use Rattle.validator_core.specs.View.{CoreView, told_of}
 use Rattle.run_status.specs.declared.close.Close.{Close}
-use Rattle.run_status.specs.declared.close.Close.TheVariants.{End, Bad, ReadFault, VerifierFault, Full, OutOfMemory}
+use Rattle.run_status.specs.declared.close.Close.TheVariants.{End, Bad, ReadFault, VerifierFault, WriteFault, Malformed, Full, OutOfMemory}
 use Rattle.keri_roles.specs.declared.validator.Validator.{Validator}
 use Rattle.keri_roles.specs.Closes.{is_stopped}
 use Rattle.keri_roles.specs.CoreTold.{Given, ClosesReader, ClosesStream, ReadsBy, AreAsked, IsUnmade, Tells, end_of}
@@ -95,6 +95,8 @@ gave_by given source verifier bytes reading told offered Full c = elim c.0 [
   | inl full ↦ (full.0.more ∷ [], full.0.gave)
   | inr room ↦ ([], rw append-nil room.0)
 ]
+gave_by given source verifier bytes reading told offered WriteFault c = absurd c
+gave_by given source verifier bytes reading told offered (Malformed place) c = absurd c
 gave_by given source verifier bytes reading told offered OutOfMemory c = absurd c
 
 -- the reader of a validator that closes so
@@ -200,6 +202,8 @@ module _ {V : Type 0} (says : V → Key → List ℕ → Sig → Option Bool) (v
     tells_stopped End ms later s made whole gave = absurd s
     tells_stopped (Bad bad) ms later s made whole gave = absurd s
     tells_stopped ReadFault ms later s made whole gave = absurd s
+    tells_stopped WriteFault ms later s made whole gave = absurd s
+    tells_stopped (Malformed place) ms later s made whole gave = absurd s
 
     -- the source was read as far as it goes, and the last message was taken too, or the reader stopped there
     tells_ended : (source_close close : Close) (ms : List Message) → (HasTaken says verifier_faults first now ms × (close ≡ source_close))

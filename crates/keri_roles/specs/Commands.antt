@@ -2,7 +2,7 @@
 use Rattle.std.specs.Prelude.{◌≡◌, ◌≢◌, ℕ, ◌∷◌, ◌⊎◌, true, Bool, List, [], codes}
 use Rattle.std.specs.declared.option.Option.{Option}
 use Rattle.std.specs.declared.option.Option.TheVariants.{None, Some}
-use Rattle.command_words.specs.Words.{Asked, check, generate, make, validate, watch}
+use Rattle.command_words.specs.Words.{Asked, check, generate, make, rehearse, validate, watch}
 use Rattle.journal.specs.declared.mode.Mode.TheVariants.{Full, Local}
 use Rattle.journal.specs.declared.refusal.Refusal.{Refusal}
 use Rattle.journal.specs.Accepted.{accepted}
@@ -19,6 +19,7 @@ use Rattle.keri_roles.specs.CoreTold.{IsOverCore, IsToldBy}
 use Rattle.keri_roles.specs.Generated.{counts_of, made_in}
 use Rattle.keri_roles.specs.Made.{IsMade}
 use Rattle.keri_roles.specs.NoJournal.{no_journal}
+use Rattle.keri_roles.specs.Rehearsed.{IsRehearsed}
 use Rattle.keri_roles.specs.Reports.{Reports}
 use Rattle.run_status.specs.Readers.{Reader}
 use Rattle.keri_roles.specs.Run.{Owes, Run, Work, work_in}
@@ -61,33 +62,37 @@ pub record IsIdle (work : Work) : Type 0 where
   pub none_read : work.readers ≡ []
   pub none_told : work.journal ≡ no_journal
 
--- there was no memory before anything was made
-pub record IsUnbegun (work : Work) : Type 0 where
-  pub idle : IsIdle work
-  pub owes : work.owed ≡ None
-  pub nothing_else : work.besides ≡ nothing_besides
-
 -- words that aren't in the form: the line `words` is owed
 pub record RefusesWords (work : Work) : Type 0 where
   pub idle : IsIdle work
   pub owes : work.owed ≡ Some (codes "words\n")
   pub nothing_else : work.besides ≡ record nothing_besides { words_refused = true }
 
--- a row for each command
-abbrev pub CarriesOut : Asked → Work → Type 0
-CarriesOut (check name) work = IsChecked name work
-CarriesOut (validate helper name) work = IsValidated helper name work
-CarriesOut (watch helper name) work = IsWatched helper name work
-CarriesOut (make helper plan log) work = IsMade helper plan log work
-CarriesOut (generate seed logs events) work = IsGenerated seed logs events work
-
-abbrev pub Does : Option Asked → Work → Type 0
-Does None work = RefusesWords work
-Does (Some asked) work = CarriesOut asked work ⊎ IsUnbegun work
-
 -- what was asked for was done, what it owes was written, and the status is by what was found
-pub record IsRunOf (asked : Option Asked) (run : Run) : Type 0 where
+pub record IsWritten (Does : Work → Type 0) (run : Run) : Type 0 where
   pub owed : Option (List ℕ)
   pub besides : Besides
-  pub does : Does asked (work_in run owed besides)
+  pub does : Does (work_in run owed besides)
   pub settles : Settles owed besides run
+
+-- a row for each command, of which `rehearse` alone writes as it reads
+abbrev pub CarriesOut : Option Asked → Run → Type 0
+CarriesOut None run = IsWritten RefusesWords run
+CarriesOut (Some (check name)) run = IsWritten (IsChecked name) run
+CarriesOut (Some (validate helper name)) run = IsWritten (IsValidated helper name) run
+CarriesOut (Some (watch helper name)) run = IsWritten (IsWatched helper name) run
+CarriesOut (Some (make helper plan log)) run = IsWritten (IsMade helper plan log) run
+CarriesOut (Some (generate seed logs events)) run = IsWritten (IsGenerated seed logs events) run
+CarriesOut (Some rehearse) run = IsRehearsed run
+
+-- there was no memory to begin with: nothing was made, read, told or written
+pub record IsUnbegun (run : Run) : Type 0 where
+  pub none_made : run.after ≡ run.before
+  pub none_read : run.readers ≡ []
+  pub none_told : run.journal ≡ no_journal
+  pub none_written : run.sink_after ≡ run.sink_before
+  pub status : run.status ≡ 10
+
+-- what a run of the program does
+abbrev pub IsRunOf : Option Asked → Run → Type 0
+IsRunOf asked run = CarriesOut asked run ⊎ IsUnbegun run

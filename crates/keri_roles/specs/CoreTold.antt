@@ -28,7 +28,7 @@ use Rattle.validator_core.specs.View.{CoreView, Stands, told_of}
 use Rattle.message_feed.specs.Closing.{Gave}
 use Rattle.message_feed.specs.Feeds.{Stream}
 use Rattle.run_status.specs.declared.close.Close.{Close}
-use Rattle.run_status.specs.declared.close.Close.TheVariants.{End, Bad, ReadFault, VerifierFault, Full, OutOfMemory}
+use Rattle.run_status.specs.declared.close.Close.TheVariants.{End, Bad, ReadFault, VerifierFault, WriteFault, Malformed, Full, OutOfMemory}
 use Rattle.keri_roles.specs.Closes.{Closes, is_stopped}
 use Rattle.keri_roles.specs.Offers.{IsTurnedAway}
 use Rattle.run_status.specs.Readers.{Reader, SourceTold, VerifierTold}
@@ -69,6 +69,8 @@ module _ (given : Given) (source : SourceTold) (verifier : VerifierTold) where
       ⊎ (Gave given.held source.left bytes × NextFindsNoRoom given.limits bytes told offered))
       × (verifier.faults ≡ 0)
   ClosesReader bytes reading told offered VerifierFault = Gave given.held source.left bytes × Rose 0 verifier.faults
+  ClosesReader bytes reading told offered WriteFault = ⊥
+  ClosesReader bytes reading told offered (Malformed place) = ⊥
   ClosesReader bytes reading told offered OutOfMemory = ⊥
 
   -- These bytes were read, and the reader closed by its cause.

@@ -11,4 +11,5 @@ pub mod Reports
 pub mod Agreement
 pub mod Generated
 pub mod Made
+pub mod Rehearsed
 pub mod Commands

@@ -19,7 +19,7 @@ use Rattle.plan_answer.specs.Asked.{LogTold}
 use Rattle.report_lines.specs.Lines.{plan_text}
 use Rattle.run_status.specs.declared.besides.Besides.{Besides}
 use Rattle.run_status.specs.declared.close.Close.{Close}
-use Rattle.run_status.specs.declared.close.Close.TheVariants.{End, Bad, ReadFault, VerifierFault, Full, OutOfMemory}
+use Rattle.run_status.specs.declared.close.Close.TheVariants.{End, Bad, ReadFault, VerifierFault, WriteFault, Malformed, Full, OutOfMemory}
 use Rattle.run_status.specs.Readers.{Reader, SourceTold}
 use Rattle.run_status.specs.Settling.{refuses}
 use Rattle.run_status.specs.Status.{nothing_besides}
@@ -58,6 +58,8 @@ is_out End = false
 is_out (Bad bad) = false
 is_out ReadFault = false
 is_out VerifierFault = false
+is_out WriteFault = false
+is_out (Malformed place) = false
 is_out Full = false
 
 -- the reader came to the end of what it read
@@ -66,6 +68,8 @@ is_through End = true
 is_through (Bad bad) = true
 is_through ReadFault = false
 is_through VerifierFault = false
+is_through WriteFault = false
+is_through (Malformed place) = false
 is_through Full = false
 is_through OutOfMemory = false
 
@@ -83,13 +87,13 @@ found_in SignerFault = record nothing_besides { signer_failed = true }
 
 -- what a message is made from: the signatures that the signer gives, the log that was told, where there is one, and the
 -- plan's text
-pub record Given : Type 0 where
+pub record MadeFrom : Type 0 where
   pub gives : Key → List ℕ → Option Sig
   pub log : Option LogTold
   pub text : List ℕ
 
 -- the answer is owed, of a signer that had failed not yet
-pub record OwesAnswer (given : Given) (signer : SignerTold) (owed : Option (List ℕ)) (besides : Besides) : Type 0 where
+pub record OwesAnswer (given : MadeFrom) (signer : SignerTold) (owed : Option (List ℕ)) (besides : Besides) : Type 0 where
   pub answer : PlanAnswer
   pub is : IsAnswer given.gives given.log given.text answer
   pub counts : CountsFaults 0 signer.faults answer
@@ -105,22 +109,22 @@ abbrev pub IsUnanswered : Option (List ℕ) → Option SignerTold → Option (Li
 IsUnanswered text signer owed besides = (owed ≡ text) × (besides ≡ record nothing_besides { signer_failed = is_none signer }) × IfSome signer (λ s. s.faults ≡ 0)
 
 -- There is an answer where each reader came to the end and there is a signer. Else nothing is written.
-abbrev pub IsDueBy : Given → (out through : Bool) → Option SignerTold → Option (List ℕ) → Besides → Type 0
+abbrev pub IsDueBy : MadeFrom → (out through : Bool) → Option SignerTold → Option (List ℕ) → Besides → Type 0
 IsDueBy given true through signer owed besides = IsUnanswered None signer owed besides
 IsDueBy given false false signer owed besides = IsUnanswered (Some []) signer owed besides
 IsDueBy given false true None owed besides = IsUnanswered (Some []) None owed besides
 IsDueBy given false true (Some signer) owed besides = OwesAnswer given signer owed besides ⊎ OwesNone signer owed besides
 
 -- what is owed where the readers closed so
-abbrev pub IsDue : Given → List Close → Option SignerTold → Option (List ℕ) → Besides → Type 0
+abbrev pub IsDue : MadeFrom → List Close → Option SignerTold → Option (List ℕ) → Besides → Type 0
 IsDue given closes signer owed besides = IsDueBy given (list_any is_out closes) (list_all is_through closes) signer owed besides
 
 -- what a message is made from without a log
-abbrev pub given_alone : List ℕ → List ℕ → Work → Given
+abbrev pub given_alone : List ℕ → List ℕ → Work → MadeFrom
 given_alone helper text work = record { gives = work.before.gives helper; log = None; text = text }
 
 -- and behind a log: what its core was told, and whether the stream or a message of it is refused
-abbrev pub given_behind : List ℕ → List ℕ → Reader → List Body → Work → Given
+abbrev pub given_behind : List ℕ → List ℕ → Reader → List Body → Work → MadeFrom
 given_behind helper text reader held work = record {
   gives = work.before.gives helper;
   log = Some (record { core = core_of Local work.before.limits held work.journal.entries; is_refused = refuses reader.close reader.refused });

@@ -17,7 +17,7 @@ use Rattle.validator_core.specs.View.{Follows, told_of, open_of}
 use Rattle.message_feed.specs.declared.feed_close.FeedClose.{FeedClose}
 use Rattle.message_feed.specs.declared.feed_close.FeedClose.TheVariants as feed
 use Rattle.run_status.specs.declared.close.Close.{Close}
-use Rattle.run_status.specs.declared.close.Close.TheVariants.{End, Bad, ReadFault, VerifierFault, Full, OutOfMemory}
+use Rattle.run_status.specs.declared.close.Close.TheVariants.{End, Bad, ReadFault, VerifierFault, WriteFault, Malformed, Full, OutOfMemory}
 use Rattle.keri_roles.specs.declared.validator.Validator.{Validator}
 
 -- These messages were offered: those that aren't refused were taken by the first reader, and the others are noted. All
@@ -82,6 +82,8 @@ module _ {V : Type 0} (says : V → Key → List ℕ → Sig → Option Bool) (f
   HasStopped first now End messages = ⊥
   HasStopped first now (Bad bad) messages = ⊥
   HasStopped first now ReadFault messages = ⊥
+  HasStopped first now WriteFault messages = ⊥
+  HasStopped first now (Malformed place) messages = ⊥
 
   -- the last message, where there is one, was taken too, and the reader closes as its source did; or it stopped there
   abbrev pub TakesLast : Close → Option Message → Validator V → Validator V → Close → Type 0

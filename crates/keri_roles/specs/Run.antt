@@ -4,7 +4,7 @@ use Rattle.std.specs.List.{list_any}
 use Rattle.std.specs.declared.option.Option.{Option}
 use Rattle.std.specs.declared.option.Option.TheVariants.{None, Some}
 use Rattle.keri_specs.specs.Causes.{Rose}
-use Rattle.command_words.specs.Words.{Asked, check, generate, make, validate, watch}
+use Rattle.command_words.specs.Words.{Asked, check, generate, make, rehearse, validate, watch}
 use Rattle.cesr_codes.specs.declared.key.Key.{Key}
 use Rattle.cesr_codes.specs.declared.sig.Sig.{Sig}
 use Rattle.run_outside.specs.Told.{Told}
@@ -86,6 +86,7 @@ SignerFails (Some (check file)) run = ⊥
 SignerFails (Some (validate helper file)) run = ⊥
 SignerFails (Some (watch helper file)) run = ⊥
 SignerFails (Some (generate seed logs events)) run = ⊥
+SignerFails (Some rehearse) run = ⊥
 SignerFails (Some (make helper plan log)) run = MatchOption run.signer (Rose run.before.faults run.after.faults) (λ s. Rose 0 s.faults)
 
 -- each fault that is answered has its cause

@@ -10,7 +10,7 @@ use Rattle.journal.specs.declared.body.Body.{Body}
 use Rattle.journal.specs.Questions.{next_question}
 use Rattle.validator_core.specs.View.{CoreView, Follows, base_of, told_of}
 use Rattle.run_status.specs.declared.close.Close.{Close}
-use Rattle.run_status.specs.declared.close.Close.TheVariants.{End, Bad, ReadFault, VerifierFault, Full, OutOfMemory}
+use Rattle.run_status.specs.declared.close.Close.TheVariants.{End, Bad, ReadFault, VerifierFault, WriteFault, Malformed, Full, OutOfMemory}
 
 -- the question is open
 abbrev pub IsOpen : CoreView → Question → Type 0
@@ -47,3 +47,5 @@ StopsAsking faults_old faults_new End = ⊥
 StopsAsking faults_old faults_new (Bad bad) = ⊥
 StopsAsking faults_old faults_new ReadFault = ⊥
 StopsAsking faults_old faults_new Full = ⊥
+StopsAsking faults_old faults_new WriteFault = ⊥
+StopsAsking faults_old faults_new (Malformed place) = ⊥

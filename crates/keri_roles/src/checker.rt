@@ -106,6 +106,6 @@ fn end_line(alloc: Global, close: Close) -> Result<String, AllocError>
         Close::Bad(bad) => malformed_line(alloc, 0, bad),
         Close::ReadFault => read_fault_line(alloc, 0),
         Close::Full => full_line(alloc, 0),
-        Close::End | Close::VerifierFault | Close::OutOfMemory => Ok(String::new(alloc)),
+        _ => Ok(String::new(alloc)),
     }
 }

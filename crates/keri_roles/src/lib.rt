@@ -19,6 +19,7 @@ mod outcome;
 mod over_core;
 mod program;
 mod providers;
+mod rehearse;
 mod report;
 mod sizes;
 mod text_reader;

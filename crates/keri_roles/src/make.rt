@@ -4,15 +4,14 @@ ghost use Rattle.std.specs.Option.{option_map};
 ghost use Rattle.std.specs.Vec.{vec_capacity};
 ghost use Rattle.keri_roles.specs.Made.{IsMade, IsMadeAlone, IsMadeBehind};
 ghost use Rattle.keri_roles.specs.Run.{signer_seen, work_by, work_seen};
-ghost use Rattle.run_status.specs.Settling.{refuses};
 
+use crate::ReaderEnd;
 use crate::core_reader::{CoreReader, read_to_core};
 use crate::make_parts::{MakeBehindParts, MakeParts, make_alone, make_behind};
 use crate::message_due::{MessageDue, message_due};
 use crate::nothing_told::nothing_told;
 use crate::outcome::{Outcome, SignedOutcome};
 use crate::text_reader::{TextReader, read_whole};
-use crate::{Close, ReaderEnd};
 use journal::Mode;
 use plan_answer::ReadLog;
 use run_outside::Outside;
@@ -110,7 +109,7 @@ fn made_behind<O: Outside>(
     } = read_to_core(alloc, Mode::Local, limits, log);
     let log = ReadLog {
         core: &core,
-        is_refused: is_refused(&second),
+        is_refused: second.is_refused(),
     };
     let closes = [first.close, second.close];
     let MessageDue { owed, besides } = message_due(alloc, &text, Some(log), &closes, &mut signer);
@@ -123,11 +122,4 @@ fn made_behind<O: Outside>(
         besides,
     };
     SignedOutcome { outcome, signer }
-}
-
-// Whether a reader refused its stream or a message.
-fn is_refused<S, V>(reader: &ReaderEnd<S, V>) -> bool
-    ensures { result ≡ refuses reader.now.close reader.now.refused.items }
-{
-    matches!(reader.close, Close::Bad(_)) || !reader.refused.is_empty()
 }

@@ -9,7 +9,7 @@ use crate::core_reader::{CoreReader, read_to_core};
 use crate::core_text::CoreText;
 use crate::due::{Due, owe};
 use crate::outcome::Outcome;
-use crate::providers::make;
+use crate::providers::providers_for;
 use journal::Mode;
 use run_outside::Outside;
 use run_status::Besides;
@@ -32,7 +32,7 @@ pub(crate) fn over_core<O: Outside, T: CoreText>(
 {
     let mut readers = readers;
     let limits = outside.limits();
-    let providers = make(name, helper, outside);
+    let providers = providers_for(name, helper, outside);
     let CoreReader { reader, core } = read_to_core(alloc, mode, limits, providers);
     let text = T::text_of(alloc, &core, reader.refused.as_slice(), reader.close);
     let Due {

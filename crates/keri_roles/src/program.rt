@@ -1,28 +1,33 @@
 //! The top call.
-ghost use Rattle.std.specs.Prelude.{◌≡◌, ◌⊎◌, [], None, map, option_map, string_bytes};
+ghost use Rattle.std.specs.Prelude.{◌≡◌, ◌<◌, [], None, Some, map, option_map, string_bytes};
+ghost use Rattle.std.specs.Vec.{vec_capacity};
 ghost use Rattle.command_words.specs.Words.{asks, asked_by};
-ghost use Rattle.keri_roles.specs.Commands.{CarriesOut, IsRunOf, IsUnbegun};
-ghost use Rattle.keri_roles.specs.Run.{HasCauses, run_by, run_seen, signer_seen, work_by, work_seen};
+ghost use Rattle.keri_roles.specs.Commands.{CarriesOut, IsRunOf};
+ghost use Rattle.keri_roles.specs.Run.{HasCauses, run_by, run_seen, signer_seen};
 ghost use Rattle.keri_roles.specs.NoJournal.{no_journal};
-ghost use Rattle.run_status.specs.Readers.{sink_seen};
-ghost use Rattle.run_status.specs.Status.{nothing_besides};
+ghost use Rattle.run_status.specs.Readers.{reader_seen, sink_seen};
+ghost use Rattle.run_status.specs.Settling.{SettlesBy};
 
-use crate::Done;
 use crate::check::check;
 use crate::generate::{StreamPlan, generate};
 use crate::make::{MakeWords, make};
 use crate::nothing_told::nothing_told;
 use crate::outcome::{Outcome, SignedOutcome};
+use crate::rehearse::rehearse;
 use crate::validate::validate;
 use crate::watch::watch;
+use crate::{Done, ReaderEnd};
 use command_words::{Command, command_of};
 use report_lines::WORDS;
 use run_outside::Outside;
 use run_status::{Besides, settle};
-use std::alloc::Global;
+use std::alloc::{AllocError, Global};
 
 // `make` reads a plan and a log, and every other command one stream.
 const MOST_READERS: usize = 2;
+
+// The status where there was no memory.
+const NO_MEMORY: u8 = 10;
 
 /// Does all that the program does: what the words ask for, over the outside that is handed in.
 pub fn run<O: Outside>(alloc: Global, words: &Vec<String>, outside: &mut O) -> Done<O>
@@ -42,10 +47,80 @@ fn answer<O: Outside>(alloc: Global, words: &Vec<String>, outside: &mut O) -> Do
     ensures answered { IsRunOf (asks (map string_bytes words.now.items)) (run_by (signer_seen O.Signer.gives O.Signer.faults result.signer) (run_seen O.Source.left O.Source.faults O.Verifier.says O.Verifier.faults (O.told outside.old) (O.told outside.new)
         (sink_seen O.Sink.written O.Sink.faults (O.sink outside.old)) (sink_seen O.Sink.written O.Sink.faults (O.sink outside.new)) result.status result.readers.items result.journal)) }
 {
-    let Some(command) = command_of(words.as_slice()) else {
-        return refuse(alloc, outside);
+    let command = match command_of(alloc, words.as_slice()) {
+        Ok(Some(command)) => command,
+        Ok(None) => return refuse(alloc, outside),
+        Err(AllocError) => return unbegun(alloc),
     };
-    let SignedOutcome { outcome, signer } = carry_out(alloc, command, outside);
+    let Ok(readers) = Vec::with_capacity(alloc, MOST_READERS) else {
+        return unbegun(alloc);
+    };
+    carry_out(alloc, command, readers, outside)
+}
+
+// Does what the command asks for.
+fn carry_out<O: Outside>(
+    alloc: Global,
+    command: Command,
+    readers: Vec<ReaderEnd<O::Source, O::Verifier>>,
+    outside: &mut O,
+) -> Done<O>
+    requires none_yet { readers.items ≡ [] }
+    requires room { 1 < vec_capacity readers }
+    ensures does { CarriesOut (Some (asked_by command.entry)) (run_by (signer_seen O.Signer.gives O.Signer.faults result.signer) (run_seen O.Source.left O.Source.faults O.Verifier.says O.Verifier.faults (O.told outside.old) (O.told outside.new)
+        (sink_seen O.Sink.written O.Sink.faults (O.sink outside.old)) (sink_seen O.Sink.written O.Sink.faults (O.sink outside.new)) result.status result.readers.items result.journal)) }
+{
+    match command {
+        Command::Check { file } => {
+            finish(unsigned(check(alloc, file, readers, outside)), outside)
+        }
+        Command::Validate { helper, file } => {
+            finish(
+                unsigned(validate(alloc, helper, file, readers, outside)),
+                outside,
+            )
+        }
+        Command::Watch { helper, file } => {
+            finish(
+                unsigned(watch(alloc, helper, file, readers, outside)),
+                outside,
+            )
+        }
+        Command::Make { helper, plan, log } => {
+            finish(
+                make(alloc, MakeWords { helper, plan, log }, readers, outside),
+                outside,
+            )
+        }
+        Command::Generate { seed, logs, events } => {
+            let plan = StreamPlan { seed, logs, events };
+            finish(unsigned(generate(alloc, plan, readers, outside)), outside)
+        }
+        Command::Rehearse => rehearse(alloc, readers, outside),
+    }
+}
+
+// An outcome without a signer.
+fn unsigned<S, V, G>(outcome: Outcome<S, V>) -> SignedOutcome<S, V, G>
+    ensures { result ≡ record { outcome = outcome; signer = None } }
+{
+    SignedOutcome {
+        outcome,
+        signer: None,
+    }
+}
+
+// Writes what is owed, and finds the status.
+fn finish<O: Outside>(
+    outcome: SignedOutcome<O::Source, O::Verifier, O::Signer>,
+    outside: &mut O,
+) -> Done<O>
+    ensures done { (result.readers ≡ outcome.outcome.readers) × (result.journal ≡ outcome.outcome.journal) × (result.signer ≡ outcome.signer) }
+    ensures settles { SettlesBy (option_map (λ text. text.items) outcome.outcome.owed) outcome.outcome.besides (map (reader_seen O.Source.left O.Source.faults O.Verifier.says O.Verifier.faults) outcome.outcome.readers.items)
+        (sink_seen O.Sink.written O.Sink.faults (O.sink outside.old)) (sink_seen O.Sink.written O.Sink.faults (O.sink outside.new)) result.status }
+    ensures told { O.told outside.new ≡ O.told outside.old }
+{
+    let SignedOutcome { outcome, signer } = outcome;
     let Outcome {
         readers,
         journal,
@@ -71,64 +146,23 @@ fn text_of(owed: &Option<Vec<u8>>) -> Option<&[u8]>
     }
 }
 
-// Does what the command asks for, but for writing.
-fn carry_out<O: Outside>(
-    alloc: Global,
-    command: Command,
-    outside: &mut O,
-) -> SignedOutcome<O::Source, O::Verifier, O::Signer>
-    ensures does { CarriesOut (asked_by command.entry) (work_by (signer_seen O.Signer.gives O.Signer.faults result.signer)
-        (work_seen O.Source.left O.Source.faults O.Verifier.says O.Verifier.faults (O.told outside.old) (O.told outside.new) result.outcome))
-        ⊎ IsUnbegun (work_by (signer_seen O.Signer.gives O.Signer.faults result.signer)
-        (work_seen O.Source.left O.Source.faults O.Verifier.says O.Verifier.faults (O.told outside.old) (O.told outside.new) result.outcome)) }
-    ensures sink { O.sink outside.new ≡ O.sink outside.old }
-{
-    let Ok(readers) = Vec::with_capacity(alloc, MOST_READERS) else {
-        return unsigned(unbegun(alloc));
-    };
-    match command {
-        Command::Check { file } => unsigned(check(alloc, file, readers, outside)),
-        Command::Validate { helper, file } => {
-            unsigned(validate(alloc, helper, file, readers, outside))
-        }
-        Command::Watch { helper, file } => unsigned(watch(alloc, helper, file, readers, outside)),
-        Command::Make { helper, plan, log } => {
-            make(alloc, MakeWords { helper, plan, log }, readers, outside)
-        }
-        Command::Generate { seed, logs, events } => {
-            unsigned(generate(alloc, StreamPlan { seed, logs, events }, readers, outside))
-        }
-    }
-}
-
-// An outcome without a signer.
-fn unsigned<S, V, G>(outcome: Outcome<S, V>) -> SignedOutcome<S, V, G>
-    ensures { result ≡ record { outcome = outcome; signer = None } }
-{
-    SignedOutcome {
-        outcome,
-        signer: None,
-    }
-}
-
-// What comes of a command where there was no memory to begin with.
-fn unbegun<S, V>(alloc: Global) -> Outcome<S, V>
+// What a run comes to where there was no memory to begin with.
+fn unbegun<O: Outside>(alloc: Global) -> Done<O>
+    ensures status { result.status ≡ 10 }
     ensures readers { result.readers.items ≡ [] }
     ensures journal { result.journal ≡ no_journal }
-    ensures owed { result.owed ≡ None }
-    ensures besides { result.besides ≡ nothing_besides }
 {
-    Outcome {
-        readers: Vec::new(alloc),
+    Done {
+        status: NO_MEMORY,
         journal: nothing_told(alloc),
-        owed: None,
-        besides: Besides::nothing(),
+        readers: Vec::new(alloc),
+        signer: None,
     }
 }
 
 // Says that the words aren't in the form.
 fn refuse<O: Outside>(alloc: Global, outside: &mut O) -> Done<O>
-    ensures answered { IsRunOf None (run_by (signer_seen O.Signer.gives O.Signer.faults result.signer) (run_seen O.Source.left O.Source.faults O.Verifier.says O.Verifier.faults (O.told outside.old) (O.told outside.new)
+    ensures answered { CarriesOut None (run_by (signer_seen O.Signer.gives O.Signer.faults result.signer) (run_seen O.Source.left O.Source.faults O.Verifier.says O.Verifier.faults (O.told outside.old) (O.told outside.new)
         (sink_seen O.Sink.written O.Sink.faults (O.sink outside.old)) (sink_seen O.Sink.written O.Sink.faults (O.sink outside.new)) result.status result.readers.items result.journal)) }
 {
     let besides = Besides {

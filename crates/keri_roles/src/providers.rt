@@ -14,7 +14,7 @@ pub(crate) struct Providers<S, V> {
 }
 
 /// Makes the source, and then the verifier.
-pub(crate) fn make<O: Outside>(
+pub(crate) fn providers_for<O: Outside>(
     name: &str,
     helper: &str,
     outside: &mut O,

@@ -10,6 +10,9 @@ use std::alloc::{AllocError, Global};
 /// The name of the file that holds a stream.
 const FILE: &[u8] = b"a";
 
+/// The name of standard input, which holds the same.
+const INPUT: &[u8] = b"-";
+
 /// The name of the file that holds a plan.
 const PLAN: &[u8] = b"p";
 
@@ -82,10 +85,11 @@ fn file_of(
     })
 }
 
-// The two files.
+// Standard input and the two files.
 fn files_of(alloc: Global, row: &Row) -> Result<Items<MemFile>, AllocError> {
     let mut files = Items::new(alloc);
     files.push(file_of(alloc, row, FILE, "text", "reads")?)?;
+    files.push(file_of(alloc, row, INPUT, "text", "reads")?)?;
     files.push(file_of(alloc, row, PLAN, "plan", "plan_reads")?)?;
     Ok(files)
 }
@@ -113,7 +117,7 @@ fn helpers_of(alloc: Global, row: &Row) -> Result<Items<MemHelper>, AllocError> 
 }
 
 /// The outside of a row: behind its command line stand names, each with a value behind it. `text` is what the file `a`
-/// holds, `plan` what `p` does, `piece` how many bytes a read gives at most, and `says yes` or `says no` what the helper says of everything; else
+/// and standard input hold, `plan` what `p` does, `piece` how many bytes a read gives at most, and `says yes` or `says no` what the helper says of everything; else
 /// it is the rehearsal. `reads`, `plan_reads`, `asks`, `signings`, `puts` and `makings` are the numbers of the calls that fail, counted from 0, with a
 /// comma between two of them. The others are limits, by their names.
 pub(crate) fn outside_of(alloc: Global, row: &Row) -> Result<MemOutside, AllocError> {

@@ -4,7 +4,7 @@ use Rattle.std.specs.List.{list_any}
 use Rattle.keri_specs.specs.Causes.{Rose}
 use Rattle.run_status.specs.declared.besides.Besides.{Besides}
 use Rattle.run_status.specs.declared.close.Close.{Close}
-use Rattle.run_status.specs.declared.close.Close.TheVariants.{End, Bad, ReadFault, VerifierFault, Full, OutOfMemory}
+use Rattle.run_status.specs.declared.close.Close.TheVariants.{End, Bad, ReadFault, VerifierFault, WriteFault, Malformed, Full, OutOfMemory}
 use Rattle.run_status.specs.Readers.{Reader, SinkTold, HasClose, is_read_fault, is_verifier_fault, is_full}
 use Rattle.run_status.specs.Settling.{found, SettlesBy, Puts, FaultsHaveCauses}
 use Rattle.run_status.specs.Status.{status_of}
@@ -71,6 +71,8 @@ read_fault End e = cc
 read_fault (Bad bad) e = cc
 read_fault VerifierFault e = cc
 read_fault Full e = cc
+read_fault WriteFault e = cc
+read_fault (Malformed place) e = cc
 read_fault OutOfMemory e = cc
 
 verifier_fault : (close : Close) → is_verifier_fault close ≡ true → close ≡ VerifierFault
@@ -79,6 +81,8 @@ verifier_fault End e = cc
 verifier_fault (Bad bad) e = cc
 verifier_fault ReadFault e = cc
 verifier_fault Full e = cc
+verifier_fault WriteFault e = cc
+verifier_fault (Malformed place) e = cc
 verifier_fault OutOfMemory e = cc
 
 full : (close : Close) → is_full close ≡ true → close ≡ Full
@@ -87,6 +91,8 @@ full End e = cc
 full (Bad bad) e = cc
 full ReadFault e = cc
 full VerifierFault e = cc
+full WriteFault e = cc
+full (Malformed place) e = cc
 full OutOfMemory e = cc
 
 module _ (besides : Besides) (readers : List Reader) (old new : SinkTold) (status : ℕ) where

@@ -5,7 +5,7 @@ use Rattle.cesr_codes.specs.declared.key.Key.{Key}
 use Rattle.cesr_codes.specs.declared.sig.Sig.{Sig}
 use Rattle.journal.specs.declared.refusal.Refusal.{Refusal}
 use Rattle.run_status.specs.declared.close.Close.{Close}
-use Rattle.run_status.specs.declared.close.Close.TheVariants.{End, Bad, ReadFault, VerifierFault, Full, OutOfMemory}
+use Rattle.run_status.specs.declared.close.Close.TheVariants.{End, Bad, ReadFault, VerifierFault, WriteFault, Malformed, Full, OutOfMemory}
 use Rattle.run_status.specs.declared.reader_end.ReaderEnd.{ReaderEnd}
 
 -- what objects of the outside tell: what a source has left, what a verifier says, what was written; and how often each
@@ -35,6 +35,8 @@ is_bad End = false
 is_bad ReadFault = false
 is_bad VerifierFault = false
 is_bad Full = false
+is_bad WriteFault = false
+is_bad (Malformed place) = false
 is_bad OutOfMemory = false
 
 abbrev pub is_read_fault : Close → Bool
@@ -43,6 +45,8 @@ is_read_fault End = false
 is_read_fault (Bad bad) = false
 is_read_fault VerifierFault = false
 is_read_fault Full = false
+is_read_fault WriteFault = false
+is_read_fault (Malformed place) = false
 is_read_fault OutOfMemory = false
 
 abbrev pub is_full : Close → Bool
@@ -51,6 +55,8 @@ is_full End = false
 is_full (Bad bad) = false
 is_full ReadFault = false
 is_full VerifierFault = false
+is_full WriteFault = false
+is_full (Malformed place) = false
 is_full OutOfMemory = false
 
 abbrev pub is_verifier_fault : Close → Bool
@@ -59,6 +65,8 @@ is_verifier_fault End = false
 is_verifier_fault (Bad bad) = false
 is_verifier_fault ReadFault = false
 is_verifier_fault Full = false
+is_verifier_fault WriteFault = false
+is_verifier_fault (Malformed place) = false
 is_verifier_fault OutOfMemory = false
 
 -- a reader closed so

@@ -1,4 +1,5 @@
 //! What a run hands back of a reader.
+ghost use Rattle.std.specs.Prelude.{◌≡◌};
 
 use crate::Close;
 use journal::Refusal;
@@ -11,4 +12,15 @@ pub struct ReaderEnd<S, V> {
     /// The messages that it refused, in order.
     pub refused: Vec<Refusal>,
     pub close: Close,
+}
+
+impl<S, V> ReaderEnd<S, V> {
+    ghost use Rattle.run_status.specs.Settling.{refuses};
+
+    /// Whether it refused its stream or a message.
+    pub fn is_refused(&self) -> bool
+        ensures { result ≡ refuses self.now.close self.now.refused.items }
+    {
+        matches!(self.close, Close::Bad(_)) || !self.refused.is_empty()
+    }
 }

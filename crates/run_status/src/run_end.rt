@@ -97,5 +97,5 @@ fn some_refused<S, V>(besides: Besides, readers: &[ReaderEnd<S, V>]) -> bool
 fn refuses_some<S, V>(readers: &[ReaderEnd<S, V>]) -> bool
     ensures { result ≡ list_any (λ end. refuses end.close end.refused.items) readers.now }
 {
-    readers.iter().any(|reader| matches!(reader.close, Close::Bad(_)) || !reader.refused.is_empty())
+    readers.iter().any(|reader| reader.is_refused())
 }

@@ -10,7 +10,7 @@ use Rattle.keri_roles.proofs.over_core.over_core.Goals as goal
 pub returns-clause-done : goal.returns-clause-done
 returns-clause-done g c =
     let before = g.O.Outside.told c.args.outside.now in
-    let after = g.O.Outside.told c.make-providers.new.outside in
+    let after = g.O.Outside.told c.providers_for-providers.new.outside in
     let end = c.read_to_core-reader.result.reader in
     let core = c.read_to_core-reader.result.core in
     let debt = c.owe-close.result in
@@ -21,9 +21,9 @@ returns-clause-done g c =
       c.read_to_core-reader.ensures.source,
       seen_none (verifier_seen g.O.Source.Source.left g.O.Source.Source.faults g.O.Verifier.Verifier.says g.O.Verifier.Verifier.faults) end.verifier,
       c.read_to_core-reader.ensures.verifier,
-    ) c.make-providers.ensures.makes in
+    ) c.providers_for-providers.ensures.makes in
     let tells : Tells c.args.mode (record { limits = before.limits; held = before.holds c.args.name.now; says = before.says c.args.helper.now }) reader core = rw c.limits-limits.ensures at
-    (c.read_to_core-reader.ensures.tells (before.holds c.args.name.now) (before.says c.args.helper.now) c.make-providers.ensures.holds c.make-providers.ensures.says) in
+    (c.read_to_core-reader.ensures.tells (before.holds c.args.name.now) (before.says c.args.helper.now) c.providers_for-providers.ensures.holds c.providers_for-providers.ensures.says) in
     let of : IsJournalOf core c.into_journal.result = search rules in
     let owed = option_map (λ text. text.items) debt.owed in
     rw (one, same_journal core c.into_journal.result of) (record {

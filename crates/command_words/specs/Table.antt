@@ -1,0 +1,54 @@
+-- The table of the commands, as a command line that the port of `clap` reads.
+use Rattle.std.specs.Prelude.{◌≡◌, ℕ, List, [], ◌∷◌, true, false, Some, codes}
+use Rattle.clap.specs.Words.{App, Rule, Shape, new_rule, shape_of}
+use Rattle.clap.specs.Simple.{new_shape}
+use Rattle.clap.specs.declared.builder.ArgAction.TheVariants.{Set}
+use Rattle.clap.specs.declared.builder.command.Command.{Command}
+use Rattle.clap.specs.declared.builder.command.Command.TheViews.{out-Command as fields_of}
+
+-- an option `--name VALUE` that may be left out, and isn't repeated
+abbrev pub may_have : List ℕ → Rule
+may_have name = record (new_rule name) { long = Some name; action = Some Set }
+
+-- an option that is there once
+abbrev pub wants : List ℕ → Rule
+wants name = record (may_have name) { required = true }
+
+-- the one FILE
+abbrev pub file : Rule
+file = record (new_rule (codes "file")) { action = Some Set; required = true }
+
+-- a command, and what it is given
+abbrev pub command : List ℕ → List Rule → Shape
+command name rules = record (new_shape name) { rules = rules }
+
+-- The program before it has a command. The words are those behind its name, and one is to name a command. There are no words for
+-- help, and as a program without a version it has none for that.
+abbrev pub bare : App
+bare = record {
+  top = record (new_shape (codes "keri")) {
+    no_binary_name = true;
+    disable_help_flag = true;
+    disable_help_subcommand = true;
+    subcommand_required = true;
+  };
+  subs = [];
+}
+
+-- the commands, each with its options and its FILE
+unfoldable pub table : App
+table = record {
+  top = record bare.top { is_leaf = false };
+  subs = command (codes "check") (file ∷ [])
+      ∷ command (codes "validate") (wants (codes "helper") ∷ file ∷ [])
+      ∷ command (codes "watch") (wants (codes "helper") ∷ file ∷ [])
+      ∷ command (codes "make") (wants (codes "helper") ∷ wants (codes "plan") ∷ may_have (codes "log") ∷ [])
+      ∷ command (codes "gen") (wants (codes "seed") ∷ wants (codes "logs") ∷ wants (codes "events") ∷ [])
+      ∷ command (codes "rehearse") []
+      ∷ [];
+}
+
+-- the command has this shape, and no argument that commands below it would take too
+pub record HasShape (shape : Shape) (it : Command) : Type 0 where
+  pub shape_is : shape_of it ≡ shape
+  pub local : (fields_of it).has_globals ≡ false

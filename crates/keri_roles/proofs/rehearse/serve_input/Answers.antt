@@ -1,0 +1,18 @@
+use Rattle.std.proofs.Common.{refl}
+use Rattle.run_outside.specs.declared.making.MakingKind.TheVariants.{Source}
+use Rattle.std.specs.Prelude.{codes}
+use Rattle.keri_roles.proofs.Rehearsed.{one_failed, one_made}
+use Rattle.keri_roles.proofs.rehearse.serve_input.Goals as goal
+
+pub returns-in-Ok : goal.returns-in-Ok
+returns-in-Ok g c =
+    let made = c.in-Ok.ensures in
+    record {
+      makes = rw c.serve-served.ensures.told (one_made Source (codes "-") _ _ c.in-Ok.source made.makes);
+      serves = rw (made.holds, made.none_yet, made.same_sink) at c.serve-served.ensures.serves;
+    }
+
+pub returns-in-Err : goal.returns-in-Err
+returns-in-Err g c =
+    let made = c.in-Err.ensures in
+    record { makes = one_failed Source (codes "-") _ _ _ made.makes; serves = (refl, rw made.same_sink refl) }

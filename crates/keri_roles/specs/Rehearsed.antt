@@ -1,0 +1,54 @@
+-- What `rehearse` does.
+use Rattle.std.specs.Prelude.{◌≡◌, ℕ, List, [], ◌∷◌, codes, is_none}
+use Rattle.std.specs.declared.option.Option.{Option}
+use Rattle.std.specs.declared.option.Option.TheVariants.{None, Some}
+use Rattle.run_outside.specs.Told.{making}
+use Rattle.run_outside.specs.declared.making.MakingKind.TheVariants.{Source}
+use Rattle.verifier_link.specs.declared.served.Served.{Served}
+use Rattle.verifier_link.specs.declared.served.Served.TheVariants.{End, Malformed, ReadFault, WriteFault, Full, OutOfMemory}
+use Rattle.verifier_link.specs.Serving.{IsServed, SidesTold, sides_told}
+use Rattle.run_status.specs.declared.close.Close.{Close}
+use Rattle.run_status.specs.declared.close.Close.TheVariants.{End as EndClose, Malformed as MalformedClose, ReadFault as ReadFaultClose, WriteFault as WriteFaultClose, Full as FullClose, OutOfMemory as OutOfMemoryClose}
+use Rattle.run_status.specs.Readers.{Reader, SourceTold, SinkTold}
+use Rattle.keri_roles.specs.NoJournal.{no_journal}
+use Rattle.keri_roles.specs.Run.{Run, AreMakings}
+
+-- the end of serving as a reader's close
+abbrev pub serving_close : Served → Close
+serving_close End = EndClose
+serving_close (Malformed place) = MalformedClose place
+serving_close ReadFault = ReadFaultClose
+serving_close WriteFault = WriteFaultClose
+serving_close Full = FullClose
+serving_close OutOfMemory = OutOfMemoryClose
+
+-- the status of `rehearse`, by how the serving ended
+abbrev pub serving_status : Served → ℕ
+serving_status End = 0
+serving_status (Malformed place) = 3
+serving_status ReadFault = 5
+serving_status WriteFault = 6
+serving_status Full = 9
+serving_status OutOfMemory = 10
+
+-- what a source and a sink tell, as a link's sides
+abbrev pub sides_of : SourceTold → SinkTold → SidesTold
+sides_of source sink = sides_told (record { left = source.left; faults = source.faults }) (record { written = sink.written; faults = sink.faults })
+
+-- Questions were read of the source, which had failed not yet and held this, and the rehearsal's answers were written. Where
+-- there is no source, nothing was.
+abbrev pub Serves : ℕ → Option (List ℕ) → Option SourceTold → SinkTold → SinkTold → Served → Type 0
+Serves most held None old new served = (served ≡ ReadFault) × (new ≡ old)
+Serves most held (Some source) old new served = IsServed most (sides_of (record { left = held; faults = 0 }) old) (sides_of source new) served
+
+-- `rehearse`: the questions on standard input are answered on standard output by the rehearsal, each before the next one is
+-- read. Nothing else is made, told or written.
+pub record IsRehearsed (run : Run) : Type 0 where
+  pub reader : Reader
+  pub served : Served
+  pub one : run.readers ≡ record reader { verifier = None; refused = []; close = serving_close served } ∷ []
+  pub makes : AreMakings (making Source (codes "-") (is_none reader.source) ∷ []) run.before run.after
+  pub serves : Serves run.before.limits.stream_bytes (run.before.holds (codes "-")) reader.source run.sink_before run.sink_after served
+  pub none_told : run.journal ≡ no_journal
+  pub no_signer : run.signer ≡ None
+  pub status : run.status ≡ serving_status served
