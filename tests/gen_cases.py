@@ -33,8 +33,11 @@ STREAMS = {
     "gen_many_logs": (5, 300, 2),
 }
 
-# Words in another order, and words that aren't in the form.
-TURNED = ["gen", "--events", "2", "--seed", "1", "--logs", "1"]
+# Words in another order or form, and words that aren't in the form.
+WRITTEN_OTHERWISE = {
+    "gen_options_in_another_order": ["gen", "--events", "2", "--seed", "1", "--logs", "1"],
+    "gen_options_with_equals_signs": ["gen", "--seed=1", "--logs", "1", "--events=2"],
+}
 REFUSED = {
     "gen_leading_zero": words("01", 1, 1),
     "gen_no_logs": words(1, 0, 1),
@@ -44,6 +47,8 @@ REFUSED = {
     "gen_seed_beyond_64_bits": words(GREATEST + 1, 1, 1),
     "gen_seed_of_21_digits": words(10**20, 1, 1),
     "gen_signed_seed": words("+1", 1, 1),
+    "gen_negative_seed": words("-1", 1, 1),
+    "gen_negative_seed_with_an_equals_sign": ["gen", "--seed=-1", "--logs", "1", "--events", "1"],
     "gen_seed_in_hexadecimal": words("0x1", 1, 1),
     "gen_empty_seed": words("", 1, 1),
     "gen_option_twice": ["gen", "--seed", "1", "--seed", "1", "--events", "1"],
@@ -67,7 +72,8 @@ if __name__ == "__main__":
     assert line(1, 1, 2) == "gen logs=1 events=2 rotations=0 bytes=1409 accepted=2\n"
     for name, stream in STREAMS.items():
         write(name, words(*stream), line(*stream))
-    write("gen_options_in_another_order", TURNED, line(1, 1, 2))
+    for name, given in WRITTEN_OTHERWISE.items():
+        write(name, given, line(1, 1, 2))
     for name, given in REFUSED.items():
         write(name, given, "words\n", 2)
-    print(len(STREAMS) + 1 + len(REFUSED), "cases")
+    print(len(STREAMS) + len(WRITTEN_OTHERWISE) + len(REFUSED), "cases")

@@ -334,7 +334,7 @@ FURTHER = {
     "watched_stream_cut_short": (WATCH_WORDS, signed(ICP, 1)[:-1], "", 3),
     "watched_missing_file": (WATCH_WORDS, None, "", 5),
     "watch_without_a_helper": (["watch", "a"], signed(ICP, 1), "words\n", 2),
-    "watch_with_another_helper": (["watch", "--helper", "other", "a"], signed(ICP, 1), "words\n", 2),
+    "watched_helper_that_is_missing": (["watch", "--helper", "no-such-helper", "a"], signed(ICP, 1), "", 7),
 }
 
 

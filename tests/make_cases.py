@@ -17,7 +17,7 @@ from validate_cases import CASES, SAMPLES
 
 MAKE = ["make", "--helper", "rehearsal", "--plan", "plan"]
 WITH_LOG = [*MAKE, "--log", "log"]
-REFUSED, UNREAD, UNWRITTEN, NO_FORM = 3, 5, 6, 2
+REFUSED, UNREAD, UNWRITTEN, UNASKED, NO_FORM = 3, 5, 6, 7, 2
 
 
 def slots(text, *places, code="D"):
@@ -159,6 +159,9 @@ PLAN, FROM_INPUT = {"plan": INTERACTION, "log": LOG}, ["make", "--helper", "rehe
 # Runs whose words, files or streams are other: the words, the files, what is written, the status, and what else the case has.
 RUNS = {
     "options_in_another_order": (["make", "--log", "log", "--plan", "plan", "--helper", "rehearsal"], PLAN, signed(IXN_1, 1), 0, {}),
+    "helper_that_is_missing": (["make", "--helper", "no-such-helper", "--plan", "plan", "--log", "log"], PLAN, "", UNASKED, {}),
+    "options_with_equals_signs": (["make", "--log=log", "--plan=plan", "--helper=rehearsal"], PLAN, signed(IXN_1, 1), 0, {}),
+    "plan_that_begins_with_a_dash": (["make", "--helper", "rehearsal", "--plan=-plan"], {"-plan": INCEPTION}, signed(ICP, 1), 0, {}),
     "plan_from_standard_input": (FROM_INPUT, {}, signed(ICP, 1), 0, {"stdin": INCEPTION}),
     "plan_from_standard_input_with_a_log": ([*FROM_INPUT, "--log", "log"], PLAN, signed(IXN_1, 1), 0, {"stdin": INTERACTION}),
     "log_from_standard_input": ([*MAKE, "--log", "-"], {"plan": INTERACTION}, signed(IXN_1, 1), 0, {"stdin": LOG}),
@@ -193,7 +196,6 @@ WORDS = {
     "plan_twice_with_a_log": [*WITH_LOG, "--plan", "plan"],
     "log_twice": [*WITH_LOG, "--log", "log"],
     "helper_twice": [*MAKE, "--helper", "rehearsal"],
-    "another_helper": ["make", "--helper", "other", "--plan", "plan"],
     "option_without_a_value": [*MAKE, "--log"],
     "plan_without_a_value": MAKE[:-1],
     "word_more": [*WITH_LOG, "plan"],

@@ -71,5 +71,5 @@ if __name__ == "__main__":
     for name, (stream, text, status) in STREAMS.items():
         write(name, WORDS, stream, text, status)
     write("validated_missing_file", WORDS, None, "fault 0 read\n", 5)
-    write("another_helper", ["validate", "--helper", "other", "a"], SIGNED, "words\n", 2)
+    write("validated_helper_that_is_missing", ["validate", "--helper", "no-such-helper", "a"], SIGNED, "fault 0 verifier\n", 7)
     print(len(STREAMS) + 2, "cases")
