@@ -1,5 +1,5 @@
 -- Texts of so few bytes with few members.
-use Rattle.std.proofs.Common.{◌≢◌, refl, ℕ, ◌<◌, ◌^◌, List, length, sym, subst, arith}
+use Rattle.std.proofs.Common.{ℕ, ◌<◌, ◌^◌, List, length, sym, subst, arith}
 use Rattle.body_fields.specs.Bodies.{IsBody}
 use Rattle.body_fields.proofs.Texts.{is_body}
 use Rattle.event_body.specs.Judging.{HasEvent, HasValues, SpellsEvent, IsFirstFault}
@@ -8,7 +8,7 @@ use Rattle.event_body.specs.Spelling.{body_kind, values_of}
 use Rattle.event_body.specs.declared.event.Event.{Event}
 use Rattle.event_body.specs.declared.body_fault.BodyFault.{BodyFault}
 use Rattle.event_body.specs.declared.body_fault.BodyFault.TheVariants.{Field, SizeField, Said, Prefix, Threshold, Witnesses, TooMany, NumberTooLarge, TooLarge}
-use Rattle.controller_core.specs.LastNumbers.{IsLastFault}
+use Rattle.controller_core.specs.LastNumbers.{IsLastFault, with_number}
 
 -- an event's text is a body of its values
 body_of : (event : Event) (bytes : List ℕ) → HasEvent event bytes → IsBody (body_kind event) (values_of event) bytes
@@ -20,15 +20,14 @@ few_values event bytes has = (body_kind event, values_of event, body_of event by
 pub few_spelled : (event : Event) (bytes : List ℕ) → SpellsEvent event bytes → HasValues AreFew bytes
 few_spelled event bytes spells = few_values event bytes spells.has
 
--- a fault that is tested behind that of a number
-pub behind_number : (text : List ℕ) (fault : BodyFault) → length text < 65535 → IsFirstFault text fault → fault ≢ SizeField → ((n : ℕ) → fault ≢ Field n) → fault ≢ TooMany
-    → IsLastFault text NumberTooLarge
-behind_number text SizeField short is size field many = absurd (size refl)
-behind_number text (Field n) short is size field many = absurd (field n refl)
-behind_number text TooMany short is size field many = absurd (many refl)
-behind_number text TooLarge short is size field many = absurd (omega (arith, is, short))
-behind_number text NumberTooLarge short (_, (kind, values, body, (few, rule))) size field many = (short, (kind, values, body, few))
-behind_number text Threshold short (_, (kind, values, body, (few, _, rule))) size field many = (short, (kind, values, body, few))
-behind_number text Witnesses short (_, (event, has, rule)) size field many = (short, few_values event text has)
-behind_number text Prefix short (_, (event, has, rule)) size field many = (short, few_values event text has)
-behind_number text Said short (_, (event, has, rule)) size field many = (short, few_values event text has)
+-- the fault of a text of so few bytes
+pub last_of : (text : List ℕ) (fault : BodyFault) → length text < 65535 → IsFirstFault text fault → IsLastFault text (with_number fault)
+last_of text SizeField short is = (short, is)
+last_of text (Field n) short is = (short, is)
+last_of text TooMany short is = (short, is)
+last_of text TooLarge short is = absurd (omega (arith, is, short))
+last_of text NumberTooLarge short (_, (kind, values, body, (few, rule))) = (short, (kind, values, body, few))
+last_of text Threshold short (_, (kind, values, body, (few, _, rule))) = (short, (kind, values, body, few))
+last_of text Witnesses short (_, (event, has, rule)) = (short, few_values event text has)
+last_of text Prefix short (_, (event, has, rule)) = (short, few_values event text has)
+last_of text Said short (_, (event, has, rule)) = (short, few_values event text has)

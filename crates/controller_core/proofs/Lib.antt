@@ -4,3 +4,5 @@ mod Enough
 mod More
 mod Signing
 mod Zipped
+mod Behind
+mod Keys

@@ -33,3 +33,15 @@ IsLastRefusal text SignerFault = ⊥
 abbrev pub IsLastAnswer : List ℕ → Result Message PlanFault → Type 0
 IsLastAnswer text (Ok message) = ⊥
 IsLastAnswer text (Err fault) = IsLastRefusal text fault
+
+-- the first fault of a text that is short enough once its number is too large, by the first one that it has before
+abbrev pub with_number : BodyFault → BodyFault
+with_number SizeField = SizeField
+with_number (Field n) = Field n
+with_number TooMany = TooMany
+with_number TooLarge = NumberTooLarge
+with_number NumberTooLarge = NumberTooLarge
+with_number Threshold = NumberTooLarge
+with_number Witnesses = NumberTooLarge
+with_number Prefix = NumberTooLarge
+with_number Said = NumberTooLarge

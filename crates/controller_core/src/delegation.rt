@@ -8,7 +8,7 @@ ghost use Rattle.controller_core.specs.Plans.{sealed_delegation};
 ghost use Rattle.controller_core.specs.Refusals.{CountsFaults, IsRefusal};
 ghost use Rattle.controller_core.specs.Signing.{IsSignedByYes};
 
-use crate::event_seal::event_seal;
+use crate::event_seal::seal_anchor;
 use crate::made::made_behind;
 use crate::planned_event::interaction;
 use crate::{Plan, PlanFault};
@@ -16,7 +16,6 @@ use cesr_stream::Message;
 use event_body::Event;
 use keri_outside::Signer;
 use key_state::KeyState;
-use lists::Items;
 use std::alloc::Global;
 
 /// The message of an interaction behind the head of a state, whose one anchor is the event seal of an event.
@@ -45,8 +44,8 @@ pub fn delegate<S: Signer>(
     // Once verifiers have said yes of the signatures, the body is signed.
     ensures signed { IfOk result (IsSignedByYes (Some state.now) (sealed_delegation state.now event.now plan.now)) }
 {
-    let mut anchors = Items::new(alloc);
-    anchors.push(event_seal(alloc, event)?)?;
-    let sealing = interaction(state, anchors);
-    made_behind(alloc, state, &sealing, plan, signer)
+    let sealing = interaction(state, seal_anchor(alloc, event)?);
+    let message = made_behind(alloc, state, &sealing, plan, signer);
+    drop(sealing);
+    message
 }

@@ -1,5 +1,6 @@
 //! Event seals as values.
-ghost use Rattle.std.specs.Prelude.{◌≡◌, ◌∷◌, [], IfOk};
+ghost use Rattle.std.specs.Prelude.{◌≡◌, ◌++◌, ◌∷◌, [], IfOk, OnOk};
+ghost use Rattle.std.specs.List.{AllByRecursion};
 ghost use Rattle.json_tree.specs.Spelling.{IsJson};
 ghost use Rattle.controller_core.specs.Plans as plans;
 
@@ -9,28 +10,49 @@ use json_tree::{Member, Tree};
 use lists::Items;
 use std::alloc::{AllocError, Global};
 
-/// The event seal of an event: an object of its identifier, its number and its digest (KERI, event seals).
+/// The anchors of an event that seals another one alone.
+pub(crate) fn seal_anchor(alloc: Global, event: &Event) -> Result<Items<Tree>, AllocError>
+    ensures seal { IfOk result (λ anchors. anchors ≡ plans.seal_of event.now ∷ []) }
+    ensures json { IfOk result (AllByRecursion IsJson) }
+{
+    let mut anchors = Items::new(alloc);
+    anchors.push(event_seal(alloc, event)?)?;
+    Ok(anchors)
+}
+
+// The event seal of an event: an object of its identifier, its number and its digest (KERI, event seals).
 #[tactic(auto, unfolding(crate::specs::Plans::seal_of), using(crate::proofs::Seals::seal_json))]
-pub(crate) fn event_seal(alloc: Global, event: &Event) -> Result<Tree, AllocError>
+fn event_seal(alloc: Global, event: &Event) -> Result<Tree, AllocError>
     ensures seal { IfOk result (λ seal. seal ≡ plans.seal_of event.now) }
     ensures json { IfOk result IsJson }
 {
-    let prefix = prefix_tree(alloc, &prefix_of(event))?;
-    let sn = number_tree(alloc, sn_of(event))?;
-    let said = digest_tree(alloc, &said_of_event(event))?;
-    let members = vec![in alloc;
-        member(alloc, b'i', prefix)?,
-        member(alloc, b's', sn)?,
-        member(alloc, b'd', said)?,
-    ]?;
-    Ok(Tree::Object(Items::from_vec(members)))
+    let mut members = Items::new(alloc);
+    push_member(
+        alloc,
+        &mut members,
+        b'i',
+        prefix_tree(alloc, &prefix_of(event))?,
+    )?;
+    push_member(alloc, &mut members, b's', number_tree(alloc, sn_of(event))?)?;
+    push_member(
+        alloc,
+        &mut members,
+        b'd',
+        digest_tree(alloc, &said_of_event(event))?,
+    )?;
+    Ok(Tree::Object(members))
 }
 
-// A member with a name of one letter.
-fn member(alloc: Global, letter: u8, value: Tree) -> Result<Member, AllocError>
-    ensures { IfOk result (λ member. member ≡ record { name = letter ∷ []; value = value }) }
+// Adds a member with a name of one letter.
+fn push_member(
+    alloc: Global,
+    members: &mut Items<Member>,
+    letter: u8,
+    value: Tree,
+) -> Result<(), AllocError>
+    ensures { OnOk result (members.new ≡ members.old ++ record { name = letter ∷ []; value = value } ∷ []) }
 {
-    let mut name = Items::new(alloc);
-    name.push(letter)?;
-    Ok(Member { name, value })
+    let name = Items::from_vec(vec![in alloc; letter]?);
+    members.push(Member { name, value })?;
+    Ok(())
 }

@@ -36,5 +36,7 @@ pub fn incept<S: Signer>(alloc: Global, plan: &Plan, signer: &mut S) -> Result<M
     ensures signed { IfOk result (IsSignedByYes None (sealed_inception plan.now)) }
 {
     let event = inception(alloc, plan)?;
-    made(alloc, None, &event, plan, signer)
+    let message = made(alloc, None, &event, plan, signer);
+    drop(event);
+    message
 }

@@ -42,5 +42,7 @@ pub fn interact<S: Signer>(
     ensures signed { IfOk result (IsSignedByYes (Some state.now) (sealed_interaction state.now plan.now)) }
 {
     let event = interaction(state, plan.anchors.copy(alloc)?);
-    made_behind(alloc, state, &event, plan, signer)
+    let message = made_behind(alloc, state, &event, plan, signer);
+    drop(event);
+    message
 }

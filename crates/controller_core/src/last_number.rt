@@ -1,15 +1,15 @@
 //! Plans behind a head of the greatest number.
 ghost use Rattle.event_writing.specs.Writable.{IsWritable};
-ghost use Rattle.std.specs.Prelude.{◌≢◌, ◌<◌, length};
-ghost use Rattle.event_body.specs.Judging.{IsFirstFault};
-ghost use Rattle.controller_core.specs.LastNumbers.{IsLastFault, IsLastRefusal};
+ghost use Rattle.std.specs.Prelude.{◌≡◌};
+ghost use Rattle.controller_core.specs.LastNumbers as specs;
+ghost use Rattle.controller_core.specs.LastNumbers.{IsLastRefusal};
 ghost use Rattle.controller_core.specs.Messages.{event_text};
 ghost use Rattle.controller_core.specs.Plans.{sealed};
 
 use crate::PlanFault;
 use cesr_codes::DigestCode;
 use event_body::{BodyFault, Event, ReadBody, read_body};
-use event_writing::sealed_text;
+use event_writing::{EventText, sealed_text};
 use std::alloc::Global;
 
 // With one digit more, so many bytes are too many.
@@ -23,7 +23,10 @@ pub(crate) fn last_fault(alloc: Global, event: &Event, code: DigestCode) -> Plan
     ensures { IsLastRefusal (event_text (sealed code event.now)) result }
 {
     match sealed_text(alloc, event, code) {
-        Ok(made) => text_fault(alloc, &made.text),
+        Ok(EventText { event, text }) => {
+            drop(event);
+            text_fault(alloc, &text)
+        }
         Err(ReadBody::Fault(_)) => PlanFault::Body(BodyFault::TooLarge),
         Err(ReadBody::OutOfMemory) => PlanFault::OutOfMemory,
     }
@@ -38,16 +41,17 @@ fn text_fault(alloc: Global, text: &[u8]) -> PlanFault
     }
     match read_body(alloc, text) {
         Err(ReadBody::OutOfMemory) => PlanFault::OutOfMemory,
-        Err(ReadBody::Fault(fault)) => PlanFault::Body(first_with_number(text, fault)),
-        Ok(_) => PlanFault::Body(BodyFault::NumberTooLarge),
+        Err(ReadBody::Fault(fault)) => PlanFault::Body(with_number(fault)),
+        Ok(event) => {
+            drop(event);
+            PlanFault::Body(BodyFault::NumberTooLarge)
+        }
     }
 }
 
-// The first fault of a text of so few bytes once its number is too large.
-fn first_with_number(_text: &[u8], fault: BodyFault) -> BodyFault
-    requires short { length _text.now < 65535 }
-    requires fault { IsFirstFault _text.now fault }
-    ensures { IsLastFault _text.now result }
+// The first fault of a text of so few bytes once its number is too large, by the first one that it has before.
+fn with_number(fault: BodyFault) -> BodyFault
+    ensures { result ≡ specs.with_number fault }
 {
     match fault {
         BodyFault::SizeField | BodyFault::Field(_) | BodyFault::TooMany => fault,

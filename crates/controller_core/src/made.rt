@@ -11,7 +11,7 @@ ghost use Rattle.controller_core.specs.Refusals.{CountsFaults, IsRefusal};
 ghost use Rattle.controller_core.specs.Signing.{IsSignedByYes};
 
 use crate::last_number::last_fault;
-use crate::planned_body::planned_body;
+use crate::planned_body::planned_text;
 use crate::signature::signatures;
 use crate::{Plan, PlanFault};
 use cesr_codes::IndexedSig;
@@ -37,10 +37,10 @@ pub(crate) fn made<S: Signer>(
     ensures gives { S.gives signer.new ≡ S.gives signer.old }
     ensures count { CountsFaults (S.faults signer.old) (S.faults signer.new) result }
 {
-    let body = planned_body(alloc, state, event, plan)?;
-    let keys = signing_keys(state, &body.event);
-    let sigs = signatures(alloc, keys, &body.text, plan.signers.as_slice(), signer)?;
-    let message = message(alloc, body.text, sigs)?;
+    let text = planned_text(alloc, state, event, plan)?;
+    let keys = signing_keys(state, event);
+    let sigs = signatures(alloc, keys, &text, plan.signers.as_slice(), signer)?;
+    let message = message(alloc, text, sigs)?;
     Ok(message)
 }
 

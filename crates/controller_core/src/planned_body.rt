@@ -17,27 +17,43 @@ use event_writing::{EventText, sealed_text, write_body};
 use key_state::{KeyState, Misfit, spelled_is_kept};
 use std::alloc::Global;
 
-/// The event with the digest of its own text, and that text, where it can be signed in the plan's slots behind the state.
-pub(crate) fn planned_body(
+/// The text of the event with the digest of its own text, where it can be signed in the plan's slots behind the state.
+pub(crate) fn planned_text(
     alloc: Global,
     state: Option<&KeyState>,
     event: &Event,
     plan: &Plan,
-) -> Result<EventText, PlanFault>
+) -> Result<Vec<u8>, PlanFault>
     requires { IsWritable event.now }
-    ensures event { IfOk result (λ made. made.event ≡ sealed plan.now.code event.now) }
-    ensures text { IfOk result (λ made. made.text.items ≡ event_text (sealed plan.now.code event.now)) }
+    ensures text { IfOk result (λ text. text.items ≡ event_text (sealed plan.now.code event.now)) }
     ensures signable { OnOk result (IsSignable (option_copied state.entry) (sealed plan.now.code event.now) plan.now.signers) }
     ensures refused { IfErr result (λ fault. (fault ≢ SignerFault) × IsRefusal (option_copied state.entry) (sealed plan.now.code event.now) plan.now.signers fault) }
 {
-    let made = match body_of(alloc, event, plan.code) {
-        Ok(made) => made,
-        Err(ReadBody::Fault(fault)) => return Err(PlanFault::Body(fault)),
-        Err(ReadBody::OutOfMemory) => return Err(PlanFault::OutOfMemory),
-    };
-    match fault_of(state, &made.event, plan) {
+    match body_of(alloc, event, plan.code) {
+        Ok(body) => signable_text(state, body, plan),
+        Err(ReadBody::Fault(fault)) => Err(PlanFault::Body(fault)),
+        Err(ReadBody::OutOfMemory) => Err(PlanFault::OutOfMemory),
+    }
+}
+
+// The text of a body, where its event can be signed in the plan's slots behind the state.
+fn signable_text(
+    state: Option<&KeyState>,
+    body: EventText,
+    plan: &Plan,
+) -> Result<Vec<u8>, PlanFault>
+    requires whole { IsWhole body.event }
+    requires text { body.text.items ≡ event_text body.event }
+    ensures text { IfOk result (λ text. text.items ≡ event_text body.event) }
+    ensures signable { OnOk result (IsSignable (option_copied state.entry) body.event plan.now.signers) }
+    ensures refused { IfErr result (λ fault. (fault ≢ SignerFault) × IsRefusal (option_copied state.entry) body.event plan.now.signers fault) }
+{
+    let EventText { event, text } = body;
+    let fault = fault_of(state, &event, plan);
+    drop(event);
+    match fault {
         Some(fault) => Err(fault),
-        None => Ok(made),
+        None => Ok(text),
     }
 }
 
@@ -67,7 +83,10 @@ fn body_with(alloc: Global, event: Event) -> Result<EventText, ReadBody>
 {
     match write_body(alloc, &event) {
         Ok(text) => Ok(EventText { event, text }),
-        Err(fault) => Err(fault),
+        Err(fault) => {
+            drop(event);
+            Err(fault)
+        }
     }
 }
 

@@ -24,9 +24,12 @@ const BLANK: Digest = Digest {
 fn first_prefix(basic: bool, keys: &[Key]) -> Prefix
     ensures { result ≡ plans.first_prefix basic keys.now }
 {
+    if !basic {
+        return Prefix::Said(BLANK);
+    }
     match keys {
-        [key, ..] if basic => Prefix::Basic(*key),
-        _ => Prefix::Said(BLANK),
+        [key, ..] => Prefix::Basic(*key),
+        [] => Prefix::Said(BLANK),
     }
 }
 
@@ -37,15 +40,15 @@ fn begun(alloc: Global, plan: &Plan) -> Result<Inception, AllocError>
     Ok(Inception {
         said: BLANK,
         prefix: first_prefix(plan.basic, plan.keys.as_slice()),
-        kt: plan.kt.copy(alloc)?,
         keys: copy_items(&plan.keys, alloc)?,
-        nt: plan.nt.copy(alloc)?,
         next: copy_items(&plan.next, alloc)?,
         toad: plan.toad,
         list: copy_items(&plan.adds, alloc)?,
         traits: plan.traits.copy(alloc)?,
         anchors: plan.anchors.copy(alloc)?,
         delegator: plan.delegator,
+        kt: plan.kt.copy(alloc)?,
+        nt: plan.nt.copy(alloc)?,
     })
 }
 
@@ -89,14 +92,14 @@ fn rotated(alloc: Global, state: &KeyState, plan: &Plan) -> Result<Rotation, All
         prefix: state.prefix,
         sn: next_sn(state),
         prior: head_said(state),
-        kt: plan.kt.copy(alloc)?,
         keys: copy_items(&plan.keys, alloc)?,
-        nt: plan.nt.copy(alloc)?,
         next: copy_items(&plan.next, alloc)?,
         toad: plan.toad,
         cuts: copy_items(&plan.cuts, alloc)?,
         adds: copy_items(&plan.adds, alloc)?,
         anchors: plan.anchors.copy(alloc)?,
+        kt: plan.kt.copy(alloc)?,
+        nt: plan.nt.copy(alloc)?,
     })
 }
 

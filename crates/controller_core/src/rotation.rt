@@ -41,5 +41,7 @@ pub fn rotate<S: Signer>(
     ensures signed { IfOk result (IsSignedByYes (Some state.now) (sealed_rotation state.now plan.now)) }
 {
     let event = rotation(alloc, state, plan)?;
-    made_behind(alloc, state, &event, plan, signer)
+    let message = made_behind(alloc, state, &event, plan, signer);
+    drop(event);
+    message
 }

@@ -1,12 +1,14 @@
-use Rattle.std.proofs.Common.{sym, subst}
-use Rattle.controller_core.specs.LastNumbers.{IsLastRefusal}
-use Rattle.controller_core.proofs.LastNumbers.{few_spelled}
+use Rattle.std.proofs.Common.{Err, sym, subst}
+use Rattle.event_body.specs.Judging.{Judges}
+use Rattle.controller_core.specs.LastNumbers.{IsLastFault}
+use Rattle.controller_core.proofs.LastNumbers.{few_spelled, last_of}
 use Rattle.controller_core.proofs.last_number.text_fault.Goals as goal
-use Rattle.controller_core.proofs.last_number.text_fault.Goals.{in-Err-OutOfMemory, in-Err-Fault, in-Ok}
 
-pub returns : goal.returns
-returns c = elim c.match-read_body.branch [
-  | in-Err-OutOfMemory w ↦ subst (IsLastRefusal c.args.text.now) (sym w.result-is) tt
-  | in-Err-Fault w ↦ subst (IsLastRefusal c.args.text.now) (sym w.result-is) w.first_with_number.ensures
-  | in-Ok w ↦ subst (IsLastRefusal c.args.text.now) (sym w.result-is) (c.if-text-ge-TOO_MANY.false, few_spelled w.in-Ok.field-0 c.args.text.now w.in-Ok.ensures.judged.1)
-]
+pub returns-in-Err-Fault : goal.returns-in-Err-Fault
+returns-in-Err-Fault c =
+    let text = c.args.text.now in
+    let first = subst (λ fault. Judges text (Err fault)) c.in-Err-Fault.field-0-is c.in-Err-Fault.ensures.judged in
+    subst (IsLastFault text) (sym c.with_number.ensures) (last_of text c.in-Err-Fault.fault c.if-text-ge-TOO_MANY.false first)
+
+pub returns-in-Ok : goal.returns-in-Ok
+returns-in-Ok c = (c.if-text-ge-TOO_MANY.false, few_spelled c.in-Ok.event c.args.text.now c.in-Ok.ensures.judged.1)

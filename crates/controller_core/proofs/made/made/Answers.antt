@@ -1,18 +1,39 @@
-use Rattle.std.proofs.Common.{◌≡◌, ◌∙◌, sym, ap, subst, true, length}
-use Rattle.std.specs.List.{list_all}
+use Rattle.std.proofs.Common.{◌≡◌, ◌∙◌, sym, subst, true, length}
+use Rattle.std.specs.List.{AllZip, list_all}
 use Rattle.std.specs.Option.{option_copied}
 use Rattle.key_state.specs.Exposure.{own_rules}
+use Rattle.controller_core.specs.Messages.{IsInSlot, event_text}
 use Rattle.controller_core.specs.Plans.{sealed}
 use Rattle.controller_core.specs.Slots.{is_in_range}
 use Rattle.controller_core.proofs.Enough.{in_range}
+use Rattle.controller_core.proofs.Keys.{has_sigs, same_keys}
 use Rattle.controller_core.proofs.made.made.Goals as goal
 
 pub signatures-requires-clause-slots : goal.signatures-requires-clause-slots
 signatures-requires-clause-slots g c =
     let s = option_copied c.args.state in
-    let event = sealed c.args.plan.now.code c.args.event.now in
+    let code = c.args.plan.now.code in
+    let event = c.args.event.now in
     let slots = c.args.plan.now.signers in
-    let keys = c.signing_keys-keys.ensures ∙ ap (λ e. (own_rules s e).keys) c.in_ok-body.ensures.event in
-    let all = in_range s event slots c.in_ok-body.ensures.signable.enough in
+    let keys = c.signing_keys-keys.ensures ∙ same_keys s code event in
+    let all = in_range s (sealed code event) slots c.in_ok-text.ensures.signable.enough in
     let held : list_all (is_in_range (length c.signing_keys-keys.result.now)) slots ≡ true = subst (λ keys. list_all (is_in_range (length keys)) slots ≡ true) (sym keys) all in
     subst (λ slots. list_all (is_in_range (length c.signing_keys-keys.result.now)) slots ≡ true) (sym c.as_slice.ensures) held
+
+pub returns-clause-made : goal.returns-clause-made
+returns-clause-made g c =
+    let s = option_copied c.args.state in
+    let code = c.args.plan.now.code in
+    let event = sealed code c.args.event.now in
+    let slots = c.args.plan.now.signers in
+    let gives = g.S.Signer.gives c.args.signer.now in
+    let sigs = c.in_ok-sigs.sigs in
+    let keys = c.signing_keys-keys.ensures ∙ same_keys s code c.args.event.now in
+    let text = c.in_ok-text.ensures.text in
+    let by_keys = subst (λ keys. AllZip (IsInSlot gives keys c.deref.result.now) c.as_slice.result.now sigs) keys c.in_ok-sigs.ensures.sigs in
+    let on_text = subst (λ text. AllZip (IsInSlot gives (own_rules s event).keys text) c.as_slice.result.now sigs) (c.deref.ensures.value ∙ text) by_keys in
+    let zipped = subst (λ slots. AllZip (IsInSlot gives (own_rules s event).keys (event_text event)) slots sigs) c.as_slice.ensures on_text in
+    record {
+      signable = c.in_ok-text.ensures.signable;
+      has = has_sigs gives (own_rules s event).keys (event_text event) c.in_ok-text.text.items slots sigs c.in_ok-message.message zipped c.in_ok-message.ensures text;
+    }

@@ -1,12 +1,22 @@
+use Rattle.std.proofs.Common.{◌≤◌, length, refl, subst}
+use Rattle.event_body.specs.Judging.{SpellsEvent}
 use Rattle.controller_core.specs.Messages.{event_text}
 use Rattle.controller_core.proofs.planned_body.body_with.Goals as goal
 
-pub returns-in-Ok-clause-whole : goal.returns-in-Ok-clause-whole
+pub write_body-requires : goal.write_body-requires
+write_body-requires c = c.requires
+
+pub returns-in-Ok : goal.returns-in-Ok
 unfolding event_text
-returns-in-Ok-clause-whole c = record {
-  spelled = rw c.in-Ok.ensures.text at c.in-Ok.ensures.spelled.0;
-  short = rw c.in-Ok.ensures.text at c.in-Ok.ensures.spelled.1;
+returns-in-Ok c = record {
+  event = refl;
+  text = c.in-Ok.ensures.text;
+  whole = record {
+    spelled = subst (SpellsEvent c.args.event) c.in-Ok.ensures.text c.in-Ok.ensures.spelled.0;
+    short = subst (λ text. length text ≤ 65535) c.in-Ok.ensures.text c.in-Ok.ensures.spelled.1;
+  };
+  fault = tt;
 }
 
-pub returns-in-Err-clause-fault : goal.returns-in-Err-clause-fault
-returns-in-Err-clause-fault c = c.in-Err.ensures.fault
+pub returns-in-Err : goal.returns-in-Err
+returns-in-Err c = record { event = tt; text = tt; whole = tt; fault = c.in-Err.ensures.fault }

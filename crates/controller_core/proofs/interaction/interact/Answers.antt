@@ -1,0 +1,13 @@
+use Rattle.std.proofs.Common.{◌∙◌, ap, subst}
+use Rattle.controller_core.specs.Plans.{interaction}
+use Rattle.controller_core.proofs.Behind.{IsAnswerBehind}
+use Rattle.controller_core.proofs.interaction.interact.Goals as goal
+
+pub returns : goal.returns
+returns g c =
+    let state = c.args.state.now in
+    let is = c.interaction-event.ensures.event ∙ ap (interaction state) c.in_ok-copy.ensures in
+    let said = c.made_behind-message.ensures in
+    let answer = subst (IsAnswerBehind (g.S.Signer.gives c.args.signer.now) state c.args.plan.now c.made_behind-message.result) is
+    (record { made = said.made; refused = said.refused; last = said.last; signed = said.signed }) in
+    record { made = answer.made; refused = answer.refused; last = answer.last; gives = said.gives; count = said.count; signed = answer.signed }
