@@ -22,10 +22,10 @@ IsRefusal s e slots SignerFault = IsSignable s e slots
 IsRefusal s e slots OutOfMemory = Unit {0}
 
 -- the signer's count of faults rose where the signer failed, and else stays
-abbrev pub CountsFaults : {T : Type 0} → ℕ → ℕ → Result T PlanFault → Type 0
-CountsFaults before now (Ok value) = now ≡ before
-CountsFaults before now (Err SignerFault) = Rose before now
-CountsFaults before now (Err (Body fault)) = now ≡ before
-CountsFaults before now (Err (Misfit fault)) = now ≡ before
-CountsFaults before now (Err Unsigned) = now ≡ before
-CountsFaults before now (Err OutOfMemory) = now ≡ before
+abbrev pub CountsSignerFaults : {T : Type 0} → ℕ → ℕ → Result T PlanFault → Type 0
+CountsSignerFaults before now (Ok value) = now ≡ before
+CountsSignerFaults before now (Err SignerFault) = Rose before now
+CountsSignerFaults before now (Err (Body fault)) = now ≡ before
+CountsSignerFaults before now (Err (Misfit fault)) = now ≡ before
+CountsSignerFaults before now (Err Unsigned) = now ≡ before
+CountsSignerFaults before now (Err OutOfMemory) = now ≡ before

@@ -5,7 +5,7 @@ ghost use Rattle.key_state.specs.Heads.{head_sn};
 ghost use Rattle.controller_core.specs.LastNumbers.{IsLastAnswer};
 ghost use Rattle.controller_core.specs.Messages.{IsMessageOf, event_text};
 ghost use Rattle.controller_core.specs.Plans.{sealed_delegation};
-ghost use Rattle.controller_core.specs.Refusals.{CountsFaults, IsRefusal};
+ghost use Rattle.controller_core.specs.Refusals.{CountsSignerFaults, IsRefusal};
 ghost use Rattle.controller_core.specs.Signing.{IsSignedByYes};
 
 use crate::event_seal::seal_anchor;
@@ -39,7 +39,7 @@ pub fn delegate<S: Signer>(
 
     // The signer's count of faults rises exactly where it failed.
     ensures gives { S.gives signer.new ≡ S.gives signer.old }
-    ensures count { CountsFaults (S.faults signer.old) (S.faults signer.new) result }
+    ensures count { CountsSignerFaults (S.faults signer.old) (S.faults signer.new) result }
 
     // Once verifiers have said yes of the signatures, the body is signed.
     ensures signed { IfOk result (IsSignedByYes (Some state.now) (sealed_delegation state.now event.now plan.now)) }

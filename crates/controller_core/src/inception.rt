@@ -5,7 +5,7 @@ ghost use Rattle.json_tree.specs.Spelling.{IsJson};
 ghost use Rattle.json_tree.specs.Strings.{IsString};
 ghost use Rattle.controller_core.specs.Messages.{IsMessageOf};
 ghost use Rattle.controller_core.specs.Plans.{sealed_inception};
-ghost use Rattle.controller_core.specs.Refusals.{CountsFaults, IsRefusal};
+ghost use Rattle.controller_core.specs.Refusals.{CountsSignerFaults, IsRefusal};
 ghost use Rattle.controller_core.specs.Signing.{IsSignedByYes};
 
 use crate::made::made;
@@ -30,7 +30,7 @@ pub fn incept<S: Signer>(alloc: Global, plan: &Plan, signer: &mut S) -> Result<M
 
     // The signer's count of faults rises exactly where it failed.
     ensures gives { S.gives signer.new ≡ S.gives signer.old }
-    ensures count { CountsFaults (S.faults signer.old) (S.faults signer.new) result }
+    ensures count { CountsSignerFaults (S.faults signer.old) (S.faults signer.new) result }
 
     // Once verifiers have said yes of the signatures, the body is signed.
     ensures signed { IfOk result (IsSignedByYes None (sealed_inception plan.now)) }

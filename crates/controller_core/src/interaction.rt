@@ -6,7 +6,7 @@ ghost use Rattle.key_state.specs.Heads.{head_sn};
 ghost use Rattle.controller_core.specs.LastNumbers.{IsLastAnswer};
 ghost use Rattle.controller_core.specs.Messages.{IsMessageOf, event_text};
 ghost use Rattle.controller_core.specs.Plans.{sealed_interaction};
-ghost use Rattle.controller_core.specs.Refusals.{CountsFaults, IsRefusal};
+ghost use Rattle.controller_core.specs.Refusals.{CountsSignerFaults, IsRefusal};
 ghost use Rattle.controller_core.specs.Signing.{IsSignedByYes};
 
 use crate::made::made_behind;
@@ -36,7 +36,7 @@ pub fn interact<S: Signer>(
 
     // The signer's count of faults rises exactly where it failed.
     ensures gives { S.gives signer.new ≡ S.gives signer.old }
-    ensures count { CountsFaults (S.faults signer.old) (S.faults signer.new) result }
+    ensures count { CountsSignerFaults (S.faults signer.old) (S.faults signer.new) result }
 
     // Once verifiers have said yes of the signatures, the body is signed.
     ensures signed { IfOk result (IsSignedByYes (Some state.now) (sealed_interaction state.now plan.now)) }

@@ -7,7 +7,7 @@ ghost use Rattle.key_state.specs.Heads.{head_sn};
 ghost use Rattle.controller_core.specs.LastNumbers.{IsLastAnswer};
 ghost use Rattle.controller_core.specs.Messages.{IsMessageOf, event_text};
 ghost use Rattle.controller_core.specs.Plans.{sealed};
-ghost use Rattle.controller_core.specs.Refusals.{CountsFaults, IsRefusal};
+ghost use Rattle.controller_core.specs.Refusals.{CountsSignerFaults, IsRefusal};
 ghost use Rattle.controller_core.specs.Signing.{IsSignedByYes};
 
 use crate::last_number::last_fault;
@@ -35,7 +35,7 @@ pub(crate) fn made<S: Signer>(
     ensures made { IfOk result (IsMessageOf (S.gives signer.old) (option_copied state.entry) (sealed plan.now.code event.now) plan.now.signers) }
     ensures refused { IfErr result (IsRefusal (option_copied state.entry) (sealed plan.now.code event.now) plan.now.signers) }
     ensures gives { S.gives signer.new ≡ S.gives signer.old }
-    ensures count { CountsFaults (S.faults signer.old) (S.faults signer.new) result }
+    ensures count { CountsSignerFaults (S.faults signer.old) (S.faults signer.new) result }
 {
     let text = planned_text(alloc, state, event, plan)?;
     let keys = signing_keys(state, event);
@@ -57,7 +57,7 @@ pub(crate) fn made_behind<S: Signer>(
     ensures refused { head_sn state.now + 1 < 2 ^ 64 → IfErr result (IsRefusal (Some state.now) (sealed plan.now.code event.now) plan.now.signers) }
     ensures last { head_sn state.now ≡ 2 ^ 64 - 1 → IsLastAnswer (event_text (sealed plan.now.code event.now)) result }
     ensures gives { S.gives signer.new ≡ S.gives signer.old }
-    ensures count { CountsFaults (S.faults signer.old) (S.faults signer.new) result }
+    ensures count { CountsSignerFaults (S.faults signer.old) (S.faults signer.new) result }
     ensures signed { IfOk result (IsSignedByYes (Some state.now) (sealed plan.now.code event.now)) }
 {
     if state.sn() == u64::MAX {

@@ -5,7 +5,7 @@ ghost use Rattle.cesr_codes.specs.Indices.{has_form};
 ghost use Rattle.controller_core.specs.declared.plan_fault.PlanFault.TheVariants.{OutOfMemory, SignerFault};
 ghost use Rattle.keri_specs.specs.Causes.{HasCause};
 ghost use Rattle.controller_core.specs.Messages.{IsInSlot};
-ghost use Rattle.controller_core.specs.Refusals.{CountsFaults};
+ghost use Rattle.controller_core.specs.Refusals.{CountsSignerFaults};
 ghost use Rattle.controller_core.specs.Slots as specs;
 
 use crate::{PlanFault, Slot};
@@ -26,7 +26,7 @@ pub(crate) fn signatures<S: Signer>(
     requires slots { list_all (specs.is_in_range (length keys.now)) slots.now ≡ true }
     ensures sigs { IfOk result (AllZip (IsInSlot (S.gives signer.old) keys.now body.now) slots.now) }
     ensures gives { S.gives signer.new ≡ S.gives signer.old }
-    ensures count { CountsFaults (S.faults signer.old) (S.faults signer.new) result }
+    ensures count { CountsSignerFaults (S.faults signer.old) (S.faults signer.new) result }
     ensures only { IfErr result (λ fault. (fault ≡ SignerFault) ⊎ (fault ≡ OutOfMemory)) }
 {
     let mut sigs = Items::new(alloc);

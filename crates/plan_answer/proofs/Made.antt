@@ -72,7 +72,7 @@ module _ (gives : Key → List ℕ → Option Sig) (is : Asked) (slots : List Sl
 
 -- and counts as it does
 module _ (before now : ℕ) where
-  count : (answer : Result Message PlanFault) (text : PlanAnswer) → made.CountsFaults before now answer → answer_to answer ≡ Some text → CountsFaults before now text
+  count : (answer : Result Message PlanFault) (text : PlanAnswer) → made.CountsSignerFaults before now answer → answer_to answer ≡ Some text → CountsFaults before now text
   count (Ok message) text c e = let same : MessageAnswer (message_text message) ≡ text = cc e in rw (sym same) c
   count (Err (fault.Body body)) text c e = let same : Refused (why.Body body) ≡ text = cc e in rw (sym same) c
   count (Err (fault.Misfit misfit)) text c e = let same : Refused (why.Misfit misfit) ≡ text = cc e in rw (sym same) c
@@ -80,12 +80,12 @@ module _ (before now : ℕ) where
   count (Err fault.SignerFault) text c e = let same : SignerFault ≡ text = cc e in rw (sym same) c
   count (Err fault.OutOfMemory) text c e = cc
 
-  pub counts : {E : Type 0} (answer : Result Message PlanFault) (texts : Result PlanAnswer E) → made.CountsFaults before now answer
+  pub counts : {E : Type 0} (answer : Result Message PlanFault) (texts : Result PlanAnswer E) → made.CountsSignerFaults before now answer
       → IfOk texts (λ text. answer_to answer ≡ Some text) → IfOk texts (CountsFaults before now)
   counts answer (Ok text) c e = count answer text c e
   counts answer (Err other) c e = tt
 
-  pub kept : (answer : Result Message PlanFault) → made.CountsFaults before now answer → answer ≢ Err fault.SignerFault → now ≡ before
+  pub kept : (answer : Result Message PlanFault) → made.CountsSignerFaults before now answer → answer ≢ Err fault.SignerFault → now ≡ before
   kept (Ok message) c other = c
   kept (Err (fault.Body body)) c other = c
   kept (Err (fault.Misfit misfit)) c other = c
@@ -93,6 +93,6 @@ module _ (before now : ℕ) where
   kept (Err fault.SignerFault) c other = absurd (other refl)
   kept (Err fault.OutOfMemory) c other = c
 
-  pub all_kept : {A E : Type 0} (answer : Result Message PlanFault) (texts : Result A E) → made.CountsFaults before now answer → OnErr texts (answer ≢ Err fault.SignerFault) → OnErr texts (now ≡ before)
+  pub all_kept : {A E : Type 0} (answer : Result Message PlanFault) (texts : Result A E) → made.CountsSignerFaults before now answer → OnErr texts (answer ≢ Err fault.SignerFault) → OnErr texts (now ≡ before)
   all_kept answer (Ok text) c other = tt
   all_kept answer (Err out) c other = kept answer c other
