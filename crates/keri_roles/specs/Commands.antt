@@ -90,6 +90,7 @@ pub record IsUnbegun (run : Run) : Type 0 where
   pub none_made : run.after ≡ run.before
   pub none_read : run.readers ≡ []
   pub none_told : run.journal ≡ no_journal
+  pub no_signer : run.signer ≡ None
   pub none_written : run.sink_after ≡ run.sink_before
   pub status : run.status ≡ 10
 

@@ -41,8 +41,8 @@ abbrev pub Serves : ℕ → Option (List ℕ) → Option SourceTold → SinkTold
 Serves most held None old new served = (served ≡ ReadFault) × (new ≡ old)
 Serves most held (Some source) old new served = IsServed most (sides_of (record { left = held; faults = 0 }) old) (sides_of source new) served
 
--- `rehearse`: the questions on standard input are answered on standard output by the rehearsal, each before the next one is
--- read. Nothing else is made, told or written.
+-- `rehearse`: questions are read of standard input, and the rehearsal's answers to them are written to standard output, in order.
+-- Nothing else is made, told or written.
 pub record IsRehearsed (run : Run) : Type 0 where
   pub reader : Reader
   pub served : Served

@@ -106,6 +106,10 @@ fn end_line(alloc: Global, close: Close) -> Result<String, AllocError>
         Close::Bad(bad) => malformed_line(alloc, 0, bad),
         Close::ReadFault => read_fault_line(alloc, 0),
         Close::Full => full_line(alloc, 0),
-        _ => Ok(String::new(alloc)),
+        Close::End
+        | Close::VerifierFault
+        | Close::WriteFault
+        | Close::Malformed(_)
+        | Close::OutOfMemory => Ok(String::new(alloc)),
     }
 }

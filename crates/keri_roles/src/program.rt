@@ -151,6 +151,7 @@ fn unbegun<O: Outside>(alloc: Global) -> Done<O>
     ensures status { result.status ≡ 10 }
     ensures readers { result.readers.items ≡ [] }
     ensures journal { result.journal ≡ no_journal }
+    ensures signer { result.signer ≡ None }
 {
     Done {
         status: NO_MEMORY,
