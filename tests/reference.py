@@ -1,7 +1,7 @@
 """A validator and a watcher by the definitions of acceptance, which go over everything they were told each time: a peer of the
 program, written apart from it, for streams whose messages are in form.
 
-The verifier is the rehearsal. Nothing is kept but the bodies, what was told, and the accepted events.
+The verifier is the rehearsal, or the one that is handed in. Nothing is kept but the bodies, what was told, and the accepted events.
 """
 import hashlib
 import json
@@ -134,11 +134,16 @@ class Claim:
         return keys[self.index] if self.index < len(keys) else None
 
 
-class Reference:
-    """What a validator was told, and what it accepts of that; or a watcher, who waits for neither receipts nor seals."""
+def is_rehearsal(text, key, signature):
+    return signature == rehearsal(key, text)
 
-    def __init__(self, watches=False):
-        self.watches = watches
+
+class Reference:
+    """What a validator was told, and what it accepts of that; or a watcher, who waits for neither receipts nor seals. The verifier
+    says of a text, a key and a signature whether it is the key's on the text."""
+
+    def __init__(self, watches=False, verifier=is_rehearsal):
+        self.watches, self.verifier = watches, verifier
         self.bodies, self.came, self.verdicts, self.accepted, self.refused = [], [], {}, [], []
 
     # What the accepted events say.
@@ -253,7 +258,7 @@ class Reference:
         self.came.append((held or body, claims))
         self.settle()
         while question := self.question():
-            self.verdicts[question] = question[2] == rehearsal(question[1], text=question[0])
+            self.verdicts[question] = self.verifier(*question)
             self.settle()
 
     def reason(self, event):
