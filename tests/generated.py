@@ -22,30 +22,34 @@ def indexed(signer, text, index):
     return "A" + CHARACTERS[index] + primitive("AA", raw)[2:]
 
 
-def message(text, signer, witnesses):
+def message(text, signer, witnesses, indexed=indexed):
     receipts = [indexed(witness, text, index) for index, witness in enumerate(witnesses)]
     return text + counter("A", 1) + indexed(signer, text, 0) + counter("B", len(receipts)) + "".join(receipts)
 
 
-def log(seed, number, events):
-    """The messages of a log."""
+def unsigned(seed, number, events, key=key, code="E"):
+    """The bodies of a log, each with the key and the witnesses that sign it."""
     keys = lambda place: key("key", seed, number, place, "D")
-    commitment = lambda place: [digest(keys(place), "E")]
+    commitment = lambda place: [digest(keys(place), code)]
     witnesses = [key("wit", seed, number, place, "B") for place in range(4)]
     value, rotations = (seed + number) % WRAP, 0
-    text = body("icp", "E", k=[keys(0)], n=commitment(1), b=witnesses, bt="3")
+    text = body("icp", code, k=[keys(0)], n=commitment(1), b=witnesses, bt="3")
     prefix = said(text)
-    messages = [message(text, keys(0), witnesses[:3])]
+    yield text, keys(0), witnesses[:3]
     for place in range(1, events):
         value = (value * FACTOR + TERM) % WRAP
         behind = {"i": prefix, "s": "%x" % place, "p": said(text)}
         if value < WRAP // 4:
             rotations += 1
-            text = body("rot", "E", **behind, k=[keys(rotations)], n=commitment(rotations + 1), bt="3")
+            text = body("rot", code, **behind, k=[keys(rotations)], n=commitment(rotations + 1), bt="3")
         else:
-            text = body("ixn", "E", **behind)
-        messages.append(message(text, keys(rotations), witnesses[:3]))
-    return messages
+            text = body("ixn", code, **behind)
+        yield text, keys(rotations), witnesses[:3]
+
+
+def log(seed, number, events):
+    """The messages of a log."""
+    return [message(*event) for event in unsigned(seed, number, events)]
 
 
 def logs(seed, count, events):
