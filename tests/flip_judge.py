@@ -34,12 +34,12 @@ class Judge:
         return any(self.says(text, one, raw) for one in ([key] if key else self.keys))
 
     def accepted(self, stream):
-        """The lines of the events that may be accepted."""
+        """The lines of the events that may be accepted. Streams that bring the same are judged once."""
         told = [(message, self.claims(message)) for message in messages(stream) if message.text in self.signed]
-        sort = tuple((message.text, *message.letters, *(tuple(vars(claim).items()) for claim in claims)) for message, claims in told)
-        if sort not in self.lines:
-            self.lines[sort] = self.judged(told)
-        return self.lines[sort]
+        brought = tuple((message.text, *message.letters, *(tuple(vars(claim).items()) for claim in claims)) for message, claims in told)
+        if brought not in self.lines:
+            self.lines[brought] = self.judged(told)
+        return self.lines[brought]
 
     def claims(self, message):
         """The message's claims but those that are nobody's, which add nothing."""
