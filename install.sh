@@ -1,0 +1,111 @@
+#!/bin/sh
+# Copies the program, the scripts round it, the Ed25519 helper where it is built, the manual pages, and the completions
+# for bash and zsh into a folder, or removes them from there. It builds nothing.
+set -u
+umask 022
+
+usage() {
+    cat <<'TEXT'
+usage: ./install.sh [--prefix DIR] [--uninstall]
+
+Copies keri to DIR/bin, DIR/lib/keri and DIR/share, where DIR is /usr/local if none is named; --uninstall removes just these
+files again. Where the variable DESTDIR is set, that folder stands before DIR, as those who make packages want it.
+The status is 0, or 1 where something couldn't be done, which is said on standard error, or 2 for other words.
+
+example: ./install.sh --prefix ~/.local
+TEXT
+}
+
+refuse() {
+    printf 'install.sh: %s\n' "$*" >&2
+    exit 1
+}
+
+top=$(dirname "$(readlink -f "$0")") || exit 1
+prefix=/usr/local
+uninstall=''
+while [ $# -gt 0 ]; do
+    case $1 in
+        -h | --help) usage; exit 0 ;;
+        --prefix=?*) prefix=${1#*=} ;;
+        --prefix)
+            [ -n "${2-}" ] || { usage >&2; exit 2; }
+            prefix=$2
+            shift
+            ;;
+        --uninstall) uninstall=yes ;;
+        *) usage >&2; exit 2 ;;
+    esac
+    shift
+done
+case $prefix in /*) ;; *) prefix=$PWD/$prefix ;; esac
+into=${DESTDIR-}$prefix
+program=lib/keri/keri-x86_64-linux
+helper=helpers/ed25519/out/keri-ed25519
+
+# What is installed: the mode, the file's place under the prefix, and where it comes from; `-` is made here.
+files() {
+    cat <<TEXT
+755 $program release/keri-x86_64-linux
+644 lib/keri/judge packaging/judge
+644 lib/keri/words packaging/words
+755 bin/keri keri
+755 bin/keri-accepts keri-accepts
+644 share/man/man1/keri.1 docs/keri.1
+644 share/man/man1/keri-accepts.1 -
+644 share/man/man1/keri-ed25519.1 docs/keri-ed25519.1
+644 share/doc/keri/GUIDE.md docs/GUIDE.md
+644 share/doc/keri/FORMATS.md docs/FORMATS.md
+644 share/doc/keri/copyright LICENSE
+644 share/bash-completion/completions/keri -
+644 share/zsh/site-functions/_keri -
+755 bin/keri-ed25519 $helper
+TEXT
+}
+
+# Writes a file that is made here.
+made() {
+    case $1 in
+        *.1) echo '.so man1/keri.1' ;;
+        */bash-completion/*) "$top/packaging/completions" bash ;;
+        */zsh/*) "$top/packaging/completions" zsh ;;
+    esac
+}
+
+# Puts a file there whole, or leaves what was there.
+put() {
+    to=$into/$2
+    if ! mkdir -p "${to%/*}" 2>/dev/null || [ ! -w "${to%/*}" ]; then
+        refuse "can't write in ${to%/*}: take another folder, as --prefix ~/.local, or run this as root"
+    fi
+    case $3 in
+        -) made "$2" ;;
+        *) cat "$top/$3" ;;
+    esac >"$to.new" && chmod "$1" "$to.new" && mv -f "$to.new" "$to" && return
+    rm -f "$to.new"
+    refuse "$to couldn't be written"
+}
+
+if [ -n "$uninstall" ]; then
+    files | {
+        while read -r _ place _; do
+            rm -f "$into/$place" || refuse "$into/$place couldn't be removed"
+        done
+        rmdir "$into/lib/keri" "$into/share/doc/keri" 2>/dev/null
+        exit 0
+    } || exit 1
+    echo "keri is removed from $into"
+    exit 0
+fi
+
+[ "$(uname -sm)" = "Linux x86_64" ] || refuse "the program is for Linux on x86-64, and this is $(uname -sm)"
+"$top/release/keri-x86_64-linux" check /dev/null ||
+    refuse "the program doesn't run here: it needs glibc 2.34 or newer, and this is $(getconf GNU_LIBC_VERSION 2>/dev/null || echo 'none or another C library')"
+files | while read -r mode place source; do
+    [ "$source" != "$helper" ] || [ -x "$top/$helper" ] || continue
+    put "$mode" "$place" "$source"
+done || exit 1
+echo "keri is installed in $into; the checksum of the program is"
+(cd "$into" && sha256sum "$program")
+[ -x "$top/$helper" ] || echo "the Ed25519 helper isn't built: for real keys, make -C helpers/ed25519 and run this again"
+case :$PATH: in *":$prefix/bin:"*) ;; *) echo "$prefix/bin isn't in your PATH" ;; esac
