@@ -51,8 +51,12 @@ files() {
 644 lib/keri/words packaging/words
 755 bin/keri keri
 755 bin/keri-accepts keri-accepts
+755 bin/keri-receipt keri-receipt
+755 bin/keri-picture keri-picture
 644 share/man/man1/keri.1 docs/keri.1
 644 share/man/man1/keri-accepts.1 -
+644 share/man/man1/keri-receipt.1 -
+644 share/man/man1/keri-picture.1 -
 644 share/man/man1/keri-ed25519.1 docs/keri-ed25519.1
 644 share/doc/keri/GUIDE.md docs/GUIDE.md
 644 share/doc/keri/FORMATS.md docs/FORMATS.md

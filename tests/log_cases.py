@@ -287,6 +287,19 @@ WATCHED = {
 }
 
 
+# A story of two identifiers: an event that is accepted, one whose place a rotation took, one that waits, and two that conflict.
+STORY_STOLEN, STORY_ROT, STORY_OTHER = (make(SEALING) for make in (
+    lambda prior: ixn(prior, a=["not mine"]), lambda prior: rot(prior, 2), lambda prior: rot(prior, 2, n=[digest(key(100))]),
+))
+STORY = [
+    signed(ICP, 1), signed(CHILD, 10), signed(SEALING, 1), signed(STORY_STOLEN, 1), signed(STORY_ROT, 2), signed(STORY_OTHER, 2),
+    signed(CHILD_1, 11),
+]
+STORY_LINES = by_prefix(
+    event(ICP) + event(SEALING) + event(STORY_STOLEN, "superseded") + event(STORY_ROT) + state(STORY_ROT), log(CHILD)
+) + by_prefix(waits(STORY_OTHER, "never"), waits(CHILD_1, "seal")) + conflict(STORY_ROT, STORY_OTHER)
+
+
 # The samples, and the cases that they show.
 SAMPLE_CASES = {
     "validated": "validated_witnessed_log",
@@ -361,6 +374,7 @@ if __name__ == "__main__":
     for sample, name in SAMPLE_CASES.items():
         messages, lines, _ = CASES[name]
         write_sample(sample, "".join(messages), lines)
+    write_sample("story", "".join(STORY), STORY_LINES)
     (SAMPLES / "evidence.words").write_text("watch\n--helper\nrehearsal\nconflict.cesr\n")
     (SAMPLES / "evidence.stdout").write_text("".join(CONFLICTING))
     (SAMPLES / "evidence.status").write_text("4\n")
