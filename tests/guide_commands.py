@@ -1,4 +1,4 @@
-"""The commands of docs/GUIDE.md, with what each has to write, and how they are run.
+"""The commands of docs/GUIDE.md and README.md, with what each has to write, and how they are run.
 
 Commands stand in the blocks that begin with ```console, behind which may stand the word for those that are run apart. A line that
 begins with `$ ` is a command, and lines right behind it that begin with `> ` go on with it. The lines up to the next command or the
@@ -9,7 +9,8 @@ import re
 import subprocess
 import sys
 
-GUIDE = pathlib.Path(__file__).resolve().parent.parent / "docs" / "GUIDE.md"
+TOP = pathlib.Path(__file__).resolve().parent.parent
+GUIDE, README = TOP / "docs" / "GUIDE.md", TOP / "README.md"
 SECONDS = 60
 # Behind each command a byte 0 is written, and the command's status is kept for the next one.
 END = "{ status=$?; printf '\\000'; (exit $status); }\n"
@@ -30,9 +31,9 @@ class Command:
             self.wanted += line + "\n"
 
 
-def commands(word=""):
-    """The commands of the blocks with this word."""
-    found, guide = [], GUIDE.read_text()
+def commands(word="", page=GUIDE):
+    """The commands of the page's blocks with this word."""
+    found, guide = [], page.read_text()
     opened = ("```console " + word).rstrip()
     for match in re.finditer("^%s\n(.*?)^```$" % opened, guide, re.MULTILINE | re.DOTALL):
         block = guide.count("\n", 0, match.start()) + 1
