@@ -1,10 +1,13 @@
 #!/usr/bin/env python3
-"""The helper protocol over PyNaCl: what keri-ed25519 does, but for making keys, written apart from it.
+"""The helper protocol over PyNaCl: what keri-ed25519 does, but for making keys and allowing what was refused, written apart from it.
 
 It is there to test keri-ed25519 against. Seeds aren't locked in memory and aren't wiped here. README.md in the folder
 ed25519 has the protocol, the key folder and the statuses.
 """
+import fcntl
+import hashlib
 import os
+import re
 import stat
 import sys
 
@@ -81,7 +84,7 @@ def line_of(key):
     path = os.path.join(folder, key)
     try:
         found = os.lstat(path)
-        if not (private(os.stat(folder)) and private(found) and stat.S_ISREG(found.st_mode)):
+        if not (private(os.lstat(folder.rstrip("/") or "/")) and private(found) and stat.S_ISREG(found.st_mode)):
             raise Fault(KEY_FAULT, f"{key}: others can read or write it or its folder")
         with open(path, "rb") as file:
             return file.read().decode("latin-1")
@@ -97,13 +100,112 @@ def signing_key(key):
     return SigningKey(seed)
 
 
+# The front of an event's body, and the line that records one.
+FRONT = re.compile(rb'\{"v":"KERI10JSON([0-9a-f]{6})_","t":"(icp|rot|ixn|dip|drt)","d":"([EI][A-Za-z0-9_-]{43})","i":"([BDEI][A-Za-z0-9_-]{43})",'
+                   rb'"s":"(0|[1-9a-f][0-9a-f]{0,15})",')
+LINE = re.compile(rb"(0|[1-9a-f][0-9a-f]{0,15}) (icp|rot|ixn|dip|drt) ([EI][A-Za-z0-9_-]{43}) (I[A-Za-z0-9_-]{43}) (first|recovers|allowed)")
+
+
+class Record:
+    """The lines of a file in the key folder, which is locked. The last one is left out where a stop left it unfinished."""
+
+    def __init__(self, folder, name, form):
+        self.folder = folder
+        self.file = os.open(name, os.O_RDWR | os.O_CREAT | os.O_NOFOLLOW | os.O_NONBLOCK, 0o600, dir_fd=folder)
+        if not (private(os.fstat(self.file)) and stat.S_ISREG(os.fstat(self.file).st_mode)):
+            raise OSError(0, "the file isn't a plain one, or isn't yours alone")
+        fcntl.flock(self.file, fcntl.LOCK_EX)
+        with open(os.dup(self.file), "rb") as file:
+            file.seek(0)
+            lines = file.read().splitlines(True)
+        found = [form.fullmatch(line[:-1]) if line.endswith(b"\n") else None for line in lines]
+        if None in found[:-1]:
+            raise OSError(0, "the file in the key folder is damaged")
+        self.matches = [match for match in found if match]
+        self.end = sum(len(match[0]) + 1 for match in self.matches)
+
+    def keep(self, line=None):
+        """Puts a line behind the others where there is one, and syncs the file and its name."""
+        try:
+            if line is not None:
+                os.ftruncate(self.file, self.end)
+                os.lseek(self.file, self.end, os.SEEK_SET)
+                if os.write(self.file, line) < len(line):
+                    raise OSError(0, "there is no room")
+            os.fsync(self.file)
+            os.fsync(self.folder)
+        except OSError:
+            os.ftruncate(self.file, self.end)
+            raise
+
+    def close(self):
+        os.close(self.file)
+
+
+def is_allowed(folder, key, said):
+    name = f".allowed-{key[1:]}"
+    if name not in os.listdir(folder):
+        return False
+    record = Record(folder, name, re.compile(b"[EI][A-Za-z0-9_-]{43}"))
+    record.close()
+    return said in [match[0] for match in record.matches]
+
+
+def way_of(folder, key, asked, digest, lines):
+    """How an event comes to be recorded; None where just its body is. One that mayn't be is told."""
+    _, kind, said, prefix, number = asked.groups()
+    here = {b"ixn": None, b"other": None}
+    known = other_body = later = False
+    for at, its_kind, its_said, its_digest, way in (line.groups() for line in lines):
+        if way == b"recovers" and int(at, 16) < int(number, 16):
+            here[b"ixn"] = None
+        later |= its_kind != b"ixn" and int(at, 16) > int(number, 16)
+        if at == number:
+            known |= its_digest == digest
+            other_body |= its_said == said and its_digest != digest
+            here[b"ixn" if its_kind == b"ixn" else b"other"] = its_kind + b" " + its_said
+    if known:
+        return None
+    signed = here[b"other"] or here[b"ixn"]
+    if not signed:
+        return b"first"
+    if kind in (b"rot", b"drt") and not here[b"other"] and not later:
+        return b"recovers"
+    if is_allowed(folder, key, said) and not other_body:
+        return b"allowed"
+    text = b"it has signed the %s for number %s of %s, and not the %s %s: refused" % (signed, number, prefix, kind, said)
+    raise Fault(KEY_FAULT, f"{key}: {text.decode()}")
+
+
+def recorded(key, body):
+    """Keeps that the key signs the event before it does; answers the record, which is locked until it is closed. None of other bytes."""
+    asked = FRONT.match(body)
+    if not asked or int(asked[1], 16) != len(body) or not body.endswith(b"}"):
+        return None
+    folder = os.open(os.environ["KERI_KEYS"], os.O_RDONLY | os.O_DIRECTORY)
+    digest = spelled("I", hashlib.sha256(body).digest(), 44).encode()
+    try:
+        record = Record(folder, f".signed-{key[1:]}-{asked[4].decode()}", LINE)
+        way = way_of(folder, key, asked, digest, record.matches)
+        record.keep(way and b"%s %s %s %s %s\n" % (asked[5], asked[2], asked[3], digest, way))
+    except OSError as fault:
+        raise Fault(KEY_FAULT, f"{key}: what it has signed can't be kept: {fault.strerror}") from None
+    finally:
+        os.close(folder)
+    return record
+
+
 def answer(letter):
     if letter not in (b"V", b"S"):
         raise Fault(MALFORMED, "a question begins with neither V nor S")
     key, raw = primitive(["B", "D"], 44, 32)
     if letter == b"S":
         text = body()
-        return spelled("0B", signing_key(key).sign(text).signature, 88).encode()
+        signer, record = signing_key(key), recorded(key, text)
+        signature = spelled("0B", signer.sign(text).signature, 88).encode()
+        if record:
+            record.close()
+        return signature
     signature = primitive(["0B"], 88, 64)[1]
     try:
         VerifyKey(raw).verify(body(), signature)
@@ -121,6 +223,7 @@ def put(text):
 
 
 def main():
+    os.umask(0o077)
     try:
         if sys.argv[1:] != ["rehearse"]:
             raise Fault(WORDS, "usage: ed25519.py rehearse")

@@ -26,7 +26,12 @@ class Party:
 
     def new(self, *words):
         done = subprocess.run([self.helper, "new", self.folder, *words], stdout=subprocess.PIPE, check=True, text=True)
-        return Key(*done.stdout.splitlines())
+        key, by_sha256, _ = [line.split(" ")[1] for line in done.stdout.splitlines()]
+        return Key(key, by_sha256)
+
+    def allow(self, key, text):
+        """Lets the key sign an event though it has signed another one for its place."""
+        subprocess.run([self.helper, "allow", self.folder, key.text, said(text)], check=True)
 
 
 class Witness(Party):
@@ -50,6 +55,14 @@ class Log:
         """The message of the event that a plan with these lines asks for, behind the log."""
         of = [prefix(self.events[0])] if self.events else []
         return self.day.make(self.party, plan(kind, *HEAD, *of, *lines), "".join(self.messages))
+
+    def make_second(self, before, key, following):
+        """Another rotation to the key behind the messages before. The helper refuses it, until it is allowed."""
+        of = {"i": said(self.events[0]), "s": "%x" % len(before), "p": said(self.events[len(before) - 1])}
+        text = plan("rot", *HEAD, prefix(self.events[0]), *key_lines([key], [following]), "bt 2", SIGN)
+        self.refusal = self.day.try_to_make(self.party, text, "".join(before))
+        self.party.allow(key, body("rot", **of, k=[key.text], n=[following.digest], bt="2"))
+        return self.day.make(self.party, text, "".join(before))
 
     def add(self, form, kind, *lines):
         """Makes an event, and puts it and its receipts in this form behind the others."""
@@ -75,9 +88,13 @@ class Day:
                               timeout=SECONDS)
         return done.stdout.decode("latin-1"), done.returncode
 
-    def make(self, party, text, log):
+    def try_to_make(self, party, text, log):
+        """What `make` writes, and its status. What the helper says isn't shown."""
         (self.folder / "log").write_text(log)
-        message, status = self.run("make", text, "--plan", "-", "--log", self.folder / "log", keys=party.folder)
+        return self.run("make", text, "--plan", "-", "--log", self.folder / "log", keys=party.folder, stderr=subprocess.DEVNULL)
+
+    def make(self, party, text, log):
+        message, status = self.try_to_make(party, text, log)
         if status:
             raise SystemExit(f"make ended with {status} and wrote {message!r}")
         return message
@@ -133,8 +150,9 @@ def live(day):
     stream = anna.add(day.with_one_more, "icp", *key_lines(one[:1], one[1:2]), *witnessed, SIGN)
     stream += ben.add(day.apart, "dip", "di " + said(anna.events[0]), *key_lines(two[0], two[1]), *witnessed, *BOTH)
     stream += anna.add(day.in_a_wrap, "ixn", sealing(ben.events[0]), SIGN)
-    other = anna.make("rot", *key_lines(one[1:2], one[3:]), "bt 2", SIGN)
+    before = list(anna.messages)
     stream += anna.add(day.with_couples, "rot", *key_lines(one[1:2], one[2:3]), "bt 2", SIGN)
+    other = anna.make_second(before, one[1], one[3])
     stream += ben.add(day.apart, "drt", *key_lines(two[1], two[2]), "bt 2", *BOTH)
     stream += anna.add(day.in_a_wrap, "ixn", sealing(ben.events[1]), SIGN)
     return stream, other

@@ -3,12 +3,14 @@
 #include <dirent.h>
 #include <errno.h>
 #include <fcntl.h>
+#include <limits.h>
 #include <sodium.h>
 #include <string.h>
 #include <sys/stat.h>
 #include <unistd.h>
 
 #include "input_output.h"
+#include "record.h"
 
 #define BASE_64 sodium_base64_VARIANT_URLSAFE_NO_PADDING
 
@@ -43,11 +45,26 @@ static const char *fault_of(const struct stat *found, mode_t kind)
     return NULL;
 }
 
-/* Opens a folder that is the caller's alone. */
+/* The path without slashes at its end, behind which a link would be followed. */
+static const char *without_slashes(const char *path)
+{
+    static char text[PATH_MAX];
+    size_t length = strlen(path);
+
+    while (length > 1 && path[length - 1] == '/')
+        length--;
+    if (length >= sizeof text)
+        fail(KEY_FAULT, "the folder", strerror(ENAMETOOLONG));
+    memcpy(text, path, length);
+    text[length] = '\0';
+    return text;
+}
+
+/* Opens a folder that is the caller's alone, and no link. */
 static int open_folder(const char *path)
 {
     struct stat found;
-    int folder = open(path, O_RDONLY | O_DIRECTORY | O_CLOEXEC);
+    int folder = open(without_slashes(path), O_RDONLY | O_DIRECTORY | O_NOFOLLOW | O_CLOEXEC);
     bool is_there = folder >= 0 && fstat(folder, &found) == 0;
     const char *fault = is_there ? fault_of(&found, S_IFDIR) : strerror(errno);
 
@@ -206,15 +223,36 @@ static const char *read_pair(const char *key, struct secret *secret)
 void sign_with(const char *path, const char *key, const unsigned char *body, size_t length,
                unsigned char signature[SIGNATURE_BYTES])
 {
-    int folder = open_folder(path);
+    int folder = open_folder(path), lock = -1;
     struct secret *secret = new_secret();
     const char *fault = read_line(folder, key, secret);
 
     if (fault == NULL)
         fault = read_pair(key, secret);
+    if (fault == NULL)
+        fault = record_event(folder, key, body, length, &lock);
     if (fault == NULL && crypto_sign_detached(signature, NULL, body, length, secret->pair) != 0)
         fault = "libsodium can't sign";
     sodium_free(secret);
+    if (fault != NULL)
+        fail(KEY_FAULT, key, fault);
+    if (lock >= 0)
+        (void)close(lock);
+    (void)close(folder);
+}
+
+void allow_event(const char *path, const char *key, const char *said)
+{
+    struct stat found;
+    int folder = open_folder(path);
+    const char *fault;
+
+    if (fstatat(folder, key, &found, AT_SYMLINK_NOFOLLOW) != 0)
+        fault = errno == ENOENT ? "there is no such key" : strerror(errno);
+    else
+        fault = fault_of(&found, S_IFREG);
+    if (fault == NULL)
+        fault = record_leave(folder, key, said);
     if (fault != NULL)
         fail(KEY_FAULT, key, fault);
     (void)close(folder);

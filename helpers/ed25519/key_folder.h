@@ -1,5 +1,6 @@
 /* A folder of keys: a file for each, named by the key's 44 characters, which holds the seed's 44 characters (CESR's
-   code A) and a line feed. Folder and files are the caller's, and nobody else can read or write them. What goes wrong ends
+   code A) and a line feed, and beside them the records of what was signed (record.h). Folder and files are the caller's, and
+   nobody else can read or write them. What goes wrong ends
    the program with KEY_FAULT. */
 #ifndef KEY_FOLDER_H
 #define KEY_FOLDER_H
@@ -12,8 +13,12 @@
    The key is spelled with the code, B or D, and a NUL behind. */
 void make_key(const char *folder, char code, char key[KEY_CHARACTERS + 1]);
 
-/* Signs the body with the secret of the key, whose spelling is the file's name. */
+/* Signs the body with the secret of the key, whose spelling is the file's name. An event is recorded before, and refused where
+   the key has signed another one for its place. */
 void sign_with(const char *folder, const char *key, const unsigned char *body, size_t length,
                unsigned char signature[SIGNATURE_BYTES]);
+
+/* Lets the key sign the event with this digest, though it has signed another one for its place. */
+void allow_event(const char *folder, const char *key, const char *said);
 
 #endif
