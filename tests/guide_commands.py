@@ -11,7 +11,7 @@ import sys
 
 TOP = pathlib.Path(__file__).resolve().parent.parent
 GUIDE, README = TOP / "docs" / "GUIDE.md", TOP / "README.md"
-SECONDS = 60
+SECONDS = 300
 # Behind each command a byte 0 is written, and the command's status is kept for the next one.
 END = "{ status=$?; printf '\\000'; (exit $status); }\n"
 
