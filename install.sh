@@ -91,6 +91,7 @@ put() {
 }
 
 if [ -n "$uninstall" ]; then
+    [ -d "$into/lib/keri" ] || { echo "keri isn't installed in $into"; exit 0; }
     files | {
         while read -r _ place _; do
             rm -f "$into/$place" || refuse "$into/$place couldn't be removed"

@@ -157,7 +157,7 @@ static const char *read_lines(struct lines *lines, bool (*take)(const char *, si
         is_broken = is_broken || !take(line, (size_t)length - 1, into);
         lines->end += is_broken ? 0 : (off_t)length;
     }
-    if (fault == NULL && ferror(stream))
+    if (fault == NULL && !feof(stream)) /* at want of memory getline says nothing else */
         fault = told(strerror(errno));
     free(line);
     if (stream != NULL)
