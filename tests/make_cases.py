@@ -179,8 +179,17 @@ RUNS = {
     "plan_that_is_a_folder": (["make", "--helper", "rehearsal", "--plan", "."], {}, "", UNREAD, {}),
     "log_that_is_a_folder": ([*MAKE, "--log", "."], PLAN, "", UNREAD, {}),
     "standard_input_closed": (FROM_INPUT, {}, "", UNREAD, {"stdin-closed": ""}),
+    "standard_input_closed_before_a_log": (
+        [*FROM_INPUT, "--log", "log"], {"log": INCEPTION}, "", UNREAD, {"stdin-closed": ""},
+    ),
+    "standard_input_closed_behind_a_plan": ([*MAKE, "--log", "-"], {"plan": INCEPTION}, "", UNREAD, {"stdin-closed": ""}),
+    "standard_input_closed_for_both": ([*FROM_INPUT, "--log", "-"], {}, "", UNREAD, {"stdin-closed": ""}),
     "standard_output_full": (WITH_LOG, PLAN, "", UNWRITTEN, {"stdout-full": ""}),
     "standard_output_closed": (WITH_LOG, PLAN, "", UNWRITTEN, {"stdout-closed": ""}),
+    "standard_output_limited": (WITH_LOG, PLAN, signed(IXN_1, 1)[:100], UNWRITTEN, {"stdout-limit": "100\n"}),
+    "standard_output_limited_to_all": (
+        WITH_LOG, PLAN, signed(IXN_1, 1), 0, {"stdout-limit": "%d\n" % len(signed(IXN_1, 1))},
+    ),
     "refusal_on_a_full_output": (MAKE, PLAN, "", UNWRITTEN, {"stdout-full": ""}),
     "missing_plan_on_a_full_output": (MAKE, {}, "", UNREAD, {"stdout-full": ""}),
 }

@@ -20,6 +20,8 @@ pub mod Looks
 pub mod Ends
 pub mod Cuts
 pub mod Sound
+pub mod RaisedStays
+pub mod FullStays
 mod SampleEvents
 mod Examples
 mod Premises

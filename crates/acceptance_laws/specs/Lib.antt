@@ -9,3 +9,4 @@ pub mod Standing
 pub mod Looks
 pub mod Ends
 pub mod Cuts
+pub mod Longer

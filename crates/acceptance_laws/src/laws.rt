@@ -4,6 +4,7 @@ ghost use Rattle.acceptance_laws.specs.Claimed.{RowsLaw};
 ghost use Rattle.acceptance_laws.specs.Cuts.{CutLaw, PlaceLaw};
 ghost use Rattle.acceptance_laws.specs.Ends.{JournalLaw, ReasonsLaw};
 ghost use Rattle.acceptance_laws.specs.Entries.{LocalityLaw, NamesLaw, NothingReadyLaw, SettledLaw};
+ghost use Rattle.acceptance_laws.specs.Longer.{FullLaw, NumbersLaw, RaisedLaw};
 ghost use Rattle.acceptance_laws.specs.Looks.{BoundOnceLaw, BoundTwiceLaw, LooksLaw, OnceLaw, TwiceLaw};
 ghost use Rattle.acceptance_laws.specs.Standing.{BehindLaw, CurrentLaw, InceptionReadyLaw, ReadyKeptLaw, SoundLaw, StandingReadyLaw};
 ghost use Rattle.acceptance_laws.specs.Support.{AlikeLaw, ClaimsLaw, InceptionLaw, KeptLaw, ReadyLaw, SupportLaw, VerdictLaw};
@@ -158,4 +159,19 @@ pub fn came_rows_add_parts()
 /// A yes on the key and signature of a row adds what each row with them brings.
 pub fn yes_rows_add_parts()
     ensures { YesLaw }
+{}
+
+/// A question that was raised is raised still as more is told.
+pub fn raised_stays()
+    ensures { RaisedLaw }
+{}
+
+/// A body keeps its number as more is told.
+pub fn bodies_stay()
+    ensures { NumbersLaw }
+{}
+
+/// A message for which there is no room finds none as more is told, within the limits.
+pub fn full_stays()
+    ensures { FullLaw }
 {}

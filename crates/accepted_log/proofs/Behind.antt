@@ -19,7 +19,7 @@ use Rattle.accepted_log.proofs.StateSteps.{fits_parts, live_at}
 -- NOTHING: no events
 pub nothing_is_log : IsLog [] nothing
 unfolding state last_from
-nothing_is_log = record { numbers = refl; places = refl; current = λ prefix. refl; behind = λ i b p at pl. cc }
+nothing_is_log = record { numbers = refl; places = refl; current = λ prefix. refl; behind = λ i b p at pl. cc; under = λ i b p at pl sets. cc }
 
 -- the list up to a member that isn't there before
 up_to_at : (log : List Body) (i : ℕ) (b : Body) → slice_get log i ≡ Some b → is_in (take i log) b ≡ false → up_to b log ≡ take (suc i) log

@@ -1,6 +1,7 @@
 -- One more event in an accepted log.
 use Rattle.std.proofs.Common.{◌≡◌, ℕ, ◌+◌, ◌-◌, ◌<◌, true, false, List, [], ◌∷◌, ◌++◌, length, take, Some, refl, sym, ◌∙◌, ap, subst, inl, inr, arith, length-append, if◌then◌else◌}
 use Rattle.std.specs.Prelude.{slice_get, IsTrue}
+use Rattle.std.proofs.Math.Seq.{take-append_seam}
 use Rattle.std.proofs.lemmas.Bool.{cases_Bool, cases_eq}
 use Rattle.std.proofs.lemmas.List.{take-append-le, take_all}
 use Rattle.std.proofs.lemmas.Option.{slice_get_within}
@@ -11,16 +12,16 @@ use Rattle.key_state.specs.Heads.{head_sn}
 use Rattle.key_state.specs.KeyStates.{digest_at}
 use Rattle.key_state.specs.Same.{same_prefix}
 use Rattle.key_state.specs.States.{State}
-use Rattle.key_state.proofs.Same.{same_prefix_is}
+use Rattle.key_state.proofs.Same.{same_prefix_is, same_prefix_itself}
 use Rattle.journal.specs.declared.body.Body.{Body}
 use Rattle.journal.specs.Grown.{fits}
 use Rattle.journal.specs.Logs.{is_of, state}
 use Rattle.journal.proofs.StateSteps.{state-other}
 use Rattle.accepted_log.specs.declared.place.Place.{Place}
 use Rattle.accepted_log.specs.Cuts.{GrowsByInteraction, GrowsByState, HasState, IsBehind, IsLog, cut}
-use Rattle.accepted_log.specs.Values.{Log, at_place, established, gone_onto, interacted, last_of, with_since}
-use Rattle.accepted_log.proofs.Last.{last_of-at, last_of-push, place_of_last}
-use Rattle.accepted_log.proofs.Lists.{at_end, at_place_here, at_place_there, not_at_end, still_at}
+use Rattle.accepted_log.specs.Values.{Log, at_place, established, gone_onto, interacted, last_of, last_place, with_since}
+use Rattle.accepted_log.proofs.Last.{last_is_last, last_of-at, last_of-other, last_of-push, place_of_last, there}
+use Rattle.accepted_log.proofs.Lists.{at_end, at_place_here, at_place_there, front_within, not_at_end, of_front, still_at, take_at_place}
 use Rattle.accepted_log.proofs.StateSteps.{IsNew, cut_all, cut_more, fits_parts, goes_onto, live_at, live_from, new_of, own_state}
 
 module _ (log : List Body) (v w : Log) (b : Body) (number : ℕ) (p : Place) (is : IsLog log v) where
@@ -29,12 +30,15 @@ module _ (log : List Body) (v w : Log) (b : Body) (number : ℕ) (p : Place) (is
       → ((front : List Body) (c : Body) (k : ℕ) → HasState v.states front c k → HasState w.states front c k)
       → HasState w.states (log ++ b ∷ []) b p.state
       → ((prefix : Prefix) → last_of prefix w.states ≡ state (log ++ b ∷ []) prefix)
+      → ((front : List Body) (c : Body) (k : ℕ) → HasState v.states front c k → last_of (prefix_of c.event) (take k w.states) ≡ last_of (prefix_of c.event) (take k v.states))
+      → (is_interaction b.event ≡ false → last_of (prefix_of b.event) (take p.state w.states) ≡ state log (prefix_of b.event))
       → IsLog (log ++ b ∷ []) w
-  one_more numbers places kept last current = record {
+  one_more numbers places kept last current stays before = record {
     numbers = ap length numbers ∙ longer v.numbers number is.numbers;
     places = ap length places ∙ longer v.places p is.places;
     current = current;
     behind = λ i c q at pl. by i c q at (sym (ap (λ ps. slice_get ps i) places) ∙ pl);
+    under = λ i c q at pl sets. below i c q at (sym (ap (λ ps. slice_get ps i) places) ∙ pl) sets;
   }
     where
       longer : {X : Type 0} (xs : List X) (x : X) → length xs ≡ length log → length (xs ++ x ∷ []) ≡ length (log ++ b ∷ [])
@@ -53,6 +57,27 @@ module _ (log : List Body) (v w : Log) (b : Body) (number : ℕ) (p : Place) (is
             let place : p ≡ q = cc in
             let all = take_all (i + 1) (log ++ b ∷ []) (omega (arith, same, length-append log (b ∷ []))) in
             subst (λ xs. HasState w.states xs c q.state) (sym all) (subst (λ c. HasState w.states (log ++ b ∷ []) c q.state) body (subst (λ (q : Place). HasState w.states (log ++ b ∷ []) b q.state) place last)))
+      ]
+
+      below : (i : ℕ) (c : Body) (q : Place) → slice_get (log ++ b ∷ []) i ≡ Some c → slice_get (v.places ++ p ∷ []) i ≡ Some q → is_interaction c.event ≡ false
+          → last_of (prefix_of c.event) (take q.state w.states) ≡ state (take i (log ++ b ∷ [])) (prefix_of c.event)
+      below i c q at pl sets = elim (cases_eq i (length log)) [
+        | inr other ↦ (let here = sym (not_at_end log b i other) ∙ at in
+            let there = sym (not_at_end v.places p i (λ e. other (e ∙ is.places))) ∙ pl in
+            let within = slice_get_within log i c here in
+            let front = take-append-le i log (b ∷ []) (omega (arith, within)) in
+            stays (take (i + 1) log) c q.state (is.behind i c q here there) ∙ is.under i c q here there sets ∙ ap (λ xs. state xs (prefix_of c.event)) (sym front))
+        | inl same ↦ (let both : Some b ≡ Some c = sym (at_end log b) ∙ ap (slice_get (log ++ b ∷ [])) (sym same) ∙ at in
+            let body : b ≡ c = cc in
+            let also : Some p ≡ Some q = sym (at_end v.places p) ∙ ap (slice_get (v.places ++ p ∷ [])) (is.places ∙ sym same) ∙ pl in
+            let place : p ≡ q = cc in
+            let front : take i (log ++ b ∷ []) ≡ log = ap (λ n. take n (log ++ b ∷ [])) same ∙ take-append_seam log (b ∷ []) in
+            let own = ap (λ (c : Body). prefix_of c.event) body in
+            ap (λ (q : Place). last_of (prefix_of c.event) (take q.state w.states)) (sym place)
+            ∙ ap (λ o. last_of o (take p.state w.states)) (sym own)
+            ∙ before (ap (λ (c : Body). is_interaction c.event) body ∙ sets)
+            ∙ ap (state log) own
+            ∙ ap (λ xs. state xs (prefix_of c.event)) (sym front))
       ]
 
   -- the current state of an identifier, where the last states are as before but for the body's
@@ -80,6 +105,8 @@ module _ (log : List Body) (v : Log) (b : Body) (is : IsLog log v) (fit : IsTrue
         is = record { prefix = its; live = live_new s new; then_is = now ∙ ap (λ s. Some s) (sym (cut_new s new)) };
       })
       (currently log v (established number entries s v) b number (record { state = length v.states; entries = entries }) is s now (λ prefix. subst (λ own. last_of prefix (v.states ++ s ∷ []) ≡ (if same_prefix own prefix then Some s else last_of prefix v.states)) its (last_of-push prefix v.states s)))
+      (λ front c k h. let within = slice_get_within v.states k h.state h.at in ap (last_of (prefix_of c.event)) (take-append-le k v.states (s ∷ []) (omega (arith, within))))
+      (λ sets. ap (last_of (prefix_of b.event)) (take-append_seam v.states (s ∷ [])) ∙ is.current (prefix_of b.event))
     where
       live_new : (s : State) → IsNew b.event s → digest_at s (sn_of b.event) ≡ Some (said_of b.event)
       live_new s new = let est = new.est in let alone = new.alone in
@@ -109,8 +136,25 @@ module _ (log : List Body) (v : Log) (b : Body) (is : IsLog log v) (fit : IsTrue
         at = at_place_here (with_since d) v.states k s place.2;
         is = went s now (own_state own log s goes.1.was).its (own_state own log s goes.1.was).some goes.1.next;
       })
-      (currently log v w b number (record { state = k; entries = entries }) is (with_since d s) now (λ prefix. last_of-at own prefix v.states k s (with_since d) (λ t. refl) place.1 place.2)))
+      (currently log v w b number (record { state = k; entries = entries }) is (with_since d s) now (λ prefix. last_of-at own prefix v.states k s (with_since d) (λ t. refl) place.1 place.2))
+      (λ front c j h. stays k place.1 front c j h)
+      (λ sets. let clash : true ≡ false = sym going ∙ sets in cc))
     where
+      -- what it went onto is the last state of its identifier, and so none before a state of that identifier
+      stays : (k : ℕ) → last_place (prefix_of b.event) v.states ≡ Some k → (front : List Body) (c : Body) (j : ℕ) → HasState v.states front c j
+          → last_of (prefix_of c.event) (take j (at_place k (with_since (said_of b.event)) v.states)) ≡ last_of (prefix_of c.event) (take j v.states)
+      stays k last front c j h =
+          ap (last_of (prefix_of c.event)) (take_at_place j k (with_since (said_of b.event)) v.states)
+          ∙ last_of-other (prefix_of c.event) (take j v.states) k (with_since (said_of b.event)) (λ t. refl) (λ t at its.
+          let low = front_within j v.states k t at in
+          let mine = there (prefix_of b.event) v.states k last in
+          let both : Some mine.state ≡ Some t = sym mine.at ∙ of_front v.states j k t at in
+          let one : mine.state ≡ t = cc in
+          let prefixes : prefix_of b.event ≡ prefix_of c.event = sym mine.its ∙ ap (λ (t : State). t.prefix) one ∙ same_prefix_is t.prefix (prefix_of c.event) its in
+          let most = last_is_last (prefix_of b.event) v.states k j h.state last h.at
+          (ap (λ p. same_prefix p (prefix_of b.event)) (h.is.prefix ∙ sym prefixes) ∙ same_prefix_itself (prefix_of b.event)) in
+          omega (arith, low, most))
+
       kept : (k : ℕ) (front : List Body) (c : Body) (j : ℕ) → HasState v.states front c j → HasState (at_place k (with_since (said_of b.event)) v.states) front c j
       kept k front c j h = elim (cases_eq j k) [
         | inr other ↦ record { state = h.state; at = at_place_there (with_since (said_of b.event)) v.states k j other ∙ h.at; is = h.is }

@@ -78,6 +78,11 @@ found_place numbers states prefix o hinted h = by o h
     ]))
     by (Some j) h = let sum : 0 + j ≡ j = omega arith in sym (last_some 0 prefix states j h.0 (λ m some. h.1 m (listed m some) some) ∙ ap (λ k. Some k) sum)
 
+-- and before a place too
+pub found_before : (numbers : Prefix → List ℕ) (states front : List State) (n : ℕ) (prefix : Prefix) (o : Option ℕ) → AreHinted numbers states → front ≡ take n states → IsLast (λ k. is_state_of prefix (slice_get front k)) (numbers prefix) o
+    → o ≡ last_place prefix front
+found_before numbers states front n prefix o hinted is h = found_place numbers front prefix o (λ k s at. hinted k s (of_front states n k s (ap (λ states. slice_get states k) (sym is) ∙ at))) h
+
 -- hints that keep the places that there are
 pub sound_more : (old new : Prefix → List ℕ) (v : Log) (place : ℕ) → length v.states ≤ place → ((q : Prefix) (n : ℕ) → n < place → Contains (old q) n → Contains (new q) n) → IsSound v old → IsSound v new
 sound_more old new v place few kept h = record {

@@ -1,5 +1,5 @@
 -- The last state of an identifier.
-use Rattle.std.proofs.Common.{◌≡◌, ℕ, zero, suc, ◌+◌, ◌<◌, true, false, List, [], ◌∷◌, ◌++◌, length, Option, Some, None, refl, sym, ◌∙◌, ap, subst, inl, inr, arith, if◌then◌else◌}
+use Rattle.std.proofs.Common.{◌≡◌, ℕ, zero, suc, ◌+◌, ◌<◌, ◌≤◌, true, false, List, [], ◌∷◌, ◌++◌, length, Option, Some, None, refl, sym, ◌∙◌, ap, subst, inl, inr, arith, if◌then◌else◌}
 use Rattle.std.specs.Prelude.{slice_get}
 use Rattle.std.proofs.lemmas.Bool.{cases_Bool}
 use Rattle.std.proofs.lemmas.Option.{slice_get_within}
@@ -115,3 +115,42 @@ last_of-at own prefix states k s f same is at =
 
 pub place_within : (prefix : Prefix) (states : List State) (k : ℕ) → last_place prefix states ≡ Some k → k < length states
 place_within prefix states k e = let h = there prefix states k e in slice_get_within states k h.state h.at
+
+-- where there is a state of the identifier, the last one is there or behind
+last_not_before : (n : ℕ) (prefix : Prefix) (states : List State) (j : ℕ) (t : State) → slice_get states j ≡ Some t → same_prefix t.prefix prefix ≡ true → (k : ℕ) × (last_from n prefix states ≡ Some k) × (n + j ≤ k)
+unfolding last_from
+last_not_before n prefix [] j t at its = cc
+last_not_before n prefix (s ∷ states) zero t at its = by (last_from (n + 1) prefix states) refl
+  where
+    first : s ≡ t
+    first = cc
+
+    mine : same_prefix s.prefix prefix ≡ true
+    mine = ap (λ (s : State). same_prefix s.prefix prefix) first ∙ its
+
+    by : (o : Option ℕ) → last_from (n + 1) prefix states ≡ o → (k : ℕ) × (last_from n prefix (s ∷ states) ≡ Some k) × (n + 0 ≤ k)
+    by (Some k) later = let found = there_from (n + 1) prefix states k later in let sum = found.sum in (k, (rw later refl), omega (arith, sum))
+    by None none = (n, (rw (none, mine) refl), omega arith)
+last_not_before n prefix (s ∷ states) (suc j) t at its =
+    let rest = last_not_before (n + 1) prefix states j t at its in
+    let low = rest.2 in
+    (rest.0, (let found = rest.1 in rw found refl), omega (arith, low))
+
+pub last_is_last : (prefix : Prefix) (states : List State) (k j : ℕ) (t : State) → last_place prefix states ≡ Some k → slice_get states j ≡ Some t → same_prefix t.prefix prefix ≡ true → j ≤ k
+last_is_last prefix states k j t last at its =
+    let h = last_not_before 0 prefix states j t at its in
+    let both : Some h.0 ≡ Some k = sym h.1 ∙ last in
+    let is : h.0 ≡ k = cc in
+    let low = h.2 in
+    omega (arith, is, low)
+
+-- a change of what isn't a state of the identifier
+pub last_of-other : (prefix : Prefix) (states : List State) (k : ℕ) (f : State → State) → ((t : State) → (f t).prefix ≡ t.prefix) → ((t : State) → slice_get states k ≡ Some t → same_prefix t.prefix prefix ≡ true → ⊥)
+    → last_of prefix (at_place k f states) ≡ last_of prefix states
+last_of-other prefix states k f same other = ap (state_there (at_place k f states)) (last_from-at 0 prefix states k f same) ∙ by (last_place prefix states) refl
+  where
+    by : (o : Option ℕ) → last_place prefix states ≡ o → state_there (at_place k f states) o ≡ state_there states o
+    by None e = refl
+    by (Some j) e = at_place_there f states k j (λ one.
+        let h = there prefix states j e in
+        other h.state (ap (slice_get states) (sym one) ∙ h.at) (ap (λ p. same_prefix p prefix) h.its ∙ same_prefix_itself prefix))

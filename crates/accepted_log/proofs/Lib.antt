@@ -6,4 +6,5 @@ mod Growth
 mod Readings
 pub mod Extensions
 pub mod Behind
+pub mod Under
 pub mod Made

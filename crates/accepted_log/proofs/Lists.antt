@@ -1,5 +1,5 @@
 -- Lists with one more element, or with one changed.
-use Rattle.std.proofs.Common.{◌≡◌, ℕ, zero, suc, ◌≤◌, List, [], ◌∷◌, ◌++◌, length, take, drop, Some, refl, sym, ◌∙◌, ap, set, arith}
+use Rattle.std.proofs.Common.{◌≡◌, ℕ, zero, suc, ◌≤◌, ◌<◌, List, [], ◌∷◌, ◌++◌, length, take, drop, Some, refl, sym, ◌∙◌, ap, set, arith}
 use Rattle.std.specs.Prelude.{slice_get}
 use Rattle.accepted_log.specs.Values.{at_place}
 
@@ -71,3 +71,26 @@ drop_parts zero (suc n) (x ∷ xs) h = ap (λ ys. x ∷ ys) (drop_parts zero n x
 drop_parts (suc m) zero xs h = absurd (omega (arith, h))
 drop_parts (suc m) (suc n) [] h = refl
 drop_parts (suc m) (suc n) (x ∷ xs) h = drop_parts m n xs (omega (arith, h))
+
+-- a front of a changed list is the front, changed
+pub take_at_place : {X : Type 0} (n k : ℕ) (f : X → X) (xs : List X) → take n (at_place k f xs) ≡ at_place k f (take n xs)
+take_at_place zero k f [] = refl
+take_at_place zero zero f (x ∷ xs) = refl
+take_at_place zero (suc k) f (x ∷ xs) = refl
+take_at_place (suc n) k f [] = refl
+take_at_place (suc n) zero f (x ∷ xs) = refl
+take_at_place (suc n) (suc k) f (x ∷ xs) = ap (λ ys. x ∷ ys) (take_at_place n k f xs)
+
+-- and an element of a front stands before its end
+pub front_within : {X : Type 0} (n : ℕ) (xs : List X) (i : ℕ) (x : X) → slice_get (take n xs) i ≡ Some x → i < n
+front_within zero [] i x e = cc
+front_within zero (y ∷ xs) i x e = cc
+front_within (suc n) [] i x e = cc
+front_within (suc n) (y ∷ xs) zero x e = omega arith
+front_within (suc n) (y ∷ xs) (suc i) x e = let h = front_within n xs i x e in omega (arith, h)
+
+-- the front that ends with a member
+pub take_one_more : {X : Type 0} (xs : List X) (i : ℕ) (x : X) → slice_get xs i ≡ Some x → take (suc i) xs ≡ take i xs ++ x ∷ []
+take_one_more [] i x e = cc
+take_one_more (y ∷ xs) zero x e = let is : y ≡ x = cc in ap (λ y. y ∷ []) is
+take_one_more (y ∷ xs) (suc i) x e = ap (λ ys. y ∷ ys) (take_one_more xs i x e)

@@ -1,8 +1,9 @@
 -- What an accepted log says of a list of events: the current state of each identifier, and the state just behind each event.
-use Rattle.std.specs.Prelude.{◌≡◌, ℕ, ◌+◌, ◌-◌, true, false, List, [], ◌∷◌, ◌++◌, length, take, slice_get, Some, IsTrue}
+use Rattle.std.specs.Prelude.{◌≡◌, ℕ, ◌+◌, ◌-◌, true, false, List, [], ◌∷◌, ◌++◌, length, take, slice_get, Option, Some, None, IsTrue, if◌then◌else◌}
 use Rattle.cesr_codes.specs.declared.digest.Digest.{Digest}
 use Rattle.cesr_codes.specs.declared.prefix.Prefix.{Prefix}
 use Rattle.event_body.specs.Events.{prefix_of, sn_of, said_of, is_interaction}
+use Rattle.event_body.specs.declared.event.Event.{Event}
 use Rattle.key_state.specs.KeyStates.{digest_at, state_behind}
 use Rattle.key_state.specs.States.{State}
 use Rattle.journal.specs.declared.body.Body.{Body}
@@ -20,6 +21,19 @@ cut n s = state_behind (n - s.est_sn + 1) s
 abbrev pub AreAlike : State → State → Type 0
 AreAlike s t = record s { est_sn = t.est_sn; since = t.since } ≡ t
 
+-- both are there and alike, or none is
+abbrev pub AreBothAlike : Option State → Option State → Type 0
+AreBothAlike None None = Unit {0}
+AreBothAlike None (Some t) = ⊥
+AreBothAlike (Some s) None = ⊥
+AreBothAlike (Some s) (Some t) = AreAlike s t
+
+-- the state under which an event was accepted whose own state is at a place, but for the live events: an interaction went onto the
+-- state there, any other event has its identifier's last state before it
+abbrev pub under_at : List State → Event → Option Place → Option State
+under_at states e None = None
+under_at states e (Some p) = if is_interaction e then slice_get states p.state else last_of (prefix_of e) (take p.state states)
+
 -- the body is a live event of the state, and behind this front of the list, which ends with the body, its identifier had
 -- the state cut there
 pub record IsBehind (front : List Body) (b : Body) (s : State) : Type 0 where
@@ -33,13 +47,15 @@ pub record HasState (states : List State) (front : List Body) (b : Body) (place 
   pub at : slice_get states place ≡ Some state
   pub is : IsBehind front b state
 
--- the accepted log is of these events: it has the current state of each identifier, and for each event the state that the
--- event made or went onto
+-- the accepted log is of these events: it has the current state of each identifier, for each event the state that the event
+-- made or went onto, and before a state that an event made the one that its identifier had just before the event
 pub record IsLog (log : List Body) (v : Log) : Type 0 where
   pub numbers : length v.numbers ≡ length log
   pub places : length v.places ≡ length log
   pub current : (prefix : Prefix) → last_of prefix v.states ≡ logs.state log prefix
   pub behind : (i : ℕ) (b : Body) (p : Place) → slice_get log i ≡ Some b → slice_get v.places i ≡ Some p → HasState v.states (take (i + 1) log) b p.state
+  pub under : (i : ℕ) (b : Body) (p : Place) → slice_get log i ≡ Some b → slice_get v.places i ≡ Some p → is_interaction b.event ≡ false
+      → last_of (prefix_of b.event) (take p.state v.states) ≡ logs.state (take i log) (prefix_of b.event)
 
 -- an establishment event that fits, and makes this state, is one more of the events
 abbrev pub GrowsByState : State → Log → Log → Type 0

@@ -1,14 +1,21 @@
 //! The accepted log itself.
-ghost use Rattle.std.specs.Prelude.{◌≡◌, ◌<◌, ◌+◌, ◌^◌, [], length, slice_get, vec_len, vec_capacity, IfSome, IfOk, OnOk, OnErr};
+ghost use Rattle.std.specs.Prelude.{◌≡◌, ◌<◌, ◌+◌, ◌^◌, [], List, Some, length, slice_get, take, vec_len, vec_capacity, IfSome, IfOk, OnOk, OnErr};
 ghost use Rattle.std.specs.Option.{option_map};
 ghost use Rattle.key_state.specs.Heads.{head_sn};
-ghost use Rattle.accepted_log.specs.Cuts.{GrowsByInteraction, GrowsByState, IsLog};
+ghost use Rattle.event_body.specs.Events as events;
+ghost use Rattle.event_body.specs.Events.{prefix_of};
+ghost use Rattle.journal.specs.Grown.{IsGrown};
+ghost use Rattle.journal.specs.Logs as logs;
+ghost use Rattle.journal.specs.declared.body.Body.{Body};
+ghost use Rattle.accepted_log.specs.Cuts.{AreBothAlike, GrowsByInteraction, GrowsByState, IsLog, under_at};
+ghost use Rattle.accepted_log.specs.Values as values;
 ghost use Rattle.accepted_log.specs.Values.{Extends, established, interacted, last_of, last_place, nothing, rewound};
 
 use crate::Place;
 use crate::hints::{last_at, number_of};
 use crate::states::{go_onto, undo_from};
 use cesr_codes::{Digest, Prefix};
+use event_body::{Event, prefix_of};
 use event_index::Index;
 use key_state::KeyState;
 use std::alloc::{AllocError, Global};
@@ -144,6 +151,36 @@ impl AcceptedLog {
         self.places.get(i).copied()
     }
 
+    /// The state under which the event at a place of the log was accepted, but for its live events; none for an inception. A
+    /// rotation that took the place of interactions was accepted under the state that these went onto. It takes no memory.
+    pub fn state_before(&self, i: usize, event: &Event) -> Option<&KeyState>
+        ensures under { option_map (λ s. s.now) result ≡ under_at self.now.states event.now (slice_get self.now.places i) }
+        ensures alike { (log : List Body) (b : Body) → IsLog log self.now → IsGrown log → slice_get log i ≡ Some b → b.event ≡ event.now
+            → AreBothAlike (option_map (λ s. s.now) result) (logs.state (logs.before b log) (prefix_of b.event)) }
+    {
+        self.state_under(i, event)
+    }
+
+    // The same state, by the place.
+    fn state_under(&self, i: usize, event: &Event) -> Option<&KeyState>
+        ensures { option_map (λ s. s.now) result ≡ under_at self.now.states event.now (slice_get self.now.places i) }
+    {
+        let place = self.place(i)?.state;
+        if is_interaction(event) {
+            self.state(place)
+        } else {
+            self.last_before(place, &prefix_of(event))
+        }
+    }
+
+    // The last state of an identifier before a place.
+    fn last_before(&self, place: u32, prefix: &Prefix) -> Option<&KeyState>
+        ensures { option_map (λ s. s.now) result ≡ last_of prefix.now (take place self.now.states) }
+    {
+        let before = front(self.states.as_slice(), place as usize);
+        state_there(before, last_at(before, self.hints.numbers(prefix), prefix))
+    }
+
     /// The current state of an identifier. It takes no memory.
     pub fn current(&self, prefix: &Prefix) -> Option<&KeyState>
         ensures { option_map (λ s. s.now) result ≡ last_of prefix.now self.now.states }
@@ -185,4 +222,32 @@ fn make_room(
     places.reserve(1)?;
     states.reserve(1)?;
     number_of(states.len())
+}
+
+// Whether it is an interaction.
+fn is_interaction(event: &Event) -> bool
+    ensures { result ≡ events.is_interaction event.now }
+{
+    matches!(event, Event::Ixn(_))
+}
+
+// The first so many states, or all.
+fn front(states: &[KeyState], len: usize) -> &[KeyState]
+    ensures { result.now ≡ take len states.now }
+{
+    if len < states.len() {
+        &states[..len]
+    } else {
+        states
+    }
+}
+
+// The state at a place, where there is one.
+fn state_there(states: &[KeyState], place: Option<u32>) -> Option<&KeyState>
+    ensures { option_map (λ s. s.now) result ≡ values.state_there states.now place }
+{
+    match place {
+        Some(place) => states.get(place as usize),
+        None => None,
+    }
 }

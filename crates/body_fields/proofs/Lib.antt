@@ -1,4 +1,3 @@
-mod Primitives
 mod Fronts
 pub mod Lists
 pub mod Plain

@@ -29,14 +29,7 @@ impl Primitive for Digest {
     ghost is_valid = { IsDigest };
 
     fn of_text(text: &[u8]) -> Option<Digest> {
-        let Ok(found) = Digest::read(text) else {
-            return None;
-        };
-        if found.1 == text.len() {
-            Some(found.0)
-        } else {
-            None
-        }
+        cesr_codes::of_text(text)
     }
 
     fn write_text(&self, out: &mut [u8; 44]) {
@@ -52,14 +45,7 @@ impl Primitive for Prefix {
     ghost is_valid = { IsPrefix };
 
     fn of_text(text: &[u8]) -> Option<Prefix> {
-        let Ok(found) = Prefix::read(text) else {
-            return None;
-        };
-        if found.1 == text.len() {
-            Some(found.0)
-        } else {
-            None
-        }
+        cesr_codes::of_text(text)
     }
 
     fn write_text(&self, out: &mut [u8; 44]) {
@@ -75,14 +61,7 @@ impl Primitive for Key {
     ghost is_valid = { IsKey };
 
     fn of_text(text: &[u8]) -> Option<Key> {
-        let Ok(found) = Key::read(text) else {
-            return None;
-        };
-        if found.1 == text.len() {
-            Some(found.0)
-        } else {
-            None
-        }
+        cesr_codes::of_text(text)
     }
 
     fn write_text(&self, out: &mut [u8; 44]) {

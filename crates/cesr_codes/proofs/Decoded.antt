@@ -1,5 +1,5 @@
 -- What the engine decodes are the digits of bytes read as one number, and nothing else is refused than what isn't a character.
-use Rattle.std.proofs.Common.{◌≡◌, ℕ, zero, suc, ◌+◌, ◌-◌, ◌*◌, ◌^◌, ◌<◌, ◌≤◌, ◌==◌, true, false, List, [], ◌∷◌, ◌++◌, length, take, drop, replicate, slice_index, refl, sym, ap, ◌∙◌, arith, append-nil, length-drop, OnOk, Ok, Err, None, Some, Option, Result, inl, inr, subst}
+use Rattle.std.proofs.Common.{◌≡◌, ℕ, zero, suc, ◌+◌, ◌-◌, ◌*◌, ◌/◌, ◌^◌, ◌<◌, ◌≤◌, ◌==◌, true, false, List, [], ◌∷◌, ◌++◌, length, take, drop, replicate, slice_index, refl, sym, ap, ◌∙◌, arith, append-nil, length-drop, OnOk, Ok, Err, None, Some, Option, Result, inl, inr, subst}
 use Rattle.std.proofs.lemmas.List.{take_all, length-take, take-append-drop, get_or-drop}
 use Rattle.std.proofs.Math.Nat.{mul-le-mul_right}
 use Rattle.std.proofs.lemmas.Bool.{cases_Bool, eqb-true, eqb-false}
@@ -17,8 +17,10 @@ use Rattle.base64.proofs.EngineFacts.{decode_of_strict, decode_of-encode_of}
 use Rattle.base64.proofs.RoundTrip.{length-encode_symbols}
 use Rattle.keri_specs.specs.Base64.{digits_in, whole_number, AreBytes, characters, base64_text, is_character, number_of_text}
 use Rattle.keri_specs.proofs.Digits.{length-digits_in, all_below-digits_in, number-digits_in, number_after-split, number-zeros}
+use Rattle.cesr_codes.specs.Decoding.{IsDecoded}
+use Rattle.cesr_codes.specs.declared.symbols.Decoded.TheVariants.{Held, Large}
 use Rattle.cesr_codes.proofs.Groups.{encoded_text, pow_groups}
-use Rattle.cesr_codes.proofs.Numbers.{text-number, text_low, number-text, number-zero_characters, bytes_low}
+use Rattle.cesr_codes.proofs.Numbers.{text-number, text_low, number-text, number-zero_characters, bytes_low, characters-text}
 
 outcome_ok : (x : Option DecodeError) (d b : List ℕ) → decode_outcome x d ≡ Ok b → (x ≡ None) × (d ≡ b)
 outcome_ok None d b h = (refl, cc h)
@@ -67,14 +69,24 @@ bytes_exist q s len all =
     let value : whole_number b ≡ n = number-digits_in 256 (3 * q) n (omega arith) low in
     (b, bytes, sym (text-number s all) ∙ ap (λ k. base64_text k n) len ∙ ap (base64_text (4 * q)) (sym value) ∙ sym (encoded_text b q (length-digits_in 256 (3 * q) n, bytes)))
 
--- characters are not refused
-pub not_refused : (q : ℕ) (s : List ℕ) (r : Result ℕ DecodeSliceError) (f : DecodeSliceError) → length s ≡ 4 * q → list_all is_character s ≡ true
-    → r ≡ decode_slice_of url_safe_no_pad s (3 * q) → r ≡ Err f → ⊥
-not_refused q s r f len all value err = let found = bytes_exist q s len all in decoded_err q s found.0 r f len found.1 found.2 value err
+-- what is refused are not all characters
+pub refused : (q : ℕ) (s : List ℕ) (r : Result ℕ DecodeSliceError) (f : DecodeSliceError) → length s ≡ 4 * q
+    → r ≡ decode_slice_of url_safe_no_pad s (3 * q) → r ≡ Err f → list_all is_character s ≡ false
+refused q s r f len value err = elim (cases_Bool (list_all is_character s)) [
+  | inl all ↦ let found = bytes_exist q s len all in absurd (decoded_err q s found.0 r f len found.1 found.2 value err)
+  | inr some ↦ some
+]
 
-pub first_symbols : (k : ℕ) (digits : List ℕ) → list_all is_character digits ≡ true → list_all is_character (replicate k 65 ++ digits) ≡ true
-first_symbols zero digits h = h
-first_symbols (suc k) digits h = first_symbols k digits h
+-- those of the digit 0 are characters
+pub characters-zeros : (k : ℕ) (digits : List ℕ) → list_all is_character (replicate k 65 ++ digits) ≡ list_all is_character digits
+characters-zeros zero digits = refl
+characters-zeros (suc k) digits = characters-zeros k digits
+
+-- the last of digits behind zeros
+pub drop-zeros : (n k m : ℕ) (digits : List ℕ) → m ≡ n + k → drop n (replicate m 65 ++ digits) ≡ replicate k 65 ++ digits
+drop-zeros zero k m digits e = ap (λ j. replicate j 65 ++ digits) (e ∙ omega arith)
+drop-zeros (suc n) k zero digits e = absurd (omega arith)
+drop-zeros (suc n) k (suc m) digits e = drop-zeros n k m digits (omega arith)
 
 -- bytes that are all 0
 zeros_are : (zs : List ℕ) → list_all (λ b. b == 0) zs ≡ true → zs ≡ replicate (length zs) 0
@@ -108,6 +120,12 @@ module _ (q : ℕ) (digits symbols padded : List ℕ) (few : length digits ≤ 4
       ∙ ap number_of_text (sym (encoded_text padded q bytes) ∙ sym encoded ∙ front)
       ∙ number-zero_characters (4 * q - length digits) digits
 
+  -- they are characters
+  all_characters : list_all is_character digits ≡ true
+  all_characters =
+      sym (characters-zeros (4 * q - length digits) digits) ∙ ap (list_all is_character) (sym front ∙ encoded ∙ encoded_text padded q bytes)
+      ∙ characters-text (4 * q) (whole_number padded)
+
   module _ (count : ℕ) (room : count ≤ 3 * q) where
     last : List ℕ
     last = drop (3 * q - count) padded
@@ -122,7 +140,7 @@ module _ (q : ℕ) (digits symbols padded : List ℕ) (few : length digits ≤ 4
         ap whole_number (sym (take-append-drop (3 * q - count) padded)) ∙ number_after_append 256 0 first last ∙ number_after-split 256 (whole_number first) last
         ∙ ap (λ k. whole_number first * 256 ^ k + whole_number last) len
 
-    pub held : list_all (λ b. b == 0) (take (3 * q - count) padded) ≡ true → AreBytes count (drop (3 * q - count) padded) × (whole_number (drop (3 * q - count) padded) ≡ number_of_text digits)
+    held : list_all (λ b. b == 0) (take (3 * q - count) padded) ≡ true → AreBytes count (drop (3 * q - count) padded) × (whole_number (drop (3 * q - count) padded) ≡ number_of_text digits)
     unfolding first last
     held zeros =
         let none : whole_number first ≡ 0
@@ -134,9 +152,28 @@ module _ (q : ℕ) (digits symbols padded : List ℕ) (few : length digits ≤ 4
         byte : (i : ℕ) → slice_index (drop (3 * q - count) padded) i < 256
         byte i = rw get_or-drop (bytes.1 (3 * q - count + i))
 
-    pub large : list_all (λ b. b == 0) (take (3 * q - count) padded) ≡ false → 256 ^ count ≤ number_of_text digits
+    large : list_all (λ b. b == 0) (take (3 * q - count) padded) ≡ false → 256 ^ count ≤ number_of_text digits
     unfolding first last
     large some =
         let above : 1 ≤ whole_number first = positive first some in
         let more : 1 * 256 ^ count ≤ whole_number first * 256 ^ count = mul-le-mul_right (256 ^ count) above in
         omega (arith, parts, same_value, more)
+
+    module _ (raw : List ℕ) (size : length raw ≡ count) (last_is : raw ≡ drop (3 * q - count) padded) where
+      pub is_held : list_all (λ b. b == 0) (take (3 * q - count) padded) ≡ true → IsDecoded digits digits raw Held
+      is_held zeros =
+          let found = held zeros in
+          (all_characters, (refl, subst (λ xs. (i : ℕ) → slice_index xs i < 256) (sym last_is) found.0.1), ap whole_number last_is ∙ found.1)
+
+      pub is_large : list_all (λ b. b == 0) (take (3 * q - count) padded) ≡ false → IsDecoded digits digits raw Large
+      is_large some = (all_characters, rw size (large some))
+
+-- the groups of four that digits fill or begin
+abbrev groups : List ℕ → ℕ
+groups digits = (length digits + 3) / 4
+
+-- the last groups of digits behind zeros
+pub last_symbols : (digits symbols last : List ℕ) → length digits ≤ 88 → symbols ≡ replicate (88 - length digits) 65 ++ digits → last ≡ drop (88 - 4 * groups digits) symbols
+    → last ≡ replicate (4 * groups digits - length digits) 65 ++ digits
+last_symbols digits symbols last few front back =
+    back ∙ ap (drop (88 - 4 * groups digits)) front ∙ drop-zeros (88 - 4 * groups digits) (4 * groups digits - length digits) (88 - length digits) digits (omega arith)

@@ -1,13 +1,15 @@
 -- What stands at the front where a primitive of a layout does, and how its spelling is judged.
-use Rattle.std.proofs.Common.{◌≡◌, ◌≢◌, ℕ, ◌+◌, ◌-◌, ◌^◌, ◌<◌, not, nat_le, nat_lt, true, false, Bool, if◌then◌else◌, List, ◌++◌, length, take, drop, refl, sym, ap, ◌∙◌, arith, length-append, length-drop, Ok, Err, None, Some, Option, Result, position, subst}
+use Rattle.std.proofs.Common.{◌≡◌, ◌≢◌, ℕ, ◌+◌, ◌^◌, ◌<◌, not, nat_le, nat_lt, true, false, Bool, if◌then◌else◌, List, ◌++◌, length, take, drop, refl, sym, ap, ◌∙◌, arith, length-append, length-drop, Ok, Err, None, Some, Option, Result, position}
 use Rattle.std.proofs.Math.Seq.{take-add}
-use Rattle.std.proofs.lemmas.Bool.{le-ltb, lt-leb}
-use Rattle.std.proofs.lemmas.List.{take_at, drop_at, take_all, drop-take, take-append-drop}
+use Rattle.std.proofs.lemmas.Bool.{le-ltb, le-leb, lt-leb}
+use Rattle.std.proofs.lemmas.List.{take_at, drop_at, drop-take, take-append-drop}
 use Rattle.std.proofs.lemmas.Slice.Eq.{bytes_eq-Decides}
 use Rattle.std.specs.List.{list_all}
 use Rattle.keri_specs.specs.Base64.{whole_number, AreBytes, base64_text, is_character, number_of_text}
 use Rattle.cesr_codes.specs.declared.code_fault.CodeFault.{CodeFault}
 use Rattle.cesr_codes.specs.declared.code_fault.CodeFault.TheVariants.{Short, CodeNotHeld, BadCharacter, PadBits, OtherIndex}
+use Rattle.cesr_codes.specs.declared.symbols.Decoded.TheVariants.{Held, Large}
+use Rattle.cesr_codes.specs.Decoding.{IsDecoded}
 use Rattle.cesr_codes.specs.Reading.{Reads, IsCoded, IsWhole, refusal, head}
 use Rattle.cesr_codes.specs.Table.{Layout, layout, Verdict, good, short, bad, has_code, has_other_index, layout_verdict, whole_verdict, total}
 use Rattle.cesr_codes.proofs.Numbers.{bytes_low, text-number, number-text, no_failure, characters-drop, characters-append, characters-text, length-base64_text}
@@ -31,27 +33,35 @@ pub judged_whole : (l : Layout) (text : List ℕ) (large other : Bool) → posit
     → whole_verdict l text (position (λ c. not (is_character c)) text) ≡ (if large then bad PadBits else if other then bad OtherIndex else good (total l))
 judged_whole l text large other none large_is other_is = rw (none, large_is, other_is) refl
 
-module _ (l : Layout) (text raw : List ℕ) (h n : ℕ) (h_is : h ≡ head l) (n_is : n ≡ l.bytes) (bytes : AreBytes n raw) (value : whole_number raw ≡ number_of_text (take (length text - h) (drop h text))) where
-  same_bytes : AreBytes l.bytes raw
-  same_bytes = subst (λ k. AreBytes k raw) n_is bytes
+-- the characters behind a head, with the raw bytes of their digits
+module _ (l : Layout) (text raw : List ℕ) (h : ℕ) (h_is : h ≡ head l) (size : length raw ≡ l.bytes) where
+  -- the digits' number has more bits
+  pub pad_bits : IsDecoded text (drop h text) raw Large → whole_verdict l text (position (λ c. not (is_character c)) text) ≡ bad PadBits
+  pad_bits large =
+      judged_whole l text true (has_other_index l text) (no_failure is_character text large.0) (rw (← size, ← h_is) (le-leb (256 ^ length raw) (number_of_text (drop h text)) large.1)) refl
 
-  same_value : whole_number raw ≡ number_of_text (drop (head l) text)
-  same_value = value ∙ ap number_of_text (take_all (length text - h) (drop h text) (omega (arith, length-drop h text)) ∙ ap (λ k. drop k text) h_is)
+  module _ (decoded : IsDecoded text (drop h text) raw Held) where
+    same_value : whole_number raw ≡ number_of_text (drop (head l) text)
+    same_value = decoded.2 ∙ ap (λ k. number_of_text (drop k text)) h_is
 
-  -- the bytes hold the number of the digits
-  pub not_large : nat_le (256 ^ l.bytes) (number_of_text (drop (head l) text)) ≡ false
-  not_large = lt-leb (256 ^ l.bytes) (number_of_text (drop (head l) text)) (rw (← same_value) (bytes_low l.bytes raw same_bytes))
+    same_bytes : AreBytes l.bytes raw
+    same_bytes = (size, decoded.1.1)
 
-  -- the digits are of these bytes
-  pub whole_is : list_all is_character text ≡ true → length text ≡ total l → has_other_index l text ≡ false → IsWhole l text raw
-  whole_is all len other = record {
-    bytes = same_bytes;
-    characters = all;
-    digits =
-        let count : length (drop (head l) text) ≡ l.digits = omega (arith, length-drop (head l) text) in
-        sym (text-number (drop (head l) text) (characters-drop (head l) text all)) ∙ ap (λ k. base64_text k (number_of_text (drop (head l) text))) count ∙ ap (base64_text l.digits) (sym same_value);
-    no_other = other;
-  }
+    -- the bytes hold it
+    pub judged_held : (other : Bool) → has_other_index l text ≡ other → whole_verdict l text (position (λ c. not (is_character c)) text) ≡ (if other then bad OtherIndex else good (total l))
+    judged_held other other_is =
+        judged_whole l text false other (no_failure is_character text decoded.0)
+        (lt-leb (256 ^ l.bytes) (number_of_text (drop (head l) text)) (rw (← same_value) (bytes_low l.bytes raw same_bytes))) other_is
+
+    pub whole_is : length text ≡ total l → has_other_index l text ≡ false → IsWhole l text raw
+    whole_is len other = record {
+      bytes = same_bytes;
+      characters = decoded.0;
+      digits =
+          let count : length (drop (head l) text) ≡ l.digits = omega (arith, length-drop (head l) text) in
+          sym (text-number (drop (head l) text) (characters-drop (head l) text decoded.0)) ∙ ap (λ k. base64_text k (number_of_text (drop (head l) text))) count ∙ ap (base64_text l.digits) (sym same_value);
+      no_other = other;
+    }
 
 -- a spelling is good, whatever follows
 pub spelled_good : (l : Layout) (front rest : List ℕ) → length front ≡ total l → list_all is_character front ≡ true → number_of_text (drop (head l) front) < 256 ^ l.bytes

@@ -1,3 +1,4 @@
+mod Digits
 mod Groups
 pub mod Numbers
 mod Decoded
@@ -9,3 +10,4 @@ pub mod Figures
 pub mod Dates
 mod Texts
 pub mod Same
+mod WholeTexts

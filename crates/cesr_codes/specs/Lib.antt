@@ -6,3 +6,4 @@ pub mod Spelling
 pub mod Reading
 pub mod Codes
 pub mod Table
+pub mod Decoding

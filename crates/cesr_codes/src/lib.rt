@@ -14,6 +14,7 @@ mod prefix;
 mod primitive;
 mod shape;
 mod sig;
+mod spelled;
 mod symbols;
 mod text;
 
@@ -26,3 +27,4 @@ pub use moment::Moment;
 pub use number::Number;
 pub use prefix::Prefix;
 pub use sig::Sig;
+pub use spelled::{Spelled, all_held, of_text};

@@ -1,10 +1,13 @@
 //! Raw bytes behind a code and its indices.
-ghost use Rattle.std.specs.Prelude.{◌≡◌, ◌++◌, ◌+◌, ◌-◌, ◌*◌, ◌/◌, ◌≤◌, length};
-ghost use Rattle.keri_specs.specs.Base64.{base64_text, whole_number};
+ghost use Rattle.std.specs.Prelude.{◌≡◌, ◌++◌, ◌+◌, ◌-◌, ◌*◌, ◌/◌, ◌≤◌, length, drop, position, not, false, Some};
+ghost use Rattle.std.specs.List.{list_all};
+ghost use Rattle.keri_specs.specs.Base64.{base64_text, is_character, whole_number};
+ghost use Rattle.cesr_codes.specs.Decoding.{IsDecoded};
 ghost use Rattle.cesr_codes.specs.Table.{total};
 ghost use Rattle.cesr_codes.specs.Reading.{ReadsCoded, ReadsBehind, ReadsWhole};
 
 use crate::code::Code;
+use crate::symbols::Decoded;
 use crate::{CodeFault, character, symbols};
 
 /// The code of the primitive at the front, whose raw bytes fill the slice, or the first rule that the text fails.
@@ -45,17 +48,39 @@ fn read_whole<C: Code>(code: C, text: &[u8], raw: &mut [u8]) -> Result<(), CodeF
     requires all { length text.now ≡ total (C.layout_of code) }
     ensures { ReadsWhole (C.layout_of code) text.now raw.new result }
 {
-    if let Some(place) = character::first_bad(text) {
-        return Err(CodeFault::BadCharacter(place as u16));
+    match decode_behind(code.head(), text, raw) {
+        Decoded::Held if code.has_other_index(text) => Err(CodeFault::OtherIndex),
+        Decoded::Held => Ok(()),
+        Decoded::Large => Err(CodeFault::PadBits),
+        Decoded::Bad => Err(CodeFault::BadCharacter(bad_place(text))),
     }
-    let held = symbols::decode(&text[code.head()..], raw);
-    if !held {
-        return Err(CodeFault::PadBits);
+}
+
+// What the text is whose digits stand behind so many characters.
+fn decode_behind(head: usize, text: &[u8], raw: &mut [u8]) -> Decoded
+    requires behind { head ≤ length text.now }
+    requires symbols { length text.now ≤ head + 88 }
+    requires bytes { length raw.old ≤ 3 * ((length text.now - head + 3) / 4) }
+    ensures { IsDecoded text.now (drop head text.now) raw.new result }
+{
+    let (front, digits) = text.split_at(head);
+    if character::are_symbols(front) {
+        symbols::decode(digits, raw)
+    } else {
+        Decoded::Bad
     }
-    if code.has_other_index(text) {
-        return Err(CodeFault::OtherIndex);
+}
+
+// The place of the first that isn't a character.
+fn bad_place(text: &[u8]) -> u16
+    requires few { length text.now ≤ 94 }
+    requires bad { list_all is_character text.now ≡ false }
+    ensures { position (λ c. not (is_character c)) text.now ≡ Some result }
+{
+    match character::first_bad(text) {
+        Some(place) => place as u16,
+        None => unreachable!(),
     }
-    Ok(())
 }
 
 /// Fills the slice with the head and the digits of the raw bytes.

@@ -1,9 +1,10 @@
 //! Raw bytes and the characters of their digits in base 64 (RFC 4648, section 5).
-ghost use Rattle.std.specs.Prelude.{◌≡◌, ◌++◌, ◌-◌, ◌^◌, ◌≤◌, ◌==◌, length, replicate, true, false};
+ghost use Rattle.std.specs.Prelude.{◌≡◌, ◌++◌, ◌+◌, ◌-◌, ◌*◌, ◌/◌, ◌≤◌, ◌==◌, length, replicate, true, false};
 ghost use Rattle.std.specs.List.{list_all};
 ghost use Rattle.base64.specs.GeneralPurpose.{encode_of};
 ghost use Rattle.base64.specs.Engines.{url_safe_no_pad};
-ghost use Rattle.keri_specs.specs.Base64.{AreBytes, base64_text, is_character, number_of_text, whole_number};
+ghost use Rattle.keri_specs.specs.Base64.{AreBytes, base64_text, is_character, whole_number};
+ghost use Rattle.cesr_codes.specs.Decoding.{IsDecoded};
 
 use base64::engine::general_purpose::URL_SAFE_NO_PAD;
 
@@ -43,18 +44,37 @@ fn encode_groups(padded: &[u8; BYTES]) -> [u8; SYMBOLS]
     symbols
 }
 
-/// Fills the slice with the last bytes of the number that the digits spell, and answers whether they hold it.
-pub(crate) fn decode(digits: &[u8], raw: &mut [u8]) -> bool
+/// What digits are to raw bytes.
+pub(crate) enum Decoded {
+    /// The bytes are those of the number that the digits spell.
+    Held,
+    /// The number is larger than so many bytes hold.
+    Large,
+    /// Some of them isn't one of the 64 characters.
+    Bad,
+}
+
+/// Fills the slice with the last bytes of the number that the digits spell.
+pub(crate) fn decode(digits: &[u8], raw: &mut [u8]) -> Decoded
     requires symbols { length digits.now ≤ 88 }
-    requires bytes { length raw.old ≤ 66 }
-    requires characters { list_all is_character digits.now ≡ true }
-    ensures held { result ≡ true → AreBytes (length raw.old) raw.new × (whole_number raw.new ≡ number_of_text digits.now) }
-    ensures large { result ≡ false → 256 ^ length raw.old ≤ number_of_text digits.now }
+    requires bytes { length raw.old ≤ 3 * ((length digits.now + 3) / 4) }
+    ensures { IsDecoded digits.now digits.now raw.new result }
 {
-    let padded = decode_groups(&with_first_symbols(digits));
-    let (zeros, last) = padded.split_at(BYTES - raw.len());
+    let groups = (digits.len() + 3) / 4;
+    let symbols = with_first_symbols(digits);
+    let (_, last_symbols) = symbols.split_at(SYMBOLS - 4 * groups);
+    let mut decoded = [0u8; BYTES];
+    let (bytes, _) = decoded.split_at_mut(3 * groups);
+    if !decode_groups(groups, last_symbols, bytes) {
+        return Decoded::Bad;
+    }
+    let (zeros, last) = bytes.split_at(3 * groups - raw.len());
     raw.copy_from_slice(last);
-    are_zeros(zeros)
+    if are_zeros(zeros) {
+        Decoded::Held
+    } else {
+        Decoded::Large
+    }
 }
 
 // Whether all the bytes are zero.
@@ -75,14 +95,15 @@ fn with_first_symbols(digits: &[u8]) -> [u8; SYMBOLS]
     symbols
 }
 
-// The bytes of whole groups of characters.
-fn decode_groups(symbols: &[u8; SYMBOLS]) -> [u8; BYTES]
-    requires { list_all is_character symbols.now ≡ true }
-    ensures { AreBytes 66 result × (symbols.now ≡ encode_of url_safe_no_pad result) }
+// Fills the slice with the bytes of so many groups of characters, and answers whether all of them are characters.
+fn decode_groups(groups: usize, symbols: &[u8], bytes: &mut [u8]) -> bool
+    requires symbols { length symbols.now ≡ 4 * groups }
+    requires bytes { length bytes.old ≡ 3 * groups }
+    ensures decoded { result ≡ true → AreBytes (3 * groups) bytes.new × (symbols.now ≡ encode_of url_safe_no_pad bytes.new) }
+    ensures bad { result ≡ false → list_all is_character symbols.now ≡ false }
 {
-    let mut bytes = [0u8; BYTES];
-    match URL_SAFE_NO_PAD.decode_slice(symbols, &mut bytes) {
-        Ok(_) => bytes,
-        Err(_) => unreachable!(),
+    match URL_SAFE_NO_PAD.decode_slice(symbols, bytes) {
+        Ok(_) => true,
+        Err(_) => false,
     }
 }

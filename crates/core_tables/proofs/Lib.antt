@@ -17,3 +17,4 @@ pub mod Waiters
 pub mod Raised
 pub mod GatheredLists
 pub mod ToldClaims
+pub mod Crosses

@@ -2,3 +2,4 @@ mod Digests
 mod Held
 mod Lists
 mod Tables
+pub mod Crosses

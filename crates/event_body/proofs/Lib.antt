@@ -4,3 +4,4 @@ pub mod Digested
 mod Places
 pub mod Whole
 pub mod Keeping
+pub mod Crosses

@@ -17,3 +17,5 @@ pub mod Waits
 pub mod Rivals
 pub mod Bases
 pub mod GoodSignatures
+pub mod Under
+pub mod Crosses

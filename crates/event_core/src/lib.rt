@@ -1,6 +1,7 @@
 //! A core: what it was told, the questions that are open, and what it accepts of that, by every rule.
 #![tactic(auto)]
 
+mod accepted_events;
 mod base;
 mod came;
 mod event_core;

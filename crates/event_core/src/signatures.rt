@@ -4,7 +4,8 @@ ghost use Rattle.std.specs.Option.{option_copied};
 ghost use Rattle.acceptance.specs.Standing as standing;
 ghost use Rattle.acceptance.specs.Standing.{IsStanding};
 ghost use Rattle.core_tables.specs.View.{body_of, log_of};
-ghost use Rattle.event_core.specs.Signatures.{good_claim, good_in, good_on};
+ghost use Rattle.event_core.specs.Signatures.{good_claim, good_in, good_on, good_under};
+ghost use Rattle.event_core.specs.View.{accepted_by, told_of};
 ghost use Rattle.journal.specs.Readiness.{good_sigs};
 ghost use Rattle.journal.specs.declared.body.Body.{Body};
 ghost use Rattle.key_state.specs.Exposure.{own_rules};
@@ -30,6 +31,40 @@ impl EventCore {
     {
         signatures_on(self.alloc, &self.tables, number)
     }
+
+    /// The controller's signatures that have a yes verdict on the event at a place of the accepted ones, by the state under
+    /// which it was accepted, in order of coming; one that came more than once comes so often.
+    pub fn signatures_at(&self, place: usize) -> Result<Vec<IndexedSig>, AllocError>
+        ensures { IfOk result (λ sigs. (b : Body) → slice_get (accepted_by self.now) place ≡ Some b → sigs.items ≡ good_under (told_of self.now) (accepted_by self.now) b) }
+    {
+        signatures_under(self.alloc, &self.tables, place)
+    }
+}
+
+// The good signatures on the event at a place of the log, by the state under which it was accepted.
+fn signatures_under(
+    alloc: Global,
+    tables: &Tables,
+    place: usize,
+) -> Result<Vec<IndexedSig>, AllocError>
+    requires { IsStanding tables.now }
+    ensures { IfOk result (λ sigs. (b : Body) → slice_get (log_of tables.now) place ≡ Some b → sigs.items ≡ good_under (standing.told_of tables.now) (log_of tables.now) b) }
+{
+    let Some(number) = number_at(tables.log().numbers(), place) else {
+        return Ok(Vec::new(alloc));
+    };
+    let Some(event) = tables.event(number) else {
+        return Ok(Vec::new(alloc));
+    };
+    let state = tables.log().state_before(place, event);
+    signatures_behind(alloc, tables, number, event, state)
+}
+
+/// The number at a place.
+pub(crate) fn number_at(numbers: &[u32], place: usize) -> Option<u32>
+    ensures { result ≡ slice_get numbers.now place }
+{
+    numbers.get(place).copied()
 }
 
 // The good signatures on the body of a number, where it stands.

@@ -82,7 +82,7 @@ fn signer_of(alloc: Global, row: &Row) -> Result<MemSigner, AllocError> {
     for number in &numbers {
         failing.push(u64::from(*number))?;
     }
-    Ok(MemSigner::new(Items::from_vec(failing)))
+    Ok(MemSigner::new(alloc, Items::from_vec(failing)))
 }
 
 fn group_words(text: &mut String, group: &Group) -> Result<(), AllocError> {

@@ -6,3 +6,4 @@ pub mod Trees
 pub mod Unique
 pub mod Refusals
 pub mod Readers
+pub mod Crosses

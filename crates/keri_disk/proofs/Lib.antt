@@ -1,2 +1,3 @@
+pub mod Moments
 mod Replays
 mod Steps

@@ -6,6 +6,8 @@ use Rattle.cesr_codes.specs.declared.key.Key.{Key}
 use Rattle.cesr_codes.specs.declared.sig.Sig.{Sig}
 use Rattle.keri_outside.specs.Rehearsal.{rehearsed}
 use Rattle.keri_outside.specs.Verdicts.{told_verdict}
+use Rattle.keri_outside.specs.declared.inquiry.Inquiry.{Inquiry}
+use Rattle.keri_outside.specs.declared.signing.Signing.{Signing}
 use Rattle.keri_outside.specs.declared.mem_source.MemSource.{MemSource}
 use Rattle.keri_outside.specs.declared.mem_sink.MemSink.{MemSink}
 use Rattle.keri_outside.specs.declared.mem_verifier.MemVerifier.{MemVerifier}
@@ -34,6 +36,10 @@ sink_failing sink = sink.failing
 abbrev pub verifier_says : MemVerifier → Key → List ℕ → Sig → Option Bool
 verifier_says verifier = told_verdict verifier.rule
 
+-- what a verifier was asked
+abbrev pub verifier_inquiries : MemVerifier → Option (List Inquiry)
+verifier_inquiries verifier = Some verifier.inquiries
+
 abbrev pub verifier_faults : MemVerifier → ℕ
 verifier_faults verifier = verifier.faults
 
@@ -44,6 +50,10 @@ verifier_failing verifier = verifier.failing
 -- a signer in memory gives the rehearsal's signatures
 abbrev pub signer_gives : MemSigner → Key → List ℕ → Option Sig
 signer_gives signer = λ key body. Some (rehearsed key body)
+
+-- what a signer was asked
+abbrev pub signer_signings : MemSigner → Option (List Signing)
+signer_signings signer = Some signer.signings
 
 abbrev pub signer_faults : MemSigner → ℕ
 signer_faults signer = signer.faults

@@ -26,9 +26,12 @@ pub fn rehearse(key: &Key, body: &[u8]) -> Sig
 }
 
 impl Verifier for Rehearsal {
+    ghost use Rattle.std.specs.Prelude.{None};
     ghost use Rattle.keri_outside.specs.Rehearsal.{rehearsal_says};
 
     ghost says = { λ _. rehearsal_says };
+
+    ghost inquiries = { λ _. None };
 
     ghost faults = { λ _. 0 };
 
@@ -38,9 +41,12 @@ impl Verifier for Rehearsal {
 }
 
 impl Signer for Rehearsal {
+    ghost use Rattle.std.specs.Prelude.{None};
     ghost use Rattle.keri_outside.specs.Rehearsal.{rehearsal_gives};
 
     ghost gives = { λ _. rehearsal_gives };
+
+    ghost signings = { λ _. None };
 
     ghost faults = { λ _. 0 };
 

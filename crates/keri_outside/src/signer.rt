@@ -1,8 +1,11 @@
 //! What gives signatures.
-ghost use Rattle.std.specs.Prelude.{◌≡◌, ◌≤◌, ℕ, List, length, Option, IfOk, IfSome};
+ghost use Rattle.std.specs.Prelude.{◌≡◌, ◌≤◌, ◌∷◌, [], ℕ, List, length, Option, IfOk, IfSome};
 ghost use Rattle.keri_specs.specs.Causes.{HasCause};
+ghost use Rattle.keri_specs.specs.Told.{Puts};
 ghost use Rattle.cesr_codes.specs.declared.key.Key.{Key};
 ghost use Rattle.cesr_codes.specs.declared.sig.Sig.{Sig};
+ghost use Rattle.keri_outside.specs.Asked.{signing};
+ghost use Rattle.keri_outside.specs.declared.signing.Signing.{Signing};
 
 use crate::Failed;
 use cesr_codes::{Key, Sig};
@@ -12,6 +15,9 @@ pub trait Signer {
     /// The signature that it gives of a key on a body, where it tells. No call changes it.
     ghost gives: { Self → Key → List ℕ → Option Sig };
 
+    /// What it was asked to sign, in order, where it tells.
+    ghost signings: { Self → Option (List Signing) };
+
     /// How often it has failed.
     ghost faults: { Self → ℕ };
 
@@ -20,5 +26,6 @@ pub trait Signer {
         requires { length body.now ≤ 65535 }
         ensures signature { IfOk result (λ sig. IfSome (gives self.old key.now body.now) (λ told. sig ≡ told)) }
         ensures same { gives self.new ≡ gives self.old }
+        ensures asked { Puts (signings self.old) (signings self.new) result (signing key.now body.now ∷ []) }
         ensures cause { HasCause (faults self.old) (faults self.new) result };
 }

@@ -1,8 +1,11 @@
 //! What says of signatures whether they are good.
-ghost use Rattle.std.specs.Prelude.{◌≡◌, ◌≤◌, ℕ, Bool, List, length, Option, IfOk, IfSome};
+ghost use Rattle.std.specs.Prelude.{◌≡◌, ◌≤◌, ◌∷◌, [], ℕ, Bool, List, length, Option, IfOk, IfSome};
 ghost use Rattle.keri_specs.specs.Causes.{HasCause};
+ghost use Rattle.keri_specs.specs.Told.{Puts};
 ghost use Rattle.cesr_codes.specs.declared.key.Key.{Key};
 ghost use Rattle.cesr_codes.specs.declared.sig.Sig.{Sig};
+ghost use Rattle.keri_outside.specs.Asked.{inquiry};
+ghost use Rattle.keri_outside.specs.declared.inquiry.Inquiry.{Inquiry};
 
 use crate::Failed;
 use cesr_codes::{Key, Sig};
@@ -12,6 +15,9 @@ pub trait Verifier {
     /// What it says of a key, a body and a signature, where it tells. No call changes it.
     ghost says: { Self → Key → List ℕ → Sig → Option Bool };
 
+    /// What it was asked, in order, where it tells.
+    ghost inquiries: { Self → Option (List Inquiry) };
+
     /// How often it has failed.
     ghost faults: { Self → ℕ };
 
@@ -20,5 +26,6 @@ pub trait Verifier {
         requires { length body.now ≤ 65535 }
         ensures verdict { IfOk result (λ yes. IfSome (says self.old key.now body.now sig.now) (λ told. yes ≡ told)) }
         ensures same { says self.new ≡ says self.old }
+        ensures asked { Puts (inquiries self.old) (inquiries self.new) result (inquiry key.now body.now sig.now ∷ []) }
         ensures cause { HasCause (faults self.old) (faults self.new) result };
 }

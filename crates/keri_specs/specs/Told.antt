@@ -1,4 +1,4 @@
--- What is told of an object of the outside: bytes where it tells them, and else nothing.
+-- What is told of an object of the outside: bytes, or other things in their order, where it tells them, and else nothing.
 use Rattle.std.specs.Prelude.{◌≡◌, ℕ, ◌≤◌, List, [], ◌++◌, length, take}
 use Rattle.std.specs.Option.{option_map}
 use Rattle.std.specs.declared.option.Option.{Option}
@@ -10,21 +10,26 @@ use Rattle.std.specs.declared.result.Result.TheVariants.{Ok, Err}
 abbrev pub before : List ℕ → Option (List ℕ) → Option (List ℕ)
 before bytes told = option_map (λ left. bytes ++ left) told
 
--- told bytes with others behind them
-abbrev pub after : Option (List ℕ) → List ℕ → Option (List ℕ)
-after told bytes = option_map (λ front. front ++ bytes) told
+-- what is told, with more behind it
+abbrev pub after : {A : Type 0} → Option (List A) → List A → Option (List A)
+after told more = option_map (λ front. front ++ more) told
 
 -- nothing is left, where it is told
 abbrev pub IsAtEnd : Option (List ℕ) → Type 0
 IsAtEnd None = Unit {0}
 IsAtEnd (Some left) = left ≡ []
 
+-- nothing came yet, where it is told
+abbrev pub HasNone : {A : Type 0} → Option (List A) → Type 0
+HasNone None = Unit {0}
+HasNone (Some all) = all ≡ []
+
 -- A read took the n bytes that it gave, and gave none only at the end. One that failed took none.
 abbrev pub Reads : {E : Type 0} → Option (List ℕ) → Option (List ℕ) → Result ℕ E → List ℕ → Type 0
 Reads old new (Ok n) buf = (n ≤ length buf) × (old ≡ before (take n buf) new) × (n ≡ 0 → IsAtEnd new)
 Reads old new (Err e) buf = new ≡ old
 
--- A put added the bytes. One that failed added a front of them.
-abbrev pub Puts : {E : Type 0} → Option (List ℕ) → Option (List ℕ) → Result (Unit {0}) E → List ℕ → Type 0
-Puts old new (Ok _) bytes = new ≡ after old bytes
-Puts old new (Err e) bytes = (n : ℕ) × (new ≡ after old (take n bytes))
+-- A call added these. One that failed added a front of them.
+abbrev pub Puts : {A T E : Type 0} → Option (List A) → Option (List A) → Result T E → List A → Type 0
+Puts old new (Ok _) more = new ≡ after old more
+Puts old new (Err e) more = (n : ℕ) × (new ≡ after old (take n more))

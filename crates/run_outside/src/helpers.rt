@@ -1,8 +1,8 @@
 //! What the helpers of an outside in memory say.
-ghost use Rattle.std.specs.Prelude.{◌≡◌, IfSome};
+ghost use Rattle.std.specs.Prelude.{◌≡◌, [], Some, IfSome};
 ghost use Rattle.std.specs.Option.{option_map};
 ghost use Rattle.run_outside.specs.Helpers.{helper_named, says_under, gives_under};
-ghost use Rattle.keri_outside.specs.Memory.{verifier_says, verifier_faults, signer_gives, signer_faults};
+ghost use Rattle.keri_outside.specs.Memory.{verifier_says, verifier_faults, verifier_inquiries, signer_gives, signer_faults, signer_signings};
 
 use crate::MemHelper;
 use keri_outside::{MemSigner, MemVerifier};
@@ -21,6 +21,7 @@ fn find<'a>(helpers: &'a [MemHelper], name: &str) -> Option<&'a MemHelper>
 // A verifier of the name, where there is a helper and memory.
 pub(crate) fn verifier_of(alloc: Global, helpers: &[MemHelper], name: &str) -> Option<MemVerifier>
     ensures says { IfSome result (λ verifier. verifier_says verifier ≡ says_under helpers.now name.now) }
+    ensures inquiries { IfSome result (λ verifier. verifier_inquiries verifier ≡ Some []) }
     ensures faults { IfSome result (λ verifier. verifier_faults verifier ≡ 0) }
 {
     let Some(helper) = find(helpers, name) else {
@@ -29,12 +30,13 @@ pub(crate) fn verifier_of(alloc: Global, helpers: &[MemHelper], name: &str) -> O
     let Ok(failing) = helper.failing_asks.copy(alloc) else {
         return None;
     };
-    Some(MemVerifier::new(helper.rule, failing))
+    Some(MemVerifier::new(alloc, helper.rule, failing))
 }
 
 // A signer of the name, where there is a helper and memory.
 pub(crate) fn signer_of(alloc: Global, helpers: &[MemHelper], name: &str) -> Option<MemSigner>
     ensures gives { IfSome result (λ signer. signer_gives signer ≡ gives_under helpers.now name.now) }
+    ensures signings { IfSome result (λ signer. signer_signings signer ≡ Some []) }
     ensures faults { IfSome result (λ signer. signer_faults signer ≡ 0) }
 {
     let Some(helper) = find(helpers, name) else {
@@ -43,5 +45,5 @@ pub(crate) fn signer_of(alloc: Global, helpers: &[MemHelper], name: &str) -> Opt
     let Ok(failing) = helper.failing_signings.copy(alloc) else {
         return None;
     };
-    Some(MemSigner::new(failing))
+    Some(MemSigner::new(alloc, failing))
 }

@@ -1,12 +1,13 @@
 //! All that a program reaches.
 ghost use Rattle.std.specs.Prelude.{◌≡◌, IfOk};
 ghost use Rattle.std.specs.Borrow.{Lends, sem};
+ghost use Rattle.keri_specs.specs.Told.{HasNone};
 ghost use Rattle.run_outside.specs.Told.{Told, Makes};
 ghost use Rattle.run_outside.specs.declared.making.MakingKind.TheVariants.{Source as SourceKind, Verifier as VerifierKind, Signer as SignerKind};
 
 use keri_outside::{Failed, Limits, Signer, Sink, Source, Verifier};
 
-/// The objects that a program is given. What it gives out starts with a count of no faults.
+/// The objects that a program is given. What it gives out wasn't asked yet, and starts with a count of no faults.
 pub trait Outside {
     type Source: Source + Drop;
 
@@ -35,6 +36,7 @@ pub trait Outside {
     fn verifier(&mut self, name: &str) -> Result<Self::Verifier, Failed>
         ensures makes { Makes VerifierKind name.now (told self.old) (told self.new) result }
         ensures says { IfOk result (λ verifier. Self.Verifier.says verifier ≡ (told self.old).says name.now) }
+        ensures unasked { IfOk result (λ verifier. HasNone (Self.Verifier.inquiries verifier)) }
         ensures none_yet { IfOk result (λ verifier. Self.Verifier.faults verifier ≡ 0) }
         ensures same_sink { sink self.new ≡ sink self.old };
 
@@ -42,6 +44,7 @@ pub trait Outside {
     fn signer(&mut self, name: &str) -> Result<Self::Signer, Failed>
         ensures makes { Makes SignerKind name.now (told self.old) (told self.new) result }
         ensures gives { IfOk result (λ signer. Self.Signer.gives signer ≡ (told self.old).gives name.now) }
+        ensures unasked { IfOk result (λ signer. HasNone (Self.Signer.signings signer)) }
         ensures none_yet { IfOk result (λ signer. Self.Signer.faults signer ≡ 0) }
         ensures same_sink { sink self.new ≡ sink self.old };
 

@@ -5,7 +5,7 @@ use Rattle.keri_disk.specs.Images.{DiskTold, overwritten, Torn}
 use Rattle.keri_disk.specs.Calls.{Changes}
 use Rattle.shelf_log.specs.Blank.{IsBlank, AllBlank, Extends}
 use Rattle.shelf_log.proofs.Changes.{none_of_err}
-use Rattle.shelf_log.proofs.Moments.{KnowsNow, none_yet, one_call, and_then}
+use Rattle.keri_disk.proofs.Moments.{KnowsNow, none_yet, one_call, and_then}
 
 blank_same : (d c : List ℕ) → take 1 c ≡ take 1 d → IsBlank d → IsBlank c
 blank_same [] c same blank = absurd blank

@@ -4,7 +4,7 @@ use Rattle.std.proofs.lemmas.Bool.{cases_lt}
 use Rattle.keri_disk.specs.Images.{DiskTold, Torn, CutShort, LeavesOnly}
 use Rattle.keri_disk.specs.Calls.{Elapses, Syncs}
 use Rattle.shelf_log.specs.Durable.{ChangesDurably}
-use Rattle.shelf_log.proofs.Moments.{KnowsNow, one_call, and_then, elapses_of}
+use Rattle.keri_disk.proofs.Moments.{KnowsNow, one_call, and_then, elapses_of}
 
 -- nothing may be left of a write
 pub torn_none : (place n : ℕ) (c : List ℕ) → Torn place n c c

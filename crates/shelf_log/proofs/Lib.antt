@@ -2,9 +2,8 @@ mod Blanks
 mod Changes
 mod Crash
 mod Emptied
-mod Files
+pub mod Files
 mod Migrated
-mod Moments
 mod Pieces
 mod Readings
 mod Refusals

@@ -9,7 +9,7 @@ use Rattle.shelf_log.specs.Format.{mark, Holds, IsSized, IsNoShelf, records, she
 use Rattle.shelf_log.specs.Settled.{IsSettled, IsBroughtOver}
 use Rattle.shelf_log.specs.declared.version.Version.TheVariants.{One, Two}
 use Rattle.shelf_log.proofs.Files.{if_some, parts_of, holds_of}
-use Rattle.shelf_log.proofs.Moments.{weaker, and_then}
+use Rattle.keri_disk.proofs.Moments.{weaker, and_then}
 use Rattle.shelf_log.proofs.Stored.{mapped}
 use Rattle.shelf_log.proofs.Windows.{of_some}
 

@@ -1,6 +1,9 @@
 -- How long records are, one by one.
-use Rattle.std.proofs.Common.{◌≡◌, ℕ, ◌+◌, ◌<◌, ◌≤◌, List, [], ◌∷◌, ◌++◌, length, take, drop, get_or, sym, ◌∙◌, ap, arith, append-nil, length-append, take-append-drop}
+use Rattle.std.proofs.Common.{◌≡◌, ℕ, ◌+◌, ◌<◌, ◌≤◌, inl, inr, List, [], ◌∷◌, ◌++◌, length, take, drop, get_or, sym, ◌∙◌, ap, arith, append-nil, length-append, take-append-drop}
+use Rattle.std.proofs.lemmas.Bool.{cases_lt}
 use Rattle.std.proofs.lemmas.List.{take_more}
+use Rattle.keri_outside.specs.declared.limits.Limits.{Limits}
+use Rattle.shelf_log.specs.Answers.{IsOver}
 use Rattle.shelf_log.specs.Format.{record_bytes, records, shelf_front}
 use Rattle.shelf_log.specs.declared.version.Version.{Version}
 use Rattle.shelf_log.proofs.Files.{front-append, length-front-push, records-append}
@@ -19,3 +22,10 @@ module _ (version : Version) (list : List (List ℕ)) (i : ℕ) where
   -- the first of them are no longer than all
   pub size_front : length (shelf_front version (take i list)) ≤ length (shelf_front version list)
   size_front = omega (arith, sym (ap (λ (l : List (List ℕ)). length (shelf_front version l)) (take-append-drop i list)), ap length (front-append version (take i list) (drop i list)), length-append (shelf_front version (take i list)) (records (drop i list)))
+
+-- a list that isn't over the limits has no more records than they allow
+pub counted : (version : Version) (limits : Limits) (list : List (List ℕ)) → (IsOver version limits list → ⊥) → length list ≤ limits.records
+counted version limits list few = elim (cases_lt limits.records (length list)) [
+  | inl more ↦ absurd (few (inl more))
+  | inr none ↦ omega (arith, none)
+]

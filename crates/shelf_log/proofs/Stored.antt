@@ -12,7 +12,7 @@ use Rattle.shelf_log.specs.declared.version.Version.TheVariants.{Two}
 use Rattle.shelf_log.proofs.Crash.{staged, staged_holds, staged_file, torn_behind, torn_gate, opened, opened_file}
 use Rattle.shelf_log.proofs.Changes.{none_of_err}
 use Rattle.shelf_log.proofs.Files.{if_some, holds_of}
-use Rattle.shelf_log.proofs.Moments.{weaker, and_then}
+use Rattle.keri_disk.proofs.Moments.{weaker, and_then}
 
 -- what is there comes of what was there
 pub mapped : {T : Type 0} (f : T → T) (o : Option T) (y : T) → option_map f o ≡ Some y → (x : T) × (o ≡ Some x) × (y ≡ f x)

@@ -19,7 +19,7 @@ use std::alloc::Global;
 const WINDOW: u64 = 1 << 21;
 
 /// Reads the list of a file. It syncs first, and writes nothing.
-#[tactic(auto, using(crate::proofs::Moments::keeps_both, crate::proofs::Moments::durable_kept))]
+#[tactic(auto, using(keri_disk::proofs::Moments::keeps_both, keri_disk::proofs::Moments::durable_kept))]
 pub(crate) fn read_list<D: Disk>(
     alloc: Global,
     disk: &mut D,
@@ -63,7 +63,7 @@ fn has_mark<D: Disk>(disk: &mut D, size: u64, version: Version) -> Result<bool, 
 }
 
 // Reads the records behind the mark, up to the closed gate.
-#[tactic(auto, using(crate::proofs::Moments::keeps_both))]
+#[tactic(auto, using(keri_disk::proofs::Moments::keeps_both))]
 fn read_records<D: Disk>(
     disk: &mut D,
     size: u64,

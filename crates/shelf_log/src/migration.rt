@@ -23,6 +23,7 @@ impl<D: Disk + Drop> Shelf<D> {
     /// is lost.
     ///
     /// A stop at any moment leaves no shelf of version 2, or the whole list.
+    #[tactic(auto, using(crate::proofs::Sizes::counted))]
     pub fn migrate(
         alloc: Global,
         list: &[Items<u8>],

@@ -1,5 +1,5 @@
 //! The shelf itself.
-ghost use Rattle.std.specs.Prelude.{◌≡◌, ◌<◌, ◌||◌, false, length, nat_le, nat_lt};
+ghost use Rattle.std.specs.Prelude.{◌≡◌, ◌<◌, ◌≤◌, ◌||◌, false, length, nat_le, nat_lt};
 ghost use Rattle.std.proofs.Props.{props};
 ghost use Rattle.shelf_log.specs.Format.{shelf_front};
 ghost use Rattle.shelf_log.specs.Settled.{IsSettled};
@@ -29,11 +29,12 @@ pub struct Shelf<D: Disk> {
     pub(crate) broken: bool,
     ghost ends: { end ≡ length (shelf_front Two list) },
     ghost few: { end < 1073741824 },
+    ghost counted: { length list ≤ limits.records },
     ghost settled: { broken ≡ false → IsSettled (D.told disk) list } by { Prim.hlevel props },
 }
 
 impl<D: Disk + Drop> Shelf<D> {
-    ghost use Rattle.std.specs.Prelude.{◌≢◌, ◌≤◌, ◌⊎◌, ◌+◌, ◌++◌, ◌∷◌, [], List, ℕ, Some, IfOk, IfErr, IfSome, OnOk, OnErr, MatchResult, true};
+    ghost use Rattle.std.specs.Prelude.{◌≢◌, ◌⊎◌, ◌+◌, ◌++◌, ◌∷◌, [], List, ℕ, Some, IfOk, IfErr, IfSome, OnOk, OnErr, MatchResult, true};
     ghost use Rattle.keri_disk.specs.Images.{IsDurable, LeavesOnly};
     ghost use Rattle.keri_disk.specs.Calls.{Keeps};
     ghost use Rattle.shelf_log.specs.Answers.{Answers, refusal, HasDiskCause, Reads};
@@ -62,6 +63,7 @@ impl<D: Disk + Drop> Shelf<D> {
     }
 
     /// Reads a shelf. It syncs first, and writes and cuts nothing, whatever it answers.
+    #[tactic(auto, using(crate::proofs::Sizes::counted))]
     pub fn read_back(alloc: Global, disk: D, limits: Limits) -> Result<Shelf<D>, Returned<D>>
         ensures made { IfOk result (λ shelf. (shelf.limits ≡ limits) × (shelf.broken ≡ false) × AllHold (D.told shelf.disk) shelf.list) }
         ensures durable { IfErr result (λ returned. returned.fault ≢ DiskFault → IsDurable (D.told returned.disk)) }
@@ -86,6 +88,7 @@ impl<D: Disk + Drop> Shelf<D> {
     ) -> Shelf<D>
         requires end { end ≡ length (shelf_front Two list) }
         requires few { end < 1073741824 }
+        requires counted { length list ≤ limits.records }
         requires settled { IsSettled (D.told disk) list }
         ensures { (result.disk ≡ disk) × (result.list ≡ list) × (result.limits ≡ limits) × (result.broken ≡ false) }
     {

@@ -10,7 +10,7 @@ use lists::Items;
 use std::alloc::{AllocError, Global};
 
 /// The claims of a message, in order.
-pub(crate) fn claims_of(alloc: Global, message: &Message) -> Result<Items<Claim>, AllocError>
+pub fn claims_of(alloc: Global, message: &Message) -> Result<Items<Claim>, AllocError>
     ensures { IfOk result (λ claims. claims ≡ replies.claims_of message.now) }
 {
     let mut claims = Items::new(alloc);

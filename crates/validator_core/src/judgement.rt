@@ -11,10 +11,7 @@ use journal::Reason;
 use std::alloc::{AllocError, Global};
 
 /// The event of a message's body, or why the message is refused.
-pub(crate) fn judge_message(
-    alloc: Global,
-    message: &Message,
-) -> Result<Result<Event, Reason>, AllocError>
+pub fn judge_message(alloc: Global, message: &Message) -> Result<Result<Event, Reason>, AllocError>
     ensures { IfOk result (λ judged. JudgesMessage message.now judged) }
 {
     match read_body(alloc, message.body.as_slice()) {

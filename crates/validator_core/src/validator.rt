@@ -1,7 +1,10 @@
 //! The core: it judges messages, and has those that aren't refused taken.
-ghost use Rattle.std.specs.Prelude.{◌≡◌, ◌≤◌, ◌<◌, [], All, IfErr, IfOk, IfSome, List, Ok, OnErr, Some, map, length, slice_get};
+ghost use Rattle.std.specs.Prelude.{◌≡◌, ◌==◌, ◌≤◌, ◌<◌, [], All, IfErr, IfNone, IfOk, IfSome, List, Ok, OnErr, Some, false, map, length, position, slice_get};
 ghost use Rattle.std.specs.Option.{option_map};
 ghost use Rattle.core_tables.specs.Hints.{IsEscrow};
+ghost use Rattle.core_tables.specs.View.{body_of};
+ghost use Rattle.event_body.specs.Judging.{SpellsEvent};
+ghost use Rattle.event_core.specs.Signatures.{good_under, is_witness_under};
 ghost use Rattle.journal.specs.Conflicts.{IsConflictList};
 ghost use Rattle.event_core.specs.Base.{AreRefused, IsResumed};
 ghost use Rattle.journal.specs.Logs as logs;
@@ -14,7 +17,7 @@ ghost use Rattle.validator_core.specs.View.{LooksByMessage, LooksByVerdict, Stan
 
 use crate::claims::claims_of;
 use crate::judgement::judge_message;
-use cesr_codes::{IndexedSig, Prefix};
+use cesr_codes::{IndexedSig, Key, Prefix};
 use cesr_stream::Message;
 use escrow::Waiting;
 use event_body::Event;
@@ -92,8 +95,9 @@ impl Core {
         self.take_judged(reader, message, event, steps)
     }
 
-    // Takes a message that isn't refused, and has this event.
-    fn take_judged(
+    /// Takes a message that isn't refused, and has this event, which `judge_message` found. It looks at the waiting events as
+    /// `take` does.
+    pub fn take_judged(
         &mut self,
         reader: u16,
         message: &Message,
@@ -227,6 +231,38 @@ impl Core {
         ensures { IfOk result (λ sigs. (b : Body) → slice_get self.now.held number ≡ Some b → sigs.items ≡ good_on self.now b) }
     {
         self.events.good_signatures(number)
+    }
+
+    /// The controller's signatures that have a yes verdict on the event at a place of the accepted ones, by the state under
+    /// which it was accepted, in order of coming; one that came more than once comes so often.
+    pub fn signatures_at(&self, place: usize) -> Result<Vec<IndexedSig>, AllocError>
+        ensures { IfOk result (λ sigs. (b : Body) → slice_get (accepted_by self.now) place ≡ Some b → sigs.items ≡ good_under (told_of self.now) (accepted_by self.now) b) }
+    {
+        self.events.signatures_at(place)
+    }
+
+    /// The number of the body with these bytes, which spell the event; none where it isn't held. It takes no memory.
+    pub fn number_of(&self, body: &[u8], event: &Event) -> Option<u32>
+        requires { SpellsEvent event.now body.now }
+        ensures some { IfSome result (λ n. slice_get self.now.held n ≡ Some (body_of body.now event.now)) }
+        ensures none { IfNone result (logs.is_in self.now.held (body_of body.now event.now) ≡ false) }
+    {
+        self.events.number_of(body, event)
+    }
+
+    /// The first place of a number among the accepted ones. It takes no memory, and goes over the accepted numbers.
+    pub fn place_of(&self, number: u32) -> Option<usize>
+        ensures { result ≡ position (λ n. n == number) self.now.accepted }
+    {
+        self.events.place_of(number)
+    }
+
+    /// Whether a key is among the own witnesses of the event at a place of the accepted ones, by the state under which it was
+    /// accepted. It takes no memory.
+    pub fn is_witness_at(&self, place: usize, key: &Key) -> bool
+        ensures { (b : Body) → slice_get (accepted_by self.now) place ≡ Some b → result ≡ is_witness_under (accepted_by self.now) b key.now }
+    {
+        self.events.is_witness_at(place, key)
     }
 
     /// The events that aren't accepted, each with the number of its body. It takes no memory.

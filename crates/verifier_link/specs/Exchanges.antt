@@ -34,11 +34,13 @@ pub record HasFailed (old new : LinkTold) : Type 0 where
 
 -- the sink failed, and nothing was read
 pub record FailsToPut (question : Question) (old new : LinkTold) : Type 0 where
+  pub never_failed : old.faults ≡ 0
   pub put : Refuses old.sink new.sink (question_text question)
   pub same_source : new.source ≡ old.source
 
 -- the question was put, and fewer bytes came than the answer has
 pub record FailsToRead (due : ℕ) (question : Question) (old new : LinkTold) : Type 0 where
+  pub never_failed : old.faults ≡ 0
   pub put : Took old.sink new.sink (question_text question)
   pub read : ComesShort old.source new.source due
 
@@ -55,13 +57,14 @@ module _ {A : Type 0} (Says : A → List ℕ → Type 0) (question : Question) (
 
   -- the question was put, and the bytes that came say no answer
   pub record SaysNothing : Type 0 where
+    pub never_failed : old.faults ≡ 0
     pub bytes : List ℕ
     pub nothing : (answer : A) → Says answer bytes → ⊥
     pub due : length bytes ≡ answer_size question.wanted
     pub put : Took old.sink new.sink (question_text question)
     pub read : Gave old.source new.source bytes
 
-  -- the link failed: it has failed before, or its sink, its source, its input or the answer failed now
+  -- the link failed: it has failed before, or else its sink, its source, its input or the answer failed now
   pub record Fails : Type 0 where
     pub cause : HasFailed old new ⊎ FailsToPut question old new ⊎ FailsToRead (answer_size question.wanted) question old new ⊎ SaysNothing
     pub counted : new.faults ≡ min (old.faults + 1) (2 ^ 64 - 1)

@@ -2,6 +2,7 @@ pub mod Questions
 pub mod Answers
 pub mod Sides
 pub mod Exchanges
+pub mod Helpers
 pub mod Fields
 pub mod Stops
 pub mod Serving

@@ -1,8 +1,9 @@
-//! A verifier and a signer that ask a helper over a source and a sink, and a server that answers by the rehearsal.
+//! A verifier and a signer that ask a program over a source and a sink, or the rehearsal, and a server that answers by the rehearsal.
 #![tactic(auto)]
 
 mod answer;
 mod field;
+mod helper;
 mod laws;
 mod length_digits;
 mod letter;
@@ -14,6 +15,7 @@ mod served;
 mod stop;
 mod wanted;
 
+pub use helper::Helper;
 pub use laws::{begun_or_refused, one_reading};
 pub use link::Link;
 pub use rehearsal_server::serve_rehearsal;

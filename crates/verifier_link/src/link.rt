@@ -8,7 +8,7 @@ use cesr_codes::{Key, Sig};
 use keri_outside::{Failed, Signer, Sink, Source, Verifier};
 
 /// A verifier and a signer that asks a helper: questions go to the sink, and answers come from the source. It doesn't tell
-/// what it says; beside what each verifier and each signer promises, `ask` and `sign` say of the bytes what was put and
+/// what it says or was asked; beside what each verifier and each signer promises, `ask` and `sign` say of the bytes what was put and
 /// read. Once a link has failed it is out of step with the helper, so then it fails without asking.
 #[derive(Drop)]
 pub struct Link<S, K> {
@@ -73,6 +73,8 @@ impl<S: Source, K: Sink> Verifier for Link<S, K> {
 
     ghost says = { λ _ _ _ _. None };
 
+    ghost inquiries = { λ _. None };
+
     ghost faults = { link_faults };
 
     fn ask(&mut self, key: &Key, body: &[u8], sig: &Sig) -> Result<bool, Failed>
@@ -101,6 +103,8 @@ impl<S: Source, K: Sink> Signer for Link<S, K> {
     ghost use Rattle.verifier_link.specs.Sides.{link_faults, link_told};
 
     ghost gives = { λ _ _ _. None };
+
+    ghost signings = { λ _. None };
 
     ghost faults = { link_faults };
 

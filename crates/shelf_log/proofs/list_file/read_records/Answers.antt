@@ -1,7 +1,7 @@
 use Rattle.std.proofs.Common.{◌≡◌, ℕ, ◌+◌, ◌≤◌, List, Some, ◌∙◌, subst, arith, length, drop, length-take, length-drop, length-append}
 use Rattle.keri_disk.specs.Calls.{IsSizeOf}
 use Rattle.shelf_log.proofs.Files.{if_some}
-use Rattle.shelf_log.proofs.Moments.{keeps_both}
+use Rattle.keri_disk.proofs.Moments.{keeps_both}
 use Rattle.shelf_log.proofs.Windows.{scan_closed, scan_part, scan_out, scan_on, scan_within}
 use Rattle.shelf_log.proofs.list_file.read_records.Goals as goal
 

@@ -5,7 +5,7 @@ use Rattle.shelf_log.specs.Settled.{IsBroughtOver}
 use Rattle.shelf_log.specs.declared.version.Version.TheVariants.{Two}
 use Rattle.shelf_log.proofs.Changes.{none_of_err}
 use Rattle.shelf_log.proofs.Migrated.{after_cut, after_byte, all_but_first, mark_leaves, mark_settles}
-use Rattle.shelf_log.proofs.Moments.{and_then}
+use Rattle.keri_disk.proofs.Moments.{and_then}
 use Rattle.shelf_log.proofs.migration.write_over.Goals as goal
 
 pub returns-in_err-cut_durably-clause-brings : goal.returns-in_err-cut_durably-clause-brings

@@ -1,4 +1,4 @@
-use Rattle.std.proofs.Common.{ℕ, List, length, sym, ◌∙◌, ap, subst, arith}
+use Rattle.std.proofs.Common.{ℕ, List, [], ◌∷◌, length, length-append, sym, ◌∙◌, ap, subst, arith}
 use Rattle.std.proofs.lemmas.Bool.Decides.{nat_tests}
 use Rattle.shelf_log.specs.Format.{shelf_front}
 use Rattle.shelf_log.specs.Settled.{IsSettled}
@@ -13,5 +13,6 @@ invariant_of-self g c =
     record {
       ends = omega (arith, self.ends, length-front-push Two self.list c.args.payload.now) ∙ ap (λ (l : List (List ℕ)). length (shelf_front Two l)) (sym c.in-Ok.ensures.ok);
       few = grind (arith, nat_tests, c.has_no_room.ensures, c.if-has_no_room.false, self.ends, self.limits.shelf_bytes_standard);
+      counted = grind (arith, nat_tests, c.has_no_room.ensures, c.if-has_no_room.false, ap length c.in-Ok.ensures.ok, length-append self.list (c.args.payload.now ∷ []));
       settled = λ whole. subst (IsSettled (g.D.Disk.told c.add.new.disk)) (sym c.in-Ok.ensures.ok) stores.settled;
     }

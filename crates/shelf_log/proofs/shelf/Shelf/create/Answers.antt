@@ -2,7 +2,7 @@ use Rattle.std.proofs.Common.{ap, length, sym, subst, arith}
 use Rattle.keri_disk.specs.Images.{LeavesOnly}
 use Rattle.shelf_log.specs.Settled.{IsUnfinished}
 use Rattle.shelf_log.proofs.Emptied.{torn_empty}
-use Rattle.shelf_log.proofs.Moments.{weaker}
+use Rattle.keri_disk.proofs.Moments.{weaker}
 use Rattle.shelf_log.proofs.shelf.Shelf.create.Goals as goal
 
 pub returns-in-Ok-clause-moments : goal.returns-in-Ok-clause-moments

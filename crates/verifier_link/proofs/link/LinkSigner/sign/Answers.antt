@@ -7,6 +7,7 @@ returns-in-Err-clause-exchanges g c =
     let fetched = c.in_ok-fetch.ensures.fetches in
     rw c.fail.ensures (record {
       cause = inr (inr (inr (record {
+        never_failed = fetched.2;
         bytes = c.fetch.new.answer;
         nothing = λ sig says. let whole = c.in-Err.ensures.whole sig [] says.0 (says.1 ∙ sym (append-nil (sig_text sig))) in cc whole;
         due = omega arith;

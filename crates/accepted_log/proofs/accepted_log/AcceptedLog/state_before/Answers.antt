@@ -1,0 +1,13 @@
+use Rattle.std.proofs.Common.{◌≡◌, ap, sym, ◌∙◌, subst}
+use Rattle.std.specs.Prelude.{slice_get}
+use Rattle.event_body.specs.Events.{prefix_of}
+use Rattle.journal.specs.Logs as logs
+use Rattle.accepted_log.specs.Cuts.{AreBothAlike, under_at}
+use Rattle.accepted_log.proofs.Under.{under_alike_at}
+use Rattle.accepted_log.proofs.accepted_log.AcceptedLog.state_before.Goals as goal
+
+pub returns-clause-alike : goal.returns-clause-alike
+returns-clause-alike c = λ log b is grown at its.
+    let v = c.args.self.now in
+    let seen = ap (λ e. under_at v.states e (slice_get v.places c.args.i)) its ∙ sym c.state_under.ensures in
+    subst (λ o. AreBothAlike o (logs.state (logs.before b log) (prefix_of b.event))) seen (under_alike_at log v is grown c.args.i b at)

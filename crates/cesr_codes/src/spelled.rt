@@ -1,0 +1,113 @@
+//! Texts that are one primitive.
+ghost use Rattle.std.specs.Prelude.{◌≡◌, ◌≢◌, ◌++◌, List, ℕ, Ok, Some, length, IfSome, IfNone};
+ghost use Rattle.std.specs.List.{AllByRecursion};
+ghost use Rattle.cesr_codes.specs.Reading.{Reads};
+ghost use Rattle.cesr_codes.specs.Table.{Verdict};
+
+use crate::{CodeFault, Digest, Key, Prefix};
+
+/// A type of primitives, of which each has a spelling of its own.
+pub trait Spelled: Copy {
+    /// The spelling of a value.
+    ghost spelling: { Self → List ℕ };
+
+    /// Its raw bytes are in their range.
+    ghost is_valid: { Self → Type 0 };
+
+    /// How the characters at the front are judged.
+    ghost judge: { List ℕ → Verdict };
+
+    /// The value that stands at the front, and the length of its spelling.
+    fn read_front(text: &[u8]) -> Result<(Self, usize), CodeFault>
+        // What is read stands at the front, and a fault is the first in their order.
+        ensures exact { Reads judge spelling is_valid text.now result }
+
+        // What is spelled at the front is read, whatever follows.
+        ensures whole { (value : Self) (rest : List ℕ) → is_valid value → text.now ≡ spelling value ++ rest → result ≡ Ok (value, length (spelling value)) };
+
+    /// What the type of a value holds by itself, stated for proofs: a proof learns a value's range where the value is read.
+    /// Nothing else is done here.
+    fn held(self)
+        ensures { is_valid self };
+}
+
+/// The primitive whose spelling this is.
+pub fn of_text<P: Spelled>(text: &[u8]) -> Option<P>
+    ensures some { IfSome result (λ found. P.is_valid found × (text.now ≡ P.spelling found)) }
+    ensures none { IfNone result ((value : P) → P.is_valid value → text.now ≢ P.spelling value) }
+    ensures only { (value : P) → P.is_valid value → text.now ≡ P.spelling value → result ≡ Some value }
+{
+    let Ok(found) = P::read_front(text) else {
+        return None;
+    };
+    if found.1 == text.len() {
+        Some(found.0)
+    } else {
+        None
+    }
+}
+
+/// What the type of each value holds by itself, as `Spelled::held` says.
+pub fn all_held<P: Spelled>(values: &[P])
+    ensures { AllByRecursion P.is_valid values.now }
+{
+    for value in values {
+        value.held();
+    }
+}
+
+impl Spelled for Key {
+    ghost use Rattle.cesr_codes.specs.Spelling.{IsKey, key_text};
+    ghost use Rattle.cesr_codes.specs.Table.{key_layouts, verdict};
+
+    ghost spelling = { key_text };
+
+    ghost is_valid = { IsKey };
+
+    ghost judge = { verdict key_layouts };
+
+    fn read_front(text: &[u8]) -> Result<(Key, usize), CodeFault> {
+        Key::read(text)
+    }
+
+    fn held(self) {}
+}
+
+impl Spelled for Digest {
+    ghost use Rattle.cesr_codes.specs.Spelling.{IsDigest, digest_text};
+    ghost use Rattle.cesr_codes.specs.Table.{digest_layouts, verdict};
+
+    ghost spelling = { digest_text };
+
+    ghost is_valid = { IsDigest };
+
+    ghost judge = { verdict digest_layouts };
+
+    fn read_front(text: &[u8]) -> Result<(Digest, usize), CodeFault> {
+        Digest::read(text)
+    }
+
+    fn held(self) {}
+}
+
+impl Spelled for Prefix {
+    ghost use Rattle.cesr_codes.specs.Spelling.{IsPrefix, prefix_text};
+    ghost use Rattle.cesr_codes.specs.Table.{prefix_layouts, verdict};
+
+    ghost spelling = { prefix_text };
+
+    ghost is_valid = { IsPrefix };
+
+    ghost judge = { verdict prefix_layouts };
+
+    fn read_front(text: &[u8]) -> Result<(Prefix, usize), CodeFault> {
+        Prefix::read(text)
+    }
+
+    fn held(self) {
+        match self {
+            Prefix::Basic(key) => key.held(),
+            Prefix::Said(digest) => digest.held(),
+        }
+    }
+}

@@ -1,0 +1,18 @@
+-- A core may go to another thread, as its tables may.
+use denote.Param.Send.{IsSend, sendable}
+use denote.Param.SendFields.{declared_send}
+use Rattle.std.specs.contracts.alloc.Global as global
+use Rattle.keri_outside.proofs.limits.Limits.TheSendSync as limits
+use Rattle.journal.proofs.mode.Mode.TheSendSync as mode
+use Rattle.core_tables.proofs.Crosses.{tables_send}
+use Rattle.event_core.proofs.tally.Tally.TheSendSync as tally
+use Rattle.event_core.specs.contracts.event_core.EventCore as row
+use Rattle.event_core.specs.contracts.event_core.EventCore.TheInside as inside
+
+global_send : IsSend global.the_row
+global_send = search sendable depth 20
+
+pub core_send : IsSend row.the_row
+core_send =
+    let whole : IsSend inside.the_row = declared_send inside.the_type (global_send, (mode.the_send, (limits.the_send, (search sendable, (tables_send, (tally.the_send, tt)))))) in
+    search sendable depth 4

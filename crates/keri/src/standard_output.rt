@@ -1,0 +1,63 @@
+//! Standard output.
+
+use libc::types::rlimit;
+use std::io::{Stdout, Write};
+use std::{fs, io};
+
+// What getrlimit is asked for the greatest size of a file that is written (setrlimit(2)).
+const FILE_SIZE: i32 = 1;
+
+/// Standard output. Where it is a file, no byte is written at the greatest size that files may have or behind it: the system
+/// raises a signal for that, which would end the program.
+#[derive(Drop)]
+pub(crate) struct StandardOutput {
+    output: Stdout,
+    // The file's size before the first write, where it is a file: where writes append, the first one goes there, and not to
+    // the position.
+    size: Option<u64>,
+}
+
+impl StandardOutput {
+    /// That of this process.
+    pub(crate) fn new(rt: &HostRuntime) -> StandardOutput {
+        let size = match fs::metadata(rt, "/dev/stdout") {
+            Ok(found) if found.is_file() => Some(found.len()),
+            _ => None,
+        };
+        StandardOutput {
+            output: rt.stdout(),
+            size,
+        }
+    }
+
+    // How many bytes may be written yet.
+    fn room(&self) -> u64 {
+        let Some(size) = self.size else {
+            return u64::MAX;
+        };
+        let mut limit = rlimit {
+            rlim_cur: u64::MAX,
+            rlim_max: u64::MAX,
+        };
+        if libc::getrlimit(FILE_SIZE, &mut limit) != 0 {
+            return u64::MAX;
+        }
+        let position = libc::lseek(libc::STDOUT_FILENO, 0, libc::SEEK_CUR);
+        let place = size.max(u64::try_from(position).unwrap_or(0));
+        limit.rlim_cur.saturating_sub(place)
+    }
+}
+
+impl Write for StandardOutput {
+    fn write(&mut self, bytes: &[u8]) -> io::Result<usize> {
+        let count = bytes.len().min(self.room() as usize);
+        if count == 0 {
+            return Ok(0);
+        }
+        self.output.write(&bytes[..count])
+    }
+
+    fn flush(&mut self) -> io::Result<()> {
+        self.output.flush()
+    }
+}
