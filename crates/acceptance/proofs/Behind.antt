@@ -18,7 +18,7 @@ use Rattle.accepted_log.specs.Values.{Log}
 use Rattle.accepted_log.specs.Cuts.{cut, IsLog}
 use Rattle.accepted_log.proofs.Behind.{StateOf, state_of, state_followed}
 use Rattle.claim_table.specs.declared.claimed.Claimed.{Claimed}
-use Rattle.claim_laws.specs.ClaimRows.{AreFound, part_of}
+use Rattle.core_laws.specs.ClaimRows.{AreFound, part_of}
 
 -- a state with other live events asks the same of an event's signatures
 pub rules_cut : (k : ℕ) (s : State) (e : Event) → own_rules (Some (cut k s)) e ≡ own_rules (Some s) e

@@ -14,7 +14,7 @@ use Rattle.journal.specs.History.{Told, took, heard, same_triple, has_verdict, h
 use Rattle.journal.specs.Journals.{told_by, whole}
 use Rattle.journal.proofs.Locality.{bytes_differ}
 use Rattle.journal.proofs.Places.{slice_get_front, some_at}
-use Rattle.claim_laws.specs.ClaimRows.{triple_on}
+use Rattle.core_laws.specs.ClaimRows.{triple_on}
 use Rattle.core_tables.specs.View.{number_of}
 
 -- an entry of a body that is held tells the same when more bodies are

@@ -10,12 +10,12 @@ use Rattle.journal.specs.declared.body.Body.{Body}
 use Rattle.journal.specs.Logs.{is_of, precedes, predecessor, stands}
 use Rattle.journal.specs.History.{Told, claims_in}
 use Rattle.journal.specs.Questions.{state_before}
-use Rattle.acceptance_laws.proofs.Predecessors.{state_before-kept, state_before-none}
+use Rattle.core_laws.proofs.Predecessors.{state_before-kept, state_before-none}
 use Rattle.claim_table.specs.declared.claimed.Claimed.{Claimed}
 use Rattle.claim_table.specs.declared.row.Row.{Row}
-use Rattle.claim_laws.specs.ClaimRows.{AreFound, AreClaims, HasClaims, found_on, verdict_in}
-use Rattle.claim_laws.proofs.Accepted.{claimed-kept, claimed-none}
-use Rattle.claim_laws.proofs.Steps.{found_none, found_push, has_same}
+use Rattle.core_laws.specs.ClaimRows.{AreFound, AreClaims, HasClaims, found_on, verdict_in}
+use Rattle.core_laws.proofs.Accepted.{claimed-kept, claimed-none}
+use Rattle.core_laws.proofs.Steps.{found_none, found_push, has_same}
 use Rattle.acceptance.proofs.Behind.{stands_not}
 
 -- an inception names no event before it

@@ -1,6 +1,6 @@
 pub mod Behind
 pub mod FoundClaims
-pub mod Ready
+pub mod ReadyRows
 pub mod Turned
 pub mod Predecessor
 pub mod Place
@@ -14,3 +14,13 @@ pub mod Receipt
 pub mod NewReceipt
 pub mod Nothing
 pub mod Rewound
+pub mod Bodies
+pub mod Parts
+pub mod Enough
+pub mod Reasons
+pub mod Delegators
+pub mod Counting
+pub mod Verdicts
+pub mod Claims
+pub mod Wanted
+pub mod Footings

@@ -25,9 +25,9 @@ use Rattle.event_rules.specs.Parts.{Row as Found}
 use Rattle.accepted_log.specs.Cuts.{IsLog}
 use Rattle.claim_table.specs.declared.claimed.Claimed.{Claimed}
 use Rattle.claim_table.specs.Rows.{raised_all}
-use Rattle.claim_laws.specs.ClaimRows.{AreFound, AreClaims, HasClaims, found_on, triple_on, verdict_in}
-use Rattle.claim_laws.proofs.Steps.{has_new, has_raised, has_same}
-use Rattle.claim_laws.proofs.Told.{verdict_took, verdict_there}
+use Rattle.core_laws.specs.ClaimRows.{AreFound, AreClaims, HasClaims, found_on, triple_on, verdict_in}
+use Rattle.core_laws.proofs.Steps.{has_new, has_raised, has_same}
+use Rattle.core_laws.proofs.Told.{verdict_took, verdict_there}
 use Rattle.core_tables.specs.View.{View, log_of, number_of, with_rows}
 use Rattle.acceptance.specs.Standing.{IsHeld, IsStanding, told_of}
 use Rattle.acceptance.proofs.Taken.{took_off, with_entry}

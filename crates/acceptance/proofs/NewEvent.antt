@@ -21,13 +21,13 @@ use Rattle.journal.proofs.Held.{chosen_push}
 use Rattle.journal.proofs.Keeping.{IsGrown-push}
 use Rattle.event_rules.specs.Parts.{Row as Found}
 use Rattle.escrow.specs.Escrow.{Escrow, Waits, held as held_by}
-use Rattle.acceptance_laws.proofs.Members.{find_some, member_any}
-use Rattle.acceptance_laws.proofs.NextEvents.{rules_of_taken}
-use Rattle.acceptance_laws.proofs.States.{StandIf, all_stand, are_same-some, inside_of, sn_positive}
+use Rattle.core_laws.proofs.Members.{find_some, member_any}
+use Rattle.core_laws.proofs.NextEvents.{rules_of_taken}
+use Rattle.core_laws.proofs.States.{StandIf, all_stand, are_same-some, inside_of, sn_positive}
 use Rattle.accepted_log.specs.Cuts.{IsLog}
 use Rattle.accepted_log.specs.Values.{Log}
 use Rattle.claim_table.specs.declared.row.Row.{Row}
-use Rattle.claim_laws.specs.ClaimRows.{AreClaims, HasClaims, found_on, verdict_in}
+use Rattle.core_laws.specs.ClaimRows.{AreClaims, HasClaims, found_on, verdict_in}
 use Rattle.core_tables.specs.Hints.{IsEscrow}
 use Rattle.core_tables.specs.View.{View, log_of, waiter_at, waiter_of, with_log, with_rows}
 use Rattle.acceptance.specs.Standing.{IsStanding, told_of}

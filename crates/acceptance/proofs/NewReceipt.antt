@@ -9,10 +9,10 @@ use Rattle.journal.specs.History.{claims_on}
 use Rattle.journal.specs.Journals.{told_by}
 use Rattle.journal.specs.Logs.{is_in, stands}
 use Rattle.journal.specs.Questions.{state_before}
-use Rattle.acceptance_laws.specs.Claimed.{rows_of}
+use Rattle.core_laws.specs.Claimed.{rows_of}
 use Rattle.accepted_log.specs.Cuts.{IsLog}
-use Rattle.claim_laws.specs.ClaimRows.{AreClaims, found_on, verdict_in}
-use Rattle.claim_laws.proofs.Steps.{has_new}
+use Rattle.core_laws.specs.ClaimRows.{AreClaims, found_on, verdict_in}
+use Rattle.core_laws.proofs.Steps.{has_new}
 use Rattle.core_tables.specs.View.{View, log_of}
 use Rattle.acceptance.specs.Standing.{IsHeld, IsStanding, told_of}
 use Rattle.acceptance.proofs.NewBody.{chosen_more, differ_push, last_or, length_more, unsaid_outside}

@@ -14,7 +14,7 @@ use Rattle.journal.specs.Logs.{precedes, predecessor, stands}
 use Rattle.journal.specs.Grown.{IsGrown}
 use Rattle.journal.specs.Questions.{state_before}
 use Rattle.journal.proofs.Settling.{find-true}
-use Rattle.acceptance_laws.proofs.Woken.{parts_of}
+use Rattle.core_laws.proofs.Woken.{parts_of}
 use Rattle.accepted_log.specs.declared.place.Place.{Place}
 use Rattle.accepted_log.specs.Values.{Log}
 use Rattle.accepted_log.specs.Cuts.{cut, IsLog}

@@ -18,11 +18,11 @@ use Rattle.journal.specs.Logs.{is_of, precedes, predecessor, same_body, stands}
 use Rattle.journal.specs.Questions.{state_before}
 use Rattle.journal.proofs.Places.{one_body}
 use Rattle.event_rules.specs.Parts.{Row as Found}
-use Rattle.acceptance_laws.specs.Claimed.{rows_of}
+use Rattle.core_laws.specs.Claimed.{rows_of}
 use Rattle.claim_table.specs.declared.row.Row.{Row}
-use Rattle.claim_laws.specs.ClaimRows.{AreClaims, HasClaims, found_on, triple_on, verdict_in}
-use Rattle.claim_laws.proofs.Steps.{found_push, has_same}
-use Rattle.claim_laws.proofs.Told.{verdict_took}
+use Rattle.core_laws.specs.ClaimRows.{AreClaims, HasClaims, found_on, triple_on, verdict_in}
+use Rattle.core_laws.proofs.Steps.{found_push, has_same}
+use Rattle.core_laws.proofs.Told.{verdict_took}
 use Rattle.core_tables.specs.View.{View, log_of, with_rows}
 use Rattle.acceptance.specs.Standing.{IsStanding, told_of}
 use Rattle.acceptance.specs.Turned.{turned}

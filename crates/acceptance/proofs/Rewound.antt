@@ -4,7 +4,7 @@ use Rattle.std.proofs.Math.Seq.{take-append_seam, take-length}
 use Rattle.std.specs.Prelude.{All, take}
 use Rattle.journal.specs.declared.body.Body.{Body}
 use Rattle.journal.specs.declared.entry.Entry.{Entry}
-use Rattle.acceptance_laws.proofs.Entries.{all_from}
+use Rattle.core_laws.proofs.Entries.{all_from}
 use Rattle.accepted_log.proofs.Extensions.{extends_refl, extends_trans}
 use Rattle.claim_table.specs.declared.claimed.Claimed.{Claimed}
 use Rattle.claim_table.specs.declared.row.Row.{Row}

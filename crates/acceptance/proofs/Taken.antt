@@ -16,12 +16,12 @@ use Rattle.journal.proofs.Accepting.{same_body-refl}
 use Rattle.journal.proofs.Held.{told_push}
 use Rattle.journal.proofs.Places.{others_differ, slice_get_last, slice_get_before}
 use Rattle.event_rules.specs.Parts.{Row as Found}
-use Rattle.acceptance_laws.specs.Claimed.{rows_of}
+use Rattle.core_laws.specs.Claimed.{rows_of}
 use Rattle.claim_table.specs.declared.claimed.Claimed.{Claimed}
 use Rattle.claim_table.specs.Rows.{raised_all}
-use Rattle.claim_laws.specs.ClaimRows.{AreFound, AreClaims, HasClaims, found_on, triple_on, verdict_in}
-use Rattle.claim_laws.proofs.Steps.{found_push, has_raised, has_same}
-use Rattle.claim_laws.proofs.Told.{verdict_took}
+use Rattle.core_laws.specs.ClaimRows.{AreFound, AreClaims, HasClaims, found_on, triple_on, verdict_in}
+use Rattle.core_laws.proofs.Steps.{found_push, has_raised, has_same}
+use Rattle.core_laws.proofs.Told.{verdict_took}
 use Rattle.core_tables.specs.View.{View, log_of, number_of, with_rows}
 use Rattle.acceptance.specs.Standing.{IsStanding, told_of}
 use Rattle.acceptance.proofs.FoundClaims.{found_unnamed}

@@ -13,8 +13,8 @@ use Rattle.event_rules.specs.Parts.{Row as Found}
 use Rattle.claim_table.specs.declared.claimed.Claimed.{Claimed}
 use Rattle.claim_table.specs.declared.row.Row.{Row}
 use Rattle.claim_table.specs.Rows.{raised_all}
-use Rattle.claim_laws.specs.ClaimRows.{AreFound, HasClaims}
-use Rattle.claim_laws.proofs.Steps.{has_raised, has_same}
+use Rattle.core_laws.specs.ClaimRows.{AreFound, HasClaims}
+use Rattle.core_laws.proofs.Steps.{has_raised, has_same}
 use Rattle.acceptance.specs.Turned.{turned}
 
 module _ (was now : ℕ → Body → List Found) where

@@ -10,9 +10,9 @@ use Rattle.journal.specs.Questions.{state_before}
 use Rattle.journal.proofs.Held.{told_push}
 use Rattle.claim_table.specs.declared.row.Row.{Row}
 use Rattle.claim_table.specs.Rows.{heard as rows_heard, is_raised, verdict_of}
-use Rattle.claim_laws.specs.ClaimRows.{AreClaims, AreFound, HasClaims, found_on, triple_on, verdict_in}
-use Rattle.claim_laws.proofs.Steps.{has_heard, has_same}
-use Rattle.claim_laws.proofs.Told.{verdict_heard, verdict_there}
+use Rattle.core_laws.specs.ClaimRows.{AreClaims, AreFound, HasClaims, found_on, triple_on, verdict_in}
+use Rattle.core_laws.proofs.Steps.{has_heard, has_same}
+use Rattle.core_laws.proofs.Told.{verdict_heard, verdict_there}
 use Rattle.core_tables.specs.View.{View, log_of, with_rows}
 use Rattle.acceptance.specs.Standing.{IsStanding, told_of}
 use Rattle.acceptance.proofs.Taken.{held_entry, with_entry}

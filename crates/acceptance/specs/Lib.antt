@@ -3,3 +3,7 @@ pub mod Turned
 pub mod Standing
 pub mod Footing
 pub mod Settled
+pub mod Current
+pub mod Wants
+pub mod Entries
+pub mod Differences

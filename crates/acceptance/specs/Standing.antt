@@ -11,7 +11,7 @@ use Rattle.journal.specs.Logs.{same_body}
 use Rattle.journal.proofs.Different.{Differ}
 use Rattle.accepted_log.specs.Cuts.{IsLog}
 use Rattle.accepted_log.specs.Values.{Extends as LogExtends}
-use Rattle.claim_laws.specs.ClaimRows.{AreClaims}
+use Rattle.core_laws.specs.ClaimRows.{AreClaims}
 use Rattle.claim_table.specs.declared.signature.Signature.{Signature}
 use Rattle.claim_table.specs.Rows.{heard, unheard}
 use Rattle.core_tables.specs.View.{View, log_of, number_of, with_claims}

@@ -11,7 +11,7 @@ use Rattle.journal.proofs.journal.Journal.TheSendSync as journal
 use Rattle.escrow.proofs.Crosses.{waiting_send}
 use Rattle.event_body.proofs.Crosses.{event_send}
 use Rattle.event_body.specs.contracts.event.Event as event
-use Rattle.core_tables.proofs.came.Came.TheSendSync as came
+use Rattle.core_tables.proofs.claim_entries.ClaimEntries.TheSendSync as came
 use Rattle.core_tables.proofs.name.Name.TheSendSync as name
 use Rattle.core_tables.proofs.name.SealKey.TheSendSync as seal_key
 use Rattle.core_tables.specs.contracts.name.Name as names

@@ -18,3 +18,5 @@ pub mod Raised
 pub mod GatheredLists
 pub mod ToldClaims
 pub mod Crosses
+pub mod Added
+pub mod Places

@@ -5,7 +5,7 @@ use Rattle.std.specs.List.{list_any, position_from, range_with_len}
 use Rattle.std.specs.Option.{option_map_or}
 use Rattle.std.proofs.lemmas.Bool.{cases_Bool}
 use Rattle.std.proofs.lemmas.Iterator.Adapters.{position_from-zero}
-use Rattle.acceptance_laws.proofs.Members.{member_any}
+use Rattle.core_laws.proofs.Members.{member_any}
 use Rattle.event_index.specs.Rows.{HasRows, is_row, numbers_of}
 use Rattle.event_index.proofs.Rows.{find-numbers}
 use Rattle.journal.proofs.Places.{any_at, found_at}

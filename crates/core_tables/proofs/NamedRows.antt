@@ -17,7 +17,7 @@ use Rattle.escrow.specs.Escrow.{Escrow}
 use Rattle.key_state.specs.KeyStates.{are_same}
 use Rattle.key_state.specs.Same.{same_digest, same_prefix}
 use Rattle.key_state.proofs.Same.{number_itself, numbers, same_prefix_is}
-use Rattle.acceptance_laws.proofs.States.{same_digest_is}
+use Rattle.core_laws.proofs.States.{same_digest_is}
 use Rattle.journal.specs.declared.body.Body.{Body}
 use Rattle.journal.specs.declared.claim.Claim.{Claim}
 use Rattle.journal.specs.declared.entry.Entry.{Entry}

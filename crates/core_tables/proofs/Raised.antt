@@ -16,9 +16,9 @@ use Rattle.journal.proofs.Different.{Differ}
 use Rattle.journal.proofs.Places.{some_at}
 use Rattle.key_state.specs.Kept.{IsKept}
 use Rattle.key_state.specs.States.{State}
-use Rattle.raised_claims.specs.Came.{came_to}
-use Rattle.raised_claims.specs.Raised.{RaisesRows, RaisesSomeRows}
-use Rattle.raised_claims.proofs.Added.{raised_stays, some_of}
+use Rattle.core_tables.specs.EntryClaims.{came_to}
+use Rattle.core_tables.specs.RaisedRows.{RaisesRows, RaisesSomeRows}
+use Rattle.core_tables.proofs.Added.{raised_stays, some_of}
 use Rattle.core_tables.specs.declared.name.Name.{Name}
 use Rattle.core_tables.specs.Hints.{AreTold, IsPending}
 use Rattle.core_tables.specs.Names.{name_of}

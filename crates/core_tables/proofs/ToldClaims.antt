@@ -4,7 +4,7 @@ use Rattle.std.specs.Prelude.{Contains, flat_map, option_map, slice_get}
 use Rattle.std.specs.List.Sorted.{IsStrictlyIncreasing}
 use Rattle.std.specs.Cmp.Lexicographic.{bytes_decides}
 use Rattle.std.proofs.lemmas.Bool.{and_parts, cases_Bool, or_cases}
-use Rattle.acceptance_laws.proofs.States.{same_digest_is}
+use Rattle.core_laws.proofs.States.{same_digest_is}
 use Rattle.cesr_codes.specs.declared.key.Key.{Key}
 use Rattle.cesr_codes.specs.declared.sig.Sig.{Sig}
 use Rattle.event_body.specs.declared.event.Event.{Event}
@@ -20,7 +20,7 @@ use Rattle.journal.proofs.Different.{Differ}
 use Rattle.journal.proofs.Places.{one_body, one_place}
 use Rattle.key_state.specs.Same.{same_digest, same_prefix}
 use Rattle.key_state.proofs.Same.{number_itself, numbers, same_prefix_is}
-use Rattle.raised_claims.specs.Came.{came_to, is_receipt_of, stands_on}
+use Rattle.core_tables.specs.EntryClaims.{came_to, is_receipt_of, stands_on}
 use Rattle.core_tables.specs.Names.{name_of}
 use Rattle.core_tables.specs.Raised.{claims_at, claims_of}
 use Rattle.core_tables.proofs.GatheredLists.{flat_map-filter_map, flat_map-numbers}

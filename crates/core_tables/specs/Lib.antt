@@ -4,4 +4,6 @@ pub mod Hints
 pub mod Rows
 pub mod Raised
 pub mod Inside
-pub mod Came
+pub mod ClaimEntries
+pub mod EntryClaims
+pub mod RaisedRows

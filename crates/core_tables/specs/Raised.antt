@@ -4,10 +4,10 @@ use Rattle.std.specs.List.{list_all}
 use Rattle.event_body.specs.declared.event.Event.{Event}
 use Rattle.key_state.specs.Exposure.{own_rules}
 use Rattle.key_state.specs.States.{State}
-use Rattle.acceptance_laws.specs.Claimed.{rows_of}
+use Rattle.core_laws.specs.Claimed.{rows_of}
 use Rattle.claim_table.specs.declared.claimed.Claimed.{Claimed}
 use Rattle.claim_table.specs.Rows.{raised_all}
-use Rattle.claim_laws.specs.ClaimRows.{AreFound}
+use Rattle.core_laws.specs.ClaimRows.{AreFound}
 use Rattle.journal.specs.declared.body.Body.{Body}
 use Rattle.journal.specs.declared.claim.Claim.{Claim}
 use Rattle.journal.specs.declared.entry.Entry.{Entry}

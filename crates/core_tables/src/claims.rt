@@ -13,12 +13,12 @@ ghost use Rattle.journal.proofs.Different.{Differ};
 ghost use Rattle.key_state.specs.Kept.{IsKept};
 
 use crate::Tables;
+use crate::entry_claims::{claims_by, raise_claims_by, raise_entries};
 use crate::name::name_of;
 use accepted_log::AcceptedLog;
 use claim_table::Signature;
 use journal::Claim;
 use key_state::KeyState;
-use raised_claims::{claims_by, raise_came, raise_told};
 use std::alloc::AllocError;
 
 impl Tables {
@@ -48,7 +48,7 @@ impl Tables {
         ensures ok { OnOk result ((b : Body) → slice_get self.old.held number ≡ Some b → Raises number (state_there state self.old.log.states) b.event (claims_at self.old.held b (slice_get self.old.entries entry)) self.old self.new) }
         ensures err { OnErr result (RaisesSome number self.old self.new) }
     {
-        raise_came(
+        raise_claims_by(
             &mut self.claims,
             self.events.as_slice(),
             self.journal.entries.as_slice().get(entry as usize),
@@ -67,7 +67,7 @@ impl Tables {
         ensures err { OnErr result (RaisesSome number self.old self.new) }
     {
         let name = name_of(&self.events[number as usize]);
-        raise_told(
+        raise_entries(
             &mut self.claims,
             self.events.as_slice(),
             self.journal.entries.as_slice(),

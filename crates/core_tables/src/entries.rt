@@ -7,14 +7,14 @@ ghost use Rattle.journal.specs.Replies.{same_claim};
 ghost use Rattle.journal.specs.declared.body.Body.{Body};
 ghost use Rattle.journal.specs.declared.claim.Claim.{Claim as ClaimValue};
 ghost use Rattle.journal.specs.declared.entry.Entry.TheVariants.{Took, Heard};
-ghost use Rattle.core_tables.specs.Came.{came_at};
+ghost use Rattle.core_tables.specs.ClaimEntries.{came_at};
 ghost use Rattle.core_tables.specs.Hints.{KeepsBelow};
 ghost use Rattle.core_tables.specs.Names.{claim_key, name_of as name_of_event};
 ghost use Rattle.core_tables.specs.Rows.{has_claim};
 ghost use Rattle.core_tables.specs.View.{came_with};
 
 use crate::Tables;
-use crate::came::Came;
+use crate::claim_entries::ClaimEntries;
 use crate::name::{ClaimKey, Name, name_of};
 use event_body::Event;
 use event_index::Index;
@@ -136,7 +136,7 @@ fn is_came_by(entry: &Entry, sought: u32, claim: &Claim) -> bool
 // Adds the number of the entry that comes behind so many, under the name of its body's event and under each of its claims.
 fn note_took(
     told: &mut Index<Name>,
-    came: &mut Came,
+    came: &mut ClaimEntries,
     event: &Event,
     body: u32,
     claims: &[Claim],

@@ -2,13 +2,15 @@
 #![tactic(auto)]
 
 mod bodies;
-mod came;
+mod claim_entries;
 mod claims;
 mod entries;
+mod entry_claims;
 mod held;
 mod log;
 mod mark;
 mod name;
+mod raised_claims;
 mod tables;
 
 pub use mark::Mark;

@@ -4,7 +4,7 @@ ghost use Rattle.std.specs.Option.{option_copied, option_map};
 ghost use Rattle.core_tables.specs.Hints.{IsEscrow};
 ghost use Rattle.core_tables.specs.View.{nothing};
 
-use crate::came::Came;
+use crate::claim_entries::ClaimEntries;
 use crate::name::{Name, SealKey};
 use accepted_log::AcceptedLog;
 use claim_table::ClaimTable;
@@ -35,7 +35,7 @@ pub struct Tables {
     /// The numbers of the entries by which bodies with a name came.
     pub(crate) told: Index<Name>,
     /// The numbers of the entries by which a claim came with a body.
-    pub(crate) came: Came,
+    pub(crate) came: ClaimEntries,
     /// The places in the log of the events with a name.
     pub(crate) accepted: Index<Name>,
     /// The places in the log of the events that seal a name.
@@ -51,7 +51,7 @@ impl Model for Tables {
 
     ghost coded = { Prim.hlevel (codes, tree.the_row.coded) };
 
-    ghost use Rattle.core_tables.specs.Came.{came_at};
+    ghost use Rattle.core_tables.specs.ClaimEntries.{came_at};
     ghost use Rattle.core_tables.specs.Hints.{AreHinted, IsPending};
     ghost use Rattle.core_tables.specs.Inside.{are_paired, held_in, view_of};
     ghost use Rattle.event_index.specs.Keys.{numbers_at};
@@ -82,7 +82,7 @@ impl Tables {
             settled: 0,
             names: Index::new(alloc),
             told: Index::new(alloc),
-            came: Came::new(alloc),
+            came: ClaimEntries::new(alloc),
             accepted: Index::new(alloc),
             seals: Index::new(alloc),
         }

@@ -5,8 +5,8 @@ use Rattle.std.specs.List.{list_any, list_all}
 use Rattle.keri_specs.specs.Causes.{Rose}
 use Rattle.cesr_codes.specs.declared.key.Key.{Key}
 use Rattle.cesr_codes.specs.declared.sig.Sig.{Sig}
-use Rattle.source_text.specs.declared.text_close.TextClose.{TextClose}
-use Rattle.source_text.specs.declared.text_close.TextClose.TheVariants as text
+use Rattle.message_feed.specs.declared.text_close.TextClose.{TextClose}
+use Rattle.message_feed.specs.declared.text_close.TextClose.TheVariants as text
 use Rattle.plan_answer.specs.declared.answer.PlanAnswer.{PlanAnswer}
 use Rattle.plan_answer.specs.declared.answer.PlanAnswer.TheVariants.{Message, Refused, SignerFault}
 use Rattle.plan_answer.specs.Answers.{CountsFaults}

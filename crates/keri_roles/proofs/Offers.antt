@@ -28,7 +28,8 @@ use Rattle.journal.specs.Accepted.{accepted}
 use Rattle.journal.specs.History.{bodies}
 use Rattle.journal.specs.Journals.{told_by}
 use Rattle.journal.specs.Questions.{questions, raised}
-use Rattle.validator_core.specs.View.{CoreView, Follows, TakesMessage, base_of, told_of, open_of}
+use Rattle.validator_core.specs.MessageCalls.{TakesMessage}
+use Rattle.validator_core.specs.View.{CoreView, Follows, base_of, told_of, open_of}
 use Rattle.keri_roles.specs.declared.validator.Validator.{Validator}
 use Rattle.keri_roles.proofs.Questions.{asks_nothing, follows_itself, follows_on, no_bodies}
 use Rattle.run_status.specs.declared.close.Close.{Close}

@@ -9,9 +9,9 @@ use Rattle.run_outside.specs.Told.{making}
 use Rattle.run_outside.specs.declared.making.MakingKind.TheVariants.{Source as SourceKind, Verifier as VerifierKind, Signer as SignerKind}
 use Rattle.journal.specs.declared.body.Body.{Body}
 use Rattle.journal.specs.declared.mode.Mode.TheVariants.{Local}
-use Rattle.source_text.specs.declared.text_close.TextClose.{TextClose}
-use Rattle.source_text.specs.declared.text_close.TextClose.TheVariants as text
-use Rattle.source_text.specs.Texts.{ReadsText}
+use Rattle.message_feed.specs.declared.text_close.TextClose.{TextClose}
+use Rattle.message_feed.specs.declared.text_close.TextClose.TheVariants as text
+use Rattle.message_feed.specs.Texts.{ReadsText}
 use Rattle.plan_answer.specs.declared.answer.PlanAnswer.{PlanAnswer}
 use Rattle.plan_answer.specs.declared.answer.PlanAnswer.TheVariants.{Message, Refused, SignerFault}
 use Rattle.plan_answer.specs.Answers.{IsAnswer, CountsFaults}

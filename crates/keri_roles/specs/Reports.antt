@@ -3,7 +3,7 @@ use Rattle.std.specs.Prelude.{◌≡◌, ℕ, Bool, List, [], ◌++◌, flat_map
 use Rattle.journal.specs.declared.refusal.Refusal.{Refusal}
 use Rattle.report_lines.specs.Lines.{refused_text, malformed_text, read_fault_text, verifier_fault_text, full_text, memory_text}
 use Rattle.validator_core.specs.View.{CoreView}
-use Rattle.validator_report.specs.Report.{IsStandingText}
+use Rattle.report_lines.specs.Report.{IsStandingText}
 use Rattle.run_status.specs.declared.close.Close.{Close}
 use Rattle.run_status.specs.declared.close.Close.TheVariants.{End, Bad, ReadFault, VerifierFault, WriteFault, Malformed, Full, OutOfMemory}
 

@@ -6,10 +6,12 @@ ghost use Rattle.keri_roles.specs.Reports.{Reports, refused_lines, malformed_lin
 use crate::Close;
 use crate::core_text::CommandText;
 use journal::Refusal;
-use report_lines::{full_line, malformed_line, read_fault_line, refused_line, verifier_fault_line};
+use report_lines::{
+    CoreStanding, full_line, malformed_line, read_fault_line, refused_line, standing_of,
+    verifier_fault_line,
+};
 use std::alloc::{AllocError, Global};
 use validator_core::Core;
-use validator_report::{CoreStanding, standing_of};
 
 /// The report: what the reader refused, how the core stands, and what ended the reader. There is none where it ended for want
 /// of memory.

@@ -5,7 +5,7 @@ ghost use Rattle.keri_roles.specs.Made.{ReadsWhole, close_of as close_for};
 
 use crate::{Close, ReaderEnd};
 use keri_outside::{Source, Verifier};
-use source_text::{SourceText, TextClose, read_text};
+use message_feed::{SourceText, TextClose, read_text};
 use std::alloc::Global;
 
 /// A reader's end, and the text that it read.

@@ -5,9 +5,9 @@ use Rattle.journal.specs.declared.body.Body.{Body}
 use Rattle.journal.specs.declared.mode.Mode.{Mode}
 use Rattle.journal.specs.History.{Told}
 use Rattle.journal.specs.Readiness.{is_ready}
-use Rattle.acceptance_laws.specs.Candidates.{Widens, appends, ends, passes}
-use Rattle.acceptance_laws.specs.Looks.{IsFrugal, looks}
-use Rattle.acceptance_laws.specs.Waking.{wakes}
+use Rattle.core_laws.specs.Candidates.{Widens, appends, ends, passes}
+use Rattle.core_laws.specs.Looks.{IsFrugal, looks}
+use Rattle.core_laws.specs.Waking.{wakes}
 use Rattle.acceptance.specs.Settled.{RunsOver, TakesFew, counted_on, looks_in}
 use Rattle.settlement.specs.Settled.{LeadsTo}
 

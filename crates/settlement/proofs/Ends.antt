@@ -14,8 +14,8 @@ use Rattle.journal.specs.Readiness.{is_ready}
 use Rattle.journal.proofs.Accepting.{same_body-refl}
 use Rattle.journal.proofs.Places.{any_at}
 use Rattle.journal.proofs.Settling.{count-falls, ends_in, find-true, outside}
-use Rattle.acceptance_laws.proofs.Entries.{ready_waits}
-use Rattle.acceptance_laws.proofs.Members.{find_some}
+use Rattle.core_laws.proofs.Entries.{ready_waits}
+use Rattle.core_laws.proofs.Members.{find_some}
 use Rattle.core_tables.specs.View.{View, log_of}
 use Rattle.acceptance.specs.Settled.{IsSettled, KeepsTold, counted_on}
 use Rattle.acceptance.specs.Standing.{Extends, IsStanding, told_of}

@@ -7,3 +7,9 @@ pub mod Lasts
 pub mod Steps
 pub mod Turning
 pub mod Waking
+mod StandingClaims
+pub mod LoggedTables
+pub mod EachOnce
+mod ReceiptClaims
+mod EnteredClaims
+mod VerdictEntry

@@ -19,7 +19,7 @@ use Rattle.claim_table.specs.declared.row.Row.{Row}
 use Rattle.core_tables.specs.View.{View, log_of, with_log, with_rows}
 use Rattle.acceptance.specs.Standing.{Extends, IsStanding}
 use Rattle.acceptance.proofs.NewEvent.{log_then}
-use Rattle.told_entries.specs.Told.{IsLogged}
+use Rattle.settlement.specs.Entries.{IsLogged}
 use Rattle.journal.proofs.Keeping.{IsGrown-push}
 use Rattle.key_state.specs.KeyStates.{IsCauseIn, after, first, misfit, moved, ok_unless}
 use Rattle.key_state.specs.declared.state_fault.Misfit.{Misfit}

@@ -10,7 +10,7 @@ use Rattle.journal.specs.Logs.{precedes, predecessor, stands}
 use Rattle.journal.specs.Questions.{state_before}
 use Rattle.event_rules.specs.Parts.{Row as Found}
 use Rattle.claim_table.specs.Rows.{raised_all}
-use Rattle.claim_laws.specs.ClaimRows.{AreFound, HasClaims, found_on, verdict_in}
+use Rattle.core_laws.specs.ClaimRows.{AreFound, HasClaims, found_on, verdict_in}
 use Rattle.core_tables.specs.View.{View, log_of, with_log, with_rows}
 use Rattle.acceptance.specs.Standing.{Accepts, IsStanding, told_of}
 use Rattle.acceptance.specs.Turned.{turned}
@@ -21,7 +21,7 @@ use Rattle.acceptance.proofs.Taken.{found_by}
 use Rattle.acceptance.proofs.Turned.{turned_raised, turned_same}
 use Rattle.settlement.specs.Turning.{IsAppended, IsBehindLast, IsTurning}
 use Rattle.settlement.proofs.Lasts.{first_is_last, last_is_first}
-use Rattle.told_entries.specs.Told.{RaisesFound}
+use Rattle.settlement.specs.Entries.{RaisesFound}
 
 -- the predecessor is the first that precedes
 first_before : (log : List Body) (b : Body) → predecessor log b ≡ find (precedes b) log

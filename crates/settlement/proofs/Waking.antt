@@ -21,12 +21,12 @@ use Rattle.journal.specs.Seals.{delegator_of, is_delegated, seals}
 use Rattle.journal.proofs.Accepting.{same_body-refl}
 use Rattle.journal.proofs.Settling.{outside}
 use Rattle.key_state.proofs.Same.{numbers}
-use Rattle.acceptance_laws.specs.Waking.{holds_first_seal, is_anchored, is_there, is_waiting, may_wake, seals_first, wakes}
+use Rattle.core_laws.specs.Waking.{holds_first_seal, is_anchored, is_there, is_waiting, may_wake, seals_first, wakes}
 use Rattle.acceptance.specs.Standing.{IsStanding}
 use Rattle.acceptance.proofs.NewEvent.{precedes_some}
 use Rattle.core_tables.specs.Hints.{IsEscrow}
 use Rattle.core_tables.specs.View.{View, body_of, log_of, waiter_at, waiter_of}
-use Rattle.readiness.proofs.Bodies.{waits_is}
+use Rattle.acceptance.proofs.Bodies.{waits_is}
 use Rattle.settlement.specs.Awaited.{IsNextAt, is_awaited, is_awaited_there}
 
 -- a number that is chosen has its body among the chosen

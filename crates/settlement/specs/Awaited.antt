@@ -5,7 +5,7 @@ use Rattle.journal.specs.declared.body.Body.{Body}
 use Rattle.journal.specs.declared.mode.Mode.{Mode}
 use Rattle.journal.specs.Logs.{precedes}
 use Rattle.journal.specs.Readiness.{is_local}
-use Rattle.acceptance_laws.specs.Waking.{is_anchored, is_there, seals_first}
+use Rattle.core_laws.specs.Waking.{is_anchored, is_there, seals_first}
 use Rattle.core_tables.specs.View.{View, log_of}
 
 -- the event behind the list is right before the body or, where seals are waited for, holds its first seal

@@ -1,3 +1,4 @@
 pub mod Turning
 pub mod Settled
 pub mod Awaited
+pub mod Entries

@@ -6,8 +6,8 @@ use Rattle.journal.specs.declared.body.Body.{Body}
 use Rattle.journal.specs.declared.mode.Mode.{Mode}
 use Rattle.journal.specs.History.{Told}
 use Rattle.journal.specs.Readiness.{is_ready}
-use Rattle.acceptance_laws.specs.Candidates.{Widens}
-use Rattle.acceptance_laws.specs.Waking.{wakes}
+use Rattle.core_laws.specs.Candidates.{Widens}
+use Rattle.core_laws.specs.Waking.{wakes}
 use Rattle.core_tables.specs.View.{View, log_of}
 use Rattle.acceptance.specs.Settled.{KeepsTold, RunsOver, TakesFew, counted_on, looks_in}
 use Rattle.acceptance.specs.Standing.{IsStanding, told_of}

@@ -9,7 +9,7 @@ use Rattle.journal.specs.Logs.{precedes, state}
 use Rattle.journal.specs.Questions.{state_before}
 use Rattle.accepted_log.specs.Cuts.{IsLog}
 use Rattle.accepted_log.specs.Values.{Log}
-use Rattle.claim_laws.specs.ClaimRows.{HasClaims, found_on, verdict_in}
+use Rattle.core_laws.specs.ClaimRows.{HasClaims, found_on, verdict_in}
 use Rattle.core_tables.specs.View.{View, log_of, with_log, with_rows}
 use Rattle.acceptance.specs.Standing.{IsStanding, told_of}
 use Rattle.acceptance.specs.Turned.{turned}

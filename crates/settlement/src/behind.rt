@@ -7,12 +7,12 @@ ghost use Rattle.journal.specs.Logs.{precedes, predecessor};
 ghost use Rattle.core_tables.specs.View.{View, log_of, with_rows};
 ghost use Rattle.acceptance.specs.Standing.{Extends, IsStanding};
 ghost use Rattle.settlement.specs.Turning.{IsBehindLast, IsTurning};
-ghost use Rattle.told_entries.specs.Told.{IsLogged};
+ghost use Rattle.settlement.specs.Entries.{IsLogged};
 
+use crate::standing_claims::raise_if_standing;
 use core_tables::Tables;
 use event_body::said_of_event;
 use std::alloc::{AllocError, Global};
-use told_entries::raise_all;
 
 /// The numbers of the events that wait for one with the digest of this event, rising.
 pub(crate) fn numbers_behind(
@@ -62,7 +62,7 @@ fn raise_new(tables: &mut Tables, number: u32) -> Result<(), AllocError>
     ensures extends { Extends tables.old tables.new }
 {
     if is_behind_last(tables, number) {
-        raise_all(tables, number)
+        raise_if_standing(tables, number)
     } else {
         Ok(())
     }

@@ -11,10 +11,10 @@ ghost use Rattle.settlement.specs.Settled.{AcceptsNext, IsNext, IsOver, IsReadyA
 
 use crate::log_end::accept;
 use crate::woken::{add_due, numbers_woken};
+use acceptance::is_ready;
 use core_tables::Tables;
 use journal::Mode;
 use keri_outside::Steps;
-use readiness::is_ready;
 use std::alloc::{AllocError, Global};
 use std::collections::BTreeSet;
 

@@ -2,7 +2,7 @@
 ghost use Rattle.std.specs.Prelude.{◌≡◌, ◌&&◌, ℕ, List, not, slice_get};
 ghost use Rattle.core_tables.specs.View.{body_of, log_of};
 ghost use Rattle.acceptance.specs.Standing.{IsStanding};
-ghost use Rattle.acceptance_laws.specs.Waking as waking;
+ghost use Rattle.core_laws.specs.Waking as waking;
 ghost use Rattle.event_body.specs.Events as events;
 ghost use Rattle.journal.specs.Logs as logs;
 ghost use Rattle.journal.specs.Readiness as readiness;

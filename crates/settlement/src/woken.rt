@@ -3,7 +3,7 @@ ghost use Rattle.std.specs.Prelude.{◌≡◌, ◌==◌, ◌&&◌, ◌⊎◌, �
 ghost use Rattle.std.specs.List.{list_any};
 ghost use Rattle.std.specs.List.Sorted.{IsStrictlySortedBy};
 ghost use Rattle.std.specs.Ordering.{nat_cmp};
-ghost use Rattle.acceptance_laws.specs.Waking.{is_anchored, is_there as is_all_there, is_waiting, may_wake};
+ghost use Rattle.core_laws.specs.Waking.{is_anchored, is_there as is_all_there, is_waiting, may_wake};
 ghost use Rattle.event_backing.specs.EventSeals.{IsEventSeal, holds_seal};
 ghost use Rattle.event_backing.specs.declared.event_seal.EventSeal.{EventSeal as EventSealValue};
 ghost use Rattle.escrow.specs.Escrow.{Waits};
@@ -14,12 +14,12 @@ ghost use Rattle.settlement.specs.Awaited.{IsNextAt, is_awaited_there};
 
 use crate::behind::copied;
 use crate::wait_target::is_awaited_at;
+use acceptance::is_there;
 use core_tables::Tables;
 use escrow::Waiting;
 use event_backing::{EventSeal, sealed_by_parts, seals};
 use event_body::{Event, said_of_event};
 use journal::Mode;
-use readiness::is_there;
 use std::alloc::{AllocError, Global};
 use std::collections::BTreeSet;
 

@@ -1,8 +1,11 @@
--- A core may go to another thread.
+-- A core may go to another thread, as its tables may.
 use denote.Param.Send.{IsSend, sendable}
 use denote.Param.SendFields.{declared_send}
 use Rattle.std.specs.contracts.alloc.Global as global
-use Rattle.event_core.proofs.Crosses as events
+use Rattle.keri_outside.proofs.limits.Limits.TheSendSync as limits
+use Rattle.journal.proofs.mode.Mode.TheSendSync as mode
+use Rattle.core_tables.proofs.Crosses.{tables_send}
+use Rattle.validator_core.proofs.tally.Tally.TheSendSync as tally
 use Rattle.validator_core.specs.contracts.validator.Core as row
 use Rattle.validator_core.specs.contracts.validator.Core.TheInside as inside
 
@@ -11,5 +14,5 @@ global_send = search sendable depth 20
 
 pub core_send : IsSend row.the_row
 core_send =
-    let whole : IsSend inside.the_row = declared_send inside.the_type (global_send, (events.core_send, tt)) in
+    let whole : IsSend inside.the_row = declared_send inside.the_type (global_send, (mode.the_send, (limits.the_send, (search sendable, (tables_send, (tally.the_send, tt)))))) in
     search sendable depth 4

@@ -1,10 +1,20 @@
-//! A validator's core: what it accepts of what it is told, and what it asks.
+//! A validator's core: it judges messages, and says of what it was told what is accepted, asked, live and in conflict, and why
+//! events wait.
 #![tactic(auto)]
 
+mod accepted_events;
+mod base;
 mod claims;
 mod crossing;
 mod judgement;
+mod messages;
+mod open_questions;
+mod signatures;
+mod taken_bodies;
+mod tally;
 mod validator;
+mod views;
+mod whole_entries;
 
 pub use claims::claims_of;
 pub use crossing::core_is_send;

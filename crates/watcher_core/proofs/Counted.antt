@@ -17,7 +17,8 @@ use Rattle.journal.specs.Logs.{stands}
 use Rattle.journal.specs.declared.conflict.Conflict.{Conflict}
 use Rattle.journal.specs.declared.body.Body.{Body}
 use Rattle.journal.proofs.Apart.{flat_map-All}
-use Rattle.validator_core.specs.View.{CoreView, IsHeld, Stands, accepted_by, base_of, told_of}
+use Rattle.validator_core.specs.View.{CoreView, Stands, accepted_by, base_of, told_of}
+use Rattle.acceptance.specs.Standing.{IsHeld}
 use Rattle.watcher_core.specs.Evidence.{items_of, items_of_sets, placed_from, signatures_of}
 use Rattle.watcher_core.specs.Named.{PutsBodies, firsts_on, text_on}
 use Rattle.watcher_core.proofs.Texts.{flat_map-flat_map}

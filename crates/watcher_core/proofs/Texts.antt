@@ -13,7 +13,8 @@ use Rattle.journal.specs.Journals.{chosen}
 use Rattle.journal.specs.Replies.{same_indexed}
 use Rattle.journal.proofs.Locality.{flat_map-push}
 use Rattle.key_state.specs.Same.{distinct}
-use Rattle.validator_core.specs.View.{CoreView, good_on}
+use Rattle.validator_core.specs.View.{CoreView}
+use Rattle.validator_core.specs.Signatures.{good_on}
 use Rattle.watcher_core.specs.Evidence.{items_with, message_of, parts_of}
 use Rattle.watcher_core.specs.Named.{PutsBodies, PutsBody, firsts_on, text_on}
 

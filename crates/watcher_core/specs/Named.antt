@@ -6,7 +6,8 @@ use Rattle.cesr_stream.specs.Written.{item_text}
 use Rattle.key_state.specs.Same.{distinct}
 use Rattle.journal.specs.Replies.{same_indexed}
 use Rattle.journal.specs.declared.body.Body.{Body}
-use Rattle.validator_core.specs.View.{CoreView, good_on}
+use Rattle.validator_core.specs.View.{CoreView}
+use Rattle.validator_core.specs.Signatures.{good_on}
 use Rattle.watcher_core.specs.Evidence.{items_with}
 
 -- the good signatures that the core answers, each at its first coming

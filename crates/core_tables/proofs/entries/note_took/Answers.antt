@@ -3,7 +3,7 @@ use Rattle.std.specs.Prelude.{Contains}
 use Rattle.std.specs.Result.{OnOk}
 use Rattle.event_index.specs.Keys.{numbers_at}
 use Rattle.journal.specs.declared.claim.Claim.{Claim}
-use Rattle.core_tables.specs.Came.{came_at}
+use Rattle.core_tables.specs.ClaimEntries.{came_at}
 use Rattle.core_tables.specs.Hints.{KeepsBelow}
 use Rattle.core_tables.specs.Names.{claim_key}
 use Rattle.core_tables.proofs.AddedNumbers.{on_ok}

@@ -4,8 +4,8 @@ use Rattle.core_tables.specs.View.{View}
 use Rattle.acceptance.proofs.Rewound.{extends_then}
 use Rattle.settlement.specs.Turning.{IsTurning}
 use Rattle.settlement.proofs.Lasts.{got_contained}
-use Rattle.told_entries.proofs.Logged.{extends_logged, logged_rows, rows_then}
-use Rattle.told_entries.proofs.Once.{once}
+use Rattle.settlement.proofs.LoggedTables.{extends_logged, logged_rows, rows_then}
+use Rattle.settlement.proofs.EachOnce.{once}
 use Rattle.settlement.proofs.behind.raise_behind.Goals as goal
 
 pub loop-number-init : goal.loop-number-init

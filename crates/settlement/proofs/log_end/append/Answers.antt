@@ -9,7 +9,7 @@ use Rattle.journal.specs.declared.body.Body.{Body}
 use Rattle.settlement.specs.Turning.{MakesState}
 use Rattle.settlement.proofs.Events.{if_none_at, if_some_at, on_ok_both}
 use Rattle.settlement.proofs.Steps.{appended_interaction, appended_state, extends_log, has_room}
-use Rattle.told_entries.proofs.Logged.{whichever}
+use Rattle.settlement.proofs.LoggedTables.{whichever}
 use Rattle.settlement.proofs.log_end.append.Goals as goal
 
 pub establish-requires-clause-made : goal.establish-requires-clause-made

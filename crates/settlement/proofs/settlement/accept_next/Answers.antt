@@ -3,7 +3,7 @@ use Rattle.std.specs.Prelude.{Contains, slice_get}
 use Rattle.std.proofs.lemmas.Bool.{and_from, and_parts}
 use Rattle.journal.proofs.Places.{some_at}
 use Rattle.acceptance.specs.Standing.{told_of}
-use Rattle.acceptance_laws.specs.Waking.{is_anchored, is_there, is_waiting, may_wake, wakes}
+use Rattle.core_laws.specs.Waking.{is_anchored, is_there, is_waiting, may_wake, wakes}
 use Rattle.core_tables.specs.View.{log_of}
 use Rattle.settlement.proofs.Events.{on_ok_both}
 use Rattle.settlement.proofs.Few.{few}

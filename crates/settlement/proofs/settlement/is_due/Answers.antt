@@ -4,7 +4,7 @@ use Rattle.std.proofs.lemmas.Bool.{cases_Bool}
 use Rattle.journal.proofs.Places.{some_at}
 use Rattle.journal.specs.Readiness.{is_ready}
 use Rattle.acceptance.specs.Standing.{told_of}
-use Rattle.acceptance_laws.proofs.Entries.{ready_waits}
+use Rattle.core_laws.proofs.Entries.{ready_waits}
 use Rattle.core_tables.specs.View.{log_of}
 use Rattle.settlement.proofs.Events.{looked_some, looked_none, waits_held}
 use Rattle.settlement.proofs.Waking.{waits_there}

@@ -1,5 +1,5 @@
 use Rattle.std.proofs.Common.{◌&&◌, ◌∙◌, ap}
-use Rattle.acceptance_laws.specs.Waking.{holds_first_seal}
+use Rattle.core_laws.specs.Waking.{holds_first_seal}
 use Rattle.event_body.specs.Events.{prefix_of}
 use Rattle.journal.specs.Logs.{state}
 use Rattle.journal.specs.Seals.{delegator_of}

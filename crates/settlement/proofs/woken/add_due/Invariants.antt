@@ -2,7 +2,7 @@ use Rattle.std.proofs.Common.{◌≡◌, ◌⊎◌, ℕ, true, ◌&&◌, Some, t
 use Rattle.std.specs.Prelude.{Contains, slice_get}
 use Rattle.std.specs.List.Sorted.{IsStrictlySortedBy}
 use Rattle.std.specs.Ordering.{nat_cmp}
-use Rattle.acceptance_laws.specs.Waking.{is_anchored, is_there, is_waiting}
+use Rattle.core_laws.specs.Waking.{is_anchored, is_there, is_waiting}
 use Rattle.journal.specs.declared.body.Body.{Body}
 use Rattle.core_tables.specs.View.{log_of}
 use Rattle.settlement.specs.Awaited.{IsNextAt}

@@ -1,6 +1,6 @@
 use Rattle.std.proofs.Common.{◌≡◌, Bool, true, false, sym, ◌∙◌, subst, inl, inr}
 use Rattle.std.specs.Prelude.{Contains}
-use Rattle.acceptance_laws.specs.Waking.{is_anchored, is_there}
+use Rattle.core_laws.specs.Waking.{is_anchored, is_there}
 use Rattle.core_tables.specs.View.{log_of}
 use Rattle.settlement.specs.Awaited.{IsNextAt}
 use Rattle.settlement.proofs.Waking.{due_is}

@@ -2,7 +2,7 @@ use Rattle.std.proofs.Common.{◌≡◌, ℕ, true, sym, ◌∙◌, subst}
 use Rattle.std.specs.Prelude.{Contains, slice_get}
 use Rattle.std.proofs.lemmas.Bool.{and_parts}
 use Rattle.event_index.proofs.Orders.{Contains-filter}
-use Rattle.acceptance_laws.specs.Waking.{is_waiting}
+use Rattle.core_laws.specs.Waking.{is_waiting}
 use Rattle.core_tables.specs.View.{log_of}
 use Rattle.settlement.specs.Awaited.{is_awaited_there}
 use Rattle.settlement.proofs.Events.{if_ok_then}

@@ -1,8 +1,8 @@
 use Rattle.std.proofs.Common.{◌∙◌, ap}
 use Rattle.std.specs.Option.{option_copied}
 use Rattle.std.specs.Prelude.{slice_get}
-use Rattle.raised_claims.specs.Came.{came_to}
-use Rattle.raised_claims.proofs.Places.{got}
+use Rattle.core_tables.specs.EntryClaims.{came_to}
+use Rattle.core_tables.proofs.Places.{got}
 use Rattle.core_tables.specs.Inside.{view_of}
 use Rattle.core_tables.proofs.Pairs.{event_at}
 use Rattle.core_tables.proofs.Raised.{came_there}

@@ -2,7 +2,7 @@ use Rattle.std.proofs.Common.{◌<◌, arith, length, refl, subst, sym}
 use Rattle.std.specs.Prelude.{Contains}
 use Rattle.event_index.specs.Keys.{numbers_at}
 use Rattle.journal.proofs.Places.{some_at}
-use Rattle.core_tables.specs.Came.{came_at}
+use Rattle.core_tables.specs.ClaimEntries.{came_at}
 use Rattle.core_tables.specs.Hints.{KeepsBelow}
 use Rattle.core_tables.specs.Inside.{held_in, view_of}
 use Rattle.core_tables.specs.Names.{claim_key, name_of}

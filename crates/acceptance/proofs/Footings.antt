@@ -1,0 +1,30 @@
+-- What the footing of an event says of it.
+use Rattle.std.proofs.Common.{◌≡◌, ℕ, false, List, Option, Some, None, is_some, refl, sym, ◌∙◌, ap, subst, inl, inr}
+use Rattle.std.specs.Prelude.{IfNone, IfSome}
+use Rattle.event_body.specs.Events.{prefix_of}
+use Rattle.journal.specs.declared.body.Body.{Body}
+use Rattle.journal.specs.Logs.{stands, state}
+use Rattle.journal.specs.Questions.{state_before}
+use Rattle.core_laws.specs.Standing.{AreAlikeIf}
+use Rattle.accepted_log.specs.Cuts.{IsLog, cut}
+use Rattle.accepted_log.specs.Values.{Log, last_place, state_there}
+use Rattle.acceptance.specs.Footing.{IsFooting}
+use Rattle.acceptance.specs.declared.footing.Footing.{Footing}
+use Rattle.acceptance.specs.declared.footing.Footing.TheVariants.{Inception, Behind}
+use Rattle.acceptance.specs.Current.{IsOnCurrent}
+
+module _ (log : List Body) (v : Log) (b : Body) where
+  pub stands_if : (o : Option Footing) → IfNone o (stands log b ≡ false) → IfSome o (λ on. IsFooting log v b on) → is_some o ≡ stands log b
+  stands_if None none some = sym none
+  stands_if (Some on) none some = sym some.up
+
+  pub first_on : (on : Footing) → on ≡ Inception → IsFooting log v b on → IsOnCurrent log b
+  first_on on is footing = let f = subst (IsFooting log v b) is footing in record { up = f.up; is = inl f.is }
+
+  pub behind_on : IsLog log v → (on : Footing) (place : ℕ) → on ≡ Behind place → IsFooting log v b on → last_place (prefix_of b.event) v.states ≡ Some place → IsOnCurrent log b
+  behind_on are on place is footing last =
+      let f = subst (IsFooting log v b) is footing in
+      let now : state log (prefix_of b.event) ≡ Some f.is.state = sym (are.current (prefix_of b.event)) ∙ ap (state_there v.states) last ∙ f.is.at in
+      let alike : AreAlikeIf (state_before log b) (state log (prefix_of b.event)) =
+      subst (λ o. AreAlikeIf o (state log (prefix_of b.event))) (sym f.is.before) (subst (λ o. AreAlikeIf (Some (cut f.is.sn f.is.state)) o) (sym now) refl) in
+      record { up = f.up; is = inr alike }

@@ -1,0 +1,12 @@
+use Rattle.std.proofs.Common.{◌∙◌, sym}
+use Rattle.core_tables.specs.View.{body_of, log_of}
+use Rattle.acceptance.proofs.Footings.{behind_on, first_on}
+use Rattle.acceptance.proofs.base_state.is_on_current.Goals as goal
+
+pub returns-in-Some-Inception : goal.returns-in-Some-Inception
+returns-in-Some-Inception c = λ bytes yes_is. first_on (log_of c.args.tables.now) c.args.tables.now.log (body_of bytes c.args.event.now) c.in-Some-Inception.field-0 c.in-Some-Inception.field-0-is (c.in-Some-Inception.ensures.some bytes)
+
+pub returns-in-Some-Behind : goal.returns-in-Some-Behind
+returns-in-Some-Behind c = λ bytes yes_is.
+    let last = sym c.requires.last ∙ c.is_place.ensures yes_is in
+    behind_on (log_of c.args.tables.now) c.args.tables.now.log (body_of bytes c.args.event.now) c.requires.standing.log c.in-Some-Behind.field-0 c.in-Some-Behind.place c.in-Some-Behind.field-0-is (c.in-Some-Behind.ensures.some bytes) last

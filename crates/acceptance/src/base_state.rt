@@ -1,0 +1,79 @@
+//! Whether an event stands, and on which state.
+ghost use Rattle.std.specs.Prelude.{◌≡◌, ℕ, List, true, Some, is_some, slice_get};
+ghost use Rattle.std.specs.Option.{option_copied};
+ghost use Rattle.acceptance.specs.Standing.{IsStanding};
+ghost use Rattle.accepted_log.specs.Values.{last_place};
+ghost use Rattle.core_tables.specs.View.{body_of, log_of};
+ghost use Rattle.core_laws.specs.Waking as waking;
+ghost use Rattle.event_body.specs.Events as events;
+ghost use Rattle.journal.specs.Logs as logs;
+ghost use Rattle.acceptance.specs.Current.{IsOnCurrent, state_on};
+
+use crate::{Footing, footing_of};
+use core_tables::Tables;
+use event_body::{Event, is_receipt};
+use event_rules::is_inception;
+use key_state::KeyState;
+
+/// Whether the event stands.
+pub(crate) fn stands(tables: &Tables, event: &Event) -> bool
+    requires { IsStanding tables.now }
+    ensures { (bytes : List ℕ) → result ≡ logs.stands (log_of tables.now) (body_of bytes event.now) }
+{
+    footing_of(tables, event).is_some()
+}
+
+/// Whether the event stands on the current state of its identifier, which is at the place, or is an inception.
+pub(crate) fn is_on_current(tables: &Tables, event: &Event, current: Option<u32>) -> bool
+    requires standing { IsStanding tables.now }
+    requires last { current ≡ last_place (events.prefix_of event.now) tables.now.log.states }
+    ensures { (bytes : List ℕ) → result ≡ true → IsOnCurrent (log_of tables.now) (body_of bytes event.now) }
+{
+    match footing_of(tables, event) {
+        Some(Footing::Inception) => true,
+        Some(Footing::Behind(place)) => is_place(current, place),
+        None => false,
+    }
+}
+
+// Whether it is this place.
+fn is_place(current: Option<u32>, place: u32) -> bool
+    ensures { result ≡ true → current ≡ Some place }
+{
+    match current {
+        Some(last) => last == place,
+        None => false,
+    }
+}
+
+/// The state that an event stands on, with live events that may come after those that it follows.
+pub(crate) fn footing_state(tables: &Tables, footing: Footing) -> Option<&KeyState>
+    ensures { option_copied result ≡ state_on tables.now.log.states footing }
+{
+    match footing {
+        Footing::Inception => None,
+        Footing::Behind(place) => tables.log().state(place),
+    }
+}
+
+/// Whether it is an inception, or the event before it is accepted.
+pub(crate) fn is_behind_some(tables: &Tables, event: &Event) -> bool
+    ensures { (bytes : List ℕ) → result ≡ waking.is_there (log_of tables.now) (body_of bytes event.now) }
+{
+    is_inception(event) || follows_some(tables, event)
+}
+
+/// Whether the event before it is accepted.
+pub(crate) fn follows_some(tables: &Tables, event: &Event) -> bool
+    ensures { (bytes : List ℕ) → result ≡ is_some (logs.predecessor (log_of tables.now) (body_of bytes event.now)) }
+{
+    tables.predecessor(event).is_some()
+}
+
+/// Whether the event of the body of a number isn't accepted.
+pub(crate) fn is_waiting(tables: &Tables, number: u32, event: &Event) -> bool
+    requires { IsStanding tables.now }
+    ensures { (bytes : List ℕ) → slice_get tables.now.held number ≡ Some (body_of bytes event.now) → result ≡ waking.is_waiting (log_of tables.now) (body_of bytes event.now) }
+{
+    !is_receipt(event) && !tables.is_accepted(number)
+}

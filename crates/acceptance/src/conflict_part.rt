@@ -1,0 +1,38 @@
+//! Whether an event counts where conflicts are looked for.
+ghost use Rattle.std.specs.Prelude.{◌≡◌, Some, slice_get};
+ghost use Rattle.acceptance.specs.Standing.{IsStanding, told_of};
+ghost use Rattle.core_tables.specs.View.{log_of};
+ghost use Rattle.journal.specs.Conflicts as conflicts;
+ghost use Rattle.journal.specs.declared.body.Body.{Body};
+
+use crate::base_state::footing_state;
+use crate::current::{event_of, is_state};
+use crate::footing_of;
+use crate::row_support::RowSupport;
+use core_tables::Tables;
+use event_body::is_receipt;
+use event_rules::{meets_before, meets_own};
+
+/// Whether the event of a number stands and is signed under the state that it follows: then it may conflict with others. It
+/// takes no memory.
+pub fn counts(tables: &Tables, number: u32) -> bool
+    requires { IsStanding tables.now }
+    ensures { (b : Body) → slice_get tables.now.held number ≡ Some b → result ≡ conflicts.counts (told_of tables.now) (log_of tables.now) b }
+{
+    let Some(event) = event_of(tables, number) else {
+        return false;
+    };
+    if is_receipt(event) {
+        return false;
+    }
+    let Some(footing) = footing_of(tables, event) else {
+        return false;
+    };
+    let state = footing_state(tables, footing);
+    is_state(state);
+    let rows = RowSupport {
+        claims: tables.claims(),
+        number,
+    };
+    meets_own(&rows, state, event) && meets_before(&rows, state, event)
+}

@@ -1,0 +1,24 @@
+//! Whether what an event waits for in the log is there.
+ghost use Rattle.std.specs.Prelude.{◌≡◌, ◌&&◌, Some, slice_get};
+ghost use Rattle.acceptance.specs.Standing.{IsStanding};
+ghost use Rattle.core_laws.specs.Waking as waking;
+ghost use Rattle.core_tables.specs.View.{log_of};
+ghost use Rattle.journal.specs.declared.body.Body.{Body};
+
+use crate::base_state::is_behind_some;
+use crate::current::{event_of, state_of};
+use crate::seals::is_seal_there;
+use core_tables::Tables;
+use journal::Mode;
+
+/// Whether what the event of a number waits for in the log is there: the event before it and, in `Full` mode, its seal. It
+/// takes no memory.
+pub fn is_there(tables: &Tables, mode: Mode, number: u32) -> bool
+    requires { IsStanding tables.now }
+    ensures { (b : Body) → slice_get tables.now.held number ≡ Some b → result ≡ (waking.is_there (log_of tables.now) b && waking.is_anchored mode (log_of tables.now) b) }
+{
+    let Some(event) = event_of(tables, number) else {
+        return false;
+    };
+    is_behind_some(tables, event) && is_seal_there(tables, mode, state_of(tables, event), event)
+}

@@ -1,0 +1,89 @@
+//! What is wanting in an event that the current state of its identifier takes.
+ghost use Rattle.std.specs.Prelude.{◌≡◌, ◌<◌, ℕ, List, true, length, slice_get, Some};
+ghost use Rattle.std.specs.Option.{option_copied};
+ghost use Rattle.acceptance.specs.Standing.{IsStanding, told_of};
+ghost use Rattle.accepted_log.specs.Values.{last_place};
+ghost use Rattle.core_tables.specs.View.{body_of, log_of};
+ghost use Rattle.event_body.specs.Events as events;
+ghost use Rattle.journal.specs.Logs as logs;
+ghost use Rattle.journal.specs.Seals as seals;
+ghost use Rattle.key_state.specs.Kept.{IsKept};
+ghost use Rattle.acceptance.specs.Wants as specs;
+
+use crate::base_state::is_on_current;
+use crate::current::{CurrentState, is_state};
+use crate::entry_support::EntrySupport;
+use crate::row_support::RowSupport;
+use crate::seals::{is_anchored, is_local};
+use core_tables::{Tables, name_of};
+use event_body::Event;
+use event_rules::{Support, is_backed, meets_before, meets_own};
+use journal::{Mode, Why};
+use key_state::KeyState;
+
+/// The first that is wanting in the event of a number, which the current state of its identifier takes. Mostly the event
+/// stands on that state, and what it adds up to is kept; where digests collide its claims are gone over.
+pub(crate) fn wanting(
+    tables: &Tables,
+    mode: Mode,
+    number: u32,
+    current: CurrentState,
+    event: &Event,
+) -> Option<Why>
+    requires standing { IsStanding tables.now }
+    requires last { current.place ≡ last_place (events.prefix_of event.now) tables.now.log.states }
+    requires kept { IsKept event.now }
+    requires held { number < length tables.now.held }
+    ensures { (bytes : List ℕ) → slice_get tables.now.held number ≡ Some (body_of bytes event.now)
+        → option_copied current.entry.state ≡ logs.state (log_of tables.now) (events.prefix_of event.now)
+        → logs.takes (option_copied current.entry.state) event.now ≡ true
+        → result ≡ specs.wants mode (told_of tables.now) (log_of tables.now) (option_copied current.entry.state) (body_of bytes event.now) }
+{
+    let state = current.state;
+    is_state(state);
+    if is_on_current(tables, event, current.place) {
+        let rows = RowSupport {
+            claims: tables.claims(),
+            number,
+        };
+        return wanting_by(tables, mode, &rows, state, event);
+    }
+    let entries = EntrySupport {
+        tables,
+        entries: tables.told(&name_of(event)),
+        number,
+        state,
+        event,
+    };
+    wanting_by(tables, mode, &entries, state, event)
+}
+
+// The first that is wanting, by what supports the event.
+fn wanting_by<S: Support>(
+    tables: &Tables,
+    mode: Mode,
+    support: &S,
+    state: Option<&KeyState>,
+    event: &Event,
+) -> Option<Why>
+    requires standing { IsStanding tables.now }
+    requires kept { IsKept event.now }
+    ensures { result ≡ specs.wants_by mode (S.has support.now) (option_copied state.entry) event.now (seals.anchored (log_of tables.now) (option_copied state.entry) event.now) }
+{
+    if !meets_own(support, state, event) {
+        return Some(Why::Signatures);
+    }
+    if !meets_before(support, state, event) {
+        return Some(Why::Next);
+    }
+    if is_local(mode) {
+        return None;
+    }
+    if !is_backed(support, state, event) {
+        return Some(Why::Receipts);
+    }
+    if !is_anchored(tables, state, event) {
+        return Some(Why::Seal);
+    }
+    None
+}

@@ -1,0 +1,84 @@
+-- The state that an event follows is alike to the current state of its identifier, where that takes it.
+use Rattle.std.proofs.Common.{◌≡◌, ◌+◌, ◌-◌, true, false, not, ◌&&◌, ◌==◌, List, [], ◌∷◌, ◌++◌, Option, Some, None, Contains, refl, sym, ◌∙◌, ap, subst, arith, eq-eqb}
+use Rattle.std.specs.Prelude.{bytes_eq}
+use Rattle.std.specs.Cmp.Lexicographic.{bytes_decides}
+use Rattle.std.proofs.lemmas.Bool.{and_parts, and_from, or_parts, not-true, not-false, eqb-true}
+use Rattle.cesr_codes.specs.declared.prefix.Prefix.{Prefix}
+use Rattle.event_body.specs.Events.{prefix_of, sn_of, said_of, prior_of, is_inception, is_receipt}
+use Rattle.key_state.specs.KeyStates.{digest_at, misfit, are_same}
+use Rattle.key_state.specs.Same.{same_digest}
+use Rattle.key_state.specs.States.{State}
+use Rattle.key_state.proofs.Same.{same_prefix_is}
+use Rattle.journal.specs.declared.body.Body.{Body}
+use Rattle.journal.specs.Grown.{IsGrown, fits}
+use Rattle.journal.specs.Logs.{is_in, is_of, same_body, state, takes, precedes, predecessor, state_behind, up_to}
+use Rattle.journal.specs.History.{Told}
+use Rattle.journal.specs.Questions.{state_before}
+use Rattle.journal.proofs.Settling.{find-true}
+use Rattle.core_laws.proofs.Members.{find_contains, find_some, member_any}
+use Rattle.key_state.proofs.NoMisfit.{fits_sn, fits_prior}
+use Rattle.core_laws.specs.Standing.{AreAlikeIf, HasNoClash, CurrentLaw, StandingReadyLaw, InceptionReadyLaw}
+use Rattle.event_rules.specs.Parts.{Part, supports}
+use Rattle.core_laws.proofs.Adding.{alike_same, inception_same}
+use Rattle.core_laws.proofs.Enough.{ready_is}
+use Rattle.core_laws.proofs.States.{AllStand, StandIf, all_stand, are_same-some, inside_of, none_is, same_digest_is, same_itself, sn_positive}
+
+-- the list up to an event, by its bytes
+up_to_there : (front : List Body) (x y : Body) (later : List Body) → x.bytes ≡ y.bytes → is_in front x ≡ false → up_to y (front ++ x ∷ later) ≡ front ++ x ∷ []
+unfolding up_to
+up_to_there [] x y later e outside = let here = (bytes_decides x.bytes y.bytes).1 e in rw here refl
+up_to_there (c ∷ front) x y later e outside =
+    let parts = or_parts (same_body c x) (is_in front x) outside in
+    let other : same_body c y ≡ false = ap (bytes_eq c.bytes) (sym e) ∙ parts.0 in
+    let ih = up_to_there front x y later e parts.1 in
+    rw (other, ih) refl
+
+module _ (log : List Body) (b : Body) (grown : IsGrown log) (clash : HasNoClash log) (i : is_inception b.event ≡ false) (r : is_receipt b.event ≡ false) where
+  abbrev own : Prefix
+  own = prefix_of b.event
+
+  behind_it : (s : State) → AllStand own log s → takes (Some s) b.event ≡ true → AreAlikeIf (state_before log b) (Some s)
+  unfolding fits predecessor
+  behind_it s stand h =
+      let fits = none_is (misfit s b.event) h in
+      let positive = sn_positive s b.event (fits_sn s b.event fits) i r in
+      let prior = are_same-some (prior_of b.event) (digest_at s (sn_of b.event - 1)) (not-false _ (fits_prior s b.event fits)) in
+      let d = prior.0 in
+      let x = stand.each (sn_of b.event - 1) d prior.2 in
+      let x_sn = x.sn in
+      let inside : Contains log x.body = inside_of x in
+      let same : are_same (prior_of b.event) (Some (said_of x.body.event)) ≡ true = ap (λ o. are_same o (Some (said_of x.body.event))) prior.1 ∙ ap (same_digest d) x.said ∙ same_itself d in
+      let before : precedes b x.body ≡ true = and_from _ _ (and_from _ _ x.of (eq-eqb (sn_of x.body.event + 1) (sn_of b.event) (omega (arith, x_sn, positive)))) same in
+      let (y, e) = find_some (precedes b) log (member_any (precedes b) log x.body inside before) in
+      let passes = find-true (precedes b) log y e in
+      let parts = and_parts (is_of own y && (sn_of y.event + 1 == sn_of b.event)) (are_same (prior_of b.event) (Some (said_of y.event))) passes in
+      let first = and_parts (is_of own y) (sn_of y.event + 1 == sn_of b.event) parts.0 in
+      let y_sn = eqb-true (sn_of y.event + 1) (sn_of b.event) first.1 in
+      let y_said : d ≡ said_of y.event = same_digest_is d (said_of y.event) (ap (λ o. are_same o (Some (said_of y.event))) (sym prior.1) ∙ parts.1) in
+      let y_prefix : prefix_of y.event ≡ own = same_prefix_is (prefix_of y.event) own first.0 in
+      let x_prefix : prefix_of x.body.event ≡ own = same_prefix_is (prefix_of x.body.event) own x.of in
+      let bytes = clash x.body y inside (find_contains (precedes b) log y e) (x_prefix ∙ sym y_prefix) (omega (arith, x_sn, y_sn)) (x.said ∙ y_said) in
+      let fresh : is_in x.front x.body ≡ false = not-true _ (and_parts (not (is_receipt x.body.event)) _ (and_parts _ _ (grown x.front x.later x.body x.parted)).0).1 in
+      let cut : up_to y log ≡ x.front ++ x.body ∷ [] = ap (up_to y) x.parted ∙ up_to_there x.front x.body y x.later bytes fresh in
+      let is : state_before log b ≡ Some x.behind = ap (λ o. state_behind log o) e ∙ (λ i. state (cut i) (y_prefix i)) ∙ x.behind_is in
+      subst (λ o. AreAlikeIf o (Some s)) (sym is) x.alike
+
+  at_current : (o : Option State) → StandIf own log o → takes o b.event ≡ true → AreAlikeIf (state_before log b) o
+  at_current None stand h = cc
+  at_current (Some s) stand h = behind_it s stand h
+
+-- CURRENT
+pub current : CurrentLaw
+current log b grown clash i r h = at_current log b grown clash i r (state log (prefix_of b.event)) (all_stand (prefix_of b.event) log) h
+
+-- READY BY WHAT IT STANDS ON
+by_alike : (told : List Told) (o p : Option State) (b : Body) → AreAlikeIf o p → (part : Part) → supports told o b part ≡ supports told p b part
+by_alike told None p b alike part = absurd alike
+by_alike told (Some s) None b alike part = absurd alike
+by_alike told (Some s) (Some t) b alike part = alike_same told s t b part alike
+
+pub standing_ready : StandingReadyLaw
+standing_ready mode told log b has alike sound same = ready_is mode told log b has sound (λ p. same p ∙ by_alike told (state_before log b) (state log (prefix_of b.event)) b alike p)
+
+pub inception_ready : InceptionReadyLaw
+inception_ready mode told log b has i sound same = ready_is mode told log b has sound (λ p. same p ∙ inception_same told (state_before log b) (state log (prefix_of b.event)) b p i)

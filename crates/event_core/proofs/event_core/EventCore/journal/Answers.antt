@@ -1,7 +1,0 @@
-use Rattle.std.proofs.Common.{subst}
-use Rattle.event_core.specs.View.{Stands}
-use Rattle.event_core.proofs.Cores.{stands_seen}
-use Rattle.event_core.proofs.event_core.EventCore.journal.Goals as goal
-
-pub returns-clause-stands : goal.returns-clause-stands
-returns-clause-stands c = subst Stands c.self.view_is (stands_seen c.self.inside.mode c.self.inside.limits c.self.inside.base c.self.inside.tables c.self.inside.tally c.self.invariant)

@@ -1,4 +1,0 @@
-use Rattle.event_core.proofs.event_core.EventCore.take.Goals as goal
-
-pub number_of-requires-clause-all_spelled : goal.number_of-requires-clause-all_spelled
-number_of-requires-clause-all_spelled c = λ n b at. (c.self.invariant.stands.spelled n b at).spelled

@@ -1,7 +1,0 @@
-use Rattle.std.specs.Option.{option_copied}
-use Rattle.readiness.proofs.Bodies.{kept_if}
-use Rattle.readiness.proofs.current.event_of.Goals as goal
-
--- src/current.rt:17:1
-pub returns-clause-kept : goal.returns-clause-kept
-returns-clause-kept c = kept_if c.args.tables.now c.requires c.spelled_is_kept.ensures c.args.number (option_copied c.event.result) c.event.ensures

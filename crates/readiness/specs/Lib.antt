@@ -1,4 +1,0 @@
-pub mod Current
-pub mod Wants
-pub mod Entries
-pub mod Differences

@@ -1,0 +1,55 @@
+//! The accepted events by their identifiers.
+ghost use Rattle.std.specs.Prelude.{◌≡◌, ◌++◌, ◌∷◌, [], List, Some, IfOk, OnOk, slice_get};
+ghost use Rattle.event_body.specs.Events as events;
+ghost use Rattle.journal.specs.declared.body.Body.{Body};
+ghost use Rattle.validator_core.specs.View.{accepted_by};
+ghost use Rattle.report_lines.specs.Logs.{AreLogs};
+
+use crate::held;
+use cesr_codes::Prefix;
+use event_body::prefix_of;
+use std::alloc::{AllocError, Global};
+use std::collections::BTreeMap;
+use validator_core::Core;
+
+/// The numbers of an identifier's accepted events, in order of acceptance.
+#[derive(Drop)]
+pub(crate) struct Log {
+    pub(crate) prefix: Prefix,
+    pub(crate) numbers: Vec<u32>,
+}
+
+/// The logs of all identifiers that have an accepted event, by the texts of their prefixes.
+pub(crate) fn logs_of(alloc: Global, core: &Core) -> Result<BTreeMap<[u8; 44], Log>, AllocError>
+    ensures { IfOk result (λ logs. AreLogs core.now.held (accepted_by core.now) logs.entries) }
+{
+    let mut logs = BTreeMap::new(alloc);
+    for number in core.accepted() {
+        if let Some(event) = core.event(*number) {
+            add_number(alloc, &mut logs, prefix_of(event), *number)?;
+        }
+    }
+    Ok(logs)
+}
+
+// Adds the number of an event behind those of its identifier.
+fn add_number(
+    alloc: Global,
+    logs: &mut BTreeMap<[u8; 44], Log>,
+    prefix: Prefix,
+    number: u32,
+) -> Result<(), AllocError>
+    ensures { (bodies log : List Body) (b : Body) → slice_get bodies number ≡ Some b → events.prefix_of b.event ≡ prefix
+        → AreLogs bodies log logs.old.entries → OnOk result (AreLogs bodies (log ++ b ∷ []) logs.new.entries) }
+{
+    held::prefix(prefix);
+    let mut text = [0; 44];
+    prefix.write(&mut text);
+    if let Some(log) = logs.get_mut(&text) {
+        log.numbers.push(number)?;
+        return Ok(());
+    }
+    let numbers = Vec::from_slice(alloc, &[number])?;
+    logs.insert(text, Log { prefix, numbers })?;
+    Ok(())
+}

@@ -1,0 +1,64 @@
+-- What came by the last entry of the tables of a core, and what raising its claims makes of them.
+use Rattle.std.specs.Prelude.{◌≡◌, ℕ, ◌<◌, true, List, length, slice_get, Option, Some, None}
+use Rattle.event_body.specs.Events.{is_receipt}
+use Rattle.acceptance.specs.declared.footing.Footing.{Footing}
+use Rattle.acceptance.specs.declared.footing.Footing.TheVariants.{Inception, Behind}
+use Rattle.acceptance.specs.Standing.{IsHeld, IsStanding}
+use Rattle.acceptance.proofs.Taken.{found_by, with_entry}
+use Rattle.accepted_log.specs.Cuts.{IsLog}
+use Rattle.core_laws.specs.ClaimRows.{AreFound}
+use Rattle.claim_table.specs.declared.claimed.Claimed.{Claimed}
+use Rattle.claim_table.specs.declared.signature.Signature.{Signature}
+use Rattle.claim_table.specs.Rows.{raised_all}
+use Rattle.core_tables.specs.declared.name.Name.{Name}
+use Rattle.core_tables.specs.Names.{name_of}
+use Rattle.core_tables.specs.View.{View, log_of, with_rows}
+use Rattle.journal.specs.declared.body.Body.{Body}
+use Rattle.journal.specs.declared.claim.Claim.{Claim}
+use Rattle.journal.specs.declared.entry.Entry.TheVariants.{Took}
+use Rattle.journal.specs.declared.question.Question.{Question}
+use Rattle.journal.specs.Grown.{IsGrown}
+use Rattle.journal.specs.Logs.{same_body}
+use Rattle.journal.specs.Questions.{state_before}
+use Rattle.journal.proofs.Different.{Differ}
+
+-- the signature that a question names
+abbrev pub signature_asked : Question → Signature
+signature_asked q = record { body = q.body; key = q.key; sig = q.sig }
+
+-- the place of the state that an event is behind, where it is behind one
+abbrev pub place_in : Footing → Option ℕ
+place_in Inception = None
+place_in (Behind place) = Some place
+
+-- the bodies are spelled and differ, and the log is grown, whatever the rows of claims are
+pub record IsLogged (v : View) : Type 0 where
+  pub spelled : (n : ℕ) (b : Body) → slice_get v.held n ≡ Some b → IsHeld b
+  pub differ : Differ same_body v.held
+  pub grown : IsGrown (log_of v)
+  pub log : IsLog (log_of v) v.log
+
+-- the claims whose keys are found, where the body of a number stands, are raised
+pub record RaisesFound (n : ℕ) (b : Body) (claims : List Claim) (old new : View) : Type 0 where
+  pub added : List Claimed
+  pub found : AreFound n (state_before (log_of old) b) b.event (found_by (log_of old) b claims) added
+  pub new_is : new ≡ with_rows (raised_all old.claims.rows added) old
+
+-- the body of a number came by the last entry, and no claim of that is raised: without it the tables stand
+pub record IsTold (number entry : ℕ) (v : View) : Type 0 where
+  pub before : View
+  pub stands : IsStanding before
+  pub reader : ℕ
+  pub claims : List Claim
+  pub low : number < length before.held
+  pub entry_is : entry ≡ length before.entries
+  pub is : v ≡ with_entry (Took reader number claims) before
+
+-- it is a receipt for the events of a name
+pub record IsReceipted (name : Name) (entry : ℕ) (v : View) : Type 0 where
+  pub number : ℕ
+  pub told : IsTold number entry v
+  pub body : Body
+  pub at : slice_get told.before.held number ≡ Some body
+  pub receipt : is_receipt body.event ≡ true
+  pub name_is : name ≡ name_of body.event

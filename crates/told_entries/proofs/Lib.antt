@@ -1,6 +1,0 @@
-mod Found
-pub mod Logged
-pub mod Once
-mod Receipted
-mod Came
-mod Verdict

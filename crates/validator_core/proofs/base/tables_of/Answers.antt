@@ -1,0 +1,10 @@
+use Rattle.std.proofs.Common.{[], refl, subst, sym}
+use Rattle.validator_core.specs.Base.{IsBase}
+use Rattle.validator_core.proofs.Bases.{nothing_base, settled_base}
+use Rattle.validator_core.proofs.base.tables_of.Goals as goal
+
+pub add_texts-requires-clause-begun : goal.add_texts-requires-clause-begun
+add_texts-requires-clause-begun c = subst (IsBase []) (sym c.new-tables.ensures) nothing_base
+
+pub returns-in-Ok-clause-ok : goal.returns-in-Ok-clause-ok
+returns-in-Ok-clause-ok c = rw c.settle.ensures (settled_base _ _ _ c.in-Ok.ensures.ok, refl)

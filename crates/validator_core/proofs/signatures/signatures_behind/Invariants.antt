@@ -1,0 +1,14 @@
+use Rattle.std.proofs.Common.{◌≡◌, take}
+use Rattle.std.specs.Prelude.{Some, filter_map, flat_map, slice_get}
+use Rattle.std.specs.Option.{option_copied}
+use Rattle.core_tables.specs.Raised.{claims_at}
+use Rattle.validator_core.specs.Signatures.{good_claim}
+use Rattle.journal.specs.declared.body.Body.{Body}
+use Rattle.key_state.specs.Exposure.{own_rules}
+use Rattle.acceptance.specs.Entries.{says_in}
+use Rattle.validator_core.proofs.signatures.signatures_behind.Given as goal
+
+-- those by the entries so far are found
+abbrev pub invariant-loop-entry : goal.invariant-loop-entry
+invariant-loop-entry l = (b : Body) → slice_get l.fn.tables.held l.fn.number ≡ Some b
+    → l.found.items ≡ flat_map (λ i. filter_map (good_claim (says_in l.fn.tables.claims.rows l.fn.number) (own_rules (option_copied l.fn.state) l.fn.event)) (claims_at l.fn.tables.held b (slice_get l.fn.tables.entries i))) (take l.entry-index l.entries)

@@ -1,0 +1,14 @@
+use Rattle.std.proofs.Common.{[], sym, subst}
+use Rattle.core_tables.specs.View.{IsCut}
+use Rattle.journal.specs.declared.entry.Entry.TheVariants.{Took}
+use Rattle.validator_core.proofs.Cuts.{cut_took}
+use Rattle.validator_core.proofs.Outcomes.{adds_entry}
+use Rattle.validator_core.proofs.whole_entries.add_claims.Goals as goal
+
+pub keep_or_cut-requires : goal.keep_or_cut-requires
+keep_or_cut-requires c = subst (λ m. IsCut m c.bring_claims-brought.new.tables) (sym c.mark-mark.ensures.mark)
+    (cut_took c.args.tables.now c.bring_claims-brought.new.tables c.requires.stands c.requires.idle c.requires.left c.bring_claims-brought.ensures.extends)
+
+pub returns-clause-ok : goal.returns-clause-ok
+returns-clause-ok c = adds_entry c.args.mode c.args.number [] (Took c.args.reader c.args.number c.args.claims) c.args.tables.now c.bring_claims-brought.new.tables c.keep_or_cut.new.tables
+    c.args.steps.now c.bring_claims-brought.new.steps c.bring_claims-brought.result c.keep_or_cut.result c.keep_or_cut.ensures.same c.bring_claims-brought.ensures.ok c.keep_or_cut.ensures.kept

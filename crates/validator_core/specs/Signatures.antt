@@ -1,0 +1,41 @@
+-- The good signatures on bodies.
+use Rattle.std.specs.Prelude.{Bool, List, [], Option, None, if◌then◌else◌}
+use Rattle.cesr_codes.specs.declared.indexed_sig.IndexedSig.{IndexedSig}
+use Rattle.cesr_codes.specs.declared.key.Key.{Key}
+use Rattle.cesr_codes.specs.declared.sig.Sig.{Sig}
+use Rattle.validator_core.specs.View.{CoreView, told_of, accepted_by}
+use Rattle.event_rules.specs.Claims.{is_good}
+use Rattle.journal.specs.History.{Told}
+use Rattle.journal.specs.Logs.{before, stands, state}
+use Rattle.event_body.specs.Events.{prefix_of}
+use Rattle.key_state.specs.States.{State}
+use Rattle.journal.specs.Questions.{state_before}
+use Rattle.journal.specs.Readiness.{good_sigs, held_sig}
+use Rattle.journal.specs.declared.body.Body.{Body}
+use Rattle.journal.specs.declared.claim.Claim.{Claim}
+use Rattle.key_state.specs.Exposure.{Rules, own_rules}
+use Rattle.key_state.specs.Same.{has_key}
+
+-- the controller's signature of a claim, where a verifier says yes of it by the rules of its event
+abbrev pub good_claim : (Key → Sig → Bool) → Rules → Claim → Option IndexedSig
+good_claim says rules c = if is_good says rules c then held_sig c else None
+
+-- the controller's signatures with a yes verdict on a body that stands in a log, in order of coming
+abbrev pub good_in : List Told → List Body → Body → List IndexedSig
+good_in told log b = if stands log b then good_sigs told (state_before log b) b else []
+
+-- those on a body of a core, by all that it accepted
+abbrev pub good_on : CoreView → Body → List IndexedSig
+good_on core b = good_in (told_of core) (accepted_by core) b
+
+-- the state under which an accepted event was accepted: that of its identifier just before it
+abbrev pub state_under : List Body → Body → Option State
+state_under log b = state (before b log) (prefix_of b.event)
+
+-- the controller's signatures with a yes verdict by that state
+abbrev pub good_under : List Told → List Body → Body → List IndexedSig
+good_under told log b = good_sigs told (state_under log b) b
+
+-- the key is among the event's own witnesses by that state
+abbrev pub is_witness_under : List Body → Body → Key → Bool
+is_witness_under log b key = has_key (own_rules (state_under log b) b.event).witnesses key

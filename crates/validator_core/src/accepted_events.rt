@@ -1,0 +1,60 @@
+//! Accepted events, by their places, and the numbers of bodies.
+ghost use Rattle.std.specs.Prelude.{◌≡◌, ◌==◌, IfNone, IfSome, Some, false, position, slice_get};
+ghost use Rattle.acceptance.specs.Standing.{IsStanding};
+ghost use Rattle.core_tables.specs.View.{body_of, log_of};
+ghost use Rattle.event_body.specs.Judging.{SpellsEvent};
+ghost use Rattle.validator_core.specs.Signatures.{is_witness_under};
+ghost use Rattle.validator_core.specs.View.{accepted_by};
+ghost use Rattle.journal.specs.Logs.{is_in};
+ghost use Rattle.journal.specs.declared.body.Body.{Body};
+
+use crate::Core;
+use crate::signatures::number_at;
+use cesr_codes::Key;
+use core_tables::Tables;
+use event_body::Event;
+use event_rules::has_witness;
+
+impl Core {
+    /// The number of the body with these bytes, which spell the event; none where it isn't held. It takes no memory.
+    pub fn number_of(&self, body: &[u8], event: &Event) -> Option<u32>
+        requires { SpellsEvent event.now body.now }
+        ensures some { IfSome result (λ n. slice_get self.now.held n ≡ Some (body_of body.now event.now)) }
+        ensures none { IfNone result (is_in self.now.held (body_of body.now event.now) ≡ false) }
+    {
+        self.tables.number_of(body, event)
+    }
+
+    /// The first place of a number among the accepted ones. It takes no memory, and goes over the accepted numbers.
+    pub fn place_of(&self, number: u32) -> Option<usize>
+        ensures { result ≡ position (λ n. n == number) self.now.accepted }
+    {
+        self.tables
+            .log()
+            .numbers()
+            .iter()
+            .position(|accepted| *accepted == number)
+    }
+
+    /// Whether a key is among the own witnesses of the event at a place of the accepted ones, by the state under which it was
+    /// accepted. It takes no memory.
+    pub fn is_witness_at(&self, place: usize, key: &Key) -> bool
+        ensures { (b : Body) → slice_get (accepted_by self.now) place ≡ Some b → result ≡ is_witness_under (accepted_by self.now) b key.now }
+    {
+        is_witness_in(&self.tables, place, key)
+    }
+}
+
+// Whether a key is among the own witnesses of the event at a place of the log.
+fn is_witness_in(tables: &Tables, place: usize, key: &Key) -> bool
+    requires { IsStanding tables.now }
+    ensures { (b : Body) → slice_get (log_of tables.now) place ≡ Some b → result ≡ is_witness_under (log_of tables.now) b key.now }
+{
+    let Some(number) = number_at(tables.log().numbers(), place) else {
+        return false;
+    };
+    let Some(event) = tables.event(number) else {
+        return false;
+    };
+    has_witness(tables.log().state_before(place, event), event, key)
+}

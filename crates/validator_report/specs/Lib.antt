@@ -1,4 +1,0 @@
-pub mod Report
-pub mod Logs
-pub mod Rows
-pub mod Conflicts
