@@ -21,7 +21,8 @@ use Rattle.accepted_log.specs.declared.place.Place.{Place}
 use Rattle.accepted_log.specs.Cuts.{GrowsByInteraction, GrowsByState, HasState, IsBehind, IsLog, cut}
 use Rattle.accepted_log.specs.Values.{Log, at_place, established, gone_onto, interacted, last_of, last_place, with_since}
 use Rattle.accepted_log.proofs.Last.{last_is_last, last_of-at, last_of-other, last_of-push, place_of_last, there}
-use Rattle.accepted_log.proofs.Lists.{at_end, at_place_here, at_place_there, front_within, not_at_end, of_front, still_at, take_at_place}
+use Rattle.accepted_log.proofs.Lists.{at_place_here, at_place_there, front_within, still_at, take_at_place}
+use Rattle.lists.proofs.Places.{at_end, not_at_end, of_front}
 use Rattle.accepted_log.proofs.StateSteps.{IsNew, cut_all, cut_more, fits_parts, goes_onto, live_at, live_from, new_of, own_state}
 
 module _ (log : List Body) (v w : Log) (b : Body) (number : ℕ) (p : Place) (is : IsLog log v) where

@@ -34,28 +34,10 @@ at_place_seen key f same (x ∷ xs) zero (suc i) y e = (y, e, refl)
 at_place_seen key f same (x ∷ xs) (suc k) zero y e = (y, e, refl)
 at_place_seen key f same (x ∷ xs) (suc k) (suc i) y e = at_place_seen key f same xs k i y e
 
--- the element at the end, and those before it
-pub at_end : {X : Type 0} (xs : List X) (x : X) → slice_get (xs ++ x ∷ []) (length xs) ≡ Some x
-at_end [] x = refl
-at_end (y ∷ xs) x = at_end xs x
-
-pub not_at_end : {X : Type 0} (xs : List X) (x : X) (i : ℕ) → (i ≡ length xs → ⊥) → slice_get (xs ++ x ∷ []) i ≡ slice_get xs i
-not_at_end [] x zero h = absurd (h refl)
-not_at_end [] x (suc i) h = refl
-not_at_end (y ∷ xs) x zero h = refl
-not_at_end (y ∷ xs) x (suc i) h = not_at_end xs x i (λ e. h (ap (λ k. suc k) e))
-
 pub still_at : {X : Type 0} (xs ys : List X) (i : ℕ) (x : X) → slice_get xs i ≡ Some x → slice_get (xs ++ ys) i ≡ Some x
 still_at [] ys i x e = cc
 still_at (z ∷ xs) ys zero x e = e
 still_at (z ∷ xs) ys (suc i) x e = still_at xs ys i x e
-
-pub of_front : {X : Type 0} (xs : List X) (k i : ℕ) (x : X) → slice_get (take k xs) i ≡ Some x → slice_get xs i ≡ Some x
-of_front [] zero i x e = cc
-of_front [] (suc k) i x e = cc
-of_front (y ∷ xs) zero i x e = cc
-of_front (y ∷ xs) (suc k) zero x e = e
-of_front (y ∷ xs) (suc k) (suc i) x e = of_front xs k i x e
 
 -- a list cut before a member
 pub cut_at : {X : Type 0} (xs : List X) (i : ℕ) (x : X) → slice_get xs i ≡ Some x → xs ≡ take i xs ++ x ∷ drop (suc i) xs

@@ -12,12 +12,13 @@ ghost use Rattle.accepted_log.specs.Values as values;
 ghost use Rattle.accepted_log.specs.Values.{Extends, established, interacted, last_of, last_place, nothing, rewound};
 
 use crate::Place;
-use crate::hints::{last_at, number_of};
+use crate::hints::last_at;
 use crate::states::{go_onto, undo_from};
 use cesr_codes::{Digest, Prefix};
 use event_body::{Event, prefix_of};
 use event_index::Index;
 use key_state::KeyState;
+use lists::length_u32;
 use std::alloc::{AllocError, Global};
 use std::marker::Model;
 
@@ -221,7 +222,7 @@ fn make_room(
     numbers.reserve(1)?;
     places.reserve(1)?;
     states.reserve(1)?;
-    number_of(states.len())
+    length_u32(states.len())
 }
 
 // Whether it is an interaction.

@@ -5,17 +5,6 @@ ghost use Rattle.accepted_log.specs.Hints.{IsLast, is_state_of};
 
 use cesr_codes::Prefix;
 use key_state::KeyState;
-use std::alloc::AllocError;
-
-/// A length as a number. More states than that are more than memory holds.
-pub(crate) fn number_of(length: usize) -> Result<u32, AllocError>
-    ensures { IfOk result (λ n. n ≡ length) }
-{
-    match u32::try_from(length) {
-        Ok(number) => Ok(number),
-        Err(_) => Err(AllocError),
-    }
-}
 
 /// The greatest of the numbers that is the place of a state of this identifier.
 pub(crate) fn last_at(states: &[KeyState], numbers: &[u32], prefix: &Prefix) -> Option<u32>

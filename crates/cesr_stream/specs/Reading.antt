@@ -64,6 +64,7 @@ pub record AnswersBad (old new : Reading) (bad : Bad) : Type 0 where
   pub not_bad : old.bad ≡ None
   pub within : ℕ
   pub is_refused : judged old ≡ refused within bad.reason
+  pub there : within ≤ length old.rest
   pub at : bad.place ≡ old.place + within
   pub refused_now : new ≡ refused_by old bad
 

@@ -102,6 +102,18 @@ impl Reader {
         }
     }
 
+    /// Forgets what it holds, and begins anew behind a body or before any.
+    pub fn restart(&mut self, begun: bool)
+        ensures { self.new ≡ record (fresh self.old.limit) { begun = begun } }
+    {
+        self.bytes.clear();
+        self.place = 0;
+        self.begun = begun;
+        drop(self.item.take());
+        self.bad = None;
+        self.drained = true;
+    }
+
     /// How many bytes it holds, which are those that were fed less those of the items that were answered.
     pub fn held(&self) -> u64
         ensures { result ≡ length self.now.rest }

@@ -13,7 +13,8 @@ use Rattle.claim_table.specs.declared.signature.Signature.{Signature}
 use Rattle.claim_table.specs.Keeping.{AreEntered, AreHinted, IsFirstOf, IsLeast, is_of_at, lesser}
 use Rattle.claim_table.specs.Parts.{brings}
 use Rattle.claim_table.specs.Rows.{is_of, is_raised, signature_of, with_verdicts}
-use Rattle.claim_table.proofs.Lists.{any_none, at_end, not_at_end, of_front}
+use Rattle.claim_table.proofs.Lists.{any_none}
+use Rattle.lists.proofs.Places.{at_end, not_at_end, of_front}
 use Rattle.claim_table.proofs.Rows.{same_is, set_at, set_claimed}
 
 -- within a list no default counts

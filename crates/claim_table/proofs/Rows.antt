@@ -17,7 +17,8 @@ use Rattle.claim_table.specs.declared.row.Row.{Row}
 use Rattle.claim_table.specs.declared.signature.Signature.{Signature}
 use Rattle.claim_table.specs.Keeping.{IsFirstAt}
 use Rattle.claim_table.specs.Rows.{DoAgree, heard, is_of, is_raised, raised, raised_all, same_key, same_signature, signature_of, unheard, verdict_of, with_verdict, with_verdicts}
-use Rattle.claim_table.proofs.Lists.{any_front, any_some, at_end, in_front, map_back, not_at_end, of_front, take_before, take_map}
+use Rattle.claim_table.proofs.Lists.{any_front, any_some, map_back, take_before, take_map}
+use Rattle.lists.proofs.Places.{at_end, in_front, not_at_end, of_front}
 
 numbers : (m n : ℕ) → (m == n) ≡ true → m ≡ n
 numbers m n h = (Decides-eqb m n).0 h

@@ -17,7 +17,8 @@ use Rattle.claim_table.specs.declared.signature.Signature.{Signature}
 use Rattle.claim_table.specs.declared.spot.Spot.{Spot}
 use Rattle.claim_table.specs.Keeping.{AreOpen, IsFirstAt, IsPendingBelow, is_open_at, is_pending, opens, spot_at, spot_cmp}
 use Rattle.claim_table.specs.Rows.{DoAgree, heard, is_of, is_raised, signature_of, unheard, verdict_of, with_verdict, with_verdicts}
-use Rattle.claim_table.proofs.Lists.{any_some, at_end, differ, in_front, not_at_end, take_before, take_map}
+use Rattle.claim_table.proofs.Lists.{any_some, differ, take_before, take_map}
+use Rattle.lists.proofs.Places.{at_end, in_front, not_at_end}
 use Rattle.claim_table.proofs.Rows.{agree_set, first_raised, first_set, raised_set, same_is, set_elsewhere, set_there, unheard_heard, verdict_heard}
 
 spot_eq_is : (x y : Spot) → (spot_eq.ghosts).eq x y ≡ ((x.body == y.body) && (x.row == y.row))

@@ -17,6 +17,7 @@ use crate::part_counts::PartCounts;
 use crate::row::Row;
 use crate::signature::Signature;
 use crate::spot::Spot;
+use lists::length_u32;
 use std::alloc::AllocError;
 use std::collections::BTreeSet;
 
@@ -73,7 +74,7 @@ impl ClaimRows {
         ensures sound { IsSound self.new }
     {
         let row = self.rows.len();
-        let number = number_of(row)?;
+        let number = length_u32(row)?;
         let signature = claimed.signature();
         let verdict = self.verdict(&signature);
         self.rows.reserve(1)?;
@@ -197,16 +198,6 @@ fn row_of(claimed: Claimed, verdict: Option<Option<bool>>) -> Row
     Row {
         claimed,
         verdict: verdict.flatten(),
-    }
-}
-
-// A length as a number. More rows than that are more than memory holds.
-fn number_of(length: usize) -> Result<u32, AllocError>
-    ensures { IfOk result (λ n. n ≡ length) }
-{
-    match u32::try_from(length) {
-        Ok(number) => Ok(number),
-        Err(_) => Err(AllocError),
     }
 }
 

@@ -1,5 +1,6 @@
 mod Seals
 mod LastNumbers
+mod Asking
 mod Enough
 mod More
 mod Signing

@@ -3,4 +3,5 @@ pub mod Slots
 pub mod Messages
 pub mod Refusals
 pub mod LastNumbers
+pub mod Signings
 pub mod Signing

@@ -7,6 +7,7 @@ ghost use Rattle.controller_core.specs.Messages.{IsMessageOf, event_text};
 ghost use Rattle.controller_core.specs.Plans.{sealed_delegation};
 ghost use Rattle.controller_core.specs.Refusals.{CountsSignerFaults, IsRefusal};
 ghost use Rattle.controller_core.specs.Signing.{IsSignedByYes};
+ghost use Rattle.controller_core.specs.Signings.{AsksFor, signings_of};
 
 use crate::event_seal::seal_anchor;
 use crate::made::made_behind;
@@ -19,7 +20,7 @@ use key_state::KeyState;
 use std::alloc::Global;
 
 /// The message of an interaction behind the head of a state, whose one anchor is the event seal of an event.
-#[tactic(auto, using(crate::proofs::Seals::holds_seal))]
+#[tactic(auto, using(crate::proofs::Seals::holds_seal, crate::proofs::Asking::asks_without_memory))]
 pub fn delegate<S: Signer>(
     alloc: Global,
     state: &KeyState,
@@ -37,8 +38,10 @@ pub fn delegate<S: Signer>(
     ensures refused { head_sn state.now + 1 < 2 ^ 64 → IfErr result (IsRefusal (Some state.now) (sealed_delegation state.now event.now plan.now) plan.now.signers) }
     ensures last { head_sn state.now ≡ 2 ^ 64 - 1 → IsLastAnswer (event_text (sealed_delegation state.now event.now plan.now)) result }
 
-    // The signer's count of faults rises exactly where it failed.
+    // The signer was asked for these signatures and for nothing else, and for none where the plan is refused. Its count of
+    // faults rises exactly where it failed.
     ensures gives { S.gives signer.new ≡ S.gives signer.old }
+    ensures asked { AsksFor (S.signings signer.old) (S.signings signer.new) (signings_of (Some state.now) (sealed_delegation state.now event.now plan.now) plan.now.signers) result }
     ensures count { CountsSignerFaults (S.faults signer.old) (S.faults signer.new) result }
 
     // Once verifiers have said yes of the signatures, the body is signed.

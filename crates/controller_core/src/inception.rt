@@ -7,6 +7,7 @@ ghost use Rattle.controller_core.specs.Messages.{IsMessageOf};
 ghost use Rattle.controller_core.specs.Plans.{sealed_inception};
 ghost use Rattle.controller_core.specs.Refusals.{CountsSignerFaults, IsRefusal};
 ghost use Rattle.controller_core.specs.Signing.{IsSignedByYes};
+ghost use Rattle.controller_core.specs.Signings.{AsksFor, signings_of};
 
 use crate::made::made;
 use crate::planned_event::inception;
@@ -17,6 +18,7 @@ use std::alloc::Global;
 
 /// The message of the inception that a plan says. It is a delegated one exactly where the plan is, and its witnesses are
 /// those that the plan adds.
+#[tactic(auto, using(crate::proofs::Asking::asks_without_memory))]
 pub fn incept<S: Signer>(alloc: Global, plan: &Plan, signer: &mut S) -> Result<Message, PlanFault>
     requires anchors { AllByRecursion IsJson plan.now.anchors }
     requires traits { AllByRecursion IsString plan.now.traits }
@@ -28,8 +30,10 @@ pub fn incept<S: Signer>(alloc: Global, plan: &Plan, signer: &mut S) -> Result<M
     // A refusal is the first that is so.
     ensures refused { IfErr result (IsRefusal None (sealed_inception plan.now) plan.now.signers) }
 
-    // The signer's count of faults rises exactly where it failed.
+    // The signer was asked for these signatures and for nothing else, and for none where the plan is refused. Its count of
+    // faults rises exactly where it failed.
     ensures gives { S.gives signer.new ≡ S.gives signer.old }
+    ensures asked { AsksFor (S.signings signer.old) (S.signings signer.new) (signings_of None (sealed_inception plan.now) plan.now.signers) result }
     ensures count { CountsSignerFaults (S.faults signer.old) (S.faults signer.new) result }
 
     // Once verifiers have said yes of the signatures, the body is signed.

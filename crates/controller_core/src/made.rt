@@ -9,6 +9,7 @@ ghost use Rattle.controller_core.specs.Messages.{IsMessageOf, event_text};
 ghost use Rattle.controller_core.specs.Plans.{sealed};
 ghost use Rattle.controller_core.specs.Refusals.{CountsSignerFaults, IsRefusal};
 ghost use Rattle.controller_core.specs.Signing.{IsSignedByYes};
+ghost use Rattle.controller_core.specs.Signings.{AsksFor, signings_of};
 
 use crate::last_number::last_fault;
 use crate::planned_body::planned_text;
@@ -35,6 +36,7 @@ pub(crate) fn made<S: Signer>(
     ensures made { IfOk result (IsMessageOf (S.gives signer.old) (option_copied state.entry) (sealed plan.now.code event.now) plan.now.signers) }
     ensures refused { IfErr result (IsRefusal (option_copied state.entry) (sealed plan.now.code event.now) plan.now.signers) }
     ensures gives { S.gives signer.new ≡ S.gives signer.old }
+    ensures asked { AsksFor (S.signings signer.old) (S.signings signer.new) (signings_of (option_copied state.entry) (sealed plan.now.code event.now) plan.now.signers) result }
     ensures count { CountsSignerFaults (S.faults signer.old) (S.faults signer.new) result }
 {
     let text = planned_text(alloc, state, event, plan)?;
@@ -45,6 +47,7 @@ pub(crate) fn made<S: Signer>(
 }
 
 /// The same behind a head of any number.
+#[tactic(auto, using(crate::proofs::Asking::asks_nothing))]
 pub(crate) fn made_behind<S: Signer>(
     alloc: Global,
     state: &KeyState,
@@ -57,6 +60,7 @@ pub(crate) fn made_behind<S: Signer>(
     ensures refused { head_sn state.now + 1 < 2 ^ 64 → IfErr result (IsRefusal (Some state.now) (sealed plan.now.code event.now) plan.now.signers) }
     ensures last { head_sn state.now ≡ 2 ^ 64 - 1 → IsLastAnswer (event_text (sealed plan.now.code event.now)) result }
     ensures gives { S.gives signer.new ≡ S.gives signer.old }
+    ensures asked { AsksFor (S.signings signer.old) (S.signings signer.new) (signings_of (Some state.now) (sealed plan.now.code event.now) plan.now.signers) result }
     ensures count { CountsSignerFaults (S.faults signer.old) (S.faults signer.new) result }
     ensures signed { IfOk result (IsSignedByYes (Some state.now) (sealed plan.now.code event.now)) }
 {

@@ -8,6 +8,7 @@ ghost use Rattle.controller_core.specs.Messages.{IsMessageOf, event_text};
 ghost use Rattle.controller_core.specs.Plans.{sealed_rotation};
 ghost use Rattle.controller_core.specs.Refusals.{CountsSignerFaults, IsRefusal};
 ghost use Rattle.controller_core.specs.Signing.{IsSignedByYes};
+ghost use Rattle.controller_core.specs.Signings.{AsksFor, signings_of};
 
 use crate::made::made_behind;
 use crate::planned_event::rotation;
@@ -18,6 +19,7 @@ use key_state::KeyState;
 use std::alloc::Global;
 
 /// The message of the rotation that a plan says behind the head of a state. It is a delegated one exactly where the plan is.
+#[tactic(auto, using(crate::proofs::Asking::asks_without_memory))]
 pub fn rotate<S: Signer>(
     alloc: Global,
     state: &KeyState,
@@ -33,8 +35,10 @@ pub fn rotate<S: Signer>(
     ensures refused { head_sn state.now + 1 < 2 ^ 64 → IfErr result (IsRefusal (Some state.now) (sealed_rotation state.now plan.now) plan.now.signers) }
     ensures last { head_sn state.now ≡ 2 ^ 64 - 1 → IsLastAnswer (event_text (sealed_rotation state.now plan.now)) result }
 
-    // The signer's count of faults rises exactly where it failed.
+    // The signer was asked for these signatures and for nothing else, and for none where the plan is refused. Its count of
+    // faults rises exactly where it failed.
     ensures gives { S.gives signer.new ≡ S.gives signer.old }
+    ensures asked { AsksFor (S.signings signer.old) (S.signings signer.new) (signings_of (Some state.now) (sealed_rotation state.now plan.now) plan.now.signers) result }
     ensures count { CountsSignerFaults (S.faults signer.old) (S.faults signer.new) result }
 
     // Once verifiers have said yes of the signatures, the body is signed.

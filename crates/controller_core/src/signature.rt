@@ -4,8 +4,10 @@ ghost use Rattle.std.specs.List.{AllZip, list_all};
 ghost use Rattle.cesr_codes.specs.Indices.{has_form};
 ghost use Rattle.controller_core.specs.declared.plan_fault.PlanFault.TheVariants.{OutOfMemory, SignerFault};
 ghost use Rattle.keri_specs.specs.Causes.{HasCause};
+ghost use Rattle.keri_specs.specs.Told.{Puts};
 ghost use Rattle.controller_core.specs.Messages.{IsInSlot};
 ghost use Rattle.controller_core.specs.Refusals.{CountsSignerFaults};
+ghost use Rattle.controller_core.specs.Signings.{signing_at, signings_in};
 ghost use Rattle.controller_core.specs.Slots as specs;
 
 use crate::{PlanFault, Slot};
@@ -26,6 +28,7 @@ pub(crate) fn signatures<S: Signer>(
     requires slots { list_all (specs.is_in_range (length keys.now)) slots.now ≡ true }
     ensures sigs { IfOk result (AllZip (IsInSlot (S.gives signer.old) keys.now body.now) slots.now) }
     ensures gives { S.gives signer.new ≡ S.gives signer.old }
+    ensures asked { Puts (S.signings signer.old) (S.signings signer.new) result (signings_in keys.now body.now slots.now) }
     ensures count { CountsSignerFaults (S.faults signer.old) (S.faults signer.new) result }
     ensures only { IfErr result (λ fault. (fault ≡ SignerFault) ⊎ (fault ≡ OutOfMemory)) }
 {
@@ -48,6 +51,7 @@ fn signature<S: Signer>(
     requires slot { specs.is_in_range (length keys.now) slot.now ≡ true }
     ensures sig { IfOk result (IsInSlot (S.gives signer.old) keys.now body.now slot.now) }
     ensures gives { S.gives signer.new ≡ S.gives signer.old }
+    ensures asked { Puts (S.signings signer.old) (S.signings signer.new) result (signing_at keys.now body.now slot.now) }
     ensures cause { HasCause (S.faults signer.old) (S.faults signer.new) result }
 {
     let sig = signer.sign(&keys[usize::from(slot.index)], body)?;

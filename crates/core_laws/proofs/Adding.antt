@@ -212,7 +212,7 @@ pub inception_same : InceptionLaw
 inception_same told s t b p h = same_parts told s t b (own_inception s t b.event h) (λ n. opens_nothing s b.event n h ∙ sym (opens_nothing t b.event n h)) p
 
 -- ALIKE
-opens-alike : (s t : State) → AreAlike s t → (e : Event) (n : ℕ) → opens_at (Some s) e n ≡ opens_at (Some t) e n
+pub opens-alike : (s t : State) → AreAlike s t → (e : Event) (n : ℕ) → opens_at (Some s) e n ≡ opens_at (Some t) e n
 opens-alike s t alike e n = same e ∙ ap (λ t. opens_at (Some t) e n) alike
   where
     same : (e : Event) → opens_at (Some s) e n ≡ opens_at (Some (record s { est_sn = t.est_sn; since = t.since })) e n

@@ -17,7 +17,8 @@ use Rattle.core_tables.specs.Hints.{AreHinted, IsSealedAt, KeepsBelow}
 use Rattle.core_tables.specs.Names.{name_of, claim_key}
 use Rattle.core_tables.specs.Rows.{placed, waiter_for}
 use Rattle.core_tables.specs.View.{number_of, waiter_at}
-use Rattle.core_tables.proofs.Rows.{none_below, not_some, of_front, pushed, front_of_front, some_is}
+use Rattle.core_tables.proofs.Rows.{none_below, not_some, pushed, front_of_front, some_is}
+use Rattle.lists.proofs.Places.{of_front}
 use Rattle.core_tables.proofs.Waiters.{escrow_body, escrow_cut, escrow_settled}
 
 pub keeps_itself : {K : Type 0} (n : ℕ) (f : K → List ℕ) → KeepsBelow n f f

@@ -19,27 +19,7 @@ pushed xs x y i at = elim (cases_eq i (length xs)) [
   | inr before ↦ inr (slice_get_before xs x i y before at)
 ]
 
-pub elsewhere : {X : Type 0} (xs : List X) (x : X) (i : ℕ) → (i ≡ length xs → ⊥) → slice_get (xs ++ x ∷ []) i ≡ slice_get xs i
-elsewhere [] x zero other = absurd (other refl)
-elsewhere [] x (suc i) other = refl
-elsewhere (y ∷ xs) x zero other = refl
-elsewhere (y ∷ xs) x (suc i) other = elsewhere xs x i (λ same. other (ap (λ k. suc k) same))
-
--- in the first part the elements stand where they stood, and none behind it
-pub in_front : {X : Type 0} (xs : List X) (k i : ℕ) → i < k → slice_get (take k xs) i ≡ slice_get xs i
-in_front [] zero i h = refl
-in_front [] (suc k) i h = refl
-in_front (x ∷ xs) zero i h = absurd (omega (arith, h))
-in_front (x ∷ xs) (suc k) zero h = refl
-in_front (x ∷ xs) (suc k) (suc i) h = in_front xs k i (omega (arith, h))
-
-pub of_front : {X : Type 0} (xs : List X) (k i : ℕ) (x : X) → slice_get (take k xs) i ≡ Some x → slice_get xs i ≡ Some x
-of_front [] zero i x e = cc
-of_front [] (suc k) i x e = cc
-of_front (y ∷ xs) zero i x e = cc
-of_front (y ∷ xs) (suc k) zero x e = e
-of_front (y ∷ xs) (suc k) (suc i) x e = of_front xs k i x e
-
+-- behind the first part none stands
 pub past_front : {X : Type 0} (xs : List X) (k i : ℕ) → k ≤ i → slice_get (take k xs) i ≡ None
 past_front [] zero i h = refl
 past_front [] (suc k) i h = refl

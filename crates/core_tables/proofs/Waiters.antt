@@ -16,7 +16,8 @@ use Rattle.key_state.proofs.Same.{number_itself}
 use Rattle.core_tables.specs.Hints.{IsEscrow}
 use Rattle.core_tables.specs.Rows.{placed, waiter_for}
 use Rattle.core_tables.specs.View.{waiter_at}
-use Rattle.core_tables.proofs.Rows.{differ, elsewhere, in_front, past_front}
+use Rattle.core_tables.proofs.Rows.{differ, past_front}
+use Rattle.lists.proofs.Places.{not_at_end, in_front}
 
 -- nothing waits under the next number
 pub next_free : (w : Escrow) (held : List Body) (done : List ℕ) (n : ℕ) → IsEscrow w held done → n ≡ length held → held_by n w ≡ None
@@ -44,7 +45,7 @@ unfolding waiter_at
 escrow_body w new held done b fresh is put n = elim (cases_eq n (length held)) [
   | inl last ↦ let none = next_free w held done (length held) is refl in
       rw last (put (length held) ∙ last_waits done (length held) b (held_by (length held) w) fresh none ∙ sym (ap (waiter_at done (length held)) (slice_get_last held b)))
-  | inr before ↦ put n ∙ others_wait (length held) n b (held_by n w) before ∙ is n ∙ sym (ap (waiter_at done n) (elsewhere held b n before))
+  | inr before ↦ put n ∙ others_wait (length held) n b (held_by n w) before ∙ is n ∙ sym (ap (waiter_at done n) (not_at_end held b n before))
 ]
 
 -- those that leave

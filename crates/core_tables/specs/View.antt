@@ -50,7 +50,7 @@ came_with n entries = flat_map (came_by n) entries
 
 -- an event that waits, by the number of its body
 abbrev pub waiter_of : ℕ → Event → Waiter
-waiter_of n e = record { number = n; event = e; prior = prior_of e; said = said_of e }
+waiter_of n e = record { number = n; prior = prior_of e; said = said_of e }
 
 -- the body of a number is an event that isn't among the accepted
 unfoldable pub waiter_at : List ℕ → ℕ → Option Body → Option Waiter

@@ -12,15 +12,14 @@ ghost use Rattle.core_tables.specs.Rows.{is_text, placed, waiter_for};
 ghost use Rattle.core_tables.specs.View.{body_of, waiter_of as waiter};
 
 use crate::Tables;
-use crate::entries::number_from;
 use crate::name::{Name, name_of};
 use escrow::{Waiter, Waiting};
 use event_body::{Event, is_receipt, one_event, said_of_event};
 use event_index::Index;
 use event_rules::prior_of;
 use json_tree::Text;
-use lists::{CopyValue, Items};
-use std::alloc::{AllocError, Global};
+use lists::{CopyValue, Items, length_u32};
+use std::alloc::AllocError;
 
 impl Tables {
     /// The numbers of all bodies with this name, and perhaps of others, rising: whoever asks compares.
@@ -53,7 +52,6 @@ impl Tables {
         ensures err { OnErr result (self.new ≡ self.old) }
     {
         push_both(
-            self.alloc,
             &mut self.journal.bodies,
             &mut self.events,
             &mut self.waiting,
@@ -86,7 +84,6 @@ fn has_bytes(bodies: &[Text], number: u32, bytes: &[u8]) -> bool
 
 // Adds the body that comes next. An event waits from then on.
 fn push_both(
-    alloc: Global,
     bodies: &mut Items<Text>,
     events: &mut Vec<Event>,
     waiting: &mut Waiting,
@@ -105,7 +102,7 @@ fn push_both(
     ensures same { OnErr result (events.new.items ≡ events.old.items) }
     ensures waits_on { OnErr result ((n : ℕ) → held_by n waiting.new ≡ held_by n waiting.old) }
 {
-    if let Err(error) = push_text(alloc, bodies, events, waiting, names, text, &event) {
+    if let Err(error) = push_text(bodies, events, waiting, names, text, &event) {
         drop(event);
         return Err(error);
     }
@@ -116,7 +113,6 @@ fn push_both(
 // Adds the body that comes next but for its event, for which there is room then. The text comes first, so that nothing else is
 // held where something fails.
 fn push_text(
-    alloc: Global,
     bodies: &mut Items<Text>,
     events: &mut Vec<Event>,
     waiting: &mut Waiting,
@@ -137,7 +133,7 @@ fn push_text(
 {
     let count = bodies.len();
     bodies.push(text)?;
-    match note_waiting(alloc, events, waiting, names, event) {
+    match note_waiting(events, waiting, names, event) {
         Ok(()) => Ok(()),
         Err(error) => {
             bodies.truncate(count);
@@ -148,7 +144,6 @@ fn push_text(
 
 // Makes room for the event of the body that comes next, which waits from then on under its number, and is found by its name.
 fn note_waiting(
-    alloc: Global,
     events: &mut Vec<Event>,
     waiting: &mut Waiting,
     names: &mut Index<Name>,
@@ -164,7 +159,7 @@ fn note_waiting(
     ensures same { OnErr result ((n : ℕ) → held_by n waiting.new ≡ held_by n waiting.old) }
 {
     let number = note_body(events, names, event)?;
-    note_waiter(alloc, waiting, number, event)
+    note_waiter(waiting, number, event)
 }
 
 // Makes room for the event of the body that comes next, and adds its number under the event's name.
@@ -181,18 +176,13 @@ fn note_body(
     ensures kept { KeepsBelow (length events.old.items) (numbers_at ⟦<Name as Ord>⟧.cmp names.old) (numbers_at ⟦<Name as Ord>⟧.cmp names.new) }
 {
     events.reserve(1)?;
-    let number = number_from(events.len())?;
+    let number = length_u32(events.len())?;
     names.add(name_of(event), number)?;
     Ok(number)
 }
 
 // An event waits under a number from then on.
-fn note_waiter(
-    alloc: Global,
-    waiting: &mut Waiting,
-    number: u32,
-    event: &Event,
-) -> Result<(), AllocError>
+fn note_waiter(waiting: &mut Waiting, number: u32, event: &Event) -> Result<(), AllocError>
     requires new { held_by number waiting.old ≡ None }
     ensures waits { OnOk result ((n : ℕ) → held_by n waiting.new ≡ placed (waiter_for number event.now) n (held_by n waiting.old)) }
     ensures same { OnErr result ((n : ℕ) → held_by n waiting.new ≡ held_by n waiting.old) }
@@ -200,20 +190,18 @@ fn note_waiter(
     if is_receipt(event) {
         return Ok(());
     }
-    let waiter = waiter_of(alloc, number, event)?;
-    put_waiter(waiting, waiter)
+    put_waiter(waiting, waiter_of(number, event))
 }
 
 // An event that waits, by the number of its body.
-fn waiter_of(alloc: Global, number: u32, event: &Event) -> Result<Waiter, AllocError>
-    ensures { IfOk result (λ w. w ≡ waiter number event.now) }
+fn waiter_of(number: u32, event: &Event) -> Waiter
+    ensures { result ≡ waiter number event.now }
 {
-    Ok(Waiter {
+    Waiter {
         number,
-        event: event.copy(alloc)?,
         prior: prior_of(event),
         said: said_of_event(event),
-    })
+    }
 }
 
 // Puts what waits into the escrow.
@@ -222,10 +210,7 @@ fn put_waiter(waiting: &mut Waiting, waiter: Waiter) -> Result<(), AllocError>
     ensures waits { OnOk result ((n : ℕ) → held_by n waiting.new ≡ placed (Some waiter) n (held_by n waiting.old)) }
     ensures same { OnErr result ((n : ℕ) → held_by n waiting.new ≡ held_by n waiting.old) }
 {
-    if let Err(error) = waiting.reserve(&waiter) {
-        drop(waiter);
-        return Err(error);
-    }
+    waiting.reserve(&waiter)?;
     waiting.put(waiter);
     Ok(())
 }

@@ -19,7 +19,7 @@ use crate::name::{ClaimKey, Name, name_of};
 use event_body::Event;
 use event_index::Index;
 use journal::{Claim, Entry, Question};
-use lists::Items;
+use lists::{Items, length_u32};
 use std::alloc::AllocError;
 
 impl Tables {
@@ -147,17 +147,7 @@ fn note_took(
     ensures kept_told { KeepsBelow count (numbers_at ⟦<Name as Ord>⟧.cmp told.old) (numbers_at ⟦<Name as Ord>⟧.cmp told.new) }
     ensures kept_came { KeepsBelow count (came_at came.old) (came_at came.new) }
 {
-    let number = number_from(count)?;
+    let number = length_u32(count)?;
     told.add(name_of(event), number)?;
     came.add(body, claims, number)
-}
-
-/// A length as a number. More rows than numbers are more than memory holds.
-pub(crate) fn number_from(length: usize) -> Result<u32, AllocError>
-    ensures { IfOk result (λ n. n ≡ length) }
-{
-    match u32::try_from(length) {
-        Ok(number) => Ok(number),
-        Err(_) => Err(AllocError),
-    }
 }

@@ -18,7 +18,6 @@ ghost use Rattle.core_tables.specs.Rows.{event_there, is_named, is_number, is_se
 ghost use Rattle.core_tables.specs.View.{body_of, log_of, with_log};
 
 use crate::Tables;
-use crate::entries::number_from;
 use crate::held::held;
 use crate::name::{Name, SealKey, has_name, name_of, prior_name};
 use crate::tables::event_at;
@@ -28,6 +27,7 @@ use event_backing::{EventSeal, anchors, seals};
 use event_body::{Event, prefix_of, said_of_event, sn_of};
 use event_index::Index;
 use key_state::KeyState;
+use lists::length_u32;
 use std::alloc::{AllocError, Global};
 
 impl Tables {
@@ -215,9 +215,9 @@ fn note_next(
     ensures kept { KeepsBelow count (numbers_at ⟦<Name as Ord>⟧.cmp accepted.old) (numbers_at ⟦<Name as Ord>⟧.cmp accepted.new) }
     ensures kept_sealed { KeepsBelow count (numbers_at ⟦<SealKey as Ord>⟧.cmp sealed.old) (numbers_at ⟦<SealKey as Ord>⟧.cmp sealed.new) }
 {
-    let place = number_from(count)?;
+    let place = length_u32(count)?;
     note_accepted(alloc, accepted, sealed, event, place)?;
-    number_from(entries)
+    length_u32(entries)
 }
 
 // Adds a place of the log under the name of its event and under what that seals.

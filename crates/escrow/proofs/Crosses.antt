@@ -22,7 +22,6 @@ use Rattle.std.specs.contracts.prelude.FoldHasherHasher.TheImpl as fold_hasher
 use Rattle.indexmap.proofs.map.IndexMap.TheSendSync as map
 use Rattle.std.proofs.option.Option.TheSendSync as options
 use Rattle.std.specs.contracts.option.Option as option
-use Rattle.event_body.proofs.Crosses.{event_send}
 use Rattle.escrow.specs.contracts.digest_numbers.DigestNumbers as numbers
 use Rattle.escrow.specs.contracts.waiter.Waiter as waiter
 use Rattle.escrow.specs.contracts.waiting.Waiting as waiting
@@ -41,7 +40,7 @@ digest_option : IsSend (option.the_row digests.the_row)
 digest_option = options.the_send digests.the_row digest.the_send
 
 waiter_send : IsSend waiter.the_row
-waiter_send = declared_send waiter.the_type (search sendable, (event_send, (digest_option, (digest.the_send, tt))))
+waiter_send = declared_send waiter.the_type (search sendable, (digest_option, (digest.the_send, tt)))
 
 pub waiting_send : IsSend waiting.the_row
 waiting_send =

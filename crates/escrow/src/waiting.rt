@@ -30,11 +30,10 @@ impl Model for Waiting {
     ghost use Rattle.indexmap.specs.IndexMap.{get, spare};
     ghost use Rattle.escrow.specs.Escrow.{Escrow};
     ghost use Rattle.escrow.specs.Tables.{HasNumbers, HasRoom, numbers_at, room_at};
-    ghost use Rattle.json_tree.specs.contracts.tree.Tree as tree;
 
     ghost Value = { Escrow };
 
-    ghost coded = { Prim.hlevel (codes, code, tree.the_row.coded) };
+    ghost coded = { Prim.hlevel (codes, code) };
 
     ghost view = { λ w. record { waiters = from_entries w.waiters.entries; room = w.room } };
 

@@ -1,5 +1,4 @@
 pub mod Hex
-pub mod Primitives
 pub mod Keys
 pub mod Adding
 pub mod BackersOf

@@ -7,8 +7,8 @@ ghost use Rattle.event_backing.specs.Listing.{AreSealsOf, Is};
 
 use crate::EventSeal;
 use crate::seal_texts::seal_texts;
-use crate::spellings::{digest_of, is_digest, is_number, is_prefix, number_of, prefix_of};
-use cesr_codes::{Digest, Prefix};
+use crate::spellings::{is_digest, is_number, is_prefix, number_of};
+use cesr_codes::{Digest, Prefix, of_text};
 use event_body::Event;
 use json_tree::Tree;
 use std::alloc::{AllocError, Global};
@@ -57,9 +57,9 @@ pub(crate) fn seal_in(value: &Tree) -> Option<EventSeal>
     ensures { Is value.now result }
 {
     let texts = seal_texts(value)?;
-    let prefix = prefix_of(texts.prefix)?;
+    let prefix = of_text::<Prefix>(texts.prefix)?;
     let sn = number_of(texts.sn)?;
-    let said = digest_of(texts.said)?;
+    let said = of_text::<Digest>(texts.said)?;
     Some(EventSeal { prefix, sn, said })
 }
 

@@ -1,45 +1,13 @@
 //! Texts of identifiers, numbers and digests.
 ghost use Rattle.std.specs.Prelude.{◌≡◌, ◌≢◌, ◌<◌, ◌^◌, ℕ, false, IfSome, IfNone, bytes_eq};
 ghost use Rattle.std.specs.Fmt.{digits};
-ghost use Rattle.cesr_codes.specs.Spelling.{IsDigest, IsPrefix, digest_text, prefix_text};
-ghost use Rattle.cesr_codes.specs.declared.digest.Digest.{Digest};
-ghost use Rattle.cesr_codes.specs.declared.prefix.Prefix.{Prefix};
+ghost use Rattle.cesr_codes.specs.Spelling.{digest_text, prefix_text};
 
 use cesr_codes::{Digest, Prefix};
 use hex_numbers::{hex_value, is_hex_number};
 
 /// How many digits the number of an event seal has at most.
 const MOST_DIGITS: usize = 16;
-
-/// The identifier whose text this is.
-pub(crate) fn prefix_of(text: &[u8]) -> Option<Prefix>
-    ensures some { IfSome result (λ prefix. IsPrefix prefix × (text.now ≡ prefix_text prefix)) }
-    ensures none { IfNone result ((prefix : Prefix) → IsPrefix prefix → text.now ≢ prefix_text prefix) }
-{
-    let Ok(found) = Prefix::read(text) else {
-        return None;
-    };
-    if found.1 == text.len() {
-        Some(found.0)
-    } else {
-        None
-    }
-}
-
-/// The digest whose text this is.
-pub(crate) fn digest_of(text: &[u8]) -> Option<Digest>
-    ensures some { IfSome result (λ digest. IsDigest digest × (text.now ≡ digest_text digest)) }
-    ensures none { IfNone result ((digest : Digest) → IsDigest digest → text.now ≢ digest_text digest) }
-{
-    let Ok(found) = Digest::read(text) else {
-        return None;
-    };
-    if found.1 == text.len() {
-        Some(found.0)
-    } else {
-        None
-    }
-}
 
 /// The number whose digits these are, where it has at most 16.
 pub(crate) fn number_of(text: &[u8]) -> Option<u64>

@@ -10,7 +10,7 @@ ghost use Rattle.key_state.specs.Same.{are_witnesses};
 
 use crate::signers::opens_commitment;
 use crate::witnesses::place_of;
-use cesr_codes::Key;
+use cesr_codes::{IndexedSig, Key};
 use event_body::Event;
 use journal::Claim;
 use key_state::KeyState;
@@ -56,9 +56,17 @@ fn index_of(claim: &Claim) -> Option<u16>
 fn revealed_by(state: Option<&KeyState>, event: &Event, claim: &Claim) -> Option<u16>
     ensures { (n : ℕ) → is_number result n ≡ is_held_as (opens_at (option_copied state.entry) event.now n) claim.now }
 {
-    let Claim::Held(sig) = claim else {
-        return None;
-    };
+    match claim {
+        Claim::Held(sig) => reveal_of(state, event, sig),
+        Claim::Witness(_) | Claim::Couple(..) => None,
+    }
+}
+
+/// The place of the commitment to a next key that a signature on the event opens behind a state, where it opens one (KERI,
+/// pre-rotation). It takes no memory.
+pub fn reveal_of(state: Option<&KeyState>, event: &Event, sig: &IndexedSig) -> Option<u16>
+    ensures { (n : ℕ) → is_number result n ≡ opens_at (option_copied state.entry) event.now n sig.now }
+{
     let place = sig.ondex?;
     if opens_commitment(state, event, place, sig) {
         Some(place)

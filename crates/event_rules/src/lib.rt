@@ -13,7 +13,7 @@ mod thresholds;
 mod verdicts;
 mod witnesses;
 
-pub use additions::Additions;
+pub use additions::{Additions, reveal_of};
 pub use claim_support::ClaimSupport;
 pub use delegation::{delegator_of, forbids_delegation, is_delegated};
 pub use laws::claims_support;

@@ -68,7 +68,8 @@ tells_again mode given reader core close t (inr out) = rw out (record {
   heard_are = t.heard_are;
   only = t.only;
   reads = reads_out given reader.source reader.verifier t.bytes _ _ reader.close t.reads;
-  asked = λ some. absurd (some refl);
+  asked = tt;
+  inquired = t.inquired;
   mode_is = t.mode_is;
   limits_are = t.limits_are;
   no_base = t.no_base;
@@ -108,6 +109,7 @@ is_told_by mode given reader core t stands = record {
   };
   reads = t.reads;
   asked = t.asked;
+  inquired = t.inquired;
   regular = subst (λ m. IsRegular m [] (told_of core)) t.mode_is (regular_of core t.no_base stands);
   within = subst (λ l. IsWithin l [] (told_of core)) t.limits_are (within_of core t.no_base stands);
   settled = settled_of core mode t.no_base t.mode_is stands;

@@ -36,7 +36,7 @@ abbrev pub tells_stream : LogMaker → SourceTold
 tells_stream maker = record { left = maker_left maker; faults = maker_faults maker }
 
 abbrev pub tells_all : {A : Type 0} → (Key → List ℕ → Sig → Option Bool) → A → VerifierTold
-tells_all says x = record { says = says; faults = 0 }
+tells_all says x = record { says = says; inquiries = None; faults = 0 }
 
 pub none_counted : {A : Type 0} (says : Key → List ℕ → Sig → Option Bool) (o : Option A) → IfSome (option_map (tells_all says) o) (λ v. v.faults ≡ 0)
 none_counted says None = tt

@@ -3,6 +3,7 @@ pub mod Questions
 pub mod Offers
 pub mod Tells
 pub mod CoreTold
+pub mod Dues
 pub mod Made
 pub mod Causes
 pub mod Rehearsed

@@ -5,6 +5,7 @@ use Rattle.std.specs.List.{list_any, list_all}
 use Rattle.keri_specs.specs.Causes.{Rose}
 use Rattle.cesr_codes.specs.declared.key.Key.{Key}
 use Rattle.cesr_codes.specs.declared.sig.Sig.{Sig}
+use Rattle.keri_outside.specs.declared.signing.Signing.{Signing}
 use Rattle.message_feed.specs.declared.text_close.TextClose.{TextClose}
 use Rattle.message_feed.specs.declared.text_close.TextClose.TheVariants as text
 use Rattle.plan_answer.specs.declared.answer.PlanAnswer.{PlanAnswer}
@@ -58,7 +59,7 @@ module _ (given : MadeFrom) (owed : Option (List ℕ)) (besides : Besides) where
   words_by false false signer d e = let clash : false ≡ true = sym (ap (λ b. b.words_refused) d.1) ∙ e in cc
   words_by false true None d e = let clash : false ≡ true = sym (ap (λ b. b.words_refused) d.1) ∙ e in cc
   words_by false true (Some signer) (inl o) e = found_words o.answer (sym (ap (λ b. b.words_refused) o.found) ∙ e)
-  words_by false true (Some signer) (inr n) e = let clash : false ≡ true = sym (ap (λ b. b.words_refused) n.1) ∙ e in cc
+  words_by false true (Some signer) (inr n) e = let clash : false ≡ true = sym (ap (λ b. b.words_refused) n.found) ∙ e in cc
 
   pub due_in_form : (closes : List Close) (signer : Option SignerTold) → IsDue given closes signer owed besides → besides.words_refused ≡ true → ⊥
   due_in_form closes signer d e = words_by (list_any is_out closes) (list_all is_through closes) signer d e
@@ -69,7 +70,7 @@ module _ (given : MadeFrom) (owed : Option (List ℕ)) (besides : Besides) where
   signer_by rose true through (Some signer) none d e = let clash : false ≡ true = sym (ap (λ b. b.signer_failed) d.1) ∙ e in cc
   signer_by rose false false (Some signer) none d e = let clash : false ≡ true = sym (ap (λ b. b.signer_failed) d.1) ∙ e in cc
   signer_by rose false true (Some signer) none (inl o) e = found_signer o.answer signer.faults o.counts (sym (ap (λ b. b.signer_failed) o.found) ∙ e)
-  signer_by rose false true (Some signer) none (inr n) e = let clash : false ≡ true = sym (ap (λ b. b.signer_failed) n.1) ∙ e in cc
+  signer_by rose false true (Some signer) none (inr n) e = let clash : false ≡ true = sym (ap (λ b. b.signer_failed) n.found) ∙ e in cc
 
   pub due_signer : (rose : Type 0) (closes : List Close) (signer : Option SignerTold) → (is_none signer ≡ true → rose) → IsDue given closes signer owed besides
       → besides.signer_failed ≡ true → MatchOption signer rose (λ s. Rose 0 s.faults)
@@ -96,11 +97,12 @@ fourth_of false false true e = refl
 fourth_of false false false e = rw e refl
 
 -- what is seen of a signer
-pub signer_none : {S : Type 0} (gives : S → Key → List ℕ → Option Sig) (faults : S → ℕ) (signer : Option S) → is_none (signer_seen gives faults signer) ≡ is_none signer
-signer_none gives faults None = refl
-signer_none gives faults (Some s) = refl
+module _ {S : Type 0} (gives : S → Key → List ℕ → Option Sig) (signings : S → Option (List Signing)) (faults : S → ℕ) where
+  pub signer_none : (signer : Option S) → is_none (signer_seen gives signings faults signer) ≡ is_none signer
+  signer_none None = refl
+  signer_none (Some s) = refl
 
-pub gives_seen : {S : Type 0} (gives : S → Key → List ℕ → Option Sig) (faults : S → ℕ) (signer : Option S) (told : Key → List ℕ → Option Sig)
-    → IfSome signer (λ s. gives s ≡ told) → IfSome (signer_seen gives faults signer) (λ s. s.gives ≡ told)
-gives_seen gives faults None told e = tt
-gives_seen gives faults (Some s) told e = e
+  pub gives_seen : (signer : Option S) (told : Key → List ℕ → Option Sig) → IfSome signer (λ s. gives s ≡ told)
+      → IfSome (signer_seen gives signings faults signer) (λ s. s.gives ≡ told)
+  gives_seen None told e = tt
+  gives_seen (Some s) told e = e

@@ -1,15 +1,18 @@
 -- What a message, and the verdicts behind it, make of what stands.
-use Rattle.std.proofs.Common.{◌≡◌, ◌≢◌, ℕ, ◌<◌, ◌⊎◌, inl, inr, Bool, List, [], ◌∷◌, ◌++◌, Option, Some, None, Result, Ok, Err, refl, sym, ◌∙◌, ap, subst, arith, append-nil}
-use Rattle.std.specs.Prelude.{filter, flat_map, All, OnOk, OnErr, IfErr}
+use Rattle.std.proofs.Common.{◌≡◌, ◌≢◌, ℕ, ◌<◌, ◌⊎◌, inl, inr, Bool, List, [], ◌∷◌, ◌++◌, Option, Some, None, Result, Ok, Err, refl, sym, ◌∙◌, ap, subst, arith, append-nil, append_assoc}
+use Rattle.std.specs.Prelude.{filter, flat_map, All, OnOk, OnErr, IfErr, map, take}
 use Rattle.std.proofs.lemmas.Bool.{cases_Bool}
 use Rattle.std.proofs.lemmas.List.{map-append}
 use Rattle.std.proofs.lemmas.Grind.{flat_map-append}
 use Rattle.std.proofs.lemmas.List.Elements.{All-append, All-push, All-cons, All-nil, All-head, All-tail, All-weaker, filter-append}
+use Rattle.keri_specs.specs.Told.{after}
+use Rattle.keri_specs.proofs.Putting.{after-nil, after-append}
 use Rattle.cesr_codes.specs.declared.key.Key.{Key}
 use Rattle.cesr_codes.specs.declared.sig.Sig.{Sig}
 use Rattle.cesr_stream.specs.declared.message.Message.{Message}
 use Rattle.event_body.specs.declared.event.Event.{Event}
 use Rattle.event_body.specs.declared.body_fault.BodyFault.{BodyFault}
+use Rattle.keri_outside.specs.declared.inquiry.Inquiry.{Inquiry}
 use Rattle.keri_outside.specs.declared.limits.Limits.{Limits}
 use Rattle.journal.specs.declared.body.Body.{Body}
 use Rattle.journal.specs.declared.claim.Claim.{Claim}
@@ -31,10 +34,10 @@ use Rattle.journal.specs.Questions.{questions, raised}
 use Rattle.validator_core.specs.MessageCalls.{TakesMessage}
 use Rattle.validator_core.specs.View.{CoreView, Follows, base_of, told_of, open_of}
 use Rattle.keri_roles.specs.declared.validator.Validator.{Validator}
-use Rattle.keri_roles.proofs.Questions.{asks_nothing, follows_itself, follows_on, no_bodies}
+use Rattle.keri_roles.proofs.Questions.{all_heard, asks_nothing, follows_itself, follows_on, no_bodies, none_besides}
 use Rattle.run_status.specs.declared.close.Close.{Close}
 use Rattle.run_status.specs.declared.close.Close.TheVariants.{End, Bad, ReadFault, VerifierFault, WriteFault, Malformed, Full as FullClose, OutOfMemory}
-use Rattle.keri_roles.specs.Verdicts.{Asks, IsVerdict, StopsAsking}
+use Rattle.keri_roles.specs.Verdicts.{Asks, AsksOpen, IsVerdict, StopsAsking, inquiries_in, inquiry_in, inquiry_on}
 use Rattle.keri_roles.specs.Offers.{Stands, IsTurnedAway, Offers, HasTaken, HasStopped}
 
 -- what is noted of a message by the reply to it
@@ -116,6 +119,22 @@ verdicts_untaken says (took reader b claims ∷ rest) each = absurd (All-head (I
 verdicts_untaken says (heard reader b key sig verdict ∷ rest) each = verdicts_untaken says rest
     (All-tail (IsVerdict says) (heard reader b key sig verdict) rest each)
 
+-- no verdict was asked for the entry of a message
+entry_inquired : (r : Option Reason) (m : Message) (gives : Result Event BodyFault) → inquiries_in (entry_unless r 0 m gives) ≡ []
+entry_inquired None m (Ok e) = refl
+entry_inquired None m (Err fault) = refl
+entry_inquired (Some reason) m gives = refl
+
+-- what was asked for verdicts behind a message comes behind what was asked before
+inquired_more : (first mid now : Option (List Inquiry)) (told entry verdicts new : List Told) (front : List Inquiry) → mid ≡ after first (inquiries_in told) → now ≡ after mid (inquiries_in verdicts ++ front)
+    → inquiries_in entry ≡ [] → new ≡ (told ++ entry) ++ verdicts → now ≡ after first (inquiries_in new ++ front)
+inquired_more first mid now told entry verdicts new front before behind none is =
+    let whole : inquiries_in new ≡ inquiries_in told ++ inquiries_in verdicts
+    = ap inquiries_in is ∙ (flat_map-append inquiry_in (told ++ entry) verdicts
+    ∙ ap (λ qs. qs ++ inquiries_in verdicts) (flat_map-append inquiry_in told entry ∙ (ap (λ qs. inquiries_in told ++ qs) none ∙ append-nil (inquiries_in told)))) in
+    behind ∙ (ap (λ m. after m (inquiries_in verdicts ++ front)) before ∙ (after-append first (inquiries_in told) (inquiries_in verdicts ++ front)
+    ∙ ap (after first) (sym (append_assoc (inquiries_in told) (inquiries_in verdicts) front) ∙ ap (λ qs. qs ++ front) (sym whole))))
+
 verdict_heard : (says : Key → List ℕ → Sig → Option Bool) (t : Told) → IsVerdict says t → IsHeardFrom 0 says t
 verdict_heard says (took reader b claims) v = absurd v
 verdict_heard says (heard reader b key sig verdict) v = λ same. v.1
@@ -171,11 +190,11 @@ pub asked_nothing : (mode : Mode) → questions mode [] (told_by [] []) ≡ []
 unfolding told_by questions raised accepted grown_by bodies distinct
 asked_nothing mode = refl
 
-module _ {V : Type 0} (says : V → Key → List ℕ → Sig → Option Bool) (faults : V → ℕ) where
+module _ {V : Type 0} (says : V → Key → List ℕ → Sig → Option Bool) (inquiries : V → Option (List Inquiry)) (faults : V → ℕ) where
   -- a core that was told nothing, and a reader that refused nothing
   pub begins : (mode : Mode) (limits : Limits) (first : Validator V) → first.core ≡ record
       { mode = mode; limits = limits; base = 0; held = []; entries = []; accepted = [] } → first.refused.items ≡ []
-      → HasTaken says faults first first []
+      → HasTaken says inquiries faults first first []
   begins mode limits first core none = record {
     offers = record {
       offered = [];
@@ -188,6 +207,8 @@ module _ {V : Type 0} (says : V → Key → List ℕ → Sig → Option Bool) (f
         only = rw (told_nothing first.core mode limits core) (All-nil _);
       };
       same_says = refl;
+      asked = none_besides (inquiries first.verifier) (inquiries first.verifier) (told_of first.core) (open_of first.core)
+          (rw (told_nothing first.core mode limits core) (after-nil (inquiries first.verifier)));
       no_base = ap (λ c. c.base) core;
       follows = follows_itself first.core;
     };
@@ -195,11 +216,12 @@ module _ {V : Type 0} (says : V → Key → List ℕ → Sig → Option Bool) (f
     none_failed = refl;
   }
 
-  module _ (first old new : Validator V) (before : List Message) (m : Message) (t : HasTaken says faults first old before) where
+  module _ (first old new : Validator V) (before : List Message) (m : Message) (t : HasTaken says inquiries faults first old before) where
     -- a message was offered for which there was room, and then verdicts were heard
-    pub offers_more : (core : CoreView) (reply : Reply) → TakesMessage old.core 0 m reply core → reply ≢ Full → Asks (says old.verifier) core new.core
+    pub offers_more : (core : CoreView) (reply : Reply) → TakesMessage old.core 0 m reply core → reply ≢ Full
+        → Asks (says old.verifier) (inquiries old.verifier) (inquiries new.verifier) core new.core (open_of new.core)
         → new.refused.items ≡ old.refused.items ++ refused_as m.place reply → says new.verifier ≡ says old.verifier
-        → Offers says faults first new (before ++ m ∷ [])
+        → Offers says inquiries faults first new (before ++ m ∷ [])
     offers_more core reply takes roomy asks noted same =
         let o = t.offers in
         let j : Judged = record { message = m; gives = takes.gives } in
@@ -212,6 +234,14 @@ module _ {V : Type 0} (says : V → Key → List ℕ → Sig → Option Bool) (f
           stands = stands_asked (says first.verifier) (told_of core) new.refused.items (o.offered ++ j ∷ []) more (told_of new.core) asks.verdicts
               asks.behind (rw o.same_says at asks.each);
           same_says = same ∙ o.same_says;
+          asked = (
+            inquiries_in (told_of new.core) ++ take asks.asked.1.0 (map inquiry_on (open_of new.core)),
+            (asks.asked.1.0, asks.asked.1.1, refl),
+            inquired_more (inquiries first.verifier) (inquiries old.verifier) (inquiries new.verifier) (told_of old.core) (entry_of 0 j) asks.verdicts (told_of new.core) _
+                (all_heard (inquiries first.verifier) (inquiries old.verifier) (told_of old.core) (open_of old.core) t.none_open o.asked)
+                (asks.asked.2 ∙ ap (after (inquiries old.verifier)) asks.asked.1.2)
+                (entry_inquired (refusal m takes.gives) m takes.gives) (asks.behind ∙ ap (λ ts. ts ++ asks.verdicts) was.behind),
+          );
           no_base = asks.follows.base ∙ (takes.follows.base ∙ o.no_base);
           follows = follows_on o.follows (follows_on takes.follows asks.follows);
         }
@@ -219,10 +249,11 @@ module _ {V : Type 0} (says : V → Key → List ℕ → Sig → Option Bool) (f
   -- a message was refused, and nothing else has changed
   pub refused_on : (old new : Validator V) (m : Message) (reason : Reason) → TakesMessage old.core 0 m (Refused reason) new.core → new.verifier ≡ old.verifier
       → {E : Type 0} (r : Result (Unit {0}) E) → OnOk r (new.refused.items ≡ old.refused.items ++ record { place = m.place; reason = reason } ∷ [])
-      → OnOk r ((first : Validator V) (before : List Message) → HasTaken says faults first old before → HasTaken says faults first new (before ++ m ∷ []))
+      → OnOk r ((first : Validator V) (before : List Message) → HasTaken says inquiries faults first old before → HasTaken says inquiries faults first new (before ++ m ∷ []))
   refused_on old new m reason takes same (Err e) noted = tt
   refused_on old new m reason takes same (Ok done) noted = λ first before t. record {
-    offers = offers_more first old new before m t new.core (Refused reason) takes (λ e. cc) (asks_nothing (says old.verifier) new.core) noted (ap says same);
+    offers = offers_more first old new before m t new.core (Refused reason) takes (λ e. cc) (subst (λ v. Asks (says old.verifier) (inquiries old.verifier) (inquiries v) new.core new.core (open_of new.core)) (sym same)
+        (asks_nothing (says old.verifier) (inquiries old.verifier) new.core (open_of new.core))) noted (ap says same);
     none_open = rw (takes.follows.mode, takes.follows.bodies, refused_told old.core new.core m reason takes) t.none_open;
     none_failed = ap faults same ∙ t.none_failed;
   }
@@ -230,8 +261,8 @@ module _ {V : Type 0} (says : V → Key → List ℕ → Sig → Option Bool) (f
   -- there was no memory, and nothing was told or noted
   unmoved : (old new : Validator V) (m : Message) → told_of new.core ≡ told_of old.core → Follows old.core new.core
       → new.refused.items ≡ old.refused.items → new.verifier ≡ old.verifier
-      → (first : Validator V) (before : List Message) → HasTaken says faults first old before
-      → HasStopped says faults first new OutOfMemory (before ++ m ∷ [])
+      → (first : Validator V) (before : List Message) → HasTaken says inquiries faults first old before
+      → HasStopped says inquiries faults first new OutOfMemory (before ++ m ∷ [])
   unmoved old new m told follows refused same first before t =
       let o = t.offers in
       record {
@@ -243,6 +274,7 @@ module _ {V : Type 0} (says : V → Key → List ℕ → Sig → Option Bool) (f
           messages_are = o.messages_are;
           stands = rw (told, refused) o.stands;
           same_says = ap says same ∙ o.same_says;
+          asked = rw (follows.mode, follows.bodies, told, same) o.asked;
           no_base = follows.base ∙ o.no_base;
           follows = follows_on o.follows follows;
         });
@@ -250,8 +282,8 @@ module _ {V : Type 0} (says : V → Key → List ℕ → Sig → Option Bool) (f
 
   -- there was no room for a message, and nothing has changed
   pub full_on : (old new : Validator V) (m : Message) → TakesMessage old.core 0 m Full new.core → new.refused.items ≡ old.refused.items
-      → new.verifier ≡ old.verifier → (first : Validator V) (before : List Message) → HasTaken says faults first old before
-      → HasStopped says faults first new FullClose (before ++ m ∷ [])
+      → new.verifier ≡ old.verifier → (first : Validator V) (before : List Message) → HasTaken says inquiries faults first old before
+      → HasStopped says inquiries faults first new FullClose (before ++ m ∷ [])
   full_on old new m takes refused same first before t =
       let o = t.offers in
       let follows = takes.follows in
@@ -267,6 +299,7 @@ module _ {V : Type 0} (says : V → Key → List ℕ → Sig → Option Bool) (f
             messages_are = o.messages_are;
             stands = rw (away.0, refused) o.stands;
             same_says = ap says same ∙ o.same_says;
+            asked = rw (follows.mode, follows.bodies, away.0, same) o.asked;
             no_base = follows.base ∙ o.no_base;
             follows = follows_on o.follows follows;
           };
@@ -279,20 +312,20 @@ module _ {V : Type 0} (says : V → Key → List ℕ → Sig → Option Bool) (f
   -- a message that is refused couldn't be noted
   pub unnoted_on : (old new : Validator V) (m : Message) (reason : Reason) → TakesMessage old.core 0 m (Refused reason) new.core
       → new.verifier ≡ old.verifier → {A : Type 0} (r : Result A Close) → IfErr r (λ close. close ≡ OutOfMemory) → OnErr r (new.refused.items ≡ old.refused.items)
-      → IfErr r (λ close. (first : Validator V) (before : List Message) → HasTaken says faults first old before
-      → HasStopped says faults first new close (before ++ m ∷ []))
+      → IfErr r (λ close. (first : Validator V) (before : List Message) → HasTaken says inquiries faults first old before
+      → HasStopped says inquiries faults first new close (before ++ m ∷ []))
   unnoted_on old new m reason takes same (Ok done) out kept = tt
   unnoted_on old new m reason takes same (Err close) out kept = λ first before t.
-      subst (λ c. HasStopped says faults first new c (before ++ m ∷ [])) (sym out)
+      subst (λ c. HasStopped says inquiries faults first new c (before ++ m ∷ [])) (sym out)
       (unmoved old new m (refused_told old.core new.core m reason takes) takes.follows kept same first before t)
 
   module _ (old new : Validator V) (m : Message) (core : CoreView) (reply : Reply) (takes : TakesMessage old.core 0 m reply core)
-      (roomy : reply ≢ Full) (asks : Asks (says old.verifier) core new.core)
+      (roomy : reply ≢ Full) (asks : Asks (says old.verifier) (inquiries old.verifier) (inquiries new.verifier) core new.core (open_of new.core))
       (same : says new.verifier ≡ says old.verifier) where
     -- it was taken where no question is left
     pub taken_on : {E : Type 0} (r : Result (Unit {0}) E) → new.refused.items ≡ old.refused.items ++ refused_as m.place reply
         → OnOk r (open_of new.core ≡ []) → OnOk r (faults new.verifier ≡ faults old.verifier)
-        → OnOk r ((first : Validator V) (before : List Message) → HasTaken says faults first old before → HasTaken says faults first new (before ++ m ∷ []))
+        → OnOk r ((first : Validator V) (before : List Message) → HasTaken says inquiries faults first old before → HasTaken says inquiries faults first new (before ++ m ∷ []))
     taken_on (Err e) noted none kept = tt
     taken_on (Ok done) noted none kept = λ first before t. record {
       offers = offers_more first old new before m t core reply takes roomy asks noted same;
@@ -302,16 +335,17 @@ module _ {V : Type 0} (says : V → Key → List ℕ → Sig → Option Bool) (f
 
     -- or the reader stopped there
     pub stopped_on : {A : Type 0} (r : Result A Close) → new.refused.items ≡ old.refused.items ++ refused_as m.place reply
-        → IfErr r (λ close. StopsAsking (faults old.verifier) (faults new.verifier) close)
-        → IfErr r (λ close. (first : Validator V) (before : List Message) → HasTaken says faults first old before
-        → HasStopped says faults first new close (before ++ m ∷ []))
+        → IfErr r (StopsAsking (faults old.verifier) (faults new.verifier) (open_of new.core))
+        → IfErr r (λ close. (first : Validator V) (before : List Message) → HasTaken says inquiries faults first old before
+        → HasStopped says inquiries faults first new close (before ++ m ∷ []))
     stopped_on (Ok done) noted stops = tt
     stopped_on (Err VerifierFault) noted stops = λ first before t. record {
       earlier = before;
       last = m;
       all = refl;
       offers = offers_more first old new before m t core reply takes roomy asks noted same;
-      rose = rw t.none_failed at stops;
+      some_open = stops.1;
+      rose = rw t.none_failed at stops.0;
     }
     stopped_on (Err OutOfMemory) noted stops = λ first before t. record {
       earlier = before;

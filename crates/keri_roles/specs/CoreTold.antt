@@ -1,12 +1,14 @@
 -- What a core was told by the reader of a file.
-use Rattle.std.specs.Prelude.{◌≡◌, ◌≢◌, ℕ, ◌<◌, ◌⊎◌, Bool, false, List, [], ◌∷◌, ◌++◌, map, All, MatchOption, is_none}
+use Rattle.std.specs.Prelude.{◌≡◌, ◌≢◌, ℕ, ◌<◌, ◌⊎◌, Bool, false, List, [], ◌∷◌, ◌++◌, map, All, IfSome, is_none}
 use Rattle.std.specs.declared.option.Option.{Option}
 use Rattle.std.specs.declared.option.Option.TheVariants.{None, Some}
 use Rattle.keri_specs.specs.Causes.{Rose}
 use Rattle.cesr_codes.specs.declared.key.Key.{Key}
 use Rattle.cesr_codes.specs.declared.sig.Sig.{Sig}
 use Rattle.cesr_stream.specs.declared.message.Message.{Message}
+use Rattle.cesr_stream.specs.Assembly.{all_of}
 use Rattle.cesr_stream.specs.Items.{Placed}
+use Rattle.cesr_stream.specs.Messages.{messages}
 use Rattle.cesr_stream.specs.Reading.{Reading}
 use Rattle.run_outside.specs.Told.{making}
 use Rattle.keri_outside.specs.declared.limits.Limits.{Limits}
@@ -31,6 +33,7 @@ use Rattle.run_status.specs.declared.close.Close.{Close}
 use Rattle.run_status.specs.declared.close.Close.TheVariants.{End, Bad, ReadFault, VerifierFault, WriteFault, Malformed, Full, OutOfMemory}
 use Rattle.keri_roles.specs.Closes.{Closes, is_stopped}
 use Rattle.keri_roles.specs.Offers.{IsTurnedAway}
+use Rattle.keri_roles.specs.Verdicts.{IsHeardAndOpen}
 use Rattle.run_status.specs.Readers.{Reader, SourceTold, VerifierTold}
 use Rattle.keri_roles.specs.Run.{Work, AreMakings, Owes}
 use Rattle.run_status.specs.Status.{nothing_besides}
@@ -50,6 +53,11 @@ said_by (Some verifier) = verifier.says
 abbrev pub end_of : List ℕ → Reader → feeds.End
 end_of bytes reader = record { bytes = Some bytes; says = said_by reader.verifier; refused = reader.refused; stopped = is_stopped reader.close }
 
+-- all messages of the items were offered, but maybe the last, to which more might come
+pub record LacksOnlyOpen (limits : Limits) (items : List Placed) (offered : List Message) : Type 0 where
+  pub last : Option Message
+  pub all : offered ++ all_of last ≡ messages limits.message_signatures items
+
 -- the message that comes behind those offered finds no room
 pub record NextFindsNoRoom (limits : Limits) (bytes : List ℕ) (told : List Told) (offered : List Message) : Type 0 where
   pub next : Message
@@ -58,27 +66,27 @@ pub record NextFindsNoRoom (limits : Limits) (bytes : List ℕ) (told : List Tol
 
 module _ (given : Given) (source : SourceTold) (verifier : VerifierTold) where
   -- Why the reader closed: by its source, by its verifier's fault, or because a limit was reached: of the bytes that are
-  -- read, where there were more, or of what is taken, at the next message. Unless the verifier's fault closed it, that one
-  -- never failed.
-  abbrev pub ClosesReader : List ℕ → Reading → List Told → List Message → Close → Type 0
-  ClosesReader bytes reading told offered End = Closes given.limits.stream_bytes given.held source bytes reading End × (verifier.faults ≡ 0)
-  ClosesReader bytes reading told offered (Bad bad) = Closes given.limits.stream_bytes given.held source bytes reading (Bad bad) × (verifier.faults ≡ 0)
-  ClosesReader bytes reading told offered ReadFault = Closes given.limits.stream_bytes given.held source bytes reading ReadFault × (verifier.faults ≡ 0)
-  ClosesReader bytes reading told offered Full =
-      (Closes given.limits.stream_bytes given.held source bytes reading Full
+  -- read, where there were more, and all whole messages were offered, or of what is taken, at the next message. Unless the
+  -- verifier's fault closed it, that one never failed.
+  abbrev pub ClosesReader : List ℕ → Reading → List Placed → List Told → List Message → Close → Type 0
+  ClosesReader bytes reading items told offered End = Closes given.limits.stream_bytes given.held source bytes reading End × (verifier.faults ≡ 0)
+  ClosesReader bytes reading items told offered (Bad bad) = Closes given.limits.stream_bytes given.held source bytes reading (Bad bad) × (verifier.faults ≡ 0)
+  ClosesReader bytes reading items told offered ReadFault = Closes given.limits.stream_bytes given.held source bytes reading ReadFault × (verifier.faults ≡ 0)
+  ClosesReader bytes reading items told offered Full =
+      ((Closes given.limits.stream_bytes given.held source bytes reading Full × LacksOnlyOpen given.limits items offered)
       ⊎ (Gave given.held source.left bytes × NextFindsNoRoom given.limits bytes told offered))
       × (verifier.faults ≡ 0)
-  ClosesReader bytes reading told offered VerifierFault = Gave given.held source.left bytes × Rose 0 verifier.faults
-  ClosesReader bytes reading told offered WriteFault = ⊥
-  ClosesReader bytes reading told offered (Malformed place) = ⊥
-  ClosesReader bytes reading told offered OutOfMemory = ⊥
+  ClosesReader bytes reading items told offered VerifierFault = Gave given.held source.left bytes × Rose 0 verifier.faults
+  ClosesReader bytes reading items told offered WriteFault = ⊥
+  ClosesReader bytes reading items told offered (Malformed place) = ⊥
+  ClosesReader bytes reading items told offered OutOfMemory = ⊥
 
   -- These bytes were read, and the reader closed by its cause.
   pub record ClosesStream (bytes : List ℕ) (told : List Told) (offered : List Message) (close : Close) : Type 0 where
     pub reading : Reading
     pub items : List Placed
     pub stream : Stream given.limits bytes reading items
-    pub closes : ClosesReader bytes reading told offered close
+    pub closes : ClosesReader bytes reading items told offered close
 
   -- The source gave the bytes, and maybe more; and unless there was no memory, the reader closed by its cause.
   pub record ReadsStream (bytes : List ℕ) (told : List Told) (offered : List Message) (close : Close) : Type 0 where
@@ -103,9 +111,26 @@ IsUnmade None verifier close = close ≡ ReadFault
 IsUnmade (Some source) None close = close ≡ VerifierFault
 IsUnmade (Some source) (Some verifier) close = ⊥
 
--- no question is open but where the verifier has failed
-abbrev pub AreAsked : Mode → List Told → Option VerifierTold → Type 0
-AreAsked mode told verifier = (questions mode [] told ≡ []) ⊎ MatchOption verifier ⊥ (λ v. Rose 0 v.faults)
+-- a question is open where the verifier failed, and none where there never was one
+abbrev pub IsLeftOpen : Mode → List Told → Option VerifierTold → Type 0
+IsLeftOpen mode told None = questions mode [] told ≡ []
+IsLeftOpen mode told (Some verifier) = questions mode [] told ≢ []
+
+-- No question is open but where the verifier's fault closed the reader. Where there was no memory one may be.
+abbrev pub AreAsked : Mode → List Told → Option VerifierTold → Close → Type 0
+AreAsked mode told verifier VerifierFault = IsLeftOpen mode told verifier
+AreAsked mode told verifier End = questions mode [] told ≡ []
+AreAsked mode told verifier (Bad bad) = questions mode [] told ≡ []
+AreAsked mode told verifier ReadFault = questions mode [] told ≡ []
+AreAsked mode told verifier Full = questions mode [] told ≡ []
+AreAsked mode told verifier WriteFault = questions mode [] told ≡ []
+AreAsked mode told verifier (Malformed place) = questions mode [] told ≡ []
+AreAsked mode told verifier OutOfMemory = Unit {0}
+
+-- what the verifier was asked, where there is one and it tells: for the verdicts that were heard, in order, and maybe the
+-- first question that is open
+abbrev pub IsInquired : Mode → List Told → Option VerifierTold → Type 0
+IsInquired mode told verifier = IfSome verifier (λ v. IfSome v.inquiries (IsHeardAndOpen told (questions mode [] told)))
 
 -- no body is ready behind what is accepted
 abbrev pub AreSettled : Mode → List Body → List Told → Type 0
@@ -118,7 +143,8 @@ pub record Tells (mode : Mode) (given : Given) (reader : Reader) (core : CoreVie
   pub heard_are : All (IsHeardFrom 0 (said_by reader.verifier)) (told_of core)
   pub only : All (λ t. reader_of t < 1) (told_of core)
   pub reads : Reads given reader bytes (told_of core) (map (λ j. j.message) feeds_are.offered)
-  pub asked : reader.close ≢ OutOfMemory → AreAsked mode (told_of core) reader.verifier
+  pub asked : AreAsked mode (told_of core) reader.verifier reader.close
+  pub inquired : IsInquired mode (told_of core) reader.verifier
   pub mode_is : core.mode ≡ mode
   pub limits_are : core.limits ≡ given.limits
   pub no_base : core.base ≡ 0
@@ -141,13 +167,14 @@ abbrev pub given_in : Work → List ℕ → List ℕ → Given
 given_in work helper name = record { limits = work.before.limits; held = work.before.holds name; says = work.before.says helper }
 
 -- What is told in the journal is what the one reader fed, within the limits. Each verdict was given to a question that was
--- open. Unless there was no memory, one is open still only where the verifier's count rose. No event is ready that isn't
--- accepted.
+-- open. Unless there was no memory, one is open still exactly where the verifier failed, and it was asked nothing else but
+-- maybe that. No event is ready that isn't accepted.
 pub record IsToldBy (mode : Mode) (given : Given) (reader : Reader) (journal : Journal) : Type 0 where
   pub bytes : List ℕ
   pub fed : IsFed given.limits 0 (end_of bytes reader ∷ []) journal
   pub reads : Reads given reader bytes (told_by fed.held journal.entries) (map (λ j. j.message) fed.fed.each.0.0.offered)
-  pub asked : reader.close ≢ OutOfMemory → AreAsked mode (told_by fed.held journal.entries) reader.verifier
+  pub asked : AreAsked mode (told_by fed.held journal.entries) reader.verifier reader.close
+  pub inquired : IsInquired mode (told_by fed.held journal.entries) reader.verifier
   pub regular : IsRegular mode [] (told_by fed.held journal.entries)
   pub within : IsWithin given.limits [] (told_by fed.held journal.entries)
   pub settled : AreSettled mode fed.held (told_by fed.held journal.entries)

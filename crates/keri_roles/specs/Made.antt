@@ -3,8 +3,10 @@ use Rattle.std.specs.Prelude.{◌≡◌, ℕ, ◌⊎◌, Bool, true, false, List
 use Rattle.std.specs.List.{list_any, list_all}
 use Rattle.std.specs.declared.option.Option.{Option}
 use Rattle.std.specs.declared.option.Option.TheVariants.{None, Some}
+use Rattle.keri_specs.specs.Told.{HasNone}
 use Rattle.cesr_codes.specs.declared.key.Key.{Key}
 use Rattle.cesr_codes.specs.declared.sig.Sig.{Sig}
+use Rattle.keri_outside.specs.declared.signing.Signing.{Signing}
 use Rattle.run_outside.specs.Told.{making}
 use Rattle.run_outside.specs.declared.making.MakingKind.TheVariants.{Source as SourceKind, Verifier as VerifierKind, Signer as SignerKind}
 use Rattle.journal.specs.declared.body.Body.{Body}
@@ -14,7 +16,7 @@ use Rattle.message_feed.specs.declared.text_close.TextClose.TheVariants as text
 use Rattle.message_feed.specs.Texts.{ReadsText}
 use Rattle.plan_answer.specs.declared.answer.PlanAnswer.{PlanAnswer}
 use Rattle.plan_answer.specs.declared.answer.PlanAnswer.TheVariants.{Message, Refused, SignerFault}
-use Rattle.plan_answer.specs.Answers.{IsAnswer, CountsFaults}
+use Rattle.plan_answer.specs.Answers.{IsAnswer, SignsNoMore, CountsFaults, signer_asked}
 use Rattle.plan_answer.specs.Asked.{LogTold}
 use Rattle.report_lines.specs.Lines.{plan_text}
 use Rattle.run_status.specs.declared.besides.Besides.{Besides}
@@ -92,28 +94,35 @@ pub record MadeFrom : Type 0 where
   pub log : Option LogTold
   pub text : List ℕ
 
--- the answer is owed, of a signer that had failed not yet
+-- the answer is owed, of a signer that hadn't been asked or failed yet
 pub record OwesAnswer (given : MadeFrom) (signer : SignerTold) (owed : Option (List ℕ)) (besides : Besides) : Type 0 where
   pub answer : PlanAnswer
-  pub is : IsAnswer given.gives given.log given.text answer
+  pub before : Option (List Signing)
+  pub none_before : HasNone before
+  pub is : IsAnswer (signer_asked given.gives before signer.signings) given.log given.text answer
   pub counts : CountsFaults 0 signer.faults answer
   pub owes : owed ≡ Some (written answer)
   pub found : besides ≡ found_in answer
 
--- There was no memory for the answer.
-abbrev pub OwesNone : SignerTold → Option (List ℕ) → Besides → Type 0
-OwesNone signer owed besides = (owed ≡ None) × (besides ≡ nothing_besides)
+-- There was no memory for the answer, or for its text. No more was signed than the message would have.
+pub record OwesNone (given : MadeFrom) (signer : SignerTold) (owed : Option (List ℕ)) (besides : Besides) : Type 0 where
+  pub before : Option (List Signing)
+  pub none_before : HasNone before
+  pub few : SignsNoMore (signer_asked given.gives before signer.signings) given.log given.text
+  pub owes : owed ≡ None
+  pub found : besides ≡ nothing_besides
 
--- this is owed, it is found whether the signer couldn't be made, and one that could hasn't failed
+-- this is owed, it is found whether the signer couldn't be made, and one that could wasn't asked and hasn't failed
 abbrev pub IsUnanswered : Option (List ℕ) → Option SignerTold → Option (List ℕ) → Besides → Type 0
-IsUnanswered text signer owed besides = (owed ≡ text) × (besides ≡ record nothing_besides { signer_failed = is_none signer }) × IfSome signer (λ s. s.faults ≡ 0)
+IsUnanswered text signer owed besides = (owed ≡ text) × (besides ≡ record nothing_besides { signer_failed = is_none signer })
+    × IfSome signer (λ s. HasNone s.signings × (s.faults ≡ 0))
 
 -- There is an answer where each reader came to the end and there is a signer. Else nothing is written.
 abbrev pub IsDueBy : MadeFrom → (out through : Bool) → Option SignerTold → Option (List ℕ) → Besides → Type 0
 IsDueBy given true through signer owed besides = IsUnanswered None signer owed besides
 IsDueBy given false false signer owed besides = IsUnanswered (Some []) signer owed besides
 IsDueBy given false true None owed besides = IsUnanswered (Some []) None owed besides
-IsDueBy given false true (Some signer) owed besides = OwesAnswer given signer owed besides ⊎ OwesNone signer owed besides
+IsDueBy given false true (Some signer) owed besides = OwesAnswer given signer owed besides ⊎ OwesNone given signer owed besides
 
 -- what is owed where the readers closed so
 abbrev pub IsDue : MadeFrom → List Close → Option SignerTold → Option (List ℕ) → Besides → Type 0

@@ -1,5 +1,5 @@
 -- What stands while a reader's messages are offered to a core.
-use Rattle.std.specs.Prelude.{◌≡◌, ℕ, ◌<◌, ◌⊎◌, Bool, List, [], ◌∷◌, ◌++◌, map, filter, flat_map, Option, All, Result}
+use Rattle.std.specs.Prelude.{◌≡◌, ◌≢◌, ℕ, ◌<◌, ◌⊎◌, Bool, List, [], ◌∷◌, ◌++◌, map, filter, flat_map, Option, All, Result}
 use Rattle.keri_specs.specs.Causes.{Rose}
 use Rattle.cesr_codes.specs.declared.key.Key.{Key}
 use Rattle.cesr_codes.specs.declared.sig.Sig.{Sig}
@@ -7,6 +7,7 @@ use Rattle.cesr_stream.specs.declared.message.Message.{Message}
 use Rattle.cesr_stream.specs.Assembly.{all_of}
 use Rattle.event_body.specs.declared.event.Event.{Event}
 use Rattle.event_body.specs.declared.body_fault.BodyFault.{BodyFault}
+use Rattle.keri_outside.specs.declared.inquiry.Inquiry.{Inquiry}
 use Rattle.keri_outside.specs.declared.limits.Limits.{Limits}
 use Rattle.journal.specs.declared.refusal.Refusal.{Refusal}
 use Rattle.journal.specs.declared.reply.Reply.TheVariants.{Full as FullReply}
@@ -18,6 +19,7 @@ use Rattle.message_feed.specs.declared.feed_close.FeedClose.{FeedClose}
 use Rattle.message_feed.specs.declared.feed_close.FeedClose.TheVariants as feed
 use Rattle.run_status.specs.declared.close.Close.{Close}
 use Rattle.run_status.specs.declared.close.Close.TheVariants.{End, Bad, ReadFault, VerifierFault, WriteFault, Malformed, Full, OutOfMemory}
+use Rattle.keri_roles.specs.Verdicts.{AsksOpen}
 use Rattle.keri_roles.specs.declared.validator.Validator.{Validator}
 
 -- These messages were offered: those that aren't refused were taken by the first reader, and the others are noted. All
@@ -35,13 +37,15 @@ pub record IsTurnedAway (limits : Limits) (told : List Told) (m : Message) : Typ
   pub judged : GivesBody m.body gives
   pub full : Takes limits [] told 0 m gives FullReply told
 
-module _ {V : Type 0} (says : V → Key → List ℕ → Sig → Option Bool) (faults : V → ℕ) where
-  -- Since it had the first of these values these messages were offered, to a core that began with nothing.
+module _ {V : Type 0} (says : V → Key → List ℕ → Sig → Option Bool) (inquiries : V → Option (List Inquiry)) (faults : V → ℕ) where
+  -- Since it had the first of these values these messages were offered, to a core that began with nothing, and the verifier
+  -- was asked for the verdicts that were heard, and maybe the first open question.
   pub record Offers (first now : Validator V) (messages : List Message) : Type 0 where
     pub offered : List Judged
     pub messages_are : map (λ j. j.message) offered ≡ messages
     pub stands : Stands (says first.verifier) (told_of now.core) now.refused.items offered
     pub same_says : says now.verifier ≡ says first.verifier
+    pub asked : AsksOpen (inquiries first.verifier) (inquiries now.verifier) (told_of now.core) (open_of now.core)
     pub no_base : now.core.base ≡ 0
     pub follows : Follows first.core now.core
 
@@ -59,12 +63,13 @@ module _ {V : Type 0} (says : V → Key → List ℕ → Sig → Option Bool) (f
     pub taken : HasTaken first now earlier
     pub turned_away : IsTurnedAway now.core.limits (told_of now.core) last
 
-  -- the verifier failed after the last of these messages was offered
+  -- the verifier failed after the last of these messages was offered, and a question is open
   pub record HasFailed (first now : Validator V) (messages : List Message) : Type 0 where
     pub earlier : List Message
     pub last : Message
     pub all : messages ≡ earlier ++ last ∷ []
     pub offers : Offers first now messages
+    pub some_open : open_of now.core ≢ []
     pub rose : Rose (faults first.verifier) (faults now.verifier)
 
   -- there was no memory at the last of these messages: it was offered too, or not

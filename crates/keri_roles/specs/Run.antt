@@ -7,6 +7,8 @@ use Rattle.keri_specs.specs.Causes.{Rose}
 use Rattle.command_words.specs.Words.{Asked, check, generate, make, rehearse, validate, watch}
 use Rattle.cesr_codes.specs.declared.key.Key.{Key}
 use Rattle.cesr_codes.specs.declared.sig.Sig.{Sig}
+use Rattle.keri_outside.specs.declared.inquiry.Inquiry.{Inquiry}
+use Rattle.keri_outside.specs.declared.signing.Signing.{Signing}
 use Rattle.run_outside.specs.Told.{Told}
 use Rattle.run_outside.specs.declared.making.Making.{Making}
 use Rattle.journal.specs.declared.journal.Journal.{Journal}
@@ -18,9 +20,10 @@ use Rattle.run_status.specs.Readers.{Reader, SinkTold, reader_seen}
 use Rattle.run_status.specs.Settling.{FaultsHaveCauses, SettlesBy}
 use Rattle.keri_roles.specs.declared.outcome.Outcome.{Outcome}
 
--- what a signer tells: the signatures that it gives, and how often it has failed
+-- what a signer tells: the signatures that it gives, what it was asked, and how often it has failed
 pub record SignerTold : Type 0 where
   pub gives : Key → List ℕ → Option Sig
+  pub signings : Option (List Signing)
   pub faults : ℕ
 
 -- What a command did with the outside: its readers, its signer, where it made one, what was told, the text that it owes, unless
@@ -97,12 +100,12 @@ pub record HasCauses (asked : Option Asked) (run : Run) : Type 0 where
   pub signer : signer_failed ≡ true → SignerFails asked run
   pub readers : AreCaused run.before run.after run.readers
 
-module _ {S V : Type 0} (left : S → Option (List ℕ)) (faults : S → ℕ) (says : V → Key → List ℕ → Sig → Option Bool) (verifier_faults : V → ℕ) where
+module _ {S V : Type 0} (left : S → Option (List ℕ)) (faults : S → ℕ) (says : V → Key → List ℕ → Sig → Option Bool) (inquiries : V → Option (List Inquiry)) (verifier_faults : V → ℕ) where
   abbrev pub work_seen : Told → Told → Outcome S V → Work
   work_seen before after outcome = record {
     before = before;
     after = after;
-    readers = map (reader_seen left faults says verifier_faults) outcome.readers.items;
+    readers = map (reader_seen left faults says inquiries verifier_faults) outcome.readers.items;
     signer = None;
     journal = outcome.journal;
     owed = option_map (λ text. text.items) outcome.owed;
@@ -115,15 +118,15 @@ module _ {S V : Type 0} (left : S → Option (List ℕ)) (faults : S → ℕ) (s
     after = after;
     sink_before = sink_before;
     sink_after = sink_after;
-    readers = map (reader_seen left faults says verifier_faults) ends;
+    readers = map (reader_seen left faults says inquiries verifier_faults) ends;
     signer = None;
     journal = journal;
     status = status;
   }
 
 -- what is seen of a signer
-abbrev pub signer_seen : {S : Type 0} → (S → Key → List ℕ → Option Sig) → (S → ℕ) → Option S → Option SignerTold
-signer_seen gives faults signer = option_map (λ s. record { gives = gives s; faults = faults s }) signer
+abbrev pub signer_seen : {S : Type 0} → (S → Key → List ℕ → Option Sig) → (S → Option (List Signing)) → (S → ℕ) → Option S → Option SignerTold
+signer_seen gives signings faults signer = option_map (λ s. record { gives = gives s; signings = signings s; faults = faults s }) signer
 
 -- the same with a signer
 abbrev pub work_by : Option SignerTold → Work → Work

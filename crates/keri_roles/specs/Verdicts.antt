@@ -1,10 +1,13 @@
 -- What asking the open questions does.
-use Rattle.std.specs.Prelude.{◌≡◌, ℕ, Bool, List, [], ◌∷◌, ◌++◌, Option, Some, IfSome, All, slice_get}
+use Rattle.std.specs.Prelude.{◌≡◌, ◌≢◌, ℕ, ◌≤◌, Bool, List, [], ◌∷◌, ◌++◌, map, flat_map, take, Option, Some, IfSome, All, Result, slice_get}
 use Rattle.keri_specs.specs.Causes.{Rose}
+use Rattle.keri_specs.specs.Told.{Puts, after}
+use Rattle.keri_outside.specs.Asked.{inquiry}
+use Rattle.keri_outside.specs.declared.inquiry.Inquiry.{Inquiry}
 use Rattle.cesr_codes.specs.declared.key.Key.{Key}
 use Rattle.cesr_codes.specs.declared.sig.Sig.{Sig}
 use Rattle.journal.specs.declared.question.Question.{Question}
-use Rattle.journal.specs.History.{Told, took, heard}
+use Rattle.journal.specs.History.{Told, Triple, took, heard}
 use Rattle.journal.specs.Journals.{Names}
 use Rattle.journal.specs.declared.body.Body.{Body}
 use Rattle.journal.specs.Questions.{next_question}
@@ -25,12 +28,38 @@ abbrev pub IsVerdict : (Key → List ℕ → Sig → Option Bool) → Told → T
 IsVerdict says (took reader b claims) = ⊥
 IsVerdict says (heard reader b key sig verdict) = (reader ≡ 0) × IfSome (says key b.bytes sig) (λ said. verdict ≡ said)
 
--- verdicts came behind what was told, and nothing else
-pub record Asks (says : Key → List ℕ → Sig → Option Bool) (old new : CoreView) : Type 0 where
+-- what was asked for the verdict of an entry
+abbrev pub inquiry_in : Told → List Inquiry
+inquiry_in (took reader b claims) = []
+inquiry_in (heard reader b key sig verdict) = inquiry key b.bytes sig ∷ []
+
+-- what was asked for the verdicts that were heard, in order
+abbrev pub inquiries_in : List Told → List Inquiry
+inquiries_in told = flat_map inquiry_in told
+
+-- what is asked of a triple
+abbrev pub inquiry_on : Triple → Inquiry
+inquiry_on t = inquiry t.key t.body t.sig
+
+-- these are the inquiries for the verdicts that were heard, in order, and maybe that of the first question without a verdict
+abbrev pub IsHeardAndOpen : List Told → List Triple → List Inquiry → Type 0
+IsHeardAndOpen told unheard all = (n : ℕ) × (n ≤ 1) × (all ≡ inquiries_in told ++ take n (map inquiry_on unheard))
+
+-- such inquiries came behind those of before, where they are told
+abbrev pub AsksOpen : Option (List Inquiry) → Option (List Inquiry) → List Told → List Triple → Type 0
+AsksOpen before now told unheard = (more : List Inquiry) × IsHeardAndOpen told unheard more × (now ≡ after before more)
+
+-- verdicts came behind what was told, and nothing else, and nothing else was asked but maybe the first open question
+pub record Asks (says : Key → List ℕ → Sig → Option Bool) (before now : Option (List Inquiry)) (old new : CoreView) (unheard : List Triple) : Type 0 where
   pub verdicts : List Told
   pub behind : told_of new ≡ told_of old ++ verdicts
   pub each : All (IsVerdict says) verdicts
+  pub asked : AsksOpen before now verdicts unheard
   pub follows : Follows old new
+
+-- what the verifier was asked about the question, where its body is held; where it failed, that or nothing
+abbrev pub AsksAbout : {T E : Type 0} → Option (List Inquiry) → Option (List Inquiry) → CoreView → Question → Result T E → Type 0
+AsksAbout before now core q result = (b : Body) → slice_get core.held q.body ≡ Some b → Puts before now result (inquiry q.key b.bytes q.sig ∷ [])
 
 -- the first reader's verdict on the question came behind what was told
 pub record Notes (old : CoreView) (q : Question) (verdict : Bool) (new : CoreView) : Type 0 where
@@ -39,13 +68,13 @@ pub record Notes (old : CoreView) (q : Question) (verdict : Bool) (new : CoreVie
   pub behind : told_of new ≡ told_of old ++ heard 0 body q.key q.sig verdict ∷ []
   pub follows : Follows old new
 
--- why no more is asked: the verifier's count of faults rose, or there was no memory
-abbrev pub StopsAsking : ℕ → ℕ → Close → Type 0
-StopsAsking faults_old faults_new VerifierFault = Rose faults_old faults_new
-StopsAsking faults_old faults_new OutOfMemory = Unit {0}
-StopsAsking faults_old faults_new End = ⊥
-StopsAsking faults_old faults_new (Bad bad) = ⊥
-StopsAsking faults_old faults_new ReadFault = ⊥
-StopsAsking faults_old faults_new Full = ⊥
-StopsAsking faults_old faults_new WriteFault = ⊥
-StopsAsking faults_old faults_new (Malformed place) = ⊥
+-- why no more is asked: the verifier's count of faults rose, and a question is open, or there was no memory
+abbrev pub StopsAsking : ℕ → ℕ → List Triple → Close → Type 0
+StopsAsking faults_old faults_new unheard VerifierFault = Rose faults_old faults_new × (unheard ≢ [])
+StopsAsking faults_old faults_new unheard OutOfMemory = Unit {0}
+StopsAsking faults_old faults_new unheard End = ⊥
+StopsAsking faults_old faults_new unheard (Bad bad) = ⊥
+StopsAsking faults_old faults_new unheard ReadFault = ⊥
+StopsAsking faults_old faults_new unheard Full = ⊥
+StopsAsking faults_old faults_new unheard WriteFault = ⊥
+StopsAsking faults_old faults_new unheard (Malformed place) = ⊥

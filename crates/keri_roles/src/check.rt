@@ -28,7 +28,7 @@ pub(crate) fn check<O: Outside>(
 ) -> Outcome<O::Source, O::Verifier>
     requires none_yet { readers.items ≡ [] }
     requires room { 0 < vec_capacity readers }
-    ensures checked { IsChecked name.now (work_seen O.Source.left O.Source.faults O.Verifier.says O.Verifier.faults (O.told outside.old) (O.told outside.new) result) }
+    ensures checked { IsChecked name.now (work_seen O.Source.left O.Source.faults O.Verifier.says O.Verifier.inquiries O.Verifier.faults (O.told outside.old) (O.told outside.new) result) }
     ensures sink { O.sink outside.new ≡ O.sink outside.old }
 {
     let mut readers = readers;
@@ -62,7 +62,7 @@ fn check_file<O: Outside>(
 ) -> (ReaderEnd<O::Source, O::Verifier>, String)
     ensures makes { AreMakings (making SourceKind name.now (is_none result.0.source) ∷ []) (O.told outside.old) (O.told outside.new) }
     ensures checks { result.0.close ≢ Close.OutOfMemory → ChecksReader (O.told outside.old).limits ((O.told outside.old).holds name.now)
-        (reader_seen O.Source.left O.Source.faults O.Verifier.says O.Verifier.faults result.0) (string_bytes result.1) }
+        (reader_seen O.Source.left O.Source.faults O.Verifier.says O.Verifier.inquiries O.Verifier.faults result.0) (string_bytes result.1) }
     ensures no_verifier { result.0.verifier ≡ None }
     ensures sink { O.sink outside.new ≡ O.sink outside.old }
 {
@@ -78,7 +78,7 @@ fn check_nothing<S: Source + Drop, V: Verifier + Drop>(alloc: Global) -> (Reader
     ensures none { result.0.source ≡ None }
     ensures no_verifier { result.0.verifier ≡ None }
     ensures checks { (limits : LimitsValue) (held : Option (List ℕ)) → result.0.close ≢ Close.OutOfMemory
-        → ChecksReader limits held (reader_seen S.left S.faults V.says V.faults result.0) (string_bytes result.1) }
+        → ChecksReader limits held (reader_seen S.left S.faults V.says V.inquiries V.faults result.0) (string_bytes result.1) }
 {
     let (close, line) = match read_fault_line(alloc, 0) {
         Ok(line) => (Close::ReadFault, line),
@@ -103,7 +103,7 @@ fn check_stream<S: Source + Drop, V: Verifier + Drop>(
     ensures source { IsSome result.0.source }
     ensures no_verifier { result.0.verifier ≡ None }
     ensures checks { result.0.close ≢ Close.OutOfMemory
-        → ChecksReader limits (S.left source) (reader_seen S.left S.faults V.says V.faults result.0) (string_bytes result.1) }
+        → ChecksReader limits (S.left source) (reader_seen S.left S.faults V.says V.inquiries V.faults result.0) (string_bytes result.1) }
 {
     let mut source = source;
     let mut checker = Checker::new(alloc);

@@ -2,6 +2,7 @@
 ghost use Rattle.std.specs.Prelude.{◌≡◌, IfSome, is_none, false, ℕ, List, Option, Bool};
 ghost use Rattle.cesr_codes.specs.declared.key.Key.{Key};
 ghost use Rattle.cesr_codes.specs.declared.sig.Sig.{Sig};
+ghost use Rattle.keri_specs.specs.Told.{HasNone};
 ghost use Rattle.run_status.specs.Readers.{reader_seen};
 ghost use Rattle.keri_roles.specs.CoreTold.{Given, IsUnmade, Tells};
 
@@ -29,9 +30,10 @@ pub(crate) fn read_to_core<S: Source + Drop, V: Verifier + Drop>(
     providers: Providers<S, V>,
 ) -> CoreReader<S, V>
     requires source { IfSome providers.source (λ source. S.faults source ≡ 0) }
+    requires unasked { IfSome providers.verifier (λ verifier. HasNone (V.inquiries verifier)) }
     requires verifier { IfSome providers.verifier (λ verifier. V.faults verifier ≡ 0) }
     ensures tells { (held : Option (List ℕ)) (says : Key → List ℕ → Sig → Option Bool) → IfSome providers.source (λ source. S.left source ≡ held) → IfSome providers.verifier (λ verifier. V.says verifier ≡ says)
-        → Tells mode (record { limits = limits; held = held; says = says }) (reader_seen S.left S.faults V.says V.faults result.reader) result.core }
+        → Tells mode (record { limits = limits; held = held; says = says }) (reader_seen S.left S.faults V.says V.inquiries V.faults result.reader) result.core }
     ensures source { is_none result.reader.source ≡ is_none providers.source }
     ensures verifier { is_none result.reader.verifier ≡ is_none providers.verifier }
 {
@@ -61,9 +63,10 @@ fn read_nothing<S: Source + Drop, V: Verifier + Drop>(
     verifier: Option<V>,
     close: Close,
 ) -> CoreReader<S, V>
-    requires { IsUnmade source verifier close }
+    requires unmade { IsUnmade source verifier close }
+    requires unasked { IfSome verifier (λ verifier. HasNone (V.inquiries verifier)) }
     ensures tells { (held : Option (List ℕ)) (says : Key → List ℕ → Sig → Option Bool) → IfSome source (λ source. S.left source ≡ held)
-        → Tells mode (record { limits = limits; held = held; says = says }) (reader_seen S.left S.faults V.says V.faults result.reader) result.core }
+        → Tells mode (record { limits = limits; held = held; says = says }) (reader_seen S.left S.faults V.says V.inquiries V.faults result.reader) result.core }
     ensures source { result.reader.source ≡ source }
     ensures verifier { result.reader.verifier ≡ verifier }
 {
@@ -88,8 +91,9 @@ fn read_stream<S: Source + Drop, V: Verifier + Drop>(
     verifier: V,
 ) -> CoreReader<S, V>
     requires source { S.faults source ≡ 0 }
+    requires unasked { HasNone (V.inquiries verifier) }
     requires verifier { V.faults verifier ≡ 0 }
-    ensures tells { Tells mode (record { limits = limits; held = S.left source; says = V.says verifier }) (reader_seen S.left S.faults V.says V.faults result.reader) result.core }
+    ensures tells { Tells mode (record { limits = limits; held = S.left source; says = V.says verifier }) (reader_seen S.left S.faults V.says V.inquiries V.faults result.reader) result.core }
     ensures source { is_none result.reader.source ≡ false }
     ensures verifier { is_none result.reader.verifier ≡ false }
 {

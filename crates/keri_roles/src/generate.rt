@@ -44,7 +44,7 @@ pub(crate) fn generate<O: Outside>(
 ) -> Outcome<O::Source, O::Verifier>
     requires none_yet { readers.items ≡ [] }
     requires room { 0 < vec_capacity readers }
-    ensures generated { IsGenerated plan.seed plan.logs plan.events (work_seen O.Source.left O.Source.faults O.Verifier.says O.Verifier.faults (O.told outside.old) (O.told outside.new) result) }
+    ensures generated { IsGenerated plan.seed plan.logs plan.events (work_seen O.Source.left O.Source.faults O.Verifier.says O.Verifier.inquiries O.Verifier.faults (O.told outside.old) (O.told outside.new) result) }
     ensures sink { O.sink outside.new ≡ O.sink outside.old }
 {
     let mut readers = readers;
@@ -70,7 +70,7 @@ pub(crate) fn generate<O: Outside>(
 // Makes the stream and reads it.
 fn read_made(alloc: Global, plan: StreamPlan, limits: Limits) -> CoreReader<LogMaker, Rehearsal>
     ensures tells { Tells Mode.Full (record { limits = limits; held = Some (stream_text plan.seed plan.logs plan.events); says = rehearsal_says })
-        (reader_seen ⟦<LogMaker as Source>⟧.left ⟦<LogMaker as Source>⟧.faults ⟦<Rehearsal as Verifier>⟧.says ⟦<Rehearsal as Verifier>⟧.faults result.reader) result.core }
+        (reader_seen ⟦<LogMaker as Source>⟧.left ⟦<LogMaker as Source>⟧.faults ⟦<Rehearsal as Verifier>⟧.says ⟦<Rehearsal as Verifier>⟧.inquiries ⟦<Rehearsal as Verifier>⟧.faults result.reader) result.core }
     ensures source { is_none result.reader.source ≡ false }
     ensures verifier { is_none result.reader.verifier ≡ false }
 {

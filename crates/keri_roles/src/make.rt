@@ -34,8 +34,8 @@ pub(crate) fn make<O: Outside>(
 ) -> SignedOutcome<O::Source, O::Verifier, O::Signer>
     requires none_yet { readers.items ≡ [] }
     requires room { 1 < vec_capacity readers }
-    ensures made { IsMade words.entry.helper.now words.entry.plan.now (option_map (λ log. log.now) words.entry.log) (work_by (signer_seen O.Signer.gives O.Signer.faults result.signer)
-        (work_seen O.Source.left O.Source.faults O.Verifier.says O.Verifier.faults (O.told outside.old) (O.told outside.new) result.outcome)) }
+    ensures made { IsMade words.entry.helper.now words.entry.plan.now (option_map (λ log. log.now) words.entry.log) (work_by (signer_seen O.Signer.gives O.Signer.signings O.Signer.faults result.signer)
+        (work_seen O.Source.left O.Source.faults O.Verifier.says O.Verifier.inquiries O.Verifier.faults (O.told outside.old) (O.told outside.new) result.outcome)) }
     ensures sink { O.sink outside.new ≡ O.sink outside.old }
 {
     match words.log {
@@ -54,8 +54,8 @@ fn made_alone<O: Outside>(
 ) -> SignedOutcome<O::Source, O::Verifier, O::Signer>
     requires none_yet { readers.items ≡ [] }
     requires room { 0 < vec_capacity readers }
-    ensures made { IsMadeAlone helper.now plan.now (work_by (signer_seen O.Signer.gives O.Signer.faults result.signer)
-        (work_seen O.Source.left O.Source.faults O.Verifier.says O.Verifier.faults (O.told outside.old) (O.told outside.new) result.outcome)) }
+    ensures made { IsMadeAlone helper.now plan.now (work_by (signer_seen O.Signer.gives O.Signer.signings O.Signer.faults result.signer)
+        (work_seen O.Source.left O.Source.faults O.Verifier.says O.Verifier.inquiries O.Verifier.faults (O.told outside.old) (O.told outside.new) result.outcome)) }
     ensures sink { O.sink outside.new ≡ O.sink outside.old }
 {
     let mut readers = readers;
@@ -91,8 +91,8 @@ fn made_behind<O: Outside>(
 ) -> SignedOutcome<O::Source, O::Verifier, O::Signer>
     requires none_yet { readers.items ≡ [] }
     requires room { 1 < vec_capacity readers }
-    ensures made { IsMadeBehind helper.now plan.now log.now (work_by (signer_seen O.Signer.gives O.Signer.faults result.signer)
-        (work_seen O.Source.left O.Source.faults O.Verifier.says O.Verifier.faults (O.told outside.old) (O.told outside.new) result.outcome)) }
+    ensures made { IsMadeBehind helper.now plan.now log.now (work_by (signer_seen O.Signer.gives O.Signer.signings O.Signer.faults result.signer)
+        (work_seen O.Source.left O.Source.faults O.Verifier.says O.Verifier.inquiries O.Verifier.faults (O.told outside.old) (O.told outside.new) result.outcome)) }
     ensures sink { O.sink outside.new ≡ O.sink outside.old }
 {
     let mut readers = readers;

@@ -1,5 +1,6 @@
 //! What `make` is given by the outside.
 ghost use Rattle.std.specs.Prelude.{◌≡◌, ◌∷◌, [], is_none, IfSome};
+ghost use Rattle.keri_specs.specs.Told.{HasNone};
 ghost use Rattle.run_outside.specs.Told.{making};
 ghost use Rattle.run_outside.specs.declared.making.MakingKind.TheVariants.{Source as SourceKind, Verifier as VerifierKind, Signer as SignerKind};
 ghost use Rattle.keri_roles.specs.Run.{AreMakings};
@@ -24,7 +25,8 @@ pub(crate) fn make_alone<O: Outside>(
     ensures holds { IfSome result.plan (λ source. O.Source.left source ≡ (O.told outside.old).holds plan.now) }
     ensures unread { IfSome result.plan (λ source. O.Source.faults source ≡ 0) }
     ensures signs { IfSome result.signer (λ signer. O.Signer.gives signer ≡ (O.told outside.old).gives helper.now) }
-    ensures unasked { IfSome result.signer (λ signer. O.Signer.faults signer ≡ 0) }
+    ensures unasked { IfSome result.signer (λ signer. HasNone (O.Signer.signings signer)) }
+    ensures unfailed { IfSome result.signer (λ signer. O.Signer.faults signer ≡ 0) }
     ensures sink { O.sink outside.new ≡ O.sink outside.old }
 {
     let plan = outside.source(plan).ok();
@@ -54,9 +56,11 @@ pub(crate) fn make_behind<O: Outside>(
     ensures log_holds { IfSome result.log.source (λ source. O.Source.left source ≡ (O.told outside.old).holds log.now) }
     ensures log_unread { IfSome result.log.source (λ source. O.Source.faults source ≡ 0) }
     ensures says { IfSome result.log.verifier (λ verifier. O.Verifier.says verifier ≡ (O.told outside.old).says helper.now) }
-    ensures unheard { IfSome result.log.verifier (λ verifier. O.Verifier.faults verifier ≡ 0) }
+    ensures unheard { IfSome result.log.verifier (λ verifier. HasNone (O.Verifier.inquiries verifier)) }
+    ensures log_unfailed { IfSome result.log.verifier (λ verifier. O.Verifier.faults verifier ≡ 0) }
     ensures signs { IfSome result.signer (λ signer. O.Signer.gives signer ≡ (O.told outside.old).gives helper.now) }
-    ensures unasked { IfSome result.signer (λ signer. O.Signer.faults signer ≡ 0) }
+    ensures unasked { IfSome result.signer (λ signer. HasNone (O.Signer.signings signer)) }
+    ensures unfailed { IfSome result.signer (λ signer. O.Signer.faults signer ≡ 0) }
     ensures sink { O.sink outside.new ≡ O.sink outside.old }
 {
     let plan = outside.source(plan).ok();

@@ -4,6 +4,7 @@ ghost use Rattle.std.specs.List.{list_any, list_all};
 ghost use Rattle.std.specs.Option.{option_map};
 ghost use Rattle.cesr_codes.specs.declared.key.Key.{Key};
 ghost use Rattle.cesr_codes.specs.declared.sig.Sig.{Sig};
+ghost use Rattle.keri_specs.specs.Told.{HasNone};
 ghost use Rattle.plan_answer.specs.Asked.{log_told};
 ghost use Rattle.keri_roles.specs.Made.{IsDue, OwesAnswer, OwesNone, found_in, is_out, is_through, written};
 ghost use Rattle.keri_roles.specs.Run.{signer_seen};
@@ -30,9 +31,10 @@ pub(crate) fn message_due<G: Signer>(
     closes: &[Close],
     signer: &mut Option<G>,
 ) -> MessageDue
-    requires { IfSome signer.old (λ signer. G.faults signer ≡ 0) }
+    requires unasked { IfSome signer.old (λ signer. HasNone (G.signings signer)) }
+    requires unfailed { IfSome signer.old (λ signer. G.faults signer ≡ 0) }
     ensures due { (gives : Key → List ℕ → Option Sig) → IfSome signer.old (λ signer. G.gives signer ≡ gives)
-        → IsDue (record { gives = gives; log = option_map log_told log.entry; text = plan.now }) closes.now (signer_seen G.gives G.faults signer.new) (option_map (λ text. text.items) result.owed) result.besides }
+        → IsDue (record { gives = gives; log = option_map log_told log.entry; text = plan.now }) closes.now (signer_seen G.gives G.signings G.faults signer.new) (option_map (λ text. text.items) result.owed) result.besides }
     ensures signer { is_none signer.new ≡ is_none signer.old }
     ensures gives { (gives : Key → List ℕ → Option Sig) → IfSome signer.old (λ signer. G.gives signer ≡ gives) → IfSome signer.new (λ signer. G.gives signer ≡ gives) }
 {
@@ -78,10 +80,12 @@ fn answer_due<G: Signer>(
     log: Option<ReadLog<'_>>,
     signer: &mut G,
 ) -> MessageDue
-    requires { G.faults signer.old ≡ 0 }
-    ensures due { OwesAnswer (record { gives = G.gives signer.old; log = option_map log_told log.entry; text = plan.now }) (record { gives = G.gives signer.new; faults = G.faults signer.new })
+    requires unasked { HasNone (G.signings signer.old) }
+    requires unfailed { G.faults signer.old ≡ 0 }
+    ensures due { OwesAnswer (record { gives = G.gives signer.old; log = option_map log_told log.entry; text = plan.now }) (record { gives = G.gives signer.new; signings = G.signings signer.new; faults = G.faults signer.new })
         (option_map (λ text. text.items) result.owed) result.besides
-        ⊎ OwesNone (record { gives = G.gives signer.new; faults = G.faults signer.new }) (option_map (λ text. text.items) result.owed) result.besides }
+        ⊎ OwesNone (record { gives = G.gives signer.old; log = option_map log_told log.entry; text = plan.now }) (record { gives = G.gives signer.new; signings = G.signings signer.new; faults = G.faults signer.new })
+        (option_map (λ text. text.items) result.owed) result.besides }
     ensures gives { G.gives signer.new ≡ G.gives signer.old }
 {
     let answer = answer_plan(alloc, plan, log, signer);

@@ -1,7 +1,8 @@
 //! The open questions, which the verifier is asked.
 ghost use Rattle.std.specs.Prelude.{◌≡◌, ◌<◌, [], IfOk, IfErr, OnOk, OnErr};
+ghost use Rattle.keri_specs.specs.Causes.{Rose};
 ghost use Rattle.validator_core.specs.View.{open_of, unheard_of};
-ghost use Rattle.keri_roles.specs.Verdicts.{Asks, IsOpen, IsSaid, Notes, StopsAsking};
+ghost use Rattle.keri_roles.specs.Verdicts.{Asks, AsksAbout, IsOpen, IsSaid, Notes, StopsAsking};
 
 use crate::Close;
 use journal::Question;
@@ -15,11 +16,11 @@ pub(crate) fn ask_open<V: Verifier>(
     verifier: &mut V,
     steps: &mut Steps,
 ) -> Result<(), Close>
-    ensures asks { Asks (V.says verifier.old) core.old core.new }
+    ensures asks { Asks (V.says verifier.old) (V.inquiries verifier.old) (V.inquiries verifier.new) core.old core.new (open_of core.new) }
     ensures same { V.says verifier.new ≡ V.says verifier.old }
     ensures none_open { OnOk result (open_of core.new ≡ []) }
     ensures none_failed { OnOk result (V.faults verifier.new ≡ V.faults verifier.old) }
-    ensures stops { IfErr result (λ close. StopsAsking (V.faults verifier.old) (V.faults verifier.new) close) }
+    ensures stops { IfErr result (StopsAsking (V.faults verifier.old) (V.faults verifier.new) (open_of core.new)) }
 {
     while let Some(question) = core.next_question(0) {
         let yes = verdict(core, verifier, &question)?;
@@ -33,8 +34,9 @@ fn verdict<V: Verifier>(core: &Core, verifier: &mut V, question: &Question) -> R
     requires { IsOpen core.now question.now }
     ensures said { IfOk result (λ yes. IsSaid (V.says verifier.old) core.now question.now yes) }
     ensures same { V.says verifier.new ≡ V.says verifier.old }
+    ensures asked { AsksAbout (V.inquiries verifier.old) (V.inquiries verifier.new) core.now question.now result }
     ensures none_failed { OnOk result (V.faults verifier.new ≡ V.faults verifier.old) }
-    ensures stops { IfErr result (λ close. StopsAsking (V.faults verifier.old) (V.faults verifier.new) close) }
+    ensures stops { IfErr result (λ close. (close ≡ Close.VerifierFault) × Rose (V.faults verifier.old) (V.faults verifier.new)) }
 {
     let Some(body) = core.body(question.body) else {
         unreachable!()

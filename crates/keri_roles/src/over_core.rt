@@ -27,7 +27,7 @@ pub(crate) fn over_core<O: Outside, T: CoreText>(
 ) -> Outcome<O::Source, O::Verifier>
     requires none_yet { readers.items ≡ [] }
     requires room { 0 < vec_capacity readers }
-    ensures done { IsOverCore mode T.is_text helper.now name.now (work_seen O.Source.left O.Source.faults O.Verifier.says O.Verifier.faults (O.told outside.old) (O.told outside.new) result) }
+    ensures done { IsOverCore mode T.is_text helper.now name.now (work_seen O.Source.left O.Source.faults O.Verifier.says O.Verifier.inquiries O.Verifier.faults (O.told outside.old) (O.told outside.new) result) }
     ensures sink { O.sink outside.new ≡ O.sink outside.old }
 {
     let mut readers = readers;

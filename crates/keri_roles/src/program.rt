@@ -32,11 +32,11 @@ const NO_MEMORY: u8 = 10;
 /// Does all that the program does: what the words ask for, over the outside that is handed in.
 pub fn run<O: Outside>(alloc: Global, words: &Vec<String>, outside: &mut O) -> Done<O>
     // Words that aren't in the form of a command are refused, and nothing is made. Others are answered as they ask.
-    ensures answered { IsRunOf (asks (map string_bytes words.now.items)) (run_by (signer_seen O.Signer.gives O.Signer.faults result.signer) (run_seen O.Source.left O.Source.faults O.Verifier.says O.Verifier.faults (O.told outside.old) (O.told outside.new)
+    ensures answered { IsRunOf (asks (map string_bytes words.now.items)) (run_by (signer_seen O.Signer.gives O.Signer.signings O.Signer.faults result.signer) (run_seen O.Source.left O.Source.faults O.Verifier.says O.Verifier.inquiries O.Verifier.faults (O.told outside.old) (O.told outside.new)
         (sink_seen O.Sink.written O.Sink.faults (O.sink outside.old)) (sink_seen O.Sink.written O.Sink.faults (O.sink outside.new)) result.status result.readers.items result.journal)) }
 
     // Each fault that is answered has its cause.
-    ensures causes { HasCauses (asks (map string_bytes words.now.items)) (run_by (signer_seen O.Signer.gives O.Signer.faults result.signer) (run_seen O.Source.left O.Source.faults O.Verifier.says O.Verifier.faults (O.told outside.old) (O.told outside.new)
+    ensures causes { HasCauses (asks (map string_bytes words.now.items)) (run_by (signer_seen O.Signer.gives O.Signer.signings O.Signer.faults result.signer) (run_seen O.Source.left O.Source.faults O.Verifier.says O.Verifier.inquiries O.Verifier.faults (O.told outside.old) (O.told outside.new)
         (sink_seen O.Sink.written O.Sink.faults (O.sink outside.old)) (sink_seen O.Sink.written O.Sink.faults (O.sink outside.new)) result.status result.readers.items result.journal)) }
 {
     answer(alloc, words, outside)
@@ -44,7 +44,7 @@ pub fn run<O: Outside>(alloc: Global, words: &Vec<String>, outside: &mut O) -> D
 
 // The same; that each fault has its cause follows.
 fn answer<O: Outside>(alloc: Global, words: &Vec<String>, outside: &mut O) -> Done<O>
-    ensures answered { IsRunOf (asks (map string_bytes words.now.items)) (run_by (signer_seen O.Signer.gives O.Signer.faults result.signer) (run_seen O.Source.left O.Source.faults O.Verifier.says O.Verifier.faults (O.told outside.old) (O.told outside.new)
+    ensures answered { IsRunOf (asks (map string_bytes words.now.items)) (run_by (signer_seen O.Signer.gives O.Signer.signings O.Signer.faults result.signer) (run_seen O.Source.left O.Source.faults O.Verifier.says O.Verifier.inquiries O.Verifier.faults (O.told outside.old) (O.told outside.new)
         (sink_seen O.Sink.written O.Sink.faults (O.sink outside.old)) (sink_seen O.Sink.written O.Sink.faults (O.sink outside.new)) result.status result.readers.items result.journal)) }
 {
     let command = match command_of(alloc, words.as_slice()) {
@@ -67,7 +67,7 @@ fn carry_out<O: Outside>(
 ) -> Done<O>
     requires none_yet { readers.items ≡ [] }
     requires room { 1 < vec_capacity readers }
-    ensures does { CarriesOut (Some (asked_by command.entry)) (run_by (signer_seen O.Signer.gives O.Signer.faults result.signer) (run_seen O.Source.left O.Source.faults O.Verifier.says O.Verifier.faults (O.told outside.old) (O.told outside.new)
+    ensures does { CarriesOut (Some (asked_by command.entry)) (run_by (signer_seen O.Signer.gives O.Signer.signings O.Signer.faults result.signer) (run_seen O.Source.left O.Source.faults O.Verifier.says O.Verifier.inquiries O.Verifier.faults (O.told outside.old) (O.told outside.new)
         (sink_seen O.Sink.written O.Sink.faults (O.sink outside.old)) (sink_seen O.Sink.written O.Sink.faults (O.sink outside.new)) result.status result.readers.items result.journal)) }
 {
     match command {
@@ -116,7 +116,7 @@ fn finish<O: Outside>(
     outside: &mut O,
 ) -> Done<O>
     ensures done { (result.readers ≡ outcome.outcome.readers) × (result.journal ≡ outcome.outcome.journal) × (result.signer ≡ outcome.signer) }
-    ensures settles { SettlesBy (option_map (λ text. text.items) outcome.outcome.owed) outcome.outcome.besides (map (reader_seen O.Source.left O.Source.faults O.Verifier.says O.Verifier.faults) outcome.outcome.readers.items)
+    ensures settles { SettlesBy (option_map (λ text. text.items) outcome.outcome.owed) outcome.outcome.besides (map (reader_seen O.Source.left O.Source.faults O.Verifier.says O.Verifier.inquiries O.Verifier.faults) outcome.outcome.readers.items)
         (sink_seen O.Sink.written O.Sink.faults (O.sink outside.old)) (sink_seen O.Sink.written O.Sink.faults (O.sink outside.new)) result.status }
     ensures told { O.told outside.new ≡ O.told outside.old }
 {
@@ -163,7 +163,7 @@ fn unbegun<O: Outside>(alloc: Global) -> Done<O>
 
 // Says that the words aren't in the form.
 fn refuse<O: Outside>(alloc: Global, outside: &mut O) -> Done<O>
-    ensures answered { CarriesOut None (run_by (signer_seen O.Signer.gives O.Signer.faults result.signer) (run_seen O.Source.left O.Source.faults O.Verifier.says O.Verifier.faults (O.told outside.old) (O.told outside.new)
+    ensures answered { CarriesOut None (run_by (signer_seen O.Signer.gives O.Signer.signings O.Signer.faults result.signer) (run_seen O.Source.left O.Source.faults O.Verifier.says O.Verifier.inquiries O.Verifier.faults (O.told outside.old) (O.told outside.new)
         (sink_seen O.Sink.written O.Sink.faults (O.sink outside.old)) (sink_seen O.Sink.written O.Sink.faults (O.sink outside.new)) result.status result.readers.items result.journal)) }
 {
     let besides = Besides {

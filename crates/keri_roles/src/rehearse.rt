@@ -25,7 +25,7 @@ pub(crate) fn rehearse<O: Outside>(
 ) -> Done<O>
     requires none_yet { readers.items ≡ [] }
     requires room { 0 < vec_capacity readers }
-    ensures rehearsed { IsRehearsed (run_by (signer_seen O.Signer.gives O.Signer.faults result.signer) (run_seen O.Source.left O.Source.faults O.Verifier.says O.Verifier.faults (O.told outside.old) (O.told outside.new)
+    ensures rehearsed { IsRehearsed (run_by (signer_seen O.Signer.gives O.Signer.signings O.Signer.faults result.signer) (run_seen O.Source.left O.Source.faults O.Verifier.says O.Verifier.inquiries O.Verifier.faults (O.told outside.old) (O.told outside.new)
         (sink_seen O.Sink.written O.Sink.faults (O.sink outside.old)) (sink_seen O.Sink.written O.Sink.faults (O.sink outside.new)) result.status result.readers.items result.journal)) }
 {
     let mut readers = readers;
@@ -53,7 +53,7 @@ fn serve_input<O: Outside>(
     outside: &mut O,
 ) -> (Option<O::Source>, Served)
     ensures makes { AreMakings (making SourceKind (codes "-") (is_none result.0) ∷ []) (O.told outside.old) (O.told outside.new) }
-    ensures serves { Serves limits.stream_bytes ((O.told outside.old).holds (codes "-")) (option_map (source_seen O.Source.left O.Source.faults O.Verifier.says O.Verifier.faults) result.0)
+    ensures serves { Serves limits.stream_bytes ((O.told outside.old).holds (codes "-")) (option_map (source_seen O.Source.left O.Source.faults O.Verifier.says O.Verifier.inquiries O.Verifier.faults) result.0)
         (sink_seen O.Sink.written O.Sink.faults (O.sink outside.old)) (sink_seen O.Sink.written O.Sink.faults (O.sink outside.new)) result.1 }
 {
     match outside.source("-") {

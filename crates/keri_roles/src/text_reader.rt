@@ -23,7 +23,7 @@ pub(crate) fn read_whole<S: Source + Drop, V: Verifier + Drop>(
 ) -> TextReader<S, V>
     requires { IfSome source (λ source. S.faults source ≡ 0) }
     ensures reads { (held : Option (List ℕ)) → IfSome source (λ source. S.left source ≡ held)
-        → ReadsWhole most held (reader_seen S.left S.faults V.says V.faults result.reader) result.text.items }
+        → ReadsWhole most held (reader_seen S.left S.faults V.says V.inquiries V.faults result.reader) result.text.items }
     ensures source { is_none result.reader.source ≡ is_none source }
 {
     match source {
@@ -39,7 +39,7 @@ fn read_source<S: Source + Drop, V: Verifier + Drop>(
     source: S,
 ) -> TextReader<S, V>
     requires { S.faults source ≡ 0 }
-    ensures reads { ReadsWhole most (S.left source) (reader_seen S.left S.faults V.says V.faults result.reader) result.text.items }
+    ensures reads { ReadsWhole most (S.left source) (reader_seen S.left S.faults V.says V.inquiries V.faults result.reader) result.text.items }
     ensures source { is_none result.reader.source ≡ false }
 {
     let mut source = source;
@@ -57,7 +57,7 @@ fn read_source<S: Source + Drop, V: Verifier + Drop>(
 
 // The end of a reader whose source couldn't be made.
 fn read_nothing<S: Source + Drop, V: Verifier + Drop>(alloc: Global) -> TextReader<S, V>
-    ensures reads { (most : ℕ) (held : Option (List ℕ)) → ReadsWhole most held (reader_seen S.left S.faults V.says V.faults result.reader) result.text.items }
+    ensures reads { (most : ℕ) (held : Option (List ℕ)) → ReadsWhole most held (reader_seen S.left S.faults V.says V.inquiries V.faults result.reader) result.text.items }
     ensures source { is_none result.reader.source ≡ true }
 {
     TextReader {

@@ -42,7 +42,7 @@ pub(crate) fn validate<O: Outside>(
 ) -> Outcome<O::Source, O::Verifier>
     requires none_yet { readers.items ≡ [] }
     requires room { 0 < vec_capacity readers }
-    ensures validated { IsValidated helper.now name.now (work_seen O.Source.left O.Source.faults O.Verifier.says O.Verifier.faults (O.told outside.old) (O.told outside.new) result) }
+    ensures validated { IsValidated helper.now name.now (work_seen O.Source.left O.Source.faults O.Verifier.says O.Verifier.inquiries O.Verifier.faults (O.told outside.old) (O.told outside.new) result) }
     ensures sink { O.sink outside.new ≡ O.sink outside.old }
 {
     over_core::<O, Report>(alloc, Mode::Full, helper, name, readers, outside)

@@ -25,9 +25,9 @@ impl<V: Verifier + Drop> Taker for Validator<V> {
 
     type Stop = Close;
 
-    ghost has_taken = { HasTaken V.says V.faults };
+    ghost has_taken = { HasTaken V.says V.inquiries V.faults };
 
-    ghost has_stopped = { HasStopped V.says V.faults };
+    ghost has_stopped = { HasStopped V.says V.inquiries V.faults };
 
     fn take(&mut self, message: Message) -> Result<(), Close> {
         self.offer(&message)
@@ -42,7 +42,7 @@ impl<V: Verifier + Drop> Validator<V> {
     pub(crate) fn new(alloc: Global, mode: Mode, limits: Limits, verifier: V) -> Validator<V>
         ensures core { result.core ≡ record { mode = mode; limits = limits; base = 0; held = []; entries = []; accepted = [] } }
         ensures verifier { result.verifier ≡ verifier }
-        ensures begins { HasTaken V.says V.faults result result [] }
+        ensures begins { HasTaken V.says V.inquiries V.faults result result [] }
     {
         Validator {
             core: Core::new(alloc, mode, limits),
@@ -54,8 +54,8 @@ impl<V: Verifier + Drop> Validator<V> {
 
     // Offers a message to the core, and then asks the open questions.
     fn offer(&mut self, message: &Message) -> Result<(), Close>
-        ensures ok { OnOk result ((first : ValidatorValue V) (before : List MessageValue) → HasTaken V.says V.faults first self.old before → HasTaken V.says V.faults first self.new (before ++ message.now ∷ [])) }
-        ensures err { IfErr result (λ close. (first : ValidatorValue V) (before : List MessageValue) → HasTaken V.says V.faults first self.old before → HasStopped V.says V.faults first self.new close (before ++ message.now ∷ [])) }
+        ensures ok { OnOk result ((first : ValidatorValue V) (before : List MessageValue) → HasTaken V.says V.inquiries V.faults first self.old before → HasTaken V.says V.inquiries V.faults first self.new (before ++ message.now ∷ [])) }
+        ensures err { IfErr result (λ close. (first : ValidatorValue V) (before : List MessageValue) → HasTaken V.says V.inquiries V.faults first self.old before → HasStopped V.says V.inquiries V.faults first self.new close (before ++ message.now ∷ [])) }
     {
         match self.core.take(0, message, &mut self.steps) {
             Ok(Reply::Taken) => ask_open(&mut self.core, &mut self.verifier, &mut self.steps),
@@ -68,7 +68,7 @@ impl<V: Verifier + Drop> Validator<V> {
 
     /// Takes the last message, where there is one and nothing stopped the reader before it, and answers how it closes.
     pub(crate) fn finish(&mut self, close: FeedClose<Close>, last: Option<Message>) -> Close
-        ensures { Finishes V.says V.faults close last self.old self.new result }
+        ensures { Finishes V.says V.inquiries V.faults close last self.old self.new result }
     {
         let close = match close {
             FeedClose::End => Close::End,
@@ -83,7 +83,7 @@ impl<V: Verifier + Drop> Validator<V> {
 
     // Takes the last message, where there is one.
     fn take_last(&mut self, close: Close, last: Option<Message>) -> Close
-        ensures { TakesLast V.says V.faults close last self.old self.new result }
+        ensures { TakesLast V.says V.inquiries V.faults close last self.old self.new result }
     {
         match last {
             Some(message) => match self.offer(&message) {

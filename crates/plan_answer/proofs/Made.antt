@@ -1,10 +1,14 @@
 -- What is answered to a message that was made, or to why there is none.
-use Rattle.std.proofs.Common.{◌≡◌, ◌≢◌, ℕ, ◌≤◌, true, ◌&&◌, List, [], length, Option, Some, Result, Ok, Err, refl, sym, subst}
+use Rattle.std.proofs.Common.{◌≡◌, ◌≢◌, ℕ, ◌≤◌, inl, inr, true, ◌&&◌, List, [], length, Option, Some, Result, Ok, Err, refl, sym, ap, ◌∙◌, arith, subst}
 use Rattle.std.specs.Prelude.{All, IfOk, IfErr, OnErr, nat_le}
 use Rattle.std.specs.List.{list_all}
 use Rattle.std.proofs.lemmas.Bool.{and_parts, leb-true}
 use Rattle.std.proofs.lemmas.List.Elements.{All-nil, All-push}
 use Rattle.std.proofs.lemmas.Slice.Zip.{AllZip-long}
+use Rattle.std.proofs.lemmas.List.{take_all}
+use Rattle.keri_specs.specs.Told.{after}
+use Rattle.keri_specs.proofs.Putting.{after-nil}
+use Rattle.keri_outside.specs.declared.signing.Signing.{Signing}
 use Rattle.cesr_codes.specs.declared.key.Key.{Key}
 use Rattle.cesr_codes.specs.declared.sig.Sig.{Sig}
 use Rattle.cesr_stream.specs.declared.group.Group.TheVariants.{Held}
@@ -23,11 +27,14 @@ use Rattle.controller_core.specs.Messages.{IsInSlot, IsMessageOf, event_text}
 use Rattle.controller_core.specs.Refusals as made
 use Rattle.controller_core.specs.Refusals.{IsRefusal}
 use Rattle.controller_core.specs.Signing.{IsSignedByYes}
+use Rattle.controller_core.specs.Signings.{AsksFor, AsksFront, signings_of}
 use Rattle.controller_core.specs.Slots.{are_enough, is_in_range, slots_have}
+use Rattle.plan_text.specs.declared.event_plan.EventPlan.{EventPlan}
+use Rattle.plan_text.specs.Plans.{IsPlanText}
 use Rattle.plan_answer.specs.declared.answer.PlanAnswer.{PlanAnswer}
 use Rattle.plan_answer.specs.declared.answer.PlanAnswer.TheVariants.{Message as MessageAnswer, Refused, SignerFault}
-use Rattle.plan_answer.specs.Answers.{CountsFaults, IsEventAnswer, answer_to, message_text}
-use Rattle.plan_answer.specs.Asked.{Asked, HasNumber, IsPastLast}
+use Rattle.plan_answer.specs.Answers.{AsksFew, CountsFaults, IsEventAnswer, IsUnasked, SignerAsked, SignsNoMore, answer_to, message_text}
+use Rattle.plan_answer.specs.Asked.{Asked, HasNumber, IsPastLast, LogTold, asked}
 
 module _ (gives : Key → List ℕ → Option Sig) (s : Option State) (e : Event) (slots : List Slot) where
   few_slots : are_enough s e slots ≡ true → length slots ≤ 4095
@@ -48,27 +55,48 @@ module _ (gives : Key → List ℕ → Option Sig) (s : Option State) (e : Event
   all_counted (Err other) m = tt
 
 -- the answer is the event's
-module _ (gives : Key → List ℕ → Option Sig) (is : Asked) (slots : List Slot) where
-  pub answers : (answer : Result Message PlanFault) (text : PlanAnswer) → IfOk answer (IsMessageOf gives is.state is.event slots) → IfOk answer (IsSignedByYes is.state is.event)
+module _ (signer : SignerAsked) (is : Asked) (slots : List Slot) where
+  pub answers : (answer : Result Message PlanFault) (text : PlanAnswer) → IfOk answer (IsMessageOf signer.gives is.state is.event slots) → IfOk answer (IsSignedByYes is.state is.event)
+      → AsksFor signer.before signer.now (signings_of is.state is.event slots) answer
       → (HasNumber is.state → IfErr answer (IsRefusal is.state is.event slots)) → (IsPastLast is.state → IsLastAnswer (event_text is.event) answer)
-      → answer_to answer ≡ Some text → IsEventAnswer gives is slots text
-  answers (Ok message) text m signed refused last e =
-      let same : MessageAnswer (message_text message) ≡ text = cc e in rw (sym same) (record { message = message; made = m; signed = signed; numbered = λ past. last past; spelled = refl })
-  answers (Err (fault.Body body)) text m signed refused last e =
-      let same : Refused (why.Body body) ≡ text = cc e in rw (sym same) (record { refused = refused; last = last })
-  answers (Err (fault.Misfit misfit)) text m signed refused last e =
-      let same : Refused (why.Misfit misfit) ≡ text = cc e in rw (sym same) (record { refused = refused; last = last })
-  answers (Err fault.Unsigned) text m signed refused last e =
-      let same : Refused why.Unsigned ≡ text = cc e in rw (sym same) (record { refused = refused; last = last })
-  answers (Err fault.SignerFault) text m signed refused last e =
-      let same : SignerFault ≡ text = cc e in rw (sym same) (record { refused = refused; last = last })
-  answers (Err fault.OutOfMemory) text m signed refused last e = cc
+      → answer_to answer ≡ Some text → IsEventAnswer signer is slots text
+  answers (Ok message) text m signed asked refused last e =
+      let same : MessageAnswer (message_text message) ≡ text = cc e in
+      rw (sym same) (record { message = message; made = m; asked = asked; signed = signed; numbered = λ past. last past; spelled = refl })
+  answers (Err (fault.Body body)) text m signed asked refused last e =
+      let same : Refused (why.Body body) ≡ text = cc e in rw (sym same) (record { refused = refused; last = last; asked = asked })
+  answers (Err (fault.Misfit misfit)) text m signed asked refused last e =
+      let same : Refused (why.Misfit misfit) ≡ text = cc e in rw (sym same) (record { refused = refused; last = last; asked = asked })
+  answers (Err fault.Unsigned) text m signed asked refused last e =
+      let same : Refused why.Unsigned ≡ text = cc e in rw (sym same) (record { refused = refused; last = last; asked = asked })
+  answers (Err fault.SignerFault) text m signed asked refused last e =
+      let same : SignerFault ≡ text = cc e in rw (sym same) (record { refused = refused; last = last; asked = asked })
+  answers (Err fault.OutOfMemory) text m signed asked refused last e = cc
 
-  pub all_answers : {E : Type 0} (answer : Result Message PlanFault) (texts : Result PlanAnswer E) → IfOk answer (IsMessageOf gives is.state is.event slots) → IfOk answer (IsSignedByYes is.state is.event)
+  pub all_answers : {E : Type 0} (answer : Result Message PlanFault) (texts : Result PlanAnswer E) → IfOk answer (IsMessageOf signer.gives is.state is.event slots) → IfOk answer (IsSignedByYes is.state is.event)
+      → AsksFor signer.before signer.now (signings_of is.state is.event slots) answer
       → (HasNumber is.state → IfErr answer (IsRefusal is.state is.event slots)) → (IsPastLast is.state → IsLastAnswer (event_text is.event) answer)
-      → IfOk texts (λ text. answer_to answer ≡ Some text) → IfOk texts (IsEventAnswer gives is slots)
-  all_answers answer (Ok text) m signed refused last e = answers answer text m signed refused last e
-  all_answers answer (Err other) m signed refused last e = tt
+      → IfOk texts (λ text. answer_to answer ≡ Some text) → IfOk texts (IsEventAnswer signer is slots)
+  all_answers answer (Ok text) m signed asked refused last e = answers answer text m signed asked refused last e
+  all_answers answer (Err other) m signed asked refused last e = tt
+
+-- no more was asked for than the message would have
+module _ (old new : Option (List Signing)) (wanted : List Signing) where
+  pub few : (answer : Result Message PlanFault) → AsksFor old new wanted answer → AsksFront old new wanted
+  few (Ok message) asked = (length wanted, asked ∙ ap (after old) (sym (take_all (length wanted) wanted (omega arith))))
+  few (Err (fault.Body body)) asked = (0, asked ∙ after-nil old)
+  few (Err (fault.Misfit misfit)) asked = (0, asked ∙ after-nil old)
+  few (Err fault.Unsigned) asked = (0, asked ∙ after-nil old)
+  few (Err fault.SignerFault) asked = asked
+  few (Err fault.OutOfMemory) asked = asked
+
+-- the same by the plan's text
+module _ (signer : SignerAsked) (log : Option LogTold) (text : List ℕ) where
+  pub no_more : (plan : EventPlan) → IsPlanText text plan → AsksFew signer (asked log plan) plan.plan.signers → SignsNoMore signer log text
+  no_more plan spelled few = inr (record { plan = plan; spelled = spelled; few = few })
+
+  pub nothing_signed : IsUnasked signer → SignsNoMore signer log text
+  nothing_signed unasked = inl unasked
 
 -- and counts as it does
 module _ (before now : ℕ) where

@@ -7,10 +7,11 @@ ghost use Rattle.json_tree.specs.Spelling.{IsJson};
 ghost use Rattle.json_tree.specs.Strings.{IsString};
 ghost use Rattle.cesr_stream.specs.Written.{IsCounted};
 ghost use Rattle.plan_text.specs.Makeable.{IsMakeable};
-ghost use Rattle.plan_answer.specs.Answers.{CountsFaults, IsAnswer, IsEventAnswer, IsPlanAnswer, answer_to};
+ghost use Rattle.plan_answer.specs.Answers.{AsksFew, CountsFaults, IsAnswer, IsEventAnswer, IsPlanAnswer, SignsNoMore, answer_to, signer_asked};
 ghost use Rattle.plan_answer.specs.Asked as specs;
-ghost use Rattle.plan_answer.specs.Asked.{behind, log_told};
+ghost use Rattle.plan_answer.specs.Asked.{asked, behind, log_told};
 ghost use Rattle.controller_core.specs.Plans.{sealed_inception, sealed_interaction, sealed_rotation};
+ghost use Rattle.controller_core.specs.Signings.{AsksFront, signings_of};
 
 use crate::ReadLog;
 use crate::message_text::message_text;
@@ -37,13 +38,15 @@ pub enum PlanAnswer {
 
 /// Reads a plan, and makes the message of the event that it asks for: an inception, or an event behind the log's state of the
 /// plan's identifier. The log is what a core was told that wants neither receipts nor seals.
+#[tactic(auto, using(crate::proofs::Made::no_more, crate::proofs::Made::nothing_signed))]
 pub fn answer_plan<S: Signer>(
     alloc: Global,
     plan: &[u8],
     log: Option<ReadLog<'_>>,
     signer: &mut S,
 ) -> Result<PlanAnswer, AllocError>
-    ensures answers { IfOk result (IsAnswer (S.gives signer.old) (option_map log_told log.entry) plan.now) }
+    ensures answers { IfOk result (IsAnswer (signer_asked (S.gives signer.old) (S.signings signer.old) (S.signings signer.new)) (option_map log_told log.entry) plan.now) }
+    ensures few { SignsNoMore (signer_asked (S.gives signer.old) (S.signings signer.old) (S.signings signer.new)) (option_map log_told log.entry) plan.now }
     ensures gives { S.gives signer.new ≡ S.gives signer.old }
     ensures count { IfOk result (CountsFaults (S.faults signer.old) (S.faults signer.new)) }
     ensures kept { OnErr result (S.faults signer.new ≡ S.faults signer.old) }
@@ -64,7 +67,8 @@ fn answer_event<S: Signer>(
     signer: &mut S,
 ) -> Result<PlanAnswer, AllocError>
     requires { IsMakeable plan.now }
-    ensures answers { IfOk result (IsPlanAnswer (S.gives signer.old) (option_map log_told log.entry) plan.now) }
+    ensures answers { IfOk result (IsPlanAnswer (signer_asked (S.gives signer.old) (S.signings signer.old) (S.signings signer.new)) (option_map log_told log.entry) plan.now) }
+    ensures few { AsksFew (signer_asked (S.gives signer.old) (S.signings signer.old) (S.signings signer.new)) (asked (option_map log_told log.entry) plan.now) plan.now.plan.signers }
     ensures gives { S.gives signer.new ≡ S.gives signer.old }
     ensures count { IfOk result (CountsFaults (S.faults signer.old) (S.faults signer.new)) }
     ensures kept { OnErr result (S.faults signer.new ≡ S.faults signer.old) }
@@ -94,7 +98,8 @@ fn answer_inception<S: Signer>(
     requires anchors { AllByRecursion IsJson plan.now.anchors }
     requires traits { AllByRecursion IsString plan.now.traits }
     requires delegator { is_some plan.now.delegator ≡ plan.now.delegated }
-    ensures answers { IfOk result (IsEventAnswer (S.gives signer.old) (record { state = None; event = sealed_inception plan.now }) plan.now.signers) }
+    ensures answers { IfOk result (IsEventAnswer (signer_asked (S.gives signer.old) (S.signings signer.old) (S.signings signer.new)) (record { state = None; event = sealed_inception plan.now }) plan.now.signers) }
+    ensures few { AsksFront (S.signings signer.old) (S.signings signer.new) (signings_of None (sealed_inception plan.now) plan.now.signers) }
     ensures gives { S.gives signer.new ≡ S.gives signer.old }
     ensures count { IfOk result (CountsFaults (S.faults signer.old) (S.faults signer.new)) }
     ensures kept { OnErr result (S.faults signer.new ≡ S.faults signer.old) }
@@ -111,7 +116,8 @@ fn answer_rotation<S: Signer>(
     signer: &mut S,
 ) -> Result<PlanAnswer, AllocError>
     requires { AllByRecursion IsJson plan.now.anchors }
-    ensures answers { IfOk result (IsEventAnswer (S.gives signer.old) (behind (λ s. sealed_rotation s plan.now) state.now) plan.now.signers) }
+    ensures answers { IfOk result (IsEventAnswer (signer_asked (S.gives signer.old) (S.signings signer.old) (S.signings signer.new)) (behind (λ s. sealed_rotation s plan.now) state.now) plan.now.signers) }
+    ensures few { AsksFront (S.signings signer.old) (S.signings signer.new) (signings_of (Some state.now) (sealed_rotation state.now plan.now) plan.now.signers) }
     ensures gives { S.gives signer.new ≡ S.gives signer.old }
     ensures count { IfOk result (CountsFaults (S.faults signer.old) (S.faults signer.new)) }
     ensures kept { OnErr result (S.faults signer.new ≡ S.faults signer.old) }
@@ -128,7 +134,8 @@ fn answer_interaction<S: Signer>(
     signer: &mut S,
 ) -> Result<PlanAnswer, AllocError>
     requires { AllByRecursion IsJson plan.now.anchors }
-    ensures answers { IfOk result (IsEventAnswer (S.gives signer.old) (behind (λ s. sealed_interaction s plan.now) state.now) plan.now.signers) }
+    ensures answers { IfOk result (IsEventAnswer (signer_asked (S.gives signer.old) (S.signings signer.old) (S.signings signer.new)) (behind (λ s. sealed_interaction s plan.now) state.now) plan.now.signers) }
+    ensures few { AsksFront (S.signings signer.old) (S.signings signer.new) (signings_of (Some state.now) (sealed_interaction state.now plan.now) plan.now.signers) }
     ensures gives { S.gives signer.new ≡ S.gives signer.old }
     ensures count { IfOk result (CountsFaults (S.faults signer.old) (S.faults signer.new)) }
     ensures kept { OnErr result (S.faults signer.new ≡ S.faults signer.old) }

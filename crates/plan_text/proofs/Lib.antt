@@ -1,4 +1,3 @@
-pub mod Primitives
 pub mod Parts
 pub mod Numerals
 pub mod Names

@@ -3,7 +3,7 @@ ghost use Rattle.std.specs.Prelude.{◌≡◌, IfOk};
 
 use crate::kind::Kind;
 use crate::line_fault::LineFault;
-use crate::primitive::read_prefix;
+use crate::primitive::read_primitive;
 use cesr_codes::Prefix;
 
 /// The prefix of a plan's identifier.
@@ -31,7 +31,7 @@ impl GivenPrefix {
         match kind {
             Kind::Icp => GivenPrefix::of_word(value),
             Kind::Dip => Err(LineFault::Refused),
-            Kind::Rot | Kind::Drt | Kind::Ixn => Ok(GivenPrefix::Of(read_prefix(value)?)),
+            Kind::Rot | Kind::Drt | Kind::Ixn => Ok(GivenPrefix::Of(read_primitive(value)?)),
         }
     }
 

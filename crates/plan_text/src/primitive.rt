@@ -1,44 +1,19 @@
 //! Values that are one primitive.
 ghost use Rattle.std.specs.Prelude.{◌≡◌, ◌∷◌, [], Ok, IfOk};
-ghost use Rattle.cesr_codes.specs.declared.key.Key.{Key};
-ghost use Rattle.cesr_codes.specs.declared.digest.Digest.{Digest};
 ghost use Rattle.cesr_codes.specs.declared.digest.DigestCode.{DigestCode};
-ghost use Rattle.cesr_codes.specs.declared.prefix.Prefix.{Prefix};
-ghost use Rattle.cesr_codes.specs.Spelling.{IsDigest, IsKey, IsPrefix, digest_code, digest_text, key_text, prefix_text};
+ghost use Rattle.cesr_codes.specs.Spelling.{digest_code};
 
 use crate::line_fault::LineFault;
-use cesr_codes::{Digest, DigestCode, Key, Prefix};
+use cesr_codes::{DigestCode, Spelled, of_text};
 
-/// The key that the value spells.
-pub(crate) fn read_key(value: &[u8]) -> Result<Key, LineFault>
-    ensures some { IfOk result (λ key. IsKey key × (value.now ≡ key_text key)) }
-    ensures only { (key : Key) → IsKey key → value.now ≡ key_text key → result ≡ Ok key }
+/// The key, digest or prefix that the value spells.
+pub(crate) fn read_primitive<P: Spelled>(value: &[u8]) -> Result<P, LineFault>
+    ensures some { IfOk result (λ primitive. P.is_valid primitive × (value.now ≡ P.spelling primitive)) }
+    ensures only { (primitive : P) → P.is_valid primitive → value.now ≡ P.spelling primitive → result ≡ Ok primitive }
 {
-    match Key::read(value) {
-        Ok((key, count)) if count == value.len() => Ok(key),
-        _ => Err(LineFault::Refused),
-    }
-}
-
-/// The digest that the value spells.
-pub(crate) fn read_digest(value: &[u8]) -> Result<Digest, LineFault>
-    ensures some { IfOk result (λ digest. IsDigest digest × (value.now ≡ digest_text digest)) }
-    ensures only { (digest : Digest) → IsDigest digest → value.now ≡ digest_text digest → result ≡ Ok digest }
-{
-    match Digest::read(value) {
-        Ok((digest, count)) if count == value.len() => Ok(digest),
-        _ => Err(LineFault::Refused),
-    }
-}
-
-/// The prefix that the value spells.
-pub(crate) fn read_prefix(value: &[u8]) -> Result<Prefix, LineFault>
-    ensures some { IfOk result (λ prefix. IsPrefix prefix × (value.now ≡ prefix_text prefix)) }
-    ensures only { (prefix : Prefix) → IsPrefix prefix → value.now ≡ prefix_text prefix → result ≡ Ok prefix }
-{
-    match Prefix::read(value) {
-        Ok((prefix, count)) if count == value.len() => Ok(prefix),
-        _ => Err(LineFault::Refused),
+    match of_text(value) {
+        Some(primitive) => Ok(primitive),
+        None => Err(LineFault::Refused),
     }
 }
 

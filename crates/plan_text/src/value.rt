@@ -11,7 +11,7 @@ use crate::kind::Kind;
 use crate::line_fault::LineFault;
 use crate::name::Name;
 use crate::number::read_number;
-use crate::primitive::{read_code, read_digest, read_key, read_prefix};
+use crate::primitive::{read_code, read_primitive};
 use crate::slot::read_slot;
 use std::alloc::Global;
 
@@ -30,14 +30,14 @@ pub(crate) fn read_value(
         Name::Code => Ok(Entry::Code(read_code(value)?)),
         Name::Kt => Ok(Entry::Kt(read_threshold(alloc, value)?)),
         Name::Nt => Ok(Entry::Nt(read_threshold(alloc, value)?)),
-        Name::Key => Ok(Entry::Key(read_key(value)?)),
-        Name::Next => Ok(Entry::Next(read_digest(value)?)),
-        Name::Cut => Ok(Entry::Cut(read_key(value)?)),
-        Name::Add => Ok(Entry::Add(read_key(value)?)),
+        Name::Key => Ok(Entry::Key(read_primitive(value)?)),
+        Name::Next => Ok(Entry::Next(read_primitive(value)?)),
+        Name::Cut => Ok(Entry::Cut(read_primitive(value)?)),
+        Name::Add => Ok(Entry::Add(read_primitive(value)?)),
         Name::Bt => Ok(Entry::Bt(read_number(value)?)),
         Name::Trait => Ok(Entry::Trait(read_trait(alloc, value)?)),
         Name::Seal => Ok(Entry::Seal(read_json(alloc, value)?)),
-        Name::Di => Ok(Entry::Di(read_prefix(value)?)),
+        Name::Di => Ok(Entry::Di(read_primitive(value)?)),
         Name::Sign => Ok(Entry::Sign(read_slot(value)?)),
     }
 }

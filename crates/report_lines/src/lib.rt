@@ -7,7 +7,6 @@ mod code_word;
 mod conflicts;
 mod core_standing;
 mod fault_word;
-mod held;
 mod lines;
 mod log_lines;
 mod logs;

@@ -5,8 +5,7 @@ ghost use Rattle.journal.specs.declared.body.Body.{Body};
 ghost use Rattle.validator_core.specs.View.{accepted_by};
 ghost use Rattle.report_lines.specs.Logs.{AreLogs};
 
-use crate::held;
-use cesr_codes::Prefix;
+use cesr_codes::{Prefix, Spelled};
 use event_body::prefix_of;
 use std::alloc::{AllocError, Global};
 use std::collections::BTreeMap;
@@ -42,7 +41,7 @@ fn add_number(
     ensures { (bodies log : List Body) (b : Body) → slice_get bodies number ≡ Some b → events.prefix_of b.event ≡ prefix
         → AreLogs bodies log logs.old.entries → OnOk result (AreLogs bodies (log ++ b ∷ []) logs.new.entries) }
 {
-    held::prefix(prefix);
+    prefix.held();
     let mut text = [0; 44];
     prefix.write(&mut text);
     if let Some(log) = logs.get_mut(&text) {

@@ -6,6 +6,7 @@ ghost use Rattle.report_lines.specs.Rows.{AreRows, IsRow, if_waits};
 use crate::row::Row;
 use crate::rows::{add_row, ordered_lines};
 use crate::waits_line;
+use lists::length_u32;
 use std::alloc::{AllocError, Global};
 use validator_core::Core;
 
@@ -23,21 +24,11 @@ fn waiting_rows(alloc: Global, core: &Core) -> Result<Vec<Row<'_>>, AllocError>
 {
     let mut rows = Vec::new(alloc);
     for place in 0..core.len() {
-        let number = number_from(place)?;
+        let number = length_u32(place)?;
         let row = waiting_row(alloc, core, number)?;
         add_row(&mut rows, row)?;
     }
     Ok(rows)
-}
-
-// A place as a number. More bodies than numbers are more than memory holds.
-fn number_from(place: usize) -> Result<u32, AllocError>
-    ensures { IfOk result (λ n. n ≡ place) }
-{
-    match u32::try_from(place) {
-        Ok(number) => Ok(number),
-        Err(_) => Err(AllocError),
-    }
 }
 
 // The row of a body, where it waits.

@@ -3,19 +3,21 @@ use Rattle.std.specs.Prelude.{◌≡◌, ℕ, ◌⊎◌, Bool, true, false, List
 use Rattle.std.specs.declared.option.Option.{Option}
 use Rattle.cesr_codes.specs.declared.key.Key.{Key}
 use Rattle.cesr_codes.specs.declared.sig.Sig.{Sig}
+use Rattle.keri_outside.specs.declared.inquiry.Inquiry.{Inquiry}
 use Rattle.journal.specs.declared.refusal.Refusal.{Refusal}
 use Rattle.run_status.specs.declared.close.Close.{Close}
 use Rattle.run_status.specs.declared.close.Close.TheVariants.{End, Bad, ReadFault, VerifierFault, WriteFault, Malformed, Full, OutOfMemory}
 use Rattle.run_status.specs.declared.reader_end.ReaderEnd.{ReaderEnd}
 
--- what objects of the outside tell: what a source has left, what a verifier says, what was written; and how often each
--- has failed
+-- what objects of the outside tell: what a source has left, what a verifier says and what it was asked, what was written;
+-- and how often each has failed
 pub record SourceTold : Type 0 where
   pub left : Option (List ℕ)
   pub faults : ℕ
 
 pub record VerifierTold : Type 0 where
   pub says : Key → List ℕ → Sig → Option Bool
+  pub inquiries : Option (List Inquiry)
   pub faults : ℕ
 
 pub record SinkTold : Type 0 where
@@ -74,12 +76,12 @@ abbrev pub HasClose : Close → List Reader → Type 0
 HasClose close [] = ⊥
 HasClose close (reader ∷ readers) = (reader.close ≡ close) ⊎ HasClose close readers
 
-module _ {S V : Type 0} (left : S → Option (List ℕ)) (faults : S → ℕ) (says : V → Key → List ℕ → Sig → Option Bool) (verifier_faults : V → ℕ) where
+module _ {S V : Type 0} (left : S → Option (List ℕ)) (faults : S → ℕ) (says : V → Key → List ℕ → Sig → Option Bool) (inquiries : V → Option (List Inquiry)) (verifier_faults : V → ℕ) where
   abbrev pub source_seen : S → SourceTold
   source_seen source = record { left = left source; faults = faults source }
 
   abbrev pub verifier_seen : V → VerifierTold
-  verifier_seen verifier = record { says = says verifier; faults = verifier_faults verifier }
+  verifier_seen verifier = record { says = says verifier; inquiries = inquiries verifier; faults = verifier_faults verifier }
 
   abbrev pub reader_seen : ReaderEnd S V → Reader
   reader_seen end = record {

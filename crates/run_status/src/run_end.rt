@@ -18,7 +18,7 @@ pub fn settle<O: Outside>(
     besides: Besides,
     readers: &[ReaderEnd<O::Source, O::Verifier>],
 ) -> u8
-    ensures settles { SettlesBy (option_map (λ text. text.now) owed.entry) besides (map (reader_seen O.Source.left O.Source.faults O.Verifier.says O.Verifier.faults) readers.now)
+    ensures settles { SettlesBy (option_map (λ text. text.now) owed.entry) besides (map (reader_seen O.Source.left O.Source.faults O.Verifier.says O.Verifier.inquiries O.Verifier.faults) readers.now)
         (sink_seen O.Sink.written O.Sink.faults (O.sink outside.old)) (sink_seen O.Sink.written O.Sink.faults (O.sink outside.new)) result }
     ensures told { O.told outside.new ≡ O.told outside.old }
 {
@@ -46,7 +46,7 @@ fn found<S: Source, V: Verifier>(
     readers: &[ReaderEnd<S, V>],
     sink_failed: bool,
 ) -> Findings
-    ensures { result ≡ settling.found besides (map (reader_seen S.left S.faults V.says V.faults) readers.now) sink_failed }
+    ensures { result ≡ settling.found besides (map (reader_seen S.left S.faults V.says V.inquiries V.faults) readers.now) sink_failed }
 {
     Findings {
         no_memory: false,

@@ -14,7 +14,7 @@ use core_tables::{Name, Tables, name_of};
 use event_body::{Event, is_receipt};
 use journal::Claim;
 use json_tree::Text;
-use lists::Items;
+use lists::{Items, length_u32};
 use std::alloc::{AllocError, Global};
 
 /// A body that isn't held comes with its claims. After an error some of it may be there: the tables are to be cut back.
@@ -50,7 +50,7 @@ pub fn enter_claims(
     ensures ok { OnOk result (Comes [] (Took reader number claims) tables.old tables.new) }
     ensures extends { Extends tables.old tables.new }
 {
-    let entry = number_from(tables.journal().entries.len())?;
+    let entry = length_u32(tables.journal().entries.len())?;
     // The numbers of a receipt's events are copied into memory from where the claims took theirs.
     let claims = claims.into_vec();
     let alloc = *claims.allocator();
@@ -75,7 +75,7 @@ fn enter_event(
 {
     let length = tables.len();
     tables.push_body(text, event)?;
-    let number = number_from(length)?;
+    let number = length_u32(length)?;
     tables.push_took(reader, number, claims)?;
     raise_if_standing(tables, number)
 }
@@ -97,7 +97,7 @@ fn enter_receipt(
 {
     let length = tables.len();
     tables.push_body(text, event)?;
-    let number = number_from(length)?;
+    let number = length_u32(length)?;
     enter_claims(tables, reader, number, claims)
 }
 
@@ -123,15 +123,5 @@ fn receipt_name(tables: &Tables, number: u32) -> Option<Name>
         Some(name_of(event))
     } else {
         None
-    }
-}
-
-// A length as a number. More rows than numbers are more than memory holds.
-fn number_from(length: usize) -> Result<u32, AllocError>
-    ensures { IfOk result (λ n. n ≡ length) }
-{
-    match u32::try_from(length) {
-        Ok(number) => Ok(number),
-        Err(_) => Err(AllocError),
     }
 }

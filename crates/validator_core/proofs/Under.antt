@@ -3,10 +3,13 @@ use Rattle.std.proofs.Common.{◌≡◌, ℕ, List, Option, Some, None, refl, sy
 use Rattle.std.specs.Prelude.{filter, filter_map, slice_get}
 use Rattle.key_state.specs.Exposure.{own_rules}
 use Rattle.key_state.specs.States.{State}
+use Rattle.cesr_codes.specs.declared.indexed_sig.IndexedSig.{IndexedSig}
 use Rattle.event_body.specs.declared.event.Event.{Event}
+use Rattle.event_rules.specs.Parts.{opens_at}
 use Rattle.journal.specs.declared.body.Body.{Body}
 use Rattle.journal.specs.History.{Told, claims_on, triple_of}
 use Rattle.journal.specs.Readiness.{good_sigs, held_sig, yes_to}
+use Rattle.core_laws.proofs.Adding.{opens-alike}
 use Rattle.core_laws.proofs.Alike.{own_rules-alike}
 use Rattle.accepted_log.specs.Cuts.{AreBothAlike}
 use Rattle.core_tables.proofs.NamedRows.{body_there, chosen_at}
@@ -23,6 +26,13 @@ rules_both (Some s) (Some t) alike e = own_rules-alike s t alike e
 pub good_both : (told : List Told) (o p : Option State) (b : Body) → AreBothAlike o p → good_sigs told o b ≡ good_sigs told p b
 unfolding good_sigs
 good_both told o p b alike = ap (λ r. filter_map held_sig (filter (λ c. yes_to told (triple_of r b c)) (claims_on told b))) (rules_both o p alike b.event)
+
+-- and under them a signature opens the same commitments
+pub opens_both : (o p : Option State) → AreBothAlike o p → (e : Event) (n : ℕ) (sig : IndexedSig) → opens_at o e n sig ≡ opens_at p e n sig
+opens_both None None alike e n sig = refl
+opens_both None (Some t) alike e n sig = absurd alike
+opens_both (Some s) None alike e n sig = absurd alike
+opens_both (Some s) (Some t) alike e n sig = ap (λ f. f sig) (opens-alike s t alike e n)
 
 -- PLACE: what is accepted at a place is the body of the number there
 there_at : (held : List Body) (o : Option ℕ) (n : ℕ) (b : Body) → o ≡ Some n → body_there held o ≡ Some b → slice_get held n ≡ Some b

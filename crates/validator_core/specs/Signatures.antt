@@ -1,10 +1,11 @@
 -- The good signatures on bodies.
-use Rattle.std.specs.Prelude.{Bool, List, [], Option, None, if◌then◌else◌}
+use Rattle.std.specs.Prelude.{ℕ, Bool, List, [], Option, None, if◌then◌else◌}
 use Rattle.cesr_codes.specs.declared.indexed_sig.IndexedSig.{IndexedSig}
 use Rattle.cesr_codes.specs.declared.key.Key.{Key}
 use Rattle.cesr_codes.specs.declared.sig.Sig.{Sig}
 use Rattle.validator_core.specs.View.{CoreView, told_of, accepted_by}
 use Rattle.event_rules.specs.Claims.{is_good}
+use Rattle.event_rules.specs.Parts.{opens_at}
 use Rattle.journal.specs.History.{Told}
 use Rattle.journal.specs.Logs.{before, stands, state}
 use Rattle.event_body.specs.Events.{prefix_of}
@@ -35,6 +36,10 @@ state_under log b = state (before b log) (prefix_of b.event)
 -- the controller's signatures with a yes verdict by that state
 abbrev pub good_under : List Told → List Body → Body → List IndexedSig
 good_under told log b = good_sigs told (state_under log b) b
+
+-- the signature opens the commitment of this place by that state
+abbrev pub opens_under : List Body → Body → ℕ → IndexedSig → Bool
+opens_under log b n sig = opens_at (state_under log b) b.event n sig
 
 -- the key is among the event's own witnesses by that state
 abbrev pub is_witness_under : List Body → Body → Key → Bool

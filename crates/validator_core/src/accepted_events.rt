@@ -1,19 +1,20 @@
 //! Accepted events, by their places, and the numbers of bodies.
-ghost use Rattle.std.specs.Prelude.{◌≡◌, ◌==◌, IfNone, IfSome, Some, false, position, slice_get};
+ghost use Rattle.std.specs.Prelude.{◌≡◌, ◌==◌, IfNone, IfSome, Some, ℕ, false, position, slice_get};
 ghost use Rattle.acceptance.specs.Standing.{IsStanding};
 ghost use Rattle.core_tables.specs.View.{body_of, log_of};
 ghost use Rattle.event_body.specs.Judging.{SpellsEvent};
-ghost use Rattle.validator_core.specs.Signatures.{is_witness_under};
+ghost use Rattle.event_rules.specs.Additions.{is_number};
+ghost use Rattle.validator_core.specs.Signatures.{is_witness_under, opens_under};
 ghost use Rattle.validator_core.specs.View.{accepted_by};
 ghost use Rattle.journal.specs.Logs.{is_in};
 ghost use Rattle.journal.specs.declared.body.Body.{Body};
 
 use crate::Core;
 use crate::signatures::number_at;
-use cesr_codes::Key;
+use cesr_codes::{IndexedSig, Key};
 use core_tables::Tables;
 use event_body::Event;
-use event_rules::has_witness;
+use event_rules::{has_witness, reveal_of};
 
 impl Core {
     /// The number of the body with these bytes, which spell the event; none where it isn't held. It takes no memory.
@@ -43,6 +44,28 @@ impl Core {
     {
         is_witness_in(&self.tables, place, key)
     }
+
+    /// The place of the commitment that a signature on the event at a place of the accepted ones opens, by the state under which
+    /// the event was accepted; none where it opens none. It takes no memory.
+    pub fn reveal_at(&self, place: usize, sig: &IndexedSig) -> Option<u16>
+        ensures { (b : Body) → slice_get (accepted_by self.now) place ≡ Some b → (n : ℕ) → is_number result n ≡ opens_under (accepted_by self.now) b n sig.now }
+    {
+        reveal_in(&self.tables, place, sig)
+    }
+}
+
+// The place of the commitment that a signature on the event at a place of the log opens.
+fn reveal_in(tables: &Tables, place: usize, sig: &IndexedSig) -> Option<u16>
+    requires { IsStanding tables.now }
+    ensures { (b : Body) → slice_get (log_of tables.now) place ≡ Some b → (n : ℕ) → is_number result n ≡ opens_under (log_of tables.now) b n sig.now }
+{
+    let Some(number) = number_at(tables.log().numbers(), place) else {
+        return None;
+    };
+    let Some(event) = tables.event(number) else {
+        return None;
+    };
+    reveal_of(tables.log().state_before(place, event), event, sig)
 }
 
 // Whether a key is among the own witnesses of the event at a place of the log.

@@ -12,14 +12,13 @@ ghost use Rattle.validator_core.specs.View.{accepted_by, base_of, told_of};
 ghost use Rattle.validator_core.specs.Views.{IsPlaced};
 
 use crate::Core;
-use crate::whole_entries::number_from;
 use acceptance::counts;
 use cesr_codes::Prefix;
 use core_tables::Tables;
 use event_body::{Event, prefix_of, sn_of};
 use journal::Conflict;
 use journal_views::{conflict_sets, live};
-use lists::Items;
+use lists::{Items, length_u32};
 use std::alloc::{AllocError, Global};
 
 impl Core {
@@ -59,7 +58,7 @@ fn counted(alloc: Global, tables: &Tables) -> Result<Vec<u32>, AllocError>
 {
     let mut numbers = Vec::new(alloc);
     for place in 0..tables.len() {
-        let number = number_from(place)?;
+        let number = length_u32(place)?;
         if counts(tables, number) {
             numbers.push(number)?;
         }

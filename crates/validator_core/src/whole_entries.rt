@@ -15,7 +15,7 @@ use event_body::{Event, said_of_event};
 use journal::{Claim, Mode, Question};
 use json_tree::Text;
 use keri_outside::Steps;
-use lists::Items;
+use lists::{Items, length_u32};
 use settlement::{enter_body, enter_claims, enter_verdict, settle};
 use std::alloc::{AllocError, Global};
 use std::collections::BTreeSet;
@@ -136,7 +136,7 @@ fn bring_body(
 {
     let length = tables.len();
     enter_body(tables, reader, text, event, claims)?;
-    let number = number_from(length)?;
+    let number = length_u32(length)?;
     settle_from(alloc, tables, mode, number, steps)
 }
 
@@ -208,14 +208,4 @@ fn add_number(due: &mut BTreeSet<u32>, number: u32) -> Result<(), AllocError>
 {
     due.insert(number)?;
     Ok(())
-}
-
-/// A length as a number. More bodies than numbers are more than memory holds.
-pub(crate) fn number_from(length: usize) -> Result<u32, AllocError>
-    ensures { IfOk result (λ n. n ≡ length) }
-{
-    match u32::try_from(length) {
-        Ok(number) => Ok(number),
-        Err(_) => Err(AllocError),
-    }
 }

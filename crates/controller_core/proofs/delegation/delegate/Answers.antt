@@ -9,14 +9,15 @@ returns g c =
     let state = c.args.state.now in
     let is = c.interaction-sealing.ensures.event ∙ ap (interaction state) c.in_ok-seal_anchor.ensures.seal in
     let said = c.made_behind-message.ensures in
-    let answer = subst (IsAnswerBehind (g.S.Signer.gives c.args.signer.now) state c.args.plan.now c.made_behind-message.result) is
-    (record { made = said.made; refused = said.refused; last = said.last; signed = said.signed }) in
+    let answer = subst (IsAnswerBehind (g.S.Signer.gives c.args.signer.now) (g.S.Signer.signings c.args.signer.now) (g.S.Signer.signings c.made_behind-message.new.signer) state c.args.plan.now c.made_behind-message.result) is
+    (record { made = said.made; refused = said.refused; last = said.last; asked = said.asked; signed = said.signed }) in
     record {
       made = answer.made;
       seal = holds_seal state c.args.event.now c.args.plan.now;
       refused = answer.refused;
       last = answer.last;
       gives = said.gives;
+      asked = answer.asked;
       count = said.count;
       signed = answer.signed;
     }

@@ -3,6 +3,7 @@ use Rattle.std.specs.Prelude.{IfOk, IfErr}
 use Rattle.controller_core.specs.Messages.{IsMessageOf}
 use Rattle.controller_core.specs.Plans.{sealed, sealed_inception}
 use Rattle.controller_core.specs.Refusals.{IsRefusal}
+use Rattle.controller_core.specs.Signings.{AsksFor, signings_of}
 use Rattle.controller_core.proofs.Signing.{signed_where_ok}
 use Rattle.controller_core.proofs.inception.incept.Goals as goal
 
@@ -18,6 +19,7 @@ returns g c =
       made = made;
       refused = subst (λ event. IfErr answer (IsRefusal None (sealed plan.code event) plan.signers)) is said.refused;
       gives = said.gives;
+      asked = subst (λ event. AsksFor (g.S.Signer.signings c.args.signer.now) (g.S.Signer.signings c.made-message.new.signer) (signings_of None (sealed plan.code event) plan.signers) answer) is said.asked;
       count = said.count;
       signed = signed_where_ok gives None (sealed_inception plan) plan.signers answer made;
     }

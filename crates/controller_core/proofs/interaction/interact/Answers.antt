@@ -8,6 +8,6 @@ returns g c =
     let state = c.args.state.now in
     let is = c.interaction-event.ensures.event ∙ ap (interaction state) c.in_ok-copy.ensures in
     let said = c.made_behind-message.ensures in
-    let answer = subst (IsAnswerBehind (g.S.Signer.gives c.args.signer.now) state c.args.plan.now c.made_behind-message.result) is
-    (record { made = said.made; refused = said.refused; last = said.last; signed = said.signed }) in
-    record { made = answer.made; refused = answer.refused; last = answer.last; gives = said.gives; count = said.count; signed = answer.signed }
+    let answer = subst (IsAnswerBehind (g.S.Signer.gives c.args.signer.now) (g.S.Signer.signings c.args.signer.now) (g.S.Signer.signings c.made_behind-message.new.signer) state c.args.plan.now c.made_behind-message.result) is
+    (record { made = said.made; refused = said.refused; last = said.last; asked = said.asked; signed = said.signed }) in
+    record { made = answer.made; refused = answer.refused; last = answer.last; gives = said.gives; asked = answer.asked; count = said.count; signed = answer.signed }

@@ -11,10 +11,10 @@ pub returns-clause-checked : goal.returns-clause-checked
 returns-clause-checked g c =
     let before = g.O.Outside.told c.args.outside.now in
     let end = c.check_file-reader.result.0 in
-    let reader = reader_seen g.O.Source.Source.left g.O.Source.Source.faults g.O.Verifier.Verifier.says g.O.Verifier.Verifier.faults end in
+    let reader = reader_seen g.O.Source.Source.left g.O.Source.Source.faults g.O.Verifier.Verifier.says g.O.Verifier.Verifier.inquiries g.O.Verifier.Verifier.faults end in
     let one : c.push.new.self.items ≡ end ∷ [] = search rules in
     let makes : AreMakings (making Source c.args.name.now (is_none reader.source) ∷ []) before (g.O.Outside.told c.check_file-reader.new.outside) = rw
-    (seen_none (source_seen g.O.Source.Source.left g.O.Source.Source.faults g.O.Verifier.Verifier.says g.O.Verifier.Verifier.faults) end.source)
+    (seen_none (source_seen g.O.Source.Source.left g.O.Source.Source.faults g.O.Verifier.Verifier.says g.O.Verifier.Verifier.inquiries g.O.Verifier.Verifier.faults) end.source)
     c.check_file-reader.ensures.makes in
     rw one (record {
       reader = reader;

@@ -22,7 +22,7 @@ returns-clause-generated g c =
     let due = c.owe-close.result in
     let owed = option_map (λ text. text.items) due.owed in
     let line = c.line_of-line.result in
-    let reader : Reader = reader_seen maker_left maker_faults (λ v. rehearsal_says) (λ v. 0) end in
+    let reader : Reader = reader_seen maker_left maker_faults (λ v. rehearsal_says) (λ v. None) (λ v. 0) end in
     let given : Given = record { limits = before.limits; held = Some (streams.stream_text plan.seed plan.logs plan.events); says = rehearsal_says } in
     let tells : Tells Full given reader core = rw c.limits-limits.ensures at c.read_made-reader.ensures.tells in
     let of : IsJournalOf core c.into_journal.result = search rules in

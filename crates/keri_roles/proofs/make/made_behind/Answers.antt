@@ -18,19 +18,20 @@ returns-clause-made g c =
     let core = c.read_to_core-second.result.core in
     let signer = c.message_due-owed.new.signer in
     let gives = g.O.Signer.Signer.gives in
+    let signings = g.O.Signer.Signer.signings in
     let faults = g.O.Signer.Signer.faults in
-    let plan_reader = reader_seen g.O.Source.Source.left g.O.Source.Source.faults g.O.Verifier.Verifier.says g.O.Verifier.Verifier.faults first in
-    let log_reader = reader_seen g.O.Source.Source.left g.O.Source.Source.faults g.O.Verifier.Verifier.says g.O.Verifier.Verifier.faults second in
+    let plan_reader = reader_seen g.O.Source.Source.left g.O.Source.Source.faults g.O.Verifier.Verifier.says g.O.Verifier.Verifier.inquiries g.O.Verifier.Verifier.faults first in
+    let log_reader = reader_seen g.O.Source.Source.left g.O.Source.Source.faults g.O.Verifier.Verifier.says g.O.Verifier.Verifier.inquiries g.O.Verifier.Verifier.faults second in
     let two : c.push-2.new.self.items ≡ first ∷ second ∷ [] = search rules in
     let makes : AreMakings (making Source c.args.plan.now (is_none plan_reader.source) ∷ making Source c.args.log.now (is_none log_reader.source)
-    ∷ making Verifier c.args.helper.now (is_none log_reader.verifier) ∷ making Signer c.args.helper.now (is_none (signer_seen gives faults signer)) ∷ []) before after = rw (
-      seen_none (source_seen g.O.Source.Source.left g.O.Source.Source.faults g.O.Verifier.Verifier.says g.O.Verifier.Verifier.faults) first.source,
+    ∷ making Verifier c.args.helper.now (is_none log_reader.verifier) ∷ making Signer c.args.helper.now (is_none (signer_seen gives signings faults signer)) ∷ []) before after = rw (
+      seen_none (source_seen g.O.Source.Source.left g.O.Source.Source.faults g.O.Verifier.Verifier.says g.O.Verifier.Verifier.inquiries g.O.Verifier.Verifier.faults) first.source,
       c.read_whole-first.ensures.source,
-      seen_none (source_seen g.O.Source.Source.left g.O.Source.Source.faults g.O.Verifier.Verifier.says g.O.Verifier.Verifier.faults) second.source,
+      seen_none (source_seen g.O.Source.Source.left g.O.Source.Source.faults g.O.Verifier.Verifier.says g.O.Verifier.Verifier.inquiries g.O.Verifier.Verifier.faults) second.source,
       c.read_to_core-second.ensures.source,
-      seen_none (verifier_seen g.O.Source.Source.left g.O.Source.Source.faults g.O.Verifier.Verifier.says g.O.Verifier.Verifier.faults) second.verifier,
+      seen_none (verifier_seen g.O.Source.Source.left g.O.Source.Source.faults g.O.Verifier.Verifier.says g.O.Verifier.Verifier.inquiries g.O.Verifier.Verifier.faults) second.verifier,
       c.read_to_core-second.ensures.verifier,
-      signer_none gives faults signer,
+      signer_none gives signings faults signer,
       c.message_due-owed.ensures.signer,
     ) c.make_behind-plan.ensures.makes in
     let tells : Tells Local (record { limits = before.limits; held = before.holds c.args.log.now; says = before.says c.args.helper.now }) log_reader core = rw c.limits-limits.ensures at
@@ -43,7 +44,7 @@ returns-clause-made g c =
       text = c.read_whole-first.result.text.items;
       reads = rw c.limits-limits.ensures at (c.read_whole-first.ensures.reads (before.holds c.args.plan.now) c.make_behind-plan.ensures.holds);
       makes = makes;
-      signs = gives_seen gives faults signer (before.gives c.args.helper.now) (c.message_due-owed.ensures.gives (before.gives c.args.helper.now) c.make_behind-plan.ensures.signs);
+      signs = gives_seen gives signings faults signer (before.gives c.args.helper.now) (c.message_due-owed.ensures.gives (before.gives c.args.helper.now) c.make_behind-plan.ensures.signs);
       journal = is_told_by Local (record { limits = before.limits; held = before.holds c.args.log.now; says = before.says c.args.helper.now }) log_reader core tells of.stands;
       owes = rw (c.deref.ensures.value, c.is_refused.ensures, tells.mode_is, tells.limits_are, tells.no_base) at
           (c.message_due-owed.ensures.due (before.gives c.args.helper.now) c.make_behind-plan.ensures.signs);

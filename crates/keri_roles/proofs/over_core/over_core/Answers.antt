@@ -14,12 +14,12 @@ returns-clause-done g c =
     let end = c.read_to_core-reader.result.reader in
     let core = c.read_to_core-reader.result.core in
     let debt = c.owe-close.result in
-    let reader = reader_seen g.O.Source.Source.left g.O.Source.Source.faults g.O.Verifier.Verifier.says g.O.Verifier.Verifier.faults end in
+    let reader = reader_seen g.O.Source.Source.left g.O.Source.Source.faults g.O.Verifier.Verifier.says g.O.Verifier.Verifier.inquiries g.O.Verifier.Verifier.faults end in
     let one : c.push.new.self.items ≡ record { source = end.source; verifier = end.verifier; refused = end.refused; close = debt.close } ∷ [] = search rules in
     let makes : AreMakings (making Source c.args.name.now (is_none reader.source) ∷ making Verifier c.args.helper.now (is_none reader.verifier) ∷ []) before after = rw (
-      seen_none (source_seen g.O.Source.Source.left g.O.Source.Source.faults g.O.Verifier.Verifier.says g.O.Verifier.Verifier.faults) end.source,
+      seen_none (source_seen g.O.Source.Source.left g.O.Source.Source.faults g.O.Verifier.Verifier.says g.O.Verifier.Verifier.inquiries g.O.Verifier.Verifier.faults) end.source,
       c.read_to_core-reader.ensures.source,
-      seen_none (verifier_seen g.O.Source.Source.left g.O.Source.Source.faults g.O.Verifier.Verifier.says g.O.Verifier.Verifier.faults) end.verifier,
+      seen_none (verifier_seen g.O.Source.Source.left g.O.Source.Source.faults g.O.Verifier.Verifier.says g.O.Verifier.Verifier.inquiries g.O.Verifier.Verifier.faults) end.verifier,
       c.read_to_core-reader.ensures.verifier,
     ) c.providers_for-providers.ensures.makes in
     let tells : Tells c.args.mode (record { limits = before.limits; held = before.holds c.args.name.now; says = before.says c.args.helper.now }) reader core = rw c.limits-limits.ensures at

@@ -7,7 +7,7 @@ use Rattle.keri_roles.proofs.rehearse.rehearse.Goals as goal
 
 pub returns : goal.returns
 returns g c =
-    let seen = source_seen g.O.Source.Source.left g.O.Source.Source.faults g.O.Verifier.Verifier.says g.O.Verifier.Verifier.faults in
+    let seen = source_seen g.O.Source.Source.left g.O.Source.Source.faults g.O.Verifier.Verifier.says g.O.Verifier.Verifier.inquiries g.O.Verifier.Verifier.faults in
     let source = c.serve_input-source.result.0 in
     let served = c.serve_input-source.result.1 in
     let end : ReaderEnd g.row.O-Source.Denot g.row.O-Verifier.Denot = record { source = source; verifier = None; refused = c.new.result; close = c.serving_close.result } in

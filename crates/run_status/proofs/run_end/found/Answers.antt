@@ -11,7 +11,7 @@ any-map test seen (x ∷ xs) = ap (λ rest. test (seen x) || rest) (any-map test
 
 pub returns : goal.returns
 returns g c =
-    let seen = reader_seen g.S.Source.left g.S.Source.faults g.V.Verifier.says g.V.Verifier.faults in
+    let seen = reader_seen g.S.Source.left g.S.Source.faults g.V.Verifier.says g.V.Verifier.inquiries g.V.Verifier.faults in
     let readers = c.args.readers.now in
     rw (
       any-map (λ r. is_read_fault r.close) seen readers,

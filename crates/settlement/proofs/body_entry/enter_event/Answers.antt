@@ -14,13 +14,13 @@ use Rattle.settlement.proofs.body_entry.enter_event.Goals as goal
 
 pub raise_if_standing-requires : goal.raise_if_standing-requires
 raise_if_standing-requires c =
-    let mid_is = mid_of c.args.tables.now c.push_body.new.self c.push_took.new.self c.args.reader (body_of c.args.text c.args.event) c.in_ok-number.number c.args.claims c.in_ok-push_body.ensures.ok (c.in_ok-number.ensures ∙ c.len-length.ensures) c.in_ok-push_took.ensures.ok in
+    let mid_is = mid_of c.args.tables.now c.push_body.new.self c.push_took.new.self c.args.reader (body_of c.args.text c.args.event) c.in_ok-number.number c.args.claims c.in_ok-push_body.ensures.ok (c.in_ok-number.ensures.ok ∙ c.len-length.ensures) c.in_ok-push_took.ensures.ok in
     subst IsLogged (sym mid_is) (logged_body c.args.tables.now (body_of c.args.text c.args.event) (Took c.args.reader (length c.args.tables.now.held) c.args.claims) c.requires.stands c.requires.held c.requires.outside)
 
 pub returns-clause-ok : goal.returns-clause-ok
 returns-clause-ok c =
     let b = body_of c.args.text c.args.event in
-    let number = c.in_ok-number.ensures ∙ c.len-length.ensures in
+    let number = c.in_ok-number.ensures.ok ∙ c.len-length.ensures in
     let mid_is = mid_of c.args.tables.now c.push_body.new.self c.push_took.new.self c.args.reader b c.in_ok-number.number c.args.claims c.in_ok-push_body.ensures.ok number c.in_ok-push_took.ensures.ok in
     let there : slice_get c.push_took.new.self.held c.in_ok-number.number ≡ Some b = ap (λ (v : View). slice_get v.held c.in_ok-number.number) mid_is ∙ ap (slice_get (c.args.tables.now.held ++ b ∷ [])) number ∙ slice_get_last c.args.tables.now.held b in
     on_ok_weaker c.raise_if_standing.result (λ raised.
@@ -30,7 +30,7 @@ returns-clause-ok c =
 pub returns-clause-extends : goal.returns-clause-extends
 returns-clause-extends c =
     let b = body_of c.args.text c.args.event in
-    let number = c.in_ok-number.ensures ∙ c.len-length.ensures in
+    let number = c.in_ok-number.ensures.ok ∙ c.len-length.ensures in
     let mid_is = mid_of c.args.tables.now c.push_body.new.self c.push_took.new.self c.args.reader b c.in_ok-number.number c.args.claims c.in_ok-push_body.ensures.ok number c.in_ok-push_took.ensures.ok in
     let there : slice_get c.push_took.new.self.held c.in_ok-number.number ≡ Some b = ap (λ (v : View). slice_get v.held c.in_ok-number.number) mid_is ∙ ap (slice_get (c.args.tables.now.held ++ b ∷ [])) number ∙ slice_get_last c.args.tables.now.held b in
     let more = subst (Extends c.args.tables.now) (sym mid_is) (extends_body c.args.tables.now b (Took c.args.reader (length c.args.tables.now.held) c.args.claims) c.requires.stands) in

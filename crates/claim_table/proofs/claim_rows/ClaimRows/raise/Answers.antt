@@ -15,13 +15,13 @@ use Rattle.claim_table.proofs.claim_rows.ClaimRows.raise.Goals as goal
 
 pub returns-in_err-add-clause-sound : goal.returns-in_err-add-clause-sound
 returns-in_err-add-clause-sound c =
-    let t = c.args.self.now in let place : c.in_ok-number.number ≡ length t.rows.items = omega (arith, c.in_ok-number.ensures, c.len-row.ensures) in
+    let t = c.args.self.now in let place : c.in_ok-number.number ≡ length t.rows.items = omega (arith, c.in_ok-number.ensures.ok, c.len-row.ensures) in
     kept_more t.rows.items (places_of t.by_signature) (amount t.counts) (is_entered t.counts) t.pending (contains spot_cmp t.spots) (contains spot_cmp t.spots) _ (places_of c.add.new.self) _ (is_entered c.enter.new.self)
     c.in_ok-number.number c.in_ok-reserve.ensures.items (λ q. refl) place (λ q. c.in_err-add.ensures.kept q.body q) c.in_ok-enter.ensures.amounts c.in_ok-enter.ensures.kept c.requires
 
 pub returns-in_err-open_new-clause-sound : goal.returns-in_err-open_new-clause-sound
 returns-in_err-open_new-clause-sound c =
-    let t = c.args.self.now in let place : c.in_ok-number.number ≡ length t.rows.items = omega (arith, c.in_ok-number.ensures, c.len-row.ensures) in
+    let t = c.args.self.now in let place : c.in_ok-number.number ≡ length t.rows.items = omega (arith, c.in_ok-number.ensures.ok, c.len-row.ensures) in
     kept_more t.rows.items (places_of t.by_signature) (amount t.counts) (is_entered t.counts) t.pending (contains spot_cmp t.spots) (contains spot_cmp c.open_new.new.spots) _ (places_of c.add.new.self) _ (is_entered c.enter.new.self)
     c.in_ok-number.number c.in_ok-reserve.ensures.items (λ q. ap (λ spots. contains spot_cmp spots q) c.in_err-open_new.ensures.err) place (λ q. c.in_ok-add.ensures.kept q.body q) c.in_ok-enter.ensures.amounts c.in_ok-enter.ensures.kept c.requires
 
@@ -42,7 +42,7 @@ pub returns-clause-sound : goal.returns-clause-sound
 returns-clause-sound c =
     let t = c.args.self.now in let rows = t.rows.items in let claimed = c.args.claimed in
     let hint = places_of c.add.new.self in let counts = amount c.enter.new.self in let entered = is_entered c.count_yes.new.self in
-    let place : c.in_ok-number.number ≡ length rows = omega (arith, c.in_ok-number.ensures, c.len-row.ensures) in
+    let place : c.in_ok-number.number ≡ length rows = omega (arith, c.in_ok-number.ensures.ok, c.len-row.ensures) in
     let row : c.len-row.result ≡ length rows = omega (arith, c.len-row.ensures) in
     let fits : c.in_ok-number.number < 2 ^ 32 = search rules in
     let kept = kept_more rows (places_of t.by_signature) (amount t.counts) (is_entered t.counts) t.pending (contains spot_cmp t.spots) (contains spot_cmp t.spots) rows hint counts entered
