@@ -1,8 +1,9 @@
 """The logs that a core accepts: live events, conflicts, and cores that begin with a list of texts."""
 from event_cases import BASIC, OTHER_ROT, ROT
 from kit import PLAIN_ICP as ICP, body, digest, key, said, signed
-from log_cases import BACKED, CHANGED, CHILD, CHILD_1, IXN_1, IXN_2, IXN_3, IXN_4, LISTED, LOG, OTHER_2, RECOVERY, ROT_2, ROT_3
+from log_cases import BACKED, CHANGED, CHILD, CHILD_1, IXN_1, IXN_2, IXN_3, IXN_4, LISTED, LOG, OTHER_2, RECOVERY, ROT_2, ROT_3, WATCHED
 from log_cases import field, ixn, rot
+from row_tables import argument
 from row_tables.core_calls import accept, accepted, answer, asked, live, logged, resume, start, take, waiting, words
 from row_tables.states import PREFIX
 
@@ -35,6 +36,13 @@ def recovered(late, why, *numbers):
     yield "log x", "no-prefix"
     yield "state %s" % PREFIX, "3 1 0"
     yield "conflicts", ""
+
+
+def evidence():
+    """What a watcher writes that was told these messages, and what it says where its sink fails."""
+    for messages, written, *_ in WATCHED.values():
+        yield " ".join(["evidence", "written", *map(argument, messages)]), "".join(written)
+        yield " ".join(["evidence", "fails", *map(argument, messages)]), "WriteFault"
 
 
 def place(text):
@@ -227,6 +235,8 @@ def rows():
     yield from three_rotations()
     yield from later_rotation()
     yield from pairs()
+    yield "# the evidence of a watcher"
+    yield from evidence()
     yield "# cores that begin with a list of texts"
     yield from bases()
     yield from behind_bases()

@@ -1,3 +1,4 @@
+mod Backers
 pub mod Behind
 pub mod FoundClaims
 pub mod ReadyRows

@@ -13,7 +13,7 @@ use cesr_codes::{Key, Sig};
 use claim_table::{ClaimTable, Signature};
 use core_tables::Tables;
 use event_body::Event;
-use event_rules::{ClaimSupport, Support, Verdicts, witness};
+use event_rules::{ClaimSupport, Support, Verdicts, witness, witness_count};
 use key_state::KeyState;
 
 /// What the claims on the event of a number add up to behind a state, found by going over the entries by which they came.
@@ -46,6 +46,10 @@ impl<'a> Support for EntrySupport<'a> {
             Some(key) => self.tables.claims().has_yes_by(self.number, &key),
             None => false,
         }
+    }
+
+    fn most_backers(&self) -> u64 {
+        witness_count(self.state, self.event) as u64
     }
 }
 

@@ -25,4 +25,8 @@ impl<'a> Support for RowSupport<'a> {
     fn backs(&self, place: u16) -> bool {
         self.claims.has_backer(self.number, place)
     }
+
+    fn most_backers(&self) -> u64 {
+        self.claims.backer_count(self.number) as u64
+    }
 }

@@ -7,7 +7,8 @@ use Rattle.claim_table.specs.declared.claimed.Parts.{Parts}
 use Rattle.claim_table.specs.BodyParts.{BodyPart}
 use Rattle.claim_table.specs.declared.part.Part.{Part}
 use Rattle.claim_table.specs.declared.part.Part.TheVariants.{Indexed, Revealed, Backed}
-use Rattle.claim_table.specs.Counts.{bit, is_one, same_part}
+use Rattle.claim_table.specs.Counts.{is_one}
+use Rattle.claim_table.specs.Entries.{bit, same_part}
 use Rattle.claim_table.specs.Parts.{brings, is_number}
 
 abbrev of_body : ℕ → Part → BodyPart

@@ -1,5 +1,5 @@
 -- What is kept beside the rows stays right.
-use Rattle.std.proofs.Common.{◌≡◌, ℕ, ◌+◌, ◌-◌, ◌<◌, ◌≤◌, ◌^◌, Bool, true, false, cond, ◌||◌, ◌&&◌, List, [], ◌∷◌, ◌++◌, length, take, Option, Some, None, refl, sym, ◌∙◌, ap, subst, arith}
+use Rattle.std.proofs.Common.{◌≡◌, ℕ, ◌+◌, ◌-◌, ◌<◌, ◌^◌, Bool, true, false, cond, ◌||◌, ◌&&◌, List, [], ◌∷◌, ◌++◌, length, take, Option, Some, None, refl, sym, ◌∙◌, ap, subst, arith}
 use Rattle.std.specs.Prelude.{not, is_some, Contains, if◌then◌else◌}
 use Rattle.std.specs.BTreeMap.{is_at}
 use Rattle.std.specs.Option.{option_flatten, option_map}
@@ -11,7 +11,7 @@ use Rattle.claim_table.specs.BodyParts.{BodyPart}
 use Rattle.claim_table.specs.declared.row.Row.{Row}
 use Rattle.claim_table.specs.declared.signature.Signature.{Signature}
 use Rattle.claim_table.specs.declared.spot.Spot.{Spot}
-use Rattle.claim_table.specs.Counts.{bit}
+use Rattle.claim_table.specs.Entries.{bit}
 use Rattle.claim_table.specs.Keeping.{AreCounted, AreEntered, AreHinted, IsFirstAt, IsKept, IsPending, IsPendingBelow, spot_at, spot_cmp}
 use Rattle.claim_table.specs.Parts.{brings, supports}
 use Rattle.claim_table.specs.Table.{KeepsPending}
@@ -83,7 +83,7 @@ module _ (rows : List Row) (hint : Signature → List ℕ) (counts : BodyPart �
       → ((q : Spot) → spots q ≡ (old q || (is_new && is_at (spot_cmp (spot_at c.body (length rows))) q)))
       → Contains (hint (signature_of c)) (length rows)
       → ((q : BodyPart) → new q ≡ counts q + bit (supports q (record { claimed = c; verdict = verdict_of rows (signature_of c) })))
-      → ((q : BodyPart) → brings c.body c.parts q ≡ true → entered q ≡ true) → length rows + 1 ≤ 2 ^ 32
+      → ((q : BodyPart) → brings c.body c.parts q ≡ true → entered q ≡ true) → length rows + 1 < 2 ^ 32
       → IsKept rows pending old hint counts entered → IsKept now pending spots hint new entered
   kept_raised pending old spots is_new c now new is first updates added more entries room k = subst (λ now. IsKept now pending spots hint new entered) (sym is) (record {
     agree = agree_raised rows c k.agree;

@@ -1,5 +1,7 @@
 pub mod Rows
+pub mod Backers
 mod Counting
+mod Entries
 mod Hinted
 mod Hints
 mod Kept

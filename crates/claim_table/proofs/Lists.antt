@@ -5,7 +5,7 @@ use Rattle.std.specs.List.{list_any}
 use Rattle.std.proofs.lemmas.Bool.{cases_Bool, lt-ltb}
 use Rattle.std.proofs.lemmas.List.Sums.{sum_by-cons, sum_by_push}
 use Rattle.std.proofs.lemmas.Bool.Decides.{nat_tests}
-use Rattle.claim_table.specs.Counts.{bit}
+use Rattle.claim_table.specs.Entries.{bit}
 use Rattle.claim_table.specs.Keeping.{at_place}
 
 pub differ : (m n : ℕ) → (m ≡ n → ⊥) → (m == n) ≡ false
@@ -108,3 +108,8 @@ pub bit_within : {X : Type 0} (test : X → Bool) (xs : List X) (k : ℕ) (x : X
 bit_within test [] k x e = cc
 bit_within test (y ∷ xs) zero x e = let is : y ≡ x = cc in let a = ap (λ z. bit (test z)) is in let all = count_cons test y xs in omega (arith, a, all)
 bit_within test (y ∷ xs) (suc k) x e = let more = bit_within test xs k x e in let all = count_cons test y xs in omega (arith, more, all)
+
+pub length-at_place : {X : Type 0} (f : X → X) (xs : List X) (k : ℕ) → length (at_place k f xs) ≡ length xs
+length-at_place f [] k = refl
+length-at_place f (x ∷ xs) zero = refl
+length-at_place f (x ∷ xs) (suc k) = ap suc (length-at_place f xs k)

@@ -1,10 +1,10 @@
 -- The entries of the parts, where those of one body change.
 use Rattle.std.proofs.Common.{◌≡◌, ℕ, zero, suc, ◌+◌, ◌-◌, Bool, true, false, ◌&&◌, List, [], ◌∷◌, ◌++◌, Option, Some, None, refl, sym, ◌∙◌, ap, subst, set, inl, inr, arith}
 use Rattle.std.specs.Prelude.{slice_get, is_some, ◌==◌}
-use Rattle.std.specs.BTreeMap.{BTreeMap}
 use Rattle.std.proofs.lemmas.Bool.{and_parts, cases_eq}
 use Rattle.std.proofs.lemmas.Bool.Decides.{nat_tests}
-use Rattle.claim_table.specs.Counts.{bit, entry_at, is_one, or_zero, part_entry, same_part}
+use Rattle.claim_table.specs.Counts.{entry_at, is_one}
+use Rattle.claim_table.specs.Entries.{Entries, bit, or_zero, part_entry, same_part}
 use Rattle.claim_table.specs.BodyParts.{BodyPart}
 use Rattle.claim_table.specs.declared.part.Part.{Part}
 use Rattle.claim_table.specs.declared.part.Part.TheVariants.{Indexed, Revealed, Backed}
@@ -40,8 +40,8 @@ set_elsewhere (z ∷ xs) zero (suc i) y h = refl
 set_elsewhere (z ∷ xs) (suc k) zero y h = refl
 set_elsewhere (z ∷ xs) (suc k) (suc i) y h = set_elsewhere xs k i y (λ e. h (ap (λ n. suc n) e))
 
-module _ (trees : List (BTreeMap Part ℕ)) where
-  module _ (body : ℕ) (part : Part) (was now : BTreeMap Part ℕ) (at : slice_get trees body ≡ Some was) where
+module _ (trees : List Entries) where
+  module _ (body : ℕ) (part : Part) (was now : Entries) (at : slice_get trees body ≡ Some was) where
     -- what is true of each change of an entry at the body, and of no change, is true everywhere
     changed : (P : Bool → Option ℕ → Option ℕ → Type 0) → ((p : Part) → P (same_part part p) (part_entry was p) (part_entry now p)) → ((o : Option ℕ) → P false o o)
         → (q : BodyPart) → P (is_one body (Some part) q) (entry_at (slice_get trees q.body) q.part) (entry_at (slice_get (set trees body now) q.body) q.part)
@@ -89,10 +89,10 @@ module _ (trees : List (BTreeMap Part ℕ)) where
   nothing_there body part none q h = ap (λ o. entry_at o q.part) (ap (λ n. slice_get trees n) (sym (of_body body part q h)) ∙ none)
 
   -- a body more has no entries
-  pub pushed : (more : BTreeMap Part ℕ) → more.entries ≡ [] → (q : BodyPart) → entry_at (slice_get (trees ++ more ∷ []) q.body) q.part ≡ entry_at (slice_get trees q.body) q.part
+  pub pushed : (more : Entries) → more ≡ [] → (q : BodyPart) → entry_at (slice_get (trees ++ more ∷ []) q.body) q.part ≡ entry_at (slice_get trees q.body) q.part
   pushed more empty q = by trees q.body
     where
-      by : (trees : List (BTreeMap Part ℕ)) (n : ℕ) → entry_at (slice_get (trees ++ more ∷ []) n) q.part ≡ entry_at (slice_get trees n) q.part
+      by : (trees : List Entries) (n : ℕ) → entry_at (slice_get (trees ++ more ∷ []) n) q.part ≡ entry_at (slice_get trees n) q.part
       by [] zero = rw empty refl
       by [] (suc n) = refl
       by (t ∷ trees) zero = refl

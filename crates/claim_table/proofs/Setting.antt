@@ -1,19 +1,20 @@
 -- Verdicts are set at the places of a signature's rows, one after the other.
-use Rattle.std.proofs.Common.{◌≡◌, ℕ, ◌+◌, ◌-◌, ◌<◌, Bool, true, false, List, length, get_or, Option, Some, None, refl, sym, ◌∙◌, ap, inl, inr, arith}
-use Rattle.std.specs.Prelude.{slice_get, slice_index_or, Contains}
+use Rattle.std.proofs.Common.{◌≡◌, ℕ, ◌+◌, ◌-◌, ◌^◌, ◌<◌, Bool, true, false, List, length, get_or, Option, Some, None, refl, sym, ◌∙◌, ap, inl, inr, arith}
+use Rattle.std.specs.Prelude.{slice_get, slice_index_or, Contains, count_by}
 use Rattle.std.specs.Option.{option_map}
 use Rattle.std.proofs.lemmas.Bool.{cases_Bool, cases_eq}
 use Rattle.std.proofs.lemmas.List.{length-map}
+use Rattle.std.proofs.lemmas.List.Sums.{count_by-le-length}
 use Rattle.std.proofs.lemmas.Option.{slice_get-map, slice_get_read, slice_get_within}
 use Rattle.claim_table.specs.BodyParts.{BodyPart}
 use Rattle.claim_table.specs.declared.row.Row.{Row}
 use Rattle.claim_table.specs.declared.signature.Signature.{Signature}
-use Rattle.claim_table.specs.Counts.{bit}
+use Rattle.claim_table.specs.Entries.{bit}
 use Rattle.claim_table.specs.Keeping.{AreCounted, AreEntered, at_place, is_of_at}
 use Rattle.claim_table.specs.Parts.{brings, supports}
 use Rattle.claim_table.specs.Rows.{is_of, same_signature, signature_of, with_verdict, with_verdicts}
 use Rattle.claim_table.proofs.Hints.{default}
-use Rattle.claim_table.proofs.Lists.{at_place_made, at_place_same, at_place_there, bit_within, count_at, map_at_place, map_same}
+use Rattle.claim_table.proofs.Lists.{at_place_made, at_place_same, at_place_there, bit_within, count_at, length-at_place, map_at_place, map_same}
 use Rattle.claim_table.proofs.Rows.{set_again, set_at, set_claimed, set_elsewhere}
 
 module _ (s : Signature) (v : Option Bool) where
@@ -40,6 +41,14 @@ module _ (s : Signature) (v : Option Bool) where
       let one = less q in let two = more q in let all = h q in let changed = count_at (supports q) (with_verdict s v) rows place r at in
       let same = ap (λ r. bit (supports q r)) is in let had = bit_within (supports q) rows place r at in
       omega (arith, one, two, all, changed, same, had)
+
+  -- a part that the row brings with its new verdict can be counted
+  pub can_count : (rows : List Row) (place : ℕ) (r : Row) (q : BodyPart) (old mid : ℕ) → slice_get rows place ≡ Some r → with_verdict s v r ≡ record { claimed = r.claimed; verdict = v }
+      → mid ≡ old - bit (supports q r) → old ≡ count_by (supports q) rows → supports q (record { claimed = r.claimed; verdict = v }) ≡ true → length rows < 2 ^ 32 → mid < 2 ^ 32 - 1
+  can_count rows place r q old mid at is less all brought few =
+      let changed = count_at (supports q) (with_verdict s v) rows place r at in let same = ap (λ r. bit (supports q r)) is in let one = ap bit brought in
+      let had = bit_within (supports q) rows place r at in let most = count_by-le-length (supports q) (at_place place (with_verdict s v) rows) in let long = length-at_place (with_verdict s v) rows place in
+      omega (arith, less, all, changed, same, one, had, most, long, few)
 
   module _ (rows now : List Row) (rest : with_verdicts s v now ≡ with_verdicts s v rows) where
     -- the rows are those of the same claims

@@ -88,7 +88,7 @@ pub record IsKept (rows : List Row) (pending : Option Pending) (open_spots : Spo
   pub hinted : AreHinted rows numbers
   pub counted : AreCounted rows counts
   pub entries : AreEntered rows entered
-  pub few : length rows ≤ 2 ^ 32
+  pub few : length rows < 2 ^ 32
 
 abbrev pub IsSound : ClaimRows → Type 0
 IsSound t = IsKept t.rows.items t.pending (contains spot_cmp t.spots) (places_of t.by_signature) (amount t.counts) (is_entered t.counts)

@@ -74,7 +74,9 @@ impl ClaimRows {
         ensures sound { IsSound self.new }
     {
         let row = self.rows.len();
-        let number = length_u32(row)?;
+        // How many rows there are then fits as well: so no count overflows.
+        let rows = length_u32(row + 1)?;
+        let number = rows - 1;
         let signature = claimed.signature();
         let verdict = self.verdict(&signature);
         self.rows.reserve(1)?;
@@ -276,7 +278,7 @@ fn set_verdicts(
 )
     requires counted { AreCounted rows.old.items (amount counts.old) }
     requires entries { AreEntered rows.old.items (is_entered counts.old) }
-    requires few { length rows.old.items ≤ 2 ^ 32 }
+    requires few { length rows.old.items < 2 ^ 32 }
     requires all { (i : ℕ) → is_of_at signature.now (slice_get rows.old.items i) ≡ true → Contains (few.now ++ many.now) i }
     ensures rows { rows.new.items ≡ with_verdicts signature.now verdict rows.old.items }
     ensures counted { AreCounted rows.new.items (amount counts.new) }
@@ -310,7 +312,7 @@ fn set_verdict(
 )
     requires counted { AreCounted rows.old.items (amount counts.old) }
     requires entries { AreEntered rows.old.items (is_entered counts.old) }
-    requires few { length rows.old.items ≤ 2 ^ 32 }
+    requires few { length rows.old.items < 2 ^ 32 }
     ensures rows { rows.new.items ≡ at_place place (with_verdict signature.now verdict) rows.old.items }
     ensures counted { AreCounted rows.new.items (amount counts.new) }
     ensures entries { (q : BodyPart) → is_entered counts.new q ≡ is_entered counts.old q }

@@ -1,8 +1,8 @@
 //! The table of claims.
-ghost use Rattle.std.specs.Prelude.{◌≡◌, ◌≢◌, ℕ, true, length, take, slice_get, Some, None, OnOk, OnErr, if◌then◌else◌};
+ghost use Rattle.std.specs.Prelude.{◌≡◌, ◌≢◌, ◌≤◌, ℕ, true, length, take, slice_get, Some, None, OnOk, OnErr, if◌then◌else◌};
 ghost use Rattle.std.specs.BTreeSet.{IsOrdered};
 ghost use Rattle.std.specs.Option.{option_map};
-ghost use Rattle.claim_table.specs.Parts.{has_part};
+ghost use Rattle.claim_table.specs.Parts.{AreSoMany, count_below, has_part};
 ghost use Rattle.claim_table.specs.Rows.{DoAgree, has_yes_by, heard, is_raised, open_rows, raised, signature_of, unheard, verdict_of};
 ghost use Rattle.claim_table.specs.Table.{AreBelow, KeepsPending, nothing};
 ghost use Rattle.claim_table.specs.declared.part.Part.TheVariants.{Indexed, Revealed, Backed};
@@ -159,6 +159,14 @@ impl ClaimTable {
         ensures { result ≡ has_part self.now.rows body (Backed place) }
     {
         self.inner.counts.has(body, Part::Backed(place))
+    }
+
+    /// How many places of the event's own list of witnesses have a claim with a yes: so many of those below any bound at most.
+    pub fn backer_count(&self, body: u32) -> usize
+        ensures all { AreSoMany (λ n. has_part self.now.rows body (Backed n)) result }
+        ensures most { (bound : ℕ) → count_below (λ n. has_part self.now.rows body (Backed n)) bound ≤ result }
+    {
+        self.inner.counts.backers(body)
     }
 
     /// Whether a claim by the key has a yes. It goes over all rows.

@@ -1,6 +1,7 @@
 //! The claims on bodies, with the verdicts that were heard on them, and what the yes verdicts of a body add up to.
 #![tactic(auto)]
 
+mod body_counts;
 mod body_index;
 mod body_numbers;
 mod claim_rows;

@@ -1,23 +1,23 @@
 //! How many claims with a yes bring each part of a body.
-ghost use Rattle.std.specs.Prelude.{◌≡◌, ◌+◌, ◌-◌, ◌<◌, ◌^◌, ℕ, true, OnOk, nat_lt, None, Some, length, is_some, slice_get};
-ghost use Rattle.claim_table.specs.Counts.{amount, bit, entry_at, is_entered, is_one, or_zero, part_entry, same_part};
-ghost use Rattle.claim_table.specs.declared.part.Part.{Part as PartValue};
-ghost use Rattle.claim_table.specs.Parts.{brings, supports};
+ghost use Rattle.std.specs.Prelude.{◌≡◌, ◌+◌, ◌-◌, ◌<◌, ◌^◌, ℕ, true, OnOk, nat_lt, length, slice_get};
+ghost use Rattle.claim_table.specs.Counts.{amount, entry_at, is_entered, is_one};
+ghost use Rattle.claim_table.specs.Entries.{bit};
+ghost use Rattle.claim_table.specs.declared.part.Part.TheVariants.{Backed};
+ghost use Rattle.claim_table.specs.Parts.{AreSoMany, brings, supports};
 ghost use Rattle.claim_table.specs.BodyParts.{BodyPart};
 
+use crate::body_counts::BodyCounts;
 use crate::claimed::Parts;
 use crate::part::Part;
 use crate::row::Row;
 use std::alloc::{AllocError, Global};
-use std::collections::BTreeMap;
 
-/// A count for each part of a body that was entered: the bodies by their numbers, so that the parts of one are found among
-/// themselves. An entry stays when its count falls to 0, and does no harm. No count is greater than the number of rows, which
-/// are numbered by `u32`, so none overflows.
+/// The counts of the bodies by their numbers. No count is greater than the number of rows, which are fewer than there are
+/// numbers of 32 bits, so none overflows.
 #[derive(Drop)]
 pub(crate) struct PartCounts {
     alloc: Global,
-    counts: Vec<BTreeMap<Part, usize>>,
+    counts: Vec<BodyCounts>,
 }
 
 impl PartCounts {
@@ -41,6 +41,16 @@ impl PartCounts {
         }
     }
 
+    /// How many places of witnesses some claim brings.
+    pub(crate) fn backers(&self, body: u32) -> usize
+        ensures { AreSoMany (λ n. nat_lt 0 (amount self.now (record { body = body; part = Backed n }))) result }
+    {
+        match self.counts.get(body as usize) {
+            Some(counts) => counts.backers(),
+            None => 0,
+        }
+    }
+
     /// Makes entries for a claim's parts, so that counting them takes no memory.
     pub(crate) fn enter(&mut self, body: u32, parts: &Parts) -> Result<(), AllocError>
         ensures entered { OnOk result ((q : BodyPart) → brings body parts.now q ≡ true → is_entered self.new q ≡ true) }
@@ -56,7 +66,7 @@ impl PartCounts {
     // Counts a claim's parts.
     fn count(&mut self, body: u32, parts: &Parts)
         requires entered { (q : BodyPart) → brings body parts.now q ≡ true → is_entered self.old q ≡ true }
-        requires few { (q : BodyPart) → brings body parts.now q ≡ true → amount self.old q < 2 ^ 64 - 1 }
+        requires few { (q : BodyPart) → brings body parts.now q ≡ true → amount self.old q < 2 ^ 32 - 1 }
         ensures amounts { (q : BodyPart) → amount self.new q ≡ amount self.old q + bit (brings body parts.now q) }
         ensures kept { (q : BodyPart) → is_entered self.new q ≡ is_entered self.old q }
     {
@@ -78,7 +88,7 @@ impl PartCounts {
     /// Counts the parts of a row with a yes.
     pub(crate) fn count_yes(&mut self, row: &Row)
         requires entered { (q : BodyPart) → brings row.now.claimed.body row.now.claimed.parts q ≡ true → is_entered self.old q ≡ true }
-        requires few { (q : BodyPart) → supports q row.now ≡ true → amount self.old q < 2 ^ 64 - 1 }
+        requires few { (q : BodyPart) → supports q row.now ≡ true → amount self.old q < 2 ^ 32 - 1 }
         ensures amounts { (q : BodyPart) → amount self.new q ≡ amount self.old q + bit (supports q row.now) }
         ensures kept { (q : BodyPart) → is_entered self.new q ≡ is_entered self.old q }
     {
@@ -104,7 +114,7 @@ impl PartCounts {
         ensures kept { (q : BodyPart) → is_entered self.new q ≡ is_entered self.old q }
     {
         for place in self.counts.len()..body as usize + 1 {
-            self.counts.push(BTreeMap::new(self.alloc))?;
+            self.counts.push(BodyCounts::new(self.alloc))?;
         }
         Ok(())
     }
@@ -119,12 +129,12 @@ impl PartCounts {
         let Some(part) = part else {
             return Ok(());
         };
-        enter_part(&mut self.counts[body as usize], part)
+        self.counts[body as usize].enter(part)
     }
 
     fn count_one(&mut self, body: u32, part: Option<Part>)
         requires entered { (q : BodyPart) → is_one body part q ≡ true → is_entered self.old q ≡ true }
-        requires few { (q : BodyPart) → is_one body part q ≡ true → amount self.old q < 2 ^ 64 - 1 }
+        requires few { (q : BodyPart) → is_one body part q ≡ true → amount self.old q < 2 ^ 32 - 1 }
         ensures amounts { (q : BodyPart) → amount self.new q ≡ amount self.old q + bit (is_one body part q) }
         ensures kept { (q : BodyPart) → is_entered self.new q ≡ is_entered self.old q }
     {
@@ -132,7 +142,7 @@ impl PartCounts {
             return;
         };
         if let Some(counts) = self.counts.get_mut(body as usize) {
-            count_part(counts, part);
+            counts.count(part);
         }
     }
 
@@ -144,47 +154,14 @@ impl PartCounts {
             return;
         };
         if let Some(counts) = self.counts.get_mut(body as usize) {
-            uncount_part(counts, part);
+            counts.uncount(part);
         }
     }
 }
 
 // The count of a part of a body, where there is an entry for it.
-fn count_of(counts: &[BTreeMap<Part, usize>], body: u32, part: Part) -> Option<usize>
+fn count_of(counts: &[BodyCounts], body: u32, part: Part) -> Option<u32>
     ensures { result ≡ entry_at (slice_get counts.now body) part }
 {
-    let counts = counts.get(body as usize)?;
-    counts.get(&part).copied()
-}
-
-// Makes an entry for a part.
-fn enter_part(counts: &mut BTreeMap<Part, usize>, part: Part) -> Result<(), AllocError>
-    ensures entered { OnOk result ((p : PartValue) → same_part part p ≡ true → is_some (part_entry counts.new p) ≡ true) }
-    ensures amounts { (p : PartValue) → or_zero (part_entry counts.new p) ≡ or_zero (part_entry counts.old p) }
-    ensures kept { (p : PartValue) → is_some (part_entry counts.old p) ≡ true → is_some (part_entry counts.new p) ≡ true }
-{
-    counts.entry(part)?.or_insert(0);
-    Ok(())
-}
-
-// Counts a part once more.
-fn count_part(counts: &mut BTreeMap<Part, usize>, part: Part)
-    requires entered { is_some (part_entry counts.old part) ≡ true }
-    requires few { or_zero (part_entry counts.old part) < 2 ^ 64 - 1 }
-    ensures amounts { (p : PartValue) → or_zero (part_entry counts.new p) ≡ or_zero (part_entry counts.old p) + bit (same_part part p) }
-    ensures kept { (p : PartValue) → is_some (part_entry counts.new p) ≡ is_some (part_entry counts.old p) }
-{
-    if let Some(count) = counts.get_mut(&part) {
-        *count += 1;
-    }
-}
-
-// Counts a part once less.
-fn uncount_part(counts: &mut BTreeMap<Part, usize>, part: Part)
-    ensures amounts { (p : PartValue) → or_zero (part_entry counts.new p) ≡ or_zero (part_entry counts.old p) - bit (same_part part p) }
-    ensures kept { (p : PartValue) → is_some (part_entry counts.new p) ≡ is_some (part_entry counts.old p) }
-{
-    if let Some(count) = counts.get_mut(&part) {
-        *count = count.saturating_sub(1);
-    }
+    counts.get(body as usize)?.count_of(part)
 }

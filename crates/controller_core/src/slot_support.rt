@@ -38,6 +38,10 @@ impl<'a> Support for SlotSupport<'a> {
     fn backs(&self, _place: u16) -> bool {
         false
     }
+
+    fn most_backers(&self) -> u64 {
+        0
+    }
 }
 
 // Whether the slot opens the commitment at a place of the state before, as only that of a rotation may.

@@ -12,6 +12,7 @@ use Rattle.escrow.proofs.Crosses.{waiting_send}
 use Rattle.event_body.proofs.Crosses.{event_send}
 use Rattle.event_body.specs.contracts.event.Event as event
 use Rattle.core_tables.proofs.claim_entries.ClaimEntries.TheSendSync as came
+use Rattle.core_tables.proofs.named_places.NamedPlaces.TheSendSync as places
 use Rattle.core_tables.proofs.name.Name.TheSendSync as name
 use Rattle.core_tables.proofs.name.SealKey.TheSendSync as seal_key
 use Rattle.core_tables.specs.contracts.name.Name as names
@@ -38,5 +39,5 @@ seals_send = index.the_send seal_keys.the_row seal_ord.ghosts seal_eq.ghosts sea
 pub tables_send : IsSend tables.the_row
 tables_send =
     let whole : IsSend inside.the_row = declared_send inside.the_type
-    (global_send, (journal.the_send, (crossing.Vec-send event.the_row event_send, (log.the_send, (claims.the_send, (waiting_send, (search sendable, (names_send, (names_send, (came.the_send, (names_send, (seals_send, tt)))))))))))) in
+    (global_send, (journal.the_send, (crossing.Vec-send event.the_row event_send, (log.the_send, (claims.the_send, (waiting_send, (search sendable, (names_send, (names_send, (came.the_send, (places.the_send, (seals_send, tt)))))))))))) in
     search sendable depth 4

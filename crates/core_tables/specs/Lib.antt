@@ -1,5 +1,6 @@
 pub mod View
 pub mod Names
+pub mod NamedPlaces
 pub mod Hints
 pub mod Rows
 pub mod Raised

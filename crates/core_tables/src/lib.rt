@@ -10,6 +10,7 @@ mod held;
 mod log;
 mod mark;
 mod name;
+mod named_places;
 mod raised_claims;
 mod tables;
 

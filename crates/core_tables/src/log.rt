@@ -13,6 +13,7 @@ ghost use Rattle.journal.specs.Seals.{is_sealed};
 ghost use Rattle.journal.specs.declared.body.Body.{Body};
 ghost use Rattle.key_state.specs.Heads.{head_sn};
 ghost use Rattle.core_tables.specs.Hints.{IsSealedAt, KeepsBelow};
+ghost use Rattle.core_tables.specs.NamedPlaces.{places_at};
 ghost use Rattle.core_tables.specs.Names.{name_in, name_of as name_of_event, seal_key};
 ghost use Rattle.core_tables.specs.Rows.{event_there, is_named, is_number, is_seal_of};
 ghost use Rattle.core_tables.specs.View.{body_of, log_of, with_log};
@@ -20,6 +21,7 @@ ghost use Rattle.core_tables.specs.View.{body_of, log_of, with_log};
 use crate::Tables;
 use crate::held::held;
 use crate::name::{Name, SealKey, has_name, name_of, prior_name};
+use crate::named_places::NamedPlaces;
 use crate::tables::event_at;
 use cesr_codes::Prefix;
 use escrow::Waiting;
@@ -203,16 +205,16 @@ fn is_sealing(event: Option<&Event>, key: &SealKey) -> bool
 // how many entries there are.
 fn note_next(
     alloc: Global,
-    accepted: &mut Index<Name>,
+    accepted: &mut NamedPlaces,
     sealed: &mut Index<SealKey>,
     event: &Event,
     count: usize,
     entries: usize,
 ) -> Result<u32, AllocError>
     ensures entries { IfOk result (λ n. n ≡ entries) }
-    ensures named { OnOk result (Contains (numbers_at ⟦<Name as Ord>⟧.cmp accepted.new (name_of_event event.now)) count) }
+    ensures named { OnOk result (Contains (places_at accepted.new (name_of_event event.now)) count) }
     ensures sealed { OnOk result (IsSealedAt (numbers_at ⟦<SealKey as Ord>⟧.cmp sealed.new) event.now count) }
-    ensures kept { KeepsBelow count (numbers_at ⟦<Name as Ord>⟧.cmp accepted.old) (numbers_at ⟦<Name as Ord>⟧.cmp accepted.new) }
+    ensures kept { KeepsBelow count (places_at accepted.old) (places_at accepted.new) }
     ensures kept_sealed { KeepsBelow count (numbers_at ⟦<SealKey as Ord>⟧.cmp sealed.old) (numbers_at ⟦<SealKey as Ord>⟧.cmp sealed.new) }
 {
     let place = length_u32(count)?;
@@ -223,14 +225,14 @@ fn note_next(
 // Adds a place of the log under the name of its event and under what that seals.
 fn note_accepted(
     alloc: Global,
-    accepted: &mut Index<Name>,
+    accepted: &mut NamedPlaces,
     sealed: &mut Index<SealKey>,
     event: &Event,
     place: u32,
 ) -> Result<(), AllocError>
-    ensures named { OnOk result (Contains (numbers_at ⟦<Name as Ord>⟧.cmp accepted.new (name_of_event event.now)) place) }
+    ensures named { OnOk result (Contains (places_at accepted.new (name_of_event event.now)) place) }
     ensures sealed { OnOk result (IsSealedAt (numbers_at ⟦<SealKey as Ord>⟧.cmp sealed.new) event.now place) }
-    ensures kept { KeepsBelow place (numbers_at ⟦<Name as Ord>⟧.cmp accepted.old) (numbers_at ⟦<Name as Ord>⟧.cmp accepted.new) }
+    ensures kept { KeepsBelow place (places_at accepted.old) (places_at accepted.new) }
     ensures kept_sealed { KeepsBelow place (numbers_at ⟦<SealKey as Ord>⟧.cmp sealed.old) (numbers_at ⟦<SealKey as Ord>⟧.cmp sealed.new) }
 {
     accepted.add(name_of(event), place)?;

@@ -6,6 +6,7 @@ ghost use Rattle.core_tables.specs.View.{nothing};
 
 use crate::claim_entries::ClaimEntries;
 use crate::name::{Name, SealKey};
+use crate::named_places::NamedPlaces;
 use accepted_log::AcceptedLog;
 use claim_table::ClaimTable;
 use escrow::Waiting;
@@ -37,7 +38,7 @@ pub struct Tables {
     /// The numbers of the entries by which a claim came with a body.
     pub(crate) came: ClaimEntries,
     /// The places in the log of the events with a name.
-    pub(crate) accepted: Index<Name>,
+    pub(crate) accepted: NamedPlaces,
     /// The places in the log of the events that seal a name.
     pub(crate) seals: Index<SealKey>,
 }
@@ -54,13 +55,14 @@ impl Model for Tables {
     ghost use Rattle.core_tables.specs.ClaimEntries.{came_at};
     ghost use Rattle.core_tables.specs.Hints.{AreHinted, IsPending};
     ghost use Rattle.core_tables.specs.Inside.{are_paired, held_in, view_of};
+    ghost use Rattle.core_tables.specs.NamedPlaces.{places_at};
     ghost use Rattle.event_index.specs.Keys.{numbers_at};
 
     ghost view = { λ t. view_of t };
 
     ghost invariant = { λ t. are_paired t × IsPending t.claims
         × AreHinted (held_in t) t.journal.entries t.log.numbers t.settled t.waiting
-        (numbers_at ⟦<Name as Ord>⟧.cmp t.names) (numbers_at ⟦<Name as Ord>⟧.cmp t.told) (numbers_at ⟦<Name as Ord>⟧.cmp t.accepted)
+        (numbers_at ⟦<Name as Ord>⟧.cmp t.names) (numbers_at ⟦<Name as Ord>⟧.cmp t.told) (places_at t.accepted)
         (came_at t.came) (numbers_at ⟦<SealKey as Ord>⟧.cmp t.seals) };
 }
 
@@ -83,7 +85,7 @@ impl Tables {
             names: Index::new(alloc),
             told: Index::new(alloc),
             came: ClaimEntries::new(alloc),
-            accepted: Index::new(alloc),
+            accepted: NamedPlaces::new(alloc),
             seals: Index::new(alloc),
         }
     }

@@ -8,7 +8,7 @@ ghost use Rattle.event_rules.specs.Parts.{opens_at, parts_by};
 ghost use Rattle.key_state.specs.Exposure.{own_rules};
 
 use crate::signers::{claimed_key, claimed_sig, opens_commitment};
-use crate::witnesses::witness;
+use crate::witnesses::{witness, witness_count};
 use crate::{Support, Verdicts};
 use cesr_codes::IndexedSig;
 use event_body::Event;
@@ -38,6 +38,10 @@ impl<'a, V: Verdicts> Support for ClaimSupport<'a, V> {
 
     fn backs(&self, place: u16) -> bool {
         is_backer(self.verdicts, self.state, self.event, place)
+    }
+
+    fn most_backers(&self) -> u64 {
+        witness_count(self.state, self.event) as u64
     }
 }
 

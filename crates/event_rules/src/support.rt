@@ -1,7 +1,8 @@
 //! What supports an event.
-ghost use Rattle.std.specs.Prelude.{◌≡◌, Bool};
+ghost use Rattle.std.specs.Prelude.{◌≡◌, ◌≤◌, ℕ, Bool, filter, length};
 ghost use Rattle.event_rules.specs.Parts as parts;
 ghost use Rattle.event_rules.specs.Parts.{Part};
+ghost use Rattle.key_state.specs.Exposure.{numbers_below};
 
 /// The parts that the good signatures on an event add up to.
 pub trait Support {
@@ -19,4 +20,8 @@ pub trait Support {
     /// Whether the witness at a place of the event's own list has a good signature.
     fn backs(&self, place: u16) -> bool
         ensures { result ≡ has self.now (parts.backer place) };
+
+    /// A number that the witnesses with a good signature are not more than, told without going over them.
+    fn most_backers(&self) -> u64
+        ensures most { (bound : ℕ) → length (filter (λ n. has self.now (parts.backer n)) (numbers_below bound)) ≤ result };
 }

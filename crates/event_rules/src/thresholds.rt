@@ -112,7 +112,12 @@ pub fn is_backed<S: Support>(support: &S, state: Option<&KeyState>, event: &Even
     requires { IsKept event.now }
     ensures { result ≡ parts.has_backed (S.has support.now) (own_rules (option_copied state.entry) event.now) }
 {
-    toad_of(state, event) <= u64::from(backer_count(support, place_count(state, event)))
+    let toad = toad_of(state, event);
+    // Mostly receipts are wanting, and then no place is asked for.
+    if support.most_backers() < toad {
+        return false;
+    }
+    toad <= u64::from(backer_count(support, place_count(state, event)))
 }
 
 // How many of the witnesses below a bound have a good signature.

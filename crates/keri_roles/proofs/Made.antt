@@ -16,7 +16,8 @@ use Rattle.run_status.specs.declared.close.Close.{Close}
 use Rattle.run_status.specs.declared.close.Close.TheVariants.{ReadFault, VerifierFault}
 use Rattle.run_status.specs.Readers.{SourceTold}
 use Rattle.keri_roles.specs.Made.{MadeFrom, IsDue, IsDueBy, WasRead, close_of, found_in, is_out, is_through}
-use Rattle.keri_roles.specs.Run.{SignerTold, signer_seen}
+use Rattle.keri_roles.specs.Run.{SignerTold}
+use Rattle.keri_roles.specs.Seen.{signer_seen}
 
 -- the reader of a text closes so by its source alone
 by_read : (closed : TextClose) → close_of closed ≡ ReadFault → closed ≡ text.ReadFault

@@ -1,20 +1,19 @@
 -- What `check FILE` does.
-use Rattle.std.specs.Prelude.{◌≡◌, ℕ, List, [], ◌∷◌, ◌++◌, is_none, MatchOption}
+use Rattle.std.specs.Prelude.{◌≡◌, ◌≢◌, ℕ, List, [], ◌∷◌, ◌++◌, MatchOption}
 use Rattle.std.specs.declared.option.Option.{Option}
 use Rattle.std.specs.declared.option.Option.TheVariants.{None}
-use Rattle.run_outside.specs.Told.{making}
+use Rattle.run_outside.specs.Told.{Told}
 use Rattle.keri_outside.specs.declared.limits.Limits.{Limits}
-use Rattle.run_outside.specs.declared.making.MakingKind.TheVariants.{Source}
 use Rattle.cesr_stream.specs.Items.{Placed}
 use Rattle.cesr_stream.specs.Messages.{messages}
 use Rattle.cesr_stream.specs.Reading.{Reading}
 use Rattle.message_feed.specs.Feeds.{Stream}
-use Rattle.run_status.specs.declared.close.Close.TheVariants.{ReadFault}
+use Rattle.run_status.specs.declared.close.Close.TheVariants.{OutOfMemory, ReadFault}
 use Rattle.keri_roles.specs.MessageLines.{AreLinesOf}
 use Rattle.keri_roles.specs.Closes.{Closes, ending_text}
 use Rattle.keri_roles.specs.NoJournal.{no_journal}
 use Rattle.run_status.specs.Readers.{Reader, SourceTold}
-use Rattle.keri_roles.specs.Run.{Work, AreMakings, Owes}
+use Rattle.keri_roles.specs.Run.{Work, MakesSource, Owes}
 use Rattle.run_status.specs.Status.{nothing_besides}
 
 -- A stream was read: the text has the lines of its messages, and then how reading closed.
@@ -37,6 +36,18 @@ pub record ChecksNothing (reader : Reader) (text : List ℕ) : Type 0 where
 abbrev pub ChecksReader : Limits → Option (List ℕ) → Reader → List ℕ → Type 0
 ChecksReader limits held reader text = MatchOption reader.source (ChecksNothing reader text) (λ source. ChecksStream limits held source reader text)
 
+-- so it is, unless there was no memory
+abbrev pub ChecksHeld : Limits → Option (List ℕ) → Reader → List ℕ → Type 0
+ChecksHeld limits held reader text = reader.close ≢ OutOfMemory → ChecksReader limits held reader text
+
+-- of a file of the outside
+abbrev pub ChecksFile : List ℕ → Told → Reader → List ℕ → Type 0
+ChecksFile name told reader text = ChecksHeld told.limits (told.holds name) reader text
+
+-- whatever a source would have held
+abbrev pub ChecksAny : Reader → List ℕ → Type 0
+ChecksAny reader text = (limits : Limits) (held : Option (List ℕ)) → ChecksHeld limits held reader text
+
 -- what such a reader owes
 abbrev pub OwesChecks : Reader → Limits → Option (List ℕ) → Option (List ℕ) → Type 0
 OwesChecks reader limits held owed = Owes owed reader.close (ChecksReader limits held reader)
@@ -45,7 +56,7 @@ OwesChecks reader limits held owed = Owes owed reader.close (ChecksReader limits
 pub record IsChecked (name : List ℕ) (work : Work) : Type 0 where
   pub reader : Reader
   pub one : work.readers ≡ reader ∷ []
-  pub makes : AreMakings (making Source name (is_none reader.source) ∷ []) work.before work.after
+  pub makes : MakesSource name reader.source work.before work.after
   pub no_verifier : reader.verifier ≡ None
   pub owes : OwesChecks reader work.before.limits (work.before.holds name) work.owed
   pub none_told : work.journal ≡ no_journal

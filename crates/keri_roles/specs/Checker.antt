@@ -1,5 +1,5 @@
 -- What stands while `check` takes messages, and when it has taken the last.
-use Rattle.std.specs.Prelude.{◌≡◌, ℕ, List, ◌++◌, string_bytes}
+use Rattle.std.specs.Prelude.{◌≡◌, ℕ, List, [], ◌∷◌, ◌++◌, string_bytes}
 use Rattle.std.specs.declared.option.Option.{Option}
 use Rattle.std.specs.declared.alloc.AllocError.{AllocError}
 use Rattle.cesr_stream.specs.declared.message.Message.{Message}
@@ -15,6 +15,10 @@ use Rattle.keri_roles.specs.Closes.{ending_text}
 -- the lines of these messages have been added
 abbrev pub HasLinesOf : Checker → List Message → Type 0
 HasLinesOf checker messages = AreLinesOf messages (string_bytes checker.lines) checker.refused.items
+
+-- and then that of one message more
+abbrev pub AddsLine : Checker → Checker → Message → Type 0
+AddsLine old new message = (before : List Message) → HasLinesOf old before → HasLinesOf new (before ++ message ∷ [])
 
 -- reading a source closed so
 abbrev pub IsClose : FeedClose AllocError → Close → Type 0

@@ -1,5 +1,5 @@
 -- What a core was told by the reader of a file.
-use Rattle.std.specs.Prelude.{◌≡◌, ◌≢◌, ℕ, ◌<◌, ◌⊎◌, Bool, false, List, [], ◌∷◌, ◌++◌, map, All, IfSome, is_none}
+use Rattle.std.specs.Prelude.{◌≡◌, ◌≢◌, ℕ, ◌<◌, ◌⊎◌, Bool, false, List, [], ◌∷◌, ◌++◌, map, All, IfSome}
 use Rattle.std.specs.declared.option.Option.{Option}
 use Rattle.std.specs.declared.option.Option.TheVariants.{None, Some}
 use Rattle.keri_specs.specs.Causes.{Rose}
@@ -10,9 +10,7 @@ use Rattle.cesr_stream.specs.Assembly.{all_of}
 use Rattle.cesr_stream.specs.Items.{Placed}
 use Rattle.cesr_stream.specs.Messages.{messages}
 use Rattle.cesr_stream.specs.Reading.{Reading}
-use Rattle.run_outside.specs.Told.{making}
 use Rattle.keri_outside.specs.declared.limits.Limits.{Limits}
-use Rattle.run_outside.specs.declared.making.MakingKind.TheVariants.{Source as SourceKind, Verifier as VerifierKind}
 use Rattle.journal.specs.declared.body.Body.{Body}
 use Rattle.journal.specs.declared.entry.Entry.{Entry}
 use Rattle.journal.specs.declared.journal.Journal.{Journal}
@@ -35,7 +33,7 @@ use Rattle.keri_roles.specs.Closes.{Closes, is_stopped}
 use Rattle.keri_roles.specs.Offers.{IsTurnedAway}
 use Rattle.keri_roles.specs.Verdicts.{IsHeardAndOpen}
 use Rattle.run_status.specs.Readers.{Reader, SourceTold, VerifierTold}
-use Rattle.keri_roles.specs.Run.{Work, AreMakings, Owes}
+use Rattle.keri_roles.specs.Run.{Work, MakesProviders, Owes}
 use Rattle.run_status.specs.Status.{nothing_besides}
 
 -- what a reader is given: the limits, what its source holds, and what its verifier says, where they tell
@@ -183,7 +181,7 @@ pub record IsToldBy (mode : Mode) (given : Given) (reader : Reader) (journal : J
 pub record ReadsToCore (mode : Mode) (helper name : List ℕ) (work : Work) : Type 0 where
   pub reader : Reader
   pub one : work.readers ≡ reader ∷ []
-  pub makes : AreMakings (making SourceKind name (is_none reader.source) ∷ making VerifierKind helper (is_none reader.verifier) ∷ []) work.before work.after
+  pub makes : MakesProviders name helper reader.source reader.verifier work.before work.after
   pub journal : IsToldBy mode (given_in work helper name) reader work.journal
 
 -- A file was read to a core, and the text of its journal is owed. There is a conflict where the text says so.

@@ -1,5 +1,5 @@
 -- What `make` does: it reads a plan's text and maybe a log, and owes the message of the plan's event.
-use Rattle.std.specs.Prelude.{◌≡◌, ℕ, ◌⊎◌, Bool, true, false, List, [], ◌∷◌, is_none, IfSome}
+use Rattle.std.specs.Prelude.{◌≡◌, ℕ, ◌⊎◌, Bool, true, false, List, [], ◌∷◌, is_none, option_map, IfSome}
 use Rattle.std.specs.List.{list_any, list_all}
 use Rattle.std.specs.declared.option.Option.{Option}
 use Rattle.std.specs.declared.option.Option.TheVariants.{None, Some}
@@ -7,7 +7,7 @@ use Rattle.keri_specs.specs.Told.{HasNone}
 use Rattle.cesr_codes.specs.declared.key.Key.{Key}
 use Rattle.cesr_codes.specs.declared.sig.Sig.{Sig}
 use Rattle.keri_outside.specs.declared.signing.Signing.{Signing}
-use Rattle.run_outside.specs.Told.{making}
+use Rattle.run_outside.specs.Told.{Told, making}
 use Rattle.run_outside.specs.declared.making.MakingKind.TheVariants.{Source as SourceKind, Verifier as VerifierKind, Signer as SignerKind}
 use Rattle.journal.specs.declared.body.Body.{Body}
 use Rattle.journal.specs.declared.mode.Mode.TheVariants.{Local}
@@ -28,6 +28,8 @@ use Rattle.run_status.specs.Status.{nothing_besides}
 use Rattle.keri_roles.specs.CoreTold.{IsToldBy, core_of, given_in}
 use Rattle.keri_roles.specs.NoJournal.{no_journal}
 use Rattle.keri_roles.specs.Run.{AreMakings, SignerTold, Work}
+use Rattle.keri_roles.specs.declared.make.MakeWords.{MakeWords}
+use Rattle.keri_roles.specs.declared.providers.Providers.{Providers}
 
 -- how the reader of a text closes
 abbrev pub close_of : TextClose → Close
@@ -52,6 +54,14 @@ pub record ReadsWhole (most : ℕ) (held : Option (List ℕ)) (reader : Reader) 
   pub read : WasRead most held reader.source bytes reader.close
   pub no_verifier : reader.verifier ≡ None
   pub none_refused : reader.refused ≡ []
+
+-- a reader of what a source holds, where it was made
+abbrev pub ReadsHeld : {S : Type 0} → (S → Option (List ℕ)) → ℕ → Option S → Reader → List ℕ → Type 0
+ReadsHeld left most source reader bytes = (held : Option (List ℕ)) → IfSome source (λ s. left s ≡ held) → ReadsWhole most held reader bytes
+
+-- one of nothing
+abbrev pub ReadsNothing : Reader → List ℕ → Type 0
+ReadsNothing reader bytes = (most : ℕ) (held : Option (List ℕ)) → ReadsWhole most held reader bytes
 
 -- there was no memory for all that a reader read
 abbrev pub is_out : Close → Bool
@@ -140,13 +150,23 @@ given_behind helper text reader held work = record {
   text = text;
 }
 
+-- the makings without a log: the plan's source and the signer
+abbrev pub MakesAlone : {S G : Type 0} → List ℕ → List ℕ → Option S → Option G → Told → Told → Type 0
+MakesAlone plan helper source signer before after =
+    AreMakings (making SourceKind plan (is_none source) ∷ making SignerKind helper (is_none signer) ∷ []) before after
+
+-- and behind one: the plan's source, the log's source, the verifier and the signer
+abbrev pub MakesBehind : {S V G : Type 0} → List ℕ → List ℕ → List ℕ → Option S → Providers S V → Option G → Told → Told → Type 0
+MakesBehind plan log helper source provided signer before after = AreMakings (making SourceKind plan (is_none source)
+    ∷ making SourceKind log (is_none provided.source) ∷ making VerifierKind helper (is_none provided.verifier) ∷ making SignerKind helper (is_none signer) ∷ []) before after
+
 -- without a log: the makings are the plan's source and the signer, and nothing is told
 pub record IsMadeAlone (helper plan : List ℕ) (work : Work) : Type 0 where
   pub reader : Reader
   pub one : work.readers ≡ reader ∷ []
   pub text : List ℕ
   pub reads : ReadsWhole work.before.limits.stream_bytes (work.before.holds plan) reader text
-  pub makes : AreMakings (making SourceKind plan (is_none reader.source) ∷ making SignerKind helper (is_none work.signer) ∷ []) work.before work.after
+  pub makes : MakesAlone plan helper reader.source work.signer work.before work.after
   pub signs : IfSome work.signer (λ s. s.gives ≡ work.before.gives helper)
   pub none_told : work.journal ≡ no_journal
   pub owes : IsDue (given_alone helper text work) (reader.close ∷ []) work.signer work.owed work.besides
@@ -169,3 +189,7 @@ pub record IsMadeBehind (helper plan log : List ℕ) (work : Work) : Type 0 wher
 abbrev pub IsMade : List ℕ → List ℕ → Option (List ℕ) → Work → Type 0
 IsMade helper plan None work = IsMadeAlone helper plan work
 IsMade helper plan (Some log) work = IsMadeBehind helper plan log work
+
+-- by its words
+abbrev pub IsMadeBy : MakeWords → Work → Type 0
+IsMadeBy words work = IsMade words.helper.now words.plan.now (option_map (λ log. log.now) words.log) work

@@ -90,6 +90,14 @@ module _ {V : Type 0} (says : V → Key → List ℕ → Sig → Option Bool) (i
   HasStopped first now WriteFault messages = ⊥
   HasStopped first now (Malformed place) messages = ⊥
 
+  -- one message more was taken
+  abbrev pub TakesOne : Validator V → Validator V → Message → Type 0
+  TakesOne old new message = (first : Validator V) (before : List Message) → HasTaken first old before → HasTaken first new (before ++ message ∷ [])
+
+  -- the reader stopped at it
+  abbrev pub StopsAt : Validator V → Validator V → Message → Close → Type 0
+  StopsAt old new message close = (first : Validator V) (before : List Message) → HasTaken first old before → HasStopped first new close (before ++ message ∷ [])
+
   -- the last message, where there is one, was taken too, and the reader closes as its source did; or it stopped there
   abbrev pub TakesLast : Close → Option Message → Validator V → Validator V → Close → Type 0
   TakesLast close last old new now = (first : Validator V) (messages : List Message) → HasTaken first old messages

@@ -1,17 +1,18 @@
 -- What `rehearse` does.
-use Rattle.std.specs.Prelude.{◌≡◌, ℕ, List, [], ◌∷◌, codes, is_none}
+use Rattle.std.specs.Prelude.{◌≡◌, ℕ, List, [], ◌∷◌, codes, option_map}
 use Rattle.std.specs.declared.option.Option.{Option}
 use Rattle.std.specs.declared.option.Option.TheVariants.{None, Some}
-use Rattle.run_outside.specs.Told.{making}
-use Rattle.run_outside.specs.declared.making.MakingKind.TheVariants.{Source}
+use Rattle.keri_outside.specs.declared.limits.Limits.{Limits}
+use Rattle.run_outside.specs.Told.{Told}
 use Rattle.verifier_link.specs.declared.served.Served.{Served}
 use Rattle.verifier_link.specs.declared.served.Served.TheVariants.{End, Malformed, ReadFault, WriteFault, Full, OutOfMemory}
 use Rattle.verifier_link.specs.Serving.{IsServed, SidesTold, sides_told}
+use Rattle.verifier_link.specs.Sides.{sink_told, source_told}
 use Rattle.run_status.specs.declared.close.Close.{Close}
 use Rattle.run_status.specs.declared.close.Close.TheVariants.{End as EndClose, Malformed as MalformedClose, ReadFault as ReadFaultClose, WriteFault as WriteFaultClose, Full as FullClose, OutOfMemory as OutOfMemoryClose}
-use Rattle.run_status.specs.Readers.{Reader, SourceTold, SinkTold}
+use Rattle.run_status.specs.Readers.{Reader, SourceTold, SinkTold, sink_seen}
 use Rattle.keri_roles.specs.NoJournal.{no_journal}
-use Rattle.keri_roles.specs.Run.{Run, AreMakings}
+use Rattle.keri_roles.specs.Run.{Run, MakesSource}
 
 -- the end of serving as a reader's close
 abbrev pub serving_close : Served → Close
@@ -41,13 +42,37 @@ abbrev pub Serves : ℕ → Option (List ℕ) → Option SourceTold → SinkTold
 Serves most held None old new served = (served ≡ ReadFault) × (new ≡ old)
 Serves most held (Some source) old new served = IsServed most (sides_of (record { left = held; faults = 0 }) old) (sides_of source new) served
 
+-- what is seen of serving: the outside before it, the source, where there is one, and the sink before and after it
+pub record Serving : Type 0 where
+  pub before : Told
+  pub source : Option SourceTold
+  pub sink_before : SinkTold
+  pub sink_after : SinkTold
+
+-- standard input was served
+abbrev pub ServesInput : Limits → Serving → Served → Type 0
+ServesInput limits serving served =
+    Serves limits.stream_bytes (serving.before.holds (codes "-")) serving.source serving.sink_before serving.sink_after served
+
+module _ {O S K : Type 0} (left : S → Option (List ℕ)) (faults : S → ℕ) (written : K → Option (List ℕ)) (sink_faults : K → ℕ) (sink : O → K) where
+  abbrev pub sides_over : S → O → SidesTold
+  sides_over source outside = sides_told (source_told left faults source) (sink_told written sink_faults (sink outside))
+
+  abbrev pub serving_over : (O → Told) → O → O → Option S → Serving
+  serving_over told old new source = record {
+    before = told old;
+    source = option_map (λ s. record { left = left s; faults = faults s }) source;
+    sink_before = sink_seen written sink_faults (sink old);
+    sink_after = sink_seen written sink_faults (sink new);
+  }
+
 -- `rehearse`: questions are read of standard input, and the rehearsal's answers to them are written to standard output, in order.
 -- Nothing else is made, told or written.
 pub record IsRehearsed (run : Run) : Type 0 where
   pub reader : Reader
   pub served : Served
   pub one : run.readers ≡ record reader { verifier = None; refused = []; close = serving_close served } ∷ []
-  pub makes : AreMakings (making Source (codes "-") (is_none reader.source) ∷ []) run.before run.after
+  pub makes : MakesSource (codes "-") reader.source run.before run.after
   pub serves : Serves run.before.limits.stream_bytes (run.before.holds (codes "-")) reader.source run.sink_before run.sink_after served
   pub none_told : run.journal ≡ no_journal
   pub no_signer : run.signer ≡ None

@@ -1,22 +1,21 @@
 -- What is seen of a run, and of what a command came to before that was written.
-use Rattle.std.specs.Prelude.{◌≡◌, ◌≢◌, ℕ, Bool, true, false, List, [], ◌∷◌, ◌++◌, map, option_map, IsNone, MatchOption}
+use Rattle.std.specs.Prelude.{◌≡◌, ◌≢◌, ℕ, Bool, true, false, List, [], ◌∷◌, ◌++◌, map, option_map, is_none, IsNone, MatchOption, String, string_bytes}
 use Rattle.std.specs.List.{list_any}
 use Rattle.std.specs.declared.option.Option.{Option}
 use Rattle.std.specs.declared.option.Option.TheVariants.{None, Some}
 use Rattle.keri_specs.specs.Causes.{Rose}
-use Rattle.command_words.specs.Words.{Asked, check, generate, make, rehearse, validate, watch}
+use Rattle.command_words.specs.Words.{Asked, asks, check, generate, make, rehearse, validate, watch}
 use Rattle.cesr_codes.specs.declared.key.Key.{Key}
 use Rattle.cesr_codes.specs.declared.sig.Sig.{Sig}
-use Rattle.keri_outside.specs.declared.inquiry.Inquiry.{Inquiry}
 use Rattle.keri_outside.specs.declared.signing.Signing.{Signing}
-use Rattle.run_outside.specs.Told.{Told}
+use Rattle.run_outside.specs.Told.{Told, making}
 use Rattle.run_outside.specs.declared.making.Making.{Making}
+use Rattle.run_outside.specs.declared.making.MakingKind.TheVariants.{Source as SourceKind, Verifier as VerifierKind}
 use Rattle.journal.specs.declared.journal.Journal.{Journal}
 use Rattle.run_status.specs.declared.close.Close.{Close}
 use Rattle.run_status.specs.declared.close.Close.TheVariants.{ReadFault, VerifierFault, OutOfMemory}
 use Rattle.run_status.specs.declared.besides.Besides.{Besides}
-use Rattle.run_status.specs.declared.reader_end.ReaderEnd.{ReaderEnd}
-use Rattle.run_status.specs.Readers.{Reader, SinkTold, reader_seen}
+use Rattle.run_status.specs.Readers.{Reader, SinkTold}
 use Rattle.run_status.specs.Settling.{FaultsHaveCauses, SettlesBy}
 use Rattle.keri_roles.specs.declared.outcome.Outcome.{Outcome}
 
@@ -66,6 +65,15 @@ pub record AreMakings (makings : List Making) (before after : Told) : Type 0 whe
   pub rose : some_failed makings ≡ true → Rose before.faults after.faults
   pub kept : some_failed makings ≡ false → after.faults ≡ before.faults
 
+-- the one making is the source of a name, and it failed where there is none
+abbrev pub MakesSource : {S : Type 0} → List ℕ → Option S → Told → Told → Type 0
+MakesSource name source before after = AreMakings (making SourceKind name (is_none source) ∷ []) before after
+
+-- the makings are the source of a name and the verifier of a helper
+abbrev pub MakesProviders : {S V : Type 0} → List ℕ → List ℕ → Option S → Option V → Told → Told → Type 0
+MakesProviders name helper source verifier before after =
+    AreMakings (making SourceKind name (is_none source) ∷ making VerifierKind helper (is_none verifier) ∷ []) before after
+
 -- the text of a reader that closed so, unless there was no memory
 abbrev pub Owes : Option (List ℕ) → Close → (List ℕ → Type 0) → Type 0
 Owes None close is_text = close ≡ OutOfMemory
@@ -100,40 +108,13 @@ pub record HasCauses (asked : Option Asked) (run : Run) : Type 0 where
   pub signer : signer_failed ≡ true → SignerFails asked run
   pub readers : AreCaused run.before run.after run.readers
 
-module _ {S V : Type 0} (left : S → Option (List ℕ)) (faults : S → ℕ) (says : V → Key → List ℕ → Sig → Option Bool) (inquiries : V → Option (List Inquiry)) (verifier_faults : V → ℕ) where
-  abbrev pub work_seen : Told → Told → Outcome S V → Work
-  work_seen before after outcome = record {
-    before = before;
-    after = after;
-    readers = map (reader_seen left faults says inquiries verifier_faults) outcome.readers.items;
-    signer = None;
-    journal = outcome.journal;
-    owed = option_map (λ text. text.items) outcome.owed;
-    besides = outcome.besides;
-  }
-
-  abbrev pub run_seen : Told → Told → SinkTold → SinkTold → ℕ → List (ReaderEnd S V) → Journal → Run
-  run_seen before after sink_before sink_after status ends journal = record {
-    before = before;
-    after = after;
-    sink_before = sink_before;
-    sink_after = sink_after;
-    readers = map (reader_seen left faults says inquiries verifier_faults) ends;
-    signer = None;
-    journal = journal;
-    status = status;
-  }
-
--- what is seen of a signer
-abbrev pub signer_seen : {S : Type 0} → (S → Key → List ℕ → Option Sig) → (S → Option (List Signing)) → (S → ℕ) → Option S → Option SignerTold
-signer_seen gives signings faults signer = option_map (λ s. record { gives = gives s; signings = signings s; faults = faults s }) signer
-
--- the same with a signer
-abbrev pub work_by : Option SignerTold → Work → Work
-work_by signer work = record work { signer = signer }
-
-abbrev pub run_by : Option SignerTold → Run → Run
-run_by signer run = record run { signer = signer }
+-- the words of a run ask for this, where they are in the form
+abbrev pub asked_in : {Z : Type 0} → List (String Z) → Option Asked
+asked_in words = asks (map string_bytes words)
 
 abbrev pub Settles : Option (List ℕ) → Besides → Run → Type 0
 Settles owed besides run = SettlesBy owed besides run.readers run.sink_before run.sink_after run.status
+
+-- what the outcome of a command owes was written, and the status is by what it found
+abbrev pub IsSettled : {S V : Type 0} → Outcome S V → Run → Type 0
+IsSettled outcome run = Settles (option_map (λ text. text.items) outcome.owed) outcome.besides run

@@ -1,16 +1,14 @@
 //! `check FILE`: reads the stream of a file, and says of each message what it is.
-ghost use Rattle.std.specs.Prelude.{◌≡◌, ◌≢◌, ◌∷◌, ◌<◌, ℕ, List, Option, [], None, is_none, IsSome, option_map, string_bytes};
+ghost use Rattle.std.specs.Prelude.{◌≡◌, ◌<◌, [], None, IsSome, option_map, string_bytes};
 ghost use Rattle.std.specs.Vec.{vec_capacity};
-ghost use Rattle.run_outside.specs.Told.{making};
-ghost use Rattle.keri_outside.specs.declared.limits.Limits.{Limits as LimitsValue};
-ghost use Rattle.run_outside.specs.declared.making.MakingKind.TheVariants.{Source as SourceKind};
-ghost use Rattle.keri_roles.specs.Check.{ChecksReader, IsChecked};
-ghost use Rattle.run_status.specs.Readers.{reader_seen};
-ghost use Rattle.keri_roles.specs.Run.{AreMakings, Owes, work_seen};
+ghost use Rattle.keri_roles.specs.Check.{ChecksAny, ChecksFile, ChecksHeld, IsChecked};
+ghost use Rattle.keri_roles.specs.Run.{MakesSource, Owes};
 
 use crate::checker::Checker;
 use crate::nothing_told::nothing_told;
 use crate::outcome::Outcome;
+use crate::reads::Reads;
+use crate::works::Works;
 use crate::{Close, ReaderEnd};
 use keri_outside::{Failed, Limits, Source, Verifier};
 use message_feed::feed_messages;
@@ -28,7 +26,7 @@ pub(crate) fn check<O: Outside>(
 ) -> Outcome<O::Source, O::Verifier>
     requires none_yet { readers.items ≡ [] }
     requires room { 0 < vec_capacity readers }
-    ensures checked { IsChecked name.now (work_seen O.Source.left O.Source.faults O.Verifier.says O.Verifier.inquiries O.Verifier.faults (O.told outside.old) (O.told outside.new) result) }
+    ensures checked { IsChecked name.now (⟦<O as Works>⟧.work outside.old outside.new result) }
     ensures sink { O.sink outside.new ≡ O.sink outside.old }
 {
     let mut readers = readers;
@@ -60,9 +58,9 @@ fn check_file<O: Outside>(
     name: &str,
     outside: &mut O,
 ) -> (ReaderEnd<O::Source, O::Verifier>, String)
-    ensures makes { AreMakings (making SourceKind name.now (is_none result.0.source) ∷ []) (O.told outside.old) (O.told outside.new) }
-    ensures checks { result.0.close ≢ Close.OutOfMemory → ChecksReader (O.told outside.old).limits ((O.told outside.old).holds name.now)
-        (reader_seen O.Source.left O.Source.faults O.Verifier.says O.Verifier.inquiries O.Verifier.faults result.0) (string_bytes result.1) }
+    ensures makes { MakesSource name.now result.0.source (O.told outside.old) (O.told outside.new) }
+    ensures checks { ChecksFile name.now (O.told outside.old)
+        (⟦<O as Works>⟧.reader result.0) (string_bytes result.1) }
     ensures no_verifier { result.0.verifier ≡ None }
     ensures sink { O.sink outside.new ≡ O.sink outside.old }
 {
@@ -77,8 +75,7 @@ fn check_file<O: Outside>(
 fn check_nothing<S: Source + Drop, V: Verifier + Drop>(alloc: Global) -> (ReaderEnd<S, V>, String)
     ensures none { result.0.source ≡ None }
     ensures no_verifier { result.0.verifier ≡ None }
-    ensures checks { (limits : LimitsValue) (held : Option (List ℕ)) → result.0.close ≢ Close.OutOfMemory
-        → ChecksReader limits held (reader_seen S.left S.faults V.says V.inquiries V.faults result.0) (string_bytes result.1) }
+    ensures checks { ChecksAny (⟦<ReaderEnd<S, V> as Reads>⟧.reader result.0) (string_bytes result.1) }
 {
     let (close, line) = match read_fault_line(alloc, 0) {
         Ok(line) => (Close::ReadFault, line),
@@ -102,8 +99,8 @@ fn check_stream<S: Source + Drop, V: Verifier + Drop>(
     requires { S.faults source ≡ 0 }
     ensures source { IsSome result.0.source }
     ensures no_verifier { result.0.verifier ≡ None }
-    ensures checks { result.0.close ≢ Close.OutOfMemory
-        → ChecksReader limits (S.left source) (reader_seen S.left S.faults V.says V.inquiries V.faults result.0) (string_bytes result.1) }
+    ensures checks { ChecksHeld limits (S.left source)
+        (⟦<ReaderEnd<S, V> as Reads>⟧.reader result.0) (string_bytes result.1) }
 {
     let mut source = source;
     let mut checker = Checker::new(alloc);

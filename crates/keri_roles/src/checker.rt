@@ -1,6 +1,5 @@
 //! The messages that `check` reads.
-ghost use Rattle.std.specs.Prelude.{◌≡◌, ◌++◌, ◌∷◌, [], List, IfOk, OnOk, string_bytes};
-ghost use Rattle.cesr_stream.specs.declared.message.Message.{Message as MessageValue};
+ghost use Rattle.std.specs.Prelude.{◌≡◌, ◌++◌, [], IfOk, OnOk, string_bytes};
 ghost use Rattle.journal.specs.Feeds.{noted_at};
 ghost use Rattle.keri_roles.specs.Closes.{ending_text};
 
@@ -35,7 +34,7 @@ impl Taker for Checker {
 }
 
 impl Checker {
-    ghost use Rattle.keri_roles.specs.Checker.{Finishes, HasLinesOf, IsClose};
+    ghost use Rattle.keri_roles.specs.Checker.{AddsLine, Finishes, IsClose};
 
     /// No line yet.
     pub(crate) fn new(alloc: Global) -> Checker
@@ -51,7 +50,7 @@ impl Checker {
 
     // Adds the line of a message, and notes it where it is refused.
     fn add_line(&mut self, message: Message) -> Result<(), AllocError>
-        ensures { OnOk result ((before : List MessageValue) → HasLinesOf self.old before → HasLinesOf self.new (before ++ message ∷ [])) }
+        ensures { OnOk result (AddsLine self.old self.new message) }
     {
         let line = line_of_message(self.alloc, &message)?;
         note(&mut self.refused, &message, line.refusal)?;

@@ -1,12 +1,11 @@
 //! Reading the stream of a file to a core.
-ghost use Rattle.std.specs.Prelude.{◌≡◌, IfSome, is_none, false, ℕ, List, Option, Bool};
-ghost use Rattle.cesr_codes.specs.declared.key.Key.{Key};
-ghost use Rattle.cesr_codes.specs.declared.sig.Sig.{Sig};
+ghost use Rattle.std.specs.Prelude.{◌≡◌, IfSome, is_none, false};
 ghost use Rattle.keri_specs.specs.Told.{HasNone};
-ghost use Rattle.run_status.specs.Readers.{reader_seen};
-ghost use Rattle.keri_roles.specs.CoreTold.{Given, IsUnmade, Tells};
+ghost use Rattle.keri_roles.specs.CoreReads.{TellsHeld, TellsNothing, TellsProvided};
+ghost use Rattle.keri_roles.specs.CoreTold.{IsUnmade};
 
 use crate::providers::Providers;
+use crate::reads::CoreReads;
 use crate::validator::Validator;
 use crate::{Close, ReaderEnd};
 use journal::Mode;
@@ -32,8 +31,8 @@ pub(crate) fn read_to_core<S: Source + Drop, V: Verifier + Drop>(
     requires source { IfSome providers.source (λ source. S.faults source ≡ 0) }
     requires unasked { IfSome providers.verifier (λ verifier. HasNone (V.inquiries verifier)) }
     requires verifier { IfSome providers.verifier (λ verifier. V.faults verifier ≡ 0) }
-    ensures tells { (held : Option (List ℕ)) (says : Key → List ℕ → Sig → Option Bool) → IfSome providers.source (λ source. S.left source ≡ held) → IfSome providers.verifier (λ verifier. V.says verifier ≡ says)
-        → Tells mode (record { limits = limits; held = held; says = says }) (reader_seen S.left S.faults V.says V.inquiries V.faults result.reader) result.core }
+    ensures tells { TellsProvided S.left V.says mode limits providers
+        (⟦<CoreReader<S, V> as CoreReads>⟧.read result) }
     ensures source { is_none result.reader.source ≡ is_none providers.source }
     ensures verifier { is_none result.reader.verifier ≡ is_none providers.verifier }
 {
@@ -65,8 +64,7 @@ fn read_nothing<S: Source + Drop, V: Verifier + Drop>(
 ) -> CoreReader<S, V>
     requires unmade { IsUnmade source verifier close }
     requires unasked { IfSome verifier (λ verifier. HasNone (V.inquiries verifier)) }
-    ensures tells { (held : Option (List ℕ)) (says : Key → List ℕ → Sig → Option Bool) → IfSome source (λ source. S.left source ≡ held)
-        → Tells mode (record { limits = limits; held = held; says = says }) (reader_seen S.left S.faults V.says V.inquiries V.faults result.reader) result.core }
+    ensures tells { TellsNothing S.left mode limits source (⟦<CoreReader<S, V> as CoreReads>⟧.read result) }
     ensures source { result.reader.source ≡ source }
     ensures verifier { result.reader.verifier ≡ verifier }
 {
@@ -93,7 +91,8 @@ fn read_stream<S: Source + Drop, V: Verifier + Drop>(
     requires source { S.faults source ≡ 0 }
     requires unasked { HasNone (V.inquiries verifier) }
     requires verifier { V.faults verifier ≡ 0 }
-    ensures tells { Tells mode (record { limits = limits; held = S.left source; says = V.says verifier }) (reader_seen S.left S.faults V.says V.inquiries V.faults result.reader) result.core }
+    ensures tells { TellsHeld mode limits (S.left source) (V.says verifier)
+        (⟦<CoreReader<S, V> as CoreReads>⟧.read result) }
     ensures source { is_none result.reader.source ≡ false }
     ensures verifier { is_none result.reader.verifier ≡ false }
 {

@@ -1,8 +1,8 @@
 //! What a command writes of its core.
-ghost use Rattle.std.specs.Prelude.{◌≡◌, ◌≢◌, ℕ, Bool, List, IfOk};
+ghost use Rattle.std.specs.Prelude.{ℕ, Bool, List, IfOk};
 ghost use Rattle.journal.specs.declared.refusal.Refusal.{Refusal as RefusalValue};
 ghost use Rattle.run_status.specs.declared.close.Close.{Close as CloseValue};
-ghost use Rattle.keri_roles.specs.CoreTold.{plain};
+ghost use Rattle.keri_roles.specs.CommandTexts.{HasText};
 ghost use Rattle.validator_core.specs.View.{CoreView};
 
 use crate::Close;
@@ -30,5 +30,5 @@ pub(crate) trait CoreText {
         refused: &[Refusal],
         close: Close,
     ) -> Result<CommandText, AllocError>
-        ensures { IfOk result (λ text. (close ≢ Close.OutOfMemory) × is_text (plain core.now) refused.now close text.bytes.items text.has_conflicts) };
+        ensures { IfOk result (HasText is_text core.now refused.now close) };
 }

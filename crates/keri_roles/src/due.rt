@@ -15,8 +15,11 @@ pub(crate) struct Due {
 
 /// What is owed where the reader closed so.
 pub(crate) fn owe(close: Close, text: Result<CommandText, AllocError>) -> Due
-    ensures ok { IfOk text (λ written. (result.close ≡ close) × (option_map (λ bytes. bytes.items) result.owed ≡ Some written.bytes.items) × (result.conflict_found ≡ written.has_conflicts)) }
-    ensures err { OnErr text ((result.close ≡ Close.OutOfMemory) × (option_map (λ bytes. bytes.items) result.owed ≡ None)) }
+    ensures ok { IfOk text (λ written. (result.close ≡ close)
+        × (option_map (λ bytes. bytes.items) result.owed ≡ Some written.bytes.items)
+        × (result.conflict_found ≡ written.has_conflicts)) }
+    ensures err { OnErr text ((result.close ≡ Close.OutOfMemory)
+        × (option_map (λ bytes. bytes.items) result.owed ≡ None)) }
 {
     match text {
         Ok(

@@ -1,24 +1,21 @@
 //! `gen --seed SEED --logs LOGS --events EVENTS`: makes a stream of logs, and says how much of it is accepted.
-ghost use Rattle.std.specs.Prelude.{◌≡◌, ◌≢◌, ◌<◌, [], IfOk, Some, is_none, false};
+ghost use Rattle.std.specs.Prelude.{◌≡◌, ◌≢◌, ◌<◌, [], IfOk, is_none, false};
 ghost use Rattle.std.specs.Vec.{vec_capacity};
-ghost use Rattle.keri_outside.specs.Rehearsal.{rehearsal_says};
-ghost use Rattle.log_maker.specs.Streams.{stream_text};
-ghost use Rattle.report_lines.specs.Lines as lines;
 ghost use Rattle.validator_core.specs.View.{accepted_by};
 ghost use Rattle.keri_roles.specs.Commands.{IsGenerated};
-ghost use Rattle.keri_roles.specs.CoreTold.{Tells};
 ghost use Rattle.keri_roles.specs.Generated as specs;
-ghost use Rattle.run_status.specs.Readers.{reader_seen};
-ghost use Rattle.keri_roles.specs.Run.{work_seen};
+ghost use Rattle.keri_roles.specs.Planned.{HasCounts, TellsMade};
 
 use crate::core_reader::{CoreReader, read_to_core};
 use crate::core_text::CommandText;
 use crate::due::{Due, owe};
 use crate::outcome::Outcome;
 use crate::providers::Providers;
+use crate::reads::CoreReads;
+use crate::works::Works;
 use crate::{Close, ReaderEnd};
 use journal::Mode;
-use keri_outside::{Limits, Rehearsal, Source, Verifier};
+use keri_outside::{Limits, Rehearsal};
 use log_maker::{LogMaker, totals_of};
 use report_lines::{StreamCounts, stream_line};
 use run_outside::Outside;
@@ -44,7 +41,8 @@ pub(crate) fn generate<O: Outside>(
 ) -> Outcome<O::Source, O::Verifier>
     requires none_yet { readers.items ≡ [] }
     requires room { 0 < vec_capacity readers }
-    ensures generated { IsGenerated plan.seed plan.logs plan.events (work_seen O.Source.left O.Source.faults O.Verifier.says O.Verifier.inquiries O.Verifier.faults (O.told outside.old) (O.told outside.new) result) }
+    ensures generated { IsGenerated plan.seed plan.logs plan.events
+        (⟦<O as Works>⟧.work outside.old outside.new result) }
     ensures sink { O.sink outside.new ≡ O.sink outside.old }
 {
     let mut readers = readers;
@@ -69,8 +67,7 @@ pub(crate) fn generate<O: Outside>(
 
 // Makes the stream and reads it.
 fn read_made(alloc: Global, plan: StreamPlan, limits: Limits) -> CoreReader<LogMaker, Rehearsal>
-    ensures tells { Tells Mode.Full (record { limits = limits; held = Some (stream_text plan.seed plan.logs plan.events); says = rehearsal_says })
-        (reader_seen ⟦<LogMaker as Source>⟧.left ⟦<LogMaker as Source>⟧.faults ⟦<Rehearsal as Verifier>⟧.says ⟦<Rehearsal as Verifier>⟧.inquiries ⟦<Rehearsal as Verifier>⟧.faults result.reader) result.core }
+    ensures tells { TellsMade plan limits (⟦<CoreReader<LogMaker, Rehearsal> as CoreReads>⟧.read result) }
     ensures source { is_none result.reader.source ≡ false }
     ensures verifier { is_none result.reader.verifier ≡ false }
 {
@@ -94,7 +91,7 @@ fn line_of(
     core: &Core,
     close: Close,
 ) -> Result<CommandText, AllocError>
-    ensures text { IfOk result (λ text. (close ≢ Close.OutOfMemory) × (text.bytes.items ≡ lines.stream_text (specs.counts_of plan.seed plan.logs plan.events (accepted_by core.now)))) }
+    ensures text { IfOk result (HasCounts plan (accepted_by core.now) close) }
     ensures read { IfOk result (λ text. close ≢ Close.ReadFault) }
 {
     if close == Close::OutOfMemory || close == Close::ReadFault {

@@ -1,9 +1,7 @@
 //! `make --helper HELPER --plan PLAN --log LOG`: writes the message of the event that a plan asks for.
 ghost use Rattle.std.specs.Prelude.{◌≡◌, ◌<◌, ◌∷◌, []};
-ghost use Rattle.std.specs.Option.{option_map};
 ghost use Rattle.std.specs.Vec.{vec_capacity};
-ghost use Rattle.keri_roles.specs.Made.{IsMade, IsMadeAlone, IsMadeBehind};
-ghost use Rattle.keri_roles.specs.Run.{signer_seen, work_by, work_seen};
+ghost use Rattle.keri_roles.specs.Made.{IsMadeAlone, IsMadeBehind, IsMadeBy};
 
 use crate::ReaderEnd;
 use crate::core_reader::{CoreReader, read_to_core};
@@ -12,6 +10,7 @@ use crate::message_due::{MessageDue, message_due};
 use crate::nothing_told::nothing_told;
 use crate::outcome::{Outcome, SignedOutcome};
 use crate::text_reader::{TextReader, read_whole};
+use crate::works::Works;
 use journal::Mode;
 use plan_answer::ReadLog;
 use run_outside::Outside;
@@ -34,8 +33,7 @@ pub(crate) fn make<O: Outside>(
 ) -> SignedOutcome<O::Source, O::Verifier, O::Signer>
     requires none_yet { readers.items ≡ [] }
     requires room { 1 < vec_capacity readers }
-    ensures made { IsMade words.entry.helper.now words.entry.plan.now (option_map (λ log. log.now) words.entry.log) (work_by (signer_seen O.Signer.gives O.Signer.signings O.Signer.faults result.signer)
-        (work_seen O.Source.left O.Source.faults O.Verifier.says O.Verifier.inquiries O.Verifier.faults (O.told outside.old) (O.told outside.new) result.outcome)) }
+    ensures made { IsMadeBy words.entry (⟦<O as Works>⟧.signed outside.old outside.new result) }
     ensures sink { O.sink outside.new ≡ O.sink outside.old }
 {
     match words.log {
@@ -54,8 +52,7 @@ fn made_alone<O: Outside>(
 ) -> SignedOutcome<O::Source, O::Verifier, O::Signer>
     requires none_yet { readers.items ≡ [] }
     requires room { 0 < vec_capacity readers }
-    ensures made { IsMadeAlone helper.now plan.now (work_by (signer_seen O.Signer.gives O.Signer.signings O.Signer.faults result.signer)
-        (work_seen O.Source.left O.Source.faults O.Verifier.says O.Verifier.inquiries O.Verifier.faults (O.told outside.old) (O.told outside.new) result.outcome)) }
+    ensures made { IsMadeAlone helper.now plan.now (⟦<O as Works>⟧.signed outside.old outside.new result) }
     ensures sink { O.sink outside.new ≡ O.sink outside.old }
 {
     let mut readers = readers;
@@ -91,8 +88,8 @@ fn made_behind<O: Outside>(
 ) -> SignedOutcome<O::Source, O::Verifier, O::Signer>
     requires none_yet { readers.items ≡ [] }
     requires room { 1 < vec_capacity readers }
-    ensures made { IsMadeBehind helper.now plan.now log.now (work_by (signer_seen O.Signer.gives O.Signer.signings O.Signer.faults result.signer)
-        (work_seen O.Source.left O.Source.faults O.Verifier.says O.Verifier.inquiries O.Verifier.faults (O.told outside.old) (O.told outside.new) result.outcome)) }
+    ensures made { IsMadeBehind helper.now plan.now log.now
+        (⟦<O as Works>⟧.signed outside.old outside.new result) }
     ensures sink { O.sink outside.new ≡ O.sink outside.old }
 {
     let mut readers = readers;

@@ -1,9 +1,7 @@
 //! What `make` is given by the outside.
-ghost use Rattle.std.specs.Prelude.{◌≡◌, ◌∷◌, [], is_none, IfSome};
+ghost use Rattle.std.specs.Prelude.{◌≡◌, IfSome};
 ghost use Rattle.keri_specs.specs.Told.{HasNone};
-ghost use Rattle.run_outside.specs.Told.{making};
-ghost use Rattle.run_outside.specs.declared.making.MakingKind.TheVariants.{Source as SourceKind, Verifier as VerifierKind, Signer as SignerKind};
-ghost use Rattle.keri_roles.specs.Run.{AreMakings};
+ghost use Rattle.keri_roles.specs.Made.{MakesAlone, MakesBehind};
 
 use crate::providers::Providers;
 use run_outside::Outside;
@@ -21,10 +19,13 @@ pub(crate) fn make_alone<O: Outside>(
     helper: &str,
     outside: &mut O,
 ) -> MakeParts<O::Source, O::Signer>
-    ensures makes { AreMakings (making SourceKind plan.now (is_none result.plan) ∷ making SignerKind helper.now (is_none result.signer) ∷ []) (O.told outside.old) (O.told outside.new) }
-    ensures holds { IfSome result.plan (λ source. O.Source.left source ≡ (O.told outside.old).holds plan.now) }
+    ensures makes { MakesAlone plan.now helper.now result.plan result.signer
+        (O.told outside.old) (O.told outside.new) }
+    ensures holds { IfSome result.plan (λ source.
+        O.Source.left source ≡ (O.told outside.old).holds plan.now) }
     ensures unread { IfSome result.plan (λ source. O.Source.faults source ≡ 0) }
-    ensures signs { IfSome result.signer (λ signer. O.Signer.gives signer ≡ (O.told outside.old).gives helper.now) }
+    ensures signs { IfSome result.signer (λ signer.
+        O.Signer.gives signer ≡ (O.told outside.old).gives helper.now) }
     ensures unasked { IfSome result.signer (λ signer. HasNone (O.Signer.signings signer)) }
     ensures unfailed { IfSome result.signer (λ signer. O.Signer.faults signer ≡ 0) }
     ensures sink { O.sink outside.new ≡ O.sink outside.old }
@@ -49,16 +50,20 @@ pub(crate) fn make_behind<O: Outside>(
     helper: &str,
     outside: &mut O,
 ) -> MakeBehindParts<O::Source, O::Verifier, O::Signer>
-    ensures makes { AreMakings (making SourceKind plan.now (is_none result.plan) ∷ making SourceKind log.now (is_none result.log.source)
-        ∷ making VerifierKind helper.now (is_none result.log.verifier) ∷ making SignerKind helper.now (is_none result.signer) ∷ []) (O.told outside.old) (O.told outside.new) }
-    ensures holds { IfSome result.plan (λ source. O.Source.left source ≡ (O.told outside.old).holds plan.now) }
+    ensures makes { MakesBehind plan.now log.now helper.now result.plan result.log result.signer
+        (O.told outside.old) (O.told outside.new) }
+    ensures holds { IfSome result.plan (λ source.
+        O.Source.left source ≡ (O.told outside.old).holds plan.now) }
     ensures unread { IfSome result.plan (λ source. O.Source.faults source ≡ 0) }
-    ensures log_holds { IfSome result.log.source (λ source. O.Source.left source ≡ (O.told outside.old).holds log.now) }
+    ensures log_holds { IfSome result.log.source (λ source.
+        O.Source.left source ≡ (O.told outside.old).holds log.now) }
     ensures log_unread { IfSome result.log.source (λ source. O.Source.faults source ≡ 0) }
-    ensures says { IfSome result.log.verifier (λ verifier. O.Verifier.says verifier ≡ (O.told outside.old).says helper.now) }
+    ensures says { IfSome result.log.verifier (λ verifier.
+        O.Verifier.says verifier ≡ (O.told outside.old).says helper.now) }
     ensures unheard { IfSome result.log.verifier (λ verifier. HasNone (O.Verifier.inquiries verifier)) }
     ensures log_unfailed { IfSome result.log.verifier (λ verifier. O.Verifier.faults verifier ≡ 0) }
-    ensures signs { IfSome result.signer (λ signer. O.Signer.gives signer ≡ (O.told outside.old).gives helper.now) }
+    ensures signs { IfSome result.signer (λ signer.
+        O.Signer.gives signer ≡ (O.told outside.old).gives helper.now) }
     ensures unasked { IfSome result.signer (λ signer. HasNone (O.Signer.signings signer)) }
     ensures unfailed { IfSome result.signer (λ signer. O.Signer.faults signer ≡ 0) }
     ensures sink { O.sink outside.new ≡ O.sink outside.old }

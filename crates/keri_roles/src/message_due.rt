@@ -1,15 +1,12 @@
 //! What is due to a plan.
-ghost use Rattle.std.specs.Prelude.{◌≡◌, ◌⊎◌, Some, IfSome, IfOk, OnErr, IsErr, List, ℕ, Option, is_none};
+ghost use Rattle.std.specs.Prelude.{◌≡◌, IfSome, IfOk, OnErr, IsErr, is_none};
 ghost use Rattle.std.specs.List.{list_any, list_all};
-ghost use Rattle.std.specs.Option.{option_map};
-ghost use Rattle.cesr_codes.specs.declared.key.Key.{Key};
-ghost use Rattle.cesr_codes.specs.declared.sig.Sig.{Sig};
 ghost use Rattle.keri_specs.specs.Told.{HasNone};
-ghost use Rattle.plan_answer.specs.Asked.{log_told};
-ghost use Rattle.keri_roles.specs.Made.{IsDue, OwesAnswer, OwesNone, found_in, is_out, is_through, written};
-ghost use Rattle.keri_roles.specs.Run.{signer_seen};
+ghost use Rattle.keri_roles.specs.Made.{is_out, is_through};
+ghost use Rattle.keri_roles.specs.PlanDues.{GivesTheSame, HasAnswer, IsAnswered, IsDueBy};
 
 use crate::Close;
+use crate::signs::Signs;
 use keri_outside::Signer;
 use plan_answer::{PlanAnswer, ReadLog, answer_plan};
 use report_lines::plan_line;
@@ -33,10 +30,10 @@ pub(crate) fn message_due<G: Signer>(
 ) -> MessageDue
     requires unasked { IfSome signer.old (λ signer. HasNone (G.signings signer)) }
     requires unfailed { IfSome signer.old (λ signer. G.faults signer ≡ 0) }
-    ensures due { (gives : Key → List ℕ → Option Sig) → IfSome signer.old (λ signer. G.gives signer ≡ gives)
-        → IsDue (record { gives = gives; log = option_map log_told log.entry; text = plan.now }) closes.now (signer_seen G.gives G.signings G.faults signer.new) (option_map (λ text. text.items) result.owed) result.besides }
+    ensures due { IsDueBy G.gives signer.old (⟦<G as Signs>⟧.seen signer.new)
+        log.entry plan.now closes.now result }
     ensures signer { is_none signer.new ≡ is_none signer.old }
-    ensures gives { (gives : Key → List ℕ → Option Sig) → IfSome signer.old (λ signer. G.gives signer ≡ gives) → IfSome signer.new (λ signer. G.gives signer ≡ gives) }
+    ensures gives { GivesTheSame G.gives signer.old signer.new }
 {
     let besides = Besides {
         signer_failed: signer.is_none(),
@@ -82,10 +79,8 @@ fn answer_due<G: Signer>(
 ) -> MessageDue
     requires unasked { HasNone (G.signings signer.old) }
     requires unfailed { G.faults signer.old ≡ 0 }
-    ensures due { OwesAnswer (record { gives = G.gives signer.old; log = option_map log_told log.entry; text = plan.now }) (record { gives = G.gives signer.new; signings = G.signings signer.new; faults = G.faults signer.new })
-        (option_map (λ text. text.items) result.owed) result.besides
-        ⊎ OwesNone (record { gives = G.gives signer.old; log = option_map log_told log.entry; text = plan.now }) (record { gives = G.gives signer.new; signings = G.signings signer.new; faults = G.faults signer.new })
-        (option_map (λ text. text.items) result.owed) result.besides }
+    ensures due { IsAnswered (⟦<G as Signs>⟧.told signer.old) (⟦<G as Signs>⟧.told signer.new)
+        log.entry plan.now result }
     ensures gives { G.gives signer.new ≡ G.gives signer.old }
 {
     let answer = answer_plan(alloc, plan, log, signer);
@@ -100,7 +95,7 @@ fn answer_due<G: Signer>(
 
 // What is due to an answer.
 fn owe(alloc: Global, answer: Result<PlanAnswer, AllocError>) -> Result<MessageDue, AllocError>
-    ensures ok { IfOk result (λ due. IfOk answer (λ is. (option_map (λ text. text.items) due.owed ≡ Some (written is)) × (due.besides ≡ found_in is))) }
+    ensures ok { IfOk result (λ due. IfOk answer (HasAnswer due)) }
     ensures err { OnErr answer (IsErr result) }
 {
     match answer? {

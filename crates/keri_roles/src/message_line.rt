@@ -62,7 +62,8 @@ fn line_of_fault(
 
 // The line of a message that is refused so.
 fn refuse(alloc: Global, message: &Message, reason: Reason) -> Result<MessageLine, AllocError>
-    ensures { IfOk result (λ line. (string_bytes line.text ≡ refused_text 0 message.now.place reason) × (line.refusal ≡ Some reason)) }
+    ensures { IfOk result (λ line. (string_bytes line.text ≡ refused_text 0 message.now.place reason)
+        × (line.refusal ≡ Some reason)) }
 {
     Ok(MessageLine {
         text: refused_line(alloc, 0, message.place, reason)?,

@@ -16,11 +16,13 @@ pub(crate) fn ask_open<V: Verifier>(
     verifier: &mut V,
     steps: &mut Steps,
 ) -> Result<(), Close>
-    ensures asks { Asks (V.says verifier.old) (V.inquiries verifier.old) (V.inquiries verifier.new) core.old core.new (open_of core.new) }
+    ensures asks { Asks (V.says verifier.old) (V.inquiries verifier.old) (V.inquiries verifier.new)
+        core.old core.new (open_of core.new) }
     ensures same { V.says verifier.new ≡ V.says verifier.old }
     ensures none_open { OnOk result (open_of core.new ≡ []) }
     ensures none_failed { OnOk result (V.faults verifier.new ≡ V.faults verifier.old) }
-    ensures stops { IfErr result (StopsAsking (V.faults verifier.old) (V.faults verifier.new) (open_of core.new)) }
+    ensures stops { IfErr result (StopsAsking (V.faults verifier.old) (V.faults verifier.new)
+        (open_of core.new)) }
 {
     while let Some(question) = core.next_question(0) {
         let yes = verdict(core, verifier, &question)?;
@@ -34,9 +36,11 @@ fn verdict<V: Verifier>(core: &Core, verifier: &mut V, question: &Question) -> R
     requires { IsOpen core.now question.now }
     ensures said { IfOk result (λ yes. IsSaid (V.says verifier.old) core.now question.now yes) }
     ensures same { V.says verifier.new ≡ V.says verifier.old }
-    ensures asked { AsksAbout (V.inquiries verifier.old) (V.inquiries verifier.new) core.now question.now result }
+    ensures asked { AsksAbout (V.inquiries verifier.old) (V.inquiries verifier.new)
+        core.now question.now result }
     ensures none_failed { OnOk result (V.faults verifier.new ≡ V.faults verifier.old) }
-    ensures stops { IfErr result (λ close. (close ≡ Close.VerifierFault) × Rose (V.faults verifier.old) (V.faults verifier.new)) }
+    ensures stops { IfErr result (λ close. (close ≡ Close.VerifierFault)
+        × Rose (V.faults verifier.old) (V.faults verifier.new)) }
 {
     let Some(body) = core.body(question.body) else {
         unreachable!()

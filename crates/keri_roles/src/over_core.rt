@@ -1,7 +1,6 @@
 //! The commands that read a file to a core, and write of it.
 ghost use Rattle.std.specs.Prelude.{◌≡◌, ◌<◌, []};
 ghost use Rattle.std.specs.Vec.{vec_capacity};
-ghost use Rattle.keri_roles.specs.Run.{work_seen};
 ghost use Rattle.keri_roles.specs.CoreTold.{IsOverCore};
 
 use crate::ReaderEnd;
@@ -10,6 +9,7 @@ use crate::core_text::CoreText;
 use crate::due::{Due, owe};
 use crate::outcome::Outcome;
 use crate::providers::providers_for;
+use crate::works::Works;
 use journal::Mode;
 use run_outside::Outside;
 use run_status::Besides;
@@ -27,7 +27,8 @@ pub(crate) fn over_core<O: Outside, T: CoreText>(
 ) -> Outcome<O::Source, O::Verifier>
     requires none_yet { readers.items ≡ [] }
     requires room { 0 < vec_capacity readers }
-    ensures done { IsOverCore mode T.is_text helper.now name.now (work_seen O.Source.left O.Source.faults O.Verifier.says O.Verifier.inquiries O.Verifier.faults (O.told outside.old) (O.told outside.new) result) }
+    ensures done { IsOverCore mode T.is_text helper.now name.now
+        (⟦<O as Works>⟧.work outside.old outside.new result) }
     ensures sink { O.sink outside.new ≡ O.sink outside.old }
 {
     let mut readers = readers;

@@ -1,12 +1,10 @@
 //! The top call.
-ghost use Rattle.std.specs.Prelude.{◌≡◌, ◌<◌, [], None, Some, map, option_map, string_bytes};
+ghost use Rattle.std.specs.Prelude.{◌≡◌, ◌<◌, [], None, Some, option_map};
 ghost use Rattle.std.specs.Vec.{vec_capacity};
-ghost use Rattle.command_words.specs.Words.{asks, asked_by};
+ghost use Rattle.command_words.specs.Words.{asked_by};
 ghost use Rattle.keri_roles.specs.Commands.{CarriesOut, IsRunOf};
-ghost use Rattle.keri_roles.specs.Run.{HasCauses, run_by, run_seen, signer_seen};
+ghost use Rattle.keri_roles.specs.Run.{HasCauses, IsSettled, asked_in};
 ghost use Rattle.keri_roles.specs.NoJournal.{no_journal};
-ghost use Rattle.run_status.specs.Readers.{reader_seen, sink_seen};
-ghost use Rattle.run_status.specs.Settling.{SettlesBy};
 
 use crate::check::check;
 use crate::generate::{StreamPlan, generate};
@@ -16,7 +14,7 @@ use crate::outcome::{Outcome, SignedOutcome};
 use crate::rehearse::rehearse;
 use crate::validate::validate;
 use crate::watch::watch;
-use crate::{Done, ReaderEnd};
+use crate::{Done, ReaderEnd, Runs};
 use command_words::{Command, command_of};
 use report_lines::WORDS;
 use run_outside::Outside;
@@ -30,22 +28,19 @@ const MOST_READERS: usize = 2;
 const NO_MEMORY: u8 = 10;
 
 /// Does all that the program does: what the words ask for, over the outside that is handed in.
-pub fn run<O: Outside>(alloc: Global, words: &Vec<String>, outside: &mut O) -> Done<O>
+pub fn run<O: Runs>(alloc: Global, words: &Vec<String>, outside: &mut O) -> Done<O>
     // Words that aren't in the form of a command are refused, and nothing is made. Others are answered as they ask.
-    ensures answered { IsRunOf (asks (map string_bytes words.now.items)) (run_by (signer_seen O.Signer.gives O.Signer.signings O.Signer.faults result.signer) (run_seen O.Source.left O.Source.faults O.Verifier.says O.Verifier.inquiries O.Verifier.faults (O.told outside.old) (O.told outside.new)
-        (sink_seen O.Sink.written O.Sink.faults (O.sink outside.old)) (sink_seen O.Sink.written O.Sink.faults (O.sink outside.new)) result.status result.readers.items result.journal)) }
+    ensures answered { IsRunOf (asked_in words.now.items) (O.run outside.old outside.new result) }
 
     // Each fault that is answered has its cause.
-    ensures causes { HasCauses (asks (map string_bytes words.now.items)) (run_by (signer_seen O.Signer.gives O.Signer.signings O.Signer.faults result.signer) (run_seen O.Source.left O.Source.faults O.Verifier.says O.Verifier.inquiries O.Verifier.faults (O.told outside.old) (O.told outside.new)
-        (sink_seen O.Sink.written O.Sink.faults (O.sink outside.old)) (sink_seen O.Sink.written O.Sink.faults (O.sink outside.new)) result.status result.readers.items result.journal)) }
+    ensures causes { HasCauses (asked_in words.now.items) (O.run outside.old outside.new result) }
 {
     answer(alloc, words, outside)
 }
 
 // The same; that each fault has its cause follows.
 fn answer<O: Outside>(alloc: Global, words: &Vec<String>, outside: &mut O) -> Done<O>
-    ensures answered { IsRunOf (asks (map string_bytes words.now.items)) (run_by (signer_seen O.Signer.gives O.Signer.signings O.Signer.faults result.signer) (run_seen O.Source.left O.Source.faults O.Verifier.says O.Verifier.inquiries O.Verifier.faults (O.told outside.old) (O.told outside.new)
-        (sink_seen O.Sink.written O.Sink.faults (O.sink outside.old)) (sink_seen O.Sink.written O.Sink.faults (O.sink outside.new)) result.status result.readers.items result.journal)) }
+    ensures answered { IsRunOf (asked_in words.now.items) (⟦<O as Runs>⟧.run outside.old outside.new result) }
 {
     let command = match command_of(alloc, words.as_slice()) {
         Ok(Some(command)) => command,
@@ -67,8 +62,8 @@ fn carry_out<O: Outside>(
 ) -> Done<O>
     requires none_yet { readers.items ≡ [] }
     requires room { 1 < vec_capacity readers }
-    ensures does { CarriesOut (Some (asked_by command.entry)) (run_by (signer_seen O.Signer.gives O.Signer.signings O.Signer.faults result.signer) (run_seen O.Source.left O.Source.faults O.Verifier.says O.Verifier.inquiries O.Verifier.faults (O.told outside.old) (O.told outside.new)
-        (sink_seen O.Sink.written O.Sink.faults (O.sink outside.old)) (sink_seen O.Sink.written O.Sink.faults (O.sink outside.new)) result.status result.readers.items result.journal)) }
+    ensures does { CarriesOut (Some (asked_by command.entry))
+        (⟦<O as Runs>⟧.run outside.old outside.new result) }
 {
     match command {
         Command::Check { file } => {
@@ -115,9 +110,10 @@ fn finish<O: Outside>(
     outcome: SignedOutcome<O::Source, O::Verifier, O::Signer>,
     outside: &mut O,
 ) -> Done<O>
-    ensures done { (result.readers ≡ outcome.outcome.readers) × (result.journal ≡ outcome.outcome.journal) × (result.signer ≡ outcome.signer) }
-    ensures settles { SettlesBy (option_map (λ text. text.items) outcome.outcome.owed) outcome.outcome.besides (map (reader_seen O.Source.left O.Source.faults O.Verifier.says O.Verifier.inquiries O.Verifier.faults) outcome.outcome.readers.items)
-        (sink_seen O.Sink.written O.Sink.faults (O.sink outside.old)) (sink_seen O.Sink.written O.Sink.faults (O.sink outside.new)) result.status }
+    ensures readers { result.readers ≡ outcome.outcome.readers }
+    ensures journal { result.journal ≡ outcome.outcome.journal }
+    ensures signer { result.signer ≡ outcome.signer }
+    ensures settles { IsSettled outcome.outcome (⟦<O as Runs>⟧.run outside.old outside.new result) }
     ensures told { O.told outside.new ≡ O.told outside.old }
 {
     let SignedOutcome { outcome, signer } = outcome;
@@ -163,8 +159,7 @@ fn unbegun<O: Outside>(alloc: Global) -> Done<O>
 
 // Says that the words aren't in the form.
 fn refuse<O: Outside>(alloc: Global, outside: &mut O) -> Done<O>
-    ensures answered { CarriesOut None (run_by (signer_seen O.Signer.gives O.Signer.signings O.Signer.faults result.signer) (run_seen O.Source.left O.Source.faults O.Verifier.says O.Verifier.inquiries O.Verifier.faults (O.told outside.old) (O.told outside.new)
-        (sink_seen O.Sink.written O.Sink.faults (O.sink outside.old)) (sink_seen O.Sink.written O.Sink.faults (O.sink outside.new)) result.status result.readers.items result.journal)) }
+    ensures answered { CarriesOut None (⟦<O as Runs>⟧.run outside.old outside.new result) }
 {
     let besides = Besides {
         words_refused: true,

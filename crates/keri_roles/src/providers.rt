@@ -1,9 +1,7 @@
 //! What a command over a core is given by the outside.
-ghost use Rattle.std.specs.Prelude.{◌≡◌, ◌∷◌, [], is_none, IfSome};
+ghost use Rattle.std.specs.Prelude.{◌≡◌, IfSome};
 ghost use Rattle.keri_specs.specs.Told.{HasNone};
-ghost use Rattle.run_outside.specs.Told.{making};
-ghost use Rattle.run_outside.specs.declared.making.MakingKind.TheVariants.{Source as SourceKind, Verifier as VerifierKind};
-ghost use Rattle.keri_roles.specs.Run.{AreMakings};
+ghost use Rattle.keri_roles.specs.Run.{MakesProviders};
 
 use run_outside::Outside;
 
@@ -20,10 +18,13 @@ pub(crate) fn providers_for<O: Outside>(
     helper: &str,
     outside: &mut O,
 ) -> Providers<O::Source, O::Verifier>
-    ensures makes { AreMakings (making SourceKind name.now (is_none result.source) ∷ making VerifierKind helper.now (is_none result.verifier) ∷ []) (O.told outside.old) (O.told outside.new) }
-    ensures holds { IfSome result.source (λ source. O.Source.left source ≡ (O.told outside.old).holds name.now) }
+    ensures makes { MakesProviders name.now helper.now result.source result.verifier
+        (O.told outside.old) (O.told outside.new) }
+    ensures holds { IfSome result.source (λ source.
+        O.Source.left source ≡ (O.told outside.old).holds name.now) }
     ensures unread { IfSome result.source (λ source. O.Source.faults source ≡ 0) }
-    ensures says { IfSome result.verifier (λ verifier. O.Verifier.says verifier ≡ (O.told outside.old).says helper.now) }
+    ensures says { IfSome result.verifier (λ verifier.
+        O.Verifier.says verifier ≡ (O.told outside.old).says helper.now) }
     ensures unasked { IfSome result.verifier (λ verifier. HasNone (O.Verifier.inquiries verifier)) }
     ensures unfailed { IfSome result.verifier (λ verifier. O.Verifier.faults verifier ≡ 0) }
     ensures sink { O.sink outside.new ≡ O.sink outside.old }

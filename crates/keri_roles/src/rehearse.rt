@@ -1,17 +1,14 @@
 //! `rehearse`: answers the questions on standard input by the rehearsal.
-ghost use Rattle.std.specs.Prelude.{◌≡◌, ◌<◌, ◌∷◌, [], codes, is_none, option_map};
+ghost use Rattle.std.specs.Prelude.{◌≡◌, ◌<◌, [], codes};
 ghost use Rattle.std.specs.Vec.{vec_capacity};
-ghost use Rattle.run_outside.specs.Told.{making};
-ghost use Rattle.run_outside.specs.declared.making.MakingKind.TheVariants.{Source as SourceKind};
-ghost use Rattle.verifier_link.specs.Serving.{IsServed, sides_told};
-ghost use Rattle.verifier_link.specs.Sides.{sink_told, source_told};
-ghost use Rattle.keri_roles.specs.Rehearsed.{IsRehearsed, Serves};
+ghost use Rattle.verifier_link.specs.Serving.{IsServed};
+ghost use Rattle.keri_roles.specs.Rehearsed.{IsRehearsed, ServesInput};
 ghost use Rattle.keri_roles.specs.Rehearsed as specs;
-ghost use Rattle.keri_roles.specs.Run.{AreMakings, run_by, run_seen, signer_seen};
-ghost use Rattle.run_status.specs.Readers.{sink_seen, source_seen};
+ghost use Rattle.keri_roles.specs.Run.{MakesSource};
 
 use crate::nothing_told::nothing_told;
-use crate::{Close, Done, ReaderEnd};
+use crate::serves::Serves;
+use crate::{Close, Done, ReaderEnd, Runs};
 use keri_outside::{Failed, Limits};
 use run_outside::Outside;
 use std::alloc::Global;
@@ -25,8 +22,7 @@ pub(crate) fn rehearse<O: Outside>(
 ) -> Done<O>
     requires none_yet { readers.items ≡ [] }
     requires room { 0 < vec_capacity readers }
-    ensures rehearsed { IsRehearsed (run_by (signer_seen O.Signer.gives O.Signer.signings O.Signer.faults result.signer) (run_seen O.Source.left O.Source.faults O.Verifier.says O.Verifier.inquiries O.Verifier.faults (O.told outside.old) (O.told outside.new)
-        (sink_seen O.Sink.written O.Sink.faults (O.sink outside.old)) (sink_seen O.Sink.written O.Sink.faults (O.sink outside.new)) result.status result.readers.items result.journal)) }
+    ensures rehearsed { IsRehearsed (⟦<O as Runs>⟧.run outside.old outside.new result) }
 {
     let mut readers = readers;
     let limits = outside.limits();
@@ -52,9 +48,8 @@ fn serve_input<O: Outside>(
     limits: Limits,
     outside: &mut O,
 ) -> (Option<O::Source>, Served)
-    ensures makes { AreMakings (making SourceKind (codes "-") (is_none result.0) ∷ []) (O.told outside.old) (O.told outside.new) }
-    ensures serves { Serves limits.stream_bytes ((O.told outside.old).holds (codes "-")) (option_map (source_seen O.Source.left O.Source.faults O.Verifier.says O.Verifier.inquiries O.Verifier.faults) result.0)
-        (sink_seen O.Sink.written O.Sink.faults (O.sink outside.old)) (sink_seen O.Sink.written O.Sink.faults (O.sink outside.new)) result.1 }
+    ensures makes { MakesSource (codes "-") result.0 (O.told outside.old) (O.told outside.new) }
+    ensures serves { ServesInput limits (⟦<O as Serves>⟧.serving outside.old outside.new result.0) result.1 }
 {
     match outside.source("-") {
         Ok(source) => {
@@ -73,8 +68,8 @@ fn serve<O: Outside>(
     limits: Limits,
     outside: &mut O,
 ) -> Served
-    ensures serves { IsServed limits.stream_bytes (sides_told (source_told O.Source.left O.Source.faults source.old) (sink_told O.Sink.written O.Sink.faults (O.sink outside.old)))
-        (sides_told (source_told O.Source.left O.Source.faults source.new) (sink_told O.Sink.written O.Sink.faults (O.sink outside.new))) result }
+    ensures serves { IsServed limits.stream_bytes (⟦<O as Serves>⟧.sides source.old outside.old)
+        (⟦<O as Serves>⟧.sides source.new outside.new) result }
     ensures told { O.told outside.new ≡ O.told outside.old }
 {
     serve_rehearsal(alloc, source, outside.out(), limits)

@@ -1,6 +1,6 @@
 //! The report of `validate`.
 ghost use Rattle.std.specs.Prelude.{◌≡◌, ◌≢◌, ◌++◌, IfOk, OnOk, string_bytes, map};
-ghost use Rattle.keri_roles.specs.CoreTold.{plain};
+ghost use Rattle.keri_roles.specs.CommandTexts.{HasText};
 ghost use Rattle.keri_roles.specs.Reports.{Reports, refused_lines, malformed_line, stopped_line};
 
 use crate::Close;
@@ -21,7 +21,7 @@ pub(crate) fn report_of(
     refused: &[Refusal],
     close: Close,
 ) -> Result<CommandText, AllocError>
-    ensures { IfOk result (λ text. (close ≢ Close.OutOfMemory) × Reports (plain core.now) refused.now close text.bytes.items text.has_conflicts) }
+    ensures { IfOk result (HasText Reports core.now refused.now close) }
 {
     let mut text = refused_text(alloc, refused)?;
     let malformed = malformed_text(alloc, close)?;

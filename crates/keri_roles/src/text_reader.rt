@@ -1,8 +1,8 @@
 //! Reading the whole text of a source.
-ghost use Rattle.std.specs.Prelude.{◌≡◌, IfSome, is_none, ℕ, List, Option, true, false};
-ghost use Rattle.run_status.specs.Readers.{reader_seen};
-ghost use Rattle.keri_roles.specs.Made.{ReadsWhole, close_of as close_for};
+ghost use Rattle.std.specs.Prelude.{◌≡◌, IfSome, is_none, true, false};
+ghost use Rattle.keri_roles.specs.Made.{ReadsHeld, ReadsNothing, ReadsWhole, close_of as close_for};
 
+use crate::reads::Reads;
 use crate::{Close, ReaderEnd};
 use keri_outside::{Source, Verifier};
 use message_feed::{SourceText, TextClose, read_text};
@@ -22,8 +22,8 @@ pub(crate) fn read_whole<S: Source + Drop, V: Verifier + Drop>(
     source: Option<S>,
 ) -> TextReader<S, V>
     requires { IfSome source (λ source. S.faults source ≡ 0) }
-    ensures reads { (held : Option (List ℕ)) → IfSome source (λ source. S.left source ≡ held)
-        → ReadsWhole most held (reader_seen S.left S.faults V.says V.inquiries V.faults result.reader) result.text.items }
+    ensures reads { ReadsHeld S.left most source
+        (⟦<ReaderEnd<S, V> as Reads>⟧.reader result.reader) result.text.items }
     ensures source { is_none result.reader.source ≡ is_none source }
 {
     match source {
@@ -39,7 +39,8 @@ fn read_source<S: Source + Drop, V: Verifier + Drop>(
     source: S,
 ) -> TextReader<S, V>
     requires { S.faults source ≡ 0 }
-    ensures reads { ReadsWhole most (S.left source) (reader_seen S.left S.faults V.says V.inquiries V.faults result.reader) result.text.items }
+    ensures reads { ReadsWhole most (S.left source)
+        (⟦<ReaderEnd<S, V> as Reads>⟧.reader result.reader) result.text.items }
     ensures source { is_none result.reader.source ≡ false }
 {
     let mut source = source;
@@ -57,7 +58,7 @@ fn read_source<S: Source + Drop, V: Verifier + Drop>(
 
 // The end of a reader whose source couldn't be made.
 fn read_nothing<S: Source + Drop, V: Verifier + Drop>(alloc: Global) -> TextReader<S, V>
-    ensures reads { (most : ℕ) (held : Option (List ℕ)) → ReadsWhole most held (reader_seen S.left S.faults V.says V.inquiries V.faults result.reader) result.text.items }
+    ensures reads { ReadsNothing (⟦<ReaderEnd<S, V> as Reads>⟧.reader result.reader) result.text.items }
     ensures source { is_none result.reader.source ≡ true }
 {
     TextReader {

@@ -2,12 +2,12 @@
 ghost use Rattle.std.specs.Prelude.{◌≡◌, ◌<◌, []};
 ghost use Rattle.std.specs.Vec.{vec_capacity};
 ghost use Rattle.keri_roles.specs.Commands.{IsValidated};
-ghost use Rattle.keri_roles.specs.Run.{work_seen};
 
 use crate::core_text::{CommandText, CoreText};
 use crate::outcome::Outcome;
 use crate::over_core::over_core;
 use crate::report::report_of;
+use crate::works::Works;
 use crate::{Close, ReaderEnd};
 use journal::{Mode, Refusal};
 use run_outside::Outside;
@@ -42,7 +42,7 @@ pub(crate) fn validate<O: Outside>(
 ) -> Outcome<O::Source, O::Verifier>
     requires none_yet { readers.items ≡ [] }
     requires room { 0 < vec_capacity readers }
-    ensures validated { IsValidated helper.now name.now (work_seen O.Source.left O.Source.faults O.Verifier.says O.Verifier.inquiries O.Verifier.faults (O.told outside.old) (O.told outside.new) result) }
+    ensures validated { IsValidated helper.now name.now (⟦<O as Works>⟧.work outside.old outside.new result) }
     ensures sink { O.sink outside.new ≡ O.sink outside.old }
 {
     over_core::<O, Report>(alloc, Mode::Full, helper, name, readers, outside)

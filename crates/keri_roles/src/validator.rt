@@ -1,6 +1,5 @@
 //! The messages that `validate` reads.
-ghost use Rattle.std.specs.Prelude.{◌≡◌, ◌++◌, ◌∷◌, [], List, OnOk, OnErr, IfErr};
-ghost use Rattle.cesr_stream.specs.declared.message.Message.{Message as MessageValue};
+ghost use Rattle.std.specs.Prelude.{◌≡◌, ◌++◌, ◌∷◌, [], OnOk, OnErr, IfErr};
 
 use crate::Close;
 use crate::open_questions::ask_open;
@@ -35,12 +34,12 @@ impl<V: Verifier + Drop> Taker for Validator<V> {
 }
 
 impl<V: Verifier + Drop> Validator<V> {
-    ghost use Rattle.keri_roles.specs.Offers.{HasTaken, HasStopped, Finishes, TakesLast};
-    ghost use Rattle.keri_roles.specs.declared.validator.Validator.{Validator as ValidatorValue};
+    ghost use Rattle.keri_roles.specs.Offers.{HasTaken, Finishes, StopsAt, TakesLast, TakesOne};
 
     /// A core of this mode that was told nothing.
     pub(crate) fn new(alloc: Global, mode: Mode, limits: Limits, verifier: V) -> Validator<V>
-        ensures core { result.core ≡ record { mode = mode; limits = limits; base = 0; held = []; entries = []; accepted = [] } }
+        ensures core { result.core
+            ≡ record { mode = mode; limits = limits; base = 0; held = []; entries = []; accepted = [] } }
         ensures verifier { result.verifier ≡ verifier }
         ensures begins { HasTaken V.says V.inquiries V.faults result result [] }
     {
@@ -54,8 +53,8 @@ impl<V: Verifier + Drop> Validator<V> {
 
     // Offers a message to the core, and then asks the open questions.
     fn offer(&mut self, message: &Message) -> Result<(), Close>
-        ensures ok { OnOk result ((first : ValidatorValue V) (before : List MessageValue) → HasTaken V.says V.inquiries V.faults first self.old before → HasTaken V.says V.inquiries V.faults first self.new (before ++ message.now ∷ [])) }
-        ensures err { IfErr result (λ close. (first : ValidatorValue V) (before : List MessageValue) → HasTaken V.says V.inquiries V.faults first self.old before → HasStopped V.says V.inquiries V.faults first self.new close (before ++ message.now ∷ [])) }
+        ensures ok { OnOk result (TakesOne V.says V.inquiries V.faults self.old self.new message.now) }
+        ensures err { IfErr result (StopsAt V.says V.inquiries V.faults self.old self.new message.now) }
     {
         match self.core.take(0, message, &mut self.steps) {
             Ok(Reply::Taken) => ask_open(&mut self.core, &mut self.verifier, &mut self.steps),
@@ -97,7 +96,8 @@ impl<V: Verifier + Drop> Validator<V> {
 
 // Notes that a message was refused.
 fn note(refused: &mut Vec<Refusal>, place: u64, reason: Reason) -> Result<(), Close>
-    ensures ok { OnOk result (refused.new.items ≡ refused.old.items ++ record { place = place; reason = reason } ∷ []) }
+    ensures ok { OnOk result (refused.new.items
+        ≡ refused.old.items ++ record { place = place; reason = reason } ∷ []) }
     ensures err { IfErr result (λ close. close ≡ Close.OutOfMemory) }
     ensures kept { OnErr result (refused.new.items ≡ refused.old.items) }
 {

@@ -1,5 +1,6 @@
 //! The calls of a core.
 
+use crate::evidence::evidence;
 use crate::message::message_of;
 use crate::session::{Session, limits_of, mode_of};
 use crate::{base, views};
@@ -12,7 +13,7 @@ use std::alloc::{AllocError, Global};
 use validator_core::Core;
 
 // How many questions `ask` answers at most.
-const MOST_QUESTIONS: u32 = 1_000_000;
+pub(crate) const MOST_QUESTIONS: u32 = 1_000_000;
 
 // The first argument as the number of a reader; 0 where it is none.
 fn reader_of(row: &Row) -> u16 {
@@ -117,9 +118,9 @@ fn strange(alloc: Global, session: &mut Session) -> Result<String, AllocError> {
     }
 }
 
-// What the rehearsal says of a question.
-fn verdict(session: &Session, question: &Question) -> bool {
-    match session.core.body(question.body) {
+/// What the rehearsal says of a question of the core.
+pub(crate) fn verdict(core: &Core, question: &Question) -> bool {
+    match core.body(question.body) {
         Some(body) => Rehearsal
             .ask(&question.key, body, &question.sig)
             .unwrap_or(false),
@@ -131,7 +132,7 @@ fn verdict(session: &Session, question: &Question) -> bool {
 fn ask_one(session: &mut Session) -> Result<bool, AllocError> {
     match session.core.next_question(0) {
         Some(question) => {
-            let yes = verdict(session, &question);
+            let yes = verdict(&session.core, &question);
             session.core.answer(0, &question, yes, &mut session.steps)?;
             Ok(true)
         }
@@ -163,6 +164,7 @@ pub(crate) fn answer(
         "strange" => given(strange(alloc, session)),
         "ask" => given(asked(alloc, session)),
         "resume" => given(base::resumed(alloc, session, row)),
+        "evidence" => given(evidence(alloc, row)),
         _ => views::answer(alloc, session, row),
     }
 }

@@ -5,6 +5,7 @@
 
 mod base;
 mod calls;
+mod evidence;
 mod message;
 mod session;
 mod views;

@@ -4,7 +4,7 @@ use Rattle.claim_table.specs.Keeping.{AreCounted, at_place, is_of_at}
 use Rattle.claim_table.specs.Rows.{is_of, with_verdict}
 use Rattle.claim_table.proofs.Lists.{set_at_place}
 use Rattle.claim_table.proofs.Rows.{set_there}
-use Rattle.claim_table.proofs.Setting.{counted_set, found_there, read_there, set_nothing}
+use Rattle.claim_table.proofs.Setting.{can_count, counted_set, found_there, read_there, set_nothing}
 use Rattle.claim_table.proofs.claim_rows.set_verdict.Goals as goal
 
 pub returns-then-not-is_row_of-clause-rows : goal.returns-then-not-is_row_of-clause-rows
@@ -28,6 +28,12 @@ count_yes-requires-clause-entered c = λ q b.
     let at = read_there c.args.signature.now c.args.verdict c.args.rows.now.items c.args.place c.index.result.now
     (ap (λ rows. is_of_at c.args.signature.now (slice_get rows c.args.place)) (sym c.as_slice.ensures.value) ∙ sym c.is_row_of.ensures ∙ c.if-not-is_row_of.false) c.index.ensures in
     c.uncount_yes.ensures.kept q ∙ c.requires.entries c.args.place c.index.result.now q at.0 b
+
+pub count_yes-requires-clause-few : goal.count_yes-requires-clause-few
+count_yes-requires-clause-few c = λ q b.
+    let s = c.args.signature.now in let v = c.args.verdict in let r = c.index.result.now in
+    let at = read_there s v c.args.rows.now.items c.args.place r (ap (λ rows. is_of_at s (slice_get rows c.args.place)) (sym c.as_slice.ensures.value) ∙ sym c.is_row_of.ensures ∙ c.if-not-is_row_of.false) c.index.ensures in
+    can_count s v c.args.rows.now.items c.args.place r q (amount c.args.counts.now q) (amount c.uncount_yes.new.self q) at.0 (set_there s v r at.1) (c.uncount_yes.ensures.amounts q) (c.requires.counted q) b c.requires.few
 
 there : (c : goal.After-rows-1) → (slice_get c.args.rows.now.items c.args.place ≡ Some c.index.result.now) × (is_of c.args.signature.now c.index.result.now ≡ true)
 there c = read_there c.args.signature.now c.args.verdict c.args.rows.now.items c.args.place c.index.result.now

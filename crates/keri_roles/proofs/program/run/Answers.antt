@@ -2,4 +2,4 @@ use Rattle.keri_roles.proofs.Statuses.{has_causes}
 use Rattle.keri_roles.proofs.program.run.Goals as goal
 
 pub returns-clause-causes : goal.returns-clause-causes
-returns-clause-causes g c = has_causes _ _ c.answer.ensures.answered
+returns-clause-causes g c = rw g.met.O.Runs.run_is (has_causes _ _ c.answer.ensures.answered)

@@ -1,9 +1,10 @@
-use Rattle.std.proofs.Common.{◌≡◌, ◌<◌, ◌+◌, ◌^◌, ◌||◌, ◌&&◌, ◌++◌, ◌∷◌, [], length, refl, sym, subst, ◌∙◌, ap, arith, rules}
+use Rattle.std.proofs.Common.{◌≡◌, ◌<◌, ◌+◌, ◌-◌, ◌^◌, ◌||◌, ◌&&◌, ◌++◌, ◌∷◌, [], length, refl, sym, subst, ◌∙◌, ap, arith, rules}
 use Rattle.std.specs.Prelude.{Contains, is_some, not}
 use Rattle.std.specs.BTreeMap.{is_at}
 use Rattle.std.specs.Option.{option_flatten}
 use Rattle.std.specs.BTreeSet.{contains}
-use Rattle.claim_table.specs.Counts.{amount, bit, is_entered}
+use Rattle.claim_table.specs.Counts.{amount, is_entered}
+use Rattle.claim_table.specs.Entries.{bit}
 use Rattle.claim_table.specs.BodyParts.{BodyPart}
 use Rattle.claim_table.specs.declared.spot.Spot.{Spot}
 use Rattle.claim_table.specs.Parts.{supports}
@@ -15,15 +16,15 @@ use Rattle.claim_table.proofs.claim_rows.ClaimRows.raise.Goals as goal
 
 pub returns-in_err-add-clause-sound : goal.returns-in_err-add-clause-sound
 returns-in_err-add-clause-sound c =
-    let t = c.args.self.now in let place : c.in_ok-number.number ≡ length t.rows.items = omega (arith, c.in_ok-number.ensures.ok, c.len-row.ensures) in
+    let t = c.args.self.now in let place : c.in_ok-rows.rows - 1 ≡ length t.rows.items = omega (arith, c.in_ok-rows.ensures.ok, c.len-row.ensures) in
     kept_more t.rows.items (places_of t.by_signature) (amount t.counts) (is_entered t.counts) t.pending (contains spot_cmp t.spots) (contains spot_cmp t.spots) _ (places_of c.add.new.self) _ (is_entered c.enter.new.self)
-    c.in_ok-number.number c.in_ok-reserve.ensures.items (λ q. refl) place (λ q. c.in_err-add.ensures.kept q.body q) c.in_ok-enter.ensures.amounts c.in_ok-enter.ensures.kept c.requires
+    (c.in_ok-rows.rows - 1) c.in_ok-reserve.ensures.items (λ q. refl) place (λ q. c.in_err-add.ensures.kept q.body q) c.in_ok-enter.ensures.amounts c.in_ok-enter.ensures.kept c.requires
 
 pub returns-in_err-open_new-clause-sound : goal.returns-in_err-open_new-clause-sound
 returns-in_err-open_new-clause-sound c =
-    let t = c.args.self.now in let place : c.in_ok-number.number ≡ length t.rows.items = omega (arith, c.in_ok-number.ensures.ok, c.len-row.ensures) in
+    let t = c.args.self.now in let place : c.in_ok-rows.rows - 1 ≡ length t.rows.items = omega (arith, c.in_ok-rows.ensures.ok, c.len-row.ensures) in
     kept_more t.rows.items (places_of t.by_signature) (amount t.counts) (is_entered t.counts) t.pending (contains spot_cmp t.spots) (contains spot_cmp c.open_new.new.spots) _ (places_of c.add.new.self) _ (is_entered c.enter.new.self)
-    c.in_ok-number.number c.in_ok-reserve.ensures.items (λ q. ap (λ spots. contains spot_cmp spots q) c.in_err-open_new.ensures.err) place (λ q. c.in_ok-add.ensures.kept q.body q) c.in_ok-enter.ensures.amounts c.in_ok-enter.ensures.kept c.requires
+    (c.in_ok-rows.rows - 1) c.in_ok-reserve.ensures.items (λ q. ap (λ spots. contains spot_cmp spots q) c.in_err-open_new.ensures.err) place (λ q. c.in_ok-add.ensures.kept q.body q) c.in_ok-enter.ensures.amounts c.in_ok-enter.ensures.kept c.requires
 
 row_is : (c : goal.After-push_reserved) → c.row_of-added.result ≡ record { claimed = c.args.claimed; verdict = verdict_of c.args.self.now.rows.items (signature_of c.args.claimed) }
 row_is c =
@@ -42,15 +43,15 @@ pub returns-clause-sound : goal.returns-clause-sound
 returns-clause-sound c =
     let t = c.args.self.now in let rows = t.rows.items in let claimed = c.args.claimed in
     let hint = places_of c.add.new.self in let counts = amount c.enter.new.self in let entered = is_entered c.count_yes.new.self in
-    let place : c.in_ok-number.number ≡ length rows = omega (arith, c.in_ok-number.ensures.ok, c.len-row.ensures) in
+    let place : c.in_ok-rows.rows - 1 ≡ length rows = omega (arith, c.in_ok-rows.ensures.ok, c.len-row.ensures) in
     let row : c.len-row.result ≡ length rows = omega (arith, c.len-row.ensures) in
-    let fits : c.in_ok-number.number < 2 ^ 32 = search rules in
+    let fits : c.in_ok-rows.rows < 2 ^ 32 = search rules in
     let kept = kept_more rows (places_of t.by_signature) (amount t.counts) (is_entered t.counts) t.pending (contains spot_cmp t.spots) (contains spot_cmp t.spots) rows hint counts entered
-    c.in_ok-number.number refl (λ q. refl) place (λ q. c.in_ok-add.ensures.kept q.body q) c.in_ok-enter.ensures.amounts (λ q h. c.count_yes.ensures.kept q ∙ c.in_ok-enter.ensures.kept q h) c.requires in
+    (c.in_ok-rows.rows - 1) refl (λ q. refl) place (λ q. c.in_ok-add.ensures.kept q.body q) c.in_ok-enter.ensures.amounts (λ q h. c.count_yes.ensures.kept q ∙ c.in_ok-enter.ensures.kept q h) c.requires in
     let first = known_new (is_raised rows c.signature-signature.result) (verdict_of rows c.signature-signature.result) c.is_none.result (sym (ap is_some c.verdict-verdict.ensures) ∙ c.is_none.ensures)
     ∙ ap (λ s. not (is_raised rows s)) c.signature-signature.ensures in
     let updates = subst (λ n. (q : Spot) → contains spot_cmp c.open_new.new.spots q ≡ (contains spot_cmp t.spots q || (c.is_none.result && is_at (spot_cmp (spot_at claimed.body n)) q))) row c.in_ok-open_new.ensures.ok in
     let added = subst (λ s. Contains (hint s) (length rows)) c.signature-signature.ensures (subst (λ n. Contains (hint c.signature-signature.result) n) place c.in_ok-add.ensures.added) in
     let more = λ (q : BodyPart). subst (λ r. amount c.count_yes.new.self q ≡ counts q + bit (supports q r)) (row_is c) (c.count_yes.ensures.amounts q) in
     kept_raised rows hint counts entered t.pending (contains spot_cmp t.spots) (contains spot_cmp c.open_new.new.spots) c.is_none.result claimed c.push_reserved.new.self.items (amount c.count_yes.new.self)
-    (rows_are c) first updates added more (λ q b. c.count_yes.ensures.kept q ∙ c.in_ok-enter.ensures.entered q b) (omega (arith, fits, place)) kept
+    (rows_are c) first updates added more (λ q b. c.count_yes.ensures.kept q ∙ c.in_ok-enter.ensures.entered q b) (omega (arith, fits, c.in_ok-rows.ensures.ok, c.len-row.ensures)) kept

@@ -3,36 +3,37 @@ use Rattle.std.specs.Prelude.{is_some}
 use Rattle.std.proofs.lemmas.Bool.{cases_Bool}
 use Rattle.std.proofs.lemmas.Option.{slice_get_past, slice_get_read}
 use Rattle.claim_table.specs.BodyParts.{BodyPart}
-use Rattle.claim_table.specs.Counts.{amount, bit, entry_at, is_one, or_zero}
+use Rattle.claim_table.specs.Counts.{amount, entry_at, is_one}
+use Rattle.claim_table.specs.Entries.{bit, or_zero}
 use Rattle.claim_table.proofs.Places.{counted, nothing_there, one_itself, same_entries}
 use Rattle.claim_table.proofs.part_counts.PartCounts.count_one.Goals as goal
 
-pub count_part-requires-clause-entered : goal.count_part-requires-clause-entered
-count_part-requires-clause-entered c =
+pub count-requires-clause-entered : goal.count-requires-clause-entered
+count-requires-clause-entered c =
     let lt : c.args.body < length c.args.self.now.counts.items = search rules in
     let at = slice_get_read c.args.self.now.counts.items (length c.args.self.now.counts.items) c.args.body c.in-Some-get_mut.counts.now refl lt c.in-Some-get_mut.ensures.value in
     let q : BodyPart = record { body = c.args.body; part = c.in-Some.part } in
     ap (λ o. is_some (entry_at o c.in-Some.part)) (sym at) ∙ c.requires.entered q (ap (λ o. is_one c.args.body o q) c.in-Some.is ∙ one_itself c.args.body c.in-Some.part)
 
-pub count_part-requires-clause-few : goal.count_part-requires-clause-few
-count_part-requires-clause-few c =
+pub count-requires-clause-few : goal.count-requires-clause-few
+count-requires-clause-few c =
     let lt : c.args.body < length c.args.self.now.counts.items = search rules in
     let at = slice_get_read c.args.self.now.counts.items (length c.args.self.now.counts.items) c.args.body c.in-Some-get_mut.counts.now refl lt c.in-Some-get_mut.ensures.value in
     let q : BodyPart = record { body = c.args.body; part = c.in-Some.part } in
-    subst (λ o. or_zero (entry_at o c.in-Some.part) < 2 ^ 64 - 1) at (c.requires.few q (ap (λ o. is_one c.args.body o q) c.in-Some.is ∙ one_itself c.args.body c.in-Some.part))
+    subst (λ o. or_zero (entry_at o c.in-Some.part) < 2 ^ 32 - 1) at (c.requires.few q (ap (λ o. is_one c.args.body o q) c.in-Some.is ∙ one_itself c.args.body c.in-Some.part))
 
 pub returns-in-Some-get_mut-clause-amounts : goal.returns-in-Some-get_mut-clause-amounts
 returns-in-Some-get_mut-clause-amounts c = λ q.
     let lt : c.args.body < length c.args.self.now.counts.items = search rules in
     let at = slice_get_read c.args.self.now.counts.items (length c.args.self.now.counts.items) c.args.body c.in-Some-get_mut.counts.now refl lt c.in-Some-get_mut.ensures.value in
-    counted c.args.self.now.counts.items c.args.body c.in-Some.part c.in-Some-get_mut.counts.now c.count_part.new.counts at c.count_part.ensures.amounts q
+    counted c.args.self.now.counts.items c.args.body c.in-Some.part c.in-Some-get_mut.counts.now c.count.new.self at c.count.ensures.amounts q
     ∙ ap (λ o. amount c.args.self.now q + bit (is_one c.args.body o q)) (sym c.in-Some.is)
 
 pub returns-in-Some-get_mut-clause-kept : goal.returns-in-Some-get_mut-clause-kept
 returns-in-Some-get_mut-clause-kept c = λ q.
     let lt : c.args.body < length c.args.self.now.counts.items = search rules in
     let at = slice_get_read c.args.self.now.counts.items (length c.args.self.now.counts.items) c.args.body c.in-Some-get_mut.counts.now refl lt c.in-Some-get_mut.ensures.value in
-    same_entries c.args.self.now.counts.items c.args.body c.in-Some.part c.in-Some-get_mut.counts.now c.count_part.new.counts at c.count_part.ensures.kept q
+    same_entries c.args.self.now.counts.items c.args.body c.in-Some.part c.in-Some-get_mut.counts.now c.count.new.self at c.count.ensures.kept q
 
 pub returns-in_default-get_mut-clause-amounts : goal.returns-in_default-get_mut-clause-amounts
 returns-in_default-get_mut-clause-amounts c = λ q.

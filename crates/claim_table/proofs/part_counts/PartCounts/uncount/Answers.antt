@@ -1,7 +1,8 @@
 use Rattle.std.proofs.Common.{◌≡◌, ap, arith, rules}
 use Rattle.std.specs.Option.{option_map}
 use Rattle.claim_table.specs.declared.part.Part.TheVariants.{Indexed, Revealed, Backed}
-use Rattle.claim_table.specs.Counts.{bit, is_one}
+use Rattle.claim_table.specs.Counts.{is_one}
+use Rattle.claim_table.specs.Entries.{bit}
 use Rattle.claim_table.proofs.Counting.{bits}
 use Rattle.claim_table.proofs.part_counts.PartCounts.uncount.Goals as goal
 

@@ -1,7 +1,8 @@
 use Rattle.std.proofs.Common.{◌<◌, ◌≤◌, length, ◌-◌, refl, sym, ◌∙◌, ap, inl, inr, arith, rules}
 use Rattle.std.proofs.lemmas.Bool.{cases_Bool}
 use Rattle.std.proofs.lemmas.Option.{slice_get_past, slice_get_read}
-use Rattle.claim_table.specs.Counts.{amount, bit, is_one, or_zero}
+use Rattle.claim_table.specs.Counts.{amount, is_one}
+use Rattle.claim_table.specs.Entries.{bit, or_zero}
 use Rattle.claim_table.proofs.Places.{nothing_there, same_entries, uncounted}
 use Rattle.claim_table.proofs.part_counts.PartCounts.uncount_one.Goals as goal
 
@@ -9,14 +10,14 @@ pub returns-in-Some-get_mut-clause-amounts : goal.returns-in-Some-get_mut-clause
 returns-in-Some-get_mut-clause-amounts c = λ q.
     let lt : c.args.body < length c.args.self.now.counts.items = search rules in
     let at = slice_get_read c.args.self.now.counts.items (length c.args.self.now.counts.items) c.args.body c.in-Some-get_mut.counts.now refl lt c.in-Some-get_mut.ensures.value in
-    uncounted c.args.self.now.counts.items c.args.body c.in-Some.part c.in-Some-get_mut.counts.now c.uncount_part.new.counts at c.uncount_part.ensures.amounts q
+    uncounted c.args.self.now.counts.items c.args.body c.in-Some.part c.in-Some-get_mut.counts.now c.uncount.new.self at c.uncount.ensures.amounts q
     ∙ ap (λ o. amount c.args.self.now q - bit (is_one c.args.body o q)) (sym c.in-Some.is)
 
 pub returns-in-Some-get_mut-clause-kept : goal.returns-in-Some-get_mut-clause-kept
 returns-in-Some-get_mut-clause-kept c = λ q.
     let lt : c.args.body < length c.args.self.now.counts.items = search rules in
     let at = slice_get_read c.args.self.now.counts.items (length c.args.self.now.counts.items) c.args.body c.in-Some-get_mut.counts.now refl lt c.in-Some-get_mut.ensures.value in
-    same_entries c.args.self.now.counts.items c.args.body c.in-Some.part c.in-Some-get_mut.counts.now c.uncount_part.new.counts at c.uncount_part.ensures.kept q
+    same_entries c.args.self.now.counts.items c.args.body c.in-Some.part c.in-Some-get_mut.counts.now c.uncount.new.self at c.uncount.ensures.kept q
 
 pub returns-in_default-get_mut-clause-amounts : goal.returns-in_default-get_mut-clause-amounts
 returns-in_default-get_mut-clause-amounts c = λ q.

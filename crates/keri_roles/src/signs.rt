@@ -1,0 +1,34 @@
+//! What is seen of a signer.
+
+use keri_outside::Signer;
+
+/// Gives what is seen of a signer as one value. Each signer has it, by the impl below.
+pub(crate) trait Signs: Signer {
+    ghost use Rattle.std.specs.Prelude.{◌≡◌};
+    ghost use Rattle.std.specs.declared.option.Option.{Option};
+    ghost use Rattle.keri_roles.specs.Run.{SignerTold};
+    ghost use Rattle.keri_roles.specs.Seen.{signer_seen, signer_told};
+
+    ghost told: { Self → SignerTold };
+
+    /// Where there is one.
+    ghost seen: { Option Self → Option SignerTold };
+
+    // They can be no others.
+    ghost told_is: { told ≡ signer_told Self.gives Self.signings Self.faults };
+
+    ghost seen_is: { seen ≡ signer_seen Self.gives Self.signings Self.faults };
+}
+
+impl<G: Signer> Signs for G {
+    ghost use Rattle.std.specs.Prelude.{refl};
+    ghost use Rattle.keri_roles.specs.Seen.{signer_seen, signer_told};
+
+    ghost told = { signer_told G.gives G.signings G.faults };
+
+    ghost seen = { signer_seen G.gives G.signings G.faults };
+
+    ghost told_is = { refl };
+
+    ghost seen_is = { refl };
+}

@@ -1,0 +1,56 @@
+//! What is seen of a command's work.
+
+use run_outside::Outside;
+
+/// Gives what is seen of a command's work as one value. Each outside has it, by the impl below.
+pub(crate) trait Works: Outside {
+    ghost use Rattle.std.specs.Prelude.{◌≡◌};
+    ghost use Rattle.run_status.specs.Readers.{Reader, reader_seen};
+    ghost use Rattle.run_status.specs.declared.reader_end.ReaderEnd.{ReaderEnd as End};
+    ghost use Rattle.keri_roles.specs.Run.{Work};
+    ghost use Rattle.keri_roles.specs.Seen.{signed_over, work_over};
+    ghost use Rattle.keri_roles.specs.declared.outcome.Outcome.{Outcome as Came};
+    ghost use Rattle.keri_roles.specs.declared.outcome.SignedOutcome.{SignedOutcome as CameSigned};
+
+    /// Of a reader.
+    ghost reader: { End Self.Source Self.Verifier → Reader };
+
+    /// Of the outside before and after it, and of what it came to.
+    ghost work: { Self → Self → Came Self.Source Self.Verifier → Work };
+
+    /// The same with its signer.
+    ghost signed: { Self → Self → CameSigned Self.Source Self.Verifier Self.Signer → Work };
+
+    // They can be no others.
+    ghost reader_is: { reader ≡ reader_seen Self.Source.left Self.Source.faults
+        Self.Verifier.says Self.Verifier.inquiries Self.Verifier.faults };
+
+    ghost work_is: { work ≡ work_over Self.Source.left Self.Source.faults
+        Self.Verifier.says Self.Verifier.inquiries Self.Verifier.faults Self.told };
+
+    ghost signed_is: { signed ≡ signed_over Self.Source.left Self.Source.faults
+        Self.Verifier.says Self.Verifier.inquiries Self.Verifier.faults
+        Self.Signer.gives Self.Signer.signings Self.Signer.faults Self.told };
+}
+
+impl<O: Outside> Works for O {
+    ghost use Rattle.std.specs.Prelude.{refl};
+    ghost use Rattle.run_status.specs.Readers.{reader_seen};
+    ghost use Rattle.keri_roles.specs.Seen.{signed_over, work_over};
+
+    ghost reader = { reader_seen O.Source.left O.Source.faults
+        O.Verifier.says O.Verifier.inquiries O.Verifier.faults };
+
+    ghost work = { work_over O.Source.left O.Source.faults
+        O.Verifier.says O.Verifier.inquiries O.Verifier.faults O.told };
+
+    ghost signed = { signed_over O.Source.left O.Source.faults
+        O.Verifier.says O.Verifier.inquiries O.Verifier.faults
+        O.Signer.gives O.Signer.signings O.Signer.faults O.told };
+
+    ghost reader_is = { refl };
+
+    ghost work_is = { refl };
+
+    ghost signed_is = { refl };
+}
