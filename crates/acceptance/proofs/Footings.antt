@@ -1,11 +1,18 @@
 -- What the footing of an event says of it.
-use Rattle.std.proofs.Common.{◌≡◌, ℕ, false, List, Option, Some, None, is_some, refl, sym, ◌∙◌, ap, subst, inl, inr}
+use Rattle.std.proofs.Common.{◌≡◌, ℕ, false, true, List, Option, Some, None, is_some, refl, sym, ◌∙◌, ap, subst, inl, inr}
+use Rattle.std.proofs.lemmas.Bool.{cases_Bool}
 use Rattle.std.specs.Prelude.{IfNone, IfSome}
-use Rattle.event_body.specs.Events.{prefix_of}
+use Rattle.event_body.specs.declared.event.Event.{Event}
+use Rattle.event_body.specs.declared.event.Event.TheVariants.{Icp, Rot, Ixn, Dip, Drt, Rct}
+use Rattle.event_body.specs.Events.{is_inception, is_receipt, prefix_of}
+use Rattle.key_state.specs.KeyStates.{misfit}
+use Rattle.key_state.specs.States.{State}
+use Rattle.journal.specs.Grown.{IsGrown}
 use Rattle.journal.specs.declared.body.Body.{Body}
-use Rattle.journal.specs.Logs.{stands, state}
+use Rattle.journal.specs.Logs.{stands, state, takes}
 use Rattle.journal.specs.Questions.{state_before}
-use Rattle.core_laws.specs.Standing.{AreAlikeIf}
+use Rattle.core_laws.specs.Standing.{AreAlikeIf, HasNoClash}
+use Rattle.core_laws.proofs.Standing.{current, current_stands}
 use Rattle.accepted_log.specs.Cuts.{IsLog, cut}
 use Rattle.accepted_log.specs.Values.{Log, last_place, state_there}
 use Rattle.acceptance.specs.Footing.{IsFooting}
@@ -28,3 +35,25 @@ module _ (log : List Body) (v : Log) (b : Body) where
       let alike : AreAlikeIf (state_before log b) (state log (prefix_of b.event)) =
       subst (λ o. AreAlikeIf o (state log (prefix_of b.event))) (sym f.is.before) (subst (λ o. AreAlikeIf (Some (cut f.is.sn f.is.state)) o) (sym now) refl) in
       record { up = f.up; is = inr alike }
+
+no_receipt : (o : Option State) (e : Event) → takes o e ≡ true → is_receipt e ≡ false
+unfolding misfit
+no_receipt None (Rct e) h = cc
+no_receipt (Some s) (Rct e) h = cc
+no_receipt o (Icp e) h = refl
+no_receipt o (Rot e) h = refl
+no_receipt o (Ixn e) h = refl
+no_receipt o (Dip e) h = refl
+no_receipt o (Drt e) h = refl
+
+inception_stands : (log : List Body) (b : Body) → is_inception b.event ≡ true → stands log b ≡ true
+unfolding stands
+inception_stands log b i = rw i refl
+
+-- where no two accepted events clash, what the current state takes stands on it
+pub taken_on : (log : List Body) (b : Body) → IsGrown log → HasNoClash log → takes (state log (prefix_of b.event)) b.event ≡ true → IsOnCurrent log b
+taken_on log b grown clash taken = elim (cases_Bool (is_inception b.event)) [
+  | inl i ↦ record { up = inception_stands log b i; is = inl i }
+  | inr i ↦ (let r = no_receipt (state log (prefix_of b.event)) b.event taken in
+      record { up = current_stands log b grown clash i r taken; is = inr (current log b grown clash i r taken) })
+]

@@ -74,12 +74,6 @@ raised_behind rows (c ∷ cs) = take_front rows (raised rows c) (raised_all (rai
 pub extends_held : (v : View) (b : Body) → IsStanding v → Extends v (record v { held = v.held ++ b ∷ [] })
 extends_held v b is = record { held = take-append_seam v.held (b ∷ []); entries = take-length v.entries; log = (extends_itself v is).log; rows = take-length v.claims.rows; pending = refl; settled = refl }
 
-pub extends_entry : (v : View) (e : Entry) → IsStanding v → Extends v (with_entry e v)
-extends_entry v e is = record { held = take-length v.held; entries = take-append_seam v.entries (e ∷ []); log = (extends_itself v is).log; rows = take-length v.claims.rows; pending = refl; settled = refl }
-
-pub extends_raised : (v : View) (cs : List Claimed) → IsStanding v → Extends v (with_rows (raised_all v.claims.rows cs) v)
-extends_raised v cs is = record { held = take-length v.held; entries = take-length v.entries; log = (extends_itself v is).log; rows = raised_behind v.claims.rows cs; pending = refl; settled = refl }
-
 -- behind tables that extend others, an entry and claims
 pub extends_told : (u v : View) (e : Entry) → Extends u v → Extends u (with_entry e v)
 extends_told u v e more = record {

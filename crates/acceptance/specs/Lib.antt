@@ -6,4 +6,5 @@ pub mod Settled
 pub mod Current
 pub mod Wants
 pub mod Entries
+pub mod EntrySupports
 pub mod Differences

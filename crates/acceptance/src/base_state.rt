@@ -23,12 +23,18 @@ pub(crate) fn stands(tables: &Tables, event: &Event) -> bool
     footing_of(tables, event).is_some()
 }
 
-/// Whether the event stands on the current state of its identifier, which is at the place, or is an inception.
+/// Whether the event, which the current state of its identifier takes, stands on that state, which is at the place, or is an
+/// inception. So it is where no two accepted events have one name, as ever but where digests collide.
 pub(crate) fn is_on_current(tables: &Tables, event: &Event, current: Option<u32>) -> bool
     requires standing { IsStanding tables.now }
     requires last { current ≡ last_place (events.prefix_of event.now) tables.now.log.states }
-    ensures { (bytes : List ℕ) → result ≡ true → IsOnCurrent (log_of tables.now) (body_of bytes event.now) }
+    ensures { (bytes : List ℕ) → result ≡ true
+        → logs.takes (logs.state (log_of tables.now) (events.prefix_of event.now)) event.now ≡ true
+        → IsOnCurrent (log_of tables.now) (body_of bytes event.now) }
 {
+    if !tables.has_clash() {
+        return true;
+    }
     match footing_of(tables, event) {
         Some(Footing::Inception) => true,
         Some(Footing::Behind(place)) => is_place(current, place),
@@ -73,7 +79,8 @@ pub(crate) fn follows_some(tables: &Tables, event: &Event) -> bool
 /// Whether the event of the body of a number isn't accepted.
 pub(crate) fn is_waiting(tables: &Tables, number: u32, event: &Event) -> bool
     requires { IsStanding tables.now }
-    ensures { (bytes : List ℕ) → slice_get tables.now.held number ≡ Some (body_of bytes event.now) → result ≡ waking.is_waiting (log_of tables.now) (body_of bytes event.now) }
+    ensures { (bytes : List ℕ) → slice_get tables.now.held number ≡ Some (body_of bytes event.now)
+        → result ≡ waking.is_waiting (log_of tables.now) (body_of bytes event.now) }
 {
     !is_receipt(event) && !tables.is_accepted(number)
 }

@@ -17,7 +17,8 @@ use event_rules::{meets_before, meets_own};
 /// takes no memory.
 pub fn counts(tables: &Tables, number: u32) -> bool
     requires { IsStanding tables.now }
-    ensures { (b : Body) → slice_get tables.now.held number ≡ Some b → result ≡ conflicts.counts (told_of tables.now) (log_of tables.now) b }
+    ensures { (b : Body) → slice_get tables.now.held number ≡ Some b
+        → result ≡ conflicts.counts (told_of tables.now) (log_of tables.now) b }
 {
     let Some(event) = event_of(tables, number) else {
         return false;

@@ -28,7 +28,8 @@ pub fn footing_of(tables: &Tables, event: &Event) -> Option<Footing>
     requires log { IsLog (log_of tables.now) tables.now.log }
     requires grown { IsGrown (log_of tables.now) }
     ensures none { (bytes : List ℕ) → IfNone result (stands (log_of tables.now) (body_of bytes event.now) ≡ false) }
-    ensures some { (bytes : List ℕ) → IfSome result (λ on. IsFooting (log_of tables.now) tables.now.log (body_of bytes event.now) on) }
+    ensures some { (bytes : List ℕ) → IfSome result
+        (λ on. IsFooting (log_of tables.now) tables.now.log (body_of bytes event.now) on) }
 {
     if is_inception(event) {
         return Some(Footing::Inception);

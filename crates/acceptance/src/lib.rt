@@ -10,6 +10,7 @@ mod footing;
 mod ready;
 mod row_support;
 mod seals;
+mod signed_entries;
 mod there;
 mod wait_reason;
 mod wants;

@@ -15,7 +15,8 @@ use journal::Mode;
 /// Whether the event of a number is ready to be accepted. It takes no memory.
 pub fn is_ready(tables: &Tables, mode: Mode, number: u32) -> bool
     requires { IsStanding tables.now }
-    ensures { (b : Body) → slice_get tables.now.held number ≡ Some b → result ≡ readiness.is_ready mode (told_of tables.now) (log_of tables.now) b }
+    ensures { (b : Body) → slice_get tables.now.held number ≡ Some b
+        → result ≡ readiness.is_ready mode (told_of tables.now) (log_of tables.now) b }
 {
     let Some(event) = event_of(tables, number) else {
         return false;

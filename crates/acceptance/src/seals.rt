@@ -28,7 +28,8 @@ pub(crate) fn is_seal_there(
     event: &Event,
 ) -> bool
     requires { IsStanding tables.now }
-    ensures { result ≡ (readiness.is_local mode || seals.anchored (log_of tables.now) (option_copied state.entry) event.now) }
+    ensures { result ≡ (readiness.is_local mode
+        || seals.anchored (log_of tables.now) (option_copied state.entry) event.now) }
 {
     is_local(mode) || is_anchored(tables, state, event)
 }
@@ -57,7 +58,8 @@ pub(crate) fn is_anchored(tables: &Tables, state: Option<&KeyState>, event: &Eve
 /// Whether the delegator of the event forbids delegation, where there is one.
 pub(crate) fn is_forbidden(tables: &Tables, state: Option<&KeyState>, event: &Event) -> bool
     requires { IsStanding tables.now }
-    ensures { result ≡ waiting.is_forbidden (log_of tables.now) (seals.delegator_of (option_copied state.entry) event.now) }
+    ensures { result ≡ waiting.is_forbidden (log_of tables.now)
+        (seals.delegator_of (option_copied state.entry) event.now) }
 {
     match delegator_of(state, event) {
         Some(delegator) => forbids(tables, &delegator),

@@ -15,7 +15,8 @@ use journal::Mode;
 /// takes no memory.
 pub fn is_there(tables: &Tables, mode: Mode, number: u32) -> bool
     requires { IsStanding tables.now }
-    ensures { (b : Body) → slice_get tables.now.held number ≡ Some b → result ≡ (waking.is_there (log_of tables.now) b && waking.is_anchored mode (log_of tables.now) b) }
+    ensures { (b : Body) → slice_get tables.now.held number ≡ Some b
+        → result ≡ (waking.is_there (log_of tables.now) b && waking.is_anchored mode (log_of tables.now) b) }
 {
     let Some(event) = event_of(tables, number) else {
         return false;

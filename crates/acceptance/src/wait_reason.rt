@@ -22,7 +22,8 @@ use key_state::KeyState;
 /// memory.
 pub fn why_waits(tables: &Tables, mode: Mode, number: u32) -> Option<Why>
     requires { IsStanding tables.now }
-    ensures held { (b : Body) → slice_get tables.now.held number ≡ Some b → result ≡ waiting.why_waits mode (told_of tables.now) (log_of tables.now) b }
+    ensures held { (b : Body) → slice_get tables.now.held number ≡ Some b
+        → result ≡ waiting.why_waits mode (told_of tables.now) (log_of tables.now) b }
     ensures none { slice_get tables.now.held number ≡ None → result ≡ None }
 {
     let event = event_of(tables, number)?;
@@ -43,7 +44,8 @@ pub fn why_waits(tables: &Tables, mode: Mode, number: u32) -> Option<Why>
 // its log, or its delegator forbids it.
 fn is_lost(tables: &Tables, mode: Mode, state: Option<&KeyState>, event: &Event) -> bool
     requires { IsStanding tables.now }
-    ensures { (bytes : List ℕ) → result ≡ waiting.is_lost mode (log_of tables.now) (option_copied state.entry) (body_of bytes event.now) }
+    ensures { (bytes : List ℕ) → result
+        ≡ waiting.is_lost mode (log_of tables.now) (option_copied state.entry) (body_of bytes event.now) }
 {
     is_late(state, event)
         || is_cut_off(tables, state, event)
@@ -60,7 +62,10 @@ fn is_late(state: Option<&KeyState>, event: &Event) -> bool
 // Whether its predecessor is there, and it doesn't stand behind it or isn't taken by the current state.
 fn is_cut_off(tables: &Tables, state: Option<&KeyState>, event: &Event) -> bool
     requires { IsStanding tables.now }
-    ensures { (bytes : List ℕ) → result ≡ (is_some (logs.predecessor (log_of tables.now) (body_of bytes event.now)) && (not (logs.stands (log_of tables.now) (body_of bytes event.now)) || not (logs.takes (option_copied state.entry) event.now))) }
+    ensures { (bytes : List ℕ) → result
+        ≡ (is_some (logs.predecessor (log_of tables.now) (body_of bytes event.now))
+        && (not (logs.stands (log_of tables.now) (body_of bytes event.now))
+        || not (logs.takes (option_copied state.entry) event.now))) }
 {
     follows_some(tables, event) && (!stands(tables, event) || !takes(state, event))
 }

@@ -37,7 +37,8 @@ pub(crate) fn wanting(
     ensures { (bytes : List ℕ) → slice_get tables.now.held number ≡ Some (body_of bytes event.now)
         → option_copied current.entry.state ≡ logs.state (log_of tables.now) (events.prefix_of event.now)
         → logs.takes (option_copied current.entry.state) event.now ≡ true
-        → result ≡ specs.wants mode (told_of tables.now) (log_of tables.now) (option_copied current.entry.state) (body_of bytes event.now) }
+        → result ≡ specs.wants mode (told_of tables.now) (log_of tables.now) (option_copied current.entry.state)
+        (body_of bytes event.now) }
 {
     let state = current.state;
     is_state(state);
@@ -68,7 +69,8 @@ fn wanting_by<S: Support>(
 ) -> Option<Why>
     requires standing { IsStanding tables.now }
     requires kept { IsKept event.now }
-    ensures { result ≡ specs.wants_by mode (S.has support.now) (option_copied state.entry) event.now (seals.anchored (log_of tables.now) (option_copied state.entry) event.now) }
+    ensures { result ≡ specs.wants_by mode (S.has support.now) (option_copied state.entry) event.now
+        (seals.anchored (log_of tables.now) (option_copied state.entry) event.now) }
 {
     if !meets_own(support, state, event) {
         return Some(Why::Signatures);

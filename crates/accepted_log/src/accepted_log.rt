@@ -155,8 +155,10 @@ impl AcceptedLog {
     /// The state under which the event at a place of the log was accepted, but for its live events; none for an inception. A
     /// rotation that took the place of interactions was accepted under the state that these went onto. It takes no memory.
     pub fn state_before(&self, i: usize, event: &Event) -> Option<&KeyState>
-        ensures under { option_map (λ s. s.now) result ≡ under_at self.now.states event.now (slice_get self.now.places i) }
-        ensures alike { (log : List Body) (b : Body) → IsLog log self.now → IsGrown log → slice_get log i ≡ Some b → b.event ≡ event.now
+        ensures under { option_map (λ s. s.now) result
+            ≡ under_at self.now.states event.now (slice_get self.now.places i) }
+        ensures alike { (log : List Body) (b : Body) → IsLog log self.now → IsGrown log → slice_get log i ≡ Some b
+            → b.event ≡ event.now
             → AreBothAlike (option_map (λ s. s.now) result) (logs.state (logs.before b log) (prefix_of b.event)) }
     {
         self.state_under(i, event)

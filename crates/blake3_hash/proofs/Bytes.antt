@@ -4,7 +4,7 @@ use Rattle.std.proofs.lemmas.List.{drop-append-le, drop_at, drop-drop, length-ta
 use Rattle.std.proofs.lemmas.Slice.{take-put_mid}
 use Rattle.blake3_hash.specs.Chunk.{chunk_value}
 use Rattle.blake3_hash.specs.Lanes.{whole_chunk}
-use Rattle.blake3_hash.specs.Hasher.{HasBytes, Holds, total}
+use Rattle.blake3_hash.specs.Hasher.{HasBytes}
 use Rattle.blake3_hash.specs.Stack.{subtree, tree_from}
 use Rattle.blake3_hash.specs.Tree.{tree}
 use Rattle.blake3_hash.specs.declared.hasher.Hasher.{Hasher}
@@ -77,8 +77,3 @@ tree_from-last n c bytes chunk flags f value ends is made number flagged =
     let at : n * 2 ^ 0 ≡ n = omega arith in
     let short : length (drop (1024 * n) bytes) ≤ 1024 = omega (arith, length-drop (1024 * n) bytes) in
     rw at (made ∙ rw (number, is, flagged) (sym (tree-chunk n (drop (1024 * n) bytes) flags short)))
-
--- as many bytes are held as were given
-pub Holds-total : (s : Hasher) (bytes : List ℕ) → Holds s bytes → length bytes ≡ total s
-unfolding Holds HasBytes
-Holds-total s bytes held = held.0.0

@@ -7,7 +7,7 @@ use Rattle.std.proofs.lemmas.List.{length-take}
 use Rattle.std.proofs.lemmas.Nat.{pow_pos}
 use Rattle.std.proofs.lemmas.Bool.Decides.{nat_tests}
 use Rattle.blake3_hash.specs.Chunk.{chunk_value}
-use Rattle.blake3_hash.specs.Tree.{IsGreatestPowerBelow, chunk_count, left_chunks, parent_value, power_below, tree, tree_within}
+use Rattle.blake3_hash.specs.Tree.{chunk_count, left_chunks, parent_value, power_below, tree, tree_within}
 
 -- a power of two is above its exponent
 pow_above : (k : ℕ) → k < 2 ^ k
@@ -74,16 +74,6 @@ power_below-greatest (suc j) n fits =
           let rest = power_below-greatest j n above in
           grind (arith, nat_tests)
     ]
-
--- so many chunks go to the left
-pub left_chunks-greatest : (n : ℕ) → 1 < n → IsGreatestPowerBelow (left_chunks n) n
-left_chunks-greatest n more =
-    let far = pow_above (suc n) in
-    record {
-      power = power_below-power n n;
-      less = power_below-less n n more;
-      greatest = power_below-greatest n n (omega arith);
-    }
 
 -- at any two depths that are not less than its chunks are many, a tree is the same
 pub tree_within-same : (d e first : ℕ) (bytes : List ℕ) (flags : ℕ) → chunk_count (length bytes) ≤ d → chunk_count (length bytes) ≤ e

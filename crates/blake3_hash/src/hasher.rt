@@ -80,7 +80,8 @@ impl Hasher {
         requires countable { total self.old + 1024 * chunks < 2 ^ 64 }
         ensures used { self.new.used ≡ 0 }
         ensures count { self.new.stack.count ≡ self.old.stack.count + chunks }
-        ensures has { (before : List ℕ) → HasBytes self.old before → HasBytes self.new (before ++ take (1024 * chunks) group.now) }
+        ensures has { (before : List ℕ) → HasBytes self.old before
+            → HasBytes self.new (before ++ take (1024 * chunks) group.now) }
     {
         let values = lanes8(group, self.stack.count());
         'values: for i in 0..chunks {

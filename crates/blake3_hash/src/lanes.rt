@@ -62,7 +62,8 @@ fn xor4(a: [u32x4; 4], b: [u32x4; 4]) -> [u32x4; 4]
 #[inline(always)]
 fn xor_rotate4(a: [u32x4; 4], b: [u32x4; 4], k: u32) -> [u32x4; 4]
     requires { (0 < k) × (k < 32) }
-    ensures { (i j : ℕ) → i < 4 → j < 4 → lane_at result i j ≡ rotate_right w32 (bit_xor (lane_at a i j) (lane_at b i j)) k }
+    ensures { (i j : ℕ) → i < 4 → j < 4
+        → lane_at result i j ≡ rotate_right w32 (bit_xor (lane_at a i j) (lane_at b i j)) k }
 {
     [
         xor_rotate(a[0], b[0], k),

@@ -7,7 +7,6 @@ mod compression;
 mod flags;
 mod hasher;
 mod lanes;
-mod laws;
 mod parent;
 mod parent_lanes;
 mod stack;
@@ -16,4 +15,3 @@ mod words;
 
 pub use chunk_lanes::lanes8;
 pub use hasher::{Hasher, digest};
-pub use laws::{digest_of_pieces, tree_law};

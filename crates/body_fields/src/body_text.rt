@@ -26,7 +26,8 @@ pub fn write_fields(
     values: &[Tree],
 ) -> Result<Option<Vec<u8>>, AllocError>
     requires { AllByRecursion IsJson values.now }
-    ensures text { IfOk result (λ written. IfSome written (λ text. (text.items ≡ bodies.body_text kind values.now) × (length text.items ≤ 65535))) }
+    ensures text { IfOk result (λ written. IfSome written (λ text. (text.items ≡ bodies.body_text kind values.now)
+        × (length text.items ≤ 65535))) }
     ensures large { IfOk result (λ written. IfNone written (65535 < length (bodies.body_text kind values.now))) }
 {
     let behind = behind_version(alloc, kind, values)?;

@@ -25,5 +25,5 @@ pub use fields::{Fields, read_fields};
 pub use fields_fault::FieldsFault;
 pub use form::Form;
 pub use kind::Kind;
-pub use laws::{is_object, numbers, one_body, one_number, one_text};
+pub use laws::numbers;
 pub use trees::{digest_tree, digests_tree, keys_tree, number_tree, prefix_tree, strings_tree};

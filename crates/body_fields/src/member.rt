@@ -15,7 +15,8 @@ use std::alloc::Global;
 /// The field's value, and what follows it.
 pub(crate) fn member(alloc: Global, bytes: &[u8], field: Field) -> Result<(Tree, &[u8]), TreeFault>
     ensures some { IfOk result (λ r. IsOfForm (form_of field) r.0 × (bytes.now ≡ member_text field r.0 ++ r.1.now)) }
-    ensures none { IfErr result (λ fault. fault ≡ TreeFault.NotATree → (value : Tree) (rest : List ℕ) → IsOfForm (form_of field) value → bytes.now ≢ member_text field value ++ rest) }
+    ensures none { IfErr result (λ fault. fault ≡ TreeFault.NotATree → (value : Tree) (rest : List ℕ)
+        → IsOfForm (form_of field) value → bytes.now ≢ member_text field value ++ rest) }
 {
     let Some(behind) = name(bytes, field) else {
         return Err(TreeFault::NotATree);
@@ -29,7 +30,8 @@ pub(crate) fn member(alloc: Global, bytes: &[u8], field: Field) -> Result<(Tree,
 // The value of the form, and what follows it.
 fn value(alloc: Global, bytes: &[u8], form: Form) -> Result<(Tree, &[u8]), TreeFault>
     ensures some { IfOk result (λ r. IsOfForm form r.0 × (bytes.now ≡ spelling r.0 ++ r.1.now)) }
-    ensures none { IfErr result (λ fault. fault ≡ TreeFault.NotATree → (value : Tree) (rest : List ℕ) → IsOfForm form value → bytes.now ≢ spelling value ++ rest) }
+    ensures none { IfErr result (λ fault. fault ≡ TreeFault.NotATree → (value : Tree) (rest : List ℕ)
+        → IsOfForm form value → bytes.now ≢ spelling value ++ rest) }
 {
     let (value, count) = match read_tree(alloc, bytes, form.depth()) {
         Ok(found) => found,

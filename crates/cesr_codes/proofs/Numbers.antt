@@ -1,6 +1,6 @@
 -- Characters and the number that they spell fix each other, and so do bytes and theirs.
-use Rattle.std.proofs.Common.{◌≡◌, ℕ, zero, suc, ◌+◌, ◌^◌, ◌<◌, ◌≤◌, ◌==◌, ◌&&◌, nat_lt, not, position, Some, None, Bool, true, false, List, [], ◌∷◌, ◌++◌, length, map, drop, replicate, slice_index, refl, sym, ap, ◌∙◌, arith, inl, inr}
-use Rattle.std.proofs.lemmas.Bool.{cases_Bool, eqb-true, ltb-false, ltb-true, le-ltb}
+use Rattle.std.proofs.Common.{◌≡◌, ℕ, zero, suc, ◌+◌, ◌^◌, ◌<◌, ◌≤◌, ◌==◌, ◌&&◌, nat_lt, not, position, None, Bool, true, false, List, [], ◌∷◌, ◌++◌, length, map, drop, replicate, slice_index, refl, sym, ap, ◌∙◌, arith, inl, inr}
+use Rattle.std.proofs.lemmas.Bool.{cases_Bool, eqb-true, ltb-false, le-ltb}
 use Rattle.std.proofs.lemmas.List.Sums.{prefix_len-le-length}
 use Rattle.std.proofs.lemmas.List.{length-map}
 use Rattle.std.specs.List.{list_all, list_any, position_or_len}
@@ -37,13 +37,6 @@ at_place (x ∷ xs) c h = elim (cases_Bool (x == c)) [
 
 pub character-digit : (c : ℕ) → is_character c ≡ true → (character (digit_of c) ≡ c) × (digit_of c < 64)
 character-digit c h = at_place characters c h
-
--- a place that is found is the first
-pub some_place : {X : Type 0} (p : X → Bool) (xs : List X) (n : ℕ) → position p xs ≡ Some n → (n ≡ position_or_len p xs) × (n < length xs)
-some_place p xs n e = elim (cases_Bool (nat_lt (position_or_len p xs) (length xs))) [
-  | inl t ↦ let same : n ≡ position_or_len p xs = cc (rw t at e) in (same, omega (arith, same, ltb-true _ _ t))
-  | inr f ↦ cc (rw f at e)
-]
 
 pub no_place : {X : Type 0} (p : X → Bool) (xs : List X) → position p xs ≡ None → length xs ≡ position_or_len p xs
 no_place p xs e = elim (cases_Bool (nat_lt (position_or_len p xs) (length xs))) [

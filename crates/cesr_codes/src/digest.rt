@@ -72,7 +72,8 @@ impl Digest {
         ensures exact { Reads (verdict digest_layouts) digest_text IsDigest bytes.now result }
 
         // What is spelled at the front is read, whatever follows.
-        ensures whole { (digest : Digest) (rest : List ℕ) → IsDigest digest → bytes.now ≡ digest_text digest ++ rest → result ≡ Ok (digest, 44) }
+        ensures whole { (digest : Digest) (rest : List ℕ) → IsDigest digest
+            → bytes.now ≡ digest_text digest ++ rest → result ≡ Ok (digest, 44) }
     {
         Digest::read_exact(bytes)
     }

@@ -31,7 +31,8 @@ impl IndexedSig {
 
     /// The signature of these parts, where a code spells it.
     pub fn new(big: bool, index: u16, ondex: Option<u16>, sig: Sig) -> Option<IndexedSig>
-        ensures some { IfSome result (λ made. (made.big ≡ big) × (made.index ≡ index) × (made.ondex ≡ ondex) × (made.sig ≡ sig)) }
+        ensures some { IfSome result (λ made. (made.big ≡ big) × (made.index ≡ index) × (made.ondex ≡ ondex)
+            × (made.sig ≡ sig)) }
         ensures none { IfNone result (has_form big index ondex ≡ false) }
     {
         if IndexedSig::has_form(big, index, ondex) {
@@ -64,7 +65,8 @@ impl IndexedSig {
         ensures exact { Reads (verdict indexed_layouts) indexed_text IsIndexed bytes.now result }
 
         // What is spelled at the front is read, whatever follows.
-        ensures whole { (indexed : IndexedSig) (rest : List ℕ) → IsIndexed indexed → bytes.now ≡ indexed_text indexed ++ rest → result ≡ Ok (indexed, length (indexed_text indexed)) }
+        ensures whole { (indexed : IndexedSig) (rest : List ℕ) → IsIndexed indexed
+            → bytes.now ≡ indexed_text indexed ++ rest → result ≡ Ok (indexed, length (indexed_text indexed)) }
     {
         IndexedSig::read_exact(bytes)
     }

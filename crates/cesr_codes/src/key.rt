@@ -72,7 +72,8 @@ impl Key {
         ensures exact { Reads (verdict key_layouts) key_text IsKey bytes.now result }
 
         // What is spelled at the front is read, whatever follows.
-        ensures whole { (key : Key) (rest : List ℕ) → IsKey key → bytes.now ≡ key_text key ++ rest → result ≡ Ok (key, 44) }
+        ensures whole { (key : Key) (rest : List ℕ) → IsKey key → bytes.now ≡ key_text key ++ rest
+            → result ≡ Ok (key, 44) }
     {
         Key::read_exact(bytes)
     }

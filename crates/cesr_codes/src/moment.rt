@@ -38,7 +38,8 @@ impl Moment {
         ensures exact { Reads moment_verdict moment_text IsMoment bytes.now result }
 
         // What is spelled at the front is read, whatever follows.
-        ensures whole { (moment : Moment) (rest : List ℕ) → IsMoment moment → bytes.now ≡ moment_text moment ++ rest → result ≡ Ok (moment, 36) }
+        ensures whole { (moment : Moment) (rest : List ℕ) → IsMoment moment
+            → bytes.now ≡ moment_text moment ++ rest → result ≡ Ok (moment, 36) }
     {
         Moment::read_exact(bytes)
     }

@@ -56,7 +56,8 @@ impl Number {
         ensures exact { Reads (verdict number_layouts) number_text IsNumber bytes.now result }
 
         // What is spelled at the front is read, whatever follows.
-        ensures whole { (number : Number) (rest : List ℕ) → IsNumber number → bytes.now ≡ number_text number ++ rest → result ≡ Ok (number, 24) }
+        ensures whole { (number : Number) (rest : List ℕ) → IsNumber number
+            → bytes.now ≡ number_text number ++ rest → result ≡ Ok (number, 24) }
     {
         Number::read_exact(bytes)
     }

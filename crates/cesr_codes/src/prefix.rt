@@ -23,7 +23,8 @@ impl Prefix {
         ensures exact { Reads (verdict prefix_layouts) prefix_text IsPrefix bytes.now result }
 
         // What is spelled at the front is read, whatever follows.
-        ensures whole { (prefix : Prefix) (rest : List ℕ) → IsPrefix prefix → bytes.now ≡ prefix_text prefix ++ rest → result ≡ Ok (prefix, 44) }
+        ensures whole { (prefix : Prefix) (rest : List ℕ) → IsPrefix prefix
+            → bytes.now ≡ prefix_text prefix ++ rest → result ≡ Ok (prefix, 44) }
     {
         Prefix::read_exact(bytes)
     }

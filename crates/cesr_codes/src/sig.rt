@@ -56,7 +56,8 @@ impl Sig {
         ensures exact { Reads (verdict sig_layouts) sig_text IsSig bytes.now result }
 
         // What is spelled at the front is read, whatever follows.
-        ensures whole { (sig : Sig) (rest : List ℕ) → IsSig sig → bytes.now ≡ sig_text sig ++ rest → result ≡ Ok (sig, 88) }
+        ensures whole { (sig : Sig) (rest : List ℕ) → IsSig sig → bytes.now ≡ sig_text sig ++ rest
+            → result ≡ Ok (sig, 88) }
     {
         Sig::read_exact(bytes)
     }

@@ -23,7 +23,8 @@ pub trait Spelled: Copy {
         ensures exact { Reads judge spelling is_valid text.now result }
 
         // What is spelled at the front is read, whatever follows.
-        ensures whole { (value : Self) (rest : List ℕ) → is_valid value → text.now ≡ spelling value ++ rest → result ≡ Ok (value, length (spelling value)) };
+        ensures whole { (value : Self) (rest : List ℕ) → is_valid value → text.now ≡ spelling value ++ rest
+            → result ≡ Ok (value, length (spelling value)) };
 
     /// What the type of a value holds by itself, stated for proofs: a proof learns a value's range where the value is read.
     /// Nothing else is done here.

@@ -99,7 +99,8 @@ fn with_first_symbols(digits: &[u8]) -> [u8; SYMBOLS]
 fn decode_groups(groups: usize, symbols: &[u8], bytes: &mut [u8]) -> bool
     requires symbols { length symbols.now ≡ 4 * groups }
     requires bytes { length bytes.old ≡ 3 * groups }
-    ensures decoded { result ≡ true → AreBytes (3 * groups) bytes.new × (symbols.now ≡ encode_of url_safe_no_pad bytes.new) }
+    ensures decoded { result ≡ true → AreBytes (3 * groups) bytes.new
+        × (symbols.now ≡ encode_of url_safe_no_pad bytes.new) }
     ensures bad { result ≡ false → list_all is_character symbols.now ≡ false }
 {
     match URL_SAFE_NO_PAD.decode_slice(symbols, bytes) {

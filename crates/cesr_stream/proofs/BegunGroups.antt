@@ -13,7 +13,7 @@ use Rattle.cesr_stream.specs.Groups.{elements_of}
 use Rattle.cesr_stream.specs.Parts.{Part, whole, refused, unfinished, shifted, less}
 use Rattle.cesr_stream.specs.Stops.{Stops, Halts, further}
 use Rattle.cesr_stream.specs.Texts.{group_text}
-use Rattle.cesr_stream.proofs.Counters.{counter_text}
+use Rattle.cesr_stream.proofs.Counters.{count_low, counter_text}
 use Rattle.cesr_stream.proofs.ReadElements.{all_read, read_more}
 use Rattle.cesr_stream.proofs.Stays.{stays-counter_part, count_same, byte_same}
 use Rattle.cesr_stream.proofs.StopLemmas.{halts-further, stops-counter}
@@ -55,6 +55,7 @@ begun room bytes group letter count dash letter_is count_is counter long empty =
       ∙ ap (λ c. behind_counter c (counted_part (element_part letter) room (bytes ++ more))) same.0
       ∙ ap (λ k. shifted 4 (elements_part (element_part letter) k (less 4 room) (drop 4 (bytes ++ more)))) (same.2 ∙ sym count_is ∙ counted)
       ∙ ap (λ judged. shifted 4 (elements_part judged (elements_of group + count) (less 4 room) (drop 4 (bytes ++ more)))) (sym empty.judged);
+  few = let none = empty.none in let low = count_low (is_group letter) bytes counter long in omega (arith, count_is, low, none);
   elements = record {
     within = omega arith;
     spelled = sym empty.text;
@@ -90,6 +91,7 @@ module _ (room : Option ℕ) (bytes : List ℕ) (old : BegunGroup) (is : IsBegun
     same = λ more. is.same more
         ∙ ap (λ judged. shifted 4 (elements_part judged (count_of old) (less 4 room) (drop 4 (bytes ++ more)))) (sym same.judged)
         ∙ ap (λ k. shifted 4 (elements_part (judged_of new.group) k (less 4 room) (drop 4 (bytes ++ more)))) (sym same.counted);
+    few = let few = is.few in let same = same.counted in omega (arith, few, same);
     elements = read;
   }
 
@@ -110,6 +112,7 @@ module _ (room : Option ℕ) (bytes : List ℕ) (old : BegunGroup) (is : IsBegun
         ∙ ap (λ k. (45 ∷ letter_of old.group ∷ base64_text 2 k) ++ elements_text old.group) (let e : count_of old ≡ elements_of old.group = omega (arith, none) in e)
         ∙ spelled_so old.group;
     within = let long = is.long in let within = is.elements.within in omega (arith, long, within, length-drop 4 bytes);
+    counted = let few = is.few in omega (arith, few, none);
   }
 
   -- more bytes change nothing
@@ -119,6 +122,7 @@ module _ (room : Option ℕ) (bytes : List ℕ) (old : BegunGroup) (is : IsBegun
     counter = take-append-le 4 bytes piece is.long ∙ is.counter;
     same = λ more. subst (λ xs. group_part room xs ≡ shifted 4 (elements_part (judged_of old.group) (count_of old) (less 4 room) (drop 4 xs)))
         (sym (append_assoc bytes piece more)) (is.same (piece ++ more));
+    few = is.few;
     elements = subst (λ xs. AreElementsRead (less 4 room) xs old) (sym (drop-append-le 4 bytes piece is.long))
         (read_more (judged_of old.group) (less 4 room) (drop 4 bytes) (elements_of old.group) (elements_text old.group) old.progress piece is.elements);
   }

@@ -1,13 +1,15 @@
 -- Items that are read on.
-use Rattle.std.proofs.Common.{◌≡◌, ◌≢◌, ℕ, ◌≤◌, ◌==◌, Bool, List, [], ◌∷◌, ◌++◌, length, slice_index, refl, sym, ap, ◌∙◌, arith, append-nil, append_assoc, length-append, Option, Some, None, subst}
+use Rattle.std.proofs.Common.{◌≡◌, ◌≢◌, ℕ, ◌≤◌, ◌==◌, Bool, List, [], ◌∷◌, ◌++◌, length, length-take, take, drop, slice_index, refl, sym, ap, ◌∙◌, arith, append-nil, append_assoc, length-append, Option, Some, None, subst}
+use Rattle.std.proofs.lemmas.List.{take-append-drop}
 use Rattle.std.proofs.lemmas.Bool.{eqb-true, eq-eqb, le-ltb, false_from_ne_true}
 use Rattle.cesr_stream.specs.declared.begun_group.BegunGroup.{BegunGroup}
 use Rattle.cesr_stream.specs.declared.begun_wrap.BegunWrap.{BegunWrap}
 use Rattle.cesr_stream.specs.declared.begun_item.BegunItem.{BegunItem}
 use Rattle.cesr_stream.specs.declared.begun_item.BegunItem.TheVariants.{Body, Group, Wrap}
 use Rattle.cesr_stream.specs.declared.stop.Stop.{Stop}
-use Rattle.cesr_stream.specs.Begun.{IsBegun, IsBegunWrap, IsBegunItem, IsBodySize, IsItemRead, MayBeRead, item_part, sized_part}
-use Rattle.cesr_stream.specs.Front.{body_part, group_part, wrap_part, behind_body, attached_part, front}
+use Rattle.cesr_stream.specs.declared.item.Item.TheVariants.{Body as BodyItem}
+use Rattle.cesr_stream.specs.Begun.{IsBegun, IsBegunWrap, IsBegunItem, IsBodyRead, IsBodySize, IsItemAt, IsItemRead, MayBeRead, item_part, sized_part}
+use Rattle.cesr_stream.specs.Front.{has_version, size_of, body_part, group_part, wrap_part, behind_body, attached_part, front}
 use Rattle.cesr_stream.specs.Stops.{Stops}
 use Rattle.cesr_stream.proofs.BegunGroups.{begun_more}
 use Rattle.cesr_stream.proofs.BegunWraps.{wrap_more}
@@ -42,7 +44,7 @@ body_begun limit bytes size brace is = record {
   same = λ begun more. front_body limit begun (bytes ++ more) (longer bytes more 1 (let long = is.long in omega (arith, long)))
       (byte_same bytes more 0 (let long = is.long in omega (arith, long)) ∙ brace)
       ∙ sized more;
-  read = (brace, let some = is.some in omega (arith, some));
+  read = record { brace = brace; long = is.long; is = is.is; version = is.version; some = is.some };
 }
   where
     sized : (more : List ℕ) → body_part limit (bytes ++ more) ≡ sized_part size (bytes ++ more)
@@ -108,9 +110,37 @@ module _ (limit : ℕ) (bytes : List ℕ) (item : BegunItem) (is : IsBegunItem l
 
 -- what was read stands at the front, whatever follows
 read_stands : (bytes piece : List ℕ) (item : BegunItem) → 1 ≤ length bytes → IsItemRead bytes item → IsItemRead (bytes ++ piece) item
-read_stands bytes piece (Body size) some read = (byte_same bytes piece 0 (omega (arith, some)) ∙ read.0, read.1)
+read_stands bytes piece (Body size) some read = record {
+  brace = byte_same bytes piece 0 (omega (arith, some)) ∙ read.brace;
+  long = longer bytes piece 24 read.long;
+  is = read.is ∙ sym (size_same bytes piece read.long);
+  version = version_same bytes piece read.long ∙ read.version;
+  some = read.some;
+}
 read_stands bytes piece (Group group) some read = begun_more None bytes group read piece
 read_stands bytes piece (Wrap wrap) some read = wrap_more bytes wrap read piece
+
+-- a body that is there is whole, and may be written
+pub body_whole : (bytes : List ℕ) (size : ℕ) → IsBodyRead bytes size → size ≤ length bytes → IsItemAt (sized_part size bytes) bytes (BodyItem (take size bytes), size)
+body_whole bytes size read there = (rw (le-ltb (length bytes) size there) refl, (refl, first), there, (sym (version_same front behind long) ∙ ap has_version both ∙ read.version, sym (size_same front behind long) ∙ ap size_of both ∙ sym read.is ∙ sym sized))
+  where
+    front : List ℕ
+    front = take size bytes
+
+    behind : List ℕ
+    behind = drop size bytes
+
+    both : front ++ behind ≡ bytes
+    both = take-append-drop size bytes
+
+    sized : length front ≡ size
+    sized = omega (arith, length-take size bytes, there)
+
+    long : 24 ≤ length front
+    long = let some = read.some in omega (arith, some, sized)
+
+    first : slice_index front 0 ≡ 123
+    first = sym (byte_same front behind 0 (omega (arith, long))) ∙ ap (λ xs. slice_index xs 0) both ∙ read.brace
 
 pub may_more : (limit : ℕ) (bytes piece : List ℕ) (item : Option BegunItem) → MayBeRead limit bytes item → MayBeRead limit (bytes ++ piece) item
 may_more limit bytes piece None is = tt

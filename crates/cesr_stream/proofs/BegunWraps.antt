@@ -1,6 +1,8 @@
 -- Wraps that are read on.
 use Rattle.std.proofs.Common.{◌≡◌, ℕ, zero, suc, ◌+◌, ◌-◌, ◌*◌, ◌/◌, ◌%◌, ◌<◌, ◌≤◌, ◌==◌, ◌^◌, true, false, List, [], ◌∷◌, ◌++◌, length, take, drop, slice_index, flat_map, refl, sym, ap, ◌∙◌, arith, append-nil, append_assoc, length-append, length-drop, length-take, Option, Some, None, subst}
+use Rattle.std.specs.Prelude.{All}
 use Rattle.std.proofs.Math.Seq.{take-add}
+use Rattle.std.proofs.lemmas.List.Elements.{All-append, All-cons, All-nil}
 use Rattle.std.proofs.lemmas.Bool.{eqb-true, eq-eqb, false_from_ne_true}
 use Rattle.std.proofs.lemmas.List.{drop-drop, drop-append-le, take-append-le}
 use Rattle.keri_specs.specs.Base64.{base64_text}
@@ -13,8 +15,9 @@ use Rattle.cesr_stream.specs.Front.{counter_part, count_of, group_part, begun_gr
 use Rattle.cesr_stream.specs.Parts.{Part, whole, shifted, followed_by}
 use Rattle.cesr_stream.specs.Stops.{Stops, Halts, further}
 use Rattle.cesr_stream.specs.Texts.{group_text}
+use Rattle.cesr_stream.specs.Written.{IsCounted}
 use Rattle.cesr_stream.proofs.BegunGroups.{begun_more, counter_more, shifted-zero}
-use Rattle.cesr_stream.proofs.Counters.{counter_text}
+use Rattle.cesr_stream.proofs.Counters.{count_low, counter_text}
 use Rattle.cesr_stream.proofs.Fronts.{begun_sizes, stays-begun_group}
 use Rattle.cesr_stream.proofs.ReadElements.{shifted-shifted, text-more}
 use Rattle.cesr_stream.proofs.StopLemmas.{halts-further, halts-followed, stops-counter}
@@ -45,9 +48,6 @@ begun_in_more room bytes piece (Some begun) is = record {
   group = begun_more (Some room) bytes begun is.group piece;
   same = λ more. subst (λ xs. begun_group room xs ≡ group_part (Some room) xs) (sym (append_assoc bytes piece more)) (is.same (piece ++ more));
 }
-
-pub in_same : (room : ℕ) (bytes : List ℕ) (begun : BegunGroup) → IsBegunIn room bytes begun → begun_group room bytes ≡ group_part (Some room) bytes
-in_same room bytes begun is = ap (begun_group room) (sym (append-nil bytes)) ∙ is.same [] ∙ ap (group_part (Some room)) (append-nil bytes)
 
 module _ (bytes : List ℕ) (wrap : BegunWrap) (read : AreGroupsRead bytes wrap) where
   -- what is judged of those left is judged of all
@@ -90,6 +90,7 @@ module _ (bytes : List ℕ) (wrap : BegunWrap) (read : AreGroupsRead bytes wrap)
       whole_fours = let before = read.whole_fours in omega (arith, further, before, sizes.2);
       enough = omega (arith, count, enough, fours, further, more_left);
       spelled = ap (λ place. take place bytes) further ∙ text-more group_text bytes wrap.place n wrap.groups begun.group read.spelled is.spelled ∙ sym (ap (flat_map group_text) pushed);
+      counted = subst (All IsCounted) (sym pushed) (All-append IsCounted wrap.groups (begun.group ∷ []) read.counted (All-cons IsCounted begun.group [] is.counted (All-nil IsCounted)));
       same = λ more. same_on more;
       next = subst (λ b. MayBeBegun (4 * new.fours - new.place) (drop new.place bytes) b) (sym none) tt;
     }
@@ -133,6 +134,7 @@ module _ (bytes : List ℕ) (wrap : BegunWrap) (read : AreGroupsRead bytes wrap)
     whole_fours = read.whole_fours;
     enough = read.enough;
     spelled = take-append-le wrap.place bytes piece read.within ∙ read.spelled;
+    counted = read.counted;
     same = λ more. subst
         (λ xs. shifted wrap.place (groups_part (wrap.fours - length wrap.groups) (4 * wrap.fours - wrap.place) (drop wrap.place xs)) ≡ groups_part wrap.fours (4 * wrap.fours) xs)
         (sym (append_assoc bytes piece more)) (read.same (piece ++ more));
@@ -147,6 +149,7 @@ unfolding wrap_part
 wrap_begun bytes fours groups dash letter count short counter long none = record {
   long = long;
   short = short;
+  few = let low = count_low true bytes counter long in omega (arith, count, low);
   counter = counter_text true bytes dash counter long ∙ ap (λ l. 45 ∷ l ∷ base64_text 2 (count_of bytes)) letter ∙ ap (λ k. 45 ∷ 86 ∷ base64_text 2 k) (sym count);
   same = λ more.
       let same = counter_more bytes more true long counter in
@@ -159,6 +162,7 @@ wrap_begun bytes fours groups dash letter count short counter long none = record
     whole_fours = refl;
     enough = omega (arith, no_groups);
     spelled = sym (ap (flat_map group_text) none);
+    counted = subst (All IsCounted) (sym none) (All-nil IsCounted);
     same = λ more. shifted-zero (groups_part (fours - length groups) (4 * fours - 0) (drop 0 (drop 4 bytes ++ more)))
         ∙ ap (λ k. groups_part k (4 * fours - 0) (drop 4 bytes ++ more)) (let e : fours - length groups ≡ fours = omega (arith, no_groups) in e)
         ∙ ap (λ left. groups_part fours left (drop 4 bytes ++ more)) (let e : 4 * fours - 0 ≡ 4 * fours = omega arith in e);
@@ -185,6 +189,7 @@ module _ (bytes : List ℕ) (old : BegunWrap) (is : IsBegunWrap bytes old) where
   wrap_on new same read = record {
     long = is.long;
     short = let short = is.short in omega (arith, short, same);
+    few = let few = is.few in omega (arith, few, same);
     counter = is.counter ∙ ap (λ k. 45 ∷ 86 ∷ base64_text 2 k) (sym same);
     same = λ more. is.same more ∙ ap (λ k. shifted 4 (groups_part k (4 * k) (drop 4 (bytes ++ more)))) (sym same);
     groups = read;
@@ -202,8 +207,13 @@ module _ (bytes : List ℕ) (old : BegunWrap) (is : IsBegunWrap bytes old) where
         ∙ ap (λ text. (45 ∷ 86 ∷ base64_text 2 old.fours) ++ text) is.groups.spelled
         ∙ ap (λ k. 45 ∷ 86 ∷ (base64_text 2 k ++ flat_map group_text old.groups)) fours;
     within = let long = is.long in let within = is.groups.within in omega (arith, long, within, length-drop 4 bytes);
+    counted = is.groups.counted;
+    short = let few = is.few in omega (arith, few, sized);
   }
     where
+      sized : length (flat_map group_text old.groups) ≡ 4 * old.fours
+      sized = let within = is.groups.within in omega (arith, all, within, length-take old.place (drop 4 bytes), ap length is.groups.spelled)
+
       fours : old.fours ≡ length (flat_map group_text old.groups) / 4
       fours = let within = is.groups.within in let spelled = is.groups.spelled in omega (arith, all, within, length-take old.place (drop 4 bytes), ap length spelled)
 
@@ -212,6 +222,7 @@ module _ (bytes : List ℕ) (old : BegunWrap) (is : IsBegunWrap bytes old) where
   wrap_more piece = record {
     long = let long = is.long in omega (arith, long, length-append bytes piece);
     short = is.short;
+    few = is.few;
     counter = take-append-le 4 bytes piece is.long ∙ is.counter;
     same = λ more. subst (λ xs. wrap_part xs ≡ shifted 4 (groups_part old.fours (4 * old.fours) (drop 4 xs))) (sym (append_assoc bytes piece more)) (is.same (piece ++ more));
     groups = subst (λ xs. AreGroupsRead xs old) (sym (drop-append-le 4 bytes piece is.long)) (groups_more (drop 4 bytes) old is.groups piece);

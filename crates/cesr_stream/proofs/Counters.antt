@@ -1,9 +1,9 @@
 -- A counter that is read at the front.
-use Rattle.std.proofs.Common.{◌≡◌, ℕ, ◌≤◌, not, nat_lt, if◌then◌else◌, Bool, true, false, List, [], ◌∷◌, length, take, slice_index, refl, sym, ap, ◌∙◌, arith, ◌==◌, ◌≢◌}
+use Rattle.std.proofs.Common.{◌≡◌, ℕ, ◌≤◌, ◌<◌, not, nat_lt, if◌then◌else◌, Bool, true, false, List, [], ◌∷◌, length, take, slice_index, refl, sym, ap, ◌∙◌, arith, ◌==◌, ◌≢◌}
 use Rattle.std.specs.List.{list_all}
 use Rattle.std.proofs.lemmas.Bool.{eqb-true, false_from_ne_true}
 use Rattle.keri_specs.specs.Base64.{base64_text, is_character}
-use Rattle.cesr_codes.proofs.Numbers.{text-number}
+use Rattle.cesr_codes.proofs.Numbers.{text-number, text_low}
 use Rattle.cesr_codes.specs.declared.code_fault.CodeFault.TheVariants.{BadCharacter}
 use Rattle.cesr_stream.specs.declared.bad.BadReason.TheVariants.{GroupNotSupported, Code}
 use Rattle.cesr_stream.specs.Parts.{whole, refused, unfinished}
@@ -39,6 +39,17 @@ counter_text supported (a ∷ b ∷ c ∷ d ∷ bytes) dash is long =
     let parts = counter_characters supported (a ∷ b ∷ c ∷ d ∷ bytes) 4 is in
     let all : list_all is_character (c ∷ d ∷ []) ≡ true = rw (parts.1, parts.2) refl in
     ap (λ x. x ∷ b ∷ c ∷ d ∷ []) dash ∙ ap (λ count. 45 ∷ b ∷ count) (sym (text-number (c ∷ d ∷ []) all))
+
+-- and counts fewer than 64 times 64
+pub count_low : (supported : Bool) (bytes : List ℕ) → counter_part supported bytes ≡ whole 4 → 4 ≤ length bytes → count_of bytes < 4096
+count_low supported [] is long = absurd (omega arith)
+count_low supported (a ∷ []) is long = absurd (omega arith)
+count_low supported (a ∷ b ∷ []) is long = absurd (omega arith)
+count_low supported (a ∷ b ∷ c ∷ []) is long = absurd (omega arith)
+count_low supported (a ∷ b ∷ c ∷ d ∷ bytes) is long =
+    let parts = counter_characters supported (a ∷ b ∷ c ∷ d ∷ bytes) 4 is in
+    let all : list_all is_character (c ∷ d ∷ []) ≡ true = rw (parts.1, parts.2) refl in
+    text_low (c ∷ d ∷ []) all
 
 -- the one letter that is left
 pub anchor_letter : (letter : ℕ) → is_group letter ≡ true → letter ≢ 65 → letter ≢ 66 → letter ≢ 67 → letter ≢ 69 → letter ≡ 71

@@ -40,9 +40,3 @@ stops-body bytes part true stop is = is
 stops-body bytes part false (Refused p reason) is = (ap (behind_body false) is.0, is.1)
 stops-body bytes part false Unfinished is = ap (behind_body false) is
 stops-body bytes part false OutOfMemory is = absurd is
-
-pub halts-body : (bytes : List ℕ) (part : Part) (begun : Bool) (stop : Stop) → Halts bytes part stop → Halts bytes (behind_body begun part) stop
-halts-body bytes part true stop is = is
-halts-body bytes part false (Refused p reason) is = (ap (behind_body false) is.0, is.1)
-halts-body bytes part false Unfinished is = ap (behind_body false) is
-halts-body bytes part false OutOfMemory is = tt

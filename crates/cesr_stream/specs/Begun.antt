@@ -1,5 +1,5 @@
 -- What is known of an item that was read in part.
-use Rattle.std.specs.Prelude.{◌≡◌, ℕ, ◌+◌, ◌-◌, ◌*◌, ◌%◌, ◌^◌, ◌≤◌, ◌<◌, Bool, true, nat_lt, if◌then◌else◌, List, [], ◌∷◌, ◌++◌, length, take, drop, slice_index, flat_map}
+use Rattle.std.specs.Prelude.{◌≡◌, ℕ, ◌+◌, ◌-◌, ◌*◌, ◌%◌, ◌^◌, ◌≤◌, ◌<◌, Bool, true, nat_lt, if◌then◌else◌, List, [], ◌∷◌, ◌++◌, length, take, drop, slice_index, flat_map, All}
 use Rattle.std.specs.declared.option.Option.{Option}
 use Rattle.std.specs.declared.option.Option.TheVariants.{None, Some}
 use Rattle.keri_specs.specs.Base64.{base64_text}
@@ -15,6 +15,7 @@ use Rattle.cesr_stream.specs.declared.progress.Progress.{Progress}
 use Rattle.cesr_stream.specs.Front.{signature_part, couple_part, seen_part, anchor_part, element_part, elements_part, group_part, begun_group, groups_part, wrap_part, behind_body, front, has_version, size_of}
 use Rattle.cesr_stream.specs.Groups.{elements_of}
 use Rattle.cesr_stream.specs.Parts.{Part, whole, unfinished, shifted, less}
+use Rattle.cesr_stream.specs.Written.{IsCounted, IsWritable}
 use Rattle.cesr_stream.specs.Texts.{couple_text, seen_text, anchor_text, group_text, wrap_text, SpellsItem}
 
 -- Of so many elements and more some were read, which have this text. Whatever follows the bytes, those left are judged
@@ -75,6 +76,7 @@ pub record IsBegun (room : Option ℕ) (bytes : List ℕ) (begun : BegunGroup) :
   pub long : 4 ≤ length bytes
   pub counter : take 4 bytes ≡ 45 ∷ letter_of begun.group ∷ base64_text 2 (count_of begun)
   pub same : (more : List ℕ) → group_part room (bytes ++ more) ≡ shifted 4 (elements_part (judged_of begun.group) (count_of begun) (less 4 room) (drop 4 (bytes ++ more)))
+  pub few : count_of begun ≤ 4095
   pub elements : AreElementsRead (less 4 room) (drop 4 bytes) begun
 
 -- all its elements were read: this part is whole
@@ -82,6 +84,7 @@ pub record IsWholeGroup (part : Part) (bytes : List ℕ) (begun : BegunGroup) : 
   pub is_whole : part ≡ whole (4 + begun.progress.place)
   pub spelled : take (4 + begun.progress.place) bytes ≡ group_text begun.group
   pub within : 4 + begun.progress.place ≤ length bytes
+  pub counted : IsCounted begun.group
 
 -- the group at the front of a wrap in which so much is left was begun
 pub record IsBegunIn (room : ℕ) (bytes : List ℕ) (begun : BegunGroup) : Type 0 where
@@ -101,6 +104,7 @@ pub record AreGroupsRead (bytes : List ℕ) (wrap : BegunWrap) : Type 0 where
   pub whole_fours : wrap.place % 4 ≡ 0
   pub enough : 4 * wrap.fours - wrap.place ≤ 4 * (wrap.fours - length wrap.groups)
   pub spelled : take wrap.place bytes ≡ flat_map group_text wrap.groups
+  pub counted : All IsCounted wrap.groups
   pub same : (more : List ℕ) → shifted wrap.place (groups_part (wrap.fours - length wrap.groups) (4 * wrap.fours - wrap.place) (drop wrap.place (bytes ++ more)))
       ≡ groups_part wrap.fours (4 * wrap.fours) (bytes ++ more)
   pub next : MayBeBegun (4 * wrap.fours - wrap.place) (drop wrap.place bytes) wrap.begun
@@ -109,6 +113,7 @@ pub record AreGroupsRead (bytes : List ℕ) (wrap : BegunWrap) : Type 0 where
 pub record IsBegunWrap (bytes : List ℕ) (wrap : BegunWrap) : Type 0 where
   pub long : 4 ≤ length bytes
   pub short : wrap.fours < 2 ^ 32
+  pub few : wrap.fours ≤ 4095
   pub counter : take 4 bytes ≡ 45 ∷ 86 ∷ base64_text 2 wrap.fours
   pub same : (more : List ℕ) → wrap_part (bytes ++ more) ≡ shifted 4 (groups_part wrap.fours (4 * wrap.fours) (drop 4 (bytes ++ more)))
   pub groups : AreGroupsRead (drop 4 bytes) wrap
@@ -118,6 +123,8 @@ pub record IsWholeWrap (bytes : List ℕ) (wrap : BegunWrap) : Type 0 where
   pub is_whole : wrap_part bytes ≡ whole (4 + wrap.place)
   pub spelled : take (4 + wrap.place) bytes ≡ wrap_text wrap.groups
   pub within : 4 + wrap.place ≤ length bytes
+  pub counted : All IsCounted wrap.groups
+  pub short : length (flat_map group_text wrap.groups) ≤ 16380
 
 -- something of so many bytes
 abbrev pub sized_part : ℕ → List ℕ → Part
@@ -137,9 +144,17 @@ item_part (Body size) begun bytes = sized_part size bytes
 item_part (GroupBegun group) begun bytes = behind_body begun (group_part None bytes)
 item_part (Wrap wrap) begun bytes = behind_body begun (wrap_part bytes)
 
+-- a body of this size begins at the front, as its version string says
+pub record IsBodyRead (bytes : List ℕ) (size : ℕ) : Type 0 where
+  pub brace : slice_index bytes 0 ≡ 123
+  pub long : 24 ≤ length bytes
+  pub is : size ≡ size_of bytes
+  pub version : has_version bytes ≡ true
+  pub some : 24 ≤ size
+
 -- what was read of it stands at the front
 abbrev pub IsItemRead : List ℕ → BegunItem → Type 0
-IsItemRead bytes (Body size) = (slice_index bytes 0 ≡ 123) × (1 ≤ size)
+IsItemRead bytes (Body size) = IsBodyRead bytes size
 IsItemRead bytes (GroupBegun group) = IsBegun None bytes group
 IsItemRead bytes (Wrap wrap) = IsBegunWrap bytes wrap
 
@@ -160,6 +175,6 @@ abbrev pub MayBeRead : ℕ → List ℕ → Option BegunItem → Type 0
 MayBeRead limit bytes None = Unit {0}
 MayBeRead limit bytes (Some item) = IsBegunItem limit bytes item
 
--- the part is that of an item which is spelled at the front
+-- the part is that of an item which is spelled at the front, and may be written
 abbrev pub IsItemAt : Part → List ℕ → Item × ℕ → Type 0
-IsItemAt part bytes found = (part ≡ whole found.1) × SpellsItem (take found.1 bytes) found.0 × (found.1 ≤ length bytes)
+IsItemAt part bytes found = (part ≡ whole found.1) × SpellsItem (take found.1 bytes) found.0 × (found.1 ≤ length bytes) × IsWritable found.0

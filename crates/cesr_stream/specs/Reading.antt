@@ -13,6 +13,7 @@ use Rattle.cesr_stream.specs.declared.step.Step.TheVariants.{Item as ItemStep, N
 use Rattle.cesr_stream.specs.Parts.{Part, whole, refused, unfinished}
 use Rattle.cesr_stream.specs.Front.{front}
 use Rattle.cesr_stream.specs.Texts.{SpellsItem}
+use Rattle.cesr_stream.specs.Written.{IsWritable}
 
 -- How many bytes a body may have; how many bytes the items have that were answered; the bytes that were fed behind them;
 -- whether a body was among them; why the stream was refused; whether no item was there since the last piece.
@@ -56,6 +57,7 @@ pub record AnswersItem (old new : Reading) (item : Item) (place : ℕ) : Type 0 
   pub at : place ≡ old.place
   pub is_whole : judged old ≡ whole length_of
   pub spelled : SpellsItem (take length_of old.rest) item
+  pub writable : IsWritable item
   pub within : length_of ≤ length old.rest
   pub moved : new ≡ record old { place = old.place + length_of; rest = drop length_of old.rest; begun = true; drained = false }
 

@@ -52,7 +52,9 @@ impl Assembler {
         ensures answer { IfOk result (λ answer. answer ≡ closed_by item self.old.current) }
 
         // All that was answered and the open message are the messages of all the items.
-        ensures assembled { IfOk result (λ answer. (limit : ℕ) (items : List Placed) (answered : List Message) → IsAssembled limit items answered self.old → IsAssembled limit (items ++ placed place item ∷ []) (answered ++ all_of answer) self.new) }
+        ensures assembled { IfOk result (λ answer. (limit : ℕ) (items : List Placed) (answered : List Message)
+            → IsAssembled limit items answered self.old
+            → IsAssembled limit (items ++ placed place item ∷ []) (answered ++ all_of answer) self.new) }
         ensures err { OnErr result (self.new ≡ self.old) }
     {
         self.push_exact(item, place)

@@ -59,7 +59,8 @@ impl BegunGroup {
         ensures read { AreElementsRead room bytes.now self.new }
         ensures same { IsSameGroup self.old self.new }
         ensures all { OnOk result (self.new.progress.left ≡ 0) }
-        ensures err { IfErr result (Halts bytes.now (elements_part (judged_of self.old.group) (count_of self.old) room bytes.now)) }
+        ensures err { IfErr result (Halts bytes.now
+            (elements_part (judged_of self.old.group) (count_of self.old) room bytes.now)) }
     {
         let progress = &mut self.progress;
         match &mut self.group {

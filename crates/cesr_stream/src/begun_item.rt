@@ -1,6 +1,6 @@
 //! Items that were read in part.
-ghost use Rattle.std.specs.Prelude.{◌≡◌, ℕ, Bool, None, IfOk, IfErr, OnOk, slice_index};
-ghost use Rattle.cesr_stream.specs.Begun.{IsBegunItem, IsItemAt, IsItemRead, IsWholeItem, MayBeRead, item_part};
+ghost use Rattle.std.specs.Prelude.{◌≡◌, ℕ, Bool, None, IfOk, IfErr, OnOk, length, slice_index, ◌≤◌};
+ghost use Rattle.cesr_stream.specs.Begun.{IsBegunItem, IsBodyRead, IsItemAt, IsItemRead, IsWholeItem, MayBeRead, item_part, sized_part};
 ghost use Rattle.cesr_stream.specs.Front.{front};
 ghost use Rattle.cesr_stream.specs.Stops.{Halts, Stops};
 
@@ -43,7 +43,8 @@ impl BegunItem {
     fn begin_attached(alloc: Global, bytes: &[u8]) -> Result<BegunItem, Stop>
         requires { slice_index bytes.now 0 ≡ 45 }
         ensures ok { IfOk result (λ item. (limit : ℕ) → IsBegunItem limit bytes.now item) }
-        ensures err { IfErr result (λ stop. (limit : ℕ) (begun : Bool) → Stops bytes.now (front limit begun bytes.now) stop) }
+        ensures err { IfErr result (λ stop. (limit : ℕ) (begun : Bool)
+            → Stops bytes.now (front limit begun bytes.now) stop) }
     {
         if letter_of(bytes) == b'V' {
             return match BegunWrap::begin(alloc, bytes) {
@@ -81,10 +82,7 @@ impl BegunItem {
         ensures err { IfErr result (Halts bytes.now (item_part self begun bytes.now)) }
     {
         match self {
-            BegunItem::Body(size) => {
-                let body = Items::from_vec(Vec::from_slice(alloc, &bytes[..size])?);
-                Ok((Item::Body(body), size))
-            }
+            BegunItem::Body(size) => whole_body(alloc, bytes, size),
             _ if !begun => Err(Stop::Refused(0, BadReason::GroupFirst)),
             BegunItem::Group(group) => {
                 let size = group.size();
@@ -96,6 +94,17 @@ impl BegunItem {
             }
         }
     }
+}
+
+// The whole body with its length.
+fn whole_body(alloc: Global, bytes: &[u8], size: usize) -> Result<(Item, usize), Stop>
+    requires read { IsBodyRead bytes.now size }
+    requires there { size ≤ length bytes.now }
+    ensures ok { IfOk result (IsItemAt (sized_part size bytes.now) bytes.now) }
+    ensures err { IfErr result (Halts bytes.now (sized_part size bytes.now)) }
+{
+    let body = Items::from_vec(Vec::from_slice(alloc, &bytes[..size])?);
+    Ok((Item::Body(body), size))
 }
 
 /// Reads on in the item at the front, and takes it once it is whole. A body may have so many bytes; `begun` says that

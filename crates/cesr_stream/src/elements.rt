@@ -21,7 +21,8 @@ pub(crate) fn read_elements<E: Element>(
     ensures read { AreRead E.judged room bytes.now (length elements.new) (flat_map E.text elements.new) progress.new }
     ensures counted { length elements.new + progress.new.left ≡ length elements.old + progress.old.left }
     ensures all { OnOk result (progress.new.left ≡ 0) }
-    ensures err { IfErr result (Halts bytes.now (elements_part E.judged (length elements.old + progress.old.left) room bytes.now)) }
+    ensures err { IfErr result (Halts bytes.now
+        (elements_part E.judged (length elements.old + progress.old.left) room bytes.now)) }
 {
     while progress.left > 0 {
         let place = progress.place;

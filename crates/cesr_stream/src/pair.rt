@@ -13,7 +13,8 @@ pub(crate) fn read_pair<P: Primitive, Q: Primitive>(
     bytes: &[u8],
     room: Option<usize>,
 ) -> Result<((P, Q), usize), Stop>
-    ensures { JudgesElement (pair_part (primitive_part P.layouts P.judge) (primitive_part Q.layouts Q.judge) room) (pair_text P.text Q.text) bytes.now result }
+    ensures { JudgesElement (pair_part (primitive_part P.layouts P.judge) (primitive_part Q.layouts Q.judge) room)
+        (pair_text P.text Q.text) bytes.now result }
 {
     match read_primitive::<P>(bytes, room) {
         Ok((first, head)) => {

@@ -50,7 +50,8 @@ pub(crate) fn put_counted<E: Spelled, S: Sink>(
     all: &[E],
     sink: &mut S,
 ) -> Result<(), Failed>
-    ensures written { Puts (S.written sink.old) (S.written sink.new) result (45 ∷ letter ∷ (base64_text 2 count ++ flat_map E.text all.now)) }
+    ensures written { Puts (S.written sink.old) (S.written sink.new) result
+        (45 ∷ letter ∷ (base64_text 2 count ++ flat_map E.text all.now)) }
     ensures cause { HasCause (S.faults sink.old) (S.faults sink.new) result }
 {
     sink.put(&counter(letter, count))?;

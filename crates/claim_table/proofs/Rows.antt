@@ -5,10 +5,9 @@ use Rattle.std.specs.Option.{option_map}
 use Rattle.std.specs.Cmp.Lexicographic.{bytes_decides}
 use Rattle.std.proofs.lemmas.Bool.{and_from, and_parts, cases_Bool, cases_eq, cases_lt}
 use Rattle.std.proofs.lemmas.Bool.Decides.{Decides-eqb}
-use Rattle.std.proofs.lemmas.List.{length-append, length-map, take-take}
+use Rattle.std.proofs.lemmas.List.{length-append, take-take}
 use Rattle.std.proofs.lemmas.List.Folds.{list_any-append}
 use Rattle.std.proofs.lemmas.Option.{slice_get-map, slice_get_within}
-use Rattle.std.proofs.Math.Seq.{take-append_seam, take-length}
 use Rattle.cesr_codes.specs.Spelling.{key_code}
 use Rattle.cesr_codes.specs.declared.key.KeyCode.{KeyCode}
 use Rattle.cesr_codes.specs.declared.key.KeyCode.TheVariants.{Fixed, Rotating}
@@ -110,18 +109,11 @@ raised_more rows c s = list_any-append (is_of s) rows _ ∙ ap (λ b. is_raised 
     or_none true = refl
     or_none false = refl
 
--- cutting back what was raised gives the rows
-pub take_raised : (rows : List Row) (c : Claimed) → take (length rows) (raised rows c) ≡ rows
-take_raised rows c = take-append_seam rows _
-
 pub front_raised_all : (n : ℕ) (rows : List Row) (claims : List Claimed) → n ≤ length rows → take n (raised_all rows claims) ≡ take n rows
 front_raised_all n rows [] h = refl
 front_raised_all n rows (c ∷ claims) h =
     let longer = length-append rows (record { claimed = c; verdict = verdict_of rows (signature_of c) } ∷ []) in
     front_raised_all n (raised rows c) claims (omega (arith, longer, h)) ∙ take_before rows _ n h
-
-pub take_raised_all : (rows : List Row) (claims : List Claimed) → take (length rows) (raised_all rows claims) ≡ rows
-take_raised_all rows claims = front_raised_all (length rows) rows claims (omega arith) ∙ take-length rows
 
 -- the signature has the verdict that was heard, and any other has its own
 pub verdict_heard : (s : Signature) (v : Option Bool) (rows : List Row) → is_raised rows s ≡ true → verdict_of (with_verdicts s v rows) s ≡ v
@@ -196,20 +188,6 @@ unheard_heard s v rows agree none = map_back (with_verdict s (Some v)) (with_ver
       set_again s (Some v) None r ∙ set_there s None r k ∙ (λ j. record { claimed = r.claimed; verdict = sym had j }))
   | inr k ↦ set_again s (Some v) None r ∙ set_elsewhere s None r k
 ])
-
--- after hearing, claims that are raised and cut back leave the rows
-pub cut_to_heard : (s : Signature) (v : Bool) (rows : List Row) (claims : List Claimed) → take (length rows) (raised_all (heard s v rows) claims) ≡ heard s v rows
-cut_to_heard s v rows claims =
-    let same = length-map rows (with_verdict s (Some v)) in
-    ap (λ n. take n (raised_all (heard s v rows) claims)) (sym same) ∙ take_raised_all (heard s v rows) claims
-
--- hearing, raising claims, cutting them back and taking the verdict back gives the rows, where hearing and taking back does
-pub back_to_rows : (s : Signature) (v : Bool) (rows : List Row) (claims : List Claimed) → unheard s (heard s v rows) ≡ rows → unheard s (take (length rows) (raised_all (heard s v rows) claims)) ≡ rows
-back_to_rows s v rows claims back = ap (unheard s) (cut_to_heard s v rows claims) ∙ back
-
--- and the signature is still raised before it is taken back
-pub cut_keeps_raised : (s : Signature) (v : Bool) (rows : List Row) (claims : List Claimed) → is_raised rows s ≡ true → is_raised (take (length rows) (raised_all (heard s v rows) claims)) s ≡ true
-cut_keeps_raised s v rows claims there = ap (λ rows. is_raised rows s) (cut_to_heard s v rows claims) ∙ raised_set s s (Some v) rows ∙ there
 
 -- the first row of a signature stays the first
 pub first_set : (s t : Signature) (v : Option Bool) (rows : List Row) (i : ℕ) → IsFirstAt rows t i → IsFirstAt (with_verdicts s v rows) t i

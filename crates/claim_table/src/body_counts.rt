@@ -59,7 +59,8 @@ impl BodyCounts {
 
     /// Makes an entry for a part.
     pub(crate) fn enter(&mut self, part: Part) -> Result<(), AllocError>
-        ensures entered { OnOk result ((p : PartValue) → same_part part p ≡ true → is_some (part_entry self.new p) ≡ true) }
+        ensures entered { OnOk result ((p : PartValue) → same_part part p ≡ true
+            → is_some (part_entry self.new p) ≡ true) }
         ensures amounts { (p : PartValue) → or_zero (part_entry self.new p) ≡ or_zero (part_entry self.old p) }
         ensures kept { (p : PartValue) → is_some (part_entry self.old p) ≡ true → is_some (part_entry self.new p) ≡ true }
     {
@@ -73,7 +74,8 @@ impl BodyCounts {
     pub(crate) fn count(&mut self, part: Part)
         requires entered { is_some (part_entry self.old part) ≡ true }
         requires few { or_zero (part_entry self.old part) < 2 ^ 32 - 1 }
-        ensures amounts { (p : PartValue) → or_zero (part_entry self.new p) ≡ or_zero (part_entry self.old p) + bit (same_part part p) }
+        ensures amounts { (p : PartValue)
+            → or_zero (part_entry self.new p) ≡ or_zero (part_entry self.old p) + bit (same_part part p) }
         ensures kept { (p : PartValue) → is_some (part_entry self.new p) ≡ is_some (part_entry self.old p) }
     {
         if let Some((place, count)) = find(self.entries.as_slice(), part) {
@@ -88,7 +90,8 @@ impl BodyCounts {
 
     /// Counts a part once less.
     pub(crate) fn uncount(&mut self, part: Part)
-        ensures amounts { (p : PartValue) → or_zero (part_entry self.new p) ≡ or_zero (part_entry self.old p) - bit (same_part part p) }
+        ensures amounts { (p : PartValue)
+            → or_zero (part_entry self.new p) ≡ or_zero (part_entry self.old p) - bit (same_part part p) }
         ensures kept { (p : PartValue) → is_some (part_entry self.new p) ≡ is_some (part_entry self.old p) }
     {
         if let Some((place, count)) = find(self.entries.as_slice(), part) {

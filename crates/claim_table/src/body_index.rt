@@ -31,7 +31,8 @@ impl<K: Ord + Drop> BodyIndex<K> {
     /// Adds the number of the row that comes next, at a key of a body. The lesser numbers stay, after an error too.
     pub(crate) fn add(&mut self, body: u32, key: K, number: u32) -> Result<(), AllocError>
         ensures added { OnOk result (Contains (hints_at K.cmp self.new body key) number) }
-        ensures kept { (b : ℕ) (q : K) (n : ℕ) → n < number → Contains (hints_at K.cmp self.old b q) n → Contains (hints_at K.cmp self.new b q) n }
+        ensures kept { (b : ℕ) (q : K) (n : ℕ) → n < number → Contains (hints_at K.cmp self.old b q) n
+            → Contains (hints_at K.cmp self.new b q) n }
     {
         if self.few.add(body, number)? {
             return Ok(());

@@ -57,7 +57,8 @@ impl ClaimRows {
     /// The verdict of a signature, where some row is of it.
     pub(crate) fn verdict(&self, signature: &Signature) -> Option<Option<bool>>
         requires { IsSound self.now }
-        ensures { result ≡ (if is_raised self.now.rows.items signature.now then Some (verdict_of self.now.rows.items signature.now) else None) }
+        ensures { result ≡ (if is_raised self.now.rows.items signature.now then Some
+            (verdict_of self.now.rows.items signature.now) else None) }
     {
         match self.first_row(signature) {
             Some(row) => verdict_at(self.rows.as_slice(), row),
@@ -131,7 +132,8 @@ impl ClaimRows {
         requires raised { is_raised self.old.rows.items signature.now ≡ true }
         requires open_still { verdict_of self.old.rows.items signature.now ≡ None }
         requires idle { self.old.pending ≡ None }
-        ensures seen { seen self.new ≡ record { rows = heard signature.now verdict self.old.rows.items; pending = Some signature.now } }
+        ensures seen { seen self.new ≡ record
+            { rows = heard signature.now verdict self.old.rows.items; pending = Some signature.now } }
         ensures back { unheard signature.now self.new.rows.items ≡ self.old.rows.items }
         ensures sound { IsSound self.new }
     {
@@ -157,7 +159,8 @@ impl ClaimRows {
     /// Takes the verdict of the pending signature back.
     pub(crate) fn unhear(&mut self)
         requires { IsSound self.old }
-        ensures rows { (s : Signature) → (seen self.old).pending ≡ Some s → self.new.rows.items ≡ unheard s self.old.rows.items }
+        ensures rows { (s : Signature) → (seen self.old).pending ≡ Some s
+            → self.new.rows.items ≡ unheard s self.old.rows.items }
         ensures pending { self.new.pending ≡ None }
         ensures sound { IsSound self.new }
     {
@@ -258,7 +261,9 @@ fn lesser(first: Option<u32>, second: Option<u32>) -> Option<u32>
 
 // Adds the spot of a question that is new.
 fn open_new(spots: &mut BTreeSet<Spot>, spot: Spot, is_new: bool) -> Result<(), AllocError>
-    ensures ok { OnOk result ((q : Spot) → set.contains ⟦<Spot as Ord>⟧.cmp spots.new q ≡ (set.contains ⟦<Spot as Ord>⟧.cmp spots.old q || (is_new && is_at (⟦<Spot as Ord>⟧.cmp spot) q))) }
+    ensures ok { OnOk result ((q : Spot)
+        → set.contains ⟦<Spot as Ord>⟧.cmp spots.new q
+        ≡ (set.contains ⟦<Spot as Ord>⟧.cmp spots.old q || (is_new && is_at (⟦<Spot as Ord>⟧.cmp spot) q))) }
     ensures err { OnErr result (spots.new ≡ spots.old) }
 {
     if is_new {
@@ -279,7 +284,8 @@ fn set_verdicts(
     requires counted { AreCounted rows.old.items (amount counts.old) }
     requires entries { AreEntered rows.old.items (is_entered counts.old) }
     requires few { length rows.old.items < 2 ^ 32 }
-    requires all { (i : ℕ) → is_of_at signature.now (slice_get rows.old.items i) ≡ true → Contains (few.now ++ many.now) i }
+    requires all { (i : ℕ) → is_of_at signature.now (slice_get rows.old.items i) ≡ true
+        → Contains (few.now ++ many.now) i }
     ensures rows { rows.new.items ≡ with_verdicts signature.now verdict rows.old.items }
     ensures counted { AreCounted rows.new.items (amount counts.new) }
     ensures entries { (q : BodyPart) → is_entered counts.new q ≡ is_entered counts.old q }

@@ -86,7 +86,8 @@ impl ClaimTable {
 
     /// The verdict of a signature, where some row is of it. All of its rows have that one.
     pub fn verdict(&self, signature: &Signature) -> Option<Option<bool>>
-        ensures verdict { result ≡ (if is_raised self.now.rows signature.now then Some (verdict_of self.now.rows signature.now) else None) }
+        ensures verdict { result ≡ (if is_raised self.now.rows signature.now then Some
+            (verdict_of self.now.rows signature.now) else None) }
         ensures agree { DoAgree self.now.rows }
     {
         self.inner.verdict(signature)
@@ -132,7 +133,8 @@ impl ClaimTable {
     /// The open question of a number, body by body, and on a body in the order of raising.
     pub fn open_question(&self, skip: usize) -> Option<Signature>
         requires { self.now.pending ≡ None }
-        ensures { (bodies : ℕ) → AreBelow bodies self.now.rows → result ≡ option_map (λ r. signature_of r.claimed) (slice_get (open_rows bodies self.now.rows) skip) }
+        ensures { (bodies : ℕ) → AreBelow bodies self.now.rows
+            → result ≡ option_map (λ r. signature_of r.claimed) (slice_get (open_rows bodies self.now.rows) skip) }
     {
         match nth_spot(&self.inner.spots, skip) {
             Some(spot) => signature_at(self.inner.rows.as_slice(), spot.row),

@@ -87,7 +87,8 @@ impl PartCounts {
 
     /// Counts the parts of a row with a yes.
     pub(crate) fn count_yes(&mut self, row: &Row)
-        requires entered { (q : BodyPart) → brings row.now.claimed.body row.now.claimed.parts q ≡ true → is_entered self.old q ≡ true }
+        requires entered { (q : BodyPart) → brings row.now.claimed.body row.now.claimed.parts q ≡ true
+            → is_entered self.old q ≡ true }
         requires few { (q : BodyPart) → supports q row.now ≡ true → amount self.old q < 2 ^ 32 - 1 }
         ensures amounts { (q : BodyPart) → amount self.new q ≡ amount self.old q + bit (supports q row.now) }
         ensures kept { (q : BodyPart) → is_entered self.new q ≡ is_entered self.old q }

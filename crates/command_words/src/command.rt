@@ -64,7 +64,8 @@ pub fn command_of<'a>(alloc: Global, words: &'a [String]) -> Result<Option<Comma
 
 // The command that was found in words.
 fn command_in<'a>(matches: &ArgMatches<'a>) -> Option<Command<'a>>
-    ensures { option_map asked_by result ≡ option_and_then (λ met. asks_by_name met.0 met.1) (subcommand_rows_of matches.now) }
+    ensures { option_map asked_by result
+        ≡ option_and_then (λ met. asks_by_name met.0 met.1) (subcommand_rows_of matches.now) }
 {
     let (name, found) = matches.subcommand()?;
     command_by_name(name, found)

@@ -33,7 +33,8 @@ pub fn incept<S: Signer>(alloc: Global, plan: &Plan, signer: &mut S) -> Result<M
     // The signer was asked for these signatures and for nothing else, and for none where the plan is refused. Its count of
     // faults rises exactly where it failed.
     ensures gives { S.gives signer.new ≡ S.gives signer.old }
-    ensures asked { AsksFor (S.signings signer.old) (S.signings signer.new) (signings_of None (sealed_inception plan.now) plan.now.signers) result }
+    ensures asked { AsksFor (S.signings signer.old) (S.signings signer.new)
+        (signings_of None (sealed_inception plan.now) plan.now.signers) result }
     ensures count { CountsSignerFaults (S.faults signer.old) (S.faults signer.new) result }
 
     // Once verifiers have said yes of the signatures, the body is signed.

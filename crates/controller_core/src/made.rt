@@ -33,10 +33,13 @@ pub(crate) fn made<S: Signer>(
     signer: &mut S,
 ) -> Result<Message, PlanFault>
     requires { IsWritable event.now }
-    ensures made { IfOk result (IsMessageOf (S.gives signer.old) (option_copied state.entry) (sealed plan.now.code event.now) plan.now.signers) }
-    ensures refused { IfErr result (IsRefusal (option_copied state.entry) (sealed plan.now.code event.now) plan.now.signers) }
+    ensures made { IfOk result (IsMessageOf (S.gives signer.old) (option_copied state.entry)
+        (sealed plan.now.code event.now) plan.now.signers) }
+    ensures refused { IfErr result (IsRefusal (option_copied state.entry) (sealed plan.now.code event.now)
+        plan.now.signers) }
     ensures gives { S.gives signer.new ≡ S.gives signer.old }
-    ensures asked { AsksFor (S.signings signer.old) (S.signings signer.new) (signings_of (option_copied state.entry) (sealed plan.now.code event.now) plan.now.signers) result }
+    ensures asked { AsksFor (S.signings signer.old) (S.signings signer.new)
+        (signings_of (option_copied state.entry) (sealed plan.now.code event.now) plan.now.signers) result }
     ensures count { CountsSignerFaults (S.faults signer.old) (S.faults signer.new) result }
 {
     let text = planned_text(alloc, state, event, plan)?;
@@ -56,11 +59,14 @@ pub(crate) fn made_behind<S: Signer>(
     signer: &mut S,
 ) -> Result<Message, PlanFault>
     requires { IsWritable event.now }
-    ensures made { IfOk result (IsMessageOf (S.gives signer.old) (Some state.now) (sealed plan.now.code event.now) plan.now.signers) }
-    ensures refused { head_sn state.now + 1 < 2 ^ 64 → IfErr result (IsRefusal (Some state.now) (sealed plan.now.code event.now) plan.now.signers) }
+    ensures made { IfOk result (IsMessageOf (S.gives signer.old) (Some state.now) (sealed plan.now.code event.now)
+        plan.now.signers) }
+    ensures refused { head_sn state.now + 1 < 2 ^ 64
+        → IfErr result (IsRefusal (Some state.now) (sealed plan.now.code event.now) plan.now.signers) }
     ensures last { head_sn state.now ≡ 2 ^ 64 - 1 → IsLastAnswer (event_text (sealed plan.now.code event.now)) result }
     ensures gives { S.gives signer.new ≡ S.gives signer.old }
-    ensures asked { AsksFor (S.signings signer.old) (S.signings signer.new) (signings_of (Some state.now) (sealed plan.now.code event.now) plan.now.signers) result }
+    ensures asked { AsksFor (S.signings signer.old) (S.signings signer.new)
+        (signings_of (Some state.now) (sealed plan.now.code event.now) plan.now.signers) result }
     ensures count { CountsSignerFaults (S.faults signer.old) (S.faults signer.new) result }
     ensures signed { IfOk result (IsSignedByYes (Some state.now) (sealed plan.now.code event.now)) }
 {
@@ -72,7 +78,8 @@ pub(crate) fn made_behind<S: Signer>(
 
 // The message of a body with these signatures.
 fn message(alloc: Global, body: Vec<u8>, sigs: Items<IndexedSig>) -> Result<Message, AllocError>
-    ensures { IfOk result (λ message. message ≡ record { place = 0; body = body.items; groups = Held sigs ∷ []; excess = false }) }
+    ensures { IfOk result (λ message. message
+        ≡ record { place = 0; body = body.items; groups = Held sigs ∷ []; excess = false }) }
 {
     let mut groups = Items::new(alloc);
     groups.push(Group::Held(sigs))?;

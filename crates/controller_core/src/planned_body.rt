@@ -26,8 +26,10 @@ pub(crate) fn planned_text(
 ) -> Result<Vec<u8>, PlanFault>
     requires { IsWritable event.now }
     ensures text { IfOk result (λ text. text.items ≡ event_text (sealed plan.now.code event.now)) }
-    ensures signable { OnOk result (IsSignable (option_copied state.entry) (sealed plan.now.code event.now) plan.now.signers) }
-    ensures refused { IfErr result (λ fault. (fault ≢ SignerFault) × IsRefusal (option_copied state.entry) (sealed plan.now.code event.now) plan.now.signers fault) }
+    ensures signable { OnOk result (IsSignable (option_copied state.entry) (sealed plan.now.code event.now)
+        plan.now.signers) }
+    ensures refused { IfErr result (λ fault. (fault ≢ SignerFault)
+        × IsRefusal (option_copied state.entry) (sealed plan.now.code event.now) plan.now.signers fault) }
 {
     match body_of(alloc, event, plan.code) {
         Ok(body) => signable_text(state, body, plan),
@@ -46,7 +48,8 @@ fn signable_text(
     requires text { body.text.items ≡ event_text body.event }
     ensures text { IfOk result (λ text. text.items ≡ event_text body.event) }
     ensures signable { OnOk result (IsSignable (option_copied state.entry) body.event plan.now.signers) }
-    ensures refused { IfErr result (λ fault. (fault ≢ SignerFault) × IsRefusal (option_copied state.entry) body.event plan.now.signers fault) }
+    ensures refused { IfErr result (λ fault. (fault ≢ SignerFault)
+        × IsRefusal (option_copied state.entry) body.event plan.now.signers fault) }
 {
     let EventText { event, text } = body;
     let fault = fault_of(state, &event, plan);
@@ -94,7 +97,8 @@ fn body_with(alloc: Global, event: Event) -> Result<EventText, ReadBody>
 fn fault_of(state: Option<&KeyState>, event: &Event, plan: &Plan) -> Option<PlanFault>
     requires { IsWhole event.now }
     ensures none { IfNone result (IsSignable (option_copied state.entry) event.now plan.now.signers) }
-    ensures some { IfSome result (λ fault. (fault ≢ SignerFault) × IsRefusal (option_copied state.entry) event.now plan.now.signers fault) }
+    ensures some { IfSome result (λ fault. (fault ≢ SignerFault)
+        × IsRefusal (option_copied state.entry) event.now plan.now.signers fault) }
 {
     if let Some(misfit) = misfit_of(state, event) {
         return Some(PlanFault::Misfit(misfit));
@@ -110,7 +114,8 @@ fn fault_of(state: Option<&KeyState>, event: &Event, plan: &Plan) -> Option<Plan
 // The first rule by which the event doesn't follow the state, where there is one.
 fn misfit_of(state: Option<&KeyState>, event: &Event) -> Option<Misfit>
     ensures none { IfNone result (Follows (option_copied state.entry) event.now) }
-    ensures some { IfSome result (λ fault. IsSomeAnd (option_copied state.entry) (λ s. states.misfit s event.now ≡ Some fault)) }
+    ensures some { IfSome result (λ fault. IsSomeAnd (option_copied state.entry)
+        (λ s. states.misfit s event.now ≡ Some fault)) }
 {
     state?.misfit(event)
 }

@@ -29,16 +29,20 @@ pub fn rotate<S: Signer>(
     requires { AllByRecursion IsJson plan.now.anchors }
 
     // The event is one by all rules and follows the state, and the message has its text and a signature in each slot.
-    ensures made { IfOk result (IsMessageOf (S.gives signer.old) (Some state.now) (sealed_rotation state.now plan.now) plan.now.signers) }
+    ensures made { IfOk result (IsMessageOf (S.gives signer.old) (Some state.now)
+        (sealed_rotation state.now plan.now) plan.now.signers) }
 
     // A refusal is the first that is so. Behind the greatest number there is no message.
-    ensures refused { head_sn state.now + 1 < 2 ^ 64 → IfErr result (IsRefusal (Some state.now) (sealed_rotation state.now plan.now) plan.now.signers) }
-    ensures last { head_sn state.now ≡ 2 ^ 64 - 1 → IsLastAnswer (event_text (sealed_rotation state.now plan.now)) result }
+    ensures refused { head_sn state.now + 1 < 2 ^ 64
+        → IfErr result (IsRefusal (Some state.now) (sealed_rotation state.now plan.now) plan.now.signers) }
+    ensures last { head_sn state.now ≡ 2 ^ 64 - 1
+        → IsLastAnswer (event_text (sealed_rotation state.now plan.now)) result }
 
     // The signer was asked for these signatures and for nothing else, and for none where the plan is refused. Its count of
     // faults rises exactly where it failed.
     ensures gives { S.gives signer.new ≡ S.gives signer.old }
-    ensures asked { AsksFor (S.signings signer.old) (S.signings signer.new) (signings_of (Some state.now) (sealed_rotation state.now plan.now) plan.now.signers) result }
+    ensures asked { AsksFor (S.signings signer.old) (S.signings signer.new)
+        (signings_of (Some state.now) (sealed_rotation state.now plan.now) plan.now.signers) result }
     ensures count { CountsSignerFaults (S.faults signer.old) (S.faults signer.new) result }
 
     // Once verifiers have said yes of the signatures, the body is signed.

@@ -28,7 +28,8 @@ pub(crate) fn signatures<S: Signer>(
     requires slots { list_all (specs.is_in_range (length keys.now)) slots.now ≡ true }
     ensures sigs { IfOk result (AllZip (IsInSlot (S.gives signer.old) keys.now body.now) slots.now) }
     ensures gives { S.gives signer.new ≡ S.gives signer.old }
-    ensures asked { Puts (S.signings signer.old) (S.signings signer.new) result (signings_in keys.now body.now slots.now) }
+    ensures asked { Puts (S.signings signer.old) (S.signings signer.new) result
+        (signings_in keys.now body.now slots.now) }
     ensures count { CountsSignerFaults (S.faults signer.old) (S.faults signer.new) result }
     ensures only { IfErr result (λ fault. (fault ≡ SignerFault) ⊎ (fault ≡ OutOfMemory)) }
 {

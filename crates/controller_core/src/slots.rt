@@ -37,7 +37,8 @@ fn are_in_range(slots: &[Slot], keys: usize) -> bool
 // Whether good signatures in the slots meet the thresholds.
 fn are_signed(state: Option<&KeyState>, event: &Event, slots: &[Slot]) -> bool
     requires { IsKept event.now }
-    ensures { result ≡ has_signed (specs.slots_have (option_copied state.entry) event.now slots.now) (option_copied state.entry) event.now }
+    ensures { result ≡ has_signed (specs.slots_have (option_copied state.entry) event.now slots.now)
+        (option_copied state.entry) event.now }
 {
     let support = SlotSupport {
         state,

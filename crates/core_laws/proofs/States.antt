@@ -22,7 +22,8 @@ use Rattle.core_laws.specs.Alike.{AreAlike}
 use Rattle.core_laws.proofs.Alike.{alike-grown, alike-itself}
 use Rattle.key_state.proofs.NoMisfit.{fits_sn}
 
--- an event of the identifier with this number and digest stands in the list, and the state just behind it is alike
+-- an event of the identifier with this number and digest stands in the list and is the head of the state just behind it, which is
+-- alike
 pub record IsStanding (prefix : Prefix) (log : List Body) (s : State) (n : ℕ) (d : Digest) : Type 0 where
   pub front : List Body
   pub body : Body
@@ -34,6 +35,9 @@ pub record IsStanding (prefix : Prefix) (log : List Body) (s : State) (n : ℕ) 
   pub behind : State
   pub behind_is : state (front ++ body ∷ []) prefix ≡ Some behind
   pub alike : AreAlike behind s
+  pub head : head_sn behind ≡ n
+  pub low : behind.est_sn ≤ n
+  pub found : digest_at behind n ≡ Some d
 
 -- it is a member of the list
 pub inside_of : {prefix : Prefix} {log : List Body} {s : State} {n : ℕ} {d : Digest} → (x : IsStanding prefix log s n d) → Contains log x.body
@@ -79,6 +83,9 @@ module _ (prefix : Prefix) (log : List Body) where
     behind = h.behind;
     behind_is = h.behind_is;
     alike = h.alike;
+    head = h.head;
+    low = h.low;
+    found = h.found;
   }
 
   more_stand : (more : List Body) (o : Option State) → StandIf prefix log o → StandIf prefix (log ++ more) o
@@ -87,8 +94,23 @@ module _ (prefix : Prefix) (log : List Body) where
 
   module _ (b : Body) (of : is_of prefix b ≡ true) where
     -- the new event itself
-    new_one : (s : State) (n : ℕ) (d : Digest) → state (log ++ b ∷ []) prefix ≡ Some s → sn_of b.event ≡ n → said_of b.event ≡ d → IsStanding prefix (log ++ b ∷ []) s n d
-    new_one s n d is sn said = record { front = log; body = b; later = []; parted = refl; of = of; sn = sn; said = said; behind = s; behind_is = is; alike = alike-itself s }
+    new_one : (s : State) (n : ℕ) (d : Digest) → state (log ++ b ∷ []) prefix ≡ Some s → sn_of b.event ≡ n → said_of b.event ≡ d
+        → head_sn s ≡ n → s.est_sn ≤ n → digest_at s n ≡ Some d → IsStanding prefix (log ++ b ∷ []) s n d
+    new_one s n d is sn said head low found = record {
+      front = log;
+      body = b;
+      later = [];
+      parted = refl;
+      of = of;
+      sn = sn;
+      said = said;
+      behind = s;
+      behind_is = is;
+      alike = alike-itself s;
+      head = head;
+      low = low;
+      found = found;
+    }
 
     -- a state with the new event alone
     only_new : (s : State) (d : Digest) → s.since ≡ d ∷ [] → state (log ++ b ∷ []) prefix ≡ Some s → sn_of b.event ≡ s.est_sn → said_of b.event ≡ d → AllStand prefix (log ++ b ∷ []) s
@@ -98,7 +120,8 @@ module _ (prefix : Prefix) (log : List Body) where
           let got : slice_get (d ∷ []) (n - s.est_sn) ≡ Some e = ap (λ ds. slice_get ds (n - s.est_sn)) (sym one) ∙ at.1 in
           elim (slice_get-push [] d e (n - s.est_sn) got) [
             | inl h ↦ cc
-            | inr h ↦ (let low = at.0 in let k = h.0 in new_one s n e is (omega (arith, sn, low, k)) (said ∙ h.1))
+            | inr h ↦ (let low = at.0 in let k = h.0 in let len : length s.since ≡ 1 = ap length one in
+                new_one s n e is (omega (arith, sn, low, k)) (said ∙ h.1) (omega (arith, len, low, k)) low found)
           ]);
     }
 
@@ -110,8 +133,9 @@ module _ (prefix : Prefix) (log : List Body) where
       each = λ n e found. (let at = digest_at-some (record s { since = s.since ++ d ∷ [] }) n e found in
           elim (slice_get-push s.since d e (n - s.est_sn) at.1) [
             | inl h ↦ (let k = longer_list (b ∷ []) s n e (old.each n e (digest_at-from s n e at.0 h)) in
-                record { front = k.front; body = k.body; later = k.later; parted = k.parted; of = k.of; sn = k.sn; said = k.said; behind = k.behind; behind_is = k.behind_is; alike = alike-grown k.behind s d k.alike })
-            | inr h ↦ (let low = at.0 in let k = h.0 in new_one (record s { since = s.since ++ d ∷ [] }) n e is (omega (arith, sn, low, k)) (said ∙ h.1))
+                record { front = k.front; body = k.body; later = k.later; parted = k.parted; of = k.of; sn = k.sn; said = k.said; behind = k.behind; behind_is = k.behind_is; alike = alike-grown k.behind s d k.alike; head = k.head; low = k.low; found = k.found })
+            | inr h ↦ (let low = at.0 in let k = h.0 in let long = length-append s.since (d ∷ []) in
+                new_one (record s { since = s.since ++ d ∷ [] }) n e is (omega (arith, sn, low, k)) (said ∙ h.1) (omega (arith, long, low, k)) low found)
           ]);
     }
 

@@ -82,9 +82,6 @@ module _ (n : ℕ) (s : Option State) (e : Event) where
   pub some_of : (xs : List Claim) (t u : Table) → RaisesRows n s e xs t u → RaisesSomeRows n t u
   some_of xs t u h = record { added = h.added; on = found_on n s e _ h.added h.found; new_is = h.new_is }
 
-pub some_nothing : (n : ℕ) (t : Table) → RaisesSomeRows n t t
-some_nothing n t = record { added = []; on = refl; new_is = refl }
-
 pub some_more : (n : ℕ) (t u v : Table) → RaisesSomeRows n t u → RaisesSomeRows n u v → RaisesSomeRows n t v
 some_more n t u v h k = record {
   added = h.added ++ k.added;

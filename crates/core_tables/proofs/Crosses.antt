@@ -39,5 +39,5 @@ seals_send = index.the_send seal_keys.the_row seal_ord.ghosts seal_eq.ghosts sea
 pub tables_send : IsSend tables.the_row
 tables_send =
     let whole : IsSend inside.the_row = declared_send inside.the_type
-    (global_send, (journal.the_send, (crossing.Vec-send event.the_row event_send, (log.the_send, (claims.the_send, (waiting_send, (search sendable, (names_send, (names_send, (came.the_send, (places.the_send, (seals_send, tt)))))))))))) in
+    (global_send, (journal.the_send, (crossing.Vec-send event.the_row event_send, (log.the_send, (claims.the_send, (waiting_send, (search sendable, (names_send, (names_send, (came.the_send, (places.the_send, (seals_send, (search sendable, tt))))))))))))) in
     search sendable depth 4

@@ -1,5 +1,5 @@
 -- What the functions over the lists find is what the tables tell.
-use Rattle.std.proofs.Common.{◌≡◌, ℕ, ◌+◌, ◌-◌, ◌≤◌, Bool, false, List, [], ◌∷◌, length, refl, sym, ◌∙◌, ap, subst, inl, inr, arith, Option, Some, None}
+use Rattle.std.proofs.Common.{◌≡◌, ℕ, ◌+◌, ◌-◌, ◌≤◌, Bool, false, true, List, [], ◌∷◌, length, refl, sym, ◌∙◌, ap, subst, inl, inr, arith, Option, Some, None}
 use Rattle.std.specs.Prelude.{◌==◌, ◌&&◌, Contains, find, option_map, position, slice_get}
 use Rattle.std.specs.List.{list_any, position_from}
 use Rattle.std.specs.List.Sorted.{IsStrictlyIncreasing}
@@ -27,15 +27,16 @@ use Rattle.key_state.specs.Same.{same_prefix}
 use Rattle.core_tables.specs.declared.name.Name.{Name}
 use Rattle.core_tables.specs.declared.name.SealKey.{SealKey}
 use Rattle.core_tables.specs.declared.name.ClaimKey.{ClaimKey}
-use Rattle.core_tables.specs.Hints.{AreHinted}
+use Rattle.core_tables.specs.Hints.{AreHinted, IsNameNew}
 use Rattle.core_tables.specs.Names.{claim_key, name_of, prior_name, seal_key}
-use Rattle.core_tables.specs.Rows.{event_there, has_claim, is_named, is_number, is_seal_of, is_text}
+use Rattle.core_tables.specs.Rows.{event_there, has_claim, is_named, is_number, is_seal_of, is_text, same_name}
 use Rattle.core_tables.specs.View.{body_of, came_with}
+use Rattle.core_laws.proofs.Members.{find_some, member_any}
 use Rattle.core_tables.proofs.ListedNumbers.{found_row, none_row}
-use Rattle.core_tables.proofs.NamedRows.{accepted_is, come_is, predecessor_is, sealed_is}
+use Rattle.core_tables.proofs.NamedRows.{accepted_is, come_is, predecessor_is, same_name_itself, sealed_is}
 use Rattle.core_tables.proofs.Rows.{differ, none_below, not_some, some_is}
 
-module _ {held : List Body} {entries : List Entry} {ns : List ℕ} {settled : ℕ} {w : Escrow} {names told places : Name → List ℕ} {came : ClaimKey → List ℕ} {seals : SealKey → List ℕ} (h : AreHinted held entries ns settled w names told places came seals)
+module _ {held : List Body} {entries : List Entry} {ns : List ℕ} {settled : ℕ} {w : Escrow} {names told places : Name → List ℕ} {came : ClaimKey → List ℕ} {seals : SealKey → List ℕ} {clash : Bool} (h : AreHinted held entries ns settled w names told places came seals clash)
     (events : List Event) (same : (n : ℕ) → slice_get events n ≡ option_map (λ b. b.event) (slice_get held n)) where
   pub sealed_found : (holder : Prefix) (e : Event) → IsEventSeal (record { prefix = prefix_of e; sn = sn_of e; said = said_of e }) → (these : List Event) (those at : List ℕ) (name : Name)
       → these ≡ events → those ≡ ns → name ≡ name_of e → at ≡ seals (seal_key holder name) → IsStrictlyIncreasing at
@@ -62,6 +63,16 @@ module _ {held : List Body} {entries : List Entry} {ns : List ℕ} {settled : �
         | inl less ↦ (let b = some_at held number less in absurd (not_some b.0.event (none ∙ same number ∙ ap (option_map (λ b. b.event)) b.1)))
         | inr more ↦ more
       ]
+
+  pub name_is_new : (name : Name) (these : List Event) (those at : List ℕ) → these ≡ events → those ≡ ns → at ≡ places name
+      → find (λ i. is_named name (event_there these (slice_get those i))) at ≡ None → IsNameNew held ns name
+  name_is_new name these those at events_are numbers_are at_is none i n b at_i there is =
+      let test : ℕ → Bool = λ k. is_named name (event_there these (slice_get those k)) in
+      let inside : Contains at i = subst (λ xs. Contains xs i) (sym at_is) (subst (λ m. Contains (places m) i) is (h.accepted i n b at_i there)) in
+      let event : event_there these (slice_get those i) ≡ Some b.event = (λ k. event_there (events_are k) (slice_get (numbers_are k) i)) ∙ ap (event_there events) at_i ∙ same n ∙ ap (option_map (λ b. b.event)) there in
+      let passes : test i ≡ true = ap (is_named name) event ∙ ap (same_name (name_of b.event)) (sym is) ∙ same_name_itself (name_of b.event) in
+      let found = find_some test at (member_any test at i inside passes) in
+      not_some found.0 (sym none ∙ found.1)
 
   pub come_found : (n : ℕ) (c : Claim) (those : List Entry) (at : List ℕ) → those ≡ entries → at ≡ came (claim_key n c)
       → list_any (λ i. has_claim n c (slice_get those i)) at ≡ list_any (same_claim c) (came_with n entries)

@@ -4,8 +4,9 @@ use Rattle.std.specs.Prelude.{◌&&◌, ◌==◌, Contains, find, flat_map, opti
 use Rattle.std.specs.List.{list_any}
 use Rattle.std.specs.List.Sorted.{IsStrictlyIncreasing}
 use Rattle.std.specs.Option.{option_map_or}
-use Rattle.std.proofs.lemmas.Bool.{and_parts, cases_Bool}
+use Rattle.std.proofs.lemmas.Bool.{and_from, and_parts, cases_Bool}
 use Rattle.std.proofs.lemmas.List.Folds.{list_any-append}
+use Rattle.std.proofs.lemmas.Option.{slice_get-get_or}
 use Rattle.cesr_codes.specs.declared.digest.Digest.{Digest}
 use Rattle.cesr_codes.specs.declared.prefix.Prefix.{Prefix}
 use Rattle.event_backing.specs.EventSeals.{IsEventSeal}
@@ -16,8 +17,8 @@ use Rattle.event_index.specs.Rows.{is_row}
 use Rattle.escrow.specs.Escrow.{Escrow}
 use Rattle.key_state.specs.KeyStates.{are_same}
 use Rattle.key_state.specs.Same.{same_digest, same_prefix}
-use Rattle.key_state.proofs.Same.{number_itself, numbers, same_prefix_is}
-use Rattle.core_laws.proofs.States.{same_digest_is}
+use Rattle.key_state.proofs.Same.{number_itself, numbers, same_prefix_is, same_prefix_itself}
+use Rattle.core_laws.proofs.States.{same_digest_is, same_itself}
 use Rattle.journal.specs.declared.body.Body.{Body}
 use Rattle.journal.specs.declared.claim.Claim.{Claim}
 use Rattle.journal.specs.declared.entry.Entry.{Entry}
@@ -31,12 +32,13 @@ use Rattle.journal.proofs.Same.{same_claim_is}
 use Rattle.core_tables.specs.declared.name.Name.{Name}
 use Rattle.core_tables.specs.declared.name.SealKey.{SealKey}
 use Rattle.core_tables.specs.declared.name.ClaimKey.{ClaimKey}
+use Rattle.core_laws.specs.Standing.{HasNoClash}
 use Rattle.core_tables.specs.Hints.{AreHinted}
 use Rattle.core_tables.specs.Names.{claim_key, name_of, seal_key}
 use Rattle.core_tables.specs.Rows.{event_there, has_claim, is_named, is_number, is_seal_of, same_name}
 use Rattle.core_tables.specs.View.{came_by, came_with}
 use Rattle.core_tables.proofs.ListedNumbers.{any_among, any_place, find_place}
-use Rattle.core_tables.proofs.Rows.{contained, not_some}
+use Rattle.core_tables.proofs.Rows.{contained, not_some, some_is}
 
 -- the body of a number, where there is a number
 abbrev pub body_there : List Body → Option ℕ → Option Body
@@ -78,6 +80,9 @@ same_name_is a b h =
     let p = same_prefix_is a.prefix b.prefix two.0 in let n = numbers a.sn b.sn two.1 in let d = same_digest_is a.said b.said one.1 in
     λ i. record { prefix = p i; sn = n i; said = d i }
 
+pub same_name_itself : (a : Name) → same_name a a ≡ true
+same_name_itself a = and_from _ _ (and_from _ _ (same_prefix_itself a.prefix) (number_itself a.sn)) (same_itself a.said)
+
 next : (x y : ℕ) → 0 < y → (x == y - 1) ≡ (x + 1 == y)
 next x y some = elim (cases_Bool (x + 1 == y)) [
   | inl k ↦ (let one = numbers (x + 1) y k in let same : x ≡ y - 1 = omega (arith, one, some) in ap (λ m. x == m) (sym same) ∙ number_itself x ∙ sym k)
@@ -96,7 +101,7 @@ named_before b c name p n d some =
     let e3 : same_digest (said_of c.event) name.said ≡ are_same (prior_of b.event) (Some (said_of c.event)) = turned (said_of c.event) name.said ∙ ap (λ o. are_same o (Some (said_of c.event))) (sym d) in
     λ i. e1 i && e2 i && e3 i
 
-module _ {held : List Body} {entries : List Entry} {ns : List ℕ} {settled : ℕ} {w : Escrow} {names told places : Name → List ℕ} {came : ClaimKey → List ℕ} {seals : SealKey → List ℕ} (h : AreHinted held entries ns settled w names told places came seals)
+module _ {held : List Body} {entries : List Entry} {ns : List ℕ} {settled : ℕ} {w : Escrow} {names told places : Name → List ℕ} {came : ClaimKey → List ℕ} {seals : SealKey → List ℕ} {clash : Bool} (h : AreHinted held entries ns settled w names told places came seals clash)
     (events : List Event) (same : (n : ℕ) → slice_get events n ≡ option_map (λ b. b.event) (slice_get held n)) where
   -- a test of the accepted event at a place
   at_place : (one : Option Event → Bool) (test : Body → Bool) → ((o : Option Body) → one (option_map (λ b. b.event) o) ≡ option_map_or test o false)
@@ -172,3 +177,22 @@ module _ {held : List Body} {entries : List Entry} {ns : List ℕ} {settled : �
         | inr k ↦ (let no = rw k at t in cc)
       ]
       known i (Heard reader m key sig verdict) at t = cc
+
+-- where no two places have events of one name, no two accepted events clash
+pub no_clash : {held : List Body} {entries : List Entry} {ns : List ℕ} {settled : ℕ} {w : Escrow} {names told places : Name → List ℕ} {came : ClaimKey → List ℕ} {seals : SealKey → List ℕ} {clash : Bool} → AreHinted held entries ns settled w names told places came seals clash
+    → clash ≡ false → HasNoClash (chosen held ns)
+no_clash {held = held} {ns = ns} h clear b c b_in c_in prefix sn said =
+    let log = chosen held ns in
+    let b_at = member_at log b b_in in
+    let c_at = member_at log c c_in in
+    let from_b = from b_in.0 b b_at in
+    let from_c = from c_in.0 c c_at in
+    let name : name_of b.event ≡ name_of c.event = λ i. record { prefix = prefix i; sn = sn i; said = said i } in
+    let place = h.once clear b_in.0 c_in.0 from_b.0 from_c.0 b c from_b.1 from_b.2 from_c.1 from_c.2 name in
+    ap (λ x. x.bytes) (some_is b c (sym b_at ∙ ap (slice_get log) place ∙ c_at))
+  where
+    member_at : (xs : List Body) (x : Body) → (inside : Contains xs x) → slice_get xs inside.0 ≡ Some x
+    member_at xs x inside = slice_get-get_or xs inside.0 x inside.1 ∙ ap Some inside.2
+
+    from : (i : ℕ) (x : Body) → slice_get (chosen held ns) i ≡ Some x → (n : ℕ) × (slice_get ns i ≡ Some n) × (slice_get held n ≡ Some x)
+    from i x at = there_at held (slice_get ns i) x (sym (chosen_at held ns h.accepted_held i) ∙ at)

@@ -1,5 +1,5 @@
 -- Tables of nothing.
-use Rattle.std.proofs.Common.{◌≡◌, ℕ, List, [], length, refl}
+use Rattle.std.proofs.Common.{◌≡◌, ℕ, false, List, [], length, refl}
 use Rattle.accepted_log.specs.Values.{Log, nothing as no_events}
 use Rattle.claim_table.specs.Table.{Table, nothing as no_claims}
 use Rattle.event_body.specs.declared.event.Event.{Event}
@@ -17,7 +17,7 @@ use Rattle.core_tables.proofs.Rows.{not_some}
 
 module _ (bodies : List (List ℕ)) (events : List Event) (entries : List Entry) (log : Log) (no_bodies : bodies ≡ []) (no_entries : entries ≡ []) (none : events ≡ []) (no_log : log ≡ no_events) where
   pub hinted_start : (claims : Table) → claims ≡ no_claims → (w : Escrow) (names told places : Name → List ℕ) (came : ClaimKey → List ℕ) (seals : SealKey → List ℕ) → ((n : ℕ) → held_by n w ≡ None)
-      → (length bodies ≡ length events) × IsPending claims × AreHinted (paired bodies events) entries log.numbers 0 w names told places came seals
+      → (length bodies ≡ length events) × IsPending claims × AreHinted (paired bodies events) entries log.numbers 0 w names told places came seals false
   unfolding paired
   hinted_start claims no_rows w names told places came seals empty = rw (no_bodies, no_entries, none, no_log, no_rows) (refl, λ s is. absurd (not_some s is), hinted_nothing w names told places came seals empty)
 

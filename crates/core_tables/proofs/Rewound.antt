@@ -1,5 +1,5 @@
 -- Tables whose lists are cut back.
-use Rattle.std.proofs.Common.{◌≡◌, ℕ, ◌<◌, ◌≤◌, true, List, length, take, min, sym, ◌∙◌, ap, subst, Some, None, nat_le, nat_lt}
+use Rattle.std.proofs.Common.{◌≡◌, ℕ, ◌<◌, ◌≤◌, true, List, length, take, min, sym, ◌∙◌, ap, subst, Some, None, nat_le, nat_lt, Bool}
 use Rattle.std.specs.Prelude.{◌&&◌, if◌then◌else◌, slice_get}
 use Rattle.std.proofs.lemmas.List.{length-take}
 use Rattle.accepted_log.specs.Values.{Log, rewound as log_rewound}
@@ -26,10 +26,10 @@ module _ (n : ℕ) (bodies fewer : List (List ℕ)) (events less : List Event) (
   pub cut_pairs : paired fewer less ≡ take n (paired bodies events)
   cut_pairs = (λ i. paired (b i) (e i)) ∙ paired-take n bodies events even
 
-pub cut_hinted : {held : List Body} {entries : List Entry} {numbers : List ℕ} {settled : ℕ} {w : Escrow} {names told places : Name → List ℕ} {came : ClaimKey → List ℕ} {seals : SealKey → List ℕ} → AreHinted held entries numbers settled w names told places came seals
+pub cut_hinted : {held : List Body} {entries : List Entry} {numbers : List ℕ} {settled : ℕ} {w : Escrow} {names told places : Name → List ℕ} {came : ClaimKey → List ℕ} {seals : SealKey → List ℕ} {clash : Bool} → AreHinted held entries numbers settled w names told places came seals clash
     → (m : Mark) (held_new : List Body) (entries_new : List Entry) (numbers_new : List ℕ) (new : Escrow) (count : ℕ) → held_new ≡ take m.bodies held → entries_new ≡ take m.entries entries → numbers_new ≡ take m.accepted numbers
     → ((i : ℕ) (e : Entry) → slice_get (take m.entries entries) i ≡ Some e → number_of e < m.bodies) → ((i n : ℕ) → slice_get (take m.accepted numbers) i ≡ Some n → n < m.bodies) → settled ≤ m.accepted
-    → count ≡ length held → ((n : ℕ) → held_by n new ≡ (if nat_le m.bodies n && nat_lt n count then None else held_by n w)) → AreHinted held_new entries_new numbers_new settled new names told places came seals
+    → count ≡ length held → ((n : ℕ) → held_by n new ≡ (if nat_le m.bodies n && nat_lt n count then None else held_by n w)) → AreHinted held_new entries_new numbers_new settled new names told places came seals clash
 cut_hinted {held = held} {w = w} h m held_new entries_new numbers_new new count h_is e_is n_is entries_low numbers_low settled_low count_is left =
     rw (h_is, e_is, n_is) (hinted_cut h m.bodies m.entries m.accepted new entries_low numbers_low settled_low
     (subst (λ k. (n : ℕ) → held_by n new ≡ (if nat_le m.bodies n && nat_lt n k then None else held_by n w)) count_is left))

@@ -1,5 +1,5 @@
 -- What the hints say: under its key stands the number of each row (and perhaps of others).
-use Rattle.std.specs.Prelude.{◌≡◌, ℕ, ◌<◌, ◌≤◌, true, List, length, take, slice_get, Some, Contains}
+use Rattle.std.specs.Prelude.{◌≡◌, ℕ, ◌<◌, ◌≤◌, Bool, false, true, List, length, take, slice_get, Some, Contains}
 use Rattle.event_body.specs.Events.{prefix_of}
 use Rattle.escrow.specs.Escrow.{Escrow, held as held_by}
 use Rattle.claim_table.specs.declared.signature.Signature.{Signature}
@@ -50,8 +50,17 @@ AreSealed seals held numbers = (i n : ℕ) (b : Body) → slice_get numbers i �
 abbrev pub IsEscrow : Escrow → List Body → List ℕ → Type 0
 IsEscrow escrow held done = (n : ℕ) → held_by n escrow ≡ waiter_at done n (slice_get held n)
 
+-- no two places of the log have events of one name
+abbrev pub AreNamedOnce : List Body → List ℕ → Type 0
+AreNamedOnce held numbers = (i j n m : ℕ) (b c : Body) → slice_get numbers i ≡ Some n → slice_get held n ≡ Some b
+    → slice_get numbers j ≡ Some m → slice_get held m ≡ Some c → name_of b.event ≡ name_of c.event → i ≡ j
+
+-- no event of the log has the name
+abbrev pub IsNameNew : List Body → List ℕ → Name → Type 0
+IsNameNew held numbers name = (i n : ℕ) (b : Body) → slice_get numbers i ≡ Some n → slice_get held n ≡ Some b → name_of b.event ≡ name → ⊥
+
 -- all of these; entries and events of the log speak of bodies that are held
-pub record AreHinted (held : List Body) (entries : List Entry) (numbers : List ℕ) (settled : ℕ) (waiting : Escrow) (by_name told_at place_at : Name → List ℕ) (came_at : ClaimKey → List ℕ) (seal_at : SealKey → List ℕ) : Type 0 where
+pub record AreHinted (held : List Body) (entries : List Entry) (numbers : List ℕ) (settled : ℕ) (waiting : Escrow) (by_name told_at place_at : Name → List ℕ) (came_at : ClaimKey → List ℕ) (seal_at : SealKey → List ℕ) (clash : Bool) : Type 0 where
   pub named : AreNamed by_name held
   pub told : AreTold told_at held entries
   pub came : HaveCome came_at entries
@@ -62,6 +71,7 @@ pub record AreHinted (held : List Body) (entries : List Entry) (numbers : List �
   pub accepted_held : (i n : ℕ) → slice_get numbers i ≡ Some n → n < length held
   pub settled_held : settled ≤ length numbers
   pub few : length held ≤ 4294967296
+  pub once : clash ≡ false → AreNamedOnce held numbers
 
 -- the pending signature, where there is one, is of some row
 abbrev pub IsPending : Table → Type 0

@@ -24,7 +24,8 @@ use std::alloc::AllocError;
 impl Tables {
     /// The numbers of all bodies with this name, and perhaps of others, rising: whoever asks compares.
     pub fn named(&self, name: &Name) -> &[u32]
-        ensures all { (n : ℕ) (b : Body) → slice_get self.now.held n ≡ Some b → name_of_event b.event ≡ name.now → Contains result.now n }
+        ensures all { (n : ℕ) (b : Body) → slice_get self.now.held n ≡ Some b → name_of_event b.event ≡ name.now
+            → Contains result.now n }
         ensures rising { IsStrictlyIncreasing result.now }
     {
         self.names.numbers(name)
@@ -95,9 +96,12 @@ fn push_both(
     ensures ok { OnOk result (bodies.new ≡ bodies.old ++ text ∷ []) }
     ensures pushed { OnOk result (events.new.items ≡ events.old.items ++ event ∷ []) }
     ensures few { OnOk result (length events.old.items < 4294967296) }
-    ensures waits { OnOk result ((n : ℕ) → held_by n waiting.new ≡ placed (waiter_for (length events.old.items) event) n (held_by n waiting.old)) }
-    ensures named { OnOk result (Contains (numbers_at ⟦<Name as Ord>⟧.cmp names.new (name_of_event event)) (length events.old.items)) }
-    ensures kept { KeepsBelow (length events.old.items) (numbers_at ⟦<Name as Ord>⟧.cmp names.old) (numbers_at ⟦<Name as Ord>⟧.cmp names.new) }
+    ensures waits { OnOk result ((n : ℕ)
+        → held_by n waiting.new ≡ placed (waiter_for (length events.old.items) event) n (held_by n waiting.old)) }
+    ensures named { OnOk result (Contains (numbers_at ⟦<Name as Ord>⟧.cmp names.new (name_of_event event))
+        (length events.old.items)) }
+    ensures kept { KeepsBelow (length events.old.items) (numbers_at ⟦<Name as Ord>⟧.cmp names.old)
+        (numbers_at ⟦<Name as Ord>⟧.cmp names.new) }
     ensures err { OnErr result (bodies.new ≡ bodies.old) }
     ensures same { OnErr result (events.new.items ≡ events.old.items) }
     ensures waits_on { OnErr result ((n : ℕ) → held_by n waiting.new ≡ held_by n waiting.old) }
@@ -125,9 +129,12 @@ fn push_text(
     ensures few { OnOk result (length events.old.items < 4294967296) }
     ensures room { OnOk result (vec_len events.new < vec_capacity events.new) }
     ensures events { events.new.items ≡ events.old.items }
-    ensures waits { OnOk result ((n : ℕ) → held_by n waiting.new ≡ placed (waiter_for (length events.old.items) event.now) n (held_by n waiting.old)) }
-    ensures named { OnOk result (Contains (numbers_at ⟦<Name as Ord>⟧.cmp names.new (name_of_event event.now)) (length events.old.items)) }
-    ensures kept { KeepsBelow (length events.old.items) (numbers_at ⟦<Name as Ord>⟧.cmp names.old) (numbers_at ⟦<Name as Ord>⟧.cmp names.new) }
+    ensures waits { OnOk result ((n : ℕ)
+        → held_by n waiting.new ≡ placed (waiter_for (length events.old.items) event.now) n (held_by n waiting.old)) }
+    ensures named { OnOk result (Contains (numbers_at ⟦<Name as Ord>⟧.cmp names.new (name_of_event event.now))
+        (length events.old.items)) }
+    ensures kept { KeepsBelow (length events.old.items) (numbers_at ⟦<Name as Ord>⟧.cmp names.old)
+        (numbers_at ⟦<Name as Ord>⟧.cmp names.new) }
     ensures err { OnErr result (bodies.new ≡ bodies.old) }
     ensures same { OnErr result ((n : ℕ) → held_by n waiting.new ≡ held_by n waiting.old) }
 {
@@ -153,9 +160,12 @@ fn note_waiting(
     ensures few { OnOk result (length events.old.items < 4294967296) }
     ensures room { OnOk result (vec_len events.new < vec_capacity events.new) }
     ensures events { events.new.items ≡ events.old.items }
-    ensures waits { OnOk result ((n : ℕ) → held_by n waiting.new ≡ placed (waiter_for (length events.old.items) event.now) n (held_by n waiting.old)) }
-    ensures named { OnOk result (Contains (numbers_at ⟦<Name as Ord>⟧.cmp names.new (name_of_event event.now)) (length events.old.items)) }
-    ensures kept { KeepsBelow (length events.old.items) (numbers_at ⟦<Name as Ord>⟧.cmp names.old) (numbers_at ⟦<Name as Ord>⟧.cmp names.new) }
+    ensures waits { OnOk result ((n : ℕ)
+        → held_by n waiting.new ≡ placed (waiter_for (length events.old.items) event.now) n (held_by n waiting.old)) }
+    ensures named { OnOk result (Contains (numbers_at ⟦<Name as Ord>⟧.cmp names.new (name_of_event event.now))
+        (length events.old.items)) }
+    ensures kept { KeepsBelow (length events.old.items) (numbers_at ⟦<Name as Ord>⟧.cmp names.old)
+        (numbers_at ⟦<Name as Ord>⟧.cmp names.new) }
     ensures same { OnErr result ((n : ℕ) → held_by n waiting.new ≡ held_by n waiting.old) }
 {
     let number = note_body(events, names, event)?;
@@ -172,8 +182,10 @@ fn note_body(
     ensures few { OnOk result (length events.old.items < 4294967296) }
     ensures room { OnOk result (vec_len events.new < vec_capacity events.new) }
     ensures same { events.new.items ≡ events.old.items }
-    ensures named { OnOk result (Contains (numbers_at ⟦<Name as Ord>⟧.cmp names.new (name_of_event event.now)) (length events.old.items)) }
-    ensures kept { KeepsBelow (length events.old.items) (numbers_at ⟦<Name as Ord>⟧.cmp names.old) (numbers_at ⟦<Name as Ord>⟧.cmp names.new) }
+    ensures named { OnOk result (Contains (numbers_at ⟦<Name as Ord>⟧.cmp names.new (name_of_event event.now))
+        (length events.old.items)) }
+    ensures kept { KeepsBelow (length events.old.items) (numbers_at ⟦<Name as Ord>⟧.cmp names.old)
+        (numbers_at ⟦<Name as Ord>⟧.cmp names.new) }
 {
     events.reserve(1)?;
     let number = length_u32(events.len())?;
@@ -184,7 +196,8 @@ fn note_body(
 // An event waits under a number from then on.
 fn note_waiter(waiting: &mut Waiting, number: u32, event: &Event) -> Result<(), AllocError>
     requires new { held_by number waiting.old ≡ None }
-    ensures waits { OnOk result ((n : ℕ) → held_by n waiting.new ≡ placed (waiter_for number event.now) n (held_by n waiting.old)) }
+    ensures waits { OnOk result ((n : ℕ)
+        → held_by n waiting.new ≡ placed (waiter_for number event.now) n (held_by n waiting.old)) }
     ensures same { OnErr result ((n : ℕ) → held_by n waiting.new ≡ held_by n waiting.old) }
 {
     if is_receipt(event) {

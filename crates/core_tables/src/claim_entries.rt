@@ -42,7 +42,8 @@ impl ClaimEntries {
     /// Adds the number of the entry that comes next, by which these claims came with the body of a number. The lesser numbers
     /// stay, after an error too.
     pub(crate) fn add(&mut self, body: u32, claims: &[Claim], number: u32) -> Result<(), AllocError>
-        ensures added { OnOk result ((c : ClaimValue) → Contains claims.now c → Contains (came_at self.new (claim_key body c)) number) }
+        ensures added { OnOk result ((c : ClaimValue) → Contains claims.now c
+            → Contains (came_at self.new (claim_key body c)) number) }
         ensures kept { KeepsBelow number (came_at self.old) (came_at self.new) }
     {
         if add_few(&mut self.few, body, claims.len(), number)? {
@@ -87,8 +88,10 @@ fn add_claims(
     claims: &[Claim],
     number: u32,
 ) -> Result<(), AllocError>
-    ensures added { OnOk result ((c : ClaimValue) → Contains claims.now c → Contains (numbers_at ⟦<ClaimKey as Ord>⟧.cmp many.new (claim_key body c)) number) }
-    ensures kept { KeepsBelow number (numbers_at ⟦<ClaimKey as Ord>⟧.cmp many.old) (numbers_at ⟦<ClaimKey as Ord>⟧.cmp many.new) }
+    ensures added { OnOk result ((c : ClaimValue) → Contains claims.now c
+        → Contains (numbers_at ⟦<ClaimKey as Ord>⟧.cmp many.new (claim_key body c)) number) }
+    ensures kept { KeepsBelow number (numbers_at ⟦<ClaimKey as Ord>⟧.cmp many.old)
+        (numbers_at ⟦<ClaimKey as Ord>⟧.cmp many.new) }
 {
     for claim in claims {
         let key = ClaimKey {

@@ -25,7 +25,8 @@ impl Tables {
     /// The claims that came by an entry and stand on the body of a number.
     pub fn claims_by(&self, entry: u32, number: u32) -> &[Claim]
         requires differ { Differ same_body self.now.held }
-        ensures { (b : Body) → slice_get self.now.held number ≡ Some b → result.now ≡ claims_at self.now.held b (slice_get self.now.entries entry) }
+        ensures { (b : Body) → slice_get self.now.held number ≡ Some b
+            → result.now ≡ claims_at self.now.held b (slice_get self.now.entries entry) }
     {
         claims_by(
             self.events.as_slice(),
@@ -45,7 +46,9 @@ impl Tables {
         requires held { number < length self.old.held }
         requires differ { Differ same_body self.old.held }
         requires kept { (b : Body) → slice_get self.old.held number ≡ Some b → IsKept b.event }
-        ensures ok { OnOk result ((b : Body) → slice_get self.old.held number ≡ Some b → Raises number (state_there state self.old.log.states) b.event (claims_at self.old.held b (slice_get self.old.entries entry)) self.old self.new) }
+        ensures ok { OnOk result ((b : Body) → slice_get self.old.held number ≡ Some b
+            → Raises number (state_there state self.old.log.states) b.event
+            (claims_at self.old.held b (slice_get self.old.entries entry)) self.old self.new) }
         ensures err { OnErr result (RaisesSome number self.old self.new) }
     {
         raise_claims_by(
@@ -63,7 +66,9 @@ impl Tables {
         requires held { number < length self.old.held }
         requires differ { Differ same_body self.old.held }
         requires kept { (b : Body) → slice_get self.old.held number ≡ Some b → IsKept b.event }
-        ensures ok { OnOk result ((b : Body) → slice_get self.old.held number ≡ Some b → Raises number (state_there state self.old.log.states) b.event (claims_on (told_by self.old.held self.old.entries) b) self.old self.new) }
+        ensures ok { OnOk result ((b : Body) → slice_get self.old.held number ≡ Some b
+            → Raises number (state_there state self.old.log.states) b.event
+            (claims_on (told_by self.old.held self.old.entries) b) self.old self.new) }
         ensures err { OnErr result (RaisesSome number self.old self.new) }
     {
         let name = name_of(&self.events[number as usize]);
@@ -83,7 +88,9 @@ impl Tables {
         requires raised { rows.is_raised self.old.claims.rows signature.now ≡ true }
         requires open_still { rows.verdict_of self.old.claims.rows signature.now ≡ None }
         requires idle { self.old.claims.pending ≡ None }
-        ensures heard { self.new ≡ with_claims (record { rows = rows.heard signature.now verdict self.old.claims.rows; pending = Some signature.now }) self.old }
+        ensures heard { self.new ≡ with_claims
+            (record { rows = rows.heard signature.now verdict self.old.claims.rows; pending = Some signature.now })
+            self.old }
         ensures back { rows.unheard signature.now self.new.claims.rows ≡ self.old.claims.rows }
     {
         self.claims.hear(signature, verdict);
@@ -92,7 +99,8 @@ impl Tables {
     /// Takes the verdict of the pending signature back. It takes no memory.
     pub fn unhear(&mut self)
         requires { self.old.claims.pending ≢ None }
-        ensures { (s : SignatureValue) → self.old.claims.pending ≡ Some s → self.new ≡ with_claims (record { rows = rows.unheard s self.old.claims.rows; pending = None }) self.old }
+        ensures { (s : SignatureValue) → self.old.claims.pending ≡ Some s
+            → self.new ≡ with_claims (record { rows = rows.unheard s self.old.claims.rows; pending = None }) self.old }
     {
         self.claims.unhear();
     }

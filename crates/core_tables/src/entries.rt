@@ -25,7 +25,9 @@ use std::alloc::AllocError;
 impl Tables {
     /// The numbers of all entries by which bodies with this name came, and perhaps of others, rising: whoever asks compares.
     pub fn told(&self, name: &Name) -> &[u32]
-        ensures all { (i reader n : ℕ) (claims : List ClaimValue) (b : Body) → slice_get self.now.entries i ≡ Some (Took reader n claims) → slice_get self.now.held n ≡ Some b → name_of_event b.event ≡ name.now → Contains result.now i }
+        ensures all { (i reader n : ℕ) (claims : List ClaimValue) (b : Body)
+            → slice_get self.now.entries i ≡ Some (Took reader n claims) → slice_get self.now.held n ≡ Some b
+            → name_of_event b.event ≡ name.now → Contains result.now i }
         ensures rising { IsStrictlyIncreasing result.now }
     {
         self.told.numbers(name)
@@ -56,7 +58,8 @@ impl Tables {
         claims: Items<Claim>,
     ) -> Result<(), AllocError>
         requires held { body < length self.old.held }
-        ensures ok { OnOk result (self.new ≡ record self.old { entries = self.old.entries ++ Took reader body claims ∷ [] }) }
+        ensures ok { OnOk result (self.new
+            ≡ record self.old { entries = self.old.entries ++ Took reader body claims ∷ [] }) }
         ensures err { OnErr result (self.new ≡ self.old) }
     {
         note_took(
@@ -83,7 +86,11 @@ impl Tables {
         yes: bool,
     ) -> Result<(), AllocError>
         requires held { question.now.body < length self.old.held }
-        ensures ok { OnOk result (self.new ≡ record self.old { entries = self.old.entries ++ Heard reader question.now.body question.now.key question.now.sig yes ∷ [] }) }
+        ensures ok { OnOk result (self.new
+            ≡ record self.old {
+              entries = self.old.entries
+                  ++ Heard reader question.now.body question.now.key question.now.sig yes ∷ [];
+            }) }
         ensures err { OnErr result (self.new ≡ self.old) }
     {
         self.journal.entries.push(Entry::Heard {
@@ -143,8 +150,10 @@ fn note_took(
     count: usize,
 ) -> Result<(), AllocError>
     ensures told { OnOk result (Contains (numbers_at ⟦<Name as Ord>⟧.cmp told.new (name_of_event event.now)) count) }
-    ensures came { OnOk result ((c : ClaimValue) → Contains claims.now c → Contains (came_at came.new (claim_key body c)) count) }
-    ensures kept_told { KeepsBelow count (numbers_at ⟦<Name as Ord>⟧.cmp told.old) (numbers_at ⟦<Name as Ord>⟧.cmp told.new) }
+    ensures came { OnOk result ((c : ClaimValue) → Contains claims.now c
+        → Contains (came_at came.new (claim_key body c)) count) }
+    ensures kept_told { KeepsBelow count (numbers_at ⟦<Name as Ord>⟧.cmp told.old)
+        (numbers_at ⟦<Name as Ord>⟧.cmp told.new) }
     ensures kept_came { KeepsBelow count (came_at came.old) (came_at came.new) }
 {
     let number = length_u32(count)?;

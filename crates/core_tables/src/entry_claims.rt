@@ -25,7 +25,9 @@ pub fn raise_entries(
 ) -> Result<(), AllocError>
     requires held { number < length events.now }
     requires kept { (e : EventValue) → slice_get events.now number ≡ Some e → IsKept e }
-    ensures ok { OnOk result ((e : EventValue) → slice_get events.now number ≡ Some e → RaisesRows number (option_copied state.entry) e (flat_map (λ i. came_to events.now number (slice_get entries.now i)) numbers.now) claims.old claims.new) }
+    ensures ok { OnOk result ((e : EventValue) → slice_get events.now number ≡ Some e
+        → RaisesRows number (option_copied state.entry) e
+        (flat_map (λ i. came_to events.now number (slice_get entries.now i)) numbers.now) claims.old claims.new) }
     ensures err { OnErr result (RaisesSomeRows number claims.old claims.new) }
 {
     for entry in numbers {
@@ -46,7 +48,9 @@ pub fn raise_claims_by(
 ) -> Result<(), AllocError>
     requires held { number < length events.now }
     requires kept { (e : EventValue) → slice_get events.now number ≡ Some e → IsKept e }
-    ensures ok { OnOk result ((e : EventValue) → slice_get events.now number ≡ Some e → RaisesRows number (option_copied state.entry) e (came_to events.now number (option_copied entry.entry)) claims.old claims.new) }
+    ensures ok { OnOk result ((e : EventValue) → slice_get events.now number ≡ Some e
+        → RaisesRows number (option_copied state.entry) e (came_to events.now number (option_copied entry.entry))
+        claims.old claims.new) }
     ensures err { OnErr result (RaisesSomeRows number claims.old claims.new) }
 {
     let came = claims_by(events, entry, number);

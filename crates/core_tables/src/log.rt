@@ -1,5 +1,5 @@
 //! The accepted events, found by their names and by what they seal.
-ghost use Rattle.std.specs.Prelude.{◌≡◌, ◌==◌, ◌<◌, ◌+◌, ◌^◌, ℕ, List, Contains, IfOk, IfSome, OnOk, OnErr, None, Some, find, length, slice_get, position, if◌then◌else◌};
+ghost use Rattle.std.specs.Prelude.{◌≡◌, ◌==◌, ◌<◌, ◌+◌, ◌^◌, ℕ, List, Contains, IfOk, IfSome, OnOk, OnErr, None, Some, false, find, length, slice_get, position, if◌then◌else◌};
 ghost use Rattle.std.specs.List.{list_any};
 ghost use Rattle.std.specs.Option.{option_copied};
 ghost use Rattle.accepted_log.specs.Cuts.{GrowsByInteraction, GrowsByState};
@@ -12,6 +12,7 @@ ghost use Rattle.journal.specs.Logs.{precedes};
 ghost use Rattle.journal.specs.Seals.{is_sealed};
 ghost use Rattle.journal.specs.declared.body.Body.{Body};
 ghost use Rattle.key_state.specs.Heads.{head_sn};
+ghost use Rattle.core_laws.specs.Standing.{HasNoClash};
 ghost use Rattle.core_tables.specs.Hints.{IsSealedAt, KeepsBelow};
 ghost use Rattle.core_tables.specs.NamedPlaces.{places_at};
 ghost use Rattle.core_tables.specs.Names.{name_in, name_of as name_of_event, seal_key};
@@ -61,6 +62,13 @@ impl Tables {
         has_number(self.log.numbers(), self.accepted.numbers(&name), number)
     }
 
+    /// Whether two accepted events may differ that have one identifier, number and digest.
+    pub fn has_clash(&self) -> bool
+        ensures { result ≡ false → HasNoClash (log_of self.now) }
+    {
+        self.clash
+    }
+
     /// Whether an accepted event of the delegator seals this one.
     pub fn is_sealed(&self, delegator: &Prefix, event: &Event) -> bool
         ensures { result ≡ is_sealed (log_of self.now) delegator.now event.now }
@@ -83,16 +91,25 @@ impl Tables {
     pub fn establish(&mut self, number: u32, state: KeyState) -> Result<(), AllocError>
         requires held { number < length self.old.held }
         requires made { length state.since ≡ 1 }
-        ensures ok { OnOk result (self.new ≡ with_log (logs.established number (length self.old.entries) state self.old.log) self.old) }
+        ensures ok { OnOk result (self.new
+            ≡ with_log (logs.established number (length self.old.entries) state self.old.log) self.old) }
         ensures grows { OnOk result (GrowsByState state self.old.log self.new.log) }
         ensures extends { OnOk result (logs.Extends self.old.log self.new.log) }
         ensures err { OnErr result (self.new ≡ self.old) }
     {
+        let event = &self.events[number as usize];
+        self.clash = clashes_with(
+            self.clash,
+            self.events.as_slice(),
+            self.log.numbers(),
+            &self.accepted,
+            event,
+        );
         let noted = note_next(
             self.alloc,
             &mut self.accepted,
             &mut self.seals,
-            &self.events[number as usize],
+            event,
             self.log.len(),
             self.journal.entries.len(),
         );
@@ -108,13 +125,24 @@ impl Tables {
     /// Accepts the interaction of the body of a number, which goes onto the current state of its identifier.
     pub fn interact(&mut self, number: u32) -> Result<(), AllocError>
         requires held { number < length self.old.held }
-        requires room { (b : Body) → slice_get self.old.held number ≡ Some b → IfSome (logs.last_of (events.prefix_of b.event) self.old.log.states) (λ s. head_sn s + 1 < 2 ^ 64) }
-        ensures ok { OnOk result ((b : Body) → slice_get self.old.held number ≡ Some b → self.new ≡ with_log (logs.interacted number (length self.old.entries) (events.prefix_of b.event) (events.said_of b.event) self.old.log) self.old) }
-        ensures grows { OnOk result ((b : Body) → slice_get self.old.held number ≡ Some b → GrowsByInteraction (events.prefix_of b.event) (events.said_of b.event) self.old.log self.new.log) }
+        requires room { (b : Body) → slice_get self.old.held number ≡ Some b
+            → IfSome (logs.last_of (events.prefix_of b.event) self.old.log.states) (λ s. head_sn s + 1 < 2 ^ 64) }
+        ensures ok { OnOk result ((b : Body) → slice_get self.old.held number ≡ Some b
+            → self.new ≡ with_log (logs.interacted number (length self.old.entries) (events.prefix_of b.event)
+            (events.said_of b.event) self.old.log) self.old) }
+        ensures grows { OnOk result ((b : Body) → slice_get self.old.held number ≡ Some b
+            → GrowsByInteraction (events.prefix_of b.event) (events.said_of b.event) self.old.log self.new.log) }
         ensures extends { OnOk result (logs.Extends self.old.log self.new.log) }
         ensures err { OnErr result (self.new ≡ self.old) }
     {
         let event = &self.events[number as usize];
+        self.clash = clashes_with(
+            self.clash,
+            self.events.as_slice(),
+            self.log.numbers(),
+            &self.accepted,
+            event,
+        );
         let entries = note_next(
             self.alloc,
             &mut self.accepted,
@@ -142,6 +170,23 @@ fn first_named(events: &[Event], numbers: &[u32], places: &[u32], name: &Name) -
     ensures { result ≡ find (λ i. is_named name.now (event_there events.now (slice_get numbers.now i))) places.now }
 {
     places.iter().copied().find(|place| is_named(accepted_at(events, numbers, *place), name))
+}
+
+// Whether two accepted events may have one name, once this one is accepted too.
+fn clashes_with(
+    clash: bool,
+    events: &[Event],
+    numbers: &[u32],
+    accepted: &NamedPlaces,
+    event: &Event,
+) -> bool
+    ensures before { result ≡ false → clash ≡ false }
+    ensures new { result ≡ false
+        → find (λ i. is_named (name_of_event event.now) (event_there events.now (slice_get numbers.now i)))
+        (places_at accepted.now (name_of_event event.now)) ≡ None }
+{
+    let name = name_of(event);
+    clash || first_named(events, numbers, accepted.numbers(&name), &name).is_some()
 }
 
 // Whether it is an event with the name.
@@ -183,7 +228,8 @@ fn is_number_at(numbers: &[u32], place: u32, number: u32) -> bool
 
 // Whether an accepted event at one of the places is the holder's, and seals the name.
 fn has_seal(events: &[Event], numbers: &[u32], places: &[u32], key: &SealKey) -> bool
-    ensures { result ≡ list_any (λ i. is_seal_of key.now.holder key.now.name (event_there events.now (slice_get numbers.now i))) places.now }
+    ensures { result ≡ list_any (λ i. is_seal_of key.now.holder key.now.name
+        (event_there events.now (slice_get numbers.now i))) places.now }
 {
     places.iter().any(|place| is_sealing(accepted_at(events, numbers, *place), key))
 }
@@ -215,7 +261,8 @@ fn note_next(
     ensures named { OnOk result (Contains (places_at accepted.new (name_of_event event.now)) count) }
     ensures sealed { OnOk result (IsSealedAt (numbers_at ⟦<SealKey as Ord>⟧.cmp sealed.new) event.now count) }
     ensures kept { KeepsBelow count (places_at accepted.old) (places_at accepted.new) }
-    ensures kept_sealed { KeepsBelow count (numbers_at ⟦<SealKey as Ord>⟧.cmp sealed.old) (numbers_at ⟦<SealKey as Ord>⟧.cmp sealed.new) }
+    ensures kept_sealed { KeepsBelow count (numbers_at ⟦<SealKey as Ord>⟧.cmp sealed.old)
+        (numbers_at ⟦<SealKey as Ord>⟧.cmp sealed.new) }
 {
     let place = length_u32(count)?;
     note_accepted(alloc, accepted, sealed, event, place)?;
@@ -233,7 +280,8 @@ fn note_accepted(
     ensures named { OnOk result (Contains (places_at accepted.new (name_of_event event.now)) place) }
     ensures sealed { OnOk result (IsSealedAt (numbers_at ⟦<SealKey as Ord>⟧.cmp sealed.new) event.now place) }
     ensures kept { KeepsBelow place (places_at accepted.old) (places_at accepted.new) }
-    ensures kept_sealed { KeepsBelow place (numbers_at ⟦<SealKey as Ord>⟧.cmp sealed.old) (numbers_at ⟦<SealKey as Ord>⟧.cmp sealed.new) }
+    ensures kept_sealed { KeepsBelow place (numbers_at ⟦<SealKey as Ord>⟧.cmp sealed.old)
+        (numbers_at ⟦<SealKey as Ord>⟧.cmp sealed.new) }
 {
     accepted.add(name_of(event), place)?;
     let seals = seals(alloc, event)?;
@@ -247,8 +295,10 @@ fn note_seals(
     seals: &[EventSeal],
     place: u32,
 ) -> Result<(), AllocError>
-    ensures added { OnOk result ((seal : EventSealValue) → Contains seals.now seal → Contains (numbers_at ⟦<SealKey as Ord>⟧.cmp sealed.new (seal_key holder (name_in seal))) place) }
-    ensures kept { KeepsBelow place (numbers_at ⟦<SealKey as Ord>⟧.cmp sealed.old) (numbers_at ⟦<SealKey as Ord>⟧.cmp sealed.new) }
+    ensures added { OnOk result ((seal : EventSealValue) → Contains seals.now seal
+        → Contains (numbers_at ⟦<SealKey as Ord>⟧.cmp sealed.new (seal_key holder (name_in seal))) place) }
+    ensures kept { KeepsBelow place (numbers_at ⟦<SealKey as Ord>⟧.cmp sealed.old)
+        (numbers_at ⟦<SealKey as Ord>⟧.cmp sealed.new) }
 {
     for seal in seals {
         let name = sealed_name(seal);
@@ -270,7 +320,8 @@ fn sealed_name(seal: &EventSeal) -> Name
 
 // The events of these numbers leave the escrow. It takes no memory.
 fn leave(waiting: &mut Waiting, numbers: &[u32])
-    ensures { (n : ℕ) → held_by n waiting.new ≡ (if list_any (λ m. m == n) numbers.now then None else held_by n waiting.old) }
+    ensures { (n : ℕ) → held_by n waiting.new
+        ≡ (if list_any (λ m. m == n) numbers.now then None else held_by n waiting.old) }
 {
     for number in numbers {
         take_out(waiting, *number);

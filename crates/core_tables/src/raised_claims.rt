@@ -38,7 +38,8 @@ fn raise_claim(
     claim: &Claim,
 ) -> Result<(), AllocError>
     requires kept { IsKept event.now }
-    ensures ok { OnOk result (RaisesRows number (option_copied state.entry) event.now (claim.now ∷ []) claims.old claims.new) }
+    ensures ok { OnOk result (RaisesRows number (option_copied state.entry) event.now (claim.now ∷ []) claims.old
+        claims.new) }
     ensures err { OnErr result (claims.new ≡ claims.old) }
 {
     let Some(key) = claimed_key(state, event, claim) else {

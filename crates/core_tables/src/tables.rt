@@ -41,6 +41,8 @@ pub struct Tables {
     pub(crate) accepted: NamedPlaces,
     /// The places in the log of the events that seal a name.
     pub(crate) seals: Index<SealKey>,
+    /// Whether two accepted events may have one name.
+    pub(crate) clash: bool,
 }
 
 impl Model for Tables {
@@ -63,7 +65,7 @@ impl Model for Tables {
     ghost invariant = { λ t. are_paired t × IsPending t.claims
         × AreHinted (held_in t) t.journal.entries t.log.numbers t.settled t.waiting
         (numbers_at ⟦<Name as Ord>⟧.cmp t.names) (numbers_at ⟦<Name as Ord>⟧.cmp t.told) (places_at t.accepted)
-        (came_at t.came) (numbers_at ⟦<SealKey as Ord>⟧.cmp t.seals) };
+        (came_at t.came) (numbers_at ⟦<SealKey as Ord>⟧.cmp t.seals) t.clash };
 }
 
 impl Tables {
@@ -87,6 +89,7 @@ impl Tables {
             came: ClaimEntries::new(alloc),
             accepted: NamedPlaces::new(alloc),
             seals: Index::new(alloc),
+            clash: false,
         }
     }
 

@@ -61,7 +61,8 @@ impl DigestNumbers {
     pub fn insert(&mut self, digest: Option<Digest>, number: u32)
         requires room { ForSome digest (λ d. 0 < room_at self.old d) }
         requires new { ForSome digest (λ d. Contains (numbers_at self.old d) number → ⊥) }
-        ensures { (d : Digest) (n : ℕ) → Contains (numbers_at self.new d) n ↔ (((digest ≡ Some d) × (n ≡ number)) ⊎ Contains (numbers_at self.old d) n) }
+        ensures { (d : Digest) (n : ℕ) → Contains (numbers_at self.new d) n ↔ (((digest ≡ Some d) × (n ≡ number))
+            ⊎ Contains (numbers_at self.old d) n) }
     {
         if let Some(digest) = digest
             && let Some(those) = self.lists.get_mut(&digest)
@@ -72,7 +73,9 @@ impl DigestNumbers {
 
     /// Takes a number out at the digest, if there is one.
     pub fn remove(&mut self, digest: Option<Digest>, number: u32)
-        ensures left { (d : Digest) (n : ℕ) → Contains (numbers_at self.new d) n ↔ ((((digest ≡ Some d) × (n ≡ number)) → ⊥) × Contains (numbers_at self.old d) n) }
+        ensures left { (d : Digest) (n : ℕ)
+            → Contains (numbers_at self.new d) n ↔ ((((digest ≡ Some d) × (n ≡ number)) → ⊥)
+            × Contains (numbers_at self.old d) n) }
         ensures kept { (d : Digest) → room_at self.old d ≤ room_at self.new d }
     {
         if let Some(digest) = digest

@@ -1,5 +1,5 @@
 -- The event seals among values, with one value more.
-use Rattle.std.proofs.Common.{List, [], ◌∷◌, ◌++◌, Option, Some, None, refl, sym, ◌∙◌, ap, append-nil}
+use Rattle.std.proofs.Common.{List, [], ◌∷◌, ◌++◌, Option, Some, None, sym, ◌∙◌, ap, append-nil}
 use Rattle.std.specs.Prelude.{filter_map}
 use Rattle.std.proofs.lemmas.List.Elements.{filter_map-append}
 use Rattle.json_tree.specs.declared.tree.Tree.{Tree}
@@ -11,9 +11,6 @@ AreEach-push [] [] v f all is = (is, tt)
 AreEach-push [] (g ∷ found) v f all is = absurd all
 AreEach-push (u ∷ values) [] v f all is = absurd all
 AreEach-push (u ∷ values) (g ∷ found) v f all is = (all.0, AreEach-push values found v f all.1 is)
-
-pub AreSealsOf-start : AreSealsOf [] []
-AreSealsOf-start = record { found = []; each = tt; those = refl }
 
 -- a seal more
 pub AreSealsOf-seal : (values : List Tree) (seals : List EventSeal) (v : Tree) (s : EventSeal) → AreSealsOf values seals → Is v (Some s) → AreSealsOf (values ++ v ∷ []) (seals ++ s ∷ [])

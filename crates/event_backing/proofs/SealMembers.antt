@@ -55,11 +55,6 @@ seal-members e (i ∷ s ∷ d ∷ []) h =
     λ j. prefix j ∷ sn j ∷ said j ∷ []
 seal-members e (i ∷ s ∷ d ∷ m ∷ ms) h = cc
 
--- whether strings are a seal is told by their texts
-pub are_seal-texts : (e : Event) (prefix sn said : List ℕ)
-    → are_seal e (seal_members prefix sn said) ≡ (bytes_eq prefix (prefix_text (prefix_of e)) && bytes_eq sn (digits 16 false (sn_of e)) && bytes_eq said (digest_text (said_of e)))
-are_seal-texts e prefix sn said = refl
-
 -- what isn't three such strings is no seal
 pub are_seal-other : (e : Event) (ms : List Named) → ((prefix sn said : List ℕ) → ms ≢ seal_members prefix sn said) → are_seal e ms ≡ false
 are_seal-other e ms other = elim (cases_Bool (are_seal e ms)) [

@@ -11,5 +11,5 @@ mod witness;
 
 pub use backers::Backers;
 pub use event_seal::EventSeal;
-pub use laws::{added_members, backers_of_a_body, listed_are_held, sealed_by_parts};
+pub use laws::sealed_by_parts;
 pub use seal_search::{anchors, seals};

@@ -15,7 +15,8 @@ pub(crate) struct SealTexts<'a> {
 
 /// The texts, where the value is such an object.
 pub(crate) fn seal_texts(value: &Tree) -> Option<SealTexts<'_>>
-    ensures some { IfSome result (λ texts. members_of value.now ≡ seal_members texts.prefix.now texts.sn.now texts.said.now) }
+    ensures some { IfSome result (λ texts. members_of value.now
+        ≡ seal_members texts.prefix.now texts.sn.now texts.said.now) }
     ensures none { IfNone result ((prefix sn said : List ℕ) → members_of value.now ≢ seal_members prefix sn said) }
 {
     match value {
@@ -25,7 +26,8 @@ pub(crate) fn seal_texts(value: &Tree) -> Option<SealTexts<'_>>
 }
 
 fn texts_of(members: &[Member]) -> Option<SealTexts<'_>>
-    ensures some { IfSome result (λ texts. map named_value members.now ≡ seal_members texts.prefix.now texts.sn.now texts.said.now) }
+    ensures some { IfSome result (λ texts. map named_value members.now
+        ≡ seal_members texts.prefix.now texts.sn.now texts.said.now) }
     ensures none { IfNone result ((prefix sn said : List ℕ) → map named_value members.now ≢ seal_members prefix sn said) }
 {
     match members {

@@ -20,7 +20,8 @@ pub fn read_body(alloc: Global, bytes: &[u8]) -> Result<Event, ReadBody>
     ensures judged { Judges bytes.now result }
 
     // What is spelled is read, but for want of memory.
-    ensures whole { (event : Event) → SpellsEvent event bytes.now → length bytes.now ≤ 65535 → (result ≡ Ok event) ⊎ (result ≡ Err OutOfMemory) }
+    ensures whole { (event : Event) → SpellsEvent event bytes.now → length bytes.now ≤ 65535
+        → (result ≡ Ok event) ⊎ (result ≡ Err OutOfMemory) }
 {
     judge(alloc, bytes)
 }

@@ -52,7 +52,8 @@ pub(crate) fn split(values: &[Tree]) -> (&Tree, &[Tree])
 /// The values of an inception by name.
 pub(crate) fn inception_values(values: &[Tree]) -> InceptionValues<'_>
     requires { 11 ≤ length values.now }
-    ensures { values.now ≡ result.said.now ∷ result.prefix.now ∷ result.first.now ∷ result.kt.now ∷ result.keys.now ∷ result.nt.now
+    ensures { values.now ≡ result.said.now ∷ result.prefix.now ∷ result.first.now ∷ result.kt.now ∷
+        result.keys.now ∷ result.nt.now
         ∷ result.next.now ∷ result.toad.now ∷ result.list.now ∷ result.traits.now ∷ result.anchors.now ∷ result.rest.now }
 {
     let (said, rest) = split(values);
@@ -85,7 +86,8 @@ pub(crate) fn inception_values(values: &[Tree]) -> InceptionValues<'_>
 /// The values of a rotation by name.
 pub(crate) fn rotation_values(values: &[Tree]) -> RotationValues<'_>
     requires { length values.now ≡ 12 }
-    ensures { values.now ≡ result.said.now ∷ result.prefix.now ∷ result.sn.now ∷ result.prior.now ∷ result.kt.now ∷ result.keys.now ∷ result.nt.now
+    ensures { values.now ≡ result.said.now ∷ result.prefix.now ∷ result.sn.now ∷ result.prior.now ∷ result.kt.now
+        ∷ result.keys.now ∷ result.nt.now
         ∷ result.next.now ∷ result.toad.now ∷ result.cuts.now ∷ result.adds.now ∷ result.anchors.now ∷ [] }
 {
     let (said, rest) = split(values);

@@ -23,16 +23,20 @@ fn inception(
     values: &InceptionValues<'_>,
     delegator: Option<Prefix>,
 ) -> Result<Inception, ReadBody>
-    requires forms { AreOfForms inception_fields (values.now.said.now ∷ values.now.prefix.now ∷ values.now.first.now ∷ values.now.kt.now ∷ values.now.keys.now
+    requires forms { AreOfForms inception_fields
+        (values.now.said.now ∷ values.now.prefix.now ∷ values.now.first.now ∷ values.now.kt.now ∷ values.now.keys.now
         ∷ values.now.nt.now ∷ values.now.next.now ∷ values.now.toad.now ∷ values.now.list.now ∷ values.now.traits.now ∷ values.now.anchors.now ∷ []) }
     requires few { HasFewMembers values.now.keys.now × HasFewMembers values.now.next.now }
     requires short { HasFewDigits values.now.toad.now }
     requires delegator { IfSome delegator IsPrefix }
     ensures ranges { IfOk result (λ e. IsInception e) }
-    ensures parts { IfOk result (λ e. (values.now.said.now ∷ values.now.prefix.now ∷ values.now.first.now ∷ values.now.kt.now ∷ values.now.keys.now
+    ensures parts { IfOk result (λ e.
+        (values.now.said.now ∷ values.now.prefix.now ∷ values.now.first.now ∷ values.now.kt.now ∷ values.now.keys.now
         ∷ values.now.nt.now ∷ values.now.next.now ∷ values.now.toad.now ∷ values.now.list.now ∷ values.now.traits.now ∷ values.now.anchors.now ∷ delegator_values delegator) ≡ values_of (Event.Icp e)) }
-    ensures thresholds { IfOk result (λ _. AreThresholds values.now.kt.now values.now.keys.now values.now.nt.now values.now.next.now) }
-    ensures fault { IfErr result (λ fault. IsThresholdFault (AreThresholds values.now.kt.now values.now.keys.now values.now.nt.now values.now.next.now) fault) }
+    ensures thresholds { IfOk result (λ _. AreThresholds values.now.kt.now values.now.keys.now values.now.nt.now
+        values.now.next.now) }
+    ensures fault { IfErr result (λ fault. IsThresholdFault
+        (AreThresholds values.now.kt.now values.now.keys.now values.now.nt.now values.now.next.now) fault) }
 {
     let set = key_set(alloc, values.kt, values.keys, values.nt, values.next)?;
     let list = fixed_keys_in(alloc, values.list)?;

@@ -1,15 +1,9 @@
 //! Laws of the definition of bodies.
 ghost use Rattle.std.specs.Prelude.{◌≡◌, ℕ, List};
 ghost use Rattle.event_body.specs.Judging.{SpellsEvent};
-ghost use Rattle.event_body.specs.Kept.{IsKept};
 ghost use Rattle.event_body.specs.declared.event.Event.{Event};
 
 /// One list of bytes spells at most one event.
 pub fn one_event()
     ensures { (one other : Event) (bytes : List ℕ) → SpellsEvent one bytes → SpellsEvent other bytes → one ≡ other }
-{}
-
-/// An event that a body spells has parts in their ranges, and lists that are short enough.
-pub fn kept()
-    ensures { (event : Event) (bytes : List ℕ) → SpellsEvent event bytes → IsKept event }
 {}

@@ -27,6 +27,6 @@ pub use event::{
 };
 pub use inception::Inception;
 pub use interaction::Interaction;
-pub use laws::{kept, one_event};
+pub use laws::one_event;
 pub use receipt_body::ReceiptBody;
 pub use rotation::Rotation;

@@ -17,15 +17,19 @@ use std::alloc::Global;
 
 // The rotation of these values.
 fn rotation(alloc: Global, values: &RotationValues<'_>) -> Result<Rotation, ReadBody>
-    requires forms { AreOfForms rotation_fields (values.now.said.now ∷ values.now.prefix.now ∷ values.now.sn.now ∷ values.now.prior.now ∷ values.now.kt.now
+    requires forms { AreOfForms rotation_fields
+        (values.now.said.now ∷ values.now.prefix.now ∷ values.now.sn.now ∷ values.now.prior.now ∷ values.now.kt.now
         ∷ values.now.keys.now ∷ values.now.nt.now ∷ values.now.next.now ∷ values.now.toad.now ∷ values.now.cuts.now ∷ values.now.adds.now ∷ values.now.anchors.now ∷ []) }
     requires few { HasFewMembers values.now.keys.now × HasFewMembers values.now.next.now }
     requires short { HasFewDigits values.now.sn.now × HasFewDigits values.now.toad.now }
     ensures ranges { IfOk result (λ e. IsRotation e) }
-    ensures parts { IfOk result (λ e. (values.now.said.now ∷ values.now.prefix.now ∷ values.now.sn.now ∷ values.now.prior.now ∷ values.now.kt.now
+    ensures parts { IfOk result (λ e.
+        (values.now.said.now ∷ values.now.prefix.now ∷ values.now.sn.now ∷ values.now.prior.now ∷ values.now.kt.now
         ∷ values.now.keys.now ∷ values.now.nt.now ∷ values.now.next.now ∷ values.now.toad.now ∷ values.now.cuts.now ∷ values.now.adds.now ∷ values.now.anchors.now ∷ []) ≡ values_of (Event.Rot e)) }
-    ensures thresholds { IfOk result (λ _. AreThresholds values.now.kt.now values.now.keys.now values.now.nt.now values.now.next.now) }
-    ensures fault { IfErr result (λ fault. IsThresholdFault (AreThresholds values.now.kt.now values.now.keys.now values.now.nt.now values.now.next.now) fault) }
+    ensures thresholds { IfOk result (λ _. AreThresholds values.now.kt.now values.now.keys.now values.now.nt.now
+        values.now.next.now) }
+    ensures fault { IfErr result (λ fault. IsThresholdFault
+        (AreThresholds values.now.kt.now values.now.keys.now values.now.nt.now values.now.next.now) fault) }
 {
     let set = key_set(alloc, values.kt, values.keys, values.nt, values.next)?;
     let cuts = fixed_keys_in(alloc, values.cuts)?;

@@ -35,8 +35,10 @@ impl<K: Ord + Drop> Index<K> {
     /// more: they go, and what stays rises.
     pub fn add(&mut self, key: K, number: u32) -> Result<(), AllocError>
         ensures added { OnOk result (Contains (numbers_at K.cmp self.new key) number) }
-        ensures kept { (q : K) (n : ℕ) → n < number → Contains (numbers_at K.cmp self.old q) n → Contains (numbers_at K.cmp self.new q) n }
-        ensures level { OnOk result ((q : K) → Contains (numbers_at K.cmp self.old q) number → Contains (numbers_at K.cmp self.new q) number) }
+        ensures kept { (q : K) (n : ℕ) → n < number → Contains (numbers_at K.cmp self.old q) n
+            → Contains (numbers_at K.cmp self.new q) n }
+        ensures level { OnOk result ((q : K) → Contains (numbers_at K.cmp self.old q) number
+            → Contains (numbers_at K.cmp self.new q) number) }
     {
         let those = self.numbers.entry(key)?.or_insert(Rising::new(self.alloc));
         replace_from(those, number)

@@ -1,26 +1,18 @@
 -- Where keys stand in a list, and in a list without the cuts with the adds behind it.
-use Rattle.std.proofs.Common.{◌≡◌, ℕ, zero, suc, ◌+◌, ◌<◌, ◌≤◌, Bool, true, false, not, ◌&&◌, ◌||◌, List, [], ◌∷◌, ◌++◌, Option, Some, None, refl, sym, ◌∙◌, ap, arith, inl, inr, length}
-use Rattle.std.specs.Prelude.{IfNone, IfSome, filter, position, slice_get, take}
+use Rattle.std.proofs.Common.{◌≡◌, ℕ, zero, suc, ◌+◌, ◌<◌, ◌≤◌, Bool, true, false, not, ◌&&◌, ◌||◌, List, [], ◌∷◌, ◌++◌, Option, Some, None, refl, ◌∙◌, ap, arith, inl, inr, length}
+use Rattle.std.specs.Prelude.{IfNone, filter, position, slice_get, take}
 use Rattle.std.specs.List.{position_or_len}
 use Rattle.std.proofs.lemmas.Bool.{and_left, and_right, cases_Bool, cases_lt, cond_below, not_from_false, not_from_true, or_from}
 use Rattle.std.proofs.Math.Bool.{or_comm}
 use Rattle.std.proofs.lemmas.List.Folds.{list_any-append, list_any_none}
-use Rattle.std.proofs.lemmas.List.Quantifiers.{position-Some}
 use Rattle.std.proofs.lemmas.List.Sums.{fails_before_first}
-use Rattle.std.proofs.lemmas.Option.{slice_get-get_or, slice_get_within}
+use Rattle.std.proofs.lemmas.Option.{slice_get_within}
 use Rattle.cesr_codes.specs.declared.key.Key.{Key}
 use Rattle.event_body.specs.declared.rotation.Rotation.{Rotation}
 use Rattle.key_state.specs.KeyStates.{changed_list}
 use Rattle.key_state.specs.Same.{has_key, same_key}
 use Rattle.key_state.proofs.Same.{same_key_is, same_key_itself}
 use Rattle.event_rules.specs.Claims.{has_this}
-
--- the first place of a key has the key
-pub first_has : (keys : List Key) (key : Key) (place : Option ℕ) → place ≡ position (λ held. same_key held key) keys → IfSome place (λ n. has_this (slice_get keys n) key ≡ true)
-first_has keys key None is = tt
-first_has keys key (Some n) is =
-    let found = position-Some (λ held. same_key held key) keys n key (sym is) in
-    ap (λ held. has_this held key) (slice_get-get_or keys n key found.0) ∙ found.1
 
 -- where there is no first place, the key isn't in the list
 pub none_has : (keys : List Key) (key : Key) (place : Option ℕ) → place ≡ position (λ held. same_key held key) keys → IfNone place (has_key keys key ≡ false)

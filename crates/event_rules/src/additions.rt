@@ -1,19 +1,19 @@
 //! What a claim adds to the support of its event.
-ghost use Rattle.std.specs.Prelude.{◌≡◌, ◌==◌, ℕ, true};
+ghost use Rattle.std.specs.Prelude.{◌≡◌, ◌==◌, ℕ, true, false, slice_get, IfNone, IfSome};
 ghost use Rattle.std.specs.Option.{option_copied};
 ghost use Rattle.event_rules.specs.Additions.{adds, is_number};
-ghost use Rattle.event_rules.specs.Claims.{is_held_as};
+ghost use Rattle.event_rules.specs.Claims.{has_this, is_held_as};
 ghost use Rattle.event_rules.specs.Parts.{Part, brings_all, opens_at};
 ghost use Rattle.key_state.specs.Exposure.{own_rules};
 ghost use Rattle.key_state.specs.Kept.{IsKept};
-ghost use Rattle.key_state.specs.Same.{are_witnesses};
+ghost use Rattle.key_state.specs.Same.{are_witnesses, has_key};
 
 use crate::signers::opens_commitment;
-use crate::witnesses::place_of;
+use crate::witnesses::{place_of, witness};
 use cesr_codes::{IndexedSig, Key};
 use event_body::Event;
 use journal::Claim;
-use key_state::KeyState;
+use key_state::{KeyState, is_key};
 
 /// The parts that a claim adds to the support of its event, once its signature has a yes.
 #[derive(Clone, Copy, PartialEq, Eq, Debug)]
@@ -37,8 +37,33 @@ impl Additions {
         Additions {
             index: index_of(claim),
             reveal: revealed_by(state, event, claim),
-            backer: place_of(state, event, key),
+            backer: backer_of(state, event, claim, key),
         }
+    }
+}
+
+// A place of the key in the event's own list of witnesses. A receipt by its witness's index mostly says it: else the list is gone over.
+fn backer_of(state: Option<&KeyState>, event: &Event, claim: &Claim, key: &Key) -> Option<u16>
+    requires { IsKept event.now }
+    ensures found { IfSome result (λ place. has_this
+        (slice_get (own_rules (option_copied state.entry) event.now).witnesses place) key.now ≡ true) }
+    ensures none { IfNone result (has_key (own_rules (option_copied state.entry) event.now).witnesses key.now ≡ false) }
+{
+    if let Claim::Witness(sig) = claim
+        && is_witness_at(state, event, sig.index, key)
+    {
+        return Some(sig.index);
+    }
+    place_of(state, event, key)
+}
+
+// Whether the key stands at the place of the event's own list of witnesses.
+fn is_witness_at(state: Option<&KeyState>, event: &Event, place: u16, key: &Key) -> bool
+    ensures { result ≡ has_this (slice_get (own_rules (option_copied state.entry) event.now).witnesses place) key.now }
+{
+    match witness(state, event, usize::from(place)) {
+        Some(held) => is_key(&held, key),
+        None => false,
     }
 }
 

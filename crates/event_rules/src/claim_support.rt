@@ -53,7 +53,8 @@ fn is_signed_at<V: Verdicts>(
     event: &Event,
     index: u16,
 ) -> bool
-    ensures { result ≡ list_any (is_held_so (V.says verdicts.now) (own_rules (option_copied state.entry) event.now) (λ s. s.index == index)) claims.now }
+    ensures { result ≡ list_any (is_held_so (V.says verdicts.now)
+        (own_rules (option_copied state.entry) event.now) (λ s. s.index == index)) claims.now }
 {
     claims
         .iter()
@@ -68,7 +69,8 @@ fn has_index<V: Verdicts>(
     claim: &Claim,
     index: u16,
 ) -> bool
-    ensures { result ≡ is_held_so (V.says verdicts.now) (own_rules (option_copied state.entry) event.now) (λ s. s.index == index) claim.now }
+    ensures { result ≡ is_held_so (V.says verdicts.now) (own_rules (option_copied state.entry) event.now)
+        (λ s. s.index == index) claim.now }
 {
     match good_sig(verdicts, state, event, claim) {
         Some(sig) => sig.index == index,
@@ -83,7 +85,9 @@ fn good_sig<V: Verdicts>(
     event: &Event,
     claim: &Claim,
 ) -> Option<IndexedSig>
-    ensures { (test : IndexedSig → Bool) → passes test result ≡ is_held_so (V.says verdicts.now) (own_rules (option_copied state.entry) event.now) test claim.now }
+    ensures { (test : IndexedSig → Bool)
+        → passes test result ≡ is_held_so (V.says verdicts.now) (own_rules (option_copied state.entry) event.now) test
+        claim.now }
 {
     let Claim::Held(sig) = claim else {
         return None;
@@ -104,7 +108,9 @@ fn is_opened<V: Verdicts>(
     event: &Event,
     place: u16,
 ) -> bool
-    ensures { result ≡ list_any (is_held_so (V.says verdicts.now) (own_rules (option_copied state.entry) event.now) (opens_at (option_copied state.entry) event.now place)) claims.now }
+    ensures { result ≡ list_any (is_held_so (V.says verdicts.now)
+        (own_rules (option_copied state.entry) event.now) (opens_at (option_copied state.entry) event.now place))
+        claims.now }
 {
     claims
         .iter()
@@ -119,7 +125,8 @@ fn opens_place<V: Verdicts>(
     claim: &Claim,
     place: u16,
 ) -> bool
-    ensures { result ≡ is_held_so (V.says verdicts.now) (own_rules (option_copied state.entry) event.now) (opens_at (option_copied state.entry) event.now place) claim.now }
+    ensures { result ≡ is_held_so (V.says verdicts.now) (own_rules (option_copied state.entry) event.now)
+        (opens_at (option_copied state.entry) event.now place) claim.now }
 {
     match good_sig(verdicts, state, event, claim) {
         Some(sig) => opens_commitment(state, event, place, &sig),
@@ -129,7 +136,8 @@ fn opens_place<V: Verdicts>(
 
 // Whether the witness at a place has a good signature, where there is one.
 fn is_backer<V: Verdicts>(verdicts: &V, state: Option<&KeyState>, event: &Event, place: u16) -> bool
-    ensures { result ≡ is_so (V.backs verdicts.now) (slice_get (own_rules (option_copied state.entry) event.now).witnesses place) }
+    ensures { result ≡ is_so (V.backs verdicts.now)
+        (slice_get (own_rules (option_copied state.entry) event.now).witnesses place) }
 {
     match witness(state, event, usize::from(place)) {
         Some(key) => verdicts.is_backed_by(&key),

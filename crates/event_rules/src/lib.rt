@@ -4,7 +4,6 @@
 mod additions;
 mod claim_support;
 mod delegation;
-mod laws;
 mod order;
 mod places;
 mod signers;
@@ -16,7 +15,6 @@ mod witnesses;
 pub use additions::{Additions, reveal_of};
 pub use claim_support::ClaimSupport;
 pub use delegation::{delegator_of, forbids_delegation, is_delegated};
-pub use laws::claims_support;
 pub use order::{is_behind, is_inception, prior_of, takes};
 pub use signers::{claimed_key, claimed_sig, signing_keys};
 pub use support::Support;

@@ -23,5 +23,6 @@ pub trait Support {
 
     /// A number that the witnesses with a good signature are not more than, told without going over them.
     fn most_backers(&self) -> u64
-        ensures most { (bound : ℕ) → length (filter (λ n. has self.now (parts.backer n)) (numbers_below bound)) ≤ result };
+        ensures most { (bound : ℕ) → length (filter (λ n. has self.now (parts.backer n)) (numbers_below bound))
+            ≤ result };
 }

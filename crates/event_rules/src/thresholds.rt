@@ -56,7 +56,8 @@ fn indices_below<S: Support>(support: &S, count: u16) -> Places
 #[tactic(auto, unfolding(sith::specs::Tests::satisfied))]
 fn meets_keys(state: Option<&KeyState>, event: &Event, indices: &[u16]) -> bool
     requires { IsKept event.now }
-    ensures { result ≡ satisfied (own_rules (option_copied state.entry) event.now).kt (length (own_rules (option_copied state.entry) event.now).keys) indices.now }
+    ensures { result ≡ satisfied (own_rules (option_copied state.entry) event.now).kt
+        (length (own_rules (option_copied state.entry) event.now).keys) indices.now }
 {
     let count = key_count(state, event);
     match event {

@@ -75,8 +75,10 @@ pub(crate) fn place_count(state: Option<&KeyState>, event: &Event) -> u16
 #[tactic(auto, using(crate::proofs::KeyPlaces::few_changed, crate::proofs::ChangedPlaces::place_within))]
 pub(crate) fn place_of(state: Option<&KeyState>, event: &Event, key: &Key) -> Option<u16>
     requires { IsKept event.now }
-    ensures found { IfSome result (λ place. has_this (slice_get (own_rules (option_copied state.entry) event.now).witnesses place) key.now ≡ true) }
-    ensures none { IfNone result (same.has_key (own_rules (option_copied state.entry) event.now).witnesses key.now ≡ false) }
+    ensures found { IfSome result (λ place. has_this
+        (slice_get (own_rules (option_copied state.entry) event.now).witnesses place) key.now ≡ true) }
+    ensures none { IfNone result (same.has_key (own_rules (option_copied state.entry) event.now).witnesses key.now
+        ≡ false) }
 {
     let place = match event {
         Event::Icp(event) | Event::Dip(event) => place_in(event.list.as_slice(), key)?,

@@ -124,7 +124,8 @@ pub(crate) fn with_digest(alloc: Global, event: &Event, said: Digest) -> Result<
 }
 
 fn sealed_inception(alloc: Global, event: &Inception, said: Digest) -> Result<Inception, AllocError>
-    ensures { IfOk result (λ sealed. sealed ≡ record event.now { said = said; prefix = specs.sealed_prefix event.now.prefix said }) }
+    ensures { IfOk result (λ sealed. sealed
+        ≡ record event.now { said = said; prefix = specs.sealed_prefix event.now.prefix said }) }
 {
     let mut sealed = event.copy(alloc)?;
     sealed.said = said;

@@ -116,7 +116,8 @@ fn push_rotation(alloc: Global, values: &mut Vec<Tree>, event: &Rotation) -> Res
 }
 
 fn push_changes(alloc: Global, values: &mut Vec<Tree>, event: &Rotation) -> Result<(), AllocError>
-    ensures { OnOk result (values.new.items ≡ values.old.items ++ number_value event.now.toad ∷ keys_value event.now.cuts ∷ keys_value event.now.adds ∷ []) }
+    ensures { OnOk result (values.new.items ≡ values.old.items
+        ++ number_value event.now.toad ∷ keys_value event.now.cuts ∷ keys_value event.now.adds ∷ []) }
 {
     values.push(number_tree(alloc, event.toad)?)?;
     values.push(keys_tree(alloc, &event.cuts)?)?;

@@ -1,12 +1,11 @@
 -- Each element at its first coming: what one more element adds.
 use Rattle.std.proofs.Common.{◌≡◌, Bool, true, false, not, List, [], ◌∷◌, ◌++◌, refl, sym, ◌∙◌, ap, inl, inr, append-nil, ◌≤◌, length, arith}
-use Rattle.std.specs.Prelude.{filter, bytes_eq, flat_map}
+use Rattle.std.specs.Prelude.{filter, bytes_eq}
 use Rattle.std.specs.List.{list_any}
 use Rattle.std.specs.Cmp.Lexicographic.{bytes_decides}
 use Rattle.std.proofs.lemmas.List.Elements.{filter-append}
 use Rattle.std.proofs.lemmas.Bool.{cases_Bool, or_parts, or_cases}
 use Rattle.std.proofs.lemmas.List.Filters.{length-filter_both}
-use Rattle.journal.specs.History.{Told, taken, bodies}
 use Rattle.key_state.specs.Same.{distinct}
 use Rattle.journal.specs.Logs.{Body, same_body}
 
@@ -59,7 +58,3 @@ unfolding distinct
 distinct_shorter same [] = omega arith
 distinct_shorter same (x ∷ xs) =
     omega (arith, length-filter_both (λ y. not (same x y)) (λ y. not (not (same x y))) (λ y. refl) (distinct same xs), distinct_shorter same xs)
-
-pub bodies_shorter : (told : List Told) → length (bodies [] told) ≤ length (flat_map taken told)
-unfolding bodies
-bodies_shorter told = distinct_shorter same_body (flat_map taken told)

@@ -24,7 +24,9 @@ pub fn conflict_sets(
     requires paired { length bodies.now ≡ length events.now }
     requires held { All (λ n. n < length bodies.now) counted.now }
     requires differ { AllPairs (λ x y. bytes_eq x y ≡ false) bodies.now }
-    ensures conflicts { (held : List Body) → map (λ b. b.bytes) held ≡ bodies.now → map (λ b. b.event) held ≡ events.now → IfOk result (λ sets. AreConflicts (chosen held counted.now) (map (λ set. chosen held set.items) sets.items)) }
+    ensures conflicts { (held : List Body) → map (λ b. b.bytes) held ≡ bodies.now
+        → map (λ b. b.event) held ≡ events.now
+        → IfOk result (λ sets. AreConflicts (chosen held counted.now) (map (λ set. chosen held set.items) sets.items)) }
     ensures held { IfOk result (λ sets. All (λ set. All (λ n. n < length bodies.now) set.items) sets.items) }
 {
     let numbers = in_order(alloc, bodies, events, counted)?;
@@ -39,7 +41,8 @@ fn in_order(
     counted: &[u32],
 ) -> Result<Vec<u32>, AllocError>
     requires held { All (λ n. n < length bodies.now) counted.now }
-    ensures rising { IfOk result (λ numbers. AllPairs (λ m n. number_cmp bodies.now events.now m n ≡ Less) numbers.items) }
+    ensures rising { IfOk result (λ numbers. AllPairs (λ m n. number_cmp bodies.now events.now m n ≡ Less)
+        numbers.items) }
     ensures same { IfOk result (λ numbers. (n : ℕ) → Contains numbers.items n ↔ Contains counted.now n) }
     ensures held { IfOk result (λ numbers. All (λ n. n < length bodies.now) numbers.items) }
 {
@@ -81,7 +84,8 @@ fn is_elsewhere(events: &[Event], group: &[u32], number: u32) -> bool
 
 // Keeps a group of two or more as a set.
 fn close(sets: &mut Vec<Vec<u32>>, group: Vec<u32>) -> Result<(), AllocError>
-    ensures { OnOk result (map (λ set. set.items) sets.new.items ≡ map (λ set. set.items) sets.old.items ++ as_set group.items) }
+    ensures { OnOk result (map (λ set. set.items) sets.new.items ≡ map (λ set. set.items) sets.old.items
+        ++ as_set group.items) }
 {
     if group.len() >= 2 {
         sets.push(group)?;

@@ -20,7 +20,8 @@ pub fn live(
     prefix: &Prefix,
 ) -> Result<Vec<u32>, AllocError>
     requires { All (λ n. n < length events.now) accepted.now }
-    ensures live { (held : List Body) → map (λ b. b.event) held ≡ events.now → IfOk result (λ numbers. chosen held numbers.items ≡ logs.live (chosen held accepted.now) prefix.now) }
+    ensures live { (held : List Body) → map (λ b. b.event) held ≡ events.now
+        → IfOk result (λ numbers. chosen held numbers.items ≡ logs.live (chosen held accepted.now) prefix.now) }
     ensures held { IfOk result (λ numbers. All (λ n. n < length events.now) numbers.items) }
 {
     let mut numbers = Vec::new(alloc);

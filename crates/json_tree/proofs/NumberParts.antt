@@ -1,8 +1,8 @@
 -- The parts of a number, each the longest that stands.
-use Rattle.std.proofs.Common.{◌≡◌, ◌≢◌, ℕ, ◌≤◌, ◌⊎◌, inl, inr, List, [], ◌∷◌, ◌++◌, length, refl, sym, ap, subst, ◌∙◌, append_assoc, arith}
+use Rattle.std.proofs.Common.{◌≡◌, ◌≢◌, ℕ, ◌≤◌, ◌⊎◌, inl, inr, List, [], ◌∷◌, ◌++◌, length, refl, sym, ap, subst, ◌∙◌, arith}
 use Rattle.json_tree.specs.Fronts.{TakesLongest, NoneStands, StartsWith, IsEither}
 use Rattle.json_tree.specs.Numbers.{IsDigit, AreDigits, IsDigitRun, IsMinus, IsInt, IsFrac, IsSign, IsPower, IsExp, IsNumber, IsNumberByte}
-use Rattle.json_tree.proofs.Takes.{first_same, takes_nothing, takes_as, none_as, takes_behind, Joined, takes_joined, none_joined}
+use Rattle.json_tree.proofs.Takes.{first_same, takes_nothing, takes_as, takes_behind, Joined, takes_joined}
 
 abbrev NoDigit : List ℕ → Type 0
 NoDigit bytes = (rest : List ℕ) → ¬ StartsWith IsDigit bytes rest
@@ -43,12 +43,6 @@ int_is_run [] int = int
 int_is_run (b ∷ bs) (inl zero) = ((omega (arith, zero.0), omega (arith, zero.0)), subst AreDigits (sym zero.1) tt)
 int_is_run (b ∷ bs) (inr some) = ((omega (arith, some.0), some.1), some.2)
 
-run_is_int : (text more bytes : List ℕ) → ((rest : List ℕ) → bytes ≢ 48 ∷ rest) → bytes ≡ text ++ more → IsDigitRun text → IsInt text
-run_is_int [] more bytes other e run = run
-run_is_int (b ∷ bs) more bytes other e run =
-    let not_zero : b ≢ 48 = λ zero. other (bs ++ more) (e ∙ ap (λ c. c ∷ (bs ++ more)) zero) in
-    inr (omega (arith, run.0, not_zero), run.0.1, run.1)
-
 zero_longest : (bytes rest : List ℕ) → bytes ≡ 48 ∷ rest → (other more : List ℕ) → IsInt other → bytes ≡ other ++ more → length rest ≤ length more
 zero_longest bytes rest e [] more int same = absurd int
 zero_longest bytes rest e (b ∷ bs) more (inl zero) same =
@@ -62,26 +56,9 @@ zero_longest bytes rest e (b ∷ bs) more (inr some) same =
 pub int_zero : (bytes rest : List ℕ) → bytes ≡ 48 ∷ rest → TakesLongest IsInt bytes rest
 int_zero bytes rest e = record { front = 48 ∷ []; is = inl (refl, refl); whole = e; longest = zero_longest bytes rest e }
 
-pub int_run : (bytes rest : List ℕ) → ((rest : List ℕ) → bytes ≢ 48 ∷ rest) → TakesLongest IsDigitRun bytes rest → TakesLongest IsInt bytes rest
-int_run bytes rest other t = record {
-  front = t.front;
-  is = run_is_int t.front rest bytes other t.whole t.is;
-  whole = t.whole;
-  longest = λ text more int e. t.longest text more (int_is_run text int) e;
-}
-
-pub none_int : (bytes : List ℕ) → NoneStands IsDigitRun bytes → NoneStands IsInt bytes
-none_int bytes none = none_as IsDigitRun IsInt int_is_run bytes none
-
 -- frac
 pub frac_some : (bytes digits rest : List ℕ) → bytes ≡ 46 ∷ digits → TakesLongest IsDigitRun digits rest → TakesLongest IsFrac bytes rest
 frac_some bytes digits rest e t = takes_behind IsDigitRun IsFrac (λ b bs f. f.1) 46 (λ bs run. (refl, run)) bytes digits rest e t
-
-pub frac_no_point : (bytes : List ℕ) → ((rest : List ℕ) → bytes ≢ 46 ∷ rest) → TakesLongest IsFrac bytes bytes
-frac_no_point bytes other = takes_nothing IsFrac bytes tt (λ b bs more f e. other (bs ++ more) (e ∙ ap (λ c. c ∷ (bs ++ more)) f.0))
-
-pub frac_no_digits : (bytes digits : List ℕ) → bytes ≡ 46 ∷ digits → NoneStands IsDigitRun digits → TakesLongest IsFrac bytes bytes
-frac_no_digits bytes digits point none = takes_nothing IsFrac bytes tt (λ b bs more f e. none bs more f.1 (let tails : digits ≡ bs ++ more = cc in tails))
 
 -- exp
 pub exp_some : (bytes power rest : List ℕ) → StartsWith (IsEither 101 69) bytes power → TakesLongest IsPower power rest → TakesLongest IsExp bytes rest
@@ -89,9 +66,6 @@ exp_some bytes power rest e t = takes_behind IsPower IsExp (λ c cs x. x.1) e.0 
 
 pub exp_none : (bytes : List ℕ) → ((rest : List ℕ) → ¬ StartsWith (IsEither 101 69) bytes rest) → TakesLongest IsExp bytes bytes
 exp_none bytes other = takes_nothing IsExp bytes tt (λ b bs more x e. other (bs ++ more) (b, x.0, e))
-
-pub exp_no_power : (bytes power : List ℕ) → StartsWith (IsEither 101 69) bytes power → NoneStands IsPower power → TakesLongest IsExp bytes bytes
-exp_no_power bytes power first none = takes_nothing IsExp bytes tt (λ c cs more x e. let starts = first.2 in none cs more x.1 (let tails : power ≡ cs ++ more = cc in tails))
 
 -- [ minus / plus ]
 pub sign_some : (bytes rest : List ℕ) → StartsWith (IsEither 43 45) bytes rest → TakesLongest IsSign bytes rest
@@ -115,10 +89,6 @@ power_from text p = (p.sign, p.digits, p.is_sign, p.is_digits, p.whole)
 pub power_some : (bytes middle rest : List ℕ) → TakesLongest IsSign bytes middle → TakesLongest IsDigitRun middle rest → TakesLongest IsPower bytes rest
 power_some bytes middle rest s t =
     takes_as (Joined IsSign IsDigitRun) IsPower power_to power_from bytes rest (takes_joined IsSign IsDigitRun sign_digits_apart bytes middle rest s t)
-
-pub power_none : (bytes middle : List ℕ) → TakesLongest IsSign bytes middle → NoneStands IsDigitRun middle → NoneStands IsPower bytes
-power_none bytes middle s none =
-    none_as (Joined IsSign IsDigitRun) IsPower power_from bytes (none_joined IsSign IsDigitRun sign_digits_apart (λ run. run) bytes middle s none)
 
 -- all of it
 digits_at : (bs w : List ℕ) (c : ℕ) → AreDigits (bs ++ c ∷ w) → IsDigit c
@@ -162,13 +132,6 @@ minus_apart [] w q c minus longer j = omega (arith, longer.0, starts_with_int c 
 minus_apart (b ∷ []) w q c minus longer j = cc (longer.1)
 minus_apart (b ∷ d ∷ p) w q c minus longer j = cc (longer.1)
 
-no_int_in_nothing : (int more : List ℕ) → IsDigitRun int → [] ≡ int ++ more → ⊥
-no_int_in_nothing [] more run e = run
-no_int_in_nothing (b ∷ int) more run e = cc
-
-never_empty : IntFracExp [] → ⊥
-never_empty j = no_int_in_nothing j.0 j.1 (int_is_run j.0 j.2) j.4
-
 number_to : (text : List ℕ) → Joined IsMinus IntFracExp text → IsNumber text
 number_to text j = record {
   minus = j.0;
@@ -190,13 +153,6 @@ number_some bytes a b c rest minus int frac exp =
     takes_as (Joined IsMinus IntFracExp) IsNumber number_to number_from bytes rest
     (takes_joined IsMinus IntFracExp minus_apart bytes a rest minus
     (takes_joined IsInt FracExp int_apart a b rest int (takes_joined IsFrac IsExp frac_exp_apart b c rest frac exp)))
-
-no_int_first : (a : List ℕ) → NoneStands IsInt a → NoneStands IntFracExp a
-no_int_first a none front more j e = none j.0 (j.1 ++ more) j.2 (e ∙ ap (λ l. l ++ more) j.4 ∙ append_assoc j.0 j.1 more)
-
-pub number_none : (bytes a : List ℕ) → TakesLongest IsMinus bytes a → NoneStands IsInt a → NoneStands IsNumber bytes
-number_none bytes a minus none =
-    none_as (Joined IsMinus IntFracExp) IsNumber number_from bytes (none_joined IsMinus IntFracExp minus_apart never_empty bytes a minus (no_int_first a none))
 
 -- the first byte of a number
 minus_or_digit : (minus int more : List ℕ) → IsMinus minus → IsDigitRun int → (b : ℕ) × (bs : List ℕ) × ((b ≡ 45) ⊎ IsDigit b) × (minus ++ (int ++ more) ≡ b ∷ bs)

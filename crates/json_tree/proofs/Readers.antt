@@ -55,14 +55,6 @@ reads_object below depth is bytes named rest r =
 pub refuses_object : (below depth : ℕ) → below + 1 ≡ depth → (bytes : List ℕ) → NoItems (FitsMember below) member_text 125 bytes → NoValue depth (123 ∷ bytes)
 refuses_object below depth is bytes none = subst (λ d. NoValue d (123 ∷ bytes)) is (none_object below bytes none)
 
--- a member
-pub reads_member : (depth : ℕ) (bytes name behind : List ℕ) (value : Tree) (rest : List ℕ) → ReadsName bytes name behind → ReadsValue depth behind value rest → ReadsMember depth bytes (record { name = name; value = value }) rest
-reads_member depth bytes name behind value rest n v = record {
-  fits = (n.string, v.fits);
-  whole = n.whole ∙ ap (λ l. 34 ∷ (name ++ 34 ∷ (58 ∷ l))) v.whole ∙ sym (member_whole (record { name = name; value = value }) rest);
-  longest = v.longest;
-}
-
 behind_58 : (x y : List ℕ) → 58 ∷ x ≡ 58 ∷ y → x ≡ y
 behind_58 x y e = cc
 

@@ -5,9 +5,9 @@ use Rattle.json_tree.specs.Fronts.{NoneStands}
 use Rattle.json_tree.specs.Numbers.{IsNumber}
 use Rattle.json_tree.specs.Strings.{IsString}
 use Rattle.json_tree.specs.Spelling.{spelling, IsJson, member_text, Fits, FitsMember}
-use Rattle.json_tree.specs.Reading.{NoValue, NoWord, NoItems, NoName, NoMember}
+use Rattle.json_tree.specs.Reading.{NoValue, NoWord, NoItems}
 use Rattle.json_tree.proofs.Trees.{Kind, null, bool, number, str, list, object, kind, nesting-list, nesting-object}
-use Rattle.json_tree.proofs.Unique.{behind_byte, str_whole, list_whole, object_whole, list_fits, object_fits, member_whole, wrong_sort}
+use Rattle.json_tree.proofs.Unique.{behind_byte, str_whole, list_whole, object_whole, list_fits, object_fits, wrong_sort}
 
 abbrev NoString : List ℕ → Type 0
 NoString bytes = (text rest : List ℕ) → IsString text → bytes ≢ text ++ 34 ∷ rest
@@ -59,7 +59,3 @@ no_value (object named) bytes rest no_str no_list no_object no_word no_number js
 
 pub none_value : (depth : ℕ) (bytes : List ℕ) → ((rest : List ℕ) → bytes ≢ 34 ∷ rest) → ((rest : List ℕ) → bytes ≢ 91 ∷ rest) → ((rest : List ℕ) → bytes ≢ 123 ∷ rest) → NoWord bytes → NoneStands IsNumber bytes → NoValue depth bytes
 none_value depth bytes no_str no_list no_object no_word no_number tree rest fits e = no_value (kind tree) bytes rest no_str no_list no_object no_word no_number fits.0 e
-
--- a member begins with its name
-pub no_member_name : (depth : ℕ) (bytes : List ℕ) → NoName bytes → NoMember depth bytes
-no_member_name depth bytes none member rest fits e = none member.name (spelling member.value ++ rest) fits.0 (e ∙ member_whole member rest)

@@ -27,19 +27,6 @@ escape_numbered bytes digits rest e t = record { front = 117 ∷ t.front; is = n
 pub escape_short : (bytes rest : List ℕ) → StartsWith IsShort bytes rest → Takes IsEscape bytes rest
 escape_short bytes rest s = record { front = s.0 ∷ []; is = short s.0 s.1 refl; whole = s.2 }
 
-no_numbered : (bytes digits : List ℕ) → bytes ≡ 117 ∷ digits → NoneStands IsFourHexDigits digits → (front more : List ℕ) → IsEscape front → bytes ≡ front ++ more → ⊥
-no_numbered bytes digits u none front more (short b is e) whole =
-    let stands : bytes ≡ b ∷ more = whole ∙ ap (λ l. l ++ more) e in
-    let same : b ≡ 117 = cc in
-    let wrong : false ≡ true = subst IsShort same is in
-    cc wrong
-no_numbered bytes digits u none front more (numbered four is e) whole =
-    let stands : bytes ≡ 117 ∷ (four ++ more) = whole ∙ ap (λ l. l ++ more) e in
-    none four more is (let tails : digits ≡ four ++ more = cc in tails)
-
-pub none_numbered : (bytes digits : List ℕ) → bytes ≡ 117 ∷ digits → NoneStands IsFourHexDigits digits → NoneStands IsEscape bytes
-none_numbered bytes digits u none = no_numbered bytes digits u none
-
 no_escape : (bytes : List ℕ) → ((rest : List ℕ) → bytes ≢ 117 ∷ rest) → ((rest : List ℕ) → ¬ StartsWith IsShort bytes rest) → (front more : List ℕ) → IsEscape front → bytes ≡ front ++ more → ⊥
 no_escape bytes no_u no_short front more (short b is e) whole = no_short more (b, is, whole ∙ ap (λ l. l ++ more) e)
 no_escape bytes no_u no_short front more (numbered four is e) whole = no_u (four ++ more) (whole ∙ ap (λ l. l ++ more) e)

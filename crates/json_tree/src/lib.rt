@@ -3,7 +3,6 @@
 
 mod front;
 mod grammar;
-mod laws;
 mod number;
 mod string;
 mod tree;
@@ -12,7 +11,6 @@ mod value_reader;
 mod value_text;
 
 pub use grammar::is_json;
-pub use laws::{in_order, one_value};
 pub use string::is_json_string;
 pub use tree::{Member, Text, Tree};
 pub use tree_fault::TreeFault;

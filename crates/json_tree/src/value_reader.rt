@@ -22,10 +22,12 @@ pub fn read_tree(alloc: Global, bytes: &[u8], depth: u8) -> Result<(Tree, usize)
     ensures length { IfOk result (λ r. r.1 ≡ length (spelling r.0)) }
 
     // No longer front spells a value, at any depth.
-    ensures longest { IfOk result (λ r. (tree : Tree) (rest : List ℕ) → IsJson tree → bytes.now ≡ spelling tree ++ rest → length (spelling tree) ≤ r.1) }
+    ensures longest { IfOk result (λ r. (tree : Tree) (rest : List ℕ) → IsJson tree
+        → bytes.now ≡ spelling tree ++ rest → length (spelling tree) ≤ r.1) }
 
     // What is spelled so is read, whatever follows that can't belong to it, unless memory runs out.
-    ensures only { (tree : Tree) (rest : List ℕ) → Fits depth tree → EndsBefore tree rest → bytes.now ≡ spelling tree ++ rest
+    ensures only { (tree : Tree) (rest : List ℕ) → Fits depth tree → EndsBefore tree rest
+        → bytes.now ≡ spelling tree ++ rest
         → Gives result (tree, length (spelling tree)) }
 
     // No value is said to stand there only where none does.
@@ -155,7 +157,8 @@ fn read_values(alloc: Global, bytes: &[u8], depth: u8) -> Result<(Items<Tree>, &
 #[cycle(read)]
 fn read_members(alloc: Global, bytes: &[u8], depth: u8) -> Result<(Items<Member>, &[u8]), TreeFault>
     ensures some { IfOk result (λ r. ReadsItems (FitsMember depth) member_text 125 bytes.now r.0 r.1.now) }
-    ensures none { IfErr result (λ fault. fault ≡ TreeFault.NotATree → NoItems (FitsMember depth) member_text 125 bytes.now) }
+    ensures none { IfErr result (λ fault. fault ≡ TreeFault.NotATree
+        → NoItems (FitsMember depth) member_text 125 bytes.now) }
 {
     let mut members = Vec::new(alloc);
     if let Some(rest) = after_byte(bytes, b'}') {

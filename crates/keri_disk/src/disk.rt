@@ -27,7 +27,8 @@ pub trait Disk {
     /// Writes the bytes from a place on, over what is there and past the end.
     fn write_at(&mut self, place: u64, bytes: &[u8]) -> Result<(), Failed>
         requires { IsInFile place 0 (told self.old).file }
-        ensures written { Changes (λ file. overwritten file place bytes.now) (Torn place (length bytes.now)) (told self.old) (told self.new) result }
+        ensures written { Changes (λ file. overwritten file place bytes.now) (Torn place (length bytes.now))
+            (told self.old) (told self.new) result }
         ensures cause { HasCause (told self.old).faults (told self.new).faults result };
 
     /// Cuts the file to a size.

@@ -42,9 +42,11 @@ impl Replay {
     // One call more.
     fn step(&mut self, alloc: Global, call: &DiskCall, shape: Shape) -> Result<(), AllocError>
         ensures file { OnOk result (self.new.file.items ≡ file_after call.now self.old.file.items) }
-        ensures image { OnOk result (self.new.image.items ≡ image_after shape call.now self.old.file.items self.old.image.items) }
+        ensures image { OnOk result (self.new.image.items
+            ≡ image_after shape call.now self.old.file.items self.old.image.items) }
         ensures left { OnOk result (IsLeftBy call.now self.old.file.items self.old.image.items self.new.image.items) }
-        ensures whole { shape ≡ Shape.Whole → self.old.image.items ≡ self.old.file.items → OnOk result (self.new.image.items ≡ self.new.file.items) }
+        ensures whole { shape ≡ Shape.Whole → self.old.image.items ≡ self.old.file.items
+            → OnOk result (self.new.image.items ≡ self.new.file.items) }
     {
         match call {
             DiskCall::Kept => Ok(()),

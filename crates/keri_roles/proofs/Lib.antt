@@ -1,6 +1,8 @@
 pub mod Messages
 pub mod Questions
+pub mod Offered
 pub mod Offers
+pub mod ReadersTold
 pub mod Tells
 pub mod CoreTold
 pub mod Dues

@@ -8,6 +8,7 @@ use Rattle.cesr_codes.specs.declared.key.Key.{Key}
 use Rattle.cesr_codes.specs.declared.sig.Sig.{Sig}
 use Rattle.keri_outside.specs.declared.signing.Signing.{Signing}
 use Rattle.run_outside.specs.Told.{Told, making}
+use Rattle.run_outside.specs.declared.making.Making.{Making}
 use Rattle.run_outside.specs.declared.making.MakingKind.TheVariants.{Source as SourceKind, Verifier as VerifierKind, Signer as SignerKind}
 use Rattle.journal.specs.declared.body.Body.{Body}
 use Rattle.journal.specs.declared.mode.Mode.TheVariants.{Local}
@@ -156,9 +157,13 @@ MakesAlone plan helper source signer before after =
     AreMakings (making SourceKind plan (is_none source) ∷ making SignerKind helper (is_none signer) ∷ []) before after
 
 -- and behind one: the plan's source, the log's source, the verifier and the signer
+abbrev pub makings_behind : {S T V G : Type 0} → List ℕ → List ℕ → List ℕ → Option S → Option T → Option V → Option G → List Making
+makings_behind plan log helper source log_source verifier signer = making SourceKind plan (is_none source)
+    ∷ making SourceKind log (is_none log_source) ∷ making VerifierKind helper (is_none verifier) ∷ making SignerKind helper (is_none signer) ∷ []
+
 abbrev pub MakesBehind : {S V G : Type 0} → List ℕ → List ℕ → List ℕ → Option S → Providers S V → Option G → Told → Told → Type 0
-MakesBehind plan log helper source provided signer before after = AreMakings (making SourceKind plan (is_none source)
-    ∷ making SourceKind log (is_none provided.source) ∷ making VerifierKind helper (is_none provided.verifier) ∷ making SignerKind helper (is_none signer) ∷ []) before after
+MakesBehind plan log helper source provided signer before after =
+    AreMakings (makings_behind plan log helper source provided.source provided.verifier signer) before after
 
 -- without a log: the makings are the plan's source and the signer, and nothing is told
 pub record IsMadeAlone (helper plan : List ℕ) (work : Work) : Type 0 where
@@ -179,8 +184,7 @@ pub record IsMadeBehind (helper plan log : List ℕ) (work : Work) : Type 0 wher
   pub two : work.readers ≡ plan_reader ∷ log_reader ∷ []
   pub text : List ℕ
   pub reads : ReadsWhole work.before.limits.stream_bytes (work.before.holds plan) plan_reader text
-  pub makes : AreMakings (making SourceKind plan (is_none plan_reader.source) ∷ making SourceKind log (is_none log_reader.source)
-      ∷ making VerifierKind helper (is_none log_reader.verifier) ∷ making SignerKind helper (is_none work.signer) ∷ []) work.before work.after
+  pub makes : AreMakings (makings_behind plan log helper plan_reader.source log_reader.source log_reader.verifier work.signer) work.before work.after
   pub signs : IfSome work.signer (λ s. s.gives ≡ work.before.gives helper)
   pub journal : IsToldBy Local (given_in work helper log) log_reader work.journal
   pub owes : IsDue (given_behind helper text log_reader journal.fed.held work) (plan_reader.close ∷ log_reader.close ∷ []) work.signer work.owed work.besides

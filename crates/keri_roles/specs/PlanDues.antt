@@ -26,8 +26,8 @@ IsAnswered before now log plan due =
     OwesAnswer (made_from before.gives log plan) now (owed_by due) due.besides ⊎ OwesNone (made_from before.gives log plan) now (owed_by due) due.besides
 
 -- what is due where the readers closed so, by what the signer gives, where there is one
-abbrev pub IsDueBy : {G : Type 0} → (G → Key → List ℕ → Option Sig) → Option G → Option SignerTold → Option ReadLog → List ℕ → List Close → MessageDue → Type 0
-IsDueBy gives signer now log plan closes due = (given : Key → List ℕ → Option Sig) → IfSome signer (λ s. gives s ≡ given)
+abbrev pub IsDueTo : {G : Type 0} → (G → Key → List ℕ → Option Sig) → Option G → Option SignerTold → Option ReadLog → List ℕ → List Close → MessageDue → Type 0
+IsDueTo gives signer now log plan closes due = (given : Key → List ℕ → Option Sig) → IfSome signer (λ s. gives s ≡ given)
     → IsDue (made_from given log plan) closes now (owed_by due) due.besides
 
 -- the signer, where there is one, gives what it gave before

@@ -1,5 +1,5 @@
 //! `make --helper HELPER --plan PLAN --log LOG`: writes the message of the event that a plan asks for.
-ghost use Rattle.std.specs.Prelude.{◌≡◌, ◌<◌, ◌∷◌, []};
+ghost use Rattle.std.specs.Prelude.{◌≡◌, ◌<◌, []};
 ghost use Rattle.std.specs.Vec.{vec_capacity};
 ghost use Rattle.keri_roles.specs.Made.{IsMadeAlone, IsMadeBehind, IsMadeBy};
 

@@ -3,7 +3,7 @@ ghost use Rattle.std.specs.Prelude.{◌≡◌, IfSome, IfOk, OnErr, IsErr, is_no
 ghost use Rattle.std.specs.List.{list_any, list_all};
 ghost use Rattle.keri_specs.specs.Told.{HasNone};
 ghost use Rattle.keri_roles.specs.Made.{is_out, is_through};
-ghost use Rattle.keri_roles.specs.PlanDues.{GivesTheSame, HasAnswer, IsAnswered, IsDueBy};
+ghost use Rattle.keri_roles.specs.PlanDues.{GivesTheSame, HasAnswer, IsAnswered, IsDueTo};
 
 use crate::Close;
 use crate::signs::Signs;
@@ -30,7 +30,7 @@ pub(crate) fn message_due<G: Signer>(
 ) -> MessageDue
     requires unasked { IfSome signer.old (λ signer. HasNone (G.signings signer)) }
     requires unfailed { IfSome signer.old (λ signer. G.faults signer ≡ 0) }
-    ensures due { IsDueBy G.gives signer.old (⟦<G as Signs>⟧.seen signer.new)
+    ensures due { IsDueTo G.gives signer.old (⟦<G as Signs>⟧.seen signer.new)
         log.entry plan.now closes.now result }
     ensures signer { is_none signer.new ≡ is_none signer.old }
     ensures gives { GivesTheSame G.gives signer.old signer.new }

@@ -1,5 +1,5 @@
 //! The report of `validate`.
-ghost use Rattle.std.specs.Prelude.{◌≡◌, ◌≢◌, ◌++◌, IfOk, OnOk, string_bytes, map};
+ghost use Rattle.std.specs.Prelude.{◌≡◌, ◌≢◌, IfOk, string_bytes};
 ghost use Rattle.keri_roles.specs.CommandTexts.{HasText};
 ghost use Rattle.keri_roles.specs.Reports.{Reports, refused_lines, malformed_line, stopped_line};
 

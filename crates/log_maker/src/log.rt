@@ -43,7 +43,8 @@ impl Log {
     /// The next event, before it has its digest.
     pub(crate) fn plan(&self, alloc: Global) -> Result<Event, AllocError>
         requires { self.now.next.sn + 1 < 2 ^ 64 }
-        ensures event { IfOk result (λ plan. sealed plan ≡ event_at self.now.next.seed self.now.next.log self.now.next.sn) }
+        ensures event { IfOk result (λ plan. sealed plan
+            ≡ event_at self.now.next.seed self.now.next.log self.now.next.sn) }
         ensures writable { IfOk result IsWritable }
     {
         let next = self.next;

@@ -16,8 +16,10 @@ use std::alloc::{AllocError, Global};
 /// The message of the next event of the log, with that event's digest.
 pub(crate) fn next_message(alloc: Global, log: &Log) -> Result<Made, AllocError>
     requires { log.now.next.sn + 1 < 2 ^ 64 }
-    ensures said { IfOk result (λ message. message.said ≡ said_of (event_at log.now.next.seed log.now.next.log log.now.next.sn)) }
-    ensures text { IfOk result (λ message. message.text.items ≡ message_text log.now.next.seed log.now.next.log log.now.next.sn) }
+    ensures said { IfOk result (λ message. message.said
+        ≡ said_of (event_at log.now.next.seed log.now.next.log log.now.next.sn)) }
+    ensures text { IfOk result (λ message. message.text.items
+        ≡ message_text log.now.next.seed log.now.next.log log.now.next.sn) }
 {
     let body = next_body(alloc, log)?;
     let next = log.next;
@@ -32,8 +34,10 @@ pub(crate) fn next_message(alloc: Global, log: &Log) -> Result<Made, AllocError>
 // The body of the next event of the log.
 fn next_body(alloc: Global, log: &Log) -> Result<Made, AllocError>
     requires { log.now.next.sn + 1 < 2 ^ 64 }
-    ensures said { IfOk result (λ body. body.said ≡ said_of (event_at log.now.next.seed log.now.next.log log.now.next.sn)) }
-    ensures text { IfOk result (λ body. body.text.items ≡ event_text (event_at log.now.next.seed log.now.next.log log.now.next.sn)) }
+    ensures said { IfOk result (λ body. body.said
+        ≡ said_of (event_at log.now.next.seed log.now.next.log log.now.next.sn)) }
+    ensures text { IfOk result (λ body. body.text.items
+        ≡ event_text (event_at log.now.next.seed log.now.next.log log.now.next.sn)) }
 {
     let plan = log.plan(alloc)?;
     sealed_body(alloc, &plan)

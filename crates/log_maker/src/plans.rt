@@ -28,7 +28,8 @@ fn one<T: Drop>(alloc: Global, value: T) -> Result<Items<T>, AllocError>
 
 // The four witnesses of a log.
 fn witnesses(alloc: Global, seed: u64, log: u64) -> Result<Items<Key>, AllocError>
-    ensures { IfOk result (λ items. items ≡ witness_at seed log 0 ∷ witness_at seed log 1 ∷ witness_at seed log 2 ∷ witness_at seed log 3 ∷ []) }
+    ensures { IfOk result (λ items. items
+        ≡ witness_at seed log 0 ∷ witness_at seed log 1 ∷ witness_at seed log 2 ∷ witness_at seed log 3 ∷ []) }
 {
     let first = log_witness(alloc, seed, log, 0)?;
     let second = log_witness(alloc, seed, log, 1)?;

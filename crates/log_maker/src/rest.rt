@@ -66,7 +66,8 @@ impl Rest {
     pub(crate) fn behind(self, said: Digest) -> Rest
         requires some { 0 < self.events_left }
         requires said { said ≡ said_of (event_at self.log.next.seed self.log.next.log self.log.next.sn) }
-        ensures { rest_text self ≡ message_text self.log.next.seed self.log.next.log self.log.next.sn ++ rest_text result }
+        ensures { rest_text self ≡ message_text self.log.next.seed self.log.next.log self.log.next.sn
+            ++ rest_text result }
     {
         Rest {
             log: self.log.behind(said),

@@ -53,7 +53,8 @@ pub fn totals_of(seed: u64, logs: u64, events: u64) -> Option<Totals>
 fn added(one: Totals, other: Totals) -> Option<Totals>
     requires one { one.rotations ≤ one.bytes }
     requires other { other.rotations ≤ other.bytes }
-    ensures some { IfSome result (λ both. (both.rotations ≡ one.rotations + other.rotations) × (both.bytes ≡ one.bytes + other.bytes)) }
+    ensures some { IfSome result (λ both. (both.rotations ≡ one.rotations + other.rotations)
+        × (both.bytes ≡ one.bytes + other.bytes)) }
     ensures none { IfNone result (2 ^ 64 ≤ one.bytes + other.bytes) }
 {
     let Some(bytes) = one.bytes.checked_add(other.bytes) else {

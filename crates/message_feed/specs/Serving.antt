@@ -36,6 +36,15 @@ abbrev pub StandsAt : Option Bad → Reading → Type 0
 StandsAt None reading = IsIdle reading
 StandsAt (Some bad) reading = IsRefused reading bad
 
+-- a reader, the assembler behind it and the taker of its messages, as they stand
+pub record Feeding (T : Type 0) : Type 0 where
+  pub reader : Reading
+  pub assembler : Assembly
+  pub taker : T
+
+abbrev pub feeding : {T : Type 0} → Reading → Assembly → T → Feeding T
+feeding reader assembler taker = record { reader = reader; assembler = assembler; taker = taker }
+
 module _ {T : Type 0} (has_taken : T → List Message → Type 0) where
   -- of these bytes, which were fed, the messages that are ended were taken
   pub record Serves (fed : List ℕ) (reading : Reading) (assembler : Assembly) (taker : T) : Type 0 where
@@ -45,6 +54,11 @@ module _ {T : Type 0} (has_taken : T → List Message → Type 0) where
     pub stand : Stand reading.limit fed items reading.begun reading.place
     pub assembled : IsAssembled assembler.limit items answered assembler
     pub taken : has_taken taker answered
+
+  -- whatever was fed: where the messages that are ended were taken of it before, they are taken now, and the limits are the same
+  abbrev pub GoesOn : Feeding T → Feeding T → Type 0
+  GoesOn old new = (fed : List ℕ) → Serves fed old.reader old.assembler old.taker
+      → Serves fed new.reader new.assembler new.taker × SameLimits old.reader new.reader old.assembler new.assembler
 
   module _ {St : Type 0} (has_stopped : T → St → List Message → Type 0) where
     -- the taker stopped at the last message that is ended
@@ -60,6 +74,11 @@ module _ {T : Type 0} (has_taken : T → List Message → Type 0) where
     abbrev pub Halts : List ℕ → Halt St → Reading → Assembly → T → Type 0
     Halts fed OutOfMemory reading assembler taker = (earlier : Reading) × (earlier.limit ≡ reading.limit) × Serves fed earlier assembler taker
     Halts fed (Stopped stop) reading assembler taker = StopsAt fed stop reading assembler taker
+
+    -- whatever was fed: where the messages that are ended were taken of it before, items are taken so far and no further
+    abbrev pub GoesUntil : Halt St → Feeding T → Feeding T → Type 0
+    GoesUntil halt old new = (fed : List ℕ) → Serves fed old.reader old.assembler old.taker
+        → Halts fed halt new.reader new.assembler new.taker × SameLimits old.reader new.reader old.assembler new.assembler
 
     -- An item was pushed, and the message that it ends was taken; or there was no memory, and nothing has changed; or the
     -- taker stopped at that message.

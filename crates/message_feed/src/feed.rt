@@ -23,7 +23,8 @@ pub fn feed_messages<S: Source, T: Taker>(
     taker: &mut T,
 ) -> (FeedClose<T::Stop>, Option<Message>)
     requires none_taken { T.has_taken taker.old taker.old [] }
-    ensures feeds { Feeds (T.has_taken taker.old) (T.has_stopped taker.old) limits (S.left source.old) (S.left source.new) (S.faults source.old) (S.faults source.new) taker.new result.0 result.1 }
+    ensures feeds { Feeds (T.has_taken taker.old) (T.has_stopped taker.old) limits (S.left source.old)
+        (S.left source.new) (S.faults source.old) (S.faults source.new) taker.new result.0 result.1 }
     ensures later { S.faults source.old ≤ S.faults source.new }
 {
     let mut reader = Reader::new(alloc, limits);
@@ -49,7 +50,8 @@ fn feed_pieces<S: Source, T: Taker>(
     ghost first: { T }
     requires idle { IsIdle reader.old }
     requires serves { Serves (T.has_taken first) [] reader.old assembler.old taker.old }
-    ensures runs { Runs (T.has_taken first) (T.has_stopped first) most (S.left source.old) (S.left source.new) (S.faults source.old) (S.faults source.new) reader.old assembler.old assembler.new taker.new result }
+    ensures runs { Runs (T.has_taken first) (T.has_stopped first) most (S.left source.old) (S.left source.new)
+        (S.faults source.old) (S.faults source.new) reader.old assembler.old assembler.new taker.new result }
     ensures later { S.faults source.old ≤ S.faults source.new }
 {
     let mut room = most;
@@ -79,8 +81,10 @@ fn feed_piece<S: Source>(
     requires some { 0 < room }
     requires not_bad { reader.old.bad ≡ None }
     requires short { reader.old.place + length reader.old.rest + room < 2 ^ 64 }
-    ensures ok { IfOk result (λ count. FeedsPiece (S.left source.old) (S.left source.new) (S.faults source.old) (S.faults source.new) room reader.old reader.new count) }
-    ensures err { IfErr result (λ halt. FeedsNone (S.left source.old) (S.left source.new) (S.faults source.old) (S.faults source.new) reader.old reader.new halt) }
+    ensures ok { IfOk result (λ count. FeedsPiece (S.left source.old) (S.left source.new) (S.faults source.old)
+        (S.faults source.new) room reader.old reader.new count) }
+    ensures err { IfErr result (λ halt. FeedsNone (S.left source.old) (S.left source.new) (S.faults source.old)
+        (S.faults source.new) reader.old reader.new halt) }
     ensures later { S.faults source.old ≤ S.faults source.new }
 {
     let mut piece = [0u8; PIECE];
@@ -108,7 +112,8 @@ fn close_end<T>(reader: &mut Reader) -> FeedClose<T>
 // Says whether the source gives more than may be read.
 fn close_full<S: Source, T>(source: &mut S, reader: &mut Reader) -> FeedClose<T>
     requires idle { IsIdle reader.old }
-    ensures passes { PassesEnd (S.left source.old) (S.left source.new) (S.faults source.old) (S.faults source.new) reader.old reader.new result }
+    ensures passes { PassesEnd (S.left source.old) (S.left source.new) (S.faults source.old) (S.faults source.new)
+        reader.old reader.new result }
     ensures later { S.faults source.old ≤ S.faults source.new }
 {
     let mut piece = [0u8; 1];

@@ -1,6 +1,6 @@
 //! Taking the items that are whole.
-ghost use Rattle.std.specs.Prelude.{◌≡◌, ℕ, List, None, IfOk, IfErr, OnOk};
-ghost use Rattle.message_feed.specs.Serving.{Serves, Halts, HandsOn, StandsAt, SameLimits};
+ghost use Rattle.std.specs.Prelude.{◌≡◌, None, IfOk, IfErr, OnOk};
+ghost use Rattle.message_feed.specs.Serving.{GoesOn, GoesUntil, HandsOn, StandsAt, feeding};
 
 use crate::Taker;
 use crate::halt::Halt;
@@ -17,8 +17,10 @@ pub(crate) fn take_items<T: Taker>(
     ensures stands { IfOk result (λ bad. StandsAt bad reader.new) }
 
     // Whatever was fed, of that the messages that are ended were taken, where it was so before.
-    ensures ok { OnOk result ((fed : List ℕ) → Serves (T.has_taken first) fed reader.old assembler.old taker.old → Serves (T.has_taken first) fed reader.new assembler.new taker.new × SameLimits reader.old reader.new assembler.old assembler.new) }
-    ensures err { IfErr result (λ halt. (fed : List ℕ) → Serves (T.has_taken first) fed reader.old assembler.old taker.old → Halts (T.has_taken first) (T.has_stopped first) fed halt reader.new assembler.new taker.new × SameLimits reader.old reader.new assembler.old assembler.new) }
+    ensures ok { OnOk result (GoesOn (T.has_taken first) (feeding reader.old assembler.old taker.old)
+        (feeding reader.new assembler.new taker.new)) }
+    ensures err { IfErr result (λ halt. GoesUntil (T.has_taken first) (T.has_stopped first) halt
+        (feeding reader.old assembler.old taker.old) (feeding reader.new assembler.new taker.new)) }
 {
     loop {
         match reader.next() {
@@ -41,7 +43,8 @@ fn hand_on<T: Taker>(
     place: u64,
 ) -> Result<(), Halt<T::Stop>>
     ghost first: { T }
-    ensures { HandsOn (T.has_taken first) (T.has_stopped first) item place assembler.old assembler.new taker.old taker.new result }
+    ensures { HandsOn (T.has_taken first) (T.has_stopped first) item place assembler.old assembler.new taker.old
+        taker.new result }
 {
     match assembler.push(item, place)? {
         None => Ok(()),

@@ -18,7 +18,8 @@ pub struct SourceText {
 
 /// Reads the source in pieces to its end, but no more than so many bytes.
 pub fn read_text<S: Source>(alloc: Global, source: &mut S, most: u64) -> SourceText
-    ensures { ReadsText most (S.left source.old) (S.left source.new) (S.faults source.old) (S.faults source.new) result.bytes.items result.close }
+    ensures { ReadsText most (S.left source.old) (S.left source.new) (S.faults source.old) (S.faults source.new)
+        result.bytes.items result.close }
 {
     let mut bytes = Vec::new(alloc);
     let close = read_pieces(source, most, &mut bytes);
@@ -28,7 +29,8 @@ pub fn read_text<S: Source>(alloc: Global, source: &mut S, most: u64) -> SourceT
 // Reads pieces behind no bytes.
 fn read_pieces<S: Source>(source: &mut S, most: u64, bytes: &mut Vec<u8>) -> TextClose
     requires { bytes.old.items ≡ [] }
-    ensures { ReadsText most (S.left source.old) (S.left source.new) (S.faults source.old) (S.faults source.new) bytes.new.items result }
+    ensures { ReadsText most (S.left source.old) (S.left source.new) (S.faults source.old) (S.faults source.new)
+        bytes.new.items result }
 {
     let mut room = most;
     while room > 0 {
@@ -44,8 +46,10 @@ fn read_pieces<S: Source>(source: &mut S, most: u64, bytes: &mut Vec<u8>) -> Tex
 // Reads a piece of at most so many bytes, and answers how many it has: 0 at the end of input alone.
 fn read_piece<S: Source>(source: &mut S, room: u64, bytes: &mut Vec<u8>) -> Result<usize, TextClose>
     requires { 0 < room }
-    ensures ok { IfOk result (λ count. IsPiece (S.left source.old) (S.left source.new) room bytes.old.items bytes.new.items count × (S.faults source.new ≡ S.faults source.old)) }
-    ensures err { IfErr result (λ close. StopsSo (S.left source.old) (S.left source.new) (S.faults source.old) (S.faults source.new) close × (bytes.new.items ≡ bytes.old.items)) }
+    ensures ok { IfOk result (λ count. IsPiece (S.left source.old) (S.left source.new) room bytes.old.items
+        bytes.new.items count × (S.faults source.new ≡ S.faults source.old)) }
+    ensures err { IfErr result (λ close. StopsSo (S.left source.old) (S.left source.new) (S.faults source.old)
+        (S.faults source.new) close × (bytes.new.items ≡ bytes.old.items)) }
 {
     let mut piece = [0u8; PIECE];
     let most = room.min(PIECE as u64) as usize;

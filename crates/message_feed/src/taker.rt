@@ -17,6 +17,8 @@ pub trait Taker {
 
     /// Takes a message.
     fn take(&mut self, message: Message) -> Result<(), Self::Stop>
-        ensures ok { OnOk result ((first : Self) (before : List MessageValue) → has_taken first self.old before → has_taken first self.new (before ++ message ∷ [])) }
-        ensures err { IfErr result (λ stop. (first : Self) (before : List MessageValue) → has_taken first self.old before → has_stopped first self.new stop (before ++ message ∷ [])) };
+        ensures ok { OnOk result ((first : Self) (before : List MessageValue) → has_taken first self.old before
+            → has_taken first self.new (before ++ message ∷ [])) }
+        ensures err { IfErr result (λ stop. (first : Self) (before : List MessageValue)
+            → has_taken first self.old before → has_stopped first self.new stop (before ++ message ∷ [])) };
 }

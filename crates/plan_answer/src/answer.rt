@@ -45,8 +45,11 @@ pub fn answer_plan<S: Signer>(
     log: Option<ReadLog<'_>>,
     signer: &mut S,
 ) -> Result<PlanAnswer, AllocError>
-    ensures answers { IfOk result (IsAnswer (signer_asked (S.gives signer.old) (S.signings signer.old) (S.signings signer.new)) (option_map log_told log.entry) plan.now) }
-    ensures few { SignsNoMore (signer_asked (S.gives signer.old) (S.signings signer.old) (S.signings signer.new)) (option_map log_told log.entry) plan.now }
+    ensures answers { IfOk result (IsAnswer
+        (signer_asked (S.gives signer.old) (S.signings signer.old) (S.signings signer.new))
+        (option_map log_told log.entry) plan.now) }
+    ensures few { SignsNoMore (signer_asked (S.gives signer.old) (S.signings signer.old) (S.signings signer.new))
+        (option_map log_told log.entry) plan.now }
     ensures gives { S.gives signer.new ≡ S.gives signer.old }
     ensures count { IfOk result (CountsFaults (S.faults signer.old) (S.faults signer.new)) }
     ensures kept { OnErr result (S.faults signer.new ≡ S.faults signer.old) }
@@ -67,8 +70,11 @@ fn answer_event<S: Signer>(
     signer: &mut S,
 ) -> Result<PlanAnswer, AllocError>
     requires { IsMakeable plan.now }
-    ensures answers { IfOk result (IsPlanAnswer (signer_asked (S.gives signer.old) (S.signings signer.old) (S.signings signer.new)) (option_map log_told log.entry) plan.now) }
-    ensures few { AsksFew (signer_asked (S.gives signer.old) (S.signings signer.old) (S.signings signer.new)) (asked (option_map log_told log.entry) plan.now) plan.now.plan.signers }
+    ensures answers { IfOk result (IsPlanAnswer
+        (signer_asked (S.gives signer.old) (S.signings signer.old) (S.signings signer.new))
+        (option_map log_told log.entry) plan.now) }
+    ensures few { AsksFew (signer_asked (S.gives signer.old) (S.signings signer.old) (S.signings signer.new))
+        (asked (option_map log_told log.entry) plan.now) plan.now.plan.signers }
     ensures gives { S.gives signer.new ≡ S.gives signer.old }
     ensures count { IfOk result (CountsFaults (S.faults signer.old) (S.faults signer.new)) }
     ensures kept { OnErr result (S.faults signer.new ≡ S.faults signer.old) }
@@ -98,8 +104,11 @@ fn answer_inception<S: Signer>(
     requires anchors { AllByRecursion IsJson plan.now.anchors }
     requires traits { AllByRecursion IsString plan.now.traits }
     requires delegator { is_some plan.now.delegator ≡ plan.now.delegated }
-    ensures answers { IfOk result (IsEventAnswer (signer_asked (S.gives signer.old) (S.signings signer.old) (S.signings signer.new)) (record { state = None; event = sealed_inception plan.now }) plan.now.signers) }
-    ensures few { AsksFront (S.signings signer.old) (S.signings signer.new) (signings_of None (sealed_inception plan.now) plan.now.signers) }
+    ensures answers { IfOk result (IsEventAnswer
+        (signer_asked (S.gives signer.old) (S.signings signer.old) (S.signings signer.new))
+        (record { state = None; event = sealed_inception plan.now }) plan.now.signers) }
+    ensures few { AsksFront (S.signings signer.old) (S.signings signer.new)
+        (signings_of None (sealed_inception plan.now) plan.now.signers) }
     ensures gives { S.gives signer.new ≡ S.gives signer.old }
     ensures count { IfOk result (CountsFaults (S.faults signer.old) (S.faults signer.new)) }
     ensures kept { OnErr result (S.faults signer.new ≡ S.faults signer.old) }
@@ -116,8 +125,11 @@ fn answer_rotation<S: Signer>(
     signer: &mut S,
 ) -> Result<PlanAnswer, AllocError>
     requires { AllByRecursion IsJson plan.now.anchors }
-    ensures answers { IfOk result (IsEventAnswer (signer_asked (S.gives signer.old) (S.signings signer.old) (S.signings signer.new)) (behind (λ s. sealed_rotation s plan.now) state.now) plan.now.signers) }
-    ensures few { AsksFront (S.signings signer.old) (S.signings signer.new) (signings_of (Some state.now) (sealed_rotation state.now plan.now) plan.now.signers) }
+    ensures answers { IfOk result (IsEventAnswer
+        (signer_asked (S.gives signer.old) (S.signings signer.old) (S.signings signer.new))
+        (behind (λ s. sealed_rotation s plan.now) state.now) plan.now.signers) }
+    ensures few { AsksFront (S.signings signer.old) (S.signings signer.new)
+        (signings_of (Some state.now) (sealed_rotation state.now plan.now) plan.now.signers) }
     ensures gives { S.gives signer.new ≡ S.gives signer.old }
     ensures count { IfOk result (CountsFaults (S.faults signer.old) (S.faults signer.new)) }
     ensures kept { OnErr result (S.faults signer.new ≡ S.faults signer.old) }
@@ -134,8 +146,11 @@ fn answer_interaction<S: Signer>(
     signer: &mut S,
 ) -> Result<PlanAnswer, AllocError>
     requires { AllByRecursion IsJson plan.now.anchors }
-    ensures answers { IfOk result (IsEventAnswer (signer_asked (S.gives signer.old) (S.signings signer.old) (S.signings signer.new)) (behind (λ s. sealed_interaction s plan.now) state.now) plan.now.signers) }
-    ensures few { AsksFront (S.signings signer.old) (S.signings signer.new) (signings_of (Some state.now) (sealed_interaction state.now plan.now) plan.now.signers) }
+    ensures answers { IfOk result (IsEventAnswer
+        (signer_asked (S.gives signer.old) (S.signings signer.old) (S.signings signer.new))
+        (behind (λ s. sealed_interaction s plan.now) state.now) plan.now.signers) }
+    ensures few { AsksFront (S.signings signer.old) (S.signings signer.new)
+        (signings_of (Some state.now) (sealed_interaction state.now plan.now) plan.now.signers) }
     ensures gives { S.gives signer.new ≡ S.gives signer.old }
     ensures count { IfOk result (CountsFaults (S.faults signer.old) (S.faults signer.new)) }
     ensures kept { OnErr result (S.faults signer.new ≡ S.faults signer.old) }

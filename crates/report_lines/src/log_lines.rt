@@ -21,7 +21,8 @@ use validator_core::Core;
 
 /// The lines of each identifier that has an accepted event.
 pub(crate) fn accepted_lines(alloc: Global, core: &Core) -> Result<String, AllocError>
-    ensures { let log = accepted_by core.now in IfOk result (λ text. IsListing prefix_cmp (log_lines log) (prefixes_of log) (string_bytes text)) }
+    ensures { let log = accepted_by core.now in IfOk result
+        (λ text. IsListing prefix_cmp (log_lines log) (prefixes_of log) (string_bytes text)) }
 {
     let logs = logs_of(alloc, core)?;
     let mut text = String::new(alloc);

@@ -57,7 +57,8 @@ impl MemOutside {
 
     /// It with these helpers.
     pub fn with_helpers(self, helpers: Items<MemHelper>) -> MemOutside
-        ensures told { outside_told result ≡ record (outside_told self) { says = says_under helpers; gives = gives_under helpers } }
+        ensures told { outside_told result
+            ≡ record (outside_told self) { says = says_under helpers; gives = gives_under helpers } }
         ensures sink { outside_sink result ≡ outside_sink self }
     {
         MemOutside { helpers, ..self }
@@ -89,7 +90,8 @@ impl MemOutside {
 
     // Adds a making.
     fn push(&mut self, kind: MakingKind, name: &str, failed: bool) -> Result<(), AllocError>
-        ensures ok { OnOk result (self.new ≡ record self.old { makings = self.old.makings ++ making kind name.now failed ∷ [] }) }
+        ensures ok { OnOk result (self.new
+            ≡ record self.old { makings = self.old.makings ++ making kind name.now failed ∷ [] }) }
         ensures err { OnErr result (self.new ≡ self.old) }
     {
         let name = Items::from_vec(Vec::from_slice(self.alloc, name.as_bytes())?);
@@ -111,7 +113,8 @@ impl MemOutside {
         ensures makings { Grows (outside_told self.old).makings (outside_told self.new).makings kind name.now true }
         ensures count { Rose self.old.faults self.new.faults }
         ensures later { self.old.faults ≤ self.new.faults }
-        ensures same { self.new ≡ record self.old { makings = self.new.makings; telling = self.new.telling; faults = self.new.faults } }
+        ensures same { self.new ≡ record self.old
+            { makings = self.new.makings; telling = self.new.telling; faults = self.new.faults } }
     {
         self.note(kind, name, true);
         self.faults = self.faults.saturating_add(1);

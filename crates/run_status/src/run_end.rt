@@ -18,8 +18,11 @@ pub fn settle<O: Outside>(
     besides: Besides,
     readers: &[ReaderEnd<O::Source, O::Verifier>],
 ) -> u8
-    ensures settles { SettlesBy (option_map (λ text. text.now) owed.entry) besides (map (reader_seen O.Source.left O.Source.faults O.Verifier.says O.Verifier.inquiries O.Verifier.faults) readers.now)
-        (sink_seen O.Sink.written O.Sink.faults (O.sink outside.old)) (sink_seen O.Sink.written O.Sink.faults (O.sink outside.new)) result }
+    ensures settles { SettlesBy (option_map (λ text. text.now) owed.entry) besides
+        (map (reader_seen O.Source.left O.Source.faults O.Verifier.says O.Verifier.inquiries O.Verifier.faults)
+        readers.now)
+        (sink_seen O.Sink.written O.Sink.faults (O.sink outside.old))
+        (sink_seen O.Sink.written O.Sink.faults (O.sink outside.new)) result }
     ensures told { O.told outside.new ≡ O.told outside.old }
 {
     let Some(text) = owed else {
@@ -31,7 +34,8 @@ pub fn settle<O: Outside>(
 
 // Puts the text where there is any, and says whether the sink failed. Then nothing may be put again.
 fn put<O: Outside>(outside: &mut O, text: &[u8]) -> bool
-    ensures puts { Puts text.now result (sink_seen O.Sink.written O.Sink.faults (O.sink outside.old)) (sink_seen O.Sink.written O.Sink.faults (O.sink outside.new)) }
+    ensures puts { Puts text.now result (sink_seen O.Sink.written O.Sink.faults (O.sink outside.old))
+        (sink_seen O.Sink.written O.Sink.faults (O.sink outside.new)) }
     ensures told { O.told outside.new ≡ O.told outside.old }
 {
     if text.is_empty() {
@@ -46,7 +50,8 @@ fn found<S: Source, V: Verifier>(
     readers: &[ReaderEnd<S, V>],
     sink_failed: bool,
 ) -> Findings
-    ensures { result ≡ settling.found besides (map (reader_seen S.left S.faults V.says V.inquiries V.faults) readers.now) sink_failed }
+    ensures { result ≡ settling.found besides
+        (map (reader_seen S.left S.faults V.says V.inquiries V.faults) readers.now) sink_failed }
 {
     Findings {
         no_memory: false,

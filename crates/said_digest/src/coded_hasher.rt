@@ -31,7 +31,8 @@ impl CodedHasher {
     pub fn update(&mut self, bytes: &[u8])
         requires { counted self.old + length bytes.now < 2 ^ 64 }
         ensures counted { counted self.new ≤ counted self.old + length bytes.now }
-        ensures holds { (code : DigestCode) (before : List ℕ) → Holds code self.old before → Holds code self.new (before ++ bytes.now) }
+        ensures holds { (code : DigestCode) (before : List ℕ) → Holds code self.old before
+            → Holds code self.new (before ++ bytes.now) }
     {
         match self {
             CodedHasher::Blake3(hasher) => hasher.update(bytes),

@@ -60,7 +60,8 @@ pub(crate) fn piece_at<'a>(bytes: &'a [u8], places: &[u32], at: usize) -> &'a [u
     requires at { at < length bytes.now }
     ensures some { 0 < length result.now }
     ensures within { at + length result.now ≤ length bytes.now }
-    ensures next { take (at + length result.now) (replaced bytes.now places.now) ≡ take at (replaced bytes.now places.now) ++ result.now }
+    ensures next { take (at + length result.now) (replaced bytes.now places.now)
+        ≡ take at (replaced bytes.now places.now) ++ result.now }
 {
     match place_over(places, at) {
         Some(place) => placeholder_after(at - place),

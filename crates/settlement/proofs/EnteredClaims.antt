@@ -1,5 +1,5 @@
 -- What has come once the claims of the last entry are raised.
-use Rattle.std.proofs.Common.{◌≡◌, ℕ, true, false, List, [], ◌∷◌, ◌++◌, length, Some, None, append-nil, refl, sym, ◌∙◌, ap, inl, inr, subst, if◌then◌else◌}
+use Rattle.std.proofs.Common.{◌≡◌, ℕ, true, false, List, [], ◌∷◌, ◌++◌, length, Some, None, refl, sym, ◌∙◌, ap, inl, inr, subst, if◌then◌else◌}
 use Rattle.std.proofs.lemmas.Bool.{cases_Bool}
 use Rattle.std.specs.Prelude.{slice_get}
 use Rattle.acceptance.specs.Standing.{Comes, IsHeld, IsStanding, told_of}
@@ -9,40 +9,17 @@ use Rattle.core_laws.specs.ClaimRows.{AreFound, found_on}
 use Rattle.core_tables.specs.declared.name.Name.{Name}
 use Rattle.core_tables.specs.Names.{name_of}
 use Rattle.core_tables.specs.Raised.{claims_at}
-use Rattle.core_tables.specs.View.{View, log_of, with_rows}
+use Rattle.core_tables.specs.View.{View, log_of}
 use Rattle.event_body.specs.declared.event.Event.{Event}
 use Rattle.event_body.specs.Events.{is_receipt}
 use Rattle.journal.specs.declared.body.Body.{Body}
 use Rattle.journal.specs.declared.claim.Claim.{Claim}
-use Rattle.journal.specs.declared.entry.Entry.{Entry}
 use Rattle.journal.specs.declared.entry.Entry.TheVariants.{Took}
 use Rattle.journal.specs.History.{claims_on, took}
 use Rattle.journal.specs.Logs.{is_in}
 use Rattle.journal.specs.Questions.{state_before}
 use Rattle.settlement.specs.Entries.{IsTold, RaisesFound}
 use Rattle.settlement.proofs.ReceiptClaims.{claims_there}
-
--- AGAIN: an entry of a body that is held
-pub comes_again : (old mid new : View) (e : Entry) → mid ≡ with_entry e old → new ≡ with_rows new.claims.rows mid → IsStanding new → Comes [] e old new
-comes_again old mid new e mid_is new_is stands = record {
-  held = ap (λ v. v.held) new_is ∙ ap (λ v. v.held) mid_is ∙ sym (append-nil old.held);
-  entries = ap (λ v. v.entries) new_is ∙ ap (λ v. v.entries) mid_is;
-  log = ap (λ v. v.log) new_is ∙ ap (λ v. v.log) mid_is;
-  pending = ap (λ v. v.claims.pending) new_is ∙ ap (λ v. v.claims.pending) mid_is;
-  settled = ap (λ v. v.settled) new_is ∙ ap (λ v. v.settled) mid_is;
-  stands = stands;
-}
-
--- FIRST: behind the body itself
-pub comes_first : (old mid new : View) (b : Body) (e : Entry) → mid ≡ record old { held = old.held ++ b ∷ [] } → Comes [] e mid new → Comes (b ∷ []) e old new
-comes_first old mid new b e mid_is comes = record {
-  held = comes.held ∙ append-nil mid.held ∙ ap (λ v. v.held) mid_is;
-  entries = comes.entries ∙ ap (λ v. v.entries ++ e ∷ []) mid_is;
-  log = comes.log ∙ ap (λ v. v.log) mid_is;
-  pending = comes.pending ∙ ap (λ v. v.claims.pending) mid_is;
-  settled = comes.settled ∙ ap (λ v. v.settled) mid_is;
-  stands = comes.stands;
-}
 
 -- the tables stand once the claims of the last entry are raised on its event
 pub stands_again : (w u : View) (number entry : ℕ) (is : IsTold number entry w) (b : Body) → slice_get w.held number ≡ Some b → is_receipt b.event ≡ false

@@ -1,7 +1,6 @@
 -- What an event that fits makes of its identifier's state, and what it adds to the log.
 use Rattle.std.proofs.Common.{◌≡◌, ℕ, ◌+◌, ◌<◌, ◌^◌, true, false, List, [], ◌∷◌, ◌++◌, Option, Some, None, Ok, Err, refl, sym, ◌∙◌, ap, subst, arith, is_none, if◌then◌else◌}
 use Rattle.std.specs.Prelude.{slice_get, IsTrue, IfSome}
-use Rattle.std.specs.Result.{result_ok}
 use Rattle.std.proofs.Math.Seq.{take-length}
 use Rattle.event_body.specs.declared.event.Event.{Event}
 use Rattle.event_body.specs.declared.event.Event.TheVariants.{Icp, Rot, Ixn, Dip, Drt, Rct}
@@ -21,7 +20,7 @@ use Rattle.acceptance.specs.Standing.{Extends, IsStanding}
 use Rattle.acceptance.proofs.NewEvent.{log_then}
 use Rattle.settlement.specs.Entries.{IsLogged}
 use Rattle.journal.proofs.Keeping.{IsGrown-push}
-use Rattle.key_state.specs.KeyStates.{IsCauseIn, after, first, misfit, moved, ok_unless}
+use Rattle.key_state.specs.KeyStates.{IsCauseIn, after, misfit, moved, ok_unless}
 use Rattle.key_state.specs.declared.state_fault.Misfit.{Misfit}
 use Rattle.key_state.specs.declared.state_fault.StateFault.{StateFault}
 use Rattle.key_state.specs.declared.state_fault.StateFault.TheVariants.{Misfit as IsMisfit, OutOfMemory}
@@ -111,9 +110,6 @@ after_steps s t e is = by (misfit s e) is
     by : (o : Option Misfit) → ok_unless o (moved s e) ≡ Ok t → (if is_none o then Some (moved s e) else Some s) ≡ Some t
     by None h = let one : moved s e ≡ t = cc in ap Some one
     by (Some m) h = cc
-
-pub first_steps : (t : State) (e : Event) → first e ≡ Ok t → stepped None e ≡ Some t
-first_steps t e is = ap result_ok is
 
 -- and there is no misfit where the state takes the event
 pub taken_fault : (s : State) (e : Event) (fault : StateFault) → takes (Some s) e ≡ true → IsCauseIn (after s e) fault → fault ≡ OutOfMemory

@@ -23,7 +23,8 @@ pub(crate) fn numbers_behind(
     requires stands { IsStanding tables.now }
     ensures rising { IfOk result (λ numbers. IsStrictlyIncreasing numbers.items) }
     ensures held { IfOk result (λ numbers. (n : ℕ) → Contains numbers.items n → n < length tables.now.held) }
-    ensures all { IfOk result (λ numbers. (c b : Body) (n : ℕ) → slice_get tables.now.held number ≡ Some c → slice_get tables.now.held n ≡ Some b
+    ensures all { IfOk result (λ numbers. (c b : Body) (n : ℕ) → slice_get tables.now.held number ≡ Some c
+        → slice_get tables.now.held n ≡ Some b
         → precedes b c ≡ true → predecessor (log_of tables.now) b ≡ None → list_any (λ m. m == n) numbers.items ≡ true) }
 {
     match tables.event(number) {
@@ -44,7 +45,8 @@ pub(crate) fn raise_behind(tables: &mut Tables, numbers: &[u32]) -> Result<(), A
     requires logged { IsLogged tables.old }
     requires held { (n : ℕ) → Contains numbers.now n → n < length tables.old.held }
     requires rising { IsStrictlyIncreasing numbers.now }
-    ensures ok { OnOk result ((v : View) (c : Body) → IsTurning v c [] tables.old → IsTurning v c numbers.now tables.new) }
+    ensures ok { OnOk result ((v : View) (c : Body) → IsTurning v c [] tables.old
+        → IsTurning v c numbers.now tables.new) }
     ensures extends { Extends tables.old tables.new }
 {
     for number in numbers {
@@ -57,7 +59,8 @@ pub(crate) fn raise_behind(tables: &mut Tables, numbers: &[u32]) -> Result<(), A
 fn raise_new(tables: &mut Tables, number: u32) -> Result<(), AllocError>
     requires logged { IsLogged tables.old }
     requires held { number < length tables.old.held }
-    ensures ok { OnOk result ((v : View) (c : Body) (done : List ℕ) → list_any (λ m. m == number) done ≡ false → IsTurning v c done tables.old → IsTurning v c (done ++ number ∷ []) tables.new) }
+    ensures ok { OnOk result ((v : View) (c : Body) (done : List ℕ) → list_any (λ m. m == number) done ≡ false
+        → IsTurning v c done tables.old → IsTurning v c (done ++ number ∷ []) tables.new) }
     ensures rows { tables.new ≡ with_rows tables.new.claims.rows tables.old }
     ensures extends { Extends tables.old tables.new }
 {
@@ -71,8 +74,10 @@ fn raise_new(tables: &mut Tables, number: u32) -> Result<(), AllocError>
 // Whether the last accepted event is the first that stands right before the event of a number.
 fn is_behind_last(tables: &Tables, number: u32) -> bool
     requires logged { IsLogged tables.now }
-    ensures then { (b : Body) → slice_get tables.now.held number ≡ Some b → result ≡ true → IsBehindLast (log_of tables.now) b }
-    ensures otherwise { (b : Body) → slice_get tables.now.held number ≡ Some b → result ≡ false → IsBehindLast (log_of tables.now) b → ⊥ }
+    ensures then { (b : Body) → slice_get tables.now.held number ≡ Some b → result ≡ true
+        → IsBehindLast (log_of tables.now) b }
+    ensures otherwise { (b : Body) → slice_get tables.now.held number ≡ Some b → result ≡ false
+        → IsBehindLast (log_of tables.now) b → ⊥ }
 {
     match place_before(tables, number) {
         Some(place) => place as usize + 1 == tables.log().len(),
@@ -82,7 +87,8 @@ fn is_behind_last(tables: &Tables, number: u32) -> bool
 
 // The place in the log of the first event that stands right before the event of a number.
 fn place_before(tables: &Tables, number: u32) -> Option<u32>
-    ensures { (b : Body) → slice_get tables.now.held number ≡ Some b → result ≡ position (precedes b) (log_of tables.now) }
+    ensures { (b : Body) → slice_get tables.now.held number ≡ Some b
+        → result ≡ position (precedes b) (log_of tables.now) }
 {
     tables.predecessor(tables.event(number)?)
 }

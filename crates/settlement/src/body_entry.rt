@@ -28,7 +28,8 @@ pub fn enter_body(
     requires stands { IsStanding tables.old }
     requires held { IsHeld (body_of text event) }
     requires outside { is_in tables.old.held (body_of text event) ≡ false }
-    ensures ok { OnOk result (Comes (body_of text event ∷ []) (Took reader (length tables.old.held) claims) tables.old tables.new) }
+    ensures ok { OnOk result (Comes (body_of text event ∷ []) (Took reader (length tables.old.held) claims)
+        tables.old tables.new) }
     ensures extends { Extends tables.old tables.new }
 {
     if is_receipt(&event) {
@@ -70,7 +71,8 @@ fn enter_event(
     requires held { IsHeld (body_of text event) }
     requires outside { is_in tables.old.held (body_of text event) ≡ false }
     requires no_receipt { events.is_receipt event ≡ false }
-    ensures ok { OnOk result (Comes (body_of text event ∷ []) (Took reader (length tables.old.held) claims) tables.old tables.new) }
+    ensures ok { OnOk result (Comes (body_of text event ∷ []) (Took reader (length tables.old.held) claims)
+        tables.old tables.new) }
     ensures extends { Extends tables.old tables.new }
 {
     let length = tables.len();
@@ -92,7 +94,8 @@ fn enter_receipt(
     requires held { IsHeld (body_of text event) }
     requires outside { is_in tables.old.held (body_of text event) ≡ false }
     requires receipt { events.is_receipt event ≡ true }
-    ensures ok { OnOk result (Comes (body_of text event ∷ []) (Took reader (length tables.old.held) claims) tables.old tables.new) }
+    ensures ok { OnOk result (Comes (body_of text event ∷ []) (Took reader (length tables.old.held) claims)
+        tables.old tables.new) }
     ensures extends { Extends tables.old tables.new }
 {
     let length = tables.len();
@@ -116,7 +119,8 @@ fn raise_last(tables: &mut Tables, alloc: Global, number: u32, entry: u32) -> Re
 
 // The name that the receipt of a number speaks of.
 fn receipt_name(tables: &Tables, number: u32) -> Option<Name>
-    ensures { (b : Body) → slice_get tables.now.held number ≡ Some b → result ≡ (if events.is_receipt b.event then Some (name_of_event b.event) else None) }
+    ensures { (b : Body) → slice_get tables.now.held number ≡ Some b
+        → result ≡ (if events.is_receipt b.event then Some (name_of_event b.event) else None) }
 {
     let event = tables.event(number)?;
     if is_receipt(event) {

@@ -38,7 +38,8 @@ fn append(alloc: Global, tables: &mut Tables, number: u32) -> Result<(), AllocEr
     requires stands { IsStanding tables.old }
     requires held { number < length tables.old.held }
     requires fits { (b : Body) → slice_get tables.old.held number ≡ Some b → IsTrue (fits (log_of tables.old) b) }
-    ensures ok { OnOk result ((b : Body) → slice_get tables.old.held number ≡ Some b → IsAppended b number tables.old tables.new) }
+    ensures ok { OnOk result ((b : Body) → slice_get tables.old.held number ≡ Some b
+        → IsAppended b number tables.old tables.new) }
     ensures extends { Extends tables.old tables.new }
 {
     spelled_is_kept();
@@ -53,8 +54,10 @@ fn state_of(alloc: Global, tables: &Tables, number: u32) -> Result<Option<KeySta
     requires stands { IsStanding tables.now }
     requires held { number < length tables.now.held }
     requires fits { (b : Body) → slice_get tables.now.held number ≡ Some b → IsTrue (fits (log_of tables.now) b) }
-    ensures some { IfOk result (λ made. IfSome made (λ s. (b : Body) → slice_get tables.now.held number ≡ Some b → MakesState (log_of tables.now) b s)) }
-    ensures none { IfOk result (λ made. IfNone made ((b : Body) → slice_get tables.now.held number ≡ Some b → is_interaction b.event ≡ true)) }
+    ensures some { IfOk result (λ made. IfSome made (λ s. (b : Body) → slice_get tables.now.held number ≡ Some b
+        → MakesState (log_of tables.now) b s)) }
+    ensures none { IfOk result (λ made. IfNone made ((b : Body) → slice_get tables.now.held number ≡ Some b
+        → is_interaction b.event ≡ true)) }
 {
     spelled_is_kept();
     match tables.event(number) {
@@ -71,7 +74,8 @@ fn state_made(
 ) -> Result<Option<KeyState>, AllocError>
     requires kept { IsKept event.now }
     requires takes { takes (last_of (event_prefix event.now) log.now.states) event.now ≡ true }
-    ensures some { IfOk result (λ made. IfSome made (λ s. (is_interaction event.now ≡ false) × (stepped (last_of (event_prefix event.now) log.now.states) event.now ≡ Some s))) }
+    ensures some { IfOk result (λ made. IfSome made (λ s. (is_interaction event.now ≡ false)
+        × (stepped (last_of (event_prefix event.now) log.now.states) event.now ≡ Some s))) }
     ensures none { IfOk result (λ made. IfNone made (is_interaction event.now ≡ true)) }
 {
     if let Event::Ixn(_) = event {

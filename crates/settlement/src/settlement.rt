@@ -48,9 +48,11 @@ fn accept_next(
 ) -> Result<(), AllocError>
     requires stands { IsStanding tables.old }
     requires held { number < length tables.old.held }
-    requires ready { (b : Body) → slice_get tables.old.held number ≡ Some b → ready.is_ready mode (told_of tables.old) (log_of tables.old) b ≡ true }
+    requires ready { (b : Body) → slice_get tables.old.held number ≡ Some b
+        → ready.is_ready mode (told_of tables.old) (log_of tables.old) b ≡ true }
     requires rising { IsStrictlySortedBy nat_cmp due.old.keys }
-    ensures ok { OnOk result ((b : Body) → slice_get tables.old.held number ≡ Some b → AcceptsNext mode b tables.old tables.new due.old.keys due.new.keys) }
+    ensures ok { OnOk result ((b : Body) → slice_get tables.old.held number ≡ Some b
+        → AcceptsNext mode b tables.old tables.new due.old.keys due.new.keys) }
     ensures extends { Extends tables.old tables.new }
 {
     let woken = numbers_woken(alloc, tables, mode, number)?;
@@ -81,7 +83,8 @@ fn next_ready(
 fn is_due(tables: &Tables, mode: Mode, number: u32, steps: &mut Steps) -> bool
     requires stands { IsStanding tables.now }
     ensures ready { result ≡ true → IsReadyAt mode tables.now number }
-    ensures not_ready { result ≡ false → (b : Body) → slice_get tables.now.held number ≡ Some b → ready.is_ready mode (told_of tables.now) (log_of tables.now) b ≡ false }
+    ensures not_ready { result ≡ false → (b : Body) → slice_get tables.now.held number ≡ Some b
+        → ready.is_ready mode (told_of tables.now) (log_of tables.now) b ≡ false }
     ensures step { steps.new ≡ min (steps.old + 1) (2 ^ 64 - 1) }
 {
     tables.waiting().look(number, steps).is_some() && is_ready(tables, mode, number)

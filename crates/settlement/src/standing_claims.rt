@@ -17,7 +17,8 @@ use std::alloc::{AllocError, Global};
 /// Raises all claims on the body of a number, where its event stands. After an error some of them are raised.
 pub fn raise_if_standing(tables: &mut Tables, number: u32) -> Result<(), AllocError>
     requires { IsLogged tables.old }
-    ensures ok { OnOk result ((b : Body) → slice_get tables.old.held number ≡ Some b → RaisesFound number b (claims_on (told_of tables.old) b) tables.old tables.new) }
+    ensures ok { OnOk result ((b : Body) → slice_get tables.old.held number ≡ Some b
+        → RaisesFound number b (claims_on (told_of tables.old) b) tables.old tables.new) }
     ensures err { OnErr result (RaisesSome number tables.old tables.new) }
 {
     spelled_is_kept();
@@ -35,7 +36,9 @@ pub(crate) fn raise_entry_if_standing(
     entry: u32,
 ) -> Result<(), AllocError>
     requires { IsLogged tables.old }
-    ensures ok { OnOk result ((b : Body) → slice_get tables.old.held number ≡ Some b → RaisesFound number b (claims_at tables.old.held b (slice_get tables.old.entries entry)) tables.old tables.new) }
+    ensures ok { OnOk result ((b : Body) → slice_get tables.old.held number ≡ Some b
+        → RaisesFound number b (claims_at tables.old.held b (slice_get tables.old.entries entry)) tables.old
+        tables.new) }
     ensures unheld { OnOk result (slice_get tables.old.held number ≡ None → tables.new ≡ tables.old) }
     ensures err { OnErr result (RaisesSome number tables.old tables.new) }
 {
@@ -69,8 +72,10 @@ pub(crate) fn raise_receipt(
 fn footing_at(tables: &Tables, number: u32) -> Option<Footing>
     requires { IsLogged tables.now }
     ensures held { IfSome result (λ on. number < length tables.now.held) }
-    ensures none { IfNone result ((b : Body) → slice_get tables.now.held number ≡ Some b → stands (log_of tables.now) b ≡ false) }
-    ensures some { IfSome result (λ on. (b : Body) → slice_get tables.now.held number ≡ Some b → IsFooting (log_of tables.now) tables.now.log b on) }
+    ensures none { IfNone result ((b : Body) → slice_get tables.now.held number ≡ Some b
+        → stands (log_of tables.now) b ≡ false) }
+    ensures some { IfSome result (λ on. (b : Body) → slice_get tables.now.held number ≡ Some b
+        → IsFooting (log_of tables.now) tables.now.log b on) }
 {
     let event = tables.event(number)?;
     footing_of(tables, event)

@@ -22,7 +22,8 @@ use key_state::spelled_is_kept;
 /// `Full` mode, the first of its delegator that seals it. It takes no memory.
 pub(crate) fn is_awaited_at(tables: &Tables, mode: Mode, number: u32, waiting: u32) -> bool
     requires stands { IsStanding tables.now }
-    ensures { result ≡ awaited.is_awaited_there mode (log_of tables.now) (slice_get tables.now.held number) (slice_get tables.now.held waiting) }
+    ensures { result ≡ awaited.is_awaited_there mode (log_of tables.now) (slice_get tables.now.held number)
+        (slice_get tables.now.held waiting) }
 {
     spelled_is_kept();
     let Some(event) = tables.event(number) else {
@@ -38,7 +39,8 @@ pub(crate) fn is_awaited_at(tables: &Tables, mode: Mode, number: u32, waiting: u
 fn is_awaited(tables: &Tables, mode: Mode, event: &Event, waiting: &Event) -> bool
     requires stands { IsStanding tables.now }
     requires kept { IsKept event.now }
-    ensures { (bs cs : List ℕ) → result ≡ awaited.is_awaited mode (log_of tables.now) (body_of cs event.now) (body_of bs waiting.now) }
+    ensures { (bs cs : List ℕ) → result
+        ≡ awaited.is_awaited mode (log_of tables.now) (body_of cs event.now) (body_of bs waiting.now) }
 {
     is_behind(waiting, event) || is_full(mode) && seals_first(tables, event, waiting)
 }
@@ -56,7 +58,8 @@ fn is_full(mode: Mode) -> bool
 // Whether the event is the first of the other one's delegator that seals it.
 fn seals_first(tables: &Tables, event: &Event, waiting: &Event) -> bool
     requires stands { IsStanding tables.now }
-    ensures { (bs cs : List ℕ) → result ≡ waking.seals_first (log_of tables.now) (body_of cs event.now) (body_of bs waiting.now) }
+    ensures { (bs cs : List ℕ) → result
+        ≡ waking.seals_first (log_of tables.now) (body_of cs event.now) (body_of bs waiting.now) }
 {
     if !is_delegated(waiting) {
         return false;
@@ -77,7 +80,9 @@ fn delegator(tables: &Tables, event: &Event) -> Option<Prefix>
 
 // Whether the event is of the delegator and seals the other one, and no accepted one does.
 fn holds_first_seal(tables: &Tables, event: &Event, waiting: &Event, delegator: &Prefix) -> bool
-    ensures { (bs cs : List ℕ) → result ≡ (logs.is_of delegator.now (body_of cs event.now) && seals.seals event.now waiting.now && not (seals.is_sealed (log_of tables.now) delegator.now waiting.now)) }
+    ensures { (bs cs : List ℕ) → result
+        ≡ (logs.is_of delegator.now (body_of cs event.now) && seals.seals event.now waiting.now
+        && not (seals.is_sealed (log_of tables.now) delegator.now waiting.now)) }
 {
     prefix_of(event) == *delegator
         && holds_seal(event, waiting)

@@ -31,10 +31,12 @@ pub(crate) fn numbers_woken(
     number: u32,
 ) -> Result<Vec<u32>, AllocError>
     requires stands { IsStanding tables.now }
-    ensures all { IfOk result (λ numbers. (c b : Body) (n : ℕ) → slice_get tables.now.held number ≡ Some c → slice_get tables.now.held n ≡ Some b
+    ensures all { IfOk result (λ numbers. (c b : Body) (n : ℕ) → slice_get tables.now.held number ≡ Some c
+        → slice_get tables.now.held n ≡ Some b
         → may_wake mode (log_of tables.now) c b ≡ true → Contains numbers.items n) }
     ensures waits { IfOk result (λ numbers. (n : ℕ) → Contains numbers.items n
-        → is_awaited_there mode (log_of tables.now) (slice_get tables.now.held number) (slice_get tables.now.held n) ≡ true) }
+        → is_awaited_there mode (log_of tables.now) (slice_get tables.now.held number)
+        (slice_get tables.now.held n) ≡ true) }
 {
     let named = numbers_named(alloc, tables, mode, number)?;
     waiters(alloc, tables, mode, number, named.as_slice())
@@ -49,7 +51,9 @@ fn waiters(
     numbers: &[u32],
 ) -> Result<Vec<u32>, AllocError>
     requires stands { IsStanding tables.now }
-    ensures { IfOk result (λ those. those.items ≡ filter (λ n. is_awaited_there mode (log_of tables.now) (slice_get tables.now.held number) (slice_get tables.now.held n)) numbers.now) }
+    ensures { IfOk result (λ those. those.items
+        ≡ filter (λ n. is_awaited_there mode (log_of tables.now) (slice_get tables.now.held number)
+        (slice_get tables.now.held n)) numbers.now) }
 {
     let mut those = Vec::new(alloc);
     for waiting in numbers {
@@ -69,7 +73,8 @@ fn numbers_named(
     number: u32,
 ) -> Result<Vec<u32>, AllocError>
     requires stands { IsStanding tables.now }
-    ensures all { IfOk result (λ numbers. (c b : Body) (n : ℕ) → slice_get tables.now.held number ≡ Some c → slice_get tables.now.held n ≡ Some b
+    ensures all { IfOk result (λ numbers. (c b : Body) (n : ℕ) → slice_get tables.now.held number ≡ Some c
+        → slice_get tables.now.held n ≡ Some b
         → may_wake mode (log_of tables.now) c b ≡ true → Contains numbers.items n) }
 {
     sealed_by_parts();
@@ -91,7 +96,8 @@ fn with_sealed(
     event: &Event,
 ) -> Result<Vec<u32>, AllocError>
     ensures kept { IfOk result (λ all. (n : ℕ) → Contains numbers.items n → Contains all.items n) }
-    ensures sealed { IfOk result (λ all. (n : ℕ) (seal : EventSealValue) → IsEventSeal seal → holds_seal event.now seal.prefix seal.sn seal.said ≡ true
+    ensures sealed { IfOk result (λ all. (n : ℕ) (seal : EventSealValue) → IsEventSeal seal
+        → holds_seal event.now seal.prefix seal.sn seal.said ≡ true
         → Waits n (λ w. w.said ≡ seal.said) waiting.now → Contains all.items n) }
 {
     let mut numbers = numbers;
@@ -107,7 +113,8 @@ fn push_named(
     seals: &[EventSeal],
 ) -> Result<(), AllocError>
     ensures kept { (n : ℕ) → Contains numbers.old.items n → Contains numbers.new.items n }
-    ensures named { OnOk result ((n : ℕ) (seal : EventSealValue) → Contains seals.now seal → Waits n (λ w. w.said ≡ seal.said) waiting.now → Contains numbers.new.items n) }
+    ensures named { OnOk result ((n : ℕ) (seal : EventSealValue) → Contains seals.now seal
+        → Waits n (λ w. w.said ≡ seal.said) waiting.now → Contains numbers.new.items n) }
 {
     for seal in seals {
         numbers.extend_from_slice(waiting.named(&seal.said))?;
@@ -125,8 +132,10 @@ pub(crate) fn add_due(
     requires stands { IsStanding tables.now }
     ensures kept { (n : ℕ) → Contains due.old.keys n → Contains due.new.keys n }
     ensures there { OnOk result ((n : ℕ) (b : Body) → Contains numbers.now n → slice_get tables.now.held n ≡ Some b
-        → (is_waiting (log_of tables.now) b && is_all_there (log_of tables.now) b && is_anchored mode (log_of tables.now) b) ≡ true → Contains due.new.keys n) }
-    ensures few { OnOk result ((n : ℕ) → Contains due.new.keys n → Contains due.old.keys n ⊎ (Contains numbers.now n × IsNextAt mode tables.now n)) }
+        → (is_waiting (log_of tables.now) b && is_all_there (log_of tables.now) b
+        && is_anchored mode (log_of tables.now) b) ≡ true → Contains due.new.keys n) }
+    ensures few { OnOk result ((n : ℕ) → Contains due.new.keys n
+        → Contains due.old.keys n ⊎ (Contains numbers.now n × IsNextAt mode tables.now n)) }
     ensures rising { IsStrictlySortedBy nat_cmp due.old.keys → IsStrictlySortedBy nat_cmp due.new.keys }
 {
     for number in numbers {
@@ -145,8 +154,10 @@ fn add_if_there(
     requires stands { IsStanding tables.now }
     ensures kept { (n : ℕ) → Contains due.old.keys n → Contains due.new.keys n }
     ensures there { OnOk result ((b : Body) → slice_get tables.now.held number ≡ Some b
-        → (is_waiting (log_of tables.now) b && is_all_there (log_of tables.now) b && is_anchored mode (log_of tables.now) b) ≡ true → Contains due.new.keys number) }
-    ensures few { OnOk result ((n : ℕ) → Contains due.new.keys n → Contains due.old.keys n ⊎ ((number ≡ n) × IsNextAt mode tables.now n)) }
+        → (is_waiting (log_of tables.now) b && is_all_there (log_of tables.now) b
+        && is_anchored mode (log_of tables.now) b) ≡ true → Contains due.new.keys number) }
+    ensures few { OnOk result ((n : ℕ) → Contains due.new.keys n
+        → Contains due.old.keys n ⊎ ((number ≡ n) × IsNextAt mode tables.now n)) }
     ensures rising { IsStrictlySortedBy nat_cmp due.old.keys → IsStrictlySortedBy nat_cmp due.new.keys }
 {
     if !is_next(tables, mode, number) {
@@ -160,7 +171,8 @@ fn add_if_there(
 fn is_next(tables: &Tables, mode: Mode, number: u32) -> bool
     requires stands { IsStanding tables.now }
     ensures { (b : Body) → slice_get tables.now.held number ≡ Some b
-        → result ≡ (not (list_any (λ m. m == number) tables.now.log.numbers) && (is_all_there (log_of tables.now) b && is_anchored mode (log_of tables.now) b)) }
+        → result ≡ (not (list_any (λ m. m == number) tables.now.log.numbers)
+        && (is_all_there (log_of tables.now) b && is_anchored mode (log_of tables.now) b)) }
 {
     !tables.is_accepted(number) && is_there(tables, mode, number)
 }

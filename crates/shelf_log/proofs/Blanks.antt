@@ -5,7 +5,7 @@ use Rattle.keri_disk.specs.Images.{DiskTold, overwritten, Torn}
 use Rattle.keri_disk.specs.Calls.{Changes}
 use Rattle.shelf_log.specs.Blank.{IsBlank, AllBlank, Extends}
 use Rattle.shelf_log.proofs.Changes.{none_of_err}
-use Rattle.keri_disk.proofs.Moments.{KnowsNow, none_yet, one_call, and_then}
+use Rattle.keri_disk.proofs.Moments.{KnowsNow, one_call, and_then}
 
 blank_same : (d c : List ℕ) → take 1 c ≡ take 1 d → IsBlank d → IsBlank c
 blank_same [] c same blank = absurd blank
@@ -58,13 +58,6 @@ ExtendsSoFar bytes old new = Extends {T = Unit {0}} {E = Unit {0}} bytes old new
 mapped_both : (xs ys : List ℕ) (o : Option (List ℕ)) → option_map (λ file. file ++ ys) (option_map (λ file. file ++ xs) o) ≡ option_map (λ file. file ++ (xs ++ ys)) o
 mapped_both xs ys None = refl
 mapped_both xs ys (Some file) = ap Some (append_assoc file xs ys)
-
-mapped_none : (o : Option (List ℕ)) → o ≡ option_map (λ file. file ++ []) o
-mapped_none None = refl
-mapped_none (Some file) = ap Some (sym (append-nil file))
-
-pub extends_none : (told : DiskTold) → KnowsNow told → ExtendsSoFar [] told told
-extends_none told knows = record { file = mapped_none told.file; blank = λ all. all; moments = λ all. none_yet told IsBlank knows all }
 
 pub extends_both : {T E : Type 0} (xs ys : List ℕ) (old mid new : DiskTold) (result : Result T E) → ExtendsSoFar xs old mid → Extends ys mid new result → Extends (xs ++ ys) old new result
 extends_both xs ys old mid new result a b = record {

@@ -1,5 +1,5 @@
 -- A scan goes on by one record.
-use Rattle.std.proofs.Common.{◌≡◌, inl, inr, ℕ, ◌+◌, ◌-◌, ◌||◌, true, false, List, [], ◌∷◌, ◌++◌, length, take, drop, take_all, drop_at, length-drop, nat_le, All, refl, sym, ◌∙◌, ap, subst, arith, length-append, append-nil, append_assoc}
+use Rattle.std.proofs.Common.{◌≡◌, inl, inr, ℕ, ◌+◌, ◌-◌, ◌||◌, true, false, List, [], ◌∷◌, ◌++◌, length, take, drop, take_all, drop_at, length-drop, nat_le, All, sym, ◌∙◌, ap, subst, arith, length-append, append-nil, append_assoc}
 use Rattle.std.proofs.lemmas.Bool.{cases_Bool, false≢true}
 use Rattle.std.proofs.lemmas.Bool.Decides.{nat_tests}
 use Rattle.std.proofs.lemmas.List.Elements.{All-push}
@@ -59,10 +59,6 @@ module _ (old new : Scan) (payloads : List (List ℕ)) (payload : List ℕ) (rea
       few : IsOver new.version new.limits (payloads ++ payload ∷ []) → ⊥
       few (inl many) = absurd (grind (arith, nat_tests, past, many, longer, ap length (read.kept was).0, ap (λ (l : Limits). l.records) of.1))
       few (inr big) = absurd (grind (arith, nat_tests, past, big, sym place, ap (λ (l : Limits). l.shelf_bytes) of.1))
-
--- nothing of a window is gone through
-pub none_through : (window : List ℕ) (scan : Scan) → GoesThrough window window scan scan
-none_through window scan = record { more = []; window_is = refl; place = refl; of = (refl, refl); read = λ payloads read. subst (HasRead scan) (sym (append-nil payloads)) read }
 
 -- one record more is gone through
 pub one_through : (window rest behind : List ℕ) (old mid new : Scan) (payload : List ℕ) → GoesThrough window rest old mid → rest ≡ record_bytes payload ++ behind

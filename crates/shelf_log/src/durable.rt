@@ -11,7 +11,8 @@ use keri_outside::Failed;
 // Writes the bytes and syncs.
 pub(crate) fn put_durably<D: Disk>(disk: &mut D, place: u64, bytes: &[u8]) -> Result<(), Failed>
     requires { IsInFile place 0 (D.told disk.old).file }
-    ensures puts { ChangesDurably (λ file. overwritten file place bytes.now) (Torn place (length bytes.now)) (D.told disk.old) (D.told disk.new) result }
+    ensures puts { ChangesDurably (λ file. overwritten file place bytes.now) (Torn place (length bytes.now))
+        (D.told disk.old) (D.told disk.new) result }
     ensures cause { HasCause (D.told disk.old).faults (D.told disk.new).faults result }
 {
     disk.write_at(place, bytes)?;

@@ -26,11 +26,15 @@ pub(crate) fn read_list<D: Disk>(
     version: Version,
     limits: Limits,
 ) -> Result<Scan, ShelfFault>
-    ensures reads { IfSome (D.told disk.old).file (λ file. MatchResult result (λ scan. Reads version limits file (Ok scan.list)) (λ fault. Reads version limits file (Err fault))) }
+    ensures reads { IfSome (D.told disk.old).file
+        (λ file. MatchResult result (λ scan. Reads version limits file (Ok scan.list))
+        (λ fault. Reads version limits file (Err fault))) }
     ensures read { IfOk result (λ scan. IsWithin version limits scan) }
-    ensures durable { MatchResult result (λ _. IsDurable (D.told disk.new)) (λ fault. fault ≢ DiskFault → IsDurable (D.told disk.new)) }
+    ensures durable { MatchResult result (λ _. IsDurable (D.told disk.new)) (λ fault. fault ≢ DiskFault
+        → IsDurable (D.told disk.new)) }
     ensures keeps { Keeps (D.told disk.old) (D.told disk.new) }
-    ensures cause { MatchResult result (λ _. (D.told disk.new).faults ≡ (D.told disk.old).faults) (λ fault. HasDiskCause (D.told disk.old) (D.told disk.new) fault) }
+    ensures cause { MatchResult result (λ _. (D.told disk.new).faults ≡ (D.told disk.old).faults)
+        (λ fault. HasDiskCause (D.told disk.old) (D.told disk.new) fault) }
 {
     disk.sync()?;
     let size = disk.size()?;
@@ -49,7 +53,8 @@ pub(crate) fn read_list<D: Disk>(
 // Whether the file begins with the version's mark.
 fn has_mark<D: Disk>(disk: &mut D, size: u64, version: Version) -> Result<bool, Failed>
     requires size { IsSizeOf (D.told disk.old).file size }
-    ensures mark { IfOk result (λ has. IfSome (D.told disk.old).file (λ file. IsTrue has ↔ (take 8 file ≡ mark version))) }
+    ensures mark { IfOk result (λ has. IfSome (D.told disk.old).file
+        (λ file. IsTrue has ↔ (take 8 file ≡ mark version))) }
     ensures long { IfOk result (λ has. IsTrue has → 8 ≤ size) }
     ensures keeps { Keeps (D.told disk.old) (D.told disk.new) }
     ensures cause { HasCause (D.told disk.old).faults (D.told disk.new).faults result }
@@ -78,7 +83,8 @@ fn read_records<D: Disk>(
     ensures scans { IfSome (D.told disk.old).file (λ file. Scans file scan.new result) }
     ensures of { (scan.new.version ≡ scan.old.version) × (scan.new.limits ≡ scan.old.limits) }
     ensures keeps { Keeps (D.told disk.old) (D.told disk.new) }
-    ensures cause { MatchResult result (λ _. (D.told disk.new).faults ≡ (D.told disk.old).faults) (λ fault. HasDiskCause (D.told disk.old) (D.told disk.new) fault) }
+    ensures cause { MatchResult result (λ _. (D.told disk.new).faults ≡ (D.told disk.old).faults)
+        (λ fault. HasDiskCause (D.told disk.old) (D.told disk.new) fault) }
 {
     loop {
         let left = size - scan.place;

@@ -32,11 +32,16 @@ impl<D: Disk + Drop> Shelf<D> {
     ) -> Result<Shelf<D>, Returned<D>>
         requires sized { All (IsSized One) list.now }
         requires no_shelf { (c : List ℕ) → (D.told target).images c → IsNoShelf Two c }
-        ensures made { IfOk result (λ shelf. (shelf.list ≡ list.now) × (shelf.limits ≡ limits) × (shelf.broken ≡ false) × AllHold (D.told shelf.disk) list.now) }
-        ensures full { MatchResult result (λ _. IsOver Two limits list.now → ⊥) (λ returned. MigrationRefuses limits list.now returned.fault) }
+        ensures made { IfOk result (λ shelf. (shelf.list ≡ list.now) × (shelf.limits ≡ limits)
+            × (shelf.broken ≡ false) × AllHold (D.told shelf.disk) list.now) }
+        ensures full { MatchResult result (λ _. IsOver Two limits list.now
+            → ⊥) (λ returned. MigrationRefuses limits list.now returned.fault) }
         ensures kept { IfErr result (λ returned. returned.fault ≢ DiskFault → returned.disk ≡ target) }
-        ensures cause { MatchResult result (λ shelf. (D.told shelf.disk).faults ≡ (D.told target).faults) (λ returned. HasDiskCause (D.told target) (D.told returned.disk) returned.fault) }
-        ensures moments { MatchResult result (λ shelf. LeavesOnly (D.told target) (D.told shelf.disk) (IsBroughtOver list.now)) (λ returned. LeavesOnly (D.told target) (D.told returned.disk) (IsBroughtOver list.now)) }
+        ensures cause { MatchResult result (λ shelf. (D.told shelf.disk).faults ≡ (D.told target).faults)
+            (λ returned. HasDiskCause (D.told target) (D.told returned.disk) returned.fault) }
+        ensures moments { MatchResult result
+            (λ shelf. LeavesOnly (D.told target) (D.told shelf.disk) (IsBroughtOver list.now))
+            (λ returned. LeavesOnly (D.told target) (D.told returned.disk) (IsBroughtOver list.now)) }
     {
         if is_over(list, limits) {
             return Err(Returned {

@@ -41,7 +41,8 @@ impl Scan {
 
     // Whether a record more that ends at this place makes too many.
     fn is_past(&self, place: u64) -> bool
-        ensures { result ≡ (self.now.is_over || nat_le self.now.limits.records (length self.now.list) || nat_le self.now.limits.shelf_bytes place) }
+        ensures { result ≡ (self.now.is_over || nat_le self.now.limits.records (length self.now.list)
+            || nat_le self.now.limits.shelf_bytes place) }
     {
         self.is_over
             || self.list.len() as u64 >= u64::from(self.limits.records)
@@ -52,7 +53,8 @@ impl Scan {
     fn take(&mut self, payload: &[u8]) -> Result<(), AllocError>
         requires sized { IsSized self.old.version payload.now }
         requires fits { self.old.place + 5 + length payload.now < 2 ^ 64 }
-        ensures read { OnOk result ((payloads : List (List ℕ)) → HasRead self.old payloads → HasRead self.new (payloads ++ payload.now ∷ [])) }
+        ensures read { OnOk result ((payloads : List (List ℕ)) → HasRead self.old payloads
+            → HasRead self.new (payloads ++ payload.now ∷ [])) }
         ensures place { OnOk result (self.new.place ≡ self.old.place + 5 + length payload.now) }
         ensures of { (self.new.version ≡ self.old.version) × (self.new.limits ≡ self.old.limits) }
     {

@@ -47,10 +47,13 @@ impl<D: Disk + Drop> Shelf<D> {
     /// A stop at any moment leaves an empty file, an empty shelf, or a file that is refused.
     pub fn create(alloc: Global, disk: D, limits: Limits) -> Result<Shelf<D>, Returned<D>>
         requires { (c : List ℕ) → (D.told disk).images c → c ≡ [] }
-        ensures made { IfOk result (λ shelf. (shelf.list ≡ []) × (shelf.limits ≡ limits) × (shelf.broken ≡ false) × AllHold (D.told shelf.disk) []) }
+        ensures made { IfOk result (λ shelf. (shelf.list ≡ []) × (shelf.limits ≡ limits) × (shelf.broken ≡ false)
+            × AllHold (D.told shelf.disk) []) }
         ensures refused { IfErr result (λ returned. returned.fault ≡ DiskFault) }
-        ensures cause { MatchResult result (λ shelf. (D.told shelf.disk).faults ≡ (D.told disk).faults) (λ returned. HasDiskCause (D.told disk) (D.told returned.disk) returned.fault) }
-        ensures moments { MatchResult result (λ shelf. LeavesOnly (D.told disk) (D.told shelf.disk) IsUnfinished) (λ returned. LeavesOnly (D.told disk) (D.told returned.disk) IsUnfinished) }
+        ensures cause { MatchResult result (λ shelf. (D.told shelf.disk).faults ≡ (D.told disk).faults)
+            (λ returned. HasDiskCause (D.told disk) (D.told returned.disk) returned.fault) }
+        ensures moments { MatchResult result (λ shelf. LeavesOnly (D.told disk) (D.told shelf.disk) IsUnfinished)
+            (λ returned. LeavesOnly (D.told disk) (D.told returned.disk) IsUnfinished) }
     {
         let mut disk = disk;
         match put_durably(&mut disk, 0, &Version::Two.empty_file()) {
@@ -65,11 +68,16 @@ impl<D: Disk + Drop> Shelf<D> {
     /// Reads a shelf. It syncs first, and writes and cuts nothing, whatever it answers.
     #[tactic(auto, using(crate::proofs::Sizes::counted))]
     pub fn read_back(alloc: Global, disk: D, limits: Limits) -> Result<Shelf<D>, Returned<D>>
-        ensures made { IfOk result (λ shelf. (shelf.limits ≡ limits) × (shelf.broken ≡ false) × AllHold (D.told shelf.disk) shelf.list) }
+        ensures made { IfOk result (λ shelf. (shelf.limits ≡ limits) × (shelf.broken ≡ false)
+            × AllHold (D.told shelf.disk) shelf.list) }
         ensures durable { IfErr result (λ returned. returned.fault ≢ DiskFault → IsDurable (D.told returned.disk)) }
-        ensures reads { IfSome (D.told disk).file (λ file. MatchResult result (λ shelf. Reads Two limits file (Ok shelf.list)) (λ returned. Reads Two limits file (Err returned.fault))) }
-        ensures keeps { MatchResult result (λ shelf. Keeps (D.told disk) (D.told shelf.disk)) (λ returned. Keeps (D.told disk) (D.told returned.disk)) }
-        ensures cause { MatchResult result (λ shelf. (D.told shelf.disk).faults ≡ (D.told disk).faults) (λ returned. HasDiskCause (D.told disk) (D.told returned.disk) returned.fault) }
+        ensures reads { IfSome (D.told disk).file
+            (λ file. MatchResult result (λ shelf. Reads Two limits file (Ok shelf.list))
+            (λ returned. Reads Two limits file (Err returned.fault))) }
+        ensures keeps { MatchResult result (λ shelf. Keeps (D.told disk) (D.told shelf.disk))
+            (λ returned. Keeps (D.told disk) (D.told returned.disk)) }
+        ensures cause { MatchResult result (λ shelf. (D.told shelf.disk).faults ≡ (D.told disk).faults)
+            (λ returned. HasDiskCause (D.told disk) (D.told returned.disk) returned.fault) }
     {
         let mut disk = disk;
         match read_list(alloc, &mut disk, Version::Two, limits) {
@@ -110,12 +118,16 @@ impl<D: Disk + Drop> Shelf<D> {
         requires { IsSized Two payload.now }
         ensures refused { Answers (refusal self.old.broken self.old.limits self.old.list (length payload.now)) result }
         ensures same_list { OnErr result ((self.new.list ≡ self.old.list) × (self.new.limits ≡ self.old.limits)) }
-        ensures kept { IfErr result (λ fault. fault ≢ DiskFault → (self.new.disk ≡ self.old.disk) × (self.new.broken ≡ self.old.broken)) }
+        ensures kept { IfErr result (λ fault. fault ≢ DiskFault
+            → (self.new.disk ≡ self.old.disk) × (self.new.broken ≡ self.old.broken)) }
         ensures failed { IfErr result (λ fault. fault ≡ DiskFault → self.new.broken ≡ true) }
-        ensures added { OnOk result ((self.new.list ≡ self.old.list ++ payload.now ∷ []) × (self.new.limits ≡ self.old.limits) × (self.new.broken ≡ false)) }
+        ensures added { OnOk result ((self.new.list ≡ self.old.list ++ payload.now ∷ [])
+            × (self.new.limits ≡ self.old.limits) × (self.new.broken ≡ false)) }
         ensures durable { OnOk result (AllHold (D.told self.new.disk) self.new.list) }
-        ensures cause { MatchResult result (λ _. (D.told self.new.disk).faults ≡ (D.told self.old.disk).faults) (λ fault. HasDiskCause (D.told self.old.disk) (D.told self.new.disk) fault) }
-        ensures moments { self.old.broken ≡ false → LeavesOnly (D.told self.old.disk) (D.told self.new.disk) (HoldsEither self.old.list payload.now) }
+        ensures cause { MatchResult result (λ _. (D.told self.new.disk).faults ≡ (D.told self.old.disk).faults)
+            (λ fault. HasDiskCause (D.told self.old.disk) (D.told self.new.disk) fault) }
+        ensures moments { self.old.broken ≡ false
+            → LeavesOnly (D.told self.old.disk) (D.told self.new.disk) (HoldsEither self.old.list payload.now) }
     {
         if self.broken {
             return Err(ShelfFault::Broken);
@@ -144,7 +156,8 @@ impl<D: Disk + Drop> Shelf<D> {
     // Whether a payload of so many bytes more would be over a limit.
     fn has_no_room(&self, bytes: usize) -> bool
         requires { bytes ≤ 524288 }
-        ensures { result ≡ (nat_le self.now.limits.records (length self.now.list) || nat_lt self.now.limits.shelf_bytes (shelf_size Two self.now.list + 5 + bytes)) }
+        ensures { result ≡ (nat_le self.now.limits.records (length self.now.list)
+            || nat_lt self.now.limits.shelf_bytes (shelf_size Two self.now.list + 5 + bytes)) }
     {
         self.list.len() as u64 >= u64::from(self.limits.records)
             || self.bytes() + (HEAD + bytes) as u64 > u64::from(self.limits.shelf_bytes)

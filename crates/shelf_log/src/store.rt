@@ -31,8 +31,10 @@ pub(crate) fn add<D: Disk>(
     ensures ok { OnOk result (list.new ≡ list.old ++ payload.now ∷ []) }
     ensures err { OnErr result (list.new ≡ list.old) }
     ensures refused { IfErr result (λ fault. (fault ≡ DiskFault) ⊎ ((fault ≡ OutOfMemory) × (disk.new ≡ disk.old))) }
-    ensures stores { IsSettled (D.told disk.old) list.old → end ≡ length (shelf_front Two list.old) → Stores list.old payload.now (D.told disk.old) (D.told disk.new) result }
-    ensures cause { MatchResult result (λ _. (D.told disk.new).faults ≡ (D.told disk.old).faults) (λ fault. HasDiskCause (D.told disk.old) (D.told disk.new) fault) }
+    ensures stores { IsSettled (D.told disk.old) list.old → end ≡ length (shelf_front Two list.old)
+        → Stores list.old payload.now (D.told disk.old) (D.told disk.new) result }
+    ensures cause { MatchResult result (λ _. (D.told disk.new).faults ≡ (D.told disk.old).faults)
+        (λ fault. HasDiskCause (D.told disk.old) (D.told disk.new) fault) }
 {
     let staged = staged_record(alloc, payload)?;
     let kept = Items::from_vec(Vec::from_slice(alloc, payload)?);
@@ -48,7 +50,8 @@ pub(crate) fn add<D: Disk>(
 fn store<D: Disk>(disk: &mut D, end: u64, staged: &[u8]) -> Result<(), Failed>
     requires inside { IsInFile (end + 1) 0 (D.told disk.old).file }
     requires few { end < 1073741824 }
-    ensures stores { (list : List (List ℕ)) (payload : List ℕ) → IsSettled (D.told disk.old) list → end ≡ length (shelf_front Two list) → IsSized Two payload
+    ensures stores { (list : List (List ℕ)) (payload : List ℕ) → IsSettled (D.told disk.old) list
+        → end ≡ length (shelf_front Two list) → IsSized Two payload
         → staged.now ≡ to_be_bytes w32 (length payload) ++ payload ++ 0 ∷ [] → Stores list payload (D.told disk.old) (D.told disk.new) result }
     ensures cause { HasCause (D.told disk.old).faults (D.told disk.new).faults result }
 {

@@ -21,7 +21,8 @@ fn read_weight(text: &[u8], number: &mut u16) -> Result<Weight, SithFault>
     requires { number.old ≤ 65535 }
     ensures some { IfOk result (λ weight. IsWeight weight × (text.now ≡ weight_text weight)) }
     ensures next { IfOk result (λ weight. number.new ≡ min (number.old + 1) 65535) }
-    ensures fault { IfErr result (λ fault. IsWeightFault (λ (t : List ℕ). Str t) (λ t. t ∷ []) (Str text.now) number.old fault) }
+    ensures fault { IfErr result (λ fault. IsWeightFault (λ (t : List ℕ). Str t) (λ t. t ∷ []) (Str text.now)
+        number.old fault) }
 {
     match Weight::read(text) {
         Some(weight) => {
@@ -38,7 +39,8 @@ fn read_single(tree: &Tree, number: &mut u16) -> Result<Weight, SithFault>
     requires number { number.old ≤ 65535 }
     ensures some { IfOk result (λ weight. IsWeight weight × (tree.now ≡ weight_value weight)) }
     ensures next { IfOk result (λ weight. number.new ≡ min (number.old + 1) 65535) }
-    ensures fault { IfErr result (λ fault. IsWeightFault (λ (t : List ℕ). Str t) (λ t. t ∷ []) tree.now number.old fault) }
+    ensures fault { IfErr result (λ fault. IsWeightFault (λ (t : List ℕ). Str t) (λ t. t ∷ []) tree.now number.old
+        fault) }
 {
     match tree {
         Tree::Str(text) => read_weight(text.as_slice(), number),
@@ -52,7 +54,8 @@ fn read_weights(alloc: Global, trees: &[Tree], number: &mut u16) -> Result<Items
     requires number { number.old ≤ 65535 }
     ensures some { IfOk result (λ weights. AllByRecursion IsWeight weights × (trees.now ≡ map weight_value weights)) }
     ensures next { IfOk result (λ weights. number.new ≡ min (number.old + length weights) 65535) }
-    ensures fault { IfErr result (λ fault. IsWeightFault texts_value (λ texts. texts) (TreeList trees.now) number.old fault) }
+    ensures fault { IfErr result (λ fault. IsWeightFault texts_value (λ texts. texts) (TreeList trees.now)
+        number.old fault) }
 {
     let mut weights = Vec::new(alloc);
     for tree in trees {
@@ -65,9 +68,11 @@ fn read_weights(alloc: Global, trees: &[Tree], number: &mut u16) -> Result<Items
 fn read_group(alloc: Global, member: &Member, number: &mut u16) -> Result<Term, SithFault>
     requires form { Writes texts_value member.now.value }
     requires number { number.old ≤ 65535 }
-    ensures some { IfOk result (λ term. AllByRecursion IsWeight (weights_in term) × (TreeObject (member.now ∷ []) ≡ term_value term)) }
+    ensures some { IfOk result (λ term. AllByRecursion IsWeight (weights_in term)
+        × (TreeObject (member.now ∷ []) ≡ term_value term)) }
     ensures next { IfOk result (λ term. number.new ≡ min (number.old + length (weights_in term)) 65535) }
-    ensures fault { IfErr result (λ fault. IsWeightFault written_value texts_of (TreeObject (member.now ∷ [])) number.old fault) }
+    ensures fault { IfErr result (λ fault. IsWeightFault written_value texts_of (TreeObject (member.now ∷ []))
+        number.old fault) }
 {
     let outer = read_weight(member.name.as_slice(), number)?;
     match &member.value {
@@ -104,9 +109,11 @@ fn read_term(alloc: Global, tree: &Tree, number: &mut u16) -> Result<Term, SithF
 fn read_terms(alloc: Global, trees: &[Tree], number: &mut u16) -> Result<Items<Term>, SithFault>
     requires form { AllByRecursion (Writes written_value) trees.now }
     requires number { number.old ≤ 65535 }
-    ensures some { IfOk result (λ terms. AllByRecursion IsWeight (clause_weights terms) × (trees.now ≡ map term_value terms)) }
+    ensures some { IfOk result (λ terms. AllByRecursion IsWeight (clause_weights terms)
+        × (trees.now ≡ map term_value terms)) }
     ensures next { IfOk result (λ terms. number.new ≡ min (number.old + length (clause_weights terms)) 65535) }
-    ensures fault { IfErr result (λ fault. IsWeightFault written_clause clause_texts (TreeList trees.now) number.old fault) }
+    ensures fault { IfErr result (λ fault. IsWeightFault written_clause clause_texts (TreeList trees.now)
+        number.old fault) }
 {
     let mut terms = Vec::new(alloc);
     for tree in trees {
@@ -119,7 +126,8 @@ fn read_terms(alloc: Global, trees: &[Tree], number: &mut u16) -> Result<Items<T
 fn read_clause(alloc: Global, tree: &Tree, number: &mut u16) -> Result<Items<Term>, SithFault>
     requires form { Writes written_clause tree.now }
     requires number { number.old ≤ 65535 }
-    ensures some { IfOk result (λ terms. AllByRecursion IsWeight (clause_weights terms) × (tree.now ≡ clause_value terms)) }
+    ensures some { IfOk result (λ terms. AllByRecursion IsWeight (clause_weights terms)
+        × (tree.now ≡ clause_value terms)) }
     ensures next { IfOk result (λ terms. number.new ≡ min (number.old + length (clause_weights terms)) 65535) }
     ensures fault { IfErr result (λ fault. IsWeightFault written_clause clause_texts tree.now number.old fault) }
 {
@@ -132,8 +140,10 @@ fn read_clause(alloc: Global, tree: &Tree, number: &mut u16) -> Result<Items<Ter
 /// Reads the clauses that these values spell.
 fn read_clauses(alloc: Global, trees: &[Tree]) -> Result<Items<Items<Term>>, SithFault>
     requires { AllByRecursion (Writes written_clause) trees.now }
-    ensures some { IfOk result (λ clauses. AllByRecursion IsWeight (flat_map clause_weights clauses) × (trees.now ≡ map clause_value clauses)) }
-    ensures fault { IfErr result (λ fault. IsWeightFault written_clauses (flat_map clause_texts) (TreeList trees.now) 0 fault) }
+    ensures some { IfOk result (λ clauses. AllByRecursion IsWeight (flat_map clause_weights clauses)
+        × (trees.now ≡ map clause_value clauses)) }
+    ensures fault { IfErr result (λ fault. IsWeightFault written_clauses (flat_map clause_texts)
+        (TreeList trees.now) 0 fault) }
 {
     let mut clauses = Vec::new(alloc);
     let mut number = 0u16;
@@ -170,7 +180,8 @@ impl Threshold {
         ensures fault { IfErr result (λ fault. IsFormFault fault tree.now) }
 
         // What is spelled is read, unless memory runs out.
-        ensures only { (threshold : Threshold) → Spells threshold tree.now → (result ≡ Ok threshold) ⊎ (result ≡ Err OutOfMemory) }
+        ensures only { (threshold : Threshold) → Spells threshold tree.now
+            → (result ≡ Ok threshold) ⊎ (result ≡ Err OutOfMemory) }
     {
         match tree {
             Tree::Str(digits) => {

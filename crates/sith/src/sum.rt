@@ -28,7 +28,8 @@ fn denominator_of(weight: Weight) -> u128
 /// The least common multiple of the denominators, where it is at most 2^64.
 fn common_multiple<M: Member>(members: &[M]) -> Option<u128>
     requires { AllByRecursion IsWeight (map M.weight members.now) }
-    ensures some { IfSome result (λ m. IsLeastMultiple (map denominator (map M.weight members.now)) m × (0 < m) × (m ≤ 2 ^ 64)) }
+    ensures some { IfSome result (λ m. IsLeastMultiple (map denominator (map M.weight members.now)) m × (0 < m)
+        × (m ≤ 2 ^ 64)) }
     ensures none { IfNone result (IsTooFine (map M.weight members.now)) }
 {
     let mut multiple = 1u128;

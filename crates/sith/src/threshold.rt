@@ -72,7 +72,8 @@ impl Threshold {
         ensures fault { IfErr result (λ fault. IsFault fault tree.now keys) }
 
         // What is spelled is read, unless memory runs out.
-        ensures only { (threshold : Threshold) → Spells threshold tree.now → IsReadFor threshold keys → (result ≡ Ok threshold) ⊎ (result ≡ Err OutOfMemory) }
+        ensures only { (threshold : Threshold) → Spells threshold tree.now → IsReadFor threshold keys
+            → (result ≡ Ok threshold) ⊎ (result ≡ Err OutOfMemory) }
     {
         let threshold = Threshold::read_form(alloc, tree)?;
         match threshold.rule_fault(keys) {

@@ -54,7 +54,8 @@ fn weights_tree(alloc: Global, weights: &[Weight]) -> Result<Tree, AllocError>
 }
 
 fn group_tree(alloc: Global, outer: Weight, inner: &[Weight]) -> Result<Tree, AllocError>
-    ensures { IfOk result (λ tree. tree ≡ TreeObject (record { name = text_of outer; value = TreeList (map weight_value inner.now) } ∷ [])) }
+    ensures { IfOk result (λ tree. tree
+        ≡ TreeObject (record { name = text_of outer; value = TreeList (map weight_value inner.now) } ∷ [])) }
 {
     let name = weight_text(alloc, outer)?;
     let value = weights_tree(alloc, inner)?;

@@ -19,7 +19,8 @@ pub enum Weight {
 }
 
 fn slash_place(text: &[u8]) -> Option<usize>
-    ensures some { IfSome result (λ place. HasNoSlash (take place text.now) × (place < length text.now) × (slice_index text.now place ≡ 47)) }
+    ensures some { IfSome result (λ place. HasNoSlash (take place text.now) × (place < length text.now)
+        × (slice_index text.now place ≡ 47)) }
     ensures none { IfNone result (HasNoSlash text.now) }
 {
     for (place, byte) in text.iter().enumerate() {

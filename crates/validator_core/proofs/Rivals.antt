@@ -135,16 +135,6 @@ pub counted_is : (mode : Mode) (limits : Limits) (base : ℕ) (v : View) (tally 
     → filter (counts (told_of v) (log_of v)) v.held ≡ counted mode (base_in base v) (told_of v)
 counted_is mode limits base v tally core = let order = core.in_order in let log = core.log_is in λ i. filter (counts (told_of v) (log i)) (order i)
 
--- a conflict with the place of the event of its first number
-pub placed_of : (events : List Event) (set : List ℕ) (n : ℕ) (e : Event) (c : Conflict) → c.bodies ≡ set → slice_get set 0 ≡ Some n → slice_get events n ≡ Some e
-    → c.prefix ≡ prefix_of e → c.sn ≡ sn_of e → IsPlaced events c
-placed_of events set n e c bodies first at prefix sn = λ m d at_first at_event.
-    let same : Some m ≡ Some n = sym at_first ∙ ap (λ ns. slice_get ns 0) bodies ∙ first in
-    let one : m ≡ n = cc in
-    let there : Some d ≡ Some e = sym at_event ∙ ap (slice_get events) one ∙ at in
-    let is : d ≡ e = cc in
-    (ap prefix_of is ∙ sym prefix, ap sn_of is ∙ sym sn)
-
 -- the numbers of the log are below the number of events
 pub numbers_below : (v : View) → IsStanding v → (events : List Event) → events ≡ map (λ b. b.event) v.held → (numbers : List ℕ) → numbers ≡ v.log.numbers
     → All (λ n. n < length events) numbers

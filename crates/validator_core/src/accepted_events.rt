@@ -40,7 +40,8 @@ impl Core {
     /// Whether a key is among the own witnesses of the event at a place of the accepted ones, by the state under which it was
     /// accepted. It takes no memory.
     pub fn is_witness_at(&self, place: usize, key: &Key) -> bool
-        ensures { (b : Body) → slice_get (accepted_by self.now) place ≡ Some b → result ≡ is_witness_under (accepted_by self.now) b key.now }
+        ensures { (b : Body) → slice_get (accepted_by self.now) place ≡ Some b
+            → result ≡ is_witness_under (accepted_by self.now) b key.now }
     {
         is_witness_in(&self.tables, place, key)
     }
@@ -48,7 +49,8 @@ impl Core {
     /// The place of the commitment that a signature on the event at a place of the accepted ones opens, by the state under which
     /// the event was accepted; none where it opens none. It takes no memory.
     pub fn reveal_at(&self, place: usize, sig: &IndexedSig) -> Option<u16>
-        ensures { (b : Body) → slice_get (accepted_by self.now) place ≡ Some b → (n : ℕ) → is_number result n ≡ opens_under (accepted_by self.now) b n sig.now }
+        ensures { (b : Body) → slice_get (accepted_by self.now) place ≡ Some b → (n : ℕ)
+            → is_number result n ≡ opens_under (accepted_by self.now) b n sig.now }
     {
         reveal_in(&self.tables, place, sig)
     }
@@ -57,7 +59,8 @@ impl Core {
 // The place of the commitment that a signature on the event at a place of the log opens.
 fn reveal_in(tables: &Tables, place: usize, sig: &IndexedSig) -> Option<u16>
     requires { IsStanding tables.now }
-    ensures { (b : Body) → slice_get (log_of tables.now) place ≡ Some b → (n : ℕ) → is_number result n ≡ opens_under (log_of tables.now) b n sig.now }
+    ensures { (b : Body) → slice_get (log_of tables.now) place ≡ Some b → (n : ℕ)
+        → is_number result n ≡ opens_under (log_of tables.now) b n sig.now }
 {
     let Some(number) = number_at(tables.log().numbers(), place) else {
         return None;
@@ -71,7 +74,8 @@ fn reveal_in(tables: &Tables, place: usize, sig: &IndexedSig) -> Option<u16>
 // Whether a key is among the own witnesses of the event at a place of the log.
 fn is_witness_in(tables: &Tables, place: usize, key: &Key) -> bool
     requires { IsStanding tables.now }
-    ensures { (b : Body) → slice_get (log_of tables.now) place ≡ Some b → result ≡ is_witness_under (log_of tables.now) b key.now }
+    ensures { (b : Body) → slice_get (log_of tables.now) place ≡ Some b
+        → result ≡ is_witness_under (log_of tables.now) b key.now }
 {
     let Some(number) = number_at(tables.log().numbers(), place) else {
         return false;

@@ -68,7 +68,8 @@ impl Core {
 // The open question of a number.
 fn question_at(claims: &ClaimTable, place: usize) -> Option<Question>
     requires { claims.now.pending ≡ None }
-    ensures { (bodies : ℕ) → AreBelow bodies claims.now.rows → result ≡ option_map question_of (slice_get (open_rows bodies claims.now.rows) place) }
+    ensures { (bodies : ℕ) → AreBelow bodies claims.now.rows
+        → result ≡ option_map question_of (slice_get (open_rows bodies claims.now.rows) place) }
 {
     let signature = claims.open_question(place)?;
     Some(Question {
@@ -80,7 +81,8 @@ fn question_at(claims: &ClaimTable, place: usize) -> Option<Question>
 
 // The verdict on the signature that a question names, where the signature is raised.
 fn verdict_on(tables: &Tables, question: &Question) -> Option<Option<bool>>
-    ensures { result ≡ (if is_raised tables.now.claims.rows (signature_asked question.now) then Some (verdict_of tables.now.claims.rows (signature_asked question.now)) else None) }
+    ensures { result ≡ (if is_raised tables.now.claims.rows (signature_asked question.now) then Some
+        (verdict_of tables.now.claims.rows (signature_asked question.now)) else None) }
 {
     let signature = Signature {
         body: question.body,

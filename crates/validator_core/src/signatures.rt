@@ -27,7 +27,8 @@ impl Core {
     /// than once comes so often. There are none where the body doesn't stand in the log. Only the entries by which bodies
     /// with the name of its event came are gone over.
     pub fn good_signatures(&self, number: u32) -> Result<Vec<IndexedSig>, AllocError>
-        ensures { IfOk result (λ sigs. (b : Body) → slice_get self.now.held number ≡ Some b → sigs.items ≡ good_on self.now b) }
+        ensures { IfOk result (λ sigs. (b : Body) → slice_get self.now.held number ≡ Some b
+            → sigs.items ≡ good_on self.now b) }
     {
         signatures_on(self.alloc, &self.tables, number)
     }
@@ -35,7 +36,8 @@ impl Core {
     /// The controller's signatures that have a yes verdict on the event at a place of the accepted ones, by the state under
     /// which it was accepted, in order of coming; one that came more than once comes so often.
     pub fn signatures_at(&self, place: usize) -> Result<Vec<IndexedSig>, AllocError>
-        ensures { IfOk result (λ sigs. (b : Body) → slice_get (accepted_by self.now) place ≡ Some b → sigs.items ≡ good_under (told_of self.now) (accepted_by self.now) b) }
+        ensures { IfOk result (λ sigs. (b : Body) → slice_get (accepted_by self.now) place ≡ Some b
+            → sigs.items ≡ good_under (told_of self.now) (accepted_by self.now) b) }
     {
         signatures_under(self.alloc, &self.tables, place)
     }
@@ -48,7 +50,8 @@ fn signatures_under(
     place: usize,
 ) -> Result<Vec<IndexedSig>, AllocError>
     requires { IsStanding tables.now }
-    ensures { IfOk result (λ sigs. (b : Body) → slice_get (log_of tables.now) place ≡ Some b → sigs.items ≡ good_under (standing.told_of tables.now) (log_of tables.now) b) }
+    ensures { IfOk result (λ sigs. (b : Body) → slice_get (log_of tables.now) place ≡ Some b
+        → sigs.items ≡ good_under (standing.told_of tables.now) (log_of tables.now) b) }
 {
     let Some(number) = number_at(tables.log().numbers(), place) else {
         return Ok(Vec::new(alloc));
@@ -70,7 +73,8 @@ pub(crate) fn number_at(numbers: &[u32], place: usize) -> Option<u32>
 // The good signatures on the body of a number, where it stands.
 fn signatures_on(alloc: Global, tables: &Tables, number: u32) -> Result<Vec<IndexedSig>, AllocError>
     requires { IsStanding tables.now }
-    ensures { IfOk result (λ sigs. (b : Body) → slice_get tables.now.held number ≡ Some b → sigs.items ≡ good_in (standing.told_of tables.now) (log_of tables.now) b) }
+    ensures { IfOk result (λ sigs. (b : Body) → slice_get tables.now.held number ≡ Some b
+        → sigs.items ≡ good_in (standing.told_of tables.now) (log_of tables.now) b) }
 {
     let Some(event) = tables.event(number) else {
         return Ok(Vec::new(alloc));
@@ -93,7 +97,9 @@ fn signatures_behind(
     state: Option<&KeyState>,
 ) -> Result<Vec<IndexedSig>, AllocError>
     requires { IsStanding tables.now }
-    ensures { IfOk result (λ sigs. (bytes : List ℕ) → slice_get tables.now.held number ≡ Some (body_of bytes event.now) → sigs.items ≡ good_sigs (standing.told_of tables.now) (option_copied state.entry) (body_of bytes event.now)) }
+    ensures { IfOk result (λ sigs. (bytes : List ℕ)
+        → slice_get tables.now.held number ≡ Some (body_of bytes event.now)
+        → sigs.items ≡ good_sigs (standing.told_of tables.now) (option_copied state.entry) (body_of bytes event.now)) }
 {
     let mut found = Vec::new(alloc);
     let entries = tables.told(&name_of(event));
@@ -113,7 +119,9 @@ fn add_good(
     state: Option<&KeyState>,
     claims: &[Claim],
 ) -> Result<(), AllocError>
-    ensures { OnOk result (found.new.items ≡ found.old.items ++ filter_map (good_claim (says_in tables.now.claims.rows number) (own_rules (option_copied state.entry) event.now)) claims.now) }
+    ensures { OnOk result (found.new.items ≡ found.old.items
+        ++ filter_map (good_claim (says_in tables.now.claims.rows number)
+        (own_rules (option_copied state.entry) event.now)) claims.now) }
 {
     for claim in claims {
         if let Some(sig) = good_signature(tables, number, event, state, claim) {
@@ -131,7 +139,8 @@ fn good_signature(
     state: Option<&KeyState>,
     claim: &Claim,
 ) -> Option<IndexedSig>
-    ensures { result ≡ good_claim (says_in tables.now.claims.rows number) (own_rules (option_copied state.entry) event.now) claim.now }
+    ensures { result ≡ good_claim (says_in tables.now.claims.rows number)
+        (own_rules (option_copied state.entry) event.now) claim.now }
 {
     let Claim::Held(sig) = claim else {
         return None;

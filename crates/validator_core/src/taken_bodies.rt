@@ -33,7 +33,8 @@ impl Core {
     ) -> Result<Reply, AllocError>
         requires held { IsHeld (body_of body.now event) }
         ensures takes { IfOk result (λ reply. TakesBody self.old reader (body_of body.now event) claims reply self.new) }
-        ensures few { IfOk result (λ reply. LooksByReply self.old (body_of body.now event) reply self.new steps.old steps.new) }
+        ensures few { IfOk result (λ reply. LooksByReply self.old (body_of body.now event) reply self.new
+            steps.old steps.new) }
         ensures err { OnErr result (self.new ≡ self.old) }
     {
         match self.tables.number_of(body.as_slice(), &event) {
@@ -51,8 +52,10 @@ impl Core {
         steps: &mut Steps,
     ) -> Result<Reply, AllocError>
         requires held { number < length self.old.held }
-        ensures takes { IfOk result (λ reply. (b : Body) → slice_get self.old.held number ≡ Some b → TakesBody self.old reader b claims reply self.new) }
-        ensures few { IfOk result (λ reply. (b : Body) → slice_get self.old.held number ≡ Some b → LooksByReply self.old b reply self.new steps.old steps.new) }
+        ensures takes { IfOk result (λ reply. (b : Body) → slice_get self.old.held number ≡ Some b
+            → TakesBody self.old reader b claims reply self.new) }
+        ensures few { IfOk result (λ reply. (b : Body) → slice_get self.old.held number ≡ Some b
+            → LooksByReply self.old b reply self.new steps.old steps.new) }
         ensures err { OnErr result (self.new ≡ self.old) }
     {
         let count = claims.len();
@@ -85,7 +88,8 @@ impl Core {
         requires held { IsHeld (body_of body.now event) }
         requires outside { is_in self.old.held (body_of body.now event) ≡ false }
         ensures takes { IfOk result (λ reply. TakesBody self.old reader (body_of body.now event) claims reply self.new) }
-        ensures few { IfOk result (λ reply. LooksByReply self.old (body_of body.now event) reply self.new steps.old steps.new) }
+        ensures few { IfOk result (λ reply. LooksByReply self.old (body_of body.now event) reply self.new
+            steps.old steps.new) }
         ensures err { OnErr result (self.new ≡ self.old) }
     {
         let count = claims.len();

@@ -91,7 +91,8 @@ impl Core {
 
     /// The body of a number. It takes no memory.
     pub fn body(&self, number: u32) -> Option<&[u8]>
-        ensures body { option_map (λ bytes. bytes.now) result ≡ option_map (λ b. b.bytes) (slice_get self.now.held number) }
+        ensures body { option_map (λ bytes. bytes.now) result
+            ≡ option_map (λ b. b.bytes) (slice_get self.now.held number) }
         ensures few { IfSome result (λ bytes. length bytes.now ≤ 65535) }
     {
         self.tables.body(number)

@@ -24,7 +24,8 @@ use std::alloc::{AllocError, Global};
 impl Core {
     /// The numbers of the live events of an identifier, in order.
     pub fn log(&self, prefix: &Prefix) -> Result<Vec<u32>, AllocError>
-        ensures live { IfOk result (λ numbers. chosen self.now.held numbers.items ≡ logs.live (accepted_by self.now) prefix.now) }
+        ensures live { IfOk result (λ numbers. chosen self.now.held numbers.items
+            ≡ logs.live (accepted_by self.now) prefix.now) }
         ensures held { IfOk result (λ numbers. All (λ n. n < length self.now.held) numbers.items) }
     {
         live(
@@ -37,7 +38,8 @@ impl Core {
 
     /// The conflicts: each place with two or more bodies that stand in the log and are signed, with the numbers of these bodies.
     pub fn conflicts(&self) -> Result<Vec<Conflict>, AllocError>
-        ensures { IfOk result (λ found. (sets : List (List Body)) × NameConflicts self.now.held found.items sets × IsConflictList self.now.mode (base_of self.now) (told_of self.now) sets) }
+        ensures { IfOk result (λ found. (sets : List (List Body)) × NameConflicts self.now.held found.items sets
+            × IsConflictList self.now.mode (base_of self.now) (told_of self.now) sets) }
     {
         let counted = counted(self.alloc, &self.tables)?;
         let sets = conflict_sets(
@@ -53,7 +55,8 @@ impl Core {
 // The numbers of the bodies that count.
 fn counted(alloc: Global, tables: &Tables) -> Result<Vec<u32>, AllocError>
     requires { IsStanding tables.now }
-    ensures those { IfOk result (λ numbers. chosen tables.now.held numbers.items ≡ filter (conflicts.counts (standing.told_of tables.now) (log_of tables.now)) tables.now.held) }
+    ensures those { IfOk result (λ numbers. chosen tables.now.held numbers.items
+        ≡ filter (conflicts.counts (standing.told_of tables.now) (log_of tables.now)) tables.now.held) }
     ensures held { IfOk result (λ numbers. All (λ n. n < length tables.now.held) numbers.items) }
 {
     let mut numbers = Vec::new(alloc);

@@ -34,7 +34,8 @@ pub(crate) fn add_claims(
     requires idle { tables.old.claims.pending ≡ None }
     requires left { tables.old.settled ≡ length tables.old.log.numbers }
     requires held { number < length tables.old.held }
-    ensures ok { OnOk result (AddsEntry mode number [] (Took reader number claims) tables.old tables.new steps.old steps.new) }
+    ensures ok { OnOk result (AddsEntry mode number [] (Took reader number claims) tables.old tables.new steps.old
+        steps.new) }
     ensures err { OnErr result (tables.new ≡ tables.old) }
 {
     let mark = tables.mark();
@@ -58,7 +59,8 @@ pub(crate) fn add_body(
     requires left { tables.old.settled ≡ length tables.old.log.numbers }
     requires held { IsHeld (body_of text event) }
     requires outside { is_in tables.old.held (body_of text event) ≡ false }
-    ensures ok { OnOk result (AddsEntry mode (length tables.old.held) (body_of text event ∷ []) (Took reader (length tables.old.held) claims) tables.old tables.new steps.old steps.new) }
+    ensures ok { OnOk result (AddsEntry mode (length tables.old.held) (body_of text event ∷ [])
+        (Took reader (length tables.old.held) claims) tables.old tables.new steps.old steps.new) }
     ensures err { OnErr result (tables.new ≡ tables.old) }
 {
     let mark = tables.mark();
@@ -82,7 +84,8 @@ pub(crate) fn add_verdict(
     requires held { question.now.body < length tables.old.held }
     requires raised { is_raised tables.old.claims.rows (signature_asked question.now) ≡ true }
     requires open_still { verdict_of tables.old.claims.rows (signature_asked question.now) ≡ None }
-    ensures ok { OnOk result (AddsVerdict mode (signature_asked question.now) yes reader tables.old tables.new steps.old steps.new) }
+    ensures ok { OnOk result (AddsVerdict mode (signature_asked question.now) yes reader tables.old tables.new
+        steps.old steps.new) }
     ensures err { OnErr result (tables.new ≡ tables.old) }
 {
     let mark = tables.mark();
@@ -109,7 +112,8 @@ fn bring_claims(
     requires stands { IsStanding tables.old }
     requires left { tables.old.settled ≡ length tables.old.log.numbers }
     requires held { number < length tables.old.held }
-    ensures ok { OnOk result (BringsEntry mode number [] (Took reader number claims) tables.old tables.new steps.old steps.new) }
+    ensures ok { OnOk result (BringsEntry mode number [] (Took reader number claims) tables.old tables.new
+        steps.old steps.new) }
     ensures extends { Extends tables.old tables.new }
 {
     enter_claims(tables, reader, number, claims)?;
@@ -131,7 +135,8 @@ fn bring_body(
     requires left { tables.old.settled ≡ length tables.old.log.numbers }
     requires held { IsHeld (body_of text event) }
     requires outside { is_in tables.old.held (body_of text event) ≡ false }
-    ensures ok { OnOk result (BringsEntry mode (length tables.old.held) (body_of text event ∷ []) (Took reader (length tables.old.held) claims) tables.old tables.new steps.old steps.new) }
+    ensures ok { OnOk result (BringsEntry mode (length tables.old.held) (body_of text event ∷ [])
+        (Took reader (length tables.old.held) claims) tables.old tables.new steps.old steps.new) }
     ensures extends { Extends tables.old tables.new }
 {
     let length = tables.len();

@@ -6,7 +6,7 @@ use Rattle.cesr_codes.proofs.Same.{length-key_text, same_front}
 use Rattle.verifier_link.specs.declared.letter.Letter.{Letter}
 use Rattle.verifier_link.specs.declared.letter.Letter.TheVariants.{Verdict as V}
 use Rattle.verifier_link.specs.declared.wanted.Wanted.{Wanted}
-use Rattle.verifier_link.specs.Fields.{Field, IsBegun, IsDue, IsFieldText, IsRefused, field_size, letter_code, the_letter, the_key, the_sig, the_length, the_body}
+use Rattle.verifier_link.specs.Fields.{Field, IsDue, IsFieldText, field_size, letter_code, the_letter, the_key, the_sig, the_length, the_body}
 use Rattle.verifier_link.specs.Questions.{IsWanted, length_text, wanted_text}
 use Rattle.verifier_link.proofs.Lengths.{length-length_text}
 use Rattle.verifier_link.proofs.Rests.{letter_at, key_at, sig_at, sig_begun, long_wanted}
@@ -89,7 +89,3 @@ differ the_key other before text front rest (mark, is) due e = key text front re
 differ the_sig other before text front rest (of, good, is) due e = sig text front rest other of due (ap (λ f. f ++ text) (sym is) ∙ e)
 differ the_length other before text front rest (wanted, good, is) due e = size text front rest other wanted good due (ap (λ f. f ++ text) (sym is) ∙ e)
 differ (the_body n) other before text front rest is due e = λ all refused fewer. refused tt
-
-pub begun_refused : (bytes : List ℕ) → IsBegun bytes → IsRefused bytes → ⊥
-begun_refused bytes begun refused =
-    differ refused.field begun.field refused.front refused.text begun.front begun.text refused.due begun.due (sym refused.is ∙ begun.is) refused.all refused.other begun.fewer

@@ -8,8 +8,10 @@ use keri_outside::{Failed, Source};
 
 /// Reads as many bytes as the field has, and none that follow them.
 pub(crate) fn read_field<S: Source>(source: &mut S, field: &mut [u8]) -> Result<(), Stop>
-    ensures ok { OnOk result (Gave (source_told S.left S.faults source.old) (source_told S.left S.faults source.new) field.new) }
-    ensures err { IfErr result (λ stop. IsShort (length field.old) (source_told S.left S.faults source.old) (source_told S.left S.faults source.new) stop) }
+    ensures ok { OnOk result (Gave (source_told S.left S.faults source.old)
+        (source_told S.left S.faults source.new) field.new) }
+    ensures err { IfErr result (λ stop. IsShort (length field.old) (source_told S.left S.faults source.old)
+        (source_told S.left S.faults source.new) stop) }
 {
     let mut count = 0;
     while count < field.len() {
@@ -28,8 +30,10 @@ pub(crate) fn take_field<S: Source>(
     room: &mut u64,
     field: &mut [u8],
 ) -> Result<(), Stop>
-    ensures ok { OnOk result (IsTaken room.old room.new (source_told S.left S.faults source.old) (source_told S.left S.faults source.new) field.new) }
-    ensures err { IfErr result (λ stop. IsCut (length field.old) room.old (source_told S.left S.faults source.old) (source_told S.left S.faults source.new) stop) }
+    ensures ok { OnOk result (IsTaken room.old room.new (source_told S.left S.faults source.old)
+        (source_told S.left S.faults source.new) field.new) }
+    ensures err { IfErr result (λ stop. IsCut (length field.old) room.old (source_told S.left S.faults source.old)
+        (source_told S.left S.faults source.new) stop) }
 {
     let size = field.len() as u64;
     if *room < size {
@@ -42,7 +46,9 @@ pub(crate) fn take_field<S: Source>(
 
 // Reads the last bytes that may be read, which are fewer than a field has.
 fn take_last<S: Source>(source: &mut S, last: &mut [u8]) -> Stop
-    ensures { (size : ℕ) → length last.old < size → IsCut size (length last.old) (source_told S.left S.faults source.old) (source_told S.left S.faults source.new) result }
+    ensures { (size : ℕ) → length last.old < size
+        → IsCut size (length last.old) (source_told S.left S.faults source.old)
+        (source_told S.left S.faults source.new) result }
 {
     match read_field(source, last) {
         Ok(()) => see_more(source),

@@ -32,8 +32,11 @@ impl<S: Source, K: Sink, P> Verifier for Helper<S, K, P> {
         requires { length body.now ≤ 65535 }
 
         // It is the rehearsal's verdict, or the program's, which was asked for over the link.
-        ensures answered { IsAnswered SaysVerdict (is_rehearsed key.now body.now sig.now) (verdict_question key.now body.now sig.now) (helper_told S.left S.faults K.written K.faults self.old) (helper_told S.left S.faults K.written K.faults self.new) result }
-        ensures verdict { IfOk result (λ yes. IfSome (helper_says self.old key.now body.now sig.now) (λ told. yes ≡ told)) }
+        ensures answered { IsAnswered SaysVerdict (is_rehearsed key.now body.now sig.now)
+            (verdict_question key.now body.now sig.now) (helper_told S.left S.faults K.written K.faults self.old)
+            (helper_told S.left S.faults K.written K.faults self.new) result }
+        ensures verdict { IfOk result (λ yes. IfSome (helper_says self.old key.now body.now sig.now)
+            (λ told. yes ≡ told)) }
         ensures same { helper_says self.new ≡ helper_says self.old }
         ensures cause { HasCause (helper_faults self.old) (helper_faults self.new) result }
     {
@@ -62,7 +65,9 @@ impl<S: Source, K: Sink, P> Signer for Helper<S, K, P> {
         requires { length body.now ≤ 65535 }
 
         // It is the rehearsal's signature, or the program's, which was asked for over the link.
-        ensures answered { IsAnswered SaysSig (rehearsed key.now body.now) (signing_question key.now body.now) (helper_told S.left S.faults K.written K.faults self.old) (helper_told S.left S.faults K.written K.faults self.new) result }
+        ensures answered { IsAnswered SaysSig (rehearsed key.now body.now) (signing_question key.now body.now)
+            (helper_told S.left S.faults K.written K.faults self.old)
+            (helper_told S.left S.faults K.written K.faults self.new) result }
         ensures signature { IfOk result (λ sig. IfSome (helper_gives self.old key.now body.now) (λ told. sig ≡ told)) }
         ensures same { helper_gives self.new ≡ helper_gives self.old }
         ensures cause { HasCause (helper_faults self.old) (helper_faults self.new) result }

@@ -4,7 +4,6 @@
 mod answer;
 mod field;
 mod helper;
-mod laws;
 mod length_digits;
 mod letter;
 mod link;
@@ -16,7 +15,6 @@ mod stop;
 mod wanted;
 
 pub use helper::Helper;
-pub use laws::{begun_or_refused, one_reading};
 pub use link::Link;
 pub use rehearsal_server::serve_rehearsal;
 pub use served::Served;

@@ -26,7 +26,12 @@ impl<S: Source, K: Sink> Link<S, K> {
 
     /// A link that wasn't asked yet.
     pub fn new(source: S, sink: K) -> Link<S, K>
-        ensures { link_told S.left S.faults K.written K.faults result ≡ record { source = source_told S.left S.faults source; sink = sink_told K.written K.faults sink; faults = 0 } }
+        ensures { link_told S.left S.faults K.written K.faults result
+            ≡ record {
+              source = source_told S.left S.faults source;
+              sink = sink_told K.written K.faults sink;
+              faults = 0;
+            } }
     {
         Link {
             source,
@@ -38,7 +43,9 @@ impl<S: Source, K: Sink> Link<S, K> {
     // Puts a question and reads the bytes of its answer.
     fn fetch(&mut self, wanted: &Wanted, body: &[u8], answer: &mut [u8]) -> Result<(), Failed>
         requires { length body.now ≤ 65535 }
-        ensures fetches { Fetches (question wanted.now body.now) (link_told S.left S.faults K.written K.faults self.old) (link_told S.left S.faults K.written K.faults self.new) answer.new result }
+        ensures fetches { Fetches (question wanted.now body.now)
+            (link_told S.left S.faults K.written K.faults self.old)
+            (link_told S.left S.faults K.written K.faults self.new) answer.new result }
         ensures size { length answer.new ≡ length answer.old }
         ensures cause { HasCause (link_faults self.old) (link_faults self.new) result }
     {
@@ -81,7 +88,9 @@ impl<S: Source, K: Sink> Verifier for Link<S, K> {
         requires { length body.now ≤ 65535 }
 
         // The question was put and the bytes read say the verdict, or a fault came.
-        ensures exchanges { Exchanges SaysVerdict (verdict_question key.now body.now sig.now) (link_told S.left S.faults K.written K.faults self.old) (link_told S.left S.faults K.written K.faults self.new) result }
+        ensures exchanges { Exchanges SaysVerdict (verdict_question key.now body.now sig.now)
+            (link_told S.left S.faults K.written K.faults self.old)
+            (link_told S.left S.faults K.written K.faults self.new) result }
         ensures cause { HasCause (link_faults self.old) (link_faults self.new) result }
     {
         let mut answer = [0u8; 1];
@@ -112,7 +121,9 @@ impl<S: Source, K: Sink> Signer for Link<S, K> {
         requires { length body.now ≤ 65535 }
 
         // The question was put and the bytes read are the signature, or a fault came.
-        ensures exchanges { Exchanges SaysSig (signing_question key.now body.now) (link_told S.left S.faults K.written K.faults self.old) (link_told S.left S.faults K.written K.faults self.new) result }
+        ensures exchanges { Exchanges SaysSig (signing_question key.now body.now)
+            (link_told S.left S.faults K.written K.faults self.old)
+            (link_told S.left S.faults K.written K.faults self.new) result }
         ensures cause { HasCause (link_faults self.old) (link_faults self.new) result }
     {
         let mut answer = [0u8; 88];

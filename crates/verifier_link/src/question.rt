@@ -17,7 +17,8 @@ pub(crate) fn put_question<K: Sink>(
     body: &[u8],
 ) -> Result<(), Failed>
     requires { length body.now ≤ 65535 }
-    ensures written { Puts (K.written sink.old) (K.written sink.new) result (wanted_text wanted.now ++ (length_text (length body.now) ++ body.now)) }
+    ensures written { Puts (K.written sink.old) (K.written sink.new) result
+        (wanted_text wanted.now ++ (length_text (length body.now) ++ body.now)) }
     ensures cause { HasCause (K.faults sink.old) (K.faults sink.new) result }
 {
     put_head(sink, wanted, body.len() as u16)?;
@@ -26,7 +27,8 @@ pub(crate) fn put_question<K: Sink>(
 
 // Puts what stands before the body.
 fn put_head<K: Sink>(sink: &mut K, wanted: &Wanted, length: u16) -> Result<(), Failed>
-    ensures written { Puts (K.written sink.old) (K.written sink.new) result (wanted_text wanted.now ++ length_text length) }
+    ensures written { Puts (K.written sink.old) (K.written sink.new) result
+        (wanted_text wanted.now ++ length_text length) }
     ensures cause { HasCause (K.faults sink.old) (K.faults sink.new) result }
 {
     match wanted {

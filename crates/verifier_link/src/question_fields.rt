@@ -24,7 +24,8 @@ pub(crate) fn read_question<S: Source>(
     requires { length buffer.old ≡ 65535 }
     ensures ok { IfOk result (λ found. let asked = question found.0 (take found.1 buffer.new) in
         IsQuestion asked × (found.1 ≤ 65535) × IsTaken room.old room.new (source_told S.left S.faults source.old) (source_told S.left S.faults source.new) (question_text asked)) }
-    ensures err { IfErr result (λ stop. StopsReading room.old (source_told S.left S.faults source.old) (source_told S.left S.faults source.new) stop) }
+    ensures err { IfErr result (λ stop. StopsReading room.old (source_told S.left S.faults source.old)
+        (source_told S.left S.faults source.new) stop) }
 {
     let letter = read_letter(source, room)?;
     match read_behind(letter, source, room, buffer) {
@@ -43,8 +44,11 @@ fn read_behind<S: Source>(
     requires { length buffer.old ≡ 65535 }
     ensures ok { IfOk result (λ found. let asked = question found.0 (take found.1 buffer.new) in
         IsQuestion asked × (found.1 ≤ 65535)
-        × Completes (letter_code letter ∷ []) (question_text asked) (IsTaken room.old room.new (source_told S.left S.faults source.old) (source_told S.left S.faults source.new))) }
-    ensures err { IfErr result (λ stop. StopsBehind (letter_code letter ∷ []) room.old (source_told S.left S.faults source.old) (source_told S.left S.faults source.new) stop) }
+        × Completes (letter_code letter ∷ []) (question_text asked)
+        (IsTaken room.old room.new (source_told S.left S.faults source.old)
+        (source_told S.left S.faults source.new))) }
+    ensures err { IfErr result (λ stop. StopsBehind (letter_code letter ∷ []) room.old
+        (source_told S.left S.faults source.old) (source_told S.left S.faults source.new) stop) }
 {
     let wanted = read_wanted(letter, source, room)?;
     let size = usize::from(read_size(source, room)?);
@@ -55,8 +59,11 @@ fn read_behind<S: Source>(
 // Reads the key, and the signature where a verdict is wanted.
 fn read_wanted<S: Source>(letter: Letter, source: &mut S, room: &mut u64) -> Result<Wanted, Stop>
     ensures ok { IfOk result (λ wanted. IsWanted wanted
-        × Completes (letter_code letter ∷ []) (wanted_text wanted) (IsTaken room.old room.new (source_told S.left S.faults source.old) (source_told S.left S.faults source.new))) }
-    ensures err { IfErr result (λ stop. StopsBehind (letter_code letter ∷ []) room.old (source_told S.left S.faults source.old) (source_told S.left S.faults source.new) stop) }
+        × Completes (letter_code letter ∷ []) (wanted_text wanted)
+        (IsTaken room.old room.new (source_told S.left S.faults source.old)
+        (source_told S.left S.faults source.new))) }
+    ensures err { IfErr result (λ stop. StopsBehind (letter_code letter ∷ []) room.old
+        (source_told S.left S.faults source.old) (source_told S.left S.faults source.new) stop) }
 {
     let key = read_key(source, room)?;
     match letter {
@@ -66,8 +73,10 @@ fn read_wanted<S: Source>(letter: Letter, source: &mut S, room: &mut u64) -> Res
 }
 
 fn read_letter<S: Source>(source: &mut S, room: &mut u64) -> Result<Letter, Stop>
-    ensures ok { IfOk result (λ letter. IsTaken room.old room.new (source_told S.left S.faults source.old) (source_told S.left S.faults source.new) (letter_code letter ∷ [])) }
-    ensures err { IfErr result (λ stop. FieldStops the_letter room.old (source_told S.left S.faults source.old) (source_told S.left S.faults source.new) stop) }
+    ensures ok { IfOk result (λ letter. IsTaken room.old room.new (source_told S.left S.faults source.old)
+        (source_told S.left S.faults source.new) (letter_code letter ∷ [])) }
+    ensures err { IfErr result (λ stop. FieldStops the_letter room.old (source_told S.left S.faults source.old)
+        (source_told S.left S.faults source.new) stop) }
 {
     let mut text = [0u8; 1];
     take_field(source, room, &mut text)?;
@@ -79,8 +88,11 @@ fn read_letter<S: Source>(source: &mut S, room: &mut u64) -> Result<Letter, Stop
 }
 
 fn read_key<S: Source>(source: &mut S, room: &mut u64) -> Result<Key, Stop>
-    ensures ok { IfOk result (λ key. IsKey key × IsTaken room.old room.new (source_told S.left S.faults source.old) (source_told S.left S.faults source.new) (key_text key)) }
-    ensures err { IfErr result (λ stop. FieldStops the_key room.old (source_told S.left S.faults source.old) (source_told S.left S.faults source.new) stop) }
+    ensures ok { IfOk result (λ key. IsKey key
+        × IsTaken room.old room.new (source_told S.left S.faults source.old) (source_told S.left S.faults source.new)
+        (key_text key)) }
+    ensures err { IfErr result (λ stop. FieldStops the_key room.old (source_told S.left S.faults source.old)
+        (source_told S.left S.faults source.new) stop) }
 {
     let mut text = [0u8; 44];
     take_field(source, room, &mut text)?;
@@ -91,8 +103,11 @@ fn read_key<S: Source>(source: &mut S, room: &mut u64) -> Result<Key, Stop>
 }
 
 fn read_sig<S: Source>(source: &mut S, room: &mut u64) -> Result<Sig, Stop>
-    ensures ok { IfOk result (λ sig. IsSig sig × IsTaken room.old room.new (source_told S.left S.faults source.old) (source_told S.left S.faults source.new) (sig_text sig)) }
-    ensures err { IfErr result (λ stop. FieldStops the_sig room.old (source_told S.left S.faults source.old) (source_told S.left S.faults source.new) stop) }
+    ensures ok { IfOk result (λ sig. IsSig sig
+        × IsTaken room.old room.new (source_told S.left S.faults source.old) (source_told S.left S.faults source.new)
+        (sig_text sig)) }
+    ensures err { IfErr result (λ stop. FieldStops the_sig room.old (source_told S.left S.faults source.old)
+        (source_told S.left S.faults source.new) stop) }
 {
     let mut text = [0u8; 88];
     take_field(source, room, &mut text)?;
@@ -104,8 +119,11 @@ fn read_sig<S: Source>(source: &mut S, room: &mut u64) -> Result<Sig, Stop>
 
 // Reads the length of the body.
 fn read_size<S: Source>(source: &mut S, room: &mut u64) -> Result<u16, Stop>
-    ensures ok { IfOk result (λ size. (size ≤ 65535) × IsTaken room.old room.new (source_told S.left S.faults source.old) (source_told S.left S.faults source.new) (length_text size)) }
-    ensures err { IfErr result (λ stop. FieldStops the_length room.old (source_told S.left S.faults source.old) (source_told S.left S.faults source.new) stop) }
+    ensures ok { IfOk result (λ size. (size ≤ 65535)
+        × IsTaken room.old room.new (source_told S.left S.faults source.old) (source_told S.left S.faults source.new)
+        (length_text size)) }
+    ensures err { IfErr result (λ stop. FieldStops the_length room.old (source_told S.left S.faults source.old)
+        (source_told S.left S.faults source.new) stop) }
 {
     let mut text = [0u8; 8];
     take_field(source, room, &mut text)?;

@@ -20,7 +20,9 @@ pub fn serve_rehearsal<S: Source, K: Sink>(
     sink: &mut K,
     limits: Limits,
 ) -> Served
-    ensures { IsServed limits.stream_bytes (sides_told (source_told S.left S.faults source.old) (sink_told K.written K.faults sink.old)) (sides_told (source_told S.left S.faults source.new) (sink_told K.written K.faults sink.new)) result }
+    ensures { IsServed limits.stream_bytes
+        (sides_told (source_told S.left S.faults source.old) (sink_told K.written K.faults sink.old))
+        (sides_told (source_told S.left S.faults source.new) (sink_told K.written K.faults sink.new)) result }
 {
     match vec![in alloc; 0u8; LONGEST_BODY] {
         Ok(mut body) => serve_all(source, sink, limits.stream_bytes, body.as_mut_slice()),
@@ -36,7 +38,9 @@ fn serve_all<S: Source, K: Sink>(
     buffer: &mut [u8],
 ) -> Served
     requires { length buffer.old ≡ 65535 }
-    ensures { IsServed most (sides_told (source_told S.left S.faults source.old) (sink_told K.written K.faults sink.old)) (sides_told (source_told S.left S.faults source.new) (sink_told K.written K.faults sink.new)) result }
+    ensures { IsServed most (sides_told (source_told S.left S.faults source.old)
+        (sink_told K.written K.faults sink.old))
+        (sides_told (source_told S.left S.faults source.new) (sink_told K.written K.faults sink.new)) result }
 {
     let mut room = most;
     'questions: loop {

@@ -1,5 +1,5 @@
 -- The text of items, by bodies.
-use Rattle.std.proofs.Common.{◌≡◌, ℕ, List, [], ◌∷◌, ◌++◌, Option, Some, None, append-nil, append_assoc, subst, get_or, length, take, refl, sym, ◌∙◌, ap, ◌<◌, ◌+◌, arith}
+use Rattle.std.proofs.Common.{◌≡◌, ℕ, List, [], ◌∷◌, ◌++◌, Option, Some, None, append-nil, append_assoc, subst, get_or, length, take, refl, sym, ◌∙◌, ap, ◌<◌, ◌+◌}
 use Rattle.std.specs.Prelude.{All, filter_map, flat_map, option_map, slice_get}
 use Rattle.std.specs.List.{cons_option}
 use Rattle.std.proofs.lemmas.List.{take_more}
@@ -15,21 +15,13 @@ use Rattle.journal.proofs.Locality.{flat_map-push}
 use Rattle.key_state.specs.Same.{distinct}
 use Rattle.validator_core.specs.View.{CoreView}
 use Rattle.validator_core.specs.Signatures.{good_on}
-use Rattle.watcher_core.specs.Evidence.{items_with, message_of, parts_of}
+use Rattle.watcher_core.specs.Evidence.{items_with}
 use Rattle.watcher_core.specs.Named.{PutsBodies, PutsBody, firsts_on, text_on}
 
 -- lists of lists of lists
 pub flat_map-flat_map : {X Y Z : Type 0} (g : Y → List Z) (f : X → List Y) (xs : List X) → flat_map g (flat_map f xs) ≡ flat_map (λ x. flat_map g (f x)) xs
 flat_map-flat_map g f [] = refl
 flat_map-flat_map g f (x ∷ xs) = flat_map-append g (f x) (flat_map f xs) ∙ ap (λ zs. flat_map g (f x) ++ zs) (flat_map-flat_map g f xs)
-
--- a body without signatures, and one with some
-pub text_of_none : (bytes : List ℕ) (sigs : List IndexedSig) → sigs ≡ [] → flat_map item_text (items_with bytes sigs) ≡ bytes
-text_of_none bytes sigs none = (λ i. flat_map item_text (items_with bytes (none i))) ∙ append-nil bytes
-
-pub items_of_some : (bytes : List ℕ) (sigs : List IndexedSig) → 0 < length sigs → items_with bytes sigs ≡ flat_map (message_of bytes) (parts_of sigs)
-items_of_some bytes [] some = absurd (omega (arith, some))
-items_of_some bytes (sig ∷ sigs) some = refl
 
 -- the bodies of one number more, and those of one conflict more
 pub chosen_more : (held : List Body) (ns : List ℕ) (i d : ℕ) → i < length ns

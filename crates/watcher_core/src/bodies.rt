@@ -17,7 +17,8 @@ pub(crate) fn put_sets(
     conflicts: &[Conflict],
     text: &mut StreamText,
 ) -> Result<(), AllocError>
-    ensures { OnOk result (PutsBodies core.now (flat_map (λ c. chosen core.now.held c.bodies) conflicts.now) text.old.bytes.items text.new.bytes.items) }
+    ensures { OnOk result (PutsBodies core.now (flat_map (λ c. chosen core.now.held c.bodies) conflicts.now)
+        text.old.bytes.items text.new.bytes.items) }
 {
     for conflict in conflicts {
         put_bodies(alloc, core, conflict.bodies.as_slice(), text)?;
@@ -32,7 +33,8 @@ fn put_bodies(
     numbers: &[u32],
     text: &mut StreamText,
 ) -> Result<(), AllocError>
-    ensures { OnOk result (PutsBodies core.now (chosen core.now.held numbers.now) text.old.bytes.items text.new.bytes.items) }
+    ensures { OnOk result (PutsBodies core.now (chosen core.now.held numbers.now) text.old.bytes.items
+        text.new.bytes.items) }
 {
     for number in numbers {
         put_body(alloc, core, *number, text)?;

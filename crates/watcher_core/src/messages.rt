@@ -19,7 +19,8 @@ pub(crate) fn put_signed(
     sigs: &[IndexedSig],
     text: &mut StreamText,
 ) -> Result<(), AllocError>
-    ensures { OnOk result (text.new.bytes.items ≡ text.old.bytes.items ++ flat_map item_text (items_with bytes.now sigs.now)) }
+    ensures { OnOk result (text.new.bytes.items ≡ text.old.bytes.items
+        ++ flat_map item_text (items_with bytes.now sigs.now)) }
 {
     if sigs.is_empty() {
         return text.put_body(bytes);
@@ -34,7 +35,8 @@ fn put_messages(
     sigs: &[IndexedSig],
     text: &mut StreamText,
 ) -> Result<(), AllocError>
-    ensures { OnOk result (text.new.bytes.items ≡ text.old.bytes.items ++ flat_map item_text (flat_map (message_of bytes.now) (parts_of sigs.now))) }
+    ensures { OnOk result (text.new.bytes.items ≡ text.old.bytes.items
+        ++ flat_map item_text (flat_map (message_of bytes.now) (parts_of sigs.now))) }
 {
     for part in sigs.chunks(MOST_IN_A_MESSAGE) {
         put_message(alloc, bytes, part, text)?;
@@ -50,7 +52,8 @@ fn put_message(
     text: &mut StreamText,
 ) -> Result<(), AllocError>
     requires { length sigs.now ≤ 1024 }
-    ensures { OnOk result (text.new.bytes.items ≡ text.old.bytes.items ++ flat_map item_text (message_of bytes.now sigs.now)) }
+    ensures { OnOk result (text.new.bytes.items ≡ text.old.bytes.items
+        ++ flat_map item_text (message_of bytes.now sigs.now)) }
 {
     text.put_body(bytes)?;
     let group = Group::Held(Items::from_vec(Vec::from_slice(alloc, sigs)?));

@@ -50,7 +50,8 @@ impl Watcher {
 
     /// The conflicts, each with its place and the numbers of its bodies.
     pub fn evidence(&self) -> Result<Vec<Conflict>, AllocError>
-        ensures { IfOk result (λ found. (sets : List (List Body)) × NameConflicts self.now.held found.items sets × IsConflictList self.now.mode (base_of self.now) (told_of self.now) sets) }
+        ensures { IfOk result (λ found. (sets : List (List Body)) × NameConflicts self.now.held found.items sets
+            × IsConflictList self.now.mode (base_of self.now) (told_of self.now) sets) }
     {
         self.core.conflicts()
     }

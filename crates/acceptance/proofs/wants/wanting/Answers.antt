@@ -1,5 +1,6 @@
-use Rattle.std.proofs.Common.{◌∙◌, ap, refl, sym}
+use Rattle.std.proofs.Common.{◌≡◌, ◌∙◌, ap, refl, subst, sym, true}
 use Rattle.std.specs.Option.{option_copied}
+use Rattle.journal.specs.Logs.{takes}
 use Rattle.journal.specs.Seals.{anchored}
 use Rattle.core_tables.specs.View.{body_of, log_of}
 use Rattle.acceptance.specs.Parts.{has_in}
@@ -14,7 +15,7 @@ returns-then-is_on_current c = λ bytes at current taken.
     let e = c.args.event.now in
     c.wanting_by.ensures
     ∙ ap (λ t. wants_by c.args.mode (has_in t.rows c.args.number) s e (anchored (log_of v) s e)) c.claims.ensures
-    ∙ rows_wanting v c.requires.standing c.args.mode c.args.number (body_of bytes e) at c.requires.kept s c.is_state.ensures current taken (c.if-is_on_current.ensures bytes refl)
+    ∙ rows_wanting v c.requires.standing c.args.mode c.args.number (body_of bytes e) at c.requires.kept s c.is_state.ensures current taken (c.if-is_on_current.ensures bytes refl (subst (λ s. takes s e ≡ true) current taken))
 
 pub returns : goal.returns
 returns c = λ bytes at current taken.

@@ -1,4 +1,4 @@
-use Rattle.std.proofs.Common.{◌<◌, ◌+◌, ◌^◌, ◌∙◌, ap, arith, length, refl, subst, sym, inl, inr}
+use Rattle.std.proofs.Common.{◌<◌, ◌+◌, ◌^◌, ◌∙◌, ap, arith, length, refl, subst, sym, inl, inr, ◌≡◌, false}
 use Rattle.std.specs.Prelude.{IfSome, slice_get}
 use Rattle.std.specs.Result.{OnOk}
 use Rattle.std.proofs.lemmas.Result.{on_err_weaker, on_ok_weaker}
@@ -7,11 +7,15 @@ use Rattle.accepted_log.specs.Values.{Extends, interacted, last_of, last_place}
 use Rattle.event_body.specs.Events.{prefix_of, said_of}
 use Rattle.journal.proofs.Places.{some_at}
 use Rattle.key_state.specs.Heads.{head_sn}
+use Rattle.core_tables.specs.Hints.{IsNameNew}
 use Rattle.core_tables.specs.Inside.{held_in, view_of}
+use Rattle.core_tables.specs.NamedPlaces.{places_at}
+use Rattle.core_tables.specs.Names.{name_of}
 use Rattle.core_tables.specs.View.{View}
 use Rattle.core_tables.proofs.LastAccepted.{none_accepted, numbers_gone_onto, on_both, one_accepted, view_accepted, view_same}
 use Rattle.core_tables.proofs.LastEntry.{on_err}
-use Rattle.core_tables.proofs.Pairs.{event_is, length-paired}
+use Rattle.core_tables.proofs.Found.{name_is_new}
+use Rattle.core_tables.proofs.Pairs.{event_at, event_is, length-paired}
 use Rattle.core_tables.proofs.tables.Tables.interact.Goals as goal
 
 pub index-event-requires : goal.index-event-requires
@@ -23,7 +27,7 @@ index-event-requires c =
 
 pub invariant_of-self : goal.invariant_of-self
 invariant_of-self c =
-    (c.self.invariant.0, c.self.invariant.1, none_accepted c.self.invariant.2 _ _ _ c.len.ensures.numbers c.note_next.ensures.kept c.note_next.ensures.kept_sealed _ refl)
+    (c.self.invariant.0, c.self.invariant.1, none_accepted c.self.invariant.2 _ _ _ c.len.ensures.numbers c.note_next.ensures.kept c.note_next.ensures.kept_sealed c.clashes_with-self-inside.result c.clashes_with-self-inside.ensures.before _ refl)
 
 pub returns-in_err-entries-clause-err : goal.returns-in_err-entries-clause-err
 returns-in_err-entries-clause-err c = on_err c.from_residual.result c.self.view_is
@@ -43,16 +47,18 @@ pub invariant_of-self-2 : goal.invariant_of-self-2
 invariant_of-self-2 c =
     let t = c.self.inside in
     let b = some_at (held_in t) c.args.number (subst (λ (v : View). c.args.number < length v.held) (sym c.self.view_is) c.requires.held) in
-    let event = event_is t.journal.bodies t.events.items c.self.invariant.0 c.args.number c.index-event.result.now b.0 c.index-event.ensures b.1 in (
+    let event = event_is t.journal.bodies t.events.items c.self.invariant.0 c.args.number c.index-event.result.now b.0 c.index-event.ensures b.1 in
+    let fresh : c.clashes_with-self-inside.result ≡ false → IsNameNew (held_in t) t.log.numbers (name_of c.index-event.result.now) = λ now. name_is_new c.self.invariant.2 t.events.items (event_at t.journal.bodies t.events.items c.self.invariant.0) (name_of c.index-event.result.now)
+    c.as_slice.result.now c.numbers.result.now (places_at t.accepted (name_of c.index-event.result.now)) c.as_slice.ensures.value c.numbers.ensures refl (c.clashes_with-self-inside.ensures.new now) in (
       c.self.invariant.0,
       c.self.invariant.1,
       on_both c.interact.result c.interact.ensures.ok c.interact.ensures.err
           (λ made. elim (numbers_gone_onto c.args.number c.in_ok-entries.entries c.said_of_event.result (last_place c.prefix_of.result t.log.states) t.log) [
-            | inl more ↦ one_accepted c.self.invariant.2 _ _ _ c.len.ensures.numbers c.note_next.ensures.kept c.note_next.ensures.kept_sealed b.0 c.args.number c.index-event.result.now b.1 event
-                c.in_ok-entries.ensures.named c.in_ok-entries.ensures.sealed _ (ap (λ l. l.numbers) made ∙ more)
-            | inr same ↦ none_accepted c.self.invariant.2 _ _ _ c.len.ensures.numbers c.note_next.ensures.kept c.note_next.ensures.kept_sealed _ (ap (λ l. l.numbers) made ∙ same)
+            | inl more ↦ one_accepted c.self.invariant.2 _ _ _ c.len.ensures.numbers c.note_next.ensures.kept c.note_next.ensures.kept_sealed c.clashes_with-self-inside.result c.clashes_with-self-inside.ensures.before b.0 c.args.number c.index-event.result.now b.1 event
+                c.in_ok-entries.ensures.named c.in_ok-entries.ensures.sealed fresh _ (ap (λ l. l.numbers) made ∙ more)
+            | inr same ↦ none_accepted c.self.invariant.2 _ _ _ c.len.ensures.numbers c.note_next.ensures.kept c.note_next.ensures.kept_sealed c.clashes_with-self-inside.result c.clashes_with-self-inside.ensures.before _ (ap (λ l. l.numbers) made ∙ same)
           ])
-          (λ same. none_accepted c.self.invariant.2 _ _ _ c.len.ensures.numbers c.note_next.ensures.kept c.note_next.ensures.kept_sealed _ (ap (λ l. l.numbers) same)),
+          (λ same. none_accepted c.self.invariant.2 _ _ _ c.len.ensures.numbers c.note_next.ensures.kept c.note_next.ensures.kept_sealed c.clashes_with-self-inside.result c.clashes_with-self-inside.ensures.before _ (ap (λ l. l.numbers) same)),
     )
 
 pub returns-clause-ok : goal.returns-clause-ok

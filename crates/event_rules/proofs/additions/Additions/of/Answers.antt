@@ -7,4 +7,4 @@ use Rattle.event_rules.proofs.additions.Additions.of.Goals as goal
 pub returns : goal.returns
 returns c once (index n) = c.index_of.ensures n
 returns c once (reveal n) = c.revealed_by.ensures n
-returns c once (backer n) = place_is (own_rules (option_copied c.args.state) c.args.event.now).witnesses c.args.key.now c.place_of.result c.place_of.ensures.found c.place_of.ensures.none once n
+returns c once (backer n) = place_is (own_rules (option_copied c.args.state) c.args.event.now).witnesses c.args.key.now c.backer_of.result c.backer_of.ensures.found c.backer_of.ensures.none once n
