@@ -3,7 +3,7 @@ use Rattle.std.proofs.Common.{◌≡◌, ℕ, ◌+◌, ◌-◌, ◌≤◌, Bool,
 use Rattle.std.specs.Prelude.{◌==◌, ◌&&◌, Contains, find, option_map, position, slice_get}
 use Rattle.std.specs.List.{list_any, position_from}
 use Rattle.std.specs.List.Sorted.{IsStrictlyIncreasing}
-use Rattle.std.specs.Option.{option_map_or}
+use Rattle.std.specs.Option.{is_some, option_map_or}
 use Rattle.std.specs.Cmp.Lexicographic.{bytes_decides}
 use Rattle.std.proofs.lemmas.Bool.{cases_Bool, cases_lt}
 use Rattle.std.proofs.lemmas.Iterator.Adapters.{position_from-zero}
@@ -33,8 +33,26 @@ use Rattle.core_tables.specs.Rows.{event_there, has_claim, is_named, is_number, 
 use Rattle.core_tables.specs.View.{body_of, came_with}
 use Rattle.core_laws.proofs.Members.{find_some, member_any}
 use Rattle.core_tables.proofs.ListedNumbers.{found_row, none_row}
-use Rattle.core_tables.proofs.NamedRows.{accepted_is, come_is, predecessor_is, same_name_itself, sealed_is}
+use Rattle.core_tables.proofs.NamedRows.{come_is, place_is, predecessor_is, same_name_itself, sealed_is}
 use Rattle.core_tables.proofs.Rows.{differ, none_below, not_some, some_is}
+
+-- an element that passes a test has a place just where there is one
+unfound : {X : Type 0} (test : X → Bool) (xs : List X) → list_any test xs ≡ false → position test xs ≡ None
+unfound test xs none = position_from-zero test xs ∙ go 0 xs none
+  where
+    go : (i : ℕ) (ys : List _) → list_any test ys ≡ false → position_from test i ys ≡ None
+    go i [] none = refl
+    go i (y ∷ ys) none = elim (cases_Bool (test y)) [
+      | inl k ↦ (let clash = rw k at none in cc)
+      | inr k ↦ (let more = rw k at none in rw k (go (i + 1) ys more))
+    ]
+
+pub some_place : {X : Type 0} (test : X → Bool) (xs : List X) → is_some (position test xs) ≡ list_any test xs
+some_place test xs = ap is_some (position_from-zero test xs) ∙ go 0 xs
+  where
+    go : (i : ℕ) (ys : List _) → is_some (position_from test i ys) ≡ list_any test ys
+    go i [] = refl
+    go i (y ∷ ys) = elim (cases_Bool (test y)) [ inl k ↦ rw k refl | inr k ↦ rw k (go (i + 1) ys) ]
 
 module _ {held : List Body} {entries : List Entry} {ns : List ℕ} {settled : ℕ} {w : Escrow} {names told places : Name → List ℕ} {came : ClaimKey → List ℕ} {seals : SealKey → List ℕ} {clash : Bool} (h : AreHinted held entries ns settled w names told places came seals clash)
     (events : List Event) (same : (n : ℕ) → slice_get events n ≡ option_map (λ b. b.event) (slice_get held n)) where
@@ -44,19 +62,19 @@ module _ {held : List Body} {entries : List Entry} {ns : List ℕ} {settled : �
   sealed_found holder e is these those at name events_are numbers_are name_is at_is rising =
       rw (at_is, name_is, events_are, numbers_are) (sealed_is h events same holder e is (subst IsStrictlyIncreasing (at_is ∙ ap (λ m. seals (seal_key holder m)) name_is) rising))
 
-  pub accepted_found : (number : ℕ) (e : Event) → Some e ≡ slice_get events number → (those at : List ℕ) (name : Name) → those ≡ ns → name ≡ name_of e → at ≡ places name → IsStrictlyIncreasing at
-      → list_any (λ i. is_number number (slice_get those i)) at ≡ list_any (λ m. m == number) ns
-  accepted_found number e there those at name numbers_are name_is at_is rising =
+  pub place_found : (number : ℕ) (e : Event) → Some e ≡ slice_get events number → (those at : List ℕ) (name : Name) → those ≡ ns → name ≡ name_of e → at ≡ places name → IsStrictlyIncreasing at
+      → find (λ i. is_number number (slice_get those i)) at ≡ position (λ m. m == number) ns
+  place_found number e there those at name numbers_are name_is at_is rising =
       let b = body (slice_get held number) (there ∙ same number) in
       let named : name ≡ name_of b.0.event = name_is ∙ ap name_of b.2 in
-      rw (at_is, named, numbers_are) (accepted_is h events same number b.0 b.1 (subst IsStrictlyIncreasing (at_is ∙ ap places named) rising))
+      rw (at_is, named, numbers_are) (place_is h events same number b.0 b.1 (subst IsStrictlyIncreasing (at_is ∙ ap places named) rising))
     where
       body : (o : Option Body) → Some e ≡ option_map (λ b. b.event) o → (b : Body) × (o ≡ Some b) × (e ≡ b.event)
       body None is = absurd (not_some e (sym is))
       body (Some b) is = (b, refl, some_is e b.event is)
 
-  pub none_accepted : (number : ℕ) → None ≡ slice_get events number → false ≡ list_any (λ m. m == number) ns
-  none_accepted number none = sym (none_below ns number (λ i m at. let low = h.accepted_held i m at in omega (arith, low, past)))
+  pub no_place : (number : ℕ) → None ≡ slice_get events number → None ≡ position (λ m. m == number) ns
+  no_place number none = sym (unfound (λ m. m == number) ns (none_below ns number (λ i m at. let low = h.accepted_held i m at in omega (arith, low, past))))
     where
       past : length held ≤ number
       past = elim (cases_lt number (length held)) [

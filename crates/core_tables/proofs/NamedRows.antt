@@ -142,11 +142,11 @@ module _ {held : List Body} {entries : List Entry} {ns : List ℕ} {settled : �
       each None = refl
       each (Some c) = ap (λ b. is_of holder c && b) (sym (seals-named c.event e))
 
-  pub accepted_is : (number : ℕ) (b : Body) → slice_get held number ≡ Some b → IsStrictlyIncreasing (places (name_of b.event))
-      → list_any (λ i. is_number number (slice_get ns i)) (places (name_of b.event)) ≡ list_any (λ m. m == number) ns
-  accepted_is number b there rising =
-      ap (λ q. list_any q (places (name_of b.event))) (λ k i. each (slice_get ns i) k)
-      ∙ any_place (λ m. m == number) ns (places (name_of b.event)) (record {
+  pub place_is : (number : ℕ) (b : Body) → slice_get held number ≡ Some b → IsStrictlyIncreasing (places (name_of b.event))
+      → find (λ i. is_number number (slice_get ns i)) (places (name_of b.event)) ≡ position (λ m. m == number) ns
+  place_is number b there rising =
+      ap (λ q. find q (places (name_of b.event))) (λ k i. each (slice_get ns i) k)
+      ∙ find_place (λ m. m == number) ns (places (name_of b.event)) (record {
         rising = rising;
         each = λ i m at t. h.accepted i m b at (ap (slice_get held) (numbers m number t) ∙ there);
       })

@@ -51,15 +51,20 @@ impl Tables {
         )
     }
 
+    /// The first place in the log of the event of the body of a number.
+    pub fn place_of(&self, number: u32) -> Option<u32>
+        ensures { result ≡ position (λ m. m == number) self.now.log.numbers }
+    {
+        let event = event_at(self.events.as_slice(), number)?;
+        let name = name_of(event);
+        first_of_number(self.log.numbers(), self.accepted.numbers(&name), number)
+    }
+
     /// Whether the event of the body of a number is accepted.
     pub fn is_accepted(&self, number: u32) -> bool
         ensures { result ≡ list_any (λ m. m == number) self.now.log.numbers }
     {
-        let Some(event) = event_at(self.events.as_slice(), number) else {
-            return false;
-        };
-        let name = name_of(event);
-        has_number(self.log.numbers(), self.accepted.numbers(&name), number)
+        self.place_of(number).is_some()
     }
 
     /// Whether two accepted events may differ that have one identifier, number and digest.
@@ -207,13 +212,14 @@ fn accepted_at<'a>(events: &'a [Event], numbers: &[u32], place: u32) -> Option<&
     events.get(*number as usize)
 }
 
-// Whether the number stands at one of the places.
-fn has_number(numbers: &[u32], places: &[u32], number: u32) -> bool
-    ensures { result ≡ list_any (λ i. is_number number (slice_get numbers.now i)) places.now }
+// The first of the places at which the number stands.
+fn first_of_number(numbers: &[u32], places: &[u32], number: u32) -> Option<u32>
+    ensures { result ≡ find (λ i. is_number number (slice_get numbers.now i)) places.now }
 {
     places
         .iter()
-        .any(|place| is_number_at(numbers, *place, number))
+        .copied()
+        .find(|place| is_number_at(numbers, *place, number))
 }
 
 // Whether the number stands at a place.

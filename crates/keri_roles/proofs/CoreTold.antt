@@ -22,7 +22,7 @@ use Rattle.run_status.specs.declared.besides.Besides.{Besides}
 use Rattle.keri_roles.specs.CoreTold.{Given, ReadsBy, Tells, ReadsToCore, IsToldBy, IsJournalOf, AreSettled}
 use Rattle.run_status.specs.Readers.{Reader, SourceTold, VerifierTold}
 use Rattle.keri_roles.specs.Run.{AreMakings, Owes}
-use Rattle.keri_roles.proofs.Questions.{no_bodies}
+use Rattle.validator_core.proofs.OpenQuestions.{no_bodies}
 
 -- what is owed by whether there was memory for its text
 pub owes : {A E : Type 0} (text_in : A → List ℕ) (has_in : A → Bool) (is_text : Close → List ℕ → Bool → Type 0) (close now : Close)

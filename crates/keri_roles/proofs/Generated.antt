@@ -18,7 +18,7 @@ use Rattle.run_status.specs.declared.close.Close.{Close}
 use Rattle.run_status.specs.declared.close.Close.TheVariants.{ReadFault, VerifierFault, OutOfMemory}
 use Rattle.keri_roles.specs.CoreTold.{Given, ReadsBy}
 use Rattle.run_status.specs.Readers.{SourceTold, VerifierTold}
-use Rattle.keri_roles.proofs.Questions.{no_bodies}
+use Rattle.validator_core.proofs.OpenQuestions.{no_bodies}
 
 -- a reader whose source and verifier were made, and whose verifier never failed, doesn't close by its fault
 pub never_fails : (given : Given) (source : Option SourceTold) (verifier : Option VerifierTold) (bytes : List ℕ) (told : List ToldEntry) (offered : List Message) (close : Close)

@@ -32,7 +32,7 @@ use Rattle.journal.specs.Journals.{told_by}
 use Rattle.journal.specs.Questions.{questions, raised}
 use Rattle.validator_core.specs.MessageCalls.{TakesMessage}
 use Rattle.validator_core.specs.View.{CoreView, base_of, told_of}
-use Rattle.keri_roles.specs.Verdicts.{IsVerdict, inquiries_in, inquiry_in}
+use Rattle.validator_core.specs.Verdicts.{IsVerdict, inquiries_in, inquiry_in}
 use Rattle.keri_roles.specs.Offers.{Stands, IsTurnedAway}
 
 -- what is noted of a message by the reply to it

@@ -19,10 +19,11 @@ use Rattle.journal.specs.declared.mode.Mode.{Mode}
 use Rattle.validator_core.specs.MessageCalls.{TakesMessage}
 use Rattle.validator_core.specs.View.{CoreView, Follows, base_of, told_of, open_of}
 use Rattle.keri_roles.specs.declared.validator.Validator.{Validator}
-use Rattle.keri_roles.proofs.Questions.{all_heard, asks_nothing, follows_itself, follows_on, no_bodies, none_besides}
+use Rattle.validator_core.proofs.OpenQuestions.{all_heard, asks_nothing, follows_itself, follows_on, no_bodies, none_besides}
 use Rattle.run_status.specs.declared.close.Close.{Close}
 use Rattle.run_status.specs.declared.close.Close.TheVariants.{End, Bad, ReadFault, VerifierFault, WriteFault, Malformed, Full as FullClose, OutOfMemory}
-use Rattle.keri_roles.specs.Verdicts.{Asks, StopsAsking, inquiries_in, inquiry_on}
+use Rattle.validator_core.specs.Verdicts.{Asks, inquiries_in, inquiry_on}
+use Rattle.keri_roles.specs.Stops.{StopsAsking}
 use Rattle.keri_roles.specs.Offers.{Offers, HasTaken, HasStopped}
 use Rattle.keri_roles.proofs.Offered.{asked_nothing, entry_inquired, inquired_more, offered, refused_as, refused_told, stands_asked, stands_more, told_nothing, turned_away}
 

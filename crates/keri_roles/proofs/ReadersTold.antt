@@ -27,10 +27,10 @@ use Rattle.run_status.specs.declared.close.Close.TheVariants.{End, Bad, ReadFaul
 use Rattle.keri_roles.specs.declared.validator.Validator.{Validator}
 use Rattle.keri_roles.specs.Closes.{is_stopped}
 use Rattle.keri_roles.specs.CoreTold.{Given, ClosesReader, ClosesStream, AreAsked, Tells}
-use Rattle.keri_roles.specs.Verdicts.{AsksOpen}
+use Rattle.validator_core.specs.Verdicts.{AsksOpen}
 use Rattle.keri_roles.specs.Offers.{Offers, HasTaken, HasStopped, IsTurnedAway}
 use Rattle.run_status.specs.Readers.{Reader, SourceTold, VerifierTold}
-use Rattle.keri_roles.proofs.Questions.{no_bodies, told_first}
+use Rattle.validator_core.proofs.OpenQuestions.{no_bodies, told_first}
 
 module _ (limits : Limits) (bytes : List ℕ) (reading : Reading) (items : List Placed) (stream : Stream limits bytes reading items) where
   pub behind : front limits.body reading.begun (drop reading.place bytes) ≡ judged reading

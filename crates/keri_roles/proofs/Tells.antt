@@ -30,7 +30,7 @@ use Rattle.keri_roles.specs.CoreTold.{Given, ReadsBy, AreAsked, IsInquired, IsUn
 use Rattle.keri_roles.specs.Offers.{HasTaken, HasStopped, Finishes}
 use Rattle.run_status.specs.Readers.{SourceTold, VerifierTold, source_seen, verifier_seen}
 use Rattle.keri_roles.proofs.Offered.{told_nothing, asked_nothing}
-use Rattle.keri_roles.proofs.Questions.{none_besides, told_first}
+use Rattle.validator_core.proofs.OpenQuestions.{none_besides, told_first}
 use Rattle.keri_roles.proofs.ReadersTold.{at_bad, at_end, first_none, none_asked, reader_by, some_open, tells_ended, tells_out, tells_short, tells_so, tells_stopped}
 
 module _ {V : Type 0} (says : V → Key → List ℕ → Sig → Option Bool) (inquiries : V → Option (List Inquiry)) (verifier_faults : V → ℕ) (mode : Mode) (given : Given) (source : SourceTold)

@@ -31,7 +31,7 @@ use Rattle.run_status.specs.declared.close.Close.{Close}
 use Rattle.run_status.specs.declared.close.Close.TheVariants.{End, Bad, ReadFault, VerifierFault, WriteFault, Malformed, Full, OutOfMemory}
 use Rattle.keri_roles.specs.Closes.{Closes, is_stopped}
 use Rattle.keri_roles.specs.Offers.{IsTurnedAway}
-use Rattle.keri_roles.specs.Verdicts.{IsHeardAndOpen}
+use Rattle.validator_core.specs.Verdicts.{IsHeardAndOpen}
 use Rattle.run_status.specs.Readers.{Reader, SourceTold, VerifierTold}
 use Rattle.keri_roles.specs.Run.{Work, MakesProviders, Owes}
 use Rattle.run_status.specs.Status.{nothing_besides}

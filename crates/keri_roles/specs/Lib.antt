@@ -5,7 +5,7 @@ pub mod Closes
 pub mod MessageLines
 pub mod Checker
 pub mod Check
-pub mod Verdicts
+pub mod Stops
 pub mod Offers
 pub mod CoreReads
 pub mod CoreTold

@@ -19,7 +19,7 @@ use Rattle.message_feed.specs.declared.feed_close.FeedClose.{FeedClose}
 use Rattle.message_feed.specs.declared.feed_close.FeedClose.TheVariants as feed
 use Rattle.run_status.specs.declared.close.Close.{Close}
 use Rattle.run_status.specs.declared.close.Close.TheVariants.{End, Bad, ReadFault, VerifierFault, WriteFault, Malformed, Full, OutOfMemory}
-use Rattle.keri_roles.specs.Verdicts.{AsksOpen}
+use Rattle.validator_core.specs.Verdicts.{AsksOpen}
 use Rattle.keri_roles.specs.declared.validator.Validator.{Validator}
 
 -- These messages were offered: those that aren't refused were taken by the first reader, and the others are noted. All

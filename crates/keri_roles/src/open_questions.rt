@@ -1,14 +1,12 @@
 //! The open questions, which the verifier is asked.
-ghost use Rattle.std.specs.Prelude.{◌≡◌, ◌<◌, [], IfOk, IfErr, OnOk, OnErr};
-ghost use Rattle.keri_specs.specs.Causes.{Rose};
-ghost use Rattle.validator_core.specs.View.{open_of, unheard_of};
-ghost use Rattle.keri_roles.specs.Verdicts.{Asks, AsksAbout, IsOpen, IsSaid, Notes, StopsAsking};
+ghost use Rattle.std.specs.Prelude.{◌≡◌, [], IfErr, OnOk};
+ghost use Rattle.validator_core.specs.Verdicts.{Asks};
+ghost use Rattle.validator_core.specs.View.{open_of};
+ghost use Rattle.keri_roles.specs.Stops.{StopsAsking, stop_of};
 
 use crate::Close;
-use journal::Question;
-use keri_outside::{Failed, Steps, Verifier};
-use std::alloc::AllocError;
-use validator_core::Core;
+use keri_outside::{Steps, Verifier};
+use validator_core::{Core, VerdictFault};
 
 /// Asks the verifier each open question and notes its verdict, until none is open. A verdict may open further questions.
 pub(crate) fn ask_open<V: Verifier>(
@@ -25,42 +23,20 @@ pub(crate) fn ask_open<V: Verifier>(
         (open_of core.new)) }
 {
     while let Some(question) = core.next_question(0) {
-        let yes = verdict(core, verifier, &question)?;
-        note(core, &question, yes, steps)?;
+        match core.ask(verifier, &question, steps) {
+            Ok(_) => {}
+            Err(fault) => return Err(close_by(fault)),
+        }
     }
     Ok(())
 }
 
-// What the verifier says of a question.
-fn verdict<V: Verifier>(core: &Core, verifier: &mut V, question: &Question) -> Result<bool, Close>
-    requires { IsOpen core.now question.now }
-    ensures said { IfOk result (λ yes. IsSaid (V.says verifier.old) core.now question.now yes) }
-    ensures same { V.says verifier.new ≡ V.says verifier.old }
-    ensures asked { AsksAbout (V.inquiries verifier.old) (V.inquiries verifier.new)
-        core.now question.now result }
-    ensures none_failed { OnOk result (V.faults verifier.new ≡ V.faults verifier.old) }
-    ensures stops { IfErr result (λ close. (close ≡ Close.VerifierFault)
-        × Rose (V.faults verifier.old) (V.faults verifier.new)) }
+// How a reader closes by a fault.
+fn close_by(fault: VerdictFault) -> Close
+    ensures { result ≡ stop_of fault }
 {
-    let Some(body) = core.body(question.body) else {
-        unreachable!()
-    };
-    match verifier.ask(&question.key, body, &question.sig) {
-        Ok(yes) => Ok(yes),
-        Err(Failed) => Err(Close::VerifierFault),
-    }
-}
-
-// Notes the verdict on an open question, which is open no more.
-fn note(core: &mut Core, question: &Question, yes: bool, steps: &mut Steps) -> Result<(), Close>
-    requires { IsOpen core.old question.now }
-    ensures fewer { OnOk result (unheard_of core.new < unheard_of core.old) }
-    ensures noted { OnOk result (Notes core.old question.now yes core.new) }
-    ensures err { OnErr result (core.new ≡ core.old) }
-    ensures stops { IfErr result (λ close. close ≡ Close.OutOfMemory) }
-{
-    match core.answer(0, question, yes, steps) {
-        Ok(_) => Ok(()),
-        Err(AllocError) => Err(Close::OutOfMemory),
+    match fault {
+        VerdictFault::VerifierFault => Close::VerifierFault,
+        VerdictFault::OutOfMemory => Close::OutOfMemory,
     }
 }

@@ -21,3 +21,4 @@ pub mod Rivals
 pub mod Bases
 pub mod GoodSignatures
 pub mod Under
+pub mod OpenQuestions

@@ -9,3 +9,4 @@ pub mod Inside
 pub mod Views
 pub mod Base
 pub mod Signatures
+pub mod Verdicts

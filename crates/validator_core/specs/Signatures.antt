@@ -7,9 +7,8 @@ use Rattle.validator_core.specs.View.{CoreView, told_of, accepted_by}
 use Rattle.event_rules.specs.Claims.{is_good}
 use Rattle.event_rules.specs.Parts.{opens_at}
 use Rattle.journal.specs.History.{Told}
-use Rattle.journal.specs.Logs.{before, stands, state}
-use Rattle.event_body.specs.Events.{prefix_of}
-use Rattle.key_state.specs.States.{State}
+use Rattle.event_payload.specs.Kept.{state_under}
+use Rattle.journal.specs.Logs.{stands}
 use Rattle.journal.specs.Questions.{state_before}
 use Rattle.journal.specs.Readiness.{good_sigs, held_sig}
 use Rattle.journal.specs.declared.body.Body.{Body}
@@ -29,11 +28,7 @@ good_in told log b = if stands log b then good_sigs told (state_before log b) b 
 abbrev pub good_on : CoreView → Body → List IndexedSig
 good_on core b = good_in (told_of core) (accepted_by core) b
 
--- the state under which an accepted event was accepted: that of its identifier just before it
-abbrev pub state_under : List Body → Body → Option State
-state_under log b = state (before b log) (prefix_of b.event)
-
--- the controller's signatures with a yes verdict by that state
+-- the controller's signatures with a yes verdict on an accepted event, by the state under which it was accepted
 abbrev pub good_under : List Told → List Body → Body → List IndexedSig
 good_under told log b = good_sigs told (state_under log b) b
 

@@ -26,15 +26,12 @@ impl Core {
         self.tables.number_of(body, event)
     }
 
-    /// The first place of a number among the accepted ones. It takes no memory, and goes over the accepted numbers.
+    /// The first place of a number among the accepted ones. It takes no memory.
     pub fn place_of(&self, number: u32) -> Option<usize>
         ensures { result ≡ position (λ n. n == number) self.now.accepted }
     {
-        self.tables
-            .log()
-            .numbers()
-            .iter()
-            .position(|accepted| *accepted == number)
+        let place = self.tables.place_of(number)?;
+        Some(place as usize)
     }
 
     /// Whether a key is among the own witnesses of the event at a place of the accepted ones, by the state under which it was

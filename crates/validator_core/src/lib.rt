@@ -3,6 +3,7 @@
 #![tactic(auto)]
 
 mod accepted_events;
+mod asked_verdicts;
 mod base;
 mod claims;
 mod crossing;
@@ -16,6 +17,7 @@ mod validator;
 mod views;
 mod whole_entries;
 
+pub use asked_verdicts::VerdictFault;
 pub use claims::claims_of;
 pub use crossing::core_is_send;
 pub use judgement::judge_message;

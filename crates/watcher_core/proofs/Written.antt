@@ -1,54 +1,22 @@
 -- Items that are written one behind the other are read as these items.
-use Rattle.std.proofs.Common.{◌≡◌, ℕ, ◌<◌, ◌≤◌, ◌^◌, Bool, true, false, List, [], ◌∷◌, ◌++◌, length, drop, zero, suc, refl, sym, ◌∙◌, ap, arith, subst, append-nil, append_assoc, length-append, length-take}
-use Rattle.std.specs.Prelude.{All, codes, flat_map}
-use Rattle.keri_specs.specs.Hex.{hex_value}
-use Rattle.json_tree.specs.declared.tree.Tree.{Tree}
-use Rattle.body_fields.specs.Bodies.{IsBody, kind_text, members_text}
-use Rattle.body_fields.specs.Maps.{fields_of}
-use Rattle.body_fields.specs.Versions.{IsSize, version_text}
-use Rattle.body_fields.specs.declared.kind.Kind.{Kind}
+use Rattle.std.proofs.Common.{◌≡◌, ℕ, ◌≤◌, Bool, true, false, List, [], ◌∷◌, ◌++◌, length, drop, zero, suc, refl, ◌∙◌, ap, arith, subst, append-nil, append_assoc, length-append, length-take}
+use Rattle.std.specs.Prelude.{All, flat_map}
 use Rattle.std.specs.Simd.{first_chunks}
 use Rattle.std.specs.Slice.Iter.{chunk_count}
 use Rattle.std.proofs.lemmas.List.{drop_all}
 use Rattle.std.proofs.lemmas.List.Elements.{All-drop, All-head, All-tail, All-take}
-use Rattle.body_fields.proofs.Texts.{is_body}
 use Rattle.event_body.specs.Judging.{HasEvent}
-use Rattle.event_body.specs.Spelling.{body_kind, text_of, values_of}
-use Rattle.event_body.specs.declared.event.Event.{Event}
 use Rattle.cesr_codes.specs.Indexed.{IsIndexed}
 use Rattle.cesr_codes.specs.declared.indexed_sig.IndexedSig.{IndexedSig}
-use Rattle.cesr_stream.specs.Front.{front, has_version, size_of}
+use Rattle.cesr_stream.specs.Front.{front}
 use Rattle.cesr_stream.specs.Items.{Items, Placed, Stand, none, placed}
 use Rattle.cesr_stream.specs.Parts.{unfinished}
 use Rattle.cesr_stream.specs.Written.{IsItem, IsWritable, MayStand, item_text}
 use Rattle.cesr_stream.specs.declared.item.Item.{Item}
-use Rattle.cesr_stream.specs.declared.item.Item.TheVariants.{Body as BodyItem}
 use Rattle.cesr_stream.proofs.WrittenItems.{written_more}
+use Rattle.event_payload.proofs.Written.{event_writable}
 use Rattle.journal.specs.declared.body.Body.{Body}
 use Rattle.watcher_core.specs.Evidence.{items_with, message_of, placed_from}
-
--- a version string at the front
-version_there : (size rest : List ℕ) → IsSize size → (has_version (version_text size ++ rest) ≡ true) × (size_of (version_text size ++ rest) ≡ hex_value size)
-version_there (a ∷ b ∷ c ∷ d ∷ e ∷ f ∷ []) rest sized = let hex = sized.1 in (rw hex refl, refl)
-version_there [] rest sized = absurd (omega (arith, sized.0))
-version_there (a ∷ []) rest sized = absurd (omega (arith, sized.0))
-version_there (a ∷ b ∷ []) rest sized = absurd (omega (arith, sized.0))
-version_there (a ∷ b ∷ c ∷ []) rest sized = absurd (omega (arith, sized.0))
-version_there (a ∷ b ∷ c ∷ d ∷ []) rest sized = absurd (omega (arith, sized.0))
-version_there (a ∷ b ∷ c ∷ d ∷ e ∷ []) rest sized = absurd (omega (arith, sized.0))
-version_there (a ∷ b ∷ c ∷ d ∷ e ∷ f ∷ g ∷ more) rest sized = absurd (omega (arith, sized.0))
-
--- a body says its own size
-body_writable : (kind : Kind) (values : List Tree) (bytes : List ℕ) → IsBody kind values bytes → IsWritable (BodyItem bytes)
-body_writable kind values bytes body =
-    let rest : List ℕ = kind_text kind ++ (members_text (fields_of kind) values ++ codes "}") in
-    let parts : bytes ≡ version_text body.size ++ rest = body.text ∙ append_assoc (version_text body.size) (kind_text kind) (members_text (fields_of kind) values ++ codes "}") in
-    let version = version_there body.size rest body.sized in
-    (ap has_version parts ∙ version.0, ap size_of parts ∙ version.1 ∙ body.size_is)
-
-event_writable : (event : Event) (bytes : List ℕ) → HasEvent event bytes → IsWritable (BodyItem bytes)
-event_writable event bytes has = subst (λ text. IsWritable (BodyItem text)) (sym has.text) (body_writable (body_kind event) (values_of event) (text_of event)
-    (is_body (body_kind event) (values_of event) has.forms (subst (λ text. length text < 2 ^ 24) has.text has.sized)))
 
 -- each item may be written, and stand behind those before it, where a body is among these or not
 abbrev pub MayFollow : Bool → List Item → Type 0

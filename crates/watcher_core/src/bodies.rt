@@ -5,7 +5,7 @@ ghost use Rattle.watcher_core.specs.Named.{PutsBodies, PutsBody};
 
 use crate::messages::put_signed;
 use crate::signatures::first_comings;
-use crate::stream_text::StreamText;
+use event_payload::StreamText;
 use journal::Conflict;
 use std::alloc::{AllocError, Global};
 use validator_core::Core;

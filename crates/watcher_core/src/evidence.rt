@@ -4,7 +4,7 @@ ghost use Rattle.validator_core.specs.View.{Stands};
 ghost use Rattle.watcher_core.specs.Evidence.{IsEvidenceText, ReadsAsEvidence};
 
 use crate::bodies::put_sets;
-use crate::stream_text::StreamText;
+use event_payload::StreamText;
 use std::alloc::{AllocError, Global};
 use validator_core::Core;
 

@@ -6,7 +6,6 @@ mod evidence;
 mod evidence_fault;
 mod messages;
 mod signatures;
-mod stream_text;
 mod watcher;
 
 pub use evidence::{Evidence, evidence_of};

@@ -3,9 +3,9 @@ ghost use Rattle.std.specs.Prelude.{◌≡◌, ◌≤◌, ◌++◌, OnOk, flat_m
 ghost use Rattle.cesr_stream.specs.Written.{item_text};
 ghost use Rattle.watcher_core.specs.Evidence.{items_with, message_of, parts_of};
 
-use crate::stream_text::StreamText;
 use cesr_codes::IndexedSig;
 use cesr_stream::{Group, Item};
+use event_payload::StreamText;
 use lists::Items;
 use std::alloc::{AllocError, Global};
 
@@ -23,7 +23,7 @@ pub(crate) fn put_signed(
         ++ flat_map item_text (items_with bytes.now sigs.now)) }
 {
     if sigs.is_empty() {
-        return text.put_body(bytes);
+        return text.put_bytes(bytes);
     }
     put_messages(alloc, bytes, sigs, text)
 }
@@ -55,7 +55,7 @@ fn put_message(
     ensures { OnOk result (text.new.bytes.items ≡ text.old.bytes.items
         ++ flat_map item_text (message_of bytes.now sigs.now)) }
 {
-    text.put_body(bytes)?;
+    text.put_bytes(bytes)?;
     let group = Group::Held(Items::from_vec(Vec::from_slice(alloc, sigs)?));
     text.put_item(&Item::Group(group))
 }

@@ -1,6 +1,6 @@
 use Rattle.std.proofs.Common.{◌≡◌, []}
 use Rattle.validator_core.specs.View.{unheard_of}
-use Rattle.keri_roles.specs.Verdicts.{Asks}
+use Rattle.validator_core.specs.Verdicts.{Asks}
 use Rattle.keri_roles.proofs.open_questions.ask_open.Given as goal
 
 -- verdicts alone were noted, for which alone the verifier was asked, and it hasn't failed

@@ -2,7 +2,8 @@ use Rattle.std.proofs.Common.{◌≡◌, refl, sym, ◌∙◌, ap, subst}
 use Rattle.std.specs.Prelude.{Some, slice_get}
 use Rattle.accepted_log.specs.Cuts.{IsLog}
 use Rattle.core_tables.specs.View.{body_of, log_of}
-use Rattle.validator_core.specs.Signatures.{is_witness_under, state_under}
+use Rattle.event_payload.specs.Kept.{state_under}
+use Rattle.validator_core.specs.Signatures.{is_witness_under}
 use Rattle.key_state.specs.Same.{has_key}
 use Rattle.acceptance.proofs.Bodies.{at_body}
 use Rattle.validator_core.proofs.Under.{accepted_at, rules_both}

@@ -3,7 +3,8 @@ use Rattle.std.specs.Prelude.{Some, slice_get}
 use Rattle.accepted_log.specs.Cuts.{IsLog}
 use Rattle.core_tables.specs.View.{body_of, log_of}
 use Rattle.event_rules.specs.Additions.{is_number}
-use Rattle.validator_core.specs.Signatures.{opens_under, state_under}
+use Rattle.event_payload.specs.Kept.{state_under}
+use Rattle.validator_core.specs.Signatures.{opens_under}
 use Rattle.acceptance.proofs.Bodies.{at_body}
 use Rattle.validator_core.proofs.Under.{accepted_at, opens_both}
 use Rattle.validator_core.proofs.accepted_events.reveal_in.Goals as goal

@@ -3,7 +3,8 @@ use Rattle.std.specs.Prelude.{Some, slice_get}
 use Rattle.accepted_log.specs.Cuts.{IsLog}
 use Rattle.acceptance.specs.Standing.{told_of}
 use Rattle.core_tables.specs.View.{body_of, log_of}
-use Rattle.validator_core.specs.Signatures.{good_under, state_under}
+use Rattle.event_payload.specs.Kept.{state_under}
+use Rattle.validator_core.specs.Signatures.{good_under}
 use Rattle.acceptance.proofs.Bodies.{at_body}
 use Rattle.settlement.proofs.Events.{if_ok_then}
 use Rattle.validator_core.proofs.Under.{accepted_at, good_both}

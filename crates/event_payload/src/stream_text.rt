@@ -8,14 +8,14 @@ use std::alloc::{AllocError, Global};
 
 /// The text of the items that were put. As a sink it fails only for want of memory.
 #[derive(Drop)]
-pub(crate) struct StreamText {
-    pub(crate) bytes: Vec<u8>,
+pub struct StreamText {
+    bytes: Vec<u8>,
     faults: u64,
 }
 
 impl StreamText {
     /// No items.
-    pub(crate) fn new(alloc: Global) -> StreamText
+    pub fn new(alloc: Global) -> StreamText
         ensures { result.bytes.items ≡ [] }
     {
         StreamText {
@@ -25,7 +25,7 @@ impl StreamText {
     }
 
     /// Puts an item behind the others.
-    pub(crate) fn put_item(&mut self, item: &Item) -> Result<(), AllocError>
+    pub fn put_item(&mut self, item: &Item) -> Result<(), AllocError>
         requires { IsWritable item.now }
         ensures { OnOk result (self.new.bytes.items ≡ self.old.bytes.items ++ item_text item.now) }
     {
@@ -33,14 +33,14 @@ impl StreamText {
     }
 
     /// Puts the bytes of a body behind the other items.
-    pub(crate) fn put_body(&mut self, bytes: &[u8]) -> Result<(), AllocError>
+    pub fn put_bytes(&mut self, bytes: &[u8]) -> Result<(), AllocError>
         ensures { OnOk result (self.new.bytes.items ≡ self.old.bytes.items ++ bytes.now) }
     {
         self.bytes.extend_from_slice(bytes)
     }
 
     /// All that was put.
-    pub(crate) fn into_bytes(self) -> Vec<u8>
+    pub fn into_bytes(self) -> Vec<u8>
         ensures { result.items ≡ self.bytes.items }
     {
         let StreamText { bytes, .. } = self;

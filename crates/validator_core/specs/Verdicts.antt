@@ -1,6 +1,5 @@
--- What asking the open questions does.
-use Rattle.std.specs.Prelude.{◌≡◌, ◌≢◌, ℕ, ◌≤◌, Bool, List, [], ◌∷◌, ◌++◌, map, flat_map, take, Option, Some, IfSome, All, Result, slice_get}
-use Rattle.keri_specs.specs.Causes.{Rose}
+-- What asking a verifier the open questions does.
+use Rattle.std.specs.Prelude.{◌≡◌, ℕ, ◌≤◌, Bool, List, [], ◌∷◌, ◌++◌, map, flat_map, take, Option, Some, IfSome, All, Result, slice_get}
 use Rattle.keri_specs.specs.Told.{Puts, after}
 use Rattle.keri_outside.specs.Asked.{inquiry}
 use Rattle.keri_outside.specs.declared.inquiry.Inquiry.{Inquiry}
@@ -12,8 +11,9 @@ use Rattle.journal.specs.Journals.{Names}
 use Rattle.journal.specs.declared.body.Body.{Body}
 use Rattle.journal.specs.Questions.{next_question}
 use Rattle.validator_core.specs.View.{CoreView, Follows, base_of, told_of}
-use Rattle.run_status.specs.declared.close.Close.{Close}
-use Rattle.run_status.specs.declared.close.Close.TheVariants.{End, Bad, ReadFault, VerifierFault, WriteFault, Malformed, Full, OutOfMemory}
+use Rattle.validator_core.specs.declared.asked_verdicts.VerdictFault.{VerdictFault}
+use Rattle.validator_core.specs.declared.asked_verdicts.VerdictFault.TheVariants.{VerifierFault, OutOfMemory}
+use Rattle.keri_specs.specs.Causes.{Rose}
 
 -- the question is open
 abbrev pub IsOpen : CoreView → Question → Type 0
@@ -68,13 +68,7 @@ pub record Notes (old : CoreView) (q : Question) (verdict : Bool) (new : CoreVie
   pub behind : told_of new ≡ told_of old ++ heard 0 body q.key q.sig verdict ∷ []
   pub follows : Follows old new
 
--- why no more is asked: the verifier's count of faults rose, and a question is open, or there was no memory
-abbrev pub StopsAsking : ℕ → ℕ → List Triple → Close → Type 0
-StopsAsking faults_old faults_new unheard VerifierFault = Rose faults_old faults_new × (unheard ≢ [])
-StopsAsking faults_old faults_new unheard OutOfMemory = Unit {0}
-StopsAsking faults_old faults_new unheard End = ⊥
-StopsAsking faults_old faults_new unheard (Bad bad) = ⊥
-StopsAsking faults_old faults_new unheard ReadFault = ⊥
-StopsAsking faults_old faults_new unheard Full = ⊥
-StopsAsking faults_old faults_new unheard WriteFault = ⊥
-StopsAsking faults_old faults_new unheard (Malformed place) = ⊥
+-- a verifier's count of faults, before and after: it rose where the verifier failed, and else is as it was
+abbrev pub IsFaultOf : ℕ → ℕ → VerdictFault → Type 0
+IsFaultOf before now VerifierFault = Rose before now
+IsFaultOf before now OutOfMemory = now ≡ before

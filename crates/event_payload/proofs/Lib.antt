@@ -1,0 +1,12 @@
+pub mod Cuts
+pub mod Openings
+pub mod Groups
+pub mod Sizes
+pub mod Readings
+pub mod Orders
+pub mod Adding
+pub mod Reveals
+pub mod Firsts
+pub mod Few
+pub mod Enough
+pub mod Written

@@ -1,0 +1,11 @@
+use Rattle.std.proofs.Common.{length}
+use Rattle.event_payload.proofs.Readings.{Left}
+use Rattle.event_payload.proofs.front.are_groups.Given as goal
+
+-- what is left is groups just where all was
+abbrev pub invariant-loop-reader : goal.invariant-loop-reader
+invariant-loop-reader l = Left l.fn.reader l.reader
+
+-- the bytes that are left
+abbrev pub decreases-loop-reader : goal.decreases-loop-reader
+decreases-loop-reader l = length l.reader.rest

@@ -1,0 +1,4 @@
+pub mod Kept
+pub mod Holding
+pub mod Payloads
+pub mod Steps
