@@ -2,6 +2,7 @@
 use Rattle.std.proofs.Common.{◌≡◌, ◌≢◌, ℕ, true, List, [], ◌∷◌, Option, Some, None, refl, sym, ◌∙◌}
 use Rattle.std.specs.Prelude.{codes, is_none, MatchOption}
 use Rattle.keri_specs.specs.Causes.{Rose}
+use Rattle.cesr_codes.specs.declared.digest.Digest.{Digest}
 use Rattle.cesr_stream.specs.declared.message.Message.{Message}
 use Rattle.keri_outside.specs.declared.limits.Limits.{Limits}
 use Rattle.journal.specs.declared.mode.Mode.{Mode}
@@ -22,19 +23,19 @@ use Rattle.keri_roles.proofs.Made.{due_signer, fourth_of, second, second_of, tex
 
 -- where it may be that the source and the verifier couldn't be made, the count of the outside rose
 module _ (rose : Type 0) where
-  check_read : (limits : Limits) (held : Option (List ℕ)) (source : Option SourceTold) (verifier : Option VerifierTold) (refused : List Refusal) (close : Close) (owed : Option (List ℕ))
+  check_read : (limits : Limits) (held : Option (List ℕ)) (source : Option SourceTold) (verifier : Option VerifierTold) (refused : List Refusal) (seen : List Digest) (close : Close) (owed : Option (List ℕ))
       → (is_none source ≡ true → rose)
-      → OwesChecks (record { source = source; verifier = verifier; refused = refused; close = close }) limits held owed → close ≡ ReadFault
+      → OwesChecks (record { source = source; verifier = verifier; refused = refused; seen = seen; close = close }) limits held owed → close ≡ ReadFault
       → MatchOption source rose (λ s. Rose 0 s.faults)
-  check_read limits held None verifier refused close owed out o e = out refl
-  check_read limits held (Some source) verifier refused close None out o e = let clash : ReadFault ≡ OutOfMemory = sym e ∙ o in cc
-  check_read limits held (Some source) verifier refused close (Some text) out o e = let closes = rw e at o.1.closes in closes.1
+  check_read limits held None verifier refused seen close owed out o e = out refl
+  check_read limits held (Some source) verifier refused seen close None out o e = let clash : ReadFault ≡ OutOfMemory = sym e ∙ o in cc
+  check_read limits held (Some source) verifier refused seen close (Some text) out o e = let closes = rw e at o.1.closes in closes.1
 
-  check_asked : (limits : Limits) (held : Option (List ℕ)) (source : Option SourceTold) (verifier : Option VerifierTold) (refused : List Refusal) (close : Close) (owed : Option (List ℕ))
-      → OwesChecks (record { source = source; verifier = verifier; refused = refused; close = close }) limits held owed → close ≡ VerifierFault → ⊥
-  check_asked limits held source verifier refused close None o e = let clash : VerifierFault ≡ OutOfMemory = sym e ∙ o in cc
-  check_asked limits held None verifier refused close (Some text) o e = let clash : VerifierFault ≡ ReadFault = sym e ∙ o.1.fault in cc
-  check_asked limits held (Some source) verifier refused close (Some text) o e = let closes = rw e at o.1.closes in closes
+  check_asked : (limits : Limits) (held : Option (List ℕ)) (source : Option SourceTold) (verifier : Option VerifierTold) (refused : List Refusal) (seen : List Digest) (close : Close) (owed : Option (List ℕ))
+      → OwesChecks (record { source = source; verifier = verifier; refused = refused; seen = seen; close = close }) limits held owed → close ≡ VerifierFault → ⊥
+  check_asked limits held source verifier refused seen close None o e = let clash : VerifierFault ≡ OutOfMemory = sym e ∙ o in cc
+  check_asked limits held None verifier refused seen close (Some text) o e = let clash : VerifierFault ≡ ReadFault = sym e ∙ o.1.fault in cc
+  check_asked limits held (Some source) verifier refused seen close (Some text) o e = let closes = rw e at o.1.closes in closes
 
   module _ (given : Given) (bytes : List ℕ) (told : List ToldEntry) (offered : List Message) (close : Close) where
     told_read : (source : Option SourceTold) (verifier : Option VerifierTold) → (is_none source ≡ true → rose)
@@ -60,9 +61,9 @@ module _ (rose : Type 0) where
 pub check_caused : (name : List ℕ) (work : Work) → IsChecked name work → AreCaused work.before work.after work.readers
 check_caused name work c = rw c.one (
   record {
-    source = check_read _ work.before.limits (work.before.holds name) c.reader.source c.reader.verifier c.reader.refused c.reader.close work.owed
+    source = check_read _ work.before.limits (work.before.holds name) c.reader.source c.reader.verifier c.reader.refused c.reader.seen c.reader.close work.owed
         (λ none. c.makes.rose (rw none refl)) c.owes;
-    verifier = λ e. absurd (check_asked (⊥) work.before.limits (work.before.holds name) c.reader.source c.reader.verifier c.reader.refused c.reader.close work.owed c.owes e);
+    verifier = λ e. absurd (check_asked (⊥) work.before.limits (work.before.holds name) c.reader.source c.reader.verifier c.reader.refused c.reader.seen c.reader.close work.owed c.owes e);
   },
   tt,
 )

@@ -21,7 +21,8 @@ use Rattle.run_status.specs.declared.close.Close.TheVariants.{OutOfMemory}
 use Rattle.run_status.specs.declared.besides.Besides.{Besides}
 use Rattle.keri_roles.specs.CoreTold.{Given, ReadsBy, Tells, ReadsToCore, IsToldBy, IsJournalOf, AreSettled}
 use Rattle.run_status.specs.Readers.{Reader, SourceTold, VerifierTold}
-use Rattle.keri_roles.specs.Run.{AreMakings, Owes}
+use Rattle.run_outside.specs.Makings.{AreMakings}
+use Rattle.keri_roles.specs.Run.{Owes}
 use Rattle.validator_core.proofs.OpenQuestions.{no_bodies}
 
 -- what is owed by whether there was memory for its text
@@ -70,6 +71,7 @@ tells_again mode given reader core close t (inr out) = rw out (record {
   reads = reads_out given reader.source reader.verifier t.bytes _ _ reader.close t.reads;
   asked = tt;
   inquired = t.inquired;
+  none_seen = t.none_seen;
   mode_is = t.mode_is;
   limits_are = t.limits_are;
   no_base = t.no_base;
@@ -110,6 +112,7 @@ is_told_by mode given reader core t stands = record {
   reads = t.reads;
   asked = t.asked;
   inquired = t.inquired;
+  none_seen = t.none_seen;
   regular = subst (λ m. IsRegular m [] (told_of core)) t.mode_is (regular_of core t.no_base stands);
   within = subst (λ l. IsWithin l [] (told_of core)) t.limits_are (within_of core t.no_base stands);
   settled = settled_of core mode t.no_base t.mode_is stands;

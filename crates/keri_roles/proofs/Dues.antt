@@ -1,9 +1,7 @@
 -- What is owed to an answer.
-use Rattle.std.proofs.Common.{◌≡◌, ◌⊎◌, inl, inr, ℕ, false, true, List, Option, Some, None, Result, Ok, Err, refl, subst}
+use Rattle.std.proofs.Common.{◌≡◌, ◌⊎◌, inl, inr, ℕ, false, true, List, Option, Some, None, Result, Ok, Err, subst}
 use Rattle.std.specs.Prelude.{IfOk, OnErr}
 use Rattle.keri_specs.specs.Told.{HasNone}
-use Rattle.cesr_codes.specs.declared.key.Key.{Key}
-use Rattle.cesr_codes.specs.declared.sig.Sig.{Sig}
 use Rattle.keri_outside.specs.declared.signing.Signing.{Signing}
 use Rattle.plan_answer.specs.declared.answer.PlanAnswer.{PlanAnswer}
 use Rattle.plan_answer.specs.Answers.{CountsFaults, IsAnswer, SignsNoMore, signer_asked}

@@ -8,6 +8,7 @@ pub mod CoreTold
 pub mod Dues
 pub mod Made
 pub mod Causes
+pub mod Never
 pub mod Rehearsed
 pub mod Statuses
 pub mod Agreed

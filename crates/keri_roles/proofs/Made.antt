@@ -15,6 +15,7 @@ use Rattle.run_status.specs.declared.besides.Besides.{Besides}
 use Rattle.run_status.specs.declared.close.Close.{Close}
 use Rattle.run_status.specs.declared.close.Close.TheVariants.{ReadFault, VerifierFault}
 use Rattle.run_status.specs.Readers.{SourceTold}
+use Rattle.run_status.specs.Status.{nothing_besides}
 use Rattle.keri_roles.specs.Made.{MadeFrom, IsDue, IsDueBy, WasRead, close_of, found_in, is_out, is_through}
 use Rattle.keri_roles.specs.Run.{SignerTold}
 use Rattle.keri_roles.specs.Seen.{signer_seen}
@@ -42,12 +43,6 @@ module _ (most : ℕ) (held : Option (List ℕ)) (bytes : List ℕ) (close : Clo
   text_asked None r e = let clash : VerifierFault ≡ ReadFault = sym e ∙ r.0 in cc
   text_asked (Some source) r e = by_verifier r.closed (sym r.closes ∙ e)
 
--- the words were in the form, whatever is answered
-found_words : (answer : PlanAnswer) → (found_in answer).words_refused ≡ true → ⊥
-found_words (Message bytes) e = cc
-found_words (Refused why) e = cc
-found_words SignerFault e = cc
-
 -- the signer failed, where it is found to have
 found_signer : (answer : PlanAnswer) (faults : ℕ) → CountsFaults 0 faults answer → (found_in answer).signer_failed ≡ true → Rose 0 faults
 found_signer (Message bytes) faults c e = cc
@@ -55,15 +50,25 @@ found_signer (Refused why) faults c e = cc
 found_signer SignerFault faults c e = c
 
 module _ (given : MadeFrom) (owed : Option (List ℕ)) (besides : Besides) where
-  words_by : (out through : Bool) (signer : Option SignerTold) → IsDueBy given out through signer owed besides → besides.words_refused ≡ true → ⊥
-  words_by true through signer d e = let clash : false ≡ true = sym (ap (λ b. b.words_refused) d.1) ∙ e in cc
-  words_by false false signer d e = let clash : false ≡ true = sym (ap (λ b. b.words_refused) d.1) ∙ e in cc
-  words_by false true None d e = let clash : false ≡ true = sym (ap (λ b. b.words_refused) d.1) ∙ e in cc
-  words_by false true (Some signer) (inl o) e = found_words o.answer (sym (ap (λ b. b.words_refused) o.found) ∙ e)
-  words_by false true (Some signer) (inr n) e = let clash : false ≡ true = sym (ap (λ b. b.words_refused) n.found) ∙ e in cc
+  -- nothing is found of the words, of a disk, or of a shelf, whatever is answered
+  module _ (finds : Besides → Bool) (none : (signer refused : Bool) → finds (record nothing_besides { signer_failed = signer; plan_refused = refused }) ≡ false) where
+    finds_in : (answer : PlanAnswer) → finds (found_in answer) ≡ false
+    finds_in (Message bytes) = none false false
+    finds_in (Refused why) = none false true
+    finds_in SignerFault = none true false
 
-  pub due_in_form : (closes : List Close) (signer : Option SignerTold) → IsDue given closes signer owed besides → besides.words_refused ≡ true → ⊥
-  due_in_form closes signer d e = words_by (list_any is_out closes) (list_all is_through closes) signer d e
+    clash_of : {b : Besides} → besides ≡ b → finds b ≡ false → finds besides ≡ true → ⊥
+    clash_of e absent some = let clash : false ≡ true = sym absent ∙ (sym (ap finds e) ∙ some) in cc
+
+    finds_by : (out through : Bool) (signer : Option SignerTold) → IsDueBy given out through signer owed besides → finds besides ≡ true → ⊥
+    finds_by true through signer d = clash_of d.1 (none (is_none signer) false)
+    finds_by false false signer d = clash_of d.1 (none (is_none signer) false)
+    finds_by false true None d = clash_of d.1 (none true false)
+    finds_by false true (Some signer) (inl o) = clash_of o.found (finds_in o.answer)
+    finds_by false true (Some signer) (inr n) = clash_of n.found (none false false)
+
+    pub due_finds : (closes : List Close) (signer : Option SignerTold) → IsDue given closes signer owed besides → finds besides ≡ true → ⊥
+    due_finds closes signer d = finds_by (list_any is_out closes) (list_all is_through closes) signer d
 
   signer_by : (rose : Type 0) (out through : Bool) (signer : Option SignerTold) → (is_none signer ≡ true → rose) → IsDueBy given out through signer owed besides
       → besides.signer_failed ≡ true → MatchOption signer rose (λ s. Rose 0 s.faults)

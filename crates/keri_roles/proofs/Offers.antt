@@ -21,7 +21,7 @@ use Rattle.validator_core.specs.View.{CoreView, Follows, base_of, told_of, open_
 use Rattle.keri_roles.specs.declared.validator.Validator.{Validator}
 use Rattle.validator_core.proofs.OpenQuestions.{all_heard, asks_nothing, follows_itself, follows_on, no_bodies, none_besides}
 use Rattle.run_status.specs.declared.close.Close.{Close}
-use Rattle.run_status.specs.declared.close.Close.TheVariants.{End, Bad, ReadFault, VerifierFault, WriteFault, Malformed, Full as FullClose, OutOfMemory}
+use Rattle.run_status.specs.declared.close.Close.TheVariants.{End, Bad, ReadFault, VerifierFault, SignerFault, DiskFault, WriteFault, Malformed, Full as FullClose, OutOfMemory}
 use Rattle.validator_core.specs.Verdicts.{Asks, inquiries_in, inquiry_on}
 use Rattle.keri_roles.specs.Stops.{StopsAsking}
 use Rattle.keri_roles.specs.Offers.{Offers, HasTaken, HasStopped}
@@ -193,6 +193,8 @@ module _ {V : Type 0} (says : V → Key → List ℕ → Sig → Option Bool) (i
     stopped_on (Err End) noted stops = absurd stops
     stopped_on (Err (Bad bad)) noted stops = absurd stops
     stopped_on (Err ReadFault) noted stops = absurd stops
+    stopped_on (Err SignerFault) noted stops = absurd stops
+    stopped_on (Err DiskFault) noted stops = absurd stops
     stopped_on (Err WriteFault) noted stops = absurd stops
     stopped_on (Err (Malformed place)) noted stops = absurd stops
     stopped_on (Err FullClose) noted stops = absurd stops

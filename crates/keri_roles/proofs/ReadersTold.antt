@@ -23,7 +23,7 @@ use Rattle.message_feed.specs.Serving.{IsRefused}
 use Rattle.message_feed.specs.Feeds.{Stream}
 use Rattle.validator_core.specs.View.{open_of, told_of}
 use Rattle.run_status.specs.declared.close.Close.{Close}
-use Rattle.run_status.specs.declared.close.Close.TheVariants.{End, Bad, ReadFault, VerifierFault, WriteFault, Malformed, Full, OutOfMemory}
+use Rattle.run_status.specs.declared.close.Close.TheVariants.{End, Bad, ReadFault, VerifierFault, SignerFault, DiskFault, WriteFault, Malformed, Full, OutOfMemory}
 use Rattle.keri_roles.specs.declared.validator.Validator.{Validator}
 use Rattle.keri_roles.specs.Closes.{is_stopped}
 use Rattle.keri_roles.specs.CoreTold.{Given, ClosesReader, ClosesStream, AreAsked, Tells}
@@ -93,6 +93,8 @@ gave_by given source verifier bytes reading items told offered Full c = elim c.0
   | inl full ↦ (full.0.0.more ∷ [], full.0.0.gave)
   | inr room ↦ ([], rw append-nil room.0)
 ]
+gave_by given source verifier bytes reading items told offered SignerFault c = absurd c
+gave_by given source verifier bytes reading items told offered DiskFault c = absurd c
 gave_by given source verifier bytes reading items told offered WriteFault c = absurd c
 gave_by given source verifier bytes reading items told offered (Malformed place) c = absurd c
 gave_by given source verifier bytes reading items told offered OutOfMemory c = absurd c
@@ -103,6 +105,7 @@ reader_by says inquiries verifier_faults source now close = record {
   source = Some source;
   verifier = Some (record { says = says now.verifier; inquiries = inquiries now.verifier; faults = verifier_faults now.verifier });
   refused = now.refused.items;
+  seen = [];
   close = close;
 }
 
@@ -138,6 +141,7 @@ module _ {V : Type 0} (says : V → Key → List ℕ → Sig → Option Bool) (i
     asked = asked;
     inquired = told_first (inquiries first.verifier) (inquiries now.verifier) (told_of now.core) (questions mode [] (told_of now.core)) unasked
         (subst (AsksOpen (inquiries first.verifier) (inquiries now.verifier) (told_of now.core)) (open_is ms o) o.asked);
+    none_seen = refl;
     mode_is = o.follows.mode ∙ mode_is;
     limits_are = o.follows.limits ∙ limits_are;
     no_base = o.no_base;
@@ -205,6 +209,8 @@ module _ {V : Type 0} (says : V → Key → List ℕ → Sig → Option Bool) (i
     tells_stopped End ms later s made whole gave = absurd s
     tells_stopped (Bad bad) ms later s made whole gave = absurd s
     tells_stopped ReadFault ms later s made whole gave = absurd s
+    tells_stopped SignerFault ms later s made whole gave = absurd s
+    tells_stopped DiskFault ms later s made whole gave = absurd s
     tells_stopped WriteFault ms later s made whole gave = absurd s
     tells_stopped (Malformed place) ms later s made whole gave = absurd s
 

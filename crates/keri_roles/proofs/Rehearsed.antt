@@ -3,7 +3,7 @@ use Rattle.std.proofs.Common.{ℕ, true, false, Bool, List, [], ◌∷◌, Optio
 use Rattle.run_outside.specs.Told.{Grows, Makes, Told, making}
 use Rattle.run_outside.specs.declared.making.Making.{Making}
 use Rattle.run_outside.specs.declared.making.MakingKind.{MakingKind}
-use Rattle.keri_roles.specs.Run.{AreMakings, Noted}
+use Rattle.run_outside.specs.Makings.{AreMakings, Noted}
 
 noted_one : (kind : MakingKind) (name : List ℕ) (failed : Bool) (old new : Option (List Making)) → Grows old new kind name failed
     → Noted old new (making kind name failed ∷ [])

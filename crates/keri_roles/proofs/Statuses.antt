@@ -1,14 +1,14 @@
 -- Each fault that a run answers has its cause.
-use Rattle.std.proofs.Common.{◌≡◌, ◌≢◌, inl, inr, ℕ, Bool, true, false, List, [], ◌∷◌, Option, Some, None, refl, sym, ◌∙◌, ap}
+use Rattle.std.proofs.Common.{◌≡◌, ◌≢◌, inl, inr, ◌⊎◌, ⊎_elim, ℕ, Bool, true, false, List, [], ◌∷◌, Option, Some, None, refl, sym, ◌∙◌, ap, subst}
 use Rattle.std.specs.Prelude.{IsNone, codes}
 use Rattle.keri_specs.specs.Causes.{Rose}
 use Rattle.command_words.specs.Words.{Asked, check, generate, make, rehearse, validate, watch}
 use Rattle.verifier_link.specs.declared.served.Served.{Served}
 use Rattle.verifier_link.specs.declared.served.Served.TheVariants.{End, Malformed, ReadFault, WriteFault, Full, OutOfMemory}
 use Rattle.run_status.specs.declared.besides.Besides.{Besides}
+use Rattle.run_status.specs.declared.close.Close.{Close}
 use Rattle.run_status.specs.declared.close.Close.TheVariants as closing
-use Rattle.run_status.specs.Readers.{SinkTold, SourceTold}
-use Rattle.run_status.specs.Settling.{FaultsHaveCauses}
+use Rattle.run_status.specs.Readers.{HasClose, Reader, SinkTold, SourceTold}
 use Rattle.run_status.specs.Status.{nothing_besides}
 use Rattle.run_status.proofs.Causes.{faults_have_causes, words_refused}
 use Rattle.keri_roles.specs.Commands.{IsRunOf, IsUnbegun, IsWritten, CarriesOut}
@@ -16,36 +16,42 @@ use Rattle.keri_roles.specs.Made.{IsMade, given_alone, given_behind}
 use Rattle.keri_roles.specs.Rehearsed.{IsRehearsed, Serves, serving_close, serving_status}
 use Rattle.keri_roles.specs.Run.{Work, Run, HasCauses, SignerFails, AreCaused, work_in}
 use Rattle.keri_roles.proofs.Causes.{check_caused, generated_caused, made_caused, made_signer, rehearsed_caused, told_caused}
-use Rattle.keri_roles.proofs.Made.{due_in_form}
+use Rattle.keri_roles.proofs.Made.{due_finds}
+use Rattle.keri_roles.proofs.Never.{check_serves, generated_serves, has_none, made_serves, some_serves, told_serves}
 
--- what a command finds is no fault of the words
-in_form : (besides : Besides) (has : Bool) → besides ≡ record nothing_besides { conflict_found = has } → besides.words_refused ≡ true → ⊥
-in_form besides has e refused = let clash : false ≡ true = sym (ap (λ b. b.words_refused) e) ∙ refused in cc
+-- what a command finds is whether there is a conflict, and nothing else
+nothing_else : (finds : Besides → Bool) (besides : Besides) (has : Bool) → finds (record nothing_besides { conflict_found = has }) ≡ false
+    → besides ≡ record nothing_besides { conflict_found = has } → finds besides ≡ true → ⊥
+nothing_else finds besides has none e some = let clash : false ≡ true = sym none ∙ (sym (ap finds e) ∙ some) in cc
 
-made_in_form : (helper plan : List ℕ) (log : Option (List ℕ)) (work : Work) → IsMade helper plan log work → work.besides.words_refused ≡ true → ⊥
-made_in_form helper plan None work m refused = due_in_form (given_alone helper m.text work) work.owed work.besides (m.reader.close ∷ []) work.signer m.owes refused
-made_in_form helper plan (Some log) work m refused = due_in_form (given_behind helper m.text m.log_reader m.journal.fed.held work) work.owed work.besides (m.plan_reader.close ∷ m.log_reader.close ∷ []) work.signer m.owes refused
+-- `make` finds nothing of the words, of a disk, or of a shelf
+made_finds : (finds : Besides → Bool) (none : (signer refused : Bool) → finds (record nothing_besides { signer_failed = signer; plan_refused = refused }) ≡ false)
+    (helper plan : List ℕ) (log : Option (List ℕ)) (work : Work) → IsMade helper plan log work → finds work.besides ≡ true → ⊥
+made_finds finds none helper plan None work m some = due_finds (given_alone helper m.text work) work.owed work.besides finds none (m.reader.close ∷ []) work.signer m.owes some
+made_finds finds none helper plan (Some log) work m some = due_finds (given_behind helper m.text m.log_reader m.journal.fed.held work) work.owed work.besides finds none
+    (m.plan_reader.close ∷ m.log_reader.close ∷ []) work.signer m.owes some
 
--- the signer is found to have failed by `make` alone
-not_signed : (besides : Besides) (has : Bool) → besides ≡ record nothing_besides { conflict_found = has } → besides.signer_failed ≡ true → ⊥
-not_signed besides has e failed = let clash : false ≡ true = sym (ap (λ b. b.signer_failed) e) ∙ failed in cc
-
--- a run that wrote what its command owes
+-- a run that wrote what its command owes, and whose readers only read
 written_causes : (asked : Option Asked) (Does : Work → Type 0) (run : Run) (w : IsWritten Does run) → (w.besides.words_refused ≡ true → IsNone asked)
-    → (w.besides.signer_failed ≡ true → SignerFails asked run) → AreCaused run.before run.after run.readers → HasCauses asked run
-written_causes asked Does run w refused failed caused = record {
+    → (w.besides.signer_failed ≡ true → SignerFails asked run) → (w.besides.disk_failed ≡ true → ⊥) → (w.besides.shelf_full ≡ true → ⊥)
+    → some_serves run.readers ≡ false → AreCaused run.before run.after run.readers → HasCauses asked run
+written_causes asked Does run w refused failed no_disk no_shelf reads caused = record {
   two = λ e. refused (words_refused w.besides run.readers run.sink_before run.sink_after run.status w.owed w.settles e);
+  besides = w.besides;
   faults = faults_have_causes w.besides run.readers run.sink_before run.sink_after run.status w.owed w.settles;
-  signer_failed = w.besides.signer_failed;
-  signer = failed;
+  signer = ⊎_elim failed (λ closed. absurd (has_none closing.SignerFault refl run.readers reads closed));
+  disk = ⊎_elim no_disk (has_none closing.DiskFault refl run.readers reads);
+  sink = λ closed. absurd (has_none closing.WriteFault refl run.readers reads closed);
+  shelf = no_shelf;
   readers = caused;
 }
 
 -- one whose command neither refuses words nor has a signer
 plain_causes : (asked : Asked) (Does : Work → Type 0) (run : Run) (w : IsWritten Does run) (has : Bool) → w.besides ≡ record nothing_besides { conflict_found = has }
-    → AreCaused run.before run.after run.readers → HasCauses (Some asked) run
-plain_causes asked Does run w has e caused =
-    written_causes (Some asked) Does run w (λ refused. absurd (in_form w.besides has e refused)) (λ failed. absurd (not_signed w.besides has e failed)) caused
+    → some_serves run.readers ≡ false → AreCaused run.before run.after run.readers → HasCauses (Some asked) run
+plain_causes asked Does run w has e reads caused = written_causes (Some asked) Does run w
+    (λ some. absurd (nothing_else (λ b. b.words_refused) w.besides has refl e some)) (λ some. absurd (nothing_else (λ b. b.signer_failed) w.besides has refl e some))
+    (nothing_else (λ b. b.disk_failed) w.besides has refl e) (nothing_else (λ b. b.shelf_full) w.besides has refl e) reads caused
 
 -- what a status of `rehearse` says of the serving
 by_two : (served : Served) → serving_status served ≢ 2
@@ -63,6 +69,14 @@ by_seven ReadFault e = cc
 by_seven WriteFault e = cc
 by_seven Full e = cc
 by_seven OutOfMemory e = cc
+
+by_eight : (served : Served) → serving_status served ≢ 8
+by_eight End e = cc
+by_eight (Malformed place) e = cc
+by_eight ReadFault e = cc
+by_eight WriteFault e = cc
+by_eight Full e = cc
+by_eight OutOfMemory e = cc
 
 by_five : (served : Served) → serving_status served ≡ 5 → serving_close served ≡ closing.ReadFault
 by_five End e = cc
@@ -99,57 +113,104 @@ module _ (most : ℕ) (held : Option (List ℕ)) (old new : SinkTold) where
   serving_kept (Some source) Full s other = s.closes.2.faults
   serving_kept (Some source) OutOfMemory s other = ap (λ sides. sides.sink.faults) s.closes.2
 
-rehearsed_faults : (run : Run) → IsRehearsed run → FaultsHaveCauses run.readers false run.sink_before run.sink_after run.status
-rehearsed_faults run r =
-    let most = run.before.limits.stream_bytes in
-    let held = run.before.holds (codes "-") in
-    record {
-      five = λ e. rw r.one (inl (by_five r.served (sym r.status ∙ e)));
-      seven = λ e. absurd (by_seven r.served (sym r.status ∙ e));
-      nine = λ e. rw r.one (inl (by_nine r.served (sym r.status ∙ e)));
-      six = λ e. serving_wrote most held run.sink_before run.sink_after r.reader.source r.served r.serves (sym r.status ∙ e);
-      kept = λ other. serving_kept most held run.sink_before run.sink_after r.reader.source r.served r.serves (λ e. other (r.status ∙ e));
-    }
+-- no reader of it closes by a fault of a signer or of a disk
+served_signs : (served : Served) → serving_close served ≢ closing.SignerFault
+served_signs End e = cc
+served_signs (Malformed place) e = cc
+served_signs ReadFault e = cc
+served_signs WriteFault e = cc
+served_signs Full e = cc
+served_signs OutOfMemory e = cc
+
+served_stores : (served : Served) → serving_close served ≢ closing.DiskFault
+served_stores End e = cc
+served_stores (Malformed place) e = cc
+served_stores ReadFault e = cc
+served_stores WriteFault e = cc
+served_stores Full e = cc
+served_stores OutOfMemory e = cc
+
+served_writes : (served : Served) → serving_close served ≡ closing.WriteFault → serving_status served ≡ 6
+served_writes WriteFault e = refl
+served_writes End e = cc
+served_writes (Malformed place) e = cc
+served_writes ReadFault e = cc
+served_writes Full e = cc
+served_writes OutOfMemory e = cc
+
+closed_one : (at : Close) (reader : Reader) → HasClose at (reader ∷ []) → reader.close ≡ at
+closed_one at reader (inl e) = e
+closed_one at reader (inr none) = absurd none
+
+not_true : false ≡ true → ⊥
+not_true e = cc
 
 rehearsed_causes : (run : Run) → IsRehearsed run → HasCauses (Some rehearse) run
-rehearsed_causes run r = record {
-  two = λ e. absurd (by_two r.served (sym r.status ∙ e));
-  faults = rehearsed_faults run r;
-  signer_failed = false;
-  signer = λ e. cc;
-  readers = rehearsed_caused run r;
-}
+rehearsed_causes run r =
+    let most = run.before.limits.stream_bytes in
+    let held = run.before.holds (codes "-") in
+    let wrote = serving_wrote most held run.sink_before run.sink_after r.reader.source r.served r.serves in
+    let reader : Reader = record r.reader { verifier = None; refused = []; seen = []; close = serving_close r.served } in
+    record {
+      two = λ e. absurd (by_two r.served (sym r.status ∙ e));
+      besides = nothing_besides;
+      faults = record {
+        five = λ e. rw r.one (inl (by_five r.served (sym r.status ∙ e)));
+        seven = λ e. absurd (by_seven r.served (sym r.status ∙ e));
+        eight = λ e. absurd (by_eight r.served (sym r.status ∙ e));
+        nine = λ e. inl (rw r.one (inl (by_nine r.served (sym r.status ∙ e))));
+        six = λ e. inr (wrote (sym r.status ∙ e));
+        kept = λ other. serving_kept most held run.sink_before run.sink_after r.reader.source r.served r.serves (λ e. other (r.status ∙ e));
+      };
+      signer = ⊎_elim not_true (λ closed. served_signs r.served (closed_one closing.SignerFault reader (subst (HasClose closing.SignerFault) r.one closed)));
+      disk = ⊎_elim not_true (λ closed. served_stores r.served (closed_one closing.DiskFault reader (subst (HasClose closing.DiskFault) r.one closed)));
+      sink = λ closed. wrote (served_writes r.served (closed_one closing.WriteFault reader (subst (HasClose closing.WriteFault) r.one closed)));
+      shelf = not_true;
+      readers = rehearsed_caused run r;
+    }
 
 -- a run for which there was no memory to begin with
 unbegun_causes : (asked : Option Asked) (run : Run) → IsUnbegun run → HasCauses asked run
 unbegun_causes asked run u = record {
   two = λ e. let clash : 10 ≡ 2 = sym u.status ∙ e in cc;
+  besides = nothing_besides;
   faults = record {
     five = λ e. let clash : 10 ≡ 5 = sym u.status ∙ e in cc;
     seven = λ e. let clash : 10 ≡ 7 = sym u.status ∙ e in cc;
+    eight = λ e. let clash : 10 ≡ 8 = sym u.status ∙ e in cc;
     nine = λ e. let clash : 10 ≡ 9 = sym u.status ∙ e in cc;
     six = λ e. let clash : 10 ≡ 6 = sym u.status ∙ e in cc;
     kept = λ other. ap (λ sink. sink.faults) u.none_written;
   };
-  signer_failed = false;
-  signer = λ e. cc;
+  signer = ⊎_elim (λ e. absurd (not_true e)) (λ closed. absurd (subst (HasClose closing.SignerFault) u.none_read closed));
+  disk = ⊎_elim not_true (λ closed. subst (HasClose closing.DiskFault) u.none_read closed);
+  sink = λ closed. absurd (subst (HasClose closing.WriteFault) u.none_read closed);
+  shelf = not_true;
   readers = rw u.none_read tt;
 }
 
 carried_causes : (asked : Option Asked) (run : Run) → CarriesOut asked run → HasCauses asked run
 carried_causes None run w = written_causes None _ run w (λ refused. refl)
-    (λ failed. let clash : false ≡ true = sym (ap (λ b. b.signer_failed) w.does.nothing_else) ∙ failed in cc) (rw w.does.idle.none_read tt)
-carried_causes (Some (check name)) run w =
-    plain_causes (check name) _ run w false w.does.nothing_else (check_caused name (work_in run w.owed w.besides) w.does)
-carried_causes (Some (validate helper name)) run w =
-    plain_causes (validate helper name) _ run w w.does.over.has_conflicts w.does.over.nothing_else (told_caused _ helper name (work_in run w.owed w.besides) w.does.over.told)
-carried_causes (Some (watch helper name)) run w =
-    plain_causes (watch helper name) _ run w w.does.has_conflicts w.does.nothing_else (told_caused _ helper name (work_in run w.owed w.besides) w.does.told)
+    (λ some. absurd (refused_only (λ b. b.signer_failed) refl some)) (refused_only (λ b. b.disk_failed) refl) (refused_only (λ b. b.shelf_full) refl)
+    (rw w.does.idle.none_read refl) (rw w.does.idle.none_read tt)
+  where
+    refused_only : (finds : Besides → Bool) → finds (record nothing_besides { words_refused = true }) ≡ false → finds w.besides ≡ true → ⊥
+    refused_only finds none some = let clash : false ≡ true = sym none ∙ (sym (ap finds w.does.nothing_else) ∙ some) in cc
+carried_causes (Some (check name)) run w = let work = work_in run w.owed w.besides in
+    plain_causes (check name) _ run w false w.does.nothing_else (check_serves name work w.does) (check_caused name work w.does)
+carried_causes (Some (validate helper name)) run w = let work = work_in run w.owed w.besides in
+    plain_causes (validate helper name) _ run w w.does.over.has_conflicts w.does.over.nothing_else
+    (told_serves _ helper name work w.does.over.told) (told_caused _ helper name work w.does.over.told)
+carried_causes (Some (watch helper name)) run w = let work = work_in run w.owed w.besides in
+    plain_causes (watch helper name) _ run w w.does.has_conflicts w.does.nothing_else
+    (told_serves _ helper name work w.does.told) (told_caused _ helper name work w.does.told)
 carried_causes (Some (make helper plan log)) run w = let work = work_in run w.owed w.besides in
-    written_causes (Some (make helper plan log)) _ run w (λ refused. absurd (made_in_form helper plan log work w.does refused))
-    (made_signer helper plan log work w.does) (made_caused helper plan log work w.does)
-carried_causes (Some (generate seed logs events)) run w =
-    plain_causes (generate seed logs events) _ run w false w.does.nothing_else (generated_caused seed logs events (work_in run w.owed w.besides) w.does)
+    written_causes (Some (make helper plan log)) _ run w (λ some. absurd (made_finds (λ b. b.words_refused) (λ s r. refl) helper plan log work w.does some))
+    (made_signer helper plan log work w.does) (made_finds (λ b. b.disk_failed) (λ s r. refl) helper plan log work w.does)
+    (made_finds (λ b. b.shelf_full) (λ s r. refl) helper plan log work w.does)
+    (made_serves helper plan log work w.does) (made_caused helper plan log work w.does)
+carried_causes (Some (generate seed logs events)) run w = let work = work_in run w.owed w.besides in
+    plain_causes (generate seed logs events) _ run w false w.does.nothing_else (generated_serves seed logs events work w.does) (generated_caused seed logs events work w.does)
 carried_causes (Some rehearse) run r = rehearsed_causes run r
 
 -- of any run of which this is known

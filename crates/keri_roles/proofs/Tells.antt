@@ -79,7 +79,7 @@ module _ {V : Type 0} (says : V → Key → List ℕ → Sig → Option Bool) (i
 
 -- nothing was read and nothing told
 feeds_nothing : (limits : Limits) (source : Option SourceTold) (verifier : Option VerifierTold) (close : Close)
-    → FeedsEntries limits [] 0 (end_of [] (record { source = source; verifier = verifier; refused = []; close = close })) []
+    → FeedsEntries limits [] 0 (end_of [] (record { source = source; verifier = verifier; refused = []; seen = []; close = close })) []
 unfolding front
 feeds_nothing limits source verifier close = record {
   offered = [];
@@ -119,6 +119,7 @@ module _ {S V : Type 0} (left : S → Option (List ℕ)) (faults : S → ℕ) (s
         source = option_map (source_seen left faults says inquiries verifier_faults) source;
         verifier = option_map (verifier_seen left faults says inquiries verifier_faults) verifier;
         refused = [];
+        seen = [];
         close = close;
       }) core
   unfolding feeds_nothing
@@ -131,6 +132,7 @@ module _ {S V : Type 0} (left : S → Option (List ℕ)) (faults : S → ℕ) (s
     reads = rw nothing (reads_nothing source verifier unmade is);
     asked = asked_nowhere source verifier unmade;
     inquired = inquired_nothing _ nothing verifier unasked;
+    none_seen = refl;
     mode_is = refl;
     limits_are = refl;
     no_base = refl;

@@ -58,6 +58,7 @@ pub record IsChecked (name : List ℕ) (work : Work) : Type 0 where
   pub one : work.readers ≡ reader ∷ []
   pub makes : MakesSource name reader.source work.before work.after
   pub no_verifier : reader.verifier ≡ None
+  pub none_seen : reader.seen ≡ []
   pub owes : OwesChecks reader work.before.limits (work.before.holds name) work.owed
   pub none_told : work.journal ≡ no_journal
   pub nothing_else : work.besides ≡ nothing_besides

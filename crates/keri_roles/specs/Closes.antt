@@ -7,7 +7,7 @@ use Rattle.message_feed.specs.Closing.{ClosesBy}
 use Rattle.report_lines.specs.Lines.{malformed_text, read_fault_text, full_text}
 use Rattle.run_status.specs.Readers.{SourceTold}
 use Rattle.run_status.specs.declared.close.Close.{Close}
-use Rattle.run_status.specs.declared.close.Close.TheVariants.{End, Bad, ReadFault, VerifierFault, WriteFault, Malformed, Full, OutOfMemory}
+use Rattle.run_status.specs.declared.close.Close.TheVariants.{End, Bad, ReadFault, VerifierFault, SignerFault, DiskFault, WriteFault, Malformed, Full, OutOfMemory}
 
 -- The source, which had failed not yet and held this, closed the reading by its cause.
 abbrev pub Closes : ℕ → Option (List ℕ) → SourceTold → List ℕ → Reading → Close → Type 0
@@ -16,6 +16,8 @@ Closes most held source bytes reading (Bad bad) = ClosesBy {T = ℕ} most held s
 Closes most held source bytes reading ReadFault = ClosesBy {T = ℕ} most held source.left 0 source.faults bytes reading FeedReadFault
 Closes most held source bytes reading Full = ClosesBy {T = ℕ} most held source.left 0 source.faults bytes reading FeedFull
 Closes most held source bytes reading VerifierFault = ⊥
+Closes most held source bytes reading SignerFault = ⊥
+Closes most held source bytes reading DiskFault = ⊥
 Closes most held source bytes reading WriteFault = ⊥
 Closes most held source bytes reading (Malformed place) = ⊥
 Closes most held source bytes reading OutOfMemory = ⊥
@@ -27,6 +29,8 @@ ending_text reader (Bad bad) = malformed_text reader bad
 ending_text reader ReadFault = read_fault_text reader
 ending_text reader VerifierFault = []
 ending_text reader Full = full_text reader
+ending_text reader SignerFault = []
+ending_text reader DiskFault = []
 ending_text reader WriteFault = []
 ending_text reader (Malformed place) = []
 ending_text reader OutOfMemory = []
@@ -37,6 +41,8 @@ is_stopped End = false
 is_stopped (Bad bad) = false
 is_stopped ReadFault = false
 is_stopped VerifierFault = true
+is_stopped SignerFault = true
+is_stopped DiskFault = true
 is_stopped WriteFault = true
 is_stopped (Malformed place) = false
 is_stopped Full = true

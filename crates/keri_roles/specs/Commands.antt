@@ -68,12 +68,14 @@ pub record RefusesWords (work : Work) : Type 0 where
   pub owes : work.owed ≡ Some (codes "words\n")
   pub nothing_else : work.besides ≡ record nothing_besides { words_refused = true }
 
--- what was asked for was done, what it owes was written, and the status is by what was found
+-- what was asked for was done, with no disk, what it owes was written, and the status is by what was found
 pub record IsWritten (Does : Work → Type 0) (run : Run) : Type 0 where
   pub owed : Option (List ℕ)
   pub besides : Besides
   pub does : Does (work_in run owed besides)
   pub settles : Settles owed besides run
+  pub no_disk : run.disk ≡ None
+  pub no_old : run.old ≡ None
 
 -- a row for each command, of which `rehearse` alone writes as it reads
 abbrev pub CarriesOut : Option Asked → Run → Type 0
@@ -91,6 +93,8 @@ pub record IsUnbegun (run : Run) : Type 0 where
   pub none_read : run.readers ≡ []
   pub none_told : run.journal ≡ no_journal
   pub no_signer : run.signer ≡ None
+  pub no_disk : run.disk ≡ None
+  pub no_old : run.old ≡ None
   pub none_written : run.sink_after ≡ run.sink_before
   pub status : run.status ≡ 10
 

@@ -28,7 +28,7 @@ use Rattle.validator_core.specs.View.{CoreView, Stands, told_of}
 use Rattle.message_feed.specs.Closing.{Gave}
 use Rattle.message_feed.specs.Feeds.{Stream}
 use Rattle.run_status.specs.declared.close.Close.{Close}
-use Rattle.run_status.specs.declared.close.Close.TheVariants.{End, Bad, ReadFault, VerifierFault, WriteFault, Malformed, Full, OutOfMemory}
+use Rattle.run_status.specs.declared.close.Close.TheVariants.{End, Bad, ReadFault, VerifierFault, SignerFault, DiskFault, WriteFault, Malformed, Full, OutOfMemory}
 use Rattle.keri_roles.specs.Closes.{Closes, is_stopped}
 use Rattle.keri_roles.specs.Offers.{IsTurnedAway}
 use Rattle.validator_core.specs.Verdicts.{IsHeardAndOpen}
@@ -75,6 +75,8 @@ module _ (given : Given) (source : SourceTold) (verifier : VerifierTold) where
       ⊎ (Gave given.held source.left bytes × NextFindsNoRoom given.limits bytes told offered))
       × (verifier.faults ≡ 0)
   ClosesReader bytes reading items told offered VerifierFault = Gave given.held source.left bytes × Rose 0 verifier.faults
+  ClosesReader bytes reading items told offered SignerFault = ⊥
+  ClosesReader bytes reading items told offered DiskFault = ⊥
   ClosesReader bytes reading items told offered WriteFault = ⊥
   ClosesReader bytes reading items told offered (Malformed place) = ⊥
   ClosesReader bytes reading items told offered OutOfMemory = ⊥
@@ -121,6 +123,8 @@ AreAsked mode told verifier End = questions mode [] told ≡ []
 AreAsked mode told verifier (Bad bad) = questions mode [] told ≡ []
 AreAsked mode told verifier ReadFault = questions mode [] told ≡ []
 AreAsked mode told verifier Full = questions mode [] told ≡ []
+AreAsked mode told verifier SignerFault = questions mode [] told ≡ []
+AreAsked mode told verifier DiskFault = questions mode [] told ≡ []
 AreAsked mode told verifier WriteFault = questions mode [] told ≡ []
 AreAsked mode told verifier (Malformed place) = questions mode [] told ≡ []
 AreAsked mode told verifier OutOfMemory = Unit {0}
@@ -143,6 +147,7 @@ pub record Tells (mode : Mode) (given : Given) (reader : Reader) (core : CoreVie
   pub reads : Reads given reader bytes (told_of core) (map (λ j. j.message) feeds_are.offered)
   pub asked : AreAsked mode (told_of core) reader.verifier reader.close
   pub inquired : IsInquired mode (told_of core) reader.verifier
+  pub none_seen : reader.seen ≡ []
   pub mode_is : core.mode ≡ mode
   pub limits_are : core.limits ≡ given.limits
   pub no_base : core.base ≡ 0
@@ -173,6 +178,7 @@ pub record IsToldBy (mode : Mode) (given : Given) (reader : Reader) (journal : J
   pub reads : Reads given reader bytes (told_by fed.held journal.entries) (map (λ j. j.message) fed.fed.each.0.0.offered)
   pub asked : AreAsked mode (told_by fed.held journal.entries) reader.verifier reader.close
   pub inquired : IsInquired mode (told_by fed.held journal.entries) reader.verifier
+  pub none_seen : reader.seen ≡ []
   pub regular : IsRegular mode [] (told_by fed.held journal.entries)
   pub within : IsWithin given.limits [] (told_by fed.held journal.entries)
   pub settled : AreSettled mode fed.held (told_by fed.held journal.entries)

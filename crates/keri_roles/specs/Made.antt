@@ -22,13 +22,14 @@ use Rattle.plan_answer.specs.Asked.{LogTold}
 use Rattle.report_lines.specs.Lines.{plan_text}
 use Rattle.run_status.specs.declared.besides.Besides.{Besides}
 use Rattle.run_status.specs.declared.close.Close.{Close}
-use Rattle.run_status.specs.declared.close.Close.TheVariants.{End, Bad, ReadFault, VerifierFault, WriteFault, Malformed, Full, OutOfMemory}
+use Rattle.run_status.specs.declared.close.Close.TheVariants.{End, Bad, ReadFault, VerifierFault, SignerFault as SignerClose, DiskFault, WriteFault, Malformed, Full, OutOfMemory}
 use Rattle.run_status.specs.Readers.{Reader, SourceTold}
 use Rattle.run_status.specs.Settling.{refuses}
 use Rattle.run_status.specs.Status.{nothing_besides}
 use Rattle.keri_roles.specs.CoreTold.{IsToldBy, core_of, given_in}
 use Rattle.keri_roles.specs.NoJournal.{no_journal}
-use Rattle.keri_roles.specs.Run.{AreMakings, SignerTold, Work}
+use Rattle.run_outside.specs.Makings.{AreMakings}
+use Rattle.keri_roles.specs.Run.{SignerTold, Work}
 use Rattle.keri_roles.specs.declared.make.MakeWords.{MakeWords}
 use Rattle.keri_roles.specs.declared.providers.Providers.{Providers}
 
@@ -55,6 +56,7 @@ pub record ReadsWhole (most : ℕ) (held : Option (List ℕ)) (reader : Reader) 
   pub read : WasRead most held reader.source bytes reader.close
   pub no_verifier : reader.verifier ≡ None
   pub none_refused : reader.refused ≡ []
+  pub none_seen : reader.seen ≡ []
 
 -- a reader of what a source holds, where it was made
 abbrev pub ReadsHeld : {S : Type 0} → (S → Option (List ℕ)) → ℕ → Option S → Reader → List ℕ → Type 0
@@ -71,6 +73,8 @@ is_out End = false
 is_out (Bad bad) = false
 is_out ReadFault = false
 is_out VerifierFault = false
+is_out SignerClose = false
+is_out DiskFault = false
 is_out WriteFault = false
 is_out (Malformed place) = false
 is_out Full = false
@@ -81,6 +85,8 @@ is_through End = true
 is_through (Bad bad) = true
 is_through ReadFault = false
 is_through VerifierFault = false
+is_through SignerClose = false
+is_through DiskFault = false
 is_through WriteFault = false
 is_through (Malformed place) = false
 is_through Full = false

@@ -18,7 +18,7 @@ use Rattle.validator_core.specs.View.{Follows, told_of, open_of}
 use Rattle.message_feed.specs.declared.feed_close.FeedClose.{FeedClose}
 use Rattle.message_feed.specs.declared.feed_close.FeedClose.TheVariants as feed
 use Rattle.run_status.specs.declared.close.Close.{Close}
-use Rattle.run_status.specs.declared.close.Close.TheVariants.{End, Bad, ReadFault, VerifierFault, WriteFault, Malformed, Full, OutOfMemory}
+use Rattle.run_status.specs.declared.close.Close.TheVariants.{End, Bad, ReadFault, VerifierFault, SignerFault, DiskFault, WriteFault, Malformed, Full, OutOfMemory}
 use Rattle.validator_core.specs.Verdicts.{AsksOpen}
 use Rattle.keri_roles.specs.declared.validator.Validator.{Validator}
 
@@ -87,6 +87,8 @@ module _ {V : Type 0} (says : V → Key → List ℕ → Sig → Option Bool) (i
   HasStopped first now End messages = ⊥
   HasStopped first now (Bad bad) messages = ⊥
   HasStopped first now ReadFault messages = ⊥
+  HasStopped first now SignerFault messages = ⊥
+  HasStopped first now DiskFault messages = ⊥
   HasStopped first now WriteFault messages = ⊥
   HasStopped first now (Malformed place) messages = ⊥
 

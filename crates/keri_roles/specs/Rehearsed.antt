@@ -71,9 +71,11 @@ module _ {O S K : Type 0} (left : S → Option (List ℕ)) (faults : S → ℕ) 
 pub record IsRehearsed (run : Run) : Type 0 where
   pub reader : Reader
   pub served : Served
-  pub one : run.readers ≡ record reader { verifier = None; refused = []; close = serving_close served } ∷ []
+  pub one : run.readers ≡ record reader { verifier = None; refused = []; seen = []; close = serving_close served } ∷ []
   pub makes : MakesSource (codes "-") reader.source run.before run.after
   pub serves : Serves run.before.limits.stream_bytes (run.before.holds (codes "-")) reader.source run.sink_before run.sink_after served
   pub none_told : run.journal ≡ no_journal
   pub no_signer : run.signer ≡ None
+  pub no_disk : run.disk ≡ None
+  pub no_old : run.old ≡ None
   pub status : run.status ≡ serving_status served

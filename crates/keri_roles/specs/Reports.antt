@@ -5,7 +5,7 @@ use Rattle.report_lines.specs.Lines.{refused_text, malformed_text, read_fault_te
 use Rattle.validator_core.specs.View.{CoreView}
 use Rattle.report_lines.specs.Report.{IsStandingText}
 use Rattle.run_status.specs.declared.close.Close.{Close}
-use Rattle.run_status.specs.declared.close.Close.TheVariants.{End, Bad, ReadFault, VerifierFault, WriteFault, Malformed, Full, OutOfMemory}
+use Rattle.run_status.specs.declared.close.Close.TheVariants.{End, Bad, ReadFault, VerifierFault, SignerFault, DiskFault, WriteFault, Malformed, Full, OutOfMemory}
 
 -- the lines of the messages that a reader refused
 abbrev pub refused_lines : ℕ → List Refusal → List ℕ
@@ -18,6 +18,8 @@ malformed_line reader End = []
 malformed_line reader ReadFault = []
 malformed_line reader VerifierFault = []
 malformed_line reader Full = []
+malformed_line reader SignerFault = []
+malformed_line reader DiskFault = []
 malformed_line reader WriteFault = []
 malformed_line reader (Malformed place) = []
 malformed_line reader OutOfMemory = []
@@ -27,6 +29,8 @@ abbrev pub stopped_line : ℕ → Close → List ℕ
 stopped_line reader ReadFault = read_fault_text reader
 stopped_line reader VerifierFault = verifier_fault_text reader
 stopped_line reader Full = full_text reader
+stopped_line reader SignerFault = []
+stopped_line reader DiskFault = []
 stopped_line reader WriteFault = []
 stopped_line reader (Malformed place) = []
 stopped_line reader OutOfMemory = memory_text reader

@@ -1,6 +1,5 @@
 -- What is seen of a run, and of what a command came to before that was written.
-use Rattle.std.specs.Prelude.{◌≡◌, ◌≢◌, ℕ, Bool, true, false, List, [], ◌∷◌, ◌++◌, map, option_map, is_none, IsNone, MatchOption, String, string_bytes}
-use Rattle.std.specs.List.{list_any}
+use Rattle.std.specs.Prelude.{◌≡◌, ◌≢◌, ℕ, ◌⊎◌, true, List, [], ◌∷◌, map, option_map, is_none, IsNone, MatchOption, String, string_bytes}
 use Rattle.std.specs.declared.option.Option.{Option}
 use Rattle.std.specs.declared.option.Option.TheVariants.{None, Some}
 use Rattle.keri_specs.specs.Causes.{Rose}
@@ -8,14 +7,14 @@ use Rattle.command_words.specs.Words.{Asked, asks, check, generate, make, rehear
 use Rattle.cesr_codes.specs.declared.key.Key.{Key}
 use Rattle.cesr_codes.specs.declared.sig.Sig.{Sig}
 use Rattle.keri_outside.specs.declared.signing.Signing.{Signing}
+use Rattle.run_outside.specs.Makings.{AreMakings}
 use Rattle.run_outside.specs.Told.{Told, making}
-use Rattle.run_outside.specs.declared.making.Making.{Making}
 use Rattle.run_outside.specs.declared.making.MakingKind.TheVariants.{Source as SourceKind, Verifier as VerifierKind}
 use Rattle.journal.specs.declared.journal.Journal.{Journal}
 use Rattle.run_status.specs.declared.close.Close.{Close}
-use Rattle.run_status.specs.declared.close.Close.TheVariants.{ReadFault, VerifierFault, OutOfMemory}
+use Rattle.run_status.specs.declared.close.Close.TheVariants.{ReadFault, VerifierFault, SignerFault, DiskFault, WriteFault, OutOfMemory}
 use Rattle.run_status.specs.declared.besides.Besides.{Besides}
-use Rattle.run_status.specs.Readers.{Reader, SinkTold}
+use Rattle.run_status.specs.Readers.{HasClose, Reader, SinkTold}
 use Rattle.run_status.specs.Settling.{FaultsHaveCauses, SettlesBy}
 use Rattle.keri_roles.specs.declared.outcome.Outcome.{Outcome}
 
@@ -23,6 +22,11 @@ use Rattle.keri_roles.specs.declared.outcome.Outcome.{Outcome}
 pub record SignerTold : Type 0 where
   pub gives : Key → List ℕ → Option Sig
   pub signings : Option (List Signing)
+  pub faults : ℕ
+
+-- what a disk tells of its file as it reads, where it tells: its bytes, and how often it has failed
+pub record DiskSeen : Type 0 where
+  pub file : Option (List ℕ)
   pub faults : ℕ
 
 -- What a command did with the outside: its readers, its signer, where it made one, what was told, the text that it owes, unless
@@ -36,7 +40,7 @@ pub record Work : Type 0 where
   pub owed : Option (List ℕ)
   pub besides : Besides
 
--- what a run did
+-- what a run did: its disk is that of a shelf, and the old one that of a shelf whose list was brought over, where it made them
 pub record Run : Type 0 where
   pub before : Told
   pub after : Told
@@ -44,26 +48,14 @@ pub record Run : Type 0 where
   pub sink_after : SinkTold
   pub readers : List Reader
   pub signer : Option SignerTold
+  pub disk : Option DiskSeen
+  pub old : Option DiskSeen
   pub journal : Journal
   pub status : ℕ
 
 -- the work of a run
 abbrev pub work_in : Run → Option (List ℕ) → Besides → Work
 work_in run owed besides = record { before = run.before; after = run.after; readers = run.readers; signer = run.signer; journal = run.journal; owed = owed; besides = besides }
-
--- these makings came behind those of before, where they are told
-abbrev pub Noted : Option (List Making) → Option (List Making) → List Making → Type 0
-Noted old None makings = Unit {0}
-Noted old (Some new) makings = (earlier : List Making) × (old ≡ Some earlier) × (new ≡ earlier ++ makings)
-
-abbrev pub some_failed : List Making → Bool
-some_failed makings = list_any (λ m. m.failed) makings
-
--- These are a command's makings, in order, and there are no others. The count rose where one failed, and stood still where none did.
-pub record AreMakings (makings : List Making) (before after : Told) : Type 0 where
-  pub noted : Noted before.makings after.makings makings
-  pub rose : some_failed makings ≡ true → Rose before.faults after.faults
-  pub kept : some_failed makings ≡ false → after.faults ≡ before.faults
 
 -- the one making is the source of a name, and it failed where there is none
 abbrev pub MakesSource : {S : Type 0} → List ℕ → Option S → Told → Told → Type 0
@@ -100,12 +92,19 @@ SignerFails (Some (generate seed logs events)) run = ⊥
 SignerFails (Some rehearse) run = ⊥
 SignerFails (Some (make helper plan log)) run = MatchOption run.signer (Rose run.before.faults run.after.faults) (λ s. Rose 0 s.faults)
 
+-- no command has a disk yet, or a shelf
+abbrev pub DiskFails : Option Asked → Run → Type 0
+DiskFails asked run = ⊥
+
 -- each fault that is answered has its cause
 pub record HasCauses (asked : Option Asked) (run : Run) : Type 0 where
   pub two : run.status ≡ 2 → IsNone asked
-  pub signer_failed : Bool
-  pub faults : FaultsHaveCauses run.readers signer_failed run.sink_before run.sink_after run.status
-  pub signer : signer_failed ≡ true → SignerFails asked run
+  pub besides : Besides
+  pub faults : FaultsHaveCauses run.readers besides run.sink_before run.sink_after run.status
+  pub signer : (besides.signer_failed ≡ true) ⊎ HasClose SignerFault run.readers → SignerFails asked run
+  pub disk : (besides.disk_failed ≡ true) ⊎ HasClose DiskFault run.readers → DiskFails asked run
+  pub sink : HasClose WriteFault run.readers → Rose run.sink_before.faults run.sink_after.faults
+  pub shelf : besides.shelf_full ≡ true → ⊥
   pub readers : AreCaused run.before run.after run.readers
 
 -- the words of a run ask for this, where they are in the form

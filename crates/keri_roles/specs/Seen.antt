@@ -4,11 +4,12 @@ use Rattle.std.specs.declared.option.Option.{Option}
 use Rattle.std.specs.declared.option.Option.TheVariants.{None}
 use Rattle.cesr_codes.specs.declared.key.Key.{Key}
 use Rattle.cesr_codes.specs.declared.sig.Sig.{Sig}
+use Rattle.keri_disk.specs.Images.{DiskTold}
 use Rattle.keri_outside.specs.declared.inquiry.Inquiry.{Inquiry}
 use Rattle.keri_outside.specs.declared.signing.Signing.{Signing}
 use Rattle.run_outside.specs.Told.{Told}
 use Rattle.run_status.specs.Readers.{reader_seen, sink_seen}
-use Rattle.keri_roles.specs.Run.{Run, SignerTold, Work}
+use Rattle.keri_roles.specs.Run.{DiskSeen, Run, SignerTold, Work}
 use Rattle.keri_roles.specs.declared.done.Done.{Done}
 use Rattle.keri_roles.specs.declared.outcome.Outcome.{Outcome}
 use Rattle.keri_roles.specs.declared.outcome.SignedOutcome.{SignedOutcome}
@@ -20,6 +21,11 @@ module _ {G : Type 0} (gives : G → Key → List ℕ → Option Sig) (signings 
 
   abbrev pub signer_seen : Option G → Option SignerTold
   signer_seen signer = option_map signer_told signer
+
+-- what is seen of a disk
+module _ {D : Type 0} (told : D → DiskTold) where
+  abbrev pub disk_seen : Option D → Option DiskSeen
+  disk_seen disk = option_map (λ d. record { file = (told d).file; faults = (told d).faults }) disk
 
 module _ {O S V : Type 0} (left : S → Option (List ℕ)) (faults : S → ℕ) (says : V → Key → List ℕ → Sig → Option Bool) (inquiries : V → Option (List Inquiry)) (verifier_faults : V → ℕ) where
   -- what is seen of a command's work: of the outside before and after it, and of what it came to
@@ -40,9 +46,9 @@ module _ {O S V : Type 0} (left : S → Option (List ℕ)) (faults : S → ℕ) 
     signed_over told old new signed =
         record (work_over told old new signed.outcome) { signer = signer_seen gives signings signer_faults signed.signer }
 
-    module _ {K : Type 0} (written : K → Option (List ℕ)) (sink_faults : K → ℕ) (told : O → Told) (sink : O → K) where
+    module _ {D K : Type 0} (disk_told : D → DiskTold) (written : K → Option (List ℕ)) (sink_faults : K → ℕ) (told : O → Told) (sink : O → K) where
       -- what is seen of a run: of the outside before and after it, and of what it hands back
-      abbrev pub run_over : O → O → Done O S V G K → Run
+      abbrev pub run_over : O → O → Done O S V G D K → Run
       run_over old new done = record {
         before = told old;
         after = told new;
@@ -50,6 +56,8 @@ module _ {O S V : Type 0} (left : S → Option (List ℕ)) (faults : S → ℕ) 
         sink_after = sink_seen written sink_faults (sink new);
         readers = map (reader_seen left faults says inquiries verifier_faults) done.readers.items;
         signer = signer_seen gives signings signer_faults done.signer;
+        disk = disk_seen disk_told done.disk;
+        old = disk_seen disk_told done.old;
         journal = done.journal;
         status = done.status;
       }

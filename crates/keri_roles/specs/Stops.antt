@@ -5,7 +5,7 @@ use Rattle.journal.specs.History.{Triple}
 use Rattle.validator_core.specs.declared.asked_verdicts.VerdictFault.{VerdictFault}
 use Rattle.validator_core.specs.declared.asked_verdicts.VerdictFault.TheVariants.{VerifierFault as VerifierFailed, OutOfMemory as NoMemory}
 use Rattle.run_status.specs.declared.close.Close.{Close}
-use Rattle.run_status.specs.declared.close.Close.TheVariants.{End, Bad, ReadFault, VerifierFault, WriteFault, Malformed, Full, OutOfMemory}
+use Rattle.run_status.specs.declared.close.Close.TheVariants.{End, Bad, ReadFault, VerifierFault, SignerFault, DiskFault, WriteFault, Malformed, Full, OutOfMemory}
 
 -- the verifier's count of faults rose, and a question is open, or there was no memory
 abbrev pub StopsAsking : ℕ → ℕ → List Triple → Close → Type 0
@@ -15,6 +15,8 @@ StopsAsking faults_old faults_new unheard End = ⊥
 StopsAsking faults_old faults_new unheard (Bad bad) = ⊥
 StopsAsking faults_old faults_new unheard ReadFault = ⊥
 StopsAsking faults_old faults_new unheard Full = ⊥
+StopsAsking faults_old faults_new unheard SignerFault = ⊥
+StopsAsking faults_old faults_new unheard DiskFault = ⊥
 StopsAsking faults_old faults_new unheard WriteFault = ⊥
 StopsAsking faults_old faults_new unheard (Malformed place) = ⊥
 

@@ -11,6 +11,7 @@ use crate::reads::Reads;
 use crate::works::Works;
 use crate::{Close, ReaderEnd};
 use keri_outside::{Failed, Limits, Source, Verifier};
+use lists::Items;
 use message_feed::feed_messages;
 use report_lines::read_fault_line;
 use run_outside::Outside;
@@ -62,6 +63,7 @@ fn check_file<O: Outside>(
     ensures checks { ChecksFile name.now (O.told outside.old)
         (⟦<O as Works>⟧.reader result.0) (string_bytes result.1) }
     ensures no_verifier { result.0.verifier ≡ None }
+    ensures none_seen { result.0.seen ≡ [] }
     ensures sink { O.sink outside.new ≡ O.sink outside.old }
 {
     let limits = outside.limits();
@@ -75,6 +77,7 @@ fn check_file<O: Outside>(
 fn check_nothing<S: Source + Drop, V: Verifier + Drop>(alloc: Global) -> (ReaderEnd<S, V>, String)
     ensures none { result.0.source ≡ None }
     ensures no_verifier { result.0.verifier ≡ None }
+    ensures none_seen { result.0.seen ≡ [] }
     ensures checks { ChecksAny (⟦<ReaderEnd<S, V> as Reads>⟧.reader result.0) (string_bytes result.1) }
 {
     let (close, line) = match read_fault_line(alloc, 0) {
@@ -85,6 +88,7 @@ fn check_nothing<S: Source + Drop, V: Verifier + Drop>(alloc: Global) -> (Reader
         source: None,
         verifier: None,
         refused: Vec::new(alloc),
+        seen: Items::new(alloc),
         close,
     };
     (end, line)
@@ -99,6 +103,7 @@ fn check_stream<S: Source + Drop, V: Verifier + Drop>(
     requires { S.faults source ≡ 0 }
     ensures source { IsSome result.0.source }
     ensures no_verifier { result.0.verifier ≡ None }
+    ensures none_seen { result.0.seen ≡ [] }
     ensures checks { ChecksHeld limits (S.left source)
         (⟦<ReaderEnd<S, V> as Reads>⟧.reader result.0) (string_bytes result.1) }
 {
@@ -114,6 +119,7 @@ fn check_stream<S: Source + Drop, V: Verifier + Drop>(
         source: Some(source),
         verifier: None,
         refused,
+        seen: Items::new(alloc),
         close,
     };
     (end, lines)

@@ -107,6 +107,8 @@ fn end_line(alloc: Global, close: Close) -> Result<String, AllocError>
         Close::Full => full_line(alloc, 0),
         Close::End
         | Close::VerifierFault
+        | Close::SignerFault
+        | Close::DiskFault
         | Close::WriteFault
         | Close::Malformed(_)
         | Close::OutOfMemory => Ok(String::new(alloc)),

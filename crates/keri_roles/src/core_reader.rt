@@ -10,6 +10,7 @@ use crate::validator::Validator;
 use crate::{Close, ReaderEnd};
 use journal::Mode;
 use keri_outside::{Limits, Source, Verifier};
+use lists::Items;
 use message_feed::feed_messages;
 use std::alloc::Global;
 use validator_core::Core;
@@ -72,6 +73,7 @@ fn read_nothing<S: Source + Drop, V: Verifier + Drop>(
         source,
         verifier,
         refused: Vec::new(alloc),
+        seen: Items::new(alloc),
         close,
     };
     CoreReader {
@@ -110,6 +112,7 @@ fn read_stream<S: Source + Drop, V: Verifier + Drop>(
         source: Some(source),
         verifier: Some(verifier),
         refused,
+        seen: Items::new(alloc),
         close,
     };
     CoreReader { reader, core }

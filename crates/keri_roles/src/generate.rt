@@ -54,6 +54,7 @@ pub(crate) fn generate<O: Outside>(
         source: None,
         verifier: None,
         refused: reader.refused,
+        seen: reader.seen,
         close,
     };
     readers.push(end).unwrap();

@@ -113,6 +113,8 @@ fn finish<O: Outside>(
     ensures readers { result.readers ≡ outcome.outcome.readers }
     ensures journal { result.journal ≡ outcome.outcome.journal }
     ensures signer { result.signer ≡ outcome.signer }
+    ensures no_disk { result.disk ≡ None }
+    ensures no_old { result.old ≡ None }
     ensures settles { IsSettled outcome.outcome (⟦<O as Runs>⟧.run outside.old outside.new result) }
     ensures told { O.told outside.new ≡ O.told outside.old }
 {
@@ -129,6 +131,8 @@ fn finish<O: Outside>(
         journal,
         readers,
         signer,
+        disk: None,
+        old: None,
     }
 }
 
@@ -148,12 +152,16 @@ fn unbegun<O: Outside>(alloc: Global) -> Done<O>
     ensures readers { result.readers.items ≡ [] }
     ensures journal { result.journal ≡ no_journal }
     ensures signer { result.signer ≡ None }
+    ensures no_disk { result.disk ≡ None }
+    ensures no_old { result.old ≡ None }
 {
     Done {
         status: NO_MEMORY,
         journal: nothing_told(alloc),
         readers: Vec::new(alloc),
         signer: None,
+        disk: None,
+        old: None,
     }
 }
 
@@ -172,5 +180,7 @@ fn refuse<O: Outside>(alloc: Global, outside: &mut O) -> Done<O>
         journal: nothing_told(alloc),
         readers,
         signer: None,
+        disk: None,
+        old: None,
     }
 }

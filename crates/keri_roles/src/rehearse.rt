@@ -10,6 +10,7 @@ use crate::nothing_told::nothing_told;
 use crate::serves::Serves;
 use crate::{Close, Done, ReaderEnd, Runs};
 use keri_outside::{Failed, Limits};
+use lists::Items;
 use run_outside::Outside;
 use std::alloc::Global;
 use verifier_link::{Served, serve_rehearsal};
@@ -31,6 +32,7 @@ pub(crate) fn rehearse<O: Outside>(
         source,
         verifier: None,
         refused: Vec::new(alloc),
+        seen: Items::new(alloc),
         close: serving_close(served),
     };
     readers.push(end).unwrap();
@@ -39,6 +41,8 @@ pub(crate) fn rehearse<O: Outside>(
         journal: nothing_told(alloc),
         readers,
         signer: None,
+        disk: None,
+        old: None,
     }
 }
 

@@ -70,8 +70,11 @@ fn stopped_text(alloc: Global, close: Close) -> Result<String, AllocError>
         Close::VerifierFault => verifier_fault_line(alloc, 0),
         Close::Full => full_line(alloc, 0),
         Close::OutOfMemory => Err(AllocError),
-        Close::End | Close::Bad(_) | Close::WriteFault | Close::Malformed(_) => {
-            Ok(String::new(alloc))
-        }
+        Close::End
+        | Close::Bad(_)
+        | Close::SignerFault
+        | Close::DiskFault
+        | Close::WriteFault
+        | Close::Malformed(_) => Ok(String::new(alloc)),
     }
 }

@@ -5,6 +5,7 @@ ghost use Rattle.keri_roles.specs.Made.{ReadsHeld, ReadsNothing, ReadsWhole, clo
 use crate::reads::Reads;
 use crate::{Close, ReaderEnd};
 use keri_outside::{Source, Verifier};
+use lists::Items;
 use message_feed::{SourceText, TextClose, read_text};
 use std::alloc::Global;
 
@@ -50,6 +51,7 @@ fn read_source<S: Source + Drop, V: Verifier + Drop>(
             source: Some(source),
             verifier: None,
             refused: Vec::new(alloc),
+            seen: Items::new(alloc),
             close: close_of(close),
         },
         text: bytes,
@@ -66,6 +68,7 @@ fn read_nothing<S: Source + Drop, V: Verifier + Drop>(alloc: Global) -> TextRead
             source: None,
             verifier: None,
             refused: Vec::new(alloc),
+            seen: Items::new(alloc),
             close: Close::ReadFault,
         },
         text: Vec::new(alloc),

@@ -8,6 +8,7 @@ pub enum MakingKind {
     Source,
     Verifier,
     Signer,
+    Disk,
 }
 
 /// A making: what, under which name, and whether it failed.

@@ -1,9 +1,11 @@
 //! The outside in memory.
 ghost use Rattle.std.specs.Prelude.{◌≡◌, [], Some};
 
+use crate::disks::disk_of;
 use crate::files::source_of;
 use crate::helpers::{signer_of, verifier_of};
-use crate::{Making, MakingKind, MemFile, MemHelper, Outside};
+use crate::{Making, MakingKind, MemDiskFile, MemFile, MemHelper, Outside};
+use keri_disk::MemDisk;
 use keri_outside::{Failed, Limits, MemSigner, MemSink, MemSource, MemVerifier};
 use lists::Items;
 use std::alloc::{AllocError, Global};
@@ -14,6 +16,7 @@ pub struct MemOutside {
     alloc: Global,
     files: Items<MemFile>,
     helpers: Items<MemHelper>,
+    disks: Items<MemDiskFile>,
     failing: Items<u64>,
     calls: u64,
     makings: Items<Making>,
@@ -29,8 +32,9 @@ impl MemOutside {
     ghost use Rattle.run_outside.specs.Memory.{outside_told, outside_sink};
     ghost use Rattle.run_outside.specs.Told.{Grows, first_told, making};
     ghost use Rattle.run_outside.specs.Helpers.{says_under, gives_under};
+    ghost use Rattle.run_outside.specs.Disks.{stored_under};
 
-    /// An outside with these files, this sink and no helpers. Its makings of the numbers in `failing`, counted from 0, fail.
+    /// An outside with these files, this sink, no helpers and no disks. Its makings of the numbers in `failing`, counted from 0, fail.
     pub fn new(
         alloc: Global,
         files: Items<MemFile>,
@@ -45,6 +49,7 @@ impl MemOutside {
             alloc,
             files,
             helpers: Items::new(alloc),
+            disks: Items::new(alloc),
             failing,
             calls: 0,
             makings: Items::new(alloc),
@@ -62,6 +67,14 @@ impl MemOutside {
         ensures sink { outside_sink result ≡ outside_sink self }
     {
         MemOutside { helpers, ..self }
+    }
+
+    /// It with these files of disks.
+    pub fn with_disks(self, disks: Items<MemDiskFile>) -> MemOutside
+        ensures told { outside_told result ≡ record (outside_told self) { stored = stored_under disks } }
+        ensures sink { outside_sink result ≡ outside_sink self }
+    {
+        MemOutside { disks, ..self }
     }
 
     /// The sink.
@@ -132,6 +145,8 @@ impl Outside for MemOutside {
 
     type Signer = MemSigner;
 
+    type Disk = MemDisk;
+
     type Sink = MemSink;
 
     ghost told = { outside_told };
@@ -174,6 +189,17 @@ impl Outside for MemOutside {
                 Ok(signer)
             }
             _ => Err(self.fail(MakingKind::Signer, name)),
+        }
+    }
+
+    fn disk(&mut self, name: &str) -> Result<MemDisk, Failed> {
+        let fails = self.next_fails();
+        match disk_of(self.alloc, self.disks.as_slice(), name) {
+            Some(disk) if !fails => {
+                self.note(MakingKind::Disk, name, false);
+                Ok(disk)
+            }
+            _ => Err(self.fail(MakingKind::Disk, name)),
         }
     }
 

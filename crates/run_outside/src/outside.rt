@@ -3,8 +3,9 @@ ghost use Rattle.std.specs.Prelude.{◌≡◌, IfOk};
 ghost use Rattle.std.specs.Borrow.{Lends, sem};
 ghost use Rattle.keri_specs.specs.Told.{HasNone};
 ghost use Rattle.run_outside.specs.Told.{Told, Makes};
-ghost use Rattle.run_outside.specs.declared.making.MakingKind.TheVariants.{Source as SourceKind, Verifier as VerifierKind, Signer as SignerKind};
+ghost use Rattle.run_outside.specs.declared.making.MakingKind.TheVariants.{Source as SourceKind, Verifier as VerifierKind, Signer as SignerKind, Disk as DiskKind};
 
+use keri_disk::Disk;
 use keri_outside::{Failed, Limits, Signer, Sink, Source, Verifier};
 
 /// The objects that a program is given. What it gives out wasn't asked yet, and starts with a count of no faults.
@@ -14,6 +15,8 @@ pub trait Outside {
     type Verifier: Verifier + Drop;
 
     type Signer: Signer + Drop;
+
+    type Disk: Disk + Drop;
 
     type Sink: Sink + Drop;
 
@@ -46,6 +49,13 @@ pub trait Outside {
         ensures gives { IfOk result (λ signer. Self.Signer.gives signer ≡ (told self.old).gives name.now) }
         ensures unasked { IfOk result (λ signer. HasNone (Self.Signer.signings signer)) }
         ensures none_yet { IfOk result (λ signer. Self.Signer.faults signer ≡ 0) }
+        ensures same_sink { sink self.new ≡ sink self.old };
+
+    /// Makes the disk of a name. What a crash may leave of its file isn't said until it is synced.
+    fn disk(&mut self, name: &str) -> Result<Self::Disk, Failed>
+        ensures makes { Makes DiskKind name.now (told self.old) (told self.new) result }
+        ensures holds { IfOk result (λ disk. (Self.Disk.told disk).file ≡ (told self.old).stored name.now) }
+        ensures none_yet { IfOk result (λ disk. (Self.Disk.told disk).faults ≡ 0) }
         ensures same_sink { sink self.new ≡ sink self.old };
 
     /// Lends the sink.

@@ -1,13 +1,16 @@
 -- What is seen of a run's readers and of its sink.
-use Rattle.std.specs.Prelude.{◌≡◌, ℕ, ◌⊎◌, Bool, true, false, List, [], ◌∷◌, option_map}
+use Rattle.std.specs.Prelude.{◌≡◌, ℕ, ◌⊎◌, Bool, true, List, [], ◌∷◌, option_map}
 use Rattle.std.specs.declared.option.Option.{Option}
+use Rattle.cesr_codes.specs.declared.digest.Digest.{Digest}
 use Rattle.cesr_codes.specs.declared.key.Key.{Key}
 use Rattle.cesr_codes.specs.declared.sig.Sig.{Sig}
 use Rattle.keri_outside.specs.declared.inquiry.Inquiry.{Inquiry}
 use Rattle.journal.specs.declared.refusal.Refusal.{Refusal}
 use Rattle.run_status.specs.declared.close.Close.{Close}
-use Rattle.run_status.specs.declared.close.Close.TheVariants.{End, Bad, ReadFault, VerifierFault, WriteFault, Malformed, Full, OutOfMemory}
+use Rattle.run_status.specs.declared.close.Close.TheVariants.{End, Bad, ReadFault, VerifierFault, SignerFault, DiskFault, WriteFault, Malformed, Full, OutOfMemory}
+use Rattle.run_status.specs.declared.findings.Findings.{Findings}
 use Rattle.run_status.specs.declared.reader_end.ReaderEnd.{ReaderEnd}
+use Rattle.run_status.specs.Status.{nothing}
 
 -- what objects of the outside tell: what a source has left, what a verifier says and what it was asked, what was written;
 -- and how often each has failed
@@ -29,47 +32,22 @@ pub record Reader : Type 0 where
   pub source : Option SourceTold
   pub verifier : Option VerifierTold
   pub refused : List Refusal
+  pub seen : List Digest
   pub close : Close
 
-abbrev pub is_bad : Close → Bool
-is_bad (Bad bad) = true
-is_bad End = false
-is_bad ReadFault = false
-is_bad VerifierFault = false
-is_bad Full = false
-is_bad WriteFault = false
-is_bad (Malformed place) = false
-is_bad OutOfMemory = false
-
-abbrev pub is_read_fault : Close → Bool
-is_read_fault ReadFault = true
-is_read_fault End = false
-is_read_fault (Bad bad) = false
-is_read_fault VerifierFault = false
-is_read_fault Full = false
-is_read_fault WriteFault = false
-is_read_fault (Malformed place) = false
-is_read_fault OutOfMemory = false
-
-abbrev pub is_full : Close → Bool
-is_full Full = true
-is_full End = false
-is_full (Bad bad) = false
-is_full ReadFault = false
-is_full VerifierFault = false
-is_full WriteFault = false
-is_full (Malformed place) = false
-is_full OutOfMemory = false
-
-abbrev pub is_verifier_fault : Close → Bool
-is_verifier_fault VerifierFault = true
-is_verifier_fault End = false
-is_verifier_fault (Bad bad) = false
-is_verifier_fault ReadFault = false
-is_verifier_fault Full = false
-is_verifier_fault WriteFault = false
-is_verifier_fault (Malformed place) = false
-is_verifier_fault OutOfMemory = false
+-- what a reader's close is found to be: that of `rehearse`, which alone closes `Malformed`, has a status of its own, and where
+-- there was no memory no text is owed
+abbrev pub close_found : Close → Findings
+close_found End = nothing
+close_found (Bad bad) = record nothing { refused = true }
+close_found ReadFault = record nothing { source_failed = true }
+close_found VerifierFault = record nothing { verifier_failed = true }
+close_found SignerFault = record nothing { signer_failed = true }
+close_found DiskFault = record nothing { disk_failed = true }
+close_found WriteFault = record nothing { sink_failed = true }
+close_found (Malformed place) = nothing
+close_found Full = record nothing { limit_reached = true }
+close_found OutOfMemory = nothing
 
 -- a reader closed so
 abbrev pub HasClose : Close → List Reader → Type 0
@@ -88,6 +66,7 @@ module _ {S V : Type 0} (left : S → Option (List ℕ)) (faults : S → ℕ) (s
     source = option_map source_seen end.source;
     verifier = option_map verifier_seen end.verifier;
     refused = end.refused.items;
+    seen = end.seen;
     close = end.close;
   }
 

@@ -5,32 +5,38 @@ use Rattle.std.specs.declared.option.Option.{Option}
 use Rattle.std.specs.declared.option.Option.TheVariants.{None, Some}
 use Rattle.keri_specs.specs.Causes.{Rose}
 use Rattle.keri_specs.specs.Told.{after}
+use Rattle.cesr_codes.specs.declared.digest.Digest.{Digest}
 use Rattle.journal.specs.declared.refusal.Refusal.{Refusal}
 use Rattle.run_status.specs.declared.besides.Besides.{Besides}
 use Rattle.run_status.specs.declared.close.Close.{Close}
-use Rattle.run_status.specs.declared.close.Close.TheVariants.{ReadFault, VerifierFault, Full}
+use Rattle.run_status.specs.declared.close.Close.TheVariants.{ReadFault, VerifierFault, SignerFault, DiskFault, WriteFault, Full}
 use Rattle.run_status.specs.declared.findings.Findings.{Findings}
-use Rattle.run_status.specs.Readers.{Reader, SinkTold, HasClose, is_read_fault, is_verifier_fault, is_full, is_bad}
+use Rattle.run_status.specs.Readers.{Reader, SinkTold, HasClose, close_found}
 use Rattle.run_status.specs.Status.{status_of}
 
 -- a reader that closed so and refused these messages refused its stream or a message
 abbrev pub refuses : Close → List Refusal → Bool
-refuses close refused = is_bad close || not (length refused == 0)
+refuses close refused = (close_found close).refused || not (length refused == 0)
 
--- What is found where there was memory: of putting the text whether the sink failed; of the readers whether one closed by a fault of
--- its source, one by a fault of its verifier, and one by a limit; whether one refused its stream or a message, or a plan was refused; and
--- what was found besides.
+-- to a reader that saw these digests an event came for a place at which another one is stored
+abbrev pub saw_another : List Digest → Bool
+saw_another seen = not (length seen == 0)
+
+-- What is found where there was memory: of putting the text whether the sink failed; of the readers whether one closed by a fault
+-- or a limit, whether to one an event came for a place at which another is stored, and whether one refused its stream or a
+-- message; and what was found besides.
 abbrev pub found : Besides → List Reader → Bool → Findings
 found besides readers sink_failed = record {
   no_memory = false;
-  sink_failed = sink_failed;
+  sink_failed = list_any (λ r. (close_found r.close).sink_failed) readers || sink_failed;
   words_refused = besides.words_refused;
-  source_failed = list_any (λ r. is_read_fault r.close) readers;
-  verifier_failed = list_any (λ r. is_verifier_fault r.close) readers;
-  signer_failed = besides.signer_failed;
-  limit_reached = list_any (λ r. is_full r.close) readers;
-  conflict_found = besides.conflict_found;
-  refused = list_any (λ r. refuses r.close r.refused) readers || besides.plan_refused;
+  source_failed = list_any (λ r. (close_found r.close).source_failed) readers;
+  verifier_failed = list_any (λ r. (close_found r.close).verifier_failed) readers;
+  signer_failed = list_any (λ r. (close_found r.close).signer_failed) readers || besides.signer_failed;
+  disk_failed = list_any (λ r. (close_found r.close).disk_failed) readers || besides.disk_failed;
+  limit_reached = list_any (λ r. (close_found r.close).limit_reached) readers || besides.shelf_full;
+  conflict_found = list_any (λ r. saw_another r.seen) readers || besides.conflict_found;
+  refused = list_any (λ r. refuses r.close r.refused) readers || (besides.plan_refused || besides.shelf_refused);
 }
 
 -- the text was put, or a front of it where the sink failed
@@ -44,10 +50,12 @@ SettlesBy None besides readers old new status = (status ≡ 10) × (new ≡ old)
 SettlesBy (Some text) besides readers old new status =
     (sink_failed : Bool) × Puts text sink_failed old new × (status ≡ status_of (found besides readers sink_failed))
 
--- Each fault that is answered has its cause: a reader closed by it, or it is the signer's, or the sink's, whose count rose.
-pub record FaultsHaveCauses (readers : List Reader) (signer_failed : Bool) (old new : SinkTold) (status : ℕ) : Type 0 where
+-- Each fault that is answered has its cause: a reader closed by it, or it was found besides, or it is the sink's, whose count
+-- rose.
+pub record FaultsHaveCauses (readers : List Reader) (besides : Besides) (old new : SinkTold) (status : ℕ) : Type 0 where
   pub five : status ≡ 5 → HasClose ReadFault readers
-  pub seven : status ≡ 7 → HasClose VerifierFault readers ⊎ (signer_failed ≡ true)
-  pub nine : status ≡ 9 → HasClose Full readers
-  pub six : status ≡ 6 → Rose old.faults new.faults
+  pub seven : status ≡ 7 → HasClose VerifierFault readers ⊎ HasClose SignerFault readers ⊎ (besides.signer_failed ≡ true)
+  pub eight : status ≡ 8 → HasClose DiskFault readers ⊎ (besides.disk_failed ≡ true)
+  pub nine : status ≡ 9 → HasClose Full readers ⊎ (besides.shelf_full ≡ true)
+  pub six : status ≡ 6 → HasClose WriteFault readers ⊎ Rose old.faults new.faults
   pub kept : status ≢ 6 → new.faults ≡ old.faults

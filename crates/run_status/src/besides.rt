@@ -8,10 +8,16 @@ pub struct Besides {
     pub words_refused: bool,
     /// The signer failed, or couldn't be made.
     pub signer_failed: bool,
+    /// A disk failed, or couldn't be made, and nothing was read.
+    pub disk_failed: bool,
+    /// A shelf has more than it may, and nothing was read.
+    pub shelf_full: bool,
     /// There is a conflict.
     pub conflict_found: bool,
     /// A plan is refused, or the log that it is for.
     pub plan_refused: bool,
+    /// The file of a shelf is none, or its list is no log.
+    pub shelf_refused: bool,
 }
 
 impl Besides {
@@ -24,8 +30,11 @@ impl Besides {
         Besides {
             words_refused: false,
             signer_failed: false,
+            disk_failed: false,
+            shelf_full: false,
             conflict_found: false,
             plan_refused: false,
+            shelf_refused: false,
         }
     }
 }

@@ -13,6 +13,10 @@ pub enum Close {
     ReadFault,
     /// The verifier failed, or couldn't be made.
     VerifierFault,
+    /// The signer failed, or couldn't be made.
+    SignerFault,
+    /// The disk failed.
+    DiskFault,
     /// The sink failed, to which the command writes as it reads.
     WriteFault,
     /// What stands at this place, in bytes from the start, isn't of the form or is cut short.

@@ -17,11 +17,13 @@ pub(crate) struct Findings {
     pub(crate) verifier_failed: bool,
     /// The signer failed, or couldn't be made.
     pub(crate) signer_failed: bool,
-    /// A reader had read or taken as much as it may, and there was more.
+    /// A disk failed, or couldn't be made.
+    pub(crate) disk_failed: bool,
+    /// A reader had read or taken as much as it may, and there was more, or a shelf has more than it may.
     pub(crate) limit_reached: bool,
-    /// There is a conflict.
+    /// There is a conflict, or an event came for a place at which another one is stored.
     pub(crate) conflict_found: bool,
-    /// A message, a stream, a plan or its log was refused.
+    /// A message, a stream, a plan or its log, or a shelf was refused.
     pub(crate) refused: bool,
 }
 
@@ -40,6 +42,7 @@ impl Findings {
             source_failed: false,
             verifier_failed: false,
             signer_failed: false,
+            disk_failed: false,
             limit_reached: false,
             conflict_found: false,
             refused: false,
@@ -70,6 +73,8 @@ impl Findings {
             5
         } else if self.verifier_failed || self.signer_failed {
             7
+        } else if self.disk_failed {
+            8
         } else if self.limit_reached {
             9
         } else if self.conflict_found {

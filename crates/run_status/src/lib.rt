@@ -3,6 +3,7 @@
 
 mod besides;
 mod close;
+mod closes;
 mod findings;
 mod reader_end;
 mod run_end;

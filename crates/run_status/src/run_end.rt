@@ -1,12 +1,15 @@
 //! The end of a run: what is owed is written, and the status is found.
-ghost use Rattle.std.specs.Prelude.{◌≡◌, ◌||◌, map, option_map};
-ghost use Rattle.std.specs.List.{list_any};
-ghost use Rattle.run_status.specs.Readers.{is_full, is_read_fault, is_verifier_fault, reader_seen, sink_seen};
-ghost use Rattle.run_status.specs.Settling.{Puts, SettlesBy, refuses};
+ghost use Rattle.std.specs.Prelude.{◌≡◌, map, option_map};
+ghost use Rattle.run_status.specs.Readers.{reader_seen, sink_seen};
+ghost use Rattle.run_status.specs.Settling.{Puts, SettlesBy};
 ghost use Rattle.run_status.specs.Settling as settling;
 
+use crate::closes::{
+    some_disk_fault, some_full, some_read_fault, some_refused, some_saw_another, some_signer_fault,
+    some_verifier_fault, some_write_fault,
+};
 use crate::findings::Findings;
-use crate::{Besides, Close, ReaderEnd};
+use crate::{Besides, ReaderEnd};
 use keri_outside::{Sink, Source, Verifier};
 use run_outside::Outside;
 
@@ -55,52 +58,14 @@ fn found<S: Source, V: Verifier>(
 {
     Findings {
         no_memory: false,
-        sink_failed,
+        sink_failed: some_write_fault(readers) | sink_failed,
         words_refused: besides.words_refused,
         source_failed: some_read_fault(readers),
         verifier_failed: some_verifier_fault(readers),
-        signer_failed: besides.signer_failed,
-        limit_reached: some_full(readers),
-        conflict_found: besides.conflict_found,
-        refused: some_refused(besides, readers),
+        signer_failed: some_signer_fault(readers) | besides.signer_failed,
+        disk_failed: some_disk_fault(readers) | besides.disk_failed,
+        limit_reached: some_full(readers) | besides.shelf_full,
+        conflict_found: some_saw_another(readers) | besides.conflict_found,
+        refused: some_refused(readers) | (besides.plan_refused | besides.shelf_refused),
     }
-}
-
-// Whether some reader closed by a fault of its source.
-fn some_read_fault<S, V>(readers: &[ReaderEnd<S, V>]) -> bool
-    ensures { result ≡ list_any (λ end. is_read_fault end.close) readers.now }
-{
-    readers
-        .iter()
-        .any(|reader| reader.close == Close::ReadFault)
-}
-
-// Whether some reader closed by a fault of its verifier.
-fn some_verifier_fault<S, V>(readers: &[ReaderEnd<S, V>]) -> bool
-    ensures { result ≡ list_any (λ end. is_verifier_fault end.close) readers.now }
-{
-    readers
-        .iter()
-        .any(|reader| reader.close == Close::VerifierFault)
-}
-
-// Whether some reader closed by a limit.
-fn some_full<S, V>(readers: &[ReaderEnd<S, V>]) -> bool
-    ensures { result ≡ list_any (λ end. is_full end.close) readers.now }
-{
-    readers.iter().any(|reader| reader.close == Close::Full)
-}
-
-// Whether some reader refused its stream or a message, or a plan was refused.
-fn some_refused<S, V>(besides: Besides, readers: &[ReaderEnd<S, V>]) -> bool
-    ensures { result ≡ (list_any (λ end. refuses end.close end.refused.items) readers.now || besides.plan_refused) }
-{
-    refuses_some(readers) || besides.plan_refused
-}
-
-// Whether some reader refused its stream or a message.
-fn refuses_some<S, V>(readers: &[ReaderEnd<S, V>]) -> bool
-    ensures { result ≡ list_any (λ end. refuses end.close end.refused.items) readers.now }
-{
-    readers.iter().any(|reader| reader.is_refused())
 }

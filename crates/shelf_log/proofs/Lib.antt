@@ -5,7 +5,7 @@ mod Emptied
 pub mod Files
 mod Migrated
 mod Pieces
-mod Readings
+pub mod Readings
 mod Refusals
 mod ScanSteps
 mod Sizes

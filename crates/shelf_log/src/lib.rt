@@ -16,6 +16,7 @@ mod store;
 mod version;
 
 pub use fault::ShelfFault;
+pub use list_file::begins_with_mark;
 pub use old_shelf::OldShelf;
 pub use returned::Returned;
 pub use shelf::Shelf;

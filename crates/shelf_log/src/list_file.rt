@@ -1,9 +1,9 @@
 //! A file of records, read from its mark to its closed gate.
-ghost use Rattle.std.specs.Prelude.{◌≡◌, ◌≢◌, ◌≤◌, ◌⊎◌, ◌↔◌, ◌-◌, [], List, ℕ, OnOk, IfOk, IfSome, MatchResult, Ok, Err, IsTrue, length, take};
+ghost use Rattle.std.specs.Prelude.{◌≡◌, ◌≢◌, ◌≤◌, ◌⊎◌, ◌↔◌, ◌-◌, [], List, ℕ, OnOk, IfOk, IfErr, IfSome, MatchResult, Ok, Err, IsTrue, length, take};
 ghost use Rattle.keri_specs.specs.Causes.{HasCause};
 ghost use Rattle.keri_disk.specs.Images.{IsDurable};
 ghost use Rattle.keri_disk.specs.Calls.{IsSizeOf, Keeps};
-ghost use Rattle.shelf_log.specs.declared.fault.ShelfFault.TheVariants.{DiskFault};
+ghost use Rattle.shelf_log.specs.declared.fault.ShelfFault.TheVariants.{Broken, DiskFault};
 ghost use Rattle.shelf_log.specs.Answers.{HasDiskCause, Reads};
 ghost use Rattle.shelf_log.specs.Format.{mark};
 ghost use Rattle.shelf_log.specs.Scans.{HasRead, IsWithin, Scans};
@@ -30,6 +30,7 @@ pub(crate) fn read_list<D: Disk>(
         (λ file. MatchResult result (λ scan. Reads version limits file (Ok scan.list))
         (λ fault. Reads version limits file (Err fault))) }
     ensures read { IfOk result (λ scan. IsWithin version limits scan) }
+    ensures unbroken { IfErr result (λ fault. fault ≢ Broken) }
     ensures durable { MatchResult result (λ _. IsDurable (D.told disk.new)) (λ fault. fault ≢ DiskFault
         → IsDurable (D.told disk.new)) }
     ensures keeps { Keeps (D.told disk.old) (D.told disk.new) }
@@ -50,7 +51,19 @@ pub(crate) fn read_list<D: Disk>(
     Ok(scan)
 }
 
-// Whether the file begins with the version's mark.
+/// Whether the file begins with the version's mark. Nothing is written.
+#[tactic(auto, using(keri_disk::proofs::Moments::keeps_both))]
+pub fn begins_with_mark<D: Disk>(disk: &mut D, version: Version) -> Result<bool, Failed>
+    ensures mark { IfOk result (λ begins. IfSome (D.told disk.old).file
+        (λ file. IsTrue begins ↔ (take 8 file ≡ mark version))) }
+    ensures keeps { Keeps (D.told disk.old) (D.told disk.new) }
+    ensures cause { HasCause (D.told disk.old).faults (D.told disk.new).faults result }
+{
+    let size = disk.size()?;
+    has_mark(disk, size, version)
+}
+
+// Whether the file of this size begins with the version's mark.
 fn has_mark<D: Disk>(disk: &mut D, size: u64, version: Version) -> Result<bool, Failed>
     requires size { IsSizeOf (D.told disk.old).file size }
     ensures mark { IfOk result (λ has. IfSome (D.told disk.old).file
@@ -81,6 +94,7 @@ fn read_records<D: Disk>(
     requires none_yet { HasRead scan.old [] }
     ensures read { OnOk result ((list : List (List ℕ)) × HasRead scan.new list) }
     ensures scans { IfSome (D.told disk.old).file (λ file. Scans file scan.new result) }
+    ensures unbroken { IfErr result (λ fault. fault ≢ Broken) }
     ensures of { (scan.new.version ≡ scan.old.version) × (scan.new.limits ≡ scan.old.limits) }
     ensures keeps { Keeps (D.told disk.old) (D.told disk.new) }
     ensures cause { MatchResult result (λ _. (D.told disk.new).faults ≡ (D.told disk.old).faults)

@@ -4,8 +4,8 @@ ghost use Rattle.std.specs.List.{All};
 ghost use Rattle.keri_specs.specs.Causes.{HasCause};
 ghost use Rattle.keri_disk.specs.Images.{LeavesOnly};
 ghost use Rattle.shelf_log.specs.Answers.{IsOver, HasDiskCause, MigrationRefuses};
-ghost use Rattle.shelf_log.specs.Format.{IsSized, IsNoShelf, shelf_front, shelf_size};
-ghost use Rattle.shelf_log.specs.Settled.{AllHold, BringsOver, IsBroughtOver};
+ghost use Rattle.shelf_log.specs.Format.{IsSized, IsNoShelf, IsUnmarked, shelf_front, shelf_size};
+ghost use Rattle.shelf_log.specs.Settled.{AllHold, BringsOver, IsBroughtOver, IsFilledOrUnmarked};
 ghost use Rattle.shelf_log.specs.declared.version.Version.TheVariants.{One, Two};
 ghost use Rattle.shelf_log.specs.declared.fault.ShelfFault.TheVariants.{DiskFault};
 
@@ -42,6 +42,11 @@ impl<D: Disk + Drop> Shelf<D> {
         ensures moments { MatchResult result
             (λ shelf. LeavesOnly (D.told target) (D.told shelf.disk) (IsBroughtOver list.now))
             (λ returned. LeavesOnly (D.told target) (D.told returned.disk) (IsBroughtOver list.now)) }
+
+        // A file that has no mark has none at any moment until it stands for the list, so the same can be done again.
+        ensures unmarked { ((c : List ℕ) → (D.told target).images c → IsUnmarked c) → MatchResult result
+            (λ shelf. LeavesOnly (D.told target) (D.told shelf.disk) (IsFilledOrUnmarked list.now))
+            (λ returned. LeavesOnly (D.told target) (D.told returned.disk) (IsFilledOrUnmarked list.now)) }
     {
         if is_over(list, limits) {
             return Err(Returned {

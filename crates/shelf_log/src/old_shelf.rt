@@ -16,14 +16,14 @@ pub struct OldShelf<D> {
 }
 
 impl<D: Disk + Drop> Shelf<D> {
-    ghost use Rattle.std.specs.Prelude.{◌≡◌, ◌≢◌, IfOk, IfSome, MatchResult, Ok, Err};
+    ghost use Rattle.std.specs.Prelude.{◌≡◌, ◌≢◌, IfOk, IfErr, IfSome, MatchResult, Ok, Err};
     ghost use Rattle.std.specs.List.{All};
     ghost use Rattle.keri_disk.specs.Images.{IsDurable};
     ghost use Rattle.keri_disk.specs.Calls.{Keeps};
     ghost use Rattle.shelf_log.specs.Answers.{HasDiskCause, Reads};
     ghost use Rattle.shelf_log.specs.Format.{IsSized};
     ghost use Rattle.shelf_log.specs.declared.version.Version.TheVariants.{One};
-    ghost use Rattle.shelf_log.specs.declared.fault.ShelfFault.TheVariants.{DiskFault};
+    ghost use Rattle.shelf_log.specs.declared.fault.ShelfFault.TheVariants.{Broken, DiskFault};
 
     /// Reads a file of version 1, whose payloads have 1 to 65,535 bytes. It syncs first, and writes and cuts nothing,
     /// whatever it answers.
@@ -34,6 +34,7 @@ impl<D: Disk + Drop> Shelf<D> {
         ensures reads { IfSome (D.told disk).file
             (λ file. MatchResult result (λ old. Reads One limits file (Ok old.list))
             (λ returned. Reads One limits file (Err returned.fault))) }
+        ensures unbroken { IfErr result (λ returned. returned.fault ≢ Broken) }
         ensures keeps { MatchResult result (λ old. Keeps (D.told disk) (D.told old.disk))
             (λ returned. Keeps (D.told disk) (D.told returned.disk)) }
         ensures cause { MatchResult result (λ old. (D.told old.disk).faults ≡ (D.told disk).faults)

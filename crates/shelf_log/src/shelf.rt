@@ -40,7 +40,7 @@ impl<D: Disk + Drop> Shelf<D> {
     ghost use Rattle.shelf_log.specs.Answers.{Answers, refusal, HasDiskCause, Reads};
     ghost use Rattle.shelf_log.specs.Format.{IsSized, shelf_size};
     ghost use Rattle.shelf_log.specs.Settled.{AllHold, HoldsEither, IsUnfinished};
-    ghost use Rattle.shelf_log.specs.declared.fault.ShelfFault.TheVariants.{DiskFault};
+    ghost use Rattle.shelf_log.specs.declared.fault.ShelfFault.TheVariants.{Broken, DiskFault};
 
     /// A new shelf on a disk whose file is empty: a mark and a closed gate, 9 bytes.
     ///
@@ -74,6 +74,7 @@ impl<D: Disk + Drop> Shelf<D> {
         ensures reads { IfSome (D.told disk).file
             (λ file. MatchResult result (λ shelf. Reads Two limits file (Ok shelf.list))
             (λ returned. Reads Two limits file (Err returned.fault))) }
+        ensures unbroken { IfErr result (λ returned. returned.fault ≢ Broken) }
         ensures keeps { MatchResult result (λ shelf. Keeps (D.told disk) (D.told shelf.disk))
             (λ returned. Keeps (D.told disk) (D.told returned.disk)) }
         ensures cause { MatchResult result (λ shelf. (D.told shelf.disk).faults ≡ (D.told disk).faults)

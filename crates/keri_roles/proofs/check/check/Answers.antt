@@ -3,7 +3,7 @@ use Rattle.run_outside.specs.Told.{making}
 use Rattle.run_outside.specs.declared.making.MakingKind.TheVariants.{Source}
 use Rattle.keri_roles.specs.Check.{ChecksReader}
 use Rattle.run_status.specs.Readers.{reader_seen, source_seen}
-use Rattle.keri_roles.specs.Run.{AreMakings}
+use Rattle.run_outside.specs.Makings.{AreMakings}
 use Rattle.keri_roles.proofs.CoreTold.{owes_it, seen_none}
 use Rattle.keri_roles.proofs.check.check.Goals as goal
 
@@ -21,6 +21,7 @@ returns-clause-checked g c =
       one = refl;
       makes = makes;
       no_verifier = rw c.check_file-reader.ensures.no_verifier refl;
+      none_seen = c.check_file-reader.ensures.none_seen;
       owes = owes_it (ChecksReader before.limits (before.holds c.args.name.now) reader) (option_map (λ text. text.items) c.owe-owed.result) end.close
           (string_bytes c.check_file-reader.result.1) c.owe-owed.ensures c.check_file-reader.ensures.checks;
       none_told = c.nothing_told.ensures;

@@ -26,7 +26,7 @@ returns-clause-generated g c =
     let given : Given = record { limits = before.limits; held = Some (streams.stream_text plan.seed plan.logs plan.events); says = rehearsal_says } in
     let tells : Tells Full given reader core = rw c.limits-limits.ensures at c.read_made-reader.ensures.tells in
     let of : IsJournalOf core c.into_journal.result = search rules in
-    let one : c.push.new.self.items ≡ record { source = None; verifier = None; refused = end.refused; close = due.close } ∷ [] = search rules in
+    let one : c.push.new.self.items ≡ record { source = None; verifier = None; refused = end.refused; seen = end.seen; close = due.close } ∷ [] = search rules in
     let never : reader.close ≢ VerifierFault = never_fails given reader.source reader.verifier tells.bytes _ _ reader.close
     (seen_none tells_stream end.source ∙ c.read_made-reader.ensures.source) (seen_none (tells_all rehearsal_says) end.verifier ∙ c.read_made-reader.ensures.verifier)
     (none_counted rehearsal_says end.verifier) tells.reads in

@@ -2,7 +2,7 @@ use Rattle.std.proofs.Common.{◌≡◌, refl, [], ◌∷◌, rules, is_none}
 use Rattle.run_outside.specs.Told.{making}
 use Rattle.run_outside.specs.declared.making.MakingKind.TheVariants.{Source, Signer}
 use Rattle.run_status.specs.Readers.{reader_seen, source_seen}
-use Rattle.keri_roles.specs.Run.{AreMakings}
+use Rattle.run_outside.specs.Makings.{AreMakings}
 use Rattle.keri_roles.specs.Seen.{signer_seen}
 use Rattle.keri_roles.proofs.CoreTold.{seen_none}
 use Rattle.keri_roles.proofs.Made.{gives_seen, signer_none}

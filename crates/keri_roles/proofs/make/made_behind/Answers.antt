@@ -4,7 +4,7 @@ use Rattle.run_outside.specs.declared.making.MakingKind.TheVariants.{Source, Ver
 use Rattle.journal.specs.declared.mode.Mode.TheVariants.{Local}
 use Rattle.run_status.specs.Readers.{reader_seen, source_seen, verifier_seen}
 use Rattle.keri_roles.specs.CoreTold.{Tells, IsJournalOf}
-use Rattle.keri_roles.specs.Run.{AreMakings}
+use Rattle.run_outside.specs.Makings.{AreMakings}
 use Rattle.keri_roles.specs.Seen.{signer_seen}
 use Rattle.keri_roles.proofs.CoreTold.{is_told_by, same_journal, seen_none}
 use Rattle.keri_roles.proofs.Made.{gives_seen, signer_none}

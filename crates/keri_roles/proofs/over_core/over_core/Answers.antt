@@ -2,7 +2,7 @@ use Rattle.std.proofs.Common.{◌≡◌, refl, [], ◌∷◌, rules, is_none, op
 use Rattle.run_outside.specs.Told.{making}
 use Rattle.run_outside.specs.declared.making.MakingKind.TheVariants.{Source, Verifier}
 use Rattle.run_status.specs.Readers.{reader_seen, source_seen, verifier_seen}
-use Rattle.keri_roles.specs.Run.{AreMakings}
+use Rattle.run_outside.specs.Makings.{AreMakings}
 use Rattle.keri_roles.specs.CoreTold.{Tells, IsJournalOf, core_of}
 use Rattle.keri_roles.proofs.CoreTold.{owes, closes_so, closing, tells_again, same_journal, is_told, seen_none}
 use Rattle.keri_roles.proofs.over_core.over_core.Goals as goal
@@ -15,7 +15,7 @@ returns-clause-done g c =
     let core = c.read_to_core-reader.result.core in
     let debt = c.owe-close.result in
     let reader = reader_seen g.O.Source.Source.left g.O.Source.Source.faults g.O.Verifier.Verifier.says g.O.Verifier.Verifier.inquiries g.O.Verifier.Verifier.faults end in
-    let one : c.push.new.self.items ≡ record { source = end.source; verifier = end.verifier; refused = end.refused; close = debt.close } ∷ [] = search rules in
+    let one : c.push.new.self.items ≡ record { source = end.source; verifier = end.verifier; refused = end.refused; seen = end.seen; close = debt.close } ∷ [] = search rules in
     let makes : AreMakings (making Source c.args.name.now (is_none reader.source) ∷ making Verifier c.args.helper.now (is_none reader.verifier) ∷ []) before after = rw (
       seen_none (source_seen g.O.Source.Source.left g.O.Source.Source.faults g.O.Verifier.Verifier.says g.O.Verifier.Verifier.inquiries g.O.Verifier.Verifier.faults) end.source,
       c.read_to_core-reader.ensures.source,

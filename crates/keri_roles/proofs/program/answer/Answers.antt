@@ -14,8 +14,8 @@ returns-in-Ok-None g c =
 
 pub returns-in-Err : goal.returns-in-Err
 returns-in-Err g c = let out = c.unbegun.ensures in
-    record { answered = inr (record { none_made = refl; none_read = rw out.readers refl; none_told = out.journal; no_signer = rw out.signer refl; none_written = refl; status = out.status }) }
+    record { answered = inr (record { none_made = refl; none_read = rw out.readers refl; none_told = out.journal; no_signer = rw out.signer refl; no_disk = rw out.no_disk refl; no_old = rw out.no_old refl; none_written = refl; status = out.status }) }
 
 pub returns-in_default : goal.returns-in_default
 returns-in_default g c = let out = c.unbegun-in_default.ensures in
-    record { answered = inr (record { none_made = refl; none_read = rw out.readers refl; none_told = out.journal; no_signer = rw out.signer refl; none_written = refl; status = out.status }) }
+    record { answered = inr (record { none_made = refl; none_read = rw out.readers refl; none_told = out.journal; no_signer = rw out.signer refl; no_disk = rw out.no_disk refl; no_old = rw out.no_old refl; none_written = refl; status = out.status }) }

@@ -10,17 +10,19 @@ returns g c =
     let seen = source_seen g.O.Source.Source.left g.O.Source.Source.faults g.O.Verifier.Verifier.says g.O.Verifier.Verifier.inquiries g.O.Verifier.Verifier.faults in
     let source = c.serve_input-source.result.0 in
     let served = c.serve_input-source.result.1 in
-    let end : ReaderEnd g.row.O-Source.Denot g.row.O-Verifier.Denot = record { source = source; verifier = None; refused = c.new.result; close = c.serving_close.result } in
+    let end : ReaderEnd g.row.O-Source.Denot g.row.O-Verifier.Denot = record { source = source; verifier = None; refused = c.new.result; seen = c.new-2.result; close = c.serving_close.result } in
     let one : c.push.new.self.items ≡ end ∷ [] = search rules in
-    rw (one, c.new.ensures.items, c.serving_close.ensures, c.nothing_told.ensures, c.serving_status.ensures) (record {
+    rw (one, c.new.ensures.items, c.new-2.ensures, c.serving_close.ensures, c.nothing_told.ensures, c.serving_status.ensures) (record {
       rehearsed = record {
-        reader = record { source = option_map seen source; verifier = None; refused = []; close = End };
+        reader = record { source = option_map seen source; verifier = None; refused = []; seen = []; close = End };
         served = served;
         one = refl;
         makes = rw (seen_none seen source) c.serve_input-source.ensures.makes;
         serves = rw c.limits-limits.ensures at c.serve_input-source.ensures.serves;
         none_told = refl;
         no_signer = refl;
+        no_disk = refl;
+        no_old = refl;
         status = refl;
       };
     })

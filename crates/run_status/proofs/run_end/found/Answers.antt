@@ -1,7 +1,7 @@
 use Rattle.std.proofs.Common.{◌≡◌, Bool, List, [], ◌∷◌, ◌||◌, map, refl, ap}
 use Rattle.std.specs.List.{list_any}
-use Rattle.run_status.specs.Readers.{is_full, is_read_fault, is_verifier_fault, reader_seen}
-use Rattle.run_status.specs.Settling.{refuses}
+use Rattle.run_status.specs.Readers.{close_found, reader_seen}
+use Rattle.run_status.specs.Settling.{refuses, saw_another}
 use Rattle.run_status.proofs.run_end.found.Goals as goal
 
 -- whether a test holds of some value that is seen
@@ -14,12 +14,20 @@ returns g c =
     let seen = reader_seen g.S.Source.left g.S.Source.faults g.V.Verifier.says g.V.Verifier.inquiries g.V.Verifier.faults in
     let readers = c.args.readers.now in
     rw (
-      any-map (λ r. is_read_fault r.close) seen readers,
-      any-map (λ r. is_verifier_fault r.close) seen readers,
-      any-map (λ r. is_full r.close) seen readers,
+      any-map (λ r. (close_found r.close).sink_failed) seen readers,
+      any-map (λ r. (close_found r.close).source_failed) seen readers,
+      any-map (λ r. (close_found r.close).verifier_failed) seen readers,
+      any-map (λ r. (close_found r.close).signer_failed) seen readers,
+      any-map (λ r. (close_found r.close).disk_failed) seen readers,
+      any-map (λ r. (close_found r.close).limit_reached) seen readers,
+      any-map (λ r. saw_another r.seen) seen readers,
       any-map (λ r. refuses r.close r.refused) seen readers,
+      c.some_write_fault.ensures,
       c.some_read_fault.ensures,
       c.some_verifier_fault.ensures,
+      c.some_signer_fault.ensures,
+      c.some_disk_fault.ensures,
       c.some_full.ensures,
+      c.some_saw_another.ensures,
       c.some_refused.ensures,
     ) refl

@@ -1,0 +1,121 @@
+-- No reader of a command that only reads closes by the fault of a signer, of a disk, or of a sink.
+use Rattle.std.proofs.Common.{◌≡◌, ◌≢◌, ℕ, inl, inr, Bool, true, false, ◌||◌, List, [], ◌∷◌, Option, Some, None, refl, sym, ◌∙◌, ap}
+use Rattle.std.specs.List.{list_any}
+use Rattle.cesr_codes.specs.declared.digest.Digest.{Digest}
+use Rattle.cesr_stream.specs.declared.message.Message.{Message}
+use Rattle.cesr_stream.specs.Items.{Placed}
+use Rattle.cesr_stream.specs.Reading.{Reading}
+use Rattle.keri_outside.specs.declared.limits.Limits.{Limits}
+use Rattle.journal.specs.declared.mode.Mode.{Mode}
+use Rattle.journal.specs.declared.refusal.Refusal.{Refusal}
+use Rattle.journal.specs.History.{Told as ToldEntry}
+use Rattle.message_feed.specs.declared.text_close.TextClose.{TextClose}
+use Rattle.message_feed.specs.declared.text_close.TextClose.TheVariants as text
+use Rattle.run_status.specs.declared.close.Close.{Close}
+use Rattle.run_status.specs.declared.close.Close.TheVariants.{End, Bad, ReadFault, VerifierFault, SignerFault, DiskFault, WriteFault, Malformed, Full, OutOfMemory}
+use Rattle.run_status.specs.Readers.{HasClose, Reader, SourceTold, VerifierTold, close_found}
+use Rattle.keri_roles.specs.Check.{IsChecked, OwesChecks}
+use Rattle.keri_roles.specs.Commands.{IsGenerated}
+use Rattle.keri_roles.specs.CoreTold.{ClosesReader, Given, ReadsBy, ReadsToCore}
+use Rattle.keri_roles.specs.Made.{IsMade, WasRead, close_of}
+use Rattle.keri_roles.specs.Run.{Work}
+
+-- a reader closes so only where it serves
+abbrev pub is_serving : Close → Bool
+is_serving close = (close_found close).signer_failed || ((close_found close).disk_failed || (close_found close).sink_failed)
+
+abbrev pub some_serves : List Reader → Bool
+some_serves readers = list_any (λ r. is_serving r.close) readers
+
+or_true : (a b : Bool) → a ≡ true → (a || b) ≡ true
+or_true true b e = refl
+or_true false b e = cc
+
+or_false : (a b : Bool) → a ≡ false → b ≡ false → (a || b) ≡ false
+or_false false b e f = f
+or_false true b e f = cc
+
+behind : (a b : Bool) → (a || b) ≡ false → b ≡ false
+behind false b e = e
+behind true b e = cc
+
+-- where none serves, none closes so
+pub has_none : (at : Close) → is_serving at ≡ true → (readers : List Reader) → some_serves readers ≡ false → HasClose at readers → ⊥
+has_none at serves [] none h = h
+has_none at serves (reader ∷ readers) none (inl this) =
+    let clash : true ≡ false = sym (or_true (is_serving reader.close) (some_serves readers) (ap is_serving this ∙ serves)) ∙ none in cc
+has_none at serves (reader ∷ readers) none (inr later) = has_none at serves readers (behind (is_serving reader.close) (some_serves readers) none) later
+
+-- what holds of none of these closes holds of one that isn't of serving
+module _ (Closes : Close → Type 0) (signer : Closes SignerFault → ⊥) (disk : Closes DiskFault → ⊥) (sink : Closes WriteFault → ⊥) where
+  reads_only : (close : Close) → Closes close → is_serving close ≡ false
+  reads_only End c = refl
+  reads_only (Bad bad) c = refl
+  reads_only ReadFault c = refl
+  reads_only VerifierFault c = refl
+  reads_only SignerFault c = absurd (signer c)
+  reads_only DiskFault c = absurd (disk c)
+  reads_only WriteFault c = absurd (sink c)
+  reads_only (Malformed place) c = refl
+  reads_only Full c = refl
+  reads_only OutOfMemory c = refl
+
+module _ (limits : Limits) (held : Option (List ℕ)) (verifier : Option VerifierTold) (refused : List Refusal) (seen : List Digest) where
+  abbrev closing_so : Option SourceTold → Close → Reader
+  closing_so source close = record { source = source; verifier = verifier; refused = refused; seen = seen; close = close }
+
+  module _ (at : Close) (not_out : at ≢ OutOfMemory) (not_read : at ≢ ReadFault)
+      (never : (source : SourceTold) (text : List ℕ) → OwesChecks (closing_so (Some source) at) limits held (Some text) → ⊥) where
+    check_never : (source : Option SourceTold) (owed : Option (List ℕ)) → OwesChecks (closing_so source at) limits held owed → ⊥
+    check_never source None o = not_out o
+    check_never None (Some text) o = not_read o.1.fault
+    check_never (Some source) (Some text) o = never source text o
+
+  check_only : (source : Option SourceTold) (owed : Option (List ℕ)) (close : Close) → OwesChecks (closing_so source close) limits held owed → is_serving close ≡ false
+  check_only source owed close o = reads_only (λ close. OwesChecks (closing_so source close) limits held owed)
+      (check_never SignerFault (λ e. cc) (λ e. cc) (λ s text o. o.1.closes) source owed)
+      (check_never DiskFault (λ e. cc) (λ e. cc) (λ s text o. o.1.closes) source owed)
+      (check_never WriteFault (λ e. cc) (λ e. cc) (λ s text o. o.1.closes) source owed) close o
+
+module _ (given : Given) (bytes : List ℕ) (told : List ToldEntry) (offered : List Message) where
+  module _ (at : Close) (not_out : at ≢ OutOfMemory) (not_read : at ≢ ReadFault) (not_asked : at ≢ VerifierFault)
+      (never : (source : SourceTold) (verifier : VerifierTold) (reading : Reading) (items : List Placed) → ClosesReader given source verifier bytes reading items told offered at → ⊥) where
+    told_never : (source : Option SourceTold) (verifier : Option VerifierTold) → ReadsBy given source verifier bytes told offered at → ⊥
+    told_never None verifier r = not_read (r.0 not_out)
+    told_never (Some source) None r = not_asked (r.0 not_out)
+    told_never (Some source) (Some verifier) r = let closed = r.1.closes not_out in never source verifier closed.reading closed.items closed.closes
+
+  told_only : (source : Option SourceTold) (verifier : Option VerifierTold) (close : Close) → ReadsBy given source verifier bytes told offered close → is_serving close ≡ false
+  told_only source verifier close r = reads_only (ReadsBy given source verifier bytes told offered)
+      (told_never SignerFault (λ e. cc) (λ e. cc) (λ e. cc) (λ s v reading items c. c) source verifier)
+      (told_never DiskFault (λ e. cc) (λ e. cc) (λ e. cc) (λ s v reading items c. c) source verifier)
+      (told_never WriteFault (λ e. cc) (λ e. cc) (λ e. cc) (λ s v reading items c. c) source verifier) close r
+
+text_closes : (closed : TextClose) → is_serving (close_of closed) ≡ false
+text_closes text.End = refl
+text_closes text.ReadFault = refl
+text_closes text.Full = refl
+text_closes text.OutOfMemory = refl
+
+text_only : (most : ℕ) (held : Option (List ℕ)) (bytes : List ℕ) (source : Option SourceTold) (close : Close) → WasRead most held source bytes close → is_serving close ≡ false
+text_only most held bytes None close r = rw r.0 refl
+text_only most held bytes (Some source) close r = rw r.closes (text_closes r.closed)
+
+pub check_serves : (name : List ℕ) (work : Work) → IsChecked name work → some_serves work.readers ≡ false
+check_serves name work c = ap some_serves c.one ∙ or_false (is_serving c.reader.close) false
+    (check_only work.before.limits (work.before.holds name) c.reader.verifier c.reader.refused c.reader.seen c.reader.source work.owed c.reader.close c.owes) refl
+
+pub told_serves : (mode : Mode) (helper name : List ℕ) (work : Work) → ReadsToCore mode helper name work → some_serves work.readers ≡ false
+told_serves mode helper name work t = ap some_serves t.one ∙ or_false (is_serving t.reader.close) false
+    (told_only _ t.journal.bytes _ _ t.reader.source t.reader.verifier t.reader.close t.journal.reads) refl
+
+pub made_serves : (helper plan : List ℕ) (log : Option (List ℕ)) (work : Work) → IsMade helper plan log work → some_serves work.readers ≡ false
+made_serves helper plan None work m = ap some_serves m.one ∙ or_false (is_serving m.reader.close) false
+    (text_only _ _ m.text m.reader.source m.reader.close m.reads.read) refl
+made_serves helper plan (Some log) work m = ap some_serves m.two ∙ or_false (is_serving m.plan_reader.close) (is_serving m.log_reader.close || false)
+    (text_only _ _ m.text m.plan_reader.source m.plan_reader.close m.reads.read)
+    (or_false (is_serving m.log_reader.close) false (told_only _ m.journal.bytes _ _ m.log_reader.source m.log_reader.verifier m.log_reader.close m.journal.reads) refl)
+
+pub generated_serves : (seed logs events : ℕ) (work : Work) → IsGenerated seed logs events work → some_serves work.readers ≡ false
+generated_serves seed logs events work g = ap some_serves g.one ∙ or_false (is_serving g.reader.close) false
+    (told_only _ g.journal.bytes _ _ g.reader.source g.reader.verifier g.reader.close g.journal.reads) refl
