@@ -1,0 +1,99 @@
+-- From what was done with a disk that was made to what opening comes to.
+use Rattle.std.proofs.Common.{◌≡◌, ◌≢◌, ◌⊎◌, inl, inr, List, ℕ, [], ◌∷◌, false, is_none, Option, Some, None, IfSome, Err, refl, sym, ◌∙◌, subst}
+use Rattle.keri_specs.specs.Causes.{Rose}
+use Rattle.keri_disk.specs.Calls.{Keeps}
+use Rattle.keri_disk.specs.Images.{DiskTold, IsDurable}
+use Rattle.keri_disk.proofs.Moments.{keeps_both}
+use Rattle.keri_outside.specs.declared.limits.Limits.{Limits}
+use Rattle.run_outside.specs.Makings.{AreMakings}
+use Rattle.run_outside.specs.Told.{Told, making}
+use Rattle.run_outside.specs.declared.making.MakingKind.TheVariants.{Disk}
+use Rattle.shelf_log.specs.Format.{IsUnmarked}
+use Rattle.shelf_log.specs.declared.version.Version.TheVariants.{One, Two}
+use Rattle.witness_opening.specs.Answers.{Answer, Answers, AnswersBeside, AnswersRead}
+use Rattle.witness_opening.specs.Disks.{Becomes, BecomesBeside, HasCause, IsMade, OnlyRead}
+use Rattle.witness_opening.specs.Opening.{IsOpening}
+use Rattle.witness_opening.specs.Ways.{FillsIt, HandsBack, IsFilledOrStays, ReadsIt}
+use Rattle.witness_opening.specs.declared.fault.OpeningFault.TheVariants.{DiskFault}
+use Rattle.witness_opening.proofs.Facts.{if_both, if_map}
+use Rattle.witness_opening.proofs.Makings.{two_made}
+
+rose_on : {P : Type 0} (old mid new : ℕ) → mid ≡ old → Rose mid new ⊎ P → Rose old new ⊎ P
+rose_on old mid new same (inl rose) = inl (subst (λ (n : ℕ). Rose n new) same rose)
+rose_on old mid new same (inr other) = inr other
+
+-- the disk was made, and synced
+module _ {D : Type 0} (told : D → DiskTold) (limits : Limits) (before mid : Told) (name : List ℕ) (first synced : D)
+    (makings : AreMakings (making Disk name false ∷ []) before mid) (is_made : IsMade told (before.stored name) first) (keeps : Keeps (told first) (told synced)) where
+  -- it alone is handed back
+  module _ (named : Option (List ℕ)) (last : D) (answer : Answer) (answers : Answers limits before name named answer) (becomes : Becomes told before named first last) where
+    handed_so : (answer ≡ Err DiskFault → Rose 0 (told last).faults) → (answer ≢ Err DiskFault → (told last).faults ≡ 0)
+        → IsOpening told limits before mid name named (Some last) None answer
+    handed_so rose same = record {
+      answers = answers;
+      makes = inl (record { makings = makings; none_old = refl });
+      cause = record { rose = λ e. inr (inl (rose e)); same = λ other. (makings.kept refl, same other, tt) };
+      leaves = record { first = first; is_made = is_made; becomes = becomes };
+      old_stays = tt;
+    }
+
+    pub handed : (disk old : Option D) → (told synced).faults ≡ (told first).faults → HandsBack told synced last disk old answer
+        → IsOpening told limits before mid name named disk old answer
+    handed disk old still hands =
+        let none = still ∙ is_made.none_yet in
+        subst (λ d. IsOpening told limits before mid name named d old answer) (sym hands.disk_is)
+        (subst (λ o. IsOpening told limits before mid name named (Some last) o answer) (sym hands.none_old)
+        (handed_so (λ e. subst (λ (n : ℕ). Rose n (told last).faults) none (hands.rose e)) (λ other. hands.same other ∙ none)))
+
+  stored_is : (told synced).file ≡ before.stored name
+  stored_is = keeps.file ∙ is_made.holds
+
+  at_stored : (P : List ℕ → Type 0) → IfSome (told synced).file P → IfSome (before.stored name) P
+  at_stored P holds = subst (λ o. IfSome o P) stored_is holds
+
+  module _ (still : (told synced).faults ≡ (told first).faults) where
+    -- its file was read
+    pub beside_read : (old_name : List ℕ) (disk old : Option D) (answer : Answer) → IfSome (told first).file (λ file. IsUnmarked file → ⊥) → ReadsIt told synced limits disk old answer
+        → IsOpening told limits before mid name (Some old_name) disk old answer
+    beside_read old_name disk old answer other reads = handed (Some old_name) reads.last answer
+        (if_both (λ file. IsUnmarked file → ⊥) (λ file. AnswersRead Two limits file answer) (λ file. AnswersBeside limits file (before.stored old_name) answer) (before.stored name)
+        (λ file known read. record { filled = λ unmarked. absurd (known unmarked); read = λ n. read })
+        (subst (λ o. IfSome o (λ file. IsUnmarked file → ⊥)) is_made.holds other) (at_stored _ reads.answers))
+        (inl (keeps_both (told first) (told synced) (told reads.last) keeps reads.keeps)) disk old still reads.hands
+
+  module _ (durable : IsDurable (told synced)) where
+    -- it was filled
+    filled_or_stays : (from : Option (List ℕ)) (last : D) → IfSome (told first).file IsUnmarked → IsFilledOrStays told synced from last → BecomesBeside told from first last
+    filled_or_stays from last unmarked (inl stays) = inl (keeps_both (told first) (told synced) (told last) keeps stays)
+    filled_or_stays from last unmarked (inr f) =
+        inr (record { unmarked = unmarked; list = f.0; of = f.1; leaves = record { synced = synced; keeps = keeps; durable = durable; leaves = f.2 } })
+
+    module _ (after : Told) (old_name : List ℕ) (same : mid.stored ≡ before.stored) (unmarked : IfSome (told first).file IsUnmarked) where
+      from_before : (P : Option (List ℕ) → Type 0) → P (mid.stored old_name) → P (before.stored old_name)
+      from_before P holds = subst (λ (s : List ℕ → Option (List ℕ)). P (s old_name)) same holds
+
+      cause_on : (disk old : Option D) (answer : Answer) → HasCause told mid after disk old answer → HasCause told before after disk old answer
+      cause_on disk old answer cause = record {
+        rose = λ e. rose_on before.faults mid.faults after.faults (makings.kept refl) (cause.rose e);
+        same = λ other. let s = cause.same other in (s.0 ∙ makings.kept refl, s.1, s.2);
+      }
+
+      pub filled : (disk old : Option D) (answer : Answer) → FillsIt told synced limits mid after old_name disk old answer
+          → IsOpening told limits before after name (Some old_name) disk old answer
+      filled disk old answer fills = subst (λ d. IsOpening told limits before after name (Some old_name) d old answer) (sym fills.disk_is) (record {
+        answers = if_map IsUnmarked (λ file. AnswersBeside limits file (before.stored old_name) answer) (before.stored name)
+            (λ file is. record { filled = λ f. from_before (λ o. IfSome o (λ x. AnswersRead One limits x answer)) fills.answers; read = λ other. absurd (other is) })
+            (subst (λ o. IfSome o IsUnmarked) is_made.holds unmarked);
+        makes = inr (record {
+          makings = two_made Disk name old_name (is_none old) before mid after makings fills.makings;
+          unmarked = subst (λ o. IfSome o IsUnmarked) is_made.holds unmarked;
+          answered = fills.answered;
+        });
+        cause = cause_on (Some fills.last) old answer (subst (λ d. HasCause told mid after d old answer) fills.disk_is fills.cause);
+        leaves = record {
+          first = first;
+          is_made = is_made;
+          becomes = filled_or_stays (before.stored old_name) fills.last unmarked (from_before (λ o. IsFilledOrStays told synced o fills.last) fills.filled);
+        };
+        old_stays = if_map (OnlyRead told (mid.stored old_name)) (OnlyRead told (before.stored old_name)) old (λ d stays. from_before (λ o. OnlyRead told o d) stays) fills.old_stays;
+      })

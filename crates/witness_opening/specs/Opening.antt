@@ -1,0 +1,24 @@
+-- What opening a shelf comes to.
+use Rattle.std.specs.Prelude.{◌≡◌, ℕ, Bool, false, List, IfSome}
+use Rattle.std.specs.declared.option.Option.{Option}
+use Rattle.keri_disk.specs.Images.{DiskTold}
+use Rattle.keri_outside.specs.declared.limits.Limits.{Limits}
+use Rattle.run_outside.specs.Told.{Told}
+use Rattle.shelf_log.specs.Settled.{AllHold}
+use Rattle.witness_opening.specs.Answers.{Answer, Answers}
+use Rattle.witness_opening.specs.Disks.{HasCause, IsLeft, Makes, OnlyRead}
+
+-- The shelf of a name was opened, with an old one where that is named, over an outside that told this before and after it: these
+-- disks are handed back, where they were made, and this is answered.
+pub record IsOpening {D : Type 0} (told : D → DiskTold) (limits : Limits) (before after : Told) (name : List ℕ) (named : Option (List ℕ)) (disk old : Option D) (answer : Answer) : Type 0 where
+  pub answers : Answers limits before name named answer
+  pub makes : Makes before after name named disk old answer
+  pub cause : HasCause told before after disk old answer
+  pub leaves : IfSome disk (IsLeft told before name named)
+  pub old_stays : IfSome old (λ d. IfSome named (λ n. OnlyRead told (before.stored n) d))
+
+-- a shelf with these limits whose disk never failed, and on it the list stands
+pub record IsOpen (told : DiskTold) (limits of : Limits) (is_broken : Bool) (list : List (List ℕ)) : Type 0 where
+  pub limits_are : of ≡ limits
+  pub whole : is_broken ≡ false
+  pub stands : AllHold told list

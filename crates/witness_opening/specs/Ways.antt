@@ -1,0 +1,56 @@
+-- The ways in which the disk of a shelf is used, once it was synced.
+use Rattle.std.specs.Prelude.{◌≡◌, ◌≢◌, ◌⊎◌, ℕ, List, [], ◌∷◌, is_none, IfSome}
+use Rattle.std.specs.declared.option.Option.{Option}
+use Rattle.std.specs.declared.option.Option.TheVariants.{None, Some}
+use Rattle.std.specs.declared.result.Result.TheVariants.{Err}
+use Rattle.keri_specs.specs.Causes.{Rose}
+use Rattle.keri_disk.specs.Calls.{Keeps}
+use Rattle.keri_disk.specs.Images.{DiskTold, LeavesOnly}
+use Rattle.keri_outside.specs.declared.limits.Limits.{Limits}
+use Rattle.run_outside.specs.Makings.{AreMakings}
+use Rattle.run_outside.specs.Told.{Told, making}
+use Rattle.run_outside.specs.declared.making.MakingKind.TheVariants.{Disk}
+use Rattle.shelf_log.specs.Format.{Holds}
+use Rattle.shelf_log.specs.Settled.{IsFilledOrUnmarked, IsUnfinished}
+use Rattle.shelf_log.specs.declared.version.Version.TheVariants.{One, Two}
+use Rattle.witness_opening.specs.Answers.{Answer, AnswersNew, AnswersRead}
+use Rattle.witness_opening.specs.Disks.{HasCause, OnlyRead}
+use Rattle.witness_opening.specs.declared.fault.OpeningFault.TheVariants.{DiskFault}
+
+module _ {D : Type 0} (told : D → DiskTold) (first : D) where
+  -- The disk alone is handed back. A fault of it is answered only where its count rose, which else is as it was.
+  pub record HandsBack (last : D) (disk old : Option D) (answer : Answer) : Type 0 where
+    pub disk_is : disk ≡ Some last
+    pub none_old : old ≡ None
+    pub rose : answer ≡ Err DiskFault → Rose (told first).faults (told last).faults
+    pub same : answer ≢ Err DiskFault → (told last).faults ≡ (told first).faults
+
+  -- its file is read
+  pub record ReadsIt (limits : Limits) (disk old : Option D) (answer : Answer) : Type 0 where
+    pub last : D
+    pub hands : HandsBack last disk old answer
+    pub answers : IfSome (told first).file (λ file. AnswersRead Two limits file answer)
+    pub keeps : Keeps (told first) (told last)
+
+  -- its file, which is empty, is made a shelf
+  pub record BeginsIt (disk old : Option D) (answer : Answer) : Type 0 where
+    pub last : D
+    pub hands : HandsBack last disk old answer
+    pub answers : AnswersNew answer
+    pub leaves : LeavesOnly (told first) (told last) IsUnfinished
+
+  -- it stays as it was, or is filled with the list of an old file
+  abbrev pub IsFilledOrStays : Option (List ℕ) → D → Type 0
+  IsFilledOrStays from last = Keeps (told first) (told last)
+      ⊎ ((list : List (List ℕ)) × IfSome from (λ file. Holds One file list) × LeavesOnly (told first) (told last) (IsFilledOrUnmarked list))
+
+  -- the old disk of the name is made, and its list is brought over
+  pub record FillsIt (limits : Limits) (before after : Told) (named : List ℕ) (disk old : Option D) (answer : Answer) : Type 0 where
+    pub last : D
+    pub disk_is : disk ≡ Some last
+    pub makings : AreMakings (making Disk named (is_none old) ∷ []) before after
+    pub answered : old ≡ None → answer ≡ Err DiskFault
+    pub answers : IfSome (before.stored named) (λ file. AnswersRead One limits file answer)
+    pub cause : HasCause told before after disk old answer
+    pub filled : IsFilledOrStays (before.stored named) last
+    pub old_stays : IfSome old (OnlyRead told (before.stored named))

@@ -1,0 +1,39 @@
+//! What the file of a shelf is, before it is opened.
+ghost use Rattle.std.specs.Prelude.{◌≡◌, ◌↔◌, [], IsTrue, IfOk, IfSome, OnOk};
+ghost use Rattle.keri_specs.specs.Causes.{HasCause};
+ghost use Rattle.keri_disk.specs.Calls.{Keeps};
+ghost use Rattle.keri_disk.specs.Images.{IsDurable};
+ghost use Rattle.shelf_log.specs.Format.{IsUnmarked};
+
+use keri_disk::Disk;
+use keri_outside::Failed;
+use shelf_log::{Version, begins_with_mark};
+
+/// Whether the file is empty. It syncs first, and writes nothing.
+#[tactic(auto, using(keri_disk::proofs::Moments::keeps_both, keri_disk::proofs::Moments::durable_kept))]
+pub(crate) fn is_empty<D: Disk>(disk: &mut D) -> Result<bool, Failed>
+    ensures empty { IfOk result (λ is_empty. IfSome (D.told disk.old).file
+        (λ file. IsTrue is_empty ↔ (file ≡ []))) }
+    ensures durable { OnOk result (IsDurable (D.told disk.new)) }
+    ensures keeps { Keeps (D.told disk.old) (D.told disk.new) }
+    ensures cause { HasCause (D.told disk.old).faults (D.told disk.new).faults result }
+{
+    disk.sync()?;
+    Ok(disk.size()? == 0)
+}
+
+/// Whether the file begins with the mark of no version. It syncs first, and writes nothing.
+#[tactic(auto, using(keri_disk::proofs::Moments::keeps_both, keri_disk::proofs::Moments::durable_kept))]
+pub(crate) fn is_unmarked<D: Disk>(disk: &mut D) -> Result<bool, Failed>
+    ensures unmarked { IfOk result (λ is_unmarked. IfSome (D.told disk.old).file
+        (λ file. IsTrue is_unmarked ↔ IsUnmarked file)) }
+    ensures durable { OnOk result (IsDurable (D.told disk.new)) }
+    ensures keeps { Keeps (D.told disk.old) (D.told disk.new) }
+    ensures cause { HasCause (D.told disk.old).faults (D.told disk.new).faults result }
+{
+    disk.sync()?;
+    if begins_with_mark(disk, Version::Two)? {
+        return Ok(false);
+    }
+    Ok(!begins_with_mark(disk, Version::One)?)
+}

@@ -1,0 +1,53 @@
+//! A file that is filled with the list of an old shelf.
+ghost use Rattle.std.specs.Prelude.{◌≡◌, Some, IfOk, IfSome, MatchResult, Ok, Err};
+ghost use Rattle.keri_disk.specs.Images.{IsDurable};
+ghost use Rattle.shelf_log.specs.Format.{IsUnmarked};
+ghost use Rattle.witness_opening.specs.Opening.{IsOpen};
+ghost use Rattle.witness_opening.specs.Ways.{FillsIt};
+
+use crate::{NotOpened, Opened, OpeningFault};
+use keri_outside::Limits;
+use run_outside::Outside;
+use shelf_log::{OldShelf, Returned, Shelf, Version};
+use std::alloc::Global;
+
+/// Makes the disk of the old shelf, reads its list, and brings that over to the file, which is no shelf.
+pub(crate) fn fill<O: Outside>(
+    alloc: Global,
+    disk: O::Disk,
+    old: &str,
+    limits: Limits,
+    outside: &mut O,
+) -> Result<Opened<O::Disk>, NotOpened<O::Disk>>
+    requires durable { IsDurable (O.Disk.told disk) }
+    requires unmarked { IfSome (O.Disk.told disk).file IsUnmarked }
+    requires none_yet { (O.Disk.told disk).faults ≡ 0 }
+    ensures is_open { IfOk result (λ opened. IsOpen (O.Disk.told opened.shelf.disk) limits
+        opened.shelf.limits opened.shelf.broken opened.shelf.list) }
+    ensures fills { MatchResult result
+        (λ opened. FillsIt O.Disk.told disk limits (O.told outside.old) (O.told outside.new) old.now
+        (Some opened.shelf.disk) opened.old (Ok opened.shelf.list))
+        (λ none. FillsIt O.Disk.told disk limits (O.told outside.old) (O.told outside.new) old.now
+        none.disk none.old (Err none.fault)) }
+    ensures same_sink { O.sink outside.new ≡ O.sink outside.old }
+{
+    let Ok(old) = outside.disk(old) else {
+        return Err(NotOpened::failed(Some(disk)));
+    };
+    match Shelf::read_old(alloc, old, limits) {
+        Ok(OldShelf { disk: old, list }) => {
+            match Shelf::migrate(alloc, list.as_slice(), disk, limits) {
+                Ok(shelf) => Ok(Opened {
+                    shelf,
+                    old: Some(old),
+                }),
+                Err(returned) => Err(NotOpened::of(returned, Some(old))),
+            }
+        }
+        Err(Returned { disk: old, fault }) => Err(NotOpened {
+            fault: OpeningFault::of(Version::One, fault),
+            disk: Some(disk),
+            old: Some(old),
+        }),
+    }
+}

@@ -1,0 +1,53 @@
+//! What opening a shelf comes to.
+ghost use Rattle.std.specs.Prelude.{◌≡◌, ◌≢◌};
+
+use crate::OpeningFault;
+use keri_disk::Disk;
+use shelf_log::{Returned, Shelf, Version};
+
+/// A shelf that is open, and the disk of the old one, where its list was brought over.
+#[derive(Drop)]
+pub struct Opened<D: Disk> {
+    pub shelf: Shelf<D>,
+    pub old: Option<D>,
+}
+
+/// Why there is no shelf, and the disks that were made: that of the shelf, and that of the old one.
+#[derive(Drop)]
+pub struct NotOpened<D> {
+    pub fault: OpeningFault,
+    pub disk: Option<D>,
+    pub old: Option<D>,
+}
+
+impl<D: Drop> NotOpened<D> {
+    ghost use Rattle.std.specs.Prelude.{None, Some};
+    ghost use Rattle.shelf_log.specs.declared.fault.ShelfFault.TheVariants.{Broken};
+    ghost use Rattle.shelf_log.specs.declared.version.Version.TheVariants.{Two};
+    ghost use Rattle.witness_opening.specs.Answers.{refusal};
+    ghost use Rattle.witness_opening.specs.declared.fault.OpeningFault.TheVariants.{DiskFault};
+
+    /// A disk failed, or couldn't be made.
+    pub(crate) fn failed(disk: Option<D>) -> NotOpened<D>
+        ensures { result ≡ record { fault = DiskFault; disk = disk; old = None } }
+    {
+        NotOpened {
+            fault: OpeningFault::DiskFault,
+            disk,
+            old: None,
+        }
+    }
+
+    /// The shelf's file isn't read or written.
+    pub(crate) fn of(returned: Returned<D>, old: Option<D>) -> NotOpened<D>
+        requires { returned.fault ≢ Broken }
+        ensures { result ≡ record { fault = refusal Two returned.fault; disk = Some returned.disk; old = old } }
+    {
+        let Returned { disk, fault } = returned;
+        NotOpened {
+            fault: OpeningFault::of(Version::Two, fault),
+            disk: Some(disk),
+            old,
+        }
+    }
+}

@@ -1,0 +1,93 @@
+//! Opening a shelf over the outside.
+ghost use Rattle.std.specs.Prelude.{◌≡◌, None, Some, IfOk, MatchResult, Ok, Err};
+ghost use Rattle.std.specs.Option.{option_map};
+ghost use Rattle.witness_opening.specs.Opening.{IsOpen, IsOpening};
+
+use crate::file_kind::{is_empty, is_unmarked};
+use crate::old_list::fill;
+use crate::ways::{begin, read};
+use crate::{NotOpened, Opened, OpeningFault};
+use keri_outside::{Failed, Limits};
+use run_outside::Outside;
+use std::alloc::Global;
+
+/// Opens the shelf of a name. An empty file is made one. Where an old shelf is named, a file that begins with the mark of no
+/// version is filled with its list instead, and what it held is lost.
+///
+/// A file that is a shelf, or begins as one of either version, isn't written, and the old one's never is.
+pub fn open_shelf<O: Outside>(
+    alloc: Global,
+    name: &str,
+    old: Option<&str>,
+    limits: Limits,
+    outside: &mut O,
+) -> Result<Opened<O::Disk>, NotOpened<O::Disk>>
+    ensures is_open { IfOk result (λ opened. IsOpen (O.Disk.told opened.shelf.disk) limits
+        opened.shelf.limits opened.shelf.broken opened.shelf.list) }
+    ensures opens { MatchResult result
+        (λ opened. IsOpening O.Disk.told limits (O.told outside.old) (O.told outside.new) name.now
+        (option_map (λ n. n.now) old.entry) (Some opened.shelf.disk) opened.old (Ok opened.shelf.list))
+        (λ none. IsOpening O.Disk.told limits (O.told outside.old) (O.told outside.new) name.now
+        (option_map (λ n. n.now) old.entry) none.disk none.old (Err none.fault)) }
+    ensures same_sink { O.sink outside.new ≡ O.sink outside.old }
+{
+    match old {
+        Some(old) => open_beside(alloc, name, old, limits, outside),
+        None => open_alone(alloc, name, limits, outside),
+    }
+}
+
+// No old shelf is named.
+fn open_alone<O: Outside>(
+    alloc: Global,
+    name: &str,
+    limits: Limits,
+    outside: &mut O,
+) -> Result<Opened<O::Disk>, NotOpened<O::Disk>>
+    ensures is_open { IfOk result (λ opened. IsOpen (O.Disk.told opened.shelf.disk) limits
+        opened.shelf.limits opened.shelf.broken opened.shelf.list) }
+    ensures opens { MatchResult result
+        (λ opened. IsOpening O.Disk.told limits (O.told outside.old) (O.told outside.new) name.now
+        None (Some opened.shelf.disk) opened.old (Ok opened.shelf.list))
+        (λ none. IsOpening O.Disk.told limits (O.told outside.old) (O.told outside.new) name.now
+        None none.disk none.old (Err none.fault)) }
+    ensures same_sink { O.sink outside.new ≡ O.sink outside.old }
+{
+    let Ok(disk) = outside.disk(name) else {
+        return Err(NotOpened::failed(None));
+    };
+    let mut disk = disk;
+    match is_empty(&mut disk) {
+        Ok(true) => begin(alloc, disk, limits),
+        Ok(false) => read(alloc, disk, limits),
+        Err(Failed) => Err(NotOpened::failed(Some(disk))),
+    }
+}
+
+// An old shelf is named.
+fn open_beside<O: Outside>(
+    alloc: Global,
+    name: &str,
+    old: &str,
+    limits: Limits,
+    outside: &mut O,
+) -> Result<Opened<O::Disk>, NotOpened<O::Disk>>
+    ensures is_open { IfOk result (λ opened. IsOpen (O.Disk.told opened.shelf.disk) limits
+        opened.shelf.limits opened.shelf.broken opened.shelf.list) }
+    ensures opens { MatchResult result
+        (λ opened. IsOpening O.Disk.told limits (O.told outside.old) (O.told outside.new) name.now
+        (Some old.now) (Some opened.shelf.disk) opened.old (Ok opened.shelf.list))
+        (λ none. IsOpening O.Disk.told limits (O.told outside.old) (O.told outside.new) name.now
+        (Some old.now) none.disk none.old (Err none.fault)) }
+    ensures same_sink { O.sink outside.new ≡ O.sink outside.old }
+{
+    let Ok(disk) = outside.disk(name) else {
+        return Err(NotOpened::failed(None));
+    };
+    let mut disk = disk;
+    match is_unmarked(&mut disk) {
+        Ok(true) => fill(alloc, disk, old, limits, outside),
+        Ok(false) => read(alloc, disk, limits),
+        Err(Failed) => Err(NotOpened::failed(Some(disk))),
+    }
+}
