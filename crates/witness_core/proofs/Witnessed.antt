@@ -1,0 +1,81 @@
+-- What a witness keeps from call to call.
+use Rattle.std.proofs.Common.{◌≡◌, ◌≤◌, ℕ, Bool, false, List, length, Option, Err, refl, sym, ◌∙◌, subst}
+use Rattle.std.specs.Prelude.{IfSome}
+use Rattle.std.proofs.lemmas.Bool.{true≢false}
+use Rattle.std.proofs.lemmas.List.{length-map}
+use Rattle.event_payload.specs.Payloads.{text_in}
+use Rattle.cesr_codes.specs.declared.key.Key.{Key}
+use Rattle.cesr_codes.specs.declared.sig.Sig.{Sig}
+use Rattle.cesr_stream.specs.declared.message.Message.{Message}
+use Rattle.keri_disk.specs.Images.{DiskTold}
+use Rattle.keri_outside.specs.declared.limits.Limits.{Limits}
+use Rattle.shelf_log.specs.Format.{Holds}
+use Rattle.shelf_log.specs.Settled.{AllHold, IsSettled}
+use Rattle.shelf_log.specs.declared.version.Version.TheVariants.{Two}
+use Rattle.validator_core.specs.View.{CoreView}
+use Rattle.witness_core.specs.Faults.{Goes, StoresStill, breaks}
+use Rattle.witness_core.specs.Histories.{history_of}
+use Rattle.witness_core.specs.Payloads.{AreListed}
+use Rattle.witness_core.specs.Starts.{IsFirstRoom, IsStarted}
+use Rattle.witness_core.specs.Storing.{AreStored, GoesOn, StoresOn, missing, payloads}
+use Rattle.witness_core.specs.Telling.{IsUntold, TellsFault}
+use Rattle.witness_core.specs.declared.room.Room.{Room}
+use Rattle.witness_core.specs.declared.witness_fault.WitnessFault.{WitnessFault}
+use Rattle.witness_core.specs.declared.witness_fault.WitnessFault.TheVariants.{DiskFault, SignerFault, VerifierFault, Full, Broken, OutOfMemory}
+use Rattle.witness_core.proofs.Listed.{listed}
+use Rattle.witness_core.proofs.Starting.{started}
+use Rattle.witness_core.proofs.Stored.{payloads_all}
+
+-- STORED: what is stored is listed
+pub are_listed : (core : CoreView) (list : List (List ℕ)) (limits : Limits) (broken : Bool) (told : DiskTold) (room : Room) → AreStored (history_of core) list limits broken told room → AreListed core list
+are_listed core list limits broken told room stored = subst (AreListed core) (payloads_all (history_of core) list stored.all) (listed core list stored.on_way)
+
+-- and goes on so
+pub stores_on : (old : List (List ℕ)) (disk_old : DiskTold) (core : CoreView) (new : List (List ℕ)) (disk_new : DiskTold) → GoesOn old disk_old (history_of core) new disk_new → StoresOn old disk_old core new disk_new
+stores_on old disk_old core new disk_new goes = record {
+  accepted = payloads (history_of core) new;
+  listed = listed core new goes.on_way;
+  grown = goes.grown;
+  first = (missing (history_of core) new, refl);
+  longer = goes.longer;
+  images = goes.images;
+  moments = goes.moments;
+}
+
+-- BROKEN: by just those faults that leave something unstored
+module _ (S : Type 0) where
+  still : (fault : WitnessFault) → StoresStill fault S → breaks fault ≡ false → S
+  still DiskFault kept whole = absurd (true≢false whole)
+  still OutOfMemory kept whole = absurd (true≢false whole)
+  still SignerFault kept whole = kept
+  still VerifierFault kept whole = kept
+  still Full kept whole = kept
+  still Broken kept whole = absurd kept
+
+  pub still_stored : (fault : WitnessFault) → StoresStill fault S → (broken : Bool) → broken ≡ breaks fault → broken ≡ false → S
+  still_stored fault kept broken is whole = still fault kept (sym is ∙ whole)
+
+  goes_so : (T : Type 0) (fault : WitnessFault) → StoresStill fault S → Goes {T = T} false (breaks fault) (Err fault)
+  goes_so T DiskFault kept = refl
+  goes_so T OutOfMemory kept = refl
+  goes_so T SignerFault kept = refl
+  goes_so T VerifierFault kept = refl
+  goes_so T Full kept = refl
+  goes_so T Broken kept = kept
+
+  pub goes_by : (T : Type 0) (fault : WitnessFault) → StoresStill fault S → (old new : Bool) → old ≡ false → new ≡ breaks fault → Goes {T = T} old new (Err fault)
+  goes_by T fault kept old new whole is = subst (λ b. Goes {T = T} b new (Err fault)) (sym whole) (subst (λ b. Goes {T = T} false b (Err fault)) (sym is) (goes_so T fault kept))
+
+-- at a fault for want of room nothing was told
+pub full_untold : (says : Key → List ℕ → Sig → Option Bool) (old : CoreView) (m : Message) (fault : WitnessFault) (new : CoreView) → TellsFault says old m fault new → fault ≡ Full → IsUntold old new
+full_untold says old m fault new tells is = subst (λ (f : WitnessFault). TellsFault says old m f new) is tells
+
+-- STARTED: a settled shelf's list
+pub settled_holds : (told : DiskTold) (list : List (List ℕ)) → IsSettled told list → AllHold told list
+settled_holds told list settled = λ c now. subst (λ (o : Option (List ℕ)). IfSome o (λ file. Holds Two file list)) (settled.0 c now) settled.1
+
+pub started_stored : (core : CoreView) (list : List (List ℕ)) (limits shelf_limits : Limits) (broken : Bool) (disk : DiskTold) (room : Room) → IsStarted limits list core → IsFirstRoom core room → length list ≤ shelf_limits.records
+    → broken ≡ false → AllHold disk list → AreStored (history_of core) list shelf_limits broken disk room
+started_stored core list limits shelf_limits broken disk room is first few whole holds =
+    subst (λ b. AreStored (history_of core) list shelf_limits b disk room) (sym whole)
+    (started core list shelf_limits disk room (is.base ∙ length-map list text_in) is.log.reading.bytes_are is.log.fit is.entries first.stands.in_order first.signatures first.reserved few holds)

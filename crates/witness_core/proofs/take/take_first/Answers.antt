@@ -1,0 +1,47 @@
+use Rattle.std.proofs.Common.{◌+◌, ◌*◌, ap, arith, length, ◌∙◌}
+use Rattle.std.proofs.lemmas.List.{length-map}
+use Rattle.core_tables.specs.View.{body_of}
+use Rattle.validator_core.specs.View.{told_of}
+use Rattle.witness_core.specs.Room.{signatures_in}
+use Rattle.witness_core.specs.Telling.{told, untold}
+use Rattle.witness_core.proofs.Entering.{fails_by, first_number, first_room, untold_itself}
+use Rattle.witness_core.proofs.Results.{if_err}
+use Rattle.witness_core.proofs.Rooms.{signatures_few}
+use Rattle.witness_core.proofs.take.take_first.Goals as goal
+
+pub returns-in_err-number-clause-fault : goal.returns-in_err-number-clause-fault
+returns-in_err-number-clause-fault c = if_err c.from_residual.result _ _ c.from_residual.ensures.1 (untold (untold_itself c.args.core.now))
+
+pub returns-in_err-enter-clause-fault : goal.returns-in_err-enter-clause-fault
+returns-in_err-enter-clause-fault c =
+    let fault = c.in_err-enter.field-0.0 in
+    if_err c.from_residual-in_err-enter.result fault _ c.from_residual-in_err-enter.ensures.1
+    (fails_by _ (body_of c.args.body.now c.args.event) c.args.claims c.args.core.now c.args.room.now c.enter.new.core fault c.in_err-enter.ensures.untold c.in_err-enter.ensures.full c.in_err-enter.ensures.fault)
+
+pub overflow_cast-signatures : goal.overflow_cast-signatures
+overflow_cast-signatures c =
+    let core = c.args.core.now in
+    omega (
+      arith,
+      c.count_signatures-signatures.ensures,
+      ap signatures_in c.as_slice.ensures,
+      signatures_few (told_of core) (body_of c.args.body.now c.args.event) c.args.claims,
+      c.in_ok-enter.ensures.came.few,
+      core.limits.signatures_standard,
+    )
+
+pub returns-in_err-add_body-clause-fault : goal.returns-in_err-add_body-clause-fault
+returns-in_err-add_body-clause-fault c = if_err c.from_residual-in_err-add_body.result _ _ c.from_residual-in_err-add_body.ensures.1 (told c.in_ok-enter.ensures.came)
+
+pub returns-clause-number : goal.returns-clause-number
+returns-clause-number c =
+    let core = c.args.core.now in
+    first_number core c.requires.known c.enter.new.core c.in_ok-enter.ensures.known (body_of c.args.body.now c.args.event) c.args.claims c.in_ok-enter.ensures.came c.in_ok-number.number
+    (c.in_ok-number.ensures.ok ∙ c.len.ensures ∙ ap length c.journal.ensures.bodies ∙ length-map core.held (λ b. b.bytes)) c.requires.new
+
+pub returns-clause-room : goal.returns-clause-room
+returns-clause-room c =
+    let core = c.args.core.now in
+    first_room core c.requires.known c.enter.new.core c.in_ok-enter.ensures.known (body_of c.args.body.now c.args.event) c.args.claims c.in_ok-enter.ensures.came c.args.room.now c.add_body.new.self c.requires.room
+    c.requires.no_receipt c.count_signatures-signatures.result (c.count_signatures-signatures.ensures ∙ ap signatures_in c.as_slice.ensures) c.requires.new
+    c.in_ok-add_body.ensures.signatures (c.in_ok-add_body.ensures.reserved ∙ ap (λ n. c.args.room.now.reserved + (n + 13 + 92 * c.count_signatures-signatures.result)) c.len-2.ensures)

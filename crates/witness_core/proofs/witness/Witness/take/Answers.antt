@@ -1,0 +1,39 @@
+use Rattle.std.proofs.Common.{◌≡◌, ◌∙◌, ap, sym}
+use Rattle.witness_core.specs.Faults.{breaks}
+use Rattle.witness_core.specs.declared.witness_fault.WitnessFault.TheVariants.{Full as NoRoom}
+use Rattle.witness_core.proofs.Witnessed.{are_listed, full_untold, goes_by, still_stored, stores_on}
+use Rattle.witness_core.proofs.witness.Witness.take.Goals as goal
+
+pub returns-in-Ok-clause-stored : goal.returns-in-Ok-clause-stored
+returns-in-Ok-clause-stored g c =
+    let core = c.take_message.new.core in
+    let s = c.take_message.new.shelf in
+    λ _. are_listed core s.list s.limits s.broken (g.D.Disk.told s.disk) c.take_message.new.room c.in-Ok.ensures.stored
+
+pub returns-in-Ok-clause-stores : goal.returns-in-Ok-clause-stores
+returns-in-Ok-clause-stores g c =
+    let old = c.args.self.now.shelf in
+    let s = c.take_message.new.shelf in
+    λ _. stores_on old.list (g.D.Disk.told old.disk) c.take_message.new.core s.list (g.D.Disk.told s.disk) c.take_message.ensures.goes_on
+
+pub returns-in-Err-clause-goes : goal.returns-in-Err-clause-goes
+returns-in-Err-clause-goes g c = goes_by _ _ c.in-Err.fault c.in-Err.ensures.kept c.args.self.now.broken c.breaks-self.result c.if-self.false c.breaks-self.ensures
+
+pub returns-in-Err-clause-same_at_full : goal.returns-in-Err-clause-same_at_full
+returns-in-Err-clause-same_at_full g c =
+    λ is.
+    let fault : c.in-Err.fault ≡ NoRoom = cc in
+    let told = full_untold (g.V.Verifier.says c.args.verifier.now) c.args.self.now.core c.args.message.now c.in-Err.fault c.take_message.new.core c.in-Err.ensures.told fault in
+    (c.in-Err.ensures.same_at_full fault, c.breaks-self.ensures ∙ ap breaks fault ∙ sym c.if-self.false, told)
+
+pub returns-in-Err-clause-stored : goal.returns-in-Err-clause-stored
+returns-in-Err-clause-stored g c =
+    let core = c.take_message.new.core in
+    let s = c.take_message.new.shelf in
+    λ whole. are_listed core s.list s.limits s.broken (g.D.Disk.told s.disk) c.take_message.new.room (still_stored _ c.in-Err.fault c.in-Err.ensures.kept c.breaks-self.result c.breaks-self.ensures whole)
+
+pub returns-in-Err-clause-stores : goal.returns-in-Err-clause-stores
+returns-in-Err-clause-stores g c =
+    let old = c.args.self.now.shelf in
+    let s = c.take_message.new.shelf in
+    λ _. stores_on old.list (g.D.Disk.told old.disk) c.take_message.new.core s.list (g.D.Disk.told s.disk) c.take_message.ensures.goes_on

@@ -1,0 +1,92 @@
+-- What a fault leaves, and what causes it (own).
+use Rattle.std.specs.Prelude.{◌≡◌, ℕ, Bool, true, false}
+use Rattle.std.specs.declared.result.Result.{Result}
+use Rattle.std.specs.declared.result.Result.TheVariants.{Ok, Err}
+use Rattle.keri_specs.specs.Causes.{Rose}
+use Rattle.witness_core.specs.declared.witness_fault.WitnessFault.{WitnessFault}
+use Rattle.witness_core.specs.declared.witness_fault.WitnessFault.TheVariants.{DiskFault, SignerFault, VerifierFault, Full, Broken, OutOfMemory}
+
+-- the witness is broken after it
+abbrev pub breaks : WitnessFault → Bool
+breaks DiskFault = true
+breaks OutOfMemory = true
+breaks SignerFault = false
+breaks VerifierFault = false
+breaks Full = false
+breaks Broken = false
+
+-- of the faults in the midst of a message, all but those by which the witness breaks leave all stored
+abbrev pub StoresStill : WitnessFault → Type 0 → Type 0
+StoresStill DiskFault stored = Unit {0}
+StoresStill OutOfMemory stored = Unit {0}
+StoresStill SignerFault stored = stored
+StoresStill VerifierFault stored = stored
+StoresStill Full stored = stored
+StoresStill Broken stored = ⊥
+
+-- a witness that is broken answers that it is, and any other is broken then by just a fault of the disk or want of memory
+abbrev pub Goes : {T : Type 0} → Bool → Bool → Result T WitnessFault → Type 0
+Goes true new (Ok _) = ⊥
+Goes true new (Err fault) = (fault ≡ Broken) × (new ≡ true)
+Goes false new (Ok _) = new ≡ false
+Goes false new (Err DiskFault) = new ≡ true
+Goes false new (Err OutOfMemory) = new ≡ true
+Goes false new (Err SignerFault) = new ≡ false
+Goes false new (Err VerifierFault) = new ≡ false
+Goes false new (Err Full) = new ≡ false
+Goes false new (Err Broken) = ⊥
+
+-- a witness that isn't broken answers that it is full just where a message is turned away, but for want of memory
+abbrev pub FullBy : Type 0 → WitnessFault → Type 0
+FullBy turned Full = turned
+FullBy turned OutOfMemory = Unit {0}
+FullBy turned DiskFault = turned → ⊥
+FullBy turned SignerFault = turned → ⊥
+FullBy turned VerifierFault = turned → ⊥
+FullBy turned Broken = turned → ⊥
+
+-- The counts of faults of the disk, of the verifier and of the signer, each before and after: that of the one whose fault it is
+-- rose, and else they are as they were.
+abbrev pub CausedBy : ℕ → ℕ → ℕ → ℕ → ℕ → ℕ → WitnessFault → Type 0
+CausedBy disk disk_then verifier verifier_then signer signer_then DiskFault = Rose disk disk_then × (verifier_then ≡ verifier) × (signer_then ≡ signer)
+CausedBy disk disk_then verifier verifier_then signer signer_then VerifierFault = (disk_then ≡ disk) × Rose verifier verifier_then × (signer_then ≡ signer)
+CausedBy disk disk_then verifier verifier_then signer signer_then SignerFault = (disk_then ≡ disk) × (verifier_then ≡ verifier) × Rose signer signer_then
+CausedBy disk disk_then verifier verifier_then signer signer_then Full = (disk_then ≡ disk) × (verifier_then ≡ verifier) × (signer_then ≡ signer)
+CausedBy disk disk_then verifier verifier_then signer signer_then Broken = (disk_then ≡ disk) × (verifier_then ≡ verifier) × (signer_then ≡ signer)
+CausedBy disk disk_then verifier verifier_then signer signer_then OutOfMemory = (disk_then ≡ disk) × (verifier_then ≡ verifier) × (signer_then ≡ signer)
+
+-- while payloads are stored the disk fails, and its count rises, or there is no memory
+abbrev pub StoreFault : ℕ → ℕ → WitnessFault → Type 0
+StoreFault disk disk_then DiskFault = Rose disk disk_then
+StoreFault disk disk_then OutOfMemory = disk_then ≡ disk
+StoreFault disk disk_then SignerFault = ⊥
+StoreFault disk disk_then VerifierFault = ⊥
+StoreFault disk disk_then Full = ⊥
+StoreFault disk disk_then Broken = ⊥
+
+-- and while questions are asked too the verifier may
+abbrev pub AskFault : ℕ → ℕ → ℕ → ℕ → WitnessFault → Type 0
+AskFault disk disk_then verifier verifier_then DiskFault = Rose disk disk_then × (verifier_then ≡ verifier)
+AskFault disk disk_then verifier verifier_then VerifierFault = (disk_then ≡ disk) × Rose verifier verifier_then
+AskFault disk disk_then verifier verifier_then OutOfMemory = (disk_then ≡ disk) × (verifier_then ≡ verifier)
+AskFault disk disk_then verifier verifier_then SignerFault = ⊥
+AskFault disk disk_then verifier verifier_then Full = ⊥
+AskFault disk disk_then verifier verifier_then Broken = ⊥
+
+-- and while a message is taken there may be no room
+abbrev pub TakeFault : ℕ → ℕ → ℕ → ℕ → WitnessFault → Type 0
+TakeFault disk disk_then verifier verifier_then DiskFault = Rose disk disk_then × (verifier_then ≡ verifier)
+TakeFault disk disk_then verifier verifier_then VerifierFault = (disk_then ≡ disk) × Rose verifier verifier_then
+TakeFault disk disk_then verifier verifier_then Full = (disk_then ≡ disk) × (verifier_then ≡ verifier)
+TakeFault disk disk_then verifier verifier_then OutOfMemory = (disk_then ≡ disk) × (verifier_then ≡ verifier)
+TakeFault disk disk_then verifier verifier_then SignerFault = ⊥
+TakeFault disk disk_then verifier verifier_then Broken = ⊥
+
+-- while receipts are signed the signer fails, and its count rises, or there is no memory
+abbrev pub SignFault : ℕ → ℕ → WitnessFault → Type 0
+SignFault signer signer_then SignerFault = Rose signer signer_then
+SignFault signer signer_then OutOfMemory = signer_then ≡ signer
+SignFault signer signer_then DiskFault = ⊥
+SignFault signer signer_then VerifierFault = ⊥
+SignFault signer signer_then Full = ⊥
+SignFault signer signer_then Broken = ⊥

@@ -1,0 +1,11 @@
+pub mod Histories
+pub mod Payloads
+pub mod Room
+pub mod Storing
+pub mod Faults
+pub mod Telling
+pub mod Laws
+pub mod Receipts
+pub mod Fates
+pub mod Starts
+pub mod Outcomes

@@ -1,0 +1,24 @@
+//! A witness: it stores each event that its core accepts, with the signatures under which it was accepted, and gives receipts of
+//! the events that are stored.
+#![tactic(auto)]
+
+mod fate;
+mod open_questions;
+mod outcome;
+mod payload;
+mod receipt;
+mod receipts;
+mod room;
+mod start;
+mod store;
+mod take;
+mod taken;
+mod witness;
+mod witness_fault;
+
+pub use fate::Fate;
+pub use outcome::Outcome;
+pub use receipt::Receipt;
+pub use start::StartFault;
+pub use witness::Witness;
+pub use witness_fault::WitnessFault;

@@ -1,0 +1,240 @@
+//! Messages that are judged, told to the core, and stored.
+ghost use Rattle.std.specs.Prelude.{◌≡◌, ◌⊎◌, ◌≤◌, true, false, length, IfOk, IfErr, OnOk, OnErr, MatchResult, Ok, Some, slice_get};
+ghost use Rattle.acceptance.specs.Standing.{IsHeld};
+ghost use Rattle.core_tables.specs.View.{body_of};
+ghost use Rattle.event_body.specs.Events as events;
+ghost use Rattle.journal.specs.Logs.{is_in};
+ghost use Rattle.journal.specs.Replies as replies;
+ghost use Rattle.journal.specs.Replies.{is_full};
+ghost use Rattle.validator_core.specs.Messages.{JudgesMessage};
+ghost use Rattle.validator_core.specs.View.{Follows, base_of, told_of};
+ghost use Rattle.witness_core.specs.Faults.{FullBy, StoresStill, TakeFault};
+ghost use Rattle.witness_core.specs.Histories.{history_of, log_in};
+ghost use Rattle.witness_core.specs.Room.{IsKnown, IsRoom, IsTurnedAway, has_no_room};
+ghost use Rattle.witness_core.specs.Storing.{AreStored, GoesOn};
+ghost use Rattle.witness_core.specs.Telling.{AsksVerdicts, Came, Fails, FailsMessage, IsTakenAs, IsUntold, IsReady, TakesIn, TellsFault, TellsTaken};
+ghost use Rattle.witness_core.specs.declared.witness_fault.WitnessFault.TheVariants.{Full as NoRoom, OutOfMemory as NoMemory};
+
+use crate::WitnessFault;
+use crate::open_questions::ask_open;
+use crate::receipts::stands;
+use crate::room::{Coming, Room, count_signatures, lacks_room};
+use crate::store::store;
+use crate::taken::Taken;
+use cesr_stream::Message;
+use event_body::{Event, is_receipt};
+use journal::{Claim, Reply};
+use json_tree::Text;
+use keri_disk::Disk;
+use keri_outside::{Limits, Steps, Verifier};
+use lists::{Items, length_u32};
+use shelf_log::Shelf;
+use std::alloc::Global;
+use validator_core::{Core, claims_of, judge_message};
+
+/// Takes a message, asks each open question, and after each entry stores what it makes accepted.
+pub(crate) fn take_whole<D: Disk + Drop, V: Verifier>(
+    alloc: Global,
+    core: &mut Core,
+    shelf: &mut Shelf<D>,
+    room: &mut Room,
+    steps: &mut Steps,
+    limits: Limits,
+    message: &Message,
+    verifier: &mut V,
+) -> Result<Taken, WitnessFault>
+    requires limits { (shelf.old.limits ≡ limits) × (core.old.limits ≡ limits) }
+    requires stored { AreStored (history_of core.old) shelf.old.list shelf.old.limits shelf.old.broken
+        (D.told shelf.old.disk) room.old }
+    ensures stored { OnOk result (AreStored (history_of core.new) shelf.new.list shelf.new.limits shelf.new.broken
+        (D.told shelf.new.disk) room.new) }
+    ensures kept { IfErr result (λ fault. StoresStill fault (AreStored (history_of core.new) shelf.new.list
+        shelf.new.limits shelf.new.broken (D.told shelf.new.disk) room.new)) }
+    ensures goes_on { GoesOn shelf.old.list (D.told shelf.old.disk) (history_of core.new) shelf.new.list
+        (D.told shelf.new.disk) }
+    ensures limits { shelf.new.limits ≡ shelf.old.limits }
+    ensures same_at_full { IfErr result (λ fault. fault ≡ NoRoom → shelf.new ≡ shelf.old) }
+    ensures full { MatchResult result (λ _. IsTurnedAway limits core.old shelf.old.list message.now → ⊥)
+        (FullBy (IsTurnedAway limits core.old shelf.old.list message.now)) }
+    ensures told { MatchResult result (λ taken. TellsTaken (V.says verifier.old) core.old message.now taken core.new)
+        (λ fault. TellsFault (V.says verifier.old) core.old message.now fault core.new) }
+    ensures says { V.says verifier.new ≡ V.says verifier.old }
+    ensures taken { IfOk result (IsTakenAs core.new shelf.old.list shelf.new.list message.now) }
+    ensures verdicts { AsksVerdicts (V.inquiries verifier.old) (V.inquiries verifier.new) core.old core.new }
+    ensures follows { Follows core.old core.new }
+    ensures disk_same { OnOk result ((D.told shelf.new.disk).faults ≡ (D.told shelf.old.disk).faults) }
+    ensures verifier_same { OnOk result (V.faults verifier.new ≡ V.faults verifier.old) }
+    ensures causes { IfErr result (TakeFault (D.told shelf.old.disk).faults (D.told shelf.new.disk).faults
+        (V.faults verifier.old) (V.faults verifier.new)) }
+{
+    let taken = take_in(alloc, core, shelf, room, steps, limits, message)?;
+    match taken {
+        Taken::Refused(reason) => Ok(Taken::Refused(reason)),
+        Taken::NotAnEvent => Ok(Taken::NotAnEvent),
+        Taken::Event(number) => {
+            store(alloc, core, shelf, room)?;
+            ask_open(alloc, core, shelf, room, steps, verifier)?;
+            stands(core);
+            Ok(Taken::Event(number))
+        }
+    }
+}
+
+// Judges a message, and tells the core of its event where there is room.
+fn take_in<D: Disk + Drop>(
+    alloc: Global,
+    core: &mut Core,
+    shelf: &Shelf<D>,
+    room: &mut Room,
+    steps: &mut Steps,
+    limits: Limits,
+    message: &Message,
+) -> Result<Taken, WitnessFault>
+    requires limits { (shelf.now.limits ≡ limits) × (core.old.limits ≡ limits) }
+    requires stored { AreStored (history_of core.old) shelf.now.list shelf.now.limits shelf.now.broken
+        (D.told shelf.now.disk) room.old }
+    ensures taken { IfOk result (λ taken. TakesIn limits core.old room.old shelf.now.list message.now taken
+        core.new room.new) }
+    ensures full { MatchResult result (λ _. IsTurnedAway limits core.old shelf.now.list message.now → ⊥)
+        (FullBy (IsTurnedAway limits core.old shelf.now.list message.now)) }
+    ensures fault { IfErr result (FailsMessage message.now core.old room.old core.new room.new) }
+{
+    match judge_message(alloc, message)? {
+        Err(reason) => Ok(Taken::Refused(reason)),
+        Ok(event) if is_receipt(&event) => Ok(Taken::NotAnEvent),
+        Ok(event) => {
+            let number = take_event(alloc, core, shelf, room, steps, limits, message, event)?;
+            Ok(Taken::Event(number))
+        }
+    }
+}
+
+// Tells the core of a message's event where there is room. Answers the number of its body.
+fn take_event<D: Disk + Drop>(
+    alloc: Global,
+    core: &mut Core,
+    shelf: &Shelf<D>,
+    room: &mut Room,
+    steps: &mut Steps,
+    limits: Limits,
+    message: &Message,
+    event: Event,
+) -> Result<u32, WitnessFault>
+    requires limits { (shelf.now.limits ≡ limits) × (core.old.limits ≡ limits) }
+    requires stored { AreStored (history_of core.old) shelf.now.list shelf.now.limits shelf.now.broken
+        (D.told shelf.now.disk) room.old }
+    requires judged { JudgesMessage message.now (Ok event) }
+    requires no_receipt { events.is_receipt event ≡ false }
+    ensures ready { IfOk result (λ number. IsReady limits core.old shelf.now.list message.now number
+        core.new room.new) }
+    ensures room { OnOk result (has_no_room limits core.old shelf.now.list (body_of message.now.body event)
+        (replies.claims_of message.now) ≡ false) }
+    ensures fault { IfErr result (Fails (has_no_room limits core.old shelf.now.list (body_of message.now.body event)
+        (replies.claims_of message.now) ≡ true) (body_of message.now.body event) (replies.claims_of message.now)
+        core.old room.old core.new room.new) }
+{
+    let claims = claims_of(alloc, message)?;
+    let coming = Coming {
+        number: core.number_of(message.body.as_slice(), &event),
+        bytes: message.body.len(),
+        signatures: count_signatures(claims.as_slice()),
+    };
+    if lacks_room(core, shelf, room, limits, coming) {
+        return Err(WitnessFault::Full);
+    }
+    match coming.number {
+        Some(number) => take_again(core, room, steps, &message.body, event, claims, number),
+        None => take_first(core, room, steps, &message.body, event, claims),
+    }
+}
+
+// Tells the core of claims on a body that it holds. Answers its number.
+fn take_again(
+    core: &mut Core,
+    room: &mut Room,
+    steps: &mut Steps,
+    body: &Text,
+    event: Event,
+    claims: Items<Claim>,
+    number: u32,
+) -> Result<u32, WitnessFault>
+    requires held { IsHeld (body_of body.now event) }
+    requires no_receipt { events.is_receipt event ≡ false }
+    requires known { IsKnown core.old }
+    requires there { slice_get core.old.held number ≡ Some (body_of body.now event) }
+    requires room { IsRoom (history_of core.old) (length (log_in (history_of core.old))) room.old }
+    requires small { room.old.reserved ≤ 1073741824 }
+    ensures known { OnOk result (IsKnown core.new) }
+    ensures number { IfOk result (λ number. slice_get core.new.held number ≡ Some (body_of body.now event)) }
+    ensures came { OnOk result (Came (body_of body.now event) claims core.old core.new) }
+    ensures room { OnOk result (IsRoom (history_of core.new) (length (log_in (history_of core.old))) room.new) }
+    ensures not_full { OnOk result (is_full core.old.limits (base_of core.old) (told_of core.old)
+        (body_of body.now event) claims ≡ false) }
+    ensures fault { IfErr result (Fails (is_full core.old.limits (base_of core.old) (told_of core.old)
+        (body_of body.now event) claims ≡ true) (body_of body.now event) claims core.old room.old core.new room.new) }
+{
+    let signatures = count_signatures(claims.as_slice());
+    let waits = core.waiting().look(number, steps).is_some();
+    enter(core, steps, body, event, claims)?;
+    room.add_signatures(number, signatures as u32, waits);
+    Ok(number)
+}
+
+// Tells the core of a body that it doesn't hold. Answers its number.
+fn take_first(
+    core: &mut Core,
+    room: &mut Room,
+    steps: &mut Steps,
+    body: &Text,
+    event: Event,
+    claims: Items<Claim>,
+) -> Result<u32, WitnessFault>
+    requires held { IsHeld (body_of body.now event) }
+    requires no_receipt { events.is_receipt event ≡ false }
+    requires known { IsKnown core.old }
+    requires new { is_in core.old.held (body_of body.now event) ≡ false }
+    requires room { IsRoom (history_of core.old) (length (log_in (history_of core.old))) room.old }
+    requires small { room.old.reserved ≤ 1073741824 }
+    ensures known { OnOk result (IsKnown core.new) }
+    ensures number { IfOk result (λ number. slice_get core.new.held number ≡ Some (body_of body.now event)) }
+    ensures came { OnOk result (Came (body_of body.now event) claims core.old core.new) }
+    ensures room { OnOk result (IsRoom (history_of core.new) (length (log_in (history_of core.old))) room.new) }
+    ensures not_full { OnOk result (is_full core.old.limits (base_of core.old) (told_of core.old)
+        (body_of body.now event) claims ≡ false) }
+    ensures fault { IfErr result (Fails (is_full core.old.limits (base_of core.old) (told_of core.old)
+        (body_of body.now event) claims ≡ true) (body_of body.now event) claims core.old room.old core.new room.new) }
+{
+    let signatures = count_signatures(claims.as_slice());
+    let number = length_u32(core.journal().bodies.len())?;
+    enter(core, steps, body, event, claims)?;
+    room.add_body(body.len(), signatures as u32)?;
+    Ok(number)
+}
+
+// Tells the core of a body with its claims.
+fn enter(
+    core: &mut Core,
+    steps: &mut Steps,
+    body: &Text,
+    event: Event,
+    claims: Items<Claim>,
+) -> Result<(), WitnessFault>
+    requires held { IsHeld (body_of body.now event) }
+    ensures known { OnOk result (IsKnown core.new) }
+    ensures came { OnOk result (Came (body_of body.now event) claims core.old core.new) }
+    ensures not_full { OnOk result (is_full core.old.limits (base_of core.old) (told_of core.old)
+        (body_of body.now event) claims ≡ false) }
+    ensures untold { OnErr result (IsUntold core.old core.new) }
+    ensures full { IfErr result (λ fault. fault ≡ NoRoom → is_full core.old.limits (base_of core.old)
+        (told_of core.old) (body_of body.now event) claims ≡ true) }
+    ensures fault { IfErr result (λ fault. (fault ≡ NoRoom) ⊎ (fault ≡ NoMemory)) }
+{
+    let reply = core.take_event(0, body, event, claims, steps)?;
+    stands(core);
+    match reply {
+        Reply::Full => Err(WitnessFault::Full),
+        Reply::Taken => Ok(()),
+        Reply::Again => Ok(()),
+        Reply::Refused(_) => unreachable!(),
+    }
+}

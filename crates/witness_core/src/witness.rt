@@ -1,0 +1,195 @@
+//! The witness.
+ghost use Rattle.std.specs.Prelude.{◌≡◌, false};
+ghost use Rattle.std.proofs.Props.{props};
+ghost use Rattle.cesr_codes.specs.declared.key.KeyCode.TheVariants.{Fixed};
+ghost use Rattle.journal.specs.declared.mode.Mode.TheVariants.{Local};
+ghost use Rattle.witness_core.specs.Faults.{breaks as breaks_by};
+ghost use Rattle.witness_core.specs.Histories.{history_of};
+ghost use Rattle.witness_core.specs.Storing.{AreStored};
+
+use crate::outcome::take_message;
+use crate::room::Room;
+use crate::start::{Begun, begin};
+use crate::{Outcome, StartFault, WitnessFault};
+use cesr_codes::Key;
+use cesr_stream::Message;
+use journal::Journal;
+use keri_disk::Disk;
+use keri_outside::{Limits, Signer, Steps, Verifier};
+use lists::Items;
+use shelf_log::Shelf;
+use std::alloc::Global;
+use validator_core::Core;
+
+/// A witness: a core that waits for neither receipts nor seals, and a shelf with the payload of each event that it
+/// accepts.
+#[derive(Drop)]
+pub struct Witness<D: Disk> {
+    pub(crate) alloc: Global,
+    pub(crate) key: Key,
+    pub(crate) limits: Limits,
+    pub(crate) core: Core,
+    pub(crate) shelf: Shelf<D>,
+    pub(crate) steps: Steps,
+    pub(crate) room: Room,
+    // The disk failed, or there was no memory.
+    pub(crate) broken: bool,
+    ghost fixed: { key.code ≡ Fixed },
+    ghost local: { core.mode ≡ Local },
+    ghost core_limits: { core.limits ≡ limits },
+    ghost shelf_limits: { shelf.limits ≡ limits },
+    ghost stored: { broken ≡ false → AreStored (history_of core) shelf.list shelf.limits shelf.broken
+        (D.told shelf.disk) room } by { Prim.hlevel props },
+}
+
+impl<D: Disk + Drop> Witness<D> {
+    ghost use Rattle.std.specs.Prelude.{◌≡◌, true, map, All, Err, IfErr, IfOk, MatchResult, OnOk};
+    ghost use Rattle.validator_core.specs.View.{Follows, Stands};
+    ghost use Rattle.witness_core.specs.Faults.{CausedBy, FullBy, Goes};
+    ghost use Rattle.witness_core.specs.Fates.{IsFate};
+    ghost use Rattle.witness_core.specs.Outcomes.{AreReceipts, AsksSigner, IsOfStored, KeepsList, TellsFate};
+    ghost use Rattle.witness_core.specs.Payloads.{AreListed};
+    ghost use Rattle.witness_core.specs.Room.{IsTurnedAway};
+    ghost use Rattle.witness_core.specs.Starts.{AreNoStart, IsStarted};
+    ghost use Rattle.witness_core.specs.Storing.{StoresOn};
+    ghost use Rattle.witness_core.specs.Telling.{AsksVerdicts, IsUntold, TellsFault};
+    ghost use Rattle.witness_core.specs.declared.witness_fault.WitnessFault.TheVariants.{Full as NoRoom};
+
+    /// A witness that starts from a shelf: the events of its payloads count as accepted, in their order. Its key can't be
+    /// rotated.
+    pub fn start(
+        alloc: Global,
+        key: Key,
+        shelf: Shelf<D>,
+        limits: Limits,
+    ) -> Result<Witness<D>, StartFault<D>>
+        requires backer { key.code ≡ Fixed }
+        requires limits { shelf.limits ≡ limits }
+        requires whole { shelf.broken ≡ false }
+        ensures resumed { IfOk result (λ w. IsStarted limits shelf.list w.core × AreListed w.core w.shelf.list) }
+        ensures fresh { IfOk result (λ w. (w.broken ≡ false) × (w.key ≡ key) × (w.limits ≡ limits)) }
+        ensures same_shelf { MatchResult result (λ w. w.shelf ≡ shelf) (λ f. f.shelf ≡ shelf) }
+        ensures refused { IfErr result (λ f. AreNoStart shelf.list f.fault) }
+    {
+        match begin(alloc, shelf.list(), limits) {
+            Ok(Begun { core, room }) => Ok(Witness {
+                alloc,
+                key,
+                limits,
+                core,
+                shelf,
+                steps: Steps::new(),
+                room,
+                broken: false,
+            }),
+            Err(fault) => Err(StartFault { shelf, fault }),
+        }
+    }
+
+    /// Takes a message, asks each open question, stores each event as soon as it is accepted, and then signs the receipts that
+    /// are due.
+    pub fn take<V: Verifier, S: Signer>(
+        &mut self,
+        message: &Message,
+        verifier: &mut V,
+        signer: &mut S,
+    ) -> Result<Outcome, WitnessFault>
+        // Broken is answered just after a fault of the disk or want of memory, in an earlier call.
+        ensures goes { Goes self.old.broken self.new.broken result }
+        ensures stays { self.old.broken ≡ true → self.new ≡ self.old }
+        ensures same { (self.new.key ≡ self.old.key) × (self.new.limits ≡ self.old.limits) }
+
+        // There is no room just where the rule says so, and then nothing changes.
+        ensures full { self.old.broken ≡ false
+            → MatchResult result (λ _. IsTurnedAway self.old.limits self.old.core self.old.shelf.list message.now → ⊥)
+            (FullBy (IsTurnedAway self.old.limits self.old.core self.old.shelf.list message.now)) }
+        ensures same_at_full { result ≡ Err NoRoom → (self.new.shelf ≡ self.old.shelf)
+            × (self.new.broken ≡ self.old.broken) × IsUntold self.old.core self.new.core }
+
+        // The core is told of the message, and of the verdicts that its claims ask for.
+        ensures told { self.old.broken ≡ false → MatchResult result
+            (λ o. TellsFate (V.says verifier.old) self.old.core message.now o.fate self.new.core)
+            (λ fault. TellsFault (V.says verifier.old) self.old.core message.now fault self.new.core) }
+        ensures says { V.says verifier.new ≡ V.says verifier.old }
+        ensures verdicts { AsksVerdicts (V.inquiries verifier.old) (V.inquiries verifier.new)
+            self.old.core self.new.core }
+        ensures same_list { IfOk result (λ o. KeepsList o.fate self.old.shelf.list self.new.shelf.list) }
+
+        // What is accepted is stored, whatever the call answers but a fault of the disk and want of memory.
+        ensures stored { self.new.broken ≡ false → AreListed self.new.core self.new.shelf.list }
+
+        // A stop at any moment leaves what was stored before, and the first few of what was accepted since.
+        ensures stores { self.old.broken ≡ false → StoresOn self.old.shelf.list (D.told self.old.shelf.disk)
+            self.new.core self.new.shelf.list (D.told self.new.shelf.disk) }
+
+        ensures fate { IfOk result (λ o. IsFate self.old.key self.new.core message.now o.fate) }
+
+        // The receipts are those that are due, each is of a stored event, and the signer is asked for no others.
+        ensures receipts { IfOk result (AreReceipts self.old.key (S.gives signer.old)
+            self.old.core self.new.core message.now) }
+        ensures of_stored { IfOk result (λ o. All (IsOfStored self.new.core) o.receipts.items) }
+        ensures gives { S.gives signer.new ≡ S.gives signer.old }
+        ensures asked { AsksSigner self.old.key self.old.core self.new.core message.now
+            (S.signings signer.old) (S.signings signer.new) result }
+
+        // A fault is answered where its own count rose; the other counts are as they were.
+        ensures disk_same { OnOk result ((D.told self.new.shelf.disk).faults ≡ (D.told self.old.shelf.disk).faults) }
+        ensures verifier_same { OnOk result (V.faults verifier.new ≡ V.faults verifier.old) }
+        ensures signer_same { OnOk result (S.faults signer.new ≡ S.faults signer.old) }
+        ensures causes { IfErr result (CausedBy (D.told self.old.shelf.disk).faults (D.told self.new.shelf.disk).faults
+            (V.faults verifier.old) (V.faults verifier.new) (S.faults signer.old) (S.faults signer.new)) }
+    {
+        if self.broken {
+            return Err(WitnessFault::Broken);
+        }
+        match take_message(
+            self.alloc,
+            &mut self.core,
+            &mut self.shelf,
+            &mut self.room,
+            &mut self.steps,
+            self.limits,
+            &self.key,
+            message,
+            verifier,
+            signer,
+        ) {
+            Ok(outcome) => Ok(outcome),
+            Err(fault) => {
+                self.broken = breaks(fault);
+                Err(fault)
+            }
+        }
+    }
+
+    /// The payloads of the accepted events, in order. It takes no memory.
+    pub fn stored(&self) -> &[Items<u8>]
+        ensures { result.now ≡ self.now.shelf.list }
+    {
+        self.shelf.list()
+    }
+
+    /// The journal of the core. It takes no memory.
+    pub fn journal(&self) -> &Journal
+        ensures bodies { result.now.bodies ≡ map (λ b. b.bytes) self.now.core.held }
+        ensures entries { result.now.entries ≡ self.now.core.entries }
+        ensures stands { Stands self.now.core }
+    {
+        self.core.journal()
+    }
+
+    /// The shelf.
+    pub fn into_shelf(self) -> Shelf<D>
+        ensures { result ≡ self.shelf }
+    {
+        let Witness { shelf, .. } = self;
+        shelf
+    }
+}
+
+// Whether the witness is broken after a fault.
+fn breaks(fault: WitnessFault) -> bool
+    ensures { result ≡ breaks_by fault }
+{
+    matches!(fault, WitnessFault::DiskFault | WitnessFault::OutOfMemory)
+}
