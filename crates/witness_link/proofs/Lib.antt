@@ -1,0 +1,8 @@
+pub mod Holding
+pub mod Storing
+pub mod Streams
+pub mod Witnessed
+pub mod Chains
+pub mod Ones
+pub mod Handing
+pub mod Closed

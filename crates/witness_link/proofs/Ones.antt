@@ -1,0 +1,123 @@
+-- One message is served.
+use Rattle.std.proofs.Common.{◌≡◌, ℕ, List, [], ◌∷◌, ◌++◌, refl, sym, ◌∙◌, ap, subst, append-nil, inl}
+use Rattle.std.specs.Prelude.{All, take}
+use Rattle.std.proofs.lemmas.List.Elements.{All-nil}
+use Rattle.cesr_stream.specs.declared.message.Message.{Message}
+use Rattle.keri_disk.proofs.Moments.{KnowsNow}
+use Rattle.keri_specs.specs.Causes.{Rose}
+use Rattle.keri_specs.specs.Told.{after}
+use Rattle.keri_specs.proofs.Putting.{after-nil}
+use Rattle.run_status.specs.declared.close.Close.{Close}
+use Rattle.run_status.specs.declared.close.Close.TheVariants.{OutOfMemory, WriteFault}
+use Rattle.validator_core.specs.View.{CoreView}
+use Rattle.witness_core.specs.Payloads.{AreListed}
+use Rattle.witness_core.specs.Storing.{AllStand, StoresOn}
+use Rattle.witness_core.specs.Telling.{IsUntold}
+use Rattle.witness_core.specs.declared.fate.Fate.{Fate}
+use Rattle.witness_core.specs.declared.receipt.Receipt.{Receipt}
+use Rattle.witness_core.specs.declared.witness_fault.WitnessFault.{WitnessFault}
+use Rattle.witness_core.specs.declared.witness_fault.WitnessFault.TheVariants as fault
+use Rattle.witness_link.specs.Calls.{Call, IsCall, refused_as, seen_in, text_of}
+use Rattle.witness_link.specs.Closes.{close_by}
+use Rattle.witness_link.specs.Links.{LinkTold, counts_of, standing_of, terms_of}
+use Rattle.witness_link.specs.Serving.{FailsToTake, HasEnded, HasServed, Serves, StopsBy}
+use Rattle.witness_link.specs.Stored.{HoldsAccepted, IsOfStored}
+use Rattle.witness_link.specs.Taking.{Counted, FailsAt, IsWhole}
+use Rattle.witness_link.proofs.Holding.{of_fate}
+use Rattle.witness_link.proofs.Storing.{stores_none}
+
+pub untold_itself : (core : CoreView) → IsUntold core core
+untold_itself core = record { told = refl; follows = record { mode = refl; limits = refl; base = refl; bodies = refl } }
+
+module _ (old new : LinkTold) (m : Message) (stores : StoresOn old.witness.list old.witness.disk new.witness.core new.witness.list new.witness.disk) (same : terms_of new ≡ terms_of old) where
+  module _ (refused_same : new.refused ≡ old.refused) (seen_same : new.seen ≡ old.seen) (written_same : new.written ≡ old.written) (sink_same : new.sink_faults ≡ old.sink_faults) where
+    serves_nothing : Serves old new
+    serves_nothing = record {
+      calls = [];
+      behind = standing_of old.witness;
+      taken = refl;
+      refused_are = refused_same ∙ sym (append-nil old.refused);
+      seen_are = seen_same ∙ sym (append-nil old.seen);
+      stores = stores;
+      of_stored = All-nil (IsOfStored (terms_of old) new.witness.list);
+      same_terms = same;
+    }
+
+    fails_so : (why : WitnessFault) → FailsAt (terms_of old) (standing_of old.witness) m new.witness why → Counted (counts_of old) (counts_of new) why → FailsToTake old new serves_nothing why m
+    unfolding serves_nothing
+    fails_so why fails counted = record { fails = fails; wrote = written_same ∙ after-nil old.written; counted = counted; sink_same = sink_same }
+
+    stops_so : (why : WitnessFault) → FailsAt (terms_of old) (standing_of old.witness) m new.witness why → Counted (counts_of old) (counts_of new) why → StopsBy old new serves_nothing (m ∷ []) (close_by why)
+    unfolding serves_nothing
+    stops_so fault.DiskFault fails counted = (m, refl, fails_so fault.DiskFault fails counted)
+    stops_so fault.SignerFault fails counted = (m, refl, fails_so fault.SignerFault fails counted)
+    stops_so fault.VerifierFault fails counted = (m, refl, fails_so fault.VerifierFault fails counted)
+    stops_so fault.Full fails counted = (m, refl, fails_so fault.Full fails counted)
+    stops_so fault.OutOfMemory fails counted = (m, refl, fails_so fault.OutOfMemory fails counted)
+    stops_so fault.Broken fails counted = absurd fails
+
+    -- FAILED: the witness failed at it
+    pub one_failed : (why : WitnessFault) (close : Close) → close ≡ close_by why → FailsAt (terms_of old) (standing_of old.witness) m new.witness why → Counted (counts_of old) (counts_of new) why
+        → HasEnded old new close (m ∷ [])
+    one_failed why close is fails counted = record { serves = serves_nothing; stops = subst (StopsBy old new serves_nothing (m ∷ [])) (sym is) (stops_so why fails counted) }
+
+  module _ (fate : Fate) (receipts : List Receipt) (holds : HoldsAccepted new.witness.core new.witness.list)
+      (refused_more : new.refused ≡ old.refused ++ refused_as m.place fate) (seen_more : new.seen ≡ old.seen ++ seen_in fate) (whole : IsWhole new.witness) (counts_same : counts_of new ≡ counts_of old) where
+    abbrev call : Call
+    call = record { message = m; fate = fate; receipts = receipts; behind = standing_of new.witness }
+
+    module _ (is : IsCall (terms_of old) (standing_of old.witness) call) where
+      serves_one : Serves old new
+      serves_one = record {
+        calls = call ∷ [];
+        behind = standing_of new.witness;
+        taken = (is, refl);
+        refused_are = refused_more ∙ ap (λ l. old.refused ++ l) (sym (append-nil (refused_as m.place fate)));
+        seen_are = seen_more ∙ ap (λ l. old.seen ++ l) (sym (append-nil (seen_in fate)));
+        stores = stores;
+        of_stored = subst (All (IsOfStored (terms_of old) new.witness.list)) (sym (append-nil receipts))
+            (of_fate (terms_of old) old.witness.core new.witness.core new.witness.list m receipts holds fate is.tells is.receipts_are);
+        same_terms = same;
+      }
+
+      -- PUT: its receipts were written
+      pub one_put : new.written ≡ after old.written (text_of receipts) → new.sink_faults ≡ old.sink_faults → HasServed old new (m ∷ [])
+      unfolding serves_one
+      one_put put sink_same = record {
+        serves = serves_one;
+        messages_are = refl;
+        goes_on = record {
+          now = refl;
+          wrote = put ∙ ap (λ l. after old.written (text_of l)) (sym (append-nil receipts));
+          is_whole = whole;
+          counts_same = counts_same;
+          sink_same = sink_same;
+        };
+      }
+
+      -- or a front of them
+      pub one_unput : (n : ℕ) → new.written ≡ after old.written (take n (text_of receipts)) → Rose old.sink_faults new.sink_faults → HasEnded old new WriteFault (m ∷ [])
+      unfolding serves_one
+      one_unput n put rose = record {
+        serves = serves_one;
+        stops = (
+          refl,
+          record {
+            earlier = [];
+            last = call;
+            all = refl;
+            count = n;
+            wrote = put;
+            rose = rose;
+            now = refl;
+            is_whole = whole;
+            counts_same = counts_same;
+          },
+        );
+      }
+
+-- UNNOTED: there was no memory to note what becomes of it, and it wasn't taken
+pub one_unnoted : (old new : LinkTold) (m : Message) → new ≡ old → AllStand old.witness.disk old.witness.list old.witness.list → AreListed old.witness.core old.witness.list → KnowsNow old.witness.disk
+    → HasEnded old new OutOfMemory (m ∷ [])
+one_unnoted old new m is stand listed knows = subst (λ l. HasEnded old l OutOfMemory (m ∷ [])) (sym is)
+    (one_failed old old m (stores_none old.witness.list old.witness.disk old.witness.core knows stand listed) refl refl refl refl refl fault.OutOfMemory OutOfMemory refl (inl (untold_itself old.witness.core)) refl)

@@ -1,0 +1,28 @@
+use Rattle.witness_link.specs.Links.{source_told}
+use Rattle.witness_link.proofs.Closed.{lent_same, link_closed}
+use Rattle.witness_link.proofs.Handing.{taken_none}
+use Rattle.witness_link.proofs.service.serve_all.Goals as goal
+
+pub feed_messages-close-requires : goal.feed_messages-close-requires
+feed_messages-close-requires g c = record {
+  none_taken = taken_none g.W.Witnessing.seen g.K.Sink.written g.K.Sink.faults g.V.Verifier.says g.V.Verifier.faults g.G.Signer.gives g.G.Signer.faults c.args.link.now c.requires
+      (c.stands.ensures c.requires).stand (c.stands.ensures c.requires).listed (g.met.W.Witnessing.only_now c.args.link.now.witness.now);
+}
+
+pub returns-clause-serves : goal.returns-clause-serves
+returns-clause-serves g c =
+    let before = c.args.source.now in
+    let source = c.feed_messages-close.new.source in
+    link_closed g.W.Witnessing.seen g.K.Sink.written g.K.Sink.faults g.V.Verifier.says g.V.Verifier.faults g.G.Signer.gives g.G.Signer.faults c.args.limits
+    (source_told (g.S.Source.left before) (g.S.Source.faults before)) (source_told (g.S.Source.left source) (g.S.Source.faults source))
+    c.args.link.now c.feed_messages-close.new.taker c.finish.new.link c.feed_messages-close.result.0 c.finish.result c.feed_messages-close.result.1
+    c.feed_messages-close.ensures.feeds c.finish.ensures
+
+pub returns-clause-same : goal.returns-clause-same
+returns-clause-same g c =
+    let before = c.args.source.now in
+    let source = c.feed_messages-close.new.source in
+    lent_same g.W.Witnessing.seen g.K.Sink.written g.K.Sink.faults g.V.Verifier.says g.V.Verifier.faults g.G.Signer.gives g.G.Signer.faults c.args.limits
+    (source_told (g.S.Source.left before) (g.S.Source.faults before)) (source_told (g.S.Source.left source) (g.S.Source.faults source))
+    c.args.link.now c.feed_messages-close.new.taker c.finish.new.link c.feed_messages-close.result.0 c.finish.result c.feed_messages-close.result.1
+    c.feed_messages-close.ensures.feeds c.finish.ensures

@@ -1,0 +1,7 @@
+use Rattle.witness_link.proofs.service.serve_link.Goals as goal
+
+pub serve_over-requires : goal.serve_over-requires
+serve_over-requires g c = c.requires
+
+pub returns : goal.returns
+returns g c = c.serve_over.ensures

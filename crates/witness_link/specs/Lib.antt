@@ -1,0 +1,9 @@
+pub mod Links
+pub mod Calls
+pub mod Noting
+pub mod Closes
+pub mod Stored
+pub mod Taking
+pub mod Serving
+pub mod Served
+pub mod Offered

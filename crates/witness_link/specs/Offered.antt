@@ -1,0 +1,52 @@
+-- What stands while messages are handed to a link.
+use Rattle.std.specs.Prelude.{◌≡◌, ℕ, ◌⊎◌, Bool, List, ◌++◌, Option}
+use Rattle.cesr_codes.specs.declared.key.Key.{Key}
+use Rattle.cesr_codes.specs.declared.sig.Sig.{Sig}
+use Rattle.cesr_stream.specs.declared.message.Message.{Message}
+use Rattle.cesr_stream.specs.Assembly.{all_of}
+use Rattle.message_feed.specs.declared.feed_close.FeedClose.{FeedClose}
+use Rattle.message_feed.specs.declared.feed_close.FeedClose.TheVariants as feed
+use Rattle.run_status.specs.declared.close.Close.{Close}
+use Rattle.run_status.specs.declared.close.Close.TheVariants.{End, Bad, ReadFault, Full, OutOfMemory}
+use Rattle.witness_link.specs.Links.{LinkTold, WitnessTold, told_of_link}
+use Rattle.witness_link.specs.Serving.{HasEnded, HasServed}
+use Rattle.witness_link.specs.declared.link.Link.{Link}
+
+-- the link lends the same objects
+pub record LendsSame {W K V G : Type 0} (first now : Link W K V G) : Type 0 where
+  pub witness : now.witness.ghost_name ≡ first.witness.ghost_name
+  pub sink : now.sink.ghost_name ≡ first.sink.ghost_name
+  pub verifier : now.verifier.ghost_name ≡ first.verifier.ghost_name
+  pub signer : now.signer.ghost_name ≡ first.signer.ghost_name
+  pub notes : now.notes.ghost_name ≡ first.notes.ghost_name
+
+module _ {W K V G : Type 0} (witness_seen : W → WitnessTold) (written : K → Option (List ℕ)) (sink_faults : K → ℕ) (says : V → Key → List ℕ → Sig → Option Bool) (verifier_faults : V → ℕ)
+    (gives : G → Key → List ℕ → Option Sig) (signer_faults : G → ℕ) where
+  -- what is seen of a link
+  abbrev pub link_told : Link W K V G → LinkTold
+  link_told link = told_of_link (witness_seen link.witness.now) (says link.verifier.now) (verifier_faults link.verifier.now) (gives link.signer.now) (signer_faults link.signer.now) (written link.sink.now)
+      (sink_faults link.sink.now) link.notes.now.refused.items link.notes.now.seen.items
+
+  -- since it had the first of these values it has served these messages
+  pub record HasTaken (first now : Link W K V G) (messages : List Message) : Type 0 where
+    pub same : LendsSame first now
+    pub served : HasServed (link_told first) (link_told now) messages
+
+  -- since then it has stopped so at the last of them
+  pub record HasStopped (first now : Link W K V G) (close : Close) (messages : List Message) : Type 0 where
+    pub same : LendsSame first now
+    pub ended : HasEnded (link_told first) (link_told now) close messages
+
+  -- the last message, where there is one, was served too, and the link closes as its source did; or serving stopped there
+  abbrev pub TakesLast : Close → Option Message → Link W K V G → Link W K V G → Close → Type 0
+  TakesLast close last old new now = (first : Link W K V G) (messages : List Message) → HasTaken first old messages
+      → (HasTaken first new (messages ++ all_of last) × (now ≡ close)) ⊎ HasStopped first new now (messages ++ all_of last)
+
+  -- how the link closes where its source has closed so
+  abbrev pub Finishes : FeedClose Close → Option Message → Link W K V G → Link W K V G → Close → Type 0
+  Finishes feed.End last old new now = TakesLast End last old new now
+  Finishes (feed.Bad bad) last old new now = TakesLast (Bad bad) last old new now
+  Finishes feed.ReadFault last old new now = TakesLast ReadFault last old new now
+  Finishes feed.Full last old new now = (now ≡ Full) × (new ≡ old)
+  Finishes feed.OutOfMemory last old new now = (now ≡ OutOfMemory) × (new ≡ old)
+  Finishes (feed.Stopped stop) last old new now = (now ≡ stop) × (new ≡ old)

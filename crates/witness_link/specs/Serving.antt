@@ -1,0 +1,93 @@
+-- What stands while a link is served.
+use Rattle.std.specs.Prelude.{◌≡◌, ℕ, List, [], ◌∷◌, ◌++◌, All, take}
+use Rattle.std.specs.declared.result.Result.{Result}
+use Rattle.std.specs.declared.result.Result.TheVariants.{Ok, Err}
+use Rattle.cesr_stream.specs.declared.message.Message.{Message}
+use Rattle.keri_specs.specs.Causes.{Rose}
+use Rattle.keri_specs.specs.Told.{after}
+use Rattle.run_status.specs.declared.close.Close.{Close}
+use Rattle.run_status.specs.declared.close.Close.TheVariants.{End, Bad, ReadFault, VerifierFault, SignerFault, DiskFault, WriteFault, Malformed, Full, OutOfMemory}
+use Rattle.witness_core.specs.Storing.{StoresOn}
+use Rattle.witness_core.specs.declared.witness_fault.WitnessFault.{WitnessFault}
+use Rattle.witness_core.specs.declared.witness_fault.WitnessFault.TheVariants as fault
+use Rattle.witness_link.specs.Calls.{AreCalls, Call, digests_in, messages_in, receipts_in, refusals_in, text_of}
+use Rattle.witness_link.specs.Links.{LinkTold, Standing, counts_of, standing_of, terms_of}
+use Rattle.witness_link.specs.Stored.{IsOfStored}
+use Rattle.witness_link.specs.Taking.{Counted, FailsAt, IsWhole}
+
+-- SERVES: Messages were taken, one behind the other, and what became of them is noted. At each moment a stop leaves what was stored
+-- before, and the first few of what was accepted since. Each receipt is of a stored event.
+pub record Serves (old new : LinkTold) : Type 0 where
+  pub calls : List Call
+  pub behind : Standing
+  pub taken : AreCalls (terms_of old) (standing_of old.witness) calls behind
+  pub refused_are : new.refused ≡ old.refused ++ refusals_in calls
+  pub seen_are : new.seen ≡ old.seen ++ digests_in calls
+  pub stores : StoresOn old.witness.list old.witness.disk new.witness.core new.witness.list new.witness.disk
+  pub of_stored : All (IsOfStored (terms_of old) new.witness.list) (receipts_in calls)
+  pub same_terms : terms_of new ≡ terms_of old
+
+-- the text of the receipts of these calls was written
+abbrev pub Wrote : LinkTold → LinkTold → List Call → Type 0
+Wrote old new calls = new.written ≡ after old.written (text_of (receipts_in calls))
+
+module _ (old new : LinkTold) (serves : Serves old new) where
+  -- all receipts were written, the witness stands as behind the last message, and nothing failed
+  pub record GoesOn : Type 0 where
+    pub now : serves.behind ≡ standing_of new.witness
+    pub wrote : Wrote old new serves.calls
+    pub is_whole : IsWhole new.witness
+    pub counts_same : counts_of new ≡ counts_of old
+    pub sink_same : new.sink_faults ≡ old.sink_faults
+
+  -- all receipts were written, and then the witness failed at a message
+  pub record FailsToTake (why : WitnessFault) (last : Message) : Type 0 where
+    pub fails : FailsAt (terms_of old) serves.behind last new.witness why
+    pub wrote : Wrote old new serves.calls
+    pub counted : Counted (counts_of old) (counts_of new) why
+    pub sink_same : new.sink_faults ≡ old.sink_faults
+
+  -- the sink failed at the receipts of the last message: a front of them was written behind those of the messages before it
+  pub record FailsToPut : Type 0 where
+    pub earlier : List Call
+    pub last : Call
+    pub all : serves.calls ≡ earlier ++ last ∷ []
+    pub count : ℕ
+    pub wrote : new.written ≡ after old.written (text_of (receipts_in earlier) ++ take count (text_of last.receipts))
+    pub rose : Rose old.sink_faults new.sink_faults
+    pub now : serves.behind ≡ standing_of new.witness
+    pub is_whole : IsWhole new.witness
+    pub counts_same : counts_of new ≡ counts_of old
+
+  -- these messages were taken but the last, at which the witness failed
+  abbrev pub StopsTaking : WitnessFault → List Message → Type 0
+  StopsTaking why messages = (last : Message) × (messages ≡ messages_in serves.calls ++ last ∷ []) × FailsToTake why last
+
+  -- why serving stopped at the last of these messages
+  abbrev pub StopsBy : List Message → Close → Type 0
+  StopsBy messages VerifierFault = StopsTaking fault.VerifierFault messages
+  StopsBy messages SignerFault = StopsTaking fault.SignerFault messages
+  StopsBy messages DiskFault = StopsTaking fault.DiskFault messages
+  StopsBy messages Full = StopsTaking fault.Full messages
+  StopsBy messages OutOfMemory = StopsTaking fault.OutOfMemory messages
+  StopsBy messages WriteFault = (messages ≡ messages_in serves.calls) × FailsToPut
+  StopsBy messages End = ⊥
+  StopsBy messages (Bad bad) = ⊥
+  StopsBy messages ReadFault = ⊥
+  StopsBy messages (Malformed place) = ⊥
+
+-- these messages were taken, and serving goes on
+pub record HasServed (old new : LinkTold) (messages : List Message) : Type 0 where
+  pub serves : Serves old new
+  pub messages_are : messages_in serves.calls ≡ messages
+  pub goes_on : GoesOn old new serves
+
+-- serving stopped at the last of them
+pub record HasEnded (old new : LinkTold) (close : Close) (messages : List Message) : Type 0 where
+  pub serves : Serves old new
+  pub stops : StopsBy old new serves messages close
+
+-- one message was served, or serving stopped there
+abbrev pub ServesOne : {T : Type 0} → Message → Result T Close → LinkTold → LinkTold → Type 0
+ServesOne m (Ok done) old new = HasServed old new (m ∷ [])
+ServesOne m (Err close) old new = HasEnded old new close (m ∷ [])

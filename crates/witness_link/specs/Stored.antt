@@ -1,0 +1,35 @@
+-- What a list of payloads holds of events, and of receipts.
+use Rattle.std.specs.Prelude.{◌≡◌, ℕ, List, ◌++◌, All}
+use Rattle.std.specs.List.{Contains}
+use Rattle.event_body.specs.Judging.{SpellsEvent}
+use Rattle.journal.specs.declared.body.Body.{Body}
+use Rattle.shelf_log.specs.Format.{Holds}
+use Rattle.shelf_log.specs.declared.version.Version.TheVariants.{Two}
+use Rattle.validator_core.specs.View.{CoreView, accepted_by}
+use Rattle.witness_core.specs.Receipts.{IsReceiptOf}
+use Rattle.witness_core.specs.declared.receipt.Receipt.{Receipt}
+use Rattle.witness_link.specs.Links.{Terms}
+
+-- the list has a payload with the bytes at its front that spell the event
+pub record HasEvent (list : List (List ℕ)) (b : Body) : Type 0 where
+  pub spelled : SpellsEvent b.event b.bytes
+  pub payload : List ℕ
+  pub among : Contains list payload
+  pub rest : List ℕ
+  pub begins : payload ≡ b.bytes ++ rest
+
+-- and that of each accepted event
+abbrev pub HoldsAccepted : CoreView → List (List ℕ) → Type 0
+HoldsAccepted core list = All (HasEvent list) (accepted_by core)
+
+-- the receipt is of an event of which the list has the payload
+pub record IsOfStored (terms : Terms) (list : List (List ℕ)) (r : Receipt) : Type 0 where
+  pub event : Body
+  pub has : HasEvent list event
+  pub is : IsReceiptOf terms.gives terms.key event r
+
+-- the file stands for a list that has the event of each receipt
+pub record HoldsEach (terms : Terms) (receipts : List Receipt) (file : List ℕ) : Type 0 where
+  pub stored : List (List ℕ)
+  pub holds : Holds Two file stored
+  pub each : All (IsOfStored terms stored) receipts

@@ -1,0 +1,62 @@
+-- What one call of a witness does.
+use Rattle.std.specs.Prelude.{◌≡◌, ◌⊎◌, false, []}
+use Rattle.std.specs.declared.result.Result.{Result}
+use Rattle.std.specs.declared.result.Result.TheVariants.{Ok, Err}
+use Rattle.cesr_stream.specs.declared.message.Message.{Message}
+use Rattle.keri_specs.specs.Causes.{Rose}
+use Rattle.validator_core.specs.View.{open_of}
+use Rattle.witness_core.specs.Payloads.{AreListed}
+use Rattle.witness_core.specs.Room.{IsTurnedAway}
+use Rattle.witness_core.specs.Storing.{AllStand, StoresOn}
+use Rattle.witness_core.specs.Telling.{IsUntold, TellsEvent}
+use Rattle.witness_core.specs.declared.outcome.Outcome.{Outcome}
+use Rattle.witness_core.specs.declared.witness_fault.WitnessFault.{WitnessFault}
+use Rattle.witness_core.specs.declared.witness_fault.WitnessFault.TheVariants.{DiskFault, SignerFault, VerifierFault, Full, Broken, OutOfMemory}
+use Rattle.witness_link.specs.Calls.{HasRoom, IsCall}
+use Rattle.witness_link.specs.Stored.{HoldsAccepted}
+use Rattle.witness_link.specs.Links.{Counts, Standing, Terms, WitnessTold, standing_of}
+
+-- none of them failed but the one whose fault it is
+abbrev pub Counted : Counts → Counts → WitnessFault → Type 0
+Counted old new DiskFault = Rose old.disk new.disk × (new.verifier ≡ old.verifier) × (new.signer ≡ old.signer)
+Counted old new VerifierFault = (new.disk ≡ old.disk) × Rose old.verifier new.verifier × (new.signer ≡ old.signer)
+Counted old new SignerFault = (new.disk ≡ old.disk) × (new.verifier ≡ old.verifier) × Rose old.signer new.signer
+Counted old new Full = new ≡ old
+Counted old new OutOfMemory = new ≡ old
+Counted old new Broken = ⊥
+
+-- the witness is whole, and has stored all that is accepted
+pub record IsWhole (witness : WitnessTold) : Type 0 where
+  pub whole : witness.broken ≡ false
+  pub listed : AreListed witness.core witness.list
+
+-- Each image of its disk stands for the list, which has the payloads of the accepted events, each with its event's bytes at the
+-- front.
+pub record IsSound (witness : WitnessTold) : Type 0 where
+  pub stand : AllStand witness.disk witness.list witness.list
+  pub listed : AreListed witness.core witness.list
+  pub holds : HoldsAccepted witness.core witness.list
+
+-- What became of the witness at a message that it failed to take to its end. Where there is no room, nothing more was told, and
+-- there still is none for it. Without memory its event may have come, or not. Else it came, and there was room for it; and but for a
+-- fault of the disk, all that is accepted is stored.
+abbrev pub FailsAt : Terms → Standing → Message → WitnessTold → WitnessFault → Type 0
+FailsAt terms old m new DiskFault = HasRoom terms old m × TellsEvent terms.says old.core m new.core
+FailsAt terms old m new VerifierFault = HasRoom terms old m × TellsEvent terms.says old.core m new.core × IsWhole new
+FailsAt terms old m new SignerFault = HasRoom terms old m × TellsEvent terms.says old.core m new.core × (open_of new.core ≡ []) × IsWhole new
+FailsAt terms old m new Full = IsTurnedAway terms.limits new.core new.list m × IsUntold old.core new.core × (new.list ≡ old.list) × IsWhole new
+FailsAt terms old m new OutOfMemory = IsUntold old.core new.core ⊎ TellsEvent terms.says old.core m new.core
+FailsAt terms old m new Broken = ⊥
+
+-- its key and its limits are the same, and what was stored before and since
+pub record KeepsSame (old new : WitnessTold) : Type 0 where
+  pub key : new.key ≡ old.key
+  pub limits : new.limits ≡ old.limits
+  pub stores : StoresOn old.list old.disk new.core new.list new.disk
+
+-- TAKES: a message was taken, or the witness failed at it
+abbrev pub TakesMessage : Terms → Counts → Counts → Message → WitnessTold → WitnessTold → Result Outcome WitnessFault → Type 0
+TakesMessage terms counts_old counts_new m old new (Ok outcome) =
+    IsCall terms (standing_of old) (record { message = m; fate = outcome.fate; receipts = outcome.receipts.items; behind = standing_of new })
+    × IsWhole new × (counts_new ≡ counts_old)
+TakesMessage terms counts_old counts_new m old new (Err fault) = FailsAt terms (standing_of old) m new fault × Counted counts_old counts_new fault

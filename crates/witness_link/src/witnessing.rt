@@ -1,0 +1,64 @@
+//! What serving a link needs of a witness.
+ghost use Rattle.std.specs.Prelude.{◌≡◌, false, List, ℕ};
+ghost use Rattle.witness_link.specs.Links.{WitnessTold, counts, terms_with};
+ghost use Rattle.witness_link.specs.Taking.{IsSound, KeepsSame, TakesMessage};
+
+use cesr_stream::Message;
+use keri_disk::Disk;
+use keri_outside::{Signer, Verifier};
+use witness_core::{Outcome, Witness, WitnessFault};
+
+/// A witness, as far as a link needs it.
+pub trait Witnessing {
+    /// What is seen of it.
+    ghost seen: { Self → WitnessTold };
+
+    /// Takes a message, and gives what becomes of it and the receipts that are due.
+    fn take<V: Verifier, G: Signer>(
+        &mut self,
+        message: &Message,
+        verifier: &mut V,
+        signer: &mut G,
+    ) -> Result<Outcome, WitnessFault>
+        ensures takes { (seen self.old).broken ≡ false → TakesMessage
+            (terms_with (V.says verifier.old) (G.gives signer.old) (seen self.old))
+            (counts (seen self.old).disk.faults (V.faults verifier.old) (G.faults signer.old))
+            (counts (seen self.new).disk.faults (V.faults verifier.new) (G.faults signer.new))
+            message.now (seen self.old) (seen self.new) result }
+        ensures same { (seen self.old).broken ≡ false → KeepsSame (seen self.old) (seen self.new) }
+        ensures says { V.says verifier.new ≡ V.says verifier.old }
+        ensures gives { G.gives signer.new ≡ G.gives signer.old };
+
+    /// What is true of it where it isn't broken, stated for proofs. Nothing is done here.
+    fn stands(&self)
+        ensures { (seen self.now).broken ≡ false → IsSound (seen self.now) };
+
+    // Since this moment there is no other.
+    ghost only_now: { (w : Self) (c : List ℕ) → (seen w).disk.images_since (seen w).disk.moment c → (seen w).disk.images c };
+}
+
+impl<D: Disk + Drop> Witnessing for Witness<D> {
+    ghost seen = { λ w. record {
+      key = w.key;
+      limits = w.limits;
+      core = w.core;
+      list = w.shelf.list;
+      disk = D.told w.shelf.disk;
+      broken = w.broken;
+    } };
+
+    fn take<V: Verifier, G: Signer>(
+        &mut self,
+        message: &Message,
+        verifier: &mut V,
+        signer: &mut G,
+    ) -> Result<Outcome, WitnessFault> {
+        Witness::take(self, message, verifier, signer)
+    }
+
+    fn stands(&self) {
+        let _journal = self.journal();
+    }
+
+    ghost only_now = { λ w. D.only_now w.shelf.disk };
+}
