@@ -2,5 +2,7 @@
 #![tactic(auto)]
 
 mod row;
+mod spelling;
 
 pub use row::{Row, given};
+pub use spelling::bytes_words;

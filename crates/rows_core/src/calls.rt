@@ -1,13 +1,13 @@
 //! The calls of a core.
 
 use crate::evidence::evidence;
-use crate::message::message_of;
 use crate::session::{Session, limits_of, mode_of};
 use crate::{base, views};
 use cesr_codes::Sig;
 use cesr_stream::Message;
 use journal::Question;
 use keri_outside::{Rehearsal, Verifier};
+use row_messages::message_of;
 use row_text::{Row, given};
 use std::alloc::{AllocError, Global};
 use validator_core::Core;

@@ -3,10 +3,10 @@ ghost use Rattle.std.specs.Prelude.{◌≡◌};
 ghost use Rattle.journal.specs.declared.mode.Mode.TheVariants.{Local};
 
 use crate::calls::{MOST_QUESTIONS, verdict};
-use crate::message::message_of;
 use journal::Mode;
 use keri_outside::{Limits, MemSink, Steps};
 use lists::Items;
+use row_messages::message_of;
 use row_text::Row;
 use std::alloc::{AllocError, Global};
 use validator_core::Core;

@@ -6,7 +6,6 @@
 mod base;
 mod calls;
 mod evidence;
-mod message;
 mod session;
 mod views;
 

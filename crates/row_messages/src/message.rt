@@ -45,7 +45,7 @@ fn last_message(
 }
 
 /// The last message that the text spells, where it spells one.
-pub(crate) fn message_of(alloc: Global, text: &[u8]) -> Result<Option<Message>, AllocError> {
+pub fn message_of(alloc: Global, text: &[u8]) -> Result<Option<Message>, AllocError> {
     let limits = Limits::standard();
     let mut reader = Reader::new(alloc, limits);
     let mut assembler = Assembler::new(alloc, limits);

@@ -1,0 +1,6 @@
+//! Messages of rows.
+#![tactic(auto)]
+
+mod message;
+
+pub use message::message_of;

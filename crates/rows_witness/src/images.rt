@@ -1,0 +1,75 @@
+//! What crashes leave of a witness's disk.
+ghost use Rattle.std.specs.Prelude.{◌≤◌};
+ghost use Rattle.keri_disk.specs.Memory.{mem_told};
+
+use crate::opening::started;
+use crate::session::{Held, Session};
+use crate::spelling::{list_text, not_started, refused};
+use cesr_codes::Key;
+use keri_disk::{MemDisk, Shape};
+use keri_outside::Limits;
+use lists::Items;
+use shelf_log::Shelf;
+use std::alloc::{AllocError, Global};
+
+// What a witness stores that starts from the disk.
+fn disk_words(
+    alloc: Global,
+    key: Key,
+    disk: MemDisk,
+    limits: Limits,
+) -> Result<String, AllocError> {
+    let shelf = match Shelf::read_back(alloc, disk, limits) {
+        Ok(shelf) => shelf,
+        Err(returned) => return refused(alloc, returned.fault),
+    };
+    match started(alloc, key, shelf, limits) {
+        Some(Ok(witness)) => list_text(alloc, "stored", witness.stored()),
+        Some(Err(start)) => not_started(alloc, start.fault),
+        None => String::from_str(alloc, "no-witness"),
+    }
+}
+
+// What a witness stores that starts from a file with these bytes.
+fn image_words(
+    alloc: Global,
+    key: Key,
+    bytes: Vec<u8>,
+    limits: Limits,
+) -> Result<String, AllocError> {
+    if bytes.is_empty() {
+        return String::from_str(alloc, "empty");
+    }
+    let disk = MemDisk::new(alloc, bytes, Items::new(alloc))?;
+    disk_words(alloc, key, disk, limits)
+}
+
+// What the three shapes leave at a moment.
+fn moment_words(
+    session: &Session,
+    text: &mut String,
+    disk: &MemDisk,
+    moment: u64,
+) -> Result<(), AllocError>
+    requires { moment ≤ (mem_told disk.now).moment }
+{
+    for shape in [Shape::Whole, Shape::Lost, Shape::Ones] {
+        let image = disk.image(moment, shape)?;
+        let words = image_words(session.alloc, session.key, image, session.limits)?;
+        text.push_str(", ")?;
+        text.push_str(words.as_str())?;
+    }
+    text.push_str(";")
+}
+
+/// `images`: of each moment of the disk at hand what a witness stores that starts from what a crash leaves there: all that isn't
+/// synced, or nothing of it, or bytes 1.
+pub(crate) fn images(session: &Session) -> Result<String, AllocError> {
+    let mut text = String::from_str(session.alloc, "images")?;
+    if let Held::Disk(disk) = &session.held {
+        for moment in 0..=disk.moments() {
+            moment_words(session, &mut text, disk, moment)?;
+        }
+    }
+    Ok(text)
+}

@@ -1,0 +1,54 @@
+//! The witness that rows speak of.
+
+use cesr_codes::{Key, KeyCode};
+use keri_disk::MemDisk;
+use keri_outside::{Limits, MemSigner, MemVerifier, VerdictRule};
+use lists::Items;
+use std::alloc::Global;
+use std::mem;
+use witness_core::Witness;
+
+/// What is at hand.
+#[derive(Drop)]
+pub(crate) enum Held {
+    Nothing,
+    Disk(MemDisk),
+    Witness(Witness<MemDisk>),
+}
+
+/// A witness, or the disk that it left, with what it is given.
+#[derive(Drop)]
+pub(crate) struct Session {
+    pub(crate) alloc: Global,
+    pub(crate) limits: Limits,
+    pub(crate) key: Key,
+    pub(crate) verifier: MemVerifier,
+    pub(crate) signer: MemSigner,
+    pub(crate) held: Held,
+}
+
+impl Session {
+    /// No witness, the limits of the program, the key of bytes 1, and the rehearsal.
+    pub(crate) fn new(alloc: Global) -> Session {
+        Session {
+            alloc,
+            limits: Limits::standard(),
+            key: Key {
+                code: KeyCode::Fixed,
+                raw: [1; 32],
+            },
+            verifier: MemVerifier::new(alloc, VerdictRule::Rehearsal, Items::new(alloc)),
+            signer: MemSigner::new(alloc, Items::new(alloc)),
+            held: Held::Nothing,
+        }
+    }
+
+    /// The disk, which is at hand no more.
+    pub(crate) fn take_disk(&mut self) -> Option<MemDisk> {
+        match mem::replace(&mut self.held, Held::Nothing) {
+            Held::Nothing => None,
+            Held::Disk(disk) => Some(disk),
+            Held::Witness(witness) => Some(witness.into_shelf().into_disk()),
+        }
+    }
+}
