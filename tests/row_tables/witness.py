@@ -16,6 +16,8 @@ OWN_IXN_2 = ixn(OWN_IXN)
 OWN_ROT = rot(OWN, 2, bt="1")
 OTHER_OWN_ROT = rot(OWN, 2, bt="1", n=[digest(key(100))])
 OWN_ROT_IXN = ixn(OWN_ROT)
+# To a key that wasn't committed to.
+STRAY_ROT = rot(OWN, 3, bt="1")
 OTHERS = body("icp", b=[W2], bt="1")
 # A rotation by which another witness takes the place of this one.
 LEAVING = rot(OWN, 2, bt="1", br=[W1], ba=[W2])
@@ -75,6 +77,10 @@ def rivals():
     # The other rotation comes first, and waits for its signatures.
     one = Session().create().take(signed(OWN, 1)).take(signed(OTHER_OWN_ROT, 9), "Waits Signatures")
     yield one.take(signed(OWN_ROT, 2), "Stored listed").take(signed(OTHER_OWN_ROT, 2), "Seen " + said(OWN_ROT)).stored()
+    # A rotation that may take the place of an interaction waits for its signatures, though its place is taken.
+    one = Session().create().takes(signed(OWN, 1), signed(OWN_IXN, 1)).take(signed(OWN_ROT, 9), "Waits Signatures")
+    one.take(OWN_ROT + "-AAB" + rehearsed(2, OWN_ROT, "BA"), "Waits Next").take(signed(STRAY_ROT, 3), "Waits Next")
+    yield one.take(signed(OWN_ROT, 2), "Stored listed").take(signed(STRAY_ROT, 3), "Seen " + said(OWN_ROT)).told()
     one = Session().create().take(signed(BASIC, 1), "Stored").take(signed(OTHER_BASIC, 1), "Seen " + said(BASIC))
     yield one.take(signed(BASIC, 1), "Stored").stored()
     other = ixn(OWN, a=[1])
