@@ -1,3 +1,4 @@
 mod Faultless
 pub mod Answered
+pub mod Keys
 pub mod Shapes

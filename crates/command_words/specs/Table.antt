@@ -42,6 +42,7 @@ table = record {
   subs = command (codes "check") (file ∷ [])
       ∷ command (codes "validate") (wants (codes "helper") ∷ file ∷ [])
       ∷ command (codes "watch") (wants (codes "helper") ∷ file ∷ [])
+      ∷ command (codes "witness") (wants (codes "helper") ∷ wants (codes "prefix") ∷ wants (codes "shelf") ∷ may_have (codes "from") ∷ file ∷ [])
       ∷ command (codes "make") (wants (codes "helper") ∷ wants (codes "plan") ∷ may_have (codes "log") ∷ [])
       ∷ command (codes "gen") (wants (codes "seed") ∷ wants (codes "logs") ∷ wants (codes "events") ∷ [])
       ∷ command (codes "rehearse") []

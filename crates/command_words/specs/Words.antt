@@ -1,21 +1,26 @@
 -- What the words ask for.
-use Rattle.std.specs.Prelude.{ℕ, List, codes, if◌then◌else◌, option_and_then, option_map}
+use Rattle.std.specs.Prelude.{◌≡◌, ℕ, List, codes, if◌then◌else◌, option_and_then, option_map, ⊤}
 use Rattle.std.specs.Str.{bytes_eq}
 use Rattle.std.specs.declared.option.Option.{Option}
 use Rattle.std.specs.declared.option.Option.TheVariants.{None, Some}
 use Rattle.clap.specs.Words.{Row, first_of, found_of, rows_of, subcommand_of, takes}
 use Rattle.clap.specs.declared.parser.matches.ArgMatches.{ArgMatches}
+use Rattle.cesr_codes.specs.declared.key.Key.{Key}
+use Rattle.cesr_codes.specs.declared.key.KeyCode.TheVariants.{Fixed}
+use Rattle.command_words.specs.Keys.{fixed_key_in}
 use Rattle.command_words.specs.Numbers.{number_in}
 use Rattle.command_words.specs.Table.{table}
 use Rattle.command_words.specs.declared.command.Command.{Command}
-use Rattle.command_words.specs.declared.command.Command.TheVariants.{Check, Validate, Watch, Make, Generate, Rehearse}
+use Rattle.command_words.specs.declared.command.Command.TheVariants.{Check, Validate, Watch, Witness, Make, Generate, Rehearse}
 
--- what may be asked for, by the bytes of the words: of `check` a file, of `validate` and `watch` a helper and a file, of `make`
--- a helper, a plan's file and maybe a log's, of `gen` a seed, how many logs, and how many events in each, of `rehearse` nothing
+-- what may be asked for, by the bytes of the words: of `check` a file, of `validate` and `watch` a helper and a file, of `witness`
+-- a helper, its key, a shelf's file, maybe that of an old one, and a file, of `make` a helper, a plan's file and maybe a log's, of `gen`
+-- a seed, how many logs, and how many events in each, of `rehearse` nothing
 pub data Asked : Type 0 where
   check : List ℕ → Asked
   validate : List ℕ → List ℕ → Asked
   watch : List ℕ → List ℕ → Asked
+  witness : List ℕ → Key → List ℕ → Option (List ℕ) → List ℕ → Asked
   make : List ℕ → List ℕ → Option (List ℕ) → Asked
   generate : ℕ → ℕ → ℕ → Asked
   rehearse : Asked
@@ -25,9 +30,15 @@ abbrev pub asked_by : Command → Asked
 asked_by (Check file) = check file.now
 asked_by (Validate helper file) = validate helper.now file.now
 asked_by (Watch helper file) = watch helper.now file.now
+asked_by (Witness helper prefix shelf from file) = witness helper.now prefix shelf.now (option_map (λ f. f.now) from) file.now
 asked_by (Make helper plan log) = make helper.now plan.now (option_map (λ l. l.now) log)
 asked_by (Generate seed logs events) = generate seed logs events
 asked_by Rehearse = rehearse
+
+-- the key of a witness can't be rotated
+abbrev pub HasFixedKey : Command → Type 0
+HasFixedKey (Witness helper prefix shelf from file) = prefix.code ≡ Fixed
+HasFixedKey _ = ⊤
 
 -- the values that a command was given, by the names of its options and of its FILE
 abbrev pub rows_in : ArgMatches → List Row
@@ -44,6 +55,18 @@ asks_check rows = option_map check (first_of (codes "file") rows)
 -- `validate` and `watch` ask for their file, with the helper
 abbrev pub asks_over_core : (List ℕ → List ℕ → Asked) → List Row → Option Asked
 asks_over_core asked rows = asks_by_both asked (first_of (codes "helper") rows) (first_of (codes "file") rows)
+
+-- the key that can't be rotated that an option is set to
+abbrev pub key_set : List ℕ → List Row → Option Key
+key_set option rows = option_and_then fixed_key_in (first_of option rows)
+
+-- `witness` asks for its file, with the helper, as the witness of a key, over its shelf, and over the list of an old one where that is
+-- named
+abbrev pub asks_witness : List Row → Option Asked
+asks_witness rows =
+    option_and_then (λ helper. option_and_then (λ prefix.
+    asks_by_both (λ shelf file. witness helper prefix shelf (first_of (codes "from") rows) file) (first_of (codes "shelf") rows) (first_of (codes "file") rows))
+    (key_set (codes "prefix") rows)) (first_of (codes "helper") rows)
 
 -- `make` asks for its plan, with the helper, over the log where there is one
 abbrev pub asks_make : List Row → Option Asked
@@ -66,6 +89,7 @@ asks_by_name name rows =
     if bytes_eq name (codes "check") then asks_check rows
     else if bytes_eq name (codes "validate") then asks_over_core validate rows
     else if bytes_eq name (codes "watch") then asks_over_core watch rows
+    else if bytes_eq name (codes "witness") then asks_witness rows
     else if bytes_eq name (codes "make") then asks_make rows
     else if bytes_eq name (codes "gen") then asks_gen rows
     else if bytes_eq name (codes "rehearse") then Some rehearse

@@ -3,10 +3,13 @@ ghost use Rattle.std.specs.Prelude.{◌≡◌, ◌≤◌, IfOk, IfSome, map, opt
 ghost use Rattle.std.specs.Option.{option_map};
 ghost use Rattle.clap.specs.Words.{first_of, subcommand_rows_of};
 ghost use Rattle.command_words.specs.Words as specs;
-ghost use Rattle.command_words.specs.Words.{asked_by, asks, asks_by_name, asks_check, asks_gen, asks_make, asks_over_core, rows_in};
+ghost use Rattle.cesr_codes.specs.declared.key.KeyCode.TheVariants.{Fixed};
+ghost use Rattle.command_words.specs.Words.{HasFixedKey, asked_by, asks, asks_by_name, asks_check, asks_gen, asks_make, asks_over_core, asks_witness, rows_in};
 
 use crate::form::program;
+use crate::key::fixed_key;
 use crate::number::number;
+use cesr_codes::Key;
 use clap::ArgMatches;
 use clap::error::ErrorKind;
 use std::alloc::{AllocError, Global};
@@ -33,6 +36,16 @@ pub enum Command<'a> {
         helper: &'a str,
         file: &'a str,
     },
+    /// Reads one file and writes the receipts of the witness whose key this is, with the signatures and verdicts of the helper. What it
+    /// has seen is kept in the shelf, which is filled with the list of an old one first, where that is named and there is none yet.
+    Witness {
+        helper: &'a str,
+        /// A key that can't be rotated.
+        prefix: Key,
+        shelf: &'a str,
+        from: Option<&'a str>,
+        file: &'a str,
+    },
     /// Makes the message of a plan, over a log where there is one, with the signatures and verdicts of the helper.
     Make {
         helper: &'a str,
@@ -52,6 +65,7 @@ pub enum Command<'a> {
 /// What the words behind the program's name ask for, where they are in the form of a command.
 pub fn command_of<'a>(alloc: Global, words: &'a [String]) -> Result<Option<Command<'a>>, AllocError>
     ensures answered { IfOk result (λ command. option_map asked_by command ≡ asks (map string_bytes words.now)) }
+    ensures fixed { IfOk result (λ command. IfSome command HasFixedKey) }
 {
     match program(alloc)?.try_get_matches_from(words) {
         Ok(matches) => Ok(command_in(&matches)),
@@ -64,8 +78,9 @@ pub fn command_of<'a>(alloc: Global, words: &'a [String]) -> Result<Option<Comma
 
 // The command that was found in words.
 fn command_in<'a>(matches: &ArgMatches<'a>) -> Option<Command<'a>>
-    ensures { option_map asked_by result
+    ensures asked { option_map asked_by result
         ≡ option_and_then (λ met. asks_by_name met.0 met.1) (subcommand_rows_of matches.now) }
+    ensures fixed { IfSome result HasFixedKey }
 {
     let (name, found) = matches.subcommand()?;
     command_by_name(name, found)
@@ -73,12 +88,14 @@ fn command_in<'a>(matches: &ArgMatches<'a>) -> Option<Command<'a>>
 
 // The command of this name, with the values that were found.
 fn command_by_name<'a>(name: &str, found: &ArgMatches<'a>) -> Option<Command<'a>>
-    ensures { option_map asked_by result ≡ asks_by_name name.now (rows_in found.now) }
+    ensures asked { option_map asked_by result ≡ asks_by_name name.now (rows_in found.now) }
+    ensures fixed { IfSome result HasFixedKey }
 {
     match name {
         "check" => check(found),
         "validate" => validate(found),
         "watch" => watch(found),
+        "witness" => witness(found),
         "make" => make(found),
         "gen" => generate(found),
         "rehearse" => Some(Command::Rehearse),
@@ -110,6 +127,24 @@ fn watch<'a>(found: &ArgMatches<'a>) -> Option<Command<'a>>
     Some(Command::Watch { helper, file })
 }
 
+fn witness<'a>(found: &ArgMatches<'a>) -> Option<Command<'a>>
+    ensures asked { option_map asked_by result ≡ asks_witness (rows_in found.now) }
+    ensures fixed { IfSome result HasFixedKey }
+{
+    let helper = value(found, "helper")?;
+    let prefix = key_set(found, "prefix")?;
+    let shelf = value(found, "shelf")?;
+    let from = value(found, "from");
+    let file = value(found, "file")?;
+    Some(Command::Witness {
+        helper,
+        prefix,
+        shelf,
+        from,
+        file,
+    })
+}
+
 fn make<'a>(found: &ArgMatches<'a>) -> Option<Command<'a>>
     ensures { option_map asked_by result ≡ asks_make (rows_in found.now) }
 {
@@ -126,6 +161,14 @@ fn generate<'a>(found: &ArgMatches<'a>) -> Option<Command<'a>>
     let logs = count_set(found, "logs", MOST_OF_LOGS)?;
     let events = count_set(found, "events", MOST_OF_EVENTS)?;
     Some(Command::Generate { seed, logs, events })
+}
+
+// The key that can't be rotated that an option is set to.
+fn key_set(found: &ArgMatches<'_>, option: &str) -> Option<Key>
+    ensures key { result ≡ specs.key_set option.now (rows_in found.now) }
+    ensures fixed { IfSome result (λ key. key.code ≡ Fixed) }
+{
+    fixed_key(value(found, option)?.as_bytes())
 }
 
 // The number that an option is set to, where it is in this range.

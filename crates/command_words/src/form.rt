@@ -15,6 +15,7 @@ pub(crate) fn program<'a>(alloc: Global) -> Result<Command<'a>, AllocError>
         .subcommand(check(alloc)?)?
         .subcommand(over_core(alloc, "validate")?)?
         .subcommand(over_core(alloc, "watch")?)?
+        .subcommand(witness(alloc)?)?
         .subcommand(make(alloc)?)?
         .subcommand(generate(alloc)?)?
         .subcommand(Command::new(alloc, "rehearse"))
@@ -44,6 +45,18 @@ fn over_core<'a>(alloc: Global, name: &'a str) -> Result<Command<'a>, AllocError
 {
     Command::new(alloc, name)
         .arg(wanted(alloc, "helper"))?
+        .arg(file(alloc))
+}
+
+// `witness --helper HELPER --prefix KEY --shelf SHELF FILE`, and `--from OLD`
+fn witness<'a>(alloc: Global) -> Result<Command<'a>, AllocError>
+    ensures { IfOk result (HasShape (specs.command (codes "witness") (wants (codes "helper") ∷ wants (codes "prefix") ∷ wants (codes "shelf") ∷ may_have (codes "from") ∷ specs.file ∷ []))) }
+{
+    Command::new(alloc, "witness")
+        .arg(wanted(alloc, "helper"))?
+        .arg(wanted(alloc, "prefix"))?
+        .arg(wanted(alloc, "shelf"))?
+        .arg(option(alloc, "from"))?
         .arg(file(alloc))
 }
 

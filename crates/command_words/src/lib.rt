@@ -3,6 +3,7 @@
 
 mod command;
 mod form;
+mod key;
 mod number;
 
 pub use command::{Command, command_of};

@@ -10,6 +10,10 @@ pub mod Made
 pub mod Causes
 pub mod Never
 pub mod Rehearsed
+pub mod Serving
+pub mod ServedFile
+pub mod ServedCauses
+pub mod WitnessedCauses
 pub mod Statuses
 pub mod Agreed
 pub mod Generated

@@ -2,7 +2,8 @@
 use Rattle.std.proofs.Common.{◌≡◌, ◌≢◌, inl, inr, ◌⊎◌, ⊎_elim, ℕ, Bool, true, false, List, [], ◌∷◌, Option, Some, None, refl, sym, ◌∙◌, ap, subst}
 use Rattle.std.specs.Prelude.{IsNone, codes}
 use Rattle.keri_specs.specs.Causes.{Rose}
-use Rattle.command_words.specs.Words.{Asked, check, generate, make, rehearse, validate, watch}
+use Rattle.command_words.specs.Words.{Asked, check, generate, make, rehearse, validate, watch, witness}
+use Rattle.keri_disk.specs.Images.{DiskTold}
 use Rattle.verifier_link.specs.declared.served.Served.{Served}
 use Rattle.verifier_link.specs.declared.served.Served.TheVariants.{End, Malformed, ReadFault, WriteFault, Full, OutOfMemory}
 use Rattle.run_status.specs.declared.besides.Besides.{Besides}
@@ -15,6 +16,8 @@ use Rattle.keri_roles.specs.Commands.{IsRunOf, IsUnbegun, IsWritten, CarriesOut}
 use Rattle.keri_roles.specs.Made.{IsMade, given_alone, given_behind}
 use Rattle.keri_roles.specs.Rehearsed.{IsRehearsed, Serves, serving_close, serving_status}
 use Rattle.keri_roles.specs.Run.{Work, Run, HasCauses, SignerFails, AreCaused, work_in}
+use Rattle.keri_roles.specs.Seen.{disk_seen}
+use Rattle.keri_roles.proofs.WitnessedCauses.{witnessed_causes}
 use Rattle.keri_roles.proofs.Causes.{check_caused, generated_caused, made_caused, made_signer, rehearsed_caused, told_caused}
 use Rattle.keri_roles.proofs.Made.{due_finds}
 use Rattle.keri_roles.proofs.Never.{check_serves, generated_serves, has_none, made_serves, some_serves, told_serves}
@@ -40,9 +43,9 @@ written_causes asked Does run w refused failed no_disk no_shelf reads caused = r
   besides = w.besides;
   faults = faults_have_causes w.besides run.readers run.sink_before run.sink_after run.status w.owed w.settles;
   signer = ⊎_elim failed (λ closed. absurd (has_none closing.SignerFault refl run.readers reads closed));
-  disk = ⊎_elim no_disk (has_none closing.DiskFault refl run.readers reads);
+  disk = ⊎_elim (λ some. absurd (no_disk some)) (λ closed. absurd (has_none closing.DiskFault refl run.readers reads closed));
   sink = λ closed. absurd (has_none closing.WriteFault refl run.readers reads closed);
-  shelf = no_shelf;
+  shelf = λ some. absurd (no_shelf some);
   readers = caused;
 }
 
@@ -183,37 +186,40 @@ unbegun_causes asked run u = record {
     kept = λ other. ap (λ sink. sink.faults) u.none_written;
   };
   signer = ⊎_elim (λ e. absurd (not_true e)) (λ closed. absurd (subst (HasClose closing.SignerFault) u.none_read closed));
-  disk = ⊎_elim not_true (λ closed. subst (HasClose closing.DiskFault) u.none_read closed);
+  disk = ⊎_elim (λ e. absurd (not_true e)) (λ closed. absurd (subst (HasClose closing.DiskFault) u.none_read closed));
   sink = λ closed. absurd (subst (HasClose closing.WriteFault) u.none_read closed);
-  shelf = not_true;
+  shelf = λ e. absurd (not_true e);
   readers = rw u.none_read tt;
 }
 
-carried_causes : (asked : Option Asked) (run : Run) → CarriesOut asked run → HasCauses asked run
-carried_causes None run w = written_causes None _ run w (λ refused. refl)
+carried_causes : {D : Type 0} (told : D → DiskTold) (disk old : Option D) (asked : Option Asked) (run : Run) → run.disk ≡ disk_seen told disk → run.old ≡ disk_seen told old
+    → CarriesOut told disk old asked run → HasCauses asked run
+carried_causes told disk old None run d o w = written_causes None _ run w (λ refused. refl)
     (λ some. absurd (refused_only (λ b. b.signer_failed) refl some)) (refused_only (λ b. b.disk_failed) refl) (refused_only (λ b. b.shelf_full) refl)
     (rw w.does.idle.none_read refl) (rw w.does.idle.none_read tt)
   where
     refused_only : (finds : Besides → Bool) → finds (record nothing_besides { words_refused = true }) ≡ false → finds w.besides ≡ true → ⊥
     refused_only finds none some = let clash : false ≡ true = sym none ∙ (sym (ap finds w.does.nothing_else) ∙ some) in cc
-carried_causes (Some (check name)) run w = let work = work_in run w.owed w.besides in
+carried_causes told disk old (Some (check name)) run d o w = let work = work_in run w.owed w.besides in
     plain_causes (check name) _ run w false w.does.nothing_else (check_serves name work w.does) (check_caused name work w.does)
-carried_causes (Some (validate helper name)) run w = let work = work_in run w.owed w.besides in
+carried_causes told disk old (Some (validate helper name)) run d o w = let work = work_in run w.owed w.besides in
     plain_causes (validate helper name) _ run w w.does.over.has_conflicts w.does.over.nothing_else
     (told_serves _ helper name work w.does.over.told) (told_caused _ helper name work w.does.over.told)
-carried_causes (Some (watch helper name)) run w = let work = work_in run w.owed w.besides in
+carried_causes told disk old (Some (watch helper name)) run d o w = let work = work_in run w.owed w.besides in
     plain_causes (watch helper name) _ run w w.does.has_conflicts w.does.nothing_else
     (told_serves _ helper name work w.does.told) (told_caused _ helper name work w.does.told)
-carried_causes (Some (make helper plan log)) run w = let work = work_in run w.owed w.besides in
+carried_causes told disk old (Some (witness helper key shelf from name)) run d o w = witnessed_causes told disk old helper key shelf from name run d o w
+carried_causes told disk old (Some (make helper plan log)) run d o w = let work = work_in run w.owed w.besides in
     written_causes (Some (make helper plan log)) _ run w (λ some. absurd (made_finds (λ b. b.words_refused) (λ s r. refl) helper plan log work w.does some))
     (made_signer helper plan log work w.does) (made_finds (λ b. b.disk_failed) (λ s r. refl) helper plan log work w.does)
     (made_finds (λ b. b.shelf_full) (λ s r. refl) helper plan log work w.does)
     (made_serves helper plan log work w.does) (made_caused helper plan log work w.does)
-carried_causes (Some (generate seed logs events)) run w = let work = work_in run w.owed w.besides in
+carried_causes told disk old (Some (generate seed logs events)) run d o w = let work = work_in run w.owed w.besides in
     plain_causes (generate seed logs events) _ run w false w.does.nothing_else (generated_serves seed logs events work w.does) (generated_caused seed logs events work w.does)
-carried_causes (Some rehearse) run r = rehearsed_causes run r
+carried_causes told disk old (Some rehearse) run d o r = rehearsed_causes run r
 
 -- of any run of which this is known
-pub has_causes : (asked : Option Asked) (run : Run) → IsRunOf asked run → HasCauses asked run
-has_causes asked run (inl c) = carried_causes asked run c
-has_causes asked run (inr u) = unbegun_causes asked run u
+pub has_causes : {D : Type 0} (told : D → DiskTold) (disk old : Option D) (asked : Option Asked) (run : Run) → IsRunOf told disk old asked run
+    → run.disk ≡ disk_seen told disk → run.old ≡ disk_seen told old → HasCauses asked run
+has_causes told disk old asked run (inl c) d o = carried_causes told disk old asked run d o c
+has_causes told disk old asked run (inr u) d o = unbegun_causes asked run u

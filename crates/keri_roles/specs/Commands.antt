@@ -2,7 +2,7 @@
 use Rattle.std.specs.Prelude.{◌≡◌, ◌≢◌, ℕ, ◌∷◌, ◌⊎◌, true, Bool, List, [], codes}
 use Rattle.std.specs.declared.option.Option.{Option}
 use Rattle.std.specs.declared.option.Option.TheVariants.{None, Some}
-use Rattle.command_words.specs.Words.{Asked, check, generate, make, rehearse, validate, watch}
+use Rattle.command_words.specs.Words.{Asked, check, generate, make, rehearse, validate, watch, witness}
 use Rattle.journal.specs.declared.mode.Mode.TheVariants.{Full, Local}
 use Rattle.journal.specs.declared.refusal.Refusal.{Refusal}
 use Rattle.journal.specs.Accepted.{accepted}
@@ -25,6 +25,8 @@ use Rattle.run_status.specs.Readers.{Reader}
 use Rattle.keri_roles.specs.Run.{Owes, Run, Work, work_in}
 use Rattle.keri_roles.specs.Run.{Settles}
 use Rattle.run_status.specs.Status.{nothing_besides}
+use Rattle.keri_disk.specs.Images.{DiskTold}
+use Rattle.keri_roles.specs.Witnessed.{IsWitnessed}
 
 -- `validate --helper HELPER FILE`: a core that wants receipts and seals is told what the file holds, and the text is its
 -- report. What it accepts agrees with what any other validator accepts.
@@ -77,15 +79,17 @@ pub record IsWritten (Does : Work → Type 0) (run : Run) : Type 0 where
   pub no_disk : run.disk ≡ None
   pub no_old : run.old ≡ None
 
--- a row for each command, of which `rehearse` alone writes as it reads
-abbrev pub CarriesOut : Option Asked → Run → Type 0
-CarriesOut None run = IsWritten RefusesWords run
-CarriesOut (Some (check name)) run = IsWritten (IsChecked name) run
-CarriesOut (Some (validate helper name)) run = IsWritten (IsValidated helper name) run
-CarriesOut (Some (watch helper name)) run = IsWritten (IsWatched helper name) run
-CarriesOut (Some (make helper plan log)) run = IsWritten (IsMade helper plan log) run
-CarriesOut (Some (generate seed logs events)) run = IsWritten (IsGenerated seed logs events) run
-CarriesOut (Some rehearse) run = IsRehearsed run
+-- A row for each command, of which `rehearse` and `witness` alone write as they read. `witness` alone has disks, which it hands
+-- back.
+abbrev pub CarriesOut : {D : Type 0} → (D → DiskTold) → Option D → Option D → Option Asked → Run → Type 0
+CarriesOut told disk old None run = IsWritten RefusesWords run
+CarriesOut told disk old (Some (check name)) run = IsWritten (IsChecked name) run
+CarriesOut told disk old (Some (validate helper name)) run = IsWritten (IsValidated helper name) run
+CarriesOut told disk old (Some (watch helper name)) run = IsWritten (IsWatched helper name) run
+CarriesOut told disk old (Some (witness helper key shelf from name)) run = IsWitnessed told disk old helper key shelf from name run
+CarriesOut told disk old (Some (make helper plan log)) run = IsWritten (IsMade helper plan log) run
+CarriesOut told disk old (Some (generate seed logs events)) run = IsWritten (IsGenerated seed logs events) run
+CarriesOut told disk old (Some rehearse) run = IsRehearsed run
 
 -- there was no memory to begin with: nothing was made, read, told or written
 pub record IsUnbegun (run : Run) : Type 0 where
@@ -99,5 +103,5 @@ pub record IsUnbegun (run : Run) : Type 0 where
   pub status : run.status ≡ 10
 
 -- what a run of the program does
-abbrev pub IsRunOf : Option Asked → Run → Type 0
-IsRunOf asked run = CarriesOut asked run ⊎ IsUnbegun run
+abbrev pub IsRunOf : {D : Type 0} → (D → DiskTold) → Option D → Option D → Option Asked → Run → Type 0
+IsRunOf told disk old asked run = CarriesOut told disk old asked run ⊎ IsUnbegun run

@@ -17,4 +17,6 @@ pub mod Planned
 pub mod Made
 pub mod PlanDues
 pub mod Rehearsed
+pub mod ServedFile
+pub mod Witnessed
 pub mod Commands

@@ -1,9 +1,9 @@
 -- What is seen of a run, and of what a command came to before that was written.
-use Rattle.std.specs.Prelude.{◌≡◌, ◌≢◌, ℕ, ◌⊎◌, true, List, [], ◌∷◌, map, option_map, is_none, IsNone, MatchOption, String, string_bytes}
+use Rattle.std.specs.Prelude.{◌≡◌, ◌≢◌, ℕ, ◌⊎◌, true, List, [], ◌∷◌, map, option_map, is_none, IsNone, IsSomeAnd, MatchOption, String, string_bytes}
 use Rattle.std.specs.declared.option.Option.{Option}
 use Rattle.std.specs.declared.option.Option.TheVariants.{None, Some}
 use Rattle.keri_specs.specs.Causes.{Rose}
-use Rattle.command_words.specs.Words.{Asked, asks, check, generate, make, rehearse, validate, watch}
+use Rattle.command_words.specs.Words.{Asked, asks, check, generate, make, rehearse, validate, watch, witness}
 use Rattle.cesr_codes.specs.declared.key.Key.{Key}
 use Rattle.cesr_codes.specs.declared.sig.Sig.{Sig}
 use Rattle.keri_outside.specs.declared.signing.Signing.{Signing}
@@ -81,8 +81,8 @@ abbrev pub AreCaused : Told → Told → List Reader → Type 0
 AreCaused before after [] = Unit {0}
 AreCaused before after (reader ∷ readers) = IsCaused before after reader × AreCaused before after readers
 
--- `make` alone has a signer. It fails where its count rose from zero, or where it couldn't be made and the count of the outside
--- rose.
+-- `make` and `witness` alone have a signer. It fails where its count rose from zero, or where it couldn't be made and the count of
+-- the outside rose.
 abbrev pub SignerFails : Option Asked → Run → Type 0
 SignerFails None run = ⊥
 SignerFails (Some (check file)) run = ⊥
@@ -90,11 +90,35 @@ SignerFails (Some (validate helper file)) run = ⊥
 SignerFails (Some (watch helper file)) run = ⊥
 SignerFails (Some (generate seed logs events)) run = ⊥
 SignerFails (Some rehearse) run = ⊥
+SignerFails (Some (witness helper key shelf from file)) run = MatchOption run.signer (Rose run.before.faults run.after.faults) (λ s. Rose 0 s.faults)
 SignerFails (Some (make helper plan log)) run = MatchOption run.signer (Rose run.before.faults run.after.faults) (λ s. Rose 0 s.faults)
 
--- no command has a disk yet, or a shelf
+-- the count of the disk rose from zero, where there is one
+abbrev pub DiskRose : Option DiskSeen → Type 0
+DiskRose disk = IsSomeAnd disk (λ d. Rose 0 d.faults)
+
+-- `witness` alone has disks, and a shelf. One fails where its count rose from zero, or where it couldn't be made and the count of the
+-- outside rose.
 abbrev pub DiskFails : Option Asked → Run → Type 0
-DiskFails asked run = ⊥
+DiskFails None run = ⊥
+DiskFails (Some (check file)) run = ⊥
+DiskFails (Some (validate helper file)) run = ⊥
+DiskFails (Some (watch helper file)) run = ⊥
+DiskFails (Some (generate seed logs events)) run = ⊥
+DiskFails (Some rehearse) run = ⊥
+DiskFails (Some (make helper plan log)) run = ⊥
+DiskFails (Some (witness helper key shelf from file)) run = Rose run.before.faults run.after.faults ⊎ DiskRose run.disk ⊎ DiskRose run.old
+
+-- it reads a shelf
+abbrev pub ReadsShelf : Option Asked → Type 0
+ReadsShelf None = ⊥
+ReadsShelf (Some (check file)) = ⊥
+ReadsShelf (Some (validate helper file)) = ⊥
+ReadsShelf (Some (watch helper file)) = ⊥
+ReadsShelf (Some (generate seed logs events)) = ⊥
+ReadsShelf (Some rehearse) = ⊥
+ReadsShelf (Some (make helper plan log)) = ⊥
+ReadsShelf (Some (witness helper key shelf from file)) = Unit {0}
 
 -- each fault that is answered has its cause
 pub record HasCauses (asked : Option Asked) (run : Run) : Type 0 where
@@ -104,7 +128,7 @@ pub record HasCauses (asked : Option Asked) (run : Run) : Type 0 where
   pub signer : (besides.signer_failed ≡ true) ⊎ HasClose SignerFault run.readers → SignerFails asked run
   pub disk : (besides.disk_failed ≡ true) ⊎ HasClose DiskFault run.readers → DiskFails asked run
   pub sink : HasClose WriteFault run.readers → Rose run.sink_before.faults run.sink_after.faults
-  pub shelf : besides.shelf_full ≡ true → ⊥
+  pub shelf : besides.shelf_full ≡ true → ReadsShelf asked
   pub readers : AreCaused run.before run.after run.readers
 
 -- the words of a run ask for this, where they are in the form

@@ -27,9 +27,12 @@ mod serves;
 mod signs;
 mod sizes;
 mod text_reader;
+mod unread;
 mod validate;
 mod validator;
 mod watch;
+mod witness;
+mod witness_file;
 mod works;
 
 pub use backed_list::backed;

@@ -1,8 +1,8 @@
 //! The top call.
 ghost use Rattle.std.specs.Prelude.{◌≡◌, ◌<◌, [], None, Some, option_map};
 ghost use Rattle.std.specs.Vec.{vec_capacity};
-ghost use Rattle.command_words.specs.Words.{asked_by};
-ghost use Rattle.keri_roles.specs.Commands.{CarriesOut, IsRunOf};
+ghost use Rattle.command_words.specs.Words.{HasFixedKey, asked_by};
+ghost use Rattle.keri_roles.specs.Commands.{CarriesOut, IsRunOf, IsWritten, RefusesWords};
 ghost use Rattle.keri_roles.specs.Run.{HasCauses, IsSettled, asked_in};
 ghost use Rattle.keri_roles.specs.NoJournal.{no_journal};
 
@@ -14,6 +14,7 @@ use crate::outcome::{Outcome, SignedOutcome};
 use crate::rehearse::rehearse;
 use crate::validate::validate;
 use crate::watch::watch;
+use crate::witness::{WitnessWords, witness};
 use crate::{Done, ReaderEnd, Runs};
 use command_words::{Command, command_of};
 use report_lines::WORDS;
@@ -30,7 +31,8 @@ const NO_MEMORY: u8 = 10;
 /// Does all that the program does: what the words ask for, over the outside that is handed in.
 pub fn run<O: Runs>(alloc: Global, words: &Vec<String>, outside: &mut O) -> Done<O>
     // Words that aren't in the form of a command are refused, and nothing is made. Others are answered as they ask.
-    ensures answered { IsRunOf (asked_in words.now.items) (O.run outside.old outside.new result) }
+    ensures answered { IsRunOf O.Disk.told result.disk result.old (asked_in words.now.items)
+        (O.run outside.old outside.new result) }
 
     // Each fault that is answered has its cause.
     ensures causes { HasCauses (asked_in words.now.items) (O.run outside.old outside.new result) }
@@ -40,7 +42,8 @@ pub fn run<O: Runs>(alloc: Global, words: &Vec<String>, outside: &mut O) -> Done
 
 // The same; that each fault has its cause follows.
 fn answer<O: Outside>(alloc: Global, words: &Vec<String>, outside: &mut O) -> Done<O>
-    ensures answered { IsRunOf (asked_in words.now.items) (⟦<O as Runs>⟧.run outside.old outside.new result) }
+    ensures answered { IsRunOf O.Disk.told result.disk result.old (asked_in words.now.items)
+        (⟦<O as Runs>⟧.run outside.old outside.new result) }
 {
     let command = match command_of(alloc, words.as_slice()) {
         Ok(Some(command)) => command,
@@ -62,7 +65,8 @@ fn carry_out<O: Outside>(
 ) -> Done<O>
     requires none_yet { readers.items ≡ [] }
     requires room { 1 < vec_capacity readers }
-    ensures does { CarriesOut (Some (asked_by command.entry))
+    requires fixed { HasFixedKey command }
+    ensures does { CarriesOut O.Disk.told result.disk result.old (Some (asked_by command.entry))
         (⟦<O as Runs>⟧.run outside.old outside.new result) }
 {
     match command {
@@ -80,6 +84,22 @@ fn carry_out<O: Outside>(
                 unsigned(watch(alloc, helper, file, readers, outside)),
                 outside,
             )
+        }
+        Command::Witness {
+            helper,
+            prefix,
+            shelf,
+            from,
+            file,
+        } => {
+            let words = WitnessWords {
+                helper,
+                prefix,
+                shelf,
+                from,
+                file,
+            };
+            witness(alloc, words, readers, outside)
         }
         Command::Make { helper, plan, log } => {
             finish(
@@ -167,7 +187,7 @@ fn unbegun<O: Outside>(alloc: Global) -> Done<O>
 
 // Says that the words aren't in the form.
 fn refuse<O: Outside>(alloc: Global, outside: &mut O) -> Done<O>
-    ensures answered { CarriesOut None (⟦<O as Runs>⟧.run outside.old outside.new result) }
+    ensures answered { IsWritten RefusesWords (⟦<O as Runs>⟧.run outside.old outside.new result) }
 {
     let besides = Besides {
         words_refused: true,

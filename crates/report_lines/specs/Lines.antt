@@ -91,6 +91,10 @@ shelf_text place = line (codes "shelf" ∷ decimal place ∷ [])
 abbrev pub old_text : ℕ → List ℕ
 old_text place = line (codes "old" ∷ decimal place ∷ [])
 
+-- `log`, and the number of the first payload of a shelf that is no event which follows those before it
+abbrev pub log_text : ℕ → List ℕ
+log_text number = line (codes "log" ∷ decimal number ∷ [])
+
 -- `refused`, the reader's number, the message's place, and why
 abbrev pub refused_text : ℕ → ℕ → Reason → List ℕ
 refused_text reader place reason = line (codes "refused" ∷ decimal reader ∷ decimal place ∷ reason_word reason ∷ [])

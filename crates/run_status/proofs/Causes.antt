@@ -153,6 +153,13 @@ full WriteFault e = cc
 full (Malformed place) e = cc
 full OutOfMemory e = cc
 
+-- where nothing more is put, a reader closed by the sink's fault
+pub six_closed : (besides : Besides) (readers : List Reader) (status : ℕ) → status ≡ status_of (found besides readers false) → status ≡ 6 → HasClose WriteFault readers
+six_closed besides readers status s e = elim (closed_or (λ c. (close_found c).sink_failed) WriteFault write_fault false readers (by_six _ _ _ _ _ _ _ _ (sym s ∙ e))) [
+  | inl closed ↦ closed
+  | inr failed ↦ cc
+]
+
 module _ (besides : Besides) (readers : List Reader) (old new : SinkTold) (status : ℕ) where
   pub words_refused : (owed : Option (List ℕ)) → SettlesBy owed besides readers old new status → status ≡ 2 → besides.words_refused ≡ true
   words_refused None s e = let clash : 10 ≡ 2 = sym s.0 ∙ e in cc

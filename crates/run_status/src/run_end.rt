@@ -1,8 +1,9 @@
 //! The end of a run: what is owed is written, and the status is found.
-ghost use Rattle.std.specs.Prelude.{◌≡◌, map, option_map};
+ghost use Rattle.std.specs.Prelude.{◌≡◌, false, map, option_map};
 ghost use Rattle.run_status.specs.Readers.{reader_seen, sink_seen};
 ghost use Rattle.run_status.specs.Settling.{Puts, SettlesBy};
 ghost use Rattle.run_status.specs.Settling as settling;
+ghost use Rattle.run_status.specs.Status.{status_of};
 
 use crate::closes::{
     some_disk_fault, some_full, some_read_fault, some_refused, some_saw_another, some_signer_fault,
@@ -33,6 +34,15 @@ pub fn settle<O: Outside>(
     };
     let sink_failed = put(outside, text);
     found(besides, readers, sink_failed).status()
+}
+
+/// The status of a run that owes nothing more: by its readers' ends, and by what was found besides.
+pub fn status_by<O: Outside>(besides: Besides, readers: &[ReaderEnd<O::Source, O::Verifier>]) -> u8
+    ensures { result ≡ status_of (settling.found besides
+        (map (reader_seen O.Source.left O.Source.faults O.Verifier.says O.Verifier.inquiries O.Verifier.faults)
+        readers.now) false) }
+{
+    found(besides, readers, false).status()
 }
 
 // Puts the text where there is any, and says whether the sink failed. Then nothing may be put again.

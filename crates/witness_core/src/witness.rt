@@ -44,6 +44,7 @@ pub struct Witness<D: Disk> {
 
 impl<D: Disk + Drop> Witness<D> {
     ghost use Rattle.std.specs.Prelude.{◌≡◌, true, map, All, Err, IfErr, IfOk, MatchResult, OnOk};
+    ghost use Rattle.shelf_log.specs.Settled.{AllHold};
     ghost use Rattle.validator_core.specs.View.{Follows, Stands};
     ghost use Rattle.witness_core.specs.Faults.{CausedBy, FullBy, Goes};
     ghost use Rattle.witness_core.specs.Fates.{IsFate};
@@ -184,6 +185,17 @@ impl<D: Disk + Drop> Witness<D> {
     {
         let Witness { shelf, .. } = self;
         shelf
+    }
+
+    /// The journal of the core, and the shelf. It takes no memory.
+    pub fn into_parts(self) -> (Journal, Shelf<D>)
+        ensures bodies { result.0.bodies ≡ map (λ b. b.bytes) self.core.held }
+        ensures entries { result.0.entries ≡ self.core.entries }
+        ensures shelf { result.1 ≡ self.shelf }
+        ensures stand { self.broken ≡ false → AllHold (D.told self.shelf.disk) self.shelf.list }
+    {
+        let Witness { core, shelf, .. } = self;
+        (core.into_journal(), shelf)
     }
 }
 

@@ -1,5 +1,6 @@
 pub mod Answers
 pub mod Disks
 pub mod Found
+pub mod Names
 pub mod Opening
 pub mod Ways

@@ -2,6 +2,7 @@
 ghost use Rattle.std.specs.Prelude.{◌≡◌, Some, IfOk, IfSome, MatchResult, Ok, Err};
 ghost use Rattle.keri_disk.specs.Images.{IsDurable};
 ghost use Rattle.shelf_log.specs.Format.{IsUnmarked};
+ghost use Rattle.witness_opening.specs.Names.{KeepsNames};
 ghost use Rattle.witness_opening.specs.Opening.{IsOpen};
 ghost use Rattle.witness_opening.specs.Ways.{FillsIt};
 
@@ -29,6 +30,7 @@ pub(crate) fn fill<O: Outside>(
         (Some opened.shelf.disk) opened.old (Ok opened.shelf.list))
         (λ none. FillsIt O.Disk.told disk limits (O.told outside.old) (O.told outside.new) old.now
         none.disk none.old (Err none.fault)) }
+    ensures same_names { KeepsNames (O.told outside.old) (O.told outside.new) }
     ensures same_sink { O.sink outside.new ≡ O.sink outside.old }
 {
     let Ok(old) = outside.disk(old) else {

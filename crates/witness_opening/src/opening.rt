@@ -1,6 +1,7 @@
 //! Opening a shelf over the outside.
 ghost use Rattle.std.specs.Prelude.{◌≡◌, None, Some, IfOk, MatchResult, Ok, Err};
 ghost use Rattle.std.specs.Option.{option_map};
+ghost use Rattle.witness_opening.specs.Names.{KeepsNames};
 ghost use Rattle.witness_opening.specs.Opening.{IsOpen, IsOpening};
 
 use crate::file_kind::{is_empty, is_unmarked};
@@ -29,6 +30,7 @@ pub fn open_shelf<O: Outside>(
         (option_map (λ n. n.now) old.entry) (Some opened.shelf.disk) opened.old (Ok opened.shelf.list))
         (λ none. IsOpening O.Disk.told limits (O.told outside.old) (O.told outside.new) name.now
         (option_map (λ n. n.now) old.entry) none.disk none.old (Err none.fault)) }
+    ensures same_names { KeepsNames (O.told outside.old) (O.told outside.new) }
     ensures same_sink { O.sink outside.new ≡ O.sink outside.old }
 {
     match old {
@@ -51,6 +53,7 @@ fn open_alone<O: Outside>(
         None (Some opened.shelf.disk) opened.old (Ok opened.shelf.list))
         (λ none. IsOpening O.Disk.told limits (O.told outside.old) (O.told outside.new) name.now
         None none.disk none.old (Err none.fault)) }
+    ensures same_names { KeepsNames (O.told outside.old) (O.told outside.new) }
     ensures same_sink { O.sink outside.new ≡ O.sink outside.old }
 {
     let Ok(disk) = outside.disk(name) else {
@@ -79,6 +82,7 @@ fn open_beside<O: Outside>(
         (Some old.now) (Some opened.shelf.disk) opened.old (Ok opened.shelf.list))
         (λ none. IsOpening O.Disk.told limits (O.told outside.old) (O.told outside.new) name.now
         (Some old.now) none.disk none.old (Err none.fault)) }
+    ensures same_names { KeepsNames (O.told outside.old) (O.told outside.new) }
     ensures same_sink { O.sink outside.new ≡ O.sink outside.old }
 {
     let Ok(disk) = outside.disk(name) else {

@@ -63,3 +63,6 @@ returns-in-Generate g c = rw (c.in-Generate.is, c.finish-in-Generate.ensures.sig
 
 pub returns-in-Rehearse : goal.returns-in-Rehearse
 returns-in-Rehearse g c = rw c.in-Rehearse.is (record { does = c.rehearse.ensures.rehearsed })
+
+pub returns-in-Witness : goal.returns-in-Witness
+returns-in-Witness g c = rw c.in-Witness.is (record { does = c.witness.ensures.witnessed })

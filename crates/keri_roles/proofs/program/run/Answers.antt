@@ -1,5 +1,6 @@
+use Rattle.std.proofs.Common.{refl}
 use Rattle.keri_roles.proofs.Statuses.{has_causes}
 use Rattle.keri_roles.proofs.program.run.Goals as goal
 
 pub returns-clause-causes : goal.returns-clause-causes
-returns-clause-causes g c = rw g.met.O.Runs.run_is (has_causes _ _ c.answer.ensures.answered)
+returns-clause-causes g c = rw g.met.O.Runs.run_is (has_causes _ _ _ _ _ c.answer.ensures.answered refl refl)

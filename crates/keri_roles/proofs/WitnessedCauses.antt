@@ -1,0 +1,175 @@
+-- Each fault that a run of `witness` answers has its cause.
+use Rattle.std.proofs.Common.{◌≡◌, ◌≢◌, ◌⊎◌, inl, inr, ⊎_elim, ℕ, Bool, true, false, List, [], ◌∷◌, ◌++◌, Option, Some, None, Ok, Err, refl, sym, ◌∙◌, ap, append-nil, subst}
+use Rattle.std.specs.Prelude.{IsSomeAnd, IfSome, if◌then◌else◌}
+use Rattle.keri_specs.specs.Causes.{Rose}
+use Rattle.keri_specs.specs.Told.{after}
+use Rattle.cesr_codes.specs.declared.key.Key.{Key}
+use Rattle.command_words.specs.Words.{Asked, witness}
+use Rattle.journal.specs.declared.resume_fault.ResumeFault.{ResumeFault}
+use Rattle.journal.specs.declared.resume_fault.ResumeFault.TheVariants.{NotALog, OutOfMemory as NoMemory}
+use Rattle.keri_disk.specs.Images.{DiskTold}
+use Rattle.run_outside.specs.Told.{Told}
+use Rattle.run_status.specs.declared.besides.Besides.{Besides}
+use Rattle.run_status.specs.declared.close.Close.{Close}
+use Rattle.run_status.specs.declared.close.Close.TheVariants as closing
+use Rattle.run_status.specs.Readers.{HasClose, Reader, SinkTold}
+use Rattle.run_status.specs.Settling.{FaultsHaveCauses, SettlesBy, found}
+use Rattle.run_status.specs.Status.{nothing_besides, status_of}
+use Rattle.run_status.proofs.Causes.{faults_have_causes, six_closed, words_refused}
+use Rattle.witness_opening.specs.Disks.{HasCause}
+use Rattle.witness_opening.specs.Found.{found_by}
+use Rattle.witness_opening.specs.declared.fault.OpeningFault.{OpeningFault}
+use Rattle.witness_opening.specs.declared.fault.OpeningFault.TheVariants.{NotAShelf, NotAnOldShelf, DiskFault, Full, OutOfMemory}
+use Rattle.keri_roles.specs.Run.{DiskRose, DiskSeen, HasCauses, Run}
+use Rattle.keri_roles.specs.Seen.{disk_seen}
+use Rattle.keri_roles.specs.Made.{is_out}
+use Rattle.keri_roles.specs.ServedFile.{IsServing, status_closing}
+use Rattle.keri_roles.specs.Witnessed.{IsStartedOver, IsUnread, IsUnstarted, IsWitnessed, OpensNone, OpensOne, start_found, start_text}
+use Rattle.keri_roles.proofs.ServedCauses.{serving_asked, serving_kept, serving_read, serving_signed, serving_stored, serving_wrote}
+
+-- a run that read nothing
+unread_causes : (helper : List ℕ) (key : Key) (shelf : List ℕ) (from : Option (List ℕ)) (name : List ℕ) (no_memory : Type 0) (text : List ℕ) (besides : Besides) (run : Run)
+    → IsUnread no_memory text besides run → (besides.words_refused ≡ true → ⊥) → (besides.signer_failed ≡ true → ⊥)
+    → (besides.disk_failed ≡ true → Rose run.before.faults run.after.faults ⊎ DiskRose run.disk ⊎ DiskRose run.old)
+    → HasCauses (Some (witness helper key shelf from name)) run
+unread_causes helper key shelf from name no_memory text besides run u words signer disk = record {
+  two = λ e. absurd (words (words_refused besides run.readers run.sink_before run.sink_after run.status u.owed u.settles e));
+  besides = besides;
+  faults = faults_have_causes besides run.readers run.sink_before run.sink_after run.status u.owed u.settles;
+  signer = ⊎_elim (λ failed. absurd (signer failed)) (λ closed. absurd (subst (HasClose closing.SignerFault) u.none_read closed));
+  disk = ⊎_elim disk (λ closed. absurd (subst (HasClose closing.DiskFault) u.none_read closed));
+  sink = λ closed. absurd (subst (HasClose closing.WriteFault) u.none_read closed);
+  shelf = λ e. tt;
+  readers = rw u.none_read tt;
+}
+
+-- what is found where there is no shelf
+opening_words : (fault : OpeningFault) → (found_by fault).words_refused ≡ true → ⊥
+opening_words (NotAShelf place) e = cc
+opening_words (NotAnOldShelf place) e = cc
+opening_words DiskFault e = cc
+opening_words Full e = cc
+opening_words OutOfMemory e = cc
+
+opening_signer : (fault : OpeningFault) → (found_by fault).signer_failed ≡ true → ⊥
+opening_signer (NotAShelf place) e = cc
+opening_signer (NotAnOldShelf place) e = cc
+opening_signer DiskFault e = cc
+opening_signer Full e = cc
+opening_signer OutOfMemory e = cc
+
+opening_disk : (fault : OpeningFault) → (found_by fault).disk_failed ≡ true → fault ≡ DiskFault
+opening_disk (NotAShelf place) e = cc
+opening_disk (NotAnOldShelf place) e = cc
+opening_disk DiskFault e = refl
+opening_disk Full e = cc
+opening_disk OutOfMemory e = cc
+
+-- and where no witness starts
+starting_words : (fault : ResumeFault) → (start_found fault).words_refused ≡ true → ⊥
+starting_words (NotALog number) e = cc
+starting_words NoMemory e = cc
+
+starting_signer : (fault : ResumeFault) → (start_found fault).signer_failed ≡ true → ⊥
+starting_signer (NotALog number) e = cc
+starting_signer NoMemory e = cc
+
+starting_disk : (fault : ResumeFault) → (start_found fault).disk_failed ≡ true → ⊥
+starting_disk (NotALog number) e = cc
+starting_disk NoMemory e = cc
+
+-- nothing behind what was written
+after_none : (told : Option (List ℕ)) → told ≡ after told []
+after_none None = refl
+after_none (Some written) = ap Some (sym (append-nil written))
+
+-- the status of readers of which the last closed so is as where nothing more was owed
+closing_settles : (out : Bool) (readers : List Reader) (sink : SinkTold) (status : ℕ) → status ≡ (if out then 10 else status_of (found nothing_besides readers false))
+    → SettlesBy (if out then None else Some []) nothing_besides readers sink sink status
+closing_settles true readers sink status e = (e, refl)
+closing_settles false readers sink status e = (false, (after_none sink.written, refl), e)
+
+closing_six : (out : Bool) (readers : List Reader) (status : ℕ) → status ≡ (if out then 10 else status_of (found nothing_besides readers false)) → status ≡ 6 → HasClose closing.WriteFault readers
+closing_six true readers status s e = let clash : 10 ≡ 6 = sym s ∙ e in cc
+closing_six false readers status s e = six_closed nothing_besides readers status s e
+
+wrote_six : (reader : Reader) → reader.close ≡ closing.WriteFault → status_closing (reader ∷ []) reader.close ≡ 6
+wrote_six reader e = rw e refl
+
+closed_one : (at : Close) (reader : Reader) → HasClose at (reader ∷ []) → reader.close ≡ at
+closed_one at reader (inl e) = e
+closed_one at reader (inr none) = absurd none
+
+not_true : false ≡ true → ⊥
+not_true e = cc
+
+module _ {D : Type 0} (told : D → DiskTold) where
+  rose_seen : (disk : Option D) → IsSomeAnd disk (λ d. Rose 0 (told d).faults) → DiskRose (disk_seen told disk)
+  rose_seen None r = absurd r
+  rose_seen (Some d) r = r
+
+  -- a disk that hadn't failed
+  rose_back : (first last : D) (disk : Option D) → (told first).faults ≡ 0 → disk ≡ Some last → Rose (told first).faults (told last).faults → DiskRose (disk_seen told disk)
+  rose_back first last disk none back rose = rw back (rw none at rose)
+
+  module _ (disk old : Option D) (helper : List ℕ) (key : Key) (shelf : List ℕ) (from : Option (List ℕ)) (name : List ℕ) (run : Run)
+      (disk_is : run.disk ≡ disk_seen told disk) (old_is : run.old ≡ disk_seen told old) where
+    opens_none : OpensNone told disk old helper key shelf from name run → HasCauses (Some (witness helper key shelf from name)) run
+    opens_none o = unread_causes helper key shelf from name _ _ (found_by o.fault) run o.unopened (opening_words o.fault) (opening_signer o.fault)
+        (λ e. elim (o.opening.cause.rose (ap Err (opening_disk o.fault e))) [
+          | inl rose ↦ inl rose
+          | inr (inl rose) ↦ inr (inl (rw disk_is (rose_seen disk rose)))
+          | inr (inr rose) ↦ inr (inr (rw old_is (rose_seen old rose)))
+        ])
+
+    unstarted : (first : D) (list : List (List ℕ)) (middle : Told) → IsUnstarted disk first list (record run { before = middle }) → HasCauses (Some (witness helper key shelf from name)) run
+    unstarted first list middle u =
+        let it = u.unread in
+        let unread : IsUnread (u.fault ≡ NoMemory) (start_text u.fault) (start_found u.fault) run =
+        record { none_read = it.none_read; none_told = it.none_told; no_signer = it.no_signer; owed = it.owed; line = it.line; settles = it.settles } in
+        unread_causes helper key shelf from name _ _ (start_found u.fault) run unread (starting_words u.fault) (starting_signer u.fault)
+        (λ e. absurd (starting_disk u.fault e))
+
+    served : (first : D) (list : List (List ℕ)) (middle : Told) → middle.faults ≡ run.before.faults → (told first).faults ≡ 0
+        → IsStartedOver told disk helper key name run.before.limits first list (record run { before = middle }) → HasCauses (Some (witness helper key shelf from name)) run
+    served first list middle same none s =
+        let reader = s.serves.reader in
+        let ends = s.serves.ends in
+        let settles = closing_settles (is_out reader.close) run.readers run.sink_after run.status ends.status in
+        let causes = faults_have_causes nothing_besides run.readers run.sink_after run.sink_after run.status _ settles in
+        let here : Run = record run { before = middle } in
+        let wrote = serving_wrote told key run.before.limits helper name _ s.serves.new reader here reader.source reader.verifier run.signer s.serves.serves in
+        let one : (at : Close) → HasClose at run.readers → reader.close ≡ at = λ at closed. closed_one at reader (subst (HasClose at) ends.one closed) in
+        record {
+          two = λ e. absurd (not_true (words_refused nothing_besides run.readers run.sink_after run.sink_after run.status _ settles e));
+          besides = nothing_besides;
+          faults = record {
+            five = causes.five;
+            seven = causes.seven;
+            eight = causes.eight;
+            nine = causes.nine;
+            six = λ e. inl (closing_six (is_out reader.close) run.readers run.status ends.status e);
+            kept = λ other. serving_kept told key run.before.limits helper name _ s.serves.new reader here reader.source reader.verifier run.signer s.serves.serves
+                (λ e. other (ends.status ∙ rw ends.one (wrote_six reader e)));
+          };
+          signer = ⊎_elim (λ e. absurd (not_true e)) (λ closed. rw (sym same) (serving_signed told key run.before.limits helper name _ s.serves.new reader here reader.source reader.verifier run.signer s.serves.makes s.serves.serves
+              (one closing.SignerFault closed)));
+          disk = ⊎_elim (λ e. absurd (not_true e)) (λ closed. inr (inl (rw disk_is (rose_back first s.serves.new.disk disk none ends.back
+              (serving_stored told key run.before.limits helper name _ s.serves.new reader here reader.source reader.verifier run.signer s.serves.serves (one closing.DiskFault closed))))));
+          sink = λ closed. wrote (one closing.WriteFault closed);
+          shelf = λ e. tt;
+          readers = rw ends.one (
+            record {
+              source = λ e. rw (sym same) (serving_read told key run.before.limits helper name _ s.serves.new reader here reader.source reader.verifier run.signer s.serves.makes s.serves.serves e);
+              verifier = λ e. rw (sym same) (serving_asked told key run.before.limits helper name _ s.serves.new reader here reader.source reader.verifier run.signer s.serves.makes s.serves.serves e);
+            },
+            tt,
+          );
+        }
+
+    pub witnessed_causes : IsWitnessed told disk old helper key shelf from name run → HasCauses (Some (witness helper key shelf from name)) run
+    witnessed_causes (inl o) = opens_none o
+    witnessed_causes (inr o) = elim o.starts [
+      | inl u ↦ unstarted o.first o.list o.middle u
+      | inr s ↦ served o.first o.list o.middle (o.opening.cause.same (λ e. cc)).0 (o.opening.cause.same (λ e. cc)).1 s
+    ]

@@ -1,0 +1,106 @@
+-- What becomes of a file that a witness is to serve.
+use Rattle.std.specs.Prelude.{◌≡◌, ℕ, Bool, false, true, List, [], ◌∷◌, map, is_none, IfSome, if◌then◌else◌}
+use Rattle.std.specs.declared.option.Option.{Option}
+use Rattle.std.specs.declared.option.Option.TheVariants.{None, Some}
+use Rattle.cesr_codes.specs.declared.digest.Digest.{Digest}
+use Rattle.cesr_codes.specs.declared.key.Key.{Key}
+use Rattle.cesr_codes.specs.declared.sig.Sig.{Sig}
+use Rattle.journal.specs.declared.refusal.Refusal.{Refusal}
+use Rattle.keri_disk.specs.Images.{DiskTold}
+use Rattle.keri_outside.specs.declared.limits.Limits.{Limits}
+use Rattle.run_outside.specs.Makings.{AreMakings}
+use Rattle.run_outside.specs.Told.{Told, making}
+use Rattle.run_outside.specs.declared.making.MakingKind.TheVariants.{Source as SourceKind, Verifier as VerifierKind, Signer as SignerKind}
+use Rattle.run_status.specs.declared.close.Close.{Close}
+use Rattle.run_status.specs.declared.close.Close.TheVariants.{ReadFault, VerifierFault, SignerFault}
+use Rattle.run_status.specs.Readers.{Reader, SinkTold, SourceTold, VerifierTold}
+use Rattle.run_status.specs.Settling.{found}
+use Rattle.run_status.specs.Status.{nothing_besides, status_of}
+use Rattle.validator_core.specs.View.{CoreView}
+use Rattle.witness_link.specs.Links.{LinkTold, WitnessTold, source_told, told_of_link}
+use Rattle.witness_link.specs.Served.{ServesLink}
+use Rattle.keri_roles.specs.Made.{is_out}
+use Rattle.keri_roles.specs.Run.{Run, SignerTold}
+
+-- the status of readers of which the last closed so, where nothing more is owed
+abbrev pub status_closing : List Reader → Close → ℕ
+status_closing readers close = if is_out close then 10 else status_of (found nothing_besides readers false)
+
+-- The source of a name, and the verifier and the signer of a helper, are made in this order, up to the first that fails.
+abbrev pub MakesServing : {S V G : Type 0} → List ℕ → List ℕ → Option S → Option V → Option G → Told → Told → Type 0
+MakesServing name helper None verifier signer before after =
+    (is_none verifier ≡ true) × (is_none signer ≡ true) × AreMakings (making SourceKind name true ∷ []) before after
+MakesServing name helper (Some source) None signer before after =
+    (is_none signer ≡ true) × AreMakings (making SourceKind name false ∷ making VerifierKind helper true ∷ []) before after
+MakesServing name helper (Some source) (Some verifier) signer before after =
+    AreMakings (making SourceKind name false ∷ making VerifierKind helper false ∷ making SignerKind helper (is_none signer) ∷ []) before after
+
+-- what a witness is at a moment: its core, the list of its shelf, whether it is broken, and its disk
+pub record Left (D : Type 0) : Type 0 where
+  pub core : CoreView
+  pub list : List (List ℕ)
+  pub broken : Bool
+  pub disk : D
+
+-- what is seen of it
+abbrev pub seen_as : {D : Type 0} → (D → DiskTold) → Key → Limits → Left D → WitnessTold
+seen_as told key limits left = record { key = key; limits = limits; core = left.core; list = left.list; disk = told left.disk; broken = left.broken }
+
+-- The run ends with this one reader, and hands back the disk and the journal of the witness as it is left. Nothing more is owed.
+pub record EndsWith {D : Type 0} (disk : Option D) (reader : Reader) (new : Left D) (run : Run) : Type 0 where
+  pub one : run.readers ≡ reader ∷ []
+  pub back : disk ≡ Some new.disk
+  pub bodies : run.journal.bodies ≡ map (λ b. b.bytes) new.core.held
+  pub entries : run.journal.entries ≡ new.core.entries
+  pub status : run.status ≡ status_closing run.readers reader.close
+
+-- one of the makings failed: nothing is read, and the witness is as it was
+pub record ServesNone {D : Type 0} (held : Option (List ℕ)) (at : Close) (reader : Reader) (old new : Left D) (run : Run) : Type 0 where
+  pub close : reader.close ≡ at
+  pub none_refused : reader.refused ≡ []
+  pub none_seen : reader.seen ≡ []
+  pub unread : IfSome reader.source (λ s. s ≡ source_told held 0)
+  pub same : new ≡ old
+  pub same_sink : run.sink_after ≡ run.sink_before
+
+module _ {D : Type 0} (told : D → DiskTold) (key : Key) (limits : Limits) where
+  -- what is seen of a witness and of a verifier, a signer and a sink, and what was noted
+  abbrev pub at_link : Left D → (Key → List ℕ → Sig → Option Bool) → ℕ → (Key → List ℕ → Option Sig) → ℕ → SinkTold → List Refusal → List Digest → LinkTold
+  at_link left says verifier_faults gives signer_faults sink refused seen =
+      told_of_link (seen_as told key limits left) says verifier_faults gives signer_faults sink.written sink.faults refused seen
+
+  -- the link that a run has with its source, its verifier and its signer, which these were before, and the sink
+  abbrev pub ServesIts : Run → SourceTold → (Key → List ℕ → Sig → Option Bool) → ℕ → (Key → List ℕ → Option Sig) → ℕ → Left D → SourceTold → VerifierTold → SignerTold → Reader → Left D → Type 0
+  ServesIts run source_old says verifier_faults gives signer_faults old source verifier signer reader new =
+      ServesLink run.before.limits source_old (source_told source.left source.faults)
+      (at_link old says verifier_faults gives signer_faults run.sink_before [] [])
+      (at_link new verifier.says verifier.faults signer.gives signer.faults run.sink_after reader.refused reader.seen) reader.close
+
+  -- what was made serves the witness as a link, and none of it had failed before
+  abbrev pub ServesBy : List ℕ → List ℕ → Left D → Reader → Option SourceTold → Option VerifierTold → Option SignerTold → Left D → Run → Type 0
+  ServesBy helper name old reader None verifier signer new run = ServesNone (run.before.holds name) ReadFault reader old new run
+  ServesBy helper name old reader (Some source) None signer new run = ServesNone (run.before.holds name) VerifierFault reader old new run
+  ServesBy helper name old reader (Some source) (Some verifier) None new run = ServesNone (run.before.holds name) SignerFault reader old new run
+  ServesBy helper name old reader (Some source) (Some verifier) (Some signer) new run =
+      ServesIts run (source_told (run.before.holds name) 0) (run.before.says helper) 0 (run.before.gives helper) 0 old source verifier signer reader new
+
+  -- What is made of a name and of a helper serves the witness, and the run ends.
+  pub record IsServing (helper name : List ℕ) (old : Left D) (disk : Option D) (run : Run) : Type 0 where
+    pub reader : Reader
+    pub makes : MakesServing name helper reader.source reader.verifier run.signer run.before run.after
+    pub new : Left D
+    pub serves : ServesBy helper name old reader reader.source reader.verifier run.signer new run
+    pub ends : EndsWith disk reader new run
+
+  -- all three were made, and have failed so often before, and the run ends
+  pub record ServesAll (source_old : SourceTold) (says : Key → List ℕ → Sig → Option Bool) (verifier_faults : ℕ) (gives : Key → List ℕ → Option Sig) (signer_faults : ℕ) (old : Left D) (disk : Option D) (run : Run) : Type 0 where
+    pub source : SourceTold
+    pub verifier : VerifierTold
+    pub signer : SignerTold
+    pub reader : Reader
+    pub new : Left D
+    pub source_is : reader.source ≡ Some source
+    pub verifier_is : reader.verifier ≡ Some verifier
+    pub signer_is : run.signer ≡ Some signer
+    pub serves : ServesIts run source_old says verifier_faults gives signer_faults old source verifier signer reader new
+    pub ends : EndsWith disk reader new run

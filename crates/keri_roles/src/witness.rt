@@ -1,0 +1,144 @@
+//! `witness --helper HELPER --prefix KEY --shelf SHELF --from OLD FILE`: stores the events of a file, and writes receipts of them.
+ghost use Rattle.std.specs.Prelude.{◌≡◌, ◌≢◌, ◌<◌, [], Some, false, IfOk, string_bytes};
+ghost use Rattle.std.specs.Vec.{vec_capacity};
+ghost use Rattle.cesr_codes.specs.declared.key.KeyCode.TheVariants.{Fixed};
+ghost use Rattle.journal.specs.declared.resume_fault.ResumeFault.TheVariants.{OutOfMemory};
+ghost use Rattle.keri_roles.specs.Witnessed.{IsUnopened, IsUnread, IsWitnessedBy, StartsOver, start_found, start_text};
+
+use crate::unread::unread;
+use crate::witness_file::serve_file;
+use crate::{Done, ReaderEnd, Runs};
+use cesr_codes::Key;
+use journal::ResumeFault;
+use keri_outside::Limits;
+use report_lines::log_line;
+use run_outside::Outside;
+use run_status::Besides;
+use std::alloc::{AllocError, Global};
+use witness_core::{StartFault, Witness};
+use witness_opening::{NotOpened, Opened, open_shelf};
+
+/// The words of `witness`.
+#[derive(Clone, Copy)]
+pub(crate) struct WitnessWords<'a> {
+    pub(crate) helper: &'a str,
+    pub(crate) prefix: Key,
+    pub(crate) shelf: &'a str,
+    pub(crate) from: Option<&'a str>,
+    pub(crate) file: &'a str,
+}
+
+/// Opens the shelf, starts a witness from it, and serves it the file. The readers have room for the one that there is.
+pub(crate) fn witness<O: Outside>(
+    alloc: Global,
+    words: WitnessWords<'_>,
+    readers: Vec<ReaderEnd<O::Source, O::Verifier>>,
+    outside: &mut O,
+) -> Done<O>
+    requires none_yet { readers.items ≡ [] }
+    requires room { 0 < vec_capacity readers }
+    requires fixed { words.prefix.code ≡ Fixed }
+    ensures witnessed { IsWitnessedBy O.Disk.told result.disk result.old words.entry
+        (⟦<O as Runs>⟧.run outside.old outside.new result) }
+{
+    let limits = outside.limits();
+    match open_shelf(alloc, words.shelf, words.from, limits, outside) {
+        Ok(opened) => start(alloc, words, limits, opened, readers, outside),
+        Err(none) => unopened(alloc, none, readers, outside),
+    }
+}
+
+// Says why there is no shelf.
+fn unopened<O: Outside>(
+    alloc: Global,
+    none: NotOpened<O::Disk>,
+    readers: Vec<ReaderEnd<O::Source, O::Verifier>>,
+    outside: &mut O,
+) -> Done<O>
+    requires none_yet { readers.items ≡ [] }
+    ensures disk { result.disk ≡ none.disk }
+    ensures old { result.old ≡ none.old }
+    ensures unopened { IsUnopened none.fault (⟦<O as Runs>⟧.run outside.old outside.new result) }
+    ensures told { O.told outside.new ≡ O.told outside.old }
+{
+    let NotOpened { fault, disk, old } = none;
+    let line = fault.text(alloc).ok();
+    unread(alloc, line, fault.found(), disk, old, readers, outside)
+}
+
+// Starts a witness from the shelf, and serves it the file.
+fn start<O: Outside>(
+    alloc: Global,
+    words: WitnessWords<'_>,
+    limits: Limits,
+    opened: Opened<O::Disk>,
+    readers: Vec<ReaderEnd<O::Source, O::Verifier>>,
+    outside: &mut O,
+) -> Done<O>
+    requires none_yet { readers.items ≡ [] }
+    requires room { 0 < vec_capacity readers }
+    requires fixed { words.prefix.code ≡ Fixed }
+    requires limits { opened.shelf.limits ≡ limits }
+    requires whole { opened.shelf.broken ≡ false }
+    ensures old { result.old ≡ opened.old }
+    ensures starts { StartsOver O.Disk.told result.disk words.entry.helper.now words.entry.prefix words.entry.file.now limits
+        opened.shelf.disk opened.shelf.list (⟦<O as Runs>⟧.run outside.old outside.new result) }
+{
+    let Opened { shelf, old } = opened;
+    match Witness::start(alloc, words.prefix, shelf, limits) {
+        Ok(witness) => serve_file(
+            alloc,
+            words.helper,
+            words.file,
+            witness,
+            old,
+            readers,
+            outside,
+        ),
+        Err(none) => unstarted(alloc, none, old, readers, outside),
+    }
+}
+
+// Says why no witness starts from the list of the shelf.
+fn unstarted<O: Outside>(
+    alloc: Global,
+    none: StartFault<O::Disk>,
+    old: Option<O::Disk>,
+    readers: Vec<ReaderEnd<O::Source, O::Verifier>>,
+    outside: &mut O,
+) -> Done<O>
+    requires none_yet { readers.items ≡ [] }
+    ensures disk { result.disk ≡ Some none.shelf.disk }
+    ensures old { result.old ≡ old }
+    ensures unread { IsUnread (none.fault ≡ OutOfMemory) (start_text none.fault) (start_found none.fault)
+        (⟦<O as Runs>⟧.run outside.old outside.new result) }
+    ensures told { O.told outside.new ≡ O.told outside.old }
+{
+    let StartFault { shelf, fault } = none;
+    let line = line_of(alloc, fault).ok();
+    let disk = Some(shelf.into_disk());
+    unread(alloc, line, found_by(fault), disk, old, readers, outside)
+}
+
+// The line of a list with which no witness starts. There is none where there was no memory.
+fn line_of(alloc: Global, fault: ResumeFault) -> Result<String, AllocError>
+    ensures { IfOk result (λ line. (fault ≢ OutOfMemory) × (string_bytes line ≡ start_text fault)) }
+{
+    match fault {
+        ResumeFault::NotALog(number) => log_line(alloc, number),
+        ResumeFault::OutOfMemory => Err(AllocError),
+    }
+}
+
+// What is found by it.
+fn found_by(fault: ResumeFault) -> Besides
+    ensures { result ≡ start_found fault }
+{
+    match fault {
+        ResumeFault::NotALog(_) => Besides {
+            shelf_refused: true,
+            ..Besides::nothing()
+        },
+        ResumeFault::OutOfMemory => Besides::nothing(),
+    }
+}

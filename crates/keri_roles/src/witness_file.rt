@@ -1,0 +1,217 @@
+//! A file that is served to a witness.
+ghost use Rattle.std.specs.Prelude.{◌≡◌, ◌<◌, [], ◌∷◌, None, Some, false, map};
+ghost use Rattle.std.specs.Vec.{vec_capacity};
+ghost use Rattle.run_status.specs.Readers.{reader_seen};
+ghost use Rattle.witness_link.specs.Links.{source_told, told_of_link};
+ghost use Rattle.witness_link.specs.Served.{ServesLink};
+ghost use Rattle.keri_roles.specs.Made.{is_out as out_by};
+ghost use Rattle.keri_roles.specs.ServedFile.{IsServing, ServesAll};
+ghost use Rattle.keri_roles.specs.ServedFile as specs;
+
+use crate::{Close, Done, ReaderEnd, Runs};
+use keri_outside::Limits;
+use lists::Items;
+use run_outside::Outside;
+use run_status::{Besides, status_by};
+use std::alloc::Global;
+use witness_core::Witness;
+use witness_link::{LinkEnd, Witnessing, serve_link};
+
+// The status where there was no memory.
+const NO_MEMORY: u8 = 10;
+
+/// Makes the source of the file, and the verifier and the signer of the helper, and serves the witness by them, where all three
+/// could be made. The readers have room for the one that there is.
+pub(crate) fn serve_file<O: Outside>(
+    alloc: Global,
+    helper: &str,
+    name: &str,
+    witness: Witness<O::Disk>,
+    old: Option<O::Disk>,
+    readers: Vec<ReaderEnd<O::Source, O::Verifier>>,
+    outside: &mut O,
+) -> Done<O>
+    requires none_yet { readers.items ≡ [] }
+    requires room { 0 < vec_capacity readers }
+    requires whole { witness.broken ≡ false }
+    ensures old { result.old ≡ old }
+    ensures serves { IsServing O.Disk.told witness.key witness.limits helper.now name.now
+        (record { core = witness.core; list = witness.shelf.list; broken = witness.broken; disk = witness.shelf.disk })
+        result.disk (⟦<O as Runs>⟧.run outside.old outside.new result) }
+{
+    let Ok(source) = outside.source(name) else {
+        let reader = unserved(alloc, None, None, Close::ReadFault);
+        return end(witness, reader, None, old, readers);
+    };
+    let Ok(verifier) = outside.verifier(helper) else {
+        let reader = unserved(alloc, Some(source), None, Close::VerifierFault);
+        return end(witness, reader, None, old, readers);
+    };
+    let Ok(signer) = outside.signer(helper) else {
+        let reader = unserved(alloc, Some(source), Some(verifier), Close::SignerFault);
+        return end(witness, reader, None, old, readers);
+    };
+    serve_made(
+        alloc, witness, source, verifier, signer, old, readers, outside,
+    )
+}
+
+// The end of a reader that reads nothing.
+fn unserved<S, V>(
+    alloc: Global,
+    source: Option<S>,
+    verifier: Option<V>,
+    close: Close,
+) -> ReaderEnd<S, V>
+    ensures source { result.source ≡ source }
+    ensures verifier { result.verifier ≡ verifier }
+    ensures none_refused { result.refused.items ≡ [] }
+    ensures none_seen { result.seen ≡ [] }
+    ensures close { result.close ≡ close }
+{
+    ReaderEnd {
+        source,
+        verifier,
+        refused: Vec::new(alloc),
+        seen: Items::new(alloc),
+        close,
+    }
+}
+
+// Serves the witness by a source, a verifier and a signer.
+fn serve_made<O: Outside>(
+    alloc: Global,
+    witness: Witness<O::Disk>,
+    source: O::Source,
+    verifier: O::Verifier,
+    signer: O::Signer,
+    old: Option<O::Disk>,
+    readers: Vec<ReaderEnd<O::Source, O::Verifier>>,
+    outside: &mut O,
+) -> Done<O>
+    requires none_yet { readers.items ≡ [] }
+    requires room { 0 < vec_capacity readers }
+    requires whole { witness.broken ≡ false }
+    ensures old { result.old ≡ old }
+    ensures serves { ServesAll O.Disk.told witness.key witness.limits
+        (source_told (O.Source.left source) (O.Source.faults source)) (O.Verifier.says verifier) (O.Verifier.faults verifier)
+        (O.Signer.gives signer) (O.Signer.faults signer)
+        (record { core = witness.core; list = witness.shelf.list; broken = witness.broken; disk = witness.shelf.disk })
+        result.disk (⟦<O as Runs>⟧.run outside.old outside.new result) }
+    ensures told { O.told outside.new ≡ O.told outside.old }
+{
+    let mut witness = witness;
+    let mut source = source;
+    let mut verifier = verifier;
+    let mut signer = signer;
+    let LinkEnd {
+        refused,
+        seen,
+        close,
+    } = serve(
+        alloc,
+        &mut witness,
+        &mut source,
+        &mut verifier,
+        &mut signer,
+        outside,
+    );
+    let reader = ReaderEnd {
+        source: Some(source),
+        verifier: Some(verifier),
+        refused,
+        seen: Items::from_vec(seen),
+        close,
+    };
+    end(witness, reader, Some(signer), old, readers)
+}
+
+// Serves the witness by them, and writes to the sink of the outside.
+fn serve<O: Outside>(
+    alloc: Global,
+    witness: &mut Witness<O::Disk>,
+    source: &mut O::Source,
+    verifier: &mut O::Verifier,
+    signer: &mut O::Signer,
+    outside: &mut O,
+) -> LinkEnd
+    requires { witness.old.broken ≡ false }
+    ensures serves { ServesLink (O.told outside.old).limits
+        (source_told (O.Source.left source.old) (O.Source.faults source.old))
+        (source_told (O.Source.left source.new) (O.Source.faults source.new))
+        (told_of_link (⟦<Witness<O::Disk> as Witnessing>⟧.seen witness.old)
+        (O.Verifier.says verifier.old) (O.Verifier.faults verifier.old)
+        (O.Signer.gives signer.old) (O.Signer.faults signer.old)
+        (O.Sink.written (O.sink outside.old)) (O.Sink.faults (O.sink outside.old)) [] [])
+        (told_of_link (⟦<Witness<O::Disk> as Witnessing>⟧.seen witness.new)
+        (O.Verifier.says verifier.new) (O.Verifier.faults verifier.new)
+        (O.Signer.gives signer.new) (O.Signer.faults signer.new)
+        (O.Sink.written (O.sink outside.new)) (O.Sink.faults (O.sink outside.new))
+        result.refused.items result.seen.items) result.close }
+    ensures told { O.told outside.new ≡ O.told outside.old }
+{
+    let limits = outside.limits();
+    serve_link(
+        alloc,
+        witness,
+        source,
+        outside.out(),
+        verifier,
+        signer,
+        limits,
+    )
+}
+
+// Ends the run, which has the one reader.
+fn end<O: Outside>(
+    witness: Witness<O::Disk>,
+    reader: ReaderEnd<O::Source, O::Verifier>,
+    signer: Option<O::Signer>,
+    old: Option<O::Disk>,
+    readers: Vec<ReaderEnd<O::Source, O::Verifier>>,
+) -> Done<O>
+    requires none_yet { readers.items ≡ [] }
+    requires room { 0 < vec_capacity readers }
+    ensures one { result.readers.items ≡ reader ∷ [] }
+    ensures signer { result.signer ≡ signer }
+    ensures disk { result.disk ≡ Some witness.shelf.disk }
+    ensures old { result.old ≡ old }
+    ensures bodies { result.journal.bodies ≡ map (λ b. b.bytes) witness.core.held }
+    ensures entries { result.journal.entries ≡ witness.core.entries }
+    ensures status { result.status ≡ specs.status_closing
+        (map (reader_seen O.Source.left O.Source.faults O.Verifier.says O.Verifier.inquiries O.Verifier.faults)
+        result.readers.items) reader.close }
+{
+    let close = reader.close;
+    let mut readers = readers;
+    readers.push(reader).unwrap();
+    let status = status_closing::<O>(close, readers.as_slice());
+    let (journal, shelf) = witness.into_parts();
+    Done {
+        status,
+        journal,
+        readers,
+        signer,
+        disk: Some(shelf.into_disk()),
+        old,
+    }
+}
+
+// The status of the readers, of which the last closed so, where nothing more is owed.
+fn status_closing<O: Outside>(close: Close, readers: &[ReaderEnd<O::Source, O::Verifier>]) -> u8
+    ensures { result ≡ specs.status_closing
+        (map (reader_seen O.Source.left O.Source.faults O.Verifier.says O.Verifier.inquiries O.Verifier.faults)
+        readers.now) close }
+{
+    if is_out(close) {
+        return NO_MEMORY;
+    }
+    status_by::<O>(Besides::nothing(), readers)
+}
+
+// Whether there was no memory for all that came.
+fn is_out(close: Close) -> bool
+    ensures { result ≡ out_by close }
+{
+    matches!(close, Close::OutOfMemory)
+}

@@ -1,0 +1,11 @@
+-- What an outside tells of names, which no making changes.
+use Rattle.std.specs.Prelude.{◌≡◌}
+use Rattle.run_outside.specs.Told.{Told}
+
+-- what the names stand for, and the limits, are the same
+pub record KeepsNames (old new : Told) : Type 0 where
+  pub sources : new.holds ≡ old.holds
+  pub verdicts : new.says ≡ old.says
+  pub signatures : new.gives ≡ old.gives
+  pub disks : new.stored ≡ old.stored
+  pub limits : new.limits ≡ old.limits
