@@ -4,11 +4,29 @@ aren't in the form, but for what `gen_cases.py` and `make_cases.py` make of the 
 """
 import shutil
 
+from kit import body, couples, digest, key, said, signed
 from stream_cases import BARE, CASES, RECEIPT
 from validate_cases import EVENT, SIGNED, STATE
 
 REPORT = EVENT + STATE
 HELPER = ["--helper", "rehearsal"]
+
+# The words of a witness, an inception that names it, and its receipt. An old shelf is empty here.
+KEY = key(1, "B")
+PREFIX, SHELF, FROM = ["--prefix", KEY], ["--shelf", "shelf"], ["--from", "old"]
+NAMED = body("icp", b=[KEY], bt="1")
+NAMED_SIGNED = signed(NAMED, 1)
+NAMED_RECEIPT = body("rct", d=said(NAMED), i=said(NAMED)) + couples(NAMED, 1)
+OLD_SHELF = "KSHELF01\0"
+
+
+def witness(*words):
+    return ["witness", *words, "a"]
+
+
+def as_witness(prefix):
+    return witness(*HELPER, "--prefix", prefix, *SHELF)
+
 
 # Words in the form: the words, the files, what is written, and what else the case has.
 TAKEN = {
@@ -21,6 +39,12 @@ TAKEN = {
     "two_dashes_as_a_file": (["check", "--", "--"], {"--": RECEIPT}, BARE, {}),
     "standard_input_behind_two_dashes": (["check", "--", "-"], {"-": SIGNED}, BARE, {"stdin": RECEIPT}),
     "command_as_a_file": (["check", "check"], {"check": RECEIPT}, BARE, {}),
+    "witness": (witness(*HELPER, *PREFIX, *SHELF), {"a": NAMED_SIGNED}, NAMED_RECEIPT, {}),
+    "witness_from_an_old_shelf": (witness(*HELPER, *PREFIX, *SHELF, *FROM), {"a": NAMED_SIGNED, "old": OLD_SHELF}, NAMED_RECEIPT, {}),
+    "witness_with_equals_signs_behind_the_file": (
+        ["witness", "a", "--from=old", "--shelf=shelf", "--prefix=" + KEY, "--helper=rehearsal"],
+        {"a": NAMED_SIGNED, "old": OLD_SHELF}, NAMED_RECEIPT, {},
+    ),
 }
 
 # Words that aren't in the form. Each is run beside the files `a` and `-F`, which are in order.
@@ -55,6 +79,32 @@ REFUSED = {
     "version_behind_a_command": ["check", "a", "--version"],
     "rehearse_with_a_file": ["rehearse", "extra"],
     "rehearse_with_an_option": ["rehearse", *HELPER],
+    "witness_without_words": ["witness"],
+    "witness_without_a_helper": witness(*PREFIX, *SHELF),
+    "witness_without_a_prefix": witness(*HELPER, *SHELF),
+    "witness_without_a_shelf": witness(*HELPER, *PREFIX),
+    "witness_from_an_old_shelf_without_a_shelf": witness(*HELPER, *PREFIX, *FROM),
+    "witness_without_a_file": witness(*HELPER, *PREFIX, *SHELF, *FROM)[:-1],
+    "witness_two_files": witness(*HELPER, *PREFIX, *SHELF, "a"),
+    "witness_two_files_round_its_options": ["witness", "a", *HELPER, *PREFIX, *SHELF, "a"],
+    "witness_helper_twice": witness(*HELPER, *HELPER, *PREFIX, *SHELF),
+    "witness_prefix_twice": witness(*HELPER, *PREFIX, *SHELF, *PREFIX),
+    "witness_shelf_twice": witness(*HELPER, *PREFIX, *SHELF, *SHELF),
+    "witness_old_shelf_twice": witness(*HELPER, *PREFIX, *SHELF, *FROM, "--from=old"),
+    "witness_prefix_without_a_value": ["witness", "a", *HELPER, *SHELF, "--prefix"],
+    "witness_old_shelf_without_a_value": ["witness", "a", *HELPER, *PREFIX, *SHELF, "--from"],
+    "witness_shelf_that_begins_with_a_dash": witness(*HELPER, *PREFIX, "--shelf", "-F"),
+    "witness_with_an_option_of_make": witness(*HELPER, *PREFIX, *SHELF, "--plan", "a"),
+    "witness_prefix_that_can_be_rotated": as_witness(key(1)),
+    "witness_prefix_that_is_a_digest": as_witness(digest("a")),
+    "witness_prefix_that_is_no_key": as_witness("witness"),
+    "witness_prefix_that_is_a_dash": as_witness("-"),
+    "witness_empty_prefix": as_witness(""),
+    "witness_prefix_cut_short": as_witness(KEY[:-1]),
+    "witness_prefix_with_a_character_more": as_witness(KEY + "A"),
+    "witness_prefix_with_a_space_before_it": as_witness(" " + KEY),
+    "witness_prefix_with_another_character": as_witness(KEY[:-1] + "+"),
+    "witness_prefix_with_leading_bits": as_witness("BQ" + KEY[2:]),
 }
 
 

@@ -1,0 +1,114 @@
+#!/usr/bin/env python3
+"""Makes the cases under tests/cases in which `witness` serves a file with the rehearsal: what it writes, the status, and the shelf that it
+leaves. All three are what `witness_reference.py` answers, a model of a witness that stands apart from the program."""
+import pathlib
+import shutil
+
+from kit import PLAIN_ICP as ICP
+from kit import body, receipts, said, signed
+from log_cases import REALISTIC
+from row_tables.shelf import NEW, OLD, file_of
+from row_tables.witness import JOINING, LEAVING, OTHERS, OTHER_OWN_ROT, OWN, OWN_IXN, OWN_IXN_2, OWN_ROT, OWN_ROT_IXN, payload
+from row_tables.witness_calls import WITNESS, Session
+
+CASES = pathlib.Path(__file__).resolve().parent / "cases"
+WORDS = ["witness", "--helper", "rehearsal", "--prefix", WITNESS, "--shelf", "shelf"]
+REFUSED, SEEN = 3, 4
+UNSIGNED = OWN_ROT
+NEVER_READ = signed(OWN, 1)
+
+
+def served(messages, shelf=b""):
+    """What a witness with the file as its shelf writes of the messages, the status, and the file that it leaves."""
+    session = Session().put_in(shelf).start("Ok") if shelf else Session().create()
+    written, fates = "", []
+    for message in messages:
+        fate, made = session.witness.take(message, session.asks, session.signs)
+        written += "".join(receipt for _, receipt in made)
+        fates.append(fate.split(" ")[0])
+    status = SEEN if "Seen" in fates else REFUSED if "Refused" in fates else 0
+    return written, status, session.shelf.disk.data
+
+
+def file(*payloads):
+    return file_of(NEW, *payloads)
+
+
+# The messages, and the shelf that was there before.
+SERVED = {
+    "inception": ([signed(OWN, 1)], b""),
+    "inception_twice": ([signed(OWN, 1)] * 2, b""),
+    "log": ([signed(text, 1) for text in (OWN, OWN_IXN, OWN_IXN_2)], b""),
+    "log_with_weights_and_wraps": (REALISTIC, b""),
+    "event_that_comes_early": ([signed(OWN_IXN, 1), signed(OWN, 1)], b""),
+    "event_that_waits": ([signed(OWN_IXN, 1)], b""),
+    "events_of_others_witnesses": ([signed(ICP, 1), signed(OTHERS, 1)], b""),
+    "own_list_that_changes": ([signed(OWN, 1), signed(LEAVING, 2), signed(OTHERS, 1), signed(JOINING, 2)], b""),
+    "superseded_interaction": ([signed(OWN, 1), signed(OWN_IXN, 1), signed(OWN_ROT, 2), signed(OWN_IXN, 1)], b""),
+    "second_rotation": ([signed(OWN, 1), signed(OWN_ROT, 2), signed(OTHER_OWN_ROT, 2), signed(OWN_ROT_IXN, 2)], b""),
+    "unsigned_event": ([signed(OWN, 1), UNSIGNED], b""),
+    "refused_repeat": ([signed(OWN, 1), OWN], b""),
+    "receipt": ([signed(OWN, 1), body("rct", d=said(OWN), i=said(OWN)) + receipts(OWN, 1)], b""),
+    "nothing": ([], b""),
+    "restart": ([signed(OWN_IXN, 1), signed(OWN, 1)], file(payload(OWN, 1))),
+    "restart_and_a_second_rotation": ([signed(OTHER_OWN_ROT, 2)], file(payload(OWN, 1), payload(OWN_ROT, 2))),
+    "nothing_over_a_shelf": ([], file(payload(OWN, 1), payload(OWN_IXN, 1))),
+    "bytes_behind_the_gate": ([signed(OWN_IXN, 1)], file(payload(OWN, 1)) + b"\1\0\0\0\5abc"),
+}
+
+# The shelf, and maybe an old one, that don't give a witness: the line.
+UNOPENED = {
+    "shelf_that_is_none": (b"hello", None, "shelf 0\n"),
+    "shelf_of_the_first_version": (file_of(OLD, OWN.encode()), None, "shelf 0\n"),
+    "shelf_cut_short": (file(payload(OWN, 1))[:-9], None, "shelf 13\n"),
+    "shelf_without_a_log": (file(payload(OWN_IXN, 1)), None, "log 0\n"),
+    "shelf_with_bytes_behind_a_body": (file(payload(OWN, 1), payload(OWN_IXN, 1) + b"x"), None, "log 1\n"),
+    "old_shelf_that_is_none": (b"", b"KSHELF0", "old 0\n"),
+    "old_shelf_of_the_second_version": (b"", file(payload(OWN, 1)), "old 0\n"),
+}
+
+# The messages, the shelf, and an old one.
+FILLED = {
+    "old_shelf": ([signed(OWN, 1)], b"", file_of(OLD, OWN.encode())),
+    "old_shelf_and_a_foreign_file": ([signed(OWN_IXN, 1)], b"hello", file_of(OLD, OWN.encode())),
+}
+
+
+def write(name, words, files, text, status, left):
+    case = CASES / ("witness_" + name)
+    shutil.rmtree(case, ignore_errors=True)
+    for folder, contents in (("in", files), ("left", left)):
+        (case / folder).mkdir(parents=True)
+        for file_name, content in contents.items():
+            (case / folder / file_name).write_bytes(content)
+    (case / "words").write_text("".join(word + "\n" for word in words))
+    if text:
+        (case / "stdout").write_text(text)
+    if status:
+        (case / "status").write_text("%d\n" % status)
+
+
+def main():
+    for name, (messages, shelf) in SERVED.items():
+        text, status, after = served(messages, shelf)
+        files = {"a": "".join(messages).encode(), **({"shelf": shelf} if shelf else {})}
+        write(name, [*WORDS, "a"], files, text, status, {"shelf": after})
+    for name, (shelf, old, line) in UNOPENED.items():
+        if old is None:
+            said = Session().put_in(shelf).start().rows[-1][1]
+            assert line == said.replace("NotAShelf(", "shelf ").replace("NotALog(", "log ").replace(")", "\n"), (line, said)
+        files = {"a": NEVER_READ.encode(), **({"shelf": shelf} if shelf else {}), **({"old": old} if old is not None else {})}
+        write(name, [*WORDS, *(["--from", "old"] if old is not None else []), "a"], files, line, REFUSED, files)
+    for name, (messages, shelf, old) in FILLED.items():
+        bodies = file_of(NEW, OWN.encode())
+        text, status, after = served(messages, bodies)
+        files = {"a": "".join(messages).encode(), "old": old, **({"shelf": shelf} if shelf else {})}
+        write(name, [*WORDS, "--from", "old", "a"], files, text, status, {"shelf": after, "old": old})
+    text, status, after = served([signed(OWN_IXN, 1)], file(payload(OWN, 1)))
+    files = {"a": signed(OWN_IXN, 1).encode(), "shelf": file(payload(OWN, 1)), "old": b"no shelf"}
+    write("old_shelf_that_is_not_wanted", [*WORDS, "--from", "old", "a"], files, text, status, {"shelf": after, "old": b"no shelf"})
+    print(len(SERVED) + len(UNOPENED) + len(FILLED) + 1, "cases")
+
+
+if __name__ == "__main__":
+    main()
