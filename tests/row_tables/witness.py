@@ -8,9 +8,9 @@ from log_cases import LISTED as TWO_LISTED
 from row_tables.shelf import NEW, file_of, spelled
 from row_tables.witness_calls import Session
 
-W1, W2 = key(1, "B"), key(2, "B")
+LISTED_KEY, OTHER_KEY = key(1, "B"), key(2, "B")
 # An inception that lists the witness, what is behind it, and others in their places.
-OWN = body("icp", b=[W1], bt="1")
+OWN = body("icp", b=[LISTED_KEY], bt="1")
 OWN_IXN = ixn(OWN)
 OWN_IXN_2 = ixn(OWN_IXN)
 OWN_ROT = rot(OWN, 2, bt="1")
@@ -18,10 +18,10 @@ OTHER_OWN_ROT = rot(OWN, 2, bt="1", n=[digest(key(100))])
 OWN_ROT_IXN = ixn(OWN_ROT)
 # To a key that wasn't committed to.
 STRAY_ROT = rot(OWN, 3, bt="1")
-OTHERS = body("icp", b=[W2], bt="1")
+OTHERS = body("icp", b=[OTHER_KEY], bt="1")
 # A rotation by which another witness takes the place of this one.
-LEAVING = rot(OWN, 2, bt="1", br=[W1], ba=[W2])
-JOINING = rot(OTHERS, 2, bt="1", br=[W2], ba=[W1])
+LEAVING = rot(OWN, 2, bt="1", br=[LISTED_KEY], ba=[OTHER_KEY])
+JOINING = rot(OTHERS, 2, bt="1", br=[OTHER_KEY], ba=[LISTED_KEY])
 
 
 def receipt_of(text):
@@ -39,7 +39,7 @@ def receipts_and_fates():
     assert one.rows[-1] == one.rows[-2] and one.rows[-1][1].split(" ")[3] == "281" and one.rows[-1][1].count('"t":"rct"') == 1
     yield one.told().file()
     yield Session().create().take(signed(OTHERS, 1), "Stored").take(signed(OTHERS, 1), "Stored").stored()
-    yield Session(W2).create().take(signed(OWN, 1), "Stored").take(signed(OTHERS, 1), "Stored listed")
+    yield Session(OTHER_KEY).create().take(signed(OWN, 1), "Stored").take(signed(OTHERS, 1), "Stored listed")
     receipt = receipt_of(OWN)
     one = Session().create().take(receipt + couples(OWN, 1), "NotAnEvent").take(signed(OWN, 1), "Stored listed")
     yield one.take(receipt + couples(OWN, 1), "NotAnEvent").take(receipt + receipts(OWN, 1), "NotAnEvent").told()
@@ -137,7 +137,7 @@ def refusals():
 
 def waiting():
     """Events that wait, for each reason."""
-    two = body("icp", kt="2", k=keys(1, 2), b=[W1], bt="1")
+    two = body("icp", kt="2", k=keys(1, 2), b=[LISTED_KEY], bt="1")
     alone = [two + "-AAB" + rehearsed(number, two, "A" + "AB"[number - 1]) for number in (1, 2)]
     one = Session().create().take(alone[0], "Waits Signatures").take(alone[0], "Waits Signatures").take(alone[1], "Stored listed")
     yield one.take(alone[0], "Stored listed").told()
@@ -169,11 +169,11 @@ def kept_signatures():
     mixed = OWN + counter("A", 4) + rehearsed(9, OWN) + rehearsed(1, OWN, "AB") + rehearsed(1, OWN, "2BAAAA") + rehearsed(1, OWN)
     yield Session().create().take(mixed, "Stored listed").take(twice, "Stored listed").told()
     # Of two keys one is enough: the verdict on the other comes later, though its signature came in the same message.
-    either = body("icp", k=keys(1, 2), b=[W1], bt="1")
+    either = body("icp", k=keys(1, 2), b=[LISTED_KEY], bt="1")
     for order in ((1, 2), (2, 1)):
         sigs = [rehearsed(number, either, "A" + "AB"[number - 1]) for number in order]
         yield Session().create().take(either + counter("A", 2) + "".join(sigs), "Stored listed").told()
-    both = body("icp", kt="2", k=keys(1, 2), b=[W1], bt="1")
+    both = body("icp", kt="2", k=keys(1, 2), b=[LISTED_KEY], bt="1")
     sigs = [rehearsed(2, both, "AB"), rehearsed(1, both, "AA"), rehearsed(2, both, "BB")]
     groups = counter("B", 1) + rehearsed(1, both, code="B") + counter("A", 3) + "".join(sigs)
     yield Session().create().take(both + groups, "Stored listed").told()
@@ -191,7 +191,7 @@ def kept_signatures():
 
 def verifiers():
     """A verifier that fails, or that says the same of all."""
-    both = body("icp", kt="2", k=keys(1, 2), b=[W1], bt="1")
+    both = body("icp", kt="2", k=keys(1, 2), b=[LISTED_KEY], bt="1")
     for number in range(3):
         one = Session().create().verifier(failing=(number,))
         one.take(signed(both, 1, 2), "VerifierFault" if number < 2 else "Stored listed").told()
