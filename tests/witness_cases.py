@@ -1,7 +1,9 @@
 #!/usr/bin/env python3
 """Makes the cases under tests/cases in which `witness` serves a file with the rehearsal: what it writes, the status, and the shelf that it
-leaves. All three are what `witness_reference.py` answers, a model of a witness that stands apart from the program."""
-import pathlib
+leaves. All three are what `witness_reference.py` answers, a model of a witness that stands apart from the program.
+
+It makes the samples of `witness` too, and samples/old.shelf: a shelf of version 1 with the bodies of samples/keripy/log.cesr.
+"""
 import shutil
 
 from kit import PLAIN_ICP as ICP
@@ -10,8 +12,8 @@ from log_cases import REALISTIC
 from row_tables.shelf import NEW, OLD, file_of
 from row_tables.witness import JOINING, LEAVING, OTHERS, OTHER_OWN_ROT, OWN, OWN_IXN, OWN_IXN_2, OWN_ROT, OWN_ROT_IXN, payload
 from row_tables.witness_calls import WITNESS, Session
+from validate_cases import CASES, SAMPLES
 
-CASES = pathlib.Path(__file__).resolve().parent / "cases"
 WORDS = ["witness", "--helper", "rehearsal", "--prefix", WITNESS, "--shelf", "shelf"]
 REFUSED, SEEN = 3, 4
 UNSIGNED = OWN_ROT
@@ -73,6 +75,9 @@ FILLED = {
     "old_shelf_and_a_foreign_file": ([signed(OWN_IXN, 1)], b"hello", file_of(OLD, OWN.encode())),
 }
 
+# What the samples of `witness` serve.
+SAMPLE = [signed(OWN, 1), signed(OWN_IXN, 1)]
+
 
 def write(name, words, files, text, status, left):
     case = CASES / ("witness_" + name)
@@ -88,7 +93,37 @@ def write(name, words, files, text, status, left):
         (case / "status").write_text("%d\n" % status)
 
 
+def bodies_in(stream):
+    """The bodies of a stream. Groups hold no brace, so the next one begins the next body."""
+    place = stream.find(b"{")
+    while place >= 0:
+        end = place + int(stream[place + 16:place + 22], 16)
+        yield stream[place:end]
+        place = stream.find(b"{", end)
+
+
+def write_sample(name, words, shelf):
+    """The words, what is written, and the shelf that is left, where this one is what the file is made of."""
+    text, status, after = served(SAMPLE, shelf)
+    assert status == 0
+    left = SAMPLES / (name + ".left")
+    shutil.rmtree(left, ignore_errors=True)
+    left.mkdir()
+    (left / "shelf").write_bytes(after)
+    (SAMPLES / (name + ".words")).write_text("".join(word + "\n" for word in [*WORDS, *words, "witness.cesr"]))
+    (SAMPLES / (name + ".stdout")).write_text(text)
+
+
+def write_samples():
+    bodies = list(bodies_in((SAMPLES / "keripy" / "log.cesr").read_bytes()))
+    (SAMPLES / "old.shelf").write_bytes(file_of(OLD, *bodies))
+    (SAMPLES / "witness.cesr").write_text("".join(SAMPLE))
+    write_sample("witness", [], b"")
+    write_sample("migrated", ["--from", "old.shelf"], file(*bodies))
+
+
 def main():
+    write_samples()
     for name, (messages, shelf) in SERVED.items():
         text, status, after = served(messages, shelf)
         files = {"a": "".join(messages).encode(), **({"shelf": shelf} if shelf else {})}
