@@ -1,7 +1,7 @@
 """A day with real keys: two controllers, the second of whom stands under the first, and three witnesses of both.
 
-Each has keys in a folder of their own, which a helper makes and signs with. The program makes the events; the receipts are asked of the
-witnesses' helpers here.
+Each has keys in a folder of their own, which a helper makes and signs with. The program makes the events; the receipts in the day's stream
+are asked of the witnesses' helpers here. Each witness has a place for a shelf too, over which the program may be run as that witness.
 """
 import collections
 import subprocess
@@ -37,7 +37,7 @@ class Party:
 class Witness(Party):
     def __init__(self, helper, folder):
         super().__init__(helper, folder)
-        self.key = self.new("--witness").text
+        self.key, self.shelf = self.new("--witness").text, folder.with_suffix(".shelf")
 
     def receipt(self, text):
         """Its signature on an event."""
@@ -105,6 +105,11 @@ class Day:
     def watch(self, stream):
         return self.run("watch", stream, "-")
 
+    def witness(self, witness, stream, shelf=None):
+        """What the program writes as this witness, over its shelf or another one."""
+        words = ["--prefix", witness.key, "--shelf", shelf or witness.shelf, "-"]
+        return self.run("witness", stream, *words, keys=witness.folder, stderr=subprocess.DEVNULL)
+
     # The forms of receipts. Two are wanted.
 
     def by_index(self, text, *numbers):
@@ -126,8 +131,11 @@ class Day:
         return text + counter("V", len(groups) // 4) + groups
 
     def apart(self, text, group):
-        receipt = body("rct", d=said(text), i=field(text, "i"), s=field(text, "s"))
-        return text + group + receipt + self.by_key(text, 1, 2)
+        return text + group + self.receipt(text, 1, 2)
+
+    def receipt(self, text, *numbers):
+        """A message with the receipts of these witnesses."""
+        return body("rct", d=said(text), i=field(text, "i"), s=field(text, "s")) + self.by_key(text, *numbers)
 
 
 def parts(message):
