@@ -1,5 +1,6 @@
-/* What tests/shelf_stops puts before the C library (LD_PRELOAD), to see each step that shelf_tool takes on a file, and to
-   stop it there or have it fail. A step is a call of pwrite, ftruncate, fdatasync or fsync, and a write to standard output.
+/* What tests/shelf_stops and tests/migration_stops put before the C library (LD_PRELOAD), to see each step that a program
+   takes on a file, and to stop it there or have it fail. A step is a call of pwrite, ftruncate, fdatasync or fsync, and a
+   write to standard output.
    The environment says what is wanted:
    TRACE=FILE         each step is added to the file as a line: `W PLACE BYTES`, `C SIZE`, `S`, `F` for a folder's sync, and
                       `A BYTES` for output, the bytes in hexadecimal
