@@ -4,8 +4,10 @@ Commands stand in the blocks that begin with ```console, behind which may stand 
 begins with `$ ` is a command, and lines right behind it that begin with `> ` go on with it. The lines up to the next command or the
 block's end are all that it writes. All commands with one word run in one shell.
 """
+import os
 import pathlib
 import re
+import signal
 import subprocess
 import sys
 
@@ -69,9 +71,14 @@ def first_other(found, folder, is_wanted=str.__eq__):
     """Runs the commands in the folder. Answers the first that writes something else, with what that is, or None. What is
     wanted, and what is written, is compared by the function."""
     script = "".join(command.text + "\n" + END for command in found)
-    done = subprocess.run(["sh", "-c", script], cwd=folder, stdin=subprocess.DEVNULL, stdout=subprocess.PIPE, stderr=subprocess.STDOUT,
-                          timeout=SECONDS)
-    texts = done.stdout.decode(errors="replace").split("\0")
+    child = subprocess.Popen(["sh", "-c", script], cwd=folder, stdin=subprocess.DEVNULL, stdout=subprocess.PIPE, stderr=subprocess.STDOUT,
+                             start_new_session=True)
+    try:
+        written, _ = child.communicate(timeout=SECONDS)
+    except subprocess.TimeoutExpired:
+        os.killpg(child.pid, signal.SIGKILL)  # with what the shell has started
+        written, _ = child.communicate()
+    texts = written.decode(errors="replace").split("\0")
     for number, command in enumerate(found):
         text = texts[number] if number < len(texts) - 1 else "nothing, since the shell has ended"
         if not is_wanted(command.wanted, text):
