@@ -1,5 +1,6 @@
 -- What becomes of a file that a witness serves, by what was made for it.
-use Rattle.std.proofs.Common.{◌≡◌, ℕ, Bool, false, List, [], ◌∷◌, Option}
+use Rattle.std.proofs.Common.{◌≡◌, ℕ, Bool, false, List, [], ◌∷◌, Option, Some, None, refl}
+use Rattle.std.specs.Prelude.{IfSome}
 use Rattle.cesr_codes.specs.declared.key.Key.{Key}
 use Rattle.cesr_codes.specs.declared.sig.Sig.{Sig}
 use Rattle.keri_disk.specs.Images.{DiskTold}
@@ -25,5 +26,10 @@ serving_all s helper name before sink_before same same_sink source verifier unhe
   makes = rw (s.source_is, s.verifier_is, s.signer_is) makes;
   new = s.new;
   serves = rw (s.source_is, s.verifier_is, s.signer_is) (rw (same, same_sink, source, verifier, unheard, signer, unasked) at s.serves);
-  ends = record { one = s.ends.one; back = s.ends.back; bodies = s.ends.bodies; entries = s.ends.entries; status = s.ends.status };
+  ends = record { one = s.ends.one; back = s.ends.back; bodies = s.ends.bodies; entries = s.ends.entries; status = s.ends.status; stand = s.ends.stand; reads = s.ends.reads };
 }
+
+-- what is so of each image is so of the file as it reads, where that is one
+pub as_it_reads : (file : Option (List ℕ)) (images P : List ℕ → Type 0) → ((f : List ℕ) → file ≡ Some f → images f) → ((c : List ℕ) → images c → P c) → IfSome file P
+as_it_reads None images P is all = tt
+as_it_reads (Some f) images P is all = all f (is f refl)

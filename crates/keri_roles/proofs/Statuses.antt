@@ -1,5 +1,5 @@
 -- Each fault that a run answers has its cause.
-use Rattle.std.proofs.Common.{◌≡◌, ◌≢◌, inl, inr, ◌⊎◌, ⊎_elim, ℕ, Bool, true, false, List, [], ◌∷◌, Option, Some, None, refl, sym, ◌∙◌, ap, subst}
+use Rattle.std.proofs.Common.{◌≡◌, ◌≢◌, inl, inr, ⊎_elim, ℕ, Bool, true, false, List, [], ◌∷◌, Option, Some, None, refl, sym, ◌∙◌, ap, subst}
 use Rattle.std.specs.Prelude.{IsNone, codes}
 use Rattle.keri_specs.specs.Causes.{Rose}
 use Rattle.command_words.specs.Words.{Asked, check, generate, make, rehearse, validate, watch, witness}

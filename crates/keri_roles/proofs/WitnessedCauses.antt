@@ -1,10 +1,10 @@
 -- Each fault that a run of `witness` answers has its cause.
-use Rattle.std.proofs.Common.{◌≡◌, ◌≢◌, ◌⊎◌, inl, inr, ⊎_elim, ℕ, Bool, true, false, List, [], ◌∷◌, ◌++◌, Option, Some, None, Ok, Err, refl, sym, ◌∙◌, ap, append-nil, subst}
-use Rattle.std.specs.Prelude.{IsSomeAnd, IfSome, if◌then◌else◌}
+use Rattle.std.proofs.Common.{◌≡◌, ◌⊎◌, inl, inr, ⊎_elim, ℕ, Bool, true, false, List, [], ◌∷◌, Option, Some, None, Err, refl, sym, ◌∙◌, ap, append-nil, subst}
+use Rattle.std.specs.Prelude.{IsSomeAnd, if◌then◌else◌}
 use Rattle.keri_specs.specs.Causes.{Rose}
 use Rattle.keri_specs.specs.Told.{after}
 use Rattle.cesr_codes.specs.declared.key.Key.{Key}
-use Rattle.command_words.specs.Words.{Asked, witness}
+use Rattle.command_words.specs.Words.{witness}
 use Rattle.journal.specs.declared.resume_fault.ResumeFault.{ResumeFault}
 use Rattle.journal.specs.declared.resume_fault.ResumeFault.TheVariants.{NotALog, OutOfMemory as NoMemory}
 use Rattle.keri_disk.specs.Images.{DiskTold}
@@ -13,18 +13,17 @@ use Rattle.run_status.specs.declared.besides.Besides.{Besides}
 use Rattle.run_status.specs.declared.close.Close.{Close}
 use Rattle.run_status.specs.declared.close.Close.TheVariants as closing
 use Rattle.run_status.specs.Readers.{HasClose, Reader, SinkTold}
-use Rattle.run_status.specs.Settling.{FaultsHaveCauses, SettlesBy, found}
+use Rattle.run_status.specs.Settling.{SettlesBy, found}
 use Rattle.run_status.specs.Status.{nothing_besides, status_of}
 use Rattle.run_status.proofs.Causes.{faults_have_causes, six_closed, words_refused}
-use Rattle.witness_opening.specs.Disks.{HasCause}
 use Rattle.witness_opening.specs.Found.{found_by}
 use Rattle.witness_opening.specs.declared.fault.OpeningFault.{OpeningFault}
 use Rattle.witness_opening.specs.declared.fault.OpeningFault.TheVariants.{NotAShelf, NotAnOldShelf, DiskFault, Full, OutOfMemory}
-use Rattle.keri_roles.specs.Run.{DiskRose, DiskSeen, HasCauses, Run}
+use Rattle.keri_roles.specs.Run.{DiskRose, HasCauses, Run}
 use Rattle.keri_roles.specs.Seen.{disk_seen}
 use Rattle.keri_roles.specs.Made.{is_out}
-use Rattle.keri_roles.specs.ServedFile.{IsServing, status_closing}
-use Rattle.keri_roles.specs.Witnessed.{IsStartedOver, IsUnread, IsUnstarted, IsWitnessed, OpensNone, OpensOne, start_found, start_text}
+use Rattle.keri_roles.specs.ServedFile.{status_closing}
+use Rattle.keri_roles.specs.Witnessed.{IsStartedOver, IsUnread, IsUnstarted, IsWitnessed, OpensNone, start_found, start_text}
 use Rattle.keri_roles.proofs.ServedCauses.{serving_asked, serving_kept, serving_read, serving_signed, serving_stored, serving_wrote}
 
 -- a run that read nothing

@@ -16,6 +16,9 @@ use Rattle.run_status.specs.declared.close.Close.TheVariants.{ReadFault, Verifie
 use Rattle.run_status.specs.Readers.{Reader, SinkTold, SourceTold, VerifierTold}
 use Rattle.run_status.specs.Settling.{found}
 use Rattle.run_status.specs.Status.{nothing_besides, status_of}
+use Rattle.shelf_log.specs.Format.{Holds}
+use Rattle.shelf_log.specs.Settled.{AllHold}
+use Rattle.shelf_log.specs.declared.version.Version.TheVariants.{Two}
 use Rattle.validator_core.specs.View.{CoreView}
 use Rattle.witness_link.specs.Links.{LinkTold, WitnessTold, source_told, told_of_link}
 use Rattle.witness_link.specs.Served.{ServesLink}
@@ -47,12 +50,15 @@ abbrev pub seen_as : {D : Type 0} → (D → DiskTold) → Key → Limits → Le
 seen_as told key limits left = record { key = key; limits = limits; core = left.core; list = left.list; disk = told left.disk; broken = left.broken }
 
 -- The run ends with this one reader, and hands back the disk and the journal of the witness as it is left. Nothing more is owed.
-pub record EndsWith {D : Type 0} (disk : Option D) (reader : Reader) (new : Left D) (run : Run) : Type 0 where
+-- Unless the witness is broken, each image of the disk stands for its list, and so does the file as it reads, where that is told.
+pub record EndsWith {D : Type 0} (told : D → DiskTold) (disk : Option D) (reader : Reader) (new : Left D) (run : Run) : Type 0 where
   pub one : run.readers ≡ reader ∷ []
   pub back : disk ≡ Some new.disk
   pub bodies : run.journal.bodies ≡ map (λ b. b.bytes) new.core.held
   pub entries : run.journal.entries ≡ new.core.entries
   pub status : run.status ≡ status_closing run.readers reader.close
+  pub stand : new.broken ≡ false → AllHold (told new.disk) new.list
+  pub reads : new.broken ≡ false → IfSome (told new.disk).file (λ file. Holds Two file new.list)
 
 -- one of the makings failed: nothing is read, and the witness is as it was
 pub record ServesNone {D : Type 0} (held : Option (List ℕ)) (at : Close) (reader : Reader) (old new : Left D) (run : Run) : Type 0 where
@@ -90,7 +96,7 @@ module _ {D : Type 0} (told : D → DiskTold) (key : Key) (limits : Limits) wher
     pub makes : MakesServing name helper reader.source reader.verifier run.signer run.before run.after
     pub new : Left D
     pub serves : ServesBy helper name old reader reader.source reader.verifier run.signer new run
-    pub ends : EndsWith disk reader new run
+    pub ends : EndsWith told disk reader new run
 
   -- all three were made, and have failed so often before, and the run ends
   pub record ServesAll (source_old : SourceTold) (says : Key → List ℕ → Sig → Option Bool) (verifier_faults : ℕ) (gives : Key → List ℕ → Option Sig) (signer_faults : ℕ) (old : Left D) (disk : Option D) (run : Run) : Type 0 where
@@ -103,4 +109,4 @@ module _ {D : Type 0} (told : D → DiskTold) (key : Key) (limits : Limits) wher
     pub verifier_is : reader.verifier ≡ Some verifier
     pub signer_is : run.signer ≡ Some signer
     pub serves : ServesIts run source_old says verifier_faults gives signer_faults old source verifier signer reader new
-    pub ends : EndsWith disk reader new run
+    pub ends : EndsWith told disk reader new run

@@ -1,5 +1,5 @@
 -- What `witness` does: it opens a shelf, starts a witness from it, and serves it a file.
-use Rattle.std.specs.Prelude.{◌≡◌, ◌≢◌, ◌⊎◌, ℕ, false, true, List, [], IfSome, option_map}
+use Rattle.std.specs.Prelude.{◌≡◌, ◌⊎◌, ℕ, false, true, List, [], IfSome, option_map}
 use Rattle.std.specs.declared.option.Option.{Option}
 use Rattle.std.specs.declared.option.Option.TheVariants.{None, Some}
 use Rattle.std.specs.declared.result.Result.TheVariants.{Ok, Err}
@@ -20,6 +20,7 @@ use Rattle.witness_opening.specs.Found.{found_by, text_of}
 use Rattle.witness_opening.specs.Names.{KeepsNames}
 use Rattle.witness_opening.specs.Opening.{IsOpening}
 use Rattle.witness_opening.specs.declared.fault.OpeningFault.{OpeningFault}
+use Rattle.witness_link.specs.Stored.{IsLawfulList}
 use Rattle.witness_opening.specs.declared.fault.OpeningFault.TheVariants.{OutOfMemory as NoMemory}
 use Rattle.keri_roles.specs.NoJournal.{no_journal}
 use Rattle.keri_roles.specs.Run.{Run, Settles}
@@ -58,11 +59,12 @@ pub record IsUnstarted {D : Type 0} (disk : Option D) (first : D) (list : List (
   pub unread : IsUnread (fault ≡ OutOfMemory) (start_text fault) (start_found fault) run
 
 module _ {D : Type 0} (told : D → DiskTold) where
-  -- a witness starts from the list, and the file is served
+  -- a witness starts from the list, which is lawful, and the file is served
   pub record IsStartedOver (disk : Option D) (helper : List ℕ) (key : Key) (name : List ℕ) (limits : Limits) (first : D) (list : List (List ℕ)) (run : Run) : Type 0 where
     pub core : CoreView
     pub started : IsStarted limits list core
     pub listed : AreListed core list
+    pub lawful : IsLawfulList list
     pub serves : IsServing told key limits helper name (record { core = core; list = list; broken = false; disk = first }) disk run
 
   abbrev pub StartsOver : Option D → List ℕ → Key → List ℕ → Limits → D → List (List ℕ) → Run → Type 0

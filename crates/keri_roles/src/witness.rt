@@ -16,6 +16,7 @@ use run_outside::Outside;
 use run_status::Besides;
 use std::alloc::{AllocError, Global};
 use witness_core::{StartFault, Witness};
+use witness_link::Witnessing;
 use witness_opening::{NotOpened, Opened, open_shelf};
 
 /// The words of `witness`.
@@ -86,15 +87,18 @@ fn start<O: Outside>(
 {
     let Opened { shelf, old } = opened;
     match Witness::start(alloc, words.prefix, shelf, limits) {
-        Ok(witness) => serve_file(
-            alloc,
-            words.helper,
-            words.file,
-            witness,
-            old,
-            readers,
-            outside,
-        ),
+        Ok(witness) => {
+            witness.stands();
+            serve_file(
+                alloc,
+                words.helper,
+                words.file,
+                witness,
+                old,
+                readers,
+                outside,
+            )
+        }
         Err(none) => unstarted(alloc, none, old, readers, outside),
     }
 }

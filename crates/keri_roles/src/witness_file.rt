@@ -1,7 +1,10 @@
 //! A file that is served to a witness.
-ghost use Rattle.std.specs.Prelude.{◌≡◌, ◌<◌, [], ◌∷◌, None, Some, false, map};
+ghost use Rattle.std.specs.Prelude.{◌≡◌, ◌<◌, [], ◌∷◌, None, Some, false, map, IfSome};
 ghost use Rattle.std.specs.Vec.{vec_capacity};
 ghost use Rattle.run_status.specs.Readers.{reader_seen};
+ghost use Rattle.shelf_log.specs.Format.{Holds};
+ghost use Rattle.shelf_log.specs.Settled.{AllHold};
+ghost use Rattle.shelf_log.specs.declared.version.Version.TheVariants.{Two};
 ghost use Rattle.witness_link.specs.Links.{source_told, told_of_link};
 ghost use Rattle.witness_link.specs.Served.{ServesLink};
 ghost use Rattle.keri_roles.specs.Made.{is_out as out_by};
@@ -178,6 +181,9 @@ fn end<O: Outside>(
     ensures old { result.old ≡ old }
     ensures bodies { result.journal.bodies ≡ map (λ b. b.bytes) witness.core.held }
     ensures entries { result.journal.entries ≡ witness.core.entries }
+    ensures stand { witness.broken ≡ false → AllHold (O.Disk.told witness.shelf.disk) witness.shelf.list }
+    ensures reads { witness.broken ≡ false → IfSome (O.Disk.told witness.shelf.disk).file
+        (λ file. Holds Two file witness.shelf.list) }
     ensures status { result.status ≡ specs.status_closing
         (map (reader_seen O.Source.left O.Source.faults O.Verifier.says O.Verifier.inquiries O.Verifier.faults)
         result.readers.items) reader.close }

@@ -1,5 +1,6 @@
 -- One payload more is appended.
 use Rattle.std.proofs.Common.{◌≡◌, ◌≤◌, ◌<◌, ◌+◌, ℕ, Bool, true, false, Err, List, [], ◌∷◌, ◌++◌, length, take, slice_get, Some, refl, sym, ◌∙◌, ap, subst, arith, length-append}
+use Rattle.event_payload.specs.Payloads.{text_in}
 use Rattle.journal.specs.declared.body.Body.{Body}
 use Rattle.journal.specs.Grown.{IsGrown}
 use Rattle.journal.proofs.Places.{some_at}
@@ -35,10 +36,10 @@ module _ (core : CoreView) (list : List (List ℕ)) (place : ℕ) (place_is : pl
   next = payloads_next (history_of core) list event.0 p event.1 is
 
   -- APPENDED: the list has it
-  pub appended : (new : List (List ℕ)) → new ≡ list ++ p ∷ [] → IsOnWay (history_of core) list → (told last : DiskTold) → AllHold last new → LeavesOnly told last (HoldsEither list p)
+  pub appended : ((b : Body) → slice_get (accepted_by core) place ≡ Some b → text_in items ≡ b.bytes) → (new : List (List ℕ)) → new ≡ list ++ p ∷ [] → IsOnWay (history_of core) list → (told last : DiskTold) → AllHold last new → LeavesOnly told last (HoldsEither list p)
       → Appends list told (history_of core) new last
-  appended new new_is way told last holds leaves = record {
-    on_way = subst (IsOnWay (history_of core)) (sym new_is) (on_way_next (history_of core) list event.0 p event.1 is lacking way);
+  appended reads new new_is way told last holds leaves = record {
+    on_way = subst (IsOnWay (history_of core)) (sym new_is) (on_way_next (history_of core) list event.0 p event.1 is (ap text_in p_is ∙ reads event.0 there) lacking way);
     same = same;
     longer = omega (arith, ap length new_is, length-append list (p ∷ []));
     images = λ c now. first_held new (missing (history_of core) new) c (holds c now);

@@ -1,5 +1,5 @@
 -- What one more entry makes of what is stored.
-use Rattle.std.proofs.Common.{◌≡◌, ◌≤◌, ℕ, List, [], ◌∷◌, ◌++◌, length, drop, map, sym, ◌∙◌, ap, arith, length-append, append_assoc, append-nil}
+use Rattle.std.proofs.Common.{◌≡◌, ◌≤◌, ℕ, List, [], ◌∷◌, ◌++◌, length, take, drop, map, sym, ◌∙◌, ap, arith, length-append, append_assoc, append-nil}
 use Rattle.journal.specs.declared.body.Body.{Body}
 use Rattle.journal.specs.declared.mode.Mode.{Mode}
 use Rattle.journal.specs.History.{Told}
@@ -8,6 +8,7 @@ use Rattle.validator_core.specs.View.{CoreView, Follows, told_of}
 use Rattle.witness_core.specs.Histories.{History, history_of, log_in, told_more}
 use Rattle.witness_core.specs.Payloads.{payload_now}
 use Rattle.witness_core.specs.Storing.{IsOnWay, by_entries, missing, newly}
+use Rattle.witness_core.proofs.Lists.{take_within}
 use Rattle.witness_core.proofs.Stored.{missing_none}
 
 -- a core that follows another goes by what that went by, and what was told since
@@ -39,6 +40,7 @@ module _ (h : History) (t : Told) where
     front = omega (arith, all, log_longer);
     based = way.based;
     texts = way.texts;
+    read = way.read ∙ ap (map (λ (b : Body). b.bytes)) (sym (ap (take (length list)) log_more.1 ∙ take_within (log_in h) log_more.0 (length list) way.front));
     all = (λ i. (sym (append-nil (drop h.based list)) ∙ ap (λ l. drop h.based list ++ l) (sym (missing_none h list all)) ∙ way.all) i ++ new i)
         ∙ sym (by_entries-push h.mode h.base [] h.told t);
   }

@@ -82,9 +82,11 @@ module _ (mode : Mode) (held : List Body) (list : List (List ℕ)) (limits : Lim
   same_long : length list ≡ length (log_in h)
   same_long = long ∙ ap length (sym log_is)
 
+  front : take (length list) (log_in h) ≡ held
+  front = ap (λ n. take n (log_in h)) same_long ∙ take_all (length (log_in h)) (log_in h) (omega arith) ∙ log_is
+
   none_left : (f : Body → ℕ) → sum_by (if_waiting (take (length list) (log_in h)) f) (bodies_in h) ≡ 0
   none_left f =
-      let front : take (length list) (log_in h) ≡ held = ap (λ n. take n (log_in h)) same_long ∙ take_all (length (log_in h)) (log_in h) (omega arith) ∙ log_is in
       (λ i. sum_by (if_waiting (front i) f) (all i)) ∙ none_waits held held (λ i b at. any_at (λ c. same_body c b) held i b at (same_body-refl b)) f
 
   pub first_stored : AreStored h list limits false disk room
@@ -93,6 +95,7 @@ module _ (mode : Mode) (held : List Body) (list : List (List ℕ)) (limits : Lim
       front = omega (arith, same_long);
       based = omega arith;
       texts = ap (map text_in) (take-length list) ∙ texts;
+      read = texts ∙ ap (map (λ (b : Body). b.bytes)) (sym front);
       all = ap (λ l. l ++ missing h list) (drop_all (length list) list (omega arith)) ∙ missing_none h list same_long;
     };
     all = same_long;

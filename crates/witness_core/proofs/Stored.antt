@@ -1,7 +1,8 @@
 -- What is stored of the accepted payloads.
-use Rattle.std.proofs.Common.{◌≡◌, ◌≤◌, ◌<◌, ◌+◌, ℕ, List, [], ◌∷◌, ◌++◌, length, drop, map, slice_get, Some, None, refl, sym, ◌∙◌, ap, ⊎_elim, arith, length-append, append_assoc, append-nil, Bool, true, false, subst, Err}
+use Rattle.std.proofs.Common.{◌≡◌, ◌≤◌, ◌<◌, ◌+◌, ℕ, List, [], ◌∷◌, ◌++◌, length, take, drop, map, slice_get, Some, None, refl, sym, ◌∙◌, ap, ⊎_elim, arith, length-append, append_assoc, append-nil, Bool, true, false, subst, Err}
 use Rattle.std.proofs.lemmas.Bool.Decides.{nat_tests}
-use Rattle.std.proofs.lemmas.List.{drop_all}
+use Rattle.std.proofs.lemmas.List.{drop_all, map-append}
+use Rattle.event_payload.specs.Payloads.{text_in}
 use Rattle.journal.specs.declared.body.Body.{Body}
 use Rattle.keri_disk.specs.Images.{DiskTold}
 use Rattle.keri_disk.proofs.Moments.{KnowsNow, and_then, none_yet, weaker}
@@ -18,7 +19,7 @@ use Rattle.witness_core.specs.Payloads.{payload_now}
 use Rattle.witness_core.specs.Room.{HasRoom}
 use Rattle.witness_core.specs.declared.room.Room.{Room}
 use Rattle.witness_core.specs.Storing.{Appends, GoesOn, HoldsFirst, IsOnWay, missing, payloads}
-use Rattle.witness_core.proofs.Lists.{drop_place, drop_within, take_front, take_within}
+use Rattle.witness_core.proofs.Lists.{drop_place, drop_within, take_front, take_place, take_within}
 
 -- one payload more
 pub size_push : (list : List (List ℕ)) (payload : List ℕ) → shelf_size Two (list ++ payload ∷ []) ≡ shelf_size Two list + 5 + length payload
@@ -94,11 +95,13 @@ module _ (h : History) where
     pub payloads_next : payloads h list ≡ (list ++ payload ∷ []) ++ missing h (list ++ payload ∷ [])
     payloads_next = ap (λ l. list ++ l) missing_next ∙ sym (append_assoc list (payload ∷ []) (missing h (list ++ payload ∷ [])))
 
-    pub on_way_next : length list < length (log_in h) → IsOnWay h list → IsOnWay h (list ++ payload ∷ [])
-    on_way_next lacking way = record {
+    pub on_way_next : text_in payload ≡ b.bytes → length list < length (log_in h) → IsOnWay h list → IsOnWay h (list ++ payload ∷ [])
+    on_way_next reads lacking way = record {
       front = omega (arith, longer_by, lacking);
       based = omega (arith, longer_by, way.based);
       texts = ap (map _) (take_within list (payload ∷ []) h.based way.based) ∙ way.texts;
+      read = map-append text_in list (payload ∷ []) ∙ (λ i. way.read i ++ reads i ∷ []) ∙ sym (map-append (λ (c : Body). c.bytes) (take (length list) (log_in h)) (b ∷ []))
+          ∙ ap (map (λ (c : Body). c.bytes)) (sym (take_place (log_in h) (length list) b at)) ∙ ap (λ n. map (λ (c : Body). c.bytes) (take n (log_in h))) (sym longer_by);
       all = ap (λ l. l ++ missing h (list ++ payload ∷ [])) (drop_within list (payload ∷ []) h.based way.based)
           ∙ append_assoc (drop h.based list) (payload ∷ []) (missing h (list ++ payload ∷ []))
           ∙ ap (λ l. drop h.based list ++ l) (sym missing_next)

@@ -1,8 +1,8 @@
 -- What a witness keeps from call to call.
-use Rattle.std.proofs.Common.{◌≡◌, ◌≤◌, ℕ, Bool, false, List, length, Option, Err, refl, sym, ◌∙◌, subst}
+use Rattle.std.proofs.Common.{◌≡◌, ◌≤◌, ℕ, Bool, false, List, length, map, take, Option, Err, refl, sym, ◌∙◌, ap, subst, arith}
 use Rattle.std.specs.Prelude.{IfSome}
 use Rattle.std.proofs.lemmas.Bool.{true≢false}
-use Rattle.std.proofs.lemmas.List.{length-map}
+use Rattle.std.proofs.lemmas.List.{length-map, take_all}
 use Rattle.event_payload.specs.Payloads.{text_in}
 use Rattle.cesr_codes.specs.declared.key.Key.{Key}
 use Rattle.cesr_codes.specs.declared.sig.Sig.{Sig}
@@ -12,11 +12,12 @@ use Rattle.keri_outside.specs.declared.limits.Limits.{Limits}
 use Rattle.shelf_log.specs.Format.{Holds}
 use Rattle.shelf_log.specs.Settled.{AllHold, IsSettled}
 use Rattle.shelf_log.specs.declared.version.Version.TheVariants.{Two}
-use Rattle.validator_core.specs.View.{CoreView}
+use Rattle.journal.specs.declared.body.Body.{Body}
+use Rattle.validator_core.specs.View.{CoreView, accepted_by}
 use Rattle.witness_core.specs.Faults.{Goes, StoresStill, breaks}
 use Rattle.witness_core.specs.Histories.{history_of}
 use Rattle.witness_core.specs.Payloads.{AreListed}
-use Rattle.witness_core.specs.Starts.{IsFirstRoom, IsStarted}
+use Rattle.witness_core.specs.Starts.{IsFirstRoom, IsStarted, ReadsAgain}
 use Rattle.witness_core.specs.Storing.{AreStored, GoesOn, StoresOn, missing, payloads}
 use Rattle.witness_core.specs.Telling.{IsUntold, TellsFault}
 use Rattle.witness_core.specs.declared.room.Room.{Room}
@@ -29,6 +30,11 @@ use Rattle.witness_core.proofs.Stored.{payloads_all}
 -- STORED: what is stored is listed
 pub are_listed : (core : CoreView) (list : List (List ℕ)) (limits : Limits) (broken : Bool) (told : DiskTold) (room : Room) → AreStored (history_of core) list limits broken told room → AreListed core list
 are_listed core list limits broken told room stored = subst (AreListed core) (payloads_all (history_of core) list stored.all) (listed core list stored.on_way)
+
+-- and reads as the accepted events
+pub reads_again : (core : CoreView) (list : List (List ℕ)) (limits : Limits) (broken : Bool) (told : DiskTold) (room : Room) → AreStored (history_of core) list limits broken told room → ReadsAgain core list
+reads_again core list limits broken told room stored =
+    stored.on_way.read ∙ ap (λ n. map (λ (b : Body). b.bytes) (take n (accepted_by core))) stored.all ∙ ap (map (λ (b : Body). b.bytes)) (take_all (length (accepted_by core)) (accepted_by core) (omega arith))
 
 -- and goes on so
 pub stores_on : (old : List (List ℕ)) (disk_old : DiskTold) (core : CoreView) (new : List (List ℕ)) (disk_new : DiskTold) → GoesOn old disk_old (history_of core) new disk_new → StoresOn old disk_old core new disk_new

@@ -62,11 +62,13 @@ abbrev pub by_entries : Mode → List Body → List Told → List Told → List 
 by_entries mode base earlier [] = []
 by_entries mode base earlier (t ∷ later) = newly mode base earlier t ++ by_entries mode base (earlier ++ t ∷ []) later
 
--- the list is the first of the payloads of the accepted events, and lacks none but those by the last entry
+-- The list is the first of the payloads of the accepted events, and lacks none but those by the last entry. Each is read as its
+-- event's body.
 pub record IsOnWay (h : History) (list : List (List ℕ)) : Type 0 where
   pub front : length list ≤ length (log_in h)
   pub based : h.based ≤ length list
   pub texts : map text_in (take h.based list) ≡ map (λ b. b.bytes) h.base
+  pub read : map text_in list ≡ map (λ b. b.bytes) (take (length list) (log_in h))
   pub all : drop h.based list ++ missing h list ≡ by_entries h.mode h.base [] h.told
 
 -- The shelf has the payloads of all accepted events, and room for the events that wait. Its disk hasn't failed, and each image

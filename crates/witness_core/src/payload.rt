@@ -1,7 +1,9 @@
 //! The payloads of accepted events.
-ghost use Rattle.std.specs.Prelude.{◌≡◌, ◌<◌, ◌≤◌, ◌+◌, [], IfOk, OnOk, Some, length, slice_get};
+ghost use Rattle.std.specs.Prelude.{◌≡◌, ◌<◌, ◌≤◌, ◌+◌, [], All, IfOk, OnOk, Some, length, slice_get};
+ghost use Rattle.cesr_codes.specs.Indexed.{IsIndexed};
 ghost use Rattle.event_payload.specs.Holding.{HasKept};
 ghost use Rattle.event_payload.specs.Kept.{kept as kept_on, state_under};
+ghost use Rattle.event_payload.specs.Payloads.{text_in};
 ghost use Rattle.journal.specs.declared.body.Body.{Body};
 ghost use Rattle.shelf_log.specs.Format.{IsSized};
 ghost use Rattle.shelf_log.specs.declared.version.Version.TheVariants.{Two};
@@ -25,6 +27,8 @@ pub(crate) fn payload_at(alloc: Global, core: &Core, place: usize) -> Result<Vec
     ensures known { OnOk result (IsKnown core.now) }
     ensures within { IfOk result (λ payload. (b : Body) → slice_get (accepted_by core.now) place ≡ Some b
         → 5 + length payload.items ≤ weight (told_of core.now) b) }
+    ensures read { IfOk result (λ payload. (b : Body) → slice_get (accepted_by core.now) place ≡ Some b
+        → text_in payload.items ≡ b.bytes) }
 {
     spelled_is_kept();
     let kept = kept_at(alloc, core, place)?;
@@ -35,8 +39,10 @@ pub(crate) fn payload_at(alloc: Global, core: &Core, place: usize) -> Result<Vec
 
 // The kept signatures on the event at a place of the accepted ones.
 fn kept_at(alloc: Global, core: &Core, place: usize) -> Result<Kept, AllocError>
-    ensures { IfOk result (λ kept. (b : Body) → slice_get (accepted_by core.now) place ≡ Some b
+    ensures kept { IfOk result (λ kept. (b : Body) → slice_get (accepted_by core.now) place ≡ Some b
         → kept.sigs.items ≡ kept_on (told_of core.now) (accepted_by core.now) b) }
+    ensures raw { IfOk result (λ kept. (b : Body) → slice_get (accepted_by core.now) place ≡ Some b
+        → All IsIndexed kept.sigs.items) }
 {
     let mut kept = Kept::new(alloc);
     let sigs = core.signatures_at(place)?;

@@ -51,7 +51,7 @@ impl<D: Disk + Drop> Witness<D> {
     ghost use Rattle.witness_core.specs.Outcomes.{AreReceipts, AsksSigner, IsOfStored, KeepsList, TellsFate};
     ghost use Rattle.witness_core.specs.Payloads.{AreListed};
     ghost use Rattle.witness_core.specs.Room.{IsTurnedAway};
-    ghost use Rattle.witness_core.specs.Starts.{AreNoStart, IsStarted};
+    ghost use Rattle.witness_core.specs.Starts.{AreNoStart, IsStarted, ReadsAgain};
     ghost use Rattle.witness_core.specs.Storing.{StoresOn};
     ghost use Rattle.witness_core.specs.Telling.{AsksVerdicts, IsUntold, TellsFault};
     ghost use Rattle.witness_core.specs.declared.witness_fault.WitnessFault.TheVariants.{Full as NoRoom};
@@ -118,6 +118,7 @@ impl<D: Disk + Drop> Witness<D> {
 
         // What is accepted is stored, whatever the call answers but a fault of the disk and want of memory.
         ensures stored { self.new.broken ≡ false → AreListed self.new.core self.new.shelf.list }
+        ensures read { self.new.broken ≡ false → ReadsAgain self.new.core self.new.shelf.list }
 
         // A stop at any moment leaves what was stored before, and the first few of what was accepted since.
         ensures stores { self.old.broken ≡ false → StoresOn self.old.shelf.list (D.told self.old.shelf.disk)

@@ -1,6 +1,6 @@
 -- Messages that are served one behind the other.
 use Rattle.std.proofs.Common.{◌≡◌, List, [], ◌∷◌, ◌++◌, refl, sym, ◌∙◌, ap, subst, append-nil, append_assoc}
-use Rattle.std.specs.Prelude.{All, take, false}
+use Rattle.std.specs.Prelude.{All, take}
 use Rattle.std.proofs.lemmas.Grind.{flat_map-append}
 use Rattle.std.proofs.lemmas.List.{map-append}
 use Rattle.std.proofs.lemmas.List.Elements.{All-append, All-nil, All-weaker}
@@ -11,7 +11,6 @@ use Rattle.keri_specs.specs.Told.{after}
 use Rattle.keri_specs.proofs.Putting.{after-append, after-nil}
 use Rattle.run_status.specs.declared.close.Close.{Close}
 use Rattle.run_status.specs.declared.close.Close.TheVariants.{End, Bad, ReadFault, VerifierFault, SignerFault, DiskFault, WriteFault, Malformed, Full, OutOfMemory}
-use Rattle.witness_core.specs.Payloads.{AreListed}
 use Rattle.witness_core.specs.Storing.{AllStand, Grown}
 use Rattle.witness_core.specs.declared.receipt.Receipt.{Receipt}
 use Rattle.witness_core.specs.declared.witness_fault.WitnessFault.{WitnessFault}
@@ -19,8 +18,8 @@ use Rattle.witness_core.specs.declared.witness_fault.WitnessFault.TheVariants as
 use Rattle.witness_link.specs.Calls.{AreCalls, Call, digests_in, messages_in, receipts_in, refusals_in, refused_as, seen_in, text_of}
 use Rattle.witness_link.specs.Links.{LinkTold, Standing, Terms, counts_of, standing_of, terms_of}
 use Rattle.witness_link.specs.Serving.{FailsToPut, FailsToTake, GoesOn, HasEnded, HasServed, Serves, StopsBy, StopsTaking, Wrote}
-use Rattle.witness_link.specs.Stored.{IsOfStored}
-use Rattle.witness_link.specs.Taking.{Counted, FailsAt}
+use Rattle.witness_link.specs.Stored.{IsLawfulList, IsOfStored}
+use Rattle.witness_link.specs.Taking.{Counted, FailsAt, IsWhole}
 use Rattle.witness_link.proofs.Storing.{front_of, of_longer, stores_more, stores_none}
 
 -- calls, and then others
@@ -49,6 +48,7 @@ module _ (first mid new : LinkTold) (a : Serves first mid) (on : GoesOn first mi
     longer = front_of mid.witness.list new.witness.list b.stores.accepted b.stores.grown b.stores.first b.stores.longer
 
     pub serves_more : Serves first new
+    unfolding stores_more
     serves_more = record {
       calls = a.calls ++ b.calls;
       behind = b.behind;
@@ -59,6 +59,7 @@ module _ (first mid new : LinkTold) (a : Serves first mid) (on : GoesOn first mi
           ∙ ap (λ l. first.seen ++ l) (sym (flat_map-append (λ (c : Call). seen_in c.fate) a.calls b.calls));
       stores = stores_more first.witness.list first.witness.disk mid.witness.core mid.witness.list mid.witness.disk new.witness.core new.witness.list new.witness.disk
           a.stores on.is_whole.listed b.stores;
+      lawful = b.lawful;
       of_stored = subst (All (IsOfStored (terms_of first) new.witness.list)) (sym (flat_map-append (λ (c : Call). c.receipts) a.calls b.calls))
           (All-append (IsOfStored (terms_of first) new.witness.list) (receipts_in a.calls) (receipts_in b.calls)
           (All-weaker (IsOfStored (terms_of first) mid.witness.list) (IsOfStored (terms_of first) new.witness.list)
@@ -144,16 +145,18 @@ ended_more first mid new close before messages a b = record {
 }
 
 -- none was served yet
-pub served_none : (link : LinkTold) → link.witness.broken ≡ false → AllStand link.witness.disk link.witness.list link.witness.list → AreListed link.witness.core link.witness.list
+pub served_none : (link : LinkTold) → IsWhole link.witness → AllStand link.witness.disk link.witness.list link.witness.list → IsLawfulList link.witness.list
     → KnowsNow link.witness.disk → HasServed link link []
-served_none link whole stand listed knows = record {
+unfolding stores_none
+served_none link whole stand lawful knows = record {
   serves = record {
     calls = [];
     behind = standing_of link.witness;
     taken = refl;
     refused_are = sym (append-nil link.refused);
     seen_are = sym (append-nil link.seen);
-    stores = stores_none link.witness.list link.witness.disk link.witness.core knows stand listed;
+    stores = stores_none link.witness.list link.witness.disk link.witness.core knows stand whole.listed;
+    lawful = lawful;
     of_stored = All-nil (IsOfStored (terms_of link) link.witness.list);
     same_terms = refl;
   };
@@ -161,7 +164,7 @@ served_none link whole stand listed knows = record {
   goes_on = record {
     now = refl;
     wrote = after-nil link.written;
-    is_whole = record { whole = whole; listed = listed };
+    is_whole = whole;
     counts_same = refl;
     sink_same = refl;
   };

@@ -43,7 +43,7 @@ module _ (limits : Limits) (source_old source_new : SourceTold) (old new : LinkT
     few = few;
     messages_are = are;
     closes = closes;
-    held = held_each (terms_of old) old.witness.list old.witness.disk new.witness.core new.witness.list new.witness.disk (receipts_in s.calls) s.stores s.of_stored;
+    held = held_each (terms_of old) old.witness.list old.witness.disk new.witness.core new.witness.list new.witness.disk (receipts_in s.calls) s.stores s.lawful s.of_stored;
   }
 
   -- there was no memory to read on, and no message was open

@@ -6,11 +6,12 @@ use Rattle.cesr_codes.specs.declared.sig.Sig.{Sig}
 use Rattle.cesr_stream.specs.declared.message.Message.{Message}
 use Rattle.keri_disk.proofs.Moments.{KnowsNow}
 use Rattle.run_status.specs.declared.close.Close.{Close}
-use Rattle.witness_core.specs.Payloads.{AreListed}
 use Rattle.witness_core.specs.Storing.{AllStand}
 use Rattle.witness_link.specs.Links.{LinkTold, WitnessTold}
 use Rattle.witness_link.specs.Offered.{HasStopped, HasTaken, LendsSame, link_told}
 use Rattle.witness_link.specs.Serving.{ServesOne}
+use Rattle.witness_link.specs.Stored.{IsLawfulList}
+use Rattle.witness_link.specs.Taking.{IsWhole}
 use Rattle.witness_link.specs.declared.link.Link.{Link}
 use Rattle.witness_link.proofs.Chains.{ended_more, served_more, served_none}
 
@@ -26,12 +27,12 @@ module _ {W K V G : Type 0} (witness_seen : W → WitnessTold) (written : K → 
   Stopped first now close messages = HasStopped witness_seen written sink_faults says verifier_faults gives signer_faults first now close messages
 
   -- nothing was handed to it yet
-  pub taken_none : (link : Link W K V G) → (witness_seen link.witness.now).broken ≡ false
+  pub taken_none : (link : Link W K V G) → IsWhole (witness_seen link.witness.now)
       → AllStand (witness_seen link.witness.now).disk (witness_seen link.witness.now).list (witness_seen link.witness.now).list
-      → AreListed (witness_seen link.witness.now).core (witness_seen link.witness.now).list → KnowsNow (witness_seen link.witness.now).disk → Taken link link []
-  taken_none link whole stand listed knows = record {
+      → IsLawfulList (witness_seen link.witness.now).list → KnowsNow (witness_seen link.witness.now).disk → Taken link link []
+  taken_none link whole stand lawful knows = record {
     same = record { witness = refl; sink = refl; verifier = refl; signer = refl; notes = refl };
-    served = served_none (told link) whole stand listed knows;
+    served = served_none (told link) whole stand lawful knows;
   }
 
   module _ (m : Message) (now new : Link W K V G) (same : LendsSame now new) where

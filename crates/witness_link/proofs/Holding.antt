@@ -40,14 +40,13 @@ use Rattle.witness_core.proofs.Lists.{take_front}
 use Rattle.witness_core.proofs.Stored.{first_held, missing_none, payloads_all}
 use Rattle.witness_link.specs.Links.{Terms}
 use Rattle.witness_link.specs.Stored.{HasEvent, HoldsAccepted, IsOfStored}
-use Rattle.witness_link.specs.Taking.{IsSound}
 
 -- each image stands for the list
-stored_stand : (h : History) (list : List (List ℕ)) (limits : Limits) (broken : Bool) (told : DiskTold) (room : Room) → AreStored h list limits broken told room → AllStand told list list
+pub stored_stand : (h : History) (list : List (List ℕ)) (limits : Limits) (broken : Bool) (told : DiskTold) (room : Room) → AreStored h list limits broken told room → AllStand told list list
 stored_stand h list limits broken told room stored = λ c now. subst (λ a. HoldsFirst list a c) (append-nil list) (first_held list [] c (stored.holds c now))
 
 -- which lists the accepted events
-stored_listed : (core : CoreView) (list : List (List ℕ)) (limits : Limits) (broken : Bool) (told : DiskTold) (room : Room) → AreStored (history_of core) list limits broken told room → AreListed core list
+pub stored_listed : (core : CoreView) (list : List (List ℕ)) (limits : Limits) (broken : Bool) (told : DiskTold) (room : Room) → AreStored (history_of core) list limits broken told room → AreListed core list
 stored_listed core list limits broken told room stored = subst (AreListed core) (payloads_all (history_of core) list stored.all) (listed core list stored.on_way)
 
 -- a payload begins with its text
@@ -60,7 +59,7 @@ text_of_front payload (whole n) = text_with payload (are_groups (length (drop n 
 text_of_front payload (refused place reason) = (payload, refl)
 text_of_front payload unfinished = (payload, refl)
 
-text_front : (payload : List ℕ) → (rest : List ℕ) × (payload ≡ text_in payload ++ rest)
+pub text_front : (payload : List ℕ) → (rest : List ℕ) × (payload ≡ text_in payload ++ rest)
 unfolding text_in
 text_front payload = text_of_front payload (front 65535 false payload)
 
@@ -100,8 +99,13 @@ by_payloads mode base told (b ∷ bs) (p ∷ ps) all spelled =
     All-cons (HasEvent (p ∷ ps)) b bs (first_has p ps b (groups_text (parts_of (kept one.moment (accepted mode base one.moment) b))) (All-head Spelled b bs spelled) one.is)
     (All-weaker (HasEvent ps) (HasEvent (p ∷ ps)) (λ c has. has_behind (p ∷ []) ps c has) bs (by_payloads mode base told bs ps all.1 (All-tail Spelled b bs spelled)))
 
+-- each accepted event is spelled by its bytes
+pub all_held : (core : CoreView) → Stands core → All IsHeld (accepted_by core)
+all_held core stands =
+    accepted_inside IsHeld core.mode (base_of core) (told_of core) (All-take IsHeld core.base core.held stands.spelled) (subst (All IsHeld) stands.in_order stands.spelled)
+
 -- and so it has each accepted event
-stored_accepted : (core : CoreView) (list : List (List ℕ)) (limits : Limits) (broken : Bool) (told : DiskTold) (room : Room) → AreStored (history_of core) list limits broken told room → Stands core → HoldsAccepted core list
+pub stored_accepted : (core : CoreView) (list : List (List ℕ)) (limits : Limits) (broken : Bool) (told : DiskTold) (room : Room) → AreStored (history_of core) list limits broken told room → Stands core → HoldsAccepted core list
 stored_accepted core list limits broken told room stored stands =
     let way = stored.on_way in
     let base = base_of core in
@@ -109,7 +113,7 @@ stored_accepted core list limits broken told room stored stands =
     let first = take core.base list in
     let later = by_entries core.mode base [] (told_of core) in
     let held : All IsHeld base = All-take IsHeld core.base core.held stands.spelled in
-    let all : All IsHeld (accepted_by core) = accepted_inside IsHeld core.mode base (told_of core) held (subst (All IsHeld) stands.in_order stands.spelled) in
+    let all = all_held core stands in
     let behind : All IsHeld so.0 = subst (All IsHeld) (drop-append_seam base so.0) (All-drop IsHeld (length base) (base ++ so.0) (subst (All IsHeld) so.1 all)) in
     let dropped : drop core.base list ≡ later
     = sym (append-nil (drop core.base list)) ∙ ap (λ l. drop core.base list ++ l) (sym (missing_none (history_of core) list stored.all)) ∙ way.all in
@@ -118,15 +122,6 @@ stored_accepted core list limits broken told room stored stands =
     (All-append (HasEvent (first ++ later)) base so.0
     (All-weaker (HasEvent first) (HasEvent (first ++ later)) (λ b has. has_more first later b has) base (by_texts first base way.texts (All-weaker IsHeld Spelled (λ b h. h.spelled) base held)))
     (All-weaker (HasEvent later) (HasEvent (first ++ later)) (λ b has. has_behind first later b has) so.0 (by_payloads core.mode base (told_of core) so.0 later so.2 (All-weaker IsHeld Spelled (λ b h. h.spelled) so.0 behind)))))
-
--- SOUND: so it is with what is stored, whatever else is seen of the witness
-pub sound : (core : CoreView) (list : List (List ℕ)) (shelf_limits : Limits) (shelf_broken : Bool) (told : DiskTold) (room : Room) → AreStored (history_of core) list shelf_limits shelf_broken told room
-    → Stands core → (key : Key) (limits : Limits) (broken : Bool) → IsSound (record { key = key; limits = limits; core = core; list = list; disk = told; broken = broken })
-sound core list shelf_limits shelf_broken told room stored stands key limits broken = record {
-  stand = stored_stand (history_of core) list shelf_limits shelf_broken told room stored;
-  listed = stored_listed core list shelf_limits shelf_broken told room stored;
-  holds = stored_accepted core list shelf_limits shelf_broken told room stored stands;
-}
 
 module _ (P : Body → Type 0) where
   found : (p : Body → Bool) (xs : List Body) → All P xs → All P (cons_option (find p xs) [])

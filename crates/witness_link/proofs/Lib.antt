@@ -6,3 +6,6 @@ pub mod Chains
 pub mod Ones
 pub mod Handing
 pub mod Closed
+mod OnePlace
+mod Restart
+mod Lawful

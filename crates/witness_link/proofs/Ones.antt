@@ -1,17 +1,15 @@
 -- One message is served.
-use Rattle.std.proofs.Common.{◌≡◌, ℕ, List, [], ◌∷◌, ◌++◌, refl, sym, ◌∙◌, ap, subst, append-nil, inl}
+use Rattle.std.proofs.Common.{◌≡◌, ℕ, List, [], ◌∷◌, ◌++◌, refl, sym, ◌∙◌, ap, subst, append-nil}
 use Rattle.std.specs.Prelude.{All, take}
 use Rattle.std.proofs.lemmas.List.Elements.{All-nil}
 use Rattle.cesr_stream.specs.declared.message.Message.{Message}
-use Rattle.keri_disk.proofs.Moments.{KnowsNow}
 use Rattle.keri_specs.specs.Causes.{Rose}
 use Rattle.keri_specs.specs.Told.{after}
 use Rattle.keri_specs.proofs.Putting.{after-nil}
 use Rattle.run_status.specs.declared.close.Close.{Close}
-use Rattle.run_status.specs.declared.close.Close.TheVariants.{OutOfMemory, WriteFault}
+use Rattle.run_status.specs.declared.close.Close.TheVariants.{WriteFault}
 use Rattle.validator_core.specs.View.{CoreView}
-use Rattle.witness_core.specs.Payloads.{AreListed}
-use Rattle.witness_core.specs.Storing.{AllStand, StoresOn}
+use Rattle.witness_core.specs.Storing.{StoresOn}
 use Rattle.witness_core.specs.Telling.{IsUntold}
 use Rattle.witness_core.specs.declared.fate.Fate.{Fate}
 use Rattle.witness_core.specs.declared.receipt.Receipt.{Receipt}
@@ -21,15 +19,14 @@ use Rattle.witness_link.specs.Calls.{Call, IsCall, refused_as, seen_in, text_of}
 use Rattle.witness_link.specs.Closes.{close_by}
 use Rattle.witness_link.specs.Links.{LinkTold, counts_of, standing_of, terms_of}
 use Rattle.witness_link.specs.Serving.{FailsToTake, HasEnded, HasServed, Serves, StopsBy}
-use Rattle.witness_link.specs.Stored.{HoldsAccepted, IsOfStored}
+use Rattle.witness_link.specs.Stored.{HoldsAccepted, IsLawfulList, IsOfStored}
 use Rattle.witness_link.specs.Taking.{Counted, FailsAt, IsWhole}
 use Rattle.witness_link.proofs.Holding.{of_fate}
-use Rattle.witness_link.proofs.Storing.{stores_none}
 
 pub untold_itself : (core : CoreView) → IsUntold core core
 untold_itself core = record { told = refl; follows = record { mode = refl; limits = refl; base = refl; bodies = refl } }
 
-module _ (old new : LinkTold) (m : Message) (stores : StoresOn old.witness.list old.witness.disk new.witness.core new.witness.list new.witness.disk) (same : terms_of new ≡ terms_of old) where
+module _ (old new : LinkTold) (m : Message) (stores : StoresOn old.witness.list old.witness.disk new.witness.core new.witness.list new.witness.disk) (lawful : IsLawfulList stores.accepted) (same : terms_of new ≡ terms_of old) where
   module _ (refused_same : new.refused ≡ old.refused) (seen_same : new.seen ≡ old.seen) (written_same : new.written ≡ old.written) (sink_same : new.sink_faults ≡ old.sink_faults) where
     serves_nothing : Serves old new
     serves_nothing = record {
@@ -39,6 +36,7 @@ module _ (old new : LinkTold) (m : Message) (stores : StoresOn old.witness.list 
       refused_are = refused_same ∙ sym (append-nil old.refused);
       seen_are = seen_same ∙ sym (append-nil old.seen);
       stores = stores;
+      lawful = lawful;
       of_stored = All-nil (IsOfStored (terms_of old) new.witness.list);
       same_terms = same;
     }
@@ -75,6 +73,7 @@ module _ (old new : LinkTold) (m : Message) (stores : StoresOn old.witness.list 
         refused_are = refused_more ∙ ap (λ l. old.refused ++ l) (sym (append-nil (refused_as m.place fate)));
         seen_are = seen_more ∙ ap (λ l. old.seen ++ l) (sym (append-nil (seen_in fate)));
         stores = stores;
+        lawful = lawful;
         of_stored = subst (All (IsOfStored (terms_of old) new.witness.list)) (sym (append-nil receipts))
             (of_fate (terms_of old) old.witness.core new.witness.core new.witness.list m receipts holds fate is.tells is.receipts_are);
         same_terms = same;
@@ -115,9 +114,3 @@ module _ (old new : LinkTold) (m : Message) (stores : StoresOn old.witness.list 
           },
         );
       }
-
--- UNNOTED: there was no memory to note what becomes of it, and it wasn't taken
-pub one_unnoted : (old new : LinkTold) (m : Message) → new ≡ old → AllStand old.witness.disk old.witness.list old.witness.list → AreListed old.witness.core old.witness.list → KnowsNow old.witness.disk
-    → HasEnded old new OutOfMemory (m ∷ [])
-one_unnoted old new m is stand listed knows = subst (λ l. HasEnded old l OutOfMemory (m ∷ [])) (sym is)
-    (one_failed old old m (stores_none old.witness.list old.witness.disk old.witness.core knows stand listed) refl refl refl refl refl fault.OutOfMemory OutOfMemory refl (inl (untold_itself old.witness.core)) refl)

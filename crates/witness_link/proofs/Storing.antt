@@ -13,7 +13,7 @@ use Rattle.witness_core.specs.Storing.{AllStand, Grown, HoldsFirst, StoresOn}
 use Rattle.witness_core.specs.declared.receipt.Receipt.{Receipt}
 use Rattle.witness_core.proofs.Stored.{first_wider}
 use Rattle.witness_link.specs.Links.{Terms}
-use Rattle.witness_link.specs.Stored.{HoldsEach, IsOfStored}
+use Rattle.witness_link.specs.Stored.{HoldsEach, IsLawfulList, IsOfStored}
 use Rattle.witness_link.proofs.Holding.{has_more}
 
 -- of two fronts of one list the shorter is a front of the longer
@@ -29,7 +29,7 @@ fronts (x ∷ xs) (y ∷ ys) us vs e le =
 pub front_of : (xs ys all : List (List ℕ)) → Grown xs all → Grown ys all → length xs ≤ length ys → Grown xs ys
 front_of xs ys all first then le = fronts xs ys first.0 then.0 (sym first.1 ∙ then.1) le
 
-grown_more : (a b c : List (List ℕ)) → Grown a b → Grown b c → Grown a c
+pub grown_more : (a b c : List (List ℕ)) → Grown a b → Grown b c → Grown a c
 grown_more a b c first then = (first.0 ++ then.0, then.1 ∙ ap (λ l. l ++ then.0) first.1 ∙ append_assoc a first.0 then.0)
 
 as_long : {A B : Type 0} (P : A → B → Type 0) (xs : List A) (ys : List B) → Pointwise P xs ys → length ys ≡ length xs
@@ -50,13 +50,13 @@ none_more xs [] e = refl
 none_more xs (x ∷ more) e = absurd (omega (arith, e, length-append xs (x ∷ more)))
 
 -- so a front that lists them is the list
-same_listed : (core : CoreView) (list all : List (List ℕ)) → AreListed core list → AreListed core all → Grown list all → list ≡ all
+pub same_listed : (core : CoreView) (list all : List (List ℕ)) → AreListed core list → AreListed core all → Grown list all → list ≡ all
 same_listed core list all l m g =
     let long : length (list ++ g.0) ≡ length list = sym (ap length g.1) ∙ listed_long core all m ∙ sym (listed_long core list l) in
     sym (append-nil list) ∙ ap (λ more. list ++ more) (sym (none_more list g.0 long)) ∙ sym g.1
 
 -- nothing was stored
-pub stores_none : (list : List (List ℕ)) (disk : DiskTold) (core : CoreView) → KnowsNow disk → AllStand disk list list → AreListed core list → StoresOn list disk core list disk
+unfoldable pub stores_none : (list : List (List ℕ)) (disk : DiskTold) (core : CoreView) → KnowsNow disk → AllStand disk list list → AreListed core list → StoresOn list disk core list disk
 stores_none list disk core knows stand listed = record {
   accepted = list;
   listed = listed;
@@ -68,7 +68,7 @@ stores_none list disk core knows stand listed = record {
 }
 
 -- all that was accepted was stored, and then more
-pub stores_more : (first : List (List ℕ)) (disk_first : DiskTold) (core : CoreView) (mid : List (List ℕ)) (disk_mid : DiskTold) (later : CoreView) (new : List (List ℕ)) (disk_new : DiskTold)
+unfoldable pub stores_more : (first : List (List ℕ)) (disk_first : DiskTold) (core : CoreView) (mid : List (List ℕ)) (disk_mid : DiskTold) (later : CoreView) (new : List (List ℕ)) (disk_new : DiskTold)
     → StoresOn first disk_first core mid disk_mid → AreListed core mid → StoresOn mid disk_mid later new disk_new → StoresOn first disk_first later new disk_new
 stores_more first disk_first core mid disk_mid later new disk_new a listed b =
     let same : mid ≡ a.accepted = same_listed core mid a.accepted listed a.listed a.first in
@@ -91,10 +91,14 @@ stores_more first disk_first core mid disk_mid later new disk_new a listed b =
 pub of_longer : (terms : Terms) (list longer : List (List ℕ)) (r : Receipt) → Grown list longer → IsOfStored terms list r → IsOfStored terms longer r
 of_longer terms list longer r g is = subst (λ l. IsOfStored terms l r) (sym g.1) (record { event = is.event; has = has_more list g.0 is.event is.has; is = is.is })
 
+-- a front of a lawful list is lawful
+lawful_front : (xs ys all : List (List ℕ)) → all ≡ xs ++ ys → IsLawfulList all → IsLawfulList xs
+lawful_front xs ys all is lawful b c has has' level = let whole = subst IsLawfulList is lawful in whole b c (has_more xs ys b has) (has_more xs ys c has') level
+
 -- HELD: each image has the event of each receipt
 pub held_each : (terms : Terms) (first : List (List ℕ)) (disk_first : DiskTold) (core : CoreView) (list : List (List ℕ)) (disk : DiskTold) (receipts : List Receipt)
-    → StoresOn first disk_first core list disk → All (IsOfStored terms list) receipts → (c : List ℕ) → disk.images c → HoldsEach terms receipts c
-held_each terms first disk_first core list disk receipts s of c now =
+    → (s : StoresOn first disk_first core list disk) → IsLawfulList s.accepted → All (IsOfStored terms list) receipts → (c : List ℕ) → disk.images c → HoldsEach terms receipts c
+held_each terms first disk_first core list disk receipts s lawful of c now =
     let f = s.images c now in
     let stored = take f.count s.accepted in
     let long : length stored ≡ f.count = length-take-le f.count s.accepted f.no_more in
@@ -103,4 +107,5 @@ held_each terms first disk_first core list disk receipts s of c now =
       stored = stored;
       holds = f.holds;
       each = All-weaker (IsOfStored terms list) (IsOfStored terms stored) (λ r is. of_longer terms list stored r g is) receipts of;
+      lawful = lawful_front stored (drop f.count s.accepted) s.accepted (sym (take-append-drop f.count s.accepted)) lawful;
     }

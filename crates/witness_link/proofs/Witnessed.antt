@@ -11,7 +11,6 @@ use Rattle.validator_core.specs.View.{CoreView}
 use Rattle.witness_core.specs.Fates.{IsFate}
 use Rattle.witness_core.specs.Faults.{CausedBy, FullBy, Goes}
 use Rattle.witness_core.specs.Histories.{history_of}
-use Rattle.witness_core.specs.Payloads.{AreListed}
 use Rattle.witness_core.specs.Outcomes.{AreReceipts, KeepsList, TellsFate}
 use Rattle.witness_core.specs.Room.{IsTurnedAway, has_no_room, lacks_room}
 use Rattle.witness_core.specs.Telling.{IsUntold, TellsFault}
@@ -20,7 +19,7 @@ use Rattle.witness_core.specs.declared.witness_fault.WitnessFault.{WitnessFault}
 use Rattle.witness_core.specs.declared.witness_fault.WitnessFault.TheVariants.{DiskFault, SignerFault, VerifierFault, Full, Broken, OutOfMemory}
 use Rattle.witness_core.proofs.Entries.{history_same}
 use Rattle.witness_link.specs.Links.{WitnessTold, counts, terms_with}
-use Rattle.witness_link.specs.Taking.{TakesMessage}
+use Rattle.witness_link.specs.Taking.{IsWhole, TakesMessage}
 
 -- a message that is turned away still is where nothing more was told and stored
 turned_then : (limits : Limits) (old new : CoreView) (list list_then : List (List ℕ)) (m : Message) → IsTurnedAway limits old list m → IsUntold old new → list_then ≡ list → IsTurnedAway limits new list_then m
@@ -41,32 +40,32 @@ module _ (old new : WitnessTold) (says : Key → List ℕ → Sig → Option Boo
       → (result ≡ Err Full → (new.list ≡ old.list) × IsUntold old.core new.core)
       → MatchResult result (λ outcome. TellsFate says old.core m outcome.fate new.core) (λ why. TellsFault says old.core m why new.core)
       → IfOk result (λ outcome. IsFate old.key new.core m outcome.fate) → IfOk result (AreReceipts old.key gives old.core new.core m)
-      → IfOk result (λ outcome. KeepsList outcome.fate old.list new.list) → (new.broken ≡ false → AreListed new.core new.list)
+      → IfOk result (λ outcome. KeepsList outcome.fate old.list new.list) → (new.broken ≡ false → IsWhole new)
       → OnOk result (new.disk.faults ≡ old.disk.faults) → OnOk result (verifier_then ≡ verifier) → OnOk result (signer_then ≡ signer)
       → IfErr result (CausedBy old.disk.faults new.disk.faults verifier verifier_then signer signer_then)
       → TakesMessage (terms_with says gives old) (counts old.disk.faults verifier signer) (counts new.disk.faults verifier_then signer_then) m old new result
-  taken_so (Ok outcome) goes full at_full told fate receipts keeps listed d v s caused = (
+  taken_so (Ok outcome) goes full at_full told fate receipts keeps whole d v s caused = (
     record {
       room = full;
       tells = told;
       fate_is = fate;
       receipts_are = receipts;
       keeps = keeps;
-      listed = listed goes;
+      listed = (whole goes).listed;
     },
-    record { whole = goes; listed = listed goes },
+    whole goes,
     λ i. record { disk = d i; verifier = v i; signer = s i },
   )
-  taken_so (Err DiskFault) goes full at_full told fate receipts keeps listed d v s caused = ((full, told), caused)
-  taken_so (Err VerifierFault) goes full at_full told fate receipts keeps listed d v s caused =
-      ((full, told, record { whole = goes; listed = listed goes }), caused)
-  taken_so (Err SignerFault) goes full at_full told fate receipts keeps listed d v s caused =
-      ((full, told.0, told.1, record { whole = goes; listed = listed goes }), caused)
-  taken_so (Err Full) goes full at_full told fate receipts keeps listed d v s caused =
+  taken_so (Err DiskFault) goes full at_full told fate receipts keeps whole d v s caused = ((full, told), caused)
+  taken_so (Err VerifierFault) goes full at_full told fate receipts keeps whole d v s caused =
+      ((full, told, whole goes), caused)
+  taken_so (Err SignerFault) goes full at_full told fate receipts keeps whole d v s caused =
+      ((full, told.0, told.1, whole goes), caused)
+  taken_so (Err Full) goes full at_full told fate receipts keeps whole d v s caused =
       let same = at_full refl in (
-        (turned_then old.limits old.core new.core old.list new.list m full same.1 same.0, same.1, same.0, record { whole = goes; listed = listed goes }),
+        (turned_then old.limits old.core new.core old.list new.list m full same.1 same.0, same.1, same.0, whole goes),
         λ i. record { disk = caused.0 i; verifier = caused.1 i; signer = caused.2 i },
       )
-  taken_so (Err OutOfMemory) goes full at_full told fate receipts keeps listed d v s caused =
+  taken_so (Err OutOfMemory) goes full at_full told fate receipts keeps whole d v s caused =
       (told, λ i. record { disk = caused.0 i; verifier = caused.1 i; signer = caused.2 i })
-  taken_so (Err Broken) goes full at_full told fate receipts keeps listed d v s caused = absurd goes
+  taken_so (Err Broken) goes full at_full told fate receipts keeps whole d v s caused = absurd goes

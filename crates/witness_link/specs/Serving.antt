@@ -12,11 +12,11 @@ use Rattle.witness_core.specs.declared.witness_fault.WitnessFault.{WitnessFault}
 use Rattle.witness_core.specs.declared.witness_fault.WitnessFault.TheVariants as fault
 use Rattle.witness_link.specs.Calls.{AreCalls, Call, digests_in, messages_in, receipts_in, refusals_in, text_of}
 use Rattle.witness_link.specs.Links.{LinkTold, Standing, counts_of, standing_of, terms_of}
-use Rattle.witness_link.specs.Stored.{IsOfStored}
+use Rattle.witness_link.specs.Stored.{IsLawfulList, IsOfStored}
 use Rattle.witness_link.specs.Taking.{Counted, FailsAt, IsWhole}
 
 -- SERVES: Messages were taken, one behind the other, and what became of them is noted. At each moment a stop leaves what was stored
--- before, and the first few of what was accepted since. Each receipt is of a stored event.
+-- before, and the first few of what was accepted since, which is lawful. Each receipt is of a stored event.
 pub record Serves (old new : LinkTold) : Type 0 where
   pub calls : List Call
   pub behind : Standing
@@ -24,6 +24,7 @@ pub record Serves (old new : LinkTold) : Type 0 where
   pub refused_are : new.refused ≡ old.refused ++ refusals_in calls
   pub seen_are : new.seen ≡ old.seen ++ digests_in calls
   pub stores : StoresOn old.witness.list old.witness.disk new.witness.core new.witness.list new.witness.disk
+  pub lawful : IsLawfulList stores.accepted
   pub of_stored : All (IsOfStored (terms_of old) new.witness.list) (receipts_in calls)
   pub same_terms : terms_of new ≡ terms_of old
 

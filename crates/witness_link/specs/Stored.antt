@@ -3,6 +3,7 @@ use Rattle.std.specs.Prelude.{◌≡◌, ℕ, List, ◌++◌, All}
 use Rattle.std.specs.List.{Contains}
 use Rattle.event_body.specs.Judging.{SpellsEvent}
 use Rattle.journal.specs.declared.body.Body.{Body}
+use Rattle.quorum_laws.specs.Histories.{AreLevel}
 use Rattle.shelf_log.specs.Format.{Holds}
 use Rattle.shelf_log.specs.declared.version.Version.TheVariants.{Two}
 use Rattle.validator_core.specs.View.{CoreView, accepted_by}
@@ -22,14 +23,20 @@ pub record HasEvent (list : List (List ℕ)) (b : Body) : Type 0 where
 abbrev pub HoldsAccepted : CoreView → List (List ℕ) → Type 0
 HoldsAccepted core list = All (HasEvent list) (accepted_by core)
 
+-- LAWFUL: No two different establishment events of one identifier and number have payloads in the list. So a key that signs events
+-- of the list alone signs no two of them (KERI paper: first seen, always seen, never unseen).
+abbrev pub IsLawfulList : List (List ℕ) → Type 0
+IsLawfulList list = (b c : Body) → HasEvent list b → HasEvent list c → AreLevel b.event c.event → b.bytes ≡ c.bytes
+
 -- the receipt is of an event of which the list has the payload
 pub record IsOfStored (terms : Terms) (list : List (List ℕ)) (r : Receipt) : Type 0 where
   pub event : Body
   pub has : HasEvent list event
   pub is : IsReceiptOf terms.gives terms.key event r
 
--- the file stands for a list that has the event of each receipt
+-- the file stands for a list that has the event of each receipt, and is lawful
 pub record HoldsEach (terms : Terms) (receipts : List Receipt) (file : List ℕ) : Type 0 where
   pub stored : List (List ℕ)
   pub holds : Holds Two file stored
   pub each : All (IsOfStored terms stored) receipts
+  pub lawful : IsLawfulList stored

@@ -7,13 +7,14 @@ use Rattle.keri_specs.specs.Causes.{Rose}
 use Rattle.validator_core.specs.View.{open_of}
 use Rattle.witness_core.specs.Payloads.{AreListed}
 use Rattle.witness_core.specs.Room.{IsTurnedAway}
+use Rattle.witness_core.specs.Starts.{ReadsAgain, StartsAgain}
 use Rattle.witness_core.specs.Storing.{AllStand, StoresOn}
 use Rattle.witness_core.specs.Telling.{IsUntold, TellsEvent}
 use Rattle.witness_core.specs.declared.outcome.Outcome.{Outcome}
 use Rattle.witness_core.specs.declared.witness_fault.WitnessFault.{WitnessFault}
 use Rattle.witness_core.specs.declared.witness_fault.WitnessFault.TheVariants.{DiskFault, SignerFault, VerifierFault, Full, Broken, OutOfMemory}
 use Rattle.witness_link.specs.Calls.{HasRoom, IsCall}
-use Rattle.witness_link.specs.Stored.{HoldsAccepted}
+use Rattle.witness_link.specs.Stored.{HoldsAccepted, IsLawfulList}
 use Rattle.witness_link.specs.Links.{Counts, Standing, Terms, WitnessTold, standing_of}
 
 -- none of them failed but the one whose fault it is
@@ -25,17 +26,23 @@ Counted old new Full = new ≡ old
 Counted old new OutOfMemory = new ≡ old
 Counted old new Broken = ⊥
 
--- the witness is whole, and has stored all that is accepted
+-- The witness is whole, and has stored all that is accepted: its list reads as that, and a start from it fails for want of memory
+-- alone.
 pub record IsWhole (witness : WitnessTold) : Type 0 where
   pub whole : witness.broken ≡ false
   pub listed : AreListed witness.core witness.list
+  pub read : ReadsAgain witness.core witness.list
+  pub starts : StartsAgain witness.list
 
--- Each image of its disk stands for the list, which has the payloads of the accepted events, each with its event's bytes at the
--- front.
+-- Each image of its disk stands for the list, which has the payloads of the accepted events, each with its event's bytes at its
+-- front. The list is lawful, it reads as these events, and a start from it fails for want of memory alone.
 pub record IsSound (witness : WitnessTold) : Type 0 where
   pub stand : AllStand witness.disk witness.list witness.list
   pub listed : AreListed witness.core witness.list
   pub holds : HoldsAccepted witness.core witness.list
+  pub lawful : IsLawfulList witness.list
+  pub read : ReadsAgain witness.core witness.list
+  pub starts : StartsAgain witness.list
 
 -- What became of the witness at a message that it failed to take to its end. Where there is no room, nothing more was told, and
 -- there still is none for it. Without memory its event may have come, or not. Else it came, and there was room for it; and but for a
@@ -48,11 +55,12 @@ FailsAt terms old m new Full = IsTurnedAway terms.limits new.core new.list m × 
 FailsAt terms old m new OutOfMemory = IsUntold old.core new.core ⊎ TellsEvent terms.says old.core m new.core
 FailsAt terms old m new Broken = ⊥
 
--- its key and its limits are the same, and what was stored before and since
+-- its key and its limits are the same, and what was stored before and since, which is lawful
 pub record KeepsSame (old new : WitnessTold) : Type 0 where
   pub key : new.key ≡ old.key
   pub limits : new.limits ≡ old.limits
   pub stores : StoresOn old.list old.disk new.core new.list new.disk
+  pub lawful : IsLawfulList stores.accepted
 
 -- TAKES: a message was taken, or the witness failed at it
 abbrev pub TakesMessage : Terms → Counts → Counts → Message → WitnessTold → WitnessTold → Result Outcome WitnessFault → Type 0

@@ -53,7 +53,10 @@ impl<D: Disk + Drop> Witnessing for Witness<D> {
         verifier: &mut V,
         signer: &mut G,
     ) -> Result<Outcome, WitnessFault> {
-        Witness::take(self, message, verifier, signer)
+        let taken = Witness::take(self, message, verifier, signer);
+        // What is true of its core, a proof learns here.
+        let _journal = self.journal();
+        taken
     }
 
     fn stands(&self) {

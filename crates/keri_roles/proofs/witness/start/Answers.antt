@@ -8,6 +8,7 @@ returns-in-Ok-clause-starts g c =
       core = c.in-Ok.witness.core;
       started = began.resumed.0;
       listed = rw began.same_shelf at began.resumed.1;
+      lawful = rw began.same_shelf at (c.stands.ensures began.fresh.0).lawful;
       serves = rw (began.fresh.0, began.fresh.1, began.fresh.2, began.same_shelf) at c.serve_file.ensures.serves;
     })
 

@@ -24,6 +24,8 @@ returns-in_default-clause-serves g c =
         bodies = c.end.ensures.bodies;
         entries = c.end.ensures.entries;
         status = rw seen.close at c.end.ensures.status;
+        stand = c.end.ensures.stand;
+        reads = c.end.ensures.reads;
       };
     }
 
@@ -49,6 +51,8 @@ returns-in_default-verifier-clause-serves g c =
         bodies = end.bodies;
         entries = end.entries;
         status = rw seen.close at end.status;
+        stand = end.stand;
+        reads = end.reads;
       };
     }
 
@@ -75,6 +79,8 @@ returns-in_default-signer-clause-serves g c =
         bodies = end.bodies;
         entries = end.entries;
         status = rw seen.close at end.status;
+        stand = end.stand;
+        reads = end.reads;
       };
     }
 

@@ -22,5 +22,5 @@ returns-clause-serves g c =
       verifier_is = refl;
       signer_is = rw c.end.ensures.signer refl;
       serves = rw (key, limits) at it;
-      ends = record { one = rw (c.end.ensures.one, c.from_vec.ensures) refl; back = c.end.ensures.disk; bodies = c.end.ensures.bodies; entries = c.end.ensures.entries; status = c.end.ensures.status };
+      ends = record { one = rw (c.end.ensures.one, c.from_vec.ensures) refl; back = c.end.ensures.disk; bodies = c.end.ensures.bodies; entries = c.end.ensures.entries; status = c.end.ensures.status; stand = c.end.ensures.stand; reads = c.end.ensures.reads };
     }

@@ -19,7 +19,7 @@ pub returns-in-Ok-clause-appends : goal.returns-in-Ok-clause-appends
 returns-in-Ok-clause-appends g c =
     let place_is = ap length c.list-place.ensures in
     appended c.args.core.now c.args.shelf.now.list (length c.list-place.result.now) place_is c.requires.lacking c.in_ok-payload.payload.items c.as_slice.result.now c.as_slice.ensures.value c.in_ok-payload.ensures.payload
-    c.append.new.self.list c.in-Ok.ensures.added.0 c.requires.on_way (g.D.Disk.told c.args.shelf.now.disk) (g.D.Disk.told c.append.new.self.disk) c.in-Ok.ensures.durable (c.append.ensures.moments c.requires.whole)
+    c.in_ok-payload.ensures.read c.append.new.self.list c.in-Ok.ensures.added.0 c.requires.on_way (g.D.Disk.told c.args.shelf.now.disk) (g.D.Disk.told c.append.new.self.disk) c.in-Ok.ensures.durable (c.append.ensures.moments c.requires.whole)
 
 pub returns-in-Err-DiskFault-clause-appends : goal.returns-in-Err-DiskFault-clause-appends
 returns-in-Err-DiskFault-clause-appends g c =

@@ -8,10 +8,11 @@ use Rattle.witness_link.proofs.Storing.{stores_none}
 use Rattle.witness_link.proofs.link.serve.Goals as goal
 
 pub returns-in-Err : goal.returns-in-Err
+unfolding stores_none
 returns-in-Err g c = λ whole.
     let sound = c.stands.ensures whole in
     let w = g.W.Witnessing.seen c.args.witness.now in
-    one_failed _ _ c.args.message.now (stores_none w.list w.disk w.core (g.met.W.Witnessing.only_now c.args.witness.now) sound.stand sound.listed) refl
+    one_failed _ _ c.args.message.now (stores_none w.list w.disk w.core (g.met.W.Witnessing.only_now c.args.witness.now) sound.stand sound.listed) sound.lawful refl
     c.make_place.ensures.refused c.make_place.ensures.seen refl refl fault.OutOfMemory OutOfMemory refl (inl (untold_itself w.core)) refl
 
 pub returns-in-Ok-put_receipts : goal.returns-in-Ok-put_receipts
@@ -19,7 +20,7 @@ returns-in-Ok-put_receipts g c = λ whole.
     let took = c.in-Ok-take.ensures.takes whole in
     let keeps = c.in-Ok-take.ensures.same whole in
     let outcome = c.in-Ok-take.outcome in
-    one_put _ _ c.args.message.now keeps.stores (λ i. record { says = c.take.ensures.says i; gives = c.take.ensures.gives i; key = keeps.key i; limits = keeps.limits i })
+    one_put _ _ c.args.message.now keeps.stores keeps.lawful (λ i. record { says = c.take.ensures.says i; gives = c.take.ensures.gives i; key = keeps.key i; limits = keeps.limits i })
     outcome.fate outcome.receipts.items (c.stands-in-Ok-take.ensures took.1.whole).holds
     (c.note.ensures.refused ∙ ap (λ l. l ++ refused_as c.args.message.now.place outcome.fate) c.make_place.ensures.refused)
     (c.note.ensures.seen ∙ ap (λ l. l ++ seen_in outcome.fate) c.make_place.ensures.seen) took.1 took.2 took.0
@@ -31,7 +32,7 @@ returns-in-Ok-take g c = λ whole.
     let keeps = c.in-Ok-take.ensures.same whole in
     let outcome = c.in-Ok-take.outcome in
     let put = c.in-Err-put_receipts.ensures.puts in
-    one_unput _ _ c.args.message.now keeps.stores (λ i. record { says = c.take.ensures.says i; gives = c.take.ensures.gives i; key = keeps.key i; limits = keeps.limits i })
+    one_unput _ _ c.args.message.now keeps.stores keeps.lawful (λ i. record { says = c.take.ensures.says i; gives = c.take.ensures.gives i; key = keeps.key i; limits = keeps.limits i })
     outcome.fate outcome.receipts.items (c.stands-in-Ok-take.ensures took.1.whole).holds
     (c.note.ensures.refused ∙ ap (λ l. l ++ refused_as c.args.message.now.place outcome.fate) c.make_place.ensures.refused)
     (c.note.ensures.seen ∙ ap (λ l. l ++ seen_in outcome.fate) c.make_place.ensures.seen) took.1 took.2 took.0
@@ -41,5 +42,5 @@ pub returns : goal.returns
 returns g c = λ whole.
     let took = c.in-Err-take.ensures.takes whole in
     let keeps = c.in-Err-take.ensures.same whole in
-    one_failed _ _ c.args.message.now keeps.stores (λ i. record { says = c.take.ensures.says i; gives = c.take.ensures.gives i; key = keeps.key i; limits = keeps.limits i })
+    one_failed _ _ c.args.message.now keeps.stores keeps.lawful (λ i. record { says = c.take.ensures.says i; gives = c.take.ensures.gives i; key = keeps.key i; limits = keeps.limits i })
     c.make_place.ensures.refused c.make_place.ensures.seen refl refl c.in-Err-take.fault c.close_of.result c.close_of.ensures took.0 took.1

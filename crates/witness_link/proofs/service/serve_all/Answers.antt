@@ -4,10 +4,12 @@ use Rattle.witness_link.proofs.Handing.{taken_none}
 use Rattle.witness_link.proofs.service.serve_all.Goals as goal
 
 pub feed_messages-close-requires : goal.feed_messages-close-requires
-feed_messages-close-requires g c = record {
-  none_taken = taken_none g.W.Witnessing.seen g.K.Sink.written g.K.Sink.faults g.V.Verifier.says g.V.Verifier.faults g.G.Signer.gives g.G.Signer.faults c.args.link.now c.requires
-      (c.stands.ensures c.requires).stand (c.stands.ensures c.requires).listed (g.met.W.Witnessing.only_now c.args.link.now.witness.now);
-}
+feed_messages-close-requires g c =
+    let sound = c.stands.ensures c.requires in
+    record {
+      none_taken = taken_none g.W.Witnessing.seen g.K.Sink.written g.K.Sink.faults g.V.Verifier.says g.V.Verifier.faults g.G.Signer.gives g.G.Signer.faults c.args.link.now
+          (record { whole = c.requires; listed = sound.listed; read = sound.read; starts = sound.starts }) sound.stand sound.lawful (g.met.W.Witnessing.only_now c.args.link.now.witness.now);
+    }
 
 pub returns-clause-serves : goal.returns-clause-serves
 returns-clause-serves g c =

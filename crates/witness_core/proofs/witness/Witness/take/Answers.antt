@@ -1,7 +1,7 @@
 use Rattle.std.proofs.Common.{◌≡◌, ◌∙◌, ap, sym}
 use Rattle.witness_core.specs.Faults.{breaks}
 use Rattle.witness_core.specs.declared.witness_fault.WitnessFault.TheVariants.{Full as NoRoom}
-use Rattle.witness_core.proofs.Witnessed.{are_listed, full_untold, goes_by, still_stored, stores_on}
+use Rattle.witness_core.proofs.Witnessed.{are_listed, full_untold, goes_by, reads_again, still_stored, stores_on}
 use Rattle.witness_core.proofs.witness.Witness.take.Goals as goal
 
 pub returns-in-Ok-clause-stored : goal.returns-in-Ok-clause-stored
@@ -9,6 +9,12 @@ returns-in-Ok-clause-stored g c =
     let core = c.take_message.new.core in
     let s = c.take_message.new.shelf in
     λ _. are_listed core s.list s.limits s.broken (g.D.Disk.told s.disk) c.take_message.new.room c.in-Ok.ensures.stored
+
+pub returns-in-Ok-clause-read : goal.returns-in-Ok-clause-read
+returns-in-Ok-clause-read g c =
+    let core = c.take_message.new.core in
+    let s = c.take_message.new.shelf in
+    λ _. reads_again core s.list s.limits s.broken (g.D.Disk.told s.disk) c.take_message.new.room c.in-Ok.ensures.stored
 
 pub returns-in-Ok-clause-stores : goal.returns-in-Ok-clause-stores
 returns-in-Ok-clause-stores g c =
@@ -31,6 +37,12 @@ returns-in-Err-clause-stored g c =
     let core = c.take_message.new.core in
     let s = c.take_message.new.shelf in
     λ whole. are_listed core s.list s.limits s.broken (g.D.Disk.told s.disk) c.take_message.new.room (still_stored _ c.in-Err.fault c.in-Err.ensures.kept c.breaks-self.result c.breaks-self.ensures whole)
+
+pub returns-in-Err-clause-read : goal.returns-in-Err-clause-read
+returns-in-Err-clause-read g c =
+    let core = c.take_message.new.core in
+    let s = c.take_message.new.shelf in
+    λ whole. reads_again core s.list s.limits s.broken (g.D.Disk.told s.disk) c.take_message.new.room (still_stored _ c.in-Err.fault c.in-Err.ensures.kept c.breaks-self.result c.breaks-self.ensures whole)
 
 pub returns-in-Err-clause-stores : goal.returns-in-Err-clause-stores
 returns-in-Err-clause-stores g c =

@@ -1,4 +1,4 @@
-use Rattle.witness_link.proofs.Holding.{sound}
+use Rattle.witness_link.proofs.Lawful.{sound}
 use Rattle.witness_link.proofs.witnessing.WitnessWitnessing.stands.Goals as goal
 
 pub returns : goal.returns

@@ -1,19 +1,36 @@
 use Rattle.std.proofs.Common.{ap, subst}
 use Rattle.witness_core.specs.Faults.{Goes}
+use Rattle.witness_link.proofs.Lawful.{lawful_list, still_grown}
+use Rattle.witness_link.proofs.Restart.{starts_again}
 use Rattle.witness_link.proofs.Witnessed.{taken_so}
 use Rattle.witness_link.proofs.witnessing.WitnessWitnessing.take.Goals as goal
 
 pub returns-clause-takes : goal.returns-clause-takes
 returns-clause-takes g c = λ whole.
-    let e = c.take.ensures in
+    let e = c.take-taken.ensures in
     let old = c.args.self.now in
-    let new = c.take.new.self in
+    let new = c.take-taken.new.self in
     taken_so (record { key = old.key; limits = old.limits; core = old.core; list = old.shelf.list; disk = g.D.Disk.told old.shelf.disk; broken = old.broken })
-    (record { key = new.key; limits = new.limits; core = new.core; list = new.shelf.list; disk = g.D.Disk.told new.shelf.disk; broken = new.broken }) (g.V.Verifier.says c.args.verifier.now) (g.G.Signer.gives c.args.signer.now) c.args.message.now _ _ _ _ c.take.result
-    (subst (λ b. Goes b c.take.new.self.broken c.take.result) whole e.goes) (e.full whole) (λ is. (ap (λ s. s.list) (e.same_at_full is).0, (e.same_at_full is).2)) (e.told whole)
-    e.fate e.receipts e.same_list e.stored e.disk_same e.verifier_same e.signer_same e.causes
+    (record { key = new.key; limits = new.limits; core = new.core; list = new.shelf.list; disk = g.D.Disk.told new.shelf.disk; broken = new.broken }) (g.V.Verifier.says c.args.verifier.now) (g.G.Signer.gives c.args.signer.now) c.args.message.now _ _ _ _ c.take-taken.result
+    (subst (λ b. Goes b c.take-taken.new.self.broken c.take-taken.result) whole e.goes) (e.full whole) (λ is. (ap (λ s. s.list) (e.same_at_full is).0, (e.same_at_full is).2)) (e.told whole)
+    e.fate e.receipts e.same_list
+    (λ is. record {
+      whole = is;
+      listed = e.stored is;
+      read = e.read is;
+      starts = starts_again new.core new.shelf.list c.journal-journal.ensures.stands
+          (still_grown (g.V.Verifier.says c.args.verifier.now) old.core new.core c.args.message.now c.take-taken.result (e.told whole) (old.stored whole).grown) (e.read is);
+    })
+    e.disk_same e.verifier_same e.signer_same e.causes
 
 pub returns-clause-same : goal.returns-clause-same
 returns-clause-same g c = λ whole.
-    let e = c.take.ensures in
-    record { key = e.same.0; limits = e.same.1; stores = e.stores whole }
+    let e = c.take-taken.ensures in
+    let stores = e.stores whole in
+    record {
+      key = e.same.0;
+      limits = e.same.1;
+      stores = stores;
+      lawful = lawful_list c.take-taken.new.self.core stores.accepted c.journal-journal.ensures.stands
+          (still_grown (g.V.Verifier.says c.args.verifier.now) c.args.self.now.core c.take-taken.new.self.core c.args.message.now c.take-taken.result (e.told whole) (c.args.self.now.stored whole).grown) stores.listed;
+    }
