@@ -73,14 +73,18 @@ def first_other(found, folder, is_wanted=str.__eq__):
     script = "".join(command.text + "\n" + END for command in found)
     child = subprocess.Popen(["sh", "-c", script], cwd=folder, stdin=subprocess.DEVNULL, stdout=subprocess.PIPE, stderr=subprocess.STDOUT,
                              start_new_session=True)
+    lacking = "nothing, since the shell has ended"
     try:
         written, _ = child.communicate(timeout=SECONDS)
-    except subprocess.TimeoutExpired:
+    except BaseException as fault:
         os.killpg(child.pid, signal.SIGKILL)  # with what the shell has started
+        if not isinstance(fault, subprocess.TimeoutExpired):
+            raise
         written, _ = child.communicate()
+        lacking = "no end within %d seconds" % SECONDS
     texts = written.decode(errors="replace").split("\0")
     for number, command in enumerate(found):
-        text = texts[number] if number < len(texts) - 1 else "nothing, since the shell has ended"
+        text = texts[number] if number < len(texts) - 1 else lacking
         if not is_wanted(command.wanted, text):
             return "the guide: in the block at line %d, `%s` writes\n%s" % (command.block, command.text, text)
     return None

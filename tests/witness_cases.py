@@ -9,7 +9,7 @@ import shutil
 from kit import PLAIN_ICP as ICP
 from kit import body, receipts, said, signed
 from log_cases import REALISTIC
-from row_tables.shelf import NEW, OLD, file_of
+from row_tables.shelf import NEW, OLD, file_of, parsed
 from row_tables.witness import JOINING, LEAVING, OTHERS, OTHER_OWN_ROT, OWN, OWN_IXN, OWN_IXN_2, OWN_ROT, OWN_ROT_IXN, payload
 from row_tables.witness_calls import WITNESS, Session
 from validate_cases import CASES, SAMPLES
@@ -73,6 +73,8 @@ UNOPENED = {
 FILLED = {
     "old_shelf": ([signed(OWN, 1)], b"", file_of(OLD, OWN.encode())),
     "old_shelf_and_a_foreign_file": ([signed(OWN_IXN, 1)], b"hello", file_of(OLD, OWN.encode())),
+    "old_shelf_and_a_second_rotation": ([signed(OTHER_OWN_ROT, 2)], b"", file_of(OLD, OWN.encode(), OWN_ROT.encode())),
+    "old_shelf_of_313_bytes": ([], b"", file_of(OLD, ICP.encode())),
 }
 
 # What the samples of `witness` serve.
@@ -135,7 +137,7 @@ def main():
         files = {"a": NEVER_READ.encode(), **({"shelf": shelf} if shelf else {}), **({"old": old} if old is not None else {})}
         write(name, [*WORDS, *(["--from", "old"] if old is not None else []), "a"], files, line, REFUSED, files)
     for name, (messages, shelf, old) in FILLED.items():
-        bodies = file_of(NEW, OWN.encode())
+        bodies = file_of(NEW, *parsed(OLD, old)[0])
         text, status, after = served(messages, bodies)
         files = {"a": "".join(messages).encode(), "old": old, **({"shelf": shelf} if shelf else {})}
         write(name, [*WORDS, "--from", "old", "a"], files, text, status, {"shelf": after, "old": old})
