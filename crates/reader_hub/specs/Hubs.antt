@@ -1,0 +1,92 @@
+-- What the calls of a hub answer, and what they do to what a pass knows.
+use Rattle.std.specs.Prelude.{◌≡◌, ℕ, ◌<◌, ◌≤◌, ◌⊎◌, Bool, List, [], ◌++◌, length, slice_get, Option, Some, None, option_map, Result}
+use mathlib.Core.List.{IsPrefix}
+use Rattle.cesr_codes.specs.declared.prefix.Prefix.{Prefix}
+use Rattle.cesr_stream.specs.declared.message.Message.{Message}
+use Rattle.event_body.specs.declared.event.Event.{Event}
+use Rattle.event_body.specs.declared.body_fault.BodyFault.{BodyFault}
+use Rattle.keri_outside.specs.declared.limits.Limits.{Limits}
+use Rattle.key_state.specs.States.{State}
+use Rattle.journal.specs.declared.body.Body.{Body}
+use Rattle.journal.specs.declared.question.Noted.{Noted}
+use Rattle.journal.specs.declared.question.Question.{Question}
+use Rattle.journal.specs.declared.reply.Reply.{Reply}
+use Rattle.journal.specs.Accepted.{accepted}
+use Rattle.journal.specs.CoreCalls.{Takes}
+use Rattle.journal.specs.Feeds.{GivesBody}
+use Rattle.journal.specs.History.{Told, bodies}
+use Rattle.journal.specs.Journals.{AnswersOn, Names}
+use Rattle.journal.specs.Logs.{state}
+use Rattle.journal.specs.Questions.{next_question}
+use Rattle.validator_core.specs.View.{CoreView}
+use Rattle.turn_lock.specs.Known.{Known, after_spent, after_turn}
+use Rattle.reader_hub.specs.declared.asked.Asked.{Asked}
+use Rattle.reader_hub.specs.declared.core_head.CoreHead.{CoreHead}
+use Rattle.reader_hub.specs.declared.hub_fault.HubFault.{HubFault}
+use Rattle.reader_hub.specs.declared.hub_fault.HubFault.TheVariants.{Spent, OutOfMemory}
+
+-- what a pass of a hub knows
+abbrev pub HubPass : Type 0
+HubPass = Known Told CoreHead
+
+-- the mode and the limits of a core, which no call changes
+abbrev pub head_of : CoreView → CoreHead
+head_of core = record { mode = core.mode; limits = core.limits }
+
+-- a core of these limits that began with nothing, and had been told `old`, gave this reply to a message, and was told `new` then
+pub record TakesOver (limits : Limits) (old : List Told) (reader : ℕ) (m : Message) (reply : Reply) (new : List Told) : Type 0 where
+  pub gives : Result Event BodyFault
+  pub judged : GivesBody m.body gives
+  pub takes : Takes limits [] old reader m gives reply new
+
+-- The call met a core of this mode and these limits that had been told `met`, which begins with all that the pass had seen.
+pub record Meets (p : HubPass) : Type 0 where
+  pub head : CoreHead
+  pub met : List Told
+  pub head_is : p.head ≡ Some head
+  pub begins : IsPrefix p.seen met
+
+-- It took the next turn after n others, and told `more` behind that.
+pub record TookTurn (limit : ℕ) (p : HubPass) (met more : List Told) (q : HubPass) : Type 0 where
+  pub n : ℕ
+  pub later : p.past ≤ n
+  pub within : n < limit
+  pub now : q ≡ after_turn p n (met ++ more) more
+
+-- a message got this reply
+pub record TakesAt (limit : ℕ) (p : HubPass) (m : Message) (reply : Reply) (q : HubPass) : Type 0 where
+  pub meets : Meets p
+  pub more : List Told
+  pub takes : TakesOver meets.head.limits meets.met p.number m reply (meets.met ++ more)
+  pub turn : TookTurn limit p meets.met more q
+
+-- the bytes are those of the body that the question names, which is held
+abbrev pub HasBytes : List Body → Option Asked → Type 0
+HasBytes held None = Unit {0}
+HasBytes held (Some a) = (b : Body) × (slice_get held a.question.body ≡ Some b) × (a.bytes.items ≡ b.bytes) × (length a.bytes.items ≤ 65535)
+
+-- the open question of a number modulo their count, with the body that it names, or none where none is open
+pub record AsksAt (limit : ℕ) (p : HubPass) (skip : ℕ) (answer : Option Asked) (q : HubPass) : Type 0 where
+  pub meets : Meets p
+  pub names : Names (bodies [] meets.met) (option_map (λ a. a.question) answer) (next_question meets.head.mode [] meets.met skip)
+  pub bytes : HasBytes (bodies [] meets.met) answer
+  pub turn : TookTurn limit p meets.met [] q
+
+-- a verdict was noted so
+pub record AnswersAt (limit : ℕ) (p : HubPass) (question : Question) (verdict : Bool) (noted : Noted) (q : HubPass) : Type 0 where
+  pub meets : Meets p
+  pub more : List Told
+  pub answers : AnswersOn meets.head.mode [] meets.met p.number (slice_get (bodies [] meets.met) question.body) question verdict noted (meets.met ++ more)
+  pub turn : TookTurn limit p meets.met more q
+
+-- this was the state of an identifier, or none where it had no accepted event
+pub record StateAt (limit : ℕ) (p : HubPass) (prefix : Prefix) (found : Option State) (q : HubPass) : Type 0 where
+  pub meets : Meets p
+  pub found_is : found ≡ state (accepted meets.head.mode [] meets.met) prefix
+  pub turn : TookTurn limit p meets.met [] q
+
+-- All turns were taken, and the pass knows that so many are past; or there was no memory, and nothing was told: the pass is as
+-- before, or it took a turn.
+abbrev pub Stops : ℕ → HubPass → HubFault → HubPass → Type 0
+Stops limit p (Spent turns) q = (turns ≡ limit) × (p.past ≤ limit) × (q ≡ after_spent p limit)
+Stops limit p OutOfMemory q = (q ≡ p) ⊎ ((m : Meets p) × TookTurn limit p m.met [] q)

@@ -1,0 +1,133 @@
+//! The core under the lock: it stands for what it was told.
+ghost use Rattle.std.specs.Prelude.{◌≡◌, [], IfOk, OnErr, option_map, slice_get};
+ghost use Rattle.journal.specs.Accepted.{accepted};
+ghost use Rattle.journal.specs.History.{bodies};
+ghost use Rattle.journal.specs.Journals.{AnswersOn, Names};
+ghost use Rattle.journal.specs.Logs.{state};
+ghost use Rattle.journal.specs.Questions.{next_question};
+ghost use Rattle.validator_core.specs.Messages.{JudgesMessage};
+ghost use Rattle.validator_core.specs.View.{Stands, told_of};
+ghost use Rattle.reader_hub.specs.Hubs.{HasBytes, TakesOver};
+
+use crate::{Asked, CoreHead, Telling};
+use cesr_codes::Prefix;
+use cesr_stream::Message;
+use event_body::Event;
+use journal::{Noted, Question, Reason, Reply};
+use keri_outside::Steps;
+use key_state::KeyState;
+use lists::CopyValue;
+use std::alloc::{AllocError, Global};
+use turn_lock::Replayed;
+use validator_core::Core;
+
+/// A core that began with nothing.
+#[derive(Drop)]
+pub struct SharedCore {
+    pub(crate) core: Core,
+    ghost no_base: { core.base ≡ 0 },
+}
+
+impl Replayed for SharedCore {
+    ghost use Rattle.journal.specs.Feeds.{reader_of};
+    ghost use Rattle.validator_core.specs.View.{told_of};
+    ghost use Rattle.reader_hub.specs.Hubs.{head_of};
+
+    type Entry = Telling;
+
+    type Head = CoreHead;
+
+    ghost entries = { λ s. told_of s.core };
+
+    ghost head = { λ s. head_of s.core };
+
+    ghost names = { reader_of };
+
+    fn count(&self) -> u64 {
+        self.core.journal().entries.len() as u64
+    }
+}
+
+impl SharedCore {
+    ghost use Rattle.reader_hub.specs.Hubs.{head_of};
+
+    /// Takes a message that was judged so: where it is refused, nothing is told.
+    pub(crate) fn take(
+        &mut self,
+        reader: u16,
+        message: &Message,
+        judged: Result<Event, Reason>,
+    ) -> Result<Reply, AllocError>
+        requires judged { JudgesMessage message.now judged }
+        ensures head { head_of self.new.core ≡ head_of self.old.core }
+        ensures takes { IfOk result (λ reply. TakesOver self.old.core.limits (told_of self.old.core) reader message.now
+            reply (told_of self.new.core)) }
+        ensures err { OnErr result (told_of self.new.core ≡ told_of self.old.core) }
+    {
+        let event = match judged {
+            Ok(event) => event,
+            Err(reason) => return Ok(Reply::Refused(reason)),
+        };
+        let mut steps = Steps::new();
+        let reply = self.core.take_judged(reader, message, event, &mut steps)?;
+        Ok(reply)
+    }
+
+    /// The open question of a number modulo their count, with a copy of its body.
+    pub(crate) fn ask(&self, alloc: Global, skip: u32) -> Result<Option<Asked>, AllocError>
+        ensures names { IfOk result (λ answer. Names (bodies [] (told_of self.now.core))
+            (option_map (λ a. a.question) answer) (next_question self.now.core.mode [] (told_of self.now.core) skip)) }
+        ensures bytes { IfOk result (λ answer. HasBytes (bodies [] (told_of self.now.core)) answer) }
+    {
+        stands(&self.core);
+        let Some(question) = self.core.next_question(skip) else {
+            return Ok(None);
+        };
+        let Some(body) = self.core.body(question.body) else {
+            unreachable!()
+        };
+        let bytes = Vec::from_slice(alloc, body)?;
+        Ok(Some(Asked { question, bytes }))
+    }
+
+    /// Notes a verdict of a reader on a question.
+    pub(crate) fn answer(
+        &mut self,
+        reader: u16,
+        question: &Question,
+        yes: bool,
+    ) -> Result<Noted, AllocError>
+        ensures head { head_of self.new.core ≡ head_of self.old.core }
+        ensures answers { IfOk result (λ noted. AnswersOn self.old.core.mode [] (told_of self.old.core) reader
+            (slice_get (bodies [] (told_of self.old.core)) question.now.body) question.now yes noted
+            (told_of self.new.core)) }
+        ensures err { OnErr result (told_of self.new.core ≡ told_of self.old.core) }
+    {
+        stands(&self.core);
+        let mut steps = Steps::new();
+        let noted = self.core.answer(reader, question, yes, &mut steps)?;
+        Ok(noted)
+    }
+
+    /// A copy of the state of an identifier, where it has an accepted event.
+    pub(crate) fn state_of(
+        &self,
+        alloc: Global,
+        prefix: &Prefix,
+    ) -> Result<Option<KeyState>, AllocError>
+        ensures { IfOk result (λ found. found
+            ≡ state (accepted self.now.core.mode [] (told_of self.now.core)) prefix.now) }
+    {
+        match self.core.state(prefix) {
+            Some(state) => Ok(Some(state.copy(alloc)?)),
+            None => Ok(None),
+        }
+    }
+}
+
+// What is true of each core.
+fn stands(core: &Core)
+    ensures { Stands core.now }
+{
+    let _journal = core.journal();
+}
