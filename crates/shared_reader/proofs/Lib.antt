@@ -1,0 +1,7 @@
+pub mod Verdicts
+pub mod Turns
+pub mod Asked
+pub mod Offered
+pub mod Taken
+pub mod Streams
+pub mod Closed

@@ -1,0 +1,232 @@
+-- What offering a message does to what a pass knows.
+use Rattle.std.proofs.Common.{◌≡◌, ◌≢◌, ℕ, suc, ◌≤◌, ◌⊎◌, inl, inr, List, [], ◌∷◌, ◌++◌, Option, Some, None, Result, Ok, Err, length-append, refl, sym, ◌∙◌, ap, subst, arith, append-nil, eq-eqb}
+use Rattle.std.specs.Prelude.{All, filter, flat_map}
+use Rattle.std.proofs.lemmas.Bool.{cases_Bool}
+use Rattle.std.proofs.lemmas.Grind.{flat_map-append}
+use Rattle.std.proofs.lemmas.List.{append_cancel_left, map-append}
+use Rattle.std.proofs.lemmas.List.Elements.{All-append, All-cons, All-head, All-nil, All-push, All-tail, All-weaker, filter-append}
+use Rattle.cesr_stream.specs.declared.message.Message.{Message}
+use Rattle.event_body.specs.declared.event.Event.{Event}
+use Rattle.event_body.specs.declared.body_fault.BodyFault.{BodyFault}
+use Rattle.keri_outside.specs.declared.limits.Limits.{Limits}
+use Rattle.journal.specs.declared.body.Body.{Body}
+use Rattle.journal.specs.declared.claim.Claim.{Claim}
+use Rattle.journal.specs.declared.refusal.Refusal.{Refusal}
+use Rattle.journal.specs.declared.reply.Reason.{Reason}
+use Rattle.journal.specs.declared.reply.Reply.{Reply}
+use Rattle.journal.specs.declared.reply.Reply.TheVariants.{Taken, Again, Refused, Full}
+use Rattle.journal.specs.CoreCalls.{Takes}
+use Rattle.journal.specs.Feeds.{GivesBody, entry_of, entry_unless, is_taken_by, noted_at, refusal_of}
+use Rattle.journal.specs.History.{Told, took, heard}
+use Rattle.journal.specs.Replies.{claims_of, is_again, is_full, refusal, reply_to}
+use Rattle.turn_lock.specs.Histories.{longer_share}
+use Rattle.turn_lock.specs.Known.{OwnsAlone}
+use Rattle.turn_lock.proofs.Histories.{longer_share-alone}
+use Rattle.reader_hub.specs.Hubs.{HubPass, TakesAt, TakesOver, TookTurn}
+use Rattle.shared_reader.specs.Asks.{Asks, IsVerdict, Says, TellsNothing}
+use Rattle.shared_reader.specs.Offers.{IsEntryOf, IsTurnedAway, Offers, OffersOne}
+use Rattle.shared_reader.proofs.Turns.{idle_turn, seen_then, stays_on, turn_grows, turn_stays}
+
+-- what is noted of a message by the reply to it
+abbrev pub refused_as : ℕ → Reply → List Refusal
+refused_as place Taken = []
+refused_as place Again = []
+refused_as place (Refused reason) = record { place = place; reason = reason } ∷ []
+refused_as place Full = []
+
+-- what is told and noted after a message that was offered
+record IsOffered (n : ℕ) (old new : List Told) (m : Message) (gives : Result Event BodyFault) (reply : Reply) : Type 0 where
+  behind : new ≡ old ++ entry_unless (refusal m gives) n m gives
+  noted : refused_as m.place reply ≡ noted_at m.place (refusal m gives)
+
+module _ (limits : Limits) (n : ℕ) (old new : List Told) (m : Message) where
+  replies : (b : Body) (claims : List Claim) → (reply_to limits [] old b claims ≡ Full)
+      ⊎ ((reply_to limits [] old b claims ≡ Again) ⊎ (reply_to limits [] old b claims ≡ Taken))
+  unfolding reply_to
+  replies b claims = elim (cases_Bool (is_full limits [] old b claims)) [
+    | inl k ↦ inl (rw k refl)
+    | inr k ↦ elim (cases_Bool (is_again [] old b claims)) [ inl l ↦ inr (inl (rw (k, l) refl)) | inr l ↦ inr (inr (rw (k, l) refl)) ]
+  ]
+
+  -- a message for which there is room has its entry, or is noted as refused
+  offered : (gives : Result Event BodyFault) (reply : Reply) → Takes limits [] old n m gives reply new → reply ≢ Full → IsOffered n old new m gives reply
+  offered (Ok e) reply takes roomy = by_reason (refusal m (Ok e)) refl
+    where
+      by_reason : (r : Option Reason) → refusal m (Ok e) ≡ r → IsOffered n old new m (Ok e) reply
+      by_reason (Some reason) is =
+          let same : reply ≡ Refused reason = rw is at takes.0 in
+          record { behind = rw is (rw same at takes.1 ∙ sym (append-nil old)); noted = rw (same, is) refl }
+      by_reason None is =
+          let same : reply ≡ reply_to limits [] old (record { bytes = m.body; event = e }) (claims_of m) = rw is at takes.0 in
+          elim (replies (record { bytes = m.body; event = e }) (claims_of m)) [
+            | inl full ↦ absurd (roomy (same ∙ full))
+            | inr rest ↦ elim rest [
+              | inl again ↦ let now : reply ≡ Again = same ∙ again in record { behind = rw is (rw now at takes.1); noted = rw (now, is) refl }
+              | inr taken ↦ let now : reply ≡ Taken = same ∙ taken in record { behind = rw is (rw now at takes.1); noted = rw (now, is) refl }
+            ]
+          ]
+  offered (Err fault) reply takes roomy = by_reason (refusal m (Err fault)) refl
+    where
+      by_reason : (r : Option Reason) → refusal m (Err fault) ≡ r → IsOffered n old new m (Err fault) reply
+      by_reason None is = let none : Some reply ≡ None = rw is at takes.0 in cc
+      by_reason (Some reason) is =
+          let some : Some reply ≡ Some (Refused reason) = rw is at takes.0 in
+          let same : reply ≡ Refused reason = cc in
+          record { behind = rw is (takes.1 ∙ sym (append-nil old)); noted = rw (same, is) refl }
+
+  -- one that is refused or finds no room tells nothing
+  refused_same : (reason : Reason) (gives : Result Event BodyFault) → Takes limits [] old n m gives (Refused reason) new → new ≡ old
+  refused_same reason (Ok e) t = t.1
+  refused_same reason (Err fault) t = t.1
+
+  full_same : (gives : Result Event BodyFault) → Takes limits [] old n m gives Full new → (new ≡ old) × Takes limits [] old n m gives Full old
+  full_same (Ok e) t = (t.1, (t.0, refl))
+  full_same (Err fault) t = (t.1, (t.0, refl))
+
+module _ (limit : ℕ) (p : HubPass) (m : Message) (q : HubPass) where
+  pub offers_one : (reply : Reply) (old new : List Refusal) → reply ≢ Full → new ≡ old ++ refused_as m.place reply → TakesAt limit p m reply q → OffersOne p q old new m
+  offers_one reply old new roomy noted t =
+      let was = offered t.meets.head.limits p.number t.meets.met (t.meets.met ++ t.more) m t.takes.gives reply t.takes.takes roomy in
+      let entry = append_cancel_left t.meets.met t.more (entry_unless (refusal m t.takes.gives) p.number m t.takes.gives) was.behind in
+      record {
+        stays = turn_stays limit p t.meets.met t.more q t.turn;
+        offered = record { message = m; gives = t.takes.gives };
+        message_is = refl;
+        body_is = t.takes.judged;
+        own = ap (λ x. x.own) t.turn.now ∙ ap (λ es. longer_share p.number es p.own) entry;
+        noted = noted ∙ ap (λ l. old ++ l) was.noted;
+        seen = turn_grows limit p t.meets.met t.more q t.turn t.meets.begins;
+        turns = ap (λ x. x.turns) t.turn.now;
+      }
+
+  quiet : (reply : Reply) (t : TakesAt limit p m reply q) → t.meets.met ++ t.more ≡ t.meets.met → TellsNothing p q 1
+  quiet reply t same =
+      let none = append_cancel_left t.meets.met t.more [] (same ∙ sym (append-nil t.meets.met)) in
+      idle_turn limit p t.meets.met q t.meets.begins (subst (λ l. TookTurn limit p t.meets.met l q) none t.turn)
+
+  pub refused_tells : (reason : Reason) → TakesAt limit p m (Refused reason) q → TellsNothing p q 1
+  refused_tells reason t = quiet (Refused reason) t (refused_same t.meets.head.limits p.number t.meets.met (t.meets.met ++ t.more) m reason t.takes.gives t.takes.takes)
+
+  pub full_tells : TakesAt limit p m Full q → TellsNothing p q 1 × IsTurnedAway q m
+  full_tells t =
+      let (same, full) = full_same t.meets.head.limits p.number t.meets.met (t.meets.met ++ t.more) m t.takes.gives t.takes.takes in
+      let seen : q.seen ≡ t.meets.met = seen_then limit p t.meets.met t.more q t.turn ∙ same in
+      let number = ap (λ x. x.number) t.turn.now in (
+        quiet Full t same,
+        record {
+          head = t.meets.head;
+          head_is = ap (λ x. x.head) t.turn.now ∙ t.meets.head_is;
+          full = subst (λ l. TakesOver t.meets.head.limits l q.number m Full l) (sym seen)
+              (subst (λ k. TakesOver t.meets.head.limits t.meets.met k m Full t.meets.met) (sym number) (record { gives = t.takes.gives; judged = t.takes.judged; takes = full }));
+        },
+      )
+
+-- verdicts take no body, and are entries of the reader
+untaken : (n m : ℕ) (says : Says) (ts : List Told) → All (IsVerdict m says) ts → filter (is_taken_by n) ts ≡ []
+untaken n m says [] each = refl
+untaken n m says (took reader b claims ∷ ts) each = absurd (All-head (IsVerdict m says) (took reader b claims) ts each)
+untaken n m says (heard reader b key sig verdict ∷ ts) each = untaken n m says ts (All-tail (IsVerdict m says) (heard reader b key sig verdict) ts each)
+
+verdict_entry : (n : ℕ) (says : Says) (t : Told) → IsVerdict n says t → IsEntryOf n says t
+verdict_entry n says (took reader b claims) v = absurd v
+verdict_entry n says (heard reader b key sig verdict) v = v
+
+-- the entry of a message takes it, and is the reader's
+entry_taken : (n : ℕ) (r : Option Reason) (m : Message) (gives : Result Event BodyFault) → filter (is_taken_by n) (entry_unless r n m gives) ≡ entry_unless r n m gives
+entry_taken n None m (Ok e) = let same = eq-eqb n n refl in rw same refl
+entry_taken n None m (Err fault) = refl
+entry_taken n (Some reason) m gives = refl
+
+entry_own : (n : ℕ) (says : Says) (r : Option Reason) (m : Message) (gives : Result Event BodyFault) → All (IsEntryOf n says) (entry_unless r n m gives)
+entry_own n says None m (Ok e) = All-cons (IsEntryOf n says) _ [] refl (All-nil _)
+entry_own n says None m (Err fault) = All-nil _
+entry_own n says (Some reason) m gives = All-nil _
+
+pub offers_besides : (says : Says) (p q : HubPass) (refused : List Refusal) (ms : List Message) (k j : ℕ) → k ≤ j → Offers says p q refused ms k → Offers says p q refused ms j
+offers_besides says p q refused ms k j le o = record {
+  stays = o.stays;
+  share = o.share;
+  own = o.own;
+  offered = o.offered;
+  messages_are = o.messages_are;
+  bodies_are = o.bodies_are;
+  taken_are = o.taken_are;
+  refused_are = o.refused_are;
+  each = o.each;
+  turns = (let turns = o.turns in omega (arith, turns, le));
+}
+
+module _ (says : Says) (first p : HubPass) (refused : List Refusal) (before : List Message) (o : Offers says first p refused before 0) where
+  -- nothing more was offered
+  pub offers_still : (q : HubPass) → TellsNothing p q 1 → Offers says first q refused before 4
+  offers_still q t = record {
+    stays = stays_on first p q o.stays t.stays;
+    share = o.share;
+    own = t.own ∙ (o.own ∙ ap (λ k. (k, o.share) ∷ []) (sym t.stays.number));
+    offered = o.offered;
+    messages_are = o.messages_are;
+    bodies_are = o.bodies_are;
+    taken_are = o.taken_are;
+    refused_are = o.refused_are;
+    each = o.each;
+    turns = (let turns = o.turns in let more = t.turns in let seen = t.seen in omega (arith, turns, more, seen));
+  }
+
+  -- a message was offered, and then verdicts came
+  module _ (q r : HubPass) (later : List Refusal) (m : Message) (k j : ℕ) (le : k ≤ suc j) (w : OffersOne p q refused later m) (a : Asks says q r k) where
+    abbrev n : ℕ
+    n = first.number
+
+    abbrev entry : List Told
+    entry = entry_of p.number w.offered
+
+    abbrev share : List Told
+    share = (o.share ++ entry) ++ a.verdicts
+
+    own_then : q.own ≡ (p.number, o.share ++ entry) ∷ []
+    own_then = w.own ∙ (ap (longer_share p.number entry) o.own ∙ longer_share-alone p.number entry o.share)
+
+    own_now : OwnsAlone r share
+    own_now = a.own ∙ ((λ i. longer_share (w.stays.number i) a.verdicts (own_then i)) ∙ (longer_share-alone p.number a.verdicts (o.share ++ entry)
+        ∙ ap (λ k. (k, share) ∷ []) (sym (a.stays.number ∙ w.stays.number))))
+
+    each_verdict : All (IsVerdict n says) a.verdicts
+    each_verdict = subst (λ k. All (IsVerdict k says) a.verdicts) (w.stays.number ∙ o.stays.number) a.each
+
+    taken_now : filter (is_taken_by n) share ≡ flat_map (entry_of n) (o.offered ++ w.offered ∷ [])
+    taken_now =
+        let here : filter (is_taken_by n) entry ≡ entry_of n w.offered = ap (λ k. filter (is_taken_by n) (entry_of k w.offered)) o.stays.number ∙ entry_taken n (refusal w.offered.message w.offered.gives) w.offered.message w.offered.gives in
+        filter-append (is_taken_by n) (o.share ++ entry) a.verdicts
+        ∙ (ap (λ l. filter (is_taken_by n) (o.share ++ entry) ++ l) (untaken n n says a.verdicts each_verdict)
+        ∙ (append-nil _ ∙ (filter-append (is_taken_by n) o.share entry
+        ∙ ((λ i. o.taken_are i ++ (here ∙ sym (append-nil (entry_of n w.offered))) i) ∙ sym (flat_map-append (entry_of n) o.offered (w.offered ∷ []))))))
+
+    refused_now : later ≡ flat_map refusal_of (o.offered ++ w.offered ∷ [])
+    refused_now = w.noted ∙ ((λ i. o.refused_are i ++ sym (append-nil (refusal_of w.offered)) i) ∙ sym (flat_map-append refusal_of o.offered (w.offered ∷ [])))
+
+    each_now : All (IsEntryOf n says) share
+    each_now = All-append (IsEntryOf n says) (o.share ++ entry) a.verdicts
+        (All-append (IsEntryOf n says) o.share entry o.each (subst (λ k. All (IsEntryOf n says) (entry_of k w.offered)) (sym o.stays.number) (entry_own n says (refusal w.offered.message w.offered.gives) w.offered.message w.offered.gives)))
+        (All-weaker (IsVerdict n says) (IsEntryOf n says) (verdict_entry n says) a.verdicts each_verdict)
+
+    pub offers_more : Offers says first r later (before ++ m ∷ []) j
+    offers_more = record {
+      stays = stays_on first p r o.stays (stays_on p q r w.stays a.stays);
+      share = share;
+      own = own_now;
+      offered = o.offered ++ w.offered ∷ [];
+      messages_are = map-append (λ j. j.message) o.offered (w.offered ∷ []) ∙ (λ i. o.messages_are i ++ w.message_is i ∷ []);
+      bodies_are = All-push (λ j. GivesBody j.message.body j.gives) o.offered w.offered o.bodies_are w.body_is;
+      taken_are = taken_now;
+      refused_are = refused_now;
+      each = each_now;
+      turns = (
+          let turns = o.turns in
+          let one = w.turns in
+          let grown = w.seen in
+          let more = a.turns in
+          let seen = a.seen in
+          let long = length-append o.offered (w.offered ∷ []) in
+          omega (arith, turns, one, grown, more, seen, long, le)
+          );
+    }

@@ -1,0 +1,120 @@
+-- What a message does to what a reader has done.
+use Rattle.std.proofs.Common.{◌≡◌, ◌≢◌, inl, inr, List, [], ◌∷◌, ◌++◌, Result, Ok, Err, refl, sym, ◌∙◌, subst, arith, append-nil}
+use Rattle.std.specs.Prelude.{OnErr, OnOk, IfErr}
+use Rattle.std.proofs.lemmas.List.Elements.{All-nil}
+use Rattle.keri_specs.specs.Causes.{Rose}
+use Rattle.cesr_stream.specs.declared.message.Message.{Message}
+use Rattle.turn_lock.specs.Known.{OwnsAlone}
+use Rattle.reader_hub.specs.Hubs.{HubPass}
+use Rattle.run_status.specs.declared.close.Close.{Close}
+use Rattle.run_status.specs.declared.close.Close.TheVariants.{End, Bad, ReadFault, VerifierFault, SignerFault, DiskFault, WriteFault, Malformed, Full, OutOfMemory}
+use Rattle.shared_reader.specs.Asks.{Asks, HasNoneOpen, StopsAsking, TellsNothing}
+use Rattle.shared_reader.specs.Offers.{IsKeptOut, OffersOne}
+use Rattle.shared_reader.specs.Taken.{AreAsked, HasTaken, IsSame, IsStopped, Standing, StopsAt, TakesOne}
+use Rattle.shared_reader.proofs.Offered.{offers_more, offers_still}
+
+pub if_ok : {A E : Type 0} (r : Result A E) (P Q : Type 0) → (P → Q) → OnOk r P → OnOk r Q
+if_ok (Ok x) P Q f p = f p
+if_ok (Err e) P Q f p = tt
+
+pub if_err : {A E : Type 0} (r : Result A E) (P Q : E → Type 0) → ((e : E) → P e → Q e) → IfErr r P → IfErr r Q
+if_err (Ok x) P Q f p = tt
+if_err (Err e) P Q f p = f e p
+
+pub on_err : {A E : Type 0} (r : Result A E) (P : Type 0) → P → OnErr r P
+on_err (Ok x) P p = tt
+on_err (Err e) P p = p
+
+-- a reader that has taken nothing
+pub nothing_taken : (s : Standing) → OwnsAlone s.pass [] → s.refused ≡ [] → HasTaken s s []
+nothing_taken s own none = record {
+  same = record { limit = refl; lock = refl; says = refl };
+  offers = record {
+    stays = record { number = refl; splits = refl; head = refl };
+    share = [];
+    own = own;
+    offered = [];
+    messages_are = refl;
+    bodies_are = All-nil _;
+    taken_are = refl;
+    refused_are = none;
+    each = All-nil _;
+    turns = omega arith;
+  };
+  asked = refl;
+  none_failed = refl;
+}
+
+asked_more : (p q : HubPass) (before : List Message) (m : Message) → HasNoneOpen q → AreAsked p q (before ++ m ∷ [])
+asked_more p q [] m none = none
+asked_more p q (x ∷ before) m none = none
+
+no_end : (before : List Message) (m : Message) → before ++ m ∷ [] ≢ []
+no_end [] m h = cc
+no_end (x ∷ before) m h = cc
+
+module _ (s t u : Standing) (limit : t.limit ≡ s.limit) (faults : t.faults ≡ s.faults) where
+  stopped_by : (rest : List Message) (close : Close) → StopsAsking t.limit u.pass t.faults u.faults close → IsStopped s u rest close
+  stopped_by rest VerifierFault w = subst (λ x. Rose x u.faults) faults w
+  stopped_by rest Full w = (inl (w.0 ∙ limit), w.1 ∙ faults)
+  stopped_by rest OutOfMemory w = w ∙ faults
+  stopped_by rest End w = absurd w
+  stopped_by rest (Bad bad) w = absurd w
+  stopped_by rest ReadFault w = absurd w
+  stopped_by rest SignerFault w = absurd w
+  stopped_by rest DiskFault w = absurd w
+  stopped_by rest WriteFault w = absurd w
+  stopped_by rest (Malformed place) w = absurd w
+
+  kept_by : (m : Message) (close : Close) → IsKeptOut t.limit u.pass m close → u.faults ≡ t.faults → IsStopped s u (m ∷ []) close
+  kept_by m Full (inl past) none = (inl (past ∙ limit), none ∙ faults)
+  kept_by m Full (inr away) none = (inr (record { next = m; later = []; rest_is = refl; turned_away = away }), none ∙ faults)
+  kept_by m OutOfMemory w none = none ∙ faults
+  kept_by m End w none = absurd w
+  kept_by m (Bad bad) w none = absurd w
+  kept_by m ReadFault w none = absurd w
+  kept_by m VerifierFault w none = absurd w
+  kept_by m SignerFault w none = absurd w
+  kept_by m DiskFault w none = absurd w
+  kept_by m WriteFault w none = absurd w
+  kept_by m (Malformed place) w none = absurd w
+
+module _ (old new : Standing) (m : Message) (same : IsSame old new) where
+  same_on : (s : Standing) → IsSame s old → IsSame s new
+  same_on s is = record { limit = same.limit ∙ is.limit; lock = same.lock ∙ is.lock; says = same.says ∙ is.says }
+
+  -- it wasn't offered
+  pub kept_out : (close : Close) → TellsNothing old.pass new.pass 1 → new.refused ≡ old.refused → IsKeptOut old.limit new.pass m close → new.faults ≡ old.faults → StopsAt m old new close
+  kept_out close nothing kept why none first before h = record {
+    same = same_on first h.same;
+    some = no_end before m;
+    offered = before;
+    rest = m ∷ [];
+    all = refl;
+    offers = rw kept (offers_still first.says first.pass old.pass old.refused before h.offers new.pass nothing);
+    why = kept_by first old new h.same.limit h.none_failed m close why none;
+  }
+
+  module _ (q : HubPass) (w : OffersOne old.pass q old.refused new.refused m) where
+    -- it was offered, and all that was open then was asked
+    pub taken_on : {E : Type 0} (r : Result (Unit {0}) E) → OnOk r (Asks old.says q new.pass 1) → OnOk r (HasNoneOpen new.pass) → OnOk r (new.faults ≡ old.faults) → OnOk r (TakesOne m old new)
+    taken_on (Err e) asks none kept = tt
+    taken_on (Ok done) asks none kept = λ first before h. record {
+      same = same_on first h.same;
+      offers = offers_more first.says first.pass old.pass old.refused before h.offers q new.pass new.refused m 1 0 (omega arith) w (subst (λ x. Asks x q new.pass 1) h.same.says asks);
+      asked = asked_more first.pass new.pass before m none;
+      none_failed = kept ∙ h.none_failed;
+    }
+
+    -- or the reader stopped there
+    pub stopped_on : {A : Type 0} (r : Result A Close) → IfErr r (λ close. Asks old.says q new.pass 4) → IfErr r (StopsAsking old.limit new.pass old.faults new.faults) → IfErr r (StopsAt m old new)
+    stopped_on (Ok done) asks stops = tt
+    stopped_on (Err close) asks stops = λ first before h. record {
+      same = same_on first h.same;
+      some = no_end before m;
+      offered = before ++ m ∷ [];
+      rest = [];
+      all = sym (append-nil _);
+      offers = offers_more first.says first.pass old.pass old.refused before h.offers q new.pass new.refused m 4 4 (omega arith) w (subst (λ x. Asks x q new.pass 4) h.same.says asks);
+      why = stopped_by first old new h.same.limit h.none_failed [] close stops;
+    }

@@ -1,0 +1,38 @@
+use Rattle.std.proofs.Common.{rules, ◌≡◌, None, IfSome, subst, arith}
+use Rattle.turn_lock.specs.Locks.{known, limit_of}
+use Rattle.reader_hub.specs.Hubs.{AsksAt}
+use Rattle.shared_reader.proofs.Asked.{asked_none, asks_besides, asks_nothing, asks_on, asks_one}
+use Rattle.shared_reader.proofs.Turns.{idle_turn, stop_tells}
+use Rattle.shared_reader.proofs.questions.ask_one.Goals as goal
+
+pub returns-in-Err-clause-stopped : goal.returns-in-Err-clause-stopped
+returns-in-Err-clause-stopped g c =
+    let says = g.V.Verifier.says c.args.verifier.now in
+    asks_besides says _ _ 1 4 (omega arith) (asks_nothing says _ _ 1 (stop_tells (limit_of c.args.hub.now.turn) _ _ c.in-Err.fault c.in-Err.ensures.stops))
+
+pub returns-in-Ok-answer-clause-asks : goal.returns-in-Ok-answer-clause-asks
+returns-in-Ok-answer-clause-asks g c =
+    let says = g.V.Verifier.says c.args.verifier.now in
+    let limit = limit_of c.args.hub.now.turn in
+    let p = known c.args.pass.now in
+    let q = known c.next_question.new.pass in
+    let a = c.in-Some.field-0 in
+    let asked = subst (λ o. AsksAt limit p c.from.result o q) c.in-Some.is c.in-Ok.ensures.asks in
+    let said : IfSome (says a.question.key a.bytes.items a.question.sig) (λ told. c.in-Ok-ask.verdict ≡ told) = search rules in
+    asks_one says limit p c.from.result a q (known c.answer.new.pass) c.in-Ok-ask.verdict c.in-Ok-answer.field-0 asked c.in-Ok-answer.ensures.answers said
+
+pub returns-clause-stopped : goal.returns-clause-stopped
+returns-clause-stopped g c =
+    let says = g.V.Verifier.says c.args.verifier.now in
+    let limit = limit_of c.args.hub.now.turn in
+    let t = c.in-Ok.ensures.asks in
+    asks_besides says _ _ 2 4 (omega arith)
+    (asks_on says _ (known c.next_question.new.pass) _ 1 1 (asks_nothing says _ _ 1 (idle_turn limit _ t.meets.met _ t.meets.begins t.turn)) (asks_nothing says _ _ 1 (stop_tells limit _ _ c.in-Err-answer.fault c.in-Err-answer.ensures.stops)))
+
+pub returns-in_default-clause-none_open : goal.returns-in_default-clause-none_open
+returns-in_default-clause-none_open g c = λ _.
+    let none : c.in-Ok.answer ≡ None = search rules in
+    let limit = limit_of c.args.hub.now.turn in
+    let p = known c.args.pass.now in
+    let q = known c.next_question.new.pass in
+    asked_none limit p c.from.result q (subst (λ o. AsksAt limit p c.from.result o q) none c.in-Ok.ensures.asks)

@@ -1,0 +1,14 @@
+use Rattle.std.proofs.Common.{◌≡◌}
+use Rattle.turn_lock.specs.Locks.{IsPassOf, known}
+use Rattle.shared_reader.specs.Asks.{Asks}
+use Rattle.shared_reader.proofs.questions.ask_open.Given as goal
+
+-- questions were asked, and the verifier hasn't failed
+abbrev pub invariant-loop : goal.invariant-loop
+invariant-loop g l =
+    (goal.iterator-loop g).can_next l.iterator'
+    × (goal.iterator-loop g).is_finite l.iterator'
+    × IsPassOf l.fn.hub.turn l.pass
+    × (g.V.Verifier.says l.verifier ≡ g.V.Verifier.says l.fn.verifier)
+    × (g.V.Verifier.faults l.verifier ≡ g.V.Verifier.faults l.fn.verifier)
+    × Asks (g.V.Verifier.says l.fn.verifier) (known l.fn.pass) (known l.pass) 0

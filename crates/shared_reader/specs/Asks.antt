@@ -1,0 +1,74 @@
+-- What asking does to what a pass knows.
+use Rattle.std.specs.Prelude.{◌≡◌, ℕ, ◌+◌, ◌*◌, ◌≤◌, Bool, List, [], length, flat_map, Option, Some, IfSome, All}
+use Rattle.keri_specs.specs.Causes.{Rose}
+use Rattle.cesr_codes.specs.declared.key.Key.{Key}
+use Rattle.cesr_codes.specs.declared.sig.Sig.{Sig}
+use Rattle.journal.specs.History.{Told, took, heard, heard_in}
+use Rattle.journal.specs.Questions.{questions}
+use Rattle.turn_lock.specs.Histories.{longer_share}
+use Rattle.reader_hub.specs.Hubs.{HubPass}
+use Rattle.reader_hub.specs.declared.core_head.CoreHead.{CoreHead}
+use Rattle.reader_hub.specs.declared.hub_fault.HubFault.{HubFault}
+use Rattle.reader_hub.specs.declared.hub_fault.HubFault.TheVariants.{Spent, OutOfMemory as NoMemory}
+use Rattle.run_status.specs.declared.close.Close.{Close}
+use Rattle.run_status.specs.declared.close.Close.TheVariants.{End, Bad, ReadFault, VerifierFault, SignerFault, DiskFault, WriteFault, Malformed, Full, OutOfMemory}
+
+-- what a verifier says of a key, a body and a signature, where it tells
+abbrev pub Says : Type 0
+Says = Key → List ℕ → Sig → Option Bool
+
+-- how a reader closes by a fault of the hub
+abbrev pub closed_by : HubFault → Close
+closed_by (Spent turns) = Full
+closed_by NoMemory = OutOfMemory
+
+-- so many verdicts were told
+abbrev pub verdict_count : List Told → ℕ
+verdict_count told = length (flat_map heard_in told)
+
+-- the entry is the verdict of the reader of this number, and what is said of its key, body and signature
+abbrev pub IsVerdict : ℕ → Says → Told → Type 0
+IsVerdict n says (took reader b claims) = ⊥
+IsVerdict n says (heard reader b key sig verdict) = (reader ≡ n) × IfSome (says key b.bytes sig) (λ said. verdict ≡ said)
+
+-- the number, the splits and the head of a pass stay
+pub record Stays (p q : HubPass) : Type 0 where
+  pub number : q.number ≡ p.number
+  pub splits : q.splits ≡ p.splits
+  pub head : q.head ≡ p.head
+
+-- nothing came to the pass's share, and at most so many turns were taken
+pub record TellsNothing (p q : HubPass) (besides : ℕ) : Type 0 where
+  pub stays : Stays p q
+  pub own : q.own ≡ p.own
+  pub seen : verdict_count p.seen ≤ verdict_count q.seen
+  pub turns : q.turns ≤ p.turns + besides
+
+-- Verdicts came to the pass's share, and nothing else. At most two turns were taken for each verdict more in what it has seen,
+-- and so many besides.
+pub record Asks (says : Says) (p q : HubPass) (besides : ℕ) : Type 0 where
+  pub stays : Stays p q
+  pub verdicts : List Told
+  pub own : q.own ≡ longer_share p.number verdicts p.own
+  pub each : All (IsVerdict p.number says) verdicts
+  pub seen : verdict_count p.seen ≤ verdict_count q.seen
+  pub turns : q.turns + 2 * verdict_count p.seen ≤ p.turns + 2 * verdict_count q.seen + besides
+
+-- of what the pass has seen no question is open
+pub record HasNoneOpen (q : HubPass) : Type 0 where
+  pub head : CoreHead
+  pub head_is : q.head ≡ Some head
+  pub none : questions head.mode [] q.seen ≡ []
+
+-- why no more is asked: the verifier failed, all turns were taken, or there was no memory
+abbrev pub StopsAsking : ℕ → HubPass → ℕ → ℕ → Close → Type 0
+StopsAsking limit q faults_old faults_new VerifierFault = Rose faults_old faults_new
+StopsAsking limit q faults_old faults_new Full = (q.past ≡ limit) × (faults_new ≡ faults_old)
+StopsAsking limit q faults_old faults_new OutOfMemory = faults_new ≡ faults_old
+StopsAsking limit q faults_old faults_new End = ⊥
+StopsAsking limit q faults_old faults_new (Bad bad) = ⊥
+StopsAsking limit q faults_old faults_new ReadFault = ⊥
+StopsAsking limit q faults_old faults_new SignerFault = ⊥
+StopsAsking limit q faults_old faults_new DiskFault = ⊥
+StopsAsking limit q faults_old faults_new WriteFault = ⊥
+StopsAsking limit q faults_old faults_new (Malformed place) = ⊥

@@ -1,0 +1,5 @@
+pub mod Asks
+pub mod Offers
+pub mod Taken
+pub mod Takers
+pub mod ReadsOne

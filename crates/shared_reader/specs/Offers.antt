@@ -1,0 +1,64 @@
+-- What offering messages does to what a pass knows.
+use Rattle.std.specs.Prelude.{◌≡◌, ℕ, suc, ◌+◌, ◌*◌, ◌≤◌, ◌⊎◌, List, ◌++◌, length, map, filter, flat_map, Some, IfSome, All}
+use Rattle.cesr_stream.specs.declared.message.Message.{Message}
+use Rattle.journal.specs.declared.refusal.Refusal.{Refusal}
+use Rattle.journal.specs.declared.reply.Reply.TheVariants.{Full as FullReply}
+use Rattle.journal.specs.Feeds.{GivesBody, Judged, entry_of, refusal_of, is_taken_by}
+use Rattle.journal.specs.History.{Told, took, heard}
+use Rattle.turn_lock.specs.Histories.{longer_share}
+use Rattle.turn_lock.specs.Known.{OwnsAlone}
+use Rattle.reader_hub.specs.Hubs.{HubPass, TakesOver}
+use Rattle.reader_hub.specs.declared.core_head.CoreHead.{CoreHead}
+use Rattle.run_status.specs.declared.close.Close.{Close}
+use Rattle.run_status.specs.declared.close.Close.TheVariants.{End, Bad, ReadFault, VerifierFault, SignerFault, DiskFault, WriteFault, Malformed, Full, OutOfMemory}
+use Rattle.shared_reader.specs.Asks.{Says, Stays, verdict_count}
+
+-- a core that was told what the pass has seen would have no room for the message
+pub record IsTurnedAway (q : HubPass) (m : Message) : Type 0 where
+  pub head : CoreHead
+  pub head_is : q.head ≡ Some head
+  pub full : TakesOver head.limits q.seen q.number m FullReply q.seen
+
+-- The message was offered in one turn: its entry came to the pass's share, or it is refused, and that is noted.
+pub record OffersOne (p q : HubPass) (refused_old refused_new : List Refusal) (m : Message) : Type 0 where
+  pub stays : Stays p q
+  pub offered : Judged
+  pub message_is : offered.message ≡ m
+  pub body_is : GivesBody offered.message.body offered.gives
+  pub own : q.own ≡ longer_share p.number (entry_of p.number offered) p.own
+  pub noted : refused_new ≡ refused_old ++ refusal_of offered
+  pub seen : verdict_count p.seen ≤ verdict_count q.seen
+  pub turns : q.turns ≡ suc p.turns
+
+-- why the message wasn't offered: all turns were taken, there was no room for it, or no memory
+abbrev pub IsKeptOut : ℕ → HubPass → Message → Close → Type 0
+IsKeptOut limit q m Full = (q.past ≡ limit) ⊎ IsTurnedAway q m
+IsKeptOut limit q m OutOfMemory = Unit {0}
+IsKeptOut limit q m End = ⊥
+IsKeptOut limit q m (Bad bad) = ⊥
+IsKeptOut limit q m ReadFault = ⊥
+IsKeptOut limit q m VerifierFault = ⊥
+IsKeptOut limit q m SignerFault = ⊥
+IsKeptOut limit q m DiskFault = ⊥
+IsKeptOut limit q m WriteFault = ⊥
+IsKeptOut limit q m (Malformed place) = ⊥
+
+-- the entry carries the reader's number, and a verdict is what is said of its key, body and signature
+abbrev pub IsEntryOf : ℕ → Says → Told → Type 0
+IsEntryOf n says (took reader b claims) = reader ≡ n
+IsEntryOf n says (heard reader b key sig verdict) = (reader ≡ n) × IfSome (says key b.bytes sig) (λ said. verdict ≡ said)
+
+-- Since the pass knew p, with an empty share, these messages were offered: those that aren't refused are its entries, the
+-- others are noted, and its verdicts are what is said. At most two turns were taken for each message and for each verdict in
+-- what the pass has seen, and so many besides.
+pub record Offers (says : Says) (p q : HubPass) (refused : List Refusal) (messages : List Message) (besides : ℕ) : Type 0 where
+  pub stays : Stays p q
+  pub share : List Told
+  pub own : OwnsAlone q share
+  pub offered : List Judged
+  pub messages_are : map (λ j. j.message) offered ≡ messages
+  pub bodies_are : All (λ j. GivesBody j.message.body j.gives) offered
+  pub taken_are : filter (is_taken_by p.number) share ≡ flat_map (entry_of p.number) offered
+  pub refused_are : refused ≡ flat_map refusal_of offered
+  pub each : All (IsEntryOf p.number says) share
+  pub turns : q.turns ≤ p.turns + 2 * (length offered + verdict_count q.seen) + besides

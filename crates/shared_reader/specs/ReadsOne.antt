@@ -1,0 +1,104 @@
+-- What one reader does.
+use Rattle.std.specs.Prelude.{◌≡◌, ◌≢◌, ℕ, ◌+◌, ◌*◌, ◌≤◌, ◌⊎◌, Bool, true, false, List, [], ◌∷◌, ◌++◌, length, map, filter, All}
+use Rattle.std.specs.declared.option.Option.{Option}
+use Rattle.std.specs.declared.option.Option.TheVariants.{Some}
+use Rattle.keri_specs.specs.Causes.{Rose}
+use Rattle.cesr_stream.specs.declared.message.Message.{Message}
+use Rattle.cesr_stream.specs.Assembly.{all_of}
+use Rattle.cesr_stream.specs.Items.{Placed}
+use Rattle.cesr_stream.specs.Messages.{messages}
+use Rattle.cesr_stream.specs.Reading.{Reading}
+use Rattle.keri_outside.specs.declared.limits.Limits.{Limits}
+use Rattle.journal.specs.Feeds as feeds
+use Rattle.journal.specs.Feeds.{AreFirst, Feeds, is_taken_by}
+use Rattle.journal.specs.History.{Told}
+use Rattle.message_feed.specs.Closing.{ClosesBy, Gave}
+use Rattle.message_feed.specs.Feeds.{Stream}
+use Rattle.message_feed.specs.declared.feed_close.FeedClose.{FeedClose}
+use Rattle.message_feed.specs.declared.feed_close.FeedClose.TheVariants as feed
+use Rattle.turn_lock.specs.Known.{OwnsAlone}
+use Rattle.reader_hub.specs.Hubs.{HubPass}
+use Rattle.run_status.specs.Readers.{SourceTold}
+use Rattle.run_status.specs.declared.close.Close.{Close}
+use Rattle.run_status.specs.declared.close.Close.TheVariants.{End, Bad, ReadFault, VerifierFault, SignerFault, DiskFault, WriteFault, Malformed, Full, OutOfMemory}
+use Rattle.shared_reader.specs.Asks.{Stays, verdict_count}
+use Rattle.shared_reader.specs.Offers.{IsEntryOf, IsTurnedAway}
+use Rattle.shared_reader.specs.Taken.{AreAsked, IsSame, Standing}
+
+abbrev pub source_told : Option (List ℕ) → ℕ → SourceTold
+source_told left faults = record { left = left; faults = faults }
+
+-- the reader was stopped before it had taken all that it read
+abbrev pub is_stopped : Close → Bool
+is_stopped End = false
+is_stopped (Bad bad) = false
+is_stopped ReadFault = false
+is_stopped VerifierFault = true
+is_stopped SignerFault = true
+is_stopped DiskFault = true
+is_stopped WriteFault = true
+is_stopped (Malformed place) = false
+is_stopped Full = true
+is_stopped OutOfMemory = true
+
+-- the end of a reader that read these bytes
+abbrev pub end_of : List ℕ → Standing → Close → feeds.End
+end_of bytes t close = record { bytes = Some bytes; says = t.says; refused = t.refused; stopped = is_stopped close }
+
+-- all messages of the items were offered, but maybe the last, to which more might come
+pub record LacksOnlyOpen (limits : Limits) (items : List Placed) (offered : List Message) : Type 0 where
+  pub last : Option Message
+  pub all : offered ++ all_of last ≡ messages limits.message_signatures items
+
+-- a core that was told what the pass has seen would have no room for the message that comes behind those offered
+pub record NextFindsNoRoom (limits : Limits) (bytes : List ℕ) (q : HubPass) (offered : List Message) : Type 0 where
+  pub next : Message
+  pub first : AreFirst limits bytes (offered ++ next ∷ [])
+  pub turned_away : IsTurnedAway q next
+
+module _ (limits : Limits) (s t : Standing) (old new : SourceTold) where
+  -- the source closed the reading so, behind these bytes
+  abbrev pub IsClosedSo : List ℕ → Reading → FeedClose ℕ → Type 0
+  IsClosedSo bytes reading close = ClosesBy limits.stream_bytes old.left new.left old.faults new.faults bytes reading close
+
+  -- Why the reader closed: by its source, and then all that was open behind the last message was asked; by its verifier's
+  -- fault; or because a limit was reached: of the bytes that are read, where there were more, of what is taken, at the next
+  -- message, or of the turns.
+  abbrev pub ClosesReader : List ℕ → Reading → List Placed → List Message → Close → Type 0
+  ClosesReader bytes reading items offered End = IsClosedSo bytes reading feed.End × AreAsked s.pass t.pass offered
+  ClosesReader bytes reading items offered (Bad bad) = IsClosedSo bytes reading (feed.Bad bad) × AreAsked s.pass t.pass offered
+  ClosesReader bytes reading items offered ReadFault = IsClosedSo bytes reading feed.ReadFault × AreAsked s.pass t.pass offered
+  ClosesReader bytes reading items offered Full = (IsClosedSo bytes reading feed.Full × LacksOnlyOpen limits items offered × AreAsked s.pass t.pass offered)
+      ⊎ (Gave old.left new.left bytes × ((t.pass.past ≡ s.limit) ⊎ NextFindsNoRoom limits bytes t.pass offered))
+  ClosesReader bytes reading items offered VerifierFault = Gave old.left new.left bytes × Rose s.faults t.faults
+  ClosesReader bytes reading items offered SignerFault = ⊥
+  ClosesReader bytes reading items offered DiskFault = ⊥
+  ClosesReader bytes reading items offered WriteFault = ⊥
+  ClosesReader bytes reading items offered (Malformed place) = ⊥
+  ClosesReader bytes reading items offered OutOfMemory = ⊥
+
+  -- These bytes were read, and the reader closed by its cause.
+  pub record ClosesStream (bytes : List ℕ) (offered : List Message) (close : Close) : Type 0 where
+    pub reading : Reading
+    pub items : List Placed
+    pub stream : Stream limits bytes reading items
+    pub closes : ClosesReader bytes reading items offered close
+
+  -- Of a lock for so many turns, and a pass with an empty share: the source gave the bytes, and maybe more. The first messages of
+  -- the bytes were offered: those that aren't refused are the pass's entries, the others are noted. Its share has no other
+  -- entries but verdicts, and they are what the verifier says. Unless there was no memory, the reader closed by its cause; and
+  -- unless the verifier's fault closed it, that one never failed. At most two turns were taken for each message offered and for
+  -- each verdict that the pass has seen, and four besides.
+  pub record ReadsOne (close : Close) : Type 0 where
+    pub same : IsSame s t
+    pub stays : Stays s.pass t.pass
+    pub share : List Told
+    pub own : OwnsAlone t.pass share
+    pub bytes : List ℕ
+    pub more : List ℕ
+    pub gave : Gave old.left new.left (bytes ++ more)
+    pub feeds_are : Feeds limits share s.pass.number (end_of bytes t close) bytes
+    pub each : All (IsEntryOf s.pass.number s.says) share
+    pub closes : close ≢ OutOfMemory → ClosesStream bytes (map (λ j. j.message) feeds_are.offered) close
+    pub none_failed : close ≢ VerifierFault → t.faults ≡ s.faults
+    pub turns : t.pass.turns ≤ s.pass.turns + 2 * (length (filter (is_taken_by s.pass.number) share) + length t.refused + verdict_count t.pass.seen + 2)

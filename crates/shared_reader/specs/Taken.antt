@@ -1,0 +1,97 @@
+-- What a reader has done since it began.
+use Rattle.std.specs.Prelude.{◌≡◌, ◌≢◌, ℕ, ◌⊎◌, List, [], ◌∷◌, ◌++◌, Option}
+use Rattle.keri_specs.specs.Causes.{Rose}
+use Rattle.cesr_stream.specs.declared.message.Message.{Message}
+use Rattle.cesr_stream.specs.Assembly.{all_of}
+use Rattle.journal.specs.declared.refusal.Refusal.{Refusal}
+use Rattle.message_feed.specs.declared.feed_close.FeedClose.{FeedClose}
+use Rattle.message_feed.specs.declared.feed_close.FeedClose.TheVariants as feed
+use Rattle.turn_lock.specs.Locks.{LockId}
+use Rattle.reader_hub.specs.Hubs.{HubPass}
+use Rattle.run_status.specs.declared.close.Close.{Close}
+use Rattle.run_status.specs.declared.close.Close.TheVariants.{End, Bad, ReadFault, VerifierFault, SignerFault, DiskFault, WriteFault, Malformed, Full, OutOfMemory}
+use Rattle.shared_reader.specs.Asks.{HasNoneOpen, Says}
+use Rattle.shared_reader.specs.Offers.{IsTurnedAway, Offers}
+
+-- what is seen of a reader at one time: the limit of its lock and which lock it is, what its pass knows, what its verifier says
+-- and how often that has failed, and what it refused
+pub record Standing : Type 0 where
+  pub limit : ℕ
+  pub lock : LockId
+  pub pass : HubPass
+  pub says : Says
+  pub faults : ℕ
+  pub refused : List Refusal
+
+abbrev pub standing : ℕ → LockId → HubPass → Says → ℕ → List Refusal → Standing
+standing limit lock pass says faults refused = record { limit = limit; lock = lock; pass = pass; says = says; faults = faults; refused = refused }
+
+-- the lock and the verifier are the same
+pub record IsSame (s t : Standing) : Type 0 where
+  pub limit : t.limit ≡ s.limit
+  pub lock : t.lock ≡ s.lock
+  pub says : t.says ≡ s.says
+
+-- Once these messages were offered no question is open of what the pass has seen. Where there are none, the pass is as before.
+abbrev pub AreAsked : HubPass → HubPass → List Message → Type 0
+AreAsked p q [] = q ≡ p
+AreAsked p q (m ∷ messages) = HasNoneOpen q
+
+-- these messages were offered, all that was open behind the last of them was asked, and the verifier hasn't failed
+pub record HasTaken (s t : Standing) (messages : List Message) : Type 0 where
+  pub same : IsSame s t
+  pub offers : Offers s.says s.pass t.pass t.refused messages 0
+  pub asked : AreAsked s.pass t.pass messages
+  pub none_failed : t.faults ≡ s.faults
+
+-- the first of these messages, which is there, finds no room
+pub record FindsNoRoom (q : HubPass) (rest : List Message) : Type 0 where
+  pub next : Message
+  pub later : List Message
+  pub rest_is : rest ≡ next ∷ later
+  pub turned_away : IsTurnedAway q next
+
+-- why a reader stopped before the rest of these messages: by its verifier's fault, at a limit, or for want of memory
+abbrev pub IsStopped : Standing → Standing → List Message → Close → Type 0
+IsStopped s t rest VerifierFault = Rose s.faults t.faults
+IsStopped s t rest Full = ((t.pass.past ≡ s.limit) ⊎ FindsNoRoom t.pass rest) × (t.faults ≡ s.faults)
+IsStopped s t rest OutOfMemory = t.faults ≡ s.faults
+IsStopped s t rest End = ⊥
+IsStopped s t rest (Bad bad) = ⊥
+IsStopped s t rest ReadFault = ⊥
+IsStopped s t rest SignerFault = ⊥
+IsStopped s t rest DiskFault = ⊥
+IsStopped s t rest WriteFault = ⊥
+IsStopped s t rest (Malformed place) = ⊥
+
+-- of these messages, one at least, the first were offered, and there the reader stopped so
+pub record HasStopped (s t : Standing) (close : Close) (messages : List Message) : Type 0 where
+  pub same : IsSame s t
+  pub some : messages ≢ []
+  pub offered : List Message
+  pub rest : List Message
+  pub all : messages ≡ offered ++ rest
+  pub offers : Offers s.says s.pass t.pass t.refused offered 4
+  pub why : IsStopped s t rest close
+
+-- one message more was taken
+abbrev pub TakesOne : Message → Standing → Standing → Type 0
+TakesOne m old new = (first : Standing) (before : List Message) → HasTaken first old before → HasTaken first new (before ++ m ∷ [])
+
+-- the reader stopped at it
+abbrev pub StopsAt : Message → Standing → Standing → Close → Type 0
+StopsAt m old new close = (first : Standing) (before : List Message) → HasTaken first old before → HasStopped first new close (before ++ m ∷ [])
+
+-- the last message, where there is one, was taken too, and the reader closes as its source did; or it stopped there
+abbrev pub TakesLast : Close → Option Message → Standing → Standing → Close → Type 0
+TakesLast close last old new now = (first : Standing) (messages : List Message) → HasTaken first old messages
+    → (HasTaken first new (messages ++ all_of last) × (now ≡ close)) ⊎ HasStopped first new now (messages ++ all_of last)
+
+-- how the reader closes where its source has closed so
+abbrev pub Finishes : FeedClose Close → Option Message → Standing → Standing → Close → Type 0
+Finishes feed.End last old new now = TakesLast End last old new now
+Finishes (feed.Bad bad) last old new now = TakesLast (Bad bad) last old new now
+Finishes feed.ReadFault last old new now = TakesLast ReadFault last old new now
+Finishes feed.Full last old new now = (now ≡ Full) × (new ≡ old)
+Finishes feed.OutOfMemory last old new now = (now ≡ OutOfMemory) × (new ≡ old)
+Finishes (feed.Stopped stop) last old new now = (now ≡ stop) × (new ≡ old)

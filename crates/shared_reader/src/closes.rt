@@ -1,0 +1,16 @@
+//! How a reader closes where the hub gives no answer.
+ghost use Rattle.std.specs.Prelude.{◌≡◌};
+ghost use Rattle.shared_reader.specs.Asks.{closed_by};
+
+use reader_hub::HubFault;
+use run_status::Close;
+
+/// The close by a fault of the hub: that all turns were taken is a limit that was reached.
+pub(crate) fn close_of(fault: HubFault) -> Close
+    ensures { result ≡ closed_by fault }
+{
+    match fault {
+        HubFault::Spent(_) => Close::Full,
+        HubFault::OutOfMemory => Close::OutOfMemory,
+    }
+}

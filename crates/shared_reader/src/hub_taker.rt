@@ -1,0 +1,102 @@
+//! What takes the messages of a reader.
+ghost use Rattle.std.specs.Prelude.{◌≡◌};
+ghost use Rattle.turn_lock.specs.Locks.{lock_of};
+
+use crate::offers::offer;
+use cesr_stream::Message;
+use journal::Refusal;
+use keri_outside::{Gate, Verifier};
+use message_feed::{FeedClose, Taker};
+use reader_hub::{Hub, Pass};
+use run_status::Close;
+use std::alloc::Global;
+use std::sync::Wait;
+
+/// A pass of a hub, with the verifier that is asked, and what was refused.
+#[derive(Drop)]
+pub(crate) struct HubTaker<'a, V, G, W> {
+    pub(crate) rt: &'a W,
+    pub(crate) alloc: Global,
+    pub(crate) hub: &'a Hub,
+    pub(crate) gate: &'a G,
+    pub(crate) pass: Pass,
+    pub(crate) verifier: V,
+    pub(crate) refused: Vec<Refusal>,
+    /// How many messages came.
+    pub(crate) count: u64,
+    ghost of_hub: { lock_of pass ≡ hub.now.turn.table.shared.table_id },
+}
+
+impl<'a, V: Verifier + Drop, G: Gate, W: Wait> Taker for HubTaker<'a, V, G, W> {
+    ghost use Rattle.shared_reader.specs.Taken.{HasStopped, HasTaken};
+    ghost use Rattle.shared_reader.specs.Takers.{standing_of};
+
+    type Stop = Close;
+
+    ghost has_taken = { λ first now. HasTaken (standing_of V.says V.faults first) (standing_of V.says V.faults now) };
+
+    ghost has_stopped = { λ first now. HasStopped (standing_of V.says V.faults first) (standing_of V.says V.faults now) };
+
+    fn take(&mut self, message: Message) -> Result<(), Close> {
+        self.take_message(&message)
+    }
+}
+
+impl<'a, V: Verifier + Drop, G: Gate, W: Wait> HubTaker<'a, V, G, W> {
+    ghost use Rattle.std.specs.Prelude.{OnOk, IfErr};
+    ghost use Rattle.shared_reader.specs.Taken.{Finishes, StopsAt, TakesLast, TakesOne};
+    ghost use Rattle.shared_reader.specs.Takers.{standing_of};
+
+    // Offers a message between the two calls of the gate.
+    fn take_message(&mut self, message: &Message) -> Result<(), Close>
+        ensures ok { OnOk result (TakesOne message.now (standing_of V.says V.faults self.old)
+            (standing_of V.says V.faults self.new)) }
+        ensures err { IfErr result (StopsAt message.now (standing_of V.says V.faults self.old)
+            (standing_of V.says V.faults self.new)) }
+    {
+        let number = self.pass.number();
+        self.gate.before(number, self.count);
+        let offered = offer(
+            self.rt,
+            self.alloc,
+            self.hub,
+            &mut self.pass,
+            &mut self.verifier,
+            &mut self.refused,
+            message,
+        );
+        self.gate.after(number, self.count);
+        self.count = self.count.wrapping_add(1);
+        offered
+    }
+
+    /// Takes the last message, where there is one and nothing stopped the reader before it, and answers how it closes.
+    pub(crate) fn finish(&mut self, close: FeedClose<Close>, last: Option<Message>) -> Close
+        ensures { Finishes close last (standing_of V.says V.faults self.old) (standing_of V.says V.faults self.new)
+            result }
+    {
+        let close = match close {
+            FeedClose::End => Close::End,
+            FeedClose::Bad(bad) => Close::Bad(bad),
+            FeedClose::ReadFault => Close::ReadFault,
+            FeedClose::Full => return Close::Full,
+            FeedClose::OutOfMemory => return Close::OutOfMemory,
+            FeedClose::Stopped(close) => return close,
+        };
+        self.take_last(close, last)
+    }
+
+    // Takes the last message, where there is one.
+    fn take_last(&mut self, close: Close, last: Option<Message>) -> Close
+        ensures { TakesLast close last (standing_of V.says V.faults self.old) (standing_of V.says V.faults self.new)
+            result }
+    {
+        match last {
+            Some(message) => match self.take_message(&message) {
+                Ok(()) => close,
+                Err(stop) => stop,
+            },
+            None => close,
+        }
+    }
+}

@@ -1,0 +1,78 @@
+//! The open questions, which the verifier is asked between two turns.
+ghost use Rattle.std.specs.Prelude.{◌≡◌, false, OnOk, IfOk, IfErr, if◌then◌else◌};
+ghost use Rattle.turn_lock.specs.Locks.{limit_of, known, IsPassOf};
+ghost use Rattle.shared_reader.specs.Asks.{Asks, HasNoneOpen, StopsAsking};
+
+use crate::closes::close_of;
+use keri_outside::{Failed, Verifier};
+use reader_hub::{Asked, Hub, Pass};
+use run_status::Close;
+use std::alloc::Global;
+use std::sync::Wait;
+
+/// Asks the verifier open questions, and tells the hub its verdicts, until none is open. A verdict, of this reader or of
+/// another one, may open further questions.
+pub(crate) fn ask_open<V: Verifier, W: Wait>(
+    rt: &W,
+    alloc: Global,
+    hub: &Hub,
+    pass: &mut Pass,
+    verifier: &mut V,
+) -> Result<(), Close>
+    requires pass { IsPassOf hub.now.turn pass.old }
+    ensures pass { IsPassOf hub.now.turn pass.new }
+    ensures same { V.says verifier.new ≡ V.says verifier.old }
+    ensures none_failed { OnOk result (V.faults verifier.new ≡ V.faults verifier.old) }
+    ensures asks { OnOk result (Asks (V.says verifier.old) (known pass.old) (known pass.new) 1) }
+    ensures none_open { OnOk result (HasNoneOpen (known pass.new)) }
+    ensures stopped { IfErr result (λ close. Asks (V.says verifier.old) (known pass.old) (known pass.new) 4) }
+    ensures stops { IfErr result (StopsAsking (limit_of hub.now.turn) (known pass.new) (V.faults verifier.old)
+        (V.faults verifier.new)) }
+{
+    for _ in rt.forever() {
+        match ask_one(rt, alloc, hub, pass, verifier) {
+            Ok(true) => {}
+            Ok(false) => return Ok(()),
+            Err(close) => return Err(close),
+        }
+    }
+    unreachable!()
+}
+
+// Asks an open question and tells the hub the verdict, where one is open: the one of the reader's number, so that readers
+// begin with different ones.
+fn ask_one<V: Verifier, W: Wait>(
+    rt: &W,
+    alloc: Global,
+    hub: &Hub,
+    pass: &mut Pass,
+    verifier: &mut V,
+) -> Result<bool, Close>
+    requires pass { IsPassOf hub.now.turn pass.old }
+    ensures pass { IsPassOf hub.now.turn pass.new }
+    ensures same { V.says verifier.new ≡ V.says verifier.old }
+    ensures none_failed { OnOk result (V.faults verifier.new ≡ V.faults verifier.old) }
+    ensures asks { IfOk result (λ some. Asks (V.says verifier.old) (known pass.old) (known pass.new)
+        (if some then 0 else 1)) }
+    ensures none_open { IfOk result (λ some. some ≡ false → HasNoneOpen (known pass.new)) }
+    ensures stopped { IfErr result (λ close. Asks (V.says verifier.old) (known pass.old) (known pass.new) 4) }
+    ensures stops { IfErr result (StopsAsking (limit_of hub.now.turn) (known pass.new) (V.faults verifier.old)
+        (V.faults verifier.new)) }
+{
+    let number = pass.number();
+    let answer = match hub.next_question(rt, alloc, pass, u32::from(number)) {
+        Ok(answer) => answer,
+        Err(fault) => return Err(close_of(fault)),
+    };
+    let Some(Asked { question, bytes }) = answer else {
+        return Ok(false);
+    };
+    let verdict = match verifier.ask(&question.key, bytes.as_slice(), &question.sig) {
+        Ok(verdict) => verdict,
+        Err(Failed) => return Err(Close::VerifierFault),
+    };
+    match hub.answer(rt, pass, &question, verdict) {
+        Ok(_) => Ok(true),
+        Err(fault) => Err(close_of(fault)),
+    }
+}
