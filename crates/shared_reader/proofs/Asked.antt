@@ -1,10 +1,14 @@
 -- What asking does to what a pass knows.
-use Rattle.std.proofs.Common.{◌≡◌, ℕ, suc, ◌+◌, ◌≤◌, Bool, true, false, List, [], ◌∷◌, ◌++◌, Some, None, IfSome, refl, sym, ◌∙◌, ap, subst, arith, append-nil, append_assoc, if◌then◌else◌, ◌==◌}
+use Rattle.std.proofs.Common.{◌≡◌, ℕ, suc, ◌+◌, ◌≤◌, Bool, true, false, List, [], ◌∷◌, ◌++◌, Option, Some, None, IfSome, refl, sym, ◌∙◌, ap, subst, arith, append-nil, append_assoc, if◌then◌else◌, ◌==◌}
 use Rattle.std.specs.Prelude.{All, slice_get}
 use Rattle.std.specs.List.{list_any}
 use Rattle.std.proofs.lemmas.List.{append_cancel_left}
 use Rattle.std.proofs.lemmas.List.Elements.{All-append, All-cons, All-nil}
-use mathlib.Core.List.{IsPrefix}
+use mathlib.Core.List.{IsPrefix, Sublist, nil-sublist}
+use mathlib.Core.List.Sublist.{refl as sublist-refl}
+use Rattle.keri_specs.specs.Told.{after}
+use Rattle.keri_outside.specs.Asked.{inquiry}
+use Rattle.keri_outside.specs.declared.inquiry.Inquiry.{Inquiry}
 use Rattle.journal.specs.declared.body.Body.{Body}
 use Rattle.journal.specs.declared.mode.Mode.{Mode}
 use Rattle.journal.specs.declared.question.Noted.{Noted}
@@ -14,13 +18,15 @@ use Rattle.journal.specs.History.{Told, Triple, heard, bodies, has_verdict, same
 use Rattle.journal.specs.Journals.{AnswersOn, Names}
 use Rattle.journal.specs.Questions.{next_question, noted, raised}
 use Rattle.core_laws.proofs.RaisedStays.{bodies_stay, raised_stays}
+use Rattle.validator_core.specs.Verdicts.{inquiries_in}
 use Rattle.validator_core.proofs.OpenQuestions.{named_on}
 use Rattle.turn_lock.specs.Histories.{longer_share}
 use Rattle.turn_lock.proofs.Histories.{longer_share-none}
 use Rattle.reader_hub.specs.Hubs.{HubPass, AnswersAt, AsksAt}
 use Rattle.reader_hub.specs.declared.asked.Asked.{Asked}
-use Rattle.shared_reader.specs.Asks.{Asks, HasNoneOpen, IsVerdict, Says, TellsNothing, verdict_count}
+use Rattle.shared_reader.specs.Asks.{Asks, AsksFor, HasNoneOpen, IsVerdict, Says, TellsNothing, verdict_count}
 use Rattle.shared_reader.proofs.Verdicts.{verdict_count-append, verdict_count_grows, named_open, new_heard, none_open}
+use Rattle.shared_reader.proofs.Inquiries.{asked_on, at_most, none_asked}
 use Rattle.shared_reader.proofs.Turns.{seen_then, stays_on, turn_stays}
 
 pub longer_share-twice : {E : Type 0} (k : ℕ) (xs ys : List E) (own : List (ℕ × List E)) → longer_share k ys (longer_share k xs own) ≡ longer_share k (xs ++ ys) own
@@ -32,25 +38,34 @@ longer_share-twice k xs ys (p ∷ ps) = λ i. (p.0, by_test (p.0 == k) i) ∷ lo
     by_test false = refl
 
 module _ (says : Says) where
-  -- a call in which nothing is told asks nothing
-  pub asks_nothing : (p q : HubPass) (k : ℕ) → TellsNothing p q k → Asks says p q k
-  asks_nothing p q k t = let seen = t.seen in let turns = t.turns in record {
+  -- a call in which nothing is told tells no verdict, whatever was asked
+  pub asks_nothing : (before now : Option (List Inquiry)) (p q : HubPass) (k m : ℕ) → AsksFor before now [] m → TellsNothing p q k → Asks says before now p q k m
+  asks_nothing before now p q k m asked t = let seen = t.seen in let turns = t.turns in record {
     stays = t.stays;
     verdicts = [];
     own = t.own ∙ sym (longer_share-none p.number p.own);
     each = All-nil _;
     seen = seen;
     turns = omega (arith, seen, turns);
+    inquired = at_most before now [] m _ (omega arith) asked;
   }
 
-  pub asks_yet : (p : HubPass) → Asks says p p 0
-  asks_yet p = asks_nothing p p 0 (record { stays = record { number = refl; splits = refl; head = refl }; own = refl; seen = omega arith; turns = omega arith })
+  pub asks_yet : (told : Option (List Inquiry)) (p : HubPass) → Asks says told told p p 0 0
+  asks_yet told p = asks_nothing told told p p 0 0 (none_asked told [] refl) (record { stays = record { number = refl; splits = refl; head = refl }; own = refl; seen = omega arith; turns = omega arith })
 
-  pub asks_besides : (p q : HubPass) (k m : ℕ) → k ≤ m → Asks says p q k → Asks says p q m
-  asks_besides p q k m le a = record { stays = a.stays; verdicts = a.verdicts; own = a.own; each = a.each; seen = a.seen; turns = (let t = a.turns in omega (arith, t, le)) }
+  pub asks_besides : (before now : Option (List Inquiry)) (p q : HubPass) (k m i j : ℕ) → k ≤ m → i ≤ j → Asks says before now p q k i → Asks says before now p q m j
+  asks_besides before now p q k m i j le few a = record {
+    stays = a.stays;
+    verdicts = a.verdicts;
+    own = a.own;
+    each = a.each;
+    seen = a.seen;
+    turns = (let t = a.turns in omega (arith, t, le));
+    inquired = at_most before now a.verdicts _ _ (omega (arith, few)) a.inquired;
+  }
 
-  pub asks_on : (p q r : HubPass) (j k : ℕ) → Asks says p q j → Asks says q r k → Asks says p r (j + k)
-  asks_on p q r j k a b =
+  pub asks_on : (before mid now : Option (List Inquiry)) (p q r : HubPass) (j k m n : ℕ) → Asks says before mid p q j m → Asks says mid now q r k n → Asks says before now p r (j + k) (m + n)
+  asks_on before mid now p q r j k m n a b =
       let first = a.turns in
       let second = b.turns in
       let one = a.seen in
@@ -62,6 +77,7 @@ module _ (says : Says) where
         each = All-append (IsVerdict p.number says) a.verdicts b.verdicts a.each (subst (λ n. All (IsVerdict n says) b.verdicts) a.stays.number b.each);
         seen = omega (arith, one, two);
         turns = omega (arith, first, second, one, two);
+        inquired = asked_on before mid now a.verdicts b.verdicts _ _ _ (omega (arith, one, two)) a.inquired b.inquired;
       }
 
   -- A question was asked between two turns, and its verdict told.
@@ -100,20 +116,33 @@ module _ (says : Says) where
     answers = subst (λ h. Answers h.mode [] later q.number body a.question.key a.question.sig verdict becomes (later ++ answered.more)) same_head
         (subst (λ o. AnswersOn answered.meets.head.mode [] later q.number o a.question verdict becomes (later ++ answered.more)) held_then answered.answers)
 
-    one_more : IfSome (says a.question.key body.bytes a.question.sig) (λ said. verdict ≡ said) → All (IsVerdict q.number says) answered.more × (suc (verdict_count met) ≤ verdict_count (later ++ answered.more))
+    abbrev asks_it : Inquiry
+    asks_it = inquiry a.question.key body.bytes a.question.sig
+
+    -- the verdict was noted, or there was one already
+    record OneMore : Type 0 where
+      each : All (IsVerdict q.number says) answered.more
+      count : suc (verdict_count met) ≤ verdict_count (later ++ answered.more)
+      asked_for : Sublist (inquiries_in answered.more) (asks_it ∷ [])
+
+    one_more : IfSome (says a.question.key body.bytes a.question.sig) (λ said. verdict ≡ said) → OneMore
     unfolding noted
     one_more said = by_verdict (has_verdict later triple) refl
       where
         told : (n : Noted) → becomes ≡ n → later ++ answered.more ≡ told_with later q.number body a.question.key a.question.sig verdict n
         told n is = subst (λ n. later ++ answered.more ≡ told_with later q.number body a.question.key a.question.sig verdict n) is answers.1
 
-        by_verdict : (b : Bool) → has_verdict later triple ≡ b → All (IsVerdict q.number says) answered.more × (suc (verdict_count met) ≤ verdict_count (later ++ answered.more))
+        by_verdict : (b : Bool) → has_verdict later triple ≡ b → OneMore
         by_verdict true h =
             let known : becomes ≡ Known = rw (raised_then, h) at answers.0 in
             let none = append_cancel_left later answered.more [] (told Known known ∙ sym (append-nil later)) in
             let count = new_heard triple met later goes_on opened.0 h in
             let parts = verdict_count-append later answered.more in
-            (subst (All (IsVerdict q.number says)) (sym none) (All-nil _), omega (arith, count, parts))
+            record {
+              each = subst (All (IsVerdict q.number says)) (sym none) (All-nil _);
+              count = omega (arith, count, parts);
+              asked_for = subst (λ (l : List Told). Sublist (inquiries_in l) (asks_it ∷ [])) (sym none) (nil-sublist (asks_it ∷ []));
+            }
         by_verdict false h =
             let new : becomes ≡ New = rw (raised_then, h) at answers.0 in
             let entry : Told = heard q.number body a.question.key a.question.sig verdict in
@@ -121,24 +150,35 @@ module _ (says : Says) where
             let count = verdict_count_grows met later goes_on in
             let parts = verdict_count-append later answered.more in
             let length_one : verdict_count answered.more ≡ 1 = ap verdict_count one in
-            (subst (All (IsVerdict q.number says)) (sym one) (All-cons (IsVerdict q.number says) entry [] (refl, said) (All-nil _)), omega (arith, count, parts, length_one))
+            record {
+              each = subst (All (IsVerdict q.number says)) (sym one) (All-cons (IsVerdict q.number says) entry [] (refl, said) (All-nil _));
+              count = omega (arith, count, parts, length_one);
+              asked_for = subst (λ (l : List Told). Sublist (inquiries_in l) (asks_it ∷ [])) (sym one) (sublist-refl (asks_it ∷ []));
+            }
 
-    pub asks_one : IfSome (says a.question.key a.bytes.items a.question.sig) (λ said. verdict ≡ said) → Asks says p r 0
-    asks_one said =
+    pub asks_one : (before now : Option (List Inquiry)) → now ≡ after before (inquiry a.question.key a.bytes.items a.question.sig ∷ [])
+        → IfSome (says a.question.key a.bytes.items a.question.sig) (λ said. verdict ≡ said) → Asks says before now p r 0 0
+    asks_one before now now_is said =
         let more = one_more (subst (λ bytes. IfSome (says a.question.key bytes a.question.sig) (λ said. verdict ≡ said)) asked.bytes.2 said) in
         let first = verdict_count_grows p.seen met asked.meets.begins in
         let seen : verdict_count r.seen ≡ verdict_count (later ++ answered.more) = ap verdict_count (seen_then limit q later answered.more r answered.turn) in
         let turns = ap (λ x. x.turns) answered.turn.now in
         let turns_before = ap (λ x. x.turns) asked.turn.now in
         let number = ap (λ x. x.number) asked.turn.now in
-        let count = more.1 in
+        let count = more.count in
         record {
           stays = stays_on p q r (turn_stays limit p met [] q asked.turn) (turn_stays limit q later answered.more r answered.turn);
           verdicts = answered.more;
           own = ap (λ x. x.own) answered.turn.now ∙ (λ i. longer_share (number i) answered.more ((ap (λ x. x.own) asked.turn.now ∙ longer_share-none p.number p.own) i));
-          each = subst (λ n. All (IsVerdict n says) answered.more) number more.0;
+          each = subst (λ n. All (IsVerdict n says) answered.more) number more.each;
           seen = omega (arith, first, seen, count);
           turns = omega (arith, first, seen, count, turns, turns_before);
+          inquired = record {
+            all = asks_it ∷ [];
+            now_is = now_is ∙ ap (λ bytes. after before (inquiry a.question.key bytes a.question.sig ∷ [])) asked.bytes.2;
+            in_order = more.asked_for;
+            few = omega (arith, first, seen, count);
+          };
         }
 
 -- no question was open in what was met

@@ -22,6 +22,7 @@ use Rattle.run_status.specs.declared.close.Close.TheVariants.{End, Bad, ReadFaul
 use Rattle.shared_reader.specs.Offers.{Offers}
 use Rattle.shared_reader.specs.ReadsOne.{ClosesReader, ClosesStream, ReadsOne, is_stopped}
 use Rattle.shared_reader.specs.Taken.{AreAsked, Finishes, HasStopped, HasTaken, IsSame, IsStopped, Standing}
+use Rattle.shared_reader.proofs.Inquiries.{at_most}
 use Rattle.shared_reader.proofs.Offered.{offers_besides}
 use Rattle.shared_reader.proofs.Streams.{all_from, at_bad, at_end, first_none, first_of, some_open}
 
@@ -50,7 +51,7 @@ none_behind (x ∷ xs) ys e = cc
 
 module _ (limits : Limits) (s t : Standing) (old new : SourceTold) where
   -- these messages were offered, the first of bytes that the source gave, and the reader closes so
-  reads_by : (close : Close) (bytes more : List ℕ) (ms : List Message) → Offers s.says s.pass t.pass t.refused ms 4 → IsSame s t → AreFirst limits bytes ms
+  reads_by : (close : Close) (bytes more : List ℕ) (ms : List Message) → Offers s.says s.inquiries t.inquiries s.pass t.pass t.refused ms 4 1 → IsSame s t → AreFirst limits bytes ms
       → (is_stopped close ≡ false → AreMessages limits bytes ms) → Gave old.left new.left (bytes ++ more)
       → (close ≢ OutOfMemory → ClosesStream limits s t old new bytes ms close) → (close ≢ VerifierFault → t.faults ≡ s.faults) → ReadsOne limits s t old new close
   reads_by close bytes more ms o same are all gave closes unfailed = record {
@@ -72,6 +73,7 @@ module _ (limits : Limits) (s t : Standing) (old new : SourceTold) where
     each = o.each;
     closes = λ some. rw o.messages_are (closes some);
     none_failed = unfailed;
+    inquired = at_most s.inquiries t.inquiries o.share _ _ (omega arith) o.inquired;
     turns = (
         let turns = o.turns in
         let count = counted s.pass.number o.offered in
@@ -95,13 +97,13 @@ module _ (limits : Limits) (s t : Standing) (old new : SourceTold) where
   gave_by bytes reading items ms (Malformed place) c = absurd c
   gave_by bytes reading items ms OutOfMemory c = absurd c
 
-  reads_out : (bytes more : List ℕ) (ms : List Message) → Offers s.says s.pass t.pass t.refused ms 4 → IsSame s t → AreFirst limits bytes ms → Gave old.left new.left (bytes ++ more) → t.faults ≡ s.faults
+  reads_out : (bytes more : List ℕ) (ms : List Message) → Offers s.says s.inquiries t.inquiries s.pass t.pass t.refused ms 4 1 → IsSame s t → AreFirst limits bytes ms → Gave old.left new.left (bytes ++ more) → t.faults ≡ s.faults
       → ReadsOne limits s t old new OutOfMemory
   reads_out bytes more ms o same are gave unfailed = reads_by OutOfMemory bytes more ms o same are (λ e. cc) gave (λ some. absurd (some refl)) (λ other. unfailed)
 
   module _ (bytes : List ℕ) (reading : Reading) (items : List Placed) (stream : Stream limits bytes reading items) where
     -- these messages were offered, others may come behind them, and the reader closes by this cause
-    reads_so : (close : Close) (ms later : List Message) → Offers s.says s.pass t.pass t.refused ms 4 → IsSame s t → ms ++ later ≡ messages limits.message_signatures items → (later ≡ [] → IsEnd (judged reading))
+    reads_so : (close : Close) (ms later : List Message) → Offers s.says s.inquiries t.inquiries s.pass t.pass t.refused ms 4 1 → IsSame s t → ms ++ later ≡ messages limits.message_signatures items → (later ≡ [] → IsEnd (judged reading))
         → (is_stopped close ≡ false → later ≡ []) → ClosesReader limits s t old new bytes reading items ms close → (close ≢ VerifierFault → t.faults ≡ s.faults) → ReadsOne limits s t old new close
     reads_so close ms later o same made whole unless closes unfailed =
         let gave = gave_by bytes reading items ms close closes in
@@ -143,7 +145,7 @@ module _ (limits : Limits) (s t : Standing) (old new : SourceTold) where
         → Gave old.left new.left bytes → (AreAsked s.pass t.pass ms → ClosesReader limits s t old new bytes reading items ms source_close) → ReadsOne limits s t old new close
     reads_ended source_close close ms (inl taken) all ends gave closes =
         subst (λ c. ReadsOne limits s t old new c) (sym taken.1)
-        (reads_so source_close ms [] (offers_besides s.says s.pass t.pass t.refused ms 0 4 (omega arith) taken.0.offers) taken.0.same (append-nil ms ∙ all) (λ none. ends) (λ unstopped. refl)
+        (reads_so source_close ms [] (offers_besides s.says s.inquiries t.inquiries s.pass t.pass t.refused ms 0 4 0 1 (omega arith) (omega arith) taken.0.offers) taken.0.same (append-nil ms ∙ all) (λ none. ends) (λ unstopped. refl)
         (closes taken.0.asked) (λ other. taken.0.none_failed))
     reads_ended source_close close ms (inr stopped) all ends gave closes = reads_stopped close ms [] stopped (append-nil ms ∙ all) (λ none some. ends) gave
 
@@ -160,15 +162,15 @@ reads_stream seen limits s t old new taker feed.ReadFault close last f e =
 reads_stream seen limits s t old new taker feed.Full close last f e =
     let taken : HasTaken s t f.answered = subst (λ x. HasTaken s x f.answered) (sym e.1) f.takes in
     subst (λ c. ReadsOne limits s t old new c) (sym e.0)
-    (reads_so limits s t old new f.fed f.reading f.items f.stream Full f.answered (all_of last) (offers_besides s.says s.pass t.pass t.refused f.answered 0 4 (omega arith) taken.offers) taken.same f.all
+    (reads_so limits s t old new f.fed f.reading f.items f.stream Full f.answered (all_of last) (offers_besides s.says s.inquiries t.inquiries s.pass t.pass t.refused f.answered 0 4 0 1 (omega arith) (omega arith) taken.offers) taken.same f.all
     (λ none. rw f.closes.0.unfinished_item tt) (λ e. cc) (inl (f.closes, record { last = last; all = f.all }, taken.asked)) (λ other. taken.none_failed))
 reads_stream seen limits s t old new taker feed.OutOfMemory close last f e =
     let taken : HasTaken s t f.answered = subst (λ x. HasTaken s x f.answered) (sym e.1) f.takes in
-    let offers = offers_besides s.says s.pass t.pass t.refused f.answered 0 4 (omega arith) taken.offers in
+    let offers = offers_besides s.says s.inquiries t.inquiries s.pass t.pass t.refused f.answered 0 4 0 1 (omega arith) (omega arith) taken.offers in
     subst (λ c. ReadsOne limits s t old new c) (sym e.0) (out last f.begun f.all taken offers)
   where
     out : (last : Option Message) → (last ≡ None → messages limits.message_signatures f.items ≡ []) → f.answered ++ all_of last ≡ messages limits.message_signatures f.items → HasTaken s t f.answered
-        → Offers s.says s.pass t.pass t.refused f.answered 4 → ReadsOne limits s t old new OutOfMemory
+        → Offers s.says s.inquiries t.inquiries s.pass t.pass t.refused f.answered 4 1 → ReadsOne limits s t old new OutOfMemory
     out (Some message) begun all taken offers =
         reads_out limits s t old new f.fed f.closes.0 f.answered offers taken.same (first_of limits f.fed f.reading f.items f.stream f.answered (message ∷ []) all (λ e. cc)) f.closes.1 taken.none_failed
     out None begun all taken offers =

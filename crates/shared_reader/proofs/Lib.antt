@@ -1,5 +1,6 @@
 pub mod Verdicts
 pub mod Turns
+pub mod Inquiries
 pub mod Asked
 pub mod Offered
 pub mod Taken

@@ -1,5 +1,5 @@
 -- What offering a message does to what a pass knows.
-use Rattle.std.proofs.Common.{◌≡◌, ◌≢◌, ℕ, suc, ◌≤◌, ◌⊎◌, inl, inr, List, [], ◌∷◌, ◌++◌, Option, Some, None, Result, Ok, Err, length-append, refl, sym, ◌∙◌, ap, subst, arith, append-nil, eq-eqb}
+use Rattle.std.proofs.Common.{◌≡◌, ◌≢◌, ℕ, suc, ◌+◌, ◌≤◌, ◌⊎◌, inl, inr, List, [], ◌∷◌, ◌++◌, Option, Some, None, Result, Ok, Err, length-append, refl, sym, ◌∙◌, ap, subst, arith, append-nil, eq-eqb}
 use Rattle.std.specs.Prelude.{All, filter, flat_map}
 use Rattle.std.proofs.lemmas.Bool.{cases_Bool}
 use Rattle.std.proofs.lemmas.Grind.{flat_map-append}
@@ -9,6 +9,7 @@ use Rattle.cesr_stream.specs.declared.message.Message.{Message}
 use Rattle.event_body.specs.declared.event.Event.{Event}
 use Rattle.event_body.specs.declared.body_fault.BodyFault.{BodyFault}
 use Rattle.keri_outside.specs.declared.limits.Limits.{Limits}
+use Rattle.keri_outside.specs.declared.inquiry.Inquiry.{Inquiry}
 use Rattle.journal.specs.declared.body.Body.{Body}
 use Rattle.journal.specs.declared.claim.Claim.{Claim}
 use Rattle.journal.specs.declared.refusal.Refusal.{Refusal}
@@ -19,12 +20,14 @@ use Rattle.journal.specs.CoreCalls.{Takes}
 use Rattle.journal.specs.Feeds.{GivesBody, entry_of, entry_unless, is_taken_by, noted_at, refusal_of}
 use Rattle.journal.specs.History.{Told, took, heard}
 use Rattle.journal.specs.Replies.{claims_of, is_again, is_full, refusal, reply_to}
+use Rattle.validator_core.specs.Verdicts.{inquiries_in}
 use Rattle.turn_lock.specs.Histories.{longer_share}
 use Rattle.turn_lock.specs.Known.{OwnsAlone}
 use Rattle.turn_lock.proofs.Histories.{longer_share-alone}
 use Rattle.reader_hub.specs.Hubs.{HubPass, TakesAt, TakesOver, TookTurn}
-use Rattle.shared_reader.specs.Asks.{Asks, IsVerdict, Says, TellsNothing}
+use Rattle.shared_reader.specs.Asks.{Asks, AsksFor, IsVerdict, Says, TellsNothing, verdict_count}
 use Rattle.shared_reader.specs.Offers.{IsEntryOf, IsTurnedAway, Offers, OffersOne}
+use Rattle.shared_reader.proofs.Inquiries.{asked_on, at_most, none_asked}
 use Rattle.shared_reader.proofs.Turns.{idle_turn, seen_then, stays_on, turn_grows, turn_stays}
 
 -- what is noted of a message by the reply to it
@@ -142,8 +145,15 @@ entry_own n says None m (Ok e) = All-cons (IsEntryOf n says) _ [] refl (All-nil 
 entry_own n says None m (Err fault) = All-nil _
 entry_own n says (Some reason) m gives = All-nil _
 
-pub offers_besides : (says : Says) (p q : HubPass) (refused : List Refusal) (ms : List Message) (k j : ℕ) → k ≤ j → Offers says p q refused ms k → Offers says p q refused ms j
-offers_besides says p q refused ms k j le o = record {
+-- and is no verdict
+entry_unasked : (n : ℕ) (r : Option Reason) (m : Message) (gives : Result Event BodyFault) → inquiries_in (entry_unless r n m gives) ≡ []
+entry_unasked n None m (Ok e) = refl
+entry_unasked n None m (Err fault) = refl
+entry_unasked n (Some reason) m gives = refl
+
+pub offers_besides : (says : Says) (begun now : Option (List Inquiry)) (p q : HubPass) (refused : List Refusal) (ms : List Message) (k j c d : ℕ) → k ≤ j → c ≤ d → Offers says begun now p q refused ms k c
+    → Offers says begun now p q refused ms j d
+offers_besides says begun now p q refused ms k j c d le few o = record {
   stays = o.stays;
   share = o.share;
   own = o.own;
@@ -154,11 +164,12 @@ offers_besides says p q refused ms k j le o = record {
   refused_are = o.refused_are;
   each = o.each;
   turns = (let turns = o.turns in omega (arith, turns, le));
+  inquired = at_most begun now o.share _ _ (omega (arith, few)) o.inquired;
 }
 
-module _ (says : Says) (first p : HubPass) (refused : List Refusal) (before : List Message) (o : Offers says first p refused before 0) where
+module _ (says : Says) (begun asked : Option (List Inquiry)) (first p : HubPass) (refused : List Refusal) (before : List Message) (o : Offers says begun asked first p refused before 0 0) where
   -- nothing more was offered
-  pub offers_still : (q : HubPass) → TellsNothing p q 1 → Offers says first q refused before 4
+  pub offers_still : (q : HubPass) → TellsNothing p q 1 → Offers says begun asked first q refused before 4 1
   offers_still q t = record {
     stays = stays_on first p q o.stays t.stays;
     share = o.share;
@@ -170,10 +181,11 @@ module _ (says : Says) (first p : HubPass) (refused : List Refusal) (before : Li
     refused_are = o.refused_are;
     each = o.each;
     turns = (let turns = o.turns in let more = t.turns in let seen = t.seen in omega (arith, turns, more, seen));
+    inquired = (let seen = t.seen in at_most begun asked o.share _ _ (omega (arith, seen)) o.inquired);
   }
 
   -- a message was offered, and then verdicts came
-  module _ (q r : HubPass) (later : List Refusal) (m : Message) (k j : ℕ) (le : k ≤ suc j) (w : OffersOne p q refused later m) (a : Asks says q r k) where
+  module _ (now : Option (List Inquiry)) (q r : HubPass) (later : List Refusal) (m : Message) (k j c : ℕ) (le : k ≤ suc j) (w : OffersOne p q refused later m) (a : Asks says asked now q r k c) where
     abbrev n : ℕ
     n = first.number
 
@@ -209,7 +221,14 @@ module _ (says : Says) (first p : HubPass) (refused : List Refusal) (before : Li
         (All-append (IsEntryOf n says) o.share entry o.each (subst (λ k. All (IsEntryOf n says) (entry_of k w.offered)) (sym o.stays.number) (entry_own n says (refusal w.offered.message w.offered.gives) w.offered.message w.offered.gives)))
         (All-weaker (IsVerdict n says) (IsEntryOf n says) (verdict_entry n says) a.verdicts each_verdict)
 
-    pub offers_more : Offers says first r later (before ++ m ∷ []) j
+    inquired_now : AsksFor begun now share (verdict_count r.seen + c)
+    inquired_now =
+        let grown = w.seen in
+        let seen = a.seen in
+        let none = none_asked asked entry (entry_unasked p.number (refusal w.offered.message w.offered.gives) w.offered.message w.offered.gives) in
+        asked_on begun asked now (o.share ++ entry) a.verdicts _ _ _ (omega (arith, grown, seen)) (asked_on begun asked asked o.share entry _ 0 (verdict_count p.seen) (omega arith) o.inquired none) a.inquired
+
+    pub offers_more : Offers says begun now first r later (before ++ m ∷ []) j c
     offers_more = record {
       stays = stays_on first p r o.stays (stays_on p q r w.stays a.stays);
       share = share;
@@ -229,4 +248,5 @@ module _ (says : Says) (first p : HubPass) (refused : List Refusal) (before : Li
           let long = length-append o.offered (w.offered ∷ []) in
           omega (arith, turns, one, grown, more, seen, long, le)
           );
+      inquired = inquired_now;
     }

@@ -11,6 +11,7 @@ use Rattle.run_status.specs.declared.close.Close.TheVariants.{End, Bad, ReadFaul
 use Rattle.shared_reader.specs.Asks.{Asks, HasNoneOpen, StopsAsking, TellsNothing}
 use Rattle.shared_reader.specs.Offers.{IsKeptOut, OffersOne}
 use Rattle.shared_reader.specs.Taken.{AreAsked, HasTaken, IsSame, IsStopped, Standing, StopsAt, TakesOne}
+use Rattle.shared_reader.proofs.Inquiries.{at_most, none_asked}
 use Rattle.shared_reader.proofs.Offered.{offers_more, offers_still}
 
 pub if_ok : {A E : Type 0} (r : Result A E) (P Q : Type 0) → (P → Q) → OnOk r P → OnOk r Q
@@ -40,6 +41,7 @@ nothing_taken s own none = record {
     refused_are = none;
     each = All-nil _;
     turns = omega arith;
+    inquired = at_most s.inquiries s.inquiries [] 0 _ (omega arith) (none_asked s.inquiries [] refl);
   };
   asked = refl;
   none_failed = refl;
@@ -84,30 +86,32 @@ module _ (old new : Standing) (m : Message) (same : IsSame old new) where
   same_on s is = record { limit = same.limit ∙ is.limit; lock = same.lock ∙ is.lock; says = same.says ∙ is.says }
 
   -- it wasn't offered
-  pub kept_out : (close : Close) → TellsNothing old.pass new.pass 1 → new.refused ≡ old.refused → IsKeptOut old.limit new.pass m close → new.faults ≡ old.faults → StopsAt m old new close
-  kept_out close nothing kept why none first before h = record {
+  pub kept_out : (close : Close) → TellsNothing old.pass new.pass 1 → new.refused ≡ old.refused → new.inquiries ≡ old.inquiries → IsKeptOut old.limit new.pass m close → new.faults ≡ old.faults
+      → StopsAt m old new close
+  kept_out close nothing kept unasked why none first before h = record {
     same = same_on first h.same;
     some = no_end before m;
     offered = before;
     rest = m ∷ [];
     all = refl;
-    offers = rw kept (offers_still first.says first.pass old.pass old.refused before h.offers new.pass nothing);
+    offers = rw (kept, unasked) (offers_still first.says first.inquiries old.inquiries first.pass old.pass old.refused before h.offers new.pass nothing);
     why = kept_by first old new h.same.limit h.none_failed m close why none;
   }
 
   module _ (q : HubPass) (w : OffersOne old.pass q old.refused new.refused m) where
     -- it was offered, and all that was open then was asked
-    pub taken_on : {E : Type 0} (r : Result (Unit {0}) E) → OnOk r (Asks old.says q new.pass 1) → OnOk r (HasNoneOpen new.pass) → OnOk r (new.faults ≡ old.faults) → OnOk r (TakesOne m old new)
+    pub taken_on : {E : Type 0} (r : Result (Unit {0}) E) → OnOk r (Asks old.says old.inquiries new.inquiries q new.pass 1 0) → OnOk r (HasNoneOpen new.pass) → OnOk r (new.faults ≡ old.faults) → OnOk r (TakesOne m old new)
     taken_on (Err e) asks none kept = tt
     taken_on (Ok done) asks none kept = λ first before h. record {
       same = same_on first h.same;
-      offers = offers_more first.says first.pass old.pass old.refused before h.offers q new.pass new.refused m 1 0 (omega arith) w (subst (λ x. Asks x q new.pass 1) h.same.says asks);
+      offers = offers_more first.says first.inquiries old.inquiries first.pass old.pass old.refused before h.offers new.inquiries q new.pass new.refused m 1 0 0 (omega arith) w
+          (subst (λ x. Asks x old.inquiries new.inquiries q new.pass 1 0) h.same.says asks);
       asked = asked_more first.pass new.pass before m none;
       none_failed = kept ∙ h.none_failed;
     }
 
     -- or the reader stopped there
-    pub stopped_on : {A : Type 0} (r : Result A Close) → IfErr r (λ close. Asks old.says q new.pass 4) → IfErr r (StopsAsking old.limit new.pass old.faults new.faults) → IfErr r (StopsAt m old new)
+    pub stopped_on : {A : Type 0} (r : Result A Close) → IfErr r (λ close. Asks old.says old.inquiries new.inquiries q new.pass 4 1) → IfErr r (StopsAsking old.limit new.pass old.faults new.faults) → IfErr r (StopsAt m old new)
     stopped_on (Ok done) asks stops = tt
     stopped_on (Err close) asks stops = λ first before h. record {
       same = same_on first h.same;
@@ -115,6 +119,7 @@ module _ (old new : Standing) (m : Message) (same : IsSame old new) where
       offered = before ++ m ∷ [];
       rest = [];
       all = sym (append-nil _);
-      offers = offers_more first.says first.pass old.pass old.refused before h.offers q new.pass new.refused m 4 4 (omega arith) w (subst (λ x. Asks x q new.pass 4) h.same.says asks);
+      offers = offers_more first.says first.inquiries old.inquiries first.pass old.pass old.refused before h.offers new.inquiries q new.pass new.refused m 4 4 1 (omega arith) w
+          (subst (λ x. Asks x old.inquiries new.inquiries q new.pass 4 1) h.same.says asks);
       why = stopped_by first old new h.same.limit h.none_failed [] close stops;
     }

@@ -1,10 +1,14 @@
 -- What asking does to what a pass knows.
-use Rattle.std.specs.Prelude.{◌≡◌, ℕ, ◌+◌, ◌*◌, ◌≤◌, Bool, List, [], length, flat_map, Option, Some, IfSome, All}
+use Rattle.std.specs.Prelude.{◌≡◌, ℕ, ◌+◌, ◌-◌, ◌*◌, ◌≤◌, Bool, List, [], length, flat_map, Option, Some, IfSome, All}
+use mathlib.Core.List.{Sublist}
 use Rattle.keri_specs.specs.Causes.{Rose}
+use Rattle.keri_specs.specs.Told.{after}
+use Rattle.keri_outside.specs.declared.inquiry.Inquiry.{Inquiry}
 use Rattle.cesr_codes.specs.declared.key.Key.{Key}
 use Rattle.cesr_codes.specs.declared.sig.Sig.{Sig}
 use Rattle.journal.specs.History.{Told, took, heard, heard_in}
 use Rattle.journal.specs.Questions.{questions}
+use Rattle.validator_core.specs.Verdicts.{inquiries_in}
 use Rattle.turn_lock.specs.Histories.{longer_share}
 use Rattle.reader_hub.specs.Hubs.{HubPass}
 use Rattle.reader_hub.specs.declared.core_head.CoreHead.{CoreHead}
@@ -31,6 +35,14 @@ abbrev pub IsVerdict : ℕ → Says → Told → Type 0
 IsVerdict n says (took reader b claims) = ⊥
 IsVerdict n says (heard reader b key sig verdict) = (reader ≡ n) × IfSome (says key b.bytes sig) (λ said. verdict ≡ said)
 
+-- Behind the inquiries of before came others, where they are told: among them, in order, those for these verdicts, and at most so
+-- many in all.
+pub record AsksFor (before now : Option (List Inquiry)) (verdicts : List Told) (most : ℕ) : Type 0 where
+  pub all : List Inquiry
+  pub now_is : now ≡ after before all
+  pub in_order : Sublist (inquiries_in verdicts) all
+  pub few : length all ≤ most
+
 -- the number, the splits and the head of a pass stay
 pub record Stays (p q : HubPass) : Type 0 where
   pub number : q.number ≡ p.number
@@ -44,15 +56,16 @@ pub record TellsNothing (p q : HubPass) (besides : ℕ) : Type 0 where
   pub seen : verdict_count p.seen ≤ verdict_count q.seen
   pub turns : q.turns ≤ p.turns + besides
 
--- Verdicts came to the pass's share, and nothing else. At most two turns were taken for each verdict more in what it has seen,
--- and so many besides.
-pub record Asks (says : Says) (p q : HubPass) (besides : ℕ) : Type 0 where
+-- Verdicts came to the pass's share, and nothing else, and the verifier was asked for them. For each verdict more in what it has
+-- seen at most two turns were taken and one question was asked; so many turns besides, and so many questions.
+pub record Asks (says : Says) (before now : Option (List Inquiry)) (p q : HubPass) (besides unheard : ℕ) : Type 0 where
   pub stays : Stays p q
   pub verdicts : List Told
   pub own : q.own ≡ longer_share p.number verdicts p.own
   pub each : All (IsVerdict p.number says) verdicts
   pub seen : verdict_count p.seen ≤ verdict_count q.seen
   pub turns : q.turns + 2 * verdict_count p.seen ≤ p.turns + 2 * verdict_count q.seen + besides
+  pub inquired : AsksFor before now verdicts (verdict_count q.seen - verdict_count p.seen + unheard)
 
 -- of what the pass has seen no question is open
 pub record HasNoneOpen (q : HubPass) : Type 0 where

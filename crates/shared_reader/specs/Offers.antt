@@ -1,6 +1,7 @@
 -- What offering messages does to what a pass knows.
-use Rattle.std.specs.Prelude.{◌≡◌, ℕ, suc, ◌+◌, ◌*◌, ◌≤◌, ◌⊎◌, List, ◌++◌, length, map, filter, flat_map, Some, IfSome, All}
+use Rattle.std.specs.Prelude.{◌≡◌, ℕ, suc, ◌+◌, ◌*◌, ◌≤◌, ◌⊎◌, List, ◌++◌, length, map, filter, flat_map, Option, Some, IfSome, All}
 use Rattle.cesr_stream.specs.declared.message.Message.{Message}
+use Rattle.keri_outside.specs.declared.inquiry.Inquiry.{Inquiry}
 use Rattle.journal.specs.declared.refusal.Refusal.{Refusal}
 use Rattle.journal.specs.declared.reply.Reply.TheVariants.{Full as FullReply}
 use Rattle.journal.specs.Feeds.{GivesBody, Judged, entry_of, refusal_of, is_taken_by}
@@ -11,7 +12,7 @@ use Rattle.reader_hub.specs.Hubs.{HubPass, TakesOver}
 use Rattle.reader_hub.specs.declared.core_head.CoreHead.{CoreHead}
 use Rattle.run_status.specs.declared.close.Close.{Close}
 use Rattle.run_status.specs.declared.close.Close.TheVariants.{End, Bad, ReadFault, VerifierFault, SignerFault, DiskFault, WriteFault, Malformed, Full, OutOfMemory}
-use Rattle.shared_reader.specs.Asks.{Says, Stays, verdict_count}
+use Rattle.shared_reader.specs.Asks.{AsksFor, Says, Stays, verdict_count}
 
 -- a core that was told what the pass has seen would have no room for the message
 pub record IsTurnedAway (q : HubPass) (m : Message) : Type 0 where
@@ -49,9 +50,10 @@ IsEntryOf n says (took reader b claims) = reader ≡ n
 IsEntryOf n says (heard reader b key sig verdict) = (reader ≡ n) × IfSome (says key b.bytes sig) (λ said. verdict ≡ said)
 
 -- Since the pass knew p, with an empty share, these messages were offered: those that aren't refused are its entries, the
--- others are noted, and its verdicts are what is said. At most two turns were taken for each message and for each verdict in
--- what the pass has seen, and so many besides.
-pub record Offers (says : Says) (p q : HubPass) (refused : List Refusal) (messages : List Message) (besides : ℕ) : Type 0 where
+-- others are noted, and its verdicts are what the verifier says, who was asked for them. At most two turns were taken for each
+-- message and for each verdict in what the pass has seen, and so many besides; for each such verdict one question at most was
+-- asked, and so many besides.
+pub record Offers (says : Says) (before now : Option (List Inquiry)) (p q : HubPass) (refused : List Refusal) (messages : List Message) (besides unheard : ℕ) : Type 0 where
   pub stays : Stays p q
   pub share : List Told
   pub own : OwnsAlone q share
@@ -62,3 +64,4 @@ pub record Offers (says : Says) (p q : HubPass) (refused : List Refusal) (messag
   pub refused_are : refused ≡ flat_map refusal_of offered
   pub each : All (IsEntryOf p.number says) share
   pub turns : q.turns ≤ p.turns + 2 * (length offered + verdict_count q.seen) + besides
+  pub inquired : AsksFor before now share (verdict_count q.seen + unheard)

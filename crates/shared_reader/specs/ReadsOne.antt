@@ -1,5 +1,5 @@
 -- What one reader does.
-use Rattle.std.specs.Prelude.{◌≡◌, ◌≢◌, ℕ, ◌+◌, ◌*◌, ◌≤◌, ◌⊎◌, Bool, true, false, List, [], ◌∷◌, ◌++◌, length, map, filter, All}
+use Rattle.std.specs.Prelude.{◌≡◌, ◌≢◌, ℕ, suc, ◌+◌, ◌*◌, ◌≤◌, ◌⊎◌, Bool, true, false, List, [], ◌∷◌, ◌++◌, length, map, filter, All}
 use Rattle.std.specs.declared.option.Option.{Option}
 use Rattle.std.specs.declared.option.Option.TheVariants.{Some}
 use Rattle.keri_specs.specs.Causes.{Rose}
@@ -21,7 +21,7 @@ use Rattle.reader_hub.specs.Hubs.{HubPass}
 use Rattle.run_status.specs.Readers.{SourceTold}
 use Rattle.run_status.specs.declared.close.Close.{Close}
 use Rattle.run_status.specs.declared.close.Close.TheVariants.{End, Bad, ReadFault, VerifierFault, SignerFault, DiskFault, WriteFault, Malformed, Full, OutOfMemory}
-use Rattle.shared_reader.specs.Asks.{Stays, verdict_count}
+use Rattle.shared_reader.specs.Asks.{AsksFor, Stays, verdict_count}
 use Rattle.shared_reader.specs.Offers.{IsEntryOf, IsTurnedAway}
 use Rattle.shared_reader.specs.Taken.{AreAsked, IsSame, Standing}
 
@@ -87,8 +87,9 @@ module _ (limits : Limits) (s t : Standing) (old new : SourceTold) where
   -- Of a lock for so many turns, and a pass with an empty share: the source gave the bytes, and maybe more. The first messages of
   -- the bytes were offered: those that aren't refused are the pass's entries, the others are noted. Its share has no other
   -- entries but verdicts, and they are what the verifier says. Unless there was no memory, the reader closed by its cause; and
-  -- unless the verifier's fault closed it, that one never failed. At most two turns were taken for each message offered and for
-  -- each verdict that the pass has seen, and four besides.
+  -- unless the verifier's fault closed it, that one never failed. The verifier was asked for the verdicts of the share, in order,
+  -- and in all at most once for each verdict that the pass has seen, and once more. At most two turns were taken for each message
+  -- offered and for each verdict that the pass has seen, and four besides.
   pub record ReadsOne (close : Close) : Type 0 where
     pub same : IsSame s t
     pub stays : Stays s.pass t.pass
@@ -101,4 +102,5 @@ module _ (limits : Limits) (s t : Standing) (old new : SourceTold) where
     pub each : All (IsEntryOf s.pass.number s.says) share
     pub closes : close ≢ OutOfMemory → ClosesStream bytes (map (λ j. j.message) feeds_are.offered) close
     pub none_failed : close ≢ VerifierFault → t.faults ≡ s.faults
+    pub inquired : AsksFor s.inquiries t.inquiries share (suc (verdict_count t.pass.seen))
     pub turns : t.pass.turns ≤ s.pass.turns + 2 * (length (filter (is_taken_by s.pass.number) share) + length t.refused + verdict_count t.pass.seen + 2)

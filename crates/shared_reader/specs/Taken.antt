@@ -3,6 +3,7 @@ use Rattle.std.specs.Prelude.{◌≡◌, ◌≢◌, ℕ, ◌⊎◌, List, [], �
 use Rattle.keri_specs.specs.Causes.{Rose}
 use Rattle.cesr_stream.specs.declared.message.Message.{Message}
 use Rattle.cesr_stream.specs.Assembly.{all_of}
+use Rattle.keri_outside.specs.declared.inquiry.Inquiry.{Inquiry}
 use Rattle.journal.specs.declared.refusal.Refusal.{Refusal}
 use Rattle.message_feed.specs.declared.feed_close.FeedClose.{FeedClose}
 use Rattle.message_feed.specs.declared.feed_close.FeedClose.TheVariants as feed
@@ -13,18 +14,27 @@ use Rattle.run_status.specs.declared.close.Close.TheVariants.{End, Bad, ReadFaul
 use Rattle.shared_reader.specs.Asks.{HasNoneOpen, Says}
 use Rattle.shared_reader.specs.Offers.{IsTurnedAway, Offers}
 
--- what is seen of a reader at one time: the limit of its lock and which lock it is, what its pass knows, what its verifier says
--- and how often that has failed, and what it refused
+-- what is seen of a reader at one time: the limit of its lock and which lock it is, what its pass knows, what its verifier says,
+-- what that was asked and how often it has failed, and what it refused
 pub record Standing : Type 0 where
   pub limit : ℕ
   pub lock : LockId
   pub pass : HubPass
   pub says : Says
+  pub inquiries : Option (List Inquiry)
   pub faults : ℕ
   pub refused : List Refusal
 
-abbrev pub standing : ℕ → LockId → HubPass → Says → ℕ → List Refusal → Standing
-standing limit lock pass says faults refused = record { limit = limit; lock = lock; pass = pass; says = says; faults = faults; refused = refused }
+abbrev pub standing : ℕ → LockId → HubPass → Says → Option (List Inquiry) → ℕ → List Refusal → Standing
+standing limit lock pass says inquiries faults refused = record {
+  limit = limit;
+  lock = lock;
+  pass = pass;
+  says = says;
+  inquiries = inquiries;
+  faults = faults;
+  refused = refused;
+}
 
 -- the lock and the verifier are the same
 pub record IsSame (s t : Standing) : Type 0 where
@@ -40,7 +50,7 @@ AreAsked p q (m ∷ messages) = HasNoneOpen q
 -- these messages were offered, all that was open behind the last of them was asked, and the verifier hasn't failed
 pub record HasTaken (s t : Standing) (messages : List Message) : Type 0 where
   pub same : IsSame s t
-  pub offers : Offers s.says s.pass t.pass t.refused messages 0
+  pub offers : Offers s.says s.inquiries t.inquiries s.pass t.pass t.refused messages 0 0
   pub asked : AreAsked s.pass t.pass messages
   pub none_failed : t.faults ≡ s.faults
 
@@ -71,7 +81,7 @@ pub record HasStopped (s t : Standing) (close : Close) (messages : List Message)
   pub offered : List Message
   pub rest : List Message
   pub all : messages ≡ offered ++ rest
-  pub offers : Offers s.says s.pass t.pass t.refused offered 4
+  pub offers : Offers s.says s.inquiries t.inquiries s.pass t.pass t.refused offered 4 1
   pub why : IsStopped s t rest close
 
 -- one message more was taken

@@ -33,9 +33,11 @@ impl<'a, V: Verifier + Drop, G: Gate, W: Wait> Taker for HubTaker<'a, V, G, W> {
 
     type Stop = Close;
 
-    ghost has_taken = { λ first now. HasTaken (standing_of V.says V.faults first) (standing_of V.says V.faults now) };
+    ghost has_taken = { λ first now. HasTaken (standing_of V.says V.inquiries V.faults first)
+        (standing_of V.says V.inquiries V.faults now) };
 
-    ghost has_stopped = { λ first now. HasStopped (standing_of V.says V.faults first) (standing_of V.says V.faults now) };
+    ghost has_stopped = { λ first now. HasStopped (standing_of V.says V.inquiries V.faults first)
+        (standing_of V.says V.inquiries V.faults now) };
 
     fn take(&mut self, message: Message) -> Result<(), Close> {
         self.take_message(&message)
@@ -49,10 +51,10 @@ impl<'a, V: Verifier + Drop, G: Gate, W: Wait> HubTaker<'a, V, G, W> {
 
     // Offers a message between the two calls of the gate.
     fn take_message(&mut self, message: &Message) -> Result<(), Close>
-        ensures ok { OnOk result (TakesOne message.now (standing_of V.says V.faults self.old)
-            (standing_of V.says V.faults self.new)) }
-        ensures err { IfErr result (StopsAt message.now (standing_of V.says V.faults self.old)
-            (standing_of V.says V.faults self.new)) }
+        ensures ok { OnOk result (TakesOne message.now (standing_of V.says V.inquiries V.faults self.old)
+            (standing_of V.says V.inquiries V.faults self.new)) }
+        ensures err { IfErr result (StopsAt message.now (standing_of V.says V.inquiries V.faults self.old)
+            (standing_of V.says V.inquiries V.faults self.new)) }
     {
         let number = self.pass.number();
         self.gate.before(number, self.count);
@@ -72,8 +74,8 @@ impl<'a, V: Verifier + Drop, G: Gate, W: Wait> HubTaker<'a, V, G, W> {
 
     /// Takes the last message, where there is one and nothing stopped the reader before it, and answers how it closes.
     pub(crate) fn finish(&mut self, close: FeedClose<Close>, last: Option<Message>) -> Close
-        ensures { Finishes close last (standing_of V.says V.faults self.old) (standing_of V.says V.faults self.new)
-            result }
+        ensures { Finishes close last (standing_of V.says V.inquiries V.faults self.old)
+            (standing_of V.says V.inquiries V.faults self.new) result }
     {
         let close = match close {
             FeedClose::End => Close::End,
@@ -88,8 +90,8 @@ impl<'a, V: Verifier + Drop, G: Gate, W: Wait> HubTaker<'a, V, G, W> {
 
     // Takes the last message, where there is one.
     fn take_last(&mut self, close: Close, last: Option<Message>) -> Close
-        ensures { TakesLast close last (standing_of V.says V.faults self.old) (standing_of V.says V.faults self.new)
-            result }
+        ensures { TakesLast close last (standing_of V.says V.inquiries V.faults self.old)
+            (standing_of V.says V.inquiries V.faults self.new) result }
     {
         match last {
             Some(message) => match self.take_message(&message) {

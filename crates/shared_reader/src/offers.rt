@@ -29,14 +29,14 @@ pub(crate) fn offer<V: Verifier, W: Wait>(
     ensures pass { IsPassOf hub.now.turn pass.new }
     ensures ok { OnOk result (TakesOne message.now
         (standing (limit_of hub.now.turn) (lock_of pass.old) (known pass.old) (V.says verifier.old)
-        (V.faults verifier.old) refused.old.items)
+        (V.inquiries verifier.old) (V.faults verifier.old) refused.old.items)
         (standing (limit_of hub.now.turn) (lock_of pass.new) (known pass.new) (V.says verifier.new)
-        (V.faults verifier.new) refused.new.items)) }
+        (V.inquiries verifier.new) (V.faults verifier.new) refused.new.items)) }
     ensures err { IfErr result (StopsAt message.now
         (standing (limit_of hub.now.turn) (lock_of pass.old) (known pass.old) (V.says verifier.old)
-        (V.faults verifier.old) refused.old.items)
+        (V.inquiries verifier.old) (V.faults verifier.old) refused.old.items)
         (standing (limit_of hub.now.turn) (lock_of pass.new) (known pass.new) (V.says verifier.new)
-        (V.faults verifier.new) refused.new.items)) }
+        (V.inquiries verifier.new) (V.faults verifier.new) refused.new.items)) }
 {
     match hand_in(rt, alloc, hub, pass, refused, message) {
         Ok(()) => ask_open(rt, alloc, hub, pass, verifier),

@@ -41,9 +41,10 @@ pub fn read_one<S: Source + Drop, V: Verifier + Drop, G: Gate, W: Wait>(
     requires own { OwnsAlone (known pass) [] }
     ensures pass { IsPassOf hub.now.turn result.pass }
     ensures reads { ReadsOne limits
-        (standing (limit_of hub.now.turn) (lock_of pass) (known pass) (V.says verifier) (V.faults verifier) [])
+        (standing (limit_of hub.now.turn) (lock_of pass) (known pass) (V.says verifier) (V.inquiries verifier)
+        (V.faults verifier) [])
         (standing (limit_of hub.now.turn) (lock_of result.pass) (known result.pass) (V.says result.verifier)
-        (V.faults result.verifier) result.refused.items)
+        (V.inquiries result.verifier) (V.faults result.verifier) result.refused.items)
         (source_told (S.left source) (S.faults source)) (source_told (S.left result.source) (S.faults result.source))
         result.close }
 {

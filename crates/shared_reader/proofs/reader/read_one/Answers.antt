@@ -14,12 +14,13 @@ feed_messages-close-requires g c = record { none_taken = nothing_taken _ c.requi
 pub returns : goal.returns
 returns g c =
     let says = g.V.Verifier.says in
+    let inquiries = g.V.Verifier.inquiries in
     let faults = g.V.Verifier.faults in
     let source = c.feed_messages-close.new.source in
-    let s : Standing = standing (limit_of c.args.hub.now.turn) (lock_of c.args.pass) (known c.args.pass) (says c.args.verifier) (faults c.args.verifier) c.new.result.items in
-    let t : Standing = standing_of says faults c.finish-close.new.self in
+    let s : Standing = standing (limit_of c.args.hub.now.turn) (lock_of c.args.pass) (known c.args.pass) (says c.args.verifier) (inquiries c.args.verifier) (faults c.args.verifier) c.new.result.items in
+    let t : Standing = standing_of says inquiries faults c.finish-close.new.self in
     let old : SourceTold = source_told (g.S.Source.left c.args.source) (g.S.Source.faults c.args.source) in
     let new : SourceTold = source_told (g.S.Source.left source) (g.S.Source.faults source) in
-    let reads = reads_stream (standing_of says faults) c.args.limits s t old new c.feed_messages-close.new.taker c.feed_messages-close.result.0 c.finish-close.result c.feed_messages-close.result.1
+    let reads = reads_stream (standing_of says inquiries faults) c.args.limits s t old new c.feed_messages-close.new.taker c.feed_messages-close.result.0 c.finish-close.result c.feed_messages-close.result.1
     c.feed_messages-close.ensures.feeds c.finish-close.ensures in
     record { pass = reads.same.lock ∙ c.requires.pass; reads = reads_at c.args.limits s t old new c.finish-close.result c.new.ensures.items reads }

@@ -1,0 +1,14 @@
+pub mod Threads
+pub mod Seats
+pub mod Kept
+pub mod Shares
+pub mod Counts
+pub mod Carried
+pub mod OneFed
+pub mod Readers
+pub mod Closed
+pub mod Ended
+pub mod Verdicts
+pub mod Rounds
+pub mod Rest
+pub mod Crosses

@@ -1,0 +1,47 @@
+use Rattle.std.proofs.Common.{◌≡◌, length, map, sym, ap, ◌∙◌, subst, arith}
+use Rattle.run_status.specs.Readers.{reader_seen}
+use Rattle.reader_threads.specs.Given.{given_by}
+use Rattle.reader_threads.specs.LastRound.{AsksRest}
+use Rattle.reader_threads.specs.Seats.{mode_of}
+use Rattle.reader_threads.specs.Told.{AllTold}
+use Rattle.reader_threads.proofs.Ended.{same_count, written_back}
+use Rattle.reader_threads.proofs.Rest.{all_told}
+use Rattle.reader_threads.proofs.reader_seats.ReaderSeats.read.Goals as goal
+
+pub ask_rest-rest-requires : goal.ask_rest-rest-requires
+ask_rest-rest-requires g c =
+    let given = given_by g.S.Source.left g.S.Source.faults g.V.Verifier.says g.V.Verifier.inquiries g.V.Verifier.faults in
+    let seen = reader_seen g.S.Source.left g.S.Source.faults g.V.Verifier.says g.V.Verifier.inquiries g.V.Verifier.faults in
+    let count = same_count _ _ _ given seen c.args.providers.items c.run-core.result.1.items c.run-core.ensures.read in
+    let same = ap length c.as_mut_slice.ensures.value in
+    let few = c.requires.seats.few in
+    let all = c.args.providers.ok.0 in
+    record { few = omega (arith, count, same, few, all) }
+
+pub returns-clause-count : goal.returns-clause-count
+returns-clause-count g c =
+    let given = given_by g.S.Source.left g.S.Source.faults g.V.Verifier.says g.V.Verifier.inquiries g.V.Verifier.faults in
+    let seen = reader_seen g.S.Source.left g.S.Source.faults g.V.Verifier.says g.V.Verifier.inquiries g.V.Verifier.faults in
+    let readers = c.run-core.result.1 in
+    let now = c.ask_rest-rest.new.readers in
+    let still : length now ≡ length readers.items = c.ask_rest-rest.auto.readers ∙ ap length c.as_mut_slice.ensures.value in
+    ap length (written_back now readers.items readers.len still readers.ok.0)
+    ∙ (still ∙ same_count _ _ _ given seen c.args.providers.items readers.items c.run-core.ensures.read)
+
+pub returns-clause-told : goal.returns-clause-told
+returns-clause-told g c =
+    let given = given_by g.S.Source.left g.S.Source.faults g.V.Verifier.says g.V.Verifier.inquiries g.V.Verifier.faults in
+    let seen = reader_seen g.S.Source.left g.S.Source.faults g.V.Verifier.says g.V.Verifier.inquiries g.V.Verifier.faults in
+    let self = c.args.self in
+    let providers = c.args.providers.items in
+    let readers = c.run-core.result.1 in
+    let now = c.ask_rest-rest.new.readers in
+    let old = c.run-core.result.0 in
+    let core = c.ask_rest-rest.new.core in
+    let rest = c.ask_rest-rest.result in
+    let before = c.run-core.ensures in
+    let same = c.as_mut_slice.ensures.value in
+    let still : length now ≡ length readers.items = c.ask_rest-rest.auto.readers ∙ ap length same in
+    let asks = subst (λ l. AsksRest 0 (map seen l) (map seen now) old core rest) same c.ask_rest-rest.ensures in
+    subst (λ l. AllTold (mode_of self) self.limits (map given providers) (map seen l) rest core) (sym (written_back now readers.items readers.len still readers.ok.0))
+    (all_told (mode_of self) self.limits (map given providers) (map seen readers.items) (map seen now) old core rest before.read asks before.mode before.limits before.no_base c.stands.ensures)

@@ -1,0 +1,6 @@
+use Rattle.std.proofs.Common.{vec_len}
+use Rattle.reader_threads.proofs.started.+start.Given as goal
+
+-- one job fewer is left
+abbrev pub decreases-start : goal.decreases-start
+decreases-start g l = vec_len l.jobs

@@ -1,0 +1,37 @@
+-- What a reader does for its job.
+use Rattle.std.specs.Prelude.{ℕ, Bool, List, [], map, Option}
+use Rattle.cesr_codes.specs.declared.key.Key.{Key}
+use Rattle.cesr_codes.specs.declared.sig.Sig.{Sig}
+use Rattle.journal.specs.History.{Told}
+use Rattle.keri_outside.specs.declared.inquiry.Inquiry.{Inquiry}
+use Rattle.keri_outside.specs.declared.limits.Limits.{Limits}
+use Rattle.run_status.specs.Readers.{reader_seen}
+use Rattle.turn_lock.specs.Known.{OwnsAlone}
+use Rattle.turn_lock.specs.Locks.{IsPassOf, known, lock_of}
+use Rattle.turn_lock.specs.declared.pass.Pass.{Pass}
+use Rattle.reader_hub.specs.declared.core_head.CoreHead.{CoreHead}
+use Rattle.reader_hub.specs.declared.hub.Hub.{Hub}
+use Rattle.reader_threads.specs.Given.{given_by}
+use Rattle.reader_threads.specs.Runs.{PassSeen, RunsBy}
+use Rattle.reader_threads.specs.declared.job.Job.{Job}
+use Rattle.reader_threads.specs.declared.job.JobEnd.{JobEnd}
+
+module _ {C : Type 0} where
+  module _ {g : _} where
+    abbrev pub pass_seen : Pass C Told CoreHead g → PassSeen
+    pass_seen pass = record { lock = lock_of pass; pass = known pass }
+
+    abbrev pub passes_seen : List (Pass C Told CoreHead g) → List PassSeen
+    passes_seen passes = map pass_seen passes
+
+-- the pass of a job is of the hub, and its share is empty
+abbrev pub IsFit : {S V : Type 0} → Hub → Job S V → Type 0
+IsFit hub job = IsPassOf hub.turn job.pass × OwnsAlone (known job.pass) []
+
+module _ {S V : Type 0} (left : S → Option (List ℕ)) (faults : S → ℕ) (says : V → Key → List ℕ → Sig → Option Bool)
+    (inquiries : V → Option (List Inquiry)) (verifier_faults : V → ℕ) (limits : Limits) (limit : ℕ) where
+  -- what a reader hands back, for its job
+  abbrev pub HasRun : Job S V → JobEnd S V → Type 0
+  HasRun job end = RunsBy limits limit (given_by left faults says inquiries verifier_faults job.providers).source
+      (given_by left faults says inquiries verifier_faults job.providers).verifier (pass_seen job.pass)
+      (reader_seen left faults says inquiries verifier_faults end.reader) (pass_seen end.pass)

@@ -1,0 +1,9 @@
+pub mod Given
+pub mod Runs
+pub mod Jobs
+pub mod Starts
+pub mod Rooms
+pub mod Seats
+pub mod Fed
+pub mod LastRound
+pub mod Told

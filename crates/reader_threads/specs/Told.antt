@@ -1,0 +1,47 @@
+-- What all readers told a core, with the last round.
+use Rattle.std.specs.Prelude.{◌≡◌, ◌≢◌, ◌⊎◌, List, [], ◌∷◌, Option, Some, None}
+use Rattle.keri_specs.specs.Causes.{Rose}
+use Rattle.keri_outside.specs.declared.limits.Limits.{Limits}
+use Rattle.journal.specs.declared.mode.Mode.{Mode}
+use Rattle.journal.specs.Questions.{questions}
+use Rattle.run_status.specs.Readers.{Reader, VerifierTold}
+use Rattle.validator_core.specs.View.{CoreView, Stands, told_of}
+use Rattle.reader_threads.specs.Fed.{AllRead}
+use Rattle.reader_threads.specs.Given.{Given}
+use Rattle.reader_threads.specs.declared.last_round.LastRound.{LastRound}
+use Rattle.reader_threads.specs.declared.last_round.LastRound.TheVariants.{VerifierFailed, OutOfMemory}
+
+-- the verifier that was given failed since; where none was given, or none came back, there is nothing to fail
+abbrev pub FailedIfThere : Option VerifierTold → Option VerifierTold → Type 0
+FailedIfThere None left = Unit {0}
+FailedIfThere (Some given) None = Unit {0}
+FailedIfThere (Some given) (Some left) = Rose given.faults left.faults
+
+-- each verifier that was given to one of these readers failed since
+abbrev pub EachFailed : List Given → List Reader → Type 0
+EachFailed [] readers = Unit {0}
+EachFailed (g ∷ given) [] = Unit {0}
+EachFailed (g ∷ given) (reader ∷ readers) = FailedIfThere g.verifier reader.verifier × EachFailed given readers
+
+-- a verifier was given, and failed since
+abbrev pub HasFailed : Option VerifierTold → Option VerifierTold → Type 0
+HasFailed None left = ⊥
+HasFailed (Some given) None = ⊥
+HasFailed (Some given) (Some left) = Rose given.faults left.faults
+
+-- some verifier that was given to one of these readers failed since
+abbrev pub SomeFailed : List Given → List Reader → Type 0
+SomeFailed [] readers = ⊥
+SomeFailed (g ∷ given) [] = ⊥
+SomeFailed (g ∷ given) (reader ∷ readers) = HasFailed g.verifier reader.verifier ⊎ SomeFailed given readers
+
+-- Readers that were given this told the core what they read. What was open then was asked of their verifiers, until nothing was
+-- open or each had failed, unless there was no memory.
+pub record AllTold (mode : Mode) (limits : Limits) (given : List Given) (readers : List Reader) (rest : LastRound) (core : CoreView) : Type 0 where
+  pub read : AllRead limits (told_of core) given readers rest
+  pub asked : rest ≢ OutOfMemory → (questions mode [] (told_of core) ≡ []) ⊎ EachFailed given readers
+  pub failed : rest ≡ VerifierFailed → SomeFailed given readers
+  pub mode_is : core.mode ≡ mode
+  pub limits_are : core.limits ≡ limits
+  pub no_base : core.base ≡ 0
+  pub stands : Stands core

@@ -1,0 +1,144 @@
+//! Seats for the readers of one core.
+ghost use Rattle.std.specs.Prelude.{◌≡◌, ◌<◌, [], length, map, vec_len, IfOk};
+ghost use Rattle.run_status.specs.Readers.{reader_seen};
+ghost use Rattle.validator_core.specs.View.{Stands, told_of};
+ghost use Rattle.reader_threads.specs.Fed.{AllRead};
+ghost use Rattle.reader_threads.specs.Given.{given_by};
+ghost use Rattle.reader_threads.specs.Seats.{AreReady, HasSeats, mode_of};
+ghost use Rattle.reader_threads.specs.Told.{AllTold};
+
+use crate::job::{Job, jobs_for};
+use crate::last_round::ask_rest;
+use crate::passes::split_off;
+use crate::ran::{AllEnds, Ran, Room, reserve, run_all};
+use crate::started::Ends;
+use crate::{LastRound, Providers};
+use keri_outside::{Gate, Limits, Source, Verifier};
+use reader_hub::{Hub, Pass};
+use run_status::ReaderEnd;
+use std::alloc::{AllocError, Global};
+use std::snapshot::Snapshot;
+use std::sync::Wait;
+use std::thread::Threads;
+use validator_core::Core;
+
+/// Readers' seats at a new core: a hub with a pass for each, and room for what they hand back. All memory that readers
+/// in threads need before they begin is here, so that it can be had before anything is made of the outside.
+#[derive(Drop)]
+pub struct ReaderSeats<S: Source, V: Verifier> {
+    /// The core as it was given, for contracts alone.
+    given: Snapshot<Core>,
+    limits: Limits,
+    hub: Hub,
+    /// The pass of reader 0.
+    first: Pass,
+    /// Those of the others, in order.
+    others: Vec<Pass>,
+    jobs: Vec<Job<S, V>>,
+    room: Room<S, V>,
+}
+
+impl<S: Source + Drop + Send, V: Verifier + Drop + Send> ReaderSeats<S, V> {
+    /// Seats for so many readers. It makes nothing of the outside.
+    pub fn new(
+        alloc: Global,
+        core: Core,
+        limits: Limits,
+        count: u16,
+    ) -> Result<ReaderSeats<S, V>, AllocError>
+        requires untold { told_of core ≡ [] }
+        requires no_base { core.base ≡ 0 }
+        requires limits { core.limits ≡ limits }
+        requires some { 0 < count }
+        ensures { IfOk result (HasSeats core.mode limits count) }
+    {
+        let further = count - 1;
+        let jobs = Vec::with_capacity(alloc, usize::from(further))?;
+        let room = reserve(alloc, further)?;
+        let given = Snapshot::of(&core);
+        let (hub, mut first) = Hub::new(alloc, core, limits.turns)?;
+        let others = split_off(alloc, &hub, &mut first, further)?;
+        Ok(ReaderSeats {
+            given,
+            limits,
+            hub,
+            first,
+            others,
+            jobs,
+            room,
+        })
+    }
+
+    /// Each reader reads its source and asks its verifier, reader 0 on the main thread once the others were started, each
+    /// of these in a thread of its own, or on the main thread where none can be made. Then what is still open is asked of
+    /// the verifiers that haven't failed, in the readers' order. It takes no memory but what the readers take.
+    pub fn read<G: Gate + Sync, R: Threads + Wait + Sync>(
+        self,
+        rt: &R,
+        alloc: Global,
+        gate: &G,
+        providers: Vec<Providers<S, V>>,
+    ) -> Ran<S, V>
+        requires seats { AreReady (vec_len providers) self }
+        ensures count { length result.readers.items ≡ length providers.items }
+        // What all of them told, why each closed, and what is open.
+        ensures told { AllTold (mode_of self) self.limits
+            (map (given_by S.left S.faults V.says V.inquiries V.faults) providers.items)
+            (map (reader_seen S.left S.faults V.says V.inquiries V.faults) result.readers.items) result.rest result.core }
+    {
+        let (mut core, mut readers) = self.run(rt, alloc, gate, providers);
+        let rest = ask_rest(&mut core, readers.as_mut_slice());
+        stands(&core);
+        Ran {
+            core,
+            readers,
+            rest,
+        }
+    }
+
+    // All readers read, and the hub is closed.
+    fn run<G: Gate + Sync, R: Threads + Wait + Sync>(
+        self,
+        rt: &R,
+        alloc: Global,
+        gate: &G,
+        providers: Vec<Providers<S, V>>,
+    ) -> (Core, Vec<ReaderEnd<S, V>>)
+        requires seats { AreReady (vec_len providers) self }
+        ensures mode { result.0.mode ≡ mode_of self }
+        ensures limits { result.0.limits ≡ self.limits }
+        ensures no_base { result.0.base ≡ 0 }
+        ensures stands { Stands result.0 }
+        ensures read { AllRead self.limits (told_of result.0)
+            (map (given_by S.left S.faults V.says V.inquiries V.faults) providers.items)
+            (map (reader_seen S.left S.faults V.says V.inquiries V.faults) result.1.items) LastRound.NoneFailed }
+    {
+        let ReaderSeats {
+            given: _,
+            limits,
+            hub,
+            first,
+            others,
+            jobs,
+            room,
+        } = self;
+        let mut providers = providers;
+        let own = Job {
+            pass: first,
+            providers: providers.remove(0),
+        };
+        let jobs = jobs_for(others, providers, jobs);
+        let AllEnds { pass, ends } = run_all(rt, alloc, &hub, gate, limits, own, jobs, room);
+        let Ends { passes, readers } = ends;
+        let core = hub.close(pass, passes);
+        stands(&core);
+        (core, readers)
+    }
+}
+
+// What is true of each core.
+fn stands(core: &Core)
+    ensures { Stands core.now }
+{
+    let _journal = core.journal();
+}
