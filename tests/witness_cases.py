@@ -15,7 +15,7 @@ from row_tables.witness_calls import WITNESS, Session
 from validate_cases import CASES, SAMPLES
 
 WORDS = ["witness", "--helper", "rehearsal", "--prefix", WITNESS, "--shelf", "shelf"]
-REFUSED, SEEN = 3, 4
+REFUSED, SEEN, DISK_FAULT = 3, 4, 8
 UNSIGNED = OWN_ROT
 NEVER_READ = signed(OWN, 1)
 
@@ -81,7 +81,7 @@ FILLED = {
 SAMPLE = [signed(OWN, 1), signed(OWN_IXN, 1)]
 
 
-def write(name, words, files, text, status, left):
+def write(name, words, files, text, status, left, gone=()):
     case = CASES / ("witness_" + name)
     shutil.rmtree(case, ignore_errors=True)
     for folder, contents in (("in", files), ("left", left)):
@@ -93,6 +93,8 @@ def write(name, words, files, text, status, left):
         (case / "stdout").write_text(text)
     if status:
         (case / "status").write_text("%d\n" % status)
+    if gone:
+        (case / "gone").write_text("".join(name + "\n" for name in gone))
 
 
 def bodies_in(stream):
@@ -144,7 +146,13 @@ def main():
     text, status, after = served([signed(OWN_IXN, 1)], file(payload(OWN, 1)))
     files = {"a": signed(OWN_IXN, 1).encode(), "shelf": file(payload(OWN, 1)), "old": b"no shelf"}
     write("old_shelf_that_is_not_wanted", [*WORDS, "--from", "old", "a"], files, text, status, {"shelf": after, "old": b"no shelf"})
-    print(len(SERVED) + len(UNOPENED) + len(FILLED) + 1, "cases")
+    # An old shelf that isn't there isn't made; where it isn't wanted it need not be there.
+    del files["old"]
+    write("old_shelf_that_is_missing_and_not_wanted", [*WORDS, "--from", "old", "a"], files, text, status, {"shelf": after}, gone=["old"])
+    for name, foreign in (("old_shelf_that_is_missing", b""), ("old_shelf_that_is_missing_beside_a_foreign_file", b"hello")):
+        files = {"a": NEVER_READ.encode(), **({"shelf": foreign} if foreign else {})}
+        write(name, [*WORDS, "--from", "old", "a"], files, "", DISK_FAULT, {"shelf": foreign}, gone=["old"])
+    print(len(SERVED) + len(UNOPENED) + len(FILLED) + 4, "cases")
 
 
 if __name__ == "__main__":

@@ -5,9 +5,13 @@ A run's end is its status, how many messages and verdicts were told, how each re
 where that failed.
 """
 from event_cases import ROT
-from kit import PLAIN_ICP as ICP, counter, digest, indexed, key, primitive, rehearsal, rehearsed, said, signature, signed
+from kit import PLAIN_ICP as ICP, counter, couples, digest, indexed, key, primitive, rehearsal, rehearsed, said, signature, signed
 from log_cases import BOTH, CONFLICTING, IXN_1, LOG, OTHER_1, REALISTIC, REALISTIC_LINES, log, waits
 from row_tables import argument
+from row_tables.shelf import NEW, OLD, file_of
+from row_tables.witness import OWN, OWN_IXN, payload
+from row_tables.witness import receipt_of as bare_receipt_of
+from row_tables.witness_calls import WITNESS
 from stream_cases import BARE, RECEIPT, inception_line, malformed
 from validate_cases import EVENT, SIGNED, STATE
 
@@ -21,6 +25,11 @@ REPORT = EVENT + STATE
 UNSIGNED = "refused 0 0 unsigned\n"
 FULL, READ_FAULT, VERIFIER_FAULT = "full 0\n", "fault 0 read\n", "fault 0 verifier\n"
 MADE = "Source Verifier"
+WITNESS_WORDS = "witness,--helper,rehearsal,--prefix,%s,--shelf,shelf" % WITNESS
+FROM_OLD = WITNESS_WORDS + ",--from,old,a"
+WITNESS_MADE = "Source Verifier Signer"
+# A file of a disk that is empty.
+EMPTY = "0*x"
 BOTH_MADE = "Source Source Verifier Signer"
 SIGNED_IXN = signed(IXN_1, 1)
 BOTH_ROTATIONS = signed(ICP, 1) + signed(ROT, 2) + signed(OTHER_1, 2)
@@ -285,6 +294,46 @@ def faults_of_rehearse():
     yield from run("rehearse,a", "words\n", "2 told=0", verdict)
 
 
+def receipt_of(text):
+    return bare_receipt_of(text) + couples(text, 1)
+
+
+def witnesses():
+    """A new shelf, one that is taken up, and one that is filled with an old one's list; and disks that fail, or aren't there."""
+    shelf, old = argument(file_of(NEW, payload(OWN, 1))), argument(file_of(OLD, OWN.encode()))
+    first, second, both = signed(OWN, 1), signed(OWN_IXN, 1), signed(OWN, 1) + signed(OWN_IXN, 1)
+    for words in (WITNESS_WORDS + ",a", FROM_OLD):
+        yield from run(words, receipt_of(OWN_IXN), "0 told=2 End Disk " + WITNESS_MADE, second, shelf=shelf)
+        yield from run(words, "", "8 told=0 Disk!", first)
+        yield from run(words, "", "8 told=0 Disk!", first, shelf=shelf, makings=0)
+        yield from run(words, "", "8 told=0 Disk", first, shelf=shelf, shelf_calls=0)
+    yield from run(WITNESS_WORDS + ",a", receipt_of(OWN) + receipt_of(OWN_IXN), "0 told=4 End Disk " + WITNESS_MADE, both, shelf=EMPTY)
+    yield from run(WITNESS_WORDS + ",a", "shelf 0\n", "3 told=0 Disk", first, shelf=old)
+    yield from run(FROM_OLD, receipt_of(OWN_IXN), "0 told=2 End Disk Disk " + WITNESS_MADE, second, shelf=EMPTY, old=old)
+    yield from run(FROM_OLD, "old 0\n", "3 told=0 Disk Disk", first, shelf=EMPTY, old=shelf)
+    yield from run(FROM_OLD, "", "8 told=0 Disk Disk!", first, shelf=EMPTY)
+    yield from run(FROM_OLD, "", "8 told=0 Disk Disk!", first, shelf=EMPTY, old=old, makings=1)
+    yield from run(FROM_OLD, "", "8 told=0 Disk Disk", first, shelf=EMPTY, old=old, old_calls=0)
+
+
+def several_files():
+    """The same file read by several readers, each with a verifier of its own: what is told doesn't depend on which comes first."""
+    twice, thrice = VALIDATE + ",a", VALIDATE + ",a,a"
+    two, three = MADE + " " + MADE, MADE + " " + MADE + " " + MADE
+    stream, faults = "".join(REALISTIC), "fault 0 verifier\nfault 1 verifier\n"
+    yield from run(twice, REPORT, "0 told=3 End End " + two, SIGNED)
+    yield from run(thrice, REALISTIC_LINES, "0 told=48 End End End " + three, stream)
+    yield from run(thrice, REALISTIC_LINES, "0 told=48 End End End " + three, stream, piece=1)
+    yield from run(WATCH + ",a", "".join(CONFLICTING), "4 told=9 End End " + two, BOTH_ROTATIONS)
+    yield from run(twice, "refused 0 0 unsigned\nrefused 1 0 unsigned\n", "3 told=0 End End " + two, ICP + "-AAA")
+    yield from run(twice + ",b", REPORT + "fault 2 read\n", "5 told=3 End End ReadFault %s Source! Verifier" % two, SIGNED)
+    yield from run(twice, REPORT + READ_FAULT, "5 told=2 ReadFault End Source! Verifier " + MADE, SIGNED, makings=0)
+    yield from run(twice, REPORT + VERIFIER_FAULT, "7 told=2 VerifierFault End Source Verifier! " + MADE, SIGNED, makings=1)
+    yield from run(twice, waits(ICP, "signatures") + faults, "7 told=2 VerifierFault VerifierFault " + two, SIGNED, asks=0)
+    yield from run(twice, "", "6 told=3 End End " + two, SIGNED, puts=0)
+    yield from run(VALIDATE + ",a" * 64, "words\n", "2 told=0", SIGNED)
+
+
 def rows():
     yield "# limits"
     yield from limits_of_made_streams()
@@ -305,3 +354,7 @@ def rows():
     yield from questions()
     yield "# messages of plans"
     yield from messages_of_plans()
+    yield "# witnesses"
+    yield from witnesses()
+    yield "# several files"
+    yield from several_files()

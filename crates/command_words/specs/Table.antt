@@ -2,7 +2,7 @@
 use Rattle.std.specs.Prelude.{◌≡◌, ℕ, List, [], ◌∷◌, true, false, Some, codes}
 use Rattle.clap.specs.Words.{App, Rule, Shape, new_rule, shape_of}
 use Rattle.clap.specs.Simple.{new_shape}
-use Rattle.clap.specs.declared.builder.ArgAction.TheVariants.{Set}
+use Rattle.clap.specs.declared.builder.ArgAction.TheVariants.{Append, Set}
 use Rattle.clap.specs.declared.builder.command.Command.{Command}
 use Rattle.clap.specs.declared.builder.command.Command.TheViews.{out-Command as fields_of}
 
@@ -17,6 +17,10 @@ wants name = record (may_have name) { required = true }
 -- the one FILE
 abbrev pub file : Rule
 file = record (new_rule (codes "file")) { action = Some Set; required = true }
+
+-- FILEs, one at least
+abbrev pub files : Rule
+files = record (new_rule (codes "files")) { action = Some Append; required = true }
 
 -- a command, and what it is given
 abbrev pub command : List ℕ → List Rule → Shape
@@ -35,13 +39,13 @@ bare = record {
   subs = [];
 }
 
--- the commands, each with its options and its FILE
+-- the commands, each with its options and its FILE or FILEs
 unfoldable pub table : App
 table = record {
   top = record bare.top { is_leaf = false };
   subs = command (codes "check") (file ∷ [])
-      ∷ command (codes "validate") (wants (codes "helper") ∷ file ∷ [])
-      ∷ command (codes "watch") (wants (codes "helper") ∷ file ∷ [])
+      ∷ command (codes "validate") (wants (codes "helper") ∷ files ∷ [])
+      ∷ command (codes "watch") (wants (codes "helper") ∷ files ∷ [])
       ∷ command (codes "witness") (wants (codes "helper") ∷ wants (codes "prefix") ∷ wants (codes "shelf") ∷ may_have (codes "from") ∷ file ∷ [])
       ∷ command (codes "make") (wants (codes "helper") ∷ wants (codes "plan") ∷ may_have (codes "log") ∷ [])
       ∷ command (codes "gen") (wants (codes "seed") ∷ wants (codes "logs") ∷ wants (codes "events") ∷ [])

@@ -1,9 +1,9 @@
 -- What the words ask for.
-use Rattle.std.specs.Prelude.{◌≡◌, ℕ, List, codes, if◌then◌else◌, option_and_then, option_map, ⊤}
+use Rattle.std.specs.Prelude.{◌≡◌, ◌<◌, ◌≤◌, ◌&&◌, ℕ, List, codes, length, map, nat_le, if◌then◌else◌, option_and_then, option_map, ⊤}
 use Rattle.std.specs.Str.{bytes_eq}
 use Rattle.std.specs.declared.option.Option.{Option}
 use Rattle.std.specs.declared.option.Option.TheVariants.{None, Some}
-use Rattle.clap.specs.Words.{Row, first_of, found_of, rows_of, subcommand_of, takes}
+use Rattle.clap.specs.Words.{Row, all_of, first_of, found_of, rows_of, subcommand_of, takes}
 use Rattle.clap.specs.declared.parser.matches.ArgMatches.{ArgMatches}
 use Rattle.cesr_codes.specs.declared.key.Key.{Key}
 use Rattle.cesr_codes.specs.declared.key.KeyCode.TheVariants.{Fixed}
@@ -13,13 +13,13 @@ use Rattle.command_words.specs.Table.{table}
 use Rattle.command_words.specs.declared.command.Command.{Command}
 use Rattle.command_words.specs.declared.command.Command.TheVariants.{Check, Validate, Watch, Witness, Make, Generate, Rehearse}
 
--- what may be asked for, by the bytes of the words: of `check` a file, of `validate` and `watch` a helper and a file, of `witness`
+-- what may be asked for, by the bytes of the words: of `check` a file, of `validate` and `watch` a helper and files, of `witness`
 -- a helper, its key, a shelf's file, maybe that of an old one, and a file, of `make` a helper, a plan's file and maybe a log's, of `gen`
 -- a seed, how many logs, and how many events in each, of `rehearse` nothing
 pub data Asked : Type 0 where
   check : List ℕ → Asked
-  validate : List ℕ → List ℕ → Asked
-  watch : List ℕ → List ℕ → Asked
+  validate : List ℕ → List (List ℕ) → Asked
+  watch : List ℕ → List (List ℕ) → Asked
   witness : List ℕ → Key → List ℕ → Option (List ℕ) → List ℕ → Asked
   make : List ℕ → List ℕ → Option (List ℕ) → Asked
   generate : ℕ → ℕ → ℕ → Asked
@@ -28,19 +28,22 @@ pub data Asked : Type 0 where
 -- what a command asks for
 abbrev pub asked_by : Command → Asked
 asked_by (Check file) = check file.now
-asked_by (Validate helper file) = validate helper.now file.now
-asked_by (Watch helper file) = watch helper.now file.now
+asked_by (Validate helper files) = validate helper.now (map (λ f. f.now) files.items)
+asked_by (Watch helper files) = watch helper.now (map (λ f. f.now) files.items)
 asked_by (Witness helper prefix shelf from file) = witness helper.now prefix shelf.now (option_map (λ f. f.now) from) file.now
 asked_by (Make helper plan log) = make helper.now plan.now (option_map (λ l. l.now) log)
 asked_by (Generate seed logs events) = generate seed logs events
 asked_by Rehearse = rehearse
 
--- the key of a witness can't be rotated
-abbrev pub HasFixedKey : Command → Type 0
-HasFixedKey (Witness helper prefix shelf from file) = prefix.code ≡ Fixed
-HasFixedKey _ = ⊤
+-- what is sure of the values of a command: `validate` and `watch` have one file at least, and 64 at most, and the key of a witness
+-- can't be rotated
+abbrev pub IsInForm : Command → Type 0
+IsInForm (Validate helper files) = (0 < length files.items) × (length files.items ≤ 64)
+IsInForm (Watch helper files) = (0 < length files.items) × (length files.items ≤ 64)
+IsInForm (Witness helper prefix shelf from file) = prefix.code ≡ Fixed
+IsInForm _ = ⊤
 
--- the values that a command was given, by the names of its options and of its FILE
+-- the values that a command was given, by the names of its options and of its FILE or FILEs
 abbrev pub rows_in : ArgMatches → List Row
 rows_in found = rows_of (found_of found)
 
@@ -52,9 +55,16 @@ asks_by_both asked x y = option_and_then (λ first. option_map (asked first) y) 
 abbrev pub asks_check : List Row → Option Asked
 asks_check rows = option_map check (first_of (codes "file") rows)
 
--- `validate` and `watch` ask for their file, with the helper
-abbrev pub asks_over_core : (List ℕ → List ℕ → Asked) → List Row → Option Asked
-asks_over_core asked rows = asks_by_both asked (first_of (codes "helper") rows) (first_of (codes "file") rows)
+-- the files, of which there are one at least, and 64 at most
+abbrev pub few_files : List (List ℕ) → Option (List (List ℕ))
+few_files files = if nat_le 1 (length files) && nat_le (length files) 64 then Some files else None
+
+abbrev pub files_set : List Row → Option (List (List ℕ))
+files_set rows = option_and_then few_files (all_of (codes "files") rows)
+
+-- `validate` and `watch` ask for their files, in the order of the words, with the helper
+abbrev pub asks_over_core : (List ℕ → List (List ℕ) → Asked) → List Row → Option Asked
+asks_over_core asked rows = asks_by_both asked (first_of (codes "helper") rows) (files_set rows)
 
 -- the key that can't be rotated that an option is set to
 abbrev pub key_set : List ℕ → List Row → Option Key

@@ -39,13 +39,13 @@ fn check<'a>(alloc: Global) -> Result<Command<'a>, AllocError>
     Command::new(alloc, "check").arg(file(alloc))
 }
 
-// `validate` and `watch`, with `--helper HELPER FILE`
+// `validate` and `watch`, with `--helper HELPER FILE ..`
 fn over_core<'a>(alloc: Global, name: &'a str) -> Result<Command<'a>, AllocError>
-    ensures { IfOk result (HasShape (specs.command name.now (wants (codes "helper") ∷ specs.file ∷ []))) }
+    ensures { IfOk result (HasShape (specs.command name.now (wants (codes "helper") ∷ specs.files ∷ []))) }
 {
     Command::new(alloc, name)
         .arg(wanted(alloc, "helper"))?
-        .arg(file(alloc))
+        .arg(files(alloc))
 }
 
 // `witness --helper HELPER --prefix KEY --shelf SHELF FILE`, and `--from OLD`
@@ -103,5 +103,15 @@ fn file<'a>(alloc: Global) -> Arg<'a>
 {
     Arg::new(alloc, "file")
         .action(ArgAction::Set)
+        .required(true)
+}
+
+// FILEs, one at least.
+fn files<'a>(alloc: Global) -> Arg<'a>
+    ensures rule { rule_of result ≡ specs.files }
+    ensures local { result.global ≡ false }
+{
+    Arg::new(alloc, "files")
+        .action(ArgAction::Append)
         .required(true)
 }

@@ -39,6 +39,16 @@ impl FileDisk {
         Ok(FileDisk { file, faults: 0 })
     }
 
+    /// Opens a file that is there, to be read. It takes no right to write to it: a write and a cut fail, and change nothing.
+    pub fn open_to_read(rt: &HostRuntime, path: &str) -> Result<FileDisk, OpenError>
+        ensures { IfOk result (λ disk. disk_faults disk ≡ 0) }
+    {
+        let mut options = OpenOptions::new();
+        options.read(true);
+        let file = open_alone(rt, path, &options)?;
+        Ok(FileDisk { file, faults: 0 })
+    }
+
     // Counts a fault. The count stands still at its greatest number.
     fn fail(&mut self) -> Failed
         ensures later { disk_faults self.old ≤ disk_faults self.new }

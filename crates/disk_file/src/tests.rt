@@ -10,13 +10,19 @@ const FOLDER: &str = "disk_file_test";
 
 const PATH: &str = "disk_file_test/a";
 
+const READ_FOLDER: &str = "disk_file_read_test";
+
+const READ_PATH: &str = "disk_file_read_test/a";
+
 #[test]
 fn is_written_cut_and_read_by_one_at_a_time(rt: HostRuntime) -> Result<(), Fail> {
     let _ = fs::remove_dir_all(&rt, FOLDER);
     fs::create_dir(&rt, FOLDER)?;
     assert!(rt; matches!(FileDisk::open_existing(&rt, PATH), Err(OpenError::Io(_))));
+    assert!(rt; matches!(FileDisk::open_to_read(&rt, PATH), Err(OpenError::Io(_))));
     let mut disk = FileDisk::open(&rt, PATH)?;
     assert!(rt; matches!(FileDisk::open(&rt, PATH), Err(OpenError::Busy)));
+    assert!(rt; matches!(FileDisk::open_to_read(&rt, PATH), Err(OpenError::Busy)));
     assert!(rt; matches!(FileDisk::open(&rt, FOLDER), Err(OpenError::NotAFile)));
     disk.write_at(0, b"abcdef")?;
     disk.cut(5)?;
@@ -37,5 +43,24 @@ fn is_written_cut_and_read_by_one_at_a_time(rt: HostRuntime) -> Result<(), Fail>
     assert_eq!(rt; disk.size()?, 5);
     drop(disk);
     fs::remove_dir_all(&rt, FOLDER)?;
+    Ok(())
+}
+
+#[test]
+fn is_read_without_the_right_to_write(rt: HostRuntime) -> Result<(), Fail> {
+    let _ = fs::remove_dir_all(&rt, READ_FOLDER);
+    fs::create_dir(&rt, READ_FOLDER)?;
+    fs::write(&rt, READ_PATH, b"abc".as_slice())?;
+    let mut disk = FileDisk::open_to_read(&rt, READ_PATH)?;
+    assert!(rt; matches!(FileDisk::open(&rt, READ_PATH), Err(OpenError::Busy)));
+    disk.sync()?;
+    assert_eq!(rt; disk.write_at(0, b"x"), Err(Failed));
+    assert_eq!(rt; disk.cut(0), Err(Failed));
+    let mut back = [0; 3];
+    disk.read(0, &mut back)?;
+    assert_eq!(rt; back, *b"abc");
+    assert_eq!(rt; disk.size()?, 3);
+    drop(disk);
+    fs::remove_dir_all(&rt, READ_FOLDER)?;
     Ok(())
 }

@@ -1,12 +1,14 @@
 -- Why a reader closed by a fault, by what its command did.
-use Rattle.std.proofs.Common.{◌≡◌, ◌≢◌, ℕ, true, List, [], ◌∷◌, Option, Some, None, refl, sym, ◌∙◌}
-use Rattle.std.specs.Prelude.{codes, is_none, MatchOption}
+use Rattle.std.proofs.Common.{◌≡◌, ◌≢◌, ℕ, inl, inr, Bool, true, false, ◌||◌, List, [], ◌∷◌, ◌+◌, Option, Some, None, refl, sym, ◌∙◌, ap, subst}
+use Rattle.std.specs.Prelude.{codes, is_none, IfSome, IsSomeAnd, MatchOption}
+use Rattle.std.proofs.lemmas.Option.{IfSome_then}
 use Rattle.keri_specs.specs.Causes.{Rose}
 use Rattle.cesr_codes.specs.declared.digest.Digest.{Digest}
 use Rattle.cesr_stream.specs.declared.message.Message.{Message}
 use Rattle.keri_outside.specs.declared.limits.Limits.{Limits}
 use Rattle.journal.specs.declared.mode.Mode.{Mode}
 use Rattle.journal.specs.declared.refusal.Refusal.{Refusal}
+use Rattle.journal.specs.Feeds.{FeedEach}
 use Rattle.journal.specs.History.{Told as ToldEntry}
 use Rattle.verifier_link.specs.declared.served.Served.{Served}
 use Rattle.verifier_link.specs.declared.served.Served.TheVariants as serving
@@ -14,12 +16,19 @@ use Rattle.run_status.specs.declared.close.Close.{Close}
 use Rattle.run_status.specs.declared.close.Close.TheVariants.{ReadFault, VerifierFault, OutOfMemory}
 use Rattle.keri_roles.specs.Check.{IsChecked, OwesChecks}
 use Rattle.keri_roles.specs.Commands.{IsGenerated}
-use Rattle.keri_roles.specs.CoreTold.{Given, ReadsToCore, ReadsBy}
-use Rattle.run_status.specs.Readers.{SinkTold, SourceTold, VerifierTold}
-use Rattle.keri_roles.specs.Made.{IsMade, IsMadeAlone, IsMadeBehind, given_alone, given_behind}
+use Rattle.run_outside.specs.Makings.{some_failed}
+use Rattle.run_outside.specs.Told.{Told}
+use Rattle.run_status.specs.Readers.{Reader, SinkTold, SourceTold, VerifierTold}
+use Rattle.reader_threads.specs.Fed.{ReadEach, ReadsBy, ends_of}
+use Rattle.reader_threads.specs.Given.{Given}
+use Rattle.reader_threads.specs.Told.{HasFailed, SomeFailed}
+use Rattle.reader_threads.specs.declared.last_round.LastRound.{LastRound}
+use Rattle.reader_threads.specs.declared.last_round.LastRound.TheVariants.{NoneFailed, VerifierFailed, OutOfMemory as NoMemory}
+use Rattle.keri_roles.specs.CoreTold.{AreGiven, ReadsToCore, fails_last, makings_of}
+use Rattle.keri_roles.specs.Made.{IsMade, IsMadeAlone, IsMadeBehind, given_alone, given_behind, last_close}
 use Rattle.keri_roles.specs.Rehearsed.{IsRehearsed, Serves, serving_close}
-use Rattle.keri_roles.specs.Run.{Run, Work, AreCaused}
-use Rattle.keri_roles.proofs.Made.{due_signer, fourth_of, second, second_of, text_asked, text_read, third_of}
+use Rattle.keri_roles.specs.Run.{Run, Work, AreCaused, VerifierRose}
+use Rattle.keri_roles.proofs.Made.{due_finds, due_signer, fourth_of, second, text_asked, text_read}
 
 -- where it may be that the source and the verifier couldn't be made, the count of the outside rose
 module _ (rose : Type 0) where
@@ -37,26 +46,85 @@ module _ (rose : Type 0) where
   check_asked limits held None verifier refused seen close (Some text) o e = let clash : VerifierFault ≡ ReadFault = sym e ∙ o.1.fault in cc
   check_asked limits held (Some source) verifier refused seen close (Some text) o e = let closes = rw e at o.1.closes in closes
 
-  module _ (given : Given) (bytes : List ℕ) (told : List ToldEntry) (offered : List Message) (close : Close) where
-    told_read : (source : Option SourceTold) (verifier : Option VerifierTold) → (is_none source ≡ true → rose)
-        → ReadsBy given source verifier bytes told offered close → close ≡ ReadFault → MatchOption source rose (λ s. Rose 0 s.faults)
-    told_read None verifier out r e = out refl
-    told_read (Some source) None out r e =
-        let other : close ≡ VerifierFault = r.0 (λ m. let clash : ReadFault ≡ OutOfMemory = sym e ∙ m in cc) in
-        let clash : ReadFault ≡ VerifierFault = sym e ∙ other in cc
-    told_read (Some source) (Some verifier) out r e =
-        let some : close ≢ OutOfMemory = λ m. let clash : ReadFault ≡ OutOfMemory = sym e ∙ m in cc in
-        let closes = rw e at (r.1.closes some).closes in closes.0.1
+  module _ (limits : Limits) (told : List ToldEntry) (most number : ℕ) (rest : LastRound) (reader : Reader) (bytes : List ℕ) (offered : List Message) where
+    -- a reader that was given what has failed not yet
+    told_read : (source : Option SourceTold) (verifier : Option VerifierTold) → (is_none source ≡ true → rose) → IfSome source (λ s. s.faults ≡ 0)
+        → ReadsBy limits told most number rest source verifier reader bytes offered → reader.close ≡ ReadFault → MatchOption reader.source rose (λ s. Rose 0 s.faults)
+    told_read None None out zero r e = rw r.0 (out refl)
+    told_read None (Some verifier) out zero r e = rw r.0.source_is (out refl)
+    told_read (Some source) None out zero r e = let clash : ReadFault ≡ VerifierFault = sym e ∙ ap (λ x. x.close) r.0 in cc
+    told_read (Some source) (Some verifier) out zero r e =
+        let some : reader.close ≢ OutOfMemory = λ m. let clash : ReadFault ≡ OutOfMemory = sym e ∙ m in cc in
+        let closes = rw e at (r.closes some).closes in
+        rw r.source_is (subst (λ n. Rose n r.source_left.faults) zero closes.1)
 
-    told_asked : (source : Option SourceTold) (verifier : Option VerifierTold) → (is_none verifier ≡ true → rose)
-        → ReadsBy given source verifier bytes told offered close → close ≡ VerifierFault → MatchOption verifier rose (λ v. Rose 0 v.faults)
-    told_asked source None out r e = out refl
-    told_asked None (Some verifier) out r e =
-        let other : close ≡ ReadFault = r.0 (λ m. let clash : VerifierFault ≡ OutOfMemory = sym e ∙ m in cc) in
-        let clash : VerifierFault ≡ ReadFault = sym e ∙ other in cc
-    told_asked (Some source) (Some verifier) out r e =
-        let some : close ≢ OutOfMemory = λ m. let clash : VerifierFault ≡ OutOfMemory = sym e ∙ m in cc in
-        let closes = rw e at (r.1.closes some).closes in closes.1
+    told_asked : (source : Option SourceTold) (verifier : Option VerifierTold) → (is_none verifier ≡ true → rose) → IfSome verifier (λ v. v.faults ≡ 0)
+        → ReadsBy limits told most number rest source verifier reader bytes offered → reader.close ≡ VerifierFault → MatchOption reader.verifier rose (λ v. Rose 0 v.faults)
+    told_asked None None out zero r e = let clash : VerifierFault ≡ ReadFault = sym e ∙ ap (λ x. x.close) r.0 in cc
+    told_asked None (Some verifier) out zero r e = let clash : VerifierFault ≡ ReadFault = sym e ∙ r.0.close_is in cc
+    told_asked (Some source) None out zero r e = rw r.0 (out refl)
+    told_asked (Some source) (Some verifier) out zero r e =
+        let some : reader.close ≢ OutOfMemory = λ m. let clash : VerifierFault ≡ OutOfMemory = sym e ∙ m in cc in
+        let closes = rw e at (r.closes some).closes in
+        rw r.verifier_is (subst (λ n. Rose n r.verifier_left.faults) zero closes.1)
+
+second_test : (a : Bool) {b : Bool} (c : Bool) → b ≡ true → (a || (b || c)) ≡ true
+second_test true c e = refl
+second_test false c e = rw e refl
+
+later_test : (a b : Bool) {c : Bool} → c ≡ true → (a || (b || c)) ≡ true
+later_test true b e = refl
+later_test false true e = refl
+later_test false false e = e
+
+-- one of two tests amid others is passed
+middle : (a b c d : Bool) → (b || (c || false)) ≡ true → (a || (b || (c || (d || false)))) ≡ true
+middle true b c d e = refl
+middle false true c d e = refl
+middle false false true d e = refl
+middle false false false d e = cc
+
+-- each of the readers that were given this, where a making that failed has its cause
+module _ (limits : Limits) (told : List ToldEntry) (most : ℕ) (rest : LastRound) (before after : Told) (helper : List ℕ) where
+  pub each_caused : (number : ℕ) (read : List (List ℕ)) (names : List (List ℕ)) (given : List Given) (readers : List Reader) (feeds : FeedEach limits told number (ends_of read readers))
+      → AreGiven before helper names given → (some_failed (makings_of helper names given) ≡ true → Rose before.faults after.faults)
+      → ReadEach limits told most rest number read given readers feeds → AreCaused before after readers
+  each_caused number [] names [] [] feeds are rose each = tt
+  each_caused number [] names [] (reader ∷ readers) feeds are rose each = absurd each
+  each_caused number [] names (g ∷ given) readers feeds are rose each = absurd each
+  each_caused number (bytes ∷ read) names [] readers feeds are rose each = absurd each
+  each_caused number (bytes ∷ read) names (g ∷ given) [] feeds are rose each = absurd each
+  each_caused number (bytes ∷ read) [] (g ∷ given) (reader ∷ readers) feeds are rose each = absurd are
+  each_caused number (bytes ∷ read) (name ∷ names) (g ∷ given) (reader ∷ readers) feeds are rose each = (
+    record {
+      source = told_read (Rose before.faults after.faults) limits told most number rest reader bytes _ g.source g.verifier
+          (λ none. rose (rw none refl)) (IfSome_then g.source are.0.source (λ s is. is.1)) each.0;
+      verifier = told_asked (Rose before.faults after.faults) limits told most number rest reader bytes _ g.source g.verifier
+          (λ none. rose (second_test (is_none g.source) _ none)) (IfSome_then g.verifier are.0.verifier (λ v is. is.2)) each.0;
+    },
+    each_caused (number + 1) read names given readers feeds.1 are.1
+        (λ some. rose (later_test (is_none g.source) (is_none g.verifier) some)) each.1,
+  )
+
+rose_since : (given left : Option VerifierTold) → IfSome given (λ v. v.faults ≡ 0) → HasFailed given left → IsSomeAnd left (λ w. Rose 0 w.faults)
+rose_since None left zero failed = absurd failed
+rose_since (Some v) None zero failed = absurd failed
+rose_since (Some v) (Some w) zero failed = subst (λ n. Rose n w.faults) zero failed
+
+failed_last : (rest : LastRound) → fails_last rest ≡ true → rest ≡ VerifierFailed
+failed_last NoneFailed e = cc
+failed_last VerifierFailed e = refl
+failed_last NoMemory e = cc
+
+-- a verifier that failed since it was given failed
+module _ (before : Told) (helper : List ℕ) where
+  pub some_rose : (names : List (List ℕ)) (given : List Given) (readers : List Reader) → AreGiven before helper names given → SomeFailed given readers → VerifierRose readers
+  some_rose [] [] readers are failed = absurd failed
+  some_rose [] (g ∷ given) readers are failed = absurd are
+  some_rose (name ∷ names) [] readers are failed = absurd are
+  some_rose (name ∷ names) (g ∷ given) [] are failed = absurd failed
+  some_rose (name ∷ names) (g ∷ given) (reader ∷ readers) are (inl this) = inl (rose_since g.verifier reader.verifier (IfSome_then g.verifier are.0.verifier (λ v is. is.2)) this)
+  some_rose (name ∷ names) (g ∷ given) (reader ∷ readers) are (inr later) = inr (some_rose names given readers are.1 later)
 
 pub check_caused : (name : List ℕ) (work : Work) → IsChecked name work → AreCaused work.before work.after work.readers
 check_caused name work c = rw c.one (
@@ -69,14 +137,15 @@ check_caused name work c = rw c.one (
 )
 
 -- of any command over a core
-pub told_caused : (mode : Mode) (helper name : List ℕ) (work : Work) → ReadsToCore mode helper name work → AreCaused work.before work.after work.readers
-told_caused mode helper name work t = rw t.one (
-  record {
-    source = told_read _ _ t.journal.bytes _ _ t.reader.close t.reader.source t.reader.verifier (λ none. t.makes.rose (rw none refl)) t.journal.reads;
-    verifier = told_asked _ _ t.journal.bytes _ _ t.reader.close t.reader.source t.reader.verifier (λ none. t.makes.rose (second (is_none t.reader.source) none)) t.journal.reads;
-  },
-  tt,
-)
+pub told_caused : (mode : Mode) (helper : List ℕ) (names : List (List ℕ)) (work : Work) → ReadsToCore mode helper names work
+    → AreCaused work.before work.after work.readers
+told_caused mode helper names work t = each_caused work.before.limits _ _ t.rest work.before work.after helper 0 t.journal.read names t.given work.readers t.journal.fed.fed.each
+    t.provided.are_given t.provided.makes.rose t.journal.each
+
+-- and a verifier that failed in the last round failed
+pub told_rose : (mode : Mode) (helper : List ℕ) (names : List (List ℕ)) (work : Work) (t : ReadsToCore mode helper names work) → fails_last t.rest ≡ true
+    → VerifierRose work.readers
+told_rose mode helper names work t e = some_rose work.before helper names t.given work.readers t.provided.are_given (t.journal.failed (failed_last t.rest e))
 
 alone_caused : (helper plan : List ℕ) (work : Work) → IsMadeAlone helper plan work → AreCaused work.before work.after work.readers
 alone_caused helper plan work m = rw m.one (
@@ -93,15 +162,8 @@ behind_caused helper plan log work m = let first = is_none m.plan_reader.source 
     source = text_read work.before.limits.stream_bytes (work.before.holds plan) m.text m.plan_reader.close _ m.plan_reader.source (λ none. m.makes.rose (rw none refl)) m.reads.read;
     verifier = λ e. absurd (text_asked work.before.limits.stream_bytes (work.before.holds plan) m.text m.plan_reader.close m.plan_reader.source m.reads.read e);
   },
-  (
-    record {
-      source = told_read _ _ m.journal.bytes _ _ m.log_reader.close m.log_reader.source m.log_reader.verifier
-          (λ none. m.makes.rose (second_of first (is_none m.log_reader.verifier) signer none)) m.journal.reads;
-      verifier = told_asked _ _ m.journal.bytes _ _ m.log_reader.close m.log_reader.source m.log_reader.verifier
-          (λ none. m.makes.rose (third_of first (is_none m.log_reader.source) signer none)) m.journal.reads;
-    },
-    tt,
-  ),
+  each_caused work.before.limits _ _ m.rest work.before work.after helper 0 m.journal.read (log ∷ []) (m.given ∷ []) (m.log_reader ∷ []) m.journal.fed.fed.each
+      (m.is_given, tt) (λ some. m.makes.rose (middle first (is_none m.given.source) (is_none m.given.verifier) signer some)) m.journal.each,
 )
 
 pub made_caused : (helper plan : List ℕ) (log : Option (List ℕ)) (work : Work) → IsMade helper plan log work → AreCaused work.before work.after work.readers
@@ -112,8 +174,16 @@ made_caused helper plan (Some log) work m = behind_caused helper plan log work m
 pub made_signer : (helper plan : List ℕ) (log : Option (List ℕ)) (work : Work) → IsMade helper plan log work → work.besides.signer_failed ≡ true
     → MatchOption work.signer (Rose work.before.faults work.after.faults) (λ s. Rose 0 s.faults)
 made_signer helper plan None work m e = due_signer (given_alone helper m.text work) work.owed work.besides _ (m.reader.close ∷ []) work.signer (λ none. m.makes.rose (second (is_none m.reader.source) none)) m.owes e
-made_signer helper plan (Some log) work m e = due_signer (given_behind helper m.text m.log_reader m.journal.fed.held work) work.owed work.besides _ (m.plan_reader.close ∷ m.log_reader.close ∷ []) work.signer
-    (λ none. m.makes.rose (fourth_of (is_none m.plan_reader.source) (is_none m.log_reader.source) (is_none m.log_reader.verifier) none)) m.owes e
+made_signer helper plan (Some log) work m e = due_signer (given_behind helper m.text m.log_reader m.journal.fed.held work) work.owed m.due _ (m.plan_reader.close ∷ m.log_reader.close ∷ last_close m.rest ∷ []) work.signer
+    (λ none. m.makes.rose (fourth_of (is_none m.plan_reader.source) (is_none m.given.source) (is_none m.given.verifier) none)) m.owes (sym (ap (λ b. b.signer_failed) m.besides) ∙ e)
+
+-- and a verifier of `make` that failed in the last round failed
+pub made_rose : (helper plan : List ℕ) (log : Option (List ℕ)) (work : Work) → IsMade helper plan log work → work.besides.verifier_failed ≡ true → VerifierRose work.readers
+made_rose helper plan None work m e = absurd (due_finds (given_alone helper m.text work) work.owed work.besides (λ b. b.verifier_failed) (λ signer refused. refl)
+    (m.reader.close ∷ []) work.signer m.owes e)
+made_rose helper plan (Some log) work m e =
+    let failed = m.journal.failed (failed_last m.rest (sym (ap (λ b. b.verifier_failed) m.besides) ∙ e)) in
+    rw m.two (inr (some_rose work.before helper (log ∷ []) (m.given ∷ []) (m.log_reader ∷ []) (m.is_given, tt) failed))
 
 pub generated_caused : (seed logs events : ℕ) (work : Work) → IsGenerated seed logs events work → AreCaused work.before work.after work.readers
 generated_caused seed logs events work c = rw c.one (record { source = λ e. absurd (c.none_failed.0 e); verifier = λ e. absurd (c.none_failed.1 e) }, tt)

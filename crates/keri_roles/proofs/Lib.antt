@@ -1,9 +1,6 @@
 pub mod Messages
-pub mod Questions
-pub mod Offered
-pub mod Offers
-pub mod ReadersTold
-pub mod Tells
+pub mod Provided
+pub mod OverCore
 pub mod CoreTold
 pub mod Dues
 pub mod Made

@@ -87,15 +87,6 @@ pub second : (a : Bool) {b : Bool} → b ≡ true → (a || (b || false)) ≡ tr
 second true e = refl
 second false e = rw e refl
 
-pub second_of : (a : Bool) {b : Bool} (c d : Bool) → b ≡ true → (a || (b || (c || (d || false)))) ≡ true
-second_of true c d e = refl
-second_of false c d e = rw e refl
-
-pub third_of : (a b : Bool) {c : Bool} (d : Bool) → c ≡ true → (a || (b || (c || (d || false)))) ≡ true
-third_of true b d e = refl
-third_of false true d e = refl
-third_of false false d e = rw e refl
-
 pub fourth_of : (a b c : Bool) {d : Bool} → d ≡ true → (a || (b || (c || (d || false)))) ≡ true
 fourth_of true b c e = refl
 fourth_of false true c e = refl

@@ -1,13 +1,12 @@
 -- No reader of a command that only reads closes by the fault of a signer, of a disk, or of a sink.
-use Rattle.std.proofs.Common.{◌≡◌, ◌≢◌, ℕ, inl, inr, Bool, true, false, ◌||◌, List, [], ◌∷◌, Option, Some, None, refl, sym, ◌∙◌, ap}
+use Rattle.std.proofs.Common.{◌≡◌, ◌≢◌, ℕ, inl, inr, Bool, true, false, ◌||◌, List, [], ◌∷◌, ◌+◌, Option, Some, None, refl, sym, ◌∙◌, ap}
 use Rattle.std.specs.List.{list_any}
 use Rattle.cesr_codes.specs.declared.digest.Digest.{Digest}
 use Rattle.cesr_stream.specs.declared.message.Message.{Message}
-use Rattle.cesr_stream.specs.Items.{Placed}
-use Rattle.cesr_stream.specs.Reading.{Reading}
 use Rattle.keri_outside.specs.declared.limits.Limits.{Limits}
 use Rattle.journal.specs.declared.mode.Mode.{Mode}
 use Rattle.journal.specs.declared.refusal.Refusal.{Refusal}
+use Rattle.journal.specs.Feeds.{FeedEach}
 use Rattle.journal.specs.History.{Told as ToldEntry}
 use Rattle.message_feed.specs.declared.text_close.TextClose.{TextClose}
 use Rattle.message_feed.specs.declared.text_close.TextClose.TheVariants as text
@@ -16,7 +15,11 @@ use Rattle.run_status.specs.declared.close.Close.TheVariants.{End, Bad, ReadFaul
 use Rattle.run_status.specs.Readers.{HasClose, Reader, SourceTold, VerifierTold, close_found}
 use Rattle.keri_roles.specs.Check.{IsChecked, OwesChecks}
 use Rattle.keri_roles.specs.Commands.{IsGenerated}
-use Rattle.keri_roles.specs.CoreTold.{ClosesReader, Given, ReadsBy, ReadsToCore}
+use Rattle.reader_threads.specs.Fed.{ClosesStream, ReadEach, ReadsBy, ends_of}
+use Rattle.reader_threads.specs.Given.{Given}
+use Rattle.reader_threads.specs.declared.last_round.LastRound.{LastRound}
+use Rattle.keri_roles.specs.CoreTold.{ReadsToCore}
+use Rattle.keri_roles.specs.Generated.{made_of}
 use Rattle.keri_roles.specs.Made.{IsMade, WasRead, close_of}
 use Rattle.keri_roles.specs.Run.{Work}
 
@@ -77,19 +80,26 @@ module _ (limits : Limits) (held : Option (List ℕ)) (verifier : Option Verifie
       (check_never DiskFault (λ e. cc) (λ e. cc) (λ s text o. o.1.closes) source owed)
       (check_never WriteFault (λ e. cc) (λ e. cc) (λ s text o. o.1.closes) source owed) close o
 
-module _ (given : Given) (bytes : List ℕ) (told : List ToldEntry) (offered : List Message) where
-  module _ (at : Close) (not_out : at ≢ OutOfMemory) (not_read : at ≢ ReadFault) (not_asked : at ≢ VerifierFault)
-      (never : (source : SourceTold) (verifier : VerifierTold) (reading : Reading) (items : List Placed) → ClosesReader given source verifier bytes reading items told offered at → ⊥) where
-    told_never : (source : Option SourceTold) (verifier : Option VerifierTold) → ReadsBy given source verifier bytes told offered at → ⊥
-    told_never None verifier r = not_read (r.0 not_out)
-    told_never (Some source) None r = not_asked (r.0 not_out)
-    told_never (Some source) (Some verifier) r = let closed = r.1.closes not_out in never source verifier closed.reading closed.items closed.closes
+module _ (limits : Limits) (told : List ToldEntry) (most number : ℕ) (rest : LastRound) (reader : Reader) (bytes : List ℕ) (offered : List Message) where
+  told_only : (source : Option SourceTold) (verifier : Option VerifierTold) → ReadsBy limits told most number rest source verifier reader bytes offered
+      → is_serving reader.close ≡ false
+  told_only None None r = ap (λ x. is_serving x.close) r.0
+  told_only None (Some verifier) r = ap is_serving r.0.close_is
+  told_only (Some source) None r = ap (λ x. is_serving x.close) r.0
+  told_only (Some source) (Some verifier) r = reads_only
+      (λ close. close ≢ OutOfMemory → ClosesStream limits told most number source r.source_left verifier r.verifier_left bytes offered close)
+      (λ c. (c (λ e. cc)).closes) (λ c. (c (λ e. cc)).closes) (λ c. (c (λ e. cc)).closes) reader.close r.closes
 
-  told_only : (source : Option SourceTold) (verifier : Option VerifierTold) (close : Close) → ReadsBy given source verifier bytes told offered close → is_serving close ≡ false
-  told_only source verifier close r = reads_only (ReadsBy given source verifier bytes told offered)
-      (told_never SignerFault (λ e. cc) (λ e. cc) (λ e. cc) (λ s v reading items c. c) source verifier)
-      (told_never DiskFault (λ e. cc) (λ e. cc) (λ e. cc) (λ s v reading items c. c) source verifier)
-      (told_never WriteFault (λ e. cc) (λ e. cc) (λ e. cc) (λ s v reading items c. c) source verifier) close r
+module _ (limits : Limits) (told : List ToldEntry) (most : ℕ) (rest : LastRound) where
+  pub each_serves : (number : ℕ) (read : List (List ℕ)) (given : List Given) (readers : List Reader) (feeds : FeedEach limits told number (ends_of read readers))
+      → ReadEach limits told most rest number read given readers feeds → some_serves readers ≡ false
+  each_serves number [] [] [] feeds each = refl
+  each_serves number [] [] (reader ∷ readers) feeds each = absurd each
+  each_serves number [] (g ∷ given) readers feeds each = absurd each
+  each_serves number (bytes ∷ read) [] readers feeds each = absurd each
+  each_serves number (bytes ∷ read) (g ∷ given) [] feeds each = absurd each
+  each_serves number (bytes ∷ read) (g ∷ given) (reader ∷ readers) feeds each = or_false (is_serving reader.close) (some_serves readers)
+      (told_only limits told most number rest reader bytes _ g.source g.verifier each.0) (each_serves (number + 1) read given readers feeds.1 each.1)
 
 text_closes : (closed : TextClose) → is_serving (close_of closed) ≡ false
 text_closes text.End = refl
@@ -105,17 +115,16 @@ pub check_serves : (name : List ℕ) (work : Work) → IsChecked name work → s
 check_serves name work c = ap some_serves c.one ∙ or_false (is_serving c.reader.close) false
     (check_only work.before.limits (work.before.holds name) c.reader.verifier c.reader.refused c.reader.seen c.reader.source work.owed c.reader.close c.owes) refl
 
-pub told_serves : (mode : Mode) (helper name : List ℕ) (work : Work) → ReadsToCore mode helper name work → some_serves work.readers ≡ false
-told_serves mode helper name work t = ap some_serves t.one ∙ or_false (is_serving t.reader.close) false
-    (told_only _ t.journal.bytes _ _ t.reader.source t.reader.verifier t.reader.close t.journal.reads) refl
+pub told_serves : (mode : Mode) (helper : List ℕ) (names : List (List ℕ)) (work : Work) → ReadsToCore mode helper names work → some_serves work.readers ≡ false
+told_serves mode helper names work t = each_serves _ _ _ t.rest 0 t.journal.read t.given work.readers t.journal.fed.fed.each t.journal.each
 
 pub made_serves : (helper plan : List ℕ) (log : Option (List ℕ)) (work : Work) → IsMade helper plan log work → some_serves work.readers ≡ false
 made_serves helper plan None work m = ap some_serves m.one ∙ or_false (is_serving m.reader.close) false
     (text_only _ _ m.text m.reader.source m.reader.close m.reads.read) refl
 made_serves helper plan (Some log) work m = ap some_serves m.two ∙ or_false (is_serving m.plan_reader.close) (is_serving m.log_reader.close || false)
     (text_only _ _ m.text m.plan_reader.source m.plan_reader.close m.reads.read)
-    (or_false (is_serving m.log_reader.close) false (told_only _ m.journal.bytes _ _ m.log_reader.source m.log_reader.verifier m.log_reader.close m.journal.reads) refl)
+    (each_serves _ _ _ m.rest 0 m.journal.read (m.given ∷ []) (m.log_reader ∷ []) m.journal.fed.fed.each m.journal.each)
 
 pub generated_serves : (seed logs events : ℕ) (work : Work) → IsGenerated seed logs events work → some_serves work.readers ≡ false
-generated_serves seed logs events work g = ap some_serves g.one ∙ or_false (is_serving g.reader.close) false
-    (told_only _ g.journal.bytes _ _ g.reader.source g.reader.verifier g.reader.close g.journal.reads) refl
+generated_serves seed logs events work g = ap some_serves g.one
+    ∙ each_serves _ _ _ g.rest 0 g.journal.read (made_of seed logs events ∷ []) (g.reader ∷ []) g.journal.fed.fed.each g.journal.each

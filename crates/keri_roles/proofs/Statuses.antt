@@ -13,48 +13,54 @@ use Rattle.run_status.specs.Readers.{HasClose, Reader, SinkTold, SourceTold}
 use Rattle.run_status.specs.Status.{nothing_besides}
 use Rattle.run_status.proofs.Causes.{faults_have_causes, words_refused}
 use Rattle.keri_roles.specs.Commands.{IsRunOf, IsUnbegun, IsWritten, CarriesOut}
-use Rattle.keri_roles.specs.Made.{IsMade, given_alone, given_behind}
+use Rattle.keri_roles.specs.CoreTold.{fails_last}
+use Rattle.keri_roles.specs.Made.{IsMade, given_alone, given_behind, last_close}
 use Rattle.keri_roles.specs.Rehearsed.{IsRehearsed, Serves, serving_close, serving_status}
-use Rattle.keri_roles.specs.Run.{Work, Run, HasCauses, SignerFails, AreCaused, work_in}
+use Rattle.keri_roles.specs.Run.{Work, Run, HasCauses, SignerFails, VerifierRose, AreCaused, work_in}
 use Rattle.keri_roles.specs.Seen.{disk_seen}
 use Rattle.keri_roles.proofs.WitnessedCauses.{witnessed_causes}
-use Rattle.keri_roles.proofs.Causes.{check_caused, generated_caused, made_caused, made_signer, rehearsed_caused, told_caused}
+use Rattle.keri_roles.proofs.Causes.{check_caused, generated_caused, made_caused, made_rose, made_signer, rehearsed_caused, told_caused, told_rose}
 use Rattle.keri_roles.proofs.Made.{due_finds}
 use Rattle.keri_roles.proofs.Never.{check_serves, generated_serves, has_none, made_serves, some_serves, told_serves}
 
--- what a command finds is whether there is a conflict, and nothing else
-nothing_else : (finds : Besides → Bool) (besides : Besides) (has : Bool) → finds (record nothing_besides { conflict_found = has }) ≡ false
-    → besides ≡ record nothing_besides { conflict_found = has } → finds besides ≡ true → ⊥
-nothing_else finds besides has none e some = let clash : false ≡ true = sym none ∙ (sym (ap finds e) ∙ some) in cc
+-- what a command finds is whether there is a conflict, and whether a verifier failed in the last round, and nothing else
+nothing_else : (finds : Besides → Bool) (besides : Besides) (has failed : Bool) → finds (record nothing_besides { conflict_found = has; verifier_failed = failed }) ≡ false
+    → besides ≡ record nothing_besides { conflict_found = has; verifier_failed = failed } → finds besides ≡ true → ⊥
+nothing_else finds besides has failed none e some = let clash : false ≡ true = sym none ∙ (sym (ap finds e) ∙ some) in cc
 
 -- `make` finds nothing of the words, of a disk, or of a shelf
 made_finds : (finds : Besides → Bool) (none : (signer refused : Bool) → finds (record nothing_besides { signer_failed = signer; plan_refused = refused }) ≡ false)
+    (apart : (besides : Besides) (failed : Bool) → finds (record besides { verifier_failed = failed }) ≡ finds besides)
     (helper plan : List ℕ) (log : Option (List ℕ)) (work : Work) → IsMade helper plan log work → finds work.besides ≡ true → ⊥
-made_finds finds none helper plan None work m some = due_finds (given_alone helper m.text work) work.owed work.besides finds none (m.reader.close ∷ []) work.signer m.owes some
-made_finds finds none helper plan (Some log) work m some = due_finds (given_behind helper m.text m.log_reader m.journal.fed.held work) work.owed work.besides finds none
-    (m.plan_reader.close ∷ m.log_reader.close ∷ []) work.signer m.owes some
+made_finds finds none apart helper plan None work m some = due_finds (given_alone helper m.text work) work.owed work.besides finds none (m.reader.close ∷ []) work.signer m.owes some
+made_finds finds none apart helper plan (Some log) work m some = due_finds (given_behind helper m.text m.log_reader m.journal.fed.held work) work.owed m.due finds none
+    (m.plan_reader.close ∷ m.log_reader.close ∷ last_close m.rest ∷ []) work.signer m.owes (sym (ap finds m.besides ∙ apart m.due (fails_last m.rest)) ∙ some)
 
 -- a run that wrote what its command owes, and whose readers only read
 written_causes : (asked : Option Asked) (Does : Work → Type 0) (run : Run) (w : IsWritten Does run) → (w.besides.words_refused ≡ true → IsNone asked)
     → (w.besides.signer_failed ≡ true → SignerFails asked run) → (w.besides.disk_failed ≡ true → ⊥) → (w.besides.shelf_full ≡ true → ⊥)
+    → (w.besides.verifier_failed ≡ true → VerifierRose run.readers)
     → some_serves run.readers ≡ false → AreCaused run.before run.after run.readers → HasCauses asked run
-written_causes asked Does run w refused failed no_disk no_shelf reads caused = record {
+written_causes asked Does run w refused failed no_disk no_shelf last reads caused = record {
   two = λ e. refused (words_refused w.besides run.readers run.sink_before run.sink_after run.status w.owed w.settles e);
   besides = w.besides;
   faults = faults_have_causes w.besides run.readers run.sink_before run.sink_after run.status w.owed w.settles;
   signer = ⊎_elim failed (λ closed. absurd (has_none closing.SignerFault refl run.readers reads closed));
   disk = ⊎_elim (λ some. absurd (no_disk some)) (λ closed. absurd (has_none closing.DiskFault refl run.readers reads closed));
+  verifier = last;
   sink = λ closed. absurd (has_none closing.WriteFault refl run.readers reads closed);
   shelf = λ some. absurd (no_shelf some);
   readers = caused;
 }
 
 -- one whose command neither refuses words nor has a signer
-plain_causes : (asked : Asked) (Does : Work → Type 0) (run : Run) (w : IsWritten Does run) (has : Bool) → w.besides ≡ record nothing_besides { conflict_found = has }
+plain_causes : (asked : Asked) (Does : Work → Type 0) (run : Run) (w : IsWritten Does run) (has failed : Bool)
+    → w.besides ≡ record nothing_besides { conflict_found = has; verifier_failed = failed } → (failed ≡ true → VerifierRose run.readers)
     → some_serves run.readers ≡ false → AreCaused run.before run.after run.readers → HasCauses (Some asked) run
-plain_causes asked Does run w has e reads caused = written_causes (Some asked) Does run w
-    (λ some. absurd (nothing_else (λ b. b.words_refused) w.besides has refl e some)) (λ some. absurd (nothing_else (λ b. b.signer_failed) w.besides has refl e some))
-    (nothing_else (λ b. b.disk_failed) w.besides has refl e) (nothing_else (λ b. b.shelf_full) w.besides has refl e) reads caused
+plain_causes asked Does run w has failed e last reads caused = written_causes (Some asked) Does run w
+    (λ some. absurd (nothing_else (λ b. b.words_refused) w.besides has failed refl e some)) (λ some. absurd (nothing_else (λ b. b.signer_failed) w.besides has failed refl e some))
+    (nothing_else (λ b. b.disk_failed) w.besides has failed refl e) (nothing_else (λ b. b.shelf_full) w.besides has failed refl e)
+    (λ some. last (sym (ap (λ b. b.verifier_failed) e) ∙ some)) reads caused
 
 -- what a status of `rehearse` says of the serving
 by_two : (served : Served) → serving_status served ≢ 2
@@ -167,6 +173,7 @@ rehearsed_causes run r =
       };
       signer = ⊎_elim not_true (λ closed. served_signs r.served (closed_one closing.SignerFault reader (subst (HasClose closing.SignerFault) r.one closed)));
       disk = ⊎_elim not_true (λ closed. served_stores r.served (closed_one closing.DiskFault reader (subst (HasClose closing.DiskFault) r.one closed)));
+      verifier = λ e. absurd (not_true e);
       sink = λ closed. wrote (served_writes r.served (closed_one closing.WriteFault reader (subst (HasClose closing.WriteFault) r.one closed)));
       shelf = not_true;
       readers = rehearsed_caused run r;
@@ -187,6 +194,7 @@ unbegun_causes asked run u = record {
   };
   signer = ⊎_elim (λ e. absurd (not_true e)) (λ closed. absurd (subst (HasClose closing.SignerFault) u.none_read closed));
   disk = ⊎_elim (λ e. absurd (not_true e)) (λ closed. absurd (subst (HasClose closing.DiskFault) u.none_read closed));
+  verifier = λ e. absurd (not_true e);
   sink = λ closed. absurd (subst (HasClose closing.WriteFault) u.none_read closed);
   shelf = λ e. absurd (not_true e);
   readers = rw u.none_read tt;
@@ -196,26 +204,28 @@ carried_causes : {D : Type 0} (told : D → DiskTold) (disk old : Option D) (ask
     → CarriesOut told disk old asked run → HasCauses asked run
 carried_causes told disk old None run d o w = written_causes None _ run w (λ refused. refl)
     (λ some. absurd (refused_only (λ b. b.signer_failed) refl some)) (refused_only (λ b. b.disk_failed) refl) (refused_only (λ b. b.shelf_full) refl)
+    (λ some. absurd (refused_only (λ b. b.verifier_failed) refl some))
     (rw w.does.idle.none_read refl) (rw w.does.idle.none_read tt)
   where
     refused_only : (finds : Besides → Bool) → finds (record nothing_besides { words_refused = true }) ≡ false → finds w.besides ≡ true → ⊥
     refused_only finds none some = let clash : false ≡ true = sym none ∙ (sym (ap finds w.does.nothing_else) ∙ some) in cc
 carried_causes told disk old (Some (check name)) run d o w = let work = work_in run w.owed w.besides in
-    plain_causes (check name) _ run w false w.does.nothing_else (check_serves name work w.does) (check_caused name work w.does)
-carried_causes told disk old (Some (validate helper name)) run d o w = let work = work_in run w.owed w.besides in
-    plain_causes (validate helper name) _ run w w.does.over.has_conflicts w.does.over.nothing_else
-    (told_serves _ helper name work w.does.over.told) (told_caused _ helper name work w.does.over.told)
-carried_causes told disk old (Some (watch helper name)) run d o w = let work = work_in run w.owed w.besides in
-    plain_causes (watch helper name) _ run w w.does.has_conflicts w.does.nothing_else
-    (told_serves _ helper name work w.does.told) (told_caused _ helper name work w.does.told)
+    plain_causes (check name) _ run w false false w.does.nothing_else (λ e. absurd (not_true e)) (check_serves name work w.does) (check_caused name work w.does)
+carried_causes told disk old (Some (validate helper names)) run d o w = let work = work_in run w.owed w.besides in let over = w.does.over in
+    plain_causes (validate helper names) _ run w over.has_conflicts (fails_last over.told.rest) over.nothing_else (told_rose _ helper names work over.told)
+    (told_serves _ helper names work over.told) (told_caused _ helper names work over.told)
+carried_causes told disk old (Some (watch helper names)) run d o w = let work = work_in run w.owed w.besides in let over = w.does in
+    plain_causes (watch helper names) _ run w over.has_conflicts (fails_last over.told.rest) over.nothing_else (told_rose _ helper names work over.told)
+    (told_serves _ helper names work over.told) (told_caused _ helper names work over.told)
 carried_causes told disk old (Some (witness helper key shelf from name)) run d o w = witnessed_causes told disk old helper key shelf from name run d o w
 carried_causes told disk old (Some (make helper plan log)) run d o w = let work = work_in run w.owed w.besides in
-    written_causes (Some (make helper plan log)) _ run w (λ some. absurd (made_finds (λ b. b.words_refused) (λ s r. refl) helper plan log work w.does some))
-    (made_signer helper plan log work w.does) (made_finds (λ b. b.disk_failed) (λ s r. refl) helper plan log work w.does)
-    (made_finds (λ b. b.shelf_full) (λ s r. refl) helper plan log work w.does)
+    written_causes (Some (make helper plan log)) _ run w (λ some. absurd (made_finds (λ b. b.words_refused) (λ s r. refl) (λ b f. refl) helper plan log work w.does some))
+    (made_signer helper plan log work w.does) (made_finds (λ b. b.disk_failed) (λ s r. refl) (λ b f. refl) helper plan log work w.does)
+    (made_finds (λ b. b.shelf_full) (λ s r. refl) (λ b f. refl) helper plan log work w.does) (made_rose helper plan log work w.does)
     (made_serves helper plan log work w.does) (made_caused helper plan log work w.does)
 carried_causes told disk old (Some (generate seed logs events)) run d o w = let work = work_in run w.owed w.besides in
-    plain_causes (generate seed logs events) _ run w false w.does.nothing_else (generated_serves seed logs events work w.does) (generated_caused seed logs events work w.does)
+    plain_causes (generate seed logs events) _ run w false false w.does.nothing_else (λ e. absurd (not_true e))
+    (generated_serves seed logs events work w.does) (generated_caused seed logs events work w.does)
 carried_causes told disk old (Some rehearse) run d o r = rehearsed_causes run r
 
 -- of any run of which this is known

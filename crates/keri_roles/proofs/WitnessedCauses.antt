@@ -29,14 +29,15 @@ use Rattle.keri_roles.proofs.ServedCauses.{serving_asked, serving_kept, serving_
 -- a run that read nothing
 unread_causes : (helper : List ℕ) (key : Key) (shelf : List ℕ) (from : Option (List ℕ)) (name : List ℕ) (no_memory : Type 0) (text : List ℕ) (besides : Besides) (run : Run)
     → IsUnread no_memory text besides run → (besides.words_refused ≡ true → ⊥) → (besides.signer_failed ≡ true → ⊥)
-    → (besides.disk_failed ≡ true → Rose run.before.faults run.after.faults ⊎ DiskRose run.disk ⊎ DiskRose run.old)
+    → (besides.verifier_failed ≡ true → ⊥) → (besides.disk_failed ≡ true → Rose run.before.faults run.after.faults ⊎ DiskRose run.disk ⊎ DiskRose run.old)
     → HasCauses (Some (witness helper key shelf from name)) run
-unread_causes helper key shelf from name no_memory text besides run u words signer disk = record {
+unread_causes helper key shelf from name no_memory text besides run u words signer verifier disk = record {
   two = λ e. absurd (words (words_refused besides run.readers run.sink_before run.sink_after run.status u.owed u.settles e));
   besides = besides;
   faults = faults_have_causes besides run.readers run.sink_before run.sink_after run.status u.owed u.settles;
   signer = ⊎_elim (λ failed. absurd (signer failed)) (λ closed. absurd (subst (HasClose closing.SignerFault) u.none_read closed));
   disk = ⊎_elim disk (λ closed. absurd (subst (HasClose closing.DiskFault) u.none_read closed));
+  verifier = λ e. absurd (verifier e);
   sink = λ closed. absurd (subst (HasClose closing.WriteFault) u.none_read closed);
   shelf = λ e. tt;
   readers = rw u.none_read tt;
@@ -57,6 +58,13 @@ opening_signer DiskFault e = cc
 opening_signer Full e = cc
 opening_signer OutOfMemory e = cc
 
+opening_verifier : (fault : OpeningFault) → (found_by fault).verifier_failed ≡ true → ⊥
+opening_verifier (NotAShelf place) e = cc
+opening_verifier (NotAnOldShelf place) e = cc
+opening_verifier DiskFault e = cc
+opening_verifier Full e = cc
+opening_verifier OutOfMemory e = cc
+
 opening_disk : (fault : OpeningFault) → (found_by fault).disk_failed ≡ true → fault ≡ DiskFault
 opening_disk (NotAShelf place) e = cc
 opening_disk (NotAnOldShelf place) e = cc
@@ -72,6 +80,10 @@ starting_words NoMemory e = cc
 starting_signer : (fault : ResumeFault) → (start_found fault).signer_failed ≡ true → ⊥
 starting_signer (NotALog number) e = cc
 starting_signer NoMemory e = cc
+
+starting_verifier : (fault : ResumeFault) → (start_found fault).verifier_failed ≡ true → ⊥
+starting_verifier (NotALog number) e = cc
+starting_verifier NoMemory e = cc
 
 starting_disk : (fault : ResumeFault) → (start_found fault).disk_failed ≡ true → ⊥
 starting_disk (NotALog number) e = cc
@@ -114,7 +126,7 @@ module _ {D : Type 0} (told : D → DiskTold) where
   module _ (disk old : Option D) (helper : List ℕ) (key : Key) (shelf : List ℕ) (from : Option (List ℕ)) (name : List ℕ) (run : Run)
       (disk_is : run.disk ≡ disk_seen told disk) (old_is : run.old ≡ disk_seen told old) where
     opens_none : OpensNone told disk old helper key shelf from name run → HasCauses (Some (witness helper key shelf from name)) run
-    opens_none o = unread_causes helper key shelf from name _ _ (found_by o.fault) run o.unopened (opening_words o.fault) (opening_signer o.fault)
+    opens_none o = unread_causes helper key shelf from name _ _ (found_by o.fault) run o.unopened (opening_words o.fault) (opening_signer o.fault) (opening_verifier o.fault)
         (λ e. elim (o.opening.cause.rose (ap Err (opening_disk o.fault e))) [
           | inl rose ↦ inl rose
           | inr (inl rose) ↦ inr (inl (rw disk_is (rose_seen disk rose)))
@@ -126,7 +138,7 @@ module _ {D : Type 0} (told : D → DiskTold) where
         let it = u.unread in
         let unread : IsUnread (u.fault ≡ NoMemory) (start_text u.fault) (start_found u.fault) run =
         record { none_read = it.none_read; none_told = it.none_told; no_signer = it.no_signer; owed = it.owed; line = it.line; settles = it.settles } in
-        unread_causes helper key shelf from name _ _ (start_found u.fault) run unread (starting_words u.fault) (starting_signer u.fault)
+        unread_causes helper key shelf from name _ _ (start_found u.fault) run unread (starting_words u.fault) (starting_signer u.fault) (starting_verifier u.fault)
         (λ e. absurd (starting_disk u.fault e))
 
     served : (first : D) (list : List (List ℕ)) (middle : Told) → middle.faults ≡ run.before.faults → (told first).faults ≡ 0
@@ -155,6 +167,7 @@ module _ {D : Type 0} (told : D → DiskTold) where
               (one closing.SignerFault closed)));
           disk = ⊎_elim (λ e. absurd (not_true e)) (λ closed. inr (inl (rw disk_is (rose_back first s.serves.new.disk disk none ends.back
               (serving_stored told key run.before.limits helper name _ s.serves.new reader here reader.source reader.verifier run.signer s.serves.serves (one closing.DiskFault closed))))));
+          verifier = λ e. absurd (not_true e);
           sink = λ closed. wrote (one closing.WriteFault closed);
           shelf = λ e. tt;
           readers = rw ends.one (

@@ -1,48 +1,48 @@
 -- What each command does, and what a run of the program does.
-use Rattle.std.specs.Prelude.{◌≡◌, ◌≢◌, ℕ, ◌∷◌, ◌⊎◌, true, Bool, List, [], codes}
+use Rattle.std.specs.Prelude.{◌≡◌, ◌≢◌, ℕ, ◌∷◌, ◌⊎◌, true, Bool, List, [], codes, IfSome}
 use Rattle.std.specs.declared.option.Option.{Option}
 use Rattle.std.specs.declared.option.Option.TheVariants.{None, Some}
 use Rattle.command_words.specs.Words.{Asked, check, generate, make, rehearse, validate, watch, witness}
 use Rattle.journal.specs.declared.mode.Mode.TheVariants.{Full, Local}
-use Rattle.journal.specs.declared.refusal.Refusal.{Refusal}
 use Rattle.journal.specs.Accepted.{accepted}
 use Rattle.journal.specs.Journals.{told_by}
 use Rattle.report_lines.specs.Lines.{stream_text}
 use Rattle.validator_core.specs.View.{CoreView}
 use Rattle.watcher_core.specs.Evidence.{IsEvidenceText, ReadsAsEvidence}
-use Rattle.run_status.specs.declared.close.Close.{Close}
 use Rattle.run_status.specs.declared.close.Close.TheVariants.{ReadFault, VerifierFault}
 use Rattle.run_status.specs.declared.besides.Besides.{Besides}
 use Rattle.keri_roles.specs.Agreement.{IsAgreed}
 use Rattle.keri_roles.specs.Check.{IsChecked}
-use Rattle.keri_roles.specs.CoreTold.{IsOverCore, IsToldBy}
-use Rattle.keri_roles.specs.Generated.{counts_of, made_in}
+use Rattle.reader_threads.specs.declared.last_round.LastRound.{LastRound}
+use Rattle.reader_threads.specs.declared.last_round.LastRound.TheVariants.{VerifierFailed}
+use Rattle.keri_roles.specs.CoreTold.{HadMemory, IsOverCore, IsToldBy}
+use Rattle.keri_roles.specs.Generated.{counts_of, made_of}
 use Rattle.keri_roles.specs.Made.{IsMade}
 use Rattle.keri_roles.specs.NoJournal.{no_journal}
 use Rattle.keri_roles.specs.Rehearsed.{IsRehearsed}
 use Rattle.keri_roles.specs.Reports.{Reports}
 use Rattle.run_status.specs.Readers.{Reader}
-use Rattle.keri_roles.specs.Run.{Owes, Run, Work, work_in}
+use Rattle.keri_roles.specs.Run.{Run, Work, work_in}
 use Rattle.keri_roles.specs.Run.{Settles}
 use Rattle.run_status.specs.Status.{nothing_besides}
 use Rattle.keri_disk.specs.Images.{DiskTold}
 use Rattle.keri_roles.specs.Witnessed.{IsWitnessed}
 
--- `validate --helper HELPER FILE`: a core that wants receipts and seals is told what the file holds, and the text is its
+-- `validate --helper HELPER FILE..`: a core that wants receipts and seals is told what the files hold, and the text is its
 -- report. What it accepts agrees with what any other validator accepts.
-pub record IsValidated (helper name : List ℕ) (work : Work) : Type 0 where
-  pub over : IsOverCore Full Reports helper name work
+pub record IsValidated (helper : List ℕ) (names : List (List ℕ)) (work : Work) : Type 0 where
+  pub over : IsOverCore Full Reports helper names work
   pub agreed : IsAgreed (told_by over.told.journal.fed.held work.journal.entries)
 
--- The evidence is of the core alone, whatever was refused and however the reader closed; and whoever reads it reads just the
+-- The evidence is of the core alone, whatever was refused and however the readers closed; and whoever reads it reads just the
 -- bodies in conflict with their signatures.
-pub record IsEvidence (core : CoreView) (refused : List Refusal) (close : Close) (text : List ℕ) (has_conflicts : Bool) : Type 0 where
+pub record IsEvidence (core : CoreView) (readers : List Reader) (text : List ℕ) (has_conflicts : Bool) : Type 0 where
   pub text_is : IsEvidenceText core text has_conflicts
   pub reads : ReadsAsEvidence core text
 
--- `watch --helper HELPER FILE`: a core that wants neither receipts nor seals is told what the file holds, and the text is
+-- `watch --helper HELPER FILE..`: a core that wants neither receipts nor seals is told what the files hold, and the text is
 -- its evidence.
-abbrev pub IsWatched : List ℕ → List ℕ → Work → Type 0
+abbrev pub IsWatched : List ℕ → List (List ℕ) → Work → Type 0
 IsWatched = IsOverCore Local IsEvidence
 
 -- `gen --seed SEED --logs LOGS --events EVENTS`: a core that wants receipts and seals is told the stream that is made of the
@@ -52,10 +52,11 @@ pub record IsGenerated (seed logs events : ℕ) (work : Work) : Type 0 where
   pub reader : Reader
   pub one : work.readers ≡ record reader { source = None; verifier = None } ∷ []
   pub none_made : work.after ≡ work.before
-  pub journal : IsToldBy Full (made_in work seed logs events) reader work.journal
-  pub none_failed : (reader.close ≢ ReadFault) × (reader.close ≢ VerifierFault)
-  pub owes : Owes work.owed reader.close
-      (λ text. text ≡ stream_text (counts_of seed logs events (accepted Full [] (told_by journal.fed.held work.journal.entries))))
+  pub rest : LastRound
+  pub journal : IsToldBy Full work.before.limits (made_of seed logs events ∷ []) (reader ∷ []) rest work.journal
+  pub none_failed : (reader.close ≢ ReadFault) × (reader.close ≢ VerifierFault) × (rest ≢ VerifierFailed)
+  pub owes : IfSome work.owed (λ text. HadMemory rest (reader ∷ [])
+      × (text ≡ stream_text (counts_of seed logs events (accepted Full [] (told_by journal.fed.held work.journal.entries)))))
   pub nothing_else : work.besides ≡ nothing_besides
 
 -- nothing was made, read or told
@@ -84,8 +85,8 @@ pub record IsWritten (Does : Work → Type 0) (run : Run) : Type 0 where
 abbrev pub CarriesOut : {D : Type 0} → (D → DiskTold) → Option D → Option D → Option Asked → Run → Type 0
 CarriesOut told disk old None run = IsWritten RefusesWords run
 CarriesOut told disk old (Some (check name)) run = IsWritten (IsChecked name) run
-CarriesOut told disk old (Some (validate helper name)) run = IsWritten (IsValidated helper name) run
-CarriesOut told disk old (Some (watch helper name)) run = IsWritten (IsWatched helper name) run
+CarriesOut told disk old (Some (validate helper names)) run = IsWritten (IsValidated helper names) run
+CarriesOut told disk old (Some (watch helper names)) run = IsWritten (IsWatched helper names) run
 CarriesOut told disk old (Some (witness helper key shelf from name)) run = IsWitnessed told disk old helper key shelf from name run
 CarriesOut told disk old (Some (make helper plan log)) run = IsWritten (IsMade helper plan log) run
 CarriesOut told disk old (Some (generate seed logs events)) run = IsWritten (IsGenerated seed logs events) run

@@ -1,16 +1,18 @@
 -- A stream that is made of a seed.
 use Rattle.std.specs.Prelude.{ℕ, ◌*◌, List, length}
-use Rattle.std.specs.declared.option.Option.TheVariants.{Some}
+use Rattle.std.specs.declared.option.Option.TheVariants.{None, Some}
 use Rattle.journal.specs.declared.body.Body.{Body}
 use Rattle.keri_outside.specs.Rehearsal.{rehearsal_says}
 use Rattle.log_maker.specs.Streams.{stream_rotations, stream_text}
 use Rattle.report_lines.specs.declared.stream_counts.StreamCounts.{StreamCounts}
-use Rattle.keri_roles.specs.CoreTold.{Given}
-use Rattle.keri_roles.specs.Run.{Work}
+use Rattle.reader_threads.specs.Given.{Given}
 
--- what the one reader is given
-abbrev pub made_in : Work → ℕ → ℕ → ℕ → Given
-made_in work seed logs events = record { limits = work.before.limits; held = Some (stream_text seed logs events); says = rehearsal_says }
+-- what the one reader is given: the stream, and a verifier that never fails, and doesn't tell what it is asked
+abbrev pub made_of : ℕ → ℕ → ℕ → Given
+made_of seed logs events = record {
+  source = Some (record { left = Some (stream_text seed logs events); faults = 0 });
+  verifier = Some (record { says = rehearsal_says; inquiries = None; faults = 0 });
+}
 
 -- how much the stream has, with what is accepted of it
 abbrev pub counts_of : ℕ → ℕ → ℕ → List Body → StreamCounts

@@ -5,10 +5,9 @@ pub mod Closes
 pub mod MessageLines
 pub mod Checker
 pub mod Check
-pub mod Stops
-pub mod Offers
-pub mod CoreReads
 pub mod CoreTold
+pub mod Provided
+pub mod OneSeats
 pub mod CommandTexts
 pub mod Reports
 pub mod Agreement

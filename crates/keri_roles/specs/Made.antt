@@ -26,12 +26,15 @@ use Rattle.run_status.specs.declared.close.Close.TheVariants.{End, Bad, ReadFaul
 use Rattle.run_status.specs.Readers.{Reader, SourceTold}
 use Rattle.run_status.specs.Settling.{refuses}
 use Rattle.run_status.specs.Status.{nothing_besides}
-use Rattle.keri_roles.specs.CoreTold.{IsToldBy, core_of, given_in}
+use Rattle.reader_threads.specs.Given.{Given}
+use Rattle.reader_threads.specs.declared.last_round.LastRound.{LastRound}
+use Rattle.reader_threads.specs.declared.last_round.LastRound.TheVariants.{NoneFailed, VerifierFailed, OutOfMemory as NoMemory}
+use Rattle.reader_threads.specs.declared.providers.Providers.{Providers}
+use Rattle.keri_roles.specs.CoreTold.{IsGiven, IsToldBy, core_of, fails_last}
 use Rattle.keri_roles.specs.NoJournal.{no_journal}
 use Rattle.run_outside.specs.Makings.{AreMakings}
 use Rattle.keri_roles.specs.Run.{SignerTold, Work}
 use Rattle.keri_roles.specs.declared.make.MakeWords.{MakeWords}
-use Rattle.keri_roles.specs.declared.providers.Providers.{Providers}
 
 -- how the reader of a text closes
 abbrev pub close_of : TextClose → Close
@@ -182,18 +185,29 @@ pub record IsMadeAlone (helper plan : List ℕ) (work : Work) : Type 0 where
   pub none_told : work.journal ≡ no_journal
   pub owes : IsDue (given_alone helper text work) (reader.close ∷ []) work.signer work.owed work.besides
 
+-- what a last round came to, as a reader closes: by its verifier's fault, for want of memory, or by neither
+abbrev pub last_close : LastRound → Close
+last_close NoneFailed = End
+last_close VerifierFailed = VerifierFault
+last_close NoMemory = OutOfMemory
+
 -- Behind a log: the makings are the plan's source, the log's source, the verifier and the signer, and the journal was told by
--- the log's reader, of the number 0.
+-- the log's reader, of the number 0. Where its verifier failed in the last round, no message is due either.
 pub record IsMadeBehind (helper plan log : List ℕ) (work : Work) : Type 0 where
   pub plan_reader : Reader
   pub log_reader : Reader
   pub two : work.readers ≡ plan_reader ∷ log_reader ∷ []
   pub text : List ℕ
   pub reads : ReadsWhole work.before.limits.stream_bytes (work.before.holds plan) plan_reader text
-  pub makes : AreMakings (makings_behind plan log helper plan_reader.source log_reader.source log_reader.verifier work.signer) work.before work.after
+  pub given : Given
+  pub is_given : IsGiven work.before helper log given
+  pub makes : AreMakings (makings_behind plan log helper plan_reader.source given.source given.verifier work.signer) work.before work.after
   pub signs : IfSome work.signer (λ s. s.gives ≡ work.before.gives helper)
-  pub journal : IsToldBy Local (given_in work helper log) log_reader work.journal
-  pub owes : IsDue (given_behind helper text log_reader journal.fed.held work) (plan_reader.close ∷ log_reader.close ∷ []) work.signer work.owed work.besides
+  pub rest : LastRound
+  pub journal : IsToldBy Local work.before.limits (given ∷ []) (log_reader ∷ []) rest work.journal
+  pub due : Besides
+  pub owes : IsDue (given_behind helper text log_reader journal.fed.held work) (plan_reader.close ∷ log_reader.close ∷ last_close rest ∷ []) work.signer work.owed due
+  pub besides : work.besides ≡ record due { verifier_failed = fails_last rest }
 
 -- `make --helper HELPER --plan PLAN`, and with `--log LOG`
 abbrev pub IsMade : List ℕ → List ℕ → Option (List ℕ) → Work → Type 0

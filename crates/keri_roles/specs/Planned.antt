@@ -1,23 +1,37 @@
 -- A stream by its plan.
-use Rattle.std.specs.Prelude.{◌≡◌, ◌≢◌, List}
-use Rattle.std.specs.declared.option.Option.TheVariants.{Some}
-use Rattle.keri_outside.specs.Rehearsal.{rehearsal_says}
+use Rattle.std.specs.Prelude.{◌≡◌, ◌≢◌, ℕ, List, [], ◌∷◌, Vec}
 use Rattle.keri_outside.specs.declared.limits.Limits.{Limits}
-use Rattle.log_maker.specs.Streams as streams
 use Rattle.journal.specs.declared.body.Body.{Body}
 use Rattle.journal.specs.declared.mode.Mode.TheVariants.{Full}
 use Rattle.report_lines.specs.Lines.{stream_text}
 use Rattle.run_status.specs.declared.close.Close.{Close}
-use Rattle.run_status.specs.declared.close.Close.TheVariants.{OutOfMemory}
-use Rattle.keri_roles.specs.CoreReads.{CoreRead, TellsHeld}
-use Rattle.keri_roles.specs.Generated.{counts_of}
-use Rattle.keri_roles.specs.declared.core_text.CommandText.{CommandText}
+use Rattle.run_status.specs.declared.close.Close.TheVariants.{End, Bad, ReadFault, VerifierFault, SignerFault, DiskFault, WriteFault, Malformed, Full as FullClose, OutOfMemory}
+use Rattle.run_status.specs.Readers.{Reader}
+use Rattle.validator_core.specs.View.{CoreView}
+use Rattle.reader_threads.specs.declared.last_round.LastRound.{LastRound}
+use Rattle.reader_threads.specs.declared.last_round.LastRound.TheVariants.{OutOfMemory as NoMemory}
+use Rattle.reader_threads.specs.Told.{AllTold}
+use Rattle.keri_roles.specs.Generated.{counts_of, made_of}
 use Rattle.keri_roles.specs.declared.generate.StreamPlan.{StreamPlan}
 
--- a core that wants receipts and seals was told the stream, with the verdicts of the rehearsal
-abbrev pub TellsMade : StreamPlan → Limits → CoreRead → Type 0
-TellsMade plan limits read = TellsHeld Full limits (Some (streams.stream_text plan.seed plan.logs plan.events)) rehearsal_says read
+-- a core that wants receipts and seals was told the stream by its one reader, with the verdicts of the rehearsal
+abbrev pub TellsMade : StreamPlan → Limits → Reader → LastRound → CoreView → Type 0
+TellsMade plan limits reader rest core = AllTold Full limits (made_of plan.seed plan.logs plan.events ∷ []) (reader ∷ []) rest core
 
--- There was memory for what was read, and the text says how much the stream has, and how many of its events are accepted.
-abbrev pub HasCounts : StreamPlan → List Body → Close → CommandText → Type 0
-HasCounts plan accepted close text = (close ≢ OutOfMemory) × (text.bytes.items ≡ stream_text (counts_of plan.seed plan.logs plan.events accepted))
+-- There was memory for what was read, and the line says how much the stream has, and how many of its events are accepted.
+pub record HasCounts {Z : Type 0} (plan : StreamPlan) (accepted : List Body) (close : Close) (rest : LastRound) (line : Vec ℕ Z) : Type 0 where
+  pub had_memory : (close ≢ OutOfMemory) × (close ≢ ReadFault) × (rest ≢ NoMemory)
+  pub line_is : line.items ≡ stream_text (counts_of plan.seed plan.logs plan.events accepted)
+
+-- a stream fails to be made for want of memory alone
+abbrev pub made_close : Close → Close
+made_close ReadFault = OutOfMemory
+made_close End = End
+made_close (Bad bad) = Bad bad
+made_close VerifierFault = VerifierFault
+made_close SignerFault = SignerFault
+made_close DiskFault = DiskFault
+made_close WriteFault = WriteFault
+made_close (Malformed place) = Malformed place
+made_close FullClose = FullClose
+made_close OutOfMemory = OutOfMemory

@@ -1,10 +1,11 @@
--- The report of a journal and its one reader.
-use Rattle.std.specs.Prelude.{◌≡◌, ℕ, Bool, List, [], ◌++◌, flat_map}
+-- The report of a journal and its readers.
+use Rattle.std.specs.Prelude.{◌≡◌, ℕ, ◌+◌, Bool, List, [], ◌∷◌, ◌++◌, flat_map}
 use Rattle.journal.specs.declared.refusal.Refusal.{Refusal}
 use Rattle.report_lines.specs.Lines.{refused_text, malformed_text, read_fault_text, verifier_fault_text, full_text, memory_text}
 use Rattle.validator_core.specs.View.{CoreView}
 use Rattle.report_lines.specs.Report.{IsStandingText}
 use Rattle.run_status.specs.declared.close.Close.{Close}
+use Rattle.run_status.specs.Readers.{Reader}
 use Rattle.run_status.specs.declared.close.Close.TheVariants.{End, Bad, ReadFault, VerifierFault, SignerFault, DiskFault, WriteFault, Malformed, Full, OutOfMemory}
 
 -- the lines of the messages that a reader refused
@@ -37,8 +38,20 @@ stopped_line reader OutOfMemory = memory_text reader
 stopped_line reader End = []
 stopped_line reader (Bad bad) = []
 
--- the text: what the reader refused, how the core stands, and what ended the reader; and whether there are conflicts
-pub record Reports (core : CoreView) (refused : List Refusal) (close : Close) (text : List ℕ) (has_conflicts : Bool) : Type 0 where
+-- of each reader, the first of them having this number, the lines of the messages that it refused, and of its stream where that is
+-- refused
+abbrev pub refusal_lines : ℕ → List Reader → List ℕ
+refusal_lines number [] = []
+refusal_lines number (reader ∷ readers) =
+    (refused_lines number reader.refused ++ malformed_line number reader.close) ++ refusal_lines (number + 1) readers
+
+-- and of each that a fault, a limit or want of memory ended the line of that
+abbrev pub stopped_lines : ℕ → List Reader → List ℕ
+stopped_lines number [] = []
+stopped_lines number (reader ∷ readers) = stopped_line number reader.close ++ stopped_lines (number + 1) readers
+
+-- the text: what the readers refused, how the core stands, and what ended the readers; and whether there are conflicts
+pub record Reports (core : CoreView) (readers : List Reader) (text : List ℕ) (has_conflicts : Bool) : Type 0 where
   pub standing : List ℕ
   pub stands : IsStandingText core standing has_conflicts
-  pub text_is : text ≡ (refused_lines 0 refused ++ malformed_line 0 close) ++ (standing ++ stopped_line 0 close)
+  pub text_is : text ≡ refusal_lines 0 readers ++ (standing ++ stopped_lines 0 readers)

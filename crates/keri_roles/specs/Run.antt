@@ -81,13 +81,18 @@ abbrev pub AreCaused : Told → Told → List Reader → Type 0
 AreCaused before after [] = Unit {0}
 AreCaused before after (reader ∷ readers) = IsCaused before after reader × AreCaused before after readers
 
+-- a verifier of one of these readers failed
+abbrev pub VerifierRose : List Reader → Type 0
+VerifierRose [] = ⊥
+VerifierRose (reader ∷ readers) = IsSomeAnd reader.verifier (λ v. Rose 0 v.faults) ⊎ VerifierRose readers
+
 -- `make` and `witness` alone have a signer. It fails where its count rose from zero, or where it couldn't be made and the count of
 -- the outside rose.
 abbrev pub SignerFails : Option Asked → Run → Type 0
 SignerFails None run = ⊥
 SignerFails (Some (check file)) run = ⊥
-SignerFails (Some (validate helper file)) run = ⊥
-SignerFails (Some (watch helper file)) run = ⊥
+SignerFails (Some (validate helper files)) run = ⊥
+SignerFails (Some (watch helper files)) run = ⊥
 SignerFails (Some (generate seed logs events)) run = ⊥
 SignerFails (Some rehearse) run = ⊥
 SignerFails (Some (witness helper key shelf from file)) run = MatchOption run.signer (Rose run.before.faults run.after.faults) (λ s. Rose 0 s.faults)
@@ -102,8 +107,8 @@ DiskRose disk = IsSomeAnd disk (λ d. Rose 0 d.faults)
 abbrev pub DiskFails : Option Asked → Run → Type 0
 DiskFails None run = ⊥
 DiskFails (Some (check file)) run = ⊥
-DiskFails (Some (validate helper file)) run = ⊥
-DiskFails (Some (watch helper file)) run = ⊥
+DiskFails (Some (validate helper files)) run = ⊥
+DiskFails (Some (watch helper files)) run = ⊥
 DiskFails (Some (generate seed logs events)) run = ⊥
 DiskFails (Some rehearse) run = ⊥
 DiskFails (Some (make helper plan log)) run = ⊥
@@ -113,8 +118,8 @@ DiskFails (Some (witness helper key shelf from file)) run = Rose run.before.faul
 abbrev pub ReadsShelf : Option Asked → Type 0
 ReadsShelf None = ⊥
 ReadsShelf (Some (check file)) = ⊥
-ReadsShelf (Some (validate helper file)) = ⊥
-ReadsShelf (Some (watch helper file)) = ⊥
+ReadsShelf (Some (validate helper files)) = ⊥
+ReadsShelf (Some (watch helper files)) = ⊥
 ReadsShelf (Some (generate seed logs events)) = ⊥
 ReadsShelf (Some rehearse) = ⊥
 ReadsShelf (Some (make helper plan log)) = ⊥
@@ -127,6 +132,7 @@ pub record HasCauses (asked : Option Asked) (run : Run) : Type 0 where
   pub faults : FaultsHaveCauses run.readers besides run.sink_before run.sink_after run.status
   pub signer : (besides.signer_failed ≡ true) ⊎ HasClose SignerFault run.readers → SignerFails asked run
   pub disk : (besides.disk_failed ≡ true) ⊎ HasClose DiskFault run.readers → DiskFails asked run
+  pub verifier : besides.verifier_failed ≡ true → VerifierRose run.readers
   pub sink : HasClose WriteFault run.readers → Rose run.sink_before.faults run.sink_after.faults
   pub shelf : besides.shelf_full ≡ true → ReadsShelf asked
   pub readers : AreCaused run.before run.after run.readers

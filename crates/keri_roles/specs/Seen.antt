@@ -48,7 +48,7 @@ module _ {O S V : Type 0} (left : S → Option (List ℕ)) (faults : S → ℕ) 
 
     module _ {D K : Type 0} (disk_told : D → DiskTold) (written : K → Option (List ℕ)) (sink_faults : K → ℕ) (told : O → Told) (sink : O → K) where
       -- what is seen of a run: of the outside before and after it, and of what it hands back
-      abbrev pub run_over : O → O → Done O S V G D K → Run
+      abbrev pub run_over : {T : Type 0} → O → O → Done O S V G D K T → Run
       run_over old new done = record {
         before = told old;
         after = told new;

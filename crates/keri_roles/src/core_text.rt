@@ -1,12 +1,12 @@
 //! What a command writes of its core.
-ghost use Rattle.std.specs.Prelude.{ℕ, Bool, List, IfOk};
-ghost use Rattle.journal.specs.declared.refusal.Refusal.{Refusal as RefusalValue};
-ghost use Rattle.run_status.specs.declared.close.Close.{Close as CloseValue};
+ghost use Rattle.std.specs.Prelude.{ℕ, ◌≤◌, Bool, List, IfOk, length, map};
+ghost use Rattle.run_status.specs.Readers.{Reader, reader_seen};
 ghost use Rattle.keri_roles.specs.CommandTexts.{HasText};
 ghost use Rattle.validator_core.specs.View.{CoreView};
 
-use crate::Close;
-use journal::Refusal;
+use crate::ReaderEnd;
+use keri_outside::{Source, Verifier};
+use reader_threads::LastRound;
 use std::alloc::{AllocError, Global};
 use validator_core::Core;
 
@@ -17,18 +17,19 @@ pub(crate) struct CommandText {
     pub(crate) has_conflicts: bool,
 }
 
-/// What a command writes of its core and its reader.
+/// What a command writes of its core and its readers.
 pub(crate) trait CoreText {
-    /// The text is that of a core, of the messages that were refused, and of how the reader closed; and it is said whether
-    /// there is a conflict.
-    ghost is_text: { CoreView → List RefusalValue → CloseValue → List ℕ → Bool → Type 0 };
+    /// The text is that of a core and of how its readers ended, and it is said whether there is a conflict.
+    ghost is_text: { CoreView → List Reader → List ℕ → Bool → Type 0 };
 
-    /// Makes the text. There is none where the reader ended for want of memory.
-    fn text_of(
+    /// Makes the text. There is none where a reader, or the last round, ended for want of memory.
+    fn text_of<S: Source, V: Verifier>(
         alloc: Global,
         core: &Core,
-        refused: &[Refusal],
-        close: Close,
+        readers: &[ReaderEnd<S, V>],
+        rest: LastRound,
     ) -> Result<CommandText, AllocError>
-        ensures { IfOk result (HasText is_text core.now refused.now close) };
+        requires few { length readers.now ≤ 65535 }
+        ensures { IfOk result (HasText is_text core.now
+            (map (reader_seen S.left S.faults V.says V.inquiries V.faults) readers.now) rest) };
 }

@@ -1,26 +1,28 @@
 //! `gen --seed SEED --logs LOGS --events EVENTS`: makes a stream of logs, and says how much of it is accepted.
-ghost use Rattle.std.specs.Prelude.{◌≡◌, ◌≢◌, ◌<◌, [], IfOk, is_none, false};
+ghost use Rattle.std.specs.Prelude.{◌≡◌, ◌<◌, [], ◌∷◌, None, IfOk, IfSome};
 ghost use Rattle.std.specs.Vec.{vec_capacity};
+ghost use Rattle.keri_outside.specs.Rehearsal.{rehearsal_says};
+ghost use Rattle.log_maker.specs.Making.{maker_faults, maker_left};
+ghost use Rattle.run_status.specs.Readers.{reader_seen};
 ghost use Rattle.validator_core.specs.View.{accepted_by};
 ghost use Rattle.keri_roles.specs.Commands.{IsGenerated};
 ghost use Rattle.keri_roles.specs.Generated as specs;
-ghost use Rattle.keri_roles.specs.Planned.{HasCounts, TellsMade};
+ghost use Rattle.keri_roles.specs.Planned.{HasCounts, TellsMade, made_close};
 
-use crate::core_reader::{CoreReader, read_to_core};
-use crate::core_text::CommandText;
-use crate::due::{Due, owe};
+use crate::one_seat::{OneSeat, ReadAlone};
 use crate::outcome::Outcome;
-use crate::providers::Providers;
-use crate::reads::CoreReads;
 use crate::works::Works;
 use crate::{Close, ReaderEnd};
 use journal::Mode;
-use keri_outside::{Limits, Rehearsal};
+use keri_outside::{Gate, Limits, Rehearsal};
 use log_maker::{LogMaker, totals_of};
+use reader_threads::{LastRound, Providers};
 use report_lines::{StreamCounts, stream_line};
 use run_outside::Outside;
 use run_status::Besides;
 use std::alloc::{AllocError, Global};
+use std::sync::Wait;
+use std::thread::Threads;
 use validator_core::Core;
 
 /// The seed of a stream, how many logs it has, and how many events each of them has.
@@ -32,46 +34,52 @@ pub(crate) struct StreamPlan {
 }
 
 /// Reads the stream to a core that wants receipts and seals, with the verdicts of the rehearsal. The readers have room for
-/// the one that there is.
-pub(crate) fn generate<O: Outside>(
+/// the one that there is. At `Err` there was no memory to begin with.
+pub(crate) fn generate<R: Threads + Wait + Sync, O: Outside>(
+    rt: &R,
     alloc: Global,
     plan: StreamPlan,
     readers: Vec<ReaderEnd<O::Source, O::Verifier>>,
     outside: &mut O,
-) -> Outcome<O::Source, O::Verifier>
+) -> Result<Outcome<O::Source, O::Verifier>, AllocError>
     requires none_yet { readers.items ≡ [] }
     requires room { 0 < vec_capacity readers }
-    ensures generated { IsGenerated plan.seed plan.logs plan.events
-        (⟦<O as Works>⟧.work outside.old outside.new result) }
-    ensures sink { O.sink outside.new ≡ O.sink outside.old }
+    ensures generated { IfOk result (λ outcome. IsGenerated plan.seed plan.logs plan.events
+        (⟦<O as Works>⟧.work outside.old outside.new outcome)) }
+    ensures same { outside.new ≡ outside.old }
 {
     let mut readers = readers;
     let limits = outside.limits();
-    let CoreReader { reader, core } = read_made(alloc, plan, limits);
-    let line = line_of(alloc, plan, &core, reader.close);
-    let Due { close, owed, .. } = owe(reader.close, line);
+    let ReadAlone { core, reader, rest } = read_made(rt, alloc, plan, limits, outside.gate())?;
+    let owed = line_of(alloc, plan, &core, reader.close, rest);
     let end = ReaderEnd {
         source: None,
         verifier: None,
         refused: reader.refused,
         seen: reader.seen,
-        close,
+        close: close_of(reader.close),
     };
     readers.push(end).unwrap();
-    Outcome {
+    Ok(Outcome {
         readers,
         journal: core.into_journal(),
         owed,
         besides: Besides::nothing(),
-    }
+    })
 }
 
 // Makes the stream and reads it.
-fn read_made(alloc: Global, plan: StreamPlan, limits: Limits) -> CoreReader<LogMaker, Rehearsal>
-    ensures tells { TellsMade plan limits (⟦<CoreReader<LogMaker, Rehearsal> as CoreReads>⟧.read result) }
-    ensures source { is_none result.reader.source ≡ false }
-    ensures verifier { is_none result.reader.verifier ≡ false }
+fn read_made<R: Threads + Wait + Sync, G: Gate + Sync>(
+    rt: &R,
+    alloc: Global,
+    plan: StreamPlan,
+    limits: Limits,
+    gate: &G,
+) -> Result<ReadAlone<LogMaker, Rehearsal>, AllocError>
+    ensures { IfOk result (λ made. TellsMade plan limits
+        (reader_seen maker_left maker_faults (λ v. rehearsal_says) (λ v. None) (λ v. 0) made.reader) made.rest made.core) }
 {
+    let seat = OneSeat::new(alloc, Mode::Full, limits)?;
     let stream = LogMaker::new(
         alloc,
         plan.seed,
@@ -82,7 +90,7 @@ fn read_made(alloc: Global, plan: StreamPlan, limits: Limits) -> CoreReader<LogM
         source: Some(stream),
         verifier: Some(Rehearsal),
     };
-    read_to_core(alloc, Mode::Full, limits, providers)
+    Ok(seat.read(rt, alloc, gate, providers))
 }
 
 // The line, where there was memory for the stream and for the line. A stream fails to be made for want of memory alone.
@@ -91,18 +99,27 @@ fn line_of(
     plan: StreamPlan,
     core: &Core,
     close: Close,
-) -> Result<CommandText, AllocError>
-    ensures text { IfOk result (HasCounts plan (accepted_by core.now) close) }
-    ensures read { IfOk result (λ text. close ≢ Close.ReadFault) }
+    rest: LastRound,
+) -> Option<Vec<u8>>
+    ensures { IfSome result (HasCounts plan (accepted_by core.now) close rest) }
 {
-    if close == Close::OutOfMemory || close == Close::ReadFault {
-        return Err(AllocError);
+    if close == Close::OutOfMemory || close == Close::ReadFault || rest == LastRound::OutOfMemory {
+        return None;
     }
-    let line = stream_line(alloc, counts_of(plan, core))?;
-    Ok(CommandText {
-        bytes: line.into_bytes(),
-        has_conflicts: false,
-    })
+    match stream_line(alloc, counts_of(plan, core)) {
+        Ok(line) => Some(line.into_bytes()),
+        Err(AllocError) => None,
+    }
+}
+
+// How the reader of a stream that is made closes: where the stream failed, there was no memory for it.
+fn close_of(close: Close) -> Close
+    ensures { result ≡ made_close close }
+{
+    match close {
+        Close::ReadFault => Close::OutOfMemory,
+        other => other,
+    }
 }
 
 // How much the stream has, and how many of its events are accepted.

@@ -1,20 +1,24 @@
 //! `make --helper HELPER --plan PLAN --log LOG`: writes the message of the event that a plan asks for.
-ghost use Rattle.std.specs.Prelude.{◌≡◌, ◌<◌, []};
+ghost use Rattle.std.specs.Prelude.{◌≡◌, ◌<◌, [], IfOk, OnErr};
 ghost use Rattle.std.specs.Vec.{vec_capacity};
 ghost use Rattle.keri_roles.specs.Made.{IsMadeAlone, IsMadeBehind, IsMadeBy};
 
 use crate::ReaderEnd;
-use crate::core_reader::{CoreReader, read_to_core};
+use crate::last_round::{close_of, verifier_failed};
 use crate::make_parts::{MakeBehindParts, MakeParts, make_alone, make_behind};
 use crate::message_due::{MessageDue, message_due};
 use crate::nothing_told::nothing_told;
+use crate::one_seat::{OneSeat, ReadAlone};
 use crate::outcome::{Outcome, SignedOutcome};
 use crate::text_reader::{TextReader, read_whole};
 use crate::works::Works;
 use journal::Mode;
 use plan_answer::ReadLog;
 use run_outside::Outside;
-use std::alloc::Global;
+use run_status::Besides;
+use std::alloc::{AllocError, Global};
+use std::sync::Wait;
+use std::thread::Threads;
 
 /// The words of `make`.
 #[derive(Clone, Copy)]
@@ -24,21 +28,24 @@ pub(crate) struct MakeWords<'a> {
     pub(crate) log: Option<&'a str>,
 }
 
-/// Reads the plan and the log, where there is one, and makes the message. The readers have room for two.
-pub(crate) fn make<O: Outside>(
+/// Reads the plan and the log, where there is one, and makes the message. The readers have room for two. At `Err` there was no
+/// memory to begin with, and nothing was made.
+pub(crate) fn make<R: Threads + Wait + Sync, O: Outside>(
+    rt: &R,
     alloc: Global,
     words: MakeWords<'_>,
     readers: Vec<ReaderEnd<O::Source, O::Verifier>>,
     outside: &mut O,
-) -> SignedOutcome<O::Source, O::Verifier, O::Signer>
+) -> Result<SignedOutcome<O::Source, O::Verifier, O::Signer>, AllocError>
     requires none_yet { readers.items ≡ [] }
     requires room { 1 < vec_capacity readers }
-    ensures made { IsMadeBy words.entry (⟦<O as Works>⟧.signed outside.old outside.new result) }
+    ensures made { IfOk result (λ outcome. IsMadeBy words.entry (⟦<O as Works>⟧.signed outside.old outside.new outcome)) }
+    ensures none_made { OnErr result (O.told outside.new ≡ O.told outside.old) }
     ensures sink { O.sink outside.new ≡ O.sink outside.old }
 {
     match words.log {
-        None => made_alone(alloc, words.helper, words.plan, readers, outside),
-        Some(log) => made_behind(alloc, words.helper, words.plan, log, readers, outside),
+        None => Ok(made_alone(alloc, words.helper, words.plan, readers, outside)),
+        Some(log) => made_behind(rt, alloc, words.helper, words.plan, log, readers, outside),
     }
 }
 
@@ -78,37 +85,41 @@ fn made_alone<O: Outside>(
 }
 
 // Makes the message of a plan behind a log, which is read to a core that wants neither receipts nor seals.
-fn made_behind<O: Outside>(
+fn made_behind<R: Threads + Wait + Sync, O: Outside>(
+    rt: &R,
     alloc: Global,
     helper: &str,
     plan: &str,
     log: &str,
     readers: Vec<ReaderEnd<O::Source, O::Verifier>>,
     outside: &mut O,
-) -> SignedOutcome<O::Source, O::Verifier, O::Signer>
+) -> Result<SignedOutcome<O::Source, O::Verifier, O::Signer>, AllocError>
     requires none_yet { readers.items ≡ [] }
     requires room { 1 < vec_capacity readers }
-    ensures made { IsMadeBehind helper.now plan.now log.now
-        (⟦<O as Works>⟧.signed outside.old outside.new result) }
+    ensures made { IfOk result (λ outcome. IsMadeBehind helper.now plan.now log.now
+        (⟦<O as Works>⟧.signed outside.old outside.new outcome)) }
+    ensures none_made { OnErr result (O.told outside.new ≡ O.told outside.old) }
     ensures sink { O.sink outside.new ≡ O.sink outside.old }
 {
     let mut readers = readers;
     let limits = outside.limits();
+    let seat = OneSeat::new(alloc, Mode::Local, limits)?;
     let MakeBehindParts { plan, log, signer } = make_behind(plan, log, helper, outside);
     let mut signer = signer;
     let TextReader {
         reader: first,
         text,
     } = read_whole(alloc, limits.stream_bytes, plan);
-    let CoreReader {
-        reader: second,
+    let ReadAlone {
         core,
-    } = read_to_core(alloc, Mode::Local, limits, log);
+        reader: second,
+        rest,
+    } = seat.read(rt, alloc, outside.gate(), log);
     let log = ReadLog {
         core: &core,
         is_refused: second.is_refused(),
     };
-    let closes = [first.close, second.close];
+    let closes = [first.close, second.close, close_of(rest)];
     let MessageDue { owed, besides } = message_due(alloc, &text, Some(log), &closes, &mut signer);
     readers.push(first).unwrap();
     readers.push(second).unwrap();
@@ -116,7 +127,10 @@ fn made_behind<O: Outside>(
         readers,
         journal: core.into_journal(),
         owed,
-        besides,
+        besides: Besides {
+            verifier_failed: verifier_failed(rest),
+            ..besides
+        },
     };
-    SignedOutcome { outcome, signer }
+    Ok(SignedOutcome { outcome, signer })
 }

@@ -3,7 +3,7 @@ ghost use Rattle.std.specs.Prelude.{◌≡◌, IfSome};
 ghost use Rattle.keri_specs.specs.Told.{HasNone};
 ghost use Rattle.keri_roles.specs.Made.{MakesAlone, MakesBehind};
 
-use crate::providers::Providers;
+use reader_threads::Providers;
 use run_outside::Outside;
 
 /// The source of a plan and the signer of a helper, as far as they could be made.

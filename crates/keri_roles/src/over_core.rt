@@ -1,56 +1,75 @@
-//! The commands that read a file to a core, and write of it.
-ghost use Rattle.std.specs.Prelude.{◌≡◌, ◌<◌, []};
-ghost use Rattle.std.specs.Vec.{vec_capacity};
+//! The commands that read files to a core, and write of it.
+ghost use Rattle.std.specs.Prelude.{◌≡◌, ◌<◌, ◌≤◌, None, Some, false, IfOk, OnErr, length, map};
 ghost use Rattle.keri_roles.specs.CoreTold.{IsOverCore};
 
-use crate::ReaderEnd;
-use crate::core_reader::{CoreReader, read_to_core};
-use crate::core_text::CoreText;
-use crate::due::{Due, owe};
+use crate::core_text::{CommandText, CoreText};
+use crate::last_round::verifier_failed;
 use crate::outcome::Outcome;
 use crate::providers::providers_for;
 use crate::works::Works;
 use journal::Mode;
+use reader_threads::{Ran, ReaderSeats};
 use run_outside::Outside;
 use run_status::Besides;
-use std::alloc::Global;
+use std::alloc::{AllocError, Global};
+use std::sync::Wait;
+use std::thread::Threads;
+use validator_core::Core;
 
-/// Reads the stream of the file with the verifier of the helper to a core of this mode, and makes the text. The readers
-/// have room for the one that there is.
-pub(crate) fn over_core<O: Outside, T: CoreText>(
+/// Reads the streams of the files, each with a verifier of the helper of its own, to one core of this mode, and makes the text. At
+/// `Err` there was no memory to begin with, and nothing was made.
+pub(crate) fn over_core<R: Threads + Wait + Sync, O: Outside, T: CoreText>(
+    rt: &R,
     alloc: Global,
     mode: Mode,
     helper: &str,
-    name: &str,
-    readers: Vec<ReaderEnd<O::Source, O::Verifier>>,
+    names: &[&str],
     outside: &mut O,
-) -> Outcome<O::Source, O::Verifier>
-    requires none_yet { readers.items ≡ [] }
-    requires room { 0 < vec_capacity readers }
-    ensures done { IsOverCore mode T.is_text helper.now name.now
-        (⟦<O as Works>⟧.work outside.old outside.new result) }
+) -> Result<Outcome<O::Source, O::Verifier>, AllocError>
+    requires some { 0 < length names.now }
+    requires few { length names.now ≤ 65535 }
+    ensures done { IfOk result (λ outcome. IsOverCore mode T.is_text helper.now (map (λ name. name.now) names.now)
+        (⟦<O as Works>⟧.work outside.old outside.new outcome)) }
+    ensures none_made { OnErr result (O.told outside.new ≡ O.told outside.old) }
     ensures sink { O.sink outside.new ≡ O.sink outside.old }
 {
-    let mut readers = readers;
     let limits = outside.limits();
-    let providers = providers_for(name, helper, outside);
-    let CoreReader { reader, core } = read_to_core(alloc, mode, limits, providers);
-    let text = T::text_of(alloc, &core, reader.refused.as_slice(), reader.close);
-    let Due {
-        close,
-        owed,
+    let core = Core::new(alloc, mode, limits);
+    let seats = ReaderSeats::new(alloc, core, limits, names.len() as u16)?;
+    let room = Vec::with_capacity(alloc, names.len())?;
+    let providers = providers_for(names, helper, room, outside);
+    let Ran {
+        core,
+        readers,
+        rest,
+    } = seats.read(rt, alloc, outside.gate(), providers);
+    let text = T::text_of(alloc, &core, readers.as_slice(), rest);
+    let (owed, conflict_found) = owe(text);
+    let besides = Besides {
         conflict_found,
-    } = owe(reader.close, text);
-    readers.push(ReaderEnd { close, ..reader }).unwrap();
-    // A last round over the questions that are open has nothing to do: one reader leaves none open but where its
-    // verifier failed, and then no verifier is left that never did.
-    Outcome {
+        verifier_failed: verifier_failed(rest),
+        ..Besides::nothing()
+    };
+    Ok(Outcome {
         readers,
         journal: core.into_journal(),
         owed,
-        besides: Besides {
-            conflict_found,
-            ..Besides::nothing()
-        },
+        besides,
+    })
+}
+
+// The text that is owed, where there was memory for it, and whether it tells a conflict.
+fn owe(text: Result<CommandText, AllocError>) -> (Option<Vec<u8>>, bool)
+    ensures ok { IfOk text (λ written. (result.0 ≡ Some written.bytes) × (result.1 ≡ written.has_conflicts)) }
+    ensures err { OnErr text ((result.0 ≡ None) × (result.1 ≡ false)) }
+{
+    match text {
+        Ok(
+            CommandText {
+                bytes,
+                has_conflicts,
+            },
+        ) => (Some(bytes), has_conflicts),
+        Err(AllocError) => (None, false),
     }
 }

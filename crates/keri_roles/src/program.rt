@@ -1,7 +1,7 @@
 //! The top call.
-ghost use Rattle.std.specs.Prelude.{◌≡◌, ◌<◌, [], None, Some, option_map};
+ghost use Rattle.std.specs.Prelude.{◌≡◌, ◌<◌, [], None, Some, IfOk, OnErr, option_map};
 ghost use Rattle.std.specs.Vec.{vec_capacity};
-ghost use Rattle.command_words.specs.Words.{HasFixedKey, asked_by};
+ghost use Rattle.command_words.specs.Words.{IsInForm, asked_by};
 ghost use Rattle.keri_roles.specs.Commands.{CarriesOut, IsRunOf, IsWritten, RefusesWords};
 ghost use Rattle.keri_roles.specs.Run.{HasCauses, IsSettled, asked_in};
 ghost use Rattle.keri_roles.specs.NoJournal.{no_journal};
@@ -21,15 +21,23 @@ use report_lines::WORDS;
 use run_outside::Outside;
 use run_status::{Besides, settle};
 use std::alloc::{AllocError, Global};
+use std::sync::Wait;
+use std::thread::Threads;
 
-// `make` reads a plan and a log, and every other command one stream.
+// `make` reads a plan and a log; `validate` and `watch` have room of their own, and every other command reads one stream.
 const MOST_READERS: usize = 2;
 
 // The status where there was no memory.
 const NO_MEMORY: u8 = 10;
 
-/// Does all that the program does: what the words ask for, over the outside that is handed in.
-pub fn run<O: Runs>(alloc: Global, words: &Vec<String>, outside: &mut O) -> Done<O>
+/// Does all that the program does: what the words ask for, over the outside that is handed in. Readers that are several run in
+/// threads of `rt`.
+pub fn run<R: Threads + Wait + Sync, O: Runs>(
+    rt: &R,
+    alloc: Global,
+    words: &Vec<String>,
+    outside: &mut O,
+) -> Done<O>
     // Words that aren't in the form of a command are refused, and nothing is made. Others are answered as they ask.
     ensures answered { IsRunOf O.Disk.told result.disk result.old (asked_in words.now.items)
         (O.run outside.old outside.new result) }
@@ -37,11 +45,16 @@ pub fn run<O: Runs>(alloc: Global, words: &Vec<String>, outside: &mut O) -> Done
     // Each fault that is answered has its cause.
     ensures causes { HasCauses (asked_in words.now.items) (O.run outside.old outside.new result) }
 {
-    answer(alloc, words, outside)
+    answer(rt, alloc, words, outside)
 }
 
 // The same; that each fault has its cause follows.
-fn answer<O: Outside>(alloc: Global, words: &Vec<String>, outside: &mut O) -> Done<O>
+fn answer<R: Threads + Wait + Sync, O: Outside>(
+    rt: &R,
+    alloc: Global,
+    words: &Vec<String>,
+    outside: &mut O,
+) -> Done<O>
     ensures answered { IsRunOf O.Disk.told result.disk result.old (asked_in words.now.items)
         (⟦<O as Runs>⟧.run outside.old outside.new result) }
 {
@@ -50,40 +63,37 @@ fn answer<O: Outside>(alloc: Global, words: &Vec<String>, outside: &mut O) -> Do
         Ok(None) => return refuse(alloc, outside),
         Err(AllocError) => return unbegun(alloc),
     };
-    let Ok(readers) = Vec::with_capacity(alloc, MOST_READERS) else {
-        return unbegun(alloc);
-    };
-    carry_out(alloc, command, readers, outside)
+    match carry_out(rt, alloc, command, outside) {
+        Ok(done) => done,
+        Err(AllocError) => unbegun(alloc),
+    }
 }
 
-// Does what the command asks for.
-fn carry_out<O: Outside>(
+// Does what the command asks for. At `Err` there was no memory to begin with, and nothing was made or written.
+fn carry_out<R: Threads + Wait + Sync, O: Outside>(
+    rt: &R,
     alloc: Global,
     command: Command,
-    readers: Vec<ReaderEnd<O::Source, O::Verifier>>,
     outside: &mut O,
-) -> Done<O>
-    requires none_yet { readers.items ≡ [] }
-    requires room { 1 < vec_capacity readers }
-    requires fixed { HasFixedKey command }
-    ensures does { CarriesOut O.Disk.told result.disk result.old (Some (asked_by command.entry))
-        (⟦<O as Runs>⟧.run outside.old outside.new result) }
+) -> Result<Done<O>, AllocError>
+    requires in_form { IsInForm command }
+    ensures does { IfOk result (λ done. CarriesOut O.Disk.told done.disk done.old (Some (asked_by command.entry))
+        (⟦<O as Runs>⟧.run outside.old outside.new done)) }
+    ensures none_made { OnErr result (O.told outside.new ≡ O.told outside.old) }
+    ensures none_written { OnErr result (O.sink outside.new ≡ O.sink outside.old) }
 {
     match command {
         Command::Check { file } => {
-            finish(unsigned(check(alloc, file, readers, outside)), outside)
+            let outcome = check(alloc, file, room(alloc)?, outside);
+            Ok(finish(unsigned(outcome), outside))
         }
-        Command::Validate { helper, file } => {
-            finish(
-                unsigned(validate(alloc, helper, file, readers, outside)),
-                outside,
-            )
+        Command::Validate { helper, files } => {
+            let outcome = validate(rt, alloc, helper, files.as_slice(), outside)?;
+            Ok(finish(unsigned(outcome), outside))
         }
-        Command::Watch { helper, file } => {
-            finish(
-                unsigned(watch(alloc, helper, file, readers, outside)),
-                outside,
-            )
+        Command::Watch { helper, files } => {
+            let outcome = watch(rt, alloc, helper, files.as_slice(), outside)?;
+            Ok(finish(unsigned(outcome), outside))
         }
         Command::Witness {
             helper,
@@ -99,20 +109,28 @@ fn carry_out<O: Outside>(
                 from,
                 file,
             };
-            witness(alloc, words, readers, outside)
+            Ok(witness(alloc, words, room(alloc)?, outside))
         }
         Command::Make { helper, plan, log } => {
-            finish(
-                make(alloc, MakeWords { helper, plan, log }, readers, outside),
-                outside,
-            )
+            let words = MakeWords { helper, plan, log };
+            let outcome = make(rt, alloc, words, room(alloc)?, outside)?;
+            Ok(finish(outcome, outside))
         }
         Command::Generate { seed, logs, events } => {
             let plan = StreamPlan { seed, logs, events };
-            finish(unsigned(generate(alloc, plan, readers, outside)), outside)
+            let outcome = generate(rt, alloc, plan, room(alloc)?, outside)?;
+            Ok(finish(unsigned(outcome), outside))
         }
-        Command::Rehearse => rehearse(alloc, readers, outside),
+        Command::Rehearse => Ok(rehearse(alloc, room(alloc)?, outside)),
     }
+}
+
+// Room for the readers of a command that has at most two.
+fn room<S, V>(alloc: Global) -> Result<Vec<ReaderEnd<S, V>>, AllocError>
+    ensures none_yet { IfOk result (λ readers. readers.items ≡ []) }
+    ensures room { IfOk result (λ readers. 1 < vec_capacity readers) }
+{
+    Vec::with_capacity(alloc, MOST_READERS)
 }
 
 // An outcome without a signer.

@@ -1,19 +1,39 @@
-//! What a command over a core is given by the outside.
-ghost use Rattle.std.specs.Prelude.{◌≡◌, IfSome};
+//! What the readers of a command over a core are given by the outside.
+ghost use Rattle.std.specs.Prelude.{◌≡◌, ◌≤◌, [], length, map, IfSome};
+ghost use Rattle.std.specs.Vec.{vec_capacity};
 ghost use Rattle.keri_specs.specs.Told.{HasNone};
+ghost use Rattle.keri_roles.specs.CoreTold.{AreProvided};
+ghost use Rattle.keri_roles.specs.Provided.{SameNames};
 ghost use Rattle.keri_roles.specs.Run.{MakesProviders};
 
+use crate::works::Works;
+use reader_threads::Providers;
 use run_outside::Outside;
 
-/// The source of a file and the verifier of a helper, as far as they could be made.
-#[derive(Drop)]
-pub(crate) struct Providers<S, V> {
-    pub(crate) source: Option<S>,
-    pub(crate) verifier: Option<V>,
+/// Makes for each name the source, and then the verifier of the helper. There is room for as many.
+pub(crate) fn providers_for<O: Outside>(
+    names: &[&str],
+    helper: &str,
+    room: Vec<Providers<O::Source, O::Verifier>>,
+    outside: &mut O,
+) -> Vec<Providers<O::Source, O::Verifier>>
+    requires none_yet { room.items ≡ [] }
+    requires room { length names.now ≤ vec_capacity room }
+    ensures provided { AreProvided helper.now (map (λ name. name.now) names.now)
+        (map ⟦<O as Works>⟧.given result.items) (O.told outside.old) (O.told outside.new) }
+    ensures count { length result.items ≡ length names.now }
+    ensures sink { O.sink outside.new ≡ O.sink outside.old }
+{
+    let mut providers = room;
+    for name in names {
+        let made = provide(name, helper, outside);
+        providers.push(made).unwrap();
+    }
+    providers
 }
 
-/// Makes the source, and then the verifier.
-pub(crate) fn providers_for<O: Outside>(
+// Makes the source of a name, and then the verifier of the helper.
+fn provide<O: Outside>(
     name: &str,
     helper: &str,
     outside: &mut O,
@@ -27,6 +47,7 @@ pub(crate) fn providers_for<O: Outside>(
         O.Verifier.says verifier ≡ (O.told outside.old).says helper.now) }
     ensures unasked { IfSome result.verifier (λ verifier. HasNone (O.Verifier.inquiries verifier)) }
     ensures unfailed { IfSome result.verifier (λ verifier. O.Verifier.faults verifier ≡ 0) }
+    ensures names { SameNames (O.told outside.old) (O.told outside.new) }
     ensures sink { O.sink outside.new ≡ O.sink outside.old }
 {
     let source = outside.source(name).ok();

@@ -10,7 +10,7 @@ pub trait Runs: Outside {
     ghost use Rattle.keri_roles.specs.declared.done.Done.{Done as Back};
 
     /// Of the outside before and after it, and of what it hands back.
-    ghost run: { Self → Self → Back Self Self.Source Self.Verifier Self.Signer Self.Disk Self.Sink → Run };
+    ghost run: { Self → Self → Back Self Self.Source Self.Verifier Self.Signer Self.Disk Self.Sink Self.Gate → Run };
 
     // It can be no other.
     ghost run_is: { run ≡ run_over Self.Source.left Self.Source.faults

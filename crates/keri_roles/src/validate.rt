@@ -1,17 +1,20 @@
-//! `validate --helper HELPER FILE`: says what is accepted of a file, what waits, and what conflicts.
-ghost use Rattle.std.specs.Prelude.{◌≡◌, ◌<◌, []};
-ghost use Rattle.std.specs.Vec.{vec_capacity};
+//! `validate --helper HELPER FILE..`: says what is accepted of files, what waits, and what conflicts.
+ghost use Rattle.std.specs.Prelude.{◌≡◌, ◌<◌, ◌≤◌, IfOk, OnErr, length, map};
 ghost use Rattle.keri_roles.specs.Commands.{IsValidated};
 
+use crate::ReaderEnd;
 use crate::core_text::{CommandText, CoreText};
 use crate::outcome::Outcome;
 use crate::over_core::over_core;
 use crate::report::report_of;
 use crate::works::Works;
-use crate::{Close, ReaderEnd};
-use journal::{Mode, Refusal};
+use journal::Mode;
+use keri_outside::{Source, Verifier};
+use reader_threads::LastRound;
 use run_outside::Outside;
 use std::alloc::{AllocError, Global};
+use std::sync::Wait;
+use std::thread::Threads;
 use validator_core::Core;
 
 /// The report.
@@ -22,28 +25,31 @@ impl CoreText for Report {
 
     ghost is_text = { Reports };
 
-    fn text_of(
+    fn text_of<S: Source, V: Verifier>(
         alloc: Global,
         core: &Core,
-        refused: &[Refusal],
-        close: Close,
+        readers: &[ReaderEnd<S, V>],
+        rest: LastRound,
     ) -> Result<CommandText, AllocError> {
-        report_of(alloc, core, refused, close)
+        report_of(alloc, core, readers, rest)
     }
 }
 
-/// Reads the file to a core that wants receipts and seals, and makes the report.
-pub(crate) fn validate<O: Outside>(
+/// Reads the files to a core that wants receipts and seals, and makes the report. At `Err` there was no memory to begin with, and
+/// nothing was made.
+pub(crate) fn validate<R: Threads + Wait + Sync, O: Outside>(
+    rt: &R,
     alloc: Global,
     helper: &str,
-    name: &str,
-    readers: Vec<ReaderEnd<O::Source, O::Verifier>>,
+    names: &[&str],
     outside: &mut O,
-) -> Outcome<O::Source, O::Verifier>
-    requires none_yet { readers.items ≡ [] }
-    requires room { 0 < vec_capacity readers }
-    ensures validated { IsValidated helper.now name.now (⟦<O as Works>⟧.work outside.old outside.new result) }
+) -> Result<Outcome<O::Source, O::Verifier>, AllocError>
+    requires some { 0 < length names.now }
+    requires few { length names.now ≤ 65535 }
+    ensures validated { IfOk result (λ outcome. IsValidated helper.now (map (λ name. name.now) names.now)
+        (⟦<O as Works>⟧.work outside.old outside.new outcome)) }
+    ensures none_made { OnErr result (O.told outside.new ≡ O.told outside.old) }
     ensures sink { O.sink outside.new ≡ O.sink outside.old }
 {
-    over_core::<O, Report>(alloc, Mode::Full, helper, name, readers, outside)
+    over_core::<R, O, Report>(rt, alloc, Mode::Full, helper, names, outside)
 }

@@ -1,16 +1,21 @@
-//! `watch --helper HELPER FILE`: writes the evidence of the conflicts in a file.
-ghost use Rattle.std.specs.Prelude.{◌≡◌, ◌<◌, []};
-ghost use Rattle.std.specs.Vec.{vec_capacity};
+//! `watch --helper HELPER FILE..`: writes the evidence of the conflicts in files.
+ghost use Rattle.std.specs.Prelude.{◌≡◌, ◌<◌, ◌≤◌, IfOk, OnErr, length, map};
+ghost use Rattle.std.specs.List.{list_any};
 ghost use Rattle.keri_roles.specs.Commands.{IsWatched};
+ghost use Rattle.keri_roles.specs.Made.{is_out};
 
 use crate::core_text::{CommandText, CoreText};
 use crate::outcome::Outcome;
 use crate::over_core::over_core;
 use crate::works::Works;
 use crate::{Close, ReaderEnd};
-use journal::{Mode, Refusal};
+use journal::Mode;
+use keri_outside::{Source, Verifier};
+use reader_threads::LastRound;
 use run_outside::Outside;
 use std::alloc::{AllocError, Global};
+use std::sync::Wait;
+use std::thread::Threads;
 use validator_core::Core;
 use watcher_core::{Evidence as CoreEvidence, evidence_of};
 
@@ -22,13 +27,13 @@ impl CoreText for Evidence {
 
     ghost is_text = { IsEvidence };
 
-    fn text_of(
+    fn text_of<S: Source, V: Verifier>(
         alloc: Global,
         core: &Core,
-        refused: &[Refusal],
-        close: Close,
+        readers: &[ReaderEnd<S, V>],
+        rest: LastRound,
     ) -> Result<CommandText, AllocError> {
-        if close == Close::OutOfMemory {
+        if rest == LastRound::OutOfMemory || some_found_no_memory(readers) {
             return Err(AllocError);
         }
         let CoreEvidence {
@@ -42,18 +47,30 @@ impl CoreText for Evidence {
     }
 }
 
-/// Reads the file to a core that wants neither receipts nor seals, and makes the evidence.
-pub(crate) fn watch<O: Outside>(
+/// Reads the files to a core that wants neither receipts nor seals, and makes the evidence. At `Err` there was no memory to begin
+/// with, and nothing was made.
+pub(crate) fn watch<R: Threads + Wait + Sync, O: Outside>(
+    rt: &R,
     alloc: Global,
     helper: &str,
-    name: &str,
-    readers: Vec<ReaderEnd<O::Source, O::Verifier>>,
+    names: &[&str],
     outside: &mut O,
-) -> Outcome<O::Source, O::Verifier>
-    requires none_yet { readers.items ≡ [] }
-    requires room { 0 < vec_capacity readers }
-    ensures watched { IsWatched helper.now name.now (⟦<O as Works>⟧.work outside.old outside.new result) }
+) -> Result<Outcome<O::Source, O::Verifier>, AllocError>
+    requires some { 0 < length names.now }
+    requires few { length names.now ≤ 65535 }
+    ensures watched { IfOk result (λ outcome. IsWatched helper.now (map (λ name. name.now) names.now)
+        (⟦<O as Works>⟧.work outside.old outside.new outcome)) }
+    ensures none_made { OnErr result (O.told outside.new ≡ O.told outside.old) }
     ensures sink { O.sink outside.new ≡ O.sink outside.old }
 {
-    over_core::<O, Evidence>(alloc, Mode::Local, helper, name, readers, outside)
+    over_core::<R, O, Evidence>(rt, alloc, Mode::Local, helper, names, outside)
+}
+
+// Whether some reader ended for want of memory.
+fn some_found_no_memory<S: Source, V: Verifier>(readers: &[ReaderEnd<S, V>]) -> bool
+    ensures { result ≡ list_any (λ reader. is_out reader.close) readers.now }
+{
+    readers
+        .iter()
+        .any(|reader| reader.close == Close::OutOfMemory)
 }

@@ -9,11 +9,16 @@ pub(crate) trait Works: Outside {
     ghost use Rattle.run_status.specs.declared.reader_end.ReaderEnd.{ReaderEnd as End};
     ghost use Rattle.keri_roles.specs.Run.{Work};
     ghost use Rattle.keri_roles.specs.Seen.{signed_over, work_over};
+    ghost use Rattle.reader_threads.specs.Given.{Given, given_by};
+    ghost use Rattle.reader_threads.specs.declared.providers.Providers.{Providers as Gave};
     ghost use Rattle.keri_roles.specs.declared.outcome.Outcome.{Outcome as Came};
     ghost use Rattle.keri_roles.specs.declared.outcome.SignedOutcome.{SignedOutcome as CameSigned};
 
     /// Of a reader.
     ghost reader: { End Self.Source Self.Verifier → Reader };
+
+    /// Of what a reader is given.
+    ghost given: { Gave Self.Source Self.Verifier → Given };
 
     /// Of the outside before and after it, and of what it came to.
     ghost work: { Self → Self → Came Self.Source Self.Verifier → Work };
@@ -23,6 +28,9 @@ pub(crate) trait Works: Outside {
 
     // They can be no others.
     ghost reader_is: { reader ≡ reader_seen Self.Source.left Self.Source.faults
+        Self.Verifier.says Self.Verifier.inquiries Self.Verifier.faults };
+
+    ghost given_is: { given ≡ given_by Self.Source.left Self.Source.faults
         Self.Verifier.says Self.Verifier.inquiries Self.Verifier.faults };
 
     ghost work_is: { work ≡ work_over Self.Source.left Self.Source.faults
@@ -35,10 +43,14 @@ pub(crate) trait Works: Outside {
 
 impl<O: Outside> Works for O {
     ghost use Rattle.std.specs.Prelude.{refl};
+    ghost use Rattle.reader_threads.specs.Given.{given_by};
     ghost use Rattle.run_status.specs.Readers.{reader_seen};
     ghost use Rattle.keri_roles.specs.Seen.{signed_over, work_over};
 
     ghost reader = { reader_seen O.Source.left O.Source.faults
+        O.Verifier.says O.Verifier.inquiries O.Verifier.faults };
+
+    ghost given = { given_by O.Source.left O.Source.faults
         O.Verifier.says O.Verifier.inquiries O.Verifier.faults };
 
     ghost work = { work_over O.Source.left O.Source.faults
@@ -49,6 +61,8 @@ impl<O: Outside> Works for O {
         O.Signer.gives O.Signer.signings O.Signer.faults O.told };
 
     ghost reader_is = { refl };
+
+    ghost given_is = { refl };
 
     ghost work_is = { refl };
 

@@ -7,6 +7,8 @@ use row_text::Row;
 use run_outside::{Making, MemOutside};
 use std::alloc::{AllocError, Global};
 use std::fmt::Write;
+use std::sync::Wait;
+use std::thread::Threads;
 
 // The words of the command line, with a comma between two of them.
 fn words_of(alloc: Global, row: &Row) -> Result<Vec<String>, AllocError> {
@@ -18,8 +20,13 @@ fn words_of(alloc: Global, row: &Row) -> Result<Vec<String>, AllocError> {
 }
 
 // Runs the words. The contract of what it calls is left behind here, since it makes each proof above it longer.
-fn run_words(alloc: Global, words: &Vec<String>, outside: &mut MemOutside) -> Done<MemOutside> {
-    run(alloc, words, outside)
+fn run_words<R: Threads + Wait + Sync>(
+    rt: &R,
+    alloc: Global,
+    words: &Vec<String>,
+    outside: &mut MemOutside,
+) -> Done<MemOutside> {
+    run(rt, alloc, words, outside)
 }
 
 fn close_word(text: &mut String, close: Close) -> Result<(), AllocError> {
@@ -57,10 +64,10 @@ fn status_words(text: &mut String, done: &Done<MemOutside>) -> Result<(), AllocE
 
 /// `run WORD,WORD.. NAME VALUE..`: what is written, and right behind it `=`, the status, how many messages and verdicts were
 /// told, how each reader closed, and each making, with a `!` where it failed.
-fn ran(alloc: Global, row: &Row) -> Result<String, AllocError> {
+fn ran<R: Threads + Wait + Sync>(rt: &R, alloc: Global, row: &Row) -> Result<String, AllocError> {
     let mut outside = outside_of(alloc, row)?;
     let words = words_of(alloc, row)?;
-    let done = run_words(alloc, &words, &mut outside);
+    let done = run_words(rt, alloc, &words, &mut outside);
     let mut text = String::from_utf8_lossy(alloc, outside.sink().bytes())?;
     status_words(&mut text, &done)?;
     close_words(&mut text, done.readers.as_slice())?;
@@ -69,10 +76,14 @@ fn ran(alloc: Global, row: &Row) -> Result<String, AllocError> {
 }
 
 /// What a line is answered by: itself, where it names no run.
-pub(crate) fn answer(alloc: Global, line: &str) -> Result<String, AllocError> {
+pub(crate) fn answer<R: Threads + Wait + Sync>(
+    rt: &R,
+    alloc: Global,
+    line: &str,
+) -> Result<String, AllocError> {
     let row = Row::of(alloc, line)?;
     if row.word(0) == "run" {
-        return ran(alloc, &row);
+        return ran(rt, alloc, &row);
     }
     String::from_str(alloc, line)
 }

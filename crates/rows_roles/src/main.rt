@@ -15,7 +15,7 @@ fn main(rt: HostRuntime) -> Result<()> {
     let alloc = rt.alloc();
     let text = io::read_to_string(alloc, &mut rt.reader())?;
     for line in text.as_str().lines() {
-        rt.println(answer(alloc, line)?)?;
+        rt.println(answer(&rt, alloc, line)?)?;
     }
     Ok(())
 }

@@ -4,7 +4,7 @@ ghost use Rattle.std.specs.Prelude.{◌≤◌};
 use keri_outside::{Limits, MemSink, VerdictRule};
 use lists::Items;
 use row_text::Row;
-use run_outside::{MemFile, MemHelper, MemOutside};
+use run_outside::{MemDiskFile, MemFile, MemHelper, MemOutside};
 use std::alloc::{AllocError, Global};
 
 /// The name of the file that holds a stream.
@@ -15,6 +15,11 @@ const INPUT: &[u8] = b"-";
 
 /// The name of the file that holds a plan.
 const PLAN: &[u8] = b"p";
+
+/// The names of the files of a shelf and of an old one.
+const SHELF: &[u8] = b"shelf";
+
+const OLD: &[u8] = b"old";
 
 /// The name of the one helper.
 const HELPER: &[u8] = b"rehearsal";
@@ -116,15 +121,47 @@ fn helpers_of(alloc: Global, row: &Row) -> Result<Items<MemHelper>, AllocError> 
     Ok(helpers)
 }
 
-/// The outside of a row: behind its command line stand names, each with a value behind it. `text` is what the file `a`
-/// and standard input hold, `plan` what `p` does, `piece` how many bytes a read gives at most, and `says yes` or `says no` what the helper says of everything; else
-/// it is the rehearsal. `reads`, `plan_reads`, `asks`, `signings`, `puts` and `makings` are the numbers of the calls that fail, counted from 0, with a
-/// comma between two of them. The others are limits, by their names.
+// The file of a disk of a name, which is there only where the row has the word for its bytes, put behind these; and its calls
+// that fail.
+fn add_disk(
+    alloc: Global,
+    row: &Row,
+    name: &[u8],
+    text: &str,
+    calls: &str,
+    disks: &mut Items<MemDiskFile>,
+) -> Result<(), AllocError> {
+    let place = place_of(row, text);
+    if place == row.len() {
+        return Ok(());
+    }
+    disks.push(MemDiskFile {
+        name: named(alloc, name)?,
+        bytes: Items::from_vec(row.bytes(alloc, place)?),
+        failing: failing(alloc, row, calls)?,
+    })?;
+    Ok(())
+}
+
+// The files of disks.
+fn disks_of(alloc: Global, row: &Row) -> Result<Items<MemDiskFile>, AllocError> {
+    let mut disks = Items::new(alloc);
+    add_disk(alloc, row, SHELF, "shelf", "shelf_calls", &mut disks)?;
+    add_disk(alloc, row, OLD, "old", "old_calls", &mut disks)?;
+    Ok(disks)
+}
+
+/// The outside of a row: behind its command line stand names, each with a value behind it. `text` is what the file `a` and
+/// standard input hold, `plan` what `p` does, `shelf` and `old` what the files of these names do, which aren't there else, `piece`
+/// how many bytes a read gives at most, and `says yes` or `says no` what the helper says of everything; else it is the rehearsal.
+/// `reads`, `plan_reads`, `asks`, `signings`, `puts`, `shelf_calls`, `old_calls` and `makings` are the numbers of the calls that
+/// fail, counted from 0, with a comma between two of them. The others are limits, by their names.
 pub(crate) fn outside_of(alloc: Global, row: &Row) -> Result<MemOutside, AllocError> {
     let files = files_of(alloc, row)?;
     let helpers = helpers_of(alloc, row)?;
+    let disks = disks_of(alloc, row)?;
     let sink = MemSink::new(alloc, failing(alloc, row, "puts")?);
     let makings = failing(alloc, row, "makings")?;
     let outside = MemOutside::new(alloc, files, sink, makings, limits_of(row));
-    Ok(outside.with_helpers(helpers))
+    Ok(outside.with_helpers(helpers).with_disks(disks))
 }

@@ -6,7 +6,7 @@ use crate::files::source_of;
 use crate::helpers::{signer_of, verifier_of};
 use crate::{Making, MakingKind, MemDiskFile, MemFile, MemHelper, Outside};
 use keri_disk::MemDisk;
-use keri_outside::{Failed, Limits, MemSigner, MemSink, MemSource, MemVerifier};
+use keri_outside::{Failed, Limits, MemGate, MemSigner, MemSink, MemSource, MemVerifier};
 use lists::Items;
 use std::alloc::{AllocError, Global};
 
@@ -22,15 +22,18 @@ pub struct MemOutside {
     makings: Items<Making>,
     telling: bool,
     sink: MemSink,
+    gate: MemGate,
     faults: u64,
     limits: Limits,
 }
 
 impl MemOutside {
-    ghost use Rattle.std.specs.Prelude.{◌≡◌, ◌≤◌, ◌++◌, ◌∷◌, [], true, Some, IfSome, OnOk, OnErr};
+    ghost use Rattle.std.specs.Prelude.{◌≡◌, ◌≤◌, ◌++◌, ◌∷◌, [], true, Some, IfOk, IfSome, OnOk, OnErr};
+    ghost use Rattle.keri_disk.specs.Memory.{mem_told};
     ghost use Rattle.keri_specs.specs.Causes.{Rose};
     ghost use Rattle.run_outside.specs.Memory.{outside_told, outside_sink};
-    ghost use Rattle.run_outside.specs.Told.{Grows, first_told, making};
+    ghost use Rattle.run_outside.specs.Told.{Grows, Makes, first_told, making};
+    ghost use Rattle.run_outside.specs.declared.making.MakingKind.TheVariants.{Disk as DiskKind};
     ghost use Rattle.run_outside.specs.Helpers.{says_under, gives_under};
     ghost use Rattle.run_outside.specs.Disks.{stored_under};
 
@@ -55,6 +58,7 @@ impl MemOutside {
             makings: Items::new(alloc),
             telling: true,
             sink,
+            gate: MemGate,
             faults: 0,
             limits,
         }
@@ -121,6 +125,23 @@ impl MemOutside {
         self.failing.as_slice().contains(&call)
     }
 
+    // Makes the disk of a name that has a file.
+    fn make_disk(&mut self, name: &str) -> Result<MemDisk, Failed>
+        ensures makes { Makes DiskKind name.now (outside_told self.old) (outside_told self.new) result }
+        ensures holds { IfOk result (λ disk. (mem_told disk).file ≡ stored_under self.old.disks name.now) }
+        ensures none_yet { IfOk result (λ disk. (mem_told disk).faults ≡ 0) }
+        ensures same_sink { outside_sink self.new ≡ outside_sink self.old }
+    {
+        let fails = self.next_fails();
+        match disk_of(self.alloc, self.disks.as_slice(), name) {
+            Some(disk) if !fails => {
+                self.note(MakingKind::Disk, name, false);
+                Ok(disk)
+            }
+            _ => Err(self.fail(MakingKind::Disk, name)),
+        }
+    }
+
     // Notes a making that fails.
     fn fail(&mut self, kind: MakingKind, name: &str) -> Failed
         ensures makings { Grows (outside_told self.old).makings (outside_told self.new).makings kind name.now true }
@@ -148,6 +169,8 @@ impl Outside for MemOutside {
     type Disk = MemDisk;
 
     type Sink = MemSink;
+
+    type Gate = MemGate;
 
     ghost told = { outside_told };
 
@@ -193,18 +216,19 @@ impl Outside for MemOutside {
     }
 
     fn disk(&mut self, name: &str) -> Result<MemDisk, Failed> {
-        let fails = self.next_fails();
-        match disk_of(self.alloc, self.disks.as_slice(), name) {
-            Some(disk) if !fails => {
-                self.note(MakingKind::Disk, name, false);
-                Ok(disk)
-            }
-            _ => Err(self.fail(MakingKind::Disk, name)),
-        }
+        self.make_disk(name)
+    }
+
+    fn old_disk(&mut self, name: &str) -> Result<MemDisk, Failed> {
+        self.make_disk(name)
     }
 
     fn out(&mut self) -> &mut MemSink {
         &mut self.sink
+    }
+
+    fn gate(&self) -> &MemGate {
+        &self.gate
     }
 
     fn limits(&self) -> Limits {

@@ -6,19 +6,22 @@ ghost use Rattle.run_outside.specs.Told.{Told, Makes};
 ghost use Rattle.run_outside.specs.declared.making.MakingKind.TheVariants.{Source as SourceKind, Verifier as VerifierKind, Signer as SignerKind, Disk as DiskKind};
 
 use keri_disk::Disk;
-use keri_outside::{Failed, Limits, Signer, Sink, Source, Verifier};
+use keri_outside::{Failed, Gate, Limits, Signer, Sink, Source, Verifier};
 
-/// The objects that a program is given. What it gives out wasn't asked yet, and starts with a count of no faults.
+/// The objects that a program is given. What it gives out wasn't asked yet, and starts with a count of no faults. A source and a
+/// verifier may go to the thread of a reader, and all readers pass the one gate.
 pub trait Outside {
-    type Source: Source + Drop;
+    type Source: Source + Drop + Send;
 
-    type Verifier: Verifier + Drop;
+    type Verifier: Verifier + Drop + Send;
 
     type Signer: Signer + Drop;
 
     type Disk: Disk + Drop;
 
     type Sink: Sink + Drop;
+
+    type Gate: Gate + Drop + Sync;
 
     /// What it tells, but for the sink.
     ghost told: { Self → Told };
@@ -58,10 +61,20 @@ pub trait Outside {
         ensures none_yet { IfOk result (λ disk. (Self.Disk.told disk).faults ≡ 0) }
         ensures same_sink { sink self.new ≡ sink self.old };
 
+    /// Makes the disk of a name whose file is there and is only read. Where there is no such file it fails, and makes none.
+    fn old_disk(&mut self, name: &str) -> Result<Self::Disk, Failed>
+        ensures makes { Makes DiskKind name.now (told self.old) (told self.new) result }
+        ensures holds { IfOk result (λ disk. (Self.Disk.told disk).file ≡ (told self.old).stored name.now) }
+        ensures none_yet { IfOk result (λ disk. (Self.Disk.told disk).faults ≡ 0) }
+        ensures same_sink { sink self.new ≡ sink self.old };
+
     /// Lends the sink.
     fn out(&mut self) -> &mut Self::Sink
         ensures* writes_back { sem 𝓛 (Lends Self.row Self.Sink.row self.entry result (with_sink self.old)) }
         ensures value { result.now ≡ sink self.old };
+
+    /// The gate that readers pass.
+    fn gate(&self) -> &Self::Gate;
 
     /// The limits, which no call changes.
     fn limits(&self) -> Limits

@@ -181,11 +181,18 @@ module _ (besides : Besides) (readers : List Reader) (old new : SinkTold) (statu
       or_true true = refl
       or_true false = refl
 
-  seven_of : (v s b : Bool) → (v ≡ true → HasClose VerifierFault readers) → (s || b ≡ true → HasClose SignerFault readers ⊎ (b ≡ true)) → (v || (s || b)) ≡ true
-      → HasClose VerifierFault readers ⊎ HasClose SignerFault readers ⊎ (b ≡ true)
-  seven_of v s b verifier signer e = elim (either v (s || b) e) [
-    | inl failed ↦ inl (verifier failed)
-    | inr failed ↦ inr (signer failed)
+  seven_of : (verifier signer : Bool) → (verifier ≡ true → HasClose VerifierFault readers ⊎ (besides.verifier_failed ≡ true))
+      → (signer ≡ true → HasClose SignerFault readers ⊎ (besides.signer_failed ≡ true)) → (verifier || signer) ≡ true
+      → HasClose VerifierFault readers ⊎ HasClose SignerFault readers ⊎ (besides.signer_failed ≡ true) ⊎ (besides.verifier_failed ≡ true)
+  seven_of verifier signer by_verifier by_signer e = elim (either verifier signer e) [
+    | inl failed ↦ elim (by_verifier failed) [
+      | inl closed ↦ inl closed
+      | inr round ↦ inr (inr (inr round))
+    ]
+    | inr failed ↦ elim (by_signer failed) [
+      | inl closed ↦ inr (inl closed)
+      | inr found ↦ inr (inr (inl found))
+    ]
   ]
 
   -- each fault that is answered has its cause
@@ -200,7 +207,7 @@ module _ (besides : Besides) (readers : List Reader) (old new : SinkTold) (statu
   }
   faults_have_causes (Some text) s = record {
     five = λ e. some_closed (λ c. (close_found c).source_failed) ReadFault read_fault readers (by_five _ _ _ _ _ _ _ _ (sym s.2 ∙ e));
-    seven = λ e. seven_of _ _ besides.signer_failed (some_closed (λ c. (close_found c).verifier_failed) VerifierFault verifier_fault readers)
+    seven = λ e. seven_of _ _ (closed_or (λ c. (close_found c).verifier_failed) VerifierFault verifier_fault besides.verifier_failed readers)
         (closed_or (λ c. (close_found c).signer_failed) SignerFault signer_fault besides.signer_failed readers) (by_seven _ _ _ _ _ _ _ _ (sym s.2 ∙ e));
     eight = λ e. closed_or (λ c. (close_found c).disk_failed) DiskFault disk_fault besides.disk_failed readers (by_eight _ _ _ _ _ _ _ _ (sym s.2 ∙ e));
     nine = λ e. closed_or (λ c. (close_found c).limit_reached) Full full besides.shelf_full readers (by_nine _ _ _ _ _ _ _ _ (sym s.2 ∙ e));

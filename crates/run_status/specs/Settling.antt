@@ -31,7 +31,7 @@ found besides readers sink_failed = record {
   sink_failed = list_any (λ r. (close_found r.close).sink_failed) readers || sink_failed;
   words_refused = besides.words_refused;
   source_failed = list_any (λ r. (close_found r.close).source_failed) readers;
-  verifier_failed = list_any (λ r. (close_found r.close).verifier_failed) readers;
+  verifier_failed = list_any (λ r. (close_found r.close).verifier_failed) readers || besides.verifier_failed;
   signer_failed = list_any (λ r. (close_found r.close).signer_failed) readers || besides.signer_failed;
   disk_failed = list_any (λ r. (close_found r.close).disk_failed) readers || besides.disk_failed;
   limit_reached = list_any (λ r. (close_found r.close).limit_reached) readers || besides.shelf_full;
@@ -54,7 +54,7 @@ SettlesBy (Some text) besides readers old new status =
 -- rose.
 pub record FaultsHaveCauses (readers : List Reader) (besides : Besides) (old new : SinkTold) (status : ℕ) : Type 0 where
   pub five : status ≡ 5 → HasClose ReadFault readers
-  pub seven : status ≡ 7 → HasClose VerifierFault readers ⊎ HasClose SignerFault readers ⊎ (besides.signer_failed ≡ true)
+  pub seven : status ≡ 7 → HasClose VerifierFault readers ⊎ HasClose SignerFault readers ⊎ (besides.signer_failed ≡ true) ⊎ (besides.verifier_failed ≡ true)
   pub eight : status ≡ 8 → HasClose DiskFault readers ⊎ (besides.disk_failed ≡ true)
   pub nine : status ≡ 9 → HasClose Full readers ⊎ (besides.shelf_full ≡ true)
   pub six : status ≡ 6 → HasClose WriteFault readers ⊎ Rose old.faults new.faults

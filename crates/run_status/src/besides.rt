@@ -6,6 +6,8 @@ ghost use Rattle.std.specs.Prelude.{◌≡◌};
 pub struct Besides {
     /// The words aren't in the form.
     pub words_refused: bool,
+    /// A verifier failed in the last round, in which what is still open is asked once all readers have ended.
+    pub verifier_failed: bool,
     /// The signer failed, or couldn't be made.
     pub signer_failed: bool,
     /// A disk failed, or couldn't be made, and nothing was read.
@@ -29,6 +31,7 @@ impl Besides {
     {
         Besides {
             words_refused: false,
+            verifier_failed: false,
             signer_failed: false,
             disk_failed: false,
             shelf_full: false,

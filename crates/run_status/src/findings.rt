@@ -13,7 +13,7 @@ pub(crate) struct Findings {
     pub(crate) words_refused: bool,
     /// A source failed, or couldn't be made.
     pub(crate) source_failed: bool,
-    /// A verifier failed, or couldn't be made.
+    /// A verifier failed, with a reader or in the last round, or couldn't be made.
     pub(crate) verifier_failed: bool,
     /// The signer failed, or couldn't be made.
     pub(crate) signer_failed: bool,

@@ -71,7 +71,7 @@ fn found<S: Source, V: Verifier>(
         sink_failed: some_write_fault(readers) | sink_failed,
         words_refused: besides.words_refused,
         source_failed: some_read_fault(readers),
-        verifier_failed: some_verifier_fault(readers),
+        verifier_failed: some_verifier_fault(readers) | besides.verifier_failed,
         signer_failed: some_signer_fault(readers) | besides.signer_failed,
         disk_failed: some_disk_fault(readers) | besides.disk_failed,
         limit_reached: some_full(readers) | besides.shelf_full,

@@ -12,7 +12,7 @@ use run_outside::Outside;
 use shelf_log::{OldShelf, Returned, Shelf, Version};
 use std::alloc::Global;
 
-/// Makes the disk of the old shelf, reads its list, and brings that over to the file, which is no shelf.
+/// Makes the disk of the old shelf, whose file is only read, reads its list, and brings that over to the file, which is no shelf.
 pub(crate) fn fill<O: Outside>(
     alloc: Global,
     disk: O::Disk,
@@ -33,7 +33,7 @@ pub(crate) fn fill<O: Outside>(
     ensures same_names { KeepsNames (O.told outside.old) (O.told outside.new) }
     ensures same_sink { O.sink outside.new ≡ O.sink outside.old }
 {
-    let Ok(old) = outside.disk(old) else {
+    let Ok(old) = outside.old_disk(old) else {
         return Err(NotOpened::failed(Some(disk)));
     };
     match Shelf::read_old(alloc, old, limits) {

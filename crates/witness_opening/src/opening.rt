@@ -15,7 +15,7 @@ use std::alloc::Global;
 /// Opens the shelf of a name. An empty file is made one. Where an old shelf is named, a file that begins with the mark of no
 /// version is filled with its list instead, and what it held is lost.
 ///
-/// A file that is a shelf, or begins as one of either version, isn't written, and the old one's never is.
+/// A file that is a shelf, or begins as one of either version, isn't written, and the old one's never is, nor is it made.
 pub fn open_shelf<O: Outside>(
     alloc: Global,
     name: &str,

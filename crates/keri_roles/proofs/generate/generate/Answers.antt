@@ -1,47 +1,43 @@
-use Rattle.std.proofs.Common.{◌≡◌, ◌≢◌, refl, sym, ◌∙◌, [], ◌∷◌, rules, None, Some, option_map}
+use Rattle.std.proofs.Common.{◌≡◌, refl, sym, ap, arith, length, [], ◌∷◌, rules, None}
 use Rattle.journal.specs.declared.mode.Mode.TheVariants.{Full}
 use Rattle.log_maker.specs.Making.{maker_left, maker_faults}
-use Rattle.log_maker.specs.Streams as streams
-use Rattle.report_lines.specs.Lines.{stream_text}
 use Rattle.keri_outside.specs.Rehearsal.{rehearsal_says}
 use Rattle.validator_core.specs.View.{accepted_by}
-use Rattle.run_status.specs.declared.close.Close.TheVariants.{VerifierFault}
-use Rattle.keri_roles.specs.CoreTold.{Given, IsJournalOf, Tells}
-use Rattle.keri_roles.specs.Generated.{counts_of}
 use Rattle.run_status.specs.Readers.{Reader, reader_seen}
-use Rattle.keri_roles.proofs.CoreTold.{closes_so, closing, is_told_by, owes, same_journal, seen_none, tells_again}
-use Rattle.keri_roles.proofs.Generated.{accepted_of, closes_well, never_fails, none_counted, tells_all, tells_stream}
+use Rattle.reader_threads.specs.Told.{AllTold}
+use Rattle.keri_roles.specs.CoreTold.{IsJournalOf}
+use Rattle.keri_roles.specs.Generated.{made_of}
+use Rattle.keri_roles.specs.Planned.{made_close}
+use Rattle.keri_roles.proofs.CoreTold.{is_told_by, same_journal}
+use Rattle.keri_roles.proofs.Generated.{accepted_of, closing, made_not_asked, made_not_read, never, none_counted, owes_line, tells_closed}
 use Rattle.keri_roles.proofs.generate.generate.Goals as goal
+
+pub unwrap-requires : goal.unwrap-requires
+unwrap-requires g c =
+    let empty = ap length c.requires.none_yet in
+    let ok = c.args.readers.ok.0 in
+    c.push.ensures.succeeds (omega (arith, empty, ok, c.requires.room))
 
 pub returns-clause-generated : goal.returns-clause-generated
 returns-clause-generated g c =
     let plan = c.args.plan in
     let before = g.O.Outside.told c.args.outside.now in
-    let end = c.read_made-reader.result.reader in
-    let core = c.read_made-reader.result.core in
-    let due = c.owe-close.result in
-    let owed = option_map (λ text. text.items) due.owed in
-    let line = c.line_of-line.result in
+    let end = c.in_ok-core.field-0.reader in
+    let core = c.in_ok-core.field-0.core in
+    let rest = c.in_ok-core.field-0.rest in
     let reader : Reader = reader_seen maker_left maker_faults (λ v. rehearsal_says) (λ v. None) (λ v. 0) end in
-    let given : Given = record { limits = before.limits; held = Some (streams.stream_text plan.seed plan.logs plan.events); says = rehearsal_says } in
-    let tells : Tells Full given reader core = rw c.limits-limits.ensures at c.read_made-reader.ensures.tells in
+    let told : AllTold Full before.limits (made_of plan.seed plan.logs plan.events ∷ []) (reader ∷ []) rest core = rw c.limits-limits.ensures at c.in_ok-core.ensures in
+    let sure = never plan.seed plan.logs plan.events before.limits rest reader (none_counted rehearsal_says end.verifier) core told in
     let of : IsJournalOf core c.into_journal.result = search rules in
-    let one : c.push.new.self.items ≡ record { source = None; verifier = None; refused = end.refused; seen = end.seen; close = due.close } ∷ [] = search rules in
-    let never : reader.close ≢ VerifierFault = never_fails given reader.source reader.verifier tells.bytes _ _ reader.close
-    (seen_none tells_stream end.source ∙ c.read_made-reader.ensures.source) (seen_none (tells_all rehearsal_says) end.verifier ∙ c.read_made-reader.ensures.verifier)
-    (none_counted rehearsal_says end.verifier) tells.reads in
-    let T = stream_text (counts_of plan.seed plan.logs plan.events (accepted_by core)) in
-    let made = c.line_of-line.ensures in
+    let one : c.push.new.self.items ≡ record { source = None; verifier = None; refused = end.refused; seen = end.seen; close = made_close end.close } ∷ [] = search rules in
     rw (one, same_journal core c.into_journal.result of) (record {
-      reader = closing reader due.close;
+      reader = closing reader (made_close reader.close);
       one = refl;
       none_made = refl;
-      journal = is_told_by Full given (closing reader due.close) core
-          (tells_again Full given reader core due.close tells (closes_so (λ a. a.bytes.items) (λ a. a.has_conflicts) end.close due.close line owed due.conflict_found c.owe-close.ensures.ok c.owe-close.ensures.err))
-          of.stands;
-      none_failed = closes_well (λ a. a.bytes.items) (λ a. a.has_conflicts) end.close due.close line owed due.conflict_found never made.read c.owe-close.ensures.ok c.owe-close.ensures.err;
-      owes = rw (sym (accepted_of core Full tells.no_base tells.mode_is))
-          (owes (λ a. a.bytes.items) (λ a. a.has_conflicts) (λ at text has. text ≡ T) end.close due.close line owed due.conflict_found
-          made.text c.owe-close.ensures.ok c.owe-close.ensures.err);
+      rest = rest;
+      journal = is_told_by Full before.limits (made_of plan.seed plan.logs plan.events ∷ []) (closing reader (made_close reader.close) ∷ []) rest core
+          (tells_closed plan.seed plan.logs plan.events before.limits rest reader core told);
+      none_failed = (made_not_read end.close, made_not_asked end.close sure.0, sure.1);
+      owes = rw (sym (accepted_of core Full told.no_base told.mode_is)) (owes_line plan (accepted_by core) reader rest c.line_of-owed.result c.line_of-owed.ensures);
       nothing_else = c.nothing.ensures;
     })

@@ -4,4 +4,4 @@ use Rattle.keri_roles.proofs.report.refused_text.Given as goal
 
 -- the lines of the messages so far
 abbrev pub invariant-loop-refusal : goal.invariant-loop-refusal
-invariant-loop-refusal l = string_bytes l.text ≡ refused_lines 0 (take l.refusal-index l.refused)
+invariant-loop-refusal l = string_bytes l.text ≡ refused_lines l.number (take l.refusal-index l.refused)

@@ -1,7 +1,9 @@
 use Rattle.keri_roles.proofs.Agreed.{is_agreed}
+use Rattle.keri_roles.proofs.OverCore.{ok_then}
 use Rattle.keri_roles.proofs.validate.validate.Goals as goal
 
 pub returns-clause-validated : goal.returns-clause-validated
-returns-clause-validated g c =
-    let over = c.over_core.ensures.done in
-    record { over = over; agreed = is_agreed over.told.journal.fed.held c.over_core.result.journal.entries over.told.journal.fed.reading.spelled over.told.journal.fed.in_order }
+returns-clause-validated g c = ok_then c.over_core.result c.over_core.ensures.done (λ outcome over. record {
+  over = over;
+  agreed = is_agreed over.told.journal.fed.held outcome.journal.entries over.told.journal.fed.reading.spelled over.told.journal.fed.in_order;
+})
