@@ -1,6 +1,7 @@
 """What a core says call by call: questions and verdicts, limits, refusals, and what an event needs to be accepted."""
 from kit import PLAIN_ICP as ICP, body, couples, digest, indexed, key, receipts, rehearsed, said, signed
 from log_cases import LISTED, LOG, OWN, REALISTIC, THIRD, THREE
+from row_tables import argument
 from row_tables.core_calls import accept, accepted, answer, asked, live, logged, start, take, waiting
 from row_tables.states import IXN_1, IXN_2, OTHER_2, PREFIX, ixn
 
@@ -214,10 +215,35 @@ def looks():
     yield "accepted", "1000 500 "
 
 
+def read_back():
+    def row(turns, text, answer, prefix=PREFIX):
+        return "hub %d %s %s" % (turns, prefix, argument(text)), answer
+
+    # An event is accepted by the verdict on its one signature, and what the pass of a hub told it reads there.
+    yield row(5, signed(ICP, 1), "Taken none 0 %s New 0 1 0" % key(1))
+    # By a signature of another key it isn't.
+    yield row(5, ICP + "-AAB" + rehearsed(2, ICP, "AA"), "Taken none 0 %s New none" % key(1))
+    yield row(5, signed(IXN_1, 1), "Taken none no-question none")
+    yield row(5, ICP, "Refused(Unsigned) none no-question none")
+    # A hub has so many turns, and none is taken then.
+    yield row(4, signed(ICP, 1), "Taken none 0 %s New Spent(4)" % key(1))
+    yield row(3, signed(ICP, 1), "Taken none 0 %s Spent(3) Spent(3)" % key(1))
+    yield row(2, signed(ICP, 1), "Taken none Spent(2) Spent(2)")
+    yield row(1, signed(ICP, 1), "Taken Spent(1) Spent(1) Spent(1)")
+    yield row(0, signed(ICP, 1), "Spent(0) Spent(0) Spent(0) Spent(0)")
+    # Two passes are given different questions while there are two, and the same one again; who asks for all is given what another one has.
+    two = body("icp", kt="2", k=[key(1), key(2)])
+    words = "Taken %s %s %s 0 %s New none %s" % (key(1), key(2), key(2), key(1), key(2))
+    yield "passes " + argument(signed(two, 1, 2)), words
+    yield "passes " + argument(signed(ICP, 1)), "Taken %s none none 0 %s New none none" % (key(1), key(1))
+
+
 def rows():
     yield "# questions and verdicts"
     yield from questions()
     yield from order_of_questions()
+    yield "# what a pass of a hub reads back"
+    yield from read_back()
     yield "# limits"
     yield from limits()
     yield "# refused messages"

@@ -19,7 +19,8 @@ module _ (x y : SharedCore) (reader : ℕ) (head : head_of y.core ≡ head_of x.
   abbrev AppendsOne : Type 0
   AppendsOne = (es : List Told) × Appends (λ (s : SharedCore). told_of s.core) (λ (s : SharedCore). head_of s.core) reader_of reader x y es
 
-  none : told_of y.core ≡ told_of x.core → AppendsOne
+  -- nothing was told
+  pub none : told_of y.core ≡ told_of x.core → AppendsOne
   none same = ([], record { longer = same ∙ sym (append-nil (told_of x.core)); one = omega arith; named = tt; same_head = head })
 
   entry : (t : Told) → reader_of t ≡ reader → told_of y.core ≡ told_of x.core ++ t ∷ [] → AppendsOne

@@ -9,11 +9,12 @@ use Rattle.validator_core.proofs.Crosses.{core_send}
 use Rattle.reader_hub.specs.contracts.core_head.CoreHead as head
 use Rattle.reader_hub.specs.contracts.hub.Hub as hub
 use Rattle.reader_hub.specs.contracts.shared_core.SharedCore as shared
+use Rattle.reader_hub.proofs.handed_out.HandedOut.TheSendSync as handed
 use Rattle.reader_hub.specs.contracts.shared_core.SharedCoreReplayed.TheImpl as replayed
 use Rattle.reader_hub.specs.contracts.telling.Telling as telling
 
 shared_send : IsSend shared.the_row
-shared_send = declared_send shared.the_type (core_send, tt)
+shared_send = declared_send shared.the_type (core_send, (handed.the_send, tt))
 
 pub hub_send : IsSend hub.the_row
 hub_send = declared_send hub.the_type (turn.the_send shared.the_row telling.the_row head.the_row replayed.ghosts shared_send, tt)

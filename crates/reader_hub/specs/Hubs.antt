@@ -1,5 +1,5 @@
 -- What the calls of a hub answer, and what they do to what a pass knows.
-use Rattle.std.specs.Prelude.{◌≡◌, ℕ, ◌<◌, ◌≤◌, ◌⊎◌, Bool, List, [], ◌++◌, length, slice_get, Option, Some, None, option_map, Result}
+use Rattle.std.specs.Prelude.{◌≡◌, ℕ, ◌<◌, ◌≤◌, ◌⊎◌, Bool, List, [], ◌++◌, length, slice_get, Option, Some, None, Result}
 use mathlib.Core.List.{IsPrefix}
 use Rattle.cesr_codes.specs.declared.prefix.Prefix.{Prefix}
 use Rattle.cesr_stream.specs.declared.message.Message.{Message}
@@ -8,6 +8,7 @@ use Rattle.event_body.specs.declared.body_fault.BodyFault.{BodyFault}
 use Rattle.keri_outside.specs.declared.limits.Limits.{Limits}
 use Rattle.key_state.specs.States.{State}
 use Rattle.journal.specs.declared.body.Body.{Body}
+use Rattle.journal.specs.declared.mode.Mode.{Mode}
 use Rattle.journal.specs.declared.question.Noted.{Noted}
 use Rattle.journal.specs.declared.question.Question.{Question}
 use Rattle.journal.specs.declared.reply.Reply.{Reply}
@@ -22,6 +23,8 @@ use Rattle.validator_core.specs.View.{CoreView}
 use Rattle.turn_lock.specs.Known.{Known, after_spent, after_turn}
 use Rattle.reader_hub.specs.declared.asked.Asked.{Asked}
 use Rattle.reader_hub.specs.declared.core_head.CoreHead.{CoreHead}
+use Rattle.reader_hub.specs.declared.extent.Extent.{Extent}
+use Rattle.reader_hub.specs.declared.extent.Extent.TheVariants.{Free, All as Every}
 use Rattle.reader_hub.specs.declared.hub_fault.HubFault.{HubFault}
 use Rattle.reader_hub.specs.declared.hub_fault.HubFault.TheVariants.{Spent, OutOfMemory}
 
@@ -65,11 +68,16 @@ abbrev pub HasBytes : List Body → Option Asked → Type 0
 HasBytes held None = Unit {0}
 HasBytes held (Some a) = (b : Body) × (slice_get held a.question.body ≡ Some b) × (a.bytes.items ≡ b.bytes) × (length a.bytes.items ≤ 65535)
 
--- the open question of a number modulo their count, with the body that it names, or none where none is open
-pub record AsksAt (limit : ℕ) (p : HubPass) (skip : ℕ) (answer : Option Asked) (q : HubPass) : Type 0 where
+-- an open question, with the body that it names, or none: where all are asked for, only where none is open
+abbrev pub IsAsked : Mode → List Told → Option Asked → Extent → Type 0
+IsAsked mode told (Some a) extent = (skip : ℕ) × Names (bodies [] told) (Some a.question) (next_question mode [] told skip) × HasBytes (bodies [] told) (Some a)
+IsAsked mode told None Free = Unit {0}
+IsAsked mode told None Every = (skip : ℕ) × Names (bodies [] told) None (next_question mode [] told skip)
+
+-- a question was given so
+pub record AsksAt (limit : ℕ) (p : HubPass) (extent : Extent) (answer : Option Asked) (q : HubPass) : Type 0 where
   pub meets : Meets p
-  pub names : Names (bodies [] meets.met) (option_map (λ a. a.question) answer) (next_question meets.head.mode [] meets.met skip)
-  pub bytes : HasBytes (bodies [] meets.met) answer
+  pub asked : IsAsked meets.head.mode meets.met answer extent
   pub turn : TookTurn limit p meets.met [] q
 
 -- a verdict was noted so

@@ -7,7 +7,8 @@ ghost use Rattle.validator_core.specs.View.{told_of};
 ghost use Rattle.reader_hub.specs.Hubs.{TakesAt, AsksAt, AnswersAt, StateAt, Stops, head_of};
 ghost use Rattle.reader_hub.specs.Closing.{AreAll, ClosesAll};
 
-use crate::{Asked, HubFault, Pass, SharedCore};
+use crate::handed_out::HandedOut;
+use crate::{Asked, Extent, HubFault, Pass, SharedCore};
 use cesr_codes::Prefix;
 use cesr_stream::Message;
 use journal::{Noted, Question, Reply};
@@ -37,7 +38,8 @@ impl Hub {
         ensures limit { IfOk result (λ h. limit_of h.0.turn ≡ turns) }
         ensures first { IfOk result (λ h. known h.1 ≡ first_pass (head_of core)) }
     {
-        let (turn, pass) = Turn::new(alloc, SharedCore { core }, turns)?;
+        let handed = HandedOut::new(alloc);
+        let (turn, pass) = Turn::new(alloc, SharedCore { core, handed }, turns)?;
         Ok((Hub { turn }, pass))
     }
 
@@ -85,21 +87,27 @@ impl Hub {
         }
     }
 
-    /// The open question of a number modulo their count, with its body, or none where none is open.
+    /// An open question with its body. `Free` gives one that no other reader was handed and has yet to answer, where
+    /// there is one; `All` gives such a one first, and else any. Under `All` none is given only where none is open;
+    /// under `Free` nothing is promised of that.
     pub fn next_question<W: Wait>(
         &self,
         rt: &W,
         alloc: Global,
         pass: &mut Pass,
-        skip: u32,
+        extent: Extent,
     ) -> Result<Option<Asked>, HubFault>
         requires pass { IsPassOf self.now.turn pass.old }
         ensures pass { IsPassOf self.now.turn pass.new }
-        ensures asks { IfOk result (λ answer. AsksAt (limit_of self.now.turn) (known pass.old) skip answer
+        ensures asks { IfOk result (λ answer. AsksAt (limit_of self.now.turn) (known pass.old) extent answer
             (known pass.new)) }
         ensures stops { IfErr result (λ fault. Stops (limit_of self.now.turn) (known pass.old) fault (known pass.new)) }
     {
-        match self.turn.with_turn(rt, pass, |core| core.ask(alloc, skip)) {
+        let reader = pass.number();
+        match self
+            .turn
+            .with_turn(rt, pass, |core| core.ask(alloc, reader, extent))
+        {
             Ok(Ok(answer)) => Ok(answer),
             Ok(Err(AllocError)) => Err(HubFault::OutOfMemory),
             Err(Spent { turns }) => Err(HubFault::Spent(turns)),
@@ -168,7 +176,7 @@ impl Hub {
             self.turn.join(&mut pass, other);
         }
         let Hub { turn } = self;
-        let SharedCore { core } = turn.close(pass);
+        let SharedCore { core, .. } = turn.close(pass);
         core
     }
 }

@@ -3,17 +3,20 @@
 
 mod asked;
 mod core_head;
-mod crossing;
+mod extent;
+mod handed_out;
 mod hub;
 mod hub_fault;
+mod send_laws;
 mod shared_core;
 mod telling;
 
 pub use asked::Asked;
 pub use core_head::CoreHead;
-pub use crossing::{hub_is_shared, pass_is_sent};
+pub use extent::Extent;
 pub use hub::Hub;
 pub use hub_fault::HubFault;
+pub use send_laws::{hub_is_shared, pass_is_sent};
 pub use shared_core::SharedCore;
 pub use telling::Telling;
 

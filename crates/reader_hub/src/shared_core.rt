@@ -1,5 +1,5 @@
 //! The core under the lock: it stands for what it was told.
-ghost use Rattle.std.specs.Prelude.{◌≡◌, [], IfOk, OnErr, option_map, slice_get};
+ghost use Rattle.std.specs.Prelude.{◌≡◌, [], IfOk, IsSome, OnErr, option_map, slice_get};
 ghost use Rattle.journal.specs.Accepted.{accepted};
 ghost use Rattle.journal.specs.History.{bodies};
 ghost use Rattle.journal.specs.Journals.{AnswersOn, Names};
@@ -7,9 +7,11 @@ ghost use Rattle.journal.specs.Logs.{state};
 ghost use Rattle.journal.specs.Questions.{next_question};
 ghost use Rattle.validator_core.specs.Messages.{JudgesMessage};
 ghost use Rattle.validator_core.specs.View.{Stands, told_of};
-ghost use Rattle.reader_hub.specs.Hubs.{HasBytes, TakesOver};
+ghost use Rattle.reader_hub.specs.declared.extent.Extent.TheVariants.{All as Every};
+ghost use Rattle.reader_hub.specs.Hubs.{HasBytes, IsAsked, TakesOver};
 
-use crate::{Asked, CoreHead, Telling};
+use crate::handed_out::HandedOut;
+use crate::{Asked, CoreHead, Extent, Telling};
 use cesr_codes::Prefix;
 use cesr_stream::Message;
 use event_body::Event;
@@ -25,6 +27,7 @@ use validator_core::Core;
 #[derive(Drop)]
 pub struct SharedCore {
     pub(crate) core: Core,
+    pub(crate) handed: HandedOut,
     ghost no_base: { core.base ≡ 0 },
 }
 
@@ -73,8 +76,56 @@ impl SharedCore {
         Ok(reply)
     }
 
-    /// The open question of a number modulo their count, with a copy of its body.
-    pub(crate) fn ask(&self, alloc: Global, skip: u32) -> Result<Option<Asked>, AllocError>
+    /// An open question, with a copy of its body, which the reader is handed: one that no reader was handed, where one is
+    /// found among the first, and else, where all are asked for, any. None where there is none to that extent.
+    pub(crate) fn ask(
+        &mut self,
+        alloc: Global,
+        reader: u16,
+        extent: Extent,
+    ) -> Result<Option<Asked>, AllocError>
+        ensures head { head_of self.new.core ≡ head_of self.old.core }
+        ensures same { told_of self.new.core ≡ told_of self.old.core }
+        ensures asks { IfOk result (λ answer. IsAsked self.old.core.mode (told_of self.old.core) answer extent) }
+    {
+        self.handed.take_back(reader);
+        let Some(skip) = self.next_place(reader, extent) else {
+            return Ok(None);
+        };
+        let answer = self.question(alloc, skip)?;
+        if let Some(Asked { question, .. }) = &answer {
+            self.handed.hand(reader, *question)?;
+        }
+        Ok(answer)
+    }
+
+    // The number of the open question that a reader is handed, or of none where none is open.
+    fn next_place(&self, reader: u16, extent: Extent) -> Option<u32>
+        ensures { extent ≡ Every → IsSome result }
+    {
+        match (self.free_place(), extent) {
+            (Some(skip), _) => Some(skip),
+            (None, Extent::Free) => None,
+            (None, Extent::All) => Some(u32::from(reader)),
+        }
+    }
+
+    // The number of an open question that no reader was handed, or of none where none is open. As many are looked at as
+    // were handed out, and one more, the last of these first: those before it are mostly the ones that were handed out.
+    fn free_place(&self) -> Option<u32> {
+        let count = self.handed.count();
+        for tried in 0..count.saturating_add(1) {
+            let skip = count.saturating_sub(tried);
+            match self.core.next_question(skip) {
+                Some(question) if self.handed.has(&question) => {}
+                _ => return Some(skip),
+            }
+        }
+        None
+    }
+
+    // The open question of a number modulo their count, with a copy of its body.
+    fn question(&self, alloc: Global, skip: u32) -> Result<Option<Asked>, AllocError>
         ensures names { IfOk result (λ answer. Names (bodies [] (told_of self.now.core))
             (option_map (λ a. a.question) answer) (next_question self.now.core.mode [] (told_of self.now.core) skip)) }
         ensures bytes { IfOk result (λ answer. HasBytes (bodies [] (told_of self.now.core)) answer) }
@@ -90,7 +141,7 @@ impl SharedCore {
         Ok(Some(Asked { question, bytes }))
     }
 
-    /// Notes a verdict of a reader on a question.
+    /// Notes a verdict of a reader on a question, which it was handed, if any.
     pub(crate) fn answer(
         &mut self,
         reader: u16,
@@ -106,6 +157,7 @@ impl SharedCore {
         stands(&self.core);
         let mut steps = Steps::new();
         let noted = self.core.answer(reader, question, yes, &mut steps)?;
+        self.handed.take_back(reader);
         Ok(noted)
     }
 

@@ -6,19 +6,30 @@
 mod base;
 mod calls;
 mod evidence;
+mod hubs;
 mod session;
 mod views;
 
 use anyhow::Result;
-use row_text::Row;
+use row_text::{Row, given};
 use session::Session;
 use std::alloc::{AllocError, Global};
 use std::io;
+use std::sync::Wait;
 
 // What the line is answered by.
-fn answer(alloc: Global, session: &mut Session, line: &str) -> Result<String, AllocError> {
+fn answer<W: Wait>(
+    rt: &W,
+    alloc: Global,
+    session: &mut Session,
+    line: &str,
+) -> Result<String, AllocError> {
     let row = Row::of(alloc, line)?;
-    let called = calls::answer(alloc, session, &row);
+    let called = match row.word(0) {
+        "hub" => given(hubs::read_back(rt, alloc, &row)),
+        "passes" => given(hubs::passes(rt, alloc, &row)),
+        _ => calls::answer(alloc, session, &row),
+    };
     drop(row);
     match called? {
         Some(answer) => Ok(answer),
@@ -26,19 +37,12 @@ fn answer(alloc: Global, session: &mut Session, line: &str) -> Result<String, Al
     }
 }
 
-// Answers each line of the text.
-fn answer_lines(rt: &HostRuntime, session: &mut Session, text: &str) -> Result<()> {
-    for line in text.lines() {
-        rt.println(answer(rt.alloc(), session, line)?)?;
-    }
-    Ok(())
-}
-
 fn main(rt: HostRuntime) -> Result<()> {
     let alloc = rt.alloc();
     let text = io::read_to_string(alloc, &mut rt.reader())?;
     let mut session = Session::new(alloc);
-    let answered = answer_lines(&rt, &mut session, text.as_str());
-    drop(session);
-    answered
+    for line in text.as_str().lines() {
+        rt.println(answer(&rt, alloc, &mut session, line)?)?;
+    }
+    Ok(())
 }

@@ -60,24 +60,28 @@ fn waiting(alloc: Global, session: &Session) -> Result<String, AllocError> {
     Ok(text)
 }
 
-// The identifier that the first argument spells, where it spells one.
-fn prefix_of(alloc: Global, row: &Row) -> Result<Option<Prefix>, AllocError> {
-    let word = row.bytes(alloc, 1)?;
+/// The identifier that the argument of that place spells, where it spells one.
+pub(crate) fn prefix_of(
+    alloc: Global,
+    row: &Row,
+    place: usize,
+) -> Result<Option<Prefix>, AllocError> {
+    let word = row.bytes(alloc, place)?;
     match Prefix::read(word.as_slice()) {
         Ok((prefix, _)) => Ok(Some(prefix)),
         Err(_) => Ok(None),
     }
 }
 
-// The number of the last live event, and how many keys and witnesses there are.
-fn state_words(alloc: Global, state: &KeyState) -> Result<String, AllocError> {
+/// The number of the last live event, and how many keys and witnesses there are.
+pub(crate) fn state_words(alloc: Global, state: &KeyState) -> Result<String, AllocError> {
     let (sn, keys, witnesses) = (state.sn(), state.keys.len(), state.list.len());
     format!(in alloc; "{sn} {keys} {witnesses}")
 }
 
 /// `state PREFIX`: the number of the last live event and how many keys and witnesses there are, or `none`.
 fn state(alloc: Global, session: &Session, row: &Row) -> Result<String, AllocError> {
-    match prefix_of(alloc, row)? {
+    match prefix_of(alloc, row, 1)? {
         Some(prefix) => match session.core.state(&prefix) {
             Some(state) => state_words(alloc, state),
             None => String::from_str(alloc, "none"),
@@ -96,7 +100,7 @@ fn live(alloc: Global, session: &Session, prefix: &Prefix) -> Result<String, All
 
 /// `log PREFIX`: the numbers of the live events.
 fn log(alloc: Global, session: &Session, row: &Row) -> Result<String, AllocError> {
-    match prefix_of(alloc, row)? {
+    match prefix_of(alloc, row, 1)? {
         Some(prefix) => live(alloc, session, &prefix),
         None => String::from_str(alloc, "no-prefix"),
     }

@@ -24,7 +24,9 @@ use Rattle.turn_lock.specs.Histories.{longer_share}
 use Rattle.turn_lock.proofs.Histories.{longer_share-none}
 use Rattle.reader_hub.specs.Hubs.{HubPass, AnswersAt, AsksAt}
 use Rattle.reader_hub.specs.declared.asked.Asked.{Asked}
-use Rattle.shared_reader.specs.Asks.{Asks, AsksFor, HasNoneOpen, IsVerdict, Says, TellsNothing, verdict_count}
+use Rattle.shared_reader.specs.Asks.{Asks, AsksFor, IsVerdict, LeavesNone, Says, TellsNothing, verdict_count}
+use Rattle.reader_hub.specs.declared.extent.Extent.{Extent}
+use Rattle.reader_hub.specs.declared.extent.Extent.TheVariants.{Free, All as Every}
 use Rattle.shared_reader.proofs.Verdicts.{verdict_count-append, verdict_count_grows, named_open, new_heard, none_open}
 use Rattle.shared_reader.proofs.Inquiries.{asked_on, at_most, none_asked}
 use Rattle.shared_reader.proofs.Turns.{seen_then, stays_on, turn_stays}
@@ -81,7 +83,7 @@ module _ (says : Says) where
       }
 
   -- A question was asked between two turns, and its verdict told.
-  module _ (limit : ℕ) (p : HubPass) (skip : ℕ) (a : Asked) (q r : HubPass) (verdict : Bool) (becomes : Noted) (asked : AsksAt limit p skip (Some a) q) (answered : AnswersAt limit q a.question verdict becomes r) where
+  module _ (limit : ℕ) (p : HubPass) (extent : Extent) (a : Asked) (q r : HubPass) (verdict : Bool) (becomes : Noted) (asked : AsksAt limit p extent (Some a) q) (answered : AnswersAt limit q a.question verdict becomes r) where
     abbrev met : List Told
     met = asked.meets.met
 
@@ -92,7 +94,7 @@ module _ (says : Says) where
     mode = asked.meets.head.mode
 
     abbrev body : Body
-    body = asked.bytes.0
+    body = asked.asked.2.0
 
     abbrev triple : Triple
     triple = named_on a.question body
@@ -104,13 +106,13 @@ module _ (says : Says) where
     same_head = let same : Some answered.meets.head ≡ Some asked.meets.head = sym answered.meets.head_is ∙ (ap (λ x. x.head) asked.turn.now ∙ asked.meets.head_is) in cc
 
     opened : (has_verdict met triple ≡ false) × (list_any (same_triple triple) (raised mode [] met) ≡ true)
-    opened = named_open mode met skip a.question body asked.bytes.1 asked.names
+    opened = named_open mode met asked.asked.0 a.question body asked.asked.2.1 asked.asked.1
 
     raised_then : list_any (same_triple triple) (raised mode [] later) ≡ true
     raised_then = subst (λ l. list_any (same_triple triple) (raised mode [] l) ≡ true) goes_on.1 (raised_stays mode met goes_on.0 triple opened.1)
 
     held_then : slice_get (bodies [] later) a.question.body ≡ Some body
-    held_then = subst (λ l. slice_get (bodies [] l) a.question.body ≡ Some body) goes_on.1 (bodies_stay met goes_on.0 a.question.body body asked.bytes.1)
+    held_then = subst (λ l. slice_get (bodies [] l) a.question.body ≡ Some body) goes_on.1 (bodies_stay met goes_on.0 a.question.body body asked.asked.2.1)
 
     answers : Answers mode [] later q.number body a.question.key a.question.sig verdict becomes (later ++ answered.more)
     answers = subst (λ h. Answers h.mode [] later q.number body a.question.key a.question.sig verdict becomes (later ++ answered.more)) same_head
@@ -159,7 +161,7 @@ module _ (says : Says) where
     pub asks_one : (before now : Option (List Inquiry)) → now ≡ after before (inquiry a.question.key a.bytes.items a.question.sig ∷ [])
         → IfSome (says a.question.key a.bytes.items a.question.sig) (λ said. verdict ≡ said) → Asks says before now p r 0 0
     asks_one before now now_is said =
-        let more = one_more (subst (λ bytes. IfSome (says a.question.key bytes a.question.sig) (λ said. verdict ≡ said)) asked.bytes.2 said) in
+        let more = one_more (subst (λ bytes. IfSome (says a.question.key bytes a.question.sig) (λ said. verdict ≡ said)) asked.asked.2.2 said) in
         let first = verdict_count_grows p.seen met asked.meets.begins in
         let seen : verdict_count r.seen ≡ verdict_count (later ++ answered.more) = ap verdict_count (seen_then limit q later answered.more r answered.turn) in
         let turns = ap (λ x. x.turns) answered.turn.now in
@@ -175,16 +177,17 @@ module _ (says : Says) where
           turns = omega (arith, first, seen, count, turns, turns_before);
           inquired = record {
             all = asks_it ∷ [];
-            now_is = now_is ∙ ap (λ bytes. after before (inquiry a.question.key bytes a.question.sig ∷ [])) asked.bytes.2;
+            now_is = now_is ∙ ap (λ bytes. after before (inquiry a.question.key bytes a.question.sig ∷ [])) asked.asked.2.2;
             in_order = more.asked_for;
             few = omega (arith, first, seen, count);
           };
         }
 
--- no question was open in what was met
-pub asked_none : (limit : ℕ) (p : HubPass) (skip : ℕ) (q : HubPass) → AsksAt limit p skip None q → HasNoneOpen q
-asked_none limit p skip q t = record {
+-- where none was given to who asked for all, none was open in what was met
+pub asked_none : (limit : ℕ) (p : HubPass) (extent : Extent) (q : HubPass) → AsksAt limit p extent None q → LeavesNone extent q
+asked_none limit p Free q t = tt
+asked_none limit p Every q t = record {
   head = t.meets.head;
   head_is = ap (λ x. x.head) t.turn.now ∙ t.meets.head_is;
-  none = none_open t.meets.head.mode q.seen skip (subst (λ l. Names (bodies [] l) None (next_question t.meets.head.mode [] l skip)) (sym (seen_then limit p t.meets.met [] q t.turn ∙ append-nil t.meets.met)) t.names);
+  none = none_open t.meets.head.mode q.seen t.asked.0 (subst (λ l. Names (bodies [] l) None (next_question t.meets.head.mode [] l t.asked.0)) (sym (seen_then limit p t.meets.met [] q t.turn ∙ append-nil t.meets.met)) t.asked.1);
 }

@@ -49,6 +49,11 @@ none_behind : (xs ys : List Message) → xs ++ ys ≡ [] → ys ≡ []
 none_behind [] ys e = e
 none_behind (x ∷ xs) ys e = cc
 
+-- where no message is open, none came
+none_taken : (last : Option Message) (ms all : List Message) → ms ++ all_of last ≡ all → (last ≡ None → all ≡ []) → last ≡ None → ms ≡ []
+none_taken None ms all made begun none = sym (append-nil ms) ∙ (made ∙ begun refl)
+none_taken (Some m) ms all made begun none = cc
+
 module _ (limits : Limits) (s t : Standing) (old new : SourceTold) where
   -- these messages were offered, the first of bytes that the source gave, and the reader closes so
   reads_by : (close : Close) (bytes more : List ℕ) (ms : List Message) → Offers s.says s.inquiries t.inquiries s.pass t.pass t.refused ms 4 1 → IsSame s t → AreFirst limits bytes ms
@@ -141,12 +146,12 @@ module _ (limits : Limits) (s t : Standing) (old new : SourceTold) where
         by_close (Malformed place) why = absurd why
 
     -- the source was read as far as it goes, and the last message was taken too, or the reader stopped there
-    reads_ended : (source_close close : Close) (ms : List Message) → (HasTaken s t ms × (close ≡ source_close)) ⊎ HasStopped s t close ms → ms ≡ messages limits.message_signatures items → IsEnd (judged reading)
+    reads_ended : (source_close close : Close) (ms : List Message) → (HasTaken s t ms × AreAsked s.pass t.pass ms × (close ≡ source_close)) ⊎ HasStopped s t close ms → ms ≡ messages limits.message_signatures items → IsEnd (judged reading)
         → Gave old.left new.left bytes → (AreAsked s.pass t.pass ms → ClosesReader limits s t old new bytes reading items ms source_close) → ReadsOne limits s t old new close
     reads_ended source_close close ms (inl taken) all ends gave closes =
-        subst (λ c. ReadsOne limits s t old new c) (sym taken.1)
+        subst (λ c. ReadsOne limits s t old new c) (sym taken.2)
         (reads_so source_close ms [] (offers_besides s.says s.inquiries t.inquiries s.pass t.pass t.refused ms 0 4 0 1 (omega arith) (omega arith) taken.0.offers) taken.0.same (append-nil ms ∙ all) (λ none. ends) (λ unstopped. refl)
-        (closes taken.0.asked) (λ other. taken.0.none_failed))
+        (closes taken.1) (λ other. taken.0.none_failed))
     reads_ended source_close close ms (inr stopped) all ends gave closes = reads_stopped close ms [] stopped (append-nil ms ∙ all) (λ none some. ends) gave
 
 -- a stream was read
@@ -154,16 +159,16 @@ pub reads_stream : {T : Type 0} (seen : T → Standing) (limits : Limits) (s t :
     → Feeds (λ x ms. HasTaken s (seen x) ms) (λ x c ms. HasStopped s (seen x) c ms) limits old.left new.left old.faults new.faults taker source_close last
     → Finishes source_close last (seen taker) t close → ReadsOne limits s t old new close
 reads_stream seen limits s t old new taker feed.End close last f e =
-    reads_ended limits s t old new f.fed f.reading f.items f.stream End close (f.answered ++ all_of last) (e s f.answered f.takes) f.all (at_end f.reading f.closes.2) f.closes.0 (λ asked. (f.closes, asked))
+    reads_ended limits s t old new f.fed f.reading f.items f.stream End close (f.answered ++ all_of last) (e s f.answered f.takes (none_taken last f.answered _ f.all f.begun)) f.all (at_end f.reading f.closes.2) f.closes.0 (λ asked. (f.closes, asked))
 reads_stream seen limits s t old new taker (feed.Bad bad) close last f e =
-    reads_ended limits s t old new f.fed f.reading f.items f.stream (Bad bad) close (f.answered ++ all_of last) (e s f.answered f.takes) f.all (at_bad new.left f.reading bad f.closes.1) f.closes.0 (λ asked. (f.closes, asked))
+    reads_ended limits s t old new f.fed f.reading f.items f.stream (Bad bad) close (f.answered ++ all_of last) (e s f.answered f.takes (none_taken last f.answered _ f.all f.begun)) f.all (at_bad new.left f.reading bad f.closes.1) f.closes.0 (λ asked. (f.closes, asked))
 reads_stream seen limits s t old new taker feed.ReadFault close last f e =
-    reads_ended limits s t old new f.fed f.reading f.items f.stream ReadFault close (f.answered ++ all_of last) (e s f.answered f.takes) f.all (rw f.closes.2 tt) f.closes.0 (λ asked. (f.closes, asked))
+    reads_ended limits s t old new f.fed f.reading f.items f.stream ReadFault close (f.answered ++ all_of last) (e s f.answered f.takes (none_taken last f.answered _ f.all f.begun)) f.all (rw f.closes.2 tt) f.closes.0 (λ asked. (f.closes, asked))
 reads_stream seen limits s t old new taker feed.Full close last f e =
     let taken : HasTaken s t f.answered = subst (λ x. HasTaken s x f.answered) (sym e.1) f.takes in
     subst (λ c. ReadsOne limits s t old new c) (sym e.0)
     (reads_so limits s t old new f.fed f.reading f.items f.stream Full f.answered (all_of last) (offers_besides s.says s.inquiries t.inquiries s.pass t.pass t.refused f.answered 0 4 0 1 (omega arith) (omega arith) taken.offers) taken.same f.all
-    (λ none. rw f.closes.0.unfinished_item tt) (λ e. cc) (inl (f.closes, record { last = last; all = f.all }, taken.asked)) (λ other. taken.none_failed))
+    (λ none. rw f.closes.0.unfinished_item tt) (λ e. cc) (inl (f.closes, record { last = last; all = f.all })) (λ other. taken.none_failed))
 reads_stream seen limits s t old new taker feed.OutOfMemory close last f e =
     let taken : HasTaken s t f.answered = subst (λ x. HasTaken s x f.answered) (sym e.1) f.takes in
     let offers = offers_besides s.says s.inquiries t.inquiries s.pass t.pass t.refused f.answered 0 4 0 1 (omega arith) (omega arith) taken.offers in
@@ -174,7 +179,7 @@ reads_stream seen limits s t old new taker feed.OutOfMemory close last f e =
     out (Some message) begun all taken offers =
         reads_out limits s t old new f.fed f.closes.0 f.answered offers taken.same (first_of limits f.fed f.reading f.items f.stream f.answered (message ∷ []) all (λ e. cc)) f.closes.1 taken.none_failed
     out None begun all taken offers =
-        let nothing : f.answered ≡ [] = sym (append-nil f.answered) ∙ (all ∙ begun refl) in
+        let nothing : f.answered ≡ [] = none_taken None f.answered _ all begun refl in
         reads_out limits s t old new [] (f.fed ++ f.closes.0) f.answered offers taken.same (rw nothing (first_none limits)) f.closes.1 taken.none_failed
 reads_stream seen limits s t old new taker (feed.Stopped stop) close last f e =
     subst (λ c. ReadsOne limits s t old new c) (sym e.0)

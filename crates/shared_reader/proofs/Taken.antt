@@ -8,9 +8,10 @@ use Rattle.turn_lock.specs.Known.{OwnsAlone}
 use Rattle.reader_hub.specs.Hubs.{HubPass}
 use Rattle.run_status.specs.declared.close.Close.{Close}
 use Rattle.run_status.specs.declared.close.Close.TheVariants.{End, Bad, ReadFault, VerifierFault, SignerFault, DiskFault, WriteFault, Malformed, Full, OutOfMemory}
-use Rattle.shared_reader.specs.Asks.{Asks, HasNoneOpen, StopsAsking, TellsNothing}
+use Rattle.shared_reader.specs.Asks.{Asks, LeavesNone, StopsAsking, TellsNothing}
+use Rattle.reader_hub.specs.declared.extent.Extent.{Extent}
 use Rattle.shared_reader.specs.Offers.{IsKeptOut, OffersOne}
-use Rattle.shared_reader.specs.Taken.{AreAsked, HasTaken, IsSame, IsStopped, Standing, StopsAt, TakesOne}
+use Rattle.shared_reader.specs.Taken.{HasTaken, IsSame, IsStopped, Standing, StopsAt, TakesOne}
 use Rattle.shared_reader.proofs.Inquiries.{at_most, none_asked}
 use Rattle.shared_reader.proofs.Offered.{offers_more, offers_still}
 
@@ -43,13 +44,9 @@ nothing_taken s own none = record {
     turns = omega arith;
     inquired = at_most s.inquiries s.inquiries [] 0 _ (omega arith) (none_asked s.inquiries [] refl);
   };
-  asked = refl;
+  idle = λ none. refl;
   none_failed = refl;
 }
-
-asked_more : (p q : HubPass) (before : List Message) (m : Message) → HasNoneOpen q → AreAsked p q (before ++ m ∷ [])
-asked_more p q [] m none = none
-asked_more p q (x ∷ before) m none = none
 
 no_end : (before : List Message) (m : Message) → before ++ m ∷ [] ≢ []
 no_end [] m h = cc
@@ -99,16 +96,19 @@ module _ (old new : Standing) (m : Message) (same : IsSame old new) where
   }
 
   module _ (q : HubPass) (w : OffersOne old.pass q old.refused new.refused m) where
-    -- it was offered, and all that was open then was asked
-    pub taken_on : {E : Type 0} (r : Result (Unit {0}) E) → OnOk r (Asks old.says old.inquiries new.inquiries q new.pass 1 0) → OnOk r (HasNoneOpen new.pass) → OnOk r (new.faults ≡ old.faults) → OnOk r (TakesOne m old new)
-    taken_on (Err e) asks none kept = tt
-    taken_on (Ok done) asks none kept = λ first before h. record {
-      same = same_on first h.same;
-      offers = offers_more first.says first.inquiries old.inquiries first.pass old.pass old.refused before h.offers new.inquiries q new.pass new.refused m 1 0 0 (omega arith) w
-          (subst (λ x. Asks x old.inquiries new.inquiries q new.pass 1 0) h.same.says asks);
-      asked = asked_more first.pass new.pass before m none;
-      none_failed = kept ∙ h.none_failed;
-    }
+    -- it was offered, and what was open then was asked as far as that extent goes
+    pub taken_on : {E : Type 0} (extent : Extent) (r : Result (Unit {0}) E) → OnOk r (Asks old.says old.inquiries new.inquiries q new.pass 1 0) → OnOk r (LeavesNone extent new.pass) → OnOk r (new.faults ≡ old.faults) → OnOk r (TakesOne extent m old new)
+    taken_on extent (Err e) asks none kept = tt
+    taken_on extent (Ok done) asks none kept = λ first before h. (
+      record {
+        same = same_on first h.same;
+        offers = offers_more first.says first.inquiries old.inquiries first.pass old.pass old.refused before h.offers new.inquiries q new.pass new.refused m 1 0 0 (omega arith) w
+            (subst (λ x. Asks x old.inquiries new.inquiries q new.pass 1 0) h.same.says asks);
+        idle = λ none. absurd (no_end before m none);
+        none_failed = kept ∙ h.none_failed;
+      },
+      none,
+    )
 
     -- or the reader stopped there
     pub stopped_on : {A : Type 0} (r : Result A Close) → IfErr r (λ close. Asks old.says old.inquiries new.inquiries q new.pass 4 1) → IfErr r (StopsAsking old.limit new.pass old.faults new.faults) → IfErr r (StopsAt m old new)

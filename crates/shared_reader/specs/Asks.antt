@@ -14,6 +14,8 @@ use Rattle.reader_hub.specs.Hubs.{HubPass}
 use Rattle.reader_hub.specs.declared.core_head.CoreHead.{CoreHead}
 use Rattle.reader_hub.specs.declared.hub_fault.HubFault.{HubFault}
 use Rattle.reader_hub.specs.declared.hub_fault.HubFault.TheVariants.{Spent, OutOfMemory as NoMemory}
+use Rattle.reader_hub.specs.declared.extent.Extent.{Extent}
+use Rattle.reader_hub.specs.declared.extent.Extent.TheVariants.{Free, All as Every}
 use Rattle.run_status.specs.declared.close.Close.{Close}
 use Rattle.run_status.specs.declared.close.Close.TheVariants.{End, Bad, ReadFault, VerifierFault, SignerFault, DiskFault, WriteFault, Malformed, Full, OutOfMemory}
 
@@ -72,6 +74,11 @@ pub record HasNoneOpen (q : HubPass) : Type 0 where
   pub head : CoreHead
   pub head_is : q.head ≡ Some head
   pub none : questions head.mode [] q.seen ≡ []
+
+-- who asked all leaves no question open
+abbrev pub LeavesNone : Extent → HubPass → Type 0
+LeavesNone Free q = Unit {0}
+LeavesNone Every q = HasNoneOpen q
 
 -- why no more is asked: the verifier failed, all turns were taken, or there was no memory
 abbrev pub StopsAsking : ℕ → HubPass → ℕ → ℕ → Close → Type 0

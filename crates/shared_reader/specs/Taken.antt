@@ -1,5 +1,5 @@
 -- What a reader has done since it began.
-use Rattle.std.specs.Prelude.{◌≡◌, ◌≢◌, ℕ, ◌⊎◌, List, [], ◌∷◌, ◌++◌, Option}
+use Rattle.std.specs.Prelude.{◌≡◌, ◌≢◌, ℕ, ◌⊎◌, List, [], ◌∷◌, ◌++◌, Option, None}
 use Rattle.keri_specs.specs.Causes.{Rose}
 use Rattle.cesr_stream.specs.declared.message.Message.{Message}
 use Rattle.cesr_stream.specs.Assembly.{all_of}
@@ -11,7 +11,8 @@ use Rattle.turn_lock.specs.Locks.{LockId}
 use Rattle.reader_hub.specs.Hubs.{HubPass}
 use Rattle.run_status.specs.declared.close.Close.{Close}
 use Rattle.run_status.specs.declared.close.Close.TheVariants.{End, Bad, ReadFault, VerifierFault, SignerFault, DiskFault, WriteFault, Malformed, Full, OutOfMemory}
-use Rattle.shared_reader.specs.Asks.{HasNoneOpen, Says}
+use Rattle.reader_hub.specs.declared.extent.Extent.{Extent}
+use Rattle.shared_reader.specs.Asks.{HasNoneOpen, LeavesNone, Says}
 use Rattle.shared_reader.specs.Offers.{IsTurnedAway, Offers}
 
 -- what is seen of a reader at one time: the limit of its lock and which lock it is, what its pass knows, what its verifier says,
@@ -47,11 +48,11 @@ abbrev pub AreAsked : HubPass → HubPass → List Message → Type 0
 AreAsked p q [] = q ≡ p
 AreAsked p q (m ∷ messages) = HasNoneOpen q
 
--- these messages were offered, all that was open behind the last of them was asked, and the verifier hasn't failed
+-- these messages were offered, and the verifier hasn't failed
 pub record HasTaken (s t : Standing) (messages : List Message) : Type 0 where
   pub same : IsSame s t
   pub offers : Offers s.says s.inquiries t.inquiries s.pass t.pass t.refused messages 0 0
-  pub asked : AreAsked s.pass t.pass messages
+  pub idle : messages ≡ [] → t.pass ≡ s.pass
   pub none_failed : t.faults ≡ s.faults
 
 -- the first of these messages, which is there, finds no room
@@ -84,18 +85,19 @@ pub record HasStopped (s t : Standing) (close : Close) (messages : List Message)
   pub offers : Offers s.says s.inquiries t.inquiries s.pass t.pass t.refused offered 4 1
   pub why : IsStopped s t rest close
 
--- one message more was taken
-abbrev pub TakesOne : Message → Standing → Standing → Type 0
-TakesOne m old new = (first : Standing) (before : List Message) → HasTaken first old before → HasTaken first new (before ++ m ∷ [])
+-- one message more was taken, and what is open behind it was asked, as far as that extent goes
+abbrev pub TakesOne : Extent → Message → Standing → Standing → Type 0
+TakesOne extent m old new = (first : Standing) (before : List Message) → HasTaken first old before → HasTaken first new (before ++ m ∷ []) × LeavesNone extent new.pass
 
 -- the reader stopped at it
 abbrev pub StopsAt : Message → Standing → Standing → Close → Type 0
 StopsAt m old new close = (first : Standing) (before : List Message) → HasTaken first old before → HasStopped first new close (before ++ m ∷ [])
 
--- the last message, where there is one, was taken too, and the reader closes as its source did; or it stopped there
+-- The last message, which is there unless no other was, was taken too, all that was open then was asked, and the reader closes as
+-- its source did; or it stopped there.
 abbrev pub TakesLast : Close → Option Message → Standing → Standing → Close → Type 0
-TakesLast close last old new now = (first : Standing) (messages : List Message) → HasTaken first old messages
-    → (HasTaken first new (messages ++ all_of last) × (now ≡ close)) ⊎ HasStopped first new now (messages ++ all_of last)
+TakesLast close last old new now = (first : Standing) (messages : List Message) → HasTaken first old messages → (last ≡ None → messages ≡ [])
+    → (HasTaken first new (messages ++ all_of last) × AreAsked first.pass new.pass (messages ++ all_of last) × (now ≡ close)) ⊎ HasStopped first new now (messages ++ all_of last)
 
 -- how the reader closes where its source has closed so
 abbrev pub Finishes : FeedClose Close → Option Message → Standing → Standing → Close → Type 0

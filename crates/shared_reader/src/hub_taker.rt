@@ -7,7 +7,7 @@ use cesr_stream::Message;
 use journal::Refusal;
 use keri_outside::{Gate, Verifier};
 use message_feed::{FeedClose, Taker};
-use reader_hub::{Hub, Pass};
+use reader_hub::{Extent, Hub, Pass};
 use run_status::Close;
 use std::alloc::Global;
 use std::sync::Wait;
@@ -40,7 +40,7 @@ impl<'a, V: Verifier + Drop, G: Gate, W: Wait> Taker for HubTaker<'a, V, G, W> {
         (standing_of V.says V.inquiries V.faults now) };
 
     fn take(&mut self, message: Message) -> Result<(), Close> {
-        self.take_message(&message)
+        self.take_message(&message, Extent::Free)
     }
 }
 
@@ -50,8 +50,8 @@ impl<'a, V: Verifier + Drop, G: Gate, W: Wait> HubTaker<'a, V, G, W> {
     ghost use Rattle.shared_reader.specs.Takers.{standing_of};
 
     // Offers a message between the two calls of the gate.
-    fn take_message(&mut self, message: &Message) -> Result<(), Close>
-        ensures ok { OnOk result (TakesOne message.now (standing_of V.says V.inquiries V.faults self.old)
+    fn take_message(&mut self, message: &Message, extent: Extent) -> Result<(), Close>
+        ensures ok { OnOk result (TakesOne extent message.now (standing_of V.says V.inquiries V.faults self.old)
             (standing_of V.says V.inquiries V.faults self.new)) }
         ensures err { IfErr result (StopsAt message.now (standing_of V.says V.inquiries V.faults self.old)
             (standing_of V.says V.inquiries V.faults self.new)) }
@@ -66,6 +66,7 @@ impl<'a, V: Verifier + Drop, G: Gate, W: Wait> HubTaker<'a, V, G, W> {
             &mut self.verifier,
             &mut self.refused,
             message,
+            extent,
         );
         self.gate.after(number, self.count);
         self.count = self.count.wrapping_add(1);
@@ -88,13 +89,13 @@ impl<'a, V: Verifier + Drop, G: Gate, W: Wait> HubTaker<'a, V, G, W> {
         self.take_last(close, last)
     }
 
-    // Takes the last message, where there is one.
+    // Takes the last message, where there is one, and asks all that is open then.
     fn take_last(&mut self, close: Close, last: Option<Message>) -> Close
         ensures { TakesLast close last (standing_of V.says V.inquiries V.faults self.old)
             (standing_of V.says V.inquiries V.faults self.new) result }
     {
         match last {
-            Some(message) => match self.take_message(&message) {
+            Some(message) => match self.take_message(&message, Extent::All) {
                 Ok(()) => close,
                 Err(stop) => stop,
             },

@@ -10,12 +10,12 @@ use crate::questions::ask_open;
 use cesr_stream::Message;
 use journal::{Reason, Refusal, Reply};
 use keri_outside::Verifier;
-use reader_hub::{Hub, Pass};
+use reader_hub::{Extent, Hub, Pass};
 use run_status::Close;
 use std::alloc::Global;
 use std::sync::Wait;
 
-/// Offers a message, and asks what is open then, also where it is refused.
+/// Offers a message, and asks what is open then, as far as that extent goes, also where it is refused.
 pub(crate) fn offer<V: Verifier, W: Wait>(
     rt: &W,
     alloc: Global,
@@ -24,10 +24,11 @@ pub(crate) fn offer<V: Verifier, W: Wait>(
     verifier: &mut V,
     refused: &mut Vec<Refusal>,
     message: &Message,
+    extent: Extent,
 ) -> Result<(), Close>
     requires pass { IsPassOf hub.now.turn pass.old }
     ensures pass { IsPassOf hub.now.turn pass.new }
-    ensures ok { OnOk result (TakesOne message.now
+    ensures ok { OnOk result (TakesOne extent message.now
         (standing (limit_of hub.now.turn) (lock_of pass.old) (known pass.old) (V.says verifier.old)
         (V.inquiries verifier.old) (V.faults verifier.old) refused.old.items)
         (standing (limit_of hub.now.turn) (lock_of pass.new) (known pass.new) (V.says verifier.new)
@@ -39,7 +40,7 @@ pub(crate) fn offer<V: Verifier, W: Wait>(
         (V.inquiries verifier.new) (V.faults verifier.new) refused.new.items)) }
 {
     match hand_in(rt, alloc, hub, pass, refused, message) {
-        Ok(()) => ask_open(rt, alloc, hub, pass, verifier),
+        Ok(()) => ask_open(rt, alloc, hub, pass, verifier, extent),
         Err(close) => Err(close),
     }
 }

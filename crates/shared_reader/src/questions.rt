@@ -1,23 +1,24 @@
 //! The open questions, which the verifier is asked between two turns.
 ghost use Rattle.std.specs.Prelude.{◌≡◌, false, OnOk, IfOk, IfErr, if◌then◌else◌};
 ghost use Rattle.turn_lock.specs.Locks.{limit_of, known, IsPassOf};
-ghost use Rattle.shared_reader.specs.Asks.{Asks, HasNoneOpen, StopsAsking};
+ghost use Rattle.shared_reader.specs.Asks.{Asks, LeavesNone, StopsAsking};
 
 use crate::closes::close_of;
 use keri_outside::{Failed, Verifier};
-use reader_hub::{Asked, Hub, Pass};
+use reader_hub::{Asked, Extent, Hub, Pass};
 use run_status::Close;
 use std::alloc::Global;
 use std::sync::Wait;
 
-/// Asks the verifier open questions, and tells the hub its verdicts, until none is open. A verdict, of this reader or of
-/// another one, may open further questions.
+/// Asks the verifier open questions of that extent, and tells the hub its verdicts, until none is left. A verdict, of
+/// this reader or of another one, may open further questions.
 pub(crate) fn ask_open<V: Verifier, W: Wait>(
     rt: &W,
     alloc: Global,
     hub: &Hub,
     pass: &mut Pass,
     verifier: &mut V,
+    extent: Extent,
 ) -> Result<(), Close>
     requires pass { IsPassOf hub.now.turn pass.old }
     ensures pass { IsPassOf hub.now.turn pass.new }
@@ -25,14 +26,14 @@ pub(crate) fn ask_open<V: Verifier, W: Wait>(
     ensures none_failed { OnOk result (V.faults verifier.new ≡ V.faults verifier.old) }
     ensures asks { OnOk result (Asks (V.says verifier.old) (V.inquiries verifier.old) (V.inquiries verifier.new)
         (known pass.old) (known pass.new) 1 0) }
-    ensures none_open { OnOk result (HasNoneOpen (known pass.new)) }
+    ensures none_open { OnOk result (LeavesNone extent (known pass.new)) }
     ensures stopped { IfErr result (λ close. Asks (V.says verifier.old) (V.inquiries verifier.old)
         (V.inquiries verifier.new) (known pass.old) (known pass.new) 4 1) }
     ensures stops { IfErr result (StopsAsking (limit_of hub.now.turn) (known pass.new) (V.faults verifier.old)
         (V.faults verifier.new)) }
 {
     for _ in rt.forever() {
-        match ask_one(rt, alloc, hub, pass, verifier) {
+        match ask_one(rt, alloc, hub, pass, verifier, extent) {
             Ok(true) => {}
             Ok(false) => return Ok(()),
             Err(close) => return Err(close),
@@ -41,14 +42,14 @@ pub(crate) fn ask_open<V: Verifier, W: Wait>(
     unreachable!()
 }
 
-// Asks an open question and tells the hub the verdict, where one is open: the one of the reader's number, so that readers
-// begin with different ones.
+// Asks an open question of that extent and tells the hub the verdict, where there is one.
 fn ask_one<V: Verifier, W: Wait>(
     rt: &W,
     alloc: Global,
     hub: &Hub,
     pass: &mut Pass,
     verifier: &mut V,
+    extent: Extent,
 ) -> Result<bool, Close>
     requires pass { IsPassOf hub.now.turn pass.old }
     ensures pass { IsPassOf hub.now.turn pass.new }
@@ -56,14 +57,13 @@ fn ask_one<V: Verifier, W: Wait>(
     ensures none_failed { OnOk result (V.faults verifier.new ≡ V.faults verifier.old) }
     ensures asks { IfOk result (λ some. Asks (V.says verifier.old) (V.inquiries verifier.old)
         (V.inquiries verifier.new) (known pass.old) (known pass.new) (if some then 0 else 1) 0) }
-    ensures none_open { IfOk result (λ some. some ≡ false → HasNoneOpen (known pass.new)) }
+    ensures none_open { IfOk result (λ some. some ≡ false → LeavesNone extent (known pass.new)) }
     ensures stopped { IfErr result (λ close. Asks (V.says verifier.old) (V.inquiries verifier.old)
         (V.inquiries verifier.new) (known pass.old) (known pass.new) 4 1) }
     ensures stops { IfErr result (StopsAsking (limit_of hub.now.turn) (known pass.new) (V.faults verifier.old)
         (V.faults verifier.new)) }
 {
-    let number = pass.number();
-    let answer = match hub.next_question(rt, alloc, pass, u32::from(number)) {
+    let answer = match hub.next_question(rt, alloc, pass, extent) {
         Ok(answer) => answer,
         Err(fault) => return Err(close_of(fault)),
     };

@@ -25,8 +25,9 @@ pub struct ReadOne<S, V> {
     pub close: Close,
 }
 
-/// Reads the source as far as a stream may be read. Each message is offered with the pass, and then the verifier is asked
-/// what is open, between `before` and `after` of the gate. The pass comes back with this reader's entries in its share.
+/// Reads the source as far as a stream may be read. Each message is offered with the pass, and then the verifier is
+/// asked what is open and no other reader is asking, and behind the last message all that is open; each between
+/// `before` and `after` of the gate. The pass comes back with this reader's entries in its share.
 pub fn read_one<S: Source + Drop, V: Verifier + Drop, G: Gate, W: Wait>(
     rt: &W,
     alloc: Global,

@@ -15,7 +15,7 @@ returns-in-Ok-clause-ok g c =
     let old : Standing = standing limit (lock_of c.args.pass.now) (known c.args.pass.now) (says c.args.verifier.now) (inquiries c.args.verifier.now) (faults c.args.verifier.now) c.args.refused.now.items in
     let new : Standing = standing limit (lock_of pass) (known pass) (says verifier) (inquiries verifier) (faults verifier) c.hand_in.new.refused.items in
     taken_on old new c.args.message.now (record { limit = refl; lock = c.ask_open.ensures.pass ∙ sym c.requires.pass; says = c.ask_open.ensures.same }) (known c.hand_in.new.pass) c.in-Ok.ensures.offers
-    c.ask_open.result c.ask_open.ensures.asks c.ask_open.ensures.none_open c.ask_open.ensures.none_failed
+    c.args.extent c.ask_open.result c.ask_open.ensures.asks c.ask_open.ensures.none_open c.ask_open.ensures.none_failed
 
 pub returns-in-Ok-clause-err : goal.returns-in-Ok-clause-err
 returns-in-Ok-clause-err g c =

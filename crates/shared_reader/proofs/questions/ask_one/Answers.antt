@@ -34,10 +34,10 @@ returns-in-Ok-answer-clause-asks g c =
     let p = known c.args.pass.now in
     let q = known c.next_question.new.pass in
     let a = c.in-Some.field-0 in
-    let asked = subst (λ o. AsksAt limit p c.from.result o q) c.in-Some.is c.in-Ok.ensures.asks in
+    let asked = subst (λ o. AsksAt limit p c.args.extent o q) c.in-Some.is c.in-Ok.ensures.asks in
     let said : IfSome (says a.question.key a.bytes.items a.question.sig) (λ told. c.in-Ok-ask.verdict ≡ told) = search rules in
     let put : now ≡ after told (inquiry a.question.key a.bytes.items a.question.sig ∷ []) = search rules in
-    asks_one says limit p c.from.result a q (known c.answer.new.pass) c.in-Ok-ask.verdict c.in-Ok-answer.field-0 asked c.in-Ok-answer.ensures.answers told now put said
+    asks_one says limit p c.args.extent a q (known c.answer.new.pass) c.in-Ok-ask.verdict c.in-Ok-answer.field-0 asked c.in-Ok-answer.ensures.answers told now put said
 
 -- the verdict wasn't told to the hub
 pub returns-clause-stopped : goal.returns-clause-stopped
@@ -66,4 +66,4 @@ returns-in_default-clause-none_open g c = λ _.
     let limit = limit_of c.args.hub.now.turn in
     let p = known c.args.pass.now in
     let q = known c.next_question.new.pass in
-    asked_none limit p c.from.result q (subst (λ o. AsksAt limit p c.from.result o q) none c.in-Ok.ensures.asks)
+    asked_none limit p c.args.extent q (subst (λ o. AsksAt limit p c.args.extent o q) none c.in-Ok.ensures.asks)

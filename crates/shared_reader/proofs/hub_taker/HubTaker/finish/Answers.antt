@@ -1,0 +1,18 @@
+use Rattle.std.proofs.Common.{sym, subst}
+use Rattle.shared_reader.specs.Taken.{Finishes, TakesLast}
+use Rattle.shared_reader.specs.Takers.{standing_of}
+use Rattle.shared_reader.proofs.hub_taker.HubTaker.finish.Goals as goal
+use Rattle.shared_reader.proofs.hub_taker.HubTaker.finish.Goals.{in-End, in-Bad, in-ReadFault}
+
+pub returns : goal.returns
+returns g c =
+    let seen = standing_of g.V.Verifier.says g.V.Verifier.inquiries g.V.Verifier.faults in
+    let old = seen c.args.self.now in
+    let new = seen c.take_last.new.self in
+    let now = c.take_last.result in
+    let last = c.args.last in
+    elim c.match-close.branch [
+      | in-End w ↦ subst (λ feed. Finishes feed last old new now) (sym w.in-End.is) (subst (λ close. TakesLast close last old new now) w.close-is c.take_last.ensures)
+      | in-Bad w ↦ subst (λ feed. Finishes feed last old new now) (sym w.in-Bad.is) (subst (λ close. TakesLast close last old new now) w.close-is c.take_last.ensures)
+      | in-ReadFault w ↦ subst (λ feed. Finishes feed last old new now) (sym w.in-ReadFault.is) (subst (λ close. TakesLast close last old new now) w.close-is c.take_last.ensures)
+    ]
