@@ -18,6 +18,7 @@ from validate_cases import EVENT, SIGNED, STATE
 CHECK = "check,a"
 VALIDATE = "validate,--helper,rehearsal,a"
 WATCH = "watch,--helper,rehearsal,a"
+CONVERT = "convert,--to,text,a"
 MAKE = "make,--helper,rehearsal,--plan,p"
 BEHIND = MAKE + ",--log,a"
 GEN = "gen,--seed,1,--logs,1,--events,2"
@@ -113,6 +114,43 @@ def limits_of_watch():
     yield from run(WATCH, "", "9 told=4 Full " + MADE, BOTH_ROTATIONS, messages=2)
     # Both bodies are written, whatever a message may carry.
     yield from run(WATCH, evidence, "4 told=6 End " + MADE, BOTH_ROTATIONS, message_signatures=1)
+
+
+def conversions():
+    """An item is written as soon as it is whole, and how reading ended is found whether the sink takes the items or not."""
+    twice = RECEIPT * 2
+    for size, written, end in (
+        (290, twice, "0 told=0 End"), (289, RECEIPT, "9 told=0 Full"), (145, RECEIPT, "9 told=0 Full"), (144, "", "9 told=0 Full"), (0, "", "9 told=0 Full"),
+    ):
+        for piece in (1, 4096):
+            yield from run(CONVERT, written, end + " Source", twice, stream_bytes=size, piece=piece)
+    yield from run(CONVERT, "", "0 told=0 End Source", "", stream_bytes=0)
+    yield from run(CONVERT, SIGNED, "0 told=0 End Source", SIGNED, body=299)
+    yield from run(CONVERT, "", "3 told=0 %s Source" % bad(0, "TooLarge"), SIGNED, body=298)
+    # A message may have more signatures than one that is judged.
+    yield from run(CONVERT, SIGNED, "0 told=0 End Source", SIGNED, message_signatures=0)
+    yield from run(CONVERT, RECEIPT, "3 told=0 %s Source" % bad(145, "NoStart"), RECEIPT + "x" + RECEIPT)
+    yield from run(CONVERT, RECEIPT, "3 told=0 %s Source" % bad(145, "Truncated"), RECEIPT + RECEIPT[:-1])
+    yield from run(CONVERT, "", "5 told=0 ReadFault Source", twice, reads=0)
+    yield from run(CONVERT, RECEIPT, "5 told=0 ReadFault Source", twice, reads=1, piece=145)
+    yield from run(CONVERT, RECEIPT, "5 told=0 ReadFault Source", twice, reads=1, piece=200)
+    yield from run(CONVERT, twice, "5 told=0 ReadFault Source", twice, reads=2, piece=145)
+    yield from run(CONVERT, twice, "5 told=0 ReadFault Source", twice, stream_bytes=290, reads=1)
+    yield from run(CONVERT, "", "5 told=0 ReadFault Source!", twice, makings=0)
+    yield from run("convert,--to,text,b", "", "5 told=0 ReadFault Source!", twice)
+    for stream, end in ((twice, "End"), (twice + "x", bad(290, "NoStart"))):
+        yield from run(CONVERT, "", "6 told=0 %s Source" % end, stream, puts=0)
+        yield from run(CONVERT, RECEIPT, "6 told=0 %s Source" % end, stream, puts=1)
+    yield from run(CONVERT, "", "6 told=0 Full Source", twice, puts=0, stream_bytes=289)
+    yield from run(CONVERT, "", "6 told=0 ReadFault Source", twice, puts=0, piece=145, reads=1)
+    yield from run(CONVERT, "", "0 told=0 End Source", "", puts=0)
+    # In binary: places are bytes, and a byte of a dash behind a body begins a group that is cut short.
+    binary_group = bytes.fromhex("f80000")
+    yield from run(CONVERT, RECEIPT + "-AAA", "0 told=0 End Source", RECEIPT.encode() + binary_group)
+    for front, rest, reason in ((b"", b"\xf8", "Truncated"), (binary_group, b"\xf8\0", "Truncated"), (binary_group, b"\xfc\0\0", "NoStart")):
+        written = RECEIPT + "-AAA" * (len(front) // 3)
+        yield from run(CONVERT, written, "3 told=0 %s Source" % bad(145 + len(front), reason), RECEIPT.encode() + front + rest)
+    yield from run("convert,--to,cbor,a", "words\n", "2 told=0", RECEIPT)
 
 
 def makings():
@@ -348,6 +386,8 @@ def rows():
     yield from asks()
     yield from faults_of_make()
     yield from faults_of_rehearse()
+    yield "# conversions"
+    yield from conversions()
     yield "# helpers"
     yield from helpers()
     yield "# questions to the rehearsal"

@@ -1,3 +1,4 @@
+pub mod Domains
 pub mod Keys
 pub mod Numbers
 pub mod Table

@@ -48,6 +48,7 @@ table = record {
       ∷ command (codes "watch") (wants (codes "helper") ∷ files ∷ [])
       ∷ command (codes "witness") (wants (codes "helper") ∷ wants (codes "prefix") ∷ wants (codes "shelf") ∷ may_have (codes "from") ∷ file ∷ [])
       ∷ command (codes "make") (wants (codes "helper") ∷ wants (codes "plan") ∷ may_have (codes "log") ∷ [])
+      ∷ command (codes "convert") (wants (codes "to") ∷ file ∷ [])
       ∷ command (codes "gen") (wants (codes "seed") ∷ wants (codes "logs") ∷ wants (codes "events") ∷ [])
       ∷ command (codes "rehearse") []
       ∷ [];

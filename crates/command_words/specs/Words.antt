@@ -7,21 +7,24 @@ use Rattle.clap.specs.Words.{Row, all_of, first_of, found_of, rows_of, subcomman
 use Rattle.clap.specs.declared.parser.matches.ArgMatches.{ArgMatches}
 use Rattle.cesr_codes.specs.declared.key.Key.{Key}
 use Rattle.cesr_codes.specs.declared.key.KeyCode.TheVariants.{Fixed}
+use Rattle.cesr_binary.specs.declared.domain.Domain.{Domain}
+use Rattle.command_words.specs.Domains.{domain_in}
 use Rattle.command_words.specs.Keys.{fixed_key_in}
 use Rattle.command_words.specs.Numbers.{number_in}
 use Rattle.command_words.specs.Table.{table}
 use Rattle.command_words.specs.declared.command.Command.{Command}
-use Rattle.command_words.specs.declared.command.Command.TheVariants.{Check, Validate, Watch, Witness, Make, Generate, Rehearse}
+use Rattle.command_words.specs.declared.command.Command.TheVariants.{Check, Validate, Watch, Witness, Make, Convert, Generate, Rehearse}
 
 -- what may be asked for, by the bytes of the words: of `check` a file, of `validate` and `watch` a helper and files, of `witness`
--- a helper, its key, a shelf's file, maybe that of an old one, and a file, of `make` a helper, a plan's file and maybe a log's, of `gen`
--- a seed, how many logs, and how many events in each, of `rehearse` nothing
+-- a helper, its key, a shelf's file, maybe that of an old one, and a file, of `make` a helper, a plan's file and maybe a log's, of
+-- `convert` a domain and a file, of `gen` a seed, how many logs, and how many events in each, of `rehearse` nothing
 pub data Asked : Type 0 where
   check : List ℕ → Asked
   validate : List ℕ → List (List ℕ) → Asked
   watch : List ℕ → List (List ℕ) → Asked
   witness : List ℕ → Key → List ℕ → Option (List ℕ) → List ℕ → Asked
   make : List ℕ → List ℕ → Option (List ℕ) → Asked
+  convert : Domain → List ℕ → Asked
   generate : ℕ → ℕ → ℕ → Asked
   rehearse : Asked
 
@@ -32,6 +35,7 @@ asked_by (Validate helper files) = validate helper.now (map (λ f. f.now) files.
 asked_by (Watch helper files) = watch helper.now (map (λ f. f.now) files.items)
 asked_by (Witness helper prefix shelf from file) = witness helper.now prefix shelf.now (option_map (λ f. f.now) from) file.now
 asked_by (Make helper plan log) = make helper.now plan.now (option_map (λ l. l.now) log)
+asked_by (Convert domain file) = convert domain file.now
 asked_by (Generate seed logs events) = generate seed logs events
 asked_by Rehearse = rehearse
 
@@ -83,6 +87,14 @@ abbrev pub asks_make : List Row → Option Asked
 asks_make rows =
     asks_by_both (λ helper plan. make helper plan (first_of (codes "log") rows)) (first_of (codes "helper") rows) (first_of (codes "plan") rows)
 
+-- the domain that an option is set to
+abbrev pub domain_set : List ℕ → List Row → Option Domain
+domain_set option rows = option_and_then domain_in (first_of option rows)
+
+-- `convert` asks for its file in a domain
+abbrev pub asks_convert : List Row → Option Asked
+asks_convert rows = asks_by_both convert (domain_set (codes "to") rows) (first_of (codes "file") rows)
+
 -- the number that an option is set to, where it is in this range
 abbrev pub number_set : List ℕ → ℕ → ℕ → List Row → Option ℕ
 number_set option least most rows = option_and_then (number_in least most) (first_of option rows)
@@ -101,6 +113,7 @@ asks_by_name name rows =
     else if bytes_eq name (codes "watch") then asks_over_core watch rows
     else if bytes_eq name (codes "witness") then asks_witness rows
     else if bytes_eq name (codes "make") then asks_make rows
+    else if bytes_eq name (codes "convert") then asks_convert rows
     else if bytes_eq name (codes "gen") then asks_gen rows
     else if bytes_eq name (codes "rehearse") then Some rehearse
     else None

@@ -4,11 +4,14 @@ ghost use Rattle.std.specs.Option.{option_map};
 ghost use Rattle.clap.specs.Words.{all_of, first_of, subcommand_rows_of};
 ghost use Rattle.command_words.specs.Words as specs;
 ghost use Rattle.cesr_codes.specs.declared.key.KeyCode.TheVariants.{Fixed};
-ghost use Rattle.command_words.specs.Words.{IsInForm, asked_by, asks, asks_by_name, asks_check, asks_gen, asks_make, asks_over_core, asks_witness, rows_in};
+ghost use Rattle.command_words.specs.Words.{IsInForm, asked_by, asks, asks_by_name, rows_in};
+ghost use Rattle.command_words.specs.Words.{asks_check, asks_convert, asks_gen, asks_make, asks_over_core, asks_witness};
 
+use crate::domain::domain;
 use crate::form::program;
 use crate::key::fixed_key;
 use crate::number::number;
+use cesr_binary::Domain;
 use cesr_codes::Key;
 use clap::ArgMatches;
 use clap::error::ErrorKind;
@@ -39,8 +42,9 @@ pub enum Command<'a> {
         helper: &'a str,
         files: Vec<&'a str>,
     },
-    /// Reads one file and writes the receipts of the witness whose key this is, with the signatures and verdicts of the helper. What it
-    /// has seen is kept in the shelf, which is filled with the list of an old one first, where that is named and there is none yet.
+    /// Reads one file and writes the receipts of the witness whose key this is, with the signatures and verdicts of the
+    /// helper. What it has seen is kept in the shelf, which is filled with the list of an old one first, where that is
+    /// named and there is none yet.
     Witness {
         helper: &'a str,
         /// A key that can't be rotated.
@@ -54,6 +58,11 @@ pub enum Command<'a> {
         helper: &'a str,
         plan: &'a str,
         log: Option<&'a str>,
+    },
+    /// Writes the items of one file in that domain.
+    Convert {
+        domain: Domain,
+        file: &'a str,
     },
     /// Makes a stream of so many logs of so many events from a seed, and says how much of it is accepted.
     Generate {
@@ -109,6 +118,7 @@ fn command_by_name<'a>(
         "watch" => watch(alloc, found),
         "witness" => Ok(witness(found)),
         "make" => Ok(make(found)),
+        "convert" => Ok(convert(found)),
         "gen" => Ok(generate(found)),
         "rehearse" => Ok(Some(Command::Rehearse)),
         _ => Ok(None),
@@ -180,6 +190,15 @@ fn make<'a>(found: &ArgMatches<'a>) -> Option<Command<'a>>
     Some(Command::Make { helper, plan, log })
 }
 
+fn convert<'a>(found: &ArgMatches<'a>) -> Option<Command<'a>>
+    ensures asked { option_map asked_by result ≡ asks_convert (rows_in found.now) }
+    ensures in_form { IfSome result IsInForm }
+{
+    let domain = domain_set(found, "to")?;
+    let file = value(found, "file")?;
+    Some(Command::Convert { domain, file })
+}
+
 fn generate<'a>(found: &ArgMatches<'a>) -> Option<Command<'a>>
     ensures asked { option_map asked_by result ≡ asks_gen (rows_in found.now) }
     ensures in_form { IfSome result IsInForm }
@@ -188,6 +207,13 @@ fn generate<'a>(found: &ArgMatches<'a>) -> Option<Command<'a>>
     let logs = count_set(found, "logs", MOST_OF_LOGS)?;
     let events = count_set(found, "events", MOST_OF_EVENTS)?;
     Some(Command::Generate { seed, logs, events })
+}
+
+// The domain that an option is set to.
+fn domain_set(found: &ArgMatches<'_>, option: &str) -> Option<Domain>
+    ensures { result ≡ specs.domain_set option.now (rows_in found.now) }
+{
+    domain(value(found, option)?)
 }
 
 // The key that can't be rotated that an option is set to.

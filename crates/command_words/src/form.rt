@@ -17,6 +17,7 @@ pub(crate) fn program<'a>(alloc: Global) -> Result<Command<'a>, AllocError>
         .subcommand(over_core(alloc, "watch")?)?
         .subcommand(witness(alloc)?)?
         .subcommand(make(alloc)?)?
+        .subcommand(convert(alloc)?)?
         .subcommand(generate(alloc)?)?
         .subcommand(Command::new(alloc, "rehearse"))
 }
@@ -50,7 +51,8 @@ fn over_core<'a>(alloc: Global, name: &'a str) -> Result<Command<'a>, AllocError
 
 // `witness --helper HELPER --prefix KEY --shelf SHELF FILE`, and `--from OLD`
 fn witness<'a>(alloc: Global) -> Result<Command<'a>, AllocError>
-    ensures { IfOk result (HasShape (specs.command (codes "witness") (wants (codes "helper") ∷ wants (codes "prefix") ∷ wants (codes "shelf") ∷ may_have (codes "from") ∷ specs.file ∷ []))) }
+    ensures { IfOk result (HasShape (specs.command (codes "witness") (wants (codes "helper") ∷ wants (codes "prefix")
+        ∷ wants (codes "shelf") ∷ may_have (codes "from") ∷ specs.file ∷ []))) }
 {
     Command::new(alloc, "witness")
         .arg(wanted(alloc, "helper"))?
@@ -62,7 +64,8 @@ fn witness<'a>(alloc: Global) -> Result<Command<'a>, AllocError>
 
 // `make --helper HELPER --plan PLAN`, and `--log LOG`
 fn make<'a>(alloc: Global) -> Result<Command<'a>, AllocError>
-    ensures { IfOk result (HasShape (specs.command (codes "make") (wants (codes "helper") ∷ wants (codes "plan") ∷ may_have (codes "log") ∷ []))) }
+    ensures { IfOk result (HasShape (specs.command (codes "make") (wants (codes "helper") ∷ wants (codes "plan")
+        ∷ may_have (codes "log") ∷ []))) }
 {
     Command::new(alloc, "make")
         .arg(wanted(alloc, "helper"))?
@@ -70,9 +73,19 @@ fn make<'a>(alloc: Global) -> Result<Command<'a>, AllocError>
         .arg(option(alloc, "log"))
 }
 
+// `convert --to DOMAIN FILE`
+fn convert<'a>(alloc: Global) -> Result<Command<'a>, AllocError>
+    ensures { IfOk result (HasShape (specs.command (codes "convert") (wants (codes "to") ∷ specs.file ∷ []))) }
+{
+    Command::new(alloc, "convert")
+        .arg(wanted(alloc, "to"))?
+        .arg(file(alloc))
+}
+
 // `gen --seed SEED --logs LOGS --events EVENTS`
 fn generate<'a>(alloc: Global) -> Result<Command<'a>, AllocError>
-    ensures { IfOk result (HasShape (specs.command (codes "gen") (wants (codes "seed") ∷ wants (codes "logs") ∷ wants (codes "events") ∷ []))) }
+    ensures { IfOk result (HasShape (specs.command (codes "gen") (wants (codes "seed") ∷ wants (codes "logs")
+        ∷ wants (codes "events") ∷ []))) }
 {
     Command::new(alloc, "gen")
         .arg(wanted(alloc, "seed"))?

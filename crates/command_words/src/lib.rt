@@ -2,6 +2,7 @@
 #![tactic(auto)]
 
 mod command;
+mod domain;
 mod form;
 mod key;
 mod number;

@@ -11,6 +11,7 @@ pub mod Serving
 pub mod ServedFile
 pub mod ServedCauses
 pub mod WitnessedCauses
+pub mod ConvertedCauses
 pub mod Statuses
 pub mod Agreed
 pub mod Generated

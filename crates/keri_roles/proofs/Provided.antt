@@ -16,8 +16,7 @@ use Rattle.run_outside.specs.declared.making.MakingKind.TheVariants.{Source as S
 use Rattle.run_status.specs.Readers.{source_seen, verifier_seen}
 use Rattle.reader_threads.specs.Given.{Given, given_by}
 use Rattle.reader_threads.specs.declared.providers.Providers.{Providers}
-use Rattle.keri_roles.specs.CoreTold.{AreGiven, AreProvided, IsGiven, makings_of}
-use Rattle.keri_roles.specs.Provided.{SameNames}
+use Rattle.keri_roles.specs.CoreTold.{AreGiven, AreProvided, IsGiven, SameNames, makings_of}
 
 -- makings behind others
 noted_on : (old mid new : Option (List Making)) (a b : List Making) → Noted old mid a → Noted mid new b → Noted old new (a ++ b)

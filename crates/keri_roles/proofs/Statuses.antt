@@ -2,7 +2,7 @@
 use Rattle.std.proofs.Common.{◌≡◌, ◌≢◌, inl, inr, ⊎_elim, ℕ, Bool, true, false, List, [], ◌∷◌, Option, Some, None, refl, sym, ◌∙◌, ap, subst}
 use Rattle.std.specs.Prelude.{IsNone, codes}
 use Rattle.keri_specs.specs.Causes.{Rose}
-use Rattle.command_words.specs.Words.{Asked, check, generate, make, rehearse, validate, watch, witness}
+use Rattle.command_words.specs.Words.{Asked, check, convert, generate, make, rehearse, validate, watch, witness}
 use Rattle.keri_disk.specs.Images.{DiskTold}
 use Rattle.verifier_link.specs.declared.served.Served.{Served}
 use Rattle.verifier_link.specs.declared.served.Served.TheVariants.{End, Malformed, ReadFault, WriteFault, Full, OutOfMemory}
@@ -19,6 +19,7 @@ use Rattle.keri_roles.specs.Rehearsed.{IsRehearsed, Serves, serving_close, servi
 use Rattle.keri_roles.specs.Run.{Work, Run, HasCauses, SignerFails, VerifierRose, AreCaused, work_in}
 use Rattle.keri_roles.specs.Seen.{disk_seen}
 use Rattle.keri_roles.proofs.WitnessedCauses.{witnessed_causes}
+use Rattle.keri_roles.proofs.ConvertedCauses.{converted_causes}
 use Rattle.keri_roles.proofs.Causes.{check_caused, generated_caused, made_caused, made_rose, made_signer, rehearsed_caused, told_caused, told_rose}
 use Rattle.keri_roles.proofs.Made.{due_finds}
 use Rattle.keri_roles.proofs.Never.{check_serves, generated_serves, has_none, made_serves, some_serves, told_serves}
@@ -223,6 +224,7 @@ carried_causes told disk old (Some (make helper plan log)) run d o w = let work 
     (made_signer helper plan log work w.does) (made_finds (λ b. b.disk_failed) (λ s r. refl) (λ b f. refl) helper plan log work w.does)
     (made_finds (λ b. b.shelf_full) (λ s r. refl) (λ b f. refl) helper plan log work w.does) (made_rose helper plan log work w.does)
     (made_serves helper plan log work w.does) (made_caused helper plan log work w.does)
+carried_causes told disk old (Some (convert domain name)) run d o c = converted_causes domain name run c
 carried_causes told disk old (Some (generate seed logs events)) run d o w = let work = work_in run w.owed w.besides in
     plain_causes (generate seed logs events) _ run w false false w.does.nothing_else (λ e. absurd (not_true e))
     (generated_serves seed logs events work w.does) (generated_caused seed logs events work w.does)

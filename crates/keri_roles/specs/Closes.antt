@@ -1,5 +1,5 @@
 -- How the reading of a source closed.
-use Rattle.std.specs.Prelude.{ℕ, Bool, true, false, List, []}
+use Rattle.std.specs.Prelude.{ℕ, List, []}
 use Rattle.std.specs.declared.option.Option.{Option}
 use Rattle.cesr_stream.specs.Reading.{Reading}
 use Rattle.message_feed.specs.declared.feed_close.FeedClose.TheVariants.{End as FeedEnd, Bad as FeedBad, ReadFault as FeedReadFault, Full as FeedFull}
@@ -34,16 +34,3 @@ ending_text reader DiskFault = []
 ending_text reader WriteFault = []
 ending_text reader (Malformed place) = []
 ending_text reader OutOfMemory = []
-
--- the reader was stopped before it had taken all that it read
-abbrev pub is_stopped : Close → Bool
-is_stopped End = false
-is_stopped (Bad bad) = false
-is_stopped ReadFault = false
-is_stopped VerifierFault = true
-is_stopped SignerFault = true
-is_stopped DiskFault = true
-is_stopped WriteFault = true
-is_stopped (Malformed place) = false
-is_stopped Full = true
-is_stopped OutOfMemory = true

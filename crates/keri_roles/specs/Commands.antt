@@ -2,7 +2,7 @@
 use Rattle.std.specs.Prelude.{◌≡◌, ◌≢◌, ℕ, ◌∷◌, ◌⊎◌, true, Bool, List, [], codes, IfSome}
 use Rattle.std.specs.declared.option.Option.{Option}
 use Rattle.std.specs.declared.option.Option.TheVariants.{None, Some}
-use Rattle.command_words.specs.Words.{Asked, check, generate, make, rehearse, validate, watch, witness}
+use Rattle.command_words.specs.Words.{Asked, check, convert, generate, make, rehearse, validate, watch, witness}
 use Rattle.journal.specs.declared.mode.Mode.TheVariants.{Full, Local}
 use Rattle.journal.specs.Accepted.{accepted}
 use Rattle.journal.specs.Journals.{told_by}
@@ -13,6 +13,7 @@ use Rattle.run_status.specs.declared.close.Close.TheVariants.{ReadFault, Verifie
 use Rattle.run_status.specs.declared.besides.Besides.{Besides}
 use Rattle.keri_roles.specs.Agreement.{IsAgreed}
 use Rattle.keri_roles.specs.Check.{IsChecked}
+use Rattle.keri_roles.specs.Converted.{IsConverted}
 use Rattle.reader_threads.specs.declared.last_round.LastRound.{LastRound}
 use Rattle.reader_threads.specs.declared.last_round.LastRound.TheVariants.{VerifierFailed}
 use Rattle.keri_roles.specs.CoreTold.{HadMemory, IsOverCore, IsToldBy}
@@ -80,7 +81,7 @@ pub record IsWritten (Does : Work → Type 0) (run : Run) : Type 0 where
   pub no_disk : run.disk ≡ None
   pub no_old : run.old ≡ None
 
--- A row for each command, of which `rehearse` and `witness` alone write as they read. `witness` alone has disks, which it hands
+-- A row for each command, of which `convert`, `rehearse` and `witness` alone write as they read. `witness` alone has disks, which it hands
 -- back.
 abbrev pub CarriesOut : {D : Type 0} → (D → DiskTold) → Option D → Option D → Option Asked → Run → Type 0
 CarriesOut told disk old None run = IsWritten RefusesWords run
@@ -89,6 +90,7 @@ CarriesOut told disk old (Some (validate helper names)) run = IsWritten (IsValid
 CarriesOut told disk old (Some (watch helper names)) run = IsWritten (IsWatched helper names) run
 CarriesOut told disk old (Some (witness helper key shelf from name)) run = IsWitnessed told disk old helper key shelf from name run
 CarriesOut told disk old (Some (make helper plan log)) run = IsWritten (IsMade helper plan log) run
+CarriesOut told disk old (Some (convert domain name)) run = IsConverted domain name run
 CarriesOut told disk old (Some (generate seed logs events)) run = IsWritten (IsGenerated seed logs events) run
 CarriesOut told disk old (Some rehearse) run = IsRehearsed run
 

@@ -47,6 +47,11 @@ makings_of helper (name ∷ names) [] = []
 makings_of helper (name ∷ names) (g ∷ given) =
     making SourceKind name (is_none g.source) ∷ making VerifierKind helper (is_none g.verifier) ∷ makings_of helper names given
 
+-- the names stand for the same, and so do helpers
+pub record SameNames (before after : Told) : Type 0 where
+  pub holds : after.holds ≡ before.holds
+  pub says : after.says ≡ before.says
+
 -- The readers of these names are given what could be made for them, and there are no other makings.
 pub record AreProvided (helper : List ℕ) (names : List (List ℕ)) (given : List Given) (before after : Told) : Type 0 where
   pub are_given : AreGiven before helper names given

@@ -6,7 +6,6 @@ pub mod MessageLines
 pub mod Checker
 pub mod Check
 pub mod CoreTold
-pub mod Provided
 pub mod OneSeats
 pub mod CommandTexts
 pub mod Reports
@@ -16,6 +15,7 @@ pub mod Planned
 pub mod Made
 pub mod PlanDues
 pub mod Rehearsed
+pub mod Converted
 pub mod ServedFile
 pub mod Witnessed
 pub mod Commands

@@ -2,6 +2,7 @@
 use Rattle.std.specs.Prelude.{◌≡◌, ℕ, List, [], ◌∷◌, codes, option_map}
 use Rattle.std.specs.declared.option.Option.{Option}
 use Rattle.std.specs.declared.option.Option.TheVariants.{None, Some}
+use Rattle.item_conversion.specs.Converts.{EndsTold, ends_told}
 use Rattle.keri_outside.specs.declared.limits.Limits.{Limits}
 use Rattle.run_outside.specs.Told.{Told}
 use Rattle.verifier_link.specs.declared.served.Served.{Served}
@@ -42,7 +43,7 @@ abbrev pub Serves : ℕ → Option (List ℕ) → Option SourceTold → SinkTold
 Serves most held None old new served = (served ≡ ReadFault) × (new ≡ old)
 Serves most held (Some source) old new served = IsServed most (sides_of (record { left = held; faults = 0 }) old) (sides_of source new) served
 
--- what is seen of serving: the outside before it, the source, where there is one, and the sink before and after it
+-- what is seen of a command that writes as it reads: the outside before it, the source, where there is one, and the sink before and after it
 pub record Serving : Type 0 where
   pub before : Told
   pub source : Option SourceTold
@@ -57,6 +58,9 @@ ServesInput limits serving served =
 module _ {O S K : Type 0} (left : S → Option (List ℕ)) (faults : S → ℕ) (written : K → Option (List ℕ)) (sink_faults : K → ℕ) (sink : O → K) where
   abbrev pub sides_over : S → O → SidesTold
   sides_over source outside = sides_told (source_told left faults source) (sink_told written sink_faults (sink outside))
+
+  abbrev pub ends_over : S → O → EndsTold
+  ends_over source outside = ends_told left faults written sink_faults source (sink outside)
 
   abbrev pub serving_over : (O → Told) → O → O → Option S → Serving
   serving_over told old new source = record {

@@ -3,7 +3,7 @@ use Rattle.std.specs.Prelude.{◌≡◌, ◌≢◌, ℕ, ◌⊎◌, true, List, 
 use Rattle.std.specs.declared.option.Option.{Option}
 use Rattle.std.specs.declared.option.Option.TheVariants.{None, Some}
 use Rattle.keri_specs.specs.Causes.{Rose}
-use Rattle.command_words.specs.Words.{Asked, asks, check, generate, make, rehearse, validate, watch, witness}
+use Rattle.command_words.specs.Words.{Asked, asks, check, convert, generate, make, rehearse, validate, watch, witness}
 use Rattle.cesr_codes.specs.declared.key.Key.{Key}
 use Rattle.cesr_codes.specs.declared.sig.Sig.{Sig}
 use Rattle.keri_outside.specs.declared.signing.Signing.{Signing}
@@ -93,6 +93,7 @@ SignerFails None run = ⊥
 SignerFails (Some (check file)) run = ⊥
 SignerFails (Some (validate helper files)) run = ⊥
 SignerFails (Some (watch helper files)) run = ⊥
+SignerFails (Some (convert domain file)) run = ⊥
 SignerFails (Some (generate seed logs events)) run = ⊥
 SignerFails (Some rehearse) run = ⊥
 SignerFails (Some (witness helper key shelf from file)) run = MatchOption run.signer (Rose run.before.faults run.after.faults) (λ s. Rose 0 s.faults)
@@ -109,6 +110,7 @@ DiskFails None run = ⊥
 DiskFails (Some (check file)) run = ⊥
 DiskFails (Some (validate helper files)) run = ⊥
 DiskFails (Some (watch helper files)) run = ⊥
+DiskFails (Some (convert domain file)) run = ⊥
 DiskFails (Some (generate seed logs events)) run = ⊥
 DiskFails (Some rehearse) run = ⊥
 DiskFails (Some (make helper plan log)) run = ⊥
@@ -120,6 +122,7 @@ ReadsShelf None = ⊥
 ReadsShelf (Some (check file)) = ⊥
 ReadsShelf (Some (validate helper files)) = ⊥
 ReadsShelf (Some (watch helper files)) = ⊥
+ReadsShelf (Some (convert domain file)) = ⊥
 ReadsShelf (Some (generate seed logs events)) = ⊥
 ReadsShelf (Some rehearse) = ⊥
 ReadsShelf (Some (make helper plan log)) = ⊥

@@ -4,6 +4,9 @@ use crate::ReaderEnd;
 use journal::Journal;
 use run_outside::Outside;
 
+/// The status where there was no memory.
+pub(crate) const NO_MEMORY: u8 = 10;
+
 /// The status of a run, what was told in it, its readers in order, and its signer, its disk and the disk of an old shelf,
 /// where it made them.
 #[derive(Drop)]

@@ -4,6 +4,7 @@
 mod backed_list;
 mod check;
 mod checker;
+mod convert;
 mod core_text;
 mod done;
 mod generate;

@@ -7,6 +7,8 @@ ghost use Rattle.keri_roles.specs.Run.{HasCauses, IsSettled, asked_in};
 ghost use Rattle.keri_roles.specs.NoJournal.{no_journal};
 
 use crate::check::check;
+use crate::convert::convert;
+use crate::done::NO_MEMORY;
 use crate::generate::{StreamPlan, generate};
 use crate::make::{MakeWords, make};
 use crate::nothing_told::nothing_told;
@@ -26,9 +28,6 @@ use std::thread::Threads;
 
 // `make` reads a plan and a log; `validate` and `watch` have room of their own, and every other command reads one stream.
 const MOST_READERS: usize = 2;
-
-// The status where there was no memory.
-const NO_MEMORY: u8 = 10;
 
 /// Does all that the program does: what the words ask for, over the outside that is handed in. Readers that are several run in
 /// threads of `rt`.
@@ -116,6 +115,13 @@ fn carry_out<R: Threads + Wait + Sync, O: Outside>(
             let outcome = make(rt, alloc, words, room(alloc)?, outside)?;
             Ok(finish(outcome, outside))
         }
+        Command::Convert { domain, file } => Ok(convert(
+            alloc,
+            domain,
+            file,
+            room(alloc)?,
+            outside,
+        )),
         Command::Generate { seed, logs, events } => {
             let plan = StreamPlan { seed, logs, events };
             let outcome = generate(rt, alloc, plan, room(alloc)?, outside)?;

@@ -2,8 +2,7 @@
 ghost use Rattle.std.specs.Prelude.{◌≡◌, ◌≤◌, [], length, map, IfSome};
 ghost use Rattle.std.specs.Vec.{vec_capacity};
 ghost use Rattle.keri_specs.specs.Told.{HasNone};
-ghost use Rattle.keri_roles.specs.CoreTold.{AreProvided};
-ghost use Rattle.keri_roles.specs.Provided.{SameNames};
+ghost use Rattle.keri_roles.specs.CoreTold.{AreProvided, SameNames};
 ghost use Rattle.keri_roles.specs.Run.{MakesProviders};
 
 use crate::works::Works;

@@ -11,6 +11,7 @@ ghost use Rattle.keri_roles.specs.Made.{is_out as out_by};
 ghost use Rattle.keri_roles.specs.ServedFile.{IsServing, ServesAll};
 ghost use Rattle.keri_roles.specs.ServedFile as specs;
 
+use crate::done::NO_MEMORY;
 use crate::{Close, Done, ReaderEnd, Runs};
 use keri_outside::Limits;
 use lists::Items;
@@ -19,9 +20,6 @@ use run_status::{Besides, status_by};
 use std::alloc::Global;
 use witness_core::Witness;
 use witness_link::{LinkEnd, Witnessing, serve_link};
-
-// The status where there was no memory.
-const NO_MEMORY: u8 = 10;
 
 /// Makes the source of the file, and the verifier and the signer of the helper, and serves the witness by them, where all three
 /// could be made. The readers have room for the one that there is.

@@ -11,5 +11,6 @@ returns c =
     let watch = with_command _ _ _ _ _ validate c.in_ok-over_core-2.ensures c.in_ok-subcommand-3.ensures in
     let witness = with_command _ _ _ _ _ watch c.in_ok-witness.ensures c.in_ok-subcommand-4.ensures in
     let make = with_command _ _ _ _ _ witness c.in_ok-make.ensures c.in_ok-subcommand-5.ensures in
-    let generate = with_command _ _ _ _ _ make c.in_ok-generate.ensures c.in_ok-subcommand-6.ensures in
-    IfOk-weaker c.subcommand-7.result _ _ (λ it added. with_command _ _ _ _ _ generate (new_has_shape _ _ c.new.ensures.app c.new.ensures.local) added) c.subcommand-7.ensures
+    let convert = with_command _ _ _ _ _ make c.in_ok-convert.ensures c.in_ok-subcommand-6.ensures in
+    let generate = with_command _ _ _ _ _ convert c.in_ok-generate.ensures c.in_ok-subcommand-7.ensures in
+    IfOk-weaker c.subcommand-8.result _ _ (λ it added. with_command _ _ _ _ _ generate (new_has_shape _ _ c.new.ensures.app c.new.ensures.local) added) c.subcommand-8.ensures

@@ -4,6 +4,9 @@ use Rattle.keri_roles.proofs.program.carry_out.Goals as goal
 pub returns-in_ok-room-in-Witness-clause-does : goal.returns-in_ok-room-in-Witness-clause-does
 returns-in_ok-room-in-Witness-clause-does g c = rw c.in-Witness.is c.witness.ensures.witnessed
 
+pub returns-in_ok-room-in-Convert-clause-does : goal.returns-in_ok-room-in-Convert-clause-does
+returns-in_ok-room-in-Convert-clause-does g c = rw c.in-Convert.is c.convert.ensures.converted
+
 pub returns-in_ok-outcome-in-Make-clause-does : goal.returns-in_ok-outcome-in-Make-clause-does
 returns-in_ok-outcome-in-Make-clause-does g c = rw (c.in-Make.is, c.finish-in-Make.ensures.signer, c.finish-in-Make.ensures.no_disk, c.finish-in-Make.ensures.no_old, c.finish-in-Make.ensures.journal, c.finish-in-Make.ensures.readers, c.finish-in-Make.ensures.told) (record {
   owed = option_map (λ text. text.items) c.in_ok-outcome-in-Make.outcome.outcome.owed;

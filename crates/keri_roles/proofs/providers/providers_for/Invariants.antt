@@ -1,8 +1,7 @@
 use Rattle.std.specs.Prelude.{◌≡◌, ◌≤◌, length, map, take}
 use Rattle.std.specs.Vec.{vec_capacity}
 use Rattle.reader_threads.specs.Given.{given_by}
-use Rattle.keri_roles.specs.CoreTold.{AreProvided}
-use Rattle.keri_roles.specs.Provided.{SameNames}
+use Rattle.keri_roles.specs.CoreTold.{AreProvided, SameNames}
 use Rattle.keri_roles.proofs.providers.providers_for.Given as goal
 
 -- for the names so far it was made

@@ -1,0 +1,33 @@
+use Rattle.std.proofs.Common.{flat_map, refl, ap, ◌∙◌, arith}
+use Rattle.std.proofs.lemmas.List.{take_all}
+use Rattle.keri_specs.specs.Told.{after}
+use Rattle.keri_specs.proofs.Putting.{after-nil, put_front, put_more}
+use Rattle.cesr_binary.specs.BinaryForm.{binary_of}
+use Rattle.cesr_binary.proofs.spelled.put_all.Goals as goal
+
+pub loop-one-init : goal.loop-one-init
+loop-one-init g c = record { written = after-nil (g.S.Sink.written c.args.sink.now); faults = refl }
+
+pub returns-in_err-put-clause-written : goal.returns-in_err-put-clause-written
+returns-in_err-put-clause-written g c =
+    let told = g.S.Sink.written in
+    put_front (λ one. binary_of (g.E.Spelled.text one)) c.args.all.now c.loop-one.one-index c.one-item.result c.loop-one-test.true c.one-item.is
+    c.from_residual.result (told c.args.sink.now) (told c.loop-one.sink)
+    (told c.put.new.sink) c.from_residual.ensures.0 c.loop-one.invariant.written c.in_err-put.ensures.written
+
+pub loop-one-preserved : goal.loop-one-preserved
+loop-one-preserved g c =
+    let told = g.S.Sink.written in
+    record {
+      written =
+          put_more (λ one. binary_of (g.E.Spelled.text one)) c.args.all.now c.loop-one.one-index c.one-item.result c.loop-one-test.true c.one-item.is
+          (told c.args.sink.now)
+          (told c.loop-one.sink) (told c.put.new.sink) c.loop-one.invariant.written c.in_ok-put.ensures.written;
+      faults = c.in_ok-put.ensures.cause.else_same ∙ c.loop-one.invariant.faults;
+    }
+
+pub returns-clause-written : goal.returns-clause-written
+returns-clause-written g c =
+    c.loop-one.invariant.written
+    ∙ ap (λ all. after (g.S.Sink.written c.args.sink.now) (flat_map (λ one. binary_of (g.E.Spelled.text one)) all))
+    (take_all c.loop-one.one-index c.args.all.now (omega (arith, c.loop-one-test.false)))

@@ -1,0 +1,11 @@
+use Rattle.std.proofs.Common.{◌≡◌, take, flat_map}
+use Rattle.keri_specs.specs.Told.{after}
+use Rattle.cesr_binary.specs.BinaryForm.{binary_of}
+use Rattle.cesr_binary.proofs.spelled.put_all.Given as goal
+
+-- the bytes of the texts so far were put, and none failed
+abbrev pub invariant-loop-one : goal.invariant-loop-one
+invariant-loop-one g l = record {
+  written : g.S.Sink.written l.sink ≡ after (g.S.Sink.written l.initial.sink) (flat_map (λ one. binary_of (g.E.Spelled.text one)) (take l.one-index l.all));
+  faults : g.S.Sink.faults l.sink ≡ g.S.Sink.faults l.initial.sink;
+}

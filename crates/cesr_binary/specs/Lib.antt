@@ -1,0 +1,6 @@
+pub mod BinaryForm
+pub mod Mixed
+pub mod Wire
+pub mod MixedAnswers
+pub mod GivenBytes
+pub mod MixedReader

@@ -1,0 +1,10 @@
+use Rattle.std.proofs.Common.{[], false, sym, subst}
+use Rattle.run_status.specs.Readers.{sink_seen}
+use Rattle.item_conversion.specs.Progress.{HasPut, progress}
+use Rattle.item_conversion.proofs.Pieces.{put_none}
+use Rattle.item_conversion.proofs.convert.convert_items.Goals as goal
+
+pub read_pieces-close-requires-clause-none_put : goal.read_pieces-close-requires-clause-none_put
+read_pieces-close-requires-clause-none_put g c =
+    let sink = sink_seen g.K.Sink.written g.K.Sink.faults c.args.sink.now in
+    subst (λ reader. HasPut sink [] (progress reader c.args.domain false sink)) (sym c.new.ensures) (put_none c.args.limits.body c.args.domain sink)

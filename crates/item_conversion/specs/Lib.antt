@@ -1,0 +1,4 @@
+pub mod Progress
+pub mod Pieces
+pub mod Closes
+pub mod Converts
