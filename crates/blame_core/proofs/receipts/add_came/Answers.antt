@@ -1,0 +1,9 @@
+use Rattle.std.proofs.Common.{sym, ◌∙◌}
+use Rattle.core_tables.specs.View.{body_of}
+use Rattle.blame_core.proofs.EntrySignatures.{none_came}
+use Rattle.blame_core.proofs.receipts.add_came.Goals as goal
+
+pub returns-else-stands_on : goal.returns-else-stands_on
+returns-else-stands_on c =
+    none_came c.args.core.now.held (body_of c.args.text.now c.args.event.now) c.args.entry.now c.in-Took.reader c.in-Took.body c.in-Took.claims
+    c.args.came.now.items c.in-Took.is (sym c.stands_on.ensures ∙ c.if-stands_on.false)

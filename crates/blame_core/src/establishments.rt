@@ -1,0 +1,88 @@
+//! The accepted establishment events of a core, by identifier and number.
+ghost use Rattle.std.specs.Prelude.{◌≡◌, ◌++◌, ◌∷◌, [], List, Some, IfOk, OnOk, slice_get};
+ghost use Rattle.blame_core.specs.Establishments.{AreEstablishments, IsFollowedBy, IsWalked};
+ghost use Rattle.blame_core.specs.Establishments as establishments;
+ghost use Rattle.cesr_codes.specs.Spelling.{IsPrefix};
+ghost use Rattle.event_body.specs.Events as events;
+ghost use Rattle.journal.specs.declared.body.Body.{Body};
+ghost use Rattle.validator_core.specs.View.{accepted_by};
+
+use crate::own_lists::own_list;
+use cesr_codes::{Key, Spelled};
+use event_body::{Event, is_establishment, prefix_of, sn_of};
+use lists::{Items, copy_items};
+use std::alloc::{AllocError, Global};
+use std::collections::BTreeMap;
+use validator_core::Core;
+
+/// An accepted establishment event.
+#[derive(Drop)]
+pub(crate) struct Establishment {
+    /// The text of its prefix and its number.
+    pub(crate) place: ([u8; 44], u64),
+    /// The number of its body.
+    pub(crate) number: u32,
+    /// Its own witness list.
+    pub(crate) witnesses: Items<Key>,
+}
+
+/// The establishment events that a core accepted, by the texts of their prefixes and their numbers.
+pub(crate) fn establishments(
+    alloc: Global,
+    core: &Core,
+) -> Result<BTreeMap<([u8; 44], u64), Establishment>, AllocError>
+    requires { core.now.base ≡ 0 }
+    ensures { IfOk result (λ events. AreEstablishments core.now.held (accepted_by core.now) events.entries) }
+{
+    let mut lists = BTreeMap::new(alloc);
+    let mut events = BTreeMap::new(alloc);
+    for number in core.accepted() {
+        if let Some(event) = core.event(*number) {
+            add_event(alloc, *number, event, &mut lists, &mut events)?;
+        }
+    }
+    Ok(events)
+}
+
+// Adds the event of a number, where it is an establishment event, and notes its own list as the last of its
+// identifier.
+fn add_event(
+    alloc: Global,
+    number: u32,
+    event: &Event,
+    lists: &mut BTreeMap<[u8; 44], Items<Key>>,
+    events: &mut BTreeMap<([u8; 44], u64), Establishment>,
+) -> Result<(), AllocError>
+    ensures { (held log seen : List Body) (b : Body) → slice_get held number ≡ Some b → b.event ≡ event.now
+        → IsFollowedBy log seen b
+        → IsWalked held log seen lists.old.entries events.old.entries
+        → OnOk result (IsWalked held log (seen ++ b ∷ []) lists.new.entries events.new.entries) }
+{
+    if !is_establishment(event) {
+        return Ok(());
+    }
+    let place = place_of(event);
+    let witnesses = own_list(alloc, lists.get(&place.0), event)?;
+    lists.insert(place.0, copy_items(&witnesses, alloc)?)?;
+    events.insert(
+        place,
+        Establishment {
+            place,
+            number,
+            witnesses,
+        },
+    )?;
+    Ok(())
+}
+
+// The text of the event's prefix, and its number.
+fn place_of(event: &Event) -> ([u8; 44], u64)
+    ensures place { result ≡ establishments.place_of event.now }
+    ensures prefix { IsPrefix (events.prefix_of event.now) }
+{
+    let prefix = prefix_of(event);
+    prefix.held();
+    let mut text = [0; 44];
+    prefix.write(&mut text);
+    (text, sn_of(event))
+}

@@ -1,0 +1,213 @@
+//! The signatures on a body that came and that a verifier called good.
+ghost use Rattle.std.specs.Prelude.{◌≡◌, ◌++◌, Some, find, flat_map, map, option_map, slice_get, IfOk, OnOk};
+ghost use Rattle.std.specs.List.{list_any};
+ghost use Rattle.blame_core.specs.NamedEntries.{HasNamed};
+ghost use Rattle.blame_core.specs.Receipts.{AreReceipts, came_at, came_with, good_at, good_in, is_body};
+ghost use Rattle.blame_core.specs.Receipts.{is_receipt_of, is_signed, stands_on};
+ghost use Rattle.core_tables.specs.View.{body_of};
+ghost use Rattle.journal.specs.History as history;
+ghost use Rattle.journal.specs.Journals.{whole};
+ghost use Rattle.journal.specs.declared.body.Body.{Body};
+ghost use Rattle.validator_core.specs.View.{told_of};
+
+use cesr_codes::{Key, Sig};
+use core_tables::{Name, name_of};
+use event_body::{Event, is_receipt, prefix_of, said_of_event, sn_of};
+use event_index::Index;
+use event_rules::claimed_sig;
+use journal::{Claim, Entry};
+use key_state::is_key;
+use std::alloc::{AllocError, Global};
+use validator_core::Core;
+
+/// A key's signature.
+#[derive(Clone, Copy)]
+pub(crate) struct Signed {
+    pub(crate) key: Key,
+    pub(crate) sig: Sig,
+}
+
+/// The signatures on a body.
+#[derive(Drop)]
+pub(crate) struct Receipts {
+    /// Those that came with it and with the receipts for it, in order of coming.
+    pub(crate) came: Vec<Sig>,
+    /// Those that a verifier called good.
+    pub(crate) good: Vec<Signed>,
+}
+
+/// The signatures on the body of a number, by the entries with the name of its event alone.
+pub(crate) fn receipts_on(
+    alloc: Global,
+    core: &Core,
+    named: &Index<Name>,
+    number: u32,
+) -> Result<Receipts, AllocError>
+    requires { HasNamed core.now named.now }
+    ensures { IfOk result (λ receipts. (b : Body) → slice_get core.now.held number ≡ Some b
+        → AreReceipts (told_of core.now) b receipts) }
+{
+    let mut receipts = Receipts {
+        came: Vec::new(alloc),
+        good: Vec::new(alloc),
+    };
+    let _journal = core.journal();
+    let (Some(text), Some(event)) = (core.body(number), core.event(number)) else {
+        return Ok(receipts);
+    };
+    let entries = named.numbers(&name_of(event));
+    add_all_came(&mut receipts.came, core, text, event, entries)?;
+    add_all_good(&mut receipts.good, core, text, entries)?;
+    Ok(receipts)
+}
+
+/// The first signature that came of which a verifier said that it is the key's.
+pub(crate) fn signature_of(receipts: &Receipts, key: &Key) -> Option<Sig>
+    ensures { result ≡ find (λ sig. list_any (is_signed key.now sig) receipts.now.good.items)
+        receipts.now.came.items }
+{
+    let good = receipts.good.as_slice();
+    receipts
+        .came
+        .iter()
+        .copied()
+        .find(|sig| is_good(good, key, sig))
+}
+
+// Whether it is one of the good signatures, by this key.
+fn is_good(good: &[Signed], key: &Key, sig: &Sig) -> bool
+    ensures { result ≡ list_any (is_signed key.now sig.now) good.now }
+{
+    good.iter()
+        .any(|signed| is_key(key, &signed.key) && *sig == signed.sig)
+}
+
+// Adds the signatures of these entries that stand on a body.
+fn add_all_came(
+    came: &mut Vec<Sig>,
+    core: &Core,
+    text: &[u8],
+    event: &Event,
+    entries: &[u32],
+) -> Result<(), AllocError>
+    ensures { OnOk result (came.new.items ≡ came.old.items
+        ++ flat_map (λ i. came_at core.now.held (body_of text.now event.now) (slice_get core.now.entries i))
+        entries.now) }
+{
+    for number in entries {
+        if let Some(entry) = entry_at(core, *number) {
+            add_came(came, core, text, event, entry)?;
+        }
+    }
+    Ok(())
+}
+
+// The entry of a number.
+fn entry_at(core: &Core, number: u32) -> Option<&Entry>
+    ensures { option_map (λ e. e.now) result ≡ slice_get core.now.entries number }
+{
+    core.journal().entries.as_slice().get(number as usize)
+}
+
+// Adds the signatures of an entry that stand on the body.
+fn add_came(
+    came: &mut Vec<Sig>,
+    core: &Core,
+    text: &[u8],
+    event: &Event,
+    entry: &Entry,
+) -> Result<(), AllocError>
+    ensures { OnOk result (came.new.items
+        ≡ came.old.items ++ came_with (body_of text.now event.now) (whole core.now.held entry.now)) }
+{
+    if let Entry::Took { body, claims, .. } = entry {
+        if stands_on(core, *body, text, event) {
+            return add_claims(came, claims.as_slice());
+        }
+    }
+    Ok(())
+}
+
+fn add_claims(came: &mut Vec<Sig>, claims: &[Claim]) -> Result<(), AllocError>
+    ensures { OnOk result (came.new.items ≡ came.old.items ++ map history.claimed_sig claims.now) }
+{
+    for claim in claims {
+        came.push(claimed_sig(claim))?;
+    }
+    Ok(())
+}
+
+// Whether the body of a number is this one, or a receipt for it.
+fn stands_on(core: &Core, number: u32, text: &[u8], event: &Event) -> bool
+    ensures { result ≡ stands_on (body_of text.now event.now) (slice_get core.now.held number) }
+{
+    match core.event(number) {
+        Some(other) => is_body(core, number, text) || is_receipt_for(other, event),
+        None => false,
+    }
+}
+
+// Whether the body of a number has these bytes.
+fn is_body(core: &Core, number: u32, text: &[u8]) -> bool
+    ensures { result ≡ is_body text.now (slice_get core.now.held number) }
+{
+    match core.body(number) {
+        Some(bytes) => *bytes == *text,
+        None => false,
+    }
+}
+
+// Whether the first is a receipt for the second.
+fn is_receipt_for(first: &Event, second: &Event) -> bool
+    ensures { result ≡ is_receipt_of first.now second.now }
+{
+    is_receipt(first)
+        && said_of_event(first) == said_of_event(second)
+        && prefix_of(first) == prefix_of(second)
+        && sn_of(first) == sn_of(second)
+}
+
+// Adds the signatures of these entries that a verifier called good on a body.
+fn add_all_good(
+    good: &mut Vec<Signed>,
+    core: &Core,
+    text: &[u8],
+    entries: &[u32],
+) -> Result<(), AllocError>
+    ensures { OnOk result (good.new.items ≡ good.old.items
+        ++ flat_map (λ i. good_at core.now.held text.now (slice_get core.now.entries i)) entries.now) }
+{
+    for number in entries {
+        if let Some(entry) = entry_at(core, *number) {
+            add_good(good, core, text, entry)?;
+        }
+    }
+    Ok(())
+}
+
+// Adds the signature of an entry, where a verifier called it good on the body.
+fn add_good(
+    good: &mut Vec<Signed>,
+    core: &Core,
+    text: &[u8],
+    entry: &Entry,
+) -> Result<(), AllocError>
+    ensures { OnOk result (good.new.items ≡ good.old.items ++ good_in text.now (whole core.now.held entry.now)) }
+{
+    if let Entry::Heard {
+        body,
+        key,
+        sig,
+        yes,
+        ..
+    } = entry
+    {
+        if *yes && is_body(core, *body, text) {
+            good.push(Signed {
+                key: *key,
+                sig: *sig,
+            })?;
+        }
+    }
+    Ok(())
+}

@@ -1,0 +1,133 @@
+//! The pairs of different establishment events of one identifier and number, and who signed both.
+ghost use Rattle.std.specs.Prelude.{◌≡◌, ◌++◌, bytes_eq, option_to_list, IfOk, OnOk};
+ghost use Rattle.blame_core.specs.Blames.{AreBlames};
+ghost use Rattle.blame_core.specs.NamedEntries.{HasNamed};
+ghost use Rattle.blame_core.specs.Rivals.{Answers, Judges};
+ghost use Rattle.journal.specs.declared.mode.Mode.TheVariants.{Full};
+ghost use Rattle.validator_core.specs.View.{Stands};
+
+use crate::Blame;
+use crate::culprits::culprits_of;
+use crate::establishments::{Establishment, establishments};
+use crate::named_entries::named_entries;
+use crate::receipts::receipts_on;
+use core_tables::Name;
+use event_body::{prefix_of, sn_of};
+use event_index::Index;
+use lists::Items;
+use std::alloc::{AllocError, Global};
+use std::collections::BTreeMap;
+use validator_core::Core;
+
+/// The pairs of different establishment events of one identifier and number, the first accepted by the first core
+/// and the second by the second, in order of prefix text and number; each with the witnesses of both that signed
+/// both. It goes over each log and each journal once, and for each pair over the entries with the names of its events.
+pub fn blame(alloc: Global, first: &Core, second: &Core) -> Result<Items<Blame>, AllocError>
+    requires first_full { first.now.mode ≡ Full }
+    requires first_whole { first.now.base ≡ 0 }
+    requires second_full { second.now.mode ≡ Full }
+    requires second_whole { second.now.base ≡ 0 }
+
+    // Just these pairs, in this order. Each has at least so many culprits as both events together want receipts, less
+    // the number of their witnesses; and each culprit is bad in every lawful history for which both journals are
+    // honest.
+    ensures { IfOk result (λ blames. AreBlames first.now second.now blames) }
+{
+    stands(first);
+    stands(second);
+    let ones = establishments(alloc, first)?;
+    let others = establishments(alloc, second)?;
+    let named = named_entries(alloc, first)?;
+    let other_named = named_entries(alloc, second)?;
+    let mut blames = Items::new(alloc);
+    for one in ones.values() {
+        let judged = judge(alloc, first, second, &named, &other_named, one, &others)?;
+        add_blame(&mut blames, judged)?;
+    }
+    Ok(blames)
+}
+
+// What is true of each core.
+fn stands(core: &Core)
+    ensures { Stands core.now }
+{
+    let _journal = core.journal();
+}
+
+// Adds the pair, where there is one.
+fn add_blame(blames: &mut Items<Blame>, judged: Option<Blame>) -> Result<(), AllocError>
+    ensures { OnOk result (blames.new ≡ blames.old ++ option_to_list judged) }
+{
+    if let Some(blame) = judged {
+        blames.push(blame)?;
+    }
+    Ok(())
+}
+
+// The pair of an event of the first core with that of the same place of the second, where they differ.
+fn judge(
+    alloc: Global,
+    first: &Core,
+    second: &Core,
+    named: &Index<Name>,
+    other_named: &Index<Name>,
+    one: &Establishment,
+    others: &BTreeMap<([u8; 44], u64), Establishment>,
+) -> Result<Option<Blame>, AllocError>
+    requires named { HasNamed first.now named.now }
+    requires other_named { HasNamed second.now other_named.now }
+    ensures { IfOk result (Judges first.now second.now one.now others.now.entries) }
+{
+    match others.get(&one.place) {
+        Some(other) => compare(alloc, first, second, named, other_named, one, other),
+        None => Ok(None),
+    }
+}
+
+// The pair, where the events differ.
+fn compare(
+    alloc: Global,
+    first: &Core,
+    second: &Core,
+    named: &Index<Name>,
+    other_named: &Index<Name>,
+    one: &Establishment,
+    other: &Establishment,
+) -> Result<Option<Blame>, AllocError>
+    requires named { HasNamed first.now named.now }
+    requires other_named { HasNamed second.now other_named.now }
+    ensures { IfOk result (Answers first.now second.now one.now other.now) }
+{
+    let (Some(text), Some(event)) = (first.body(one.number), first.event(one.number)) else {
+        return Ok(None);
+    };
+    let Some(rival) = second.body(other.number) else {
+        return Ok(None);
+    };
+    if is_same(text, rival) {
+        return Ok(None);
+    }
+    let ones = receipts_on(alloc, first, named, one.number)?;
+    let others = receipts_on(alloc, second, other_named, other.number)?;
+    let culprits = culprits_of(
+        alloc,
+        one.witnesses.as_slice(),
+        other.witnesses.as_slice(),
+        &ones,
+        &others,
+    )?;
+    Ok(Some(Blame {
+        prefix: prefix_of(event),
+        sn: sn_of(event),
+        first: one.number,
+        second: other.number,
+        culprits,
+    }))
+}
+
+// Whether the bodies are the same.
+fn is_same(text: &[u8], rival: &[u8]) -> bool
+    ensures { result ≡ bytes_eq text.now rival.now }
+{
+    *text == *rival
+}

@@ -1,0 +1,12 @@
+pub mod Texts
+pub mod Runs
+pub mod Orders
+pub mod Families
+pub mod Claims
+pub mod Sent
+pub mod Following
+pub mod Placed
+pub mod Putting
+pub mod Fixed
+pub mod Reading
+pub mod Cores

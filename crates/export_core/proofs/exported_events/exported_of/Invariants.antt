@@ -1,0 +1,14 @@
+use Rattle.std.proofs.Common.{◌≡◌, length, take}
+use Rattle.export_laws.specs.Export.{exported}
+use Rattle.validator_core.specs.View.{accepted_by}
+use Rattle.export_core.specs.Exported.{HasSigners, messages_at}
+use Rattle.export_core.specs.Messages.{IsExportText}
+use Rattle.export_core.proofs.exported_events.exported_of.Given as goal
+
+-- the events so far are put and counted, and the table has what is behind them
+abbrev pub invariant-loop-place : goal.invariant-loop-place
+invariant-loop-place l = record {
+  text : IsExportText (messages_at l.fn.core l.family.items (take l.place (accepted_by l.fn.core))) l.text.bytes.items;
+  count : l.count ≡ length (exported l.family.items (take l.place (accepted_by l.fn.core)));
+  signers : HasSigners l.family.items (take l.place (accepted_by l.fn.core)) l.signers;
+}

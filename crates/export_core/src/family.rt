@@ -1,0 +1,52 @@
+//! The family of an identifier.
+ghost use Rattle.std.specs.Prelude.{◌≡◌, IfOk};
+ghost use Rattle.export_laws.specs.Export.{IsFamily, delegator_if};
+ghost use Rattle.key_state.specs.Same.{same_prefix};
+ghost use Rattle.std.specs.List.{list_any};
+ghost use Rattle.validator_core.specs.View.{accepted_by, state_of};
+
+use cesr_codes::Prefix;
+use std::alloc::{AllocError, Global};
+use validator_core::Core;
+
+/// The identifier, its delegator, that one's delegator and so on, each once.
+pub(crate) fn family_of(
+    alloc: Global,
+    core: &Core,
+    first: &Prefix,
+) -> Result<Vec<Prefix>, AllocError>
+    ensures { IfOk result (λ family. IsFamily (accepted_by core.now) first.now family.items) }
+{
+    let mut family = Vec::new(alloc);
+    family.push(*first)?;
+    let mut last = *first;
+    for _ in 0..u64::MAX {
+        let Some(delegator) = delegator_of(core, &last) else {
+            return Ok(family);
+        };
+        if has_prefix(family.as_slice(), &delegator) {
+            return Ok(family);
+        }
+        family.push(delegator)?;
+        last = delegator;
+    }
+    // There is no memory for so many.
+    Err(AllocError)
+}
+
+// The delegator of an identifier, where it has one.
+fn delegator_of(core: &Core, prefix: &Prefix) -> Option<Prefix>
+    ensures { result ≡ delegator_if (state_of core.now prefix.now) }
+{
+    match core.state(prefix) {
+        Some(state) => state.delegator,
+        None => None,
+    }
+}
+
+/// Whether the identifier is among these.
+pub(crate) fn has_prefix(family: &[Prefix], prefix: &Prefix) -> bool
+    ensures { result ≡ list_any (λ q. same_prefix q prefix.now) family.now }
+{
+    family.contains(prefix)
+}

@@ -1,0 +1,16 @@
+//! The log of an identifier and of its delegators, as messages for a fresh validator.
+#![tactic(auto)]
+
+mod came;
+mod export_fault;
+mod exported_events;
+mod family;
+mod family_export;
+mod good_claims;
+mod groups;
+mod messages;
+mod signers;
+
+pub use export_fault::ExportFault;
+pub use exported_events::Exported;
+pub use family_export::{export, export_text};

@@ -1,0 +1,14 @@
+pub mod Among
+pub mod Numbered
+pub mod Followed
+pub mod More
+pub mod Growing
+pub mod Came
+pub mod Verdicts
+pub mod Ready
+pub mod Sending
+pub mod Family
+pub mod Rules
+pub mod Export
+pub mod Signed
+pub mod Wants
