@@ -19,6 +19,10 @@ NAMED_SIGNED = signed(NAMED, 1)
 NAMED_RECEIPT = body("rct", d=said(NAMED), i=said(NAMED)) + couples(NAMED, 1)
 OLD_SHELF = "KSHELF01\0"
 
+# The words of links.
+LISTEN = ["--listen", "127.0.0.1:0"]
+LINKS = [*LISTEN, "--links", "1"]
+
 
 def witness(*words):
     return ["witness", *words, "a"]
@@ -106,6 +110,38 @@ REFUSED = {
     "witness_prefix_with_a_space_before_it": as_witness(" " + KEY),
     "witness_prefix_with_another_character": as_witness(KEY[:-1] + "+"),
     "witness_prefix_with_leading_bits": as_witness("BQ" + KEY[2:]),
+    "links_without_an_address": ["validate", *HELPER, "--links", "1"],
+    "links_without_their_number": ["validate", *HELPER, *LISTEN],
+    "links_beside_a_file": ["validate", *HELPER, *LINKS, "a"],
+    "links_beside_a_file_behind_two_dashes": ["watch", *HELPER, *LINKS, "--", "-F"],
+    "links_beside_65_files": ["watch", *HELPER, *LINKS, *65 * ["a"]],
+    "links_beside_the_file_of_a_witness": witness(*HELPER, *PREFIX, *SHELF, *LINKS),
+    "links_of_a_witness_without_an_address": witness(*HELPER, *PREFIX, *SHELF, "--links", "1")[:-1],
+    "links_of_a_witness_without_their_number": witness(*HELPER, *PREFIX, *SHELF, *LISTEN)[:-1],
+    "links_number_beside_a_file": ["watch", *HELPER, "--links", "1", "a"],
+    "links_address_beside_a_file": ["watch", *HELPER, *LISTEN, "a"],
+    "links_address_twice": ["validate", *HELPER, *LISTEN, *LINKS],
+    "links_number_twice": ["validate", *HELPER, *LINKS, "--links=1"],
+    **{"links_%s" % name: ["validate", *HELPER, *LISTEN, "--links=" + number] for name, number in (
+        ("none", "0"), ("65", "65"), ("with_a_leading_zero", "01"), ("with_a_sign", "+1"), ("empty_number", ""), ("in_hexadecimal", "a"),
+        ("more_than_16_bits", "65537"), ("more_than_64_bits", "18446744073709551617"),
+    )},
+    "links_of_make": ["make", *HELPER, "--plan", "a", *LINKS],
+    "links_of_export": ["export", *HELPER, *PREFIX, *LINKS],
+    "export_without_a_file": ["export", *HELPER, *PREFIX],
+    "export_without_a_prefix": ["export", *HELPER, "a"],
+    "export_without_a_helper": ["export", *PREFIX, "a"],
+    "export_65_files": ["export", *HELPER, *PREFIX, *65 * ["a"]],
+    "export_prefix_twice": ["export", *HELPER, *PREFIX, *PREFIX, "a"],
+    **{"export_prefix_%s" % name: ["export", *HELPER, "--prefix=" + prefix, "a"] for name, prefix in (
+        ("empty", ""), ("cut_short", KEY[:-1]), ("with_a_character_more", KEY + "A"), ("of_another_code", "C" + KEY[1:]),
+        ("with_leading_bits", "EQ" + KEY[2:]), ("with_another_character", digest("a")[:-1] + "+"),
+    )},
+    "blame_without_a_file": ["blame", *HELPER],
+    "blame_one_file": ["blame", *HELPER, "a"],
+    "blame_three_files": ["blame", *HELPER, "a", "a", "a"],
+    "blame_without_a_helper": ["blame", "a", "a"],
+    "blame_with_links": ["blame", *HELPER, *LINKS],
 }
 
 

@@ -372,6 +372,41 @@ def several_files():
     yield from run(VALIDATE + ",a" * 64, "words\n", "2 told=0", SIGNED)
 
 
+def links():
+    """Links of one door: as files, each of which holds the same; fewer than were wanted; and makings, calls and puts that fail."""
+    for command, written, end in ((VALIDATE, REPORT, "0 told=3"), (WATCH, "", "0 told=3")):
+        words = command[:-1] + "--listen,door,--links,2"
+        one = "0 told=2 End Door Verifier link=0"
+        yield from run(words, written, end + " End End Door Verifier Verifier link=0 link=0", SIGNED, links=2)
+        yield from run(words, written, end + " End End Door Verifier Verifier link=0 link=0", SIGNED, links=3)
+        yield from run(words, written, one, SIGNED, links=1)
+        yield from run(words, written, one.replace("0", "5", 1), SIGNED, links=2, door_calls=1)
+        yield from run(words, "", "0 told=0 Door", SIGNED, links=0)
+        yield from run(words, "", "5 told=0 Door", SIGNED, links=2, door_calls=0)
+        yield from run(words, "", "5 told=0 Door!", SIGNED, links=2, makings=0)
+        yield from run(words.replace("door", "wall"), "", "5 told=0 Door!", SIGNED, links=2)
+    words = VALIDATE[:-1] + "--listen,door,--links,2"
+    yield from run(words, REPORT + VERIFIER_FAULT, "7 told=2 VerifierFault End Door Verifier! Verifier link=0 link=0", SIGNED, links=2, makings=1)
+
+
+def served_links():
+    """A witness over links: the receipts go to the link by which the event came, whatever became of the one before."""
+    first, sent = signed(OWN, 1), len(receipt_of(OWN))
+    words, made = WITNESS_WORDS + ",--listen,door,--links,2", " Disk Door Verifier Signer"
+    yield from run(words, "", "0 told=3 End End%s link=%d link=%d" % (made, sent, sent), first, shelf=EMPTY, links=2)
+    yield from run(words, "", "0 told=2 End%s link=%d" % (made, sent), first, shelf=EMPTY, links=1)
+    yield from run(words, "", "0 told=0 End%s" % made, first, shelf=EMPTY, links=0)
+    yield from run(words, "", "5 told=2 End%s link=%d" % (made, sent), first, shelf=EMPTY, links=2, door_calls=1)
+    yield from run(words, "", "6 told=3 WriteFault WriteFault%s link=0 link=0" % made, first, shelf=EMPTY, links=2, link_puts=0)
+    yield from run(words, "", "5 told=0 ReadFault ReadFault%s link=0 link=0" % made, first, shelf=EMPTY, links=2, reads=0)
+    yield from run(words, "", "7 told=1 VerifierFault%s link=0" % made, first, shelf=EMPTY, links=2, asks=0)
+    yield from run(words, "", "7 told=2 SignerFault%s link=0" % made, first, shelf=EMPTY, links=2, signings=0)
+    yield from run(words, "", "5 told=0 End Disk Door!", first, shelf=EMPTY, links=2, makings=1)
+    yield from run(words, "", "7 told=0 VerifierFault Disk Door Verifier!", first, shelf=EMPTY, links=2, makings=2)
+    yield from run(words, "", "7 told=0 SignerFault%s!" % made, first, shelf=EMPTY, links=2, makings=3)
+    yield from run(words, "", "8 told=0 Disk!", first, shelf=EMPTY, links=2, makings=0)
+
+
 def rows():
     yield "# limits"
     yield from limits_of_made_streams()
@@ -398,3 +433,6 @@ def rows():
     yield from witnesses()
     yield "# several files"
     yield from several_files()
+    yield "# links"
+    yield from links()
+    yield from served_links()

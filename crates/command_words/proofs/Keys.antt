@@ -17,11 +17,11 @@ each_below (d ∷ ds) all zero = all.0
 each_below (d ∷ ds) all (suc i) = each_below ds all.1 i
 
 -- a number's digits in base 256 are bytes
-are_bytes : (n : ℕ) → AreBytes 32 (digits_in 256 32 n)
+pub are_bytes : (n : ℕ) → AreBytes 32 (digits_in 256 32 n)
 are_bytes n = (length-digits_in 256 32 n, each_below (digits_in 256 32 n) (all_below-digits_in 256 32 n (omega arith)))
 
 -- the bytes that a key's digits spell
-bytes_back : (raw : List ℕ) → AreBytes 32 raw → digits_in 256 32 (number_of_text (base64_text 43 (whole_number raw))) ≡ raw
+pub bytes_back : (raw : List ℕ) → AreBytes 32 raw → digits_in 256 32 (number_of_text (base64_text 43 (whole_number raw))) ≡ raw
 bytes_back raw is =
     let low : whole_number raw < 256 ^ 32 = bytes_low 32 raw is in
     ap (digits_in 256 32) (number-text 43 (whole_number raw) (omega (arith, low)))

@@ -14,13 +14,21 @@ may_have name = record (new_rule name) { long = Some name; action = Some Set }
 abbrev pub wants : List ℕ → Rule
 wants name = record (may_have name) { required = true }
 
--- the one FILE
-abbrev pub file : Rule
-file = record (new_rule (codes "file")) { action = Some Set; required = true }
+-- one FILE that may be left out, by the name of its value
+abbrev pub maybe_file : List ℕ → Rule
+maybe_file name = record (new_rule name) { action = Some Set }
+
+-- one FILE that is there
+abbrev pub file : List ℕ → Rule
+file name = record (maybe_file name) { required = true }
+
+-- FILEs, none where they are left out
+abbrev pub maybe_files : Rule
+maybe_files = record (new_rule (codes "files")) { action = Some Append }
 
 -- FILEs, one at least
 abbrev pub files : Rule
-files = record (new_rule (codes "files")) { action = Some Append; required = true }
+files = record maybe_files { required = true }
 
 -- a command, and what it is given
 abbrev pub command : List ℕ → List Rule → Shape
@@ -43,12 +51,15 @@ bare = record {
 unfoldable pub table : App
 table = record {
   top = record bare.top { is_leaf = false };
-  subs = command (codes "check") (file ∷ [])
-      ∷ command (codes "validate") (wants (codes "helper") ∷ files ∷ [])
-      ∷ command (codes "watch") (wants (codes "helper") ∷ files ∷ [])
-      ∷ command (codes "witness") (wants (codes "helper") ∷ wants (codes "prefix") ∷ wants (codes "shelf") ∷ may_have (codes "from") ∷ file ∷ [])
+  subs = command (codes "check") (file (codes "file") ∷ [])
+      ∷ command (codes "validate") (wants (codes "helper") ∷ may_have (codes "listen") ∷ may_have (codes "links") ∷ maybe_files ∷ [])
+      ∷ command (codes "watch") (wants (codes "helper") ∷ may_have (codes "listen") ∷ may_have (codes "links") ∷ maybe_files ∷ [])
+      ∷ command (codes "witness") (wants (codes "helper") ∷ wants (codes "prefix") ∷ wants (codes "shelf") ∷ may_have (codes "from")
+      ∷ may_have (codes "listen") ∷ may_have (codes "links") ∷ maybe_file (codes "file") ∷ [])
       ∷ command (codes "make") (wants (codes "helper") ∷ wants (codes "plan") ∷ may_have (codes "log") ∷ [])
-      ∷ command (codes "convert") (wants (codes "to") ∷ file ∷ [])
+      ∷ command (codes "convert") (wants (codes "to") ∷ file (codes "file") ∷ [])
+      ∷ command (codes "export") (wants (codes "helper") ∷ wants (codes "prefix") ∷ files ∷ [])
+      ∷ command (codes "blame") (wants (codes "helper") ∷ file (codes "first") ∷ file (codes "second") ∷ [])
       ∷ command (codes "gen") (wants (codes "seed") ∷ wants (codes "logs") ∷ wants (codes "events") ∷ [])
       ∷ command (codes "rehearse") []
       ∷ [];

@@ -1,18 +1,20 @@
 //! Commands, read from the words.
-ghost use Rattle.std.specs.Prelude.{◌≡◌, ◌<◌, ◌≤◌, IfOk, IfSome, codes, length, map, option_and_then, string_bytes};
+ghost use Rattle.std.specs.Prelude.{◌≡◌, IfOk, IfSome, map, option_and_then, string_bytes};
 ghost use Rattle.std.specs.Option.{option_map};
-ghost use Rattle.clap.specs.Words.{all_of, first_of, subcommand_rows_of};
+ghost use Rattle.clap.specs.Words.{subcommand_rows_of};
 ghost use Rattle.command_words.specs.Words as specs;
-ghost use Rattle.cesr_codes.specs.declared.key.KeyCode.TheVariants.{Fixed};
 ghost use Rattle.command_words.specs.Words.{IsInForm, asked_by, asks, asks_by_name, rows_in};
-ghost use Rattle.command_words.specs.Words.{asks_check, asks_convert, asks_gen, asks_make, asks_over_core, asks_witness};
+ghost use Rattle.command_words.specs.Words.{asks_blame, asks_check, asks_convert, asks_export, asks_gen};
+ghost use Rattle.command_words.specs.Words.{asks_make, asks_over_core, asks_witness};
 
-use crate::domain::domain;
 use crate::form::program;
-use crate::key::fixed_key;
-use crate::number::number;
+use crate::inputs::Inputs;
+use crate::values::{
+    count_set, domain_set, file_or_links, files_or_links, files_set, key_set, number_set,
+    prefix_set, value,
+};
 use cesr_binary::Domain;
-use cesr_codes::Key;
+use cesr_codes::{Key, Prefix};
 use clap::ArgMatches;
 use clap::error::ErrorKind;
 use std::alloc::{AllocError, Global};
@@ -22,9 +24,6 @@ const MOST_OF_LOGS: u16 = 1_000;
 
 const MOST_OF_EVENTS: u16 = 1_000;
 
-// No more files are read to one core.
-const MOST_OF_FILES: usize = 64;
-
 /// What the words ask for.
 #[derive(PartialEq, Eq, Debug, Drop)]
 pub enum Command<'a> {
@@ -32,26 +31,26 @@ pub enum Command<'a> {
     Check {
         file: &'a str,
     },
-    /// Reads files, from one to 64, and says what is accepted of them, with the verdicts of the helper.
+    /// Reads files, from one to 64, or links, and says what is accepted of them, with the verdicts of the helper.
     Validate {
         helper: &'a str,
-        files: Vec<&'a str>,
+        inputs: Inputs<'a, Vec<&'a str>>,
     },
-    /// Reads files, from one to 64, and writes the evidence of their conflicts, with the verdicts of the helper.
+    /// Reads files, from one to 64, or links, and writes the evidence of their conflicts, with the verdicts of the helper.
     Watch {
         helper: &'a str,
-        files: Vec<&'a str>,
+        inputs: Inputs<'a, Vec<&'a str>>,
     },
-    /// Reads one file and writes the receipts of the witness whose key this is, with the signatures and verdicts of the
-    /// helper. What it has seen is kept in the shelf, which is filled with the list of an old one first, where that is
-    /// named and there is none yet.
+    /// Reads one file, or links one after another, and writes the receipts of the witness whose key this is, with the
+    /// signatures and verdicts of the helper. What it has seen is kept in the shelf, which is filled with the list of an
+    /// old one first, where that is named and there is none yet.
     Witness {
         helper: &'a str,
         /// A key that can't be rotated.
         prefix: Key,
         shelf: &'a str,
         from: Option<&'a str>,
-        file: &'a str,
+        input: Inputs<'a, &'a str>,
     },
     /// Makes the message of a plan, over a log where there is one, with the signatures and verdicts of the helper.
     Make {
@@ -63,6 +62,20 @@ pub enum Command<'a> {
     Convert {
         domain: Domain,
         file: &'a str,
+    },
+    /// Reads files, from one to 64, and writes the log of this prefix with those of its delegators, as it is accepted with
+    /// the verdicts of the helper.
+    Export {
+        helper: &'a str,
+        prefix: Prefix,
+        files: Vec<&'a str>,
+    },
+    /// Reads two files, each by itself, and says which witnesses signed differing events of them, with the verdicts of the
+    /// helper.
+    Blame {
+        helper: &'a str,
+        first: &'a str,
+        second: &'a str,
     },
     /// Makes a stream of so many logs of so many events from a seed, and says how much of it is accepted.
     Generate {
@@ -119,6 +132,8 @@ fn command_by_name<'a>(
         "witness" => Ok(witness(found)),
         "make" => Ok(make(found)),
         "convert" => Ok(convert(found)),
+        "export" => export(alloc, found),
+        "blame" => Ok(blame(found)),
         "gen" => Ok(generate(found)),
         "rehearse" => Ok(Some(Command::Rehearse)),
         _ => Ok(None),
@@ -142,8 +157,8 @@ fn validate<'a>(alloc: Global, found: &ArgMatches<'a>) -> Result<Option<Command<
     let Some(helper) = value(found, "helper") else {
         return Ok(None);
     };
-    match files_set(alloc, found)? {
-        Some(files) => Ok(Some(Command::Validate { helper, files })),
+    match files_or_links(alloc, found)? {
+        Some(inputs) => Ok(Some(Command::Validate { helper, inputs })),
         None => Ok(None),
     }
 }
@@ -156,8 +171,8 @@ fn watch<'a>(alloc: Global, found: &ArgMatches<'a>) -> Result<Option<Command<'a>
     let Some(helper) = value(found, "helper") else {
         return Ok(None);
     };
-    match files_set(alloc, found)? {
-        Some(files) => Ok(Some(Command::Watch { helper, files })),
+    match files_or_links(alloc, found)? {
+        Some(inputs) => Ok(Some(Command::Watch { helper, inputs })),
         None => Ok(None),
     }
 }
@@ -170,13 +185,13 @@ fn witness<'a>(found: &ArgMatches<'a>) -> Option<Command<'a>>
     let prefix = key_set(found, "prefix")?;
     let shelf = value(found, "shelf")?;
     let from = value(found, "from");
-    let file = value(found, "file")?;
+    let input = file_or_links(found)?;
     Some(Command::Witness {
         helper,
         prefix,
         shelf,
         from,
-        file,
+        input,
     })
 }
 
@@ -199,6 +214,40 @@ fn convert<'a>(found: &ArgMatches<'a>) -> Option<Command<'a>>
     Some(Command::Convert { domain, file })
 }
 
+fn export<'a>(alloc: Global, found: &ArgMatches<'a>) -> Result<Option<Command<'a>>, AllocError>
+    ensures asked { IfOk result (λ command. option_map asked_by command ≡ asks_export (rows_in found.now)) }
+    ensures in_form { IfOk result (λ command. IfSome command IsInForm) }
+{
+    let Some(helper) = value(found, "helper") else {
+        return Ok(None);
+    };
+    let Some(prefix) = prefix_set(found, "prefix") else {
+        return Ok(None);
+    };
+    match files_set(alloc, found)? {
+        Some(files) => Ok(Some(Command::Export {
+            helper,
+            prefix,
+            files,
+        })),
+        None => Ok(None),
+    }
+}
+
+fn blame<'a>(found: &ArgMatches<'a>) -> Option<Command<'a>>
+    ensures asked { option_map asked_by result ≡ asks_blame (rows_in found.now) }
+    ensures in_form { IfSome result IsInForm }
+{
+    let helper = value(found, "helper")?;
+    let first = value(found, "first")?;
+    let second = value(found, "second")?;
+    Some(Command::Blame {
+        helper,
+        first,
+        second,
+    })
+}
+
 fn generate<'a>(found: &ArgMatches<'a>) -> Option<Command<'a>>
     ensures asked { option_map asked_by result ≡ asks_gen (rows_in found.now) }
     ensures in_form { IfSome result IsInForm }
@@ -207,65 +256,4 @@ fn generate<'a>(found: &ArgMatches<'a>) -> Option<Command<'a>>
     let logs = count_set(found, "logs", MOST_OF_LOGS)?;
     let events = count_set(found, "events", MOST_OF_EVENTS)?;
     Some(Command::Generate { seed, logs, events })
-}
-
-// The domain that an option is set to.
-fn domain_set(found: &ArgMatches<'_>, option: &str) -> Option<Domain>
-    ensures { result ≡ specs.domain_set option.now (rows_in found.now) }
-{
-    domain(value(found, option)?)
-}
-
-// The key that can't be rotated that an option is set to.
-fn key_set(found: &ArgMatches<'_>, option: &str) -> Option<Key>
-    ensures key { result ≡ specs.key_set option.now (rows_in found.now) }
-    ensures fixed { IfSome result (λ key. key.code ≡ Fixed) }
-{
-    fixed_key(value(found, option)?.as_bytes())
-}
-
-// The number that an option is set to, where it is in this range.
-fn number_set(found: &ArgMatches<'_>, option: &str, least: u64, most: u64) -> Option<u64>
-    ensures number { result ≡ specs.number_set option.now least most (rows_in found.now) }
-    ensures most { IfSome result (λ n. n ≤ most) }
-{
-    number(value(found, option)?.as_bytes(), least, most)
-}
-
-// How many an option asks for, where that is one at least and not too many.
-fn count_set(found: &ArgMatches<'_>, option: &str, most: u16) -> Option<u16>
-    ensures { result ≡ specs.number_set option.now 1 most (rows_in found.now) }
-{
-    let count = number_set(found, option, 1, u64::from(most))?;
-    u16::try_from(count).ok()
-}
-
-// The value of an option, or the FILE, by its name.
-fn value<'a>(found: &ArgMatches<'a>, name: &str) -> Option<&'a str>
-    ensures { option_map (λ value. value.now) result ≡ first_of name.now (rows_in found.now) }
-{
-    found.get_str(name)
-}
-
-// The FILEs, where they are one at least and not too many.
-fn files_set<'a>(alloc: Global, found: &ArgMatches<'a>) -> Result<Option<Vec<&'a str>>, AllocError>
-    ensures files { IfOk result (λ files. option_map (λ files. map (λ f. f.now) files.items) files
-        ≡ specs.files_set (rows_in found.now)) }
-    ensures some { IfOk result (λ files. IfSome files (λ files. 0 < length files.items)) }
-    ensures most { IfOk result (λ files. IfSome files (λ files. length files.items ≤ 64)) }
-{
-    let Some(files) = files_in(found) else {
-        return Ok(None);
-    };
-    if files.is_empty() || files.len() > MOST_OF_FILES {
-        return Ok(None);
-    }
-    Ok(Some(Vec::from_slice(alloc, files)?))
-}
-
-// The FILEs, in the order of the words.
-fn files_in<'a, 'b>(found: &'b ArgMatches<'a>) -> Option<&'b [&'a str]>
-    ensures { option_map (λ files. map (λ f. f.now) files.now) result ≡ all_of (codes "files") (rows_in found.now) }
-{
-    found.get_strs("files")
 }

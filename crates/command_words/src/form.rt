@@ -18,6 +18,8 @@ pub(crate) fn program<'a>(alloc: Global) -> Result<Command<'a>, AllocError>
         .subcommand(witness(alloc)?)?
         .subcommand(make(alloc)?)?
         .subcommand(convert(alloc)?)?
+        .subcommand(export(alloc)?)?
+        .subcommand(blame(alloc)?)?
         .subcommand(generate(alloc)?)?
         .subcommand(Command::new(alloc, "rehearse"))
 }
@@ -35,31 +37,37 @@ fn without_commands<'a>(alloc: Global) -> Command<'a>
 
 // `check FILE`
 fn check<'a>(alloc: Global) -> Result<Command<'a>, AllocError>
-    ensures { IfOk result (HasShape (specs.command (codes "check") (specs.file ∷ []))) }
+    ensures { IfOk result (HasShape (specs.command (codes "check") (specs.file (codes "file") ∷ []))) }
 {
-    Command::new(alloc, "check").arg(file(alloc))
+    Command::new(alloc, "check").arg(file(alloc, "file"))
 }
 
-// `validate` and `watch`, with `--helper HELPER FILE ..`
+// `validate` and `watch`, with `--helper HELPER FILE ..`, or `--listen ADDRESS --links COUNT` in the place of the FILEs
 fn over_core<'a>(alloc: Global, name: &'a str) -> Result<Command<'a>, AllocError>
-    ensures { IfOk result (HasShape (specs.command name.now (wants (codes "helper") ∷ specs.files ∷ []))) }
+    ensures { IfOk result (HasShape (specs.command name.now (wants (codes "helper") ∷ may_have (codes "listen")
+        ∷ may_have (codes "links") ∷ specs.maybe_files ∷ []))) }
 {
     Command::new(alloc, name)
         .arg(wanted(alloc, "helper"))?
-        .arg(files(alloc))
+        .arg(option(alloc, "listen"))?
+        .arg(option(alloc, "links"))?
+        .arg(maybe_files(alloc))
 }
 
-// `witness --helper HELPER --prefix KEY --shelf SHELF FILE`, and `--from OLD`
+// `witness --helper HELPER --prefix KEY --shelf SHELF FILE`, and `--from OLD`; or links in the place of the FILE
 fn witness<'a>(alloc: Global) -> Result<Command<'a>, AllocError>
     ensures { IfOk result (HasShape (specs.command (codes "witness") (wants (codes "helper") ∷ wants (codes "prefix")
-        ∷ wants (codes "shelf") ∷ may_have (codes "from") ∷ specs.file ∷ []))) }
+        ∷ wants (codes "shelf") ∷ may_have (codes "from") ∷ may_have (codes "listen") ∷ may_have (codes "links")
+        ∷ specs.maybe_file (codes "file") ∷ []))) }
 {
     Command::new(alloc, "witness")
         .arg(wanted(alloc, "helper"))?
         .arg(wanted(alloc, "prefix"))?
         .arg(wanted(alloc, "shelf"))?
         .arg(option(alloc, "from"))?
-        .arg(file(alloc))
+        .arg(option(alloc, "listen"))?
+        .arg(option(alloc, "links"))?
+        .arg(maybe_file(alloc, "file"))
 }
 
 // `make --helper HELPER --plan PLAN`, and `--log LOG`
@@ -75,11 +83,33 @@ fn make<'a>(alloc: Global) -> Result<Command<'a>, AllocError>
 
 // `convert --to DOMAIN FILE`
 fn convert<'a>(alloc: Global) -> Result<Command<'a>, AllocError>
-    ensures { IfOk result (HasShape (specs.command (codes "convert") (wants (codes "to") ∷ specs.file ∷ []))) }
+    ensures { IfOk result (HasShape (specs.command (codes "convert") (wants (codes "to") ∷ specs.file (codes "file") ∷ []))) }
 {
     Command::new(alloc, "convert")
         .arg(wanted(alloc, "to"))?
-        .arg(file(alloc))
+        .arg(file(alloc, "file"))
+}
+
+// `export --helper HELPER --prefix PREFIX FILE ..`
+fn export<'a>(alloc: Global) -> Result<Command<'a>, AllocError>
+    ensures { IfOk result (HasShape (specs.command (codes "export") (wants (codes "helper") ∷ wants (codes "prefix")
+        ∷ specs.files ∷ []))) }
+{
+    Command::new(alloc, "export")
+        .arg(wanted(alloc, "helper"))?
+        .arg(wanted(alloc, "prefix"))?
+        .arg(files(alloc))
+}
+
+// `blame --helper HELPER FILE FILE`
+fn blame<'a>(alloc: Global) -> Result<Command<'a>, AllocError>
+    ensures { IfOk result (HasShape (specs.command (codes "blame") (wants (codes "helper") ∷ specs.file (codes "first")
+        ∷ specs.file (codes "second") ∷ []))) }
+{
+    Command::new(alloc, "blame")
+        .arg(wanted(alloc, "helper"))?
+        .arg(file(alloc, "first"))?
+        .arg(file(alloc, "second"))
 }
 
 // `gen --seed SEED --logs LOGS --events EVENTS`
@@ -109,14 +139,28 @@ fn wanted<'a>(alloc: Global, name: &'a str) -> Arg<'a>
     option(alloc, name).required(true)
 }
 
-// The one FILE.
-fn file<'a>(alloc: Global) -> Arg<'a>
-    ensures rule { rule_of result ≡ specs.file }
+// One FILE that may be left out, by the name of its value.
+fn maybe_file<'a>(alloc: Global, name: &'a str) -> Arg<'a>
+    ensures rule { rule_of result ≡ specs.maybe_file name.now }
     ensures local { result.global ≡ false }
 {
-    Arg::new(alloc, "file")
-        .action(ArgAction::Set)
-        .required(true)
+    Arg::new(alloc, name).action(ArgAction::Set)
+}
+
+// One FILE that has to be there.
+fn file<'a>(alloc: Global, name: &'a str) -> Arg<'a>
+    ensures rule { rule_of result ≡ specs.file name.now }
+    ensures local { result.global ≡ false }
+{
+    maybe_file(alloc, name).required(true)
+}
+
+// FILEs, which may be left out.
+fn maybe_files<'a>(alloc: Global) -> Arg<'a>
+    ensures rule { rule_of result ≡ specs.maybe_files }
+    ensures local { result.global ≡ false }
+{
+    Arg::new(alloc, "files").action(ArgAction::Append)
 }
 
 // FILEs, one at least.
@@ -124,7 +168,5 @@ fn files<'a>(alloc: Global) -> Arg<'a>
     ensures rule { rule_of result ≡ specs.files }
     ensures local { result.global ≡ false }
 {
-    Arg::new(alloc, "files")
-        .action(ArgAction::Append)
-        .required(true)
+    maybe_files(alloc).required(true)
 }

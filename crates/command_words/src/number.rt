@@ -9,6 +9,7 @@ const MOST_DIGITS: usize = 20;
 /// The number that a word spells in decimal, where it is in this range.
 pub(crate) fn number(word: &[u8], least: u64, most: u64) -> Option<u64>
     ensures number { result ≡ number_in least most word.now }
+    ensures least { IfSome result (λ n. least ≤ n) }
     ensures most { IfSome result (λ n. n ≤ most) }
 {
     if !is_number(word) {

@@ -5,13 +5,14 @@ ghost use Rattle.keri.specs.Descriptors.{IsBehindStreams};
 use std::fs::File;
 use std::io;
 use std::io::ErrorKind;
+use std::net::{TcpListener, TcpStream};
 use std::os::fd::{AsRawFd, OwnedFd};
 use std::process::{ChildStdin, ChildStdout};
 
 // Descriptors up to this one are the standard streams.
 const LAST_STREAM: i32 = 2;
 
-/// A file that was opened, or an end of a pipe.
+/// A file that was opened, an end of a pipe, or a socket.
 pub(crate) trait Opened {
     /// The same under another descriptor, behind those of the standard streams where the system does as it says.
     fn moved(self) -> io::Result<Self>;
@@ -35,7 +36,19 @@ impl Opened for ChildStdout {
     }
 }
 
-/// The same file or pipe. Where a standard stream was closed before this program began, what is opened may take its
+impl Opened for TcpListener {
+    fn moved(self) -> io::Result<TcpListener> {
+        self.try_clone()
+    }
+}
+
+impl Opened for TcpStream {
+    fn moved(self) -> io::Result<TcpStream> {
+        self.try_clone()
+    }
+}
+
+/// The same file, pipe or socket. Where a standard stream was closed before this program began, what is opened may take its
 /// descriptor: what is meant for that stream must not land in it, nor what it holds be taken for that stream's.
 pub(crate) fn behind_streams<T: Opened + AsRawFd + Drop>(opened: T) -> io::Result<T>
     ensures { IfOk result (λ opened. IsBehindStreams (T.raw_fd opened)) }

@@ -1,7 +1,10 @@
 -- Why a reader closed by a fault, by what its command did.
 use Rattle.std.proofs.Common.{◌≡◌, ◌≢◌, ℕ, inl, inr, Bool, true, false, ◌||◌, List, [], ◌∷◌, ◌+◌, Option, Some, None, refl, sym, ◌∙◌, ap, subst}
 use Rattle.std.specs.Prelude.{codes, is_none, IfSome, IsSomeAnd, MatchOption}
+use Rattle.std.specs.List.{list_any}
 use Rattle.std.proofs.lemmas.Option.{IfSome_then}
+use Rattle.std.specs.List.{All}
+use Rattle.std.proofs.lemmas.List.Elements.{All-head, All-tail}
 use Rattle.keri_specs.specs.Causes.{Rose}
 use Rattle.cesr_codes.specs.declared.digest.Digest.{Digest}
 use Rattle.cesr_stream.specs.declared.message.Message.{Message}
@@ -24,10 +27,11 @@ use Rattle.reader_threads.specs.Given.{Given}
 use Rattle.reader_threads.specs.Told.{HasFailed, SomeFailed}
 use Rattle.reader_threads.specs.declared.last_round.LastRound.{LastRound}
 use Rattle.reader_threads.specs.declared.last_round.LastRound.TheVariants.{NoneFailed, VerifierFailed, OutOfMemory as NoMemory}
-use Rattle.keri_roles.specs.CoreTold.{AreGiven, ReadsToCore, fails_last, makings_of}
+use Rattle.keri_roles.specs.CoreTold.{AreGiven, AreProvided, ReadsToCore, fails_last, makings_of}
+use Rattle.keri_roles.specs.LinksTold.{AreLinked, AreLinksGiven, AreTakenBy, verifiers_of}
 use Rattle.keri_roles.specs.Made.{IsMade, IsMadeAlone, IsMadeBehind, given_alone, given_behind, last_close}
 use Rattle.keri_roles.specs.Rehearsed.{IsRehearsed, Serves, serving_close}
-use Rattle.keri_roles.specs.Run.{Run, Work, AreCaused, VerifierRose}
+use Rattle.keri_roles.specs.Run.{DoorTold, LinksTold, Run, Work, AreCaused, VerifierRose}
 use Rattle.keri_roles.proofs.Made.{due_finds, due_signer, fourth_of, second, text_asked, text_read}
 
 -- where it may be that the source and the verifier couldn't be made, the count of the outside rose
@@ -68,14 +72,23 @@ module _ (rose : Type 0) where
         let closes = rw e at (r.closes some).closes in
         rw r.verifier_is (subst (λ n. Rose n r.verifier_left.faults) zero closes.1)
 
-second_test : (a : Bool) {b : Bool} (c : Bool) → b ≡ true → (a || (b || c)) ≡ true
-second_test true c e = refl
-second_test false c e = rw e refl
+first_lacks : (a b c : Bool) → a ≡ true → ((a || b) || c) ≡ true
+first_lacks true b c e = refl
+first_lacks false b c e = cc
 
-later_test : (a b : Bool) {c : Bool} → c ≡ true → (a || (b || c)) ≡ true
-later_test true b e = refl
-later_test false true e = refl
-later_test false false e = e
+second_lacks : (a b c : Bool) → b ≡ true → ((a || b) || c) ≡ true
+second_lacks true b c e = refl
+second_lacks false true c e = refl
+second_lacks false false c e = cc
+
+later_lacks : (a b c : Bool) → c ≡ true → ((a || b) || c) ≡ true
+later_lacks true b c e = refl
+later_lacks false true c e = refl
+later_lacks false false c e = e
+
+pub regroup : (a b c : Bool) → (a || (b || c)) ≡ ((a || b) || c)
+regroup true b c = refl
+regroup false b c = refl
 
 -- one of two tests amid others is passed
 middle : (a b c d : Bool) → (b || (c || false)) ≡ true → (a || (b || (c || (d || false)))) ≡ true
@@ -84,47 +97,93 @@ middle false true c d e = refl
 middle false false true d e = refl
 middle false false false d e = cc
 
+-- nothing that was given had failed
+abbrev pub AreUnfailed : List Given → Type 0
+AreUnfailed [] = Unit {0}
+AreUnfailed (g ∷ given) = IfSome g.source (λ s. s.faults ≡ 0) × IfSome g.verifier (λ v. v.faults ≡ 0) × AreUnfailed given
+
+-- something of a reader couldn't be made
+abbrev pub lacks : List Given → Bool
+lacks given = list_any (λ g. is_none g.source || is_none g.verifier) given
+
 -- each of the readers that were given this, where a making that failed has its cause
-module _ (limits : Limits) (told : List ToldEntry) (most : ℕ) (rest : LastRound) (before after : Told) (helper : List ℕ) where
-  pub each_caused : (number : ℕ) (read : List (List ℕ)) (names : List (List ℕ)) (given : List Given) (readers : List Reader) (feeds : FeedEach limits told number (ends_of read readers))
-      → AreGiven before helper names given → (some_failed (makings_of helper names given) ≡ true → Rose before.faults after.faults)
+module _ (limits : Limits) (told : List ToldEntry) (most : ℕ) (rest : LastRound) (before after : Told) where
+  pub each_caused : (number : ℕ) (read : List (List ℕ)) (given : List Given) (readers : List Reader) (feeds : FeedEach limits told number (ends_of read readers))
+      → AreUnfailed given → (lacks given ≡ true → Rose before.faults after.faults)
       → ReadEach limits told most rest number read given readers feeds → AreCaused before after readers
-  each_caused number [] names [] [] feeds are rose each = tt
-  each_caused number [] names [] (reader ∷ readers) feeds are rose each = absurd each
-  each_caused number [] names (g ∷ given) readers feeds are rose each = absurd each
-  each_caused number (bytes ∷ read) names [] readers feeds are rose each = absurd each
-  each_caused number (bytes ∷ read) names (g ∷ given) [] feeds are rose each = absurd each
-  each_caused number (bytes ∷ read) [] (g ∷ given) (reader ∷ readers) feeds are rose each = absurd are
-  each_caused number (bytes ∷ read) (name ∷ names) (g ∷ given) (reader ∷ readers) feeds are rose each = (
+  each_caused number [] [] [] feeds are rose each = tt
+  each_caused number [] [] (reader ∷ readers) feeds are rose each = absurd each
+  each_caused number [] (g ∷ given) readers feeds are rose each = absurd each
+  each_caused number (bytes ∷ read) [] readers feeds are rose each = absurd each
+  each_caused number (bytes ∷ read) (g ∷ given) [] feeds are rose each = absurd each
+  each_caused number (bytes ∷ read) (g ∷ given) (reader ∷ readers) feeds are rose each = (
     record {
       source = told_read (Rose before.faults after.faults) limits told most number rest reader bytes _ g.source g.verifier
-          (λ none. rose (rw none refl)) (IfSome_then g.source are.0.source (λ s is. is.1)) each.0;
+          (λ none. rose (first_lacks (is_none g.source) (is_none g.verifier) (lacks given) none)) are.0 each.0;
       verifier = told_asked (Rose before.faults after.faults) limits told most number rest reader bytes _ g.source g.verifier
-          (λ none. rose (second_test (is_none g.source) _ none)) (IfSome_then g.verifier are.0.verifier (λ v is. is.2)) each.0;
+          (λ none. rose (second_lacks (is_none g.source) (is_none g.verifier) (lacks given) none)) are.1 each.0;
     },
-    each_caused (number + 1) read names given readers feeds.1 are.1
-        (λ some. rose (later_test (is_none g.source) (is_none g.verifier) some)) each.1,
+    each_caused (number + 1) read given readers feeds.1 are.2
+        (λ some. rose (later_lacks (is_none g.source) (is_none g.verifier) (lacks given) some)) each.1,
   )
+
+-- what is given for names had not failed, and where something lacks a making failed
+module _ (before : Told) (helper : List ℕ) where
+  pub names_unfailed : (names : List (List ℕ)) (given : List Given) → AreGiven before helper names given → AreUnfailed given
+  names_unfailed [] [] are = tt
+  names_unfailed [] (g ∷ given) are = absurd are
+  names_unfailed (name ∷ names) [] are = tt
+  names_unfailed (name ∷ names) (g ∷ given) are =
+      (IfSome_then g.source are.0.source (λ s is. is.1), IfSome_then g.verifier are.0.verifier (λ v is. is.2), names_unfailed names given are.1)
+
+  pub names_lack : (names : List (List ℕ)) (given : List Given) → AreGiven before helper names given → some_failed (makings_of helper names given) ≡ lacks given
+  names_lack [] [] are = refl
+  names_lack [] (g ∷ given) are = absurd are
+  names_lack (name ∷ names) [] are = absurd are
+  names_lack (name ∷ names) (g ∷ given) are =
+      regroup (is_none g.source) (is_none g.verifier) _ ∙ ap (λ b. (is_none g.source || is_none g.verifier) || b) (names_lack names given are.1)
+
+  -- and so of links, whose sources are always there
+  pub links_unfailed : (sources : List SourceTold) (given : List Given) → All (λ s. s.faults ≡ 0) sources → AreLinksGiven before helper sources given → AreUnfailed given
+  links_unfailed [] [] unread are = tt
+  links_unfailed [] (g ∷ given) unread are = absurd are
+  links_unfailed (s ∷ sources) [] unread are = tt
+  links_unfailed (s ∷ sources) (g ∷ given) unread are = (
+    rw are.0.source_is (All-head (λ s. s.faults ≡ 0) s sources unread),
+    IfSome_then g.verifier are.0.verifier (λ v is. is.2),
+    links_unfailed sources given (All-tail (λ s. s.faults ≡ 0) s sources unread) are.1,
+  )
+
+  pub links_lack : (sources : List SourceTold) (given : List Given) → AreLinksGiven before helper sources given → some_failed (verifiers_of helper given) ≡ lacks given
+  links_lack [] [] are = refl
+  links_lack [] (g ∷ given) are = absurd are
+  links_lack (s ∷ sources) [] are = absurd are
+  links_lack (s ∷ sources) (g ∷ given) are = rw are.0.source_is (ap (λ b. is_none g.verifier || b) (links_lack sources given are.1))
+
+behind_test : (a : Bool) {b : Bool} → b ≡ true → (a || b) ≡ true
+behind_test true e = refl
+behind_test false e = e
+
+front_test : (a b : Bool) → a ≡ true → (a || b) ≡ true
+front_test true b e = refl
+front_test false b e = cc
 
 rose_since : (given left : Option VerifierTold) → IfSome given (λ v. v.faults ≡ 0) → HasFailed given left → IsSomeAnd left (λ w. Rose 0 w.faults)
 rose_since None left zero failed = absurd failed
 rose_since (Some v) None zero failed = absurd failed
 rose_since (Some v) (Some w) zero failed = subst (λ n. Rose n w.faults) zero failed
 
-failed_last : (rest : LastRound) → fails_last rest ≡ true → rest ≡ VerifierFailed
+pub failed_last : (rest : LastRound) → fails_last rest ≡ true → rest ≡ VerifierFailed
 failed_last NoneFailed e = cc
 failed_last VerifierFailed e = refl
 failed_last NoMemory e = cc
 
 -- a verifier that failed since it was given failed
-module _ (before : Told) (helper : List ℕ) where
-  pub some_rose : (names : List (List ℕ)) (given : List Given) (readers : List Reader) → AreGiven before helper names given → SomeFailed given readers → VerifierRose readers
-  some_rose [] [] readers are failed = absurd failed
-  some_rose [] (g ∷ given) readers are failed = absurd are
-  some_rose (name ∷ names) [] readers are failed = absurd are
-  some_rose (name ∷ names) (g ∷ given) [] are failed = absurd failed
-  some_rose (name ∷ names) (g ∷ given) (reader ∷ readers) are (inl this) = inl (rose_since g.verifier reader.verifier (IfSome_then g.verifier are.0.verifier (λ v is. is.2)) this)
-  some_rose (name ∷ names) (g ∷ given) (reader ∷ readers) are (inr later) = inr (some_rose names given readers are.1 later)
+pub some_rose : (given : List Given) (readers : List Reader) → AreUnfailed given → SomeFailed given readers → VerifierRose readers
+some_rose [] readers are failed = absurd failed
+some_rose (g ∷ given) [] are failed = absurd failed
+some_rose (g ∷ given) (reader ∷ readers) are (inl this) = inl (rose_since g.verifier reader.verifier are.1 this)
+some_rose (g ∷ given) (reader ∷ readers) are (inr later) = inr (some_rose given readers are.2 later)
 
 pub check_caused : (name : List ℕ) (work : Work) → IsChecked name work → AreCaused work.before work.after work.readers
 check_caused name work c = rw c.one (
@@ -136,16 +195,41 @@ check_caused name work c = rw c.one (
   tt,
 )
 
--- of any command over a core
-pub told_caused : (mode : Mode) (helper : List ℕ) (names : List (List ℕ)) (work : Work) → ReadsToCore mode helper names work
-    → AreCaused work.before work.after work.readers
-told_caused mode helper names work t = each_caused work.before.limits _ _ t.rest work.before work.after helper 0 t.journal.read names t.given work.readers t.journal.fed.fed.each
-    t.provided.are_given t.provided.makes.rose t.journal.each
+-- of any command over a core, what is given to whose readers had not failed
+module _ (mode : Mode) (IsProvided : List Given → Told → Told → Type 0) (work : Work) (t : ReadsToCore mode IsProvided work) (are : AreUnfailed t.given) where
+  pub told_caused : (lacks t.given ≡ true → Rose work.before.faults work.after.faults) → AreCaused work.before work.after work.readers
+  told_caused rose = each_caused work.before.limits _ _ t.rest work.before work.after 0 t.journal.read t.given work.readers t.journal.fed.fed.each are rose t.journal.each
 
--- and a verifier that failed in the last round failed
-pub told_rose : (mode : Mode) (helper : List ℕ) (names : List (List ℕ)) (work : Work) (t : ReadsToCore mode helper names work) → fails_last t.rest ≡ true
-    → VerifierRose work.readers
-told_rose mode helper names work t e = some_rose work.before helper names t.given work.readers t.provided.are_given (t.journal.failed (failed_last t.rest e))
+  -- and a verifier that failed in the last round failed
+  pub told_rose : fails_last t.rest ≡ true → VerifierRose work.readers
+  told_rose e = some_rose t.given work.readers are (t.journal.failed (failed_last t.rest e))
+
+-- over files
+module _ (mode : Mode) (helper : List ℕ) (names : List (List ℕ)) (work : Work) (t : ReadsToCore mode (AreProvided helper names) work) where
+  pub files_unfailed : AreUnfailed t.given
+  files_unfailed = names_unfailed work.before helper names t.given t.provided.are_given
+
+  pub files_caused : AreCaused work.before work.after work.readers
+  files_caused = told_caused mode _ work t files_unfailed (λ e. t.provided.makes.rose (names_lack work.before helper names t.given t.provided.are_given ∙ e))
+
+-- the door failed, where it is found to have
+pub door_rose : (rose : Type 0) (told : Option (List (List ℕ))) (count : ℕ) (failed : Bool) (held : List (Option (List ℕ))) (door : Option DoorTold) → (is_none door ≡ true → rose)
+    → AreTakenBy told count failed held door → failed ≡ true → MatchOption door rose (λ d. Rose 0 d.faults)
+door_rose rose told count failed held None out t e = out refl
+door_rose rose told count failed held (Some d) out t e = rw e at t.cause
+
+-- over links
+module _ (mode : Mode) (helper address : List ℕ) (count : ℕ) (links : LinksTold) (work : Work) (t : ReadsToCore mode (AreLinked helper address count links) work) where
+  pub linked_unfailed : AreUnfailed t.given
+  linked_unfailed = links_unfailed work.before helper t.provided.sources t.given t.provided.taken.unread t.provided.are_given
+
+  pub linked_caused : AreCaused work.before work.after work.readers
+  linked_caused = told_caused mode _ work t linked_unfailed
+      (λ e. t.provided.makes.rose (behind_test (is_none links.door) (links_lack work.before helper t.provided.sources t.given t.provided.are_given ∙ e)))
+
+  pub linked_door : links.failed ≡ true → MatchOption links.door (Rose work.before.faults work.after.faults) (λ d. Rose 0 d.faults)
+  linked_door = door_rose _ (work.before.links address) count links.failed _ links.door
+      (λ none. t.provided.makes.rose (front_test (is_none links.door) _ none)) t.provided.taken.taken
 
 alone_caused : (helper plan : List ℕ) (work : Work) → IsMadeAlone helper plan work → AreCaused work.before work.after work.readers
 alone_caused helper plan work m = rw m.one (
@@ -162,8 +246,9 @@ behind_caused helper plan log work m = let first = is_none m.plan_reader.source 
     source = text_read work.before.limits.stream_bytes (work.before.holds plan) m.text m.plan_reader.close _ m.plan_reader.source (λ none. m.makes.rose (rw none refl)) m.reads.read;
     verifier = λ e. absurd (text_asked work.before.limits.stream_bytes (work.before.holds plan) m.text m.plan_reader.close m.plan_reader.source m.reads.read e);
   },
-  each_caused work.before.limits _ _ m.rest work.before work.after helper 0 m.journal.read (log ∷ []) (m.given ∷ []) (m.log_reader ∷ []) m.journal.fed.fed.each
-      (m.is_given, tt) (λ some. m.makes.rose (middle first (is_none m.given.source) (is_none m.given.verifier) signer some)) m.journal.each,
+  each_caused work.before.limits _ _ m.rest work.before work.after 0 m.journal.read (m.given ∷ []) (m.log_reader ∷ []) m.journal.fed.fed.each
+      (names_unfailed work.before helper (log ∷ []) (m.given ∷ []) (m.is_given, tt))
+      (λ some. m.makes.rose (middle first (is_none m.given.source) (is_none m.given.verifier) signer (regroup (is_none m.given.source) (is_none m.given.verifier) false ∙ some))) m.journal.each,
 )
 
 pub made_caused : (helper plan : List ℕ) (log : Option (List ℕ)) (work : Work) → IsMade helper plan log work → AreCaused work.before work.after work.readers
@@ -183,7 +268,7 @@ made_rose helper plan None work m e = absurd (due_finds (given_alone helper m.te
     (m.reader.close ∷ []) work.signer m.owes e)
 made_rose helper plan (Some log) work m e =
     let failed = m.journal.failed (failed_last m.rest (sym (ap (λ b. b.verifier_failed) m.besides) ∙ e)) in
-    rw m.two (inr (some_rose work.before helper (log ∷ []) (m.given ∷ []) (m.log_reader ∷ []) (m.is_given, tt) failed))
+    rw m.two (inr (some_rose (m.given ∷ []) (m.log_reader ∷ []) (names_unfailed work.before helper (log ∷ []) (m.given ∷ []) (m.is_given, tt)) failed))
 
 pub generated_caused : (seed logs events : ℕ) (work : Work) → IsGenerated seed logs events work → AreCaused work.before work.after work.readers
 generated_caused seed logs events work c = rw c.one (record { source = λ e. absurd (c.none_failed.0 e); verifier = λ e. absurd (c.none_failed.1 e) }, tt)

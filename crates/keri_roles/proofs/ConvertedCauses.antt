@@ -122,6 +122,7 @@ converted_causes domain name run r =
       two = λ e. absurd (status.1 e);
       besides = nothing_besides;
       faults = status.0;
+      door = not_true;
       signer = ⊎_elim not_true (λ closed. signs_never limits domain held run.before run.sink_before run.sink_after r.done r.reader.source r.converts
           (closed_one SignerFault reader (subst (HasClose SignerFault) r.one closed)));
       disk = ⊎_elim not_true (λ closed. stores_never limits domain held run.before run.sink_before run.sink_after r.done r.reader.source r.converts

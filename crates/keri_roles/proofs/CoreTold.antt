@@ -1,5 +1,5 @@
 -- What a core was told is in its journal.
-use Rattle.std.proofs.Common.{◌≡◌, ◌≢◌, ℕ, false, List, [], Option, Some, None, refl, sym, subst, arith}
+use Rattle.std.proofs.Common.{◌≡◌, ◌≢◌, ℕ, Bool, false, List, [], Option, Some, None, refl, sym, subst, arith}
 use Rattle.std.specs.Prelude.{All, map, option_map, is_none}
 use Rattle.std.proofs.lemmas.List.Elements.{All-weaker}
 use Rattle.event_body.specs.Judging.{SpellsEvent}
@@ -14,13 +14,14 @@ use Rattle.journal.specs.Replies.{IsWithin}
 use Rattle.acceptance.specs.Standing.{IsHeld}
 use Rattle.validator_core.specs.View.{CoreView, Stands, told_of}
 use Rattle.validator_core.proofs.OpenQuestions.{no_bodies}
+use Rattle.run_status.specs.declared.besides.Besides.{Besides}
 use Rattle.run_status.specs.declared.close.Close.{Close}
 use Rattle.run_status.specs.declared.close.Close.TheVariants.{OutOfMemory}
 use Rattle.run_status.specs.Readers.{Reader}
 use Rattle.reader_threads.specs.declared.last_round.LastRound.{LastRound}
 use Rattle.reader_threads.specs.Given.{Given}
 use Rattle.reader_threads.specs.Told.{AllTold}
-use Rattle.keri_roles.specs.CoreTold.{AreSettled, IsJournalOf, IsToldBy}
+use Rattle.keri_roles.specs.CoreTold.{AreSettled, IsJournalOf, IsToldBy, OwesText, core_of, plain}
 use Rattle.keri_roles.specs.Run.{Owes}
 
 -- a core without entries was told nothing
@@ -78,3 +79,13 @@ owes_it is_text (Some t) close text o made = (o.0, rw o.1 (made o.0))
 pub seen_none : {A B : Type 0} (f : A → B) (o : Option A) → is_none (option_map f o) ≡ is_none o
 seen_none f None = refl
 seen_none f (Some x) = refl
+
+-- what is owed of a core is so of it by its bodies and its entries
+pub owes_plain : (is_text : CoreView → List Reader → List ℕ → Bool → Type 0) (finds : Bool → Besides) (door_failed : Bool) (mode : Mode) (limits : Limits) (core : CoreView) (readers : List Reader) (rest : LastRound)
+    (owed : Option (List ℕ)) (besides : Besides) → core.mode ≡ mode → core.limits ≡ limits → core.base ≡ 0
+    → OwesText is_text finds door_failed (plain core) readers rest owed besides → OwesText is_text finds door_failed (core_of mode limits core.held core.entries) readers rest owed besides
+owes_plain is_text finds door_failed mode limits core readers rest owed besides m l b o = record {
+  is_found = o.is_found;
+  owes = rw (m, l, b) at o.owes;
+  nothing_else = o.nothing_else;
+}

@@ -15,3 +15,9 @@ pub mod ConvertedCauses
 pub mod Statuses
 pub mod Agreed
 pub mod Generated
+pub mod Linked
+pub mod Blamed
+pub mod BlamedCauses
+mod ComingLinks
+mod ServedLinks
+pub mod LinksCauses

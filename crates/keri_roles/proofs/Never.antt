@@ -13,6 +13,7 @@ use Rattle.message_feed.specs.declared.text_close.TextClose.TheVariants as text
 use Rattle.run_status.specs.declared.close.Close.{Close}
 use Rattle.run_status.specs.declared.close.Close.TheVariants.{End, Bad, ReadFault, VerifierFault, SignerFault, DiskFault, WriteFault, Malformed, Full, OutOfMemory}
 use Rattle.run_status.specs.Readers.{HasClose, Reader, SourceTold, VerifierTold, close_found}
+use Rattle.run_outside.specs.Told.{Told}
 use Rattle.keri_roles.specs.Check.{IsChecked, OwesChecks}
 use Rattle.keri_roles.specs.Commands.{IsGenerated}
 use Rattle.reader_threads.specs.Fed.{ClosesStream, ReadEach, ReadsBy, ends_of}
@@ -115,8 +116,8 @@ pub check_serves : (name : List ℕ) (work : Work) → IsChecked name work → s
 check_serves name work c = ap some_serves c.one ∙ or_false (is_serving c.reader.close) false
     (check_only work.before.limits (work.before.holds name) c.reader.verifier c.reader.refused c.reader.seen c.reader.source work.owed c.reader.close c.owes) refl
 
-pub told_serves : (mode : Mode) (helper : List ℕ) (names : List (List ℕ)) (work : Work) → ReadsToCore mode helper names work → some_serves work.readers ≡ false
-told_serves mode helper names work t = each_serves _ _ _ t.rest 0 t.journal.read t.given work.readers t.journal.fed.fed.each t.journal.each
+pub told_serves : (mode : Mode) (IsProvided : List Given → Told → Told → Type 0) (work : Work) → ReadsToCore mode IsProvided work → some_serves work.readers ≡ false
+told_serves mode IsProvided work t = each_serves _ _ _ t.rest 0 t.journal.read t.given work.readers t.journal.fed.fed.each t.journal.each
 
 pub made_serves : (helper plan : List ℕ) (log : Option (List ℕ)) (work : Work) → IsMade helper plan log work → some_serves work.readers ≡ false
 made_serves helper plan None work m = ap some_serves m.one ∙ or_false (is_serving m.reader.close) false

@@ -100,7 +100,7 @@ module _ {S V : Type 0} (left : S → Option (List ℕ)) (faults : S → ℕ) (s
   source_given held None holds none = tt
   source_given held (Some s) holds none = (holds, none)
 
-  verifier_given : (said : Key → List ℕ → Sig → Option Bool) (verifier : Option V) → IfSome verifier (λ v. says v ≡ said)
+  pub verifier_given : (said : Key → List ℕ → Sig → Option Bool) (verifier : Option V) → IfSome verifier (λ v. says v ≡ said)
       → IfSome verifier (λ v. HasNone (inquiries v)) → IfSome verifier (λ v. verifier_faults v ≡ 0)
       → IfSome (option_map (verifier_seen left faults says inquiries verifier_faults) verifier) (λ v. (v.says ≡ said) × HasNone v.inquiries × (v.faults ≡ 0))
   verifier_given said None so unasked none = tt

@@ -5,6 +5,7 @@ use Rattle.keri_specs.specs.Causes.{Rose}
 use Rattle.cesr_codes.specs.declared.key.Key.{Key}
 use Rattle.keri_disk.specs.Images.{DiskTold}
 use Rattle.keri_outside.specs.declared.limits.Limits.{Limits}
+use Rattle.run_outside.specs.declared.making.MakingKind.TheVariants.{Source as SourceKind}
 use Rattle.run_status.specs.declared.close.Close.{Close}
 use Rattle.run_status.specs.declared.close.Close.TheVariants.{End, Bad, ReadFault, VerifierFault, SignerFault, DiskFault, WriteFault, Malformed, Full, OutOfMemory}
 use Rattle.run_status.specs.Readers.{Reader, SourceTold, VerifierTold}
@@ -32,7 +33,7 @@ sink_kept limits source_old source_new bytes old new serves (Malformed place) c 
 
 module _ {D : Type 0} (told : D → DiskTold) (key : Key) (limits : Limits) (helper name : List ℕ) (old new : Left D) (reader : Reader) (run : Run) where
   abbrev Made : Option SourceTold → Option VerifierTold → Option SignerTold → Type 0
-  Made source verifier signer = MakesServing name helper source verifier signer run.before run.after
+  Made source verifier signer = MakesServing SourceKind name helper source verifier signer run.before run.after
 
   abbrev Served : Option SourceTold → Option VerifierTold → Option SignerTold → Type 0
   Served source verifier signer = ServesBy told key limits helper name old reader source verifier signer new run

@@ -26,7 +26,8 @@ serving_all s helper name before sink_before same same_sink source verifier unhe
   makes = rw (s.source_is, s.verifier_is, s.signer_is) makes;
   new = s.new;
   serves = rw (s.source_is, s.verifier_is, s.signer_is) (rw (same, same_sink, source, verifier, unheard, signer, unasked) at s.serves);
-  ends = record { one = s.ends.one; back = s.ends.back; bodies = s.ends.bodies; entries = s.ends.entries; status = s.ends.status; stand = s.ends.stand; reads = s.ends.reads };
+  no_links = record { no_door = s.no_links.no_door; no_sinks = s.no_links.no_sinks };
+  ends = record { all = s.ends.all; back = s.ends.back; bodies = s.ends.bodies; entries = s.ends.entries; status = s.ends.status; stand = s.ends.stand; reads = s.ends.reads };
 }
 
 -- what is so of each image is so of the file as it reads, where that is one

@@ -1,8 +1,9 @@
 -- Each fault that a run answers has its cause.
-use Rattle.std.proofs.Common.{◌≡◌, ◌≢◌, inl, inr, ⊎_elim, ℕ, Bool, true, false, List, [], ◌∷◌, Option, Some, None, refl, sym, ◌∙◌, ap, subst}
-use Rattle.std.specs.Prelude.{IsNone, codes}
+use Rattle.std.proofs.Common.{◌≡◌, ◌≢◌, inl, inr, ⊎_elim, ℕ, Bool, true, false, ◌||◌, List, [], ◌∷◌, Option, Some, None, refl, sym, ◌∙◌, ap, subst}
+use Rattle.std.specs.Prelude.{IsNone, MatchOption, codes}
 use Rattle.keri_specs.specs.Causes.{Rose}
-use Rattle.command_words.specs.Words.{Asked, check, convert, generate, make, rehearse, validate, watch, witness}
+use Rattle.command_words.specs.Inputs.{links, named}
+use Rattle.command_words.specs.Words.{Asked, blame, check, convert, export, generate, make, rehearse, validate, watch, witness}
 use Rattle.keri_disk.specs.Images.{DiskTold}
 use Rattle.verifier_link.specs.declared.served.Served.{Served}
 use Rattle.verifier_link.specs.declared.served.Served.TheVariants.{End, Malformed, ReadFault, WriteFault, Full, OutOfMemory}
@@ -12,22 +13,27 @@ use Rattle.run_status.specs.declared.close.Close.TheVariants as closing
 use Rattle.run_status.specs.Readers.{HasClose, Reader, SinkTold, SourceTold}
 use Rattle.run_status.specs.Status.{nothing_besides}
 use Rattle.run_status.proofs.Causes.{faults_have_causes, words_refused}
-use Rattle.keri_roles.specs.Commands.{IsRunOf, IsUnbegun, IsWritten, CarriesOut}
+use Rattle.keri_roles.specs.Commands.{IsRunOf, IsUnbegun, CarriesOut}
 use Rattle.keri_roles.specs.CoreTold.{fails_last}
 use Rattle.keri_roles.specs.Made.{IsMade, given_alone, given_behind, last_close}
 use Rattle.keri_roles.specs.Rehearsed.{IsRehearsed, Serves, serving_close, serving_status}
-use Rattle.keri_roles.specs.Run.{Work, Run, HasCauses, SignerFails, VerifierRose, AreCaused, work_in}
+use Rattle.keri_roles.specs.Run.{AreCausedBy, DoorFails, DoorRose, LinksTold, Settles, Work, Run, HasCauses, SignerFails, VerifierRose, work_in}
+use Rattle.keri_roles.specs.LinksTold.{AreUnseated}
 use Rattle.keri_roles.specs.Seen.{disk_seen}
 use Rattle.keri_roles.proofs.WitnessedCauses.{witnessed_causes}
 use Rattle.keri_roles.proofs.ConvertedCauses.{converted_causes}
-use Rattle.keri_roles.proofs.Causes.{check_caused, generated_caused, made_caused, made_rose, made_signer, rehearsed_caused, told_caused, told_rose}
+use Rattle.keri_roles.proofs.Causes.{check_caused, door_rose, files_caused, files_unfailed, generated_caused, linked_caused, linked_door, linked_unfailed, made_caused, made_rose, made_signer, rehearsed_caused, told_rose}
+use Rattle.keri_roles.proofs.BlamedCauses.{blamed_caused, blamed_rose, blamed_serves}
 use Rattle.keri_roles.proofs.Made.{due_finds}
 use Rattle.keri_roles.proofs.Never.{check_serves, generated_serves, has_none, made_serves, some_serves, told_serves}
 
--- what a command finds is whether there is a conflict, and whether a verifier failed in the last round, and nothing else
-nothing_else : (finds : Besides → Bool) (besides : Besides) (has failed : Bool) → finds (record nothing_besides { conflict_found = has; verifier_failed = failed }) ≡ false
-    → besides ≡ record nothing_besides { conflict_found = has; verifier_failed = failed } → finds besides ≡ true → ⊥
-nothing_else finds besides has failed none e some = let clash : false ≡ true = sym none ∙ (sym (ap finds e) ∙ some) in cc
+-- what a command finds that reads to a core: whether there is a conflict, whether an identifier isn't known, whether a verifier failed
+-- in the last round, whether its door failed, and nothing else
+abbrev core_finds : Bool → Bool → Bool → Bool → Besides
+core_finds has unknown failed door = record nothing_besides { conflict_found = has; prefix_unknown = unknown; verifier_failed = failed; door_failed = door }
+
+finds_no : (finds : Besides → Bool) (besides other : Besides) → finds other ≡ false → besides ≡ other → finds besides ≡ true → ⊥
+finds_no finds besides other none e some = let clash : false ≡ true = sym none ∙ (sym (ap finds e) ∙ some) in cc
 
 -- `make` finds nothing of the words, of a disk, or of a shelf
 made_finds : (finds : Besides → Bool) (none : (signer refused : Bool) → finds (record nothing_besides { signer_failed = signer; plan_refused = refused }) ≡ false)
@@ -38,15 +44,16 @@ made_finds finds none apart helper plan (Some log) work m some = due_finds (give
     (m.plan_reader.close ∷ m.log_reader.close ∷ last_close m.rest ∷ []) work.signer m.owes (sym (ap finds m.besides ∙ apart m.due (fails_last m.rest)) ∙ some)
 
 -- a run that wrote what its command owes, and whose readers only read
-written_causes : (asked : Option Asked) (Does : Work → Type 0) (run : Run) (w : IsWritten Does run) → (w.besides.words_refused ≡ true → IsNone asked)
-    → (w.besides.signer_failed ≡ true → SignerFails asked run) → (w.besides.disk_failed ≡ true → ⊥) → (w.besides.shelf_full ≡ true → ⊥)
-    → (w.besides.verifier_failed ≡ true → VerifierRose run.readers)
-    → some_serves run.readers ≡ false → AreCaused run.before run.after run.readers → HasCauses asked run
-written_causes asked Does run w refused failed no_disk no_shelf last reads caused = record {
-  two = λ e. refused (words_refused w.besides run.readers run.sink_before run.sink_after run.status w.owed w.settles e);
-  besides = w.besides;
-  faults = faults_have_causes w.besides run.readers run.sink_before run.sink_after run.status w.owed w.settles;
+written_causes : (asked : Option Asked) (run : Run) (owed : Option (List ℕ)) (besides : Besides) → Settles owed besides run → (besides.words_refused ≡ true → IsNone asked)
+    → (besides.signer_failed ≡ true → SignerFails asked run) → (besides.disk_failed ≡ true → ⊥) → (besides.shelf_full ≡ true → ⊥)
+    → (besides.verifier_failed ≡ true → VerifierRose run.readers) → (besides.door_failed ≡ true → DoorFails asked run)
+    → some_serves run.readers ≡ false → AreCausedBy asked run → HasCauses asked run
+written_causes asked run owed besides settles refused failed no_disk no_shelf last door reads caused = record {
+  two = λ e. refused (words_refused besides run.readers run.sink_before run.sink_after run.status owed settles e);
+  besides = besides;
+  faults = faults_have_causes besides run.readers run.sink_before run.sink_after run.status owed settles;
   signer = ⊎_elim failed (λ closed. absurd (has_none closing.SignerFault refl run.readers reads closed));
+  door = door;
   disk = ⊎_elim (λ some. absurd (no_disk some)) (λ closed. absurd (has_none closing.DiskFault refl run.readers reads closed));
   verifier = last;
   sink = λ closed. absurd (has_none closing.WriteFault refl run.readers reads closed);
@@ -55,13 +62,16 @@ written_causes asked Does run w refused failed no_disk no_shelf last reads cause
 }
 
 -- one whose command neither refuses words nor has a signer
-plain_causes : (asked : Asked) (Does : Work → Type 0) (run : Run) (w : IsWritten Does run) (has failed : Bool)
-    → w.besides ≡ record nothing_besides { conflict_found = has; verifier_failed = failed } → (failed ≡ true → VerifierRose run.readers)
-    → some_serves run.readers ≡ false → AreCaused run.before run.after run.readers → HasCauses (Some asked) run
-plain_causes asked Does run w has failed e last reads caused = written_causes (Some asked) Does run w
-    (λ some. absurd (nothing_else (λ b. b.words_refused) w.besides has failed refl e some)) (λ some. absurd (nothing_else (λ b. b.signer_failed) w.besides has failed refl e some))
-    (nothing_else (λ b. b.disk_failed) w.besides has failed refl e) (nothing_else (λ b. b.shelf_full) w.besides has failed refl e)
-    (λ some. last (sym (ap (λ b. b.verifier_failed) e) ∙ some)) reads caused
+plain_causes : (asked : Asked) (run : Run) (owed : Option (List ℕ)) (besides : Besides) → Settles owed besides run → (has unknown failed door : Bool)
+    → besides ≡ core_finds has unknown failed door → (failed ≡ true → VerifierRose run.readers) → (door ≡ true → DoorFails (Some asked) run)
+    → some_serves run.readers ≡ false → AreCausedBy (Some asked) run → HasCauses (Some asked) run
+plain_causes asked run owed besides settles has unknown failed door e last door_fails reads caused = written_causes (Some asked) run owed besides settles
+    (λ some. absurd (no (λ b. b.words_refused) refl some)) (λ some. absurd (no (λ b. b.signer_failed) refl some))
+    (no (λ b. b.disk_failed) refl) (no (λ b. b.shelf_full) refl)
+    (λ some. last (sym (ap (λ b. b.verifier_failed) e) ∙ some)) (λ some. door_fails (sym (ap (λ b. b.door_failed) e) ∙ some)) reads caused
+  where
+    no : (finds : Besides → Bool) → finds (core_finds has unknown failed door) ≡ false → finds besides ≡ true → ⊥
+    no finds none some = finds_no finds besides (core_finds has unknown failed door) none e some
 
 -- what a status of `rehearse` says of the serving
 by_two : (served : Served) → serving_status served ≢ 2
@@ -165,13 +175,14 @@ rehearsed_causes run r =
       two = λ e. absurd (by_two r.served (sym r.status ∙ e));
       besides = nothing_besides;
       faults = record {
-        five = λ e. rw r.one (inl (by_five r.served (sym r.status ∙ e)));
+        five = λ e. inl (rw r.one (inl (by_five r.served (sym r.status ∙ e))));
         seven = λ e. absurd (by_seven r.served (sym r.status ∙ e));
         eight = λ e. absurd (by_eight r.served (sym r.status ∙ e));
         nine = λ e. inl (rw r.one (inl (by_nine r.served (sym r.status ∙ e))));
         six = λ e. inr (wrote (sym r.status ∙ e));
         kept = λ other. serving_kept most held run.sink_before run.sink_after r.reader.source r.served r.serves (λ e. other (r.status ∙ e));
       };
+      door = λ e. absurd (not_true e);
       signer = ⊎_elim not_true (λ closed. served_signs r.served (closed_one closing.SignerFault reader (subst (HasClose closing.SignerFault) r.one closed)));
       disk = ⊎_elim not_true (λ closed. served_stores r.served (closed_one closing.DiskFault reader (subst (HasClose closing.DiskFault) r.one closed)));
       verifier = λ e. absurd (not_true e);
@@ -179,6 +190,22 @@ rehearsed_causes run r =
       shelf = not_true;
       readers = rehearsed_caused run r;
     }
+
+-- where nothing was read, no reader closed by a fault
+none_caused : (asked : Option Asked) (run : Run) → run.readers ≡ [] → AreCausedBy asked run
+none_caused None run e = rw e tt
+none_caused (Some (check file)) run e = rw e tt
+none_caused (Some (validate helper inputs)) run e = rw e tt
+none_caused (Some (watch helper inputs)) run e = rw e tt
+none_caused (Some (witness helper key shelf from (named name))) run e = rw e tt
+none_caused (Some (witness helper key shelf from (links address count))) run e =
+    record { sources = rw e tt; verifier = λ closed. absurd (subst (HasClose closing.VerifierFault) e closed) }
+none_caused (Some (make helper plan log)) run e = rw e tt
+none_caused (Some (convert domain name)) run e = rw e tt
+none_caused (Some (export helper prefix names)) run e = rw e tt
+none_caused (Some (blame helper first second)) run e = rw e tt
+none_caused (Some (generate seed logs events)) run e = rw e tt
+none_caused (Some rehearse) run e = rw e tt
 
 -- a run for which there was no memory to begin with
 unbegun_causes : (asked : Option Asked) (run : Run) → IsUnbegun run → HasCauses asked run
@@ -193,40 +220,77 @@ unbegun_causes asked run u = record {
     six = λ e. let clash : 10 ≡ 6 = sym u.status ∙ e in cc;
     kept = λ other. ap (λ sink. sink.faults) u.none_written;
   };
+  door = λ e. absurd (not_true e);
   signer = ⊎_elim (λ e. absurd (not_true e)) (λ closed. absurd (subst (HasClose closing.SignerFault) u.none_read closed));
   disk = ⊎_elim (λ e. absurd (not_true e)) (λ closed. absurd (subst (HasClose closing.DiskFault) u.none_read closed));
   verifier = λ e. absurd (not_true e);
   sink = λ closed. absurd (subst (HasClose closing.WriteFault) u.none_read closed);
   shelf = λ e. absurd (not_true e);
-  readers = rw u.none_read tt;
+  readers = none_caused asked run u.none_read;
 }
+
+-- one over links, where there was no memory for their readers
+unseated_causes : (asked : Asked) (run : Run) (owed : Option (List ℕ)) (besides : Besides) → Settles owed besides run → (address : List ℕ) (count : ℕ) (came : LinksTold)
+    → AreUnseated address count came (work_in run owed besides) → came.door ≡ run.door → (DoorRose run → DoorFails (Some asked) run)
+    → (run.readers ≡ [] → AreCausedBy (Some asked) run) → HasCauses (Some asked) run
+unseated_causes asked run owed besides settles address count came u door fails caused =
+    plain_causes asked run owed besides settles false false false came.failed u.nothing_else (λ e. absurd (not_true e))
+    (λ e. fails (subst (λ d. MatchOption d (Rose run.before.faults run.after.faults) (λ x. Rose 0 x.faults)) door
+    (door_rose _ (run.before.links address) count came.failed _ came.door (λ none. u.makes.rose (rw none refl)) u.taken.taken e)))
+    (ap some_serves u.none_read) (caused u.none_read)
 
 carried_causes : {D : Type 0} (told : D → DiskTold) (disk old : Option D) (asked : Option Asked) (run : Run) → run.disk ≡ disk_seen told disk → run.old ≡ disk_seen told old
     → CarriesOut told disk old asked run → HasCauses asked run
-carried_causes told disk old None run d o w = written_causes None _ run w (λ refused. refl)
+carried_causes told disk old None run d o w = written_causes None run w.owed w.besides w.settles (λ refused. refl)
     (λ some. absurd (refused_only (λ b. b.signer_failed) refl some)) (refused_only (λ b. b.disk_failed) refl) (refused_only (λ b. b.shelf_full) refl)
-    (λ some. absurd (refused_only (λ b. b.verifier_failed) refl some))
+    (λ some. absurd (refused_only (λ b. b.verifier_failed) refl some)) (λ some. absurd (refused_only (λ b. b.door_failed) refl some))
     (rw w.does.idle.none_read refl) (rw w.does.idle.none_read tt)
   where
     refused_only : (finds : Besides → Bool) → finds (record nothing_besides { words_refused = true }) ≡ false → finds w.besides ≡ true → ⊥
-    refused_only finds none some = let clash : false ≡ true = sym none ∙ (sym (ap finds w.does.nothing_else) ∙ some) in cc
+    refused_only finds none some = finds_no finds w.besides (record nothing_besides { words_refused = true }) none w.does.nothing_else some
 carried_causes told disk old (Some (check name)) run d o w = let work = work_in run w.owed w.besides in
-    plain_causes (check name) _ run w false false w.does.nothing_else (λ e. absurd (not_true e)) (check_serves name work w.does) (check_caused name work w.does)
-carried_causes told disk old (Some (validate helper names)) run d o w = let work = work_in run w.owed w.besides in let over = w.does.over in
-    plain_causes (validate helper names) _ run w over.has_conflicts (fails_last over.told.rest) over.nothing_else (told_rose _ helper names work over.told)
-    (told_serves _ helper names work over.told) (told_caused _ helper names work over.told)
-carried_causes told disk old (Some (watch helper names)) run d o w = let work = work_in run w.owed w.besides in let over = w.does in
-    plain_causes (watch helper names) _ run w over.has_conflicts (fails_last over.told.rest) over.nothing_else (told_rose _ helper names work over.told)
-    (told_serves _ helper names work over.told) (told_caused _ helper names work over.told)
-carried_causes told disk old (Some (witness helper key shelf from name)) run d o w = witnessed_causes told disk old helper key shelf from name run d o w
+    plain_causes (check name) run w.owed w.besides w.settles false false false false w.does.nothing_else (λ e. absurd (not_true e)) (λ e. absurd (not_true e))
+    (check_serves name work w.does) (check_caused name work w.does)
+carried_causes told disk old (Some (validate helper (named names))) run d o w = let work = work_in run w.owed w.besides in let over = w.does.over in
+    plain_causes (validate helper (named names)) run w.owed w.besides w.settles over.owes.is_found false (fails_last over.told.rest) false over.owes.nothing_else
+    (told_rose _ _ work over.told (files_unfailed _ helper names work over.told)) (λ e. absurd (not_true e))
+    (told_serves _ _ work over.told) (files_caused _ helper names work over.told)
+carried_causes told disk old (Some (validate helper (links address count))) run d o w = let work = work_in run w.owed w.besides in
+    let at : LinksTold = record { door = run.door; sinks = run.sinks; failed = w.besides.door_failed } in elim w.does [
+      | inl is ↦ (let over = is.over in plain_causes (validate helper (links address count)) run w.owed w.besides w.settles over.owes.is_found false (fails_last over.told.rest) at.failed
+          over.owes.nothing_else (told_rose _ _ work over.told (linked_unfailed _ helper address count at work over.told)) (linked_door _ helper address count at work over.told)
+          (told_serves _ _ work over.told) (linked_caused _ helper address count at work over.told))
+      | inr u ↦ unseated_causes (validate helper (links address count)) run w.owed w.besides w.settles address count at u refl (λ x. x) (λ e. rw e tt)
+    ]
+carried_causes told disk old (Some (watch helper (named names))) run d o w = let work = work_in run w.owed w.besides in let over = w.does in
+    plain_causes (watch helper (named names)) run w.owed w.besides w.settles over.owes.is_found false (fails_last over.told.rest) false over.owes.nothing_else
+    (told_rose _ _ work over.told (files_unfailed _ helper names work over.told)) (λ e. absurd (not_true e))
+    (told_serves _ _ work over.told) (files_caused _ helper names work over.told)
+carried_causes told disk old (Some (watch helper (links address count))) run d o w = let work = work_in run w.owed w.besides in
+    let at : LinksTold = record { door = run.door; sinks = run.sinks; failed = w.besides.door_failed } in elim w.does [
+      | inl over ↦ plain_causes (watch helper (links address count)) run w.owed w.besides w.settles over.owes.is_found false (fails_last over.told.rest) at.failed
+          over.owes.nothing_else (told_rose _ _ work over.told (linked_unfailed _ helper address count at work over.told)) (linked_door _ helper address count at work over.told)
+          (told_serves _ _ work over.told) (linked_caused _ helper address count at work over.told)
+      | inr u ↦ unseated_causes (watch helper (links address count)) run w.owed w.besides w.settles address count at u refl (λ x. x) (λ e. rw e tt)
+    ]
+carried_causes told disk old (Some (witness helper key shelf from inputs)) run d o w = witnessed_causes told disk old helper key shelf from inputs run d o w
+carried_causes told disk old (Some (export helper prefix names)) run d o w = let work = work_in run w.owed w.besides in let over = w.does in
+    plain_causes (export helper prefix names) run w.owed w.besides w.settles false over.owes.is_found (fails_last over.told.rest) false over.owes.nothing_else
+    (told_rose _ _ work over.told (files_unfailed _ helper names work over.told)) (λ e. absurd (not_true e))
+    (told_serves _ _ work over.told) (files_caused _ helper names work over.told)
+carried_causes told disk old (Some (blame helper first second)) run d o w = let work = work_in run w.owed w.besides in
+    plain_causes (blame helper first second) run w.owed w.besides w.settles w.does.has_blames false (fails_last w.does.rest || fails_last w.does.other_rest) false w.does.nothing_else
+    (λ e. blamed_rose helper first second work w.does (ap (λ b. b.verifier_failed) w.does.nothing_else ∙ e)) (λ e. absurd (not_true e))
+    (blamed_serves helper first second work w.does) (blamed_caused helper first second work w.does)
 carried_causes told disk old (Some (make helper plan log)) run d o w = let work = work_in run w.owed w.besides in
-    written_causes (Some (make helper plan log)) _ run w (λ some. absurd (made_finds (λ b. b.words_refused) (λ s r. refl) (λ b f. refl) helper plan log work w.does some))
+    written_causes (Some (make helper plan log)) run w.owed w.besides w.settles (λ some. absurd (made_finds (λ b. b.words_refused) (λ s r. refl) (λ b f. refl) helper plan log work w.does some))
     (made_signer helper plan log work w.does) (made_finds (λ b. b.disk_failed) (λ s r. refl) (λ b f. refl) helper plan log work w.does)
     (made_finds (λ b. b.shelf_full) (λ s r. refl) (λ b f. refl) helper plan log work w.does) (made_rose helper plan log work w.does)
+    (made_finds (λ b. b.door_failed) (λ s r. refl) (λ b f. refl) helper plan log work w.does)
     (made_serves helper plan log work w.does) (made_caused helper plan log work w.does)
 carried_causes told disk old (Some (convert domain name)) run d o c = converted_causes domain name run c
 carried_causes told disk old (Some (generate seed logs events)) run d o w = let work = work_in run w.owed w.besides in
-    plain_causes (generate seed logs events) _ run w false false w.does.nothing_else (λ e. absurd (not_true e))
+    plain_causes (generate seed logs events) run w.owed w.besides w.settles false false false false w.does.nothing_else (λ e. absurd (not_true e)) (λ e. absurd (not_true e))
     (generated_serves seed logs events work w.does) (generated_caused seed logs events work w.does)
 carried_causes told disk old (Some rehearse) run d o r = rehearsed_causes run r
 

@@ -8,4 +8,4 @@ use Rattle.keri_roles.specs.declared.core_text.CommandText.{CommandText}
 
 -- There was memory, and the text is that of the core and of how the readers ended.
 abbrev pub HasText : (CoreView → List Reader → List ℕ → Bool → Type 0) → CoreView → List Reader → LastRound → CommandText → Type 0
-HasText is_text core readers rest text = HadMemory rest readers × is_text (plain core) readers text.bytes.items text.has_conflicts
+HasText is_text core readers rest text = HadMemory rest readers × is_text (plain core) readers text.bytes.items text.is_found

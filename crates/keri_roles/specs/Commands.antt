@@ -1,8 +1,12 @@
 -- What each command does, and what a run of the program does.
-use Rattle.std.specs.Prelude.{◌≡◌, ◌≢◌, ℕ, ◌∷◌, ◌⊎◌, true, Bool, List, [], codes, IfSome}
+use Rattle.std.specs.Prelude.{◌≡◌, ◌≢◌, ℕ, ◌∷◌, ◌⊎◌, true, false, Bool, List, [], codes, IfSome}
 use Rattle.std.specs.declared.option.Option.{Option}
 use Rattle.std.specs.declared.option.Option.TheVariants.{None, Some}
-use Rattle.command_words.specs.Words.{Asked, check, convert, generate, make, rehearse, validate, watch, witness}
+use Rattle.cesr_codes.specs.declared.prefix.Prefix.{Prefix}
+use Rattle.command_words.specs.Inputs.{links, named}
+use Rattle.command_words.specs.Words.{Asked, blame, check, convert, export, generate, make, rehearse, validate, watch, witness}
+use Rattle.run_outside.specs.Told.{Told}
+use Rattle.reader_threads.specs.Given.{Given}
 use Rattle.journal.specs.declared.mode.Mode.TheVariants.{Full, Local}
 use Rattle.journal.specs.Accepted.{accepted}
 use Rattle.journal.specs.Journals.{told_by}
@@ -16,24 +20,34 @@ use Rattle.keri_roles.specs.Check.{IsChecked}
 use Rattle.keri_roles.specs.Converted.{IsConverted}
 use Rattle.reader_threads.specs.declared.last_round.LastRound.{LastRound}
 use Rattle.reader_threads.specs.declared.last_round.LastRound.TheVariants.{VerifierFailed}
-use Rattle.keri_roles.specs.CoreTold.{HadMemory, IsOverCore, IsToldBy}
+use Rattle.keri_roles.specs.CoreTold.{AreProvided, HadMemory, IsOverCore, IsToldBy, finds_conflict, finds_unknown}
+use Rattle.keri_roles.specs.LinksTold.{AreLinked, AreUnseated, IsOverLinks}
+use Rattle.keri_roles.specs.Blamed.{IsBlamed}
+use Rattle.keri_roles.specs.Exports.{ExportsTo}
 use Rattle.keri_roles.specs.Generated.{counts_of, made_of}
 use Rattle.keri_roles.specs.Made.{IsMade}
 use Rattle.keri_roles.specs.NoJournal.{no_journal}
 use Rattle.keri_roles.specs.Rehearsed.{IsRehearsed}
 use Rattle.keri_roles.specs.Reports.{Reports}
 use Rattle.run_status.specs.Readers.{Reader}
-use Rattle.keri_roles.specs.Run.{Run, Work, work_in}
-use Rattle.keri_roles.specs.Run.{Settles}
+use Rattle.keri_roles.specs.Run.{HasNoLinks, LinksTold, Run, Settles, Work, work_in}
 use Rattle.run_status.specs.Status.{nothing_besides}
 use Rattle.keri_disk.specs.Images.{DiskTold}
 use Rattle.keri_roles.specs.Witnessed.{IsWitnessed}
 
--- `validate --helper HELPER FILE..`: a core that wants receipts and seals is told what the files hold, and the text is its
--- report. What it accepts agrees with what any other validator accepts.
-pub record IsValidated (helper : List ℕ) (names : List (List ℕ)) (work : Work) : Type 0 where
-  pub over : IsOverCore Full Reports helper names work
+-- A core that wants receipts and seals is told what its readers read, and the text is its report. What it accepts agrees with what any
+-- other validator accepts.
+pub record IsValidatedBy (IsProvided : List Given → Told → Told → Type 0) (door_failed : Bool) (work : Work) : Type 0 where
+  pub over : IsOverCore Full Reports finds_conflict IsProvided door_failed work
   pub agreed : IsAgreed (told_by over.told.journal.fed.held work.journal.entries)
+
+-- `validate --helper HELPER FILE..`: the readers are of the files
+abbrev pub IsValidated : List ℕ → List (List ℕ) → Work → Type 0
+IsValidated helper names = IsValidatedBy (AreProvided helper names) false
+
+-- `validate --helper HELPER --listen ADDRESS --links COUNT`: the readers are of links, unless there was no memory for readers
+abbrev pub AreLinksValidated : List ℕ → List ℕ → ℕ → LinksTold → Work → Type 0
+AreLinksValidated helper address count taken work = IsValidatedBy (AreLinked helper address count taken) taken.failed work ⊎ AreUnseated address count taken work
 
 -- The evidence is of the core alone, whatever was refused and however the readers closed; and whoever reads it reads just the
 -- bodies in conflict with their signatures.
@@ -44,7 +58,16 @@ pub record IsEvidence (core : CoreView) (readers : List Reader) (text : List ℕ
 -- `watch --helper HELPER FILE..`: a core that wants neither receipts nor seals is told what the files hold, and the text is
 -- its evidence.
 abbrev pub IsWatched : List ℕ → List (List ℕ) → Work → Type 0
-IsWatched = IsOverCore Local IsEvidence
+IsWatched helper names = IsOverCore Local IsEvidence finds_conflict (AreProvided helper names) false
+
+-- the same with `--listen ADDRESS --links COUNT` in the place of files
+abbrev pub AreLinksWatched : List ℕ → List ℕ → ℕ → LinksTold → Work → Type 0
+AreLinksWatched helper address count = IsOverLinks Local IsEvidence finds_conflict helper address count
+
+-- `export --helper HELPER --prefix PREFIX FILE..`: a core that wants receipts and seals is told what the files hold, and the text is the
+-- export of the identifier, or says that it isn't known.
+abbrev pub IsExported : List ℕ → Prefix → List (List ℕ) → Work → Type 0
+IsExported helper prefix names = IsOverCore Full (ExportsTo prefix) finds_unknown (AreProvided helper names) false
 
 -- `gen --seed SEED --logs LOGS --events EVENTS`: a core that wants receipts and seals is told the stream that is made of the
 -- seed, with the verdicts of the rehearsal. Nothing is made of the outside, and no fault of a source or a verifier is answered.
@@ -80,15 +103,29 @@ pub record IsWritten (Does : Work → Type 0) (run : Run) : Type 0 where
   pub settles : Settles owed besides run
   pub no_disk : run.disk ≡ None
   pub no_old : run.old ≡ None
+  pub no_links : HasNoLinks run
+
+-- the same over links, with the door and the sinks of the links, which are handed back
+pub record IsLinked (Does : LinksTold → Work → Type 0) (run : Run) : Type 0 where
+  pub owed : Option (List ℕ)
+  pub besides : Besides
+  pub does : Does (record { door = run.door; sinks = run.sinks; failed = besides.door_failed }) (work_in run owed besides)
+  pub settles : Settles owed besides run
+  pub no_disk : run.disk ≡ None
+  pub no_old : run.old ≡ None
 
 -- A row for each command, of which `convert`, `rehearse` and `witness` alone write as they read. `witness` alone has disks, which it hands
 -- back.
 abbrev pub CarriesOut : {D : Type 0} → (D → DiskTold) → Option D → Option D → Option Asked → Run → Type 0
 CarriesOut told disk old None run = IsWritten RefusesWords run
 CarriesOut told disk old (Some (check name)) run = IsWritten (IsChecked name) run
-CarriesOut told disk old (Some (validate helper names)) run = IsWritten (IsValidated helper names) run
-CarriesOut told disk old (Some (watch helper names)) run = IsWritten (IsWatched helper names) run
-CarriesOut told disk old (Some (witness helper key shelf from name)) run = IsWitnessed told disk old helper key shelf from name run
+CarriesOut told disk old (Some (validate helper (named names))) run = IsWritten (IsValidated helper names) run
+CarriesOut told disk old (Some (validate helper (links address count))) run = IsLinked (AreLinksValidated helper address count) run
+CarriesOut told disk old (Some (watch helper (named names))) run = IsWritten (IsWatched helper names) run
+CarriesOut told disk old (Some (watch helper (links address count))) run = IsLinked (AreLinksWatched helper address count) run
+CarriesOut told disk old (Some (witness helper key shelf from inputs)) run = IsWitnessed told disk old helper key shelf from inputs run
+CarriesOut told disk old (Some (export helper prefix names)) run = IsWritten (IsExported helper prefix names) run
+CarriesOut told disk old (Some (blame helper first second)) run = IsWritten (IsBlamed helper first second) run
 CarriesOut told disk old (Some (make helper plan log)) run = IsWritten (IsMade helper plan log) run
 CarriesOut told disk old (Some (convert domain name)) run = IsConverted domain name run
 CarriesOut told disk old (Some (generate seed logs events)) run = IsWritten (IsGenerated seed logs events) run
@@ -102,6 +139,7 @@ pub record IsUnbegun (run : Run) : Type 0 where
   pub no_signer : run.signer ≡ None
   pub no_disk : run.disk ≡ None
   pub no_old : run.old ≡ None
+  pub no_links : HasNoLinks run
   pub none_written : run.sink_after ≡ run.sink_before
   pub status : run.status ≡ 10
 

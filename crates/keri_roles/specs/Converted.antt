@@ -13,7 +13,7 @@ use Rattle.run_status.specs.Settling.{found}
 use Rattle.run_status.specs.Status.{nothing_besides, status_of}
 use Rattle.keri_roles.specs.NoJournal.{no_journal}
 use Rattle.keri_roles.specs.Rehearsed.{Serving}
-use Rattle.keri_roles.specs.Run.{Run, MakesSource}
+use Rattle.keri_roles.specs.Run.{HasNoLinks, MakesSource, Run}
 
 -- what a source and a sink tell
 abbrev pub ends_of : SourceTold → SinkTold → EndsTold
@@ -65,4 +65,5 @@ pub record IsConverted (domain : Domain) (name : List ℕ) (run : Run) : Type 0 
   pub no_signer : run.signer ≡ None
   pub no_disk : run.disk ≡ None
   pub no_old : run.old ≡ None
+  pub no_links : HasNoLinks run
   pub status : run.status ≡ conversion_status done run.readers

@@ -1,5 +1,5 @@
 -- What a core was told by the readers of files.
-use Rattle.std.specs.Prelude.{◌≡◌, ◌≢◌, ℕ, ◌⊎◌, Bool, true, false, List, [], ◌∷◌, map, All, IfSome, is_none}
+use Rattle.std.specs.Prelude.{◌≡◌, ◌≢◌, ℕ, ◌⊎◌, Bool, true, false, List, [], ◌∷◌, map, All, IfSome, Option, is_none}
 use Rattle.keri_specs.specs.Told.{HasNone}
 use Rattle.keri_outside.specs.declared.limits.Limits.{Limits}
 use Rattle.journal.specs.declared.body.Body.{Body}
@@ -18,6 +18,7 @@ use Rattle.run_outside.specs.Makings.{AreMakings}
 use Rattle.run_outside.specs.Told.{Told, making}
 use Rattle.run_outside.specs.declared.making.Making.{Making}
 use Rattle.run_outside.specs.declared.making.MakingKind.TheVariants.{Source as SourceKind, Verifier as VerifierKind}
+use Rattle.run_status.specs.declared.besides.Besides.{Besides}
 use Rattle.run_status.specs.declared.close.Close.TheVariants as close
 use Rattle.run_status.specs.Readers.{Reader}
 use Rattle.run_status.specs.Status.{nothing_besides}
@@ -87,11 +88,10 @@ pub record IsToldBy (mode : Mode) (limits : Limits) (given : List Given) (reader
   pub within : IsWithin limits [] (told_by fed.held journal.entries)
   pub settled : AreSettled mode fed.held (told_by fed.held journal.entries)
 
--- The makings are for each name the source and the verifier of the helper, and the journal was told by the readers of the names, in
--- order.
-pub record ReadsToCore (mode : Mode) (helper : List ℕ) (names : List (List ℕ)) (work : Work) : Type 0 where
+-- What the readers are given was made so, and the journal was told by them, in order.
+pub record ReadsToCore (mode : Mode) (IsProvided : List Given → Told → Told → Type 0) (work : Work) : Type 0 where
   pub given : List Given
-  pub provided : AreProvided helper names given work.before work.after
+  pub provided : IsProvided given work.before work.after
   pub rest : LastRound
   pub journal : IsToldBy mode work.before.limits given work.readers rest work.journal
 
@@ -105,11 +105,24 @@ fails_last OutOfMemory = false
 abbrev pub HadMemory : LastRound → List Reader → Type 0
 HadMemory rest readers = (rest ≢ OutOfMemory) × All (λ r. r.close ≢ close.OutOfMemory) readers
 
--- Files were read to a core, and where there was memory the text of its journal and its readers is owed. There is a conflict where the
--- text says so.
-pub record IsOverCore (mode : Mode) (is_text : CoreView → List Reader → List ℕ → Bool → Type 0) (helper : List ℕ) (names : List (List ℕ)) (work : Work) : Type 0 where
-  pub told : ReadsToCore mode helper names work
-  pub has_conflicts : Bool
-  pub owes : IfSome work.owed (λ text. HadMemory told.rest work.readers
-      × is_text (core_of mode work.before.limits told.journal.fed.held work.journal.entries) work.readers text has_conflicts)
-  pub nothing_else : work.besides ≡ record nothing_besides { conflict_found = has_conflicts; verifier_failed = fails_last told.rest }
+-- Where there was memory the text of a core and its readers is owed. What is found besides is what the text says, what the last round
+-- came to, and whether the door failed.
+pub record OwesText (is_text : CoreView → List Reader → List ℕ → Bool → Type 0) (finds : Bool → Besides) (door_failed : Bool) (core : CoreView) (readers : List Reader) (rest : LastRound)
+    (owed : Option (List ℕ)) (besides : Besides) : Type 0 where
+  pub is_found : Bool
+  pub owes : IfSome owed (λ text. HadMemory rest readers × is_text core readers text is_found)
+  pub nothing_else : besides ≡ record (finds is_found) { verifier_failed = fails_last rest; door_failed = door_failed }
+
+-- Readers told a core, and the text of its journal and of them is owed.
+pub record IsOverCore (mode : Mode) (is_text : CoreView → List Reader → List ℕ → Bool → Type 0) (finds : Bool → Besides) (IsProvided : List Given → Told → Told → Type 0) (door_failed : Bool)
+    (work : Work) : Type 0 where
+  pub told : ReadsToCore mode IsProvided work
+  pub owes : OwesText is_text finds door_failed (core_of mode work.before.limits told.journal.fed.held work.journal.entries) work.readers told.rest work.owed work.besides
+
+-- a command that finds nothing besides but whether there is a conflict
+abbrev pub finds_conflict : Bool → Besides
+finds_conflict has_conflicts = record nothing_besides { conflict_found = has_conflicts }
+
+-- one that finds nothing but whether the identifier that is asked for isn't known
+abbrev pub finds_unknown : Bool → Besides
+finds_unknown unknown = record nothing_besides { prefix_unknown = unknown }

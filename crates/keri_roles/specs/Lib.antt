@@ -6,6 +6,7 @@ pub mod MessageLines
 pub mod Checker
 pub mod Check
 pub mod CoreTold
+pub mod LinksTold
 pub mod OneSeats
 pub mod CommandTexts
 pub mod Reports
@@ -17,5 +18,8 @@ pub mod PlanDues
 pub mod Rehearsed
 pub mod Converted
 pub mod ServedFile
+pub mod ServedLinks
 pub mod Witnessed
+pub mod Blamed
+pub mod Exports
 pub mod Commands

@@ -13,7 +13,7 @@ use Rattle.run_status.specs.declared.close.Close.{Close}
 use Rattle.run_status.specs.declared.close.Close.TheVariants.{End as EndClose, Malformed as MalformedClose, ReadFault as ReadFaultClose, WriteFault as WriteFaultClose, Full as FullClose, OutOfMemory as OutOfMemoryClose}
 use Rattle.run_status.specs.Readers.{Reader, SourceTold, SinkTold, sink_seen}
 use Rattle.keri_roles.specs.NoJournal.{no_journal}
-use Rattle.keri_roles.specs.Run.{Run, MakesSource}
+use Rattle.keri_roles.specs.Run.{HasNoLinks, MakesSource, Run}
 
 -- the end of serving as a reader's close
 abbrev pub serving_close : Served → Close
@@ -82,4 +82,5 @@ pub record IsRehearsed (run : Run) : Type 0 where
   pub no_signer : run.signer ≡ None
   pub no_disk : run.disk ≡ None
   pub no_old : run.old ≡ None
+  pub no_links : HasNoLinks run
   pub status : run.status ≡ serving_status served

@@ -1,9 +1,10 @@
 -- What is seen of a run, and of what a command came to before that was written.
-use Rattle.std.specs.Prelude.{◌≡◌, ◌≢◌, ℕ, ◌⊎◌, true, List, [], ◌∷◌, map, option_map, is_none, IsNone, IsSomeAnd, MatchOption, String, string_bytes}
+use Rattle.std.specs.Prelude.{◌≡◌, ◌≢◌, ℕ, ◌⊎◌, Bool, true, List, [], ◌∷◌, map, option_map, is_none, IsNone, IsSomeAnd, MatchOption, String, string_bytes}
 use Rattle.std.specs.declared.option.Option.{Option}
 use Rattle.std.specs.declared.option.Option.TheVariants.{None, Some}
 use Rattle.keri_specs.specs.Causes.{Rose}
-use Rattle.command_words.specs.Words.{Asked, asks, check, convert, generate, make, rehearse, validate, watch, witness}
+use Rattle.command_words.specs.Inputs.{Inputs, links, named}
+use Rattle.command_words.specs.Words.{Asked, asks, blame, check, convert, export, generate, make, rehearse, validate, watch, witness}
 use Rattle.cesr_codes.specs.declared.key.Key.{Key}
 use Rattle.cesr_codes.specs.declared.sig.Sig.{Sig}
 use Rattle.keri_outside.specs.declared.signing.Signing.{Signing}
@@ -29,6 +30,17 @@ pub record DiskSeen : Type 0 where
   pub file : Option (List ℕ)
   pub faults : ℕ
 
+-- what a door tells: the bytes of each link that is left, where it tells, and how often it has failed
+pub record DoorTold : Type 0 where
+  pub left : Option (List (List ℕ))
+  pub faults : ℕ
+
+-- what links tell that were taken at a door: the door, where it was made, the sinks of the links in order, and whether the door failed
+pub record LinksTold : Type 0 where
+  pub door : Option DoorTold
+  pub sinks : List SinkTold
+  pub failed : Bool
+
 -- What a command did with the outside: its readers, its signer, where it made one, what was told, the text that it owes, unless
 -- there was no memory for that, and what it found besides its readers' ends.
 pub record Work : Type 0 where
@@ -40,7 +52,8 @@ pub record Work : Type 0 where
   pub owed : Option (List ℕ)
   pub besides : Besides
 
--- what a run did: its disk is that of a shelf, and the old one that of a shelf whose list was brought over, where it made them
+-- What a run did: its disk is that of a shelf, and the old one that of a shelf whose list was brought over, where it made them. Where it
+-- read links, it has the door, where that was made, and the links' sinks, in order.
 pub record Run : Type 0 where
   pub before : Told
   pub after : Told
@@ -50,8 +63,15 @@ pub record Run : Type 0 where
   pub signer : Option SignerTold
   pub disk : Option DiskSeen
   pub old : Option DiskSeen
+  pub door : Option DoorTold
+  pub sinks : List SinkTold
   pub journal : Journal
   pub status : ℕ
+
+-- no door was made, and no link came
+pub record HasNoLinks (run : Run) : Type 0 where
+  pub no_door : run.door ≡ None
+  pub no_sinks : run.sinks ≡ []
 
 -- the work of a run
 abbrev pub work_in : Run → Option (List ℕ) → Besides → Work
@@ -91,13 +111,38 @@ VerifierRose (reader ∷ readers) = IsSomeAnd reader.verifier (λ v. Rose 0 v.fa
 abbrev pub SignerFails : Option Asked → Run → Type 0
 SignerFails None run = ⊥
 SignerFails (Some (check file)) run = ⊥
-SignerFails (Some (validate helper files)) run = ⊥
-SignerFails (Some (watch helper files)) run = ⊥
+SignerFails (Some (validate helper inputs)) run = ⊥
+SignerFails (Some (watch helper inputs)) run = ⊥
+SignerFails (Some (export helper prefix files)) run = ⊥
+SignerFails (Some (blame helper first second)) run = ⊥
 SignerFails (Some (convert domain file)) run = ⊥
 SignerFails (Some (generate seed logs events)) run = ⊥
 SignerFails (Some rehearse) run = ⊥
-SignerFails (Some (witness helper key shelf from file)) run = MatchOption run.signer (Rose run.before.faults run.after.faults) (λ s. Rose 0 s.faults)
+SignerFails (Some (witness helper key shelf from inputs)) run = MatchOption run.signer (Rose run.before.faults run.after.faults) (λ s. Rose 0 s.faults)
 SignerFails (Some (make helper plan log)) run = MatchOption run.signer (Rose run.before.faults run.after.faults) (λ s. Rose 0 s.faults)
+
+-- The door failed: its count rose from zero, or it couldn't be made and the count of the outside rose.
+abbrev pub DoorRose : Run → Type 0
+DoorRose run = MatchOption run.door (Rose run.before.faults run.after.faults) (λ d. Rose 0 d.faults)
+
+-- a command that reads links has a door
+abbrev pub FailsAt : {N : Type 0} → Inputs N → Run → Type 0
+FailsAt (named names) run = ⊥
+FailsAt (links address count) run = DoorRose run
+
+-- `validate`, `watch` and `witness` alone read links
+abbrev pub DoorFails : Option Asked → Run → Type 0
+DoorFails None run = ⊥
+DoorFails (Some (check file)) run = ⊥
+DoorFails (Some (validate helper inputs)) run = FailsAt inputs run
+DoorFails (Some (watch helper inputs)) run = FailsAt inputs run
+DoorFails (Some (convert domain file)) run = ⊥
+DoorFails (Some (export helper prefix files)) run = ⊥
+DoorFails (Some (blame helper first second)) run = ⊥
+DoorFails (Some (generate seed logs events)) run = ⊥
+DoorFails (Some rehearse) run = ⊥
+DoorFails (Some (make helper plan log)) run = ⊥
+DoorFails (Some (witness helper key shelf from inputs)) run = FailsAt inputs run
 
 -- the count of the disk rose from zero, where there is one
 abbrev pub DiskRose : Option DiskSeen → Type 0
@@ -108,25 +153,53 @@ DiskRose disk = IsSomeAnd disk (λ d. Rose 0 d.faults)
 abbrev pub DiskFails : Option Asked → Run → Type 0
 DiskFails None run = ⊥
 DiskFails (Some (check file)) run = ⊥
-DiskFails (Some (validate helper files)) run = ⊥
-DiskFails (Some (watch helper files)) run = ⊥
+DiskFails (Some (validate helper inputs)) run = ⊥
+DiskFails (Some (watch helper inputs)) run = ⊥
+DiskFails (Some (export helper prefix files)) run = ⊥
+DiskFails (Some (blame helper first second)) run = ⊥
 DiskFails (Some (convert domain file)) run = ⊥
 DiskFails (Some (generate seed logs events)) run = ⊥
 DiskFails (Some rehearse) run = ⊥
 DiskFails (Some (make helper plan log)) run = ⊥
-DiskFails (Some (witness helper key shelf from file)) run = Rose run.before.faults run.after.faults ⊎ DiskRose run.disk ⊎ DiskRose run.old
+DiskFails (Some (witness helper key shelf from inputs)) run = Rose run.before.faults run.after.faults ⊎ DiskRose run.disk ⊎ DiskRose run.old
 
 -- it reads a shelf
 abbrev pub ReadsShelf : Option Asked → Type 0
 ReadsShelf None = ⊥
 ReadsShelf (Some (check file)) = ⊥
-ReadsShelf (Some (validate helper files)) = ⊥
-ReadsShelf (Some (watch helper files)) = ⊥
+ReadsShelf (Some (validate helper inputs)) = ⊥
+ReadsShelf (Some (watch helper inputs)) = ⊥
+ReadsShelf (Some (export helper prefix files)) = ⊥
+ReadsShelf (Some (blame helper first second)) = ⊥
 ReadsShelf (Some (convert domain file)) = ⊥
 ReadsShelf (Some (generate seed logs events)) = ⊥
 ReadsShelf (Some rehearse) = ⊥
 ReadsShelf (Some (make helper plan log)) = ⊥
-ReadsShelf (Some (witness helper key shelf from file)) = Unit {0}
+ReadsShelf (Some (witness helper key shelf from inputs)) = Unit {0}
+
+-- one of these sinks failed
+abbrev pub SinkRose : List SinkTold → Type 0
+SinkRose [] = ⊥
+SinkRose (sink ∷ sinks) = Rose 0 sink.faults ⊎ SinkRose sinks
+
+-- a witness that serves links writes to their sinks, and every other command to the sink of the outside
+abbrev pub SinkFails : Option Asked → Run → Type 0
+SinkFails (Some (witness helper key shelf from (links address count))) run = SinkRose run.sinks
+SinkFails _ run = Rose run.sink_before.faults run.sink_after.faults
+
+-- The readers of a witness's links share the one verifier of the first of them. Each closes by a fault of its source only where the
+-- count of that rose from zero, and by one of the verifier only where the count of that did, or where it couldn't be made.
+abbrev pub ReadFaultsRose : List Reader → Type 0
+ReadFaultsRose [] = Unit {0}
+ReadFaultsRose (reader ∷ readers) = (reader.close ≡ ReadFault → IsSomeAnd reader.source (λ s. Rose 0 s.faults)) × ReadFaultsRose readers
+
+pub record AreCausedTogether (run : Run) : Type 0 where
+  pub sources : ReadFaultsRose run.readers
+  pub verifier : HasClose VerifierFault run.readers → VerifierRose run.readers ⊎ Rose run.before.faults run.after.faults
+
+abbrev pub AreCausedBy : Option Asked → Run → Type 0
+AreCausedBy (Some (witness helper key shelf from (links address count))) run = AreCausedTogether run
+AreCausedBy _ run = AreCaused run.before run.after run.readers
 
 -- each fault that is answered has its cause
 pub record HasCauses (asked : Option Asked) (run : Run) : Type 0 where
@@ -134,11 +207,12 @@ pub record HasCauses (asked : Option Asked) (run : Run) : Type 0 where
   pub besides : Besides
   pub faults : FaultsHaveCauses run.readers besides run.sink_before run.sink_after run.status
   pub signer : (besides.signer_failed ≡ true) ⊎ HasClose SignerFault run.readers → SignerFails asked run
+  pub door : besides.door_failed ≡ true → DoorFails asked run
   pub disk : (besides.disk_failed ≡ true) ⊎ HasClose DiskFault run.readers → DiskFails asked run
   pub verifier : besides.verifier_failed ≡ true → VerifierRose run.readers
-  pub sink : HasClose WriteFault run.readers → Rose run.sink_before.faults run.sink_after.faults
+  pub sink : HasClose WriteFault run.readers → SinkFails asked run
   pub shelf : besides.shelf_full ≡ true → ReadsShelf asked
-  pub readers : AreCaused run.before run.after run.readers
+  pub readers : AreCausedBy asked run
 
 -- the words of a run ask for this, where they are in the form
 abbrev pub asked_in : {Z : Type 0} → List (String Z) → Option Asked

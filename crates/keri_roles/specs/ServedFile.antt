@@ -1,5 +1,6 @@
 -- What becomes of a file that a witness is to serve.
 use Rattle.std.specs.Prelude.{◌≡◌, ℕ, Bool, false, true, List, [], ◌∷◌, map, is_none, IfSome, if◌then◌else◌}
+use Rattle.std.specs.List.{list_any}
 use Rattle.std.specs.declared.option.Option.{Option}
 use Rattle.std.specs.declared.option.Option.TheVariants.{None, Some}
 use Rattle.cesr_codes.specs.declared.digest.Digest.{Digest}
@@ -10,7 +11,9 @@ use Rattle.keri_disk.specs.Images.{DiskTold}
 use Rattle.keri_outside.specs.declared.limits.Limits.{Limits}
 use Rattle.run_outside.specs.Makings.{AreMakings}
 use Rattle.run_outside.specs.Told.{Told, making}
+use Rattle.run_outside.specs.declared.making.MakingKind.{MakingKind}
 use Rattle.run_outside.specs.declared.making.MakingKind.TheVariants.{Source as SourceKind, Verifier as VerifierKind, Signer as SignerKind}
+use Rattle.run_status.specs.declared.besides.Besides.{Besides}
 use Rattle.run_status.specs.declared.close.Close.{Close}
 use Rattle.run_status.specs.declared.close.Close.TheVariants.{ReadFault, VerifierFault, SignerFault}
 use Rattle.run_status.specs.Readers.{Reader, SinkTold, SourceTold, VerifierTold}
@@ -23,20 +26,20 @@ use Rattle.validator_core.specs.View.{CoreView}
 use Rattle.witness_link.specs.Links.{LinkTold, WitnessTold, source_told, told_of_link}
 use Rattle.witness_link.specs.Served.{ServesLink}
 use Rattle.keri_roles.specs.Made.{is_out}
-use Rattle.keri_roles.specs.Run.{Run, SignerTold}
+use Rattle.keri_roles.specs.Run.{HasNoLinks, Run, SignerTold}
 
--- the status of readers of which the last closed so, where nothing more is owed
-abbrev pub status_closing : List Reader → Close → ℕ
-status_closing readers close = if is_out close then 10 else status_of (found nothing_besides readers false)
+-- the status of a run that owes nothing more: by its readers, and by what was found besides
+abbrev pub status_closing : Besides → List Reader → ℕ
+status_closing besides readers = if list_any (λ r. is_out r.close) readers then 10 else status_of (found besides readers false)
 
--- The source of a name, and the verifier and the signer of a helper, are made in this order, up to the first that fails.
-abbrev pub MakesServing : {S V G : Type 0} → List ℕ → List ℕ → Option S → Option V → Option G → Told → Told → Type 0
-MakesServing name helper None verifier signer before after =
-    (is_none verifier ≡ true) × (is_none signer ≡ true) × AreMakings (making SourceKind name true ∷ []) before after
-MakesServing name helper (Some source) None signer before after =
-    (is_none signer ≡ true) × AreMakings (making SourceKind name false ∷ making VerifierKind helper true ∷ []) before after
-MakesServing name helper (Some source) (Some verifier) signer before after =
-    AreMakings (making SourceKind name false ∷ making VerifierKind helper false ∷ making SignerKind helper (is_none signer) ∷ []) before after
+-- What is read, of this kind and name, and the verifier and the signer of a helper, are made in this order, up to the first that fails.
+abbrev pub MakesServing : {S V G : Type 0} → MakingKind → List ℕ → List ℕ → Option S → Option V → Option G → Told → Told → Type 0
+MakesServing kind name helper None verifier signer before after =
+    (is_none verifier ≡ true) × (is_none signer ≡ true) × AreMakings (making kind name true ∷ []) before after
+MakesServing kind name helper (Some first) None signer before after =
+    (is_none signer ≡ true) × AreMakings (making kind name false ∷ making VerifierKind helper true ∷ []) before after
+MakesServing kind name helper (Some first) (Some verifier) signer before after =
+    AreMakings (making kind name false ∷ making VerifierKind helper false ∷ making SignerKind helper (is_none signer) ∷ []) before after
 
 -- what a witness is at a moment: its core, the list of its shelf, whether it is broken, and its disk
 pub record Left (D : Type 0) : Type 0 where
@@ -49,14 +52,15 @@ pub record Left (D : Type 0) : Type 0 where
 abbrev pub seen_as : {D : Type 0} → (D → DiskTold) → Key → Limits → Left D → WitnessTold
 seen_as told key limits left = record { key = key; limits = limits; core = left.core; list = left.list; disk = told left.disk; broken = left.broken }
 
--- The run ends with this one reader, and hands back the disk and the journal of the witness as it is left. Nothing more is owed.
--- Unless the witness is broken, each image of the disk stands for its list, and so does the file as it reads, where that is told.
-pub record EndsWith {D : Type 0} (told : D → DiskTold) (disk : Option D) (reader : Reader) (new : Left D) (run : Run) : Type 0 where
-  pub one : run.readers ≡ reader ∷ []
+-- The run ends with these readers, and with this found besides, and hands back the disk and the journal of the witness as it is
+-- left. Nothing more is owed. Unless the witness is broken, each image of the disk stands for its list, and so does the file as it
+-- reads, where that is told.
+pub record EndsWith {D : Type 0} (told : D → DiskTold) (disk : Option D) (readers : List Reader) (besides : Besides) (new : Left D) (run : Run) : Type 0 where
+  pub all : run.readers ≡ readers
   pub back : disk ≡ Some new.disk
   pub bodies : run.journal.bodies ≡ map (λ b. b.bytes) new.core.held
   pub entries : run.journal.entries ≡ new.core.entries
-  pub status : run.status ≡ status_closing run.readers reader.close
+  pub status : run.status ≡ status_closing besides run.readers
   pub stand : new.broken ≡ false → AllHold (told new.disk) new.list
   pub reads : new.broken ≡ false → IfSome (told new.disk).file (λ file. Holds Two file new.list)
 
@@ -93,10 +97,11 @@ module _ {D : Type 0} (told : D → DiskTold) (key : Key) (limits : Limits) wher
   -- What is made of a name and of a helper serves the witness, and the run ends.
   pub record IsServing (helper name : List ℕ) (old : Left D) (disk : Option D) (run : Run) : Type 0 where
     pub reader : Reader
-    pub makes : MakesServing name helper reader.source reader.verifier run.signer run.before run.after
+    pub makes : MakesServing SourceKind name helper reader.source reader.verifier run.signer run.before run.after
     pub new : Left D
     pub serves : ServesBy helper name old reader reader.source reader.verifier run.signer new run
-    pub ends : EndsWith told disk reader new run
+    pub no_links : HasNoLinks run
+    pub ends : EndsWith told disk (reader ∷ []) nothing_besides new run
 
   -- all three were made, and have failed so often before, and the run ends
   pub record ServesAll (source_old : SourceTold) (says : Key → List ℕ → Sig → Option Bool) (verifier_faults : ℕ) (gives : Key → List ℕ → Option Sig) (signer_faults : ℕ) (old : Left D) (disk : Option D) (run : Run) : Type 0 where
@@ -109,4 +114,5 @@ module _ {D : Type 0} (told : D → DiskTold) (key : Key) (limits : Limits) wher
     pub verifier_is : reader.verifier ≡ Some verifier
     pub signer_is : run.signer ≡ Some signer
     pub serves : ServesIts run source_old says verifier_faults gives signer_faults old source verifier signer reader new
-    pub ends : EndsWith told disk reader new run
+    pub no_links : HasNoLinks run
+    pub ends : EndsWith told disk (reader ∷ []) nothing_besides new run

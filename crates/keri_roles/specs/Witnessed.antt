@@ -1,9 +1,12 @@
--- What `witness` does: it opens a shelf, starts a witness from it, and serves it a file.
+-- What `witness` does: it opens a shelf, starts a witness from it, and serves it a file or links.
 use Rattle.std.specs.Prelude.{◌≡◌, ◌⊎◌, ℕ, false, true, List, [], IfSome, option_map}
 use Rattle.std.specs.declared.option.Option.{Option}
 use Rattle.std.specs.declared.option.Option.TheVariants.{None, Some}
 use Rattle.std.specs.declared.result.Result.TheVariants.{Ok, Err}
 use Rattle.cesr_codes.specs.declared.key.Key.{Key}
+use Rattle.command_words.specs.Inputs.{Inputs, inputs_by, links, named}
+use Rattle.command_words.specs.declared.inputs.Inputs.{Inputs as InputWords}
+use Rattle.command_words.specs.declared.inputs.Inputs.TheVariants.{Links, Named}
 use Rattle.journal.specs.declared.resume_fault.ResumeFault.{ResumeFault}
 use Rattle.journal.specs.declared.resume_fault.ResumeFault.TheVariants.{NotALog, OutOfMemory}
 use Rattle.keri_disk.specs.Images.{DiskTold}
@@ -23,8 +26,9 @@ use Rattle.witness_opening.specs.declared.fault.OpeningFault.{OpeningFault}
 use Rattle.witness_link.specs.Stored.{IsLawfulList}
 use Rattle.witness_opening.specs.declared.fault.OpeningFault.TheVariants.{OutOfMemory as NoMemory}
 use Rattle.keri_roles.specs.NoJournal.{no_journal}
-use Rattle.keri_roles.specs.Run.{Run, Settles}
-use Rattle.keri_roles.specs.ServedFile.{IsServing}
+use Rattle.keri_roles.specs.Run.{HasNoLinks, Run, Settles}
+use Rattle.keri_roles.specs.ServedFile.{IsServing, Left}
+use Rattle.keri_roles.specs.ServedLinks.{IsServingLinks}
 use Rattle.keri_roles.specs.declared.witness.WitnessWords.{WitnessWords}
 
 -- the line of a list with which no witness starts
@@ -37,11 +41,17 @@ abbrev pub start_found : ResumeFault → Besides
 start_found (NotALog number) = record nothing_besides { shelf_refused = true }
 start_found OutOfMemory = nothing_besides
 
+-- how many links are to be served
+abbrev pub count_in : {N : Type 0} → InputWords N → ℕ
+count_in (Named name) = 0
+count_in (Links it) = it.count
+
 -- Nothing was read: the line of why is written, for which there must be memory, and the status is by what was found.
 pub record IsUnread (no_memory : Type 0) (text : List ℕ) (besides : Besides) (run : Run) : Type 0 where
   pub none_read : run.readers ≡ []
   pub none_told : run.journal ≡ no_journal
   pub no_signer : run.signer ≡ None
+  pub no_links : HasNoLinks run
   pub owed : Option (List ℕ)
   pub line : IfSome owed (λ t. (no_memory → ⊥) × (t ≡ text))
   pub settles : Settles owed besides run
@@ -59,18 +69,23 @@ pub record IsUnstarted {D : Type 0} (disk : Option D) (first : D) (list : List (
   pub unread : IsUnread (fault ≡ OutOfMemory) (start_text fault) (start_found fault) run
 
 module _ {D : Type 0} (told : D → DiskTold) where
-  -- a witness starts from the list, which is lawful, and the file is served
-  pub record IsStartedOver (disk : Option D) (helper : List ℕ) (key : Key) (name : List ℕ) (limits : Limits) (first : D) (list : List (List ℕ)) (run : Run) : Type 0 where
+  -- what is read serves the witness: the file, or the links that come
+  abbrev pub ServesInput : Key → Limits → List ℕ → Inputs (List ℕ) → Left D → Option D → Run → Type 0
+  ServesInput key limits helper (named name) old disk run = IsServing told key limits helper name old disk run
+  ServesInput key limits helper (links address count) old disk run = IsServingLinks told key limits helper address count old disk run
+
+  -- a witness starts from the list, which is lawful, and is served
+  pub record IsStartedOver (disk : Option D) (helper : List ℕ) (key : Key) (input : Inputs (List ℕ)) (limits : Limits) (first : D) (list : List (List ℕ)) (run : Run) : Type 0 where
     pub core : CoreView
     pub started : IsStarted limits list core
     pub listed : AreListed core list
     pub lawful : IsLawfulList list
-    pub serves : IsServing told key limits helper name (record { core = core; list = list; broken = false; disk = first }) disk run
+    pub serves : ServesInput key limits helper input (record { core = core; list = list; broken = false; disk = first }) disk run
 
-  abbrev pub StartsOver : Option D → List ℕ → Key → List ℕ → Limits → D → List (List ℕ) → Run → Type 0
-  StartsOver disk helper key name limits first list run = IsUnstarted disk first list run ⊎ IsStartedOver disk helper key name limits first list run
+  abbrev pub StartsOver : Option D → List ℕ → Key → Inputs (List ℕ) → Limits → D → List (List ℕ) → Run → Type 0
+  StartsOver disk helper key input limits first list run = IsUnstarted disk first list run ⊎ IsStartedOver disk helper key input limits first list run
 
-  module _ (disk old : Option D) (helper : List ℕ) (key : Key) (shelf : List ℕ) (from : Option (List ℕ)) (name : List ℕ) (run : Run) where
+  module _ (disk old : Option D) (helper : List ℕ) (key : Key) (shelf : List ℕ) (from : Option (List ℕ)) (input : Inputs (List ℕ)) (run : Run) where
     -- the shelf wasn't opened
     pub record OpensNone : Type 0 where
       pub fault : OpeningFault
@@ -85,13 +100,15 @@ module _ {D : Type 0} (told : D → DiskTold) where
       pub opening : IsOpening told run.before.limits run.before middle shelf from (Some first) old (Ok list)
       pub names : KeepsNames run.before middle
       pub stands : AllHold (told first) list
-      pub starts : StartsOver disk helper key name run.before.limits first list (record run { before = middle })
+      pub starts : StartsOver disk helper key input run.before.limits first list (record run { before = middle })
 
-    -- `witness --helper HELPER --prefix KEY --shelf SHELF --from OLD FILE`: the shelf is opened, filled with the list of an old one
-    -- where that is named and there is none yet; a witness starts from its list; and it serves the file as a link, whose receipts are
-    -- written as they are made. Where there is no shelf or no witness, nothing is read, and that is said.
+    -- `witness --helper HELPER --prefix KEY --shelf SHELF --from OLD FILE`, or `--listen ADDRESS --links COUNT` in the place of FILE:
+    -- the shelf is opened, filled with the list of an old one where that is named and there is none yet; a witness starts from its
+    -- list; and it serves the file as a link, or the links that come, whose receipts are written as they are made. Where there is no
+    -- shelf or no witness, nothing is read, and that is said.
     abbrev pub IsWitnessed : Type 0
     IsWitnessed = OpensNone ⊎ OpensOne
 
   abbrev pub IsWitnessedBy : Option D → Option D → WitnessWords → Run → Type 0
-  IsWitnessedBy disk old words run = IsWitnessed disk old words.helper.now words.prefix words.shelf.now (option_map (λ f. f.now) words.from) words.file.now run
+  IsWitnessedBy disk old words run = IsWitnessed disk old words.helper.now words.prefix words.shelf.now (option_map (λ f. f.now) words.from)
+      (inputs_by (λ name. name.now) words.input) run

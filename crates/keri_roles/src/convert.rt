@@ -53,6 +53,8 @@ pub(crate) fn convert<O: Outside>(
         signer: None,
         disk: None,
         old: None,
+        door: None,
+        sinks: Vec::new(alloc),
     }
 }
 

@@ -2,13 +2,14 @@
 
 use crate::ReaderEnd;
 use journal::Journal;
+use keri_outside::Door;
 use run_outside::Outside;
 
 /// The status where there was no memory.
 pub(crate) const NO_MEMORY: u8 = 10;
 
-/// The status of a run, what was told in it, its readers in order, and its signer, its disk and the disk of an old shelf,
-/// where it made them.
+/// The status of a run, what was told in it, its readers in order, its signer, its disk, the disk of an old shelf and its
+/// door, where it made them, and the sinks of the links that it read.
 #[derive(Drop)]
 pub struct Done<O: Outside> {
     pub status: u8,
@@ -17,4 +18,7 @@ pub struct Done<O: Outside> {
     pub signer: Option<O::Signer>,
     pub disk: Option<O::Disk>,
     pub old: Option<O::Disk>,
+    pub door: Option<O::Door>,
+    /// The sinks of links, in the readers' order.
+    pub sinks: Vec<<O::Door as Door>::Sink>,
 }

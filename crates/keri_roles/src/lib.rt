@@ -2,13 +2,18 @@
 #![tactic(auto)]
 
 mod backed_list;
+mod blame;
 mod check;
 mod checker;
 mod convert;
 mod core_text;
 mod done;
+mod door_end;
+mod export;
 mod generate;
 mod last_round;
+mod link_service;
+mod links_kept;
 mod make;
 mod make_parts;
 mod message_due;
@@ -17,6 +22,7 @@ mod nothing_told;
 mod one_seat;
 mod outcome;
 mod over_core;
+mod over_links;
 mod program;
 mod providers;
 mod reads;
@@ -31,7 +37,9 @@ mod unread;
 mod validate;
 mod watch;
 mod witness;
+mod witness_end;
 mod witness_file;
+mod witness_links;
 mod works;
 
 pub use backed_list::backed;

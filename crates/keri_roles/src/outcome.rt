@@ -20,3 +20,11 @@ pub(crate) struct SignedOutcome<S, V, G> {
     pub(crate) outcome: Outcome<S, V>,
     pub(crate) signer: Option<G>,
 }
+
+/// An outcome of readers of links, the door, where it was made, and the links' sinks, in order.
+#[derive(Drop)]
+pub(crate) struct LinkedOutcome<S, V, D, K> {
+    pub(crate) outcome: Outcome<S, V>,
+    pub(crate) door: Option<D>,
+    pub(crate) sinks: Vec<K>,
+}

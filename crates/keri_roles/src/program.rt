@@ -1,24 +1,31 @@
 //! The top call.
-ghost use Rattle.std.specs.Prelude.{◌≡◌, ◌<◌, [], None, Some, IfOk, OnErr, option_map};
+ghost use Rattle.std.specs.Prelude.{◌≡◌, ◌<◌, [], None, Some, IfOk, OnErr, length, map, option_map};
 ghost use Rattle.std.specs.Vec.{vec_capacity};
+ghost use Rattle.command_words.specs.Inputs.{AreFew, AreInForm, inputs_by};
+ghost use Rattle.command_words.specs.Words as asks_for;
 ghost use Rattle.command_words.specs.Words.{IsInForm, asked_by};
 ghost use Rattle.keri_roles.specs.Commands.{CarriesOut, IsRunOf, IsWritten, RefusesWords};
 ghost use Rattle.keri_roles.specs.Run.{HasCauses, IsSettled, asked_in};
 ghost use Rattle.keri_roles.specs.NoJournal.{no_journal};
 
+use crate::blame::{BlameWords, blame_files};
 use crate::check::check;
 use crate::convert::convert;
 use crate::done::NO_MEMORY;
+use crate::export::export_files;
 use crate::generate::{StreamPlan, generate};
 use crate::make::{MakeWords, make};
 use crate::nothing_told::nothing_told;
-use crate::outcome::{Outcome, SignedOutcome};
+use crate::outcome::{LinkedOutcome, Outcome, SignedOutcome};
+use crate::over_core::FileWords;
+use crate::over_links::LinkWords;
 use crate::rehearse::rehearse;
-use crate::validate::validate;
-use crate::watch::watch;
+use crate::validate::{validate, validate_links};
+use crate::watch::{watch, watch_links};
 use crate::witness::{WitnessWords, witness};
 use crate::{Done, ReaderEnd, Runs};
-use command_words::{Command, command_of};
+use command_words::{Command, Inputs, Links, command_of};
+use keri_outside::Door;
 use report_lines::WORDS;
 use run_outside::Outside;
 use run_status::{Besides, settle};
@@ -84,36 +91,52 @@ fn carry_out<R: Threads + Wait + Sync, O: Outside>(
     match command {
         Command::Check { file } => {
             let outcome = check(alloc, file, room(alloc)?, outside);
-            Ok(finish(unsigned(outcome), outside))
+            Ok(finish(alloc, unsigned(outcome), outside))
         }
-        Command::Validate { helper, files } => {
-            let outcome = validate(rt, alloc, helper, files.as_slice(), outside)?;
-            Ok(finish(unsigned(outcome), outside))
-        }
-        Command::Watch { helper, files } => {
-            let outcome = watch(rt, alloc, helper, files.as_slice(), outside)?;
-            Ok(finish(unsigned(outcome), outside))
-        }
+        Command::Validate { helper, inputs } => carry_validate(rt, alloc, helper, inputs, outside),
+        Command::Watch { helper, inputs } => carry_watch(rt, alloc, helper, inputs, outside),
         Command::Witness {
             helper,
             prefix,
             shelf,
             from,
-            file,
+            input,
         } => {
             let words = WitnessWords {
                 helper,
                 prefix,
                 shelf,
                 from,
-                file,
+                input,
             };
             Ok(witness(alloc, words, room(alloc)?, outside))
+        }
+        Command::Export {
+            helper,
+            prefix,
+            files,
+        } => {
+            let names = files.as_slice();
+            let outcome = export_files(rt, alloc, FileWords { helper, names }, prefix, outside)?;
+            Ok(finish(alloc, unsigned(outcome), outside))
+        }
+        Command::Blame {
+            helper,
+            first,
+            second,
+        } => {
+            let words = BlameWords {
+                helper,
+                first,
+                second,
+            };
+            let outcome = blame_files(rt, alloc, words, room(alloc)?, outside)?;
+            Ok(finish(alloc, unsigned(outcome), outside))
         }
         Command::Make { helper, plan, log } => {
             let words = MakeWords { helper, plan, log };
             let outcome = make(rt, alloc, words, room(alloc)?, outside)?;
-            Ok(finish(outcome, outside))
+            Ok(finish(alloc, outcome, outside))
         }
         Command::Convert { domain, file } => Ok(convert(
             alloc,
@@ -125,9 +148,75 @@ fn carry_out<R: Threads + Wait + Sync, O: Outside>(
         Command::Generate { seed, logs, events } => {
             let plan = StreamPlan { seed, logs, events };
             let outcome = generate(rt, alloc, plan, room(alloc)?, outside)?;
-            Ok(finish(unsigned(outcome), outside))
+            Ok(finish(alloc, unsigned(outcome), outside))
         }
         Command::Rehearse => Ok(rehearse(alloc, room(alloc)?, outside)),
+    }
+}
+
+// `validate`, over files or over links.
+fn carry_validate<R: Threads + Wait + Sync, O: Outside>(
+    rt: &R,
+    alloc: Global,
+    helper: &str,
+    inputs: Inputs<'_, Vec<&str>>,
+    outside: &mut O,
+) -> Result<Done<O>, AllocError>
+    requires in_form { AreInForm (λ files. AreFew (length files.items)) inputs }
+    ensures does { IfOk result (λ done. CarriesOut O.Disk.told done.disk done.old
+        (Some (asks_for.validate helper.now (inputs_by (λ files. map (λ f. f.now) files.items) inputs.entry)))
+        (⟦<O as Runs>⟧.run outside.old outside.new done)) }
+    ensures none_made { OnErr result (O.told outside.new ≡ O.told outside.old) }
+    ensures none_written { OnErr result (O.sink outside.new ≡ O.sink outside.old) }
+{
+    match inputs {
+        Inputs::Named(files) => {
+            let names = files.as_slice();
+            let outcome = validate(rt, alloc, FileWords { helper, names }, outside)?;
+            Ok(finish(alloc, unsigned(outcome), outside))
+        }
+        Inputs::Links(Links { address, count }) => {
+            let words = LinkWords {
+                helper,
+                address,
+                count,
+            };
+            let outcome = validate_links(rt, alloc, words, outside)?;
+            Ok(finish_links(alloc, outcome, outside))
+        }
+    }
+}
+
+// `watch`, over files or over links.
+fn carry_watch<R: Threads + Wait + Sync, O: Outside>(
+    rt: &R,
+    alloc: Global,
+    helper: &str,
+    inputs: Inputs<'_, Vec<&str>>,
+    outside: &mut O,
+) -> Result<Done<O>, AllocError>
+    requires in_form { AreInForm (λ files. AreFew (length files.items)) inputs }
+    ensures does { IfOk result (λ done. CarriesOut O.Disk.told done.disk done.old
+        (Some (asks_for.watch helper.now (inputs_by (λ files. map (λ f. f.now) files.items) inputs.entry)))
+        (⟦<O as Runs>⟧.run outside.old outside.new done)) }
+    ensures none_made { OnErr result (O.told outside.new ≡ O.told outside.old) }
+    ensures none_written { OnErr result (O.sink outside.new ≡ O.sink outside.old) }
+{
+    match inputs {
+        Inputs::Named(files) => {
+            let names = files.as_slice();
+            let outcome = watch(rt, alloc, FileWords { helper, names }, outside)?;
+            Ok(finish(alloc, unsigned(outcome), outside))
+        }
+        Inputs::Links(Links { address, count }) => {
+            let words = LinkWords {
+                helper,
+                address,
+                count,
+            };
+            let outcome = watch_links(rt, alloc, words, outside)?;
+            Ok(finish_links(alloc, outcome, outside))
+        }
     }
 }
 
@@ -149,8 +238,9 @@ fn unsigned<S, V, G>(outcome: Outcome<S, V>) -> SignedOutcome<S, V, G>
     }
 }
 
-// Writes what is owed, and finds the status.
+// Writes what is owed, and finds the status. It takes no memory.
 fn finish<O: Outside>(
+    alloc: Global,
     outcome: SignedOutcome<O::Source, O::Verifier, O::Signer>,
     outside: &mut O,
 ) -> Done<O>
@@ -159,6 +249,8 @@ fn finish<O: Outside>(
     ensures signer { result.signer ≡ outcome.signer }
     ensures no_disk { result.disk ≡ None }
     ensures no_old { result.old ≡ None }
+    ensures no_door { result.door ≡ None }
+    ensures no_sinks { result.sinks.items ≡ [] }
     ensures settles { IsSettled outcome.outcome (⟦<O as Runs>⟧.run outside.old outside.new result) }
     ensures told { O.told outside.new ≡ O.told outside.old }
 {
@@ -177,6 +269,36 @@ fn finish<O: Outside>(
         signer,
         disk: None,
         old: None,
+        door: None,
+        sinks: Vec::new(alloc),
+    }
+}
+
+// The same of readers of links.
+fn finish_links<O: Outside>(
+    alloc: Global,
+    linked: LinkedOutcome<O::Source, O::Verifier, O::Door, <O::Door as Door>::Sink>,
+    outside: &mut O,
+) -> Done<O>
+    ensures readers { result.readers ≡ linked.outcome.readers }
+    ensures journal { result.journal ≡ linked.outcome.journal }
+    ensures signer { result.signer ≡ None }
+    ensures no_disk { result.disk ≡ None }
+    ensures no_old { result.old ≡ None }
+    ensures door { result.door ≡ linked.door }
+    ensures sinks { result.sinks ≡ linked.sinks }
+    ensures settles { IsSettled linked.outcome (⟦<O as Runs>⟧.run outside.old outside.new result) }
+    ensures told { O.told outside.new ≡ O.told outside.old }
+{
+    let LinkedOutcome {
+        outcome,
+        door,
+        sinks,
+    } = linked;
+    Done {
+        door,
+        sinks,
+        ..finish(alloc, unsigned(outcome), outside)
     }
 }
 
@@ -198,6 +320,8 @@ fn unbegun<O: Outside>(alloc: Global) -> Done<O>
     ensures signer { result.signer ≡ None }
     ensures no_disk { result.disk ≡ None }
     ensures no_old { result.old ≡ None }
+    ensures no_door { result.door ≡ None }
+    ensures no_sinks { result.sinks.items ≡ [] }
 {
     Done {
         status: NO_MEMORY,
@@ -206,6 +330,8 @@ fn unbegun<O: Outside>(alloc: Global) -> Done<O>
         signer: None,
         disk: None,
         old: None,
+        door: None,
+        sinks: Vec::new(alloc),
     }
 }
 
@@ -226,5 +352,7 @@ fn refuse<O: Outside>(alloc: Global, outside: &mut O) -> Done<O>
         signer: None,
         disk: None,
         old: None,
+        door: None,
+        sinks: Vec::new(alloc),
     }
 }

@@ -31,8 +31,8 @@ pub(crate) fn providers_for<O: Outside>(
     providers
 }
 
-// Makes the source of a name, and then the verifier of the helper.
-fn provide<O: Outside>(
+/// Makes the source of a name, and then the verifier of the helper.
+pub(crate) fn provide<O: Outside>(
     name: &str,
     helper: &str,
     outside: &mut O,

@@ -43,6 +43,8 @@ pub(crate) fn rehearse<O: Outside>(
         signer: None,
         disk: None,
         old: None,
+        door: None,
+        sinks: Vec::new(alloc),
     }
 }
 

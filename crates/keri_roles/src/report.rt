@@ -36,13 +36,13 @@ pub(crate) fn report_of<S: Source, V: Verifier>(
     push_refusals(alloc, 0, readers, &mut text)?;
     let CoreStanding {
         text: standing,
-        has_conflicts,
+        has_conflicts: is_found,
     } = standing_of(alloc, core)?;
     text.push_str(standing.as_str())?;
     push_stops(alloc, 0, readers, &mut text)?;
     Ok(CommandText {
         bytes: text.into_bytes(),
-        has_conflicts,
+        is_found,
     })
 }
 

@@ -10,12 +10,13 @@ pub trait Runs: Outside {
     ghost use Rattle.keri_roles.specs.declared.done.Done.{Done as Back};
 
     /// Of the outside before and after it, and of what it hands back.
-    ghost run: { Self → Self → Back Self Self.Source Self.Verifier Self.Signer Self.Disk Self.Sink Self.Gate → Run };
+    ghost run: { Self → Self → Back Self Self.Source Self.Verifier Self.Signer Self.Disk Self.Door Self.Sink Self.Gate Self.Door.Sink → Run };
 
     // It can be no other.
     ghost run_is: { run ≡ run_over Self.Source.left Self.Source.faults
         Self.Verifier.says Self.Verifier.inquiries Self.Verifier.faults
         Self.Signer.gives Self.Signer.signings Self.Signer.faults Self.Disk.told
+        Self.Door.left Self.Door.faults Self.Door.Sink.written Self.Door.Sink.faults
         Self.Sink.written Self.Sink.faults Self.told Self.sink };
 }
 
@@ -26,6 +27,7 @@ impl<O: Outside> Runs for O {
     ghost run = { run_over O.Source.left O.Source.faults
         O.Verifier.says O.Verifier.inquiries O.Verifier.faults
         O.Signer.gives O.Signer.signings O.Signer.faults O.Disk.told
+        O.Door.left O.Door.faults O.Door.Sink.written O.Door.Sink.faults
         O.Sink.written O.Sink.faults O.told O.sink };
 
     ghost run_is = { refl };

@@ -25,6 +25,8 @@ pub(crate) fn unread<O: Outside>(
     ensures signer { result.signer ≡ None }
     ensures disk { result.disk ≡ disk }
     ensures old { result.old ≡ old }
+    ensures door { result.door ≡ None }
+    ensures sinks { result.sinks.items ≡ [] }
     ensures settles { Settles (option_map string_bytes line) besides
         (⟦<O as Runs>⟧.run outside.old outside.new result) }
     ensures told { O.told outside.new ≡ O.told outside.old }
@@ -37,6 +39,8 @@ pub(crate) fn unread<O: Outside>(
         signer: None,
         disk,
         old,
+        door: None,
+        sinks: Vec::new(alloc),
     }
 }
 

@@ -1,16 +1,21 @@
-//! `witness --helper HELPER --prefix KEY --shelf SHELF --from OLD FILE`: stores the events of a file, and writes receipts of them.
-ghost use Rattle.std.specs.Prelude.{◌≡◌, ◌≢◌, ◌<◌, [], Some, false, IfOk, string_bytes};
+//! `witness --helper HELPER --prefix KEY --shelf SHELF --from OLD`, and behind it FILE, or `--listen ADDRESS --links COUNT`: stores
+//! the events of a file or of links, and writes receipts of them.
+ghost use Rattle.std.specs.Prelude.{◌≡◌, ◌≢◌, ◌<◌, ◌≤◌, [], Some, false, IfOk, string_bytes};
 ghost use Rattle.std.specs.Vec.{vec_capacity};
+ghost use Rattle.command_words.specs.Inputs.{inputs_by};
 ghost use Rattle.cesr_codes.specs.declared.key.KeyCode.TheVariants.{Fixed};
 ghost use Rattle.journal.specs.declared.resume_fault.ResumeFault.TheVariants.{OutOfMemory};
-ghost use Rattle.keri_roles.specs.Witnessed.{IsUnopened, IsUnread, IsWitnessedBy, StartsOver, start_found, start_text};
+ghost use Rattle.keri_roles.specs.Witnessed.{IsUnopened, IsUnread, IsWitnessedBy, ServesInput, StartsOver, count_in, start_found, start_text};
 
+use crate::links_kept::{LinksKept, room_for};
 use crate::unread::unread;
 use crate::witness_file::serve_file;
+use crate::witness_links::serve_links;
 use crate::{Done, ReaderEnd, Runs};
 use cesr_codes::Key;
+use command_words::Inputs;
 use journal::ResumeFault;
-use keri_outside::Limits;
+use keri_outside::{Door, Limits};
 use report_lines::log_line;
 use run_outside::Outside;
 use run_status::Besides;
@@ -20,16 +25,16 @@ use witness_link::Witnessing;
 use witness_opening::{NotOpened, Opened, open_shelf};
 
 /// The words of `witness`.
-#[derive(Clone, Copy)]
+#[derive(Drop)]
 pub(crate) struct WitnessWords<'a> {
     pub(crate) helper: &'a str,
     pub(crate) prefix: Key,
     pub(crate) shelf: &'a str,
     pub(crate) from: Option<&'a str>,
-    pub(crate) file: &'a str,
+    pub(crate) input: Inputs<'a, &'a str>,
 }
 
-/// Opens the shelf, starts a witness from it, and serves it the file. The readers have room for the one that there is.
+/// Opens the shelf, starts a witness from it, and serves it the file or the links. The readers have room for one.
 pub(crate) fn witness<O: Outside>(
     alloc: Global,
     words: WitnessWords<'_>,
@@ -67,7 +72,7 @@ fn unopened<O: Outside>(
     unread(alloc, line, fault.found(), disk, old, readers, outside)
 }
 
-// Starts a witness from the shelf, and serves it the file.
+// Starts a witness from the shelf, where there is room for the links, and serves it.
 fn start<O: Outside>(
     alloc: Global,
     words: WitnessWords<'_>,
@@ -82,24 +87,72 @@ fn start<O: Outside>(
     requires limits { opened.shelf.limits ≡ limits }
     requires whole { opened.shelf.broken ≡ false }
     ensures old { result.old ≡ opened.old }
-    ensures starts { StartsOver O.Disk.told result.disk words.entry.helper.now words.entry.prefix words.entry.file.now limits
-        opened.shelf.disk opened.shelf.list (⟦<O as Runs>⟧.run outside.old outside.new result) }
+    ensures starts { StartsOver O.Disk.told result.disk words.entry.helper.now words.entry.prefix
+        (inputs_by (λ name. name.now) words.entry.input) limits opened.shelf.disk opened.shelf.list
+        (⟦<O as Runs>⟧.run outside.old outside.new result) }
 {
     let Opened { shelf, old } = opened;
+    let Ok(kept) = room_for(alloc, readers, links_in(&words.input)) else {
+        let fault = ResumeFault::OutOfMemory;
+        return unstarted(
+            alloc,
+            StartFault { shelf, fault },
+            old,
+            Vec::new(alloc),
+            outside,
+        );
+    };
     match Witness::start(alloc, words.prefix, shelf, limits) {
         Ok(witness) => {
             witness.stands();
-            serve_file(
+            serve(
                 alloc,
                 words.helper,
-                words.file,
+                words.input,
                 witness,
                 old,
-                readers,
+                kept,
                 outside,
             )
         }
-        Err(none) => unstarted(alloc, none, old, readers, outside),
+        Err(none) => unstarted(alloc, none, old, kept.readers, outside),
+    }
+}
+
+// How many links are to be served.
+fn links_in<N>(input: &Inputs<'_, N>) -> usize
+    ensures { result ≡ count_in input.now }
+{
+    match input {
+        Inputs::Named(_) => 0,
+        Inputs::Links(links) => usize::from(links.count),
+    }
+}
+
+// Serves the witness the file, or the links, for which there is room.
+fn serve<O: Outside>(
+    alloc: Global,
+    helper: &str,
+    input: Inputs<'_, &str>,
+    witness: Witness<O::Disk>,
+    old: Option<O::Disk>,
+    kept: LinksKept<O::Source, O::Verifier, <O::Door as Door>::Sink>,
+    outside: &mut O,
+) -> Done<O>
+    requires no_readers { kept.readers.items ≡ [] }
+    requires no_sinks { kept.sinks.items ≡ [] }
+    requires readers { count_in input ≤ vec_capacity kept.readers }
+    requires sinks { count_in input ≤ vec_capacity kept.sinks }
+    requires one { 0 < vec_capacity kept.readers }
+    requires whole { witness.broken ≡ false }
+    ensures old { result.old ≡ old }
+    ensures serves { ServesInput O.Disk.told witness.key witness.limits helper.now (inputs_by (λ name. name.now) input.entry)
+        (record { core = witness.core; list = witness.shelf.list; broken = witness.broken; disk = witness.shelf.disk })
+        result.disk (⟦<O as Runs>⟧.run outside.old outside.new result) }
+{
+    match input {
+        Inputs::Named(name) => serve_file(alloc, helper, name, witness, old, kept.readers, outside),
+        Inputs::Links(links) => serve_links(alloc, helper, links, witness, old, kept, outside),
     }
 }
 

@@ -1,22 +1,17 @@
 //! A file that is served to a witness.
-ghost use Rattle.std.specs.Prelude.{◌≡◌, ◌<◌, [], ◌∷◌, None, Some, false, map, IfSome};
+ghost use Rattle.std.specs.Prelude.{◌≡◌, ◌<◌, [], false};
 ghost use Rattle.std.specs.Vec.{vec_capacity};
-ghost use Rattle.run_status.specs.Readers.{reader_seen};
-ghost use Rattle.shelf_log.specs.Format.{Holds};
-ghost use Rattle.shelf_log.specs.Settled.{AllHold};
-ghost use Rattle.shelf_log.specs.declared.version.Version.TheVariants.{Two};
 ghost use Rattle.witness_link.specs.Links.{source_told, told_of_link};
 ghost use Rattle.witness_link.specs.Served.{ServesLink};
-ghost use Rattle.keri_roles.specs.Made.{is_out as out_by};
 ghost use Rattle.keri_roles.specs.ServedFile.{IsServing, ServesAll};
-ghost use Rattle.keri_roles.specs.ServedFile as specs;
 
-use crate::done::NO_MEMORY;
+use crate::door_end::DoorEnd;
+use crate::links_kept::unserved;
+use crate::witness_end::end_one;
 use crate::{Close, Done, ReaderEnd, Runs};
 use keri_outside::Limits;
 use lists::Items;
 use run_outside::Outside;
-use run_status::{Besides, status_by};
 use std::alloc::Global;
 use witness_core::Witness;
 use witness_link::{LinkEnd, Witnessing, serve_link};
@@ -42,41 +37,19 @@ pub(crate) fn serve_file<O: Outside>(
 {
     let Ok(source) = outside.source(name) else {
         let reader = unserved(alloc, None, None, Close::ReadFault);
-        return end(witness, reader, None, old, readers);
+        return end_one(witness, reader, None, old, readers, DoorEnd::none(alloc));
     };
     let Ok(verifier) = outside.verifier(helper) else {
         let reader = unserved(alloc, Some(source), None, Close::VerifierFault);
-        return end(witness, reader, None, old, readers);
+        return end_one(witness, reader, None, old, readers, DoorEnd::none(alloc));
     };
     let Ok(signer) = outside.signer(helper) else {
         let reader = unserved(alloc, Some(source), Some(verifier), Close::SignerFault);
-        return end(witness, reader, None, old, readers);
+        return end_one(witness, reader, None, old, readers, DoorEnd::none(alloc));
     };
     serve_made(
         alloc, witness, source, verifier, signer, old, readers, outside,
     )
-}
-
-// The end of a reader that reads nothing.
-fn unserved<S, V>(
-    alloc: Global,
-    source: Option<S>,
-    verifier: Option<V>,
-    close: Close,
-) -> ReaderEnd<S, V>
-    ensures source { result.source ≡ source }
-    ensures verifier { result.verifier ≡ verifier }
-    ensures none_refused { result.refused.items ≡ [] }
-    ensures none_seen { result.seen ≡ [] }
-    ensures close { result.close ≡ close }
-{
-    ReaderEnd {
-        source,
-        verifier,
-        refused: Vec::new(alloc),
-        seen: Items::new(alloc),
-        close,
-    }
 }
 
 // Serves the witness by a source, a verifier and a signer.
@@ -124,7 +97,8 @@ fn serve_made<O: Outside>(
         seen: Items::from_vec(seen),
         close,
     };
-    end(witness, reader, Some(signer), old, readers)
+    let links = DoorEnd::none(alloc);
+    end_one(witness, reader, Some(signer), old, readers, links)
 }
 
 // Serves the witness by them, and writes to the sink of the outside.
@@ -161,61 +135,4 @@ fn serve<O: Outside>(
         signer,
         limits,
     )
-}
-
-// Ends the run, which has the one reader.
-fn end<O: Outside>(
-    witness: Witness<O::Disk>,
-    reader: ReaderEnd<O::Source, O::Verifier>,
-    signer: Option<O::Signer>,
-    old: Option<O::Disk>,
-    readers: Vec<ReaderEnd<O::Source, O::Verifier>>,
-) -> Done<O>
-    requires none_yet { readers.items ≡ [] }
-    requires room { 0 < vec_capacity readers }
-    ensures one { result.readers.items ≡ reader ∷ [] }
-    ensures signer { result.signer ≡ signer }
-    ensures disk { result.disk ≡ Some witness.shelf.disk }
-    ensures old { result.old ≡ old }
-    ensures bodies { result.journal.bodies ≡ map (λ b. b.bytes) witness.core.held }
-    ensures entries { result.journal.entries ≡ witness.core.entries }
-    ensures stand { witness.broken ≡ false → AllHold (O.Disk.told witness.shelf.disk) witness.shelf.list }
-    ensures reads { witness.broken ≡ false → IfSome (O.Disk.told witness.shelf.disk).file
-        (λ file. Holds Two file witness.shelf.list) }
-    ensures status { result.status ≡ specs.status_closing
-        (map (reader_seen O.Source.left O.Source.faults O.Verifier.says O.Verifier.inquiries O.Verifier.faults)
-        result.readers.items) reader.close }
-{
-    let close = reader.close;
-    let mut readers = readers;
-    readers.push(reader).unwrap();
-    let status = status_closing::<O>(close, readers.as_slice());
-    let (journal, shelf) = witness.into_parts();
-    Done {
-        status,
-        journal,
-        readers,
-        signer,
-        disk: Some(shelf.into_disk()),
-        old,
-    }
-}
-
-// The status of the readers, of which the last closed so, where nothing more is owed.
-fn status_closing<O: Outside>(close: Close, readers: &[ReaderEnd<O::Source, O::Verifier>]) -> u8
-    ensures { result ≡ specs.status_closing
-        (map (reader_seen O.Source.left O.Source.faults O.Verifier.says O.Verifier.inquiries O.Verifier.faults)
-        readers.now) close }
-{
-    if is_out(close) {
-        return NO_MEMORY;
-    }
-    status_by::<O>(Besides::nothing(), readers)
-}
-
-// Whether there was no memory for all that came.
-fn is_out(close: Close) -> bool
-    ensures { result ≡ out_by close }
-{
-    matches!(close, Close::OutOfMemory)
 }

@@ -7,3 +7,4 @@ pub mod Seats
 pub mod Fed
 pub mod LastRound
 pub mod Told
+pub mod AnySeats

@@ -1,6 +1,7 @@
 //! Readers of one core in threads: each reads its own source with its own verifier, reader 0 on the main thread.
 #![tactic(auto)]
 
+mod any_seats;
 mod job;
 mod last_round;
 mod passes;
@@ -9,6 +10,7 @@ mod ran;
 mod reader_seats;
 mod started;
 
+pub use any_seats::AnySeats;
 pub use last_round::LastRound;
 pub use providers::Providers;
 pub use ran::Ran;

@@ -1,7 +1,7 @@
 //! What a row is answered by.
 
 use crate::outside::outside_of;
-use keri_outside::{MemSource, MemVerifier};
+use keri_outside::{MemSink, MemSource, MemVerifier};
 use keri_roles::{Close, Done, ReaderEnd, run};
 use row_text::Row;
 use run_outside::{Making, MemOutside};
@@ -62,8 +62,17 @@ fn status_words(text: &mut String, done: &Done<MemOutside>) -> Result<(), AllocE
     write!(text, "= {status} told={told}")
 }
 
+// How many bytes each link was sent.
+fn link_words(text: &mut String, sinks: &[MemSink]) -> Result<(), AllocError> {
+    for sink in sinks {
+        let length = sink.bytes().len();
+        write!(text, " link={length}")?;
+    }
+    Ok(())
+}
+
 /// `run WORD,WORD.. NAME VALUE..`: what is written, and right behind it `=`, the status, how many messages and verdicts were
-/// told, how each reader closed, and each making, with a `!` where it failed.
+/// told, how each reader closed, each making, with a `!` where it failed, and how many bytes each link was sent.
 fn ran<R: Threads + Wait + Sync>(rt: &R, alloc: Global, row: &Row) -> Result<String, AllocError> {
     let mut outside = outside_of(alloc, row)?;
     let words = words_of(alloc, row)?;
@@ -72,6 +81,7 @@ fn ran<R: Threads + Wait + Sync>(rt: &R, alloc: Global, row: &Row) -> Result<Str
     status_words(&mut text, &done)?;
     close_words(&mut text, done.readers.as_slice())?;
     making_words(&mut text, outside.makings())?;
+    link_words(&mut text, done.sinks.as_slice())?;
     Ok(text)
 }
 

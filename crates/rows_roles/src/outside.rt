@@ -4,7 +4,7 @@ ghost use Rattle.std.specs.Prelude.{◌≤◌};
 use keri_outside::{Limits, MemSink, VerdictRule};
 use lists::Items;
 use row_text::Row;
-use run_outside::{MemDiskFile, MemFile, MemHelper, MemOutside};
+use run_outside::{MemAddress, MemDiskFile, MemFile, MemHelper, MemOutside, MemPeer};
 use std::alloc::{AllocError, Global};
 
 /// The name of the file that holds a stream.
@@ -20,6 +20,9 @@ const PLAN: &[u8] = b"p";
 const SHELF: &[u8] = b"shelf";
 
 const OLD: &[u8] = b"old";
+
+/// The name of the one door.
+const DOOR: &[u8] = b"door";
 
 /// The name of the one helper.
 const HELPER: &[u8] = b"rehearsal";
@@ -151,11 +154,39 @@ fn disks_of(alloc: Global, row: &Row) -> Result<Items<MemDiskFile>, AllocError> 
     Ok(disks)
 }
 
+// A link, which holds what the file `a` does.
+fn peer_of(alloc: Global, row: &Row) -> Result<MemPeer, AllocError> {
+    Ok(MemPeer {
+        bytes: Items::from_vec(row.bytes(alloc, place_of(row, "text"))?),
+        piece: lowered(row, "piece", PIECE).max(1) as usize,
+        failing_reads: failing(alloc, row, "reads")?,
+        failing_puts: failing(alloc, row, "link_puts")?,
+    })
+}
+
+// The one door, at which so many links come as the row says.
+fn doors_of(alloc: Global, row: &Row) -> Result<Items<MemAddress>, AllocError> {
+    let count = row.word(place_of(row, "links")).parse::<u8>().unwrap_or(0);
+    let mut peers = Items::new(alloc);
+    for _ in 0..count {
+        peers.push(peer_of(alloc, row)?)?;
+    }
+    let mut doors = Items::new(alloc);
+    doors.push(MemAddress {
+        name: named(alloc, DOOR)?,
+        peers,
+        failing: failing(alloc, row, "door_calls")?,
+    })?;
+    Ok(doors)
+}
+
 /// The outside of a row: behind its command line stand names, each with a value behind it. `text` is what the file `a` and
 /// standard input hold, `plan` what `p` does, `shelf` and `old` what the files of these names do, which aren't there else, `piece`
 /// how many bytes a read gives at most, and `says yes` or `says no` what the helper says of everything; else it is the rehearsal.
 /// `reads`, `plan_reads`, `asks`, `signings`, `puts`, `shelf_calls`, `old_calls` and `makings` are the numbers of the calls that
-/// fail, counted from 0, with a comma between two of them. The others are limits, by their names.
+/// fail, counted from 0, with a comma between two of them; `links` is how many links come at the address `door`, each of which
+/// holds what `a` does, and `door_calls` and `link_puts` are the calls of it and of each link's sink that fail. The others are limits,
+/// by their names.
 pub(crate) fn outside_of(alloc: Global, row: &Row) -> Result<MemOutside, AllocError> {
     let files = files_of(alloc, row)?;
     let helpers = helpers_of(alloc, row)?;
@@ -163,5 +194,11 @@ pub(crate) fn outside_of(alloc: Global, row: &Row) -> Result<MemOutside, AllocEr
     let sink = MemSink::new(alloc, failing(alloc, row, "puts")?);
     let makings = failing(alloc, row, "makings")?;
     let outside = MemOutside::new(alloc, files, sink, makings, limits_of(row));
-    Ok(outside.with_helpers(helpers).with_disks(disks))
+    let doors = doors_of(alloc, row)?;
+    Ok(
+        outside
+            .with_helpers(helpers)
+            .with_disks(disks)
+            .with_doors(doors),
+    )
 }

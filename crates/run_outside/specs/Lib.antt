@@ -1,6 +1,7 @@
 pub mod Files
 pub mod Disks
 pub mod Helpers
+pub mod Addresses
 pub mod Told
 pub mod Makings
 pub mod Memory

@@ -2,6 +2,7 @@
 use Rattle.std.specs.Prelude.{if◌then◌else◌}
 use Rattle.std.specs.declared.option.Option.TheVariants.{None, Some}
 use Rattle.keri_outside.specs.declared.mem_sink.MemSink.{MemSink}
+use Rattle.run_outside.specs.Addresses.{links_under}
 use Rattle.run_outside.specs.Disks.{stored_under}
 use Rattle.run_outside.specs.Files.{held_under}
 use Rattle.run_outside.specs.Helpers.{says_under, gives_under}
@@ -18,6 +19,7 @@ outside_told outside = record {
   says = says_under outside.helpers;
   gives = gives_under outside.helpers;
   stored = stored_under outside.disks;
+  links = links_under outside.addresses;
   makings = if outside.telling then Some outside.makings else None;
   limits = outside.limits;
 }

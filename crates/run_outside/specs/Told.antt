@@ -14,13 +14,15 @@ use Rattle.run_outside.specs.declared.mem_file.MemFile.{MemFile}
 
 -- How often a making failed, what a source of each name holds, what a verifier of each name says of a key, a body and
 -- a signature, the signature that a signer of each name gives of a key on a body, the bytes of the file that a disk of each
--- name is of, which are none where the file is new, and the makings so far, where it tells, and the limits.
+-- name is of, which are none where the file is new, the bytes of each link that comes at a door of each name, and the makings
+-- so far, where it tells, and the limits.
 pub record Told : Type 0 where
   pub faults : ℕ
   pub holds : List ℕ → Option (List ℕ)
   pub says : List ℕ → Key → List ℕ → Sig → Option Bool
   pub gives : List ℕ → Key → List ℕ → Option Sig
   pub stored : List ℕ → Option (List ℕ)
+  pub links : List ℕ → Option (List (List ℕ))
   pub makings : Option (List Making)
   pub limits : Limits
 
@@ -39,9 +41,19 @@ pub record Makes {T E : Type 0} (kind : MakingKind) (name : List ℕ) (old new :
   pub verdicts : new.says ≡ old.says
   pub signatures : new.gives ≡ old.gives
   pub disks : new.stored ≡ old.stored
+  pub same_links : new.links ≡ old.links
   pub limits : new.limits ≡ old.limits
   pub cause : HasCause old.faults new.faults result
 
--- what an outside of these files, and no helpers and no disks, tells before anything was made
+-- what an outside of these files, and no helpers, disks and doors, tells before anything was made
 abbrev pub first_told : List MemFile → Limits → Told
-first_told files limits = record { faults = 0; holds = held_under files; says = λ name key body sig. None; gives = λ name key body. None; stored = λ name. None; makings = Some []; limits = limits }
+first_told files limits = record {
+  faults = 0;
+  holds = held_under files;
+  says = λ name key body sig. None;
+  gives = λ name key body. None;
+  stored = λ name. None;
+  links = λ name. None;
+  makings = Some [];
+  limits = limits;
+}

@@ -9,6 +9,7 @@ pub enum MakingKind {
     Verifier,
     Signer,
     Disk,
+    Door,
 }
 
 /// A making: what, under which name, and whether it failed.

@@ -1,12 +1,13 @@
 //! The outside in memory.
 ghost use Rattle.std.specs.Prelude.{◌≡◌, [], Some};
 
+use crate::addresses::door_of;
 use crate::disks::disk_of;
 use crate::files::source_of;
 use crate::helpers::{signer_of, verifier_of};
-use crate::{Making, MakingKind, MemDiskFile, MemFile, MemHelper, Outside};
+use crate::{Making, MakingKind, MemAddress, MemDiskFile, MemFile, MemHelper, Outside};
 use keri_disk::MemDisk;
-use keri_outside::{Failed, Limits, MemGate, MemSigner, MemSink, MemSource, MemVerifier};
+use keri_outside::{Failed, Limits, MemDoor, MemGate, MemSigner, MemSink, MemSource, MemVerifier};
 use lists::Items;
 use std::alloc::{AllocError, Global};
 
@@ -17,6 +18,7 @@ pub struct MemOutside {
     files: Items<MemFile>,
     helpers: Items<MemHelper>,
     disks: Items<MemDiskFile>,
+    addresses: Items<MemAddress>,
     failing: Items<u64>,
     calls: u64,
     makings: Items<Making>,
@@ -36,8 +38,9 @@ impl MemOutside {
     ghost use Rattle.run_outside.specs.declared.making.MakingKind.TheVariants.{Disk as DiskKind};
     ghost use Rattle.run_outside.specs.Helpers.{says_under, gives_under};
     ghost use Rattle.run_outside.specs.Disks.{stored_under};
+    ghost use Rattle.run_outside.specs.Addresses.{links_under};
 
-    /// An outside with these files, this sink, no helpers and no disks. Its makings of the numbers in `failing`, counted from 0, fail.
+    /// An outside with these files, this sink, no helpers, no disks and no doors. Its makings of the numbers in `failing`, counted from 0, fail.
     pub fn new(
         alloc: Global,
         files: Items<MemFile>,
@@ -53,6 +56,7 @@ impl MemOutside {
             files,
             helpers: Items::new(alloc),
             disks: Items::new(alloc),
+            addresses: Items::new(alloc),
             failing,
             calls: 0,
             makings: Items::new(alloc),
@@ -79,6 +83,14 @@ impl MemOutside {
         ensures sink { outside_sink result ≡ outside_sink self }
     {
         MemOutside { disks, ..self }
+    }
+
+    /// It with the doors of these addresses.
+    pub fn with_doors(self, addresses: Items<MemAddress>) -> MemOutside
+        ensures told { outside_told result ≡ record (outside_told self) { links = links_under addresses } }
+        ensures sink { outside_sink result ≡ outside_sink self }
+    {
+        MemOutside { addresses, ..self }
     }
 
     /// The sink.
@@ -168,6 +180,8 @@ impl Outside for MemOutside {
 
     type Disk = MemDisk;
 
+    type Door = MemDoor;
+
     type Sink = MemSink;
 
     type Gate = MemGate;
@@ -221,6 +235,17 @@ impl Outside for MemOutside {
 
     fn old_disk(&mut self, name: &str) -> Result<MemDisk, Failed> {
         self.make_disk(name)
+    }
+
+    fn door(&mut self, name: &str) -> Result<MemDoor, Failed> {
+        let fails = self.next_fails();
+        match door_of(self.alloc, self.addresses.as_slice(), name) {
+            Some(door) if !fails => {
+                self.note(MakingKind::Door, name, false);
+                Ok(door)
+            }
+            _ => Err(self.fail(MakingKind::Door, name)),
+        }
     }
 
     fn out(&mut self) -> &mut MemSink {

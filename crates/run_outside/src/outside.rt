@@ -3,10 +3,10 @@ ghost use Rattle.std.specs.Prelude.{◌≡◌, IfOk};
 ghost use Rattle.std.specs.Borrow.{Lends, sem};
 ghost use Rattle.keri_specs.specs.Told.{HasNone};
 ghost use Rattle.run_outside.specs.Told.{Told, Makes};
-ghost use Rattle.run_outside.specs.declared.making.MakingKind.TheVariants.{Source as SourceKind, Verifier as VerifierKind, Signer as SignerKind, Disk as DiskKind};
+ghost use Rattle.run_outside.specs.declared.making.MakingKind.TheVariants.{Source as SourceKind, Verifier as VerifierKind, Signer as SignerKind, Disk as DiskKind, Door as DoorKind};
 
 use keri_disk::Disk;
-use keri_outside::{Failed, Gate, Limits, Signer, Sink, Source, Verifier};
+use keri_outside::{Door, Failed, Gate, Limits, Signer, Sink, Source, Verifier};
 
 /// The objects that a program is given. What it gives out wasn't asked yet, and starts with a count of no faults. A source and a
 /// verifier may go to the thread of a reader, and all readers pass the one gate.
@@ -18,6 +18,8 @@ pub trait Outside {
     type Signer: Signer + Drop;
 
     type Disk: Disk + Drop;
+
+    type Door: Door<Source = Self::Source> + Drop;
 
     type Sink: Sink + Drop;
 
@@ -66,6 +68,13 @@ pub trait Outside {
         ensures makes { Makes DiskKind name.now (told self.old) (told self.new) result }
         ensures holds { IfOk result (λ disk. (Self.Disk.told disk).file ≡ (told self.old).stored name.now) }
         ensures none_yet { IfOk result (λ disk. (Self.Disk.told disk).faults ≡ 0) }
+        ensures same_sink { sink self.new ≡ sink self.old };
+
+    /// Makes the door of a name, at which links come.
+    fn door(&mut self, name: &str) -> Result<Self::Door, Failed>
+        ensures makes { Makes DoorKind name.now (told self.old) (told self.new) result }
+        ensures holds { IfOk result (λ door. Self.Door.left door ≡ (told self.old).links name.now) }
+        ensures none_yet { IfOk result (λ door. Self.Door.faults door ≡ 0) }
         ensures same_sink { sink self.new ≡ sink self.old };
 
     /// Lends the sink.

@@ -206,7 +206,7 @@ module _ (besides : Besides) (readers : List Reader) (old new : SinkTold) (statu
     kept = λ other. ap (λ k. k.faults) s.1;
   }
   faults_have_causes (Some text) s = record {
-    five = λ e. some_closed (λ c. (close_found c).source_failed) ReadFault read_fault readers (by_five _ _ _ _ _ _ _ _ (sym s.2 ∙ e));
+    five = λ e. closed_or (λ c. (close_found c).source_failed) ReadFault read_fault besides.door_failed readers (by_five _ _ _ _ _ _ _ _ (sym s.2 ∙ e));
     seven = λ e. seven_of _ _ (closed_or (λ c. (close_found c).verifier_failed) VerifierFault verifier_fault besides.verifier_failed readers)
         (closed_or (λ c. (close_found c).signer_failed) SignerFault signer_fault besides.signer_failed readers) (by_seven _ _ _ _ _ _ _ _ (sym s.2 ∙ e));
     eight = λ e. closed_or (λ c. (close_found c).disk_failed) DiskFault disk_fault besides.disk_failed readers (by_eight _ _ _ _ _ _ _ _ (sym s.2 ∙ e));

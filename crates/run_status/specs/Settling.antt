@@ -30,13 +30,13 @@ found besides readers sink_failed = record {
   no_memory = false;
   sink_failed = list_any (λ r. (close_found r.close).sink_failed) readers || sink_failed;
   words_refused = besides.words_refused;
-  source_failed = list_any (λ r. (close_found r.close).source_failed) readers;
+  source_failed = list_any (λ r. (close_found r.close).source_failed) readers || besides.door_failed;
   verifier_failed = list_any (λ r. (close_found r.close).verifier_failed) readers || besides.verifier_failed;
   signer_failed = list_any (λ r. (close_found r.close).signer_failed) readers || besides.signer_failed;
   disk_failed = list_any (λ r. (close_found r.close).disk_failed) readers || besides.disk_failed;
   limit_reached = list_any (λ r. (close_found r.close).limit_reached) readers || besides.shelf_full;
   conflict_found = list_any (λ r. saw_another r.seen) readers || besides.conflict_found;
-  refused = list_any (λ r. refuses r.close r.refused) readers || (besides.plan_refused || besides.shelf_refused);
+  refused = list_any (λ r. refuses r.close r.refused) readers || (besides.plan_refused || (besides.shelf_refused || besides.prefix_unknown));
 }
 
 -- the text was put, or a front of it where the sink failed
@@ -53,7 +53,7 @@ SettlesBy (Some text) besides readers old new status =
 -- Each fault that is answered has its cause: a reader closed by it, or it was found besides, or it is the sink's, whose count
 -- rose.
 pub record FaultsHaveCauses (readers : List Reader) (besides : Besides) (old new : SinkTold) (status : ℕ) : Type 0 where
-  pub five : status ≡ 5 → HasClose ReadFault readers
+  pub five : status ≡ 5 → HasClose ReadFault readers ⊎ (besides.door_failed ≡ true)
   pub seven : status ≡ 7 → HasClose VerifierFault readers ⊎ HasClose SignerFault readers ⊎ (besides.signer_failed ≡ true) ⊎ (besides.verifier_failed ≡ true)
   pub eight : status ≡ 8 → HasClose DiskFault readers ⊎ (besides.disk_failed ≡ true)
   pub nine : status ≡ 9 → HasClose Full readers ⊎ (besides.shelf_full ≡ true)

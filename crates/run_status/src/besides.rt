@@ -6,6 +6,8 @@ ghost use Rattle.std.specs.Prelude.{◌≡◌};
 pub struct Besides {
     /// The words aren't in the form.
     pub words_refused: bool,
+    /// A door failed, or couldn't be made.
+    pub door_failed: bool,
     /// A verifier failed in the last round, in which what is still open is asked once all readers have ended.
     pub verifier_failed: bool,
     /// The signer failed, or couldn't be made.
@@ -20,6 +22,8 @@ pub struct Besides {
     pub plan_refused: bool,
     /// The file of a shelf is none, or its list is no log.
     pub shelf_refused: bool,
+    /// No event of the identifier that is asked for is accepted.
+    pub prefix_unknown: bool,
 }
 
 impl Besides {
@@ -31,6 +35,7 @@ impl Besides {
     {
         Besides {
             words_refused: false,
+            door_failed: false,
             verifier_failed: false,
             signer_failed: false,
             disk_failed: false,
@@ -38,6 +43,7 @@ impl Besides {
             conflict_found: false,
             plan_refused: false,
             shelf_refused: false,
+            prefix_unknown: false,
         }
     }
 }

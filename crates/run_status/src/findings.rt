@@ -11,7 +11,7 @@ pub(crate) struct Findings {
     pub(crate) sink_failed: bool,
     /// The words aren't in the form.
     pub(crate) words_refused: bool,
-    /// A source failed, or couldn't be made.
+    /// A source or a door failed, or couldn't be made.
     pub(crate) source_failed: bool,
     /// A verifier failed, with a reader or in the last round, or couldn't be made.
     pub(crate) verifier_failed: bool,
@@ -23,7 +23,7 @@ pub(crate) struct Findings {
     pub(crate) limit_reached: bool,
     /// There is a conflict, or an event came for a place at which another one is stored.
     pub(crate) conflict_found: bool,
-    /// A message, a stream, a plan or its log, or a shelf was refused.
+    /// A message, a stream, a plan or its log, or a shelf was refused, or an identifier isn't known.
     pub(crate) refused: bool,
 }
 

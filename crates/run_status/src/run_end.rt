@@ -70,12 +70,13 @@ fn found<S: Source, V: Verifier>(
         no_memory: false,
         sink_failed: some_write_fault(readers) | sink_failed,
         words_refused: besides.words_refused,
-        source_failed: some_read_fault(readers),
+        source_failed: some_read_fault(readers) | besides.door_failed,
         verifier_failed: some_verifier_fault(readers) | besides.verifier_failed,
         signer_failed: some_signer_fault(readers) | besides.signer_failed,
         disk_failed: some_disk_fault(readers) | besides.disk_failed,
         limit_reached: some_full(readers) | besides.shelf_full,
         conflict_found: some_saw_another(readers) | besides.conflict_found,
-        refused: some_refused(readers) | (besides.plan_refused | besides.shelf_refused),
+        refused: some_refused(readers)
+            | (besides.plan_refused | (besides.shelf_refused | besides.prefix_unknown)),
     }
 }

@@ -12,5 +12,7 @@ returns c =
     let witness = with_command _ _ _ _ _ watch c.in_ok-witness.ensures c.in_ok-subcommand-4.ensures in
     let make = with_command _ _ _ _ _ witness c.in_ok-make.ensures c.in_ok-subcommand-5.ensures in
     let convert = with_command _ _ _ _ _ make c.in_ok-convert.ensures c.in_ok-subcommand-6.ensures in
-    let generate = with_command _ _ _ _ _ convert c.in_ok-generate.ensures c.in_ok-subcommand-7.ensures in
-    IfOk-weaker c.subcommand-8.result _ _ (λ it added. with_command _ _ _ _ _ generate (new_has_shape _ _ c.new.ensures.app c.new.ensures.local) added) c.subcommand-8.ensures
+    let export = with_command _ _ _ _ _ convert c.in_ok-export.ensures c.in_ok-subcommand-7.ensures in
+    let blame = with_command _ _ _ _ _ export c.in_ok-blame.ensures c.in_ok-subcommand-8.ensures in
+    let generate = with_command _ _ _ _ _ blame c.in_ok-generate.ensures c.in_ok-subcommand-9.ensures in
+    IfOk-weaker c.subcommand-10.result _ _ (λ it added. with_command _ _ _ _ _ generate (new_has_shape _ _ c.new.ensures.app c.new.ensures.local) added) c.subcommand-10.ensures

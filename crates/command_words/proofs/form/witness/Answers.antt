@@ -8,4 +8,6 @@ returns c =
     let prefix = with_argument _ _ _ _ _ helper c.wanted-2.ensures.rule c.wanted-2.ensures.local _ c.in_ok-arg-2.ensures in
     let shelf = with_argument _ _ _ _ _ prefix c.wanted-3.ensures.rule c.wanted-3.ensures.local _ c.in_ok-arg-3.ensures in
     let from = with_argument _ _ _ _ _ shelf c.option.ensures.rule c.option.ensures.local _ c.in_ok-arg-4.ensures in
-    with_last_argument _ _ _ _ _ from c.file.ensures.rule c.file.ensures.local c.arg-5.result c.arg-5.ensures
+    let listen = with_argument _ _ _ _ _ from c.option-2.ensures.rule c.option-2.ensures.local _ c.in_ok-arg-5.ensures in
+    let links = with_argument _ _ _ _ _ listen c.option-3.ensures.rule c.option-3.ensures.local _ c.in_ok-arg-6.ensures in
+    with_last_argument _ _ _ _ _ links c.maybe_file.ensures.rule c.maybe_file.ensures.local c.arg-7.result c.arg-7.ensures

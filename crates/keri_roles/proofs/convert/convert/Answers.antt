@@ -16,7 +16,7 @@ returns g c =
     let one : c.push.new.self.items ≡ end ∷ [] = search rules in
     let all : c.as_slice.result.now ≡ end ∷ [] = search rules in
     let status : c.conversion_status.result ≡ conversion_status done (map reader (end ∷ [])) = c.conversion_status.ensures ∙ ap (λ ends. conversion_status done (map reader ends)) all in
-    rw (status, one, c.new.ensures.items, c.new-2.ensures, c.nothing_told.ensures) (record {
+    rw (status, one, c.new.ensures.items, c.new-2.ensures, c.new-3.ensures.items, c.nothing_told.ensures) (record {
       converted = record {
         reader = record { source = option_map seen source; verifier = None; refused = []; seen = []; close = End };
         done = done;
@@ -27,6 +27,7 @@ returns g c =
         no_signer = refl;
         no_disk = refl;
         no_old = refl;
+        no_links = record { no_door = refl; no_sinks = refl };
         status = refl;
       };
     })

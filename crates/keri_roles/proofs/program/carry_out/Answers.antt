@@ -8,21 +8,34 @@ pub returns-in_ok-room-in-Convert-clause-does : goal.returns-in_ok-room-in-Conve
 returns-in_ok-room-in-Convert-clause-does g c = rw c.in-Convert.is c.convert.ensures.converted
 
 pub returns-in_ok-outcome-in-Make-clause-does : goal.returns-in_ok-outcome-in-Make-clause-does
-returns-in_ok-outcome-in-Make-clause-does g c = rw (c.in-Make.is, c.finish-in-Make.ensures.signer, c.finish-in-Make.ensures.no_disk, c.finish-in-Make.ensures.no_old, c.finish-in-Make.ensures.journal, c.finish-in-Make.ensures.readers, c.finish-in-Make.ensures.told) (record {
+returns-in_ok-outcome-in-Make-clause-does g c = rw (c.in-Make.is, c.finish-in-Make.ensures.signer, c.finish-in-Make.ensures.no_disk, c.finish-in-Make.ensures.no_old, c.finish-in-Make.ensures.no_door, c.finish-in-Make.ensures.no_sinks, c.finish-in-Make.ensures.journal, c.finish-in-Make.ensures.readers, c.finish-in-Make.ensures.told) (record {
   owed = option_map (λ text. text.items) c.in_ok-outcome-in-Make.outcome.outcome.owed;
   besides = c.in_ok-outcome-in-Make.outcome.outcome.besides;
   does = c.in_ok-outcome-in-Make.ensures.made;
   settles = rw (c.finish-in-Make.ensures.readers, c.in_ok-outcome-in-Make.ensures.sink) at c.finish-in-Make.ensures.settles;
   no_disk = refl;
   no_old = refl;
+  no_links = record { no_door = refl; no_sinks = refl };
 })
 
 pub returns-in_ok-outcome-in-Generate-clause-does : goal.returns-in_ok-outcome-in-Generate-clause-does
-returns-in_ok-outcome-in-Generate-clause-does g c = rw (c.in-Generate.is, c.finish-in-Generate.ensures.signer, c.finish-in-Generate.ensures.no_disk, c.finish-in-Generate.ensures.no_old, c.finish-in-Generate.ensures.journal, c.finish-in-Generate.ensures.readers, c.finish-in-Generate.ensures.told, c.unsigned-in-Generate.ensures) (record {
+returns-in_ok-outcome-in-Generate-clause-does g c = rw (c.in-Generate.is, c.finish-in-Generate.ensures.signer, c.finish-in-Generate.ensures.no_disk, c.finish-in-Generate.ensures.no_old, c.finish-in-Generate.ensures.no_door, c.finish-in-Generate.ensures.no_sinks, c.finish-in-Generate.ensures.journal, c.finish-in-Generate.ensures.readers, c.finish-in-Generate.ensures.told, c.unsigned-in-Generate.ensures) (record {
   owed = option_map (λ text. text.items) c.in_ok-outcome-in-Generate.outcome.owed;
   besides = c.in_ok-outcome-in-Generate.outcome.besides;
   does = c.in_ok-outcome-in-Generate.ensures.generated;
   settles = rw (c.finish-in-Generate.ensures.readers, c.unsigned-in-Generate.ensures, c.in_ok-outcome-in-Generate.ensures.same) at c.finish-in-Generate.ensures.settles;
   no_disk = refl;
   no_old = refl;
+  no_links = record { no_door = refl; no_sinks = refl };
+})
+
+pub returns-in_ok-outcome-in-Blame-clause-does : goal.returns-in_ok-outcome-in-Blame-clause-does
+returns-in_ok-outcome-in-Blame-clause-does g c = rw (c.in-Blame.is, c.finish-in-Blame.ensures.signer, c.finish-in-Blame.ensures.no_disk, c.finish-in-Blame.ensures.no_old, c.finish-in-Blame.ensures.no_door, c.finish-in-Blame.ensures.no_sinks, c.finish-in-Blame.ensures.journal, c.finish-in-Blame.ensures.readers, c.finish-in-Blame.ensures.told, c.unsigned-in-Blame.ensures) (record {
+  owed = option_map (λ text. text.items) c.in_ok-outcome-in-Blame.outcome.owed;
+  besides = c.in_ok-outcome-in-Blame.outcome.besides;
+  does = c.in_ok-outcome-in-Blame.ensures.blamed;
+  settles = rw (c.finish-in-Blame.ensures.readers, c.unsigned-in-Blame.ensures, c.in_ok-outcome-in-Blame.ensures.sink) at c.finish-in-Blame.ensures.settles;
+  no_disk = refl;
+  no_old = refl;
+  no_links = record { no_door = refl; no_sinks = refl };
 })

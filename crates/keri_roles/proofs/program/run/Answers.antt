@@ -2,5 +2,8 @@ use Rattle.std.proofs.Common.{refl}
 use Rattle.keri_roles.proofs.Statuses.{has_causes}
 use Rattle.keri_roles.proofs.program.run.Goals as goal
 
+pub returns-clause-answered : goal.returns-clause-answered
+returns-clause-answered g c = rw g.met.O.Runs.run_is c.answer.ensures.answered
+
 pub returns-clause-causes : goal.returns-clause-causes
 returns-clause-causes g c = rw g.met.O.Runs.run_is (has_causes _ _ _ _ _ c.answer.ensures.answered refl refl)

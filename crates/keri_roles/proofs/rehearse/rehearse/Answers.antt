@@ -12,7 +12,7 @@ returns g c =
     let served = c.serve_input-source.result.1 in
     let end : ReaderEnd g.row.O-Source.Denot g.row.O-Verifier.Denot = record { source = source; verifier = None; refused = c.new.result; seen = c.new-2.result; close = c.serving_close.result } in
     let one : c.push.new.self.items ≡ end ∷ [] = search rules in
-    rw (one, c.new.ensures.items, c.new-2.ensures, c.serving_close.ensures, c.nothing_told.ensures, c.serving_status.ensures) (record {
+    rw (one, c.new.ensures.items, c.new-2.ensures, c.new-3.ensures.items, c.serving_close.ensures, c.nothing_told.ensures, c.serving_status.ensures) (record {
       rehearsed = record {
         reader = record { source = option_map seen source; verifier = None; refused = []; seen = []; close = End };
         served = served;
@@ -23,6 +23,7 @@ returns g c =
         no_signer = refl;
         no_disk = refl;
         no_old = refl;
+        no_links = record { no_door = refl; no_sinks = refl };
         status = refl;
       };
     })

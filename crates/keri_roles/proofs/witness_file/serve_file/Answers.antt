@@ -13,20 +13,15 @@ pub returns-in_default-clause-serves : goal.returns-in_default-clause-serves
 returns-in_default-clause-serves g c =
     let made = c.in_default.ensures in
     let seen = c.unserved-reader.ensures in
+    let none = c.none.ensures in
+    let end = c.end_one.ensures in
     record {
       reader = record { source = None; verifier = None; refused = []; seen = []; close = ReadFault };
-      makes = (refl, rw c.end.ensures.signer refl, one_failed Source c.args.name.now _ _ _ made.makes);
+      makes = (refl, rw end.signer refl, one_failed Source c.args.name.now _ _ _ made.makes);
       new = record { core = c.args.witness.core; list = c.args.witness.shelf.list; broken = c.args.witness.broken; disk = c.args.witness.shelf.disk };
       serves = record { close = refl; none_refused = refl; none_seen = refl; unread = tt; same = refl; same_sink = rw made.same_sink refl };
-      ends = record {
-        one = rw (c.end.ensures.one, seen.source, seen.verifier, seen.none_refused, seen.none_seen, seen.close) refl;
-        back = c.end.ensures.disk;
-        bodies = c.end.ensures.bodies;
-        entries = c.end.ensures.entries;
-        status = rw seen.close at c.end.ensures.status;
-        stand = c.end.ensures.stand;
-        reads = c.end.ensures.reads;
-      };
+      no_links = record { no_door = rw (end.door, none.door) refl; no_sinks = rw (end.sinks, none.sinks) refl };
+      ends = rw (none.failed, seen.source, seen.verifier, seen.none_refused, seen.none_seen, seen.close) at end.ends c.args.outside.now c.source.new.self;
     }
 
 pub returns-in_default-verifier-clause-serves : goal.returns-in_default-verifier-clause-serves
@@ -34,7 +29,8 @@ returns-in_default-verifier-clause-serves g c =
     let first = c.in-Ok.ensures in
     let made = c.in_default-verifier.ensures in
     let seen = c.unserved-reader-in_default-verifier.ensures in
-    let end = c.end-in_default-verifier.ensures in
+    let none = c.none-in_default-verifier.ensures in
+    let end = c.end_one-in_default-verifier.ensures in
     let source = source_seen g.O.Source.Source.left g.O.Source.Source.faults g.O.Verifier.Verifier.says g.O.Verifier.Verifier.inquiries g.O.Verifier.Verifier.faults c.in-Ok.source in
     record {
       reader = record { source = Some source; verifier = None; refused = []; seen = []; close = VerifierFault };
@@ -45,15 +41,8 @@ returns-in_default-verifier-clause-serves g c =
       );
       new = record { core = c.args.witness.core; list = c.args.witness.shelf.list; broken = c.args.witness.broken; disk = c.args.witness.shelf.disk };
       serves = record { close = refl; none_refused = refl; none_seen = refl; unread = rw (first.holds, first.none_yet) refl; same = refl; same_sink = rw (made.same_sink, first.same_sink) refl };
-      ends = record {
-        one = rw (end.one, seen.source, seen.verifier, seen.none_refused, seen.none_seen, seen.close) refl;
-        back = end.disk;
-        bodies = end.bodies;
-        entries = end.entries;
-        status = rw seen.close at end.status;
-        stand = end.stand;
-        reads = end.reads;
-      };
+      no_links = record { no_door = rw (end.door, none.door) refl; no_sinks = rw (end.sinks, none.sinks) refl };
+      ends = rw (none.failed, seen.source, seen.verifier, seen.none_refused, seen.none_seen, seen.close) at end.ends c.args.outside.now c.verifier.new.self;
     }
 
 pub returns-in_default-signer-clause-serves : goal.returns-in_default-signer-clause-serves
@@ -62,7 +51,8 @@ returns-in_default-signer-clause-serves g c =
     let next = c.in-Ok-verifier.ensures in
     let made = c.in_default-signer.ensures in
     let seen = c.unserved-reader-in_default-signer.ensures in
-    let end = c.end-in_default-signer.ensures in
+    let none = c.none-in_default-signer.ensures in
+    let end = c.end_one-in_default-signer.ensures in
     let source = source_seen g.O.Source.Source.left g.O.Source.Source.faults g.O.Verifier.Verifier.says g.O.Verifier.Verifier.inquiries g.O.Verifier.Verifier.faults c.in-Ok.source in
     let verifier = verifier_seen g.O.Source.Source.left g.O.Source.Source.faults g.O.Verifier.Verifier.says g.O.Verifier.Verifier.inquiries g.O.Verifier.Verifier.faults c.in-Ok-verifier.verifier in
     record {
@@ -73,15 +63,8 @@ returns-in_default-signer-clause-serves g c =
           (one_failed Signer c.args.helper.now _ _ _ made.makes));
       new = record { core = c.args.witness.core; list = c.args.witness.shelf.list; broken = c.args.witness.broken; disk = c.args.witness.shelf.disk };
       serves = rw end.signer (record { close = refl; none_refused = refl; none_seen = refl; unread = rw (first.holds, first.none_yet) refl; same = refl; same_sink = rw (made.same_sink, next.same_sink, first.same_sink) refl });
-      ends = record {
-        one = rw (end.one, seen.source, seen.verifier, seen.none_refused, seen.none_seen, seen.close) refl;
-        back = end.disk;
-        bodies = end.bodies;
-        entries = end.entries;
-        status = rw seen.close at end.status;
-        stand = end.stand;
-        reads = end.reads;
-      };
+      no_links = record { no_door = rw (end.door, none.door) refl; no_sinks = rw (end.sinks, none.sinks) refl };
+      ends = rw (none.failed, seen.source, seen.verifier, seen.none_refused, seen.none_seen, seen.close) at end.ends c.args.outside.now c.signer.new.self;
     }
 
 pub returns-clause-serves : goal.returns-clause-serves

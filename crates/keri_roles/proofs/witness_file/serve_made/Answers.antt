@@ -20,7 +20,8 @@ returns-clause-serves g c =
       new = record { core = now.witness.core; list = now.witness.shelf.list; broken = now.witness.broken; disk = now.witness.shelf.disk };
       source_is = refl;
       verifier_is = refl;
-      signer_is = rw c.end.ensures.signer refl;
+      signer_is = rw c.end_one.ensures.signer refl;
       serves = rw (key, limits) at it;
-      ends = record { one = rw (c.end.ensures.one, c.from_vec.ensures) refl; back = c.end.ensures.disk; bodies = c.end.ensures.bodies; entries = c.end.ensures.entries; status = c.end.ensures.status; stand = c.end.ensures.stand; reads = c.end.ensures.reads };
+      no_links = record { no_door = rw (c.end_one.ensures.door, c.none-links.ensures.door) refl; no_sinks = rw (c.end_one.ensures.sinks, c.none-links.ensures.sinks) refl };
+      ends = rw (c.none-links.ensures.failed, c.from_vec.ensures) at c.end_one.ensures.ends c.args.outside.now now.outside;
     }

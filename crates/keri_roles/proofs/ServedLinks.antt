@@ -1,0 +1,37 @@
+-- What becomes of links that a witness serves, by what was made for them.
+use Rattle.std.proofs.Common.{◌≡◌, ℕ, Bool, false, List, [], ◌∷◌, Option, Some, refl, ◌∙◌}
+use Rattle.cesr_codes.specs.declared.key.Key.{Key}
+use Rattle.cesr_codes.specs.declared.sig.Sig.{Sig}
+use Rattle.keri_disk.specs.Images.{DiskTold}
+use Rattle.keri_outside.specs.declared.limits.Limits.{Limits}
+use Rattle.run_outside.specs.Makings.{AreMakings}
+use Rattle.run_outside.specs.Told.{making}
+use Rattle.run_outside.specs.declared.making.MakingKind.TheVariants.{Door, Verifier, Signer}
+use Rattle.keri_roles.specs.Run.{DoorTold, Run}
+use Rattle.keri_roles.specs.ServedFile.{Left}
+use Rattle.keri_roles.specs.ServedLinks.{Between, IsServingLinks, ServesAllLinks, at_first, readers_with}
+
+-- all three were made of the address and of the helper, and had never failed
+pub serving_links : {D : Type 0} {told : D → DiskTold} {key : Key} {limits run_limits : Limits} {says : Key → List ℕ → Sig → Option Bool} {gives : Key → List ℕ → Option Sig}
+    {count : ℕ} {door_old : DoorTold} {between : Between D} {disk : Option D} {run : Run}
+    → ServesAllLinks told key limits run_limits says gives count door_old between disk run → (helper address : List ℕ) (old : Left D)
+    → run_limits ≡ run.before.limits → says ≡ run.before.says helper → gives ≡ run.before.gives helper
+    → door_old ≡ record { left = run.before.links address; faults = 0 } → between ≡ at_first old → run.sink_after ≡ run.sink_before
+    → AreMakings (making Door address false ∷ making Verifier helper false ∷ making Signer helper false ∷ []) run.before run.after
+    → IsServingLinks told key limits helper address count old disk run
+serving_links s helper address old same says gives unasked unheard same_sink makes = record {
+  verifier = Some s.verifier;
+  makes = rw (s.door_is, s.signer_is) makes;
+  readers = readers_with s.verifier s.each;
+  new = s.new;
+  failed = s.failed;
+  serves = rw (s.door_is, s.signer_is) (record {
+    each = s.each;
+    coming = rw (same, says, gives, unasked, unheard) at s.coming;
+    says = s.says_is ∙ says;
+    gives = s.gives_is ∙ gives;
+    readers_are = refl;
+  });
+  same_sink = same_sink;
+  ends = s.ends;
+}
