@@ -28,7 +28,7 @@ use Rattle.quorum_laws.specs.Backing.{AreSpelled, rules_in}
 use Rattle.quorum_laws.specs.Histories.{AreLevel}
 use Rattle.blame_laws.specs.Blame.{culprits}
 use Rattle.blame_laws.specs.Signatures.{signature_of}
-use Rattle.blame_laws.proofs.Among.{Among, contained, map_among}
+use Rattle.key_state.proofs.Among.{Among, contained, map_among}
 use Rattle.blame_laws.proofs.Blame.{blame}
 use Rattle.blame_laws.proofs.Claimed.{claimed}
 use Rattle.blame_laws.proofs.Rising.{one_establishment}

@@ -17,7 +17,7 @@ use Rattle.event_body.specs.Events.{prefix_of, sn_of}
 use Rattle.key_state.specs.Same.{same_prefix}
 use Rattle.key_state.proofs.Same.{same_prefix_is, same_prefix_itself}
 use Rattle.blame_core.specs.Establishments.{place_cmp, place_of}
-use Rattle.blame_laws.proofs.Among.{Among}
+use Rattle.key_state.proofs.Among.{Among}
 
 -- the text finds a text
 abbrev pub at_text : List ℕ → List ℕ → Bool

@@ -21,7 +21,7 @@ use Rattle.blame_core.specs.OwnLists.{list_after, list_of}
 use Rattle.blame_core.specs.declared.establishments.Establishment.{Establishment}
 use Rattle.blame_core.proofs.ListSteps.{list_kept, list_taken, own_next}
 use Rattle.blame_core.proofs.Places.{place_itself, place_same, prefix_at}
-use Rattle.blame_laws.proofs.Among.{Among, among, among_either, contained}
+use Rattle.key_state.proofs.Among.{Among, among, among_either, contained}
 use Rattle.blame_laws.proofs.Journals.{fit_parts}
 
 -- nothing is walked over yet

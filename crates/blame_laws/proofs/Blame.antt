@@ -24,7 +24,7 @@ use Rattle.quorum_laws.proofs.Backers.{accepted_is_backed}
 use Rattle.quorum_laws.proofs.Counting.{number, count_by-number, number-le, number-left, number-distinct_left, number-distinct_right}
 use Rattle.quorum_laws.proofs.Inside.{accepted_inside}
 use Rattle.blame_laws.specs.Blame.{BlameLaw, culprits}
-use Rattle.blame_laws.proofs.Among.{Among, among, among_distinct, among_left_by, contained, distinct_among, left_among, passed, passing}
+use Rattle.key_state.proofs.Among.{Among, among, among_distinct, among_left_by, contained, distinct_among, left_among, passed, passing}
 
 abbrev one_if : Bool → ℕ
 one_if b = cond b 1 0

@@ -11,9 +11,9 @@ use Rattle.journal.specs.Readiness.{backs}
 use Rattle.journal.proofs.Settling.{find-true}
 use Rattle.quorum_laws.proofs.Members.{find_some}
 use Rattle.blame_laws.specs.Signatures.{ClaimedLaw, came_on, signature_of, triple_on}
-use Rattle.blame_laws.proofs.Among.{Among, among, among_map, passed}
+use Rattle.key_state.proofs.Among.{Among, among, among_map, passed}
 use Rattle.blame_laws.proofs.Journals.{bodies_differ, bodies_more, claims_more, same_bytes}
-use Rattle.blame_laws.proofs.Verdicts.{backs_by, by_backs, was_raised}
+use Rattle.journal_laws.proofs.Verdicts.{backs_by, by_backs, was_raised}
 
 -- of a key that backs a body a signature came with it
 came : (mode : Mode) (told : List Told) (b : Body) (key : Key) → IsRegular mode [] told → Among b (bodies [] told) → backs told b key ≡ true

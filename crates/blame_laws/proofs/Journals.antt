@@ -13,7 +13,7 @@ use Rattle.journal.specs.Grown.{fits}
 use Rattle.journal.specs.History.{Told, bodies, claims_in, claims_on, taken}
 use Rattle.journal.specs.Logs.{is_in, same_body, state, takes}
 use Rattle.journal.proofs.Different.{Differ, differ-distinct}
-use Rattle.blame_laws.proofs.Among.{Among, among_left, among_left_by, left_among}
+use Rattle.key_state.proofs.Among.{Among, among_left, among_left_by, left_among}
 
 -- what all pass each member passes
 all_pass : {X : Type 0} (q : X → Bool) (xs : List X) (x : X) → list_all q xs ≡ true → Among x xs → q x ≡ true

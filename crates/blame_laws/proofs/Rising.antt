@@ -16,7 +16,7 @@ use Rattle.journal.specs.Logs.{is_of, state, stepped, takes}
 use Rattle.journal.proofs.StateSteps.{state-own, state-other}
 use Rattle.quorum_laws.specs.Histories.{AreLevel}
 use Rattle.blame_laws.specs.Blame.{OneEstablishmentLaw}
-use Rattle.blame_laws.proofs.Among.{Among, among, among_either, parted}
+use Rattle.key_state.proofs.Among.{Among, among, among_either, parted}
 use Rattle.blame_laws.proofs.Journals.{fit_parts, none_is}
 
 -- the state is there, and its last establishment event has this number or a later one

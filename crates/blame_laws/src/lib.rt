@@ -1,6 +1,3 @@
-//! Laws of two journals: who signed two different establishment events of one identifier and number.
+//! Laws of two journals: who signed two different establishment events of one identifier and number. Definitions and lemmas; no
+//! code.
 #![tactic(auto)]
-
-mod laws;
-
-pub use laws::{establishment_events_are_one, witnesses_are_claimed, witnesses_signed_twice};

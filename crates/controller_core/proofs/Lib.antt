@@ -2,7 +2,6 @@ mod Seals
 mod LastNumbers
 mod Asking
 mod Enough
-mod More
 mod Signing
 mod Zipped
 mod Behind

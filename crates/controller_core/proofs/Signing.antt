@@ -29,7 +29,7 @@ use Rattle.controller_core.specs.declared.slot.Slot.{Slot}
 use Rattle.controller_core.specs.Slots.{slot_opens, slots_have}
 use Rattle.controller_core.specs.Messages.{event_text, IsInSlot, IsMessageOf}
 use Rattle.controller_core.specs.Signing.{body_of, IsAnswered, IsSignedByYes}
-use Rattle.controller_core.proofs.More.{is_among, more_left, more_satisfied, passes}
+use Rattle.sith.proofs.More.{is_among, more_left, more_satisfied, passes}
 use Rattle.controller_core.proofs.Enough.{signed_by_slots}
 
 -- a claim's signature is among those of the claims that pass a test, where the claim is one that does

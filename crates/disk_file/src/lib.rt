@@ -5,9 +5,11 @@
 mod file_disk;
 mod open_error;
 mod opening;
+mod size_limit;
 #[cfg(test)]
 mod tests;
 mod transfer;
 
 pub use file_disk::FileDisk;
 pub use open_error::OpenError;
+pub use size_limit::file_size_limit;

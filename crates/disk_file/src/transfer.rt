@@ -1,6 +1,7 @@
 //! Whole reads and writes at a place of a file.
 ghost use Rattle.std.specs.Prelude.{◌<◌, ◌≤◌, length, IfOk};
 
+use crate::size_limit::file_size_limit;
 use keri_outside::Failed;
 use std::fs::File;
 use std::io::ErrorKind;
@@ -18,8 +19,12 @@ pub(crate) fn read_all(file: &File, place: u64, buf: &mut [u8]) -> Result<(), Fa
     Ok(())
 }
 
-/// Writes the bytes from a place on.
+/// Writes the bytes from a place on. Where they would reach behind the greatest size that a file may have, nothing is
+/// written, and that is a fault: a write there would end the program.
 pub(crate) fn write_all(file: &File, place: u64, bytes: &[u8]) -> Result<(), Failed> {
+    if place.saturating_add(bytes.len() as u64) > file_size_limit() {
+        return Err(Failed);
+    }
     let mut done = 0;
     while done < bytes.len() {
         done += write_some(file, place.saturating_add(done as u64), &bytes[done..])?;

@@ -1,6 +1,7 @@
 //! Links that were taken.
 ghost use Rattle.std.specs.Prelude.{◌≡◌, ◌≤◌, [], length, map, All};
 ghost use Rattle.std.specs.Vec.{vec_capacity};
+ghost use Rattle.keri_specs.specs.Told.{HasNone};
 ghost use Rattle.door_links.specs.Taken.{AreTaken, IsCaused, IsEnough};
 
 use keri_outside::{Caller, Door};
@@ -33,6 +34,7 @@ pub fn take_links<D: Door>(
     ensures source_none_yet { All (λ source. D.Source.faults source ≡ 0) result.sources.items }
     ensures each { length result.sinks.items ≡ length result.sources.items }
     ensures sink_none_yet { All (λ sink. D.Sink.faults sink ≡ 0) result.sinks.items }
+    ensures unwritten { All (λ sink. HasNone (D.Sink.written sink)) result.sinks.items }
 {
     let mut taken = Taken {
         sources,

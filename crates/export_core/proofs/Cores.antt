@@ -1,8 +1,9 @@
 -- A full core without a base, and what its states say of its log.
 use Rattle.std.proofs.Common.{◌≡◌, ℕ, true, false, Bool, List, [], ◌∷◌, ◌++◌, Option, Some, None, is_none, is_some, take, refl, sym, ◌∙◌, ap, subst, inl, inr, append_assoc, append-nil}
-use Rattle.std.specs.Prelude.{All, filter, flat_map, option_map}
+use Rattle.std.specs.Prelude.{All, Contains, filter, flat_map, option_map}
 use Rattle.std.specs.List.{list_any}
 use Rattle.std.proofs.lemmas.Bool.{cases_Bool}
+use Rattle.std.proofs.lemmas.List.Elements.{All-contains, All-nil}
 use Rattle.cesr_codes.specs.declared.prefix.Prefix.{Prefix}
 use Rattle.acceptance.specs.Standing.{IsHeld}
 use Rattle.core_laws.specs.Standing.{HasNoClash}
@@ -10,10 +11,12 @@ use Rattle.event_body.specs.Events.{prefix_of}
 use Rattle.event_body.specs.declared.event.Event.{Event}
 use Rattle.event_body.specs.declared.event.Event.TheVariants.{Icp, Rot, Ixn, Dip, Drt, Rct}
 use Rattle.export_laws.specs.Export.{IsFamily, export, exported, messages_of}
-use Rattle.export_laws.proofs.Among.{parted, passing}
-use Rattle.export_laws.proofs.Came.{grown}
+use Rattle.key_state.proofs.Among.{parted, passing}
+use Rattle.journal_laws.proofs.Came.{grown}
 use Rattle.export_laws.proofs.Export.{export_is_copied}
-use Rattle.export_laws.proofs.Numbered.{fit_parts}
+use Rattle.export_laws.proofs.Signed.{messages_are_signed}
+use Rattle.journal_laws.proofs.Numbered.{fit_parts}
+use Rattle.quorum_laws.proofs.Inside.{accepted_inside}
 use Rattle.journal.specs.Accepted.{accepted}
 use Rattle.journal.specs.declared.body.Body.{Body}
 use Rattle.journal.specs.declared.mode.Mode.TheVariants.{Full}
@@ -31,6 +34,7 @@ use Rattle.export_core.specs.Exported.{IsWritten}
 use Rattle.export_core.specs.Messages.{IsExportText}
 use Rattle.export_core.specs.declared.exported_events.Exported.{Exported}
 use Rattle.export_core.proofs.Reading.{export_held, text_reads}
+use Rattle.export_core.proofs.Wanting.{wanted}
 
 stepped_some : (s : State) (e : Event) → is_some (stepped (Some s) e) ≡ true
 stepped_some s e = elim (cases_Bool (is_none (misfit s e))) [ inl k ↦ rw k refl | inr k ↦ rw k refl ]
@@ -118,12 +122,19 @@ module _ (core : CoreView) (full : core.mode ≡ Full) (no_base : core.base ≡ 
         known = has;
         text_is = its_text;
         reads = text_reads (export (told_of core) is.family) written.text.items (export_held (told_of core) is.family all_held) its_text;
+        signed = λ b m inside sent. let there = subst (λ log. Contains log b) full_log inside in
+            let its = All-contains IsHeld (accepted Full [] (told_of core)) b log_held there in
+            messages_are_signed (told_of core) b m there (wanted (accepted Full [] (told_of core)) b log_held its)
+            (subst (λ log. Contains (messages_of (told_of core) log b) m) full_log sent);
         count_is = is.count_is;
         copied = λ whole clash replay. export_is_copied (told_of core) whole prefix is.family regular (subst HasNoClash full_log clash) (subst (λ log. IsFamily log prefix is.family) full_log is.is_family) replay;
       }
     where
       all_held : All IsHeld (bodies [] (told_of core))
       all_held = subst (λ n. All IsHeld (bodies (take n core.held) (told_of core))) no_base (subst (All IsHeld) is.stands.in_order is.stands.spelled)
+
+      log_held : All IsHeld (accepted Full [] (told_of core))
+      log_held = accepted_inside IsHeld Full [] (told_of core) (All-nil IsHeld) all_held
 
       regular : IsRegular Full [] (told_of core)
       regular = subst (λ m. IsRegular m [] (told_of core)) full (subst (λ n. IsRegular core.mode (take n core.held) (told_of core)) no_base is.stands.regular)
@@ -137,6 +148,7 @@ export_alike core numbers prefix text count is = record {
   known = is.known;
   text_is = is.text_is;
   reads = is.reads;
+  signed = is.signed;
   count_is = is.count_is;
   copied = is.copied;
 }

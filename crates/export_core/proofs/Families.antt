@@ -3,7 +3,7 @@ use Rattle.std.proofs.Common.{◌≡◌, ◌⊎◌, true, List, [], ◌∷◌, �
 use Rattle.std.specs.List.{list_any}
 use Rattle.cesr_codes.specs.declared.prefix.Prefix.{Prefix}
 use Rattle.export_laws.specs.Export.{InFamily, IsFamily, delegator, delegator_if, itself}
-use Rattle.export_laws.proofs.Among.{Among, among_either, among_last, among_left, passing}
+use Rattle.key_state.proofs.Among.{Among, among_either, among_last, among_left, passing}
 use Rattle.export_laws.proofs.Family.{family_by}
 use Rattle.journal.specs.declared.body.Body.{Body}
 use Rattle.journal.specs.Logs.{state}

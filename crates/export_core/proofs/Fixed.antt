@@ -7,7 +7,7 @@ use Rattle.cesr_codes.specs.declared.key.KeyCode.{KeyCode}
 use Rattle.cesr_codes.specs.declared.key.KeyCode.TheVariants.{Fixed, Rotating}
 use Rattle.core_laws.proofs.Entries.{all_from}
 use Rattle.export_laws.specs.Export.{is_couple, is_witness, ordered}
-use Rattle.export_laws.proofs.Among.{Among, among_either, distinct_among, left_among, passing}
+use Rattle.key_state.proofs.Among.{Among, among_either, distinct_among, left_among, passing}
 use Rattle.journal.specs.declared.body.Body.{Body}
 use Rattle.journal.specs.declared.claim.Claim.{Claim}
 use Rattle.journal.specs.declared.claim.Claim.TheVariants.{Held, Witness, Couple}

@@ -9,4 +9,5 @@ pub mod Placed
 pub mod Putting
 pub mod Fixed
 pub mod Reading
+pub mod Wanting
 pub mod Cores

@@ -11,7 +11,7 @@ use Rattle.cesr_codes.specs.contracts.prefix.PrefixPartialEq.TheImpl as prefix_t
 use Rattle.cesr_codes.specs.declared.prefix.Prefix.{Prefix}
 use Rattle.event_body.specs.Events.{prefix_of}
 use Rattle.export_laws.specs.Export.{Sent, cut_claims, exported, is_of_some, messages_of, ordered, rules_under, sent_claims}
-use Rattle.export_laws.proofs.Numbered.{fit_parts}
+use Rattle.journal_laws.proofs.Numbered.{fit_parts}
 use Rattle.export_laws.proofs.Rules.{before_there}
 use Rattle.journal.specs.declared.body.Body.{Body}
 use Rattle.journal.specs.declared.claim.Claim.{Claim}

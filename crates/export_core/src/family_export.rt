@@ -1,25 +1,19 @@
 //! The export.
 ghost use Rattle.std.specs.Prelude.{◌≡◌, IfOk, IfSome, is_none, true, false};
 ghost use Rattle.std.specs.List.{list_any};
-ghost use Rattle.export_core.specs.Export.{Exports, HaveCause, IsExport};
+ghost use Rattle.export_core.specs.Export.{IsExport};
 ghost use Rattle.journal.specs.declared.mode.Mode.TheVariants.{Full};
 ghost use Rattle.journal.specs.Logs.{is_of};
 ghost use Rattle.validator_core.specs.View.{accepted_by};
 
-use crate::export_fault::ExportFault;
 use crate::exported_events::{Exported, exported_of};
 use cesr_codes::Prefix;
-use keri_outside::{Failed, Sink};
 use std::alloc::{AllocError, Global};
 use validator_core::Core;
 
 /// The accepted events of an identifier, of its delegator, of that one's delegator and so on, in order of acceptance and
 /// superseded ones included, each as messages of its body and of its claims that have a yes; and how many events these are.
-pub fn export_text(
-    alloc: Global,
-    core: &Core,
-    prefix: &Prefix,
-) -> Result<Option<Exported>, AllocError>
+pub fn export(alloc: Global, core: &Core, prefix: &Prefix) -> Result<Option<Exported>, AllocError>
     requires full { core.now.mode ≡ Full }
     requires no_base { core.now.base ≡ 0 }
 
@@ -36,32 +30,4 @@ pub fn export_text(
     }
     let exported = exported_of(alloc, core, prefix)?;
     Ok(Some(exported))
-}
-
-/// Writes the text of [`export_text`], and answers how many events it has.
-pub fn export<S: Sink>(
-    alloc: Global,
-    core: &Core,
-    prefix: &Prefix,
-    sink: &mut S,
-) -> Result<u32, ExportFault>
-    requires full { core.now.mode ≡ Full }
-    requires no_base { core.now.base ≡ 0 }
-
-    // All of it is written, or a front of it where the sink fails, or nothing where no event of the identifier is accepted or
-    // for want of memory.
-    ensures written { Exports core.now prefix.now (S.written sink.old) (S.written sink.new) result }
-
-    // The sink's fault is told only where the sink failed.
-    ensures cause { HaveCause (S.faults sink.old) (S.faults sink.new) result }
-{
-    let exported = match export_text(alloc, core, prefix) {
-        Ok(Some(exported)) => exported,
-        Ok(None) => return Err(ExportFault::Unknown),
-        Err(AllocError) => return Err(ExportFault::OutOfMemory),
-    };
-    match sink.put(exported.text.as_slice()) {
-        Ok(()) => Ok(exported.count),
-        Err(Failed) => Err(ExportFault::WriteFault),
-    }
 }

@@ -2,7 +2,6 @@
 #![tactic(auto)]
 
 mod came;
-mod export_fault;
 mod exported_events;
 mod family;
 mod family_export;
@@ -11,6 +10,5 @@ mod groups;
 mod messages;
 mod signers;
 
-pub use export_fault::ExportFault;
 pub use exported_events::Exported;
-pub use family_export::{export, export_text};
+pub use family_export::export;

@@ -21,16 +21,16 @@ use Rattle.journal.specs.Seals.{anchored, delegator_of, forbids, has_trait, is_s
 use Rattle.journal.proofs.Accepting.{accepted_extends, same_body-refl}
 use Rattle.core_laws.specs.Standing.{HasNoClash}
 use Rattle.export_laws.specs.Export.{ExportLaw, Replays, Sent, cut_claims, delegator, delegator_if, export, exported, is_good, is_of_some, messages_of, rules_under, sent_claims}
-use Rattle.export_laws.proofs.Among.{Among, among, among_first, among_left, among_left_by, among_right, contained, distinct_among, left_among, passed, passing}
-use Rattle.export_laws.proofs.Came.{accepted_came, bodies_differ, bodies_more, claims_more, grown, none_ready, same_bytes, were_ready}
+use Rattle.key_state.proofs.Among.{Among, among, among_first, among_left, among_left_by, among_right, contained, distinct_among, left_among, passed, passing}
+use Rattle.journal_laws.proofs.Came.{accepted_came, bodies_differ, bodies_more, claims_more, grown, none_ready, same_bytes, were_ready}
 use Rattle.export_laws.proofs.Ready.{ready_by, ready_parts, yes_more}
 use Rattle.export_laws.proofs.Family.{before_family, delegator_is, family_of, of_family, own_family, state_family}
-use Rattle.export_laws.proofs.Followed.{before_stays, follows, inception_rules, inception_stands, stands_by}
-use Rattle.export_laws.proofs.Growing.{BackersCome, GoodCome, anchored_more, backed_more, signed_more}
-use Rattle.export_laws.proofs.Numbered.{fit_parts}
+use Rattle.journal_laws.proofs.Followed.{before_stays, follows, inception_rules, inception_stands, stands_by}
+use Rattle.journal_laws.proofs.Growing.{BackersCome, GoodCome, anchored_more, backed_more, signed_more}
+use Rattle.journal_laws.proofs.Numbered.{fit_parts}
 use Rattle.export_laws.proofs.Rules.{before_log, its_fit, its_front_grown, kept_rules, rules_there}
 use Rattle.export_laws.proofs.Sending.{brings_body, brings_claims, brings_itself, brings_no, cut_all, cut_some, keeps_claims, sent_all}
-use Rattle.export_laws.proofs.Verdicts.{answered_so, backs_by, by_backs, raises, triple_body, was_raised, yes_by}
+use Rattle.journal_laws.proofs.Verdicts.{answered_so, backs_by, by_backs, raises, triple_body, was_raised, yes_by}
 
 -- no verdict is no
 abbrev HasNoNo : List Told → Type 0

@@ -17,12 +17,12 @@ use Rattle.journal.specs.Questions.{state_before}
 use Rattle.journal.specs.Seals.{delegator_of}
 use Rattle.journal.proofs.StateSteps.{state-own, state-other}
 use Rattle.export_laws.specs.Export.{InFamily, IsFamily, delegator, delegator_if, exported, is_of_some, itself}
-use Rattle.export_laws.proofs.Among.{Among, among, contained, left_among, parted, passed, passing}
-use Rattle.export_laws.proofs.Followed.{up_to_there, predecessor_found, precedes_parts, same_own}
-use Rattle.export_laws.proofs.Numbered.{fit_parts, own}
+use Rattle.key_state.proofs.Among.{Among, among, contained, left_among, parted, passed, passing}
+use Rattle.journal_laws.proofs.Followed.{up_to_there, predecessor_found, precedes_parts, same_own}
+use Rattle.journal_laws.proofs.Numbered.{fit_parts, own}
 
 -- one more event leaves the delegator of a state
-moved_delegator : (s : State) (e : Event) → (moved s e).delegator ≡ s.delegator
+pub moved_delegator : (s : State) (e : Event) → (moved s e).delegator ≡ s.delegator
 moved_delegator s (Rot e) = refl
 moved_delegator s (Drt e) = refl
 moved_delegator s (Ixn e) = refl

@@ -1,10 +1,3 @@
-pub mod Among
-pub mod Numbered
-pub mod Followed
-pub mod More
-pub mod Growing
-pub mod Came
-pub mod Verdicts
 pub mod Ready
 pub mod Sending
 pub mod Family
@@ -12,3 +5,10 @@ pub mod Rules
 pub mod Export
 pub mod Signed
 pub mod Wants
+pub mod Filters
+pub mod Within
+pub mod Rounds
+pub mod Families
+pub mod FamilyQuestions
+pub mod FamilyReport
+mod FamilyPremises

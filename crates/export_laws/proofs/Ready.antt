@@ -10,8 +10,8 @@ use Rattle.journal.specs.History.{Told, Triple, said_yes, yes_in}
 use Rattle.journal.specs.Logs.{is_in, state, takes}
 use Rattle.journal.specs.Readiness.{is_backed, is_local, is_ready, signed}
 use Rattle.journal.specs.Seals.{anchored}
-use Rattle.export_laws.proofs.Among.{Among, among_left}
-use Rattle.export_laws.proofs.Verdicts.{among_yes, yes_among}
+use Rattle.key_state.proofs.Among.{Among, among_left}
+use Rattle.journal_laws.proofs.Verdicts.{among_yes, yes_among}
 
 -- what makes a body ready
 pub record AreReady (mode : Mode) (told : List Told) (log : List Body) (b : Body) : Type 0 where

@@ -17,10 +17,10 @@ use Rattle.export_laws.specs.Export.{rules_under}
 use Rattle.core_laws.specs.Standing.{AreAlikeIf, HasNoClash}
 use Rattle.core_laws.proofs.Alike.{own_rules-alike}
 use Rattle.core_laws.proofs.Standing.{current}
-use Rattle.export_laws.proofs.Among.{Among, among, among_left, contained}
-use Rattle.export_laws.proofs.Came.{grown}
-use Rattle.export_laws.proofs.Followed.{before_stays, inception_rules, prior_of_fit}
-use Rattle.export_laws.proofs.Numbered.{fit_parts}
+use Rattle.key_state.proofs.Among.{Among, among, among_left, contained}
+use Rattle.journal_laws.proofs.Came.{grown}
+use Rattle.journal_laws.proofs.Followed.{before_stays, inception_rules, prior_of_fit}
+use Rattle.journal_laws.proofs.Numbered.{fit_parts}
 
 -- states alike have the same rules
 alike_rules : (o p : Option State) (e : Event) → AreAlikeIf o p → own_rules o e ≡ own_rules p e

@@ -20,12 +20,12 @@ use Rattle.journal.specs.Replies.{claims_of, is_held, refusal}
 use Rattle.cesr_stream.specs.declared.message.Message.{Message}
 use Rattle.event_body.specs.declared.event.Event.{Event}
 use Rattle.export_laws.specs.Export.{SignedLaw, cut_claims, is_couple, is_good, is_witness, messages_of, ordered, runs_by, sent_claims}
-use Rattle.export_laws.proofs.Among.{Among, among, among_left_by, filter_map_among, left_among, map_among, parted, passed}
-use Rattle.export_laws.proofs.Came.{claims_more, were_ready}
+use Rattle.key_state.proofs.Among.{Among, among, among_left_by, filter_map_among, left_among, map_among, parted, passed}
+use Rattle.journal_laws.proofs.Came.{claims_more, were_ready}
 use Rattle.export_laws.proofs.Ready.{ready_parts, yes_more}
 use Rattle.export_laws.proofs.Rules.{rules_there}
 use Rattle.export_laws.proofs.Sending.{good_all, ordered_all}
-use Rattle.export_laws.proofs.Verdicts.{yes_by}
+use Rattle.journal_laws.proofs.Verdicts.{yes_by}
 
 -- a signature of the controller is one of its claims
 held_is : (c : Claim) (g : IndexedSig) → held_sig c ≡ Some g → is_held c ≡ true

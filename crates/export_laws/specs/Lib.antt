@@ -1,1 +1,4 @@
 pub mod Export
+pub mod Families
+pub mod FamilyQuestions
+pub mod FamilyReport

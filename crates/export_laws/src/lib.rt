@@ -1,6 +1,10 @@
-//! What is exported of a journal for a fresh validator, and the laws of it.
+//! What is exported of a journal for a fresh validator, and the laws of it; and that what is accepted of identifiers which are tied by
+//! delegation depends on their own entries alone. Definitions and lemmas; no code.
 #![tactic(auto)]
 
-mod laws;
+mod family_laws;
 
-pub use laws::{exports_are_accepted, exports_are_signed};
+pub use family_laws::{
+    families_are_accepted_alone, families_are_regular, families_ask_alone, families_report_alone,
+    named_families_are_accepted_alone,
+};

@@ -1,11 +1,8 @@
 //! Standard output.
 
-use libc::types::rlimit;
+use disk_file::file_size_limit;
 use std::io::{Stdout, Write};
 use std::{fs, io};
-
-// What getrlimit is asked for the greatest size of a file that is written (setrlimit(2)).
-const FILE_SIZE: i32 = 1;
 
 /// Standard output. Where it is a file, no byte is written at the greatest size that files may have or behind it: the system
 /// raises a signal for that, which would end the program.
@@ -35,16 +32,9 @@ impl StandardOutput {
         let Some(size) = self.size else {
             return u64::MAX;
         };
-        let mut limit = rlimit {
-            rlim_cur: u64::MAX,
-            rlim_max: u64::MAX,
-        };
-        if libc::getrlimit(FILE_SIZE, &mut limit) != 0 {
-            return u64::MAX;
-        }
         let position = libc::lseek(libc::STDOUT_FILENO, 0, libc::SEEK_CUR);
         let place = size.max(u64::try_from(position).unwrap_or(0));
-        limit.rlim_cur.saturating_sub(place)
+        file_size_limit().saturating_sub(place)
     }
 }
 

@@ -11,8 +11,8 @@ use std::io;
 use std::io::ErrorKind;
 use std::net::{Shutdown, SocketAddr, TcpListener, TcpStream};
 
-/// An accept that a signal interrupted, or whose peer gave the link up before, is tried again, up to so many
-/// times in all, before it counts as a fault.
+/// An accept that a signal interrupted, whose peer gave the link up before, or that hands over an error of the
+/// network on the way to its peer, is tried again, up to so many times in all, before it counts as a fault.
 const ATTEMPTS: usize = 1_000;
 
 /// A door at an address, which tells no links. It never ends.
@@ -72,9 +72,14 @@ fn accept(listener: &TcpListener) -> io::Result<(TcpStream, TcpStream, TcpStream
     Err(io::Error::from(ErrorKind::Interrupted))
 }
 
-// Whether an accept that failed so is tried again.
+// Whether an accept that failed so is tried again: by a signal, or by what became of one link before it was taken
+// (accept(2): Linux hands over errors that already wait on the new socket).
 fn is_tried_again(kind: ErrorKind) -> bool {
-    kind == ErrorKind::Interrupted || kind == ErrorKind::ConnectionAborted
+    match kind {
+        ErrorKind::Interrupted | ErrorKind::ConnectionAborted => true,
+        ErrorKind::NetworkDown | ErrorKind::NetworkUnreachable | ErrorKind::HostUnreachable => true,
+        _ => false,
+    }
 }
 
 impl Door for TcpDoor {

@@ -1,6 +1,7 @@
 -- Why a reader of `blame` closed by a fault, and that none closes by a fault of writing or signing.
 use Rattle.std.proofs.Common.{◌≡◌, ◌⊎◌, ℕ, inl, inr, Bool, true, false, ◌||◌, List, [], ◌∷◌, refl, sym, ◌∙◌, ap}
-use Rattle.std.specs.Prelude.{is_none}
+use Rattle.std.specs.Prelude.{Option, is_none}
+use Rattle.journal.specs.declared.journal.Journal.{Journal}
 use Rattle.run_status.specs.Readers.{Reader}
 use Rattle.keri_roles.specs.Blamed.{IsBlamed}
 use Rattle.keri_roles.specs.CoreTold.{fails_last}
@@ -27,8 +28,8 @@ neither : (a b : Bool) → (a || false) ≡ false → (b || false) ≡ false →
 neither true b e f = cc
 neither false b e f = f
 
-pub blamed_caused : (helper first second : List ℕ) (work : Work) → IsBlamed helper first second work → AreCaused work.before work.after work.readers
-blamed_caused helper first second work b =
+pub blamed_caused : (helper first second : List ℕ) (back : Option Journal) (work : Work) → IsBlamed helper first second back work → AreCaused work.before work.after work.readers
+blamed_caused helper first second back work b =
     let one = is_none b.given.source in
     let asks = is_none b.given.verifier in
     let other = is_none b.other_given.source in
@@ -49,15 +50,15 @@ first_rose one other (inl rose) = inl rose
 first_rose one other (inr none) = absurd none
 
 -- and a verifier that failed in a last round failed
-pub blamed_rose : (helper first second : List ℕ) (work : Work) → IsBlamed helper first second work → work.besides.verifier_failed ≡ true → VerifierRose work.readers
-blamed_rose helper first second work b e = rw b.both (elim (either (fails_last b.rest) (fails_last b.other_rest) (sym (ap (λ x. x.verifier_failed) b.nothing_else) ∙ e)) [
+pub blamed_rose : (helper first second : List ℕ) (back : Option Journal) (work : Work) → IsBlamed helper first second back work → work.besides.verifier_failed ≡ true → VerifierRose work.readers
+blamed_rose helper first second back work b e = rw b.both (elim (either (fails_last b.rest) (fails_last b.other_rest) (sym (ap (λ x. x.verifier_failed) b.nothing_else) ∙ e)) [
   | inl f ↦ first_rose b.reader b.other_reader
       (some_rose (b.given ∷ []) (b.reader ∷ []) (names_unfailed work.before helper (first ∷ []) (b.given ∷ []) (b.provided.are_given.0, tt)) (b.journal.failed (failed_last b.rest f)))
   | inr f ↦ inr (some_rose (b.other_given ∷ []) (b.other_reader ∷ []) (names_unfailed work.before helper (second ∷ []) (b.other_given ∷ []) b.provided.are_given.1)
       (b.other_told.failed (failed_last b.other_rest f)))
 ])
 
-pub blamed_serves : (helper first second : List ℕ) (work : Work) → IsBlamed helper first second work → some_serves work.readers ≡ false
-blamed_serves helper first second work b = ap some_serves b.both ∙ neither (is_serving b.reader.close) (is_serving b.other_reader.close)
+pub blamed_serves : (helper first second : List ℕ) (back : Option Journal) (work : Work) → IsBlamed helper first second back work → some_serves work.readers ≡ false
+blamed_serves helper first second back work b = ap some_serves b.both ∙ neither (is_serving b.reader.close) (is_serving b.other_reader.close)
     (each_serves _ _ _ b.rest 0 b.journal.read (b.given ∷ []) (b.reader ∷ []) b.journal.fed.fed.each b.journal.each)
     (each_serves _ _ _ b.other_rest 0 b.other_told.read (b.other_given ∷ []) (b.other_reader ∷ []) b.other_told.fed.fed.each b.other_told.each)

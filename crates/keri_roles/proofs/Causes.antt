@@ -91,7 +91,7 @@ regroup true b c = refl
 regroup false b c = refl
 
 -- one of two tests amid others is passed
-middle : (a b c d : Bool) → (b || (c || false)) ≡ true → (a || (b || (c || (d || false)))) ≡ true
+pub middle : (a b c d : Bool) → (b || (c || false)) ≡ true → (a || (b || (c || (d || false)))) ≡ true
 middle true b c d e = refl
 middle false true c d e = refl
 middle false false true d e = refl
@@ -209,8 +209,11 @@ module _ (mode : Mode) (helper : List ℕ) (names : List (List ℕ)) (work : Wor
   pub files_unfailed : AreUnfailed t.given
   files_unfailed = names_unfailed work.before helper names t.given t.provided.are_given
 
+  pub files_rose : lacks t.given ≡ true → Rose work.before.faults work.after.faults
+  files_rose e = t.provided.makes.rose (names_lack work.before helper names t.given t.provided.are_given ∙ e)
+
   pub files_caused : AreCaused work.before work.after work.readers
-  files_caused = told_caused mode _ work t files_unfailed (λ e. t.provided.makes.rose (names_lack work.before helper names t.given t.provided.are_given ∙ e))
+  files_caused = told_caused mode _ work t files_unfailed files_rose
 
 -- the door failed, where it is found to have
 pub door_rose : (rose : Type 0) (told : Option (List (List ℕ))) (count : ℕ) (failed : Bool) (held : List (Option (List ℕ))) (door : Option DoorTold) → (is_none door ≡ true → rose)
@@ -221,11 +224,13 @@ door_rose rose told count failed held (Some d) out t e = rw e at t.cause
 -- over links
 module _ (mode : Mode) (helper address : List ℕ) (count : ℕ) (links : LinksTold) (work : Work) (t : ReadsToCore mode (AreLinked helper address count links) work) where
   pub linked_unfailed : AreUnfailed t.given
-  linked_unfailed = links_unfailed work.before helper t.provided.sources t.given t.provided.taken.unread t.provided.are_given
+  linked_unfailed = links_unfailed work.before helper t.provided.sources t.given t.provided.taken.sources_unfailed t.provided.are_given
+
+  pub linked_rose : lacks t.given ≡ true → Rose work.before.faults work.after.faults
+  linked_rose e = t.provided.makes.rose (behind_test (is_none links.door) (links_lack work.before helper t.provided.sources t.given t.provided.are_given ∙ e))
 
   pub linked_caused : AreCaused work.before work.after work.readers
-  linked_caused = told_caused mode _ work t linked_unfailed
-      (λ e. t.provided.makes.rose (behind_test (is_none links.door) (links_lack work.before helper t.provided.sources t.given t.provided.are_given ∙ e)))
+  linked_caused = told_caused mode _ work t linked_unfailed linked_rose
 
   pub linked_door : links.failed ≡ true → MatchOption links.door (Rose work.before.faults work.after.faults) (λ d. Rose 0 d.faults)
   linked_door = door_rose _ (work.before.links address) count links.failed _ links.door

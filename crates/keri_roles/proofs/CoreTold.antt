@@ -23,6 +23,7 @@ use Rattle.reader_threads.specs.Given.{Given}
 use Rattle.reader_threads.specs.Told.{AllTold}
 use Rattle.keri_roles.specs.CoreTold.{AreSettled, IsJournalOf, IsToldBy, OwesText, core_of, plain}
 use Rattle.keri_roles.specs.Run.{Owes}
+use Rattle.keri_roles.proofs.Complete.{is_complete}
 
 -- a core without entries was told nothing
 pub untold : (core : CoreView) → core.entries ≡ [] → told_of core ≡ []
@@ -67,6 +68,7 @@ is_told_by mode limits given readers rest core t = record {
   regular = subst (λ m. IsRegular m [] (told_of core)) t.mode_is (regular_of core t.no_base t.stands);
   within = subst (λ l. IsWithin l [] (told_of core)) t.limits_are (within_of core t.no_base t.stands);
   settled = settled_of core mode t.no_base t.mode_is t.stands;
+  complete = is_complete mode limits given readers rest core t;
 }
 
 -- what is owed is this text, and unless there was no memory that is such a text

@@ -13,7 +13,7 @@ use Rattle.run_status.specs.Readers.{HasClose, Reader, SourceTold, VerifierTold}
 use Rattle.witness_link.specs.Links.{Counts, LinkTold, counts, counts_of}
 use Rattle.witness_link.specs.Served.{ClosesLink}
 use Rattle.witness_link.specs.Serving.{Serves}
-use Rattle.keri_roles.specs.Run.{DoorTold, ReadFaultsRose, Run, SignerTold, SinkRose, VerifierRose}
+use Rattle.keri_roles.specs.Run.{DoorTold, ReadFaultsRose, Run, SignerTold, SinkRose, shared_verifier}
 use Rattle.keri_roles.specs.ServedFile.{Left, MakesServing}
 use Rattle.keri_roles.specs.ServedLinks.{Between, ServedLink, ServesEach, ServesLinksBy, ServesOne, goes_on, idle_reader, reader_of, readers_with}
 
@@ -42,9 +42,9 @@ with_closed at other verifier [] (inr none) = absurd none
 with_closed at other verifier (reader ∷ readers) (inl e) = inl e
 with_closed at other verifier (reader ∷ readers) (inr later) = inr later
 
-with_rose : (verifier : VerifierTold) (readers : List Reader) → Rose 0 verifier.faults → VerifierRose (readers_with verifier readers)
-with_rose verifier [] r = inl r
-with_rose verifier (reader ∷ readers) r = inl r
+with_shared : (verifier : VerifierTold) (readers : List Reader) → shared_verifier (readers_with verifier readers) ≡ Some verifier
+with_shared verifier [] = refl
+with_shared verifier (reader ∷ readers) = refl
 
 idle_closed : (at close : Close) (verifier : Option VerifierTold) (readers : List Reader) → readers ≡ idle_reader verifier close ∷ [] → HasClose at readers → close ≡ at
 idle_closed at close verifier readers one closed = this (subst (HasClose at) one closed)
@@ -96,13 +96,13 @@ module _ {D : Type 0} (told : D → DiskTold) (key : Key) (limits run_limits : L
   reads_rose : (links : List ServedLink) (old new : Between D) → Each links old new → ReadFaultsRose (map reader_of links)
   reads_rose [] old new each = tt
   reads_rose (link ∷ links) old new each = (
-    λ e. let closes = rw e at each.1.serves.closes in rw each.1.fresh.unread at closes.0.closes.1,
+    λ e. let closes = rw e at each.1.serves.closes in rw each.1.fresh.source_unfailed at closes.0.closes.1,
     reads_rose links each.0 new each.3,
   )
 
   writes_rose : (links : List ServedLink) (old new : Between D) → Each links old new → HasClose WriteFault (map reader_of links) → SinkRose (map (λ l. l.sink) links)
   writes_rose [] old new each closed = absurd closed
-  writes_rose (link ∷ links) old new each (inl e) = inl (let closes = rw e at each.1.serves.closes in rw each.1.fresh.unwritten at closes.1.rose)
+  writes_rose (link ∷ links) old new each (inl e) = inl (let closes = rw e at each.1.serves.closes in rw each.1.fresh.sink_unfailed at closes.1.rose)
   writes_rose (link ∷ links) old new each (inr later) = inr (writes_rose links each.0 new each.3 later)
 
 module _ {D : Type 0} (told : D → DiskTold) (key : Key) (limits : Limits) (helper address : List ℕ) (count : ℕ) (old new : Left D) (failed : Bool) (readers : List Reader) (run : Run) where
@@ -120,13 +120,14 @@ module _ {D : Type 0} (told : D → DiskTold) (key : Key) (limits : Limits) (hel
       rw s.readers_are (with_reads verifier s.each (rw s.coming.readers_are (reads_rose told key limits _ _ _ s.coming.links _ _ s.coming.serves)))
 
   pub links_asked : (door : Option DoorTold) (verifier : Option VerifierTold) (signer : Option SignerTold) → Made door verifier signer → Served door verifier signer
-      → HasClose VerifierFault readers → VerifierRose readers ⊎ Rose run.before.faults run.after.faults
+      → HasClose VerifierFault readers → MatchOption (shared_verifier readers) (Rose run.before.faults run.after.faults) (λ v. Rose 0 v.faults)
   links_asked None verifier signer m s closed = let clash : End ≡ VerifierFault = idle_closed VerifierFault End None readers s.1.one closed in cc
-  links_asked (Some door) None signer m s closed = inr (m.1.rose refl)
+  links_asked (Some door) None signer m s closed = rw s.1.one (m.1.rose refl)
   links_asked (Some door) (Some verifier) None m s closed = let clash : SignerFault ≡ VerifierFault = idle_closed VerifierFault SignerFault (Some verifier) readers s.1.one closed in cc
   links_asked (Some door) (Some verifier) (Some signer) m s closed =
       let closed_each = with_closed VerifierFault (λ e. cc) verifier s.each (subst (HasClose VerifierFault) s.readers_are closed) in
-      inl (rw s.readers_are (with_rose verifier s.each (asked_rose told key limits _ _ _ s.coming.links _ _ s.coming.serves (subst (HasClose VerifierFault) s.coming.readers_are closed_each))))
+      let rose : Rose 0 verifier.faults = asked_rose told key limits _ _ _ s.coming.links _ _ s.coming.serves (subst (HasClose VerifierFault) s.coming.readers_are closed_each) in
+      rw (s.readers_are, with_shared verifier s.each) rose
 
   pub links_signed : (door : Option DoorTold) (verifier : Option VerifierTold) (signer : Option SignerTold) → Made door verifier signer → Served door verifier signer
       → HasClose SignerFault readers → MatchOption signer (Rose run.before.faults run.after.faults) (λ g. Rose 0 g.faults)

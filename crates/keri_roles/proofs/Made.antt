@@ -16,7 +16,8 @@ use Rattle.run_status.specs.declared.close.Close.{Close}
 use Rattle.run_status.specs.declared.close.Close.TheVariants.{ReadFault, VerifierFault}
 use Rattle.run_status.specs.Readers.{SourceTold}
 use Rattle.run_status.specs.Status.{nothing_besides}
-use Rattle.keri_roles.specs.Made.{MadeFrom, IsDue, IsDueBy, WasRead, close_of, found_in, is_out, is_through}
+use Rattle.keri_roles.specs.Closes.{is_through}
+use Rattle.keri_roles.specs.Made.{MadeFrom, IsDue, IsDueBy, WasRead, close_of, found_in, is_out}
 use Rattle.keri_roles.specs.Run.{SignerTold}
 use Rattle.keri_roles.specs.Seen.{signer_seen}
 

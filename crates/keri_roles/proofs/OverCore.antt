@@ -30,7 +30,7 @@ only_one [] x one first = absurd (omega (arith, one))
 only_one (a ∷ []) x one first = ap (λ y. y ∷ []) (sym first)
 only_one (a ∷ b ∷ xs) x one first = absurd (omega (arith, one))
 
-none_parts : (a b : Bool) → (a || b) ≡ false → (a ≡ false) × (b ≡ false)
+pub none_parts : (a b : Bool) → (a || b) ≡ false → (a ≡ false) × (b ≡ false)
 none_parts false b e = (refl, e)
 none_parts true b e = cc
 

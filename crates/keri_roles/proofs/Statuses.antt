@@ -262,15 +262,15 @@ carried_causes told disk old (Some (validate helper (links address count))) run 
           (told_serves _ _ work over.told) (linked_caused _ helper address count at work over.told))
       | inr u ↦ unseated_causes (validate helper (links address count)) run w.owed w.besides w.settles address count at u refl (λ x. x) (λ e. rw e tt)
     ]
-carried_causes told disk old (Some (watch helper (named names))) run d o w = let work = work_in run w.owed w.besides in let over = w.does in
+carried_causes told disk old (Some (watch helper (named names))) run d o w = let work = work_in run w.owed w.besides in let over = w.does.over in
     plain_causes (watch helper (named names)) run w.owed w.besides w.settles over.owes.is_found false (fails_last over.told.rest) false over.owes.nothing_else
     (told_rose _ _ work over.told (files_unfailed _ helper names work over.told)) (λ e. absurd (not_true e))
     (told_serves _ _ work over.told) (files_caused _ helper names work over.told)
 carried_causes told disk old (Some (watch helper (links address count))) run d o w = let work = work_in run w.owed w.besides in
     let at : LinksTold = record { door = run.door; sinks = run.sinks; failed = w.besides.door_failed } in elim w.does [
-      | inl over ↦ plain_causes (watch helper (links address count)) run w.owed w.besides w.settles over.owes.is_found false (fails_last over.told.rest) at.failed
+      | inl is ↦ (let over = is.over in plain_causes (watch helper (links address count)) run w.owed w.besides w.settles over.owes.is_found false (fails_last over.told.rest) at.failed
           over.owes.nothing_else (told_rose _ _ work over.told (linked_unfailed _ helper address count at work over.told)) (linked_door _ helper address count at work over.told)
-          (told_serves _ _ work over.told) (linked_caused _ helper address count at work over.told)
+          (told_serves _ _ work over.told) (linked_caused _ helper address count at work over.told))
       | inr u ↦ unseated_causes (watch helper (links address count)) run w.owed w.besides w.settles address count at u refl (λ x. x) (λ e. rw e tt)
     ]
 carried_causes told disk old (Some (witness helper key shelf from inputs)) run d o w = witnessed_causes told disk old helper key shelf from inputs run d o w
@@ -280,8 +280,8 @@ carried_causes told disk old (Some (export helper prefix names)) run d o w = let
     (told_serves _ _ work over.told) (files_caused _ helper names work over.told)
 carried_causes told disk old (Some (blame helper first second)) run d o w = let work = work_in run w.owed w.besides in
     plain_causes (blame helper first second) run w.owed w.besides w.settles w.does.has_blames false (fails_last w.does.rest || fails_last w.does.other_rest) false w.does.nothing_else
-    (λ e. blamed_rose helper first second work w.does (ap (λ b. b.verifier_failed) w.does.nothing_else ∙ e)) (λ e. absurd (not_true e))
-    (blamed_serves helper first second work w.does) (blamed_caused helper first second work w.does)
+    (λ e. blamed_rose helper first second run.second work w.does (ap (λ b. b.verifier_failed) w.does.nothing_else ∙ e)) (λ e. absurd (not_true e))
+    (blamed_serves helper first second run.second work w.does) (blamed_caused helper first second run.second work w.does)
 carried_causes told disk old (Some (make helper plan log)) run d o w = let work = work_in run w.owed w.besides in
     written_causes (Some (make helper plan log)) run w.owed w.besides w.settles (λ some. absurd (made_finds (λ b. b.words_refused) (λ s r. refl) (λ b f. refl) helper plan log work w.does some))
     (made_signer helper plan log work w.does) (made_finds (λ b. b.disk_failed) (λ s r. refl) (λ b f. refl) helper plan log work w.does)

@@ -1,5 +1,6 @@
 -- Who signed twice, over two files.
-use Rattle.std.specs.Prelude.{◌≡◌, ◌≢◌, ◌==◌, ◌||◌, Bool, not, ℕ, List, [], ◌∷◌, length, IfSome}
+use Rattle.std.specs.Prelude.{All, ◌≡◌, ◌≢◌, ◌==◌, ◌||◌, Bool, not, ℕ, List, [], ◌∷◌, length, IfSome, Option, Some}
+use Rattle.keri_specs.specs.Causes.{Rose}
 use Rattle.blame_core.specs.Blames.{AreBlames}
 use Rattle.blame_core.specs.Lines.{blames_text}
 use Rattle.blame_core.specs.declared.rivalry.Blame.{Blame}
@@ -13,7 +14,7 @@ use Rattle.run_status.specs.declared.close.Close.TheVariants.{OutOfMemory}
 use Rattle.run_status.specs.Readers.{Reader}
 use Rattle.run_status.specs.Status.{nothing_besides}
 use Rattle.validator_core.specs.View.{CoreView}
-use Rattle.keri_roles.specs.CoreTold.{AreProvided, HadMemory, IsToldBy, core_of, fails_last}
+use Rattle.keri_roles.specs.CoreTold.{AreProvided, HadMemory, HasBoth, IsToldBy, core_of, fails_last}
 use Rattle.keri_roles.specs.Run.{Work}
 use Rattle.keri_roles.specs.declared.blame.BlameWords.{BlameWords}
 
@@ -30,20 +31,22 @@ pub record HadRoom (reader : Close) (last : LastRound) : Type 0 where
   pub rest : last ≢ NoMemory
 
 -- `blame --helper HELPER FILE FILE`: each file is read to a core of its own that wants receipts and seals. The makings are for each
--- file the source and the verifier of the helper. There are two journals, each told by the reader of its own file alone; the first is
+-- file the source and the verifier of the helper. There are two journals, each told by the reader of its own file alone, and both are
 -- handed back. The text is owed of who signed twice, the first core's event and then the second's, where there was memory for both.
--- There is a conflict where it has a line.
-pub record IsBlamed (helper first second : List ℕ) (work : Work) : Type 0 where
+-- There is a conflict where it has a line. Where no making failed each reader has its source and its verifier.
+pub record IsBlamed (helper first second : List ℕ) (back : Option Journal) (work : Work) : Type 0 where
   pub given : Given
   pub other_given : Given
   pub provided : AreProvided helper (first ∷ second ∷ []) (given ∷ other_given ∷ []) work.before work.after
   pub reader : Reader
   pub other_reader : Reader
   pub both : work.readers ≡ reader ∷ other_reader ∷ []
+  pub there : (Rose work.before.faults work.after.faults → ⊥) → All HasBoth work.readers
   pub rest : LastRound
   pub other_rest : LastRound
   pub journal : IsToldBy Full work.before.limits (given ∷ []) (reader ∷ []) rest work.journal
   pub other_journal : Journal
+  pub back_is : back ≡ Some other_journal
   pub other_told : IsToldBy Full work.before.limits (other_given ∷ []) (other_reader ∷ []) other_rest other_journal
   pub has_blames : Bool
   pub owes : IfSome work.owed (λ text. HadMemory rest (reader ∷ []) × HadMemory other_rest (other_reader ∷ [])
@@ -53,5 +56,5 @@ pub record IsBlamed (helper first second : List ℕ) (work : Work) : Type 0 wher
       ≡ record nothing_besides { conflict_found = has_blames; verifier_failed = fails_last rest || fails_last other_rest }
 
 -- by its words
-abbrev pub IsBlamedBy : BlameWords → Work → Type 0
-IsBlamedBy words work = IsBlamed words.helper.now words.first.now words.second.now work
+abbrev pub IsBlamedBy : BlameWords → Option Journal → Work → Type 0
+IsBlamedBy words back work = IsBlamed words.helper.now words.first.now words.second.now back work

@@ -17,11 +17,12 @@ use Rattle.run_status.specs.declared.close.Close.TheVariants.{ReadFault, Verifie
 use Rattle.run_status.specs.declared.besides.Besides.{Besides}
 use Rattle.keri_roles.specs.Agreement.{IsAgreed}
 use Rattle.keri_roles.specs.Check.{IsChecked}
+use Rattle.keri_roles.specs.Confluence.{ComesToTheSame, IsConfluent}
 use Rattle.keri_roles.specs.Converted.{IsConverted}
 use Rattle.reader_threads.specs.declared.last_round.LastRound.{LastRound}
 use Rattle.reader_threads.specs.declared.last_round.LastRound.TheVariants.{VerifierFailed}
 use Rattle.keri_roles.specs.CoreTold.{AreProvided, HadMemory, IsOverCore, IsToldBy, finds_conflict, finds_unknown}
-use Rattle.keri_roles.specs.LinksTold.{AreLinked, AreUnseated, IsOverLinks}
+use Rattle.keri_roles.specs.LinksTold.{AreLinked, AreUnseated}
 use Rattle.keri_roles.specs.Blamed.{IsBlamed}
 use Rattle.keri_roles.specs.Exports.{ExportsTo}
 use Rattle.keri_roles.specs.Generated.{counts_of, made_of}
@@ -36,10 +37,11 @@ use Rattle.keri_disk.specs.Images.{DiskTold}
 use Rattle.keri_roles.specs.Witnessed.{IsWitnessed}
 
 -- A core that wants receipts and seals is told what its readers read, and the text is its report. What it accepts agrees with what any
--- other validator accepts.
+-- other validator accepts; and what it accepts and reports any other does that was told the same.
 pub record IsValidatedBy (IsProvided : List Given → Told → Told → Type 0) (door_failed : Bool) (work : Work) : Type 0 where
   pub over : IsOverCore Full Reports finds_conflict IsProvided door_failed work
   pub agreed : IsAgreed (told_by over.told.journal.fed.held work.journal.entries)
+  pub confluent : IsConfluent over.told.journal.fed.held work.journal.entries
 
 -- `validate --helper HELPER FILE..`: the readers are of the files
 abbrev pub IsValidated : List ℕ → List (List ℕ) → Work → Type 0
@@ -55,14 +57,19 @@ pub record IsEvidence (core : CoreView) (readers : List Reader) (text : List ℕ
   pub text_is : IsEvidenceText core text has_conflicts
   pub reads : ReadsAsEvidence core text
 
--- `watch --helper HELPER FILE..`: a core that wants neither receipts nor seals is told what the files hold, and the text is
--- its evidence.
-abbrev pub IsWatched : List ℕ → List (List ℕ) → Work → Type 0
-IsWatched helper names = IsOverCore Local IsEvidence finds_conflict (AreProvided helper names) false
+-- A core that wants neither receipts nor seals is told what its readers read, and the text is its evidence. What it accepts, and which
+-- bodies are in conflict, is so for any other watcher that was told the same.
+pub record IsWatchedBy (IsProvided : List Given → Told → Told → Type 0) (door_failed : Bool) (work : Work) : Type 0 where
+  pub over : IsOverCore Local IsEvidence finds_conflict IsProvided door_failed work
+  pub confluent : ComesToTheSame Local (told_by over.told.journal.fed.held work.journal.entries)
 
--- the same with `--listen ADDRESS --links COUNT` in the place of files
+-- `watch --helper HELPER FILE..`: the readers are of the files
+abbrev pub IsWatched : List ℕ → List (List ℕ) → Work → Type 0
+IsWatched helper names = IsWatchedBy (AreProvided helper names) false
+
+-- `watch --helper HELPER --listen ADDRESS --links COUNT`: the readers are of links, unless there was no memory for readers
 abbrev pub AreLinksWatched : List ℕ → List ℕ → ℕ → LinksTold → Work → Type 0
-AreLinksWatched helper address count = IsOverLinks Local IsEvidence finds_conflict helper address count
+AreLinksWatched helper address count taken work = IsWatchedBy (AreLinked helper address count taken) taken.failed work ⊎ AreUnseated address count taken work
 
 -- `export --helper HELPER --prefix PREFIX FILE..`: a core that wants receipts and seals is told what the files hold, and the text is the
 -- export of the identifier, or says that it isn't known.
@@ -125,7 +132,7 @@ CarriesOut told disk old (Some (watch helper (named names))) run = IsWritten (Is
 CarriesOut told disk old (Some (watch helper (links address count))) run = IsLinked (AreLinksWatched helper address count) run
 CarriesOut told disk old (Some (witness helper key shelf from inputs)) run = IsWitnessed told disk old helper key shelf from inputs run
 CarriesOut told disk old (Some (export helper prefix names)) run = IsWritten (IsExported helper prefix names) run
-CarriesOut told disk old (Some (blame helper first second)) run = IsWritten (IsBlamed helper first second) run
+CarriesOut told disk old (Some (blame helper first second)) run = IsWritten (IsBlamed helper first second run.second) run
 CarriesOut told disk old (Some (make helper plan log)) run = IsWritten (IsMade helper plan log) run
 CarriesOut told disk old (Some (convert domain name)) run = IsConverted domain name run
 CarriesOut told disk old (Some (generate seed logs events)) run = IsWritten (IsGenerated seed logs events) run

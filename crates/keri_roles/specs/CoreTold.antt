@@ -1,5 +1,6 @@
 -- What a core was told by the readers of files.
-use Rattle.std.specs.Prelude.{◌≡◌, ◌≢◌, ℕ, ◌⊎◌, Bool, true, false, List, [], ◌∷◌, map, All, IfSome, Option, is_none}
+use Rattle.std.specs.Prelude.{◌≡◌, ◌≢◌, ℕ, ◌⊎◌, Bool, true, false, List, [], ◌∷◌, map, All, IfSome, IsSome, Option, None, Some, is_none}
+use Rattle.keri_specs.specs.Causes.{Rose}
 use Rattle.keri_specs.specs.Told.{HasNone}
 use Rattle.keri_outside.specs.declared.limits.Limits.{Limits}
 use Rattle.journal.specs.declared.body.Body.{Body}
@@ -7,7 +8,7 @@ use Rattle.journal.specs.declared.entry.Entry.{Entry}
 use Rattle.journal.specs.declared.journal.Journal.{Journal}
 use Rattle.journal.specs.declared.mode.Mode.{Mode}
 use Rattle.journal.specs.Accepted.{accepted}
-use Rattle.journal.specs.Feeds.{IsFed}
+use Rattle.journal.specs.Feeds.{End, Fed, IsFed}
 use Rattle.journal.specs.History.{Told as ToldEntry}
 use Rattle.journal.specs.Journals.{told_by}
 use Rattle.journal.specs.Questions.{questions, IsRegular}
@@ -20,13 +21,14 @@ use Rattle.run_outside.specs.declared.making.Making.{Making}
 use Rattle.run_outside.specs.declared.making.MakingKind.TheVariants.{Source as SourceKind, Verifier as VerifierKind}
 use Rattle.run_status.specs.declared.besides.Besides.{Besides}
 use Rattle.run_status.specs.declared.close.Close.TheVariants as close
-use Rattle.run_status.specs.Readers.{Reader}
+use Rattle.run_status.specs.Readers.{Reader, SourceTold}
 use Rattle.run_status.specs.Status.{nothing_besides}
 use Rattle.reader_threads.specs.declared.last_round.LastRound.{LastRound}
 use Rattle.reader_threads.specs.declared.last_round.LastRound.TheVariants.{NoneFailed, VerifierFailed, OutOfMemory}
 use Rattle.reader_threads.specs.Fed.{ReadEach, ends_of, most_turns}
-use Rattle.reader_threads.specs.Given.{Given}
+use Rattle.reader_threads.specs.Given.{Given, said_by}
 use Rattle.reader_threads.specs.Told.{EachFailed, SomeFailed}
+use Rattle.keri_roles.specs.Closes.{is_through}
 use Rattle.keri_roles.specs.Run.{Work}
 
 -- what the reader of a name is given, with the verifier of a helper, as far as both could be made: nothing was read, asked or failed yet
@@ -75,9 +77,50 @@ core_of mode limits held entries = record { mode = mode; limits = limits; base =
 abbrev pub plain : CoreView → CoreView
 plain core = record core { accepted = [] }
 
+-- there was memory for all that was read, and in the last round
+abbrev pub HadMemory : LastRound → List Reader → Type 0
+HadMemory rest readers = (rest ≢ OutOfMemory) × All (λ r. r.close ≢ close.OutOfMemory) readers
+
+-- the reader has a source and a verifier: both could be made
+pub record HasBoth (reader : Reader) : Type 0 where
+  pub source : IsSome reader.source
+  pub verifier : IsSome reader.verifier
+
+-- neither of them has failed, and no limit closed the reader
+pub record MetNoFault (reader : Reader) : Type 0 where
+  pub source : IfSome reader.source (λ s. s.faults ≡ 0)
+  pub verifier : IfSome reader.verifier (λ v. v.faults ≡ 0)
+  pub no_limit : reader.close ≢ close.Full
+
+-- what the source held that a reader was given, where it tells
+abbrev pub held_by : Option SourceTold → Option (List ℕ)
+held_by None = None
+held_by (Some source) = source.left
+
+-- the ends of readers that took all messages of what their sources held
+abbrev pub whole_ends : List Given → List Reader → List End
+whole_ends [] readers = []
+whole_ends (g ∷ given) [] = []
+whole_ends (g ∷ given) (reader ∷ readers) =
+    record { bytes = held_by g.source; says = said_by reader.verifier; refused = reader.refused; stopped = false } ∷ whole_ends given readers
+
+-- Each reader came to the end of its stream, or to what is refused of it, and all messages of what the sources held are told but for
+-- those that are refused. No question is open, and no verifier failed in the last round.
+pub record AreThrough (mode : Mode) (limits : Limits) (given : List Given) (readers : List Reader) (rest : LastRound) (told : List ToldEntry) : Type 0 where
+  pub through : All (λ r. is_through r.close ≡ true) readers
+  pub whole : Fed limits (whole_ends given readers) told
+  pub none_open : questions mode [] told ≡ []
+  pub none_failed : rest ≡ NoneFailed
+
+-- COMPLETE: so it is of readers of which each has both and met no fault, where there was memory.
+abbrev pub IsComplete : Mode → Limits → List Given → List Reader → LastRound → List ToldEntry → Type 0
+IsComplete mode limits given readers rest told =
+    All HasBoth readers → All MetNoFault readers → HadMemory rest readers → AreThrough mode limits given readers rest told
+
 -- What is told in the journal is what the readers fed, within the limits, each from what it was given. Each verdict was given to a
 -- question that was open. Unless the last round found no memory, a question is open still only where each verifier failed. No event
--- is ready that isn't accepted.
+-- is ready that isn't accepted. Where each reader has a source and a verifier, nothing failed, no limit was reached and there was memory,
+-- all streams were read through.
 pub record IsToldBy (mode : Mode) (limits : Limits) (given : List Given) (readers : List Reader) (rest : LastRound) (journal : Journal) : Type 0 where
   pub read : List (List ℕ)
   pub fed : IsFed limits 0 (ends_of read readers) journal
@@ -87,6 +130,7 @@ pub record IsToldBy (mode : Mode) (limits : Limits) (given : List Given) (reader
   pub regular : IsRegular mode [] (told_by fed.held journal.entries)
   pub within : IsWithin limits [] (told_by fed.held journal.entries)
   pub settled : AreSettled mode fed.held (told_by fed.held journal.entries)
+  pub complete : IsComplete mode limits given readers rest (told_by fed.held journal.entries)
 
 -- What the readers are given was made so, and the journal was told by them, in order.
 pub record ReadsToCore (mode : Mode) (IsProvided : List Given → Told → Told → Type 0) (work : Work) : Type 0 where
@@ -101,10 +145,6 @@ fails_last NoneFailed = false
 fails_last VerifierFailed = true
 fails_last OutOfMemory = false
 
--- there was memory for all that was read, and in the last round
-abbrev pub HadMemory : LastRound → List Reader → Type 0
-HadMemory rest readers = (rest ≢ OutOfMemory) × All (λ r. r.close ≢ close.OutOfMemory) readers
-
 -- Where there was memory the text of a core and its readers is owed. What is found besides is what the text says, what the last round
 -- came to, and whether the door failed.
 pub record OwesText (is_text : CoreView → List Reader → List ℕ → Bool → Type 0) (finds : Bool → Besides) (door_failed : Bool) (core : CoreView) (readers : List Reader) (rest : LastRound)
@@ -113,11 +153,14 @@ pub record OwesText (is_text : CoreView → List Reader → List ℕ → Bool �
   pub owes : IfSome owed (λ text. HadMemory rest readers × is_text core readers text is_found)
   pub nothing_else : besides ≡ record (finds is_found) { verifier_failed = fails_last rest; door_failed = door_failed }
 
--- Readers told a core, and the text of its journal and of them is owed.
+-- Readers told a core, and the text of its journal and of them is owed. Where no making failed, nothing that was made has, no limit was
+-- reached and there was memory, all streams were read through, and no question is open.
 pub record IsOverCore (mode : Mode) (is_text : CoreView → List Reader → List ℕ → Bool → Type 0) (finds : Bool → Besides) (IsProvided : List Given → Told → Told → Type 0) (door_failed : Bool)
     (work : Work) : Type 0 where
   pub told : ReadsToCore mode IsProvided work
   pub owes : OwesText is_text finds door_failed (core_of mode work.before.limits told.journal.fed.held work.journal.entries) work.readers told.rest work.owed work.besides
+  pub complete : (Rose work.before.faults work.after.faults → ⊥) → All MetNoFault work.readers → HadMemory told.rest work.readers
+      → AreThrough mode work.before.limits told.given work.readers told.rest (told_by told.journal.fed.held work.journal.entries)
 
 -- a command that finds nothing besides but whether there is a conflict
 abbrev pub finds_conflict : Bool → Besides

@@ -11,6 +11,7 @@ pub mod OneSeats
 pub mod CommandTexts
 pub mod Reports
 pub mod Agreement
+pub mod Confluence
 pub mod Generated
 pub mod Planned
 pub mod Made

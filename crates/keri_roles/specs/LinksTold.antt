@@ -29,12 +29,13 @@ abbrev pub AreTakenBy : Option (List (List ℕ)) → ℕ → Bool → List (Opti
 AreTakenBy told count failed held None = (held ≡ []) × (failed ≡ true)
 AreTakenBy told count failed held (Some door) = AreTakenAt told count failed held door
 
--- links came with these sources and sinks, none of which has failed
+-- links came with these sources and sinks; none of them had failed, and nothing is written to the sinks
 pub record AreTakenFresh (told : Option (List (List ℕ))) (count : ℕ) (sources : List SourceTold) (links : LinksTold) : Type 0 where
   pub taken : AreTakenBy told count links.failed (map (λ s. s.left) sources) links.door
-  pub unread : All (λ s. s.faults ≡ 0) sources
+  pub sources_unfailed : All (λ s. s.faults ≡ 0) sources
   pub each : length links.sinks ≡ length sources
-  pub unwritten : All (λ s. s.faults ≡ 0) links.sinks
+  pub sinks_unfailed : All (λ s. s.faults ≡ 0) links.sinks
+  pub unwritten : All (λ s. HasNone s.written) links.sinks
 
 -- the reader of a link is given its source, and a verifier of the helper where that could be made
 pub record IsLinkGiven (before : Told) (helper : List ℕ) (source : SourceTold) (given : Given) : Type 0 where

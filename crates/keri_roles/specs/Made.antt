@@ -3,6 +3,7 @@ use Rattle.std.specs.Prelude.{◌≡◌, ℕ, ◌⊎◌, Bool, true, false, List
 use Rattle.std.specs.List.{list_any, list_all}
 use Rattle.std.specs.declared.option.Option.{Option}
 use Rattle.std.specs.declared.option.Option.TheVariants.{None, Some}
+use Rattle.keri_specs.specs.Causes.{Rose}
 use Rattle.keri_specs.specs.Told.{HasNone}
 use Rattle.cesr_codes.specs.declared.key.Key.{Key}
 use Rattle.cesr_codes.specs.declared.sig.Sig.{Sig}
@@ -30,7 +31,8 @@ use Rattle.reader_threads.specs.Given.{Given}
 use Rattle.reader_threads.specs.declared.last_round.LastRound.{LastRound}
 use Rattle.reader_threads.specs.declared.last_round.LastRound.TheVariants.{NoneFailed, VerifierFailed, OutOfMemory as NoMemory}
 use Rattle.reader_threads.specs.declared.providers.Providers.{Providers}
-use Rattle.keri_roles.specs.CoreTold.{IsGiven, IsToldBy, core_of, fails_last}
+use Rattle.keri_roles.specs.Closes.{is_through}
+use Rattle.keri_roles.specs.CoreTold.{HasBoth, IsGiven, IsToldBy, core_of, fails_last}
 use Rattle.keri_roles.specs.NoJournal.{no_journal}
 use Rattle.run_outside.specs.Makings.{AreMakings}
 use Rattle.keri_roles.specs.Run.{SignerTold, Work}
@@ -81,19 +83,6 @@ is_out DiskFault = false
 is_out WriteFault = false
 is_out (Malformed place) = false
 is_out Full = false
-
--- the reader came to the end of what it read
-abbrev pub is_through : Close → Bool
-is_through End = true
-is_through (Bad bad) = true
-is_through ReadFault = false
-is_through VerifierFault = false
-is_through SignerClose = false
-is_through DiskFault = false
-is_through WriteFault = false
-is_through (Malformed place) = false
-is_through Full = false
-is_through OutOfMemory = false
 
 -- what an answer writes: the message, or the line of why there is none; and nothing where the signer failed
 abbrev pub written : PlanAnswer → List ℕ
@@ -192,11 +181,13 @@ last_close VerifierFailed = VerifierFault
 last_close NoMemory = OutOfMemory
 
 -- Behind a log: the makings are the plan's source, the log's source, the verifier and the signer, and the journal was told by
--- the log's reader, of the number 0. Where its verifier failed in the last round, no message is due either.
+-- the log's reader, of the number 0, which has its source and its verifier where no making failed. Where its verifier failed in the last
+-- round, no message is due either.
 pub record IsMadeBehind (helper plan log : List ℕ) (work : Work) : Type 0 where
   pub plan_reader : Reader
   pub log_reader : Reader
   pub two : work.readers ≡ plan_reader ∷ log_reader ∷ []
+  pub there : (Rose work.before.faults work.after.faults → ⊥) → HasBoth log_reader
   pub text : List ℕ
   pub reads : ReadsWhole work.before.limits.stream_bytes (work.before.holds plan) plan_reader text
   pub given : Given

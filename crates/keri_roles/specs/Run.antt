@@ -15,7 +15,7 @@ use Rattle.journal.specs.declared.journal.Journal.{Journal}
 use Rattle.run_status.specs.declared.close.Close.{Close}
 use Rattle.run_status.specs.declared.close.Close.TheVariants.{ReadFault, VerifierFault, SignerFault, DiskFault, WriteFault, OutOfMemory}
 use Rattle.run_status.specs.declared.besides.Besides.{Besides}
-use Rattle.run_status.specs.Readers.{HasClose, Reader, SinkTold}
+use Rattle.run_status.specs.Readers.{HasClose, Reader, SinkTold, VerifierTold}
 use Rattle.run_status.specs.Settling.{FaultsHaveCauses, SettlesBy}
 use Rattle.keri_roles.specs.declared.outcome.Outcome.{Outcome}
 
@@ -53,7 +53,8 @@ pub record Work : Type 0 where
   pub besides : Besides
 
 -- What a run did: its disk is that of a shelf, and the old one that of a shelf whose list was brought over, where it made them. Where it
--- read links, it has the door, where that was made, and the links' sinks, in order.
+-- read links, it has the door, where that was made, and the links' sinks, in order. The second journal is that of the second file of
+-- `blame`.
 pub record Run : Type 0 where
   pub before : Told
   pub after : Told
@@ -66,6 +67,7 @@ pub record Run : Type 0 where
   pub door : Option DoorTold
   pub sinks : List SinkTold
   pub journal : Journal
+  pub second : Option Journal
   pub status : ℕ
 
 -- no door was made, and no link came
@@ -187,15 +189,21 @@ abbrev pub SinkFails : Option Asked → Run → Type 0
 SinkFails (Some (witness helper key shelf from (links address count))) run = SinkRose run.sinks
 SinkFails _ run = Rose run.sink_before.faults run.sink_after.faults
 
--- The readers of a witness's links share the one verifier of the first of them. Each closes by a fault of its source only where the
--- count of that rose from zero, and by one of the verifier only where the count of that did, or where it couldn't be made.
+-- the one verifier that the readers of a witness's links share, which stands in the first of them, where it could be made
+abbrev pub shared_verifier : List Reader → Option VerifierTold
+shared_verifier [] = None
+shared_verifier (reader ∷ readers) = reader.verifier
+
+-- each reader closed by a fault of its source only where the count of that rose from zero
 abbrev pub ReadFaultsRose : List Reader → Type 0
 ReadFaultsRose [] = Unit {0}
 ReadFaultsRose (reader ∷ readers) = (reader.close ≡ ReadFault → IsSomeAnd reader.source (λ s. Rose 0 s.faults)) × ReadFaultsRose readers
 
+-- The readers of a witness's links share one verifier. Each closes by a fault of its own source, or by one of the verifier, whose count
+-- rose from zero then, or which couldn't be made, and the count of the outside rose.
 pub record AreCausedTogether (run : Run) : Type 0 where
   pub sources : ReadFaultsRose run.readers
-  pub verifier : HasClose VerifierFault run.readers → VerifierRose run.readers ⊎ Rose run.before.faults run.after.faults
+  pub verifier : HasClose VerifierFault run.readers → MatchOption (shared_verifier run.readers) (Rose run.before.faults run.after.faults) (λ v. Rose 0 v.faults)
 
 abbrev pub AreCausedBy : Option Asked → Run → Type 0
 AreCausedBy (Some (witness helper key shelf from (links address count))) run = AreCausedTogether run
@@ -213,6 +221,11 @@ pub record HasCauses (asked : Option Asked) (run : Run) : Type 0 where
   pub sink : HasClose WriteFault run.readers → SinkFails asked run
   pub shelf : besides.shelf_full ≡ true → ReadsShelf asked
   pub readers : AreCausedBy asked run
+
+-- `blame` alone hands back a second journal
+abbrev pub HasNoSecond : Option Asked → Option Journal → Type 0
+HasNoSecond (Some (blame helper first second)) back = Unit {0}
+HasNoSecond _ back = back ≡ None
 
 -- the words of a run ask for this, where they are in the form
 abbrev pub asked_in : {Z : Type 0} → List (String Z) → Option Asked

@@ -83,5 +83,6 @@ module _ {O S V : Type 0} (left : S → Option (List ℕ)) (faults : S → ℕ) 
         door = door_seen door_left door_faults done.door;
         sinks = sinks_seen link_written link_faults done.sinks.items;
         journal = done.journal;
+        second = done.second;
         status = done.status;
       }

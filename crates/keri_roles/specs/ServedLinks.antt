@@ -1,8 +1,9 @@
 -- What becomes of links that a witness is to serve, one after another.
-use Rattle.std.specs.Prelude.{◌≡◌, ℕ, ◌≤◌, ◌⊎◌, Bool, false, true, List, [], ◌∷◌, length, map, IfSome}
+use Rattle.std.specs.Prelude.{◌≡◌, ℕ, ◌≤◌, ◌⊎◌, Bool, false, true, List, [], ◌∷◌, ◌++◌, length, map, All, IfSome}
 use Rattle.std.specs.List.{list_all}
 use Rattle.std.specs.declared.option.Option.{Option}
 use Rattle.std.specs.declared.option.Option.TheVariants.{None, Some}
+use Rattle.keri_specs.specs.Told.{HasNone}
 use Rattle.cesr_codes.specs.declared.digest.Digest.{Digest}
 use Rattle.cesr_codes.specs.declared.key.Key.{Key}
 use Rattle.cesr_codes.specs.declared.sig.Sig.{Sig}
@@ -15,7 +16,12 @@ use Rattle.run_status.specs.declared.close.Close.{Close}
 use Rattle.run_status.specs.declared.close.Close.TheVariants.{End, Bad, ReadFault, VerifierFault, SignerFault, DiskFault, WriteFault, Malformed, Full, OutOfMemory}
 use Rattle.run_status.specs.Readers.{Reader, SinkTold, SourceTold, VerifierTold}
 use Rattle.run_status.specs.Status.{nothing_besides}
+use Rattle.witness_core.specs.Storing.{StoresOn}
+use Rattle.witness_core.specs.declared.receipt.Receipt.{Receipt}
+use Rattle.witness_link.specs.Calls.{receipts_in}
+use Rattle.witness_link.specs.Links.{Terms}
 use Rattle.witness_link.specs.Served.{ServesLink}
+use Rattle.witness_link.specs.Stored.{HoldsEach, IsLawfulList, IsOfStored}
 use Rattle.keri_roles.specs.Run.{DoorTold, Run, SignerTold}
 use Rattle.keri_roles.specs.ServedFile.{EndsWith, Left, MakesServing, at_link}
 
@@ -67,10 +73,11 @@ pub record AreEnough (count : ℕ) (links : List ServedLink) (failed : Bool) (le
   pub no_more : length links ≤ count
   pub no_fewer : IsEnough count (length links) failed left ⊎ (list_all (λ l. goes_on l.close) links ≡ false)
 
--- what is read and written was fresh: nothing of it had failed
+-- a link came fresh: neither its source nor its sink had failed, and nothing was written to it
 pub record IsFresh (link : ServedLink) : Type 0 where
-  pub unread : link.source_old.faults ≡ 0
-  pub unwritten : link.sink_old.faults ≡ 0
+  pub source_unfailed : link.source_old.faults ≡ 0
+  pub sink_unfailed : link.sink_old.faults ≡ 0
+  pub unwritten : HasNone link.sink_old.written
 
 module _ {D : Type 0} (told : D → DiskTold) (key : Key) (limits run_limits : Limits) (says : Key → List ℕ → Sig → Option Bool) (gives : Key → List ℕ → Option Sig) where
   -- a link was served, as the witness stood before it
@@ -94,10 +101,34 @@ module _ {D : Type 0} (told : D → DiskTold) (key : Key) (limits run_limits : L
   ServesEach [] old new = new ≡ old
   ServesEach (link ∷ links) old new = (mid : Between D) × ServesOne link old mid × (goes_on link.close ≡ false → links ≡ []) × ServesEach links mid new
 
-  -- The links that came at a door were served, and so many are enough. These are their readers and their sinks, in order.
+  -- what the witness goes by at each link
+  abbrev pub link_terms : Terms
+  link_terms = record { says = says; gives = gives; key = key; limits = limits }
+
+  -- the receipts that were due at links, in order
+  abbrev pub receipts_due : (links : List ServedLink) (old new : Between D) → ServesEach links old new → List Receipt
+  receipts_due [] old new each = []
+  receipts_due (link ∷ links) old new each = receipts_in each.1.serves.serves.calls ++ receipts_due links each.0 new each.3
+
+  -- A stop at any moment leaves what was stored before the first link, and the first few of what was accepted since, none skipped,
+  -- which is lawful. Behind the last link the list, and each image, has the event of each receipt.
+  pub record StoresThrough (receipts : List Receipt) (old new : Left D) : Type 0 where
+    pub stores : StoresOn old.list (told old.disk) new.core new.list (told new.disk)
+    pub lawful : IsLawfulList stores.accepted
+    pub of_stored : All (IsOfStored link_terms new.list) receipts
+    pub held : (c : List ℕ) → (told new.disk).images c → HoldsEach link_terms receipts c
+
+  -- so it is through all links; where none came the witness is as it was
+  abbrev pub StopsLeave : (links : List ServedLink) (old new : Between D) → ServesEach links old new → Type 0
+  StopsLeave [] old new each = Unit {0}
+  StopsLeave (link ∷ links) old new each = StoresThrough (receipts_due (link ∷ links) old new each) old.left new.left
+
+  -- The links that came at a door were served, and so many are enough. These are their readers and their sinks, in order, and what a
+  -- stop leaves through all of them.
   pub record ServesComing (count : ℕ) (failed : Bool) (door_old door : DoorTold) (old new : Between D) (readers : List Reader) (sinks : List SinkTold) : Type 0 where
     pub links : List ServedLink
     pub serves : ServesEach links old new
+    pub stops : StopsLeave links old new serves
     pub came : AreTaken door_old.left door.left (map (λ l. l.source_old.left) links)
     pub enough : AreEnough count links failed door.left
     pub cause : IsCaused failed door_old.faults door.faults

@@ -1,5 +1,5 @@
 //! `blame --helper HELPER FILE FILE`: says which witnesses signed two different events of one number.
-ghost use Rattle.std.specs.Prelude.{◌≡◌, ◌<◌, ◌∷◌, ◌||◌, [], None, false, IfOk, IfSome, OnErr};
+ghost use Rattle.std.specs.Prelude.{◌≡◌, ◌<◌, ◌∷◌, ◌||◌, [], None, Some, false, IfOk, IfSome, OnErr};
 ghost use Rattle.std.specs.Vec.{vec_capacity};
 ghost use Rattle.journal.specs.declared.mode.Mode.TheVariants.{Full};
 ghost use Rattle.keri_roles.specs.Blamed.{HadRoom, IsBlamedBy, IsBlamesText};
@@ -7,7 +7,7 @@ ghost use Rattle.keri_roles.specs.CoreTold.{AreProvided, fails_last};
 
 use crate::last_round::verifier_failed;
 use crate::one_seat::{OneSeat, ReadAlone};
-use crate::outcome::Outcome;
+use crate::outcome::{Outcome, RivalOutcome};
 use crate::providers::provide;
 use crate::works::Works;
 use crate::{Close, ReaderEnd};
@@ -51,11 +51,11 @@ pub(crate) fn blame_files<R: Threads + Wait + Sync, O: Outside>(
     words: BlameWords<'_>,
     room: Vec<ReaderEnd<O::Source, O::Verifier>>,
     outside: &mut O,
-) -> Result<Outcome<O::Source, O::Verifier>, AllocError>
+) -> Result<RivalOutcome<O::Source, O::Verifier>, AllocError>
     requires none_yet { room.items ≡ [] }
     requires room { 1 < vec_capacity room }
-    ensures blamed { IfOk result (λ outcome. IsBlamedBy words.entry
-        (⟦<O as Works>⟧.work outside.old outside.new outcome)) }
+    ensures blamed { IfOk result (λ rival. IsBlamedBy words.entry (Some rival.second)
+        (⟦<O as Works>⟧.work outside.old outside.new rival.outcome)) }
     ensures none_made { OnErr result (O.told outside.new ≡ O.told outside.old) }
     ensures sink { O.sink outside.new ≡ O.sink outside.old }
 {
@@ -73,14 +73,19 @@ pub(crate) fn blame_files<R: Threads + Wait + Sync, O: Outside>(
     };
     let ReadAlone { core, reader, .. } = one;
     let ReadAlone {
+        core: other_core,
         reader: other_reader,
         ..
     } = other;
-    Ok(Outcome {
+    let outcome = Outcome {
         readers: both_in(room, reader, other_reader),
         journal: core.into_journal(),
         owed,
         besides,
+    };
+    Ok(RivalOutcome {
+        outcome,
+        second: other_core.into_journal(),
     })
 }
 

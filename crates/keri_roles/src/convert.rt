@@ -34,6 +34,7 @@ pub(crate) fn convert<O: Outside>(
     requires none_yet { readers.items ≡ [] }
     requires room { 0 < vec_capacity readers }
     ensures converted { IsConverted domain name.now (⟦<O as Runs>⟧.run outside.old outside.new result) }
+    ensures no_second { result.second ≡ None }
 {
     let mut readers = readers;
     let limits = outside.limits();
@@ -55,6 +56,7 @@ pub(crate) fn convert<O: Outside>(
         old: None,
         door: None,
         sinks: Vec::new(alloc),
+        second: None,
     }
 }
 

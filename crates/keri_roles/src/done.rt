@@ -9,11 +9,12 @@ use run_outside::Outside;
 pub(crate) const NO_MEMORY: u8 = 10;
 
 /// The status of a run, what was told in it, its readers in order, its signer, its disk, the disk of an old shelf and its
-/// door, where it made them, and the sinks of the links that it read.
+/// door, where it made them, and the sinks of the links that it read. `blame` alone has a second journal, of its second file.
 #[derive(Drop)]
 pub struct Done<O: Outside> {
     pub status: u8,
     pub journal: Journal,
+    pub second: Option<Journal>,
     pub readers: Vec<ReaderEnd<O::Source, O::Verifier>>,
     pub signer: Option<O::Signer>,
     pub disk: Option<O::Disk>,

@@ -10,7 +10,7 @@ use crate::over_core::{FileWords, over_core};
 use crate::watch::some_found_no_memory;
 use crate::works::Works;
 use cesr_codes::Prefix;
-use export_core::{Exported, export_text};
+use export_core::{Exported, export};
 use journal::Mode;
 use keri_outside::{Source, Verifier};
 use reader_threads::LastRound;
@@ -51,7 +51,7 @@ impl CoreText for Export {
         if rest == LastRound::OutOfMemory || some_found_no_memory(readers) {
             return Err(AllocError);
         }
-        let found = export_text(alloc, core, &self.prefix)?;
+        let found = export(alloc, core, &self.prefix)?;
         match found {
             Some(exported) => Ok(text_in(exported)),
             None => unknown(alloc),

@@ -1,6 +1,7 @@
 //! Links that a witness serves, one after another.
 ghost use Rattle.std.specs.Prelude.{◌≡◌, ◌≤◌, [], false, true, map};
 ghost use Rattle.std.specs.Vec.{vec_capacity};
+ghost use Rattle.keri_specs.specs.Told.{HasNone};
 ghost use Rattle.run_status.specs.Readers.{reader_seen, sink_seen};
 ghost use Rattle.keri_roles.specs.Seen.{door_told};
 ghost use Rattle.keri_roles.specs.ServedLinks.{IsServed, ServesComing, goes_on as goes_on_by};
@@ -86,8 +87,9 @@ fn serve_one<S: Source, K: Sink, D: Disk + Drop, V: Verifier, G: Signer>(
     limits: Limits,
 ) -> Served<S, V, K>
     requires whole { witness.old.broken ≡ false }
-    requires unread { S.faults caller.source ≡ 0 }
-    requires unwritten { K.faults caller.sink ≡ 0 }
+    requires source_unfailed { S.faults caller.source ≡ 0 }
+    requires sink_unfailed { K.faults caller.sink ≡ 0 }
+    requires unwritten { HasNone (K.written caller.sink) }
     ensures serves { IsServed D.told witness.old.key witness.old.limits limits (V.says verifier.old) (G.gives signer.old)
         (S.left caller.source) (reader_seen S.left S.faults V.says V.inquiries V.faults result.reader)
         (sink_seen K.written K.faults result.sink)

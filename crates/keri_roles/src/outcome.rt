@@ -21,6 +21,13 @@ pub(crate) struct SignedOutcome<S, V, G> {
     pub(crate) signer: Option<G>,
 }
 
+/// An outcome of two cores, with the journal of the second.
+#[derive(Drop)]
+pub(crate) struct RivalOutcome<S, V> {
+    pub(crate) outcome: Outcome<S, V>,
+    pub(crate) second: Journal,
+}
+
 /// An outcome of readers of links, the door, where it was made, and the links' sinks, in order.
 #[derive(Drop)]
 pub(crate) struct LinkedOutcome<S, V, D, K> {

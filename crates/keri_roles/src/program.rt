@@ -5,7 +5,7 @@ ghost use Rattle.command_words.specs.Inputs.{AreFew, AreInForm, inputs_by};
 ghost use Rattle.command_words.specs.Words as asks_for;
 ghost use Rattle.command_words.specs.Words.{IsInForm, asked_by};
 ghost use Rattle.keri_roles.specs.Commands.{CarriesOut, IsRunOf, IsWritten, RefusesWords};
-ghost use Rattle.keri_roles.specs.Run.{HasCauses, IsSettled, asked_in};
+ghost use Rattle.keri_roles.specs.Run.{HasCauses, HasNoSecond, IsSettled, asked_in};
 ghost use Rattle.keri_roles.specs.NoJournal.{no_journal};
 
 use crate::blame::{BlameWords, blame_files};
@@ -16,7 +16,7 @@ use crate::export::export_files;
 use crate::generate::{StreamPlan, generate};
 use crate::make::{MakeWords, make};
 use crate::nothing_told::nothing_told;
-use crate::outcome::{LinkedOutcome, Outcome, SignedOutcome};
+use crate::outcome::{LinkedOutcome, Outcome, RivalOutcome, SignedOutcome};
 use crate::over_core::FileWords;
 use crate::over_links::LinkWords;
 use crate::rehearse::rehearse;
@@ -50,6 +50,9 @@ pub fn run<R: Threads + Wait + Sync, O: Runs>(
 
     // Each fault that is answered has its cause.
     ensures causes { HasCauses (asked_in words.now.items) (O.run outside.old outside.new result) }
+
+    // `blame` alone has a second journal.
+    ensures second { HasNoSecond (asked_in words.now.items) result.second }
 {
     answer(rt, alloc, words, outside)
 }
@@ -63,6 +66,7 @@ fn answer<R: Threads + Wait + Sync, O: Outside>(
 ) -> Done<O>
     ensures answered { IsRunOf O.Disk.told result.disk result.old (asked_in words.now.items)
         (⟦<O as Runs>⟧.run outside.old outside.new result) }
+    ensures second { HasNoSecond (asked_in words.now.items) result.second }
 {
     let command = match command_of(alloc, words.as_slice()) {
         Ok(Some(command)) => command,
@@ -85,6 +89,7 @@ fn carry_out<R: Threads + Wait + Sync, O: Outside>(
     requires in_form { IsInForm command }
     ensures does { IfOk result (λ done. CarriesOut O.Disk.told done.disk done.old (Some (asked_by command.entry))
         (⟦<O as Runs>⟧.run outside.old outside.new done)) }
+    ensures second { IfOk result (λ done. HasNoSecond (Some (asked_by command.entry)) done.second) }
     ensures none_made { OnErr result (O.told outside.new ≡ O.told outside.old) }
     ensures none_written { OnErr result (O.sink outside.new ≡ O.sink outside.old) }
 {
@@ -130,8 +135,8 @@ fn carry_out<R: Threads + Wait + Sync, O: Outside>(
                 first,
                 second,
             };
-            let outcome = blame_files(rt, alloc, words, room(alloc)?, outside)?;
-            Ok(finish(alloc, unsigned(outcome), outside))
+            let rival = blame_files(rt, alloc, words, room(alloc)?, outside)?;
+            Ok(finish_rival(alloc, rival, outside))
         }
         Command::Make { helper, plan, log } => {
             let words = MakeWords { helper, plan, log };
@@ -166,6 +171,7 @@ fn carry_validate<R: Threads + Wait + Sync, O: Outside>(
     ensures does { IfOk result (λ done. CarriesOut O.Disk.told done.disk done.old
         (Some (asks_for.validate helper.now (inputs_by (λ files. map (λ f. f.now) files.items) inputs.entry)))
         (⟦<O as Runs>⟧.run outside.old outside.new done)) }
+    ensures no_second { IfOk result (λ done. done.second ≡ None) }
     ensures none_made { OnErr result (O.told outside.new ≡ O.told outside.old) }
     ensures none_written { OnErr result (O.sink outside.new ≡ O.sink outside.old) }
 {
@@ -199,6 +205,7 @@ fn carry_watch<R: Threads + Wait + Sync, O: Outside>(
     ensures does { IfOk result (λ done. CarriesOut O.Disk.told done.disk done.old
         (Some (asks_for.watch helper.now (inputs_by (λ files. map (λ f. f.now) files.items) inputs.entry)))
         (⟦<O as Runs>⟧.run outside.old outside.new done)) }
+    ensures no_second { IfOk result (λ done. done.second ≡ None) }
     ensures none_made { OnErr result (O.told outside.new ≡ O.told outside.old) }
     ensures none_written { OnErr result (O.sink outside.new ≡ O.sink outside.old) }
 {
@@ -251,6 +258,7 @@ fn finish<O: Outside>(
     ensures no_old { result.old ≡ None }
     ensures no_door { result.door ≡ None }
     ensures no_sinks { result.sinks.items ≡ [] }
+    ensures no_second { result.second ≡ None }
     ensures settles { IsSettled outcome.outcome (⟦<O as Runs>⟧.run outside.old outside.new result) }
     ensures told { O.told outside.new ≡ O.told outside.old }
 {
@@ -271,6 +279,31 @@ fn finish<O: Outside>(
         old: None,
         door: None,
         sinks: Vec::new(alloc),
+        second: None,
+    }
+}
+
+// The same of two cores.
+fn finish_rival<O: Outside>(
+    alloc: Global,
+    rival: RivalOutcome<O::Source, O::Verifier>,
+    outside: &mut O,
+) -> Done<O>
+    ensures readers { result.readers ≡ rival.outcome.readers }
+    ensures journal { result.journal ≡ rival.outcome.journal }
+    ensures second { result.second ≡ Some rival.second }
+    ensures signer { result.signer ≡ None }
+    ensures no_disk { result.disk ≡ None }
+    ensures no_old { result.old ≡ None }
+    ensures no_door { result.door ≡ None }
+    ensures no_sinks { result.sinks.items ≡ [] }
+    ensures settles { IsSettled rival.outcome (⟦<O as Runs>⟧.run outside.old outside.new result) }
+    ensures told { O.told outside.new ≡ O.told outside.old }
+{
+    let RivalOutcome { outcome, second } = rival;
+    Done {
+        second: Some(second),
+        ..finish(alloc, unsigned(outcome), outside)
     }
 }
 
@@ -287,6 +320,7 @@ fn finish_links<O: Outside>(
     ensures no_old { result.old ≡ None }
     ensures door { result.door ≡ linked.door }
     ensures sinks { result.sinks ≡ linked.sinks }
+    ensures no_second { result.second ≡ None }
     ensures settles { IsSettled linked.outcome (⟦<O as Runs>⟧.run outside.old outside.new result) }
     ensures told { O.told outside.new ≡ O.told outside.old }
 {
@@ -322,6 +356,7 @@ fn unbegun<O: Outside>(alloc: Global) -> Done<O>
     ensures no_old { result.old ≡ None }
     ensures no_door { result.door ≡ None }
     ensures no_sinks { result.sinks.items ≡ [] }
+    ensures no_second { result.second ≡ None }
 {
     Done {
         status: NO_MEMORY,
@@ -332,12 +367,14 @@ fn unbegun<O: Outside>(alloc: Global) -> Done<O>
         old: None,
         door: None,
         sinks: Vec::new(alloc),
+        second: None,
     }
 }
 
 // Says that the words aren't in the form.
 fn refuse<O: Outside>(alloc: Global, outside: &mut O) -> Done<O>
     ensures answered { IsWritten RefusesWords (⟦<O as Runs>⟧.run outside.old outside.new result) }
+    ensures no_second { result.second ≡ None }
 {
     let besides = Besides {
         words_refused: true,
@@ -354,5 +391,6 @@ fn refuse<O: Outside>(alloc: Global, outside: &mut O) -> Done<O>
         old: None,
         door: None,
         sinks: Vec::new(alloc),
+        second: None,
     }
 }

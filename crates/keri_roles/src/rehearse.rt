@@ -24,6 +24,7 @@ pub(crate) fn rehearse<O: Outside>(
     requires none_yet { readers.items ≡ [] }
     requires room { 0 < vec_capacity readers }
     ensures rehearsed { IsRehearsed (⟦<O as Runs>⟧.run outside.old outside.new result) }
+    ensures no_second { result.second ≡ None }
 {
     let mut readers = readers;
     let limits = outside.limits();
@@ -45,6 +46,7 @@ pub(crate) fn rehearse<O: Outside>(
         old: None,
         door: None,
         sinks: Vec::new(alloc),
+        second: None,
     }
 }
 

@@ -27,6 +27,7 @@ pub(crate) fn unread<O: Outside>(
     ensures old { result.old ≡ old }
     ensures door { result.door ≡ None }
     ensures sinks { result.sinks.items ≡ [] }
+    ensures no_second { result.second ≡ None }
     ensures settles { Settles (option_map string_bytes line) besides
         (⟦<O as Runs>⟧.run outside.old outside.new result) }
     ensures told { O.told outside.new ≡ O.told outside.old }
@@ -41,6 +42,7 @@ pub(crate) fn unread<O: Outside>(
         old,
         door: None,
         sinks: Vec::new(alloc),
+        second: None,
     }
 }
 

@@ -46,6 +46,7 @@ pub(crate) fn witness<O: Outside>(
     requires fixed { words.prefix.code ≡ Fixed }
     ensures witnessed { IsWitnessedBy O.Disk.told result.disk result.old words.entry
         (⟦<O as Runs>⟧.run outside.old outside.new result) }
+    ensures no_second { result.second ≡ None }
 {
     let limits = outside.limits();
     match open_shelf(alloc, words.shelf, words.from, limits, outside) {
@@ -64,6 +65,7 @@ fn unopened<O: Outside>(
     requires none_yet { readers.items ≡ [] }
     ensures disk { result.disk ≡ none.disk }
     ensures old { result.old ≡ none.old }
+    ensures no_second { result.second ≡ None }
     ensures unopened { IsUnopened none.fault (⟦<O as Runs>⟧.run outside.old outside.new result) }
     ensures told { O.told outside.new ≡ O.told outside.old }
 {
@@ -87,6 +89,7 @@ fn start<O: Outside>(
     requires limits { opened.shelf.limits ≡ limits }
     requires whole { opened.shelf.broken ≡ false }
     ensures old { result.old ≡ opened.old }
+    ensures no_second { result.second ≡ None }
     ensures starts { StartsOver O.Disk.told result.disk words.entry.helper.now words.entry.prefix
         (inputs_by (λ name. name.now) words.entry.input) limits opened.shelf.disk opened.shelf.list
         (⟦<O as Runs>⟧.run outside.old outside.new result) }
@@ -146,6 +149,7 @@ fn serve<O: Outside>(
     requires one { 0 < vec_capacity kept.readers }
     requires whole { witness.broken ≡ false }
     ensures old { result.old ≡ old }
+    ensures no_second { result.second ≡ None }
     ensures serves { ServesInput O.Disk.told witness.key witness.limits helper.now (inputs_by (λ name. name.now) input.entry)
         (record { core = witness.core; list = witness.shelf.list; broken = witness.broken; disk = witness.shelf.disk })
         result.disk (⟦<O as Runs>⟧.run outside.old outside.new result) }
@@ -167,6 +171,7 @@ fn unstarted<O: Outside>(
     requires none_yet { readers.items ≡ [] }
     ensures disk { result.disk ≡ Some none.shelf.disk }
     ensures old { result.old ≡ old }
+    ensures no_second { result.second ≡ None }
     ensures unread { IsUnread (none.fault ≡ OutOfMemory) (start_text none.fault) (start_found none.fault)
         (⟦<O as Runs>⟧.run outside.old outside.new result) }
     ensures told { O.told outside.new ≡ O.told outside.old }

@@ -32,6 +32,7 @@ pub(crate) fn end<O: Outside>(
     ensures old { result.old ≡ old }
     ensures door { result.door ≡ links.door }
     ensures sinks { result.sinks ≡ links.sinks }
+    ensures no_second { result.second ≡ None }
 {
     let DoorEnd {
         door,
@@ -49,6 +50,7 @@ pub(crate) fn end<O: Outside>(
         old,
         door,
         sinks,
+        second: None,
     }
 }
 
@@ -72,6 +74,7 @@ pub(crate) fn end_one<O: Outside>(
     ensures old { result.old ≡ old }
     ensures door { result.door ≡ links.door }
     ensures sinks { result.sinks ≡ links.sinks }
+    ensures no_second { result.second ≡ None }
 {
     let mut readers = readers;
     readers.push_reserved(reader);

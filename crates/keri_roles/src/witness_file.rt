@@ -31,6 +31,7 @@ pub(crate) fn serve_file<O: Outside>(
     requires room { 0 < vec_capacity readers }
     requires whole { witness.broken ≡ false }
     ensures old { result.old ≡ old }
+    ensures no_second { result.second ≡ None }
     ensures serves { IsServing O.Disk.told witness.key witness.limits helper.now name.now
         (record { core = witness.core; list = witness.shelf.list; broken = witness.broken; disk = witness.shelf.disk })
         result.disk (⟦<O as Runs>⟧.run outside.old outside.new result) }
@@ -67,6 +68,7 @@ fn serve_made<O: Outside>(
     requires room { 0 < vec_capacity readers }
     requires whole { witness.broken ≡ false }
     ensures old { result.old ≡ old }
+    ensures no_second { result.second ≡ None }
     ensures serves { ServesAll O.Disk.told witness.key witness.limits
         (source_told (O.Source.left source) (O.Source.faults source)) (O.Verifier.says verifier) (O.Verifier.faults verifier)
         (O.Signer.gives signer) (O.Signer.faults signer)

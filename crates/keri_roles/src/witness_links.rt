@@ -33,6 +33,7 @@ pub(crate) fn serve_links<O: Outside>(
     requires one { 0 < vec_capacity kept.readers }
     requires whole { witness.broken ≡ false }
     ensures old { result.old ≡ old }
+    ensures no_second { result.second ≡ None }
     ensures serves { IsServingLinks O.Disk.told witness.key witness.limits helper.now links.entry.address.now links.entry.count
         (record { core = witness.core; list = witness.shelf.list; broken = witness.broken; disk = witness.shelf.disk })
         result.disk (⟦<O as Runs>⟧.run outside.old outside.new result) }
@@ -112,6 +113,7 @@ fn serve_made<O: Outside>(
     requires one { 0 < vec_capacity kept.readers }
     requires whole { witness.broken ≡ false }
     ensures old { result.old ≡ old }
+    ensures no_second { result.second ≡ None }
     ensures serves { (before after : O) → ServesAllLinks O.Disk.told witness.key witness.limits limits
         (O.Verifier.says verifier) (O.Signer.gives signer) count (door_told O.Door.left O.Door.faults door)
         (record {

@@ -4,3 +4,4 @@ pub mod WitnessLists
 pub mod NoMisfit
 pub mod Behind
 pub mod Numbers
+pub mod Among

@@ -15,3 +15,4 @@ pub mod ReadFor
 pub mod ThresholdValues
 pub mod Plain
 pub mod OwnValues
+pub mod More

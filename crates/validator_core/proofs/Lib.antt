@@ -22,3 +22,4 @@ pub mod Bases
 pub mod GoodSignatures
 pub mod Under
 pub mod OpenQuestions
+pub mod Confluent

@@ -7,6 +7,7 @@ pub mod Tables
 pub mod Calls
 pub mod Inside
 pub mod Views
+pub mod Confluent
 pub mod Base
 pub mod Signatures
 pub mod Verdicts

@@ -6,7 +6,7 @@ mod accepted_events;
 mod asked_verdicts;
 mod base;
 mod claims;
-mod crossing;
+mod core_send;
 mod judgement;
 mod messages;
 mod open_questions;
@@ -19,6 +19,6 @@ mod whole_entries;
 
 pub use asked_verdicts::VerdictFault;
 pub use claims::claims_of;
-pub use crossing::core_is_send;
+pub use core_send::core_is_send;
 pub use judgement::judge_message;
 pub use validator::Core;

@@ -3,6 +3,8 @@ ghost use Rattle.std.specs.Prelude.{◌≡◌, ◌≤◌, ◌<◌, [], All, IfSo
 ghost use Rattle.std.specs.Option.{option_map};
 ghost use Rattle.core_tables.specs.Hints.{IsEscrow};
 ghost use Rattle.journal.specs.Journals.{chosen};
+ghost use Rattle.journal.specs.Logs as logs;
+ghost use Rattle.validator_core.specs.Confluent.{IsSoInAlike};
 ghost use Rattle.validator_core.specs.View.{Stands, accepted_by, state_of, waits_for};
 
 use crate::tally::Tally;
@@ -121,9 +123,13 @@ impl Core {
         self.tables.log().numbers()
     }
 
-    /// The state of an identifier, where it has an accepted event. It takes no memory.
+    /// The state of an identifier, where it has an accepted event. In whatever order, how often and by however many
+    /// readers the same messages came: where no question is open, and no two different events have one identifier
+    /// and number, the state is the same. It takes no memory.
     pub fn state(&self, prefix: &Prefix) -> Option<&KeyState>
-        ensures { option_map (λ state. state.now) result ≡ state_of self.now prefix.now }
+        ensures state { option_map (λ state. state.now) result ≡ state_of self.now prefix.now }
+        ensures confluent { IsSoInAlike self.now (λ log. logs.state log prefix.now)
+            (option_map (λ state. state.now) result) }
     {
         self.tables.log().current(prefix)
     }

@@ -8,6 +8,7 @@ ghost use Rattle.journal.specs.Conflicts as conflicts;
 ghost use Rattle.journal.specs.Conflicts.{IsConflictList};
 ghost use Rattle.journal.specs.Journals.{NameConflicts, chosen};
 ghost use Rattle.journal.specs.Logs as logs;
+ghost use Rattle.validator_core.specs.Confluent.{IsSoInAlike};
 ghost use Rattle.validator_core.specs.View.{accepted_by, base_of, told_of};
 ghost use Rattle.validator_core.specs.Views.{IsPlaced};
 
@@ -22,11 +23,15 @@ use lists::{Items, length_u32};
 use std::alloc::{AllocError, Global};
 
 impl Core {
-    /// The numbers of the live events of an identifier, in order.
+    /// The numbers of the live events of an identifier, in order. In whatever order, how often and by however many
+    /// readers the same messages came: where no question is open, and no two different events have one identifier
+    /// and number, the log is the same.
     pub fn log(&self, prefix: &Prefix) -> Result<Vec<u32>, AllocError>
         ensures live { IfOk result (λ numbers. chosen self.now.held numbers.items
             ≡ logs.live (accepted_by self.now) prefix.now) }
         ensures held { IfOk result (λ numbers. All (λ n. n < length self.now.held) numbers.items) }
+        ensures confluent { IfOk result (λ numbers. IsSoInAlike self.now (λ log. logs.live log prefix.now)
+            (chosen self.now.held numbers.items)) }
     {
         live(
             self.alloc,

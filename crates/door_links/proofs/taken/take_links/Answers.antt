@@ -1,4 +1,5 @@
 use Rattle.std.proofs.Common.{◌≡◌, ◌++◌, ◌∷◌, [], rules}
+use Rattle.keri_specs.specs.Told.{HasNone}
 use Rattle.keri_outside.specs.declared.failed.Failed.{Failed}
 use Rattle.door_links.proofs.Coming.{all_more, taken_more}
 use Rattle.door_links.proofs.taken.take_links.Goals as goal
@@ -21,4 +22,5 @@ loop-door-preserved g c =
       same = search rules;
       sources = all_more (λ source. g.D.Source.Source.faults source ≡ 0) _ _ link.source sources old.sources (rw c.in-Ok-Some.field-0-is at came.source_none_yet);
       sinks = all_more (λ sink. g.D.Sink.Sink.faults sink ≡ 0) _ _ link.sink sinks old.sinks (rw c.in-Ok-Some.field-0-is at came.sink_none_yet);
+      unwritten = all_more (λ sink. HasNone (g.D.Sink.Sink.written sink)) _ _ link.sink sinks old.unwritten (rw c.in-Ok-Some.field-0-is at came.unwritten);
     }

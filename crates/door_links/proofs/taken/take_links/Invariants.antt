@@ -1,5 +1,6 @@
 use Rattle.std.specs.Prelude.{◌≡◌, ◌≤◌, ◌-◌, length, map, All, false}
 use Rattle.std.specs.Vec.{vec_capacity}
+use Rattle.keri_specs.specs.Told.{HasNone}
 use Rattle.door_links.specs.Taken.{AreTaken}
 use Rattle.door_links.proofs.taken.take_links.Given as goal
 
@@ -15,6 +16,7 @@ invariant-loop-door g l = record {
   same : g.D.Door.faults l.door ≡ g.D.Door.faults l.fn.door;
   sources : All (λ source. g.D.Source.Source.faults source ≡ 0) l.taken.sources.items;
   sinks : All (λ sink. g.D.Sink.Sink.faults sink ≡ 0) l.taken.sinks.items;
+  unwritten : All (λ sink. HasNone (g.D.Sink.Sink.written sink)) l.taken.sinks.items;
 }
 
 abbrev pub decreases-loop-door : goal.decreases-loop-door

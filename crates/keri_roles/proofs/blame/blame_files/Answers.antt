@@ -5,6 +5,7 @@ use Rattle.reader_threads.specs.Given.{Given, given_by}
 use Rattle.reader_threads.specs.Told.{AllTold}
 use Rattle.keri_roles.specs.CoreTold.{IsJournalOf}
 use Rattle.keri_roles.proofs.Blamed.{owes_blames}
+use Rattle.keri_roles.proofs.CompleteOver.{both_there}
 use Rattle.keri_roles.proofs.CoreTold.{is_told_by, journal_of, same_journal}
 use Rattle.keri_roles.proofs.blame.blame_files.Goals as goal
 
@@ -40,18 +41,25 @@ returns-clause-blamed g c =
     (c.read-other.ensures Full c.limits-limits.result c.in_ok-other_seat.ensures) in
     let gave = c.into_journal.ensures in
     let of : IsJournalOf one.core c.into_journal.result = record { bodies = gave.bodies; entries = gave.entries; stands = gave.stands } in
-    rw (c.both_in.ensures, same_journal one.core c.into_journal.result of) (record {
+    let gave_other = c.into_journal-2.ensures in
+    let of_other : IsJournalOf other.core c.into_journal-2.result = record { bodies = gave_other.bodies; entries = gave_other.entries; stands = gave_other.stands } in
+    let provided = c.provide_both-first.ensures.provided in
+    let journal = is_told_by Full before.limits (given ∷ []) (reader ∷ []) one.rest one.core told in
+    let other_journal = is_told_by Full before.limits (other_given ∷ []) (other_reader ∷ []) other.rest other.core other_told in
+    rw (c.both_in.ensures, same_journal one.core c.into_journal.result of, same_journal other.core c.into_journal-2.result of_other) (record {
       given = given;
       other_given = other_given;
-      provided = c.provide_both-first.ensures.provided;
+      provided = provided;
       reader = reader;
       other_reader = other_reader;
       both = refl;
+      there = both_there _ _ _ given other_given reader other_reader one.rest other.rest _ _ before.limits before _ provided journal other_journal;
       rest = one.rest;
       other_rest = other.rest;
-      journal = is_told_by Full before.limits (given ∷ []) (reader ∷ []) one.rest one.core told;
+      journal = journal;
       other_journal = journal_of other.core;
-      other_told = is_told_by Full before.limits (other_given ∷ []) (other_reader ∷ []) other.rest other.core other_told;
+      back_is = refl;
+      other_told = other_journal;
       has_blames = c.text_of-owed.result.is_found;
       owes = rw (told.mode_is, told.limits_are, told.no_base, other_told.mode_is, other_told.limits_are, other_told.no_base) at
           (owes_blames one.core other.core reader other_reader one.rest other.rest c.text_of-owed.result.owed c.text_of-owed.result.is_found c.text_of-owed.ensures.had_room c.text_of-owed.ensures.blames);

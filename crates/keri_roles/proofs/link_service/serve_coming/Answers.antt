@@ -1,9 +1,10 @@
-use Rattle.std.proofs.Common.{◌≡◌, ◌≤◌, ◌∷◌, ◌++◌, [], length, map, ap, sym, refl, subst, ◌∙◌, rules}
+use Rattle.std.proofs.Common.{◌≡◌, ◌≤◌, ◌∷◌, ◌++◌, [], length, map, ap, sym, refl, subst, ◌∙◌, inl, inr, true, false, arith, rules}
 use Rattle.std.proofs.lemmas.List.{length-map, map-append}
 use Rattle.keri_outside.specs.declared.failed.Failed.{Failed}
 use Rattle.run_status.specs.Readers.{reader_seen, sink_seen}
 use Rattle.keri_roles.specs.Seen.{door_told}
-use Rattle.keri_roles.proofs.ComingLinks.{comes_last, coming_more, coming_none}
+use Rattle.keri_outside.specs.Doors.{NoneLeft}
+use Rattle.keri_roles.proofs.ComingLinks.{comes_last, comes_to, coming_more, coming_none}
 use Rattle.keri_roles.proofs.link_service.serve_coming.Goals as goal
 
 pub loop-alloc-init : goal.loop-alloc-init
@@ -73,3 +74,35 @@ loop-alloc-preserved g c =
           _ _ _ _ _ _ inv.coming Failed (λ (caller : _). left caller.source) _ c.in-Ok-Some.caller (rw c.in-Ok-Some.field-0-is at came.comes) _ (seen result.reader) (sink result.sink)
           (rw (inv.key, inv.same_limits, inv.says, inv.gives) at served.serves) (search rules));
     }
+
+pub returns-in-Ok-None-clause-serves : goal.returns-in-Ok-None-clause-serves
+returns-in-Ok-None-clause-serves g c =
+    let inv = c.loop-alloc.invariant in
+    let seen = reader_seen g.P.Source.Source.left g.P.Source.Source.faults g.V.Verifier.says g.V.Verifier.inquiries g.V.Verifier.faults in
+    let before = c.loop-alloc.kept.readers.items in
+    let few : length (map seen before) ≤ c.args.count = subst (λ n. n ≤ c.args.count) (sym (length-map before seen)) inv.few in
+    let came : NoneLeft (g.P.Door.left c.loop-alloc.door) × (g.P.Door.left c.next.new.self ≡ g.P.Door.left c.loop-alloc.door) = rw c.in-Ok-None.field-0-is at c.in-Ok-None.ensures.comes in
+    comes_to g.D.Disk.told c.args.witness.now.key c.args.witness.now.limits c.args.limits (g.V.Verifier.says c.args.verifier.now) (g.G.Signer.gives c.args.signer.now)
+    _ _ _ _ _ _ inv.coming c.args.count false (door_told g.P.Door.left g.P.Door.faults c.args.door.now) (door_told g.P.Door.left g.P.Door.faults c.next.new.self) refl came.1 few
+    (inr (inr came.0)) (search rules)
+
+pub returns-in-Err-clause-serves : goal.returns-in-Err-clause-serves
+returns-in-Err-clause-serves g c =
+    let inv = c.loop-alloc.invariant in
+    let seen = reader_seen g.P.Source.Source.left g.P.Source.Source.faults g.V.Verifier.says g.V.Verifier.inquiries g.V.Verifier.faults in
+    let before = c.loop-alloc.kept.readers.items in
+    let few : length (map seen before) ≤ c.args.count = subst (λ n. n ≤ c.args.count) (sym (length-map before seen)) inv.few in
+    comes_to g.D.Disk.told c.args.witness.now.key c.args.witness.now.limits c.args.limits (g.V.Verifier.says c.args.verifier.now) (g.G.Signer.gives c.args.signer.now)
+    _ _ _ _ _ _ inv.coming c.args.count true (door_told g.P.Door.left g.P.Door.faults c.args.door.now) (door_told g.P.Door.left g.P.Door.faults c.next.new.self) refl c.in-Err.ensures.comes few
+    (inr (inl refl)) (search rules)
+
+pub returns-clause-serves : goal.returns-clause-serves
+returns-clause-serves g c =
+    let inv = c.loop-alloc.invariant in
+    let seen = reader_seen g.P.Source.Source.left g.P.Source.Source.faults g.V.Verifier.says g.V.Verifier.inquiries g.V.Verifier.faults in
+    let before = c.loop-alloc.kept.readers.items in
+    let few : length (map seen before) ≤ c.args.count = subst (λ n. n ≤ c.args.count) (sym (length-map before seen)) inv.few in
+    let many : length (map seen before) ≡ c.args.count = length-map before seen ∙ omega (arith, inv.few, c.len.ensures, c.loop-alloc-test.false) in
+    comes_to g.D.Disk.told c.args.witness.now.key c.args.witness.now.limits c.args.limits (g.V.Verifier.says c.args.verifier.now) (g.G.Signer.gives c.args.signer.now)
+    _ _ _ _ _ _ inv.coming c.args.count false (door_told g.P.Door.left g.P.Door.faults c.args.door.now) (door_told g.P.Door.left g.P.Door.faults c.loop-alloc.door) refl refl few
+    (inl many) inv.unfailed

@@ -26,7 +26,7 @@ returns g c =
           close = end.close;
         };
         one = record {
-          fresh = record { unread = c.requires.unread; unwritten = c.requires.unwritten };
+          fresh = record { source_unfailed = c.requires.source_unfailed; sink_unfailed = c.requires.sink_unfailed; unwritten = c.requires.unwritten };
           serves = rw (key, limits, says, gives) at it;
         };
         held_is = refl;

@@ -7,6 +7,7 @@ use Rattle.reader_threads.specs.Told.{AllTold}
 use Rattle.keri_roles.specs.CoreTold.{IsJournalOf}
 use Rattle.keri_roles.specs.Made.{makings_behind}
 use Rattle.keri_roles.specs.Seen.{signer_seen}
+use Rattle.keri_roles.proofs.CompleteOver.{log_there}
 use Rattle.keri_roles.proofs.CoreTold.{is_told_by, same_journal, seen_none}
 use Rattle.keri_roles.proofs.Made.{gives_seen, signer_none}
 use Rattle.keri_roles.proofs.Provided.{is_given}
@@ -52,10 +53,12 @@ returns-clause-made g c =
     let told : AllTold Local before.limits (given ∷ []) (log_reader ∷ []) rest core = rw c.limits-limits.ensures at
     (c.read-core.ensures Local c.limits-limits.result c.in_ok-seat.ensures) in
     let of : IsJournalOf core c.into_journal.result = search rules in
+    let journal = is_told_by Local before.limits (given ∷ []) (log_reader ∷ []) rest core told in
     rw (two, same_journal core c.into_journal.result of) (record {
       plan_reader = plan_reader;
       log_reader = log_reader;
       two = refl;
+      there = log_there _ _ _ _ given _ log_reader rest _ before.limits before after makes journal;
       text = c.read_whole-first.result.text.items;
       reads = rw c.limits-limits.ensures at (c.read_whole-first.ensures.reads (before.holds c.args.plan.now) parts.holds);
       given = given;
@@ -63,7 +66,7 @@ returns-clause-made g c =
       makes = makes;
       signs = gives_seen gives signings faults signer (before.gives c.args.helper.now) (c.message_due-owed.ensures.gives (before.gives c.args.helper.now) parts.signs);
       rest = rest;
-      journal = is_told_by Local before.limits (given ∷ []) (log_reader ∷ []) rest core told;
+      journal = journal;
       due = c.message_due-owed.result.besides;
       owes = rw (c.deref.ensures.value, c.is_refused.ensures, c.close_of.ensures, told.mode_is, told.limits_are, told.no_base) at
           (c.message_due-owed.ensures.due (before.gives c.args.helper.now) parts.signs);

@@ -1,4 +1,4 @@
-use Rattle.std.proofs.Common.{refl, map, rules}
+use Rattle.std.proofs.Common.{refl, map}
 use Rattle.run_status.specs.Readers.{reader_seen}
 use Rattle.keri_roles.specs.CoreTold.{HadMemory, plain}
 use Rattle.keri_roles.proofs.OverCore.{owes_so}

@@ -1,8 +1,9 @@
-use Rattle.std.proofs.Common.{◌≡◌, [], ◌∙◌, ap, arith, rules, map}
+use Rattle.std.proofs.Common.{◌≡◌, [], false, ◌∙◌, ap, arith, map}
 use Rattle.run_status.specs.Readers.{reader_seen}
 use Rattle.validator_core.specs.View.{told_of}
 use Rattle.reader_threads.specs.Given.{given_by}
 use Rattle.reader_threads.specs.Told.{AllTold}
+use Rattle.keri_roles.proofs.CompleteOver.{over_files}
 use Rattle.keri_roles.proofs.CoreTold.{is_told_by, owes_plain, same_journal, untold}
 use Rattle.keri_roles.proofs.over_core.over_core.Goals as goal
 
@@ -34,12 +35,9 @@ returns-clause-done g c =
     let given = map (given_by g.O.Source.Source.left g.O.Source.Source.faults g.O.Verifier.Verifier.says g.O.Verifier.Verifier.inquiries g.O.Verifier.Verifier.faults) c.providers_for-providers.result.items in
     let mode : c.new-core.result.mode ≡ c.args.mode = ap (λ x. x.mode) c.new-core.ensures in
     let told : AllTold c.args.mode before.limits given readers rest core = rw (has.mode_is, mode, has.limits_are, c.limits-limits.ensures) at c.read-ran.ensures.told in
-    rw (c.outcome_of.ensures.readers, same_journal core c.outcome_of.result.journal c.outcome_of.ensures.journal) (record {
-      told = record {
-        given = given;
-        provided = c.providers_for-providers.ensures.provided;
-        rest = rest;
-        journal = is_told_by c.args.mode before.limits given readers rest core told;
-      };
-      owes = owes_plain _ _ _ c.args.mode before.limits core _ rest _ _ told.mode_is told.limits_are told.no_base c.outcome_of.ensures.owes;
-    })
+    rw (c.outcome_of.ensures.readers, same_journal core c.outcome_of.result.journal c.outcome_of.ensures.journal) (over_files c.args.mode _ _ false _ _ _ (record {
+      given = given;
+      provided = c.providers_for-providers.ensures.provided;
+      rest = rest;
+      journal = is_told_by c.args.mode before.limits given readers rest core told;
+    }) (owes_plain _ _ _ c.args.mode before.limits core _ rest _ _ told.mode_is told.limits_are told.no_base c.outcome_of.ensures.owes))

@@ -1,4 +1,4 @@
-use Rattle.std.proofs.Common.{◌≡◌, [], length, inl, inr, refl, sym, ◌∙◌, ap, subst, map, None, option_map, arith, rules}
+use Rattle.std.proofs.Common.{◌≡◌, [], length, inl, inr, refl, sym, ◌∙◌, ap, subst, map, None, option_map, arith}
 use Rattle.run_status.specs.Readers.{reader_seen, source_seen}
 use Rattle.validator_core.specs.View.{told_of}
 use Rattle.reader_threads.specs.Given.{given_by}
@@ -7,6 +7,7 @@ use Rattle.keri_roles.specs.CoreTold.{IsOverCore, OwesText, core_of, plain}
 use Rattle.keri_roles.specs.LinksTold.{AreLinked, TakesLinks}
 use Rattle.keri_roles.specs.Run.{LinksTold, Work}
 use Rattle.keri_roles.specs.Seen.{door_seen, sinks_seen}
+use Rattle.keri_roles.proofs.CompleteOver.{over_linked}
 use Rattle.keri_roles.proofs.CoreTold.{is_told_by, journal_of, owes_plain, same_journal, untold}
 use Rattle.keri_roles.proofs.Linked.{any_ready, are_linked}
 use Rattle.keri_roles.proofs.over_links.over_links.Goals as goal
@@ -94,15 +95,13 @@ returns-clause-done g c =
             owed = option_map (λ t. t.items) out.result.owed;
             besides = out.result.besides;
           } in
-          let over : IsOverCore c.args.mode is_text g.T.CoreText.finds (AreLinked c.args.words.helper.now c.args.words.address.now c.args.words.count links) at.taken.failed work = record {
-            told = record {
-              given = given;
-              provided = are_linked c.args.words.helper.now c.args.words.address.now c.args.words.count sources links given before mid after taken w.provide_links-providers.ensures.provided;
-              rest = rest;
-              journal = is_told_by c.args.mode before.limits given readers rest core told;
-            };
-            owes = owed;
-          } in
+          let over : IsOverCore c.args.mode is_text g.T.CoreText.finds (AreLinked c.args.words.helper.now c.args.words.address.now c.args.words.count links) at.taken.failed work
+          = over_linked c.args.mode is_text g.T.CoreText.finds at.taken.failed work c.args.words.helper.now c.args.words.address.now c.args.words.count links (record {
+            given = given;
+            provided = are_linked c.args.words.helper.now c.args.words.address.now c.args.words.count sources links given before mid after taken w.provide_links-providers.ensures.provided;
+            rest = rest;
+            journal = is_told_by c.args.mode before.limits given readers rest core told;
+          }) owed in
           let linked : IsOverCore c.args.mode is_text g.T.CoreText.finds
           (AreLinked c.args.words.helper.now c.args.words.address.now c.args.words.count (record links { failed = out.result.besides.door_failed })) out.result.besides.door_failed work
           = subst (λ f. IsOverCore c.args.mode is_text g.T.CoreText.finds

@@ -1,4 +1,5 @@
-use Rattle.std.proofs.Common.{◌≡◌, Option, Some, List, ℕ, Ok, map, sym, subst, rules}
+use Rattle.std.proofs.Common.{◌≡◌, map, sym, subst}
+use Rattle.keri_specs.specs.Told.{HasNone}
 use Rattle.run_outside.specs.declared.making.MakingKind.TheVariants.{Door as DoorKind}
 use Rattle.run_status.specs.Readers.{sink_seen, source_seen}
 use Rattle.keri_roles.specs.LinksTold.{AreTakenAt}
@@ -28,9 +29,10 @@ returns-clause-taken g c =
     record {
       taken = record {
         taken = subst (λ l. AreTakenAt (before.links c.args.address.now) c.args.count c.take_links-taken.result.failed l door) (sym (map_map (λ s. s.left) seen sources)) at;
-        unread = all_map seen (λ s. s.faults ≡ 0) sources taken.source_none_yet;
+        sources_unfailed = all_map seen (λ s. s.faults ≡ 0) sources taken.source_none_yet;
         each = rw (length_map seen sources, length_map of_sink sinks) taken.each;
-        unwritten = all_map of_sink (λ s. s.faults ≡ 0) sinks taken.sink_none_yet;
+        sinks_unfailed = all_map of_sink (λ s. s.faults ≡ 0) sinks taken.sink_none_yet;
+        unwritten = all_map of_sink (λ s. HasNone s.written) sinks taken.unwritten;
       };
       makes = makings_one DoorKind c.args.address.now before after _ (rw c.in-Ok.is at c.door.ensures.makes);
       says = c.door.ensures.makes.verdicts;

@@ -29,12 +29,12 @@ returns-in_ok-outcome-in-Generate-clause-does g c = rw (c.in-Generate.is, c.fini
   no_links = record { no_door = refl; no_sinks = refl };
 })
 
-pub returns-in_ok-outcome-in-Blame-clause-does : goal.returns-in_ok-outcome-in-Blame-clause-does
-returns-in_ok-outcome-in-Blame-clause-does g c = rw (c.in-Blame.is, c.finish-in-Blame.ensures.signer, c.finish-in-Blame.ensures.no_disk, c.finish-in-Blame.ensures.no_old, c.finish-in-Blame.ensures.no_door, c.finish-in-Blame.ensures.no_sinks, c.finish-in-Blame.ensures.journal, c.finish-in-Blame.ensures.readers, c.finish-in-Blame.ensures.told, c.unsigned-in-Blame.ensures) (record {
-  owed = option_map (λ text. text.items) c.in_ok-outcome-in-Blame.outcome.owed;
-  besides = c.in_ok-outcome-in-Blame.outcome.besides;
-  does = c.in_ok-outcome-in-Blame.ensures.blamed;
-  settles = rw (c.finish-in-Blame.ensures.readers, c.unsigned-in-Blame.ensures, c.in_ok-outcome-in-Blame.ensures.sink) at c.finish-in-Blame.ensures.settles;
+pub returns-in_ok-rival-in-Blame-clause-does : goal.returns-in_ok-rival-in-Blame-clause-does
+returns-in_ok-rival-in-Blame-clause-does g c = rw (c.in-Blame.is, c.finish_rival.ensures.signer, c.finish_rival.ensures.no_disk, c.finish_rival.ensures.no_old, c.finish_rival.ensures.no_door, c.finish_rival.ensures.no_sinks, c.finish_rival.ensures.journal, c.finish_rival.ensures.second, c.finish_rival.ensures.readers, c.finish_rival.ensures.told) (record {
+  owed = option_map (λ text. text.items) c.in_ok-rival-in-Blame.rival.outcome.owed;
+  besides = c.in_ok-rival-in-Blame.rival.outcome.besides;
+  does = c.in_ok-rival-in-Blame.ensures.blamed;
+  settles = rw (c.finish_rival.ensures.readers, c.in_ok-rival-in-Blame.ensures.sink) at c.finish_rival.ensures.settles;
   no_disk = refl;
   no_old = refl;
   no_links = record { no_door = refl; no_sinks = refl };

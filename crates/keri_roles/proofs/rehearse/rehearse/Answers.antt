@@ -26,4 +26,5 @@ returns g c =
         no_links = record { no_door = refl; no_sinks = refl };
         status = refl;
       };
+      no_second = refl;
     })

@@ -1,5 +1,6 @@
 use Rattle.std.proofs.Common.{inl, inr}
 use Rattle.keri_roles.proofs.Agreed.{is_agreed}
+use Rattle.keri_roles.proofs.Confluence.{is_confluent}
 use Rattle.keri_roles.proofs.OverCore.{ok_then}
 use Rattle.keri_roles.proofs.validate.validate_links.Goals as goal
 
@@ -8,6 +9,7 @@ returns-clause-validated g c = ok_then c.over_links.result c.over_links.ensures.
   | inl over ↦ inl (record {
     over = over;
     agreed = is_agreed over.told.journal.fed.held linked.outcome.journal.entries over.told.journal.fed.reading.spelled over.told.journal.fed.in_order;
+    confluent = is_confluent over.told.journal.fed.held linked.outcome.journal.entries over.told.journal.fed.reading.spelled over.told.journal.fed.in_order;
   })
   | inr unseated ↦ inr unseated
 ])

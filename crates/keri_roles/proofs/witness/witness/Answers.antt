@@ -14,4 +14,5 @@ returns-in-Ok g c =
         stands = opened.is_open.stands;
         starts = rw (c.limits-limits.ensures, c.open_shelf.ensures.same_sink) at c.start.ensures.starts;
       });
+      no_second = c.start.ensures.no_second;
     }

@@ -1,0 +1,9 @@
+pub mod Numbered
+pub mod Followed
+pub mod Growing
+pub mod Came
+pub mod Verdicts
+pub mod Confluence
+pub mod Permuted
+pub mod Same
+pub mod Premises

@@ -1,0 +1,13 @@
+-- What is found in a core is so in every journal that is alike.
+use Rattle.std.specs.Prelude.{◌≡◌, List, []}
+use Rattle.journal.specs.declared.body.Body.{Body}
+use Rattle.journal.specs.Accepted.{accepted}
+use Rattle.journal.specs.History.{Told}
+use Rattle.journal_laws.specs.Alike.{AreAlike}
+use Rattle.validator_core.specs.View.{CoreView, told_of}
+
+-- What is found in a core that began with nothing is what the accepted events give, of every journal that was told the same: in
+-- whatever order and however often the same came, and whoever told it.
+abbrev pub IsSoInAlike : {T : Type 0} → CoreView → (List Body → T) → T → Type 0
+IsSoInAlike core given found = core.base ≡ 0 → (other : List Told) → AreAlike core.mode (told_of core) other
+    → found ≡ given (accepted core.mode [] other)
