@@ -46,11 +46,17 @@ def free_port(host=HOST):
             return port
 
 
+def sockets():
+    """What the system says of each socket: its own port and the other end's, its state, and how many bytes of it wait to be taken and to be read."""
+    tables = [pathlib.Path("/proc/net") / name for name in ("tcp", "tcp6")]
+    for line in (line for table in tables if table.exists() for line in table.read_text().splitlines()[1:]):
+        _, own, other, state, queues, *_ = line.split()
+        yield own.split(":")[1], other.split(":")[1], state, *(int(queue, 16) for queue in queues.split(":"))
+
+
 def is_listened_at(port):
     """Whether a program listens at the port."""
-    tables = [pathlib.Path("/proc/net") / name for name in ("tcp", "tcp6")]
-    rows = [line.split() for table in tables if table.exists() for line in table.read_text().splitlines()[1:]]
-    return any(row[1].endswith(":%04X" % port) and row[3] == "0A" for row in rows)
+    return any(own == "%04X" % port and state == "0A" for own, _, state, *_ in sockets())
 
 
 class Peer:
@@ -107,6 +113,19 @@ class Peer:
             return True
         finally:
             self.socket.settimeout(SECONDS)
+
+    def is_read(self):
+        """Whether all that was sent was read at the other end, within the time."""
+        own, other = ("%04X" % name[1] for name in (self.socket.getsockname(), self.socket.getpeername()))
+        until = time.monotonic() + SECONDS
+        while time.monotonic() < until:
+            found = list(sockets())
+            sent = any(row[:2] == (own, other) and row[3] == 0 for row in found)
+            read = any(row[:2] == (other, own) and row[4] == 0 for row in found)
+            if sent and read:
+                return True
+            time.sleep(0.005)
+        return False
 
     def fill(self, text, quiet):
         """Sends the text again and again, until nothing is taken for so many seconds; how many bytes were taken."""

@@ -177,6 +177,11 @@ class Reference:
                 events = [earlier for earlier in events if earlier.number < event.number] + [event]
         return events
 
+    def has_one_each(self):
+        """Whether no two different events that came have one identifier and number."""
+        places = [(event.prefix, event.number) for event in self.bodies if not event.is_receipt]
+        return len(set(places)) == len(places)
+
     # What supports an event.
 
     def claims_on(self, event):

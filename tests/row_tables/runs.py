@@ -210,6 +210,17 @@ def asks():
     yield from run(WATCH, "".join(CONFLICTING), "7 told=7 VerifierFault " + MADE, BOTH_ROTATIONS + SIGNED_IXN, asks=3)
 
 
+def faults_over_a_log():
+    """The log has 5,186 bytes, so the third read is the one behind them all."""
+    stream = "".join(REALISTIC)
+    assert 4_096 < len(stream) < 8_192
+    yield from run(VALIDATE, READ_FAULT, "5 told=0 ReadFault Source! Verifier", stream, makings=0)
+    yield from run(VALIDATE, READ_FAULT, "5 told=0 ReadFault " + MADE, stream, reads=0)
+    yield from run(VALIDATE, REALISTIC_LINES + READ_FAULT, "5 told=36 ReadFault " + MADE, stream, reads=2)
+    yield from run(VALIDATE, VERIFIER_FAULT, "7 told=0 VerifierFault Source Verifier!", stream, makings=1)
+    yield from run(VALIDATE, "", "6 told=36 End " + MADE, stream, puts=0)
+
+
 def helpers():
     """Verdicts are the helper's: of one that says no to all, and of one that says yes to all."""
     yield from run(VALIDATE, waits(ICP, "signatures"), "0 told=2 End " + MADE, SIGNED, says="no")
@@ -419,6 +430,7 @@ def rows():
     yield from puts()
     yield from reads()
     yield from asks()
+    yield from faults_over_a_log()
     yield from faults_of_make()
     yield from faults_of_rehearse()
     yield "# conversions"
