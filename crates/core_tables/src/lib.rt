@@ -14,6 +14,7 @@ mod named_places;
 mod raised_claims;
 mod tables;
 
+pub use entry_claims::claims_by;
 pub use mark::Mark;
 pub use name::{ClaimKey, Name, SealKey, name_of, prior_name};
 pub use tables::Tables;

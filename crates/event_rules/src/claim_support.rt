@@ -16,7 +16,7 @@ use journal::Claim;
 use key_state::KeyState;
 
 /// The support of an event behind a state, found by going over the claims on it each time: for an event whose parts weren't
-/// kept under that state. It takes no memory. [`crate::claims_support`] says whose verdicts give what a journal supports.
+/// kept under that state. It takes no memory. Whose verdicts count is said by `verdicts`.
 #[derive(Drop)]
 pub struct ClaimSupport<'a, V: Verdicts> {
     pub verdicts: &'a V,

@@ -14,7 +14,7 @@ mod witnesses;
 
 pub use additions::{Additions, reveal_of};
 pub use claim_support::ClaimSupport;
-pub use delegation::{delegator_of, forbids_delegation, is_delegated};
+pub use delegation::{delegator_of, is_delegated};
 pub use order::{is_behind, is_inception, prior_of, takes};
 pub use signers::{claimed_key, claimed_sig, signing_keys};
 pub use support::Support;

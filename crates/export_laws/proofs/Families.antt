@@ -31,7 +31,8 @@ use Rattle.export_laws.specs.Families.{FamilyLaw, HaveOneReading, IsClosed, IsPa
 use Rattle.export_laws.proofs.Family.{delegator_is, delegator_stays, family_of, moved_delegator, of_family, own_family, state_family}
 use Rattle.export_laws.proofs.Ready.{ready_parts}
 use Rattle.export_laws.proofs.Filters.{distinct_filter, find_filter, none_filter}
-use Rattle.export_laws.proofs.Rounds.{accepted_from, bodies_came, came, came_told, rounds, rounds_extend, told_more}
+use Rattle.core_laws.proofs.Entries.{accepted_settles}
+use Rattle.export_laws.proofs.Rounds.{accepted_from, bodies_came, came, came_told, rounds_extend, told_more}
 use Rattle.export_laws.proofs.Within.{ready_within, ready_without}
 
 module _ (mode : Mode) (base : List Body) (whole : List Told) (family : List Prefix)
@@ -159,7 +160,7 @@ module _ (mode : Mode) (base : List Body) (whole : List Told) (family : List Pre
   entry_within seen later t split sofar =
       let now = within family (seen ++ t ∷ []) in
       let end = exported family (accepted mode base (seen ++ t ∷ [])) in
-      let s = rounds_within (seen ++ t ∷ []) later split refl (rounds mode base seen t) in
+      let s = rounds_within (seen ++ t ∷ []) later split refl (accepted_settles mode base seen t) in
       let s' = subst (λ xs. Settles (is_ready mode now) xs (exported family (accepted mode base seen)) end)
       (sym (bodies_within (seen ++ t ∷ []) later split)) s in
       let s'' = subst (λ xs. Settles (is_ready mode now) (bodies own now) xs end) (sym sofar) s' in
@@ -172,7 +173,7 @@ module _ (mode : Mode) (base : List Body) (whole : List Told) (family : List Pre
           let e : within family (seen ++ t ∷ []) ≡ within family seen ++ t ∷ []
           = filter-append (λ t. is_of_some family (told_body t)) seen (t ∷ []) ∙ (rw k refl) in
           subst (λ now. Settles (is_ready mode now) (bodies own now) (accepted mode own (within family seen))
-          (accepted mode own now)) (sym e) (rounds mode own (within family seen) t)
+          (accepted mode own now)) (sym e) (accepted_settles mode own (within family seen) t)
       mine (inr k) =
           let e : within family (seen ++ t ∷ []) ≡ within family seen
           = filter-append (λ t. is_of_some family (told_body t)) seen (t ∷ [])

@@ -1,17 +1,13 @@
 -- The rounds of acceptance that an entry brings, and where bodies come from.
-use Rattle.std.proofs.Common.{◌≡◌, Bool, List, [], ◌∷◌, ◌++◌, length, map, Contains, sym, ◌∙◌, subst, inl, inr, append_assoc, append-nil}
+use Rattle.std.proofs.Common.{◌≡◌, Bool, List, [], ◌∷◌, ◌++◌, map, Contains, sym, ◌∙◌, subst, inl, inr, append_assoc, append-nil}
 use Rattle.std.specs.Prelude.{All, flat_map}
 use Rattle.std.proofs.lemmas.List.Elements.{All-contains, All-contains_itself, All-weaker}
-use Rattle.std.proofs.lemmas.List.Sums.{count_by-le-length}
 use Rattle.journal.specs.declared.body.Body.{Body}
 use Rattle.journal.specs.declared.mode.Mode.{Mode}
 use Rattle.journal.specs.Acceptance.{Settles, more, rest}
 use Rattle.journal.specs.Accepted.{accepted}
 use Rattle.journal.specs.History.{Told, bodies, heard, taken, took}
 use Rattle.journal.specs.Logs.{same_body}
-use Rattle.journal.specs.Readiness.{is_ready}
-use Rattle.journal.proofs.Accepting.{accepted-push, ready_is_new, same_body-refl}
-use Rattle.journal.proofs.Settling.{left, settled_ends}
 use Rattle.quorum_laws.proofs.Inside.{accepted_inside}
 use Rattle.key_state.proofs.Among.{Among, among, among_either, among_flat_map, among_left, among_map, among_right, contained, distinct_among, flat_map_among}
 use Rattle.export_laws.specs.Families.{told_bodies, told_body}
@@ -27,19 +23,6 @@ pub rounds_extend : {B : Type 0} {ready : List B → B → Bool} {all : List B} 
 rounds_extend (rest {accepted = log} e) = ([], sym (append-nil log))
 rounds_extend (more {accepted = log} {b = b} e s) =
     let r = rounds_extend s in (b ∷ r.0, r.1 ∙ append_assoc log (b ∷ []) r.0)
-
--- with one more entry, rounds lead from what was accepted to what is
-pub rounds : (mode : Mode) (base : List Body) (told : List Told) (t : Told)
-    → Settles (is_ready mode (told ++ t ∷ [])) (bodies base (told ++ t ∷ [])) (accepted mode base told)
-    (accepted mode base (told ++ t ∷ []))
-unfolding left
-rounds mode base told t =
-    let now = told ++ t ∷ [] in
-    let all = bodies base now in
-    subst (λ end. Settles (is_ready mode now) all (accepted mode base told) end)
-    (sym (accepted-push mode base told t))
-    (settled_ends (is_ready mode now) all same_body same_body-refl (ready_is_new mode now) (length all)
-    (accepted mode base told) (count_by-le-length _ all))
 
 -- the bodies that came
 abbrev pub came : List Body → List Told → List Body

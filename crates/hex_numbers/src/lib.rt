@@ -3,4 +3,4 @@
 
 mod numbers;
 
-pub use numbers::{all_hex, hex_run, hex_value, is_hex_number, saturating_hex_value};
+pub use numbers::{all_hex, hex_value, is_hex_number, saturating_hex_value};

@@ -1,6 +1,6 @@
 //! Digits, and the numbers that they spell.
-ghost use Rattle.std.specs.Prelude.{◌≡◌, ◌↔◌, ◌≤◌, ◌<◌, ◌-◌, ◌^◌, min, length, true, take, not, position};
-ghost use Rattle.std.specs.List.{list_all, position_or_len};
+ghost use Rattle.std.specs.Prelude.{◌≡◌, ◌↔◌, ◌≤◌, ◌<◌, ◌-◌, ◌^◌, min, length, true};
+ghost use Rattle.std.specs.List.{list_all};
 ghost use Rattle.keri_specs.specs.Hex.{is_hex, hex_digit, IsHexNumber, hex_value as value_of};
 
 /// Whether it is a lower-case hexadecimal digit.
@@ -15,24 +15,6 @@ pub fn all_hex(digits: &[u8]) -> bool
     ensures { result ≡ list_all is_hex digits.now }
 {
     digits.iter().all(|c| is_hex_digit(*c))
-}
-
-// The first place of what is no hexadecimal digit.
-fn first_other(bytes: &[u8]) -> Option<usize>
-    ensures { result ≡ position (λ c. not (is_hex c)) bytes.now }
-{
-    bytes.iter().position(|c| !is_hex_digit(*c))
-}
-
-/// How many hexadecimal digits stand at the front.
-pub fn hex_run(bytes: &[u8]) -> usize
-    ensures run { result ≡ position_or_len (λ c. not (is_hex c)) bytes.now }
-    ensures bound { result ≤ length bytes.now }
-{
-    match first_other(bytes) {
-        Some(place) => place,
-        None => bytes.len(),
-    }
 }
 
 /// Whether these are the digits of a number: without leading zeros, and `0` itself.

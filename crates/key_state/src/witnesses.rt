@@ -83,11 +83,7 @@ pub(crate) fn is_bad_change(old: &[Key], event: &Rotation) -> bool
 }
 
 /// The list without the cuts, then the adds.
-pub(crate) fn changed_list(
-    alloc: Global,
-    old: &[Key],
-    event: &Rotation,
-) -> Result<Items<Key>, AllocError>
+pub fn changed_list(alloc: Global, old: &[Key], event: &Rotation) -> Result<Items<Key>, AllocError>
     ensures { IfOk result (λ list. list ≡ states.changed_list old.now event.now) }
 {
     let cuts = event.cuts.as_slice();

@@ -30,7 +30,7 @@ pub use lines::{
 };
 pub use plan_refusal::PlanRefusal;
 pub use reader_lines::{
-    full_line, malformed_line, memory_line, read_fault_line, refused_line, verifier_fault_line,
+    full_line, malformed_line, read_fault_line, refused_line, verifier_fault_line,
 };
 pub use sizes::Sizes;
 pub use standing::Standing;

@@ -1,6 +1,6 @@
 //! Lines of a reader, each with its line feed. Readers are counted from 0.
 ghost use Rattle.std.specs.Prelude.{◌≡◌, IfOk, string_bytes};
-ghost use Rattle.report_lines.specs.Lines.{full_text, malformed_text, memory_text, read_fault_text, refused_text, verifier_fault_text};
+ghost use Rattle.report_lines.specs.Lines.{full_text, malformed_text, read_fault_text, refused_text, verifier_fault_text};
 
 use crate::bad_word::BadWord;
 use crate::reason_word::ReasonWord;
@@ -49,11 +49,4 @@ pub fn full_line(alloc: Global, reader: u16) -> Result<String, AllocError>
     ensures { IfOk result (λ line. string_bytes line ≡ full_text reader) }
 {
     format!(in alloc; "full {reader}\n")
-}
-
-/// The line of a reader that want of memory ended.
-pub fn memory_line(alloc: Global, reader: u16) -> Result<String, AllocError>
-    ensures { IfOk result (λ line. string_bytes line ≡ memory_text reader) }
-{
-    format!(in alloc; "memory {reader}\n")
 }

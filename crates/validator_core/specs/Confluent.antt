@@ -6,8 +6,8 @@ use Rattle.journal.specs.History.{Told}
 use Rattle.journal_laws.specs.Alike.{AreAlike}
 use Rattle.validator_core.specs.View.{CoreView, told_of}
 
--- What is found in a core that began with nothing is what the accepted events give, of every journal that was told the same: in
--- whatever order and however often the same came, and whoever told it.
+-- What is found in a core that rests on no list is what the accepted events give, of every journal that is alike: in whatever order
+-- and however often the same came, and whoever told it.
 abbrev pub IsSoInAlike : {T : Type 0} → CoreView → (List Body → T) → T → Type 0
 IsSoInAlike core given found = core.base ≡ 0 → (other : List Told) → AreAlike core.mode (told_of core) other
     → found ≡ given (accepted core.mode [] other)

@@ -74,6 +74,13 @@ impl Core {
         self.tables.journal()
     }
 
+    /// What is true of each core, stated for proofs. Nothing is done here.
+    pub fn stands(&self)
+        ensures { Stands self.now }
+    {
+        let _journal = self.journal();
+    }
+
     /// The journal, for which the core is given up. It takes no memory.
     pub fn into_journal(self) -> Journal
         ensures bodies { result.bodies ≡ map (λ b. b.bytes) self.held }
@@ -124,8 +131,8 @@ impl Core {
     }
 
     /// The state of an identifier, where it has an accepted event. In whatever order, how often and by however many
-    /// readers the same messages came: where no question is open, and no two different events have one identifier
-    /// and number, the state is the same. It takes no memory.
+    /// readers the same messages came: where each verdict was asked for, none contradicts another, no question is
+    /// open, and no two different events have one identifier and number, the state is the same. It takes no memory.
     pub fn state(&self, prefix: &Prefix) -> Option<&KeyState>
         ensures state { option_map (λ state. state.now) result ≡ state_of self.now prefix.now }
         ensures confluent { IsSoInAlike self.now (λ log. logs.state log prefix.now)

@@ -24,8 +24,8 @@ use std::alloc::{AllocError, Global};
 
 impl Core {
     /// The numbers of the live events of an identifier, in order. In whatever order, how often and by however many
-    /// readers the same messages came: where no question is open, and no two different events have one identifier
-    /// and number, the log is the same.
+    /// readers the same messages came: where each verdict was asked for, none contradicts another, no question is
+    /// open, and no two different events have one identifier and number, the log is the same.
     pub fn log(&self, prefix: &Prefix) -> Result<Vec<u32>, AllocError>
         ensures live { IfOk result (λ numbers. chosen self.now.held numbers.items
             ≡ logs.live (accepted_by self.now) prefix.now) }

@@ -1,6 +1,5 @@
 //! The evidence of a core.
 ghost use Rattle.std.specs.Prelude.{IfOk};
-ghost use Rattle.validator_core.specs.View.{Stands};
 ghost use Rattle.watcher_core.specs.Evidence.{IsEvidenceText, ReadsAsEvidence};
 
 use crate::bodies::put_sets;
@@ -24,7 +23,7 @@ pub fn evidence_of(alloc: Global, core: &Core) -> Result<Evidence, AllocError>
     // Whoever reads it reads just these bodies and groups.
     ensures reads { IfOk result (λ evidence. ReadsAsEvidence core.now evidence.text.items) }
 {
-    stands(core);
+    core.stands();
     let conflicts = core.conflicts()?;
     let mut text = StreamText::new(alloc);
     put_sets(alloc, core, conflicts.as_slice(), &mut text)?;
@@ -33,11 +32,4 @@ pub fn evidence_of(alloc: Global, core: &Core) -> Result<Evidence, AllocError>
         text: text.into_bytes(),
         has_conflicts,
     })
-}
-
-// What is true of each core.
-fn stands(core: &Core)
-    ensures { Stands core.now }
-{
-    let _journal = core.journal();
 }

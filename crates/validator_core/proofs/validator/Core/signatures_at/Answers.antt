@@ -1,4 +1,4 @@
-use Rattle.std.proofs.Common.{◌≡◌, ◌∙◌, sym, ap, subst}
+use Rattle.std.proofs.Common.{◌≡◌, ◌∙◌, ap, subst}
 use Rattle.std.specs.Prelude.{IfOk, Some, slice_get}
 use Rattle.acceptance.specs.Standing.{told_of}
 use Rattle.journal.specs.declared.body.Body.{Body}
