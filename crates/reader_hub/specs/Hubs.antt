@@ -24,7 +24,7 @@ use Rattle.turn_lock.specs.Known.{Known, after_spent, after_turn}
 use Rattle.reader_hub.specs.declared.asked.Asked.{Asked}
 use Rattle.reader_hub.specs.declared.core_head.CoreHead.{CoreHead}
 use Rattle.reader_hub.specs.declared.extent.Extent.{Extent}
-use Rattle.reader_hub.specs.declared.extent.Extent.TheVariants.{Free, All as Every}
+use Rattle.reader_hub.specs.declared.extent.Extent.TheVariants.{First, Free, All as Every}
 use Rattle.reader_hub.specs.declared.hub_fault.HubFault.{HubFault}
 use Rattle.reader_hub.specs.declared.hub_fault.HubFault.TheVariants.{Spent, OutOfMemory}
 
@@ -68,9 +68,12 @@ abbrev pub HasBytes : List Body → Option Asked → Type 0
 HasBytes held None = Unit {0}
 HasBytes held (Some a) = (b : Body) × (slice_get held a.question.body ≡ Some b) × (a.bytes.items ≡ b.bytes) × (length a.bytes.items ≤ 65535)
 
--- an open question, with the body that it names, or none: where all are asked for, only where none is open
+-- An open question, with the body that it names: the first one where that is asked for. Or none: where the first or all are asked
+-- for, only where none is open.
 abbrev pub IsAsked : Mode → List Told → Option Asked → Extent → Type 0
-IsAsked mode told (Some a) extent = (skip : ℕ) × Names (bodies [] told) (Some a.question) (next_question mode [] told skip) × HasBytes (bodies [] told) (Some a)
+IsAsked mode told (Some a) extent =
+    (skip : ℕ) × (extent ≡ First → skip ≡ 0) × Names (bodies [] told) (Some a.question) (next_question mode [] told skip) × HasBytes (bodies [] told) (Some a)
+IsAsked mode told None First = Names (bodies [] told) None (next_question mode [] told 0)
 IsAsked mode told None Free = Unit {0}
 IsAsked mode told None Every = (skip : ℕ) × Names (bodies [] told) None (next_question mode [] told skip)
 

@@ -87,9 +87,9 @@ impl Hub {
         }
     }
 
-    /// An open question with its body. `Free` gives one that no other reader was handed and has yet to answer, where
-    /// there is one; `All` gives such a one first, and else any. Under `All` none is given only where none is open;
-    /// under `Free` nothing is promised of that.
+    /// An open question with its body. `First` gives the first one. `Free` gives one that no other reader was handed and
+    /// has yet to answer, where there is one; `All` gives such a one first, and else any. Under `First` and `All` none is
+    /// given only where none is open; under `Free` nothing is promised of that.
     pub fn next_question<W: Wait>(
         &self,
         rt: &W,

@@ -1,13 +1,13 @@
 //! The core under the lock: it stands for what it was told.
-ghost use Rattle.std.specs.Prelude.{◌≡◌, [], IfOk, IsSome, OnErr, option_map, slice_get};
+ghost use Rattle.std.specs.Prelude.{◌≡◌, [], IfOk, IsSome, OnErr, Some, option_map, slice_get};
 ghost use Rattle.journal.specs.Accepted.{accepted};
 ghost use Rattle.journal.specs.History.{bodies};
 ghost use Rattle.journal.specs.Journals.{AnswersOn, Names};
 ghost use Rattle.journal.specs.Logs.{state};
 ghost use Rattle.journal.specs.Questions.{next_question};
 ghost use Rattle.validator_core.specs.Messages.{JudgesMessage};
-ghost use Rattle.validator_core.specs.View.{Stands, told_of};
-ghost use Rattle.reader_hub.specs.declared.extent.Extent.TheVariants.{All as Every};
+ghost use Rattle.validator_core.specs.View.{told_of};
+ghost use Rattle.reader_hub.specs.declared.extent.Extent.TheVariants.{First, All as Every};
 ghost use Rattle.reader_hub.specs.Hubs.{HasBytes, IsAsked, TakesOver};
 
 use crate::handed_out::HandedOut;
@@ -76,8 +76,9 @@ impl SharedCore {
         Ok(reply)
     }
 
-    /// An open question, with a copy of its body, which the reader is handed: one that no reader was handed, where one is
-    /// found among the first, and else, where all are asked for, any. None where there is none to that extent.
+    /// An open question, with a copy of its body, which the reader is handed: the first one, where that is asked for; else
+    /// one that no reader was handed, where one is found among the first, and else, where all are asked for, any. None
+    /// where there is none to that extent.
     pub(crate) fn ask(
         &mut self,
         alloc: Global,
@@ -101,12 +102,16 @@ impl SharedCore {
 
     // The number of the open question that a reader is handed, or of none where none is open.
     fn next_place(&self, reader: u16, extent: Extent) -> Option<u32>
-        ensures { extent ≡ Every → IsSome result }
+        ensures first { extent ≡ First → result ≡ Some 0 }
+        ensures all { extent ≡ Every → IsSome result }
     {
-        match (self.free_place(), extent) {
-            (Some(skip), _) => Some(skip),
-            (None, Extent::Free) => None,
-            (None, Extent::All) => Some(u32::from(reader)),
+        match extent {
+            Extent::First => Some(0),
+            Extent::Free => self.free_place(),
+            Extent::All => match self.free_place() {
+                Some(skip) => Some(skip),
+                None => Some(u32::from(reader)),
+            },
         }
     }
 
@@ -130,7 +135,7 @@ impl SharedCore {
             (option_map (λ a. a.question) answer) (next_question self.now.core.mode [] (told_of self.now.core) skip)) }
         ensures bytes { IfOk result (λ answer. HasBytes (bodies [] (told_of self.now.core)) answer) }
     {
-        stands(&self.core);
+        self.core.stands();
         let Some(question) = self.core.next_question(skip) else {
             return Ok(None);
         };
@@ -154,7 +159,7 @@ impl SharedCore {
             (told_of self.new.core)) }
         ensures err { OnErr result (told_of self.new.core ≡ told_of self.old.core) }
     {
-        stands(&self.core);
+        self.core.stands();
         let mut steps = Steps::new();
         let noted = self.core.answer(reader, question, yes, &mut steps)?;
         self.handed.take_back(reader);
@@ -175,11 +180,4 @@ impl SharedCore {
             None => Ok(None),
         }
     }
-}
-
-// What is true of each core.
-fn stands(core: &Core)
-    ensures { Stands core.now }
-{
-    let _journal = core.journal();
 }

@@ -14,19 +14,25 @@ use Rattle.validator_core.specs.View.{CoreView, Stands, told_of}
 use Rattle.reader_hub.specs.Closing.{AreAll, ClosesAll}
 use Rattle.reader_hub.specs.Hubs.{head_of}
 use Rattle.reader_hub.specs.declared.core_head.CoreHead.{CoreHead}
+use Rattle.reader_hub.specs.declared.extent.Extent.TheVariants.{First}
 use Rattle.reader_hub.specs.declared.hub.Hub.{Hub}
+use Rattle.shared_reader.specs.Steps.{IsInStep}
 use Rattle.reader_threads.specs.Fed.{AllRead, ReadEach, ends_of}
 use Rattle.reader_threads.specs.Given.{Given, given_by}
 use Rattle.reader_threads.specs.Jobs.{pass_seen, passes_seen}
 use Rattle.reader_threads.specs.Seats.{AreSeats, IsSeat}
-use Rattle.reader_threads.specs.Starts.{RunsAll}
+use Rattle.reader_threads.specs.Starts.{EachPair, RunsAll}
 use Rattle.reader_threads.specs.declared.job.Job.{Job}
 use Rattle.reader_threads.specs.declared.job.JobEnd.{JobEnd}
 use Rattle.reader_threads.specs.declared.last_round.LastRound.{LastRound}
 use Rattle.reader_threads.specs.declared.last_round.LastRound.TheVariants.{NoneFailed}
 use Rattle.reader_threads.specs.declared.providers.Providers.{Providers}
 use Rattle.reader_threads.specs.declared.ran.AllEnds.{AllEnds}
+use Rattle.reader_threads.specs.Asked.{EachAsksOnly}
+use Rattle.reader_threads.proofs.Alone.{told_in_step}
 use Rattle.reader_threads.proofs.Closed.{same_head, within_by}
+use Rattle.reader_threads.proofs.Kept.{kept}
+use Rattle.reader_threads.proofs.Only.{one_only, others_only}
 use Rattle.reader_threads.proofs.Readers.{Ran, RanEach, all_read, are_all as all_of, leaves, passes, passes_fit as each_fits, ran_each}
 
 -- there are as many readers as were given something
@@ -43,6 +49,12 @@ pub same_count : {A B : Type 0} (limits : Limits) (told : List Told) (rest : Las
     (ys : List B) → AllRead limits told (map given xs) (map reader ys) rest → length ys ≡ length xs
 same_count limits told rest given reader xs ys read =
     sym (length-map ys reader) ∙ (as_many limits told _ rest 0 read.read (map given xs) (map reader ys) read.fed.each read.each ∙ length-map xs given)
+
+-- what goes with nothing is nothing
+no_pairs : {A B : Type 0} (R : A → B → Type 0) (xs : List A) (ys : List B) → length xs ≡ 0 → EachPair R xs ys → ys ≡ []
+no_pairs R [] [] none each = refl
+no_pairs R [] (y ∷ ys) none each = absurd each
+no_pairs R (x ∷ xs) ys none each = absurd (omega (arith, none))
 
 -- what is written to all of a slice is what there is then
 pub written_back : {A : Type 0} (xs ys : List A) (n : ℕ) → length xs ≡ length ys → n ≡ length ys → take n (xs ++ drop (length xs) ys) ≡ xs
@@ -72,7 +84,7 @@ module _ {S V : Type 0} (left : S → Option (List ℕ)) (faults : S → ℕ) (s
   count = sym (length-map jobs (λ j. j.providers))
 
   one : Ran left faults says inquiries verifier_faults limits limit id head 0 (length jobs) own.providers end
-  one = record { old = pass_seen own.pass; seat = first; run = ran.runs }
+  one = record { old = pass_seen own.pass; seat = first; extent = own.extent; run = ran.runs }
 
   each : RanEach left faults says inquiries verifier_faults limits limit id head 1 given ended
   each = ran_each left faults says inquiries verifier_faults limits limit id head 1 jobs ended others ran.ends.each
@@ -103,3 +115,23 @@ module _ {S V : Type 0} (left : S → Option (List ℕ)) (faults : S → ℕ) (s
         subst (λ l. AllRead limits (told_of core) (map (given_by left faults says inquiries verifier_faults) (own.providers ∷ given))
         (map (reader_seen left faults says inquiries verifier_faults) l) NoneFailed) (sym ran.ends.readers_are)
         (all_read left faults says inquiries verifier_faults limits limit id head core within limits_are turns (length jobs) own.providers end given ended count one each closes)
+
+    -- what their verifiers were asked
+    pub what_was_asked : EachAsksOnly head.mode (told_of core) (map (given_by left faults says inquiries verifier_faults) (own.providers ∷ given))
+        (map (reader_seen left faults says inquiries verifier_faults) all.ends.readers.items)
+    what_was_asked =
+        let begins = closes.begins in
+        subst (λ l. EachAsksOnly head.mode (told_of core) (map (given_by left faults says inquiries verifier_faults) (own.providers ∷ given)) (map (reader_seen left faults says inquiries verifier_faults) l))
+        (sym ran.ends.readers_are) (
+          one_only left faults says inquiries verifier_faults limits limit id head (told_of core) 0 (length jobs) own.providers end one begins.0,
+          others_only left faults says inquiries verifier_faults limits limit id head (told_of core) 1 given ended each begins.1,
+        )
+
+    -- one reader alone, who asked the first question each time
+    pub alone_in_step : length jobs ≡ 0 → own.extent ≡ First → IsInStep head.mode (told_of core)
+    alone_in_step none is =
+        let k = kept limits limit own.extent (given_by left faults says inquiries verifier_faults own.providers).source (given_by left faults says inquiries verifier_faults own.providers).verifier
+        (pass_seen own.pass) (reader_seen left faults says inquiries verifier_faults ran.first) (pass_seen all.pass) first.own ran.runs in
+        let number : (known all.pass).number ≡ 0 = k.stays.number ∙ first.number_is in
+        told_in_step head (known all.pass) k.share core k.own number (k.stays.splits ∙ (first.splits_are ∙ none)) (k.stays.head ∙ first.head_is) (k.alone is)
+        (subst (λ l. ClosesAll told_of head_of reader_of (known all.pass) (passes left faults says inquiries verifier_faults limits limit id head l) core) (no_pairs _ jobs ended none ran.ends.each) closes)

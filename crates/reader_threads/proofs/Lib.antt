@@ -6,6 +6,8 @@ pub mod Counts
 pub mod Carried
 pub mod OneFed
 pub mod Readers
+pub mod Only
+pub mod Alone
 pub mod Closed
 pub mod Ended
 pub mod Verdicts

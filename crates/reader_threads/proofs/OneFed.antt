@@ -17,6 +17,7 @@ use Rattle.turn_lock.specs.Histories.{share_of}
 use Rattle.validator_core.specs.Verdicts.{inquiries_in}
 use Rattle.turn_lock.specs.Known.{OwnsAlone}
 use Rattle.reader_hub.specs.declared.core_head.CoreHead.{CoreHead}
+use Rattle.reader_hub.specs.declared.extent.Extent.{Extent}
 use Rattle.shared_reader.specs.Asks.{AsksFor, verdict_count}
 use Rattle.shared_reader.specs.Offers.{IsEntryOf}
 use Rattle.shared_reader.specs.Taken.{standing}
@@ -63,9 +64,9 @@ module _ (limits : Limits) (told : List Told) (within : IsWithin limits [] told)
     reads_none source verifier close same is = feeds_none reader (ap (λ r. r.refused) is) (shares [] (subst (λ (x : PassSeen). OwnsAlone x.pass []) (sym same) own))
 
     -- it was given both
-    reads_from : (limit : ℕ) (source : SourceTold) (verifier : VerifierTold) → limit ≡ limits.turns → ReadsStream limits limit source verifier old reader new
+    reads_from : (limit : ℕ) (extent : Extent) (source : SourceTold) (verifier : VerifierTold) → limit ≡ limits.turns → ReadsStream limits limit extent source verifier old reader new
         → new.pass.head ≡ Some head → IsPrefix new.pass.seen told → new.pass.past ≤ most → ReadIn limits told most k (Some source) (Some verifier) reader
-    reads_from limit source verifier turns run head_is begins past =
+    reads_from limit extent source verifier turns run head_is begins past =
         let r = run.reads in
         let share : share_of reader_of k told ≡ r.share = shares r.share r.own in
         let said : said_by reader.verifier ≡ verifier.says = ap said_by run.verifier_is ∙ r.same.says in
@@ -95,8 +96,8 @@ module _ (limits : Limits) (told : List Told) (within : IsWithin limits [] told)
             more = r.more;
             gave = r.gave;
             closes = λ some. closes_stream limits told within most k
-                (standing limit old.lock old.pass verifier.says verifier.inquiries verifier.faults [])
-                (standing limit new.lock new.pass run.verifier_left.says run.verifier_left.inquiries run.verifier_left.faults reader.refused)
+                (standing extent limit old.lock old.pass verifier.says verifier.inquiries verifier.faults [])
+                (standing extent limit new.lock new.pass run.verifier_left.says run.verifier_left.inquiries run.verifier_left.faults reader.refused)
                 source run.source_left verifier run.verifier_left turns refl refl head head_is limits_are begins past r.bytes
                 (map (λ j. j.message) r.feeds_are.offered) reader.close (r.closes some);
             none_failed = λ other none. r.none_failed other;
@@ -124,9 +125,9 @@ module _ (limits : Limits) (told : List Told) (within : IsWithin limits [] told)
           close_is = ap (λ r. r.close) is;
         }
 
-    pub reads_in : (limit : ℕ) (source : Option SourceTold) (verifier : Option VerifierTold) → limit ≡ limits.turns → RunsBy limits limit source verifier old reader new
+    pub reads_in : (limit : ℕ) (extent : Extent) (source : Option SourceTold) (verifier : Option VerifierTold) → limit ≡ limits.turns → RunsBy limits limit extent source verifier old reader new
         → new.pass.head ≡ Some head → IsPrefix new.pass.seen told → new.pass.past ≤ most → ReadIn limits told most k source verifier reader
-    reads_in limit None None turns run head_is begins past = record { bytes = []; feeds = reads_none None None ReadFault run.0 run.1; reads = (run.1, refl) }
-    reads_in limit None (Some verifier) turns run head_is begins past = record { bytes = []; feeds = reads_none None (Some verifier) ReadFault run.0 run.1; reads = (reads_nothing verifier run.0 run.1, refl) }
-    reads_in limit (Some source) None turns run head_is begins past = record { bytes = []; feeds = reads_none (Some source) None VerifierFault run.0 run.1; reads = (run.1, refl) }
-    reads_in limit (Some source) (Some verifier) turns run head_is begins past = reads_from limit source verifier turns run head_is begins past
+    reads_in limit extent None None turns run head_is begins past = record { bytes = []; feeds = reads_none None None ReadFault run.0 run.1; reads = (run.1, refl) }
+    reads_in limit extent None (Some verifier) turns run head_is begins past = record { bytes = []; feeds = reads_none None (Some verifier) ReadFault run.0 run.1; reads = (reads_nothing verifier run.0 run.1, refl) }
+    reads_in limit extent (Some source) None turns run head_is begins past = record { bytes = []; feeds = reads_none (Some source) None VerifierFault run.0 run.1; reads = (run.1, refl) }
+    reads_in limit extent (Some source) (Some verifier) turns run head_is begins past = reads_from limit extent source verifier turns run head_is begins past

@@ -22,6 +22,7 @@ use Rattle.validator_core.specs.View.{CoreView, told_of}
 use Rattle.reader_hub.specs.Closing.{AreAll, all_own, most_splits, all_turns, ClosesAll}
 use Rattle.reader_hub.specs.Hubs.{HubPass, head_of}
 use Rattle.reader_hub.specs.declared.core_head.CoreHead.{CoreHead}
+use Rattle.reader_hub.specs.declared.extent.Extent.{Extent}
 use Rattle.shared_reader.specs.Asks.{verdict_count}
 use Rattle.shared_reader.proofs.Verdicts.{verdict_count_grows}
 use Rattle.reader_threads.specs.Given.{Given, given_by}
@@ -47,7 +48,8 @@ or_right_true false b h = h
 pub record OneRun (limits : Limits) (limit : ℕ) (id : LockId) (head : CoreHead) (k splits : ℕ) (given : Given) (reader : Reader) (new : PassSeen) : Type 0 where
   pub old : PassSeen
   pub seat : IsSeat id head k splits old
-  pub run : RunsBy limits limit given.source given.verifier old reader new
+  pub extent : Extent
+  pub run : RunsBy limits limit extent given.source given.verifier old reader new
 
 -- what it leaves of the pass
 pub record OneLeft (id : LockId) (head : CoreHead) (k splits : ℕ) (reader : Reader) (new : PassSeen) : Type 0 where
@@ -63,7 +65,7 @@ pub one_left : (limits : Limits) (limit : ℕ) (id : LockId) (head : CoreHead) (
     → OneLeft id head k splits reader new
 one_left limits limit id head k splits given reader new o =
     let seat = o.seat in
-    let left = kept limits limit given.source given.verifier o.old reader new seat.own o.run in
+    let left = kept limits limit o.extent given.source given.verifier o.old reader new seat.own o.run in
     let number : new.pass.number ≡ k = left.stays.number ∙ seat.number_is in
     record {
       lock_is = left.lock ∙ seat.lock_is;
@@ -148,7 +150,7 @@ module _ {S V : Type 0} (left : S → Option (List ℕ)) (faults : S → ℕ) (s
   ran_each k [] [] seats t = tt
   ran_each k [] (e ∷ ends) seats t = absurd t
   ran_each k (j ∷ jobs) [] seats t = absurd t
-  ran_each k (j ∷ jobs) (e ∷ ends) seats t = (record { old = pass_seen j.pass; seat = seats.0; run = t.0 }, ran_each (k + 1) jobs ends seats.1 t.1)
+  ran_each k (j ∷ jobs) (e ∷ ends) seats t = (record { old = pass_seen j.pass; seat = seats.0; extent = j.extent; run = t.0 }, ran_each (k + 1) jobs ends seats.1 t.1)
 
   -- what the reader leaves
   pub leaves : (k splits : ℕ) (s : Providers S V) (e : JobEnd S V) → Ran k splits s e → OneLeft id head k splits (reader e) (pass_seen e.pass)
@@ -249,7 +251,7 @@ module _ {S V : Type 0} (left : S → Option (List ℕ)) (faults : S → ℕ) (s
         let l = leaves k splits s e r in
         reads_in limits told within most k head limits_are r.old (reader e) (pass_seen e.pass) r.seat.number_is r.seat.own
         (λ es own. share_is told (known e.pass).own rest k es shares (own ∙ ap (λ m. (m, es) ∷ []) l.number))
-        limit (given s).source (given s).verifier
+        limit r.extent (given s).source (given s).verifier
         turns r.run l.head_is begins past
 
     read_each : (k : ℕ) (others : List (Providers S V)) (ends : List (JobEnd S V)) → RanEach k others ends

@@ -27,6 +27,8 @@ use Rattle.shared_reader.specs.Asks.{AsksFor, Says, verdict_count}
 use Rattle.shared_reader.specs.ReadsOne.{is_stopped}
 use Rattle.shared_reader.proofs.Inquiries.{asked_on}
 use Rattle.shared_reader.proofs.Verdicts.{verdict_count-append}
+use Rattle.shared_reader.specs.Steps.{IsInStep}
+use Rattle.reader_threads.specs.Asked.{EachAsksOnly, EachGoesOn}
 use Rattle.reader_threads.specs.Fed.{AllRead, ClosesReader, ClosesStream, HasNoSource, NextFindsNoRoom, ReadEach, ReadsBy, ReadsFrom, ends_of, most_turns}
 use Rattle.reader_threads.specs.Given.{Given, end_of, said_by, unread}
 use Rattle.reader_threads.specs.LastRound.{AllGiveUp, AsksEach, AsksOne, AsksRest, FailsNow, GivesUp, IsAsked, IsAskedIfThere, IsHeardOf, OneFails, unheard_by}
@@ -35,6 +37,7 @@ use Rattle.reader_threads.specs.declared.last_round.LastRound.{LastRound}
 use Rattle.reader_threads.specs.declared.last_round.LastRound.TheVariants.{NoneFailed}
 use Rattle.reader_threads.proofs.Carried.{stays_away}
 use Rattle.reader_threads.proofs.Closed.{within_by}
+use Rattle.reader_threads.proofs.Only.{each_only_on}
 use Rattle.reader_threads.proofs.Rounds.{failed_then, fails_at, gives_up_at, no_body, none_took, not_then, one_unheard, same_reader, unsaid}
 
 -- No message was told in the last round: `more` came behind what was told, all of it verdicts.
@@ -354,8 +357,9 @@ module _ (limits : Limits) (told more : List Told) (count : ℕ) (verdicts : All
 
 -- what all readers told, with the last round
 pub all_told : (mode : Mode) (limits : Limits) (given : List Given) (olds news : List Reader) (old new : CoreView) (rest : LastRound) → AllRead limits (told_of old) given olds NoneFailed
-    → AsksRest 0 olds news old new rest → old.mode ≡ mode → old.limits ≡ limits → old.base ≡ 0 → Stands new → AllTold mode limits given news rest new
-all_told mode limits given olds news old new rest read asks mode_is limits_are no_base stands = record {
+    → EachAsksOnly mode (told_of old) given olds → (length olds ≡ 1 → IsInStep mode (told_of old)) → AsksRest 0 olds news old new rest
+    → old.mode ≡ mode → old.limits ≡ limits → old.base ≡ 0 → Stands new → AllTold mode limits given news rest new
+all_told mode limits given olds news old new rest read before alone asks mode_is limits_are no_base stands = record {
   read = subst (λ (l : List Told). AllRead limits l given news rest) (sym asks.behind)
       (all_read_on limits (told_of old) asks.more (length olds) asks.verdicts within rest given olds news read asks.each (omega arith));
   asked = λ some. elim (asks.asked some) [
@@ -363,6 +367,9 @@ all_told mode limits given olds news old new rest read asks mode_is limits_are n
     | inr up ↦ inr (all_gave_up limits (told_of old) asks.more (length olds) asks.verdicts within rest given olds news read asks.each (omega arith) up)
   ];
   failed = λ e. one_did limits (told_of old) asks.more (length olds) asks.verdicts within rest given olds news read asks.each (omega arith) (asks.failed e);
+  only = each_only_on mode (told_of old) (told_of new) (asks.more, sym asks.behind) given olds news before (subst (λ (m : Mode). EachGoesOn m (told_of new) olds news) mode_is (asks.only no_base));
+  alone = λ one. subst (λ (m : Mode). IsInStep m (told_of new)) mode_is
+      (asks.in_step no_base (subst (λ (m : Mode). IsInStep m (told_of old)) (sym mode_is) (alone (sym (as_many limits (told_of old) asks.more (length olds) asks.verdicts within rest 0 olds news asks.each) ∙ one))));
   mode_is = mode_now;
   limits_are = limits_now;
   no_base = base_now;

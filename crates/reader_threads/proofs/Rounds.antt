@@ -3,6 +3,7 @@ use Rattle.std.proofs.Common.{◌≡◌, ◌≢◌, ℕ, ◌+◌, ◌<◌, ◌�
 use Rattle.std.specs.Prelude.{All}
 use Rattle.std.proofs.lemmas.List.Elements.{All-append, All-nil, All-weaker, recursion_from_All}
 use Rattle.keri_specs.specs.Causes.{Rose}
+use Rattle.journal.specs.declared.mode.Mode.{Mode}
 use Rattle.journal.specs.Feeds.{IsHeardFrom, is_taken_by, reader_of}
 use Rattle.journal.specs.History.{Told, took, heard, taken}
 use Rattle.run_status.specs.Readers.{Reader, VerifierTold, close_found}
@@ -15,9 +16,12 @@ use Rattle.validator_core.proofs.OpenQuestions.{follows_itself, follows_on}
 use Rattle.shared_reader.specs.Asks.{AsksFor, IsVerdict, Says, verdict_count}
 use Rattle.shared_reader.proofs.Inquiries.{at_most, none_asked}
 use Rattle.shared_reader.proofs.Verdicts.{verdict_count-append}
+use Rattle.shared_reader.specs.Steps.{IsInStep}
+use Rattle.reader_threads.specs.Asked.{EachGoesOn}
 use Rattle.reader_threads.specs.LastRound.{AllGiveUp, AsksEach, AsksOne, AsksRest, CountsFault, FailsNow, GivesUp, Hears, IsAsked, IsAskedIfThere, IsHeardOf, OneFails, joined, unheard_by}
 use Rattle.reader_threads.specs.declared.last_round.LastRound.{LastRound}
 use Rattle.reader_threads.specs.declared.last_round.LastRound.TheVariants.{NoneFailed, VerifierFailed, OutOfMemory}
+use Rattle.reader_threads.proofs.Only.{still_each, there_later}
 
 -- what became of two parts of the round, by that of both
 both_answered : (here later : LastRound) → joined here later ≡ NoneFailed → (here ≡ NoneFailed) × (later ≡ NoneFailed)
@@ -143,6 +147,13 @@ rest_on n old new olds news first middle last here later a b = record {
   quiet = λ none. b.quiet (subst (λ (c : CoreView). open_of c ≡ []) (sym (a.quiet none)) none) ∙ a.quiet none;
   asked = λ some. (let both = neither_out here later some in ends (a.asked both.0) (b.asked both.1));
   failed = λ e. fails (one_failed here later e);
+  only = λ base. (
+    there_later first.mode (told_of middle) (told_of last) (b.more, sym b.behind) old.verifier new.verifier (a.only base).0,
+    subst (λ (m : Mode). EachGoesOn m (told_of last) olds news) a.follows.mode (b.only (a.follows.base ∙ base)),
+  );
+  in_step = λ base steps.
+      subst (λ (m : Mode). IsInStep m (told_of last)) a.follows.mode
+      (b.in_step (a.follows.base ∙ base) (subst (λ (m : Mode). IsInStep m (told_of middle)) (sym a.follows.mode) (a.in_step base steps)));
 }
   where
     ends : (open_of middle ≡ []) ⊎ AllGiveUp (old ∷ []) (new ∷ []) → (open_of last ≡ []) ⊎ AllGiveUp olds news → (open_of last ≡ []) ⊎ AllGiveUp (old ∷ olds) (new ∷ news)
@@ -181,6 +192,8 @@ still n readers core rest asked other = record {
   quiet = λ none. refl;
   asked = asked;
   failed = λ e. absurd (other e);
+  only = λ base. still_each core.mode (told_of core) readers;
+  in_step = λ base steps. steps;
 }
 
 pub rest_none : (n : ℕ) (core : CoreView) → AsksRest n [] [] core core NoneFailed
@@ -251,6 +264,8 @@ module _ (n : ℕ) (old new : Reader) (v w : VerifierTold) (first last : CoreVie
     quiet = quiet;
     asked = by_rest rest faults none_open;
     failed = λ e. inl (rw (old_is, new_verifier) (subst (λ (r : LastRound). CountsFault r v.faults w.faults) e faults));
+    only = λ base. (rw (old_is, new_verifier) (h.only base), tt);
+    in_step = h.in_step;
   }
     where
       by_rest : (r : LastRound) → CountsFault r v.faults w.faults → (r ≡ NoneFailed → open_of last ≡ []) → r ≢ OutOfMemory → (open_of last ≡ []) ⊎ AllGiveUp (old ∷ []) (new ∷ [])

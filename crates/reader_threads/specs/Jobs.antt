@@ -32,6 +32,6 @@ module _ {S V : Type 0} (left : S → Option (List ℕ)) (faults : S → ℕ) (s
     (inquiries : V → Option (List Inquiry)) (verifier_faults : V → ℕ) (limits : Limits) (limit : ℕ) where
   -- what a reader hands back, for its job
   abbrev pub HasRun : Job S V → JobEnd S V → Type 0
-  HasRun job end = RunsBy limits limit (given_by left faults says inquiries verifier_faults job.providers).source
+  HasRun job end = RunsBy limits limit job.extent (given_by left faults says inquiries verifier_faults job.providers).source
       (given_by left faults says inquiries verifier_faults job.providers).verifier (pass_seen job.pass)
       (reader_seen left faults says inquiries verifier_faults end.reader) (pass_seen end.pass)

@@ -9,7 +9,9 @@ use Rattle.journal.specs.History.{Told, took, heard}
 use Rattle.run_status.specs.Readers.{Reader, VerifierTold, close_found}
 use Rattle.turn_lock.specs.Histories.{share_of}
 use Rattle.validator_core.specs.View.{CoreView, Follows, open_of, told_of}
-use Rattle.shared_reader.specs.Asks.{AsksFor, IsVerdict, Says, verdict_count}
+use Rattle.shared_reader.specs.Asks.{AsksFor, AsksOnly, IsVerdict, Says, verdict_count}
+use Rattle.shared_reader.specs.Steps.{IsInStep}
+use Rattle.reader_threads.specs.Asked.{EachGoesOn}
 use Rattle.reader_threads.specs.declared.last_round.LastRound.{LastRound}
 use Rattle.reader_threads.specs.declared.last_round.LastRound.TheVariants.{NoneFailed, VerifierFailed, OutOfMemory}
 
@@ -21,13 +23,21 @@ pub record NotesAs (number : ℕ) (old : CoreView) (q : Question) (verdict : Boo
   pub follows : Follows old new
 
 -- Verdicts of the reader of this number came behind what was told, and nothing else. They are what is said, the verifier was asked
--- for them, and so many questions at most besides.
+-- for them, and so many questions at most besides, all of them told or open. Of a core that began with nothing each verdict is on the
+-- first question that was open.
 pub record Hears (number : ℕ) (says : Says) (before now : Option (List Inquiry)) (old new : CoreView) (unheard : ℕ) : Type 0 where
   pub verdicts : List Told
   pub behind : told_of new ≡ told_of old ++ verdicts
   pub each : All (IsVerdict number says) verdicts
   pub inquired : AsksFor before now verdicts (verdict_count verdicts + unheard)
   pub follows : Follows old new
+  pub only : old.base ≡ 0 → AsksOnly before now old.mode (told_of new)
+  pub in_step : old.base ≡ 0 → IsInStep old.mode (told_of old) → IsInStep old.mode (told_of new)
+
+-- one question was asked at most, which is open, and no verdict is told
+pub record AsksUnheard (before now : Option (List Inquiry)) (core : CoreView) : Type 0 where
+  pub few : AsksFor before now [] 1
+  pub only : core.base ≡ 0 → AsksOnly before now core.mode (told_of core)
 
 -- what became of two parts of the last round
 abbrev pub joined : LastRound → LastRound → LastRound
@@ -109,7 +119,8 @@ OneFails (old ∷ olds) [] = ⊥
 OneFails [] news = ⊥
 
 -- The verifiers of these readers, the first of them having this number, were asked in order what was open: until nothing was, or
--- each had failed, or there was no memory. Verdicts came behind what was told, and nothing else; none where nothing was open.
+-- each had failed, or there was no memory. Verdicts came behind what was told, and nothing else; none where nothing was open. Of a
+-- core that began with nothing they were asked only what is told or open, and each verdict is on the first question that was open.
 pub record AsksRest (number : ℕ) (old new : List Reader) (core_old core_new : CoreView) (rest : LastRound) : Type 0 where
   pub more : List Told
   pub behind : told_of core_new ≡ told_of core_old ++ more
@@ -119,3 +130,5 @@ pub record AsksRest (number : ℕ) (old new : List Reader) (core_old core_new : 
   pub quiet : open_of core_old ≡ [] → core_new ≡ core_old
   pub asked : rest ≢ OutOfMemory → (open_of core_new ≡ []) ⊎ AllGiveUp old new
   pub failed : rest ≡ VerifierFailed → OneFails old new
+  pub only : core_old.base ≡ 0 → EachGoesOn core_old.mode (told_of core_new) old new
+  pub in_step : core_old.base ≡ 0 → IsInStep core_old.mode (told_of core_old) → IsInStep core_old.mode (told_of core_new)

@@ -4,6 +4,7 @@ pub mod Jobs
 pub mod Starts
 pub mod Rooms
 pub mod Seats
+pub mod Asked
 pub mod Fed
 pub mod LastRound
 pub mod Told

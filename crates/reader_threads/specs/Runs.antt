@@ -5,6 +5,7 @@ use Rattle.run_status.specs.Readers.{Reader, SourceTold, VerifierTold}
 use Rattle.run_status.specs.declared.close.Close.TheVariants.{ReadFault, VerifierFault}
 use Rattle.turn_lock.specs.Locks.{LockId}
 use Rattle.reader_hub.specs.Hubs.{HubPass}
+use Rattle.reader_hub.specs.declared.extent.Extent.{Extent}
 use Rattle.shared_reader.specs.ReadsOne.{ReadsOne}
 use Rattle.shared_reader.specs.Taken.{standing}
 use Rattle.reader_threads.specs.Given.{unread}
@@ -14,20 +15,21 @@ pub record PassSeen : Type 0 where
   pub lock : LockId
   pub pass : HubPass
 
--- With a pass of a lock for so many turns, one stream was read and one verifier asked. These are what is left of both.
-pub record ReadsStream (limits : Limits) (limit : ℕ) (source : SourceTold) (verifier : VerifierTold) (old : PassSeen) (reader : Reader)
+-- With a pass of a lock for so many turns, one stream was read and one verifier asked, to that extent. These are what is left of
+-- both.
+pub record ReadsStream (limits : Limits) (limit : ℕ) (extent : Extent) (source : SourceTold) (verifier : VerifierTold) (old : PassSeen) (reader : Reader)
     (new : PassSeen) : Type 0 where
   pub source_left : SourceTold
   pub verifier_left : VerifierTold
   pub source_is : reader.source ≡ Some source_left
   pub verifier_is : reader.verifier ≡ Some verifier_left
   pub none_seen : reader.seen ≡ []
-  pub reads : ReadsOne limits (standing limit old.lock old.pass verifier.says verifier.inquiries verifier.faults [])
-      (standing limit new.lock new.pass verifier_left.says verifier_left.inquiries verifier_left.faults reader.refused) source source_left reader.close
+  pub reads : ReadsOne limits (standing extent limit old.lock old.pass verifier.says verifier.inquiries verifier.faults [])
+      (standing extent limit new.lock new.pass verifier_left.says verifier_left.inquiries verifier_left.faults reader.refused) source source_left reader.close
 
 -- The stream was read where there were both a source and a verifier. Where one of them is lacking nothing was read, the pass and
 -- the other one are as they were, and the reader closes by what is lacking.
-abbrev pub RunsBy : Limits → ℕ → Option SourceTold → Option VerifierTold → PassSeen → Reader → PassSeen → Type 0
-RunsBy limits limit None verifier old reader new = (new ≡ old) × (reader ≡ unread None verifier ReadFault)
-RunsBy limits limit (Some source) None old reader new = (new ≡ old) × (reader ≡ unread (Some source) None VerifierFault)
-RunsBy limits limit (Some source) (Some verifier) old reader new = ReadsStream limits limit source verifier old reader new
+abbrev pub RunsBy : Limits → ℕ → Extent → Option SourceTold → Option VerifierTold → PassSeen → Reader → PassSeen → Type 0
+RunsBy limits limit extent None verifier old reader new = (new ≡ old) × (reader ≡ unread None verifier ReadFault)
+RunsBy limits limit extent (Some source) None old reader new = (new ≡ old) × (reader ≡ unread (Some source) None VerifierFault)
+RunsBy limits limit extent (Some source) (Some verifier) old reader new = ReadsStream limits limit extent source verifier old reader new

@@ -1,11 +1,13 @@
 -- What all readers told a core, with the last round.
-use Rattle.std.specs.Prelude.{◌≡◌, ◌≢◌, ◌⊎◌, List, [], ◌∷◌, Option, Some, None}
+use Rattle.std.specs.Prelude.{◌≡◌, ◌≢◌, ◌⊎◌, List, [], ◌∷◌, length, Option, Some, None}
 use Rattle.keri_specs.specs.Causes.{Rose}
 use Rattle.keri_outside.specs.declared.limits.Limits.{Limits}
 use Rattle.journal.specs.declared.mode.Mode.{Mode}
 use Rattle.journal.specs.Questions.{questions}
 use Rattle.run_status.specs.Readers.{Reader, VerifierTold}
 use Rattle.validator_core.specs.View.{CoreView, Stands, told_of}
+pub use Rattle.shared_reader.specs.Steps.{IsInStep}
+use Rattle.reader_threads.specs.Asked.{EachAsksOnly}
 use Rattle.reader_threads.specs.Fed.{AllRead}
 use Rattle.reader_threads.specs.Given.{Given}
 use Rattle.reader_threads.specs.declared.last_round.LastRound.{LastRound}
@@ -36,11 +38,14 @@ SomeFailed (g ∷ given) [] = ⊥
 SomeFailed (g ∷ given) (reader ∷ readers) = HasFailed g.verifier reader.verifier ⊎ SomeFailed given readers
 
 -- Readers that were given this told the core what they read. What was open then was asked of their verifiers, until nothing was
--- open or each had failed, unless there was no memory.
+-- open or each had failed, unless there was no memory. Verifiers were asked only what is told or open. What one reader alone told is
+-- in step.
 pub record AllTold (mode : Mode) (limits : Limits) (given : List Given) (readers : List Reader) (rest : LastRound) (core : CoreView) : Type 0 where
   pub read : AllRead limits (told_of core) given readers rest
   pub asked : rest ≢ OutOfMemory → (questions mode [] (told_of core) ≡ []) ⊎ EachFailed given readers
   pub failed : rest ≡ VerifierFailed → SomeFailed given readers
+  pub only : EachAsksOnly mode (told_of core) given readers
+  pub alone : length readers ≡ 1 → IsInStep mode (told_of core)
   pub mode_is : core.mode ≡ mode
   pub limits_are : core.limits ≡ limits
   pub no_base : core.base ≡ 0

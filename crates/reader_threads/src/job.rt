@@ -10,20 +10,22 @@ ghost use Rattle.reader_threads.specs.Runs.{ReadsStream};
 use crate::Providers;
 use keri_outside::{Gate, Limits, Source, Verifier};
 use lists::Items;
-use reader_hub::{Hub, Pass};
+use reader_hub::{Extent, Hub, Pass};
 use run_status::{Close, ReaderEnd};
 use shared_reader::{ReadOne, read_one};
 use std::alloc::Global;
 use std::sync::Wait;
 
-/// A pass for a reader, and what the reader is given.
+/// A pass for a reader, which open questions it asks between messages, and what it is given.
 #[derive(Drop)]
 pub(crate) struct Job<S, V> {
     pub(crate) pass: Pass,
+    pub(crate) extent: Extent,
     pub(crate) providers: Providers<S, V>,
 }
 
-/// The jobs of these passes, in order, with what their readers are given. It takes no memory.
+/// The jobs of these passes, in order, with what their readers are given, who ask what no other reader is asking. It takes
+/// no memory.
 pub(crate) fn jobs_for<S: Drop, V: Drop>(
     passes: Vec<Pass>,
     providers: Vec<Providers<S, V>>,
@@ -38,6 +40,7 @@ pub(crate) fn jobs_for<S: Drop, V: Drop>(
     for (pass, given) in passes.into_iter().zip(providers) {
         jobs.push_reserved(Job {
             pass,
+            extent: Extent::Free,
             providers: given,
         });
     }
@@ -64,7 +67,11 @@ pub(crate) fn run_job<S: Source + Drop, V: Verifier + Drop, G: Gate, W: Wait>(
     requires own { OwnsAlone (known job.pass) [] }
     ensures { HasRun S.left S.faults V.says V.inquiries V.faults limits (limit_of hub.now.turn) job result }
 {
-    let Job { pass, providers } = job;
+    let Job {
+        pass,
+        extent,
+        providers,
+    } = job;
     let Providers { source, verifier } = providers;
     let Some(source) = source else {
         return unread(alloc, pass, None, verifier, Close::ReadFault);
@@ -72,7 +79,7 @@ pub(crate) fn run_job<S: Source + Drop, V: Verifier + Drop, G: Gate, W: Wait>(
     let Some(verifier) = verifier else {
         return unread(alloc, pass, Some(source), None, Close::VerifierFault);
     };
-    read(rt, alloc, hub, gate, limits, pass, source, verifier)
+    read(rt, alloc, hub, gate, limits, pass, extent, source, verifier)
 }
 
 // The end of a reader that reads nothing.
@@ -108,12 +115,13 @@ fn read<S: Source + Drop, V: Verifier + Drop, G: Gate, W: Wait>(
     gate: &G,
     limits: Limits,
     pass: Pass,
+    extent: Extent,
     source: S,
     verifier: V,
 ) -> JobEnd<S, V>
     requires pass { IsPassOf hub.now.turn pass }
     requires own { OwnsAlone (known pass) [] }
-    ensures { ReadsStream limits (limit_of hub.now.turn)
+    ensures { ReadsStream limits (limit_of hub.now.turn) extent
         (source_seen S.left S.faults V.says V.inquiries V.faults source)
         (verifier_seen S.left S.faults V.says V.inquiries V.faults verifier) (pass_seen pass)
         (reader_seen S.left S.faults V.says V.inquiries V.faults result.reader) (pass_seen result.pass) }
@@ -124,7 +132,7 @@ fn read<S: Source + Drop, V: Verifier + Drop, G: Gate, W: Wait>(
         verifier,
         refused,
         close,
-    } = read_one(rt, alloc, hub, pass, source, verifier, gate, limits);
+    } = read_one(rt, alloc, hub, pass, source, verifier, gate, limits, extent);
     let reader = ReaderEnd {
         source: Some(source),
         verifier: Some(verifier),

@@ -4,8 +4,7 @@ ghost use Rattle.keri_specs.specs.Causes.{Rose};
 ghost use Rattle.run_status.specs.Readers.{reader_seen};
 ghost use Rattle.validator_core.specs.Verdicts.{AsksAbout, IsFaultOf, IsOpen, IsSaid};
 ghost use Rattle.validator_core.specs.View.{open_of, unheard_of};
-ghost use Rattle.shared_reader.specs.Asks.{AsksFor};
-ghost use Rattle.reader_threads.specs.LastRound.{AsksRest, Hears, NotesAs, joined};
+ghost use Rattle.reader_threads.specs.LastRound.{AsksRest, AsksUnheard, Hears, NotesAs, joined};
 
 use journal::Question;
 use keri_outside::{Failed, Source, Steps, Verifier};
@@ -123,7 +122,7 @@ fn ask_one<V: Verifier>(
     requires { IsOpen core.old question.now }
     ensures hears { OnOk result (Hears number (V.says verifier.old) (V.inquiries verifier.old) (V.inquiries verifier.new)
         core.old core.new 0) }
-    ensures unheard { OnErr result (AsksFor (V.inquiries verifier.old) (V.inquiries verifier.new) [] 1) }
+    ensures unheard { OnErr result (AsksUnheard (V.inquiries verifier.old) (V.inquiries verifier.new) core.old) }
     ensures fewer { OnOk result (unheard_of core.new < unheard_of core.old) }
     ensures same { V.says verifier.new ≡ V.says verifier.old }
     ensures none_failed { OnOk result (V.faults verifier.new ≡ V.faults verifier.old) }

@@ -2,10 +2,12 @@
 ghost use Rattle.std.specs.Prelude.{◌≡◌, ◌<◌, [], length, map, vec_len, IfOk};
 ghost use Rattle.run_status.specs.Readers.{reader_seen};
 ghost use Rattle.validator_core.specs.View.{Stands, told_of};
+ghost use Rattle.reader_threads.specs.Asked.{EachAsksOnly};
 ghost use Rattle.reader_threads.specs.Fed.{AllRead};
 ghost use Rattle.reader_threads.specs.Given.{given_by};
 ghost use Rattle.reader_threads.specs.Seats.{AreReady, HasSeats, mode_of};
 ghost use Rattle.reader_threads.specs.Told.{AllTold};
+ghost use Rattle.shared_reader.specs.Steps.{IsInStep};
 
 use crate::job::{Job, jobs_for};
 use crate::last_round::ask_rest;
@@ -14,7 +16,7 @@ use crate::ran::{AllEnds, Ran, Room, reserve, run_all};
 use crate::started::Ends;
 use crate::{LastRound, Providers};
 use keri_outside::{Gate, Limits, Source, Verifier};
-use reader_hub::{Hub, Pass};
+use reader_hub::{Extent, Hub, Pass};
 use run_status::ReaderEnd;
 use std::alloc::{AllocError, Global};
 use std::snapshot::Snapshot;
@@ -71,7 +73,8 @@ impl<S: Source + Drop + Send, V: Verifier + Drop + Send> ReaderSeats<S, V> {
 
     /// Each reader reads its source and asks its verifier, reader 0 on the main thread once the others were started, each
     /// of these in a thread of its own, or on the main thread where none can be made. Then what is still open is asked of
-    /// the verifiers that haven't failed, in the readers' order. It takes no memory but what the readers take.
+    /// the verifiers that haven't failed, in the readers' order. It takes no memory but what the readers take. One reader
+    /// alone asks each time the first open question, and takes a message once none is open.
     pub fn read<G: Gate + Sync, R: Threads + Wait + Sync>(
         self,
         rt: &R,
@@ -88,7 +91,7 @@ impl<S: Source + Drop + Send, V: Verifier + Drop + Send> ReaderSeats<S, V> {
     {
         let (mut core, mut readers) = self.run(rt, alloc, gate, providers);
         let rest = ask_rest(&mut core, readers.as_mut_slice());
-        stands(&core);
+        core.stands();
         Ran {
             core,
             readers,
@@ -112,6 +115,10 @@ impl<S: Source + Drop + Send, V: Verifier + Drop + Send> ReaderSeats<S, V> {
         ensures read { AllRead self.limits (told_of result.0)
             (map (given_by S.left S.faults V.says V.inquiries V.faults) providers.items)
             (map (reader_seen S.left S.faults V.says V.inquiries V.faults) result.1.items) LastRound.NoneFailed }
+        ensures only { EachAsksOnly (mode_of self) (told_of result.0)
+            (map (given_by S.left S.faults V.says V.inquiries V.faults) providers.items)
+            (map (reader_seen S.left S.faults V.says V.inquiries V.faults) result.1.items) }
+        ensures alone { vec_len providers ≡ 1 → IsInStep (mode_of self) (told_of result.0) }
     {
         let ReaderSeats {
             given: _,
@@ -125,20 +132,25 @@ impl<S: Source + Drop + Send, V: Verifier + Drop + Send> ReaderSeats<S, V> {
         let mut providers = providers;
         let own = Job {
             pass: first,
+            extent: extent_beside(others.len()),
             providers: providers.remove(0),
         };
         let jobs = jobs_for(others, providers, jobs);
         let AllEnds { pass, ends } = run_all(rt, alloc, &hub, gate, limits, own, jobs, room);
         let Ends { passes, readers } = ends;
         let core = hub.close(pass, passes);
-        stands(&core);
+        core.stands();
         (core, readers)
     }
 }
 
-// What is true of each core.
-fn stands(core: &Core)
-    ensures { Stands core.now }
+// Which open questions reader 0 asks between messages, beside so many others.
+fn extent_beside(others: usize) -> Extent
+    ensures alone { others ≡ 0 → result ≡ Extent.First }
 {
-    let _journal = core.journal();
+    if others == 0 {
+        Extent::First
+    } else {
+        Extent::Free
+    }
 }

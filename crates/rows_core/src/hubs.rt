@@ -131,12 +131,13 @@ fn given_to_both<W: Wait>(rt: &W, alloc: Global, message: &Message) -> Result<St
     let noted = asked(rt, alloc, &hub, &mut first)?;
     let free = key_given(rt, alloc, &hub, &mut first, Extent::Free)?;
     let all = key_given(rt, alloc, &hub, &mut first, Extent::All)?;
-    format!(in alloc; "{reply:?} {one} {other} {again} {noted} {free} {all}")
+    let next = key_given(rt, alloc, &hub, &mut first, Extent::First)?;
+    format!(in alloc; "{reply:?} {one} {other} {again} {noted} {free} {all} {next}")
 }
 
 /// `passes TEXT`: what becomes of the message by the first of two passes; the keys of the questions that this pass, and
 /// twice the other one, is given, which no other has; what becomes of the first's verdict; and the keys of what it is
-/// given then, of what no other has, and of all.
+/// given then, of what no other has, of all, and of the first question.
 pub(crate) fn passes<W: Wait>(rt: &W, alloc: Global, row: &Row) -> Result<String, AllocError> {
     let text = row.bytes(alloc, 1)?;
     match message_of(alloc, text.as_slice())? {

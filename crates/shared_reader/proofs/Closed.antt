@@ -56,7 +56,7 @@ none_taken (Some m) ms all made begun none = cc
 
 module _ (limits : Limits) (s t : Standing) (old new : SourceTold) where
   -- these messages were offered, the first of bytes that the source gave, and the reader closes so
-  reads_by : (close : Close) (bytes more : List ℕ) (ms : List Message) → Offers s.says s.inquiries t.inquiries s.pass t.pass t.refused ms 4 1 → IsSame s t → AreFirst limits bytes ms
+  reads_by : (close : Close) (bytes more : List ℕ) (ms : List Message) → Offers s.extent s.says s.inquiries t.inquiries s.pass t.pass t.refused ms 4 1 → IsSame s t → AreFirst limits bytes ms
       → (is_stopped close ≡ false → AreMessages limits bytes ms) → Gave old.left new.left (bytes ++ more)
       → (close ≢ OutOfMemory → ClosesStream limits s t old new bytes ms close) → (close ≢ VerifierFault → t.faults ≡ s.faults) → ReadsOne limits s t old new close
   reads_by close bytes more ms o same are all gave closes unfailed = record {
@@ -79,6 +79,8 @@ module _ (limits : Limits) (s t : Standing) (old new : SourceTold) where
     closes = λ some. rw o.messages_are (closes some);
     none_failed = unfailed;
     inquired = at_most s.inquiries t.inquiries o.share _ _ (omega arith) o.inquired;
+    only = o.only;
+    alone = o.alone;
     turns = (
         let turns = o.turns in
         let count = counted s.pass.number o.offered in
@@ -102,13 +104,13 @@ module _ (limits : Limits) (s t : Standing) (old new : SourceTold) where
   gave_by bytes reading items ms (Malformed place) c = absurd c
   gave_by bytes reading items ms OutOfMemory c = absurd c
 
-  reads_out : (bytes more : List ℕ) (ms : List Message) → Offers s.says s.inquiries t.inquiries s.pass t.pass t.refused ms 4 1 → IsSame s t → AreFirst limits bytes ms → Gave old.left new.left (bytes ++ more) → t.faults ≡ s.faults
+  reads_out : (bytes more : List ℕ) (ms : List Message) → Offers s.extent s.says s.inquiries t.inquiries s.pass t.pass t.refused ms 4 1 → IsSame s t → AreFirst limits bytes ms → Gave old.left new.left (bytes ++ more) → t.faults ≡ s.faults
       → ReadsOne limits s t old new OutOfMemory
   reads_out bytes more ms o same are gave unfailed = reads_by OutOfMemory bytes more ms o same are (λ e. cc) gave (λ some. absurd (some refl)) (λ other. unfailed)
 
   module _ (bytes : List ℕ) (reading : Reading) (items : List Placed) (stream : Stream limits bytes reading items) where
     -- these messages were offered, others may come behind them, and the reader closes by this cause
-    reads_so : (close : Close) (ms later : List Message) → Offers s.says s.inquiries t.inquiries s.pass t.pass t.refused ms 4 1 → IsSame s t → ms ++ later ≡ messages limits.message_signatures items → (later ≡ [] → IsEnd (judged reading))
+    reads_so : (close : Close) (ms later : List Message) → Offers s.extent s.says s.inquiries t.inquiries s.pass t.pass t.refused ms 4 1 → IsSame s t → ms ++ later ≡ messages limits.message_signatures items → (later ≡ [] → IsEnd (judged reading))
         → (is_stopped close ≡ false → later ≡ []) → ClosesReader limits s t old new bytes reading items ms close → (close ≢ VerifierFault → t.faults ≡ s.faults) → ReadsOne limits s t old new close
     reads_so close ms later o same made whole unless closes unfailed =
         let gave = gave_by bytes reading items ms close closes in
@@ -150,7 +152,7 @@ module _ (limits : Limits) (s t : Standing) (old new : SourceTold) where
         → Gave old.left new.left bytes → (AreAsked s.pass t.pass ms → ClosesReader limits s t old new bytes reading items ms source_close) → ReadsOne limits s t old new close
     reads_ended source_close close ms (inl taken) all ends gave closes =
         subst (λ c. ReadsOne limits s t old new c) (sym taken.2)
-        (reads_so source_close ms [] (offers_besides s.says s.inquiries t.inquiries s.pass t.pass t.refused ms 0 4 0 1 (omega arith) (omega arith) taken.0.offers) taken.0.same (append-nil ms ∙ all) (λ none. ends) (λ unstopped. refl)
+        (reads_so source_close ms [] (offers_besides s.extent s.says s.inquiries t.inquiries s.pass t.pass t.refused ms 0 4 0 1 (omega arith) (omega arith) taken.0.offers) taken.0.same (append-nil ms ∙ all) (λ none. ends) (λ unstopped. refl)
         (closes taken.1) (λ other. taken.0.none_failed))
     reads_ended source_close close ms (inr stopped) all ends gave closes = reads_stopped close ms [] stopped (append-nil ms ∙ all) (λ none some. ends) gave
 
@@ -167,15 +169,15 @@ reads_stream seen limits s t old new taker feed.ReadFault close last f e =
 reads_stream seen limits s t old new taker feed.Full close last f e =
     let taken : HasTaken s t f.answered = subst (λ x. HasTaken s x f.answered) (sym e.1) f.takes in
     subst (λ c. ReadsOne limits s t old new c) (sym e.0)
-    (reads_so limits s t old new f.fed f.reading f.items f.stream Full f.answered (all_of last) (offers_besides s.says s.inquiries t.inquiries s.pass t.pass t.refused f.answered 0 4 0 1 (omega arith) (omega arith) taken.offers) taken.same f.all
+    (reads_so limits s t old new f.fed f.reading f.items f.stream Full f.answered (all_of last) (offers_besides s.extent s.says s.inquiries t.inquiries s.pass t.pass t.refused f.answered 0 4 0 1 (omega arith) (omega arith) taken.offers) taken.same f.all
     (λ none. rw f.closes.0.unfinished_item tt) (λ e. cc) (inl (f.closes, record { last = last; all = f.all })) (λ other. taken.none_failed))
 reads_stream seen limits s t old new taker feed.OutOfMemory close last f e =
     let taken : HasTaken s t f.answered = subst (λ x. HasTaken s x f.answered) (sym e.1) f.takes in
-    let offers = offers_besides s.says s.inquiries t.inquiries s.pass t.pass t.refused f.answered 0 4 0 1 (omega arith) (omega arith) taken.offers in
+    let offers = offers_besides s.extent s.says s.inquiries t.inquiries s.pass t.pass t.refused f.answered 0 4 0 1 (omega arith) (omega arith) taken.offers in
     subst (λ c. ReadsOne limits s t old new c) (sym e.0) (out last f.begun f.all taken offers)
   where
     out : (last : Option Message) → (last ≡ None → messages limits.message_signatures f.items ≡ []) → f.answered ++ all_of last ≡ messages limits.message_signatures f.items → HasTaken s t f.answered
-        → Offers s.says s.inquiries t.inquiries s.pass t.pass t.refused f.answered 4 1 → ReadsOne limits s t old new OutOfMemory
+        → Offers s.extent s.says s.inquiries t.inquiries s.pass t.pass t.refused f.answered 4 1 → ReadsOne limits s t old new OutOfMemory
     out (Some message) begun all taken offers =
         reads_out limits s t old new f.fed f.closes.0 f.answered offers taken.same (first_of limits f.fed f.reading f.items f.stream f.answered (message ∷ []) all (λ e. cc)) f.closes.1 taken.none_failed
     out None begun all taken offers =
@@ -186,8 +188,10 @@ reads_stream seen limits s t old new taker (feed.Stopped stop) close last f e =
     (reads_stopped limits s t old new f.fed f.reading f.items f.stream stop f.answered (all_of last) (subst (λ x. HasStopped s x stop f.answered) (sym e.1) f.takes) f.all
     (λ none some. absurd (some_open last f.answered none some f.begun f.all)) f.closes)
 
--- the limit and what was refused at first, written otherwise
-pub reads_at : (limits : Limits) (s t : Standing) (old new : SourceTold) (close : Close) → s.refused ≡ [] → ReadsOne limits s t old new close → ReadsOne limits (record s { refused = [] }) (record t { limit = s.limit }) old new close
+-- the extent, the limit and what was refused at first, written otherwise
+pub reads_at : (limits : Limits) (s t : Standing) (old new : SourceTold) (close : Close) → s.refused ≡ [] → ReadsOne limits s t old new close
+    → ReadsOne limits (record s { refused = [] }) (record t { extent = s.extent; limit = s.limit }) old new close
 reads_at limits s t old new close none r =
-    subst (λ l. ReadsOne limits (record s { refused = l }) (record t { limit = s.limit }) old new close) none
-    (subst (λ l. ReadsOne limits s (record t { limit = l }) old new close) r.same.limit r)
+    let same : ReadsOne limits s (record t { limit = s.limit }) old new close = subst (λ l. ReadsOne limits s (record t { limit = l }) old new close) r.same.limit r in
+    subst (λ l. ReadsOne limits (record s { refused = l }) (record t { extent = s.extent; limit = s.limit }) old new close) none
+    (subst (λ e. ReadsOne limits s (record t { extent = e; limit = s.limit }) old new close) r.same.extent same)

@@ -1,5 +1,7 @@
 pub mod Verdicts
 pub mod Turns
+pub mod Known
+pub mod Steps
 pub mod Inquiries
 pub mod Asked
 pub mod Offered

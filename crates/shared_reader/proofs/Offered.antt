@@ -1,5 +1,5 @@
 -- What offering a message does to what a pass knows.
-use Rattle.std.proofs.Common.{◌≡◌, ◌≢◌, ℕ, suc, ◌+◌, ◌≤◌, ◌⊎◌, inl, inr, List, [], ◌∷◌, ◌++◌, Option, Some, None, Result, Ok, Err, length-append, refl, sym, ◌∙◌, ap, subst, arith, append-nil, eq-eqb}
+use Rattle.std.proofs.Common.{◌≡◌, ◌≢◌, ℕ, suc, ◌+◌, ◌≤◌, ◌⊎◌, inl, inr, List, [], ◌∷◌, ◌++◌, Option, Some, None, Result, Ok, Err, length, length-append, refl, sym, ◌∙◌, ap, subst, arith, append-nil, eq-eqb}
 use Rattle.std.specs.Prelude.{All, filter, flat_map}
 use Rattle.std.proofs.lemmas.Bool.{cases_Bool}
 use Rattle.std.proofs.lemmas.Grind.{flat_map-append}
@@ -19,16 +19,22 @@ use Rattle.journal.specs.declared.reply.Reply.TheVariants.{Taken, Again, Refused
 use Rattle.journal.specs.CoreCalls.{Takes}
 use Rattle.journal.specs.Feeds.{GivesBody, entry_of, entry_unless, is_taken_by, noted_at, refusal_of}
 use Rattle.journal.specs.History.{Told, took, heard}
+use Rattle.journal.specs.Questions.{questions}
 use Rattle.journal.specs.Replies.{claims_of, is_again, is_full, refusal, reply_to}
 use Rattle.validator_core.specs.Verdicts.{inquiries_in}
 use Rattle.turn_lock.specs.Histories.{longer_share}
 use Rattle.turn_lock.specs.Known.{OwnsAlone}
-use Rattle.turn_lock.proofs.Histories.{longer_share-alone}
+use Rattle.turn_lock.proofs.Histories.{longer_share-alone, prefix_trans}
 use Rattle.reader_hub.specs.Hubs.{HubPass, TakesAt, TakesOver, TookTurn}
+use Rattle.reader_hub.specs.declared.extent.Extent.{Extent}
+use Rattle.reader_hub.specs.declared.extent.Extent.TheVariants.{First}
 use Rattle.shared_reader.specs.Asks.{Asks, AsksFor, IsVerdict, Says, TellsNothing, verdict_count}
 use Rattle.shared_reader.specs.Offers.{IsEntryOf, IsTurnedAway, Offers, OffersOne}
+use Rattle.shared_reader.specs.Steps.{IsInStep, SawNoneOpen, StepsAlone}
 use Rattle.shared_reader.proofs.Inquiries.{asked_on, at_most, none_asked}
-use Rattle.shared_reader.proofs.Turns.{idle_turn, seen_then, stays_on, turn_grows, turn_stays}
+use Rattle.shared_reader.proofs.Known.{only_later, only_on}
+use Rattle.shared_reader.proofs.Steps.{in_step_offered, steps_still, steps_turn}
+use Rattle.shared_reader.proofs.Turns.{idle_turn, seen_then, stays_on, turn_begins, turn_grows, turn_stays}
 
 -- what is noted of a message by the reply to it
 abbrev pub refused_as : ℕ → Reply → List Refusal
@@ -98,6 +104,12 @@ module _ (limit : ℕ) (p : HubPass) (m : Message) (q : HubPass) where
         body_is = t.takes.judged;
         own = ap (λ x. x.own) t.turn.now ∙ ap (λ es. longer_share p.number es p.own) entry;
         noted = noted ∙ ap (λ l. old ++ l) was.noted;
+        begins = turn_begins limit p t.meets.met t.more q t.turn t.meets.begins;
+        steps = λ share alone none.
+            subst (λ (l : List Told). StepsAlone q (share ++ l)) entry
+            (steps_turn limit p t.meets.met t.more q t.turn t.meets.begins share alone
+            (λ few head head_is same steps. subst (λ (l : List Told). IsInStep head.mode (t.meets.met ++ l)) (sym entry)
+            (in_step_offered head.mode t.meets.met steps (subst (λ (l : List Told). questions head.mode [] l ≡ []) (sym same) (none few head head_is)) p.number (refusal m t.takes.gives) m t.takes.gives)));
         seen = turn_grows limit p t.meets.met t.more q t.turn t.meets.begins;
         turns = ap (λ x. x.turns) t.turn.now;
       }
@@ -151,9 +163,9 @@ entry_unasked n None m (Ok e) = refl
 entry_unasked n None m (Err fault) = refl
 entry_unasked n (Some reason) m gives = refl
 
-pub offers_besides : (says : Says) (begun now : Option (List Inquiry)) (p q : HubPass) (refused : List Refusal) (ms : List Message) (k j c d : ℕ) → k ≤ j → c ≤ d → Offers says begun now p q refused ms k c
-    → Offers says begun now p q refused ms j d
-offers_besides says begun now p q refused ms k j c d le few o = record {
+pub offers_besides : (extent : Extent) (says : Says) (begun now : Option (List Inquiry)) (p q : HubPass) (refused : List Refusal) (ms : List Message) (k j c d : ℕ) → k ≤ j → c ≤ d
+    → Offers extent says begun now p q refused ms k c → Offers extent says begun now p q refused ms j d
+offers_besides extent says begun now p q refused ms k j c d le few o = record {
   stays = o.stays;
   share = o.share;
   own = o.own;
@@ -165,11 +177,14 @@ offers_besides says begun now p q refused ms k j c d le few o = record {
   each = o.each;
   turns = (let turns = o.turns in omega (arith, turns, le));
   inquired = at_most begun now o.share _ _ (omega (arith, few)) o.inquired;
+  only = o.only;
+  alone = o.alone;
 }
 
-module _ (says : Says) (begun asked : Option (List Inquiry)) (first p : HubPass) (refused : List Refusal) (before : List Message) (o : Offers says begun asked first p refused before 0 0) where
+module _ (extent : Extent) (says : Says) (begun asked : Option (List Inquiry)) (first p : HubPass) (refused : List Refusal) (before : List Message)
+    (o : Offers extent says begun asked first p refused before 0 0) where
   -- nothing more was offered
-  pub offers_still : (q : HubPass) → TellsNothing p q 1 → Offers says begun asked first q refused before 4 1
+  pub offers_still : (q : HubPass) → TellsNothing p q 1 → Offers extent says begun asked first q refused before 4 1
   offers_still q t = record {
     stays = stays_on first p q o.stays t.stays;
     share = o.share;
@@ -182,10 +197,13 @@ module _ (says : Says) (begun asked : Option (List Inquiry)) (first p : HubPass)
     each = o.each;
     turns = (let turns = o.turns in let more = t.turns in let seen = t.seen in omega (arith, turns, more, seen));
     inquired = (let seen = t.seen in at_most begun asked o.share _ _ (omega (arith, seen)) o.inquired);
+    only = λ head head_is. only_later head.mode p.seen q.seen t.begins begun asked (o.only head (sym t.stays.head ∙ head_is));
+    alone = λ is. steps_still p q 1 t o.share (o.alone is);
   }
 
   -- a message was offered, and then verdicts came
-  module _ (now : Option (List Inquiry)) (q r : HubPass) (later : List Refusal) (m : Message) (k j c : ℕ) (le : k ≤ suc j) (w : OffersOne p q refused later m) (a : Asks says asked now q r k c) where
+  module _ (none_open : extent ≡ First → length p.seen ≤ length o.share → SawNoneOpen p) (called : Extent) (goes_on : extent ≡ First → called ≡ First)
+      (now : Option (List Inquiry)) (q r : HubPass) (later : List Refusal) (m : Message) (k j c : ℕ) (le : k ≤ suc j) (w : OffersOne p q refused later m) (a : Asks called says asked now q r k c) where
     abbrev n : ℕ
     n = first.number
 
@@ -228,7 +246,7 @@ module _ (says : Says) (begun asked : Option (List Inquiry)) (first p : HubPass)
         let none = none_asked asked entry (entry_unasked p.number (refusal w.offered.message w.offered.gives) w.offered.message w.offered.gives) in
         asked_on begun asked now (o.share ++ entry) a.verdicts _ _ _ (omega (arith, grown, seen)) (asked_on begun asked asked o.share entry _ 0 (verdict_count p.seen) (omega arith) o.inquired none) a.inquired
 
-    pub offers_more : Offers says begun now first r later (before ++ m ∷ []) j c
+    pub offers_more : Offers extent says begun now first r later (before ++ m ∷ []) j c
     offers_more = record {
       stays = stays_on first p r o.stays (stays_on p q r w.stays a.stays);
       share = share;
@@ -249,4 +267,9 @@ module _ (says : Says) (begun asked : Option (List Inquiry)) (first p : HubPass)
           omega (arith, turns, one, grown, more, seen, long, le)
           );
       inquired = inquired_now;
+      only = λ head head_is. (
+          let since = prefix_trans p.seen q.seen r.seen w.begins a.begins in
+          only_on head.mode p.seen r.seen since begun asked now (o.only head (sym w.stays.head ∙ (sym a.stays.head ∙ head_is))) (a.only head head_is)
+          );
+      alone = λ is. a.steps (goes_on is) (o.share ++ entry) (w.steps o.share (o.alone is) (none_open is));
     }

@@ -12,8 +12,10 @@ use Rattle.shared_reader.specs.Asks.{Asks, LeavesNone, StopsAsking, TellsNothing
 use Rattle.reader_hub.specs.declared.extent.Extent.{Extent}
 use Rattle.shared_reader.specs.Offers.{IsKeptOut, OffersOne}
 use Rattle.shared_reader.specs.Taken.{HasTaken, IsSame, IsStopped, Standing, StopsAt, TakesOne}
+use Rattle.shared_reader.proofs.Asked.{none_asked_seen}
 use Rattle.shared_reader.proofs.Inquiries.{at_most, none_asked}
 use Rattle.shared_reader.proofs.Offered.{offers_more, offers_still}
+use Rattle.shared_reader.proofs.Steps.{alone_first, none_left, none_open_first}
 
 pub if_ok : {A E : Type 0} (r : Result A E) (P Q : Type 0) → (P → Q) → OnOk r P → OnOk r Q
 if_ok (Ok x) P Q f p = f p
@@ -30,7 +32,7 @@ on_err (Err e) P p = p
 -- a reader that has taken nothing
 pub nothing_taken : (s : Standing) → OwnsAlone s.pass [] → s.refused ≡ [] → HasTaken s s []
 nothing_taken s own none = record {
-  same = record { limit = refl; lock = refl; says = refl };
+  same = record { extent = refl; limit = refl; lock = refl; says = refl };
   offers = record {
     stays = record { number = refl; splits = refl; head = refl };
     share = [];
@@ -43,7 +45,10 @@ nothing_taken s own none = record {
     each = All-nil _;
     turns = omega arith;
     inquired = at_most s.inquiries s.inquiries [] 0 _ (omega arith) (none_asked s.inquiries [] refl);
+    only = none_asked_seen s.inquiries s.pass;
+    alone = λ is. alone_first s.pass;
   };
+  none_open = λ is le. none_open_first s.pass le;
   idle = λ none. refl;
   none_failed = refl;
 }
@@ -80,30 +85,31 @@ module _ (s t u : Standing) (limit : t.limit ≡ s.limit) (faults : t.faults ≡
 
 module _ (old new : Standing) (m : Message) (same : IsSame old new) where
   same_on : (s : Standing) → IsSame s old → IsSame s new
-  same_on s is = record { limit = same.limit ∙ is.limit; lock = same.lock ∙ is.lock; says = same.says ∙ is.says }
+  same_on s is = record { extent = same.extent ∙ is.extent; limit = same.limit ∙ is.limit; lock = same.lock ∙ is.lock; says = same.says ∙ is.says }
 
   -- it wasn't offered
-  pub kept_out : (close : Close) → TellsNothing old.pass new.pass 1 → new.refused ≡ old.refused → new.inquiries ≡ old.inquiries → IsKeptOut old.limit new.pass m close → new.faults ≡ old.faults
-      → StopsAt m old new close
-  kept_out close nothing kept unasked why none first before h = record {
+  pub kept_out : (extent : Extent) (close : Close) → TellsNothing old.pass new.pass 1 → new.refused ≡ old.refused → new.inquiries ≡ old.inquiries → IsKeptOut old.limit new.pass m close
+      → new.faults ≡ old.faults → StopsAt extent m old new close
+  kept_out extent close nothing kept unasked why none first before goes_on h = record {
     same = same_on first h.same;
     some = no_end before m;
     offered = before;
     rest = m ∷ [];
     all = refl;
-    offers = rw (kept, unasked) (offers_still first.says first.inquiries old.inquiries first.pass old.pass old.refused before h.offers new.pass nothing);
+    offers = rw (kept, unasked) (offers_still first.extent first.says first.inquiries old.inquiries first.pass old.pass old.refused before h.offers new.pass nothing);
     why = kept_by first old new h.same.limit h.none_failed m close why none;
   }
 
   module _ (q : HubPass) (w : OffersOne old.pass q old.refused new.refused m) where
     -- it was offered, and what was open then was asked as far as that extent goes
-    pub taken_on : {E : Type 0} (extent : Extent) (r : Result (Unit {0}) E) → OnOk r (Asks old.says old.inquiries new.inquiries q new.pass 1 0) → OnOk r (LeavesNone extent new.pass) → OnOk r (new.faults ≡ old.faults) → OnOk r (TakesOne extent m old new)
+    pub taken_on : {E : Type 0} (extent : Extent) (r : Result (Unit {0}) E) → OnOk r (Asks extent old.says old.inquiries new.inquiries q new.pass 1 0) → OnOk r (LeavesNone extent new.pass) → OnOk r (new.faults ≡ old.faults) → OnOk r (TakesOne extent m old new)
     taken_on extent (Err e) asks none kept = tt
-    taken_on extent (Ok done) asks none kept = λ first before h. (
+    taken_on extent (Ok done) asks none kept = λ first before goes_on h. (
       record {
         same = same_on first h.same;
-        offers = offers_more first.says first.inquiries old.inquiries first.pass old.pass old.refused before h.offers new.inquiries q new.pass new.refused m 1 0 0 (omega arith) w
-            (subst (λ x. Asks x old.inquiries new.inquiries q new.pass 1 0) h.same.says asks);
+        offers = offers_more first.extent first.says first.inquiries old.inquiries first.pass old.pass old.refused before h.offers h.none_open extent (λ is. goes_on (h.same.extent ∙ is))
+            new.inquiries q new.pass new.refused m 1 0 0 (omega arith) w (subst (λ x. Asks extent x old.inquiries new.inquiries q new.pass 1 0) h.same.says asks);
+        none_open = λ is le. none_left extent new.pass (goes_on (h.same.extent ∙ is)) none;
         idle = λ none. absurd (no_end before m none);
         none_failed = kept ∙ h.none_failed;
       },
@@ -111,15 +117,16 @@ module _ (old new : Standing) (m : Message) (same : IsSame old new) where
     )
 
     -- or the reader stopped there
-    pub stopped_on : {A : Type 0} (r : Result A Close) → IfErr r (λ close. Asks old.says old.inquiries new.inquiries q new.pass 4 1) → IfErr r (StopsAsking old.limit new.pass old.faults new.faults) → IfErr r (StopsAt m old new)
-    stopped_on (Ok done) asks stops = tt
-    stopped_on (Err close) asks stops = λ first before h. record {
+    pub stopped_on : {A : Type 0} (extent : Extent) (r : Result A Close) → IfErr r (λ close. Asks extent old.says old.inquiries new.inquiries q new.pass 4 1)
+        → IfErr r (StopsAsking old.limit new.pass old.faults new.faults) → IfErr r (StopsAt extent m old new)
+    stopped_on extent (Ok done) asks stops = tt
+    stopped_on extent (Err close) asks stops = λ first before goes_on h. record {
       same = same_on first h.same;
       some = no_end before m;
       offered = before ++ m ∷ [];
       rest = [];
       all = sym (append-nil _);
-      offers = offers_more first.says first.inquiries old.inquiries first.pass old.pass old.refused before h.offers new.inquiries q new.pass new.refused m 4 4 1 (omega arith) w
-          (subst (λ x. Asks x old.inquiries new.inquiries q new.pass 4 1) h.same.says asks);
+      offers = offers_more first.extent first.says first.inquiries old.inquiries first.pass old.pass old.refused before h.offers h.none_open extent (λ is. goes_on (h.same.extent ∙ is))
+          new.inquiries q new.pass new.refused m 4 4 1 (omega arith) w (subst (λ x. Asks extent x old.inquiries new.inquiries q new.pass 4 1) h.same.says asks);
       why = stopped_by first old new h.same.limit h.none_failed [] close stops;
     }

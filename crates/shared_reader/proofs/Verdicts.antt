@@ -11,7 +11,7 @@ use Rattle.journal.specs.declared.body.Body.{Body}
 use Rattle.journal.specs.declared.mode.Mode.{Mode}
 use Rattle.journal.specs.declared.question.Question.{Question}
 use Rattle.journal.specs.History.{Told, Triple, bodies, has_verdict, heard_in, same_triple}
-use Rattle.journal.specs.Journals.{Names}
+use Rattle.journal.specs.Journals.{Names, asked}
 use Rattle.journal.specs.Questions.{next_question, questions, raised}
 use Rattle.journal.proofs.Places.{any_at, some_at}
 use Rattle.journal.proofs.Same.{same_triple_is, same_triple_itself}
@@ -38,7 +38,7 @@ new_heard t xs ys p none has =
     subst (λ l. suc (verdict_count xs) ≤ verdict_count l) p.1 (let e = verdict_count-append xs p.0 in omega (arith, e, one))
 
 -- a triple is among the open questions where it is raised and has no verdict
-open_in : (mode : Mode) (told : List Told) (t : Triple) → list_any (same_triple t) (questions mode [] told) ≡ (not (has_verdict told t) && list_any (same_triple t) (raised mode [] told))
+pub open_in : (mode : Mode) (told : List Told) (t : Triple) → list_any (same_triple t) (questions mode [] told) ≡ (not (has_verdict told t) && list_any (same_triple t) (raised mode [] told))
 unfolding questions
 open_in mode told t = any-filter_same (same_triple t) (λ u. not (has_verdict told u)) (not (has_verdict told t)) (λ u h. ap (λ v. not (has_verdict told v)) (sym (same_triple_is t u h))) (raised mode [] told)
 
@@ -65,3 +65,17 @@ module _ (mode : Mode) (told : List Told) (skip : ℕ) where
       by_questions : (ts : List Triple) → Names (bodies [] told) None (slice_get ts (skip % length ts)) → ts ≡ []
       by_questions [] n = refl
       by_questions (t ∷ ts) n = let found = some_at (t ∷ ts) (skip % length (t ∷ ts)) (omega arith) in let is = found.1 in absurd (rw is at n)
+
+-- the question of number 0, where its body is held, is the first that is open
+pub first_named : (mode : Mode) (base : List Body) (told : List Told) (held : List Body) (q : Question) (b : Body) → slice_get held q.body ≡ Some b → Names held (Some q) (next_question mode base told 0)
+    → slice_get (questions mode base told) 0 ≡ Some (named_on q b)
+unfolding next_question
+first_named mode base told held q b at names = by_questions (questions mode base told) names
+  where
+    by_questions : (ts : List Triple) → Names held (Some q) (slice_get ts (0 % length ts)) → slice_get ts 0 ≡ Some (named_on q b)
+    by_questions [] n = absurd n
+    by_questions (t ∷ ts) n =
+        let first : 0 % length (t ∷ ts) ≡ 0 = omega arith in
+        let triple : asked held q ≡ Some t = rw first at n in
+        let same : Some (named_on q b) ≡ Some t = rw at at triple in
+        sym same

@@ -1,3 +1,4 @@
+pub mod Steps
 pub mod Asks
 pub mod Offers
 pub mod Taken

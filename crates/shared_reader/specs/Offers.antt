@@ -1,5 +1,6 @@
 -- What offering messages does to what a pass knows.
 use Rattle.std.specs.Prelude.{◌≡◌, ℕ, suc, ◌+◌, ◌*◌, ◌≤◌, ◌⊎◌, List, ◌++◌, length, map, filter, flat_map, Option, Some, IfSome, All}
+use mathlib.Core.List.{IsPrefix}
 use Rattle.cesr_stream.specs.declared.message.Message.{Message}
 use Rattle.keri_outside.specs.declared.inquiry.Inquiry.{Inquiry}
 use Rattle.journal.specs.declared.refusal.Refusal.{Refusal}
@@ -10,9 +11,12 @@ use Rattle.turn_lock.specs.Histories.{longer_share}
 use Rattle.turn_lock.specs.Known.{OwnsAlone}
 use Rattle.reader_hub.specs.Hubs.{HubPass, TakesOver}
 use Rattle.reader_hub.specs.declared.core_head.CoreHead.{CoreHead}
+use Rattle.reader_hub.specs.declared.extent.Extent.{Extent}
+use Rattle.reader_hub.specs.declared.extent.Extent.TheVariants.{First}
 use Rattle.run_status.specs.declared.close.Close.{Close}
 use Rattle.run_status.specs.declared.close.Close.TheVariants.{End, Bad, ReadFault, VerifierFault, SignerFault, DiskFault, WriteFault, Malformed, Full, OutOfMemory}
-use Rattle.shared_reader.specs.Asks.{AsksFor, Says, Stays, verdict_count}
+use Rattle.shared_reader.specs.Asks.{AsksFor, AsksOnlySeen, Says, Stays, verdict_count}
+use Rattle.shared_reader.specs.Steps.{SawNoneOpen, StepsAlone}
 
 -- a core that was told what the pass has seen would have no room for the message
 pub record IsTurnedAway (q : HubPass) (m : Message) : Type 0 where
@@ -20,7 +24,8 @@ pub record IsTurnedAway (q : HubPass) (m : Message) : Type 0 where
   pub head_is : q.head ≡ Some head
   pub full : TakesOver head.limits q.seen q.number m FullReply q.seen
 
--- The message was offered in one turn: its entry came to the pass's share, or it is refused, and that is noted.
+-- The message was offered in one turn: its entry came to the pass's share, or it is refused, and that is noted. Offered once no
+-- question is open, it leaves one reader alone in step.
 pub record OffersOne (p q : HubPass) (refused_old refused_new : List Refusal) (m : Message) : Type 0 where
   pub stays : Stays p q
   pub offered : Judged
@@ -28,6 +33,8 @@ pub record OffersOne (p q : HubPass) (refused_old refused_new : List Refusal) (m
   pub body_is : GivesBody offered.message.body offered.gives
   pub own : q.own ≡ longer_share p.number (entry_of p.number offered) p.own
   pub noted : refused_new ≡ refused_old ++ refusal_of offered
+  pub begins : IsPrefix p.seen q.seen
+  pub steps : (share : List Told) → StepsAlone p share → (length p.seen ≤ length share → SawNoneOpen p) → StepsAlone q (share ++ entry_of p.number offered)
   pub seen : verdict_count p.seen ≤ verdict_count q.seen
   pub turns : q.turns ≡ suc p.turns
 
@@ -50,10 +57,10 @@ IsEntryOf n says (took reader b claims) = reader ≡ n
 IsEntryOf n says (heard reader b key sig verdict) = (reader ≡ n) × IfSome (says key b.bytes sig) (λ said. verdict ≡ said)
 
 -- Since the pass knew p, with an empty share, these messages were offered: those that aren't refused are its entries, the
--- others are noted, and its verdicts are what the verifier says, who was asked for them. At most two turns were taken for each
--- message and for each verdict in what the pass has seen, and so many besides; for each such verdict one question at most was
--- asked, and so many besides.
-pub record Offers (says : Says) (before now : Option (List Inquiry)) (p q : HubPass) (refused : List Refusal) (messages : List Message) (besides unheard : ℕ) : Type 0 where
+-- others are noted, and its verdicts are what the verifier says, who was asked for them, and only what was told or open. At most two
+-- turns were taken for each message and for each verdict in what the pass has seen, and so many besides; for each such verdict one
+-- question at most was asked, and so many besides. Where the first question was asked each time, one reader alone is in step.
+pub record Offers (extent : Extent) (says : Says) (before now : Option (List Inquiry)) (p q : HubPass) (refused : List Refusal) (messages : List Message) (besides unheard : ℕ) : Type 0 where
   pub stays : Stays p q
   pub share : List Told
   pub own : OwnsAlone q share
@@ -65,3 +72,5 @@ pub record Offers (says : Says) (before now : Option (List Inquiry)) (p q : HubP
   pub each : All (IsEntryOf p.number says) share
   pub turns : q.turns ≤ p.turns + 2 * (length offered + verdict_count q.seen) + besides
   pub inquired : AsksFor before now share (verdict_count q.seen + unheard)
+  pub only : AsksOnlySeen before now q
+  pub alone : extent ≡ First → StepsAlone q share

@@ -18,11 +18,13 @@ use Rattle.message_feed.specs.declared.feed_close.FeedClose.{FeedClose}
 use Rattle.message_feed.specs.declared.feed_close.FeedClose.TheVariants as feed
 use Rattle.turn_lock.specs.Known.{OwnsAlone}
 use Rattle.reader_hub.specs.Hubs.{HubPass}
+use Rattle.reader_hub.specs.declared.extent.Extent.TheVariants.{First}
 use Rattle.run_status.specs.Readers.{SourceTold}
 use Rattle.run_status.specs.declared.close.Close.{Close}
 use Rattle.run_status.specs.declared.close.Close.TheVariants.{End, Bad, ReadFault, VerifierFault, SignerFault, DiskFault, WriteFault, Malformed, Full, OutOfMemory}
-use Rattle.shared_reader.specs.Asks.{AsksFor, Stays, verdict_count}
+use Rattle.shared_reader.specs.Asks.{AsksFor, AsksOnlySeen, Stays, verdict_count}
 use Rattle.shared_reader.specs.Offers.{IsEntryOf, IsTurnedAway}
+use Rattle.shared_reader.specs.Steps.{StepsAlone}
 use Rattle.shared_reader.specs.Taken.{AreAsked, IsSame, Standing}
 
 abbrev pub source_told : Option (List ℕ) → ℕ → SourceTold
@@ -88,8 +90,9 @@ module _ (limits : Limits) (s t : Standing) (old new : SourceTold) where
   -- the bytes were offered: those that aren't refused are the pass's entries, the others are noted. Its share has no other
   -- entries but verdicts, and they are what the verifier says. Unless there was no memory, the reader closed by its cause; and
   -- unless the verifier's fault closed it, that one never failed. The verifier was asked for the verdicts of the share, in order,
-  -- and in all at most once for each verdict that the pass has seen, and once more. At most two turns were taken for each message
-  -- offered and for each verdict that the pass has seen, and four besides.
+  -- and in all at most once for each verdict that the pass has seen, and once more; only what was told or open. At most two turns were
+  -- taken for each message offered and for each verdict that the pass has seen, and four besides. Where the first question is asked each
+  -- time, one reader alone is in step.
   pub record ReadsOne (close : Close) : Type 0 where
     pub same : IsSame s t
     pub stays : Stays s.pass t.pass
@@ -103,4 +106,6 @@ module _ (limits : Limits) (s t : Standing) (old new : SourceTold) where
     pub closes : close ≢ OutOfMemory → ClosesStream bytes (map (λ j. j.message) feeds_are.offered) close
     pub none_failed : close ≢ VerifierFault → t.faults ≡ s.faults
     pub inquired : AsksFor s.inquiries t.inquiries share (suc (verdict_count t.pass.seen))
+    pub only : AsksOnlySeen s.inquiries t.inquiries t.pass
+    pub alone : s.extent ≡ First → StepsAlone t.pass share
     pub turns : t.pass.turns ≤ s.pass.turns + 2 * (length (filter (is_taken_by s.pass.number) share) + length t.refused + verdict_count t.pass.seen + 2)

@@ -1,5 +1,5 @@
 -- What a reader has done since it began.
-use Rattle.std.specs.Prelude.{◌≡◌, ◌≢◌, ℕ, ◌⊎◌, List, [], ◌∷◌, ◌++◌, Option, None}
+use Rattle.std.specs.Prelude.{◌≡◌, ◌≢◌, ℕ, ◌≤◌, ◌⊎◌, List, [], ◌∷◌, ◌++◌, length, Option, None}
 use Rattle.keri_specs.specs.Causes.{Rose}
 use Rattle.cesr_stream.specs.declared.message.Message.{Message}
 use Rattle.cesr_stream.specs.Assembly.{all_of}
@@ -12,12 +12,15 @@ use Rattle.reader_hub.specs.Hubs.{HubPass}
 use Rattle.run_status.specs.declared.close.Close.{Close}
 use Rattle.run_status.specs.declared.close.Close.TheVariants.{End, Bad, ReadFault, VerifierFault, SignerFault, DiskFault, WriteFault, Malformed, Full, OutOfMemory}
 use Rattle.reader_hub.specs.declared.extent.Extent.{Extent}
+use Rattle.reader_hub.specs.declared.extent.Extent.TheVariants.{First}
 use Rattle.shared_reader.specs.Asks.{HasNoneOpen, LeavesNone, Says}
 use Rattle.shared_reader.specs.Offers.{IsTurnedAway, Offers}
+use Rattle.shared_reader.specs.Steps.{SawNoneOpen}
 
--- what is seen of a reader at one time: the limit of its lock and which lock it is, what its pass knows, what its verifier says,
--- what that was asked and how often it has failed, and what it refused
+-- what is seen of a reader at one time: which questions it asks between messages, the limit of its lock and which lock it is, what its
+-- pass knows, what its verifier says, what that was asked and how often it has failed, and what it refused
 pub record Standing : Type 0 where
+  pub extent : Extent
   pub limit : ℕ
   pub lock : LockId
   pub pass : HubPass
@@ -26,8 +29,9 @@ pub record Standing : Type 0 where
   pub faults : ℕ
   pub refused : List Refusal
 
-abbrev pub standing : ℕ → LockId → HubPass → Says → Option (List Inquiry) → ℕ → List Refusal → Standing
-standing limit lock pass says inquiries faults refused = record {
+abbrev pub standing : Extent → ℕ → LockId → HubPass → Says → Option (List Inquiry) → ℕ → List Refusal → Standing
+standing extent limit lock pass says inquiries faults refused = record {
+  extent = extent;
   limit = limit;
   lock = lock;
   pass = pass;
@@ -37,8 +41,9 @@ standing limit lock pass says inquiries faults refused = record {
   refused = refused;
 }
 
--- the lock and the verifier are the same
+-- the extent, the lock and the verifier are the same
 pub record IsSame (s t : Standing) : Type 0 where
+  pub extent : t.extent ≡ s.extent
   pub limit : t.limit ≡ s.limit
   pub lock : t.lock ≡ s.lock
   pub says : t.says ≡ s.says
@@ -48,10 +53,12 @@ abbrev pub AreAsked : HubPass → HubPass → List Message → Type 0
 AreAsked p q [] = q ≡ p
 AreAsked p q (m ∷ messages) = HasNoneOpen q
 
--- these messages were offered, and the verifier hasn't failed
+-- These messages were offered, and the verifier hasn't failed. Where the first question is asked each time, one reader alone has left
+-- none open.
 pub record HasTaken (s t : Standing) (messages : List Message) : Type 0 where
   pub same : IsSame s t
-  pub offers : Offers s.says s.inquiries t.inquiries s.pass t.pass t.refused messages 0 0
+  pub offers : Offers s.extent s.says s.inquiries t.inquiries s.pass t.pass t.refused messages 0 0
+  pub none_open : s.extent ≡ First → length t.pass.seen ≤ length offers.share → SawNoneOpen t.pass
   pub idle : messages ≡ [] → t.pass ≡ s.pass
   pub none_failed : t.faults ≡ s.faults
 
@@ -82,16 +89,19 @@ pub record HasStopped (s t : Standing) (close : Close) (messages : List Message)
   pub offered : List Message
   pub rest : List Message
   pub all : messages ≡ offered ++ rest
-  pub offers : Offers s.says s.inquiries t.inquiries s.pass t.pass t.refused offered 4 1
+  pub offers : Offers s.extent s.says s.inquiries t.inquiries s.pass t.pass t.refused offered 4 1
   pub why : IsStopped s t rest close
 
--- one message more was taken, and what is open behind it was asked, as far as that extent goes
+-- one message more was taken, and what is open behind it was asked, as far as that extent goes, which is the first question where that
+-- is asked each time
 abbrev pub TakesOne : Extent → Message → Standing → Standing → Type 0
-TakesOne extent m old new = (first : Standing) (before : List Message) → HasTaken first old before → HasTaken first new (before ++ m ∷ []) × LeavesNone extent new.pass
+TakesOne extent m old new = (first : Standing) (before : List Message) → (old.extent ≡ First → extent ≡ First) → HasTaken first old before
+    → HasTaken first new (before ++ m ∷ []) × LeavesNone extent new.pass
 
 -- the reader stopped at it
-abbrev pub StopsAt : Message → Standing → Standing → Close → Type 0
-StopsAt m old new close = (first : Standing) (before : List Message) → HasTaken first old before → HasStopped first new close (before ++ m ∷ [])
+abbrev pub StopsAt : Extent → Message → Standing → Standing → Close → Type 0
+StopsAt extent m old new close = (first : Standing) (before : List Message) → (old.extent ≡ First → extent ≡ First) → HasTaken first old before
+    → HasStopped first new close (before ++ m ∷ [])
 
 -- The last message, which is there unless no other was, was taken too, all that was open then was asked, and the reader closes as
 -- its source did; or it stopped there.

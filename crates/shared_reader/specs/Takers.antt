@@ -8,4 +8,4 @@ use Rattle.shared_reader.specs.declared.hub_taker.HubTaker.{HubTaker}
 
 abbrev pub standing_of : {V G W : Type 0} → (V → Says) → (V → Option (List Inquiry)) → (V → ℕ) → HubTaker V G W → Standing
 standing_of says inquiries faults taker =
-    standing (limit_of taker.hub.now.turn) (lock_of taker.pass) (known taker.pass) (says taker.verifier) (inquiries taker.verifier) (faults taker.verifier) taker.refused.items
+    standing taker.extent (limit_of taker.hub.now.turn) (lock_of taker.pass) (known taker.pass) (says taker.verifier) (inquiries taker.verifier) (faults taker.verifier) taker.refused.items

@@ -1,6 +1,7 @@
 //! What takes the messages of a reader.
 ghost use Rattle.std.specs.Prelude.{◌≡◌};
 ghost use Rattle.turn_lock.specs.Locks.{lock_of};
+ghost use Rattle.shared_reader.specs.Asks.{at_last};
 
 use crate::offers::offer;
 use cesr_stream::Message;
@@ -22,6 +23,8 @@ pub(crate) struct HubTaker<'a, V, G, W> {
     pub(crate) pass: Pass,
     pub(crate) verifier: V,
     pub(crate) refused: Vec<Refusal>,
+    /// Which questions are asked between messages.
+    pub(crate) extent: Extent,
     /// How many messages came.
     pub(crate) count: u64,
     ghost of_hub: { lock_of pass ≡ hub.now.turn.table.shared.table_id },
@@ -40,7 +43,7 @@ impl<'a, V: Verifier + Drop, G: Gate, W: Wait> Taker for HubTaker<'a, V, G, W> {
         (standing_of V.says V.inquiries V.faults now) };
 
     fn take(&mut self, message: Message) -> Result<(), Close> {
-        self.take_message(&message, Extent::Free)
+        self.take_message(&message, self.extent)
     }
 }
 
@@ -53,7 +56,7 @@ impl<'a, V: Verifier + Drop, G: Gate, W: Wait> HubTaker<'a, V, G, W> {
     fn take_message(&mut self, message: &Message, extent: Extent) -> Result<(), Close>
         ensures ok { OnOk result (TakesOne extent message.now (standing_of V.says V.inquiries V.faults self.old)
             (standing_of V.says V.inquiries V.faults self.new)) }
-        ensures err { IfErr result (StopsAt message.now (standing_of V.says V.inquiries V.faults self.old)
+        ensures err { IfErr result (StopsAt extent message.now (standing_of V.says V.inquiries V.faults self.old)
             (standing_of V.says V.inquiries V.faults self.new)) }
     {
         let number = self.pass.number();
@@ -95,11 +98,21 @@ impl<'a, V: Verifier + Drop, G: Gate, W: Wait> HubTaker<'a, V, G, W> {
             (standing_of V.says V.inquiries V.faults self.new) result }
     {
         match last {
-            Some(message) => match self.take_message(&message, Extent::All) {
+            Some(message) => match self.take_message(&message, behind_last(self.extent)) {
                 Ok(()) => close,
                 Err(stop) => stop,
             },
             None => close,
         }
+    }
+}
+
+// Which questions are asked behind the last message, by which are asked between messages: all of them.
+fn behind_last(extent: Extent) -> Extent
+    ensures { result ≡ at_last extent }
+{
+    match extent {
+        Extent::First => Extent::First,
+        Extent::Free | Extent::All => Extent::All,
     }
 }

@@ -1,5 +1,5 @@
-//! One reader of a core that several readers share: it offers the messages of its source in order, and asks its verifier
-//! behind each what is open and no other reader is asking, and behind the last all that is open.
+//! One reader of a core that several readers may share: it offers the messages of its source in order, and asks its
+//! verifier behind each what is open, but for what another reader is asking, and behind the last all that is open.
 #![tactic(auto)]
 
 mod closes;

@@ -4,6 +4,7 @@ ghost use Rattle.turn_lock.specs.Locks.{limit_of, known, lock_of, IsPassOf};
 ghost use Rattle.shared_reader.specs.Asks.{TellsNothing};
 ghost use Rattle.shared_reader.specs.Offers.{IsKeptOut, OffersOne};
 ghost use Rattle.shared_reader.specs.Taken.{StopsAt, TakesOne, standing};
+ghost use Rattle.reader_hub.specs.declared.extent.Extent.{Extent as ExtentValue};
 
 use crate::closes::close_of;
 use crate::questions::ask_open;
@@ -28,15 +29,15 @@ pub(crate) fn offer<V: Verifier, W: Wait>(
 ) -> Result<(), Close>
     requires pass { IsPassOf hub.now.turn pass.old }
     ensures pass { IsPassOf hub.now.turn pass.new }
-    ensures ok { OnOk result (TakesOne extent message.now
-        (standing (limit_of hub.now.turn) (lock_of pass.old) (known pass.old) (V.says verifier.old)
+    ensures ok { (usual : ExtentValue) → OnOk result (TakesOne extent message.now
+        (standing usual (limit_of hub.now.turn) (lock_of pass.old) (known pass.old) (V.says verifier.old)
         (V.inquiries verifier.old) (V.faults verifier.old) refused.old.items)
-        (standing (limit_of hub.now.turn) (lock_of pass.new) (known pass.new) (V.says verifier.new)
+        (standing usual (limit_of hub.now.turn) (lock_of pass.new) (known pass.new) (V.says verifier.new)
         (V.inquiries verifier.new) (V.faults verifier.new) refused.new.items)) }
-    ensures err { IfErr result (StopsAt message.now
-        (standing (limit_of hub.now.turn) (lock_of pass.old) (known pass.old) (V.says verifier.old)
+    ensures err { (usual : ExtentValue) → IfErr result (StopsAt extent message.now
+        (standing usual (limit_of hub.now.turn) (lock_of pass.old) (known pass.old) (V.says verifier.old)
         (V.inquiries verifier.old) (V.faults verifier.old) refused.old.items)
-        (standing (limit_of hub.now.turn) (lock_of pass.new) (known pass.new) (V.says verifier.new)
+        (standing usual (limit_of hub.now.turn) (lock_of pass.new) (known pass.new) (V.says verifier.new)
         (V.inquiries verifier.new) (V.faults verifier.new) refused.new.items)) }
 {
     match hand_in(rt, alloc, hub, pass, refused, message) {

@@ -24,10 +24,10 @@ pub(crate) fn ask_open<V: Verifier, W: Wait>(
     ensures pass { IsPassOf hub.now.turn pass.new }
     ensures same { V.says verifier.new ≡ V.says verifier.old }
     ensures none_failed { OnOk result (V.faults verifier.new ≡ V.faults verifier.old) }
-    ensures asks { OnOk result (Asks (V.says verifier.old) (V.inquiries verifier.old) (V.inquiries verifier.new)
+    ensures asks { OnOk result (Asks extent (V.says verifier.old) (V.inquiries verifier.old) (V.inquiries verifier.new)
         (known pass.old) (known pass.new) 1 0) }
     ensures none_open { OnOk result (LeavesNone extent (known pass.new)) }
-    ensures stopped { IfErr result (λ close. Asks (V.says verifier.old) (V.inquiries verifier.old)
+    ensures stopped { IfErr result (λ close. Asks extent (V.says verifier.old) (V.inquiries verifier.old)
         (V.inquiries verifier.new) (known pass.old) (known pass.new) 4 1) }
     ensures stops { IfErr result (StopsAsking (limit_of hub.now.turn) (known pass.new) (V.faults verifier.old)
         (V.faults verifier.new)) }
@@ -55,10 +55,10 @@ fn ask_one<V: Verifier, W: Wait>(
     ensures pass { IsPassOf hub.now.turn pass.new }
     ensures same { V.says verifier.new ≡ V.says verifier.old }
     ensures none_failed { OnOk result (V.faults verifier.new ≡ V.faults verifier.old) }
-    ensures asks { IfOk result (λ some. Asks (V.says verifier.old) (V.inquiries verifier.old)
+    ensures asks { IfOk result (λ some. Asks extent (V.says verifier.old) (V.inquiries verifier.old)
         (V.inquiries verifier.new) (known pass.old) (known pass.new) (if some then 0 else 1) 0) }
     ensures none_open { IfOk result (λ some. some ≡ false → LeavesNone extent (known pass.new)) }
-    ensures stopped { IfErr result (λ close. Asks (V.says verifier.old) (V.inquiries verifier.old)
+    ensures stopped { IfErr result (λ close. Asks extent (V.says verifier.old) (V.inquiries verifier.old)
         (V.inquiries verifier.new) (known pass.old) (known pass.new) 4 1) }
     ensures stops { IfErr result (StopsAsking (limit_of hub.now.turn) (known pass.new) (V.faults verifier.old)
         (V.faults verifier.new)) }

@@ -9,7 +9,7 @@ use crate::hub_taker::HubTaker;
 use journal::Refusal;
 use keri_outside::{Gate, Limits, Source, Verifier};
 use message_feed::feed_messages;
-use reader_hub::{Hub, Pass};
+use reader_hub::{Extent, Hub, Pass};
 use run_status::Close;
 use std::alloc::Global;
 use std::sync::Wait;
@@ -26,8 +26,9 @@ pub struct ReadOne<S, V> {
 }
 
 /// Reads the source as far as a stream may be read. Each message is offered with the pass, and then the verifier is
-/// asked what is open and no other reader is asking, and behind the last message all that is open; each between
-/// `before` and `after` of the gate. The pass comes back with this reader's entries in its share.
+/// asked what is open to that extent, and behind the last message all that is open; each between `before` and `after` of
+/// the gate. The pass comes back with this reader's entries in its share. A reader that shares the hub with no other, and
+/// asks the first question each time, has each message taken once no question is open.
 pub fn read_one<S: Source + Drop, V: Verifier + Drop, G: Gate, W: Wait>(
     rt: &W,
     alloc: Global,
@@ -37,14 +38,15 @@ pub fn read_one<S: Source + Drop, V: Verifier + Drop, G: Gate, W: Wait>(
     verifier: V,
     gate: &G,
     limits: Limits,
+    extent: Extent,
 ) -> ReadOne<S, V>
     requires pass { IsPassOf hub.now.turn pass }
     requires own { OwnsAlone (known pass) [] }
     ensures pass { IsPassOf hub.now.turn result.pass }
     ensures reads { ReadsOne limits
-        (standing (limit_of hub.now.turn) (lock_of pass) (known pass) (V.says verifier) (V.inquiries verifier)
+        (standing extent (limit_of hub.now.turn) (lock_of pass) (known pass) (V.says verifier) (V.inquiries verifier)
         (V.faults verifier) [])
-        (standing (limit_of hub.now.turn) (lock_of result.pass) (known result.pass) (V.says result.verifier)
+        (standing extent (limit_of hub.now.turn) (lock_of result.pass) (known result.pass) (V.says result.verifier)
         (V.inquiries result.verifier) (V.faults result.verifier) result.refused.items)
         (source_told (S.left source) (S.faults source)) (source_told (S.left result.source) (S.faults result.source))
         result.close }
@@ -58,6 +60,7 @@ pub fn read_one<S: Source + Drop, V: Verifier + Drop, G: Gate, W: Wait>(
         pass,
         verifier,
         refused: Vec::new(alloc),
+        extent,
         count: 0,
     };
     let (close, last) = feed_messages(alloc, &mut source, limits, &mut taker);

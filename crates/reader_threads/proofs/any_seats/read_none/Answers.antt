@@ -7,6 +7,8 @@ returns-clause-told g c = record {
   read = record { read = []; fed = record { each = tt; only = rw c.requires.untold (All-nil _) }; each = tt };
   asked = λ h. inr tt;
   failed = λ e. cc;
+  only = tt;
+  alone = λ one. cc;
   mode_is = refl;
   limits_are = refl;
   no_base = c.requires.no_base;

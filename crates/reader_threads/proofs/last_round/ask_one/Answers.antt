@@ -5,7 +5,7 @@ pub returns-in-Ok-note-clause-hears : goal.returns-in-Ok-note-clause-hears
 returns-in-Ok-note-clause-hears g c =
     let inquiries = g.V.Verifier.inquiries in
     hears_one c.args.number (g.V.Verifier.says c.args.verifier.now) (inquiries c.args.verifier.now) (inquiries c.verdict_on.new.verifier) c.args.core.now c.note.new.core c.args.question.now c.in-Ok.yes
-    c.in-Ok.ensures.said (rw c.in-Ok.is at c.verdict_on.ensures.asked) c.in-Ok-note.ensures.noted
+    c.requires c.in-Ok.ensures.said (rw c.in-Ok.is at c.verdict_on.ensures.asked) c.in-Ok-note.ensures.noted
 
 pub returns-in-Err-note-clause-unheard : goal.returns-in-Err-note-clause-unheard
 returns-in-Err-note-clause-unheard g c =

@@ -1,4 +1,4 @@
-use Rattle.std.proofs.Common.{rules, ◌≡◌, true, false, Some, option_map, refl, ap, inl}
+use Rattle.std.proofs.Common.{rules, ◌≡◌, true, false, None, Some, option_map, refl, ap, inl, inr}
 use Rattle.run_status.specs.Readers.{Reader, VerifierTold, close_found, reader_seen, verifier_seen}
 use Rattle.reader_threads.specs.declared.last_round.LastRound.TheVariants.{NoneFailed, VerifierFailed, OutOfMemory}
 use Rattle.reader_threads.proofs.Rounds.{rest_asked, rest_unasked}
@@ -9,6 +9,12 @@ returns-then-eq g c =
     let old : Reader = reader_seen g.S.Source.left g.S.Source.faults g.V.Verifier.says g.V.Verifier.inquiries g.V.Verifier.faults c.args.reader.now in
     let failed : (close_found old.close).verifier_failed ≡ true = search rules in
     rest_unasked c.args.number old c.args.core.now (inl failed)
+
+pub returns-in_default : goal.returns-in_default
+returns-in_default g c =
+    let old : Reader = reader_seen g.S.Source.left g.S.Source.faults g.V.Verifier.says g.V.Verifier.inquiries g.V.Verifier.faults c.args.reader.now in
+    let none : old.verifier ≡ None = search rules in
+    rest_unasked c.args.number old c.args.core.now (inr none)
 
 pub returns-in-Ok : goal.returns-in-Ok
 returns-in-Ok g c =

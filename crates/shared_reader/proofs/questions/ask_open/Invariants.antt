@@ -11,4 +11,4 @@ invariant-loop g l =
     × IsPassOf l.fn.hub.turn l.pass
     × (g.V.Verifier.says l.verifier ≡ g.V.Verifier.says l.fn.verifier)
     × (g.V.Verifier.faults l.verifier ≡ g.V.Verifier.faults l.fn.verifier)
-    × Asks (g.V.Verifier.says l.fn.verifier) (g.V.Verifier.inquiries l.fn.verifier) (g.V.Verifier.inquiries l.verifier) (known l.fn.pass) (known l.pass) 0 0
+    × Asks l.fn.extent (g.V.Verifier.says l.fn.verifier) (g.V.Verifier.inquiries l.fn.verifier) (g.V.Verifier.inquiries l.verifier) (known l.fn.pass) (known l.pass) 0 0

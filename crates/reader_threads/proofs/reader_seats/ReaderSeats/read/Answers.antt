@@ -1,5 +1,8 @@
 use Rattle.std.proofs.Common.{◌≡◌, length, map, sym, ap, ◌∙◌, subst, arith}
+use Rattle.std.proofs.lemmas.List.{length-map}
 use Rattle.run_status.specs.Readers.{reader_seen}
+use Rattle.validator_core.specs.View.{told_of}
+use Rattle.shared_reader.specs.Steps.{IsInStep}
 use Rattle.reader_threads.specs.Given.{given_by}
 use Rattle.reader_threads.specs.LastRound.{AsksRest}
 use Rattle.reader_threads.specs.Seats.{mode_of}
@@ -43,5 +46,8 @@ returns-clause-told g c =
     let same = c.as_mut_slice.ensures.value in
     let still : length now ≡ length readers.items = c.ask_rest-rest.auto.readers ∙ ap length same in
     let asks = subst (λ l. AsksRest 0 (map seen l) (map seen now) old core rest) same c.ask_rest-rest.ensures in
+    let count = same_count _ _ _ given seen providers readers.items before.read in
+    let long = length-map readers.items seen in
+    let alone : length (map seen readers.items) ≡ 1 → IsInStep (mode_of self) (told_of old) = λ one. before.alone (let all = c.args.providers.ok.0 in omega (arith, one, long, count, all)) in
     subst (λ l. AllTold (mode_of self) self.limits (map given providers) (map seen l) rest core) (sym (written_back now readers.items readers.len still readers.ok.0))
-    (all_told (mode_of self) self.limits (map given providers) (map seen readers.items) (map seen now) old core rest before.read asks before.mode before.limits before.no_base c.stands.ensures)
+    (all_told (mode_of self) self.limits (map given providers) (map seen readers.items) (map seen now) old core rest before.read before.only alone asks before.mode before.limits before.no_base c.stands.ensures)

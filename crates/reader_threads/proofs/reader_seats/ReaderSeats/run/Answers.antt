@@ -6,7 +6,8 @@ use Rattle.reader_threads.specs.Fed.{AllRead}
 use Rattle.reader_threads.specs.Given.{given_by}
 use Rattle.reader_threads.specs.declared.job.Job.{Job}
 use Rattle.reader_threads.specs.declared.last_round.LastRound.TheVariants.{NoneFailed}
-use Rattle.reader_threads.proofs.Ended.{are_all, head_stays, pass_fits, passes_fit, what_was_read}
+use Rattle.reader_threads.specs.Asked.{EachAsksOnly}
+use Rattle.reader_threads.proofs.Ended.{alone_in_step, are_all, head_stays, pass_fits, passes_fit, what_was_asked, what_was_read}
 use Rattle.reader_threads.proofs.Seats.{ready_count, ready_seats, seats_fit, taken_first}
 use Rattle.reader_threads.proofs.reader_seats.ReaderSeats.run.Goals as goal
 
@@ -63,7 +64,7 @@ close-core-requires g c =
     let self = c.args.self in
     let head = head_of self.given.value in
     let jobs = c.jobs_for-jobs.result.items in
-    let own : Job g.row.S.Denot g.row.V.Denot = record { pass = self.first; providers = c.remove.result } in
+    let own : Job g.row.S.Denot g.row.V.Denot = record { pass = self.first; extent = c.extent_beside.result; providers = c.remove.result } in
     let all = c.run_all-pass.result in
     let ran = c.run_all-pass.ensures in
     let seats = ready_seats self jobs _ c.requires.seats c.jobs_for-jobs.ensures.passes in
@@ -84,7 +85,7 @@ returns g c =
     let ready = c.requires.seats in
     let head = head_of self.given.value in
     let jobs = c.jobs_for-jobs.result.items in
-    let own : Job g.row.S.Denot g.row.V.Denot = record { pass = self.first; providers = c.remove.result } in
+    let own : Job g.row.S.Denot g.row.V.Denot = record { pass = self.first; extent = c.extent_beside.result; providers = c.remove.result } in
     let all = c.run_all-pass.result in
     let ran = c.run_all-pass.ensures in
     let core = c.close-core.result in
@@ -103,4 +104,11 @@ returns g c =
       read = subst (λ l. AllRead self.limits (told_of core) (map (given_by left faults says inquiries failed) l)
           (map (reader_seen left faults says inquiries failed) all.ends.readers.items) NoneFailed) (sym given)
           (what_was_read left faults says inquiries failed self.limits self.hub head own jobs all ran seats.0 seats.1 core closed ready.limits_are ready.turns no_base c.stands.ensures);
+      only = subst (λ l. EachAsksOnly head.mode (told_of core) (map (given_by left faults says inquiries failed) l) (map (reader_seen left faults says inquiries failed) all.ends.readers.items)) (sym given)
+          (what_was_asked left faults says inquiries failed self.limits self.hub head own jobs all ran seats.0 seats.1 core closed);
+      alone = λ is.
+          let few : length self.others.items ≡ 0 = (let n = ready.all in omega (arith, is, n)) in
+          let none : length jobs ≡ 0 = (let same = ready_count self c.jobs_for-jobs.result c.jobs_for-jobs.ensures.passes in let count = c.jobs_for-jobs.result.ok.0 in omega (arith, few, same, count)) in
+          let free : c.len.result ≡ 0 = (let n = c.len.ensures in let count = c.args.self.others.ok.0 in omega (arith, few, count, n)) in
+          alone_in_step left faults says inquiries failed self.limits self.hub head own jobs all ran seats.0 seats.1 core closed none (c.extent_beside.ensures.alone free);
     }
