@@ -1,9 +1,10 @@
 -- Messages that are served one behind the other.
-use Rattle.std.proofs.Common.{◌≡◌, List, [], ◌∷◌, ◌++◌, refl, sym, ◌∙◌, ap, subst, append-nil, append_assoc}
+use Rattle.std.proofs.Common.{◌≡◌, List, [], ◌∷◌, ◌++◌, Err, refl, sym, ◌∙◌, ap, subst, append-nil, append_assoc}
 use Rattle.std.specs.Prelude.{All, take}
 use Rattle.std.proofs.lemmas.Grind.{flat_map-append}
 use Rattle.std.proofs.lemmas.List.{map-append}
 use Rattle.std.proofs.lemmas.List.Elements.{All-append, All-nil, All-weaker}
+use Rattle.cesr_codes.specs.declared.key.Key.{Key}
 use Rattle.cesr_stream.specs.declared.message.Message.{Message}
 use Rattle.keri_disk.proofs.Moments.{KnowsNow}
 use Rattle.keri_specs.specs.Causes.{Rose}
@@ -11,15 +12,18 @@ use Rattle.keri_specs.specs.Told.{after}
 use Rattle.keri_specs.proofs.Putting.{after-append, after-nil}
 use Rattle.run_status.specs.declared.close.Close.{Close}
 use Rattle.run_status.specs.declared.close.Close.TheVariants.{End, Bad, ReadFault, VerifierFault, SignerFault, DiskFault, WriteFault, Malformed, Full, OutOfMemory}
+use Rattle.validator_core.specs.View.{open_of}
+use Rattle.witness_core.specs.Outcomes.{AsksSigner}
 use Rattle.witness_core.specs.Storing.{AllStand, Grown}
 use Rattle.witness_core.specs.declared.receipt.Receipt.{Receipt}
 use Rattle.witness_core.specs.declared.witness_fault.WitnessFault.{WitnessFault}
 use Rattle.witness_core.specs.declared.witness_fault.WitnessFault.TheVariants as fault
-use Rattle.witness_link.specs.Calls.{AreCalls, Call, digests_in, messages_in, receipts_in, refusals_in, refused_as, seen_in, text_of}
+use Rattle.witness_link.specs.Calls.{AreCalls, Call, digests_in, messages_in, receipts_in, refusals_in, refused_as, seen_in, signings_in, text_of}
 use Rattle.witness_link.specs.Links.{LinkTold, Standing, Terms, counts_of, standing_of, terms_of}
-use Rattle.witness_link.specs.Serving.{FailsToPut, FailsToTake, GoesOn, HasEnded, HasServed, Serves, StopsBy, StopsTaking, Wrote}
+use Rattle.witness_link.specs.Serving.{FailsToPut, FailsToTake, GoesOn, HasEnded, HasServed, Serves, StopsBy, StopsTaking, Wrote, signed_for}
 use Rattle.witness_link.specs.Stored.{IsLawfulList, IsOfStored}
 use Rattle.witness_link.specs.Taking.{Counted, FailsAt, IsWhole}
+use Rattle.witness_link.proofs.Asked.{asks_on, calls_close, signings_more, untold_asked}
 use Rattle.witness_link.proofs.Storing.{front_of, of_longer, stores_more, stores_none}
 
 -- calls, and then others
@@ -38,6 +42,23 @@ module _ (first mid new : LinkTold) (a : Serves first mid) (on : GoesOn first mi
       w ∙ ap (λ told. after told (text_of (receipts_in more))) on.wrote
       ∙ after-append first.written (text_of (receipts_in a.calls)) (text_of (receipts_in more))
       ∙ ap (after first.written) (sym (texts_more a.calls more))
+
+  same_key : mid.witness.key ≡ first.witness.key
+  same_key = ap (λ (t : Terms). t.key) a.same_terms
+
+  signed_more : (more : List Call) → signed_for mid more ≡ signed_for first (a.calls ++ more)
+  signed_more more =
+      let key = first.witness.key in
+      let due = signings_in key first.witness.core a.calls in
+      let same : signings_in mid.witness.key mid.witness.core more ≡ signings_in key a.behind.core more = λ i. signings_in (same_key i) (sym on.now i).core more in
+      ap (λ told. after told (signings_in mid.witness.key mid.witness.core more)) on.signed
+      ∙ after-append first.signings due (signings_in mid.witness.key mid.witness.core more)
+      ∙ ap (λ l. after first.signings (due ++ l)) same
+      ∙ ap (after first.signings) (sym (signings_more (terms_of first) (standing_of first.witness) a.calls a.behind more a.taken))
+
+  -- no question is open behind them, where none was before
+  closed : open_of first.witness.core ≡ [] → open_of mid.witness.core ≡ []
+  closed none = subst (λ (s : Standing). open_of s.core ≡ []) on.now (calls_close (terms_of first) (standing_of first.witness) a.calls a.behind a.taken none)
 
   module _ (b : Serves mid new) where
     moved : AreCalls (terms_of first) a.behind b.calls b.behind
@@ -66,12 +87,14 @@ module _ (first mid new : LinkTold) (a : Serves first mid) (on : GoesOn first mi
           (λ r is. of_longer (terms_of first) mid.witness.list new.witness.list r longer is) (receipts_in a.calls) a.of_stored)
           (subst (λ t. All (IsOfStored t new.witness.list) (receipts_in b.calls)) a.same_terms b.of_stored));
       same_terms = b.same_terms ∙ a.same_terms;
+      inquired = λ none. asks_on first.inquiries mid.inquiries new.inquiries first.witness.core mid.witness.core new.witness.core (a.inquired none) (closed none) (b.inquired (closed none));
     }
 
     pub goes_more : GoesOn mid new b → GoesOn first new serves_more
     unfolding serves_more
     goes_more g = record {
       now = g.now;
+      signed = g.signed ∙ signed_more b.calls;
       wrote = wrote_more b.calls g.wrote;
       is_whole = g.is_whole;
       counts_same = g.counts_same ∙ on.counts_same;
@@ -82,6 +105,8 @@ module _ (first mid new : LinkTold) (a : Serves first mid) (on : GoesOn first mi
     unfolding serves_more
     fails_more why last f = record {
       fails = subst (λ t. FailsAt t b.behind last new.witness why) a.same_terms f.fails;
+      signed = subst (λ told. AsksSigner first.witness.key b.behind.core new.witness.core last told new.signings (Err why)) (signed_more b.calls)
+          (subst (λ (key : Key). AsksSigner key b.behind.core new.witness.core last (signed_for mid b.calls) new.signings (Err why)) same_key f.signed);
       wrote = wrote_more b.calls f.wrote;
       counted = subst (λ k. Counted k (counts_of new) why) on.counts_same f.counted;
       sink_same = f.sink_same ∙ on.sink_same;
@@ -95,6 +120,7 @@ module _ (first mid new : LinkTold) (a : Serves first mid) (on : GoesOn first mi
           earlier = a.calls ++ p.earlier;
           last = p.last;
           all = ap (λ l. a.calls ++ l) p.all ∙ sym (append_assoc a.calls p.earlier (p.last ∷ []));
+          signed = p.signed ∙ signed_more b.calls;
           count = p.count;
           wrote = p.wrote ∙ ap (λ told. after told (text_of (receipts_in p.earlier) ++ part)) on.wrote
               ∙ after-append first.written (text_of (receipts_in a.calls)) (text_of (receipts_in p.earlier) ++ part)
@@ -159,10 +185,12 @@ served_none link whole stand lawful knows = record {
     lawful = lawful;
     of_stored = All-nil (IsOfStored (terms_of link) link.witness.list);
     same_terms = refl;
+    inquired = λ none. untold_asked link.inquiries link.witness.core;
   };
   messages_are = refl;
   goes_on = record {
     now = refl;
+    signed = after-nil link.signings;
     wrote = after-nil link.written;
     is_whole = whole;
     counts_same = refl;

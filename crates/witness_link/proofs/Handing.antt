@@ -5,6 +5,8 @@ use Rattle.cesr_codes.specs.declared.key.Key.{Key}
 use Rattle.cesr_codes.specs.declared.sig.Sig.{Sig}
 use Rattle.cesr_stream.specs.declared.message.Message.{Message}
 use Rattle.keri_disk.proofs.Moments.{KnowsNow}
+use Rattle.keri_outside.specs.declared.inquiry.Inquiry.{Inquiry}
+use Rattle.keri_outside.specs.declared.signing.Signing.{Signing}
 use Rattle.run_status.specs.declared.close.Close.{Close}
 use Rattle.witness_core.specs.Storing.{AllStand}
 use Rattle.witness_link.specs.Links.{LinkTold, WitnessTold}
@@ -15,16 +17,16 @@ use Rattle.witness_link.specs.Taking.{IsWhole}
 use Rattle.witness_link.specs.declared.link.Link.{Link}
 use Rattle.witness_link.proofs.Chains.{ended_more, served_more, served_none}
 
-module _ {W K V G : Type 0} (witness_seen : W → WitnessTold) (written : K → Option (List ℕ)) (sink_faults : K → ℕ) (says : V → Key → List ℕ → Sig → Option Bool) (verifier_faults : V → ℕ)
-    (gives : G → Key → List ℕ → Option Sig) (signer_faults : G → ℕ) where
+module _ {W K V G : Type 0} (witness_seen : W → WitnessTold) (written : K → Option (List ℕ)) (sink_faults : K → ℕ) (says : V → Key → List ℕ → Sig → Option Bool)
+    (inquiries : V → Option (List Inquiry)) (verifier_faults : V → ℕ) (gives : G → Key → List ℕ → Option Sig) (signings : G → Option (List Signing)) (signer_faults : G → ℕ) where
   abbrev told : Link W K V G → LinkTold
-  told link = link_told witness_seen written sink_faults says verifier_faults gives signer_faults link
+  told link = link_told witness_seen written sink_faults says inquiries verifier_faults gives signings signer_faults link
 
   abbrev Taken : Link W K V G → Link W K V G → List Message → Type 0
-  Taken first now messages = HasTaken witness_seen written sink_faults says verifier_faults gives signer_faults first now messages
+  Taken first now messages = HasTaken witness_seen written sink_faults says inquiries verifier_faults gives signings signer_faults first now messages
 
   abbrev Stopped : Link W K V G → Link W K V G → Close → List Message → Type 0
-  Stopped first now close messages = HasStopped witness_seen written sink_faults says verifier_faults gives signer_faults first now close messages
+  Stopped first now close messages = HasStopped witness_seen written sink_faults says inquiries verifier_faults gives signings signer_faults first now close messages
 
   -- nothing was handed to it yet
   pub taken_none : (link : Link W K V G) → IsWhole (witness_seen link.witness.now)

@@ -1,5 +1,5 @@
 -- One message is served.
-use Rattle.std.proofs.Common.{◌≡◌, ℕ, List, [], ◌∷◌, ◌++◌, refl, sym, ◌∙◌, ap, subst, append-nil}
+use Rattle.std.proofs.Common.{◌≡◌, ℕ, List, [], ◌∷◌, ◌++◌, Err, refl, sym, ◌∙◌, ap, subst, append-nil}
 use Rattle.std.specs.Prelude.{All, take}
 use Rattle.std.proofs.lemmas.List.Elements.{All-nil}
 use Rattle.cesr_stream.specs.declared.message.Message.{Message}
@@ -8,9 +8,10 @@ use Rattle.keri_specs.specs.Told.{after}
 use Rattle.keri_specs.proofs.Putting.{after-nil}
 use Rattle.run_status.specs.declared.close.Close.{Close}
 use Rattle.run_status.specs.declared.close.Close.TheVariants.{WriteFault}
-use Rattle.validator_core.specs.View.{CoreView}
+use Rattle.witness_core.specs.Outcomes.{AsksSigner, due_by}
+use Rattle.witness_core.specs.Receipts.{signings_of}
 use Rattle.witness_core.specs.Storing.{StoresOn}
-use Rattle.witness_core.specs.Telling.{IsUntold}
+use Rattle.witness_core.specs.Telling.{AsksVerdicts}
 use Rattle.witness_core.specs.declared.fate.Fate.{Fate}
 use Rattle.witness_core.specs.declared.receipt.Receipt.{Receipt}
 use Rattle.witness_core.specs.declared.witness_fault.WitnessFault.{WitnessFault}
@@ -18,15 +19,17 @@ use Rattle.witness_core.specs.declared.witness_fault.WitnessFault.TheVariants as
 use Rattle.witness_link.specs.Calls.{Call, IsCall, refused_as, seen_in, text_of}
 use Rattle.witness_link.specs.Closes.{close_by}
 use Rattle.witness_link.specs.Links.{LinkTold, counts_of, standing_of, terms_of}
-use Rattle.witness_link.specs.Serving.{FailsToTake, HasEnded, HasServed, Serves, StopsBy}
+use Rattle.witness_link.specs.Serving.{FailsToTake, HasEnded, HasServed, Serves, StopsBy, signed_for}
 use Rattle.witness_link.specs.Stored.{HoldsAccepted, IsLawfulList, IsOfStored}
 use Rattle.witness_link.specs.Taking.{Counted, FailsAt, IsWhole}
 use Rattle.witness_link.proofs.Holding.{of_fate}
 
-pub untold_itself : (core : CoreView) → IsUntold core core
-untold_itself core = record { told = refl; follows = record { mode = refl; limits = refl; base = refl; bodies = refl } }
+module _ (old new : LinkTold) (m : Message) (stores : StoresOn old.witness.list old.witness.disk new.witness.core new.witness.list new.witness.disk) (lawful : IsLawfulList stores.accepted) (same : terms_of new ≡ terms_of old)
+    (asked : AsksVerdicts old.inquiries new.inquiries old.witness.core new.witness.core) where
+  -- what the signer was asked where the witness failed at it
+  abbrev Asks : WitnessFault → Type 0
+  Asks why = AsksSigner old.witness.key old.witness.core new.witness.core m old.signings new.signings (Err why)
 
-module _ (old new : LinkTold) (m : Message) (stores : StoresOn old.witness.list old.witness.disk new.witness.core new.witness.list new.witness.disk) (lawful : IsLawfulList stores.accepted) (same : terms_of new ≡ terms_of old) where
   module _ (refused_same : new.refused ≡ old.refused) (seen_same : new.seen ≡ old.seen) (written_same : new.written ≡ old.written) (sink_same : new.sink_faults ≡ old.sink_faults) where
     serves_nothing : Serves old new
     serves_nothing = record {
@@ -39,28 +42,36 @@ module _ (old new : LinkTold) (m : Message) (stores : StoresOn old.witness.list 
       lawful = lawful;
       of_stored = All-nil (IsOfStored (terms_of old) new.witness.list);
       same_terms = same;
+      inquired = λ none. asked;
     }
 
-    fails_so : (why : WitnessFault) → FailsAt (terms_of old) (standing_of old.witness) m new.witness why → Counted (counts_of old) (counts_of new) why → FailsToTake old new serves_nothing why m
+    fails_so : (why : WitnessFault) → FailsAt (terms_of old) (standing_of old.witness) m new.witness why → Counted (counts_of old) (counts_of new) why → Asks why → FailsToTake old new serves_nothing why m
     unfolding serves_nothing
-    fails_so why fails counted = record { fails = fails; wrote = written_same ∙ after-nil old.written; counted = counted; sink_same = sink_same }
+    fails_so why fails counted signed = record {
+      fails = fails;
+      signed = subst (λ told. AsksSigner old.witness.key old.witness.core new.witness.core m told new.signings (Err why)) (after-nil old.signings) signed;
+      wrote = written_same ∙ after-nil old.written;
+      counted = counted;
+      sink_same = sink_same;
+    }
 
-    stops_so : (why : WitnessFault) → FailsAt (terms_of old) (standing_of old.witness) m new.witness why → Counted (counts_of old) (counts_of new) why → StopsBy old new serves_nothing (m ∷ []) (close_by why)
+    stops_so : (why : WitnessFault) → FailsAt (terms_of old) (standing_of old.witness) m new.witness why → Counted (counts_of old) (counts_of new) why → Asks why → StopsBy old new serves_nothing (m ∷ []) (close_by why)
     unfolding serves_nothing
-    stops_so fault.DiskFault fails counted = (m, refl, fails_so fault.DiskFault fails counted)
-    stops_so fault.SignerFault fails counted = (m, refl, fails_so fault.SignerFault fails counted)
-    stops_so fault.VerifierFault fails counted = (m, refl, fails_so fault.VerifierFault fails counted)
-    stops_so fault.Full fails counted = (m, refl, fails_so fault.Full fails counted)
-    stops_so fault.OutOfMemory fails counted = (m, refl, fails_so fault.OutOfMemory fails counted)
-    stops_so fault.Broken fails counted = absurd fails
+    stops_so fault.DiskFault fails counted signed = (m, refl, fails_so fault.DiskFault fails counted signed)
+    stops_so fault.SignerFault fails counted signed = (m, refl, fails_so fault.SignerFault fails counted signed)
+    stops_so fault.VerifierFault fails counted signed = (m, refl, fails_so fault.VerifierFault fails counted signed)
+    stops_so fault.Full fails counted signed = (m, refl, fails_so fault.Full fails counted signed)
+    stops_so fault.OutOfMemory fails counted signed = (m, refl, fails_so fault.OutOfMemory fails counted signed)
+    stops_so fault.Broken fails counted signed = absurd fails
 
     -- FAILED: the witness failed at it
     pub one_failed : (why : WitnessFault) (close : Close) → close ≡ close_by why → FailsAt (terms_of old) (standing_of old.witness) m new.witness why → Counted (counts_of old) (counts_of new) why
-        → HasEnded old new close (m ∷ [])
-    one_failed why close is fails counted = record { serves = serves_nothing; stops = subst (StopsBy old new serves_nothing (m ∷ [])) (sym is) (stops_so why fails counted) }
+        → Asks why → HasEnded old new close (m ∷ [])
+    one_failed why close is fails counted signed = record { serves = serves_nothing; stops = subst (StopsBy old new serves_nothing (m ∷ [])) (sym is) (stops_so why fails counted signed) }
 
   module _ (fate : Fate) (receipts : List Receipt) (holds : HoldsAccepted new.witness.core new.witness.list)
-      (refused_more : new.refused ≡ old.refused ++ refused_as m.place fate) (seen_more : new.seen ≡ old.seen ++ seen_in fate) (whole : IsWhole new.witness) (counts_same : counts_of new ≡ counts_of old) where
+      (refused_more : new.refused ≡ old.refused ++ refused_as m.place fate) (seen_more : new.seen ≡ old.seen ++ seen_in fate) (whole : IsWhole new.witness) (counts_same : counts_of new ≡ counts_of old)
+      (signed : new.signings ≡ after old.signings (signings_of old.witness.key (due_by old.witness.key old.witness.core new.witness.core m fate))) where
     abbrev call : Call
     call = record { message = m; fate = fate; receipts = receipts; behind = standing_of new.witness }
 
@@ -77,7 +88,12 @@ module _ (old new : LinkTold) (m : Message) (stores : StoresOn old.witness.list 
         of_stored = subst (All (IsOfStored (terms_of old) new.witness.list)) (sym (append-nil receipts))
             (of_fate (terms_of old) old.witness.core new.witness.core new.witness.list m receipts holds fate is.tells is.receipts_are);
         same_terms = same;
+        inquired = λ none. asked;
       }
+
+      signed_one : new.signings ≡ signed_for old serves_one.calls
+      unfolding serves_one
+      signed_one = signed ∙ ap (after old.signings) (sym (append-nil (signings_of old.witness.key (due_by old.witness.key old.witness.core new.witness.core m fate))))
 
       -- PUT: its receipts were written
       pub one_put : new.written ≡ after old.written (text_of receipts) → new.sink_faults ≡ old.sink_faults → HasServed old new (m ∷ [])
@@ -87,6 +103,7 @@ module _ (old new : LinkTold) (m : Message) (stores : StoresOn old.witness.list 
         messages_are = refl;
         goes_on = record {
           now = refl;
+          signed = signed_one;
           wrote = put ∙ ap (λ l. after old.written (text_of l)) (sym (append-nil receipts));
           is_whole = whole;
           counts_same = counts_same;
@@ -105,6 +122,7 @@ module _ (old new : LinkTold) (m : Message) (stores : StoresOn old.witness.list 
             earlier = [];
             last = call;
             all = refl;
+            signed = signed_one;
             count = n;
             wrote = put;
             rose = rose;

@@ -1,12 +1,15 @@
 -- The messages that a witness took at a link, and what became of them.
-use Rattle.std.specs.Prelude.{◌≡◌, ℕ, List, [], ◌∷◌, flat_map, map}
+use Rattle.std.specs.Prelude.{◌≡◌, ℕ, List, [], ◌∷◌, ◌++◌, flat_map, map}
 use Rattle.cesr_codes.specs.declared.digest.Digest.{Digest}
+use Rattle.cesr_codes.specs.declared.key.Key.{Key}
 use Rattle.cesr_stream.specs.declared.message.Message.{Message}
 use Rattle.journal.specs.declared.refusal.Refusal.{Refusal}
+use Rattle.keri_outside.specs.declared.signing.Signing.{Signing}
+use Rattle.validator_core.specs.View.{CoreView}
 use Rattle.witness_core.specs.Fates.{IsFate}
 use Rattle.witness_core.specs.Payloads.{AreListed}
 use Rattle.witness_core.specs.Outcomes.{KeepsList, TellsFate, due_by}
-use Rattle.witness_core.specs.Receipts.{AreReceiptsOf}
+use Rattle.witness_core.specs.Receipts.{AreReceiptsOf, signings_of}
 use Rattle.witness_core.specs.Room.{IsTurnedAway}
 use Rattle.witness_core.specs.declared.fate.Fate.{Fate}
 use Rattle.witness_core.specs.declared.fate.Fate.TheVariants.{Stored, Waits, Seen, NotAnEvent, Refused}
@@ -45,6 +48,11 @@ messages_in calls = map (λ c. c.message) calls
 
 abbrev pub receipts_in : List Call → List Receipt
 receipts_in calls = flat_map (λ c. c.receipts) calls
+
+-- what a signer is asked for the receipts that are due of them, in order
+abbrev pub signings_in : Key → CoreView → List Call → List Signing
+signings_in key old [] = []
+signings_in key old (call ∷ calls) = signings_of key (due_by key old call.behind.core call.message call.fate) ++ signings_in key call.behind.core calls
 
 -- the text of receipts, one behind the other
 abbrev pub text_of : List Receipt → List ℕ

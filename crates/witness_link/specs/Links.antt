@@ -5,7 +5,9 @@ use Rattle.cesr_codes.specs.declared.key.Key.{Key}
 use Rattle.cesr_codes.specs.declared.sig.Sig.{Sig}
 use Rattle.journal.specs.declared.refusal.Refusal.{Refusal}
 use Rattle.keri_disk.specs.Images.{DiskTold}
+use Rattle.keri_outside.specs.declared.inquiry.Inquiry.{Inquiry}
 use Rattle.keri_outside.specs.declared.limits.Limits.{Limits}
+use Rattle.keri_outside.specs.declared.signing.Signing.{Signing}
 use Rattle.run_status.specs.Readers.{SourceTold}
 use Rattle.validator_core.specs.View.{CoreView}
 
@@ -43,25 +45,30 @@ pub record Counts : Type 0 where
 abbrev pub counts : ℕ → ℕ → ℕ → Counts
 counts disk verifier signer = record { disk = disk; verifier = verifier; signer = signer }
 
--- what is seen of a witness, of the verifier, the signer and the sink that it has at a link, with how often each has failed, and
--- what was noted of messages: those that were refused, and the digests of the events that were seen in place of others
+-- What is seen of a witness, of the verifier, the signer and the sink that it has at a link, with how often each has failed, and
+-- what the verifier and the signer were asked, in order, where they tell. And what was noted of messages: those that were refused,
+-- and the digests of the events that were seen in place of others.
 pub record LinkTold : Type 1 where
   pub witness : WitnessTold
   pub says : Key → List ℕ → Sig → Option Bool
+  pub inquiries : Option (List Inquiry)
   pub verifier_faults : ℕ
   pub gives : Key → List ℕ → Option Sig
+  pub signings : Option (List Signing)
   pub signer_faults : ℕ
   pub written : Option (List ℕ)
   pub sink_faults : ℕ
   pub refused : List Refusal
   pub seen : List Digest
 
-abbrev pub told_of_link : WitnessTold → (Key → List ℕ → Sig → Option Bool) → ℕ → (Key → List ℕ → Option Sig) → ℕ → Option (List ℕ) → ℕ → List Refusal → List Digest → LinkTold
-told_of_link witness says verifier_faults gives signer_faults written sink_faults refused seen = record {
+abbrev pub told_of_link : WitnessTold → (Key → List ℕ → Sig → Option Bool) → Option (List Inquiry) → ℕ → (Key → List ℕ → Option Sig) → Option (List Signing) → ℕ → Option (List ℕ) → ℕ → List Refusal → List Digest → LinkTold
+told_of_link witness says inquiries verifier_faults gives signings signer_faults written sink_faults refused seen = record {
   witness = witness;
   says = says;
+  inquiries = inquiries;
   verifier_faults = verifier_faults;
   gives = gives;
+  signings = signings;
   signer_faults = signer_faults;
   written = written;
   sink_faults = sink_faults;

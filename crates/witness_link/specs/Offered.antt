@@ -3,6 +3,8 @@ use Rattle.std.specs.Prelude.{◌≡◌, ℕ, ◌⊎◌, Bool, List, ◌++◌, O
 use Rattle.cesr_codes.specs.declared.key.Key.{Key}
 use Rattle.cesr_codes.specs.declared.sig.Sig.{Sig}
 use Rattle.cesr_stream.specs.declared.message.Message.{Message}
+use Rattle.keri_outside.specs.declared.inquiry.Inquiry.{Inquiry}
+use Rattle.keri_outside.specs.declared.signing.Signing.{Signing}
 use Rattle.cesr_stream.specs.Assembly.{all_of}
 use Rattle.message_feed.specs.declared.feed_close.FeedClose.{FeedClose}
 use Rattle.message_feed.specs.declared.feed_close.FeedClose.TheVariants as feed
@@ -20,12 +22,12 @@ pub record LendsSame {W K V G : Type 0} (first now : Link W K V G) : Type 0 wher
   pub signer : now.signer.ghost_name ≡ first.signer.ghost_name
   pub notes : now.notes.ghost_name ≡ first.notes.ghost_name
 
-module _ {W K V G : Type 0} (witness_seen : W → WitnessTold) (written : K → Option (List ℕ)) (sink_faults : K → ℕ) (says : V → Key → List ℕ → Sig → Option Bool) (verifier_faults : V → ℕ)
-    (gives : G → Key → List ℕ → Option Sig) (signer_faults : G → ℕ) where
+module _ {W K V G : Type 0} (witness_seen : W → WitnessTold) (written : K → Option (List ℕ)) (sink_faults : K → ℕ) (says : V → Key → List ℕ → Sig → Option Bool)
+    (inquiries : V → Option (List Inquiry)) (verifier_faults : V → ℕ) (gives : G → Key → List ℕ → Option Sig) (signings : G → Option (List Signing)) (signer_faults : G → ℕ) where
   -- what is seen of a link
   abbrev pub link_told : Link W K V G → LinkTold
-  link_told link = told_of_link (witness_seen link.witness.now) (says link.verifier.now) (verifier_faults link.verifier.now) (gives link.signer.now) (signer_faults link.signer.now) (written link.sink.now)
-      (sink_faults link.sink.now) link.notes.now.refused.items link.notes.now.seen.items
+  link_told link = told_of_link (witness_seen link.witness.now) (says link.verifier.now) (inquiries link.verifier.now) (verifier_faults link.verifier.now) (gives link.signer.now) (signings link.signer.now)
+      (signer_faults link.signer.now) (written link.sink.now) (sink_faults link.sink.now) link.notes.now.refused.items link.notes.now.seen.items
 
   -- since it had the first of these values it has served these messages
   pub record HasTaken (first now : Link W K V G) (messages : List Message) : Type 0 where

@@ -1,22 +1,29 @@
 -- What stands while a link is served.
 use Rattle.std.specs.Prelude.{◌≡◌, ℕ, List, [], ◌∷◌, ◌++◌, All, take}
+use Rattle.std.specs.declared.option.Option.{Option}
 use Rattle.std.specs.declared.result.Result.{Result}
 use Rattle.std.specs.declared.result.Result.TheVariants.{Ok, Err}
 use Rattle.cesr_stream.specs.declared.message.Message.{Message}
+use Rattle.keri_outside.specs.declared.signing.Signing.{Signing}
 use Rattle.keri_specs.specs.Causes.{Rose}
 use Rattle.keri_specs.specs.Told.{after}
 use Rattle.run_status.specs.declared.close.Close.{Close}
 use Rattle.run_status.specs.declared.close.Close.TheVariants.{End, Bad, ReadFault, VerifierFault, SignerFault, DiskFault, WriteFault, Malformed, Full, OutOfMemory}
+use Rattle.validator_core.specs.View.{open_of}
+use Rattle.witness_core.specs.Outcomes.{AsksSigner}
 use Rattle.witness_core.specs.Storing.{StoresOn}
+use Rattle.witness_core.specs.Telling.{AsksVerdicts}
 use Rattle.witness_core.specs.declared.witness_fault.WitnessFault.{WitnessFault}
 use Rattle.witness_core.specs.declared.witness_fault.WitnessFault.TheVariants as fault
-use Rattle.witness_link.specs.Calls.{AreCalls, Call, digests_in, messages_in, receipts_in, refusals_in, text_of}
+use Rattle.witness_link.specs.Calls.{AreCalls, Call, digests_in, messages_in, receipts_in, refusals_in, signings_in, text_of}
 use Rattle.witness_link.specs.Links.{LinkTold, Standing, counts_of, standing_of, terms_of}
 use Rattle.witness_link.specs.Stored.{IsLawfulList, IsOfStored}
 use Rattle.witness_link.specs.Taking.{Counted, FailsAt, IsWhole}
 
 -- SERVES: Messages were taken, one behind the other, and what became of them is noted. At each moment a stop leaves what was stored
--- before, and the first few of what was accepted since, which is lawful. Each receipt is of a stored event.
+-- before, and the first few of what was accepted since, which is lawful. Each receipt is of a stored event. Where no question was
+-- open before, the verifier was asked for the verdicts that the core was told since, in order, and for nothing else, but maybe for
+-- the first question that is open now.
 pub record Serves (old new : LinkTold) : Type 0 where
   pub calls : List Call
   pub behind : Standing
@@ -27,32 +34,42 @@ pub record Serves (old new : LinkTold) : Type 0 where
   pub lawful : IsLawfulList stores.accepted
   pub of_stored : All (IsOfStored (terms_of old) new.witness.list) (receipts_in calls)
   pub same_terms : terms_of new ≡ terms_of old
+  pub inquired : open_of old.witness.core ≡ [] → AsksVerdicts old.inquiries new.inquiries old.witness.core new.witness.core
 
 -- the text of the receipts of these calls was written
 abbrev pub Wrote : LinkTold → LinkTold → List Call → Type 0
 Wrote old new calls = new.written ≡ after old.written (text_of (receipts_in calls))
 
+-- what the signer has been asked once it was asked for the receipts that are due of these calls, in order, and for no others
+abbrev pub signed_for : LinkTold → List Call → Option (List Signing)
+signed_for old calls = after old.signings (signings_in old.witness.key old.witness.core calls)
+
 module _ (old new : LinkTold) (serves : Serves old new) where
-  -- all receipts were written, the witness stands as behind the last message, and nothing failed
+  -- all receipts were signed and written, the witness stands as behind the last message, and nothing failed
   pub record GoesOn : Type 0 where
     pub now : serves.behind ≡ standing_of new.witness
+    pub signed : new.signings ≡ signed_for old serves.calls
     pub wrote : Wrote old new serves.calls
     pub is_whole : IsWhole new.witness
     pub counts_same : counts_of new ≡ counts_of old
     pub sink_same : new.sink_faults ≡ old.sink_faults
 
-  -- all receipts were written, and then the witness failed at a message
+  -- All receipts were signed and written, and then the witness failed at a message. Of that one the signer was asked for the first
+  -- few receipts that are due, where it failed itself or there was no memory, and else for none.
   pub record FailsToTake (why : WitnessFault) (last : Message) : Type 0 where
     pub fails : FailsAt (terms_of old) serves.behind last new.witness why
+    pub signed : AsksSigner old.witness.key serves.behind.core new.witness.core last (signed_for old serves.calls) new.signings (Err why)
     pub wrote : Wrote old new serves.calls
     pub counted : Counted (counts_of old) (counts_of new) why
     pub sink_same : new.sink_faults ≡ old.sink_faults
 
-  -- the sink failed at the receipts of the last message: a front of them was written behind those of the messages before it
+  -- The sink failed at the receipts of the last message: all were signed, and a front of them was written behind those of the messages
+  -- before it.
   pub record FailsToPut : Type 0 where
     pub earlier : List Call
     pub last : Call
     pub all : serves.calls ≡ earlier ++ last ∷ []
+    pub signed : new.signings ≡ signed_for old serves.calls
     pub count : ℕ
     pub wrote : new.written ≡ after old.written (text_of (receipts_in earlier) ++ take count (text_of last.receipts))
     pub rose : Rose old.sink_faults new.sink_faults

@@ -29,9 +29,11 @@ impl<'w, 'k, 'v, 'g, 'n, W: Witnessing, K: Sink, V: Verifier, G: Signer> Taker
 
     type Stop = Close;
 
-    ghost has_taken = { HasTaken W.seen K.written K.faults V.says V.faults G.gives G.faults };
+    ghost has_taken = { HasTaken W.seen K.written K.faults
+        V.says V.inquiries V.faults G.gives G.signings G.faults };
 
-    ghost has_stopped = { HasStopped W.seen K.written K.faults V.says V.faults G.gives G.faults };
+    ghost has_stopped = { HasStopped W.seen K.written K.faults
+        V.says V.inquiries V.faults G.gives G.signings G.faults };
 
     fn take(&mut self, message: Message) -> Result<(), Close> {
         serve(
@@ -55,10 +57,12 @@ fn serve<W: Witnessing, K: Sink, V: Verifier, G: Signer>(
     message: &Message,
 ) -> Result<(), Close>
     ensures { (W.seen witness.old).broken ≡ false → ServesOne message.now result
-        (told_of_link (W.seen witness.old) (V.says verifier.old) (V.faults verifier.old) (G.gives signer.old)
-        (G.faults signer.old) (K.written sink.old) (K.faults sink.old) notes.old.refused.items notes.old.seen.items)
-        (told_of_link (W.seen witness.new) (V.says verifier.new) (V.faults verifier.new) (G.gives signer.new)
-        (G.faults signer.new) (K.written sink.new) (K.faults sink.new) notes.new.refused.items notes.new.seen.items) }
+        (told_of_link (W.seen witness.old) (V.says verifier.old) (V.inquiries verifier.old) (V.faults verifier.old)
+        (G.gives signer.old) (G.signings signer.old) (G.faults signer.old) (K.written sink.old) (K.faults sink.old)
+        notes.old.refused.items notes.old.seen.items)
+        (told_of_link (W.seen witness.new) (V.says verifier.new) (V.inquiries verifier.new) (V.faults verifier.new)
+        (G.gives signer.new) (G.signings signer.new) (G.faults signer.new) (K.written sink.new) (K.faults sink.new)
+        notes.new.refused.items notes.new.seen.items) }
 {
     witness.stands();
     match notes.make_place() {

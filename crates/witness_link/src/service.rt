@@ -29,10 +29,12 @@ pub fn serve_link<S: Source, K: Sink, D: Disk + Drop, V: Verifier, G: Signer>(
     requires { witness.old.broken ≡ false }
     ensures { ServesLink limits (source_told (S.left source.old) (S.faults source.old))
         (source_told (S.left source.new) (S.faults source.new))
-        (told_of_link (⟦<Witness<D> as Witnessing>⟧.seen witness.old) (V.says verifier.old) (V.faults verifier.old)
-        (G.gives signer.old) (G.faults signer.old) (K.written sink.old) (K.faults sink.old) [] [])
-        (told_of_link (⟦<Witness<D> as Witnessing>⟧.seen witness.new) (V.says verifier.new) (V.faults verifier.new)
-        (G.gives signer.new) (G.faults signer.new) (K.written sink.new) (K.faults sink.new)
+        (told_of_link (⟦<Witness<D> as Witnessing>⟧.seen witness.old)
+        (V.says verifier.old) (V.inquiries verifier.old) (V.faults verifier.old)
+        (G.gives signer.old) (G.signings signer.old) (G.faults signer.old) (K.written sink.old) (K.faults sink.old) [] [])
+        (told_of_link (⟦<Witness<D> as Witnessing>⟧.seen witness.new)
+        (V.says verifier.new) (V.inquiries verifier.new) (V.faults verifier.new)
+        (G.gives signer.new) (G.signings signer.new) (G.faults signer.new) (K.written sink.new) (K.faults sink.new)
         result.refused.items result.seen.items) result.close }
 {
     serve_over(alloc, witness, source, sink, verifier, signer, limits)
@@ -51,10 +53,10 @@ fn serve_over<S: Source, K: Sink, W: Witnessing, V: Verifier, G: Signer>(
     requires { (W.seen witness.old).broken ≡ false }
     ensures { ServesLink limits (source_told (S.left source.old) (S.faults source.old))
         (source_told (S.left source.new) (S.faults source.new))
-        (told_of_link (W.seen witness.old) (V.says verifier.old) (V.faults verifier.old)
-        (G.gives signer.old) (G.faults signer.old) (K.written sink.old) (K.faults sink.old) [] [])
-        (told_of_link (W.seen witness.new) (V.says verifier.new) (V.faults verifier.new)
-        (G.gives signer.new) (G.faults signer.new) (K.written sink.new) (K.faults sink.new)
+        (told_of_link (W.seen witness.old) (V.says verifier.old) (V.inquiries verifier.old) (V.faults verifier.old)
+        (G.gives signer.old) (G.signings signer.old) (G.faults signer.old) (K.written sink.old) (K.faults sink.old) [] [])
+        (told_of_link (W.seen witness.new) (V.says verifier.new) (V.inquiries verifier.new) (V.faults verifier.new)
+        (G.gives signer.new) (G.signings signer.new) (G.faults signer.new) (K.written sink.new) (K.faults sink.new)
         result.refused.items result.seen.items) result.close }
 {
     let mut notes = Notes::new(alloc);
@@ -83,11 +85,11 @@ fn serve_noting<S: Source, K: Sink, W: Witnessing, V: Verifier, G: Signer>(
     requires { (W.seen witness.old).broken ≡ false }
     ensures { ServesLink limits (source_told (S.left source.old) (S.faults source.old))
         (source_told (S.left source.new) (S.faults source.new))
-        (told_of_link (W.seen witness.old) (V.says verifier.old) (V.faults verifier.old)
-        (G.gives signer.old) (G.faults signer.old) (K.written sink.old) (K.faults sink.old)
+        (told_of_link (W.seen witness.old) (V.says verifier.old) (V.inquiries verifier.old) (V.faults verifier.old)
+        (G.gives signer.old) (G.signings signer.old) (G.faults signer.old) (K.written sink.old) (K.faults sink.old)
         notes.old.refused.items notes.old.seen.items)
-        (told_of_link (W.seen witness.new) (V.says verifier.new) (V.faults verifier.new)
-        (G.gives signer.new) (G.faults signer.new) (K.written sink.new) (K.faults sink.new)
+        (told_of_link (W.seen witness.new) (V.says verifier.new) (V.inquiries verifier.new) (V.faults verifier.new)
+        (G.gives signer.new) (G.signings signer.new) (G.faults signer.new) (K.written sink.new) (K.faults sink.new)
         notes.new.refused.items notes.new.seen.items) result }
 {
     let mut link = Link {
@@ -110,8 +112,8 @@ fn serve_all<'w, 'k, 'v, 'g, 'n, S: Source, K: Sink, W: Witnessing, V: Verifier,
     requires { (W.seen link.old.witness.now).broken ≡ false }
     ensures serves { ServesLink limits (source_told (S.left source.old) (S.faults source.old))
         (source_told (S.left source.new) (S.faults source.new))
-        (link_told W.seen K.written K.faults V.says V.faults G.gives G.faults link.old)
-        (link_told W.seen K.written K.faults V.says V.faults G.gives G.faults link.new) result }
+        (link_told W.seen K.written K.faults V.says V.inquiries V.faults G.gives G.signings G.faults link.old)
+        (link_told W.seen K.written K.faults V.says V.inquiries V.faults G.gives G.signings G.faults link.new) result }
     ensures same { LendsSame link.old link.new }
 {
     link.witness.stands();
@@ -125,7 +127,8 @@ fn finish<'w, 'k, 'v, 'g, 'n, K: Sink, W: Witnessing, V: Verifier, G: Signer>(
     close: FeedClose<Close>,
     last: Option<Message>,
 ) -> Close
-    ensures { Finishes W.seen K.written K.faults V.says V.faults G.gives G.faults close last link.old link.new result }
+    ensures { Finishes W.seen K.written K.faults V.says V.inquiries V.faults G.gives G.signings G.faults
+        close last link.old link.new result }
 {
     let close = match close {
         FeedClose::End => Close::End,
@@ -144,7 +147,8 @@ fn take_last<'w, 'k, 'v, 'g, 'n, K: Sink, W: Witnessing, V: Verifier, G: Signer>
     close: Close,
     last: Option<Message>,
 ) -> Close
-    ensures { TakesLast W.seen K.written K.faults V.says V.faults G.gives G.faults close last link.old link.new result }
+    ensures { TakesLast W.seen K.written K.faults V.says V.inquiries V.faults G.gives G.signings G.faults
+        close last link.old link.new result }
 {
     match last {
         Some(message) => match link.take(message) {

@@ -1,5 +1,7 @@
 //! What serving a link needs of a witness.
 ghost use Rattle.std.specs.Prelude.{◌≡◌, false, List, ℕ};
+ghost use Rattle.witness_core.specs.Outcomes.{AsksSigner};
+ghost use Rattle.witness_core.specs.Telling.{AsksVerdicts};
 ghost use Rattle.witness_link.specs.Links.{WitnessTold, counts, terms_with};
 ghost use Rattle.witness_link.specs.Taking.{IsSound, KeepsSame, TakesMessage};
 
@@ -27,7 +29,12 @@ pub trait Witnessing {
             message.now (seen self.old) (seen self.new) result }
         ensures same { (seen self.old).broken ≡ false → KeepsSame (seen self.old) (seen self.new) }
         ensures says { V.says verifier.new ≡ V.says verifier.old }
-        ensures gives { G.gives signer.new ≡ G.gives signer.old };
+        ensures gives { G.gives signer.new ≡ G.gives signer.old }
+        // The signer is asked for just the receipts that are due, and the verifier for just the verdicts that came.
+        ensures asked { AsksSigner (seen self.old).key (seen self.old).core (seen self.new).core message.now
+            (G.signings signer.old) (G.signings signer.new) result }
+        ensures verdicts { AsksVerdicts (V.inquiries verifier.old) (V.inquiries verifier.new)
+            (seen self.old).core (seen self.new).core };
 
     /// What is true of it where it isn't broken, stated for proofs. Nothing is done here.
     fn stands(&self)

@@ -8,4 +8,5 @@ pub record KeepsNames (old new : Told) : Type 0 where
   pub verdicts : new.says ≡ old.says
   pub signatures : new.gives ≡ old.gives
   pub disks : new.stored ≡ old.stored
+  pub links : new.links ≡ old.links
   pub limits : new.limits ≡ old.limits
