@@ -2,7 +2,7 @@
 use Rattle.std.proofs.Common.{ℕ, List}
 use Rattle.std.proofs.lemmas.List.Elements.{All-weaker}
 use Rattle.blame_core.specs.Blames.{AreBlames, IsBlame, IsListed}
-use Rattle.blame_core.specs.declared.rivalry.Blame.{Blame}
+use Rattle.blame_core.specs.declared.blames.Blame.{Blame}
 use Rattle.journal.specs.declared.body.Body.{Body}
 use Rattle.validator_core.specs.View.{CoreView}
 

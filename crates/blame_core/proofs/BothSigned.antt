@@ -1,8 +1,7 @@
 -- The culprits of two bodies: members of both lists that back both.
-use Rattle.std.proofs.Common.{◌≡◌, ℕ, ◌+◌, ◌<◌, Bool, true, false, ◌&&◌, List, [], ◌∷◌, ◌++◌, length, take, get_or, map, Option, Some, None, is_some, refl, sym, ◌∙◌, ap, inl, inr}
+use Rattle.std.proofs.Common.{◌≡◌, Bool, true, false, ◌&&◌, List, [], ◌∷◌, ◌++◌, map, Option, Some, None, is_some, refl, sym, ◌∙◌, ap, inl, inr}
 use Rattle.std.specs.Prelude.{All, filter, filter_map, option_to_list}
 use Rattle.std.proofs.lemmas.Bool.{cases_Bool}
-use Rattle.std.proofs.lemmas.List.{take_more}
 use Rattle.std.proofs.lemmas.List.Elements.{All-cons, All-nil}
 use Rattle.cesr_codes.specs.declared.key.Key.{Key}
 use Rattle.cesr_codes.specs.declared.sig.Sig.{Sig}
@@ -13,20 +12,20 @@ use Rattle.blame_core.specs.declared.culprit.Culprit.{Culprit}
 use Rattle.blame_core.proofs.Lists.{filter_map_push}
 
 -- one more member of the list, at its first coming
-module _ (f : Key → Option Culprit) (ws : List Key) (i : ℕ) (d : Key) (within : i < length ws) (known : Bool)
-    (is : known ≡ has_key (take i ws) (get_or ws i d)) (xs : List Culprit) (so_far : xs ≡ filter_map f (distinct same_key (take i ws))) where
-  pub new_member : known ≡ false → xs ++ option_to_list (f (get_or ws i d)) ≡ filter_map f (distinct same_key (take (i + 1) ws))
-  new_member h =
-      ap (λ ys. ys ++ option_to_list (f (get_or ws i d))) so_far
-      ∙ sym (ap (λ ks. filter_map f (distinct same_key ks)) (take_more ws i d within)
-      ∙ ap (filter_map f) (distinct-push_new same_key (get_or ws i d) (take i ws) (sym is ∙ h))
-      ∙ filter_map_push f (distinct same_key (take i ws)) (get_or ws i d))
+module _ (f : Key → Option Culprit) (seen : List Key) (key : Key) (known : Bool) (is : known ≡ has_key seen key)
+    (xs : List Culprit) (so_far : xs ≡ filter_map f (distinct same_key seen)) where
+  pub new_member : known ≡ false → (ws : List Key) → ws ≡ seen ++ key ∷ [] → xs ++ option_to_list (f key) ≡ filter_map f (distinct same_key ws)
+  new_member h ws more =
+      ap (λ ys. ys ++ option_to_list (f key)) so_far
+      ∙ sym (ap (λ ks. filter_map f (distinct same_key ks)) more
+      ∙ ap (filter_map f) (distinct-push_new same_key key seen (sym is ∙ h))
+      ∙ filter_map_push f (distinct same_key seen) key)
 
-  pub old_member : known ≡ true → xs ≡ filter_map f (distinct same_key (take (i + 1) ws))
-  old_member h =
+  pub old_member : known ≡ true → (ws : List Key) → ws ≡ seen ++ key ∷ [] → xs ≡ filter_map f (distinct same_key ws)
+  old_member h ws more =
       so_far
-      ∙ sym (ap (λ ks. filter_map f (distinct same_key ks)) (take_more ws i d within)
-      ∙ ap (filter_map f) (distinct-push_old same_key (get_or ws i d) (take i ws) (sym is ∙ h)))
+      ∙ sym (ap (λ ks. filter_map f (distinct same_key ks)) more
+      ∙ ap (filter_map f) (distinct-push_old same_key key seen (sym is ∙ h)))
 
 module _ (others : List Key) (f g : Key → Option Sig) where
   abbrev named : Key → Option Culprit

@@ -27,7 +27,8 @@ use Rattle.journal.proofs.Different.{Differ, differ-distinct}
 use Rattle.journal.proofs.Places.{one_body}
 use Rattle.blame_laws.specs.Signatures.{came_on, triple_on}
 use Rattle.blame_core.specs.NamedEntries.{AreNamed}
-use Rattle.blame_core.specs.Receipts.{came_at, came_with, good_at, good_in, is_signed}
+use Rattle.blame_core.specs.FirstSignatures.{is_signed}
+use Rattle.blame_core.specs.Signatures.{came_at, came_with, good_at, good_in}
 use Rattle.blame_core.proofs.EntrySignatures.{good_all}
 use Rattle.blame_core.proofs.Lists.{map_flat}
 use Rattle.validator_core.specs.View.{CoreView, Stands, told_of}

@@ -1,6 +1,6 @@
 -- The signatures of entries are those of what they tell.
 use Rattle.std.proofs.Common.{◌≡◌, ℕ, true, false, ◌||◌, List, [], ◌∷◌, ◌++◌, map, Option, Some, None, refl, sym, ◌∙◌, ap, append-nil, inl, inr, option_map}
-use Rattle.std.specs.Prelude.{find, flat_map, bytes_eq, slice_get, if◌then◌else◌}
+use Rattle.std.specs.Prelude.{find, flat_map, bytes_eq, position, slice_get, if◌then◌else◌}
 use Rattle.std.specs.List.{list_any}
 use Rattle.std.specs.Cmp.Lexicographic.{bytes_decides}
 use Rattle.std.proofs.lemmas.Bool.{cases_Bool}
@@ -14,9 +14,11 @@ use Rattle.journal.specs.declared.entry.Entry.TheVariants.{Took}
 use Rattle.journal.specs.History.{Told, took, heard, claimed_sig, said_yes, same_triple, yes_in}
 use Rattle.journal.specs.Journals.{told_by, whole}
 use Rattle.journal.proofs.Locality.{bytes_differ}
-use Rattle.blame_laws.specs.Signatures.{signature_of, triple_on}
-use Rattle.blame_core.specs.Receipts.{AreReceipts, came_with, first_good, good_in, is_signed, stands_on}
-use Rattle.blame_core.specs.declared.receipts.Receipts.{Receipts}
+use Rattle.blame_laws.specs.Signatures.{came_on, signature_of, triple_on}
+use Rattle.blame_core.specs.FirstSignatures.{at_place, is_signed}
+use Rattle.blame_core.specs.Signatures.{came_with, good_in, stands_on}
+use Rattle.blame_core.specs.declared.signed.Signed.{Signed}
+use Rattle.blame_core.proofs.FirstPlaces.{at_position}
 use Rattle.blame_core.proofs.Lists.{flat_found}
 
 -- none stand on a body of another
@@ -59,6 +61,9 @@ good_all held entries b key sig =
     ap (list_any (is_signed key sig)) (flat_found (whole held) (λ t. good_in b.bytes (Some t)) (good_in b.bytes) refl (λ t. refl) entries)
     ∙ told_good key sig b (told_by held entries)
 
--- the first good signature of a key
-pub signature_same : (told : List Told) (b : Body) (r : Receipts) → AreReceipts told b r → first_good r ≡ signature_of told b
-signature_same told b r are = λ i key. find (λ sig. are.good key sig i) (are.came i)
+-- the first good signature of a key, by its place
+pub signature_same : (told : List Told) (b : Body) (key : Key) (came : List Sig) (good : List Signed) (place : Option ℕ) → came ≡ came_on told b
+    → ((sig : Sig) → list_any (is_signed key sig) good ≡ said_yes told (triple_on b key sig)) → place ≡ position (λ sig. list_any (is_signed key sig) good) came
+    → at_place came place ≡ signature_of told b key
+signature_same told b key came good place came_is good_is at =
+    ap (at_place came) at ∙ at_position (λ sig. list_any (is_signed key sig) good) came ∙ (λ i. find (λ sig. good_is sig i) (came_is i))

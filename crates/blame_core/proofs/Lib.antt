@@ -9,3 +9,5 @@ pub mod BothSigned
 pub mod Judged
 pub mod Pairs
 pub mod Alike
+pub mod FirstPlaces
+pub mod KeyPlaces

@@ -36,7 +36,8 @@ use Rattle.blame_core.specs.Blames.{AreBlames, AreNamed, AreRivals, IsBlame, IsL
 use Rattle.blame_core.specs.Establishments.{AreEstablishments, IsAt, event_at, place_cmp, place_of}
 use Rattle.blame_core.specs.Rivals.{AnswersOf, IsAnswer, Judges, alone, beside}
 use Rattle.blame_core.specs.declared.establishments.Establishment.{Establishment}
-use Rattle.blame_core.specs.declared.rivalry.Blame.{Blame}
+use Rattle.blame_core.specs.declared.blames.Blame.{Blame}
+use Rattle.blame_core.specs.declared.place.Place.{Place}
 use Rattle.blame_core.proofs.BothSigned.{named_keys, named_ones, named_others}
 use Rattle.blame_core.proofs.Judged.{AllJudged, given, judged_so, judgement_of}
 use Rattle.blame_core.proofs.Places.{looked_up, one_place, place_itself, place_same}
@@ -47,13 +48,13 @@ all_by P [] x all m = absurd m
 all_by P (y ∷ xs) x all (inl e) = subst P e all.0
 all_by P (y ∷ xs) x all (inr m) = all_by P xs x all.1 m
 
-among_keys : (es : List ((List ℕ × ℕ) × Establishment)) (e : (List ℕ × ℕ) × Establishment) → Among e es → Among e.0 (keys_of es)
+among_keys : (es : List (Place × Establishment)) (e : Place × Establishment) → Among e es → Among e.0 (keys_of es)
 among_keys [] e m = absurd m
 among_keys (d ∷ es) e (inl same) = inl (ap (λ e. e.0) same)
 among_keys (d ∷ es) e (inr m) = inr (among_keys es e m)
 
 -- where the places ascend, each entry is found at its own
-found_at : (es : List ((List ℕ × ℕ) × Establishment)) → IsStrictlySortedBy place_cmp (keys_of es) → (e : (List ℕ × ℕ) × Establishment) → Among e es
+found_at : (es : List (Place × Establishment)) → IsStrictlySortedBy place_cmp (keys_of es) → (e : Place × Establishment) → Among e es
     → event_at es e.0 ≡ Some e.1
 unfolding IsStrictlySortedBy
 found_at [] s e m = absurd m
@@ -67,14 +68,14 @@ found_at (d ∷ es) s e (inr m) = elim (cases_Bool (is_at (place_cmp e.0) d.0)) 
 ]
 
 -- the place of a blame
-abbrev blame_place : Blame → List ℕ × ℕ
-blame_place x = (prefix_text x.prefix, x.sn)
+abbrev blame_place : Blame → Place
+blame_place x = record { prefix = prefix_text x.prefix; sn = x.sn }
 
 -- a blame has the place of the event
 abbrev HasItsPlace : Establishment → Option Blame → Type 0
 HasItsPlace v o = (x : Blame) → o ≡ Some x → blame_place x ≡ v.place
 
-places_below : (k : List ℕ × ℕ) (x : Blame) → blame_place x ≡ k → (vs : List Establishment) (os : List (Option Blame)) → AllJudged HasItsPlace vs os
+places_below : (k : Place) (x : Blame) → blame_place x ≡ k → (vs : List Establishment) (os : List (Option Blame)) → AllJudged HasItsPlace vs os
     → AllByRecursion (λ l. place_cmp k l ≡ Less) (map (λ (v : Establishment). v.place) vs) → AllByRecursion (λ y. blame_cmp x y ≡ Less) (given os)
 places_below k x at [] [] all s = tt
 places_below k x at [] (o ∷ os) all s = absurd all
@@ -92,7 +93,7 @@ blames_ascend (v ∷ vs) [] all s = absurd all
 blames_ascend (v ∷ vs) (None ∷ os) all s = blames_ascend vs os all.1 s.1
 blames_ascend (v ∷ vs) (Some x ∷ os) all s = (places_below v.place x (all.0 x refl) vs os all.1 s.0, blames_ascend vs os all.1 s.1)
 
-places_are : (es : List ((List ℕ × ℕ) × Establishment)) → ((e : (List ℕ × ℕ) × Establishment) → Among e es → e.1.place ≡ e.0)
+places_are : (es : List (Place × Establishment)) → ((e : Place × Establishment) → Among e es → e.1.place ≡ e.0)
     → keys_of es ≡ map (λ (v : Establishment). v.place) (values_of es)
 places_are [] at = refl
 places_are (e ∷ es) at = (let here = at e (inl refl) in let rest = places_are es (λ d m. at d (inr m)) in λ i. sym here i ∷ rest i)
@@ -138,15 +139,15 @@ own_number log held grown b x at inside sets_keys spelled =
     let one = one_establishment log b at.body grown inside at.inside level in
     at.number ∙ ap (λ c. Some c) (sym one)
 
-module _ (first second : CoreView) (one : IsWhole first) (two : IsWhole second) (ones others : List ((List ℕ × ℕ) × Establishment))
+module _ (first second : CoreView) (one : IsWhole first) (two : IsWhole second) (ones others : List (Place × Establishment))
     (ones_are : AreEstablishments first.held (accepted_by first) ones) (others_are : AreEstablishments second.held (accepted_by second) others)
     (sorted : IsStrictlySortedBy place_cmp (keys_of ones)) where
-  entry_at : (e : (List ℕ × ℕ) × Establishment) → Among e ones → IsAt first.held (accepted_by first) e.0 e.1
+  entry_at : (e : Place × Establishment) → Among e ones → IsAt first.held (accepted_by first) e.0 e.1
   entry_at e m = ones_are.each e.0 e.1 (found_at ones sorted e m)
 
   value_at : (v : Establishment) → Among v (values_of ones) → IsAt first.held (accepted_by first) v.place v
   value_at v m =
-      let (e, inside, is) = map_among (λ (e : (List ℕ × ℕ) × Establishment). e.1) ones v m in
+      let (e, inside, is) = map_among (λ (e : Place × Establishment). e.1) ones v m in
       let at = entry_at e inside in
       subst (λ v. IsAt first.held (accepted_by first) v.place v) is (subst (λ k. IsAt first.held (accepted_by first) k e.1) (sym at.place) at)
 
@@ -189,7 +190,7 @@ module _ (first second : CoreView) (one : IsWhole first) (two : IsWhole second) 
     }
 
     pub its_place : blame_place x ≡ v.place
-    its_place = (λ i. (prefix_text (answer.prefix i), answer.sn i)) ∙ sym mine.at
+    its_place = (λ i. record { prefix = prefix_text (answer.prefix i); sn = answer.sn i }) ∙ sym mine.at
 
   -- what is judged of an event is its blame, at its place
   pub judged_blame : (v : Establishment) (o : Option Blame) → Among v (values_of ones) → Judges first second v others o
@@ -212,7 +213,7 @@ module _ (first second : CoreView) (one : IsWhole first) (two : IsWhole second) 
       let number = own_number (accepted_by first) first.held one.grown b v v_at rivals.first rivals.level.first_sets_keys mine.spelled in
       let other_number = own_number (accepted_by second) second.held two.grown c its.found (others_are.each (place_of c.event) its.found its.is) rivals.second
       rivals.level.second_sets_keys its.spelled in
-      let same : place_of c.event ≡ v.place = (λ i. (prefix_text (sym rivals.level.prefix i), sym rivals.level.sn i)) ∙ sym v_at.place in
+      let same : place_of c.event ≡ v.place = (λ i. record { prefix = prefix_text (sym rivals.level.prefix i); sn = sym rivals.level.sn i }) ∙ sym v_at.place in
       let beside_it : event_at others v.place ≡ Some its.found = ap (event_at others) (sym same) ∙ its.is in
       let (o, judged, inside) = judgement_of (λ v o. Judges first second v others o) (values_of ones) os v all (looked_up (is_at (place_cmp (place_of b.event))) ones v mine.is) in
       told v its.found o beside_it judged number other_number rivals.differ (given os) inside

@@ -17,6 +17,7 @@ use Rattle.event_body.specs.Events.{prefix_of, sn_of}
 use Rattle.key_state.specs.Same.{same_prefix}
 use Rattle.key_state.proofs.Same.{same_prefix_is, same_prefix_itself}
 use Rattle.blame_core.specs.Establishments.{place_cmp, place_of}
+use Rattle.blame_core.specs.declared.place.Place.{Place}
 use Rattle.key_state.proofs.Among.{Among}
 
 -- the text finds a text
@@ -55,22 +56,22 @@ number_itself : (n : ℕ) → is_eq (nat_cmp n n) ≡ true
 number_itself n = grind (arith, nat_tests)
 
 -- a place finds itself alone
-pub place_same : (k l : List ℕ × ℕ) → is_at (place_cmp k) l ≡ true → k ≡ l
+pub place_same : (k l : Place) → is_at (place_cmp k) l ≡ true → k ≡ l
 place_same k l h =
-    let parts = then_parts (slice_cmp nat_cmp k.0 l.0) (nat_cmp k.1 l.1) h in
-    let text = text_same k.0 l.0 parts.0 in
-    let number = number_same k.1 l.1 parts.1 in
-    λ i. (text i, number i)
+    let parts = then_parts (slice_cmp nat_cmp k.prefix l.prefix) (nat_cmp k.sn l.sn) h in
+    let text = text_same k.prefix l.prefix parts.0 in
+    let number = number_same k.sn l.sn parts.1 in
+    λ i. record { prefix = text i; sn = number i }
 
-pub place_itself : (k : List ℕ × ℕ) → is_at (place_cmp k) k ≡ true
-place_itself k = then_from (slice_cmp nat_cmp k.0 k.0) (nat_cmp k.1 k.1) (text_itself k.0) (number_itself k.1)
+pub place_itself : (k : Place) → is_at (place_cmp k) k ≡ true
+place_itself k = then_from (slice_cmp nat_cmp k.prefix k.prefix) (nat_cmp k.sn k.sn) (text_itself k.prefix) (number_itself k.sn)
 
 -- events of one place have one prefix and number
 pub one_place : (e f : Event) → IsPrefix (prefix_of e) → IsPrefix (prefix_of f) → place_of e ≡ place_of f
     → (prefix_of e ≡ prefix_of f) × (sn_of e ≡ sn_of f)
 one_place e f ie if_ same =
-    let text : prefix_text (prefix_of e) ≡ prefix_text (prefix_of f) = ap (λ k. k.0) same in
-    ((texts.same_prefix (prefix_of e) (prefix_of f) [] [] ie if_ (ap (λ t. t ++ []) text)).0, ap (λ k. k.1) same)
+    let text : prefix_text (prefix_of e) ≡ prefix_text (prefix_of f) = ap (λ k. k.prefix) same in
+    ((texts.same_prefix (prefix_of e) (prefix_of f) [] [] ie if_ (ap (λ t. t ++ []) text)).0, ap (λ k. k.sn) same)
 
 -- what is looked up is among the values
 module _ {K X : Type 0} (test : K → Bool) where

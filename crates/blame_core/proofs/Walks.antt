@@ -19,13 +19,14 @@ use Rattle.journal.proofs.StateSteps.{state-own, state-other}
 use Rattle.blame_core.specs.Establishments.{HasPlace, IsAt, IsFollowedBy, IsWalked, event_at, list_at, place_cmp, place_of}
 use Rattle.blame_core.specs.OwnLists.{list_after, list_of}
 use Rattle.blame_core.specs.declared.establishments.Establishment.{Establishment}
+use Rattle.blame_core.specs.declared.place.Place.{Place}
 use Rattle.blame_core.proofs.ListSteps.{list_kept, list_taken, own_next}
 use Rattle.blame_core.proofs.Places.{place_itself, place_same, prefix_at}
 use Rattle.key_state.proofs.Among.{Among, among, among_either, contained}
 use Rattle.blame_laws.proofs.Journals.{fit_parts}
 
 -- nothing is walked over yet
-pub walk_none : (held log : List Body) (lists : List (List ℕ × List Key)) (entries : List ((List ℕ × ℕ) × Establishment)) → lists ≡ [] → entries ≡ []
+pub walk_none : (held log : List Body) (lists : List (List ℕ × List Key)) (entries : List (Place × Establishment)) → lists ≡ [] → entries ≡ []
     → IsWalked held log [] lists entries
 unfolding state
 walk_none held log lists entries no_lists no_entries = record {
@@ -59,7 +60,7 @@ module _ (held log seen : List Body) (b : Body) (next : IsFollowedBy log seen b)
   list_other : (q : Prefix) → same_prefix (prefix_of b.event) q ≡ false → (rules_of (state (seen ++ b ∷ []) q)).witnesses ≡ (rules_of (state seen q)).witnesses
   list_other q other = ap (λ o. (rules_of o).witnesses) (state-other seen b q other)
 
-  module _ (lists : List (List ℕ × List Key)) (entries : List ((List ℕ × ℕ) × Establishment)) (walked : IsWalked held log seen lists entries) where
+  module _ (lists : List (List ℕ × List Key)) (entries : List (Place × Establishment)) (walked : IsWalked held log seen lists entries) where
     -- an event that sets no keys changes nothing
     pub walk_past : is_establishment b.event ≡ false → IsWalked held log (seen ++ b ∷ []) lists entries
     walk_past no_keys = record {
@@ -80,11 +81,11 @@ module _ (held log seen : List Body) (b : Body) (next : IsFollowedBy log seen b)
 
     -- an establishment event has its place, and its own list is its identifier's last
     module _ (sets : is_establishment b.event ≡ true) (ip : IsPrefix (prefix_of b.event)) (new_lists : List (List ℕ × List Key))
-        (new_entries : List ((List ℕ × ℕ) × Establishment)) (own : List Key) (x : Establishment)
+        (new_entries : List (Place × Establishment)) (own : List Key) (x : Establishment)
         (list_is : own ≡ list_after (list_at lists (prefix_of b.event)) b.event)
         (put_list : (t : List ℕ) → lookup (is_at (slice_cmp nat_cmp t)) new_lists
         ≡ cond (is_at (slice_cmp nat_cmp (prefix_text (prefix_of b.event))) t) (Some own) (lookup (is_at (slice_cmp nat_cmp t)) lists))
-        (put_event : (k : List ℕ × ℕ) → event_at new_entries k ≡ cond (is_at (place_cmp (place_of b.event)) k) (Some x) (event_at entries k))
+        (put_event : (k : Place) → event_at new_entries k ≡ cond (is_at (place_cmp (place_of b.event)) k) (Some x) (event_at entries k))
         (x_place : x.place ≡ place_of b.event) (x_number : slice_get held x.number ≡ Some b) (x_list : x.witnesses ≡ own) where
       its_list : own ≡ list_after (rules_of (state seen (prefix_of b.event))).witnesses b.event
       its_list = list_is ∙ ap (λ keys. list_after keys b.event) (walked.current (prefix_of b.event) ip)
@@ -101,7 +102,7 @@ module _ (held log seen : List Body) (b : Body) (next : IsFollowedBy log seen b)
         witnesses = x_list ∙ its_list ∙ sym (own_next log seen b next sets);
       }
 
-      each_at : (k : List ℕ × ℕ) (y : Establishment) → event_at new_entries k ≡ Some y → IsAt held log k y
+      each_at : (k : Place) (y : Establishment) → event_at new_entries k ≡ Some y → IsAt held log k y
       each_at k y e = elim (cases_Bool (is_at (place_cmp (place_of b.event)) k)) [
         | inl here ↦ (let put : Some x ≡ Some y = sym (cond-true (is_at (place_cmp (place_of b.event)) k) (Some x) (event_at entries k) here) ∙ sym (put_event k) ∙ e in
             let same : x ≡ y = cc in
@@ -110,7 +111,7 @@ module _ (held log seen : List Body) (b : Body) (next : IsFollowedBy log seen b)
         | inr other ↦ walked.placed.each k y (sym (cond-false (is_at (place_cmp (place_of b.event)) k) (Some x) (event_at entries k) other) ∙ sym (put_event k) ∙ e)
       ]
 
-      found_at : (k : List ℕ × ℕ) (y : Establishment) → event_at entries k ≡ Some y → (z : Establishment) × (event_at new_entries k ≡ Some z)
+      found_at : (k : Place) (y : Establishment) → event_at entries k ≡ Some y → (z : Establishment) × (event_at new_entries k ≡ Some z)
       found_at k y e = elim (cases_Bool (is_at (place_cmp (place_of b.event)) k)) [
         | inl here ↦ (x, put_event k ∙ cond-true (is_at (place_cmp (place_of b.event)) k) (Some x) (event_at entries k) here)
         | inr other ↦ (y, put_event k ∙ cond-false (is_at (place_cmp (place_of b.event)) k) (Some x) (event_at entries k) other ∙ e)

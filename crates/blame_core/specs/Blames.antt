@@ -13,7 +13,7 @@ use Rattle.quorum_laws.specs.Histories.{AreLevel}
 use Rattle.blame_laws.specs.Blame.{AreBlamed, culprits}
 use Rattle.blame_laws.specs.Signatures.{signature_of}
 use Rattle.blame_core.specs.declared.culprit.Culprit.{Culprit}
-use Rattle.blame_core.specs.declared.rivalry.Blame.{Blame}
+use Rattle.blame_core.specs.declared.blames.Blame.{Blame}
 use Rattle.validator_core.specs.View.{CoreView, accepted_by, told_of}
 
 -- two establishment events of one identifier and number, each accepted in its own log, that differ

@@ -17,17 +17,18 @@ use Rattle.journal.specs.Logs.{state}
 use Rattle.quorum_laws.specs.Backing.{rules_in}
 use Rattle.blame_core.specs.OwnLists.{list_of}
 use Rattle.blame_core.specs.declared.establishments.Establishment.{Establishment}
+use Rattle.blame_core.specs.declared.place.Place.{Place}
 
 -- the text of an event's prefix, and its number
-abbrev pub place_of : Event → List ℕ × ℕ
-place_of e = (prefix_text (prefix_of e), sn_of e)
+abbrev pub place_of : Event → Place
+place_of e = record { prefix = prefix_text (prefix_of e); sn = sn_of e }
 
 -- places are ordered by the texts, then by the numbers
-abbrev pub place_cmp : List ℕ × ℕ → List ℕ × ℕ → Ordering
-place_cmp k l = ordering_then (slice_cmp nat_cmp k.0 l.0) (nat_cmp k.1 l.1)
+abbrev pub place_cmp : Place → Place → Ordering
+place_cmp k l = ordering_then (slice_cmp nat_cmp k.prefix l.prefix) (nat_cmp k.sn l.sn)
 
 -- what stands at a place
-abbrev pub event_at : List ((List ℕ × ℕ) × Establishment) → List ℕ × ℕ → Option Establishment
+abbrev pub event_at : List (Place × Establishment) → Place → Option Establishment
 event_at entries k = lookup (is_at (place_cmp k)) entries
 
 -- the list that stands at the text of a prefix
@@ -35,7 +36,7 @@ abbrev pub list_at : List (List ℕ × List Key) → Prefix → List Key
 list_at entries p = list_of (lookup (is_at (slice_cmp nat_cmp (prefix_text p))) entries)
 
 -- an accepted establishment event of this place, with its number and its own witness list
-pub record IsAt (held log : List Body) (k : List ℕ × ℕ) (x : Establishment) : Type 0 where
+pub record IsAt (held log : List Body) (k : Place) (x : Establishment) : Type 0 where
   pub body : Body
   pub inside : Contains log body
   pub sets_keys : is_establishment body.event ≡ true
@@ -46,18 +47,18 @@ pub record IsAt (held log : List Body) (k : List ℕ × ℕ) (x : Establishment)
   pub witnesses : x.witnesses ≡ (rules_in log body).witnesses
 
 -- something stands at the place of an event
-pub record HasPlace (entries : List ((List ℕ × ℕ) × Establishment)) (b : Body) : Type 0 where
+pub record HasPlace (entries : List (Place × Establishment)) (b : Body) : Type 0 where
   pub spelled : IsPrefix (prefix_of b.event)
   pub found : Establishment
   pub is : event_at entries (place_of b.event) ≡ Some found
 
 -- what stands at places are accepted establishment events, and each of these that was seen has its place
-pub record ArePlaced (held log seen : List Body) (entries : List ((List ℕ × ℕ) × Establishment)) : Type 0 where
-  pub each : (k : List ℕ × ℕ) (x : Establishment) → event_at entries k ≡ Some x → IsAt held log k x
+pub record ArePlaced (held log seen : List Body) (entries : List (Place × Establishment)) : Type 0 where
+  pub each : (k : Place) (x : Establishment) → event_at entries k ≡ Some x → IsAt held log k x
   pub all : (b : Body) → Contains seen b → is_establishment b.event ≡ true → HasPlace entries b
 
 -- the same of all of them
-abbrev pub AreEstablishments : List Body → List Body → List ((List ℕ × ℕ) × Establishment) → Type 0
+abbrev pub AreEstablishments : List Body → List Body → List (Place × Establishment) → Type 0
 AreEstablishments held log entries = ArePlaced held log log entries
 
 -- the list is grown, and begins with those that were seen and the body
@@ -67,6 +68,6 @@ pub record IsFollowedBy (log seen : List Body) (b : Body) : Type 0 where
   pub parts : log ≡ seen ++ b ∷ later
 
 -- the events that were seen are placed, and each identifier has its current witness list
-pub record IsWalked (held log seen : List Body) (lists : List (List ℕ × List Key)) (entries : List ((List ℕ × ℕ) × Establishment)) : Type 0 where
+pub record IsWalked (held log seen : List Body) (lists : List (List ℕ × List Key)) (entries : List (Place × Establishment)) : Type 0 where
   pub placed : ArePlaced held log seen entries
   pub current : (p : Prefix) → IsPrefix p → list_at lists p ≡ (rules_of (state seen p)).witnesses

@@ -2,7 +2,8 @@ pub mod Blames
 pub mod OwnLists
 pub mod Establishments
 pub mod NamedEntries
-pub mod Receipts
+pub mod FirstSignatures
+pub mod Signatures
 pub mod Culprits
 pub mod Rivals
 pub mod Lines

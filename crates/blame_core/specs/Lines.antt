@@ -7,7 +7,7 @@ use Rattle.event_body.specs.Events.{said_of}
 use Rattle.journal.specs.declared.body.Body.{Body}
 use Rattle.report_lines.specs.Lines.{line, number}
 use Rattle.blame_core.specs.declared.culprit.Culprit.{Culprit}
-use Rattle.blame_core.specs.declared.rivalry.Blame.{Blame}
+use Rattle.blame_core.specs.declared.blames.Blame.{Blame}
 
 -- `blame`, the prefix, the number, and the digests of both events
 abbrev pub pair_text : Prefix → ℕ → Digest → Digest → List ℕ

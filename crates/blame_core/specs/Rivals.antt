@@ -1,5 +1,5 @@
 -- What is said of an event of the first core and that of the same place of the second.
-use Rattle.std.specs.Prelude.{◌≡◌, ◌≢◌, ℕ, List, filter_map, Option, Some, None, slice_get}
+use Rattle.std.specs.Prelude.{◌≡◌, ◌≢◌, List, filter_map, Option, Some, None, slice_get}
 use Rattle.event_body.specs.Events.{prefix_of, sn_of}
 use Rattle.key_state.specs.Same.{distinct, same_key}
 use Rattle.journal.specs.declared.body.Body.{Body}
@@ -7,7 +7,8 @@ use Rattle.blame_laws.specs.Signatures.{signature_of}
 use Rattle.blame_core.specs.Culprits.{culprit_of}
 use Rattle.blame_core.specs.Establishments.{event_at}
 use Rattle.blame_core.specs.declared.establishments.Establishment.{Establishment}
-use Rattle.blame_core.specs.declared.rivalry.Blame.{Blame}
+use Rattle.blame_core.specs.declared.blames.Blame.{Blame}
+use Rattle.blame_core.specs.declared.place.Place.{Place}
 use Rattle.validator_core.specs.View.{CoreView, told_of}
 
 -- the blame of two bodies that differ: their place, their numbers, and the culprits
@@ -31,6 +32,6 @@ Answers first second one other judged = (b c : Body) → slice_get first.held on
     → AnswersOf first second one other b c judged
 
 -- of the event of the same place, where there is one
-pub data Judges (first second : CoreView) (one : Establishment) (others : List ((List ℕ × ℕ) × Establishment)) (judged : Option Blame) : Type 0 where
+pub data Judges (first second : CoreView) (one : Establishment) (others : List (Place × Establishment)) (judged : Option Blame) : Type 0 where
   alone : event_at others one.place ≡ None → judged ≡ None → Judges first second one others judged
   beside : {other : Establishment} → event_at others one.place ≡ Some other → Answers first second one other judged → Judges first second one others judged

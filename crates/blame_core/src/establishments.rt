@@ -8,6 +8,7 @@ ghost use Rattle.journal.specs.declared.body.Body.{Body};
 ghost use Rattle.validator_core.specs.View.{accepted_by};
 
 use crate::own_lists::own_list;
+use crate::place::Place;
 use cesr_codes::{Key, Spelled};
 use event_body::{Event, is_establishment, prefix_of, sn_of};
 use lists::{Items, copy_items};
@@ -18,8 +19,7 @@ use validator_core::Core;
 /// An accepted establishment event.
 #[derive(Drop)]
 pub(crate) struct Establishment {
-    /// The text of its prefix and its number.
-    pub(crate) place: ([u8; 44], u64),
+    pub(crate) place: Place,
     /// The number of its body.
     pub(crate) number: u32,
     /// Its own witness list.
@@ -30,13 +30,14 @@ pub(crate) struct Establishment {
 pub(crate) fn establishments(
     alloc: Global,
     core: &Core,
-) -> Result<BTreeMap<([u8; 44], u64), Establishment>, AllocError>
+) -> Result<BTreeMap<Place, Establishment>, AllocError>
     requires { core.now.base ≡ 0 }
     ensures { IfOk result (λ events. AreEstablishments core.now.held (accepted_by core.now) events.entries) }
 {
     let mut lists = BTreeMap::new(alloc);
     let mut events = BTreeMap::new(alloc);
     for number in core.accepted() {
+        // Each accepted number has an event: none is passed over.
         if let Some(event) = core.event(*number) {
             add_event(alloc, *number, event, &mut lists, &mut events)?;
         }
@@ -51,7 +52,7 @@ fn add_event(
     number: u32,
     event: &Event,
     lists: &mut BTreeMap<[u8; 44], Items<Key>>,
-    events: &mut BTreeMap<([u8; 44], u64), Establishment>,
+    events: &mut BTreeMap<Place, Establishment>,
 ) -> Result<(), AllocError>
     ensures { (held log seen : List Body) (b : Body) → slice_get held number ≡ Some b → b.event ≡ event.now
         → IsFollowedBy log seen b
@@ -62,8 +63,8 @@ fn add_event(
         return Ok(());
     }
     let place = place_of(event);
-    let witnesses = own_list(alloc, lists.get(&place.0), event)?;
-    lists.insert(place.0, copy_items(&witnesses, alloc)?)?;
+    let witnesses = own_list(alloc, lists.get(&place.prefix), event)?;
+    lists.insert(place.prefix, copy_items(&witnesses, alloc)?)?;
     events.insert(
         place,
         Establishment {
@@ -76,7 +77,7 @@ fn add_event(
 }
 
 // The text of the event's prefix, and its number.
-fn place_of(event: &Event) -> ([u8; 44], u64)
+fn place_of(event: &Event) -> Place
     ensures place { result ≡ establishments.place_of event.now }
     ensures prefix { IsPrefix (events.prefix_of event.now) }
 {
@@ -84,5 +85,8 @@ fn place_of(event: &Event) -> ([u8; 44], u64)
     prefix.held();
     let mut text = [0; 44];
     prefix.write(&mut text);
-    (text, sn_of(event))
+    Place {
+        prefix: text,
+        sn: sn_of(event),
+    }
 }

@@ -2,17 +2,20 @@
 //! identifier and number, the first accepted by one validator's core and the second by another's.
 #![tactic(auto)]
 
+mod blames;
 mod culprit;
 mod culprits;
 mod establishments;
+mod first_signatures;
 mod lines;
 mod named_entries;
 mod own_lists;
-mod receipts;
-mod rivalry;
+mod place;
 mod rivals;
+mod signatures;
+mod signed;
 
+pub use blames::Blame;
 pub use culprit::Culprit;
 pub use lines::blame_lines;
-pub use rivalry::Blame;
 pub use rivals::blame;

@@ -2,11 +2,10 @@
 ghost use Rattle.std.specs.Prelude.{◌≡◌, IfOk};
 ghost use Rattle.std.specs.Option.{option_copied};
 ghost use Rattle.blame_core.specs.OwnLists.{list_after, list_of};
-ghost use Rattle.key_state.specs.KeyStates as states;
 
 use cesr_codes::Key;
-use event_body::{Event, Rotation};
-use key_state::has_key;
+use event_body::Event;
+use key_state::changed_list;
 use lists::{Items, copy_items};
 use std::alloc::{AllocError, Global};
 
@@ -21,7 +20,7 @@ pub(crate) fn own_list(
 {
     match event {
         Event::Icp(event) | Event::Dip(event) => copy_items(&event.list, alloc),
-        Event::Rot(event) | Event::Drt(event) => changed(alloc, listed(before), event),
+        Event::Rot(event) | Event::Drt(event) => changed_list(alloc, listed(before), event),
         Event::Ixn(_) | Event::Rct(_) => Ok(Items::from_vec(Vec::from_slice(
             alloc,
             listed(before),
@@ -37,18 +36,4 @@ fn listed(list: Option<&Items<Key>>) -> &[Key]
         Some(list) => list.as_slice(),
         None => &[],
     }
-}
-
-// The list without the cuts, then the adds.
-fn changed(alloc: Global, old: &[Key], event: &Rotation) -> Result<Items<Key>, AllocError>
-    ensures { IfOk result (λ list. list ≡ states.changed_list old.now event.now) }
-{
-    let cuts = event.cuts.as_slice();
-    let mut list: Vec<Key> = old
-        .iter()
-        .copied()
-        .filter(|key| !has_key(cuts, key))
-        .collect(alloc)?;
-    list.extend_from_slice(event.adds.as_slice())?;
-    Ok(Items::from_vec(list))
 }

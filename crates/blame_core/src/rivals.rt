@@ -4,13 +4,13 @@ ghost use Rattle.blame_core.specs.Blames.{AreBlames};
 ghost use Rattle.blame_core.specs.NamedEntries.{HasNamed};
 ghost use Rattle.blame_core.specs.Rivals.{Answers, Judges};
 ghost use Rattle.journal.specs.declared.mode.Mode.TheVariants.{Full};
-ghost use Rattle.validator_core.specs.View.{Stands};
 
 use crate::Blame;
 use crate::culprits::culprits_of;
 use crate::establishments::{Establishment, establishments};
 use crate::named_entries::named_entries;
-use crate::receipts::receipts_on;
+use crate::place::Place;
+use crate::signatures::signatures_on;
 use core_tables::Name;
 use event_body::{prefix_of, sn_of};
 use event_index::Index;
@@ -33,8 +33,8 @@ pub fn blame(alloc: Global, first: &Core, second: &Core) -> Result<Items<Blame>,
     // honest.
     ensures { IfOk result (λ blames. AreBlames first.now second.now blames) }
 {
-    stands(first);
-    stands(second);
+    first.stands();
+    second.stands();
     let ones = establishments(alloc, first)?;
     let others = establishments(alloc, second)?;
     let named = named_entries(alloc, first)?;
@@ -45,13 +45,6 @@ pub fn blame(alloc: Global, first: &Core, second: &Core) -> Result<Items<Blame>,
         add_blame(&mut blames, judged)?;
     }
     Ok(blames)
-}
-
-// What is true of each core.
-fn stands(core: &Core)
-    ensures { Stands core.now }
-{
-    let _journal = core.journal();
 }
 
 // Adds the pair, where there is one.
@@ -72,7 +65,7 @@ fn judge(
     named: &Index<Name>,
     other_named: &Index<Name>,
     one: &Establishment,
-    others: &BTreeMap<([u8; 44], u64), Establishment>,
+    others: &BTreeMap<Place, Establishment>,
 ) -> Result<Option<Blame>, AllocError>
     requires named { HasNamed first.now named.now }
     requires other_named { HasNamed second.now other_named.now }
@@ -98,6 +91,7 @@ fn compare(
     requires other_named { HasNamed second.now other_named.now }
     ensures { IfOk result (Answers first.now second.now one.now other.now) }
 {
+    // Both numbers are those of accepted events, whose bodies the cores hold: no pair is passed over.
     let (Some(text), Some(event)) = (first.body(one.number), first.event(one.number)) else {
         return Ok(None);
     };
@@ -107,8 +101,8 @@ fn compare(
     if is_same(text, rival) {
         return Ok(None);
     }
-    let ones = receipts_on(alloc, first, named, one.number)?;
-    let others = receipts_on(alloc, second, other_named, other.number)?;
+    let ones = signatures_on(alloc, first, named, one.number)?;
+    let others = signatures_on(alloc, second, other_named, other.number)?;
     let culprits = culprits_of(
         alloc,
         one.witnesses.as_slice(),

@@ -1,13 +1,11 @@
 -- What is put of an event, and of the events before it.
-use Rattle.std.proofs.Common.{◌≡◌, ◌+◌, ℕ, true, false, Bool, cond, List, [], ◌∷◌, ◌++◌, Some, length, map, take, drop, refl, sym, ◌∙◌, ap, subst, inl, inr, append_assoc, append-nil, length-append, arith, rules, tests}
+use Rattle.std.proofs.Common.{◌≡◌, ◌+◌, ℕ, true, false, Bool, cond, List, [], ◌∷◌, ◌++◌, Some, length, map, take, drop, refl, sym, ◌∙◌, ap, subst, inl, inr, append_assoc, append-nil, length-append, arith}
 use Rattle.std.specs.Prelude.{IsTrue, filter, flat_map, slice_get}
 use Rattle.std.specs.BTreeMap.{BTreeMap, get, is_at}
 use Rattle.std.specs.List.{list_any}
 use Rattle.std.proofs.lemmas.Bool.{cases_Bool}
 use Rattle.std.proofs.lemmas.List.Concat.{flat_map-append}
 use Rattle.std.proofs.lemmas.List.Elements.{filter-append}
-use Rattle.cesr_codes.specs.contracts.prefix.PrefixOrd.TheImpl.Laws as prefix_laws
-use Rattle.cesr_codes.specs.contracts.prefix.PrefixPartialEq.TheImpl as prefix_test
 use Rattle.cesr_codes.specs.declared.prefix.Prefix.{Prefix}
 use Rattle.event_body.specs.Events.{prefix_of}
 use Rattle.export_laws.specs.Export.{Sent, cut_claims, exported, is_of_some, messages_of, ordered, rules_under, sent_claims}
@@ -31,13 +29,8 @@ use Rattle.export_core.specs.Messages.{AreTexts, IsExportText, PutsCut}
 use Rattle.export_core.specs.Signers.{own_signers, rules_by, signers_in, signers_of}
 use Rattle.export_core.specs.declared.signers.Signers.{Signers}
 use Rattle.export_core.proofs.Following.{behind_are, own_are, own_fixed, prefix_turns, same_triples}
+use Rattle.export_core.proofs.Orders.{prefix_at}
 use Rattle.export_core.proofs.Placed.{cut_at, take_one}
-
-prefixes_alike : (p q : Prefix) → (prefix_test.ghosts).eq p q ≡ same_prefix p q
-prefixes_alike p q = search (rules, tests)
-
-prefix_at : (p q : Prefix) → is_at (prefix_cmp p) q ≡ same_prefix p q
-prefix_at p q = sym (prefix_laws.matches_eq-law p q) ∙ prefixes_alike p q
 
 -- texts of more messages
 pub texts_more : (ms more : List Sent) (front rest : List ℕ) → IsExportText ms front → IsExportText more rest → IsExportText (ms ++ more) (front ++ rest)

@@ -2,7 +2,6 @@
 ghost use Rattle.std.specs.Prelude.{◌≡◌, ◌||◌, Contains, IfOk, OnOk, Some, flat_map, slice_get};
 ghost use Rattle.std.specs.BTreeSet.{contains};
 ghost use Rattle.std.specs.Option.{option_copied};
-ghost use Rattle.core_tables.specs.EntryClaims as claims;
 ghost use Rattle.core_tables.specs.EntryClaims.{came_to};
 ghost use Rattle.claim_table.specs.declared.signature.Signature.{Signature as SignatureValue};
 ghost use Rattle.core_tables.specs.Hints.{KeepsBelow};
@@ -12,8 +11,8 @@ ghost use Rattle.event_index.specs.Keys.{numbers_at};
 ghost use Rattle.export_core.specs.Came.{HasEntries, HasYes, event_in, is_signature, name_cmp, same_signature, signature_cmp, yes_of};
 
 use claim_table::Signature;
-use core_tables::{Name, name_of};
-use event_body::{Event, is_receipt, prefix_of, said_of_event, sn_of};
+use core_tables::{Name, claims_by, name_of};
+use event_body::Event;
 use event_index::Index;
 use journal::{Claim, Entry};
 use lists::length_u32;
@@ -146,40 +145,4 @@ pub(crate) fn claims_by_all(
         claims.extend_from_slice(claims_by(events, entries.get(*place as usize), number))?;
     }
     Ok(claims)
-}
-
-// The claims of an entry that stand on the event of a number.
-fn claims_by<'a>(events: &[Event], entry: Option<&'a Entry>, number: u32) -> &'a [Claim]
-    ensures { result.now ≡ came_to events.now number (option_copied entry.entry) }
-{
-    match entry {
-        Some(Entry::Took { body, claims, .. }) => {
-            if stands_on(events, *body, number) {
-                claims.as_slice()
-            } else {
-                &[]
-            }
-        }
-        Some(Entry::Heard { .. }) | None => &[],
-    }
-}
-
-// Whether what came with the body of a number stands on another: it is that body, or a receipt of it.
-fn stands_on(events: &[Event], came: u32, number: u32) -> bool
-    ensures { result ≡ claims.stands_on events.now came number }
-{
-    came == number || is_receipt_of(events.get(came as usize), events.get(number as usize))
-}
-
-// Whether the first is a receipt of the second.
-fn is_receipt_of(receipt: Option<&Event>, event: Option<&Event>) -> bool
-    ensures { result ≡ claims.is_receipt_of (option_copied receipt.entry) (option_copied event.entry) }
-{
-    let (Some(receipt), Some(event)) = (receipt, event) else {
-        return false;
-    };
-    is_receipt(receipt)
-        && said_of_event(receipt) == said_of_event(event)
-        && prefix_of(receipt) == prefix_of(event)
-        && sn_of(receipt) == sn_of(event)
 }

@@ -1,5 +1,5 @@
 //! The events of a family, as messages.
-ghost use Rattle.std.specs.Prelude.{◌≡◌, ◌+◌, [], IfOk, Some, length, map, slice_get, take};
+ghost use Rattle.std.specs.Prelude.{◌≡◌, ◌+◌, IfOk, Some, slice_get, take};
 ghost use Rattle.export_core.specs.Exported.{HasCome, HasSigners, IsWritten, PutsAt, sent_by};
 ghost use Rattle.journal.specs.declared.body.Body.{Body};
 ghost use Rattle.journal.specs.declared.mode.Mode.TheVariants.{Full};
@@ -46,22 +46,14 @@ pub(crate) fn exported_of(
     requires no_base { core.now.base ≡ 0 }
     ensures { IfOk result (IsWritten core.now prefix.now) }
 {
-    stands(core);
+    core.stands();
     let family = family_of(alloc, core, prefix)?;
     let came = came_to(alloc, core)?;
     let mut signers = BTreeMap::new(alloc);
     let mut text = StreamText::new(alloc);
     let mut count: u32 = 0;
     for place in 0..core.accepted().len() {
-        let is_put = put_event(
-            alloc,
-            core,
-            family.as_slice(),
-            &came,
-            &mut signers,
-            place,
-            &mut text,
-        )?;
+        let is_put = put_event(alloc, core, &family, &came, &mut signers, place, &mut text)?;
         if is_put {
             count = one_more(count)?;
         }
@@ -72,14 +64,7 @@ pub(crate) fn exported_of(
     })
 }
 
-// What is true of each core.
-fn stands(core: &Core)
-    ensures { Stands core.now }
-{
-    let _journal = core.journal();
-}
-
-// One more.
+// One more. No core holds more events than 32 bits count, so that there are more is answered as want of memory.
 fn one_more(count: u32) -> Result<u32, AllocError>
     ensures { IfOk result (λ more. more ≡ count + 1) }
 {
@@ -104,7 +89,7 @@ fn came_to(alloc: Global, core: &Core) -> Result<Came, AllocError>
 fn put_event(
     alloc: Global,
     core: &Core,
-    family: &[Prefix],
+    family: &BTreeSet<Prefix>,
     came: &Came,
     signers: &mut BTreeMap<Prefix, Signers>,
     place: usize,
@@ -114,10 +99,11 @@ fn put_event(
     requires no_base { core.now.base ≡ 0 }
     requires stands { Stands core.now }
     requires came { HasCome core.now came.now }
-    requires signers { HasSigners family.now (take place (accepted_by core.now)) signers.old }
+    requires signers { HasSigners family.now.keys (take place (accepted_by core.now)) signers.old }
     ensures { IfOk result (λ is_put. (b : Body) → slice_get (accepted_by core.now) place ≡ Some b
-        → PutsAt core.now family.now place b is_put signers.new text.old.bytes.items text.new.bytes.items) }
+        → PutsAt core.now family.now.keys place b is_put signers.new text.old.bytes.items text.new.bytes.items) }
 {
+    // Each place below the count has its number, each accepted number a body, and this its event: none is passed over.
     let Some(number) = number_at(core.accepted(), place) else {
         return Ok(false);
     };

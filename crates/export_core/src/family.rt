@@ -7,27 +7,28 @@ ghost use Rattle.validator_core.specs.View.{accepted_by, state_of};
 
 use cesr_codes::Prefix;
 use std::alloc::{AllocError, Global};
+use std::collections::BTreeSet;
 use validator_core::Core;
 
-/// The identifier, its delegator, that one's delegator and so on, each once.
+/// The identifier, its delegator, that one's delegator and so on.
 pub(crate) fn family_of(
     alloc: Global,
     core: &Core,
     first: &Prefix,
-) -> Result<Vec<Prefix>, AllocError>
-    ensures { IfOk result (λ family. IsFamily (accepted_by core.now) first.now family.items) }
+) -> Result<BTreeSet<Prefix>, AllocError>
+    ensures { IfOk result (λ family. IsFamily (accepted_by core.now) first.now family.keys) }
 {
-    let mut family = Vec::new(alloc);
-    family.push(*first)?;
+    let mut family = BTreeSet::new(alloc);
+    family.insert(*first)?;
     let mut last = *first;
+    // It ends where a delegator is missing or found before. The count is for the prover, which wants a loop to end.
     for _ in 0..u64::MAX {
         let Some(delegator) = delegator_of(core, &last) else {
             return Ok(family);
         };
-        if has_prefix(family.as_slice(), &delegator) {
+        if !family.insert(delegator)? {
             return Ok(family);
         }
-        family.push(delegator)?;
         last = delegator;
     }
     // There is no memory for so many.
@@ -38,15 +39,12 @@ pub(crate) fn family_of(
 fn delegator_of(core: &Core, prefix: &Prefix) -> Option<Prefix>
     ensures { result ≡ delegator_if (state_of core.now prefix.now) }
 {
-    match core.state(prefix) {
-        Some(state) => state.delegator,
-        None => None,
-    }
+    core.state(prefix)?.delegator
 }
 
-/// Whether the identifier is among these.
-pub(crate) fn has_prefix(family: &[Prefix], prefix: &Prefix) -> bool
-    ensures { result ≡ list_any (λ q. same_prefix q prefix.now) family.now }
+/// Whether the identifier is of the family.
+pub(crate) fn has_prefix(family: &BTreeSet<Prefix>, prefix: &Prefix) -> bool
+    ensures { result ≡ list_any (λ q. same_prefix q prefix.now) family.now.keys }
 {
     family.contains(prefix)
 }

@@ -1,5 +1,5 @@
 //! The messages of an event.
-ghost use Rattle.std.specs.Prelude.{◌≡◌, ◌≤◌, ◌∷◌, All, IfOk, OnOk, length};
+ghost use Rattle.std.specs.Prelude.{◌≤◌, ◌∷◌, All, OnOk, length};
 ghost use Rattle.export_core.specs.Messages.{IsFixed, PutsCut, PutsMessage, PutsRuns};
 
 use crate::groups::{couples_of, held_sigs, put_couples, put_held, put_witness, witness_sigs};

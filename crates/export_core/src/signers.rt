@@ -3,12 +3,11 @@ ghost use Rattle.std.specs.Prelude.{◌≡◌, IfOk};
 ghost use Rattle.std.specs.Option.{option_copied};
 ghost use Rattle.export_core.specs.Signers.{own_signers, rules_by, signers_in};
 ghost use Rattle.journal.specs.History as history;
-ghost use Rattle.key_state.specs.KeyStates as states;
 
 use cesr_codes::Key;
-use event_body::{Event, Rotation};
+use event_body::Event;
 use journal::Claim;
-use key_state::has_key;
+use key_state::{changed_list, has_key};
 use lists::{Items, copy_items};
 use std::alloc::{AllocError, Global};
 
@@ -90,18 +89,4 @@ fn witnesses_in(before: Option<&Signers>) -> &[Key]
         Some(signers) => signers.witnesses.as_slice(),
         None => &[],
     }
-}
-
-// The list without the cuts, then the adds.
-fn changed_list(alloc: Global, old: &[Key], event: &Rotation) -> Result<Items<Key>, AllocError>
-    ensures { IfOk result (λ list. list ≡ states.changed_list old.now event.now) }
-{
-    let cuts = event.cuts.as_slice();
-    let mut list: Vec<Key> = old
-        .iter()
-        .copied()
-        .filter(|key| !has_key(cuts, key))
-        .collect(alloc)?;
-    list.extend_from_slice(event.adds.as_slice())?;
-    Ok(Items::from_vec(list))
 }

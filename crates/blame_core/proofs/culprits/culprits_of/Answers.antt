@@ -1,23 +1,47 @@
-use Rattle.std.proofs.Common.{◌∙◌}
+use Rattle.std.proofs.Common.{◌≡◌, ◌++◌, ◌∷◌, ◌+◌, [], Bool, true, false, get_or, not, take, refl, sym, ◌∙◌, subst}
+use Rattle.std.specs.BTreeSet.{contains}
+use Rattle.std.proofs.lemmas.List.{take_more}
+use Rattle.cesr_codes.specs.declared.key.Key.{Key}
+use Rattle.cesr_codes.specs.declared.key.KeyCode.TheVariants.{Fixed}
 use Rattle.key_state.specs.Same.{distinct}
-use Rattle.blame_core.specs.Culprits.{culprit_of}
-use Rattle.blame_core.specs.Receipts.{first_good}
+use Rattle.blame_core.specs.Culprits.{HasKeys, culprit_of}
+use Rattle.blame_core.specs.FirstSignatures.{key_cmp}
+use Rattle.blame_core.specs.Signatures.{signature_by}
 use Rattle.blame_core.proofs.BothSigned.{new_member, old_member}
+use Rattle.blame_core.proofs.KeyPlaces.{set_more}
 use Rattle.blame_core.proofs.culprits.culprits_of.Goals as goal
-use Rattle.blame_core.proofs.culprits.culprits_of.Goals.{then-not-has_key+in_ok-add_culprit, else-not-has_key}
+use Rattle.blame_core.proofs.culprits.culprits_of.Goals.{then-branch+in_ok-add_culprit, else-branch}
 
-pub loop-i-init : goal.loop-i-init
+not_true : (b : Bool) → not b ≡ true → b ≡ false
+not_true true h = cc
+not_true false h = refl
+
+not_false : (b : Bool) → not b ≡ false → b ≡ true
+not_false true h = refl
+not_false false h = cc
+
+pub loop-key-init : goal.loop-key-init
 unfolding distinct
-loop-i-init c = c.new-culprits.ensures
+loop-key-init c = record { culprits = c.new-culprits.ensures; seen = λ k. rw c.new-seen.ensures.empty refl }
 
-pub loop-i-preserved : goal.loop-i-preserved
-loop-i-preserved c =
-    let f = culprit_of c.args.others.now (first_good c.args.one.now) (first_good c.args.other.now) in
+pub loop-key-preserved : goal.loop-key-preserved
+loop-key-preserved c =
+    let f = culprit_of c.args.others.now (signature_by c.args.one.now) (signature_by c.args.other.now) in
     let ws = c.args.witnesses.now in
-    let xs = c.loop-i.culprits in
-    elim c.if-not-has_key.branch [
-      | then-not-has_key+in_ok-add_culprit w ↦ w.culprits-is ∙ w.in_ok-add_culprit.ensures
-          ∙ new_member f ws c.loop-i.i _ c.loop-i-test.true c.has_key.result c.has_key.ensures xs c.loop-i.invariant w.if-not-has_key.true
-      | else-not-has_key w ↦ w.culprits-is
-          ∙ old_member f ws c.loop-i.i _ c.loop-i-test.true c.has_key.result c.has_key.ensures xs c.loop-i.invariant w.if-not-has_key.false
-    ]
+    let i = c.loop-key.key-index in
+    let none : Key = record { code = Fixed; raw = [] } in
+    let key = get_or ws i none in
+    let so_far = take i ws in
+    let more : take (i + 1) ws ≡ so_far ++ key ∷ [] = take_more ws i none c.loop-key-test.true in
+    let was = c.loop-key.invariant in
+    let known = contains key_cmp c.loop-key.seen key in
+    let added = c.in_ok-insert.ensures.added in
+    record {
+      culprits = elim c.if-branch.branch [
+        | then-branch+in_ok-add_culprit w ↦ w.culprits-is ∙ w.in_ok-add_culprit.ensures c.args.others.now c.in_ok-others.ensures
+            ∙ new_member f so_far key known (was.seen key) c.loop-key.culprits was.culprits (not_true known (sym added ∙ w.if-branch.true)) (take (i + 1) ws) more
+        | else-branch w ↦ w.culprits-is
+            ∙ old_member f so_far key known (was.seen key) c.loop-key.culprits was.culprits (not_false known (sym added ∙ w.if-branch.false)) (take (i + 1) ws) more
+      ];
+      seen = subst (λ ks. HasKeys ks c.insert.new.self) (sym more) (set_more so_far key c.loop-key.seen c.insert.new.self was.seen c.in_ok-insert.ensures.updates.0);
+    }

@@ -30,7 +30,7 @@ returns c = λ held log seen b at of next walked.
     (walk_on held log seen d (subst (IsFollowedBy log seen) (sym same) next) lists entries walked (sym c.is_establishment.ensures ∙ c.if-not-is_establishment.false)
     c.place_of-place.ensures.prefix c.insert.new.self.entries c.insert-2.new.self.entries own x
     (c.in_ok-copy_items.ensures ∙ c.in_ok-witnesses.ensures
-    ∙ ap (λ o. list_after (list_of o) event) (c.get.ensures.value ∙ ap (λ k. lookup (is_at (slice_cmp nat_cmp k.0)) lists) place))
-    (λ t. c.in_ok-insert.ensures.updates.0 t ∙ ap (λ k. cond (is_at (slice_cmp nat_cmp k.0) t) (Some own) (lookup (is_at (slice_cmp nat_cmp t)) lists)) place)
+    ∙ ap (λ o. list_after (list_of o) event) (c.get.ensures.value ∙ ap (λ k. lookup (is_at (slice_cmp nat_cmp k.prefix)) lists) place))
+    (λ t. c.in_ok-insert.ensures.updates.0 t ∙ ap (λ k. cond (is_at (slice_cmp nat_cmp k.prefix) t) (Some own) (lookup (is_at (slice_cmp nat_cmp t)) lists)) place)
     (λ k. c.in_ok-insert-2.ensures.updates.0 k ∙ ap (λ l. cond (is_at (place_cmp l) k) (Some x) (event_at entries k)) place)
     place (at ∙ ap (λ c. Some c) (sym same)) (sym c.in_ok-copy_items.ensures))

@@ -2,7 +2,7 @@ use Rattle.std.proofs.Common.{Option, refl, sym, ◌∙◌, subst}
 use Rattle.blame_core.specs.Blames.{AreBlames}
 use Rattle.blame_core.specs.Rivals.{Judges}
 use Rattle.blame_core.specs.declared.establishments.Establishment.{Establishment}
-use Rattle.blame_core.specs.declared.rivalry.Blame.{Blame}
+use Rattle.blame_core.specs.declared.blames.Blame.{Blame}
 use Rattle.blame_core.proofs.Judged.{AllJudged, AreWalked, begun, ended, further}
 use Rattle.blame_core.proofs.Pairs.{blames_are, whole_core}
 use Rattle.blame_core.proofs.rivals.blame.Goals as goal

@@ -3,10 +3,8 @@ use Rattle.std.specs.Prelude.{filter_map, slice_get}
 use Rattle.std.specs.Cmp.Lexicographic.{bytes_decides}
 use Rattle.event_body.specs.Events.{prefix_of, sn_of}
 use Rattle.key_state.specs.Same.{distinct, same_key}
-use Rattle.validator_core.specs.View.{told_of}
 use Rattle.blame_core.specs.Culprits.{culprit_of}
 use Rattle.blame_core.proofs.Chosen.{bytes_are, event_is}
-use Rattle.blame_core.proofs.EntrySignatures.{signature_same}
 use Rattle.blame_core.proofs.rivals.compare.Goals as goal
 
 pub returns : goal.returns
@@ -16,13 +14,13 @@ returns c = λ b d at there.
     let mine = bytes_are (slice_get first.held c.args.one.now.number) text b c.in-Some-Some.ensures.body at in
     let its = bytes_are (slice_get second.held c.args.other.now.number) rival d c.in-Some.ensures.body there in
     let event = event_is (slice_get first.held c.args.one.now.number) c.in-Some-Some.event.now b c.in-Some-Some.ensures' at in
-    let f = signature_same (told_of first) b c.in_ok-ones.ones (c.in_ok-ones.ensures b at) in
-    let g = signature_same (told_of second) d c.in_ok-others.others (c.in_ok-others.ensures d there) in
+    let f = c.in_ok-ones.ensures b at in
+    let g = c.in_ok-others.ensures d there in
     record {
       differ = λ same. (let equal = (bytes_decides text rival).1 (mine ∙ same ∙ sym its) in cc (equal, c.is_same.ensures, c.if-is_same.false));
       prefix = c.prefix_of.ensures ∙ ap prefix_of event;
       sn = c.sn_of.ensures ∙ ap sn_of event;
       one_is = refl;
       other_is = refl;
-      culprits = c.in_ok-culprits.ensures ∙ (λ i. filter_map (culprit_of (c.as_slice-2.ensures i) (f i) (g i)) (distinct same_key (c.as_slice.ensures i)));
+      culprits = c.in_ok-culprits.ensures ∙ (λ i. filter_map (culprit_of (c.as_slice-2.ensures i) (λ key. f key i) (λ key. g key i)) (distinct same_key (c.as_slice.ensures i)));
     }

@@ -15,11 +15,11 @@ loop-place-init c = record { text = c.new-text.ensures; count = refl; signers = 
 
 pub loop-place-preserved : goal.loop-place-preserved
 loop-place-preserved c =
-    let core = c.args.core.now in let log = accepted_by core in let family = c.in_ok-family.family.items in let place = c.loop-place.place in
+    let core = c.args.core.now in let log = accepted_by core in let family = c.in_ok-family.family.keys in let place = c.loop-place.place in
     let at = body_below core.held c.accepted-place-end.result.now c.accepted-place-end.ensures.held log c.accepted-place-end.ensures.accepted place c.loop-place-test.true in
     let b = at.0 in
     let old = c.loop-place.text.bytes.items in let new = c.put_event.new.text.bytes.items in
-    let put : PutsAt core family place b c.in_ok-is_put.is_put c.put_event.new.signers old new = subst (λ f. PutsAt core f place b c.in_ok-is_put.is_put c.put_event.new.signers old new) c.as_slice.ensures.value (c.in_ok-is_put.ensures b at.1) in
+    let put : PutsAt core family place b c.in_ok-is_put.is_put c.put_event.new.signers old new = c.in_ok-is_put.ensures b at.1 in
     let more = take_one log place b at.1 in
     let counted = ap (λ xs. length (exported family xs)) more ∙ more_counted core family (take place log) b old new c.in_ok-is_put.is_put put.puts in
     record {
@@ -33,7 +33,7 @@ loop-place-preserved c =
 
 pub returns : goal.returns
 returns c =
-    let core = c.args.core.now in let log = accepted_by core in let family = c.in_ok-family.family.items in
+    let core = c.args.core.now in let log = accepted_by core in let family = c.in_ok-family.family.keys in
     let all : take c.loop-place.place log ≡ log = all_before core.held c.accepted-place-end.result.now c.accepted-place-end.ensures.held log c.accepted-place-end.ensures.accepted c.loop-place.place c.loop-place-test.false in
     record {
       stands = c.stands.ensures;

@@ -4,4 +4,4 @@ use Rattle.export_core.proofs.family.family_of.Given as goal
 
 -- those so far are found
 abbrev pub invariant-loop : goal.invariant-loop
-invariant-loop l = AreFound (accepted_by l.fn.core) l.fn.first l.last l.family.items
+invariant-loop l = AreFound (accepted_by l.fn.core) l.fn.first l.last l.family.keys

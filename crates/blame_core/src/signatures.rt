@@ -1,85 +1,70 @@
-//! The signatures on a body that came and that a verifier called good.
-ghost use Rattle.std.specs.Prelude.{◌≡◌, ◌++◌, Some, find, flat_map, map, option_map, slice_get, IfOk, OnOk};
-ghost use Rattle.std.specs.List.{list_any};
+//! The signatures on a body that came, and of each key the first that a verifier called good.
+ghost use Rattle.std.specs.Prelude.{◌≡◌, ◌++◌, Some, flat_map, map, option_map, slice_get, IfOk, OnOk};
 ghost use Rattle.blame_core.specs.NamedEntries.{HasNamed};
-ghost use Rattle.blame_core.specs.Receipts.{AreReceipts, came_at, came_with, good_at, good_in, is_body};
-ghost use Rattle.blame_core.specs.Receipts.{is_receipt_of, is_signed, stands_on};
+ghost use Rattle.blame_core.specs.Signatures.{AreSignatures, came_at, came_with, good_at, good_in, is_body};
+ghost use Rattle.blame_core.specs.Signatures.{is_receipt_of, signature_by, stands_on};
 ghost use Rattle.core_tables.specs.View.{body_of};
 ghost use Rattle.journal.specs.History as history;
 ghost use Rattle.journal.specs.Journals.{whole};
 ghost use Rattle.journal.specs.declared.body.Body.{Body};
 ghost use Rattle.validator_core.specs.View.{told_of};
 
+use crate::first_signatures::first_places;
+use crate::signed::Signed;
 use cesr_codes::{Key, Sig};
 use core_tables::{Name, name_of};
 use event_body::{Event, is_receipt, prefix_of, said_of_event, sn_of};
 use event_index::Index;
 use event_rules::claimed_sig;
 use journal::{Claim, Entry};
-use key_state::is_key;
 use std::alloc::{AllocError, Global};
+use std::collections::BTreeMap;
 use validator_core::Core;
 
-/// A key's signature.
-#[derive(Clone, Copy)]
-pub(crate) struct Signed {
-    pub(crate) key: Key,
-    pub(crate) sig: Sig,
-}
-
-/// The signatures on a body.
+/// The signatures on a body: those that came, and where the first good one of each key stands among them.
 #[derive(Drop)]
-pub(crate) struct Receipts {
-    /// Those that came with it and with the receipts for it, in order of coming.
+pub(crate) struct Signatures {
+    /// Those that came with it and with the receipts for it, in order of coming: its controller's and its witnesses'.
     pub(crate) came: Vec<Sig>,
-    /// Those that a verifier called good.
-    pub(crate) good: Vec<Signed>,
+    /// Of each key the place of the first that came and that a verifier called the key's, where there is one.
+    pub(crate) firsts: BTreeMap<Key, usize>,
 }
 
 /// The signatures on the body of a number, by the entries with the name of its event alone.
-pub(crate) fn receipts_on(
+pub(crate) fn signatures_on(
     alloc: Global,
     core: &Core,
     named: &Index<Name>,
     number: u32,
-) -> Result<Receipts, AllocError>
+) -> Result<Signatures, AllocError>
     requires { HasNamed core.now named.now }
-    ensures { IfOk result (λ receipts. (b : Body) → slice_get core.now.held number ≡ Some b
-        → AreReceipts (told_of core.now) b receipts) }
+    ensures { IfOk result (λ signatures. (b : Body) → slice_get core.now.held number ≡ Some b
+        → AreSignatures (told_of core.now) b signatures) }
 {
-    let mut receipts = Receipts {
-        came: Vec::new(alloc),
-        good: Vec::new(alloc),
-    };
+    let mut came = Vec::new(alloc);
+    // For the prover alone: what is true of each core is said of its journal.
     let _journal = core.journal();
+    // Each number that a core gives has a body; on another nothing came.
     let (Some(text), Some(event)) = (core.body(number), core.event(number)) else {
-        return Ok(receipts);
+        return Ok(Signatures {
+            came,
+            firsts: BTreeMap::new(alloc),
+        });
     };
     let entries = named.numbers(&name_of(event));
-    add_all_came(&mut receipts.came, core, text, event, entries)?;
-    add_all_good(&mut receipts.good, core, text, entries)?;
-    Ok(receipts)
+    add_all_came(&mut came, core, text, event, entries)?;
+    let mut good = Vec::new(alloc);
+    add_all_good(&mut good, core, text, entries)?;
+    let firsts = first_places(alloc, came.as_slice(), good.as_slice())?;
+    Ok(Signatures { came, firsts })
 }
 
 /// The first signature that came of which a verifier said that it is the key's.
-pub(crate) fn signature_of(receipts: &Receipts, key: &Key) -> Option<Sig>
-    ensures { result ≡ find (λ sig. list_any (is_signed key.now sig) receipts.now.good.items)
-        receipts.now.came.items }
+pub(crate) fn signature_of(signatures: &Signatures, key: &Key) -> Option<Sig>
+    ensures { result ≡ signature_by signatures.now key.now }
 {
-    let good = receipts.good.as_slice();
-    receipts
-        .came
-        .iter()
-        .copied()
-        .find(|sig| is_good(good, key, sig))
-}
-
-// Whether it is one of the good signatures, by this key.
-fn is_good(good: &[Signed], key: &Key, sig: &Sig) -> bool
-    ensures { result ≡ list_any (is_signed key.now sig.now) good.now }
-{
-    good.iter()
-        .any(|signed| is_key(key, &signed.key) && *sig == signed.sig)
+    let place = *signatures.firsts.get(key)?;
+    signatures.came.as_slice().get(place).copied()
 }
 
 // Adds the signatures of these entries that stand on a body.

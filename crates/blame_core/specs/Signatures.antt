@@ -1,18 +1,18 @@
--- The signatures on a body, entry by entry.
-use Rattle.std.specs.Prelude.{◌≡◌, ℕ, Bool, false, ◌&&◌, ◌||◌, List, [], ◌∷◌, map, find, bytes_eq, Option, Some, None, if◌then◌else◌}
-use Rattle.std.specs.List.{list_any}
+-- The signatures on a body, entry by entry, and by keys.
+use Rattle.std.specs.Prelude.{◌≡◌, ℕ, Bool, false, ◌&&◌, ◌||◌, List, [], ◌∷◌, map, bytes_eq, Option, Some, None, if◌then◌else◌}
+use Rattle.std.specs.BTreeMap.{get}
 use Rattle.cesr_codes.specs.declared.key.Key.{Key}
 use Rattle.cesr_codes.specs.declared.sig.Sig.{Sig}
 use Rattle.event_body.specs.declared.event.Event.{Event}
-use Rattle.key_state.specs.Same.{same_key, same_sig}
 use Rattle.journal.specs.declared.body.Body.{Body}
-use Rattle.journal.specs.History.{Told, took, heard, claimed_sig, claims_in, is_receipt_for, said_yes}
+use Rattle.journal.specs.History.{Told, took, heard, claimed_sig, claims_in, is_receipt_for}
 use Rattle.journal.specs.Journals.{whole}
 use Rattle.journal.specs.Logs.{same_body}
 use Rattle.journal.specs.declared.entry.Entry.{Entry}
-use Rattle.blame_laws.specs.Signatures.{came_on, triple_on}
-use Rattle.blame_core.specs.declared.receipts.Receipts.{Receipts}
-use Rattle.blame_core.specs.declared.receipts.Signed.{Signed}
+use Rattle.blame_laws.specs.Signatures.{signature_of}
+use Rattle.blame_core.specs.FirstSignatures.{at_place, key_cmp}
+use Rattle.blame_core.specs.declared.signatures.Signatures.{Signatures}
+use Rattle.blame_core.specs.declared.signed.Signed.{Signed}
 
 -- the body, where there is one, has these bytes
 abbrev pub is_body : List ℕ → Option Body → Bool
@@ -49,15 +49,10 @@ abbrev pub good_at : List Body → List ℕ → Option Entry → List Signed
 good_at held text None = []
 good_at held text (Some e) = good_in text (whole held e)
 
--- it is this key's signature
-abbrev pub is_signed : Key → Sig → Signed → Bool
-is_signed key sig s = same_key key s.key && same_sig sig s.sig
+-- of a key the signature at the place that is noted for it
+abbrev pub signature_by : Signatures → Key → Option Sig
+signature_by s key = at_place s.came.items (get key_cmp s.firsts key)
 
--- the first signature that came which is one of the key's good ones
-abbrev pub first_good : Receipts → Key → Option Sig
-first_good r key = find (λ sig. list_any (is_signed key sig) r.good.items) r.came.items
-
--- they are the signatures that came on the body, and those that a verifier called good
-pub record AreReceipts (told : List Told) (b : Body) (r : Receipts) : Type 0 where
-  pub came : r.came.items ≡ came_on told b
-  pub good : (key : Key) (sig : Sig) → list_any (is_signed key sig) r.good.items ≡ said_yes told (triple_on b key sig)
+-- of each key it is the first signature that came on the body and that a verifier called the key's
+abbrev pub AreSignatures : List Told → Body → Signatures → Type 0
+AreSignatures told b s = (key : Key) → signature_by s key ≡ signature_of told b key
