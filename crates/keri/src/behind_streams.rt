@@ -13,36 +13,36 @@ use std::process::{ChildStdin, ChildStdout};
 const LAST_STREAM: i32 = 2;
 
 /// A file that was opened, an end of a pipe, or a socket.
-pub(crate) trait Opened {
+pub(crate) trait Moved {
     /// The same under another descriptor, behind those of the standard streams where the system does as it says.
     fn moved(self) -> io::Result<Self>;
 }
 
-impl Opened for File {
+impl Moved for File {
     fn moved(self) -> io::Result<File> {
         self.try_clone()
     }
 }
 
-impl Opened for ChildStdin {
+impl Moved for ChildStdin {
     fn moved(self) -> io::Result<ChildStdin> {
         Ok(ChildStdin::from(OwnedFd::from(self).try_clone()?))
     }
 }
 
-impl Opened for ChildStdout {
+impl Moved for ChildStdout {
     fn moved(self) -> io::Result<ChildStdout> {
         Ok(ChildStdout::from(OwnedFd::from(self).try_clone()?))
     }
 }
 
-impl Opened for TcpListener {
+impl Moved for TcpListener {
     fn moved(self) -> io::Result<TcpListener> {
         self.try_clone()
     }
 }
 
-impl Opened for TcpStream {
+impl Moved for TcpStream {
     fn moved(self) -> io::Result<TcpStream> {
         self.try_clone()
     }
@@ -50,7 +50,7 @@ impl Opened for TcpStream {
 
 /// The same file, pipe or socket. Where a standard stream was closed before this program began, what is opened may take its
 /// descriptor: what is meant for that stream must not land in it, nor what it holds be taken for that stream's.
-pub(crate) fn behind_streams<T: Opened + AsRawFd + Drop>(opened: T) -> io::Result<T>
+pub(crate) fn behind_streams<T: Moved + AsRawFd + Drop>(opened: T) -> io::Result<T>
     ensures { IfOk result (λ opened. IsBehindStreams (T.raw_fd opened)) }
 {
     if opened.as_raw_fd() > LAST_STREAM {

@@ -16,7 +16,7 @@ use Rattle.witness_link.specs.Links.{LinkTold, Terms}
 use Rattle.witness_link.specs.Served.{ClosesLink}
 use Rattle.witness_link.specs.Serving.{Serves}
 use Rattle.keri_roles.specs.Run.{DoorTold}
-use Rattle.keri_roles.proofs.ThroughLinks.{stops_leave}
+use Rattle.keri_roles.proofs.ThroughLinks.{asked_through, stops_leave}
 use Rattle.keri_roles.specs.ServedLinks.{Between, IsServed, ServedLink, ServesComing, ServesEach, ServesOne, goes_on, reader_of}
 
 -- each of these links closed so that the next one is asked for
@@ -134,6 +134,7 @@ module _ {D : Type 0} (told : D → DiskTold) (key : Key) (limits run_limits : L
           links = c.links;
           serves = c.serves;
           stops = stops_leave told key limits run_limits says gives c.links old now c.serves;
+          inquired = asked_through told key limits run_limits says gives c.links old now c.serves;
           came = rw (was, is) c.came;
           enough = record { no_more = subst (λ n. n ≤ count) many few; no_fewer = inl (rw is (subst (λ n. IsEnough count n failed left) many enough)) };
           cause = cause;
@@ -177,6 +178,7 @@ module _ {D : Type 0} (told : D → DiskTold) (key : Key) (limits run_limits : L
             links = c.links ++ s.link ∷ [];
             serves = serves_more c.links s.link old now new c.go_on c.serves s.one;
             stops = stops_leave told key limits run_limits says gives (c.links ++ s.link ∷ []) old new (serves_more c.links s.link old now new c.go_on c.serves s.one);
+            inquired = asked_through told key limits run_limits says gives (c.links ++ s.link ∷ []) old new (serves_more c.links s.link old now new c.go_on c.serves s.one);
             came = rw (was, now_is) came_more;
             enough = record { no_more = subst (λ n. n ≤ count) many few; no_fewer = inr (decided false ends) };
             cause = unfailed;

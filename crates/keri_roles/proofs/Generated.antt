@@ -119,6 +119,8 @@ module _ (seed logs events : ℕ) (limits : Limits) (rest : LastRound) (reader :
       read = read_out (told_of core) e t.read.read t.read.fed t.read.each;
       asked = t.asked;
       failed = t.failed;
+      only = t.only;
+      alone = t.alone;
       mode_is = t.mode_is;
       limits_are = t.limits_are;
       no_base = t.no_base;

@@ -43,39 +43,39 @@ module _ {D : Type 0} (told : D → DiskTold) (key : Key) (limits : Limits) (hel
   serving_read None verifier signer m s e = m.2.rose refl
   serving_read (Some source) None signer m s e = let clash : ReadFault ≡ VerifierFault = sym e ∙ s.close in cc
   serving_read (Some source) (Some verifier) None m s e = let clash : ReadFault ≡ SignerFault = sym e ∙ s.close in cc
-  serving_read (Some source) (Some verifier) (Some signer) m s e = let closes = rw e at s.closes in closes.0.closes.1
+  serving_read (Some source) (Some verifier) (Some signer) m s e = let closes = rw e at s.serves.closes in closes.0.closes.1
 
   pub serving_asked : (source : Option SourceTold) (verifier : Option VerifierTold) (signer : Option SignerTold) → Made source verifier signer → Served source verifier signer
       → reader.close ≡ VerifierFault → MatchOption verifier (Rose run.before.faults run.after.faults) (λ v. Rose 0 v.faults)
   serving_asked None verifier signer m s e = let clash : VerifierFault ≡ ReadFault = sym e ∙ s.close in cc
   serving_asked (Some source) None signer m s e = m.1.rose refl
   serving_asked (Some source) (Some verifier) None m s e = let clash : VerifierFault ≡ SignerFault = sym e ∙ s.close in cc
-  serving_asked (Some source) (Some verifier) (Some signer) m s e = let closes = rw e at s.closes in closes.fails.counted.1
+  serving_asked (Some source) (Some verifier) (Some signer) m s e = let closes = rw e at s.serves.closes in closes.fails.counted.1
 
   pub serving_signed : (source : Option SourceTold) (verifier : Option VerifierTold) (signer : Option SignerTold) → Made source verifier signer → Served source verifier signer
       → reader.close ≡ SignerFault → MatchOption signer (Rose run.before.faults run.after.faults) (λ g. Rose 0 g.faults)
   serving_signed None verifier signer m s e = let clash : SignerFault ≡ ReadFault = sym e ∙ s.close in cc
   serving_signed (Some source) None signer m s e = let clash : SignerFault ≡ VerifierFault = sym e ∙ s.close in cc
   serving_signed (Some source) (Some verifier) None m s e = m.rose refl
-  serving_signed (Some source) (Some verifier) (Some signer) m s e = let closes = rw e at s.closes in closes.fails.counted.2
+  serving_signed (Some source) (Some verifier) (Some signer) m s e = let closes = rw e at s.serves.closes in closes.fails.counted.2
 
   pub serving_stored : (source : Option SourceTold) (verifier : Option VerifierTold) (signer : Option SignerTold) → Served source verifier signer
       → reader.close ≡ DiskFault → Rose (told old.disk).faults (told new.disk).faults
   serving_stored None verifier signer s e = let clash : DiskFault ≡ ReadFault = sym e ∙ s.close in cc
   serving_stored (Some source) None signer s e = let clash : DiskFault ≡ VerifierFault = sym e ∙ s.close in cc
   serving_stored (Some source) (Some verifier) None s e = let clash : DiskFault ≡ SignerFault = sym e ∙ s.close in cc
-  serving_stored (Some source) (Some verifier) (Some signer) s e = let closes = rw e at s.closes in closes.fails.counted.0
+  serving_stored (Some source) (Some verifier) (Some signer) s e = let closes = rw e at s.serves.closes in closes.fails.counted.0
 
   pub serving_wrote : (source : Option SourceTold) (verifier : Option VerifierTold) (signer : Option SignerTold) → Served source verifier signer
       → reader.close ≡ WriteFault → Rose run.sink_before.faults run.sink_after.faults
   serving_wrote None verifier signer s e = let clash : WriteFault ≡ ReadFault = sym e ∙ s.close in cc
   serving_wrote (Some source) None signer s e = let clash : WriteFault ≡ VerifierFault = sym e ∙ s.close in cc
   serving_wrote (Some source) (Some verifier) None s e = let clash : WriteFault ≡ SignerFault = sym e ∙ s.close in cc
-  serving_wrote (Some source) (Some verifier) (Some signer) s e = let closes = rw e at s.closes in closes.1.rose
+  serving_wrote (Some source) (Some verifier) (Some signer) s e = let closes = rw e at s.serves.closes in closes.1.rose
 
   pub serving_kept : (source : Option SourceTold) (verifier : Option VerifierTold) (signer : Option SignerTold) → Served source verifier signer
       → reader.close ≢ WriteFault → run.sink_after.faults ≡ run.sink_before.faults
   serving_kept None verifier signer s other = ap (λ sink. sink.faults) s.same_sink
   serving_kept (Some source) None signer s other = ap (λ sink. sink.faults) s.same_sink
   serving_kept (Some source) (Some verifier) None s other = ap (λ sink. sink.faults) s.same_sink
-  serving_kept (Some source) (Some verifier) (Some signer) s other = sink_kept _ _ _ _ _ _ s.serves reader.close s.closes other
+  serving_kept (Some source) (Some verifier) (Some signer) s other = sink_kept _ _ _ _ _ _ s.serves.serves reader.close s.serves.closes other

@@ -3,7 +3,7 @@ use Rattle.std.specs.Prelude.{All, ◌≡◌, ◌≢◌, ◌==◌, ◌||◌, Boo
 use Rattle.keri_specs.specs.Causes.{Rose}
 use Rattle.blame_core.specs.Blames.{AreBlames}
 use Rattle.blame_core.specs.Lines.{blames_text}
-use Rattle.blame_core.specs.declared.rivalry.Blame.{Blame}
+use Rattle.blame_core.specs.declared.blames.Blame.{Blame}
 use Rattle.journal.specs.declared.journal.Journal.{Journal}
 use Rattle.journal.specs.declared.mode.Mode.TheVariants.{Full}
 use Rattle.reader_threads.specs.Given.{Given}

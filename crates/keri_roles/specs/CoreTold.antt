@@ -1,5 +1,5 @@
 -- What a core was told by the readers of files.
-use Rattle.std.specs.Prelude.{◌≡◌, ◌≢◌, ℕ, ◌⊎◌, Bool, true, false, List, [], ◌∷◌, map, All, IfSome, IsSome, Option, None, Some, is_none}
+use Rattle.std.specs.Prelude.{◌≡◌, ◌≢◌, ℕ, ◌⊎◌, Bool, true, false, List, [], ◌∷◌, length, map, All, IfSome, IsSome, Option, None, Some, is_none}
 use Rattle.keri_specs.specs.Causes.{Rose}
 use Rattle.keri_specs.specs.Told.{HasNone}
 use Rattle.keri_outside.specs.declared.limits.Limits.{Limits}
@@ -25,9 +25,10 @@ use Rattle.run_status.specs.Readers.{Reader, SourceTold}
 use Rattle.run_status.specs.Status.{nothing_besides}
 use Rattle.reader_threads.specs.declared.last_round.LastRound.{LastRound}
 use Rattle.reader_threads.specs.declared.last_round.LastRound.TheVariants.{NoneFailed, VerifierFailed, OutOfMemory}
+use Rattle.reader_threads.specs.Asked.{EachAsksOnly}
 use Rattle.reader_threads.specs.Fed.{ReadEach, ends_of, most_turns}
 use Rattle.reader_threads.specs.Given.{Given, said_by}
-use Rattle.reader_threads.specs.Told.{EachFailed, SomeFailed}
+use Rattle.reader_threads.specs.Told.{EachFailed, IsInStep, SomeFailed}
 use Rattle.keri_roles.specs.Closes.{is_through}
 use Rattle.keri_roles.specs.Run.{Work}
 
@@ -118,15 +119,18 @@ IsComplete mode limits given readers rest told =
     All HasBoth readers → All MetNoFault readers → HadMemory rest readers → AreThrough mode limits given readers rest told
 
 -- What is told in the journal is what the readers fed, within the limits, each from what it was given. Each verdict was given to a
--- question that was open. Unless the last round found no memory, a question is open still only where each verifier failed. No event
--- is ready that isn't accepted. Where each reader has a source and a verifier, nothing failed, no limit was reached and there was memory,
--- all streams were read through.
+-- question that was open; what one reader alone told is in step: each message came once no question was open, and each verdict is on the
+-- first that was. No verifier was asked anything but for verdicts that are told and on questions that are open. Unless the last round found
+-- no memory, a question is open still only where each verifier failed. No event is ready that isn't accepted. Where each reader has a
+-- source and a verifier, nothing failed, no limit was reached and there was memory, all streams were read through.
 pub record IsToldBy (mode : Mode) (limits : Limits) (given : List Given) (readers : List Reader) (rest : LastRound) (journal : Journal) : Type 0 where
   pub read : List (List ℕ)
   pub fed : IsFed limits 0 (ends_of read readers) journal
   pub each : ReadEach limits (told_by fed.held journal.entries) (most_turns (told_by fed.held journal.entries) readers) rest 0 read given readers fed.fed.each
   pub asked : rest ≢ OutOfMemory → (questions mode [] (told_by fed.held journal.entries) ≡ []) ⊎ EachFailed given readers
   pub failed : rest ≡ VerifierFailed → SomeFailed given readers
+  pub only : EachAsksOnly mode (told_by fed.held journal.entries) given readers
+  pub alone : length readers ≡ 1 → IsInStep mode (told_by fed.held journal.entries)
   pub regular : IsRegular mode [] (told_by fed.held journal.entries)
   pub within : IsWithin limits [] (told_by fed.held journal.entries)
   pub settled : AreSettled mode fed.held (told_by fed.held journal.entries)

@@ -5,10 +5,12 @@ use Rattle.std.specs.declared.option.Option.{Option}
 use Rattle.std.specs.declared.option.Option.TheVariants.{None, Some}
 use Rattle.cesr_codes.specs.declared.digest.Digest.{Digest}
 use Rattle.cesr_codes.specs.declared.key.Key.{Key}
-use Rattle.cesr_codes.specs.declared.sig.Sig.{Sig}
 use Rattle.journal.specs.declared.refusal.Refusal.{Refusal}
 use Rattle.keri_disk.specs.Images.{DiskTold}
+use Rattle.keri_outside.specs.declared.inquiry.Inquiry.{Inquiry}
 use Rattle.keri_outside.specs.declared.limits.Limits.{Limits}
+use Rattle.keri_outside.specs.declared.signing.Signing.{Signing}
+use Rattle.keri_specs.specs.Told.{HasNone}
 use Rattle.run_outside.specs.Makings.{AreMakings}
 use Rattle.run_outside.specs.Told.{Told, making}
 use Rattle.run_outside.specs.declared.making.MakingKind.{MakingKind}
@@ -64,35 +66,51 @@ pub record EndsWith {D : Type 0} (told : D → DiskTold) (disk : Option D) (read
   pub stand : new.broken ≡ false → AllHold (told new.disk) new.list
   pub reads : new.broken ≡ false → IfSome (told new.disk).file (λ file. Holds Two file new.list)
 
--- one of the makings failed: nothing is read, and the witness is as it was
+-- One of the makings failed: nothing is read, and the witness is as it was. A verifier that was made was asked nothing, and never failed.
 pub record ServesNone {D : Type 0} (held : Option (List ℕ)) (at : Close) (reader : Reader) (old new : Left D) (run : Run) : Type 0 where
   pub close : reader.close ≡ at
   pub none_refused : reader.refused ≡ []
   pub none_seen : reader.seen ≡ []
   pub unread : IfSome reader.source (λ s. s ≡ source_told held 0)
+  pub unasked : IfSome reader.verifier (λ v. HasNone v.inquiries × (v.faults ≡ 0))
   pub same : new ≡ old
   pub same_sink : run.sink_after ≡ run.sink_before
 
+-- a verifier and a signer of a helper that never failed, and were asked these
+abbrev pub verifier_of : Told → List ℕ → Option (List Inquiry) → VerifierTold
+verifier_of before helper inquiries = record { says = before.says helper; inquiries = inquiries; faults = 0 }
+
+abbrev pub signer_of : Told → List ℕ → Option (List Signing) → SignerTold
+signer_of before helper signings = record { gives = before.gives helper; signings = signings; faults = 0 }
+
 module _ {D : Type 0} (told : D → DiskTold) (key : Key) (limits : Limits) where
   -- what is seen of a witness and of a verifier, a signer and a sink, and what was noted
-  abbrev pub at_link : Left D → (Key → List ℕ → Sig → Option Bool) → ℕ → (Key → List ℕ → Option Sig) → ℕ → SinkTold → List Refusal → List Digest → LinkTold
-  at_link left says verifier_faults gives signer_faults sink refused seen =
-      told_of_link (seen_as told key limits left) says verifier_faults gives signer_faults sink.written sink.faults refused seen
+  abbrev pub at_link : Left D → VerifierTold → SignerTold → SinkTold → List Refusal → List Digest → LinkTold
+  at_link left verifier signer sink refused seen = told_of_link (seen_as told key limits left)
+      verifier.says verifier.inquiries verifier.faults signer.gives signer.signings signer.faults sink.written sink.faults refused seen
 
   -- the link that a run has with its source, its verifier and its signer, which these were before, and the sink
-  abbrev pub ServesIts : Run → SourceTold → (Key → List ℕ → Sig → Option Bool) → ℕ → (Key → List ℕ → Option Sig) → ℕ → Left D → SourceTold → VerifierTold → SignerTold → Reader → Left D → Type 0
-  ServesIts run source_old says verifier_faults gives signer_faults old source verifier signer reader new =
+  abbrev pub ServesIts : Run → SourceTold → VerifierTold → SignerTold → Left D → SourceTold → VerifierTold → SignerTold → Reader → Left D → Type 0
+  ServesIts run source_old verifier_old signer_old old source verifier signer reader new =
       ServesLink run.before.limits source_old (source_told source.left source.faults)
-      (at_link old says verifier_faults gives signer_faults run.sink_before [] [])
-      (at_link new verifier.says verifier.faults signer.gives signer.faults run.sink_after reader.refused reader.seen) reader.close
+      (at_link old verifier_old signer_old run.sink_before [] [])
+      (at_link new verifier signer run.sink_after reader.refused reader.seen) reader.close
 
-  -- what was made serves the witness as a link, and none of it had failed before
+  -- all three were made of the name and of the helper, and serve the witness as a link; the verifier and the signer were asked nothing
+  -- before, where they tell, and none of the three had failed
+  pub record ServesMade (helper name : List ℕ) (old : Left D) (source : SourceTold) (verifier : VerifierTold) (signer : SignerTold) (reader : Reader) (new : Left D) (run : Run) : Type 0 where
+    pub inquiries : Option (List Inquiry)
+    pub none_inquired : HasNone inquiries
+    pub signings : Option (List Signing)
+    pub none_signed : HasNone signings
+    pub serves : ServesIts run (source_told (run.before.holds name) 0) (verifier_of run.before helper inquiries) (signer_of run.before helper signings) old source verifier signer reader new
+
+  -- what was made serves the witness as a link, where it was all made
   abbrev pub ServesBy : List ℕ → List ℕ → Left D → Reader → Option SourceTold → Option VerifierTold → Option SignerTold → Left D → Run → Type 0
   ServesBy helper name old reader None verifier signer new run = ServesNone (run.before.holds name) ReadFault reader old new run
   ServesBy helper name old reader (Some source) None signer new run = ServesNone (run.before.holds name) VerifierFault reader old new run
   ServesBy helper name old reader (Some source) (Some verifier) None new run = ServesNone (run.before.holds name) SignerFault reader old new run
-  ServesBy helper name old reader (Some source) (Some verifier) (Some signer) new run =
-      ServesIts run (source_told (run.before.holds name) 0) (run.before.says helper) 0 (run.before.gives helper) 0 old source verifier signer reader new
+  ServesBy helper name old reader (Some source) (Some verifier) (Some signer) new run = ServesMade helper name old source verifier signer reader new run
 
   -- What is made of a name and of a helper serves the witness, and the run ends.
   pub record IsServing (helper name : List ℕ) (old : Left D) (disk : Option D) (run : Run) : Type 0 where
@@ -103,8 +121,8 @@ module _ {D : Type 0} (told : D → DiskTold) (key : Key) (limits : Limits) wher
     pub no_links : HasNoLinks run
     pub ends : EndsWith told disk (reader ∷ []) nothing_besides new run
 
-  -- all three were made, and have failed so often before, and the run ends
-  pub record ServesAll (source_old : SourceTold) (says : Key → List ℕ → Sig → Option Bool) (verifier_faults : ℕ) (gives : Key → List ℕ → Option Sig) (signer_faults : ℕ) (old : Left D) (disk : Option D) (run : Run) : Type 0 where
+  -- all three were made, and were these before, and the run ends
+  pub record ServesAll (source_old : SourceTold) (verifier_old : VerifierTold) (signer_old : SignerTold) (old : Left D) (disk : Option D) (run : Run) : Type 0 where
     pub source : SourceTold
     pub verifier : VerifierTold
     pub signer : SignerTold
@@ -113,6 +131,6 @@ module _ {D : Type 0} (told : D → DiskTold) (key : Key) (limits : Limits) wher
     pub source_is : reader.source ≡ Some source
     pub verifier_is : reader.verifier ≡ Some verifier
     pub signer_is : run.signer ≡ Some signer
-    pub serves : ServesIts run source_old says verifier_faults gives signer_faults old source verifier signer reader new
+    pub serves : ServesIts run source_old verifier_old signer_old old source verifier signer reader new
     pub no_links : HasNoLinks run
     pub ends : EndsWith told disk (reader ∷ []) nothing_besides new run

@@ -10,13 +10,17 @@ use Rattle.cesr_codes.specs.declared.sig.Sig.{Sig}
 use Rattle.journal.specs.declared.refusal.Refusal.{Refusal}
 use Rattle.keri_disk.specs.Images.{DiskTold}
 use Rattle.door_links.specs.Taken.{AreTaken, IsCaused, IsEnough}
+use Rattle.keri_outside.specs.declared.inquiry.Inquiry.{Inquiry}
 use Rattle.keri_outside.specs.declared.limits.Limits.{Limits}
+use Rattle.keri_outside.specs.declared.signing.Signing.{Signing}
 use Rattle.run_outside.specs.declared.making.MakingKind.TheVariants.{Door as DoorKind}
 use Rattle.run_status.specs.declared.close.Close.{Close}
 use Rattle.run_status.specs.declared.close.Close.TheVariants.{End, Bad, ReadFault, VerifierFault, SignerFault, DiskFault, WriteFault, Malformed, Full, OutOfMemory}
 use Rattle.run_status.specs.Readers.{Reader, SinkTold, SourceTold, VerifierTold}
 use Rattle.run_status.specs.Status.{nothing_besides}
+use Rattle.validator_core.specs.View.{open_of}
 use Rattle.witness_core.specs.Storing.{StoresOn}
+use Rattle.witness_core.specs.Telling.{AsksVerdicts}
 use Rattle.witness_core.specs.declared.receipt.Receipt.{Receipt}
 use Rattle.witness_link.specs.Calls.{receipts_in}
 use Rattle.witness_link.specs.Links.{Terms}
@@ -48,11 +52,21 @@ pub record ServedLink : Type 0 where
   pub seen : List Digest
   pub close : Close
 
--- the witness that serves links, and how often its verifier and its signer have failed, before one of them or behind it
+-- the witness that serves links, and what its verifier and its signer were asked and how often they have failed, before one of the links
+-- or behind it
 pub record Between (D : Type 0) : Type 0 where
   pub left : Left D
+  pub inquiries : Option (List Inquiry)
   pub verifier_faults : ℕ
+  pub signings : Option (List Signing)
   pub signer_faults : ℕ
+
+-- what its verifier and its signer tell then
+abbrev pub verifier_at : {D : Type 0} → (Key → List ℕ → Sig → Option Bool) → Between D → VerifierTold
+verifier_at says between = record { says = says; inquiries = between.inquiries; faults = between.verifier_faults }
+
+abbrev pub signer_at : {D : Type 0} → (Key → List ℕ → Option Sig) → Between D → SignerTold
+signer_at gives between = record { gives = gives; signings = between.signings; faults = between.signer_faults }
 
 -- a reader of no link, with the verifier, where there is one
 abbrev pub idle_reader : Option VerifierTold → Close → Reader
@@ -84,8 +98,8 @@ module _ {D : Type 0} (told : D → DiskTold) (key : Key) (limits run_limits : L
   pub record ServesOne (link : ServedLink) (old new : Between D) : Type 0 where
     pub fresh : IsFresh link
     pub serves : ServesLink run_limits link.source_old link.source
-        (at_link told key limits old.left says old.verifier_faults gives old.signer_faults link.sink_old [] [])
-        (at_link told key limits new.left says new.verifier_faults gives new.signer_faults link.sink link.refused link.seen) link.close
+        (at_link told key limits old.left (verifier_at says old) (signer_at gives old) link.sink_old [] [])
+        (at_link told key limits new.left (verifier_at says new) (signer_at gives new) link.sink link.refused link.seen) link.close
 
   -- what came with these bytes was served as a link, with this reader and this sink
   pub record IsServed (held : Option (List ℕ)) (reader : Reader) (sink : SinkTold) (old new : Between D) : Type 0 where
@@ -124,40 +138,53 @@ module _ {D : Type 0} (told : D → DiskTold) (key : Key) (limits run_limits : L
   StopsLeave (link ∷ links) old new each = StoresThrough (receipts_due (link ∷ links) old new each) old.left new.left
 
   -- The links that came at a door were served, and so many are enough. These are their readers and their sinks, in order, and what a
-  -- stop leaves through all of them.
+  -- stop leaves through all of them. Where no question was open before the first, the verifier was asked for the verdicts that the core
+  -- was told since, in order, and for nothing else, but maybe for the first question that is open behind the last.
   pub record ServesComing (count : ℕ) (failed : Bool) (door_old door : DoorTold) (old new : Between D) (readers : List Reader) (sinks : List SinkTold) : Type 0 where
     pub links : List ServedLink
     pub serves : ServesEach links old new
     pub stops : StopsLeave links old new serves
+    pub inquired : open_of old.left.core ≡ [] → AsksVerdicts old.inquiries new.inquiries old.left.core new.left.core
     pub came : AreTaken door_old.left door.left (map (λ l. l.source_old.left) links)
     pub enough : AreEnough count links failed door.left
     pub cause : IsCaused failed door_old.faults door.faults
     pub readers_are : readers ≡ map reader_of links
     pub sinks_are : sinks ≡ map (λ l. l.sink) links
 
--- nothing had failed yet
-abbrev pub at_first : {D : Type 0} → Left D → Between D
-at_first left = record { left = left; verifier_faults = 0; signer_faults = 0 }
+-- nothing had failed yet, and these were asked
+abbrev pub at_first : {D : Type 0} → Option (List Inquiry) → Option (List Signing) → Left D → Between D
+at_first inquiries signings left = record { left = left; inquiries = inquiries; verifier_faults = 0; signings = signings; signer_faults = 0 }
 
--- one of the makings failed: no link is asked for, and the witness is as it was
+-- the verifier and the signer tell this in the end
+abbrev pub at_last : {D : Type 0} → Left D → VerifierTold → SignerTold → Between D
+at_last left verifier signer =
+    record { left = left; inquiries = verifier.inquiries; verifier_faults = verifier.faults; signings = signer.signings; signer_faults = signer.faults }
+
+-- One of the makings failed: no link is asked for, and the witness is as it was. A verifier that was made was asked nothing, and never
+-- failed.
 pub record ServesNoLink {D : Type 0} (links : Option (List (List ℕ))) (verifier : Option VerifierTold) (at : Close) (readers : List Reader) (old new : Left D) (run : Run) : Type 0 where
   pub one : readers ≡ idle_reader verifier at ∷ []
   pub unasked : IfSome run.door (λ door. door ≡ record { left = links; faults = 0 })
+  pub none_inquired : IfSome verifier (λ v. HasNone v.inquiries × (v.faults ≡ 0))
   pub no_sinks : run.sinks ≡ []
   pub same : new ≡ old
 
 module _ {D : Type 0} (told : D → DiskTold) (key : Key) (limits : Limits) where
-  -- all that was made serves the links that come
+  -- All that was made serves the links that come. The verifier and the signer were asked nothing before, where they tell.
   pub record ServesLinks (helper address : List ℕ) (count : ℕ) (old new : Left D) (door : DoorTold) (verifier : VerifierTold) (signer : SignerTold) (failed : Bool) (readers : List Reader) (run : Run) : Type 0 where
     pub each : List Reader
+    pub inquiries : Option (List Inquiry)
+    pub none_inquired : HasNone inquiries
+    pub signings : Option (List Signing)
+    pub none_signed : HasNone signings
     pub coming : ServesComing told key limits run.before.limits (run.before.says helper) (run.before.gives helper) count failed
         (record { left = run.before.links address; faults = 0 }) door
-        (at_first old) (record { left = new; verifier_faults = verifier.faults; signer_faults = signer.faults }) each run.sinks
+        (at_first inquiries signings old) (at_last new verifier signer) each run.sinks
     pub says : verifier.says ≡ run.before.says helper
     pub gives : signer.gives ≡ run.before.gives helper
     pub readers_are : readers ≡ readers_with verifier each
 
-  -- all three were made, of which the door told this, and had failed so often before; and the run ends
+  -- all three were made, of which the door told this, and the verifier and the signer were so before; and the run ends
   pub record ServesAllLinks (run_limits : Limits) (says : Key → List ℕ → Sig → Option Bool) (gives : Key → List ℕ → Option Sig) (count : ℕ) (door_old : DoorTold) (old : Between D) (disk : Option D) (run : Run) : Type 0 where
     pub door : DoorTold
     pub verifier : VerifierTold
@@ -168,7 +195,7 @@ module _ {D : Type 0} (told : D → DiskTold) (key : Key) (limits : Limits) wher
     pub door_is : run.door ≡ Some door
     pub signer_is : run.signer ≡ Some signer
     pub coming : ServesComing told key limits run_limits says gives count failed door_old door
-        old (record { left = new; verifier_faults = verifier.faults; signer_faults = signer.faults }) each run.sinks
+        old (at_last new verifier signer) each run.sinks
     pub says_is : verifier.says ≡ says
     pub gives_is : signer.gives ≡ gives
     pub ends : EndsWith told disk (readers_with verifier each) (record nothing_besides { door_failed = failed }) new run

@@ -16,7 +16,7 @@ use Rattle.run_outside.specs.Told.{Told}
 use Rattle.run_status.specs.declared.besides.Besides.{Besides}
 use Rattle.run_status.specs.Status.{nothing_besides}
 use Rattle.shelf_log.specs.Settled.{AllHold}
-use Rattle.validator_core.specs.View.{CoreView}
+use Rattle.validator_core.specs.View.{CoreView, open_of}
 use Rattle.witness_core.specs.Payloads.{AreListed}
 use Rattle.witness_core.specs.Starts.{AreNoStart, IsStarted}
 use Rattle.witness_opening.specs.Found.{found_by, text_of}
@@ -74,12 +74,13 @@ module _ {D : Type 0} (told : D → DiskTold) where
   ServesInput key limits helper (named name) old disk run = IsServing told key limits helper name old disk run
   ServesInput key limits helper (links address count) old disk run = IsServingLinks told key limits helper address count old disk run
 
-  -- a witness starts from the list, which is lawful, and is served
+  -- a witness starts from the list, which is lawful, with no question open, and is served
   pub record IsStartedOver (disk : Option D) (helper : List ℕ) (key : Key) (input : Inputs (List ℕ)) (limits : Limits) (first : D) (list : List (List ℕ)) (run : Run) : Type 0 where
     pub core : CoreView
     pub started : IsStarted limits list core
     pub listed : AreListed core list
     pub lawful : IsLawfulList list
+    pub none_open : open_of core ≡ []
     pub serves : ServesInput key limits helper input (record { core = core; list = list; broken = false; disk = first }) disk run
 
   abbrev pub StartsOver : Option D → List ℕ → Key → Inputs (List ℕ) → Limits → D → List (List ℕ) → Run → Type 0

@@ -37,12 +37,16 @@ pub(crate) fn serve_coming<P: Door, D: Disk + Drop, V: Verifier, G: Signer>(
         count result (door_told P.left P.faults door.old) (door_told P.left P.faults door.new)
         (record {
           left = record { core = witness.old.core; list = witness.old.shelf.list; broken = witness.old.broken; disk = witness.old.shelf.disk };
+          inquiries = V.inquiries verifier.old;
           verifier_faults = V.faults verifier.old;
+          signings = G.signings signer.old;
           signer_faults = G.faults signer.old;
         })
         (record {
           left = record { core = witness.new.core; list = witness.new.shelf.list; broken = witness.new.broken; disk = witness.new.shelf.disk };
+          inquiries = V.inquiries verifier.new;
           verifier_faults = V.faults verifier.new;
+          signings = G.signings signer.new;
           signer_faults = G.faults signer.new;
         })
         (map (reader_seen P.Source.left P.Source.faults V.says V.inquiries V.faults) kept.new.readers.items)
@@ -95,12 +99,16 @@ fn serve_one<S: Source, K: Sink, D: Disk + Drop, V: Verifier, G: Signer>(
         (sink_seen K.written K.faults result.sink)
         (record {
           left = record { core = witness.old.core; list = witness.old.shelf.list; broken = witness.old.broken; disk = witness.old.shelf.disk };
+          inquiries = V.inquiries verifier.old;
           verifier_faults = V.faults verifier.old;
+          signings = G.signings signer.old;
           signer_faults = G.faults signer.old;
         })
         (record {
           left = record { core = witness.new.core; list = witness.new.shelf.list; broken = witness.new.broken; disk = witness.new.shelf.disk };
+          inquiries = V.inquiries verifier.new;
           verifier_faults = V.faults verifier.new;
+          signings = G.signings signer.new;
           signer_faults = G.faults signer.new;
         }) }
     ensures whole { goes_on_by result.reader.close ≡ true → witness.new.broken ≡ false }

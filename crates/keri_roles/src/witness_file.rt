@@ -3,6 +3,8 @@ ghost use Rattle.std.specs.Prelude.{◌≡◌, ◌<◌, [], false};
 ghost use Rattle.std.specs.Vec.{vec_capacity};
 ghost use Rattle.witness_link.specs.Links.{source_told, told_of_link};
 ghost use Rattle.witness_link.specs.Served.{ServesLink};
+ghost use Rattle.run_status.specs.Readers.{verifier_seen};
+ghost use Rattle.keri_roles.specs.Seen.{signer_told};
 ghost use Rattle.keri_roles.specs.ServedFile.{IsServing, ServesAll};
 
 use crate::door_end::DoorEnd;
@@ -70,8 +72,9 @@ fn serve_made<O: Outside>(
     ensures old { result.old ≡ old }
     ensures no_second { result.second ≡ None }
     ensures serves { ServesAll O.Disk.told witness.key witness.limits
-        (source_told (O.Source.left source) (O.Source.faults source)) (O.Verifier.says verifier) (O.Verifier.faults verifier)
-        (O.Signer.gives signer) (O.Signer.faults signer)
+        (source_told (O.Source.left source) (O.Source.faults source))
+        (verifier_seen O.Source.left O.Source.faults O.Verifier.says O.Verifier.inquiries O.Verifier.faults verifier)
+        (signer_told O.Signer.gives O.Signer.signings O.Signer.faults signer)
         (record { core = witness.core; list = witness.shelf.list; broken = witness.broken; disk = witness.shelf.disk })
         result.disk (⟦<O as Runs>⟧.run outside.old outside.new result) }
     ensures told { O.told outside.new ≡ O.told outside.old }
@@ -117,12 +120,12 @@ fn serve<O: Outside>(
         (source_told (O.Source.left source.old) (O.Source.faults source.old))
         (source_told (O.Source.left source.new) (O.Source.faults source.new))
         (told_of_link (⟦<Witness<O::Disk> as Witnessing>⟧.seen witness.old)
-        (O.Verifier.says verifier.old) (O.Verifier.faults verifier.old)
-        (O.Signer.gives signer.old) (O.Signer.faults signer.old)
+        (O.Verifier.says verifier.old) (O.Verifier.inquiries verifier.old) (O.Verifier.faults verifier.old)
+        (O.Signer.gives signer.old) (O.Signer.signings signer.old) (O.Signer.faults signer.old)
         (O.Sink.written (O.sink outside.old)) (O.Sink.faults (O.sink outside.old)) [] [])
         (told_of_link (⟦<Witness<O::Disk> as Witnessing>⟧.seen witness.new)
-        (O.Verifier.says verifier.new) (O.Verifier.faults verifier.new)
-        (O.Signer.gives signer.new) (O.Signer.faults signer.new)
+        (O.Verifier.says verifier.new) (O.Verifier.inquiries verifier.new) (O.Verifier.faults verifier.new)
+        (O.Signer.gives signer.new) (O.Signer.signings signer.new) (O.Signer.faults signer.new)
         (O.Sink.written (O.sink outside.new)) (O.Sink.faults (O.sink outside.new))
         result.refused.items result.seen.items) result.close }
     ensures told { O.told outside.new ≡ O.told outside.old }

@@ -118,7 +118,9 @@ fn serve_made<O: Outside>(
         (O.Verifier.says verifier) (O.Signer.gives signer) count (door_told O.Door.left O.Door.faults door)
         (record {
           left = record { core = witness.core; list = witness.shelf.list; broken = witness.broken; disk = witness.shelf.disk };
+          inquiries = O.Verifier.inquiries verifier;
           verifier_faults = O.Verifier.faults verifier;
+          signings = O.Signer.signings signer;
           signer_faults = O.Signer.faults signer;
         })
         result.disk (⟦<O as Runs>⟧.run before after result) }

@@ -22,12 +22,16 @@ invariant-loop-alloc g l = record {
       (g.P.Door.left l.fn.door) (g.P.Door.left l.door)
       (record {
         left = record { core = l.fn.witness.core; list = l.fn.witness.shelf.list; broken = l.fn.witness.broken; disk = l.fn.witness.shelf.disk };
+        inquiries = g.V.Verifier.inquiries l.fn.verifier;
         verifier_faults = g.V.Verifier.faults l.fn.verifier;
+        signings = g.G.Signer.signings l.fn.signer;
         signer_faults = g.G.Signer.faults l.fn.signer;
       })
       (record {
         left = record { core = l.witness.core; list = l.witness.shelf.list; broken = l.witness.broken; disk = l.witness.shelf.disk };
+        inquiries = g.V.Verifier.inquiries l.verifier;
         verifier_faults = g.V.Verifier.faults l.verifier;
+        signings = g.G.Signer.signings l.signer;
         signer_faults = g.G.Signer.faults l.signer;
       })
       (map (reader_seen g.P.Source.Source.left g.P.Source.Source.faults g.V.Verifier.says g.V.Verifier.inquiries g.V.Verifier.faults) l.kept.readers.items)

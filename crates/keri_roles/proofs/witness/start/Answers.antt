@@ -1,5 +1,6 @@
 use Rattle.std.proofs.Common.{inl, inr, refl}
 use Rattle.journal.specs.declared.resume_fault.ResumeFault.TheVariants.{OutOfMemory}
+use Rattle.witness_link.proofs.Asked.{started_open}
 use Rattle.keri_roles.proofs.witness.start.Goals as goal
 
 pub returns-in_default-clause-starts : goal.returns-in_default-clause-starts
@@ -19,6 +20,7 @@ returns-in-Ok-start-clause-starts g c =
       started = began.resumed.0;
       listed = rw began.same_shelf at began.resumed.1;
       lawful = rw began.same_shelf at (c.stands.ensures began.fresh.0).lawful;
+      none_open = started_open _ _ _ began.resumed.0;
       serves = rw (began.fresh.0, began.fresh.1, began.fresh.2, began.same_shelf) at c.serve.ensures.serves;
     })
 

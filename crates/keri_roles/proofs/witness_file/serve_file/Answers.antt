@@ -1,4 +1,4 @@
-use Rattle.std.proofs.Common.{[], ◌∷◌, false, true, Some, None, refl, ◌∙◌, ap}
+use Rattle.std.proofs.Common.{◌≡◌, [], ◌∷◌, false, true, Some, None, refl, ◌∙◌, ap}
 use Rattle.run_outside.specs.Makings.{AreMakings}
 use Rattle.run_outside.specs.Told.{making}
 use Rattle.run_outside.specs.declared.making.MakingKind.TheVariants.{Source, Verifier, Signer}
@@ -19,7 +19,7 @@ returns-in_default-clause-serves g c =
       reader = record { source = None; verifier = None; refused = []; seen = []; close = ReadFault };
       makes = (refl, rw end.signer refl, one_failed Source c.args.name.now _ _ _ made.makes);
       new = record { core = c.args.witness.core; list = c.args.witness.shelf.list; broken = c.args.witness.broken; disk = c.args.witness.shelf.disk };
-      serves = record { close = refl; none_refused = refl; none_seen = refl; unread = tt; same = refl; same_sink = rw made.same_sink refl };
+      serves = record { close = refl; none_refused = refl; none_seen = refl; unread = tt; unasked = tt; same = refl; same_sink = rw made.same_sink refl };
       no_links = record { no_door = rw (end.door, none.door) refl; no_sinks = rw (end.sinks, none.sinks) refl };
       ends = rw (none.failed, seen.source, seen.verifier, seen.none_refused, seen.none_seen, seen.close) at end.ends c.args.outside.now c.source.new.self;
     }
@@ -40,7 +40,7 @@ returns-in_default-verifier-clause-serves g c =
             (one_made Source c.args.name.now _ _ c.in-Ok.source first.makes) (one_failed Verifier c.args.helper.now _ _ _ made.makes),
       );
       new = record { core = c.args.witness.core; list = c.args.witness.shelf.list; broken = c.args.witness.broken; disk = c.args.witness.shelf.disk };
-      serves = record { close = refl; none_refused = refl; none_seen = refl; unread = rw (first.holds, first.none_yet) refl; same = refl; same_sink = rw (made.same_sink, first.same_sink) refl };
+      serves = record { close = refl; none_refused = refl; none_seen = refl; unread = rw (first.holds, first.none_yet) refl; unasked = tt; same = refl; same_sink = rw (made.same_sink, first.same_sink) refl };
       no_links = record { no_door = rw (end.door, none.door) refl; no_sinks = rw (end.sinks, none.sinks) refl };
       ends = rw (none.failed, seen.source, seen.verifier, seen.none_refused, seen.none_seen, seen.close) at end.ends c.args.outside.now c.verifier.new.self;
     }
@@ -62,7 +62,7 @@ returns-in_default-signer-clause-serves g c =
           (one_made Source c.args.name.now _ _ c.in-Ok.source first.makes) (one_made Verifier c.args.helper.now _ _ c.in-Ok-verifier.verifier next.makes))
           (one_failed Signer c.args.helper.now _ _ _ made.makes));
       new = record { core = c.args.witness.core; list = c.args.witness.shelf.list; broken = c.args.witness.broken; disk = c.args.witness.shelf.disk };
-      serves = rw end.signer (record { close = refl; none_refused = refl; none_seen = refl; unread = rw (first.holds, first.none_yet) refl; same = refl; same_sink = rw (made.same_sink, next.same_sink, first.same_sink) refl });
+      serves = rw end.signer (record { close = refl; none_refused = refl; none_seen = refl; unread = rw (first.holds, first.none_yet) refl; unasked = (next.unasked, next.none_yet); same = refl; same_sink = rw (made.same_sink, next.same_sink, first.same_sink) refl });
       no_links = record { no_door = rw (end.door, none.door) refl; no_sinks = rw (end.sinks, none.sinks) refl };
       ends = rw (none.failed, seen.source, seen.verifier, seen.none_refused, seen.none_seen, seen.close) at end.ends c.args.outside.now c.signer.new.self;
     }
@@ -73,11 +73,14 @@ returns-clause-serves g c =
     let next = c.in-Ok-verifier.ensures in
     let last = c.in-Ok-signer.ensures in
     let before = g.O.Outside.told c.args.outside.now in
+    let says : g.O.Verifier.Verifier.says c.in-Ok-verifier.verifier ≡ before.says c.args.helper.now = next.says ∙ ap (λ says. says c.args.helper.now) first.makes.verdicts in
+    let gives : g.O.Signer.Signer.gives c.in-Ok-signer.signer ≡ before.gives c.args.helper.now = last.gives ∙ ap (λ gives. gives c.args.helper.now) (next.makes.signatures ∙ first.makes.signatures) in
     let makes : AreMakings (making Source c.args.name.now false ∷ making Verifier c.args.helper.now false ∷ making Signer c.args.helper.now false ∷ []) before (g.O.Outside.told c.serve_made.new.outside) =
     rw c.serve_made.ensures.told (then_made (making Source c.args.name.now false ∷ making Verifier c.args.helper.now false ∷ []) Signer c.args.helper.now false _ _ _ refl refl refl
     (then_made (making Source c.args.name.now false ∷ []) Verifier c.args.helper.now false _ _ _ refl refl refl
     (one_made Source c.args.name.now _ _ c.in-Ok.source first.makes) (one_made Verifier c.args.helper.now _ _ c.in-Ok-verifier.verifier next.makes))
     (one_made Signer c.args.helper.now _ _ c.in-Ok-signer.signer last.makes)) in
-    serving_all c.serve_made.ensures.serves c.args.helper.now c.args.name.now before (sink_seen g.O.Sink.Sink.written g.O.Sink.Sink.faults (g.O.Outside.sink c.args.outside.now))
+    serving_all c.serve_made.ensures.serves c.args.helper.now c.args.name.now (g.O.Verifier.Verifier.inquiries c.in-Ok-verifier.verifier) (g.O.Signer.Signer.signings c.in-Ok-signer.signer) before (sink_seen g.O.Sink.Sink.written g.O.Sink.Sink.faults (g.O.Outside.sink c.args.outside.now))
     (last.makes.limits ∙ next.makes.limits ∙ first.makes.limits) (rw (last.same_sink, next.same_sink, first.same_sink) refl) (rw (first.holds, first.none_yet) refl)
-    (next.says ∙ ap (λ says. says c.args.helper.now) first.makes.verdicts) next.none_yet (last.gives ∙ ap (λ gives. gives c.args.helper.now) (next.makes.signatures ∙ first.makes.signatures)) last.none_yet makes
+    (λ i. record { says = says i; inquiries = g.O.Verifier.Verifier.inquiries c.in-Ok-verifier.verifier; faults = next.none_yet i }) next.unasked
+    (λ i. record { gives = gives i; signings = g.O.Signer.Signer.signings c.in-Ok-signer.signer; faults = last.none_yet i }) last.unasked makes

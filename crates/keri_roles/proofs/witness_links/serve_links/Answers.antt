@@ -22,7 +22,7 @@ returns-in_default-clause-serves g c =
       readers = idle_reader None End ∷ [];
       new = record { core = c.args.witness.core; list = c.args.witness.shelf.list; broken = c.args.witness.broken; disk = c.args.witness.shelf.disk };
       failed = true;
-      serves = rw (end.door, none.door) (refl, record { one = refl; unasked = tt; no_sinks = rw (end.sinks, none.sinks, c.requires.no_sinks) refl; same = refl });
+      serves = rw (end.door, none.door) (refl, record { one = refl; unasked = tt; none_inquired = tt; no_sinks = rw (end.sinks, none.sinks, c.requires.no_sinks) refl; same = refl });
       same_sink = rw made.same_sink refl;
       ends = rw (none.failed, seen.source, seen.verifier, seen.none_refused, seen.none_seen, seen.close) at end.ends c.args.outside.now c.door.new.self;
     }
@@ -44,7 +44,7 @@ returns-in_default-verifier-clause-serves g c =
       readers = idle_reader None VerifierFault ∷ [];
       new = record { core = c.args.witness.core; list = c.args.witness.shelf.list; broken = c.args.witness.broken; disk = c.args.witness.shelf.disk };
       failed = false;
-      serves = rw (end.door, none.door) (refl, record { one = refl; unasked = rw (first.holds, first.none_yet) refl; no_sinks = rw (end.sinks, none.sinks, c.requires.no_sinks) refl; same = refl });
+      serves = rw (end.door, none.door) (refl, record { one = refl; unasked = rw (first.holds, first.none_yet) refl; none_inquired = tt; no_sinks = rw (end.sinks, none.sinks, c.requires.no_sinks) refl; same = refl });
       same_sink = rw (made.same_sink, first.same_sink) refl;
       ends = rw (none.failed, seen.source, seen.verifier, seen.none_refused, seen.none_seen, seen.close) at end.ends c.args.outside.now c.verifier.new.self;
     }
@@ -67,7 +67,7 @@ returns-in_default-signer-clause-serves g c =
       readers = idle_reader (Some verifier) SignerFault ∷ [];
       new = record { core = c.args.witness.core; list = c.args.witness.shelf.list; broken = c.args.witness.broken; disk = c.args.witness.shelf.disk };
       failed = false;
-      serves = rw (end.door, none.door, end.signer) (refl, record { one = refl; unasked = rw (first.holds, first.none_yet) refl; no_sinks = rw (end.sinks, none.sinks, c.requires.no_sinks) refl; same = refl });
+      serves = rw (end.door, none.door, end.signer) (refl, record { one = refl; unasked = rw (first.holds, first.none_yet) refl; none_inquired = (next.unasked, next.none_yet); no_sinks = rw (end.sinks, none.sinks, c.requires.no_sinks) refl; same = refl });
       same_sink = rw (made.same_sink, next.same_sink, first.same_sink) refl;
       ends = rw (none.failed, seen.source, seen.verifier, seen.none_refused, seen.none_seen, seen.close) at end.ends c.args.outside.now c.signer.new.self;
     }
@@ -85,7 +85,8 @@ returns-clause-serves g c =
     (one_made Door c.args.links.address.now _ _ c.in-Ok.door first.makes) (one_made Verifier c.args.helper.now _ _ c.in-Ok-verifier.verifier next.makes))
     (one_made Signer c.args.helper.now _ _ c.in-Ok-signer.signer last.makes) in
     serving_links (c.serve_made.ensures.serves c.args.outside.now after) c.args.helper.now c.args.links.address.now
+    (g.O.Verifier.Verifier.inquiries c.in-Ok-verifier.verifier) (g.O.Signer.Signer.signings c.in-Ok-signer.signer)
     (record { core = c.args.witness.core; list = c.args.witness.shelf.list; broken = c.args.witness.broken; disk = c.args.witness.shelf.disk })
     (c.limits-limits.ensures ∙ (last.makes.limits ∙ (next.makes.limits ∙ first.makes.limits)))
     (next.says ∙ ap (λ says. says c.args.helper.now) first.makes.verdicts) (last.gives ∙ ap (λ gives. gives c.args.helper.now) (next.makes.signatures ∙ first.makes.signatures))
-    (rw (first.holds, first.none_yet) refl) (rw (next.none_yet, last.none_yet) refl) (rw (last.same_sink, next.same_sink, first.same_sink) refl) makes
+    (rw (first.holds, first.none_yet) refl) (rw (next.none_yet, last.none_yet) refl) next.unasked last.unasked (rw (last.same_sink, next.same_sink, first.same_sink) refl) makes
