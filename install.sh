@@ -1,6 +1,6 @@
 #!/bin/sh
-# Copies the program, the scripts round it, the Ed25519 helper where it is built, the manual pages, and the completions
-# for bash and zsh into a folder, or removes them from there. It builds nothing.
+# Copies the program, the scripts round it, the Ed25519 helper where it is built, the manual pages, three pages of the
+# documents, and the completions for bash and zsh into a folder, or removes them from there. It builds nothing.
 set -u
 umask 022
 
@@ -48,6 +48,8 @@ files() {
     cat <<TEXT
 755 $program release/keri-x86_64-linux
 644 lib/keri/judge packaging/judge
+644 lib/keri/look packaging/look
+644 lib/keri/door packaging/door
 644 lib/keri/words packaging/words
 755 bin/keri keri
 755 bin/keri-accepts keri-accepts
@@ -60,6 +62,7 @@ files() {
 644 share/man/man1/keri-ed25519.1 docs/keri-ed25519.1
 644 share/doc/keri/GUIDE.md docs/GUIDE.md
 644 share/doc/keri/FORMATS.md docs/FORMATS.md
+644 share/doc/keri/WITNESS.md docs/WITNESS.md
 644 share/doc/keri/copyright LICENSE
 644 share/bash-completion/completions/keri -
 644 share/zsh/site-functions/_keri -

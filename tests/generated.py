@@ -16,6 +16,11 @@ def key(word, seed, log, number, code):
     return primitive(code, hashlib.sha256(b"%s %d %d %d" % (word.encode(), seed, log, number)).digest())
 
 
+def one_list(word, seed, log, number, code):
+    """The key, but where it is a witness's: all logs have the witnesses of the first."""
+    return key(word, seed, 0 if word == "wit" else log, number, code)
+
+
 def indexed(signer, text, index):
     """The rehearsal's signature of a key on a body, at an index."""
     raw = hashlib.sha512(b"keri rehearsal" + signer.encode() + text.encode()).digest()

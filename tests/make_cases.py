@@ -11,7 +11,7 @@ from kit import PLAIN_ICP as ICP, body, counter, digest, indexed_signature, key,
 from event_cases import BASIC, FIXED
 from life import CHILD, CHILD_1, CHILD_MESSAGES, HEAD, IXN_1, MESSAGES, ROT_2, SIGN, STEPS, keys, plan, prefix, sealing
 from log_cases import BARRED, CLOSED, HALVES, LISTED, LOG as WITNESSED_LOG, OTHER_1, REALISTIC, RECOVERY, ROT, ROT_3, THIRD, THREE, VAIN
-from log_cases import behind, ixn, rot, status
+from log_cases import behind, digests, ixn, rot, status
 from plan_refusals import INCEPTION, INTERACTION, LOG, ONLY, REFUSALS
 from validate_cases import CASES, SAMPLES
 
@@ -30,10 +30,6 @@ def witnesses(*numbers):
     return [key(number, "B") for number in numbers]
 
 
-def next_keys(*numbers):
-    return [digest(key(number)) for number in numbers]
-
-
 def incept(*lines, sign=(SIGN,)):
     return plan("icp", *HEAD, *lines, *sign), None
 
@@ -42,7 +38,7 @@ def from_state(kind, text, *lines, sign=(SIGN,)):
     return plan(kind, *HEAD, prefix(text), *lines, *sign)
 
 
-THREE_KEYS = {"k": [key(1), key(2), key(3)], "n": next_keys(4)}
+THREE_KEYS = {"k": [key(1), key(2), key(3)], "n": digests(4)}
 LINES_OF_THREE = ["key " + key(1), "key " + key(2), *keys(3, 4)]
 FIRST_TWO = ("sign 0 0", "sign 1 1")
 GROUPS = [{"1/2": ["1/2", "1/2"]}, "1/2"]
@@ -103,7 +99,7 @@ INCEPTIONS = {
     "dip": (plan("dip", *HEAD, "di " + said(ICP), *keys(10, 11), SIGN), None, signed(CHILD, 10)),
     "dip_of_a_basic_delegator": (
         plan("dip", *HEAD, "di " + key(1), *keys(10, 11), SIGN), None,
-        signed(body("dip", k=[key(10)], n=next_keys(11), di=key(1)), 10),
+        signed(body("dip", k=[key(10)], n=digests(11), di=key(1)), 10),
     ),
 }
 

@@ -3,7 +3,7 @@
 import shutil
 
 from kit import PLAIN_ICP as ICP, primitive, rehearsal
-from row_tables.runs import signing_question, verdict_question
+from row_tables.questions import signing_question, verdict_question
 from stream_cases import CASES, RECEIPT
 
 VERDICT = verdict_question(RECEIPT)

@@ -190,7 +190,7 @@ static const char *sync_lines(struct lines *lines, int folder)
     return take_back(lines);
 }
 
-/* Whether a digest may be signed all the same. */
+/* Finds whether a digest may be signed all the same. Answers NULL, or what failed. */
 static const char *look_for_leave(int folder, const char *key, const char *said, bool *is_allowed)
 {
     char name[FILE_NAME];

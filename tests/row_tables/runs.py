@@ -4,50 +4,18 @@ the outside fails.
 A run's end is its status, how many messages and verdicts were told, how each reader closed, and what was made, with a `!`
 where that failed.
 """
-from event_cases import ROT
-from kit import PLAIN_ICP as ICP, counter, couples, digest, indexed, key, primitive, rehearsal, rehearsed, said, signature, signed
-from log_cases import BOTH, CONFLICTING, IXN_1, LOG, OTHER_1, REALISTIC, REALISTIC_LINES, log, waits
+from kit import PLAIN_ICP as ICP, counter, couples, indexed, rehearsed, signed
+from log_cases import CONFLICTING, IXN_1, LOG, REALISTIC, REALISTIC_LINES, log, waits
 from row_tables import argument
+from row_tables.questions import questions, served, verdict_question
+from row_tables.run_calls import (BEHIND, BOTH_LINES, BOTH_MADE, BOTH_ROTATIONS, CHECK, CONVERT, EMPTY, FROM_OLD, FULL, GEN,
+                                  ICP_PLAN, IXN_PLAN, MADE, MAKE, READ_FAULT, REPORT, SIGNED_IXN, TWO_SLOTS, UNSIGNED, VALIDATE,
+                                  VERIFIER_FAULT, WATCH, WITNESS_MADE, WITNESS_WORDS, bad, run)
 from row_tables.shelf import NEW, OLD, file_of
 from row_tables.witness import OWN, OWN_IXN, payload
 from row_tables.witness import receipt_of as bare_receipt_of
-from row_tables.witness_calls import WITNESS
 from stream_cases import BARE, RECEIPT, inception_line, malformed
-from validate_cases import EVENT, SIGNED, STATE
-
-CHECK = "check,a"
-VALIDATE = "validate,--helper,rehearsal,a"
-WATCH = "watch,--helper,rehearsal,a"
-CONVERT = "convert,--to,text,a"
-MAKE = "make,--helper,rehearsal,--plan,p"
-BEHIND = MAKE + ",--log,a"
-GEN = "gen,--seed,1,--logs,1,--events,2"
-REPORT = EVENT + STATE
-UNSIGNED = "refused 0 0 unsigned\n"
-FULL, READ_FAULT, VERIFIER_FAULT = "full 0\n", "fault 0 read\n", "fault 0 verifier\n"
-MADE = "Source Verifier"
-WITNESS_WORDS = "witness,--helper,rehearsal,--prefix,%s,--shelf,shelf" % WITNESS
-FROM_OLD = WITNESS_WORDS + ",--from,old,a"
-WITNESS_MADE = "Source Verifier Signer"
-# A file of a disk that is empty.
-EMPTY = "0*x"
-BOTH_MADE = "Source Source Verifier Signer"
-SIGNED_IXN = signed(IXN_1, 1)
-BOTH_ROTATIONS = signed(ICP, 1) + signed(ROT, 2) + signed(OTHER_1, 2)
-BOTH_LINES = log(ICP, ROT) + waits(OTHER_1, "never") + BOTH
-
-
-def run(words, written, end, text=None, plan=None, **settings):
-    if text is not None:
-        settings["text"] = argument(text)
-    if plan is not None:
-        settings["plan"] = argument(plan)
-    given = "".join(" %s %s" % setting for setting in settings.items())
-    yield "run %s%s" % (words, given), "%s= %s" % (written, end)
-
-
-def bad(place, reason):
-    return "Bad(Bad { place: %d, reason: %s })" % (place, reason)
+from validate_cases import SIGNED
 
 
 def made_stream(accepted):
@@ -232,13 +200,6 @@ def helpers():
     yield from run(MAKE.replace("rehearsal", "b"), "", "7 told=0 End Source Signer!", plan=ICP_PLAN)
 
 
-# What `make` is given: the plan of the plain inception, and that of the interaction behind it.
-ICP_PLAN = "kind icp\ncode I\nkey %s\nnext %s\nsign 0 0\n" % (key(1), digest(key(2)))
-IXN_PLAN = "kind ixn\nprefix %s\ncode I\nsign 0 0\n" % said(ICP)
-# The same with its signature in two slots.
-TWO_SLOTS = ICP_PLAN + "sign 0 0\n"
-
-
 def messages_of_plans():
     """A message without a log, and one behind a log, which has two entries once it is read."""
     yield from run(MAKE, SIGNED, "0 told=0 End Source Signer", plan=ICP_PLAN)
@@ -289,43 +250,6 @@ def limits_of_make():
     yield from run(BEHIND, SIGNED_IXN, "0 told=2 End End " + BOTH_MADE, SIGNED, IXN_PLAN, stream_bytes=most)
     yield from run(BEHIND, "", "9 told=0 End Full " + BOTH_MADE, SIGNED, IXN_PLAN, stream_bytes=most - 1)
     yield from run(BEHIND, "", "9 told=0 End Full " + BOTH_MADE, SIGNED, IXN_PLAN, messages=0)
-
-
-def verdict_question(body, number=1, signature=None, length=None):
-    """The question whether a signature, else the rehearsal's, is a key's on a body."""
-    signature = signature or primitive("0B", rehearsal(number, body))
-    return "V%s%s%s%s" % (key(number), signature, length or "%08x" % len(body), body)
-
-
-def signing_question(body, number=1):
-    return "S%s%08x%s" % (key(number), len(body), body)
-
-
-def served(text, written, status, close, **settings):
-    yield from run("rehearse", written, "%d told=0 %s Source" % (status, close), text, **settings)
-
-
-def questions():
-    """A verdict question on the bare receipt has 286 bytes, and its answer one."""
-    verdict = verdict_question(RECEIPT)
-    assert len(verdict) == 286 and verdict[133:141] == "00000091"
-    signed_receipt = primitive("0B", rehearsal(1, RECEIPT))
-    yield from served("", "", 0, "End")
-    yield from served(verdict, "Y", 0, "End")
-    yield from served(verdict, "Y", 0, "End", piece=1)
-    yield from served(verdict_question(RECEIPT, signature=signature("a")), "N", 0, "End")
-    yield from served(verdict_question(RECEIPT, 2, signed_receipt), "N", 0, "End")
-    yield from served(verdict_question(""), "Y", 0, "End")
-    yield from served(signing_question(RECEIPT), signed_receipt, 0, "End")
-    yield from served(verdict + signing_question(ICP, 2) + verdict, "Y" + primitive("0B", rehearsal(2, ICP)) + "Y", 0, "End")
-    # Cut short; a letter, a key, a signature and a length that are none.
-    for other in ("Q", "v", "VE" + verdict[2:], "VDQ" + 42 * "A" + verdict[45:], verdict_question(RECEIPT, signature="AA" + signed_receipt[2:]),
-                  verdict_question(RECEIPT, signature="0BE" + 85 * "A"), verdict_question(RECEIPT, length="0000009A"),
-                  verdict_question(RECEIPT, length="00010000"), verdict_question(RECEIPT, length="     145"),
-                  verdict[:285], verdict[:133], verdict[:1]):
-        yield from served(other, "", 3, "Malformed(0)")
-        yield from served(verdict + other, "Y", 3, "Malformed(286)")
-    yield from served(verdict * 2 + verdict[:200], "YY", 3, "Malformed(572)")
 
 
 def faults_of_rehearse():
