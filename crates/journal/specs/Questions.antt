@@ -1,5 +1,5 @@
 -- Which signatures are to be verified, and what becomes of a verdict.
-use Rattle.std.specs.Prelude.{◌≡◌, ℕ, ◌%◌, Bool, not, List, [], ◌∷◌, ◌++◌, length, filter, filter_map, flat_map, slice_get, Option, IsTrue, if◌then◌else◌}
+use Rattle.std.specs.Prelude.{◌≡◌, ℕ, ◌%◌, Bool, not, List, [], ◌∷◌, ◌++◌, length, filter, filter_map, flat_map, slice_get, Option, Some, IsTrue, if◌then◌else◌}
 use Rattle.std.specs.List.{list_any}
 use Rattle.cesr_codes.specs.declared.key.Key.{Key}
 use Rattle.cesr_codes.specs.declared.sig.Sig.{Sig}
@@ -10,7 +10,7 @@ use Rattle.journal.specs.declared.question.Noted.TheVariants.{New, Known, Unaske
 use Rattle.key_state.specs.Same.{distinct}
 use Rattle.key_state.specs.Exposure.{own_rules}
 use Rattle.journal.specs.Logs.{Body, predecessor, state_behind, stands}
-use Rattle.journal.specs.History.{Told, heard, Triple, same_triple, triple_of, claims_on, bodies, has_verdict}
+use Rattle.journal.specs.History.{Told, took, heard, Triple, same_triple, triple_of, claims_on, bodies, has_verdict}
 use Rattle.journal.specs.Accepted.{accepted}
 
 -- the state that the body follows, where its predecessor is accepted
@@ -44,3 +44,12 @@ abbrev pub IsRegular : Mode → List Body → List Told → Type 0
 IsRegular mode base told = (earlier later : List Told) (reader : ℕ) (b : Body) (key : Key) (sig : Sig) (verdict : Bool)
     → told ≡ earlier ++ heard reader b key sig verdict ∷ later
     → IsTrue (list_any (same_triple (record { body = b.bytes; key = key; sig = sig })) (questions mode base earlier))
+
+-- a message comes next once no question is open, and a verdict where it is on the first open question
+abbrev pub ComesNext : Mode → List Told → Told → Type 0
+ComesNext mode earlier (took reader b claims) = questions mode [] earlier ≡ []
+ComesNext mode earlier (heard reader b key sig verdict) = slice_get (questions mode [] earlier) 0 ≡ Some (record { body = b.bytes; key = key; sig = sig })
+
+-- IN STEP: each entry was the next one
+abbrev pub IsInStep : Mode → List Told → Type 0
+IsInStep mode told = (earlier later : List Told) (t : Told) → told ≡ earlier ++ t ∷ later → ComesNext mode earlier t

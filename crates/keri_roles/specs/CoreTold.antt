@@ -11,7 +11,7 @@ use Rattle.journal.specs.Accepted.{accepted}
 use Rattle.journal.specs.Feeds.{End, Fed, IsFed}
 use Rattle.journal.specs.History.{Told as ToldEntry}
 use Rattle.journal.specs.Journals.{told_by}
-use Rattle.journal.specs.Questions.{questions, IsRegular}
+use Rattle.journal.specs.Questions.{questions, IsInStep, IsRegular}
 use Rattle.journal.specs.Readiness.{is_ready}
 use Rattle.journal.specs.Replies.{IsWithin}
 use Rattle.validator_core.specs.View.{CoreView, Stands}
@@ -28,7 +28,7 @@ use Rattle.reader_threads.specs.declared.last_round.LastRound.TheVariants.{NoneF
 use Rattle.reader_threads.specs.Asked.{EachAsksOnly}
 use Rattle.reader_threads.specs.Fed.{ReadEach, ends_of, most_turns}
 use Rattle.reader_threads.specs.Given.{Given, said_by}
-use Rattle.reader_threads.specs.Told.{EachFailed, IsInStep, SomeFailed}
+use Rattle.reader_threads.specs.Told.{EachFailed, SomeFailed}
 use Rattle.keri_roles.specs.Closes.{is_through}
 use Rattle.keri_roles.specs.Run.{Work}
 

@@ -4,6 +4,7 @@ use Rattle.std.specs.Prelude.{All}
 use Rattle.std.proofs.lemmas.List.Elements.{All-weaker, recursion_from_All}
 use Rattle.journal.specs.Feeds.{reader_of}
 use Rattle.journal.specs.History.{Told}
+use Rattle.journal.specs.Questions.{IsInStep}
 use Rattle.turn_lock.specs.Histories.{HasShare, share_of}
 use Rattle.turn_lock.specs.Known.{OwnsAlone}
 use Rattle.turn_lock.proofs.Histories.{share_of-all}
@@ -11,7 +12,7 @@ use Rattle.validator_core.specs.View.{CoreView, told_of}
 use Rattle.reader_hub.specs.Closing.{ClosesAll, most_splits}
 use Rattle.reader_hub.specs.Hubs.{HubPass, head_of}
 use Rattle.reader_hub.specs.declared.core_head.CoreHead.{CoreHead}
-use Rattle.shared_reader.specs.Steps.{IsInStep, StepsAlone}
+use Rattle.shared_reader.specs.Steps.{StepsAlone}
 use Rattle.shared_reader.proofs.Steps.{whole_prefix}
 
 -- what the core was told is in step where the one pass was

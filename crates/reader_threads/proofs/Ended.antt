@@ -6,6 +6,7 @@ use Rattle.cesr_codes.specs.declared.key.Key.{Key}
 use Rattle.cesr_codes.specs.declared.sig.Sig.{Sig}
 use Rattle.journal.specs.Feeds.{FeedEach, reader_of}
 use Rattle.journal.specs.History.{Told}
+use Rattle.journal.specs.Questions.{IsInStep}
 use Rattle.keri_outside.specs.declared.inquiry.Inquiry.{Inquiry}
 use Rattle.keri_outside.specs.declared.limits.Limits.{Limits}
 use Rattle.run_status.specs.Readers.{Reader, reader_seen}
@@ -16,7 +17,6 @@ use Rattle.reader_hub.specs.Hubs.{head_of}
 use Rattle.reader_hub.specs.declared.core_head.CoreHead.{CoreHead}
 use Rattle.reader_hub.specs.declared.extent.Extent.TheVariants.{First}
 use Rattle.reader_hub.specs.declared.hub.Hub.{Hub}
-use Rattle.shared_reader.specs.Steps.{IsInStep}
 use Rattle.reader_threads.specs.Fed.{AllRead, ReadEach, ends_of}
 use Rattle.reader_threads.specs.Given.{Given, given_by}
 use Rattle.reader_threads.specs.Jobs.{pass_seen, passes_seen}

@@ -14,7 +14,7 @@ use Rattle.keri_outside.specs.declared.limits.Limits.{Limits}
 use Rattle.journal.specs.declared.mode.Mode.{Mode}
 use Rattle.journal.specs.Feeds.{FeedEach, FeedsOne, IsHeardFrom, is_taken_by, reader_of}
 use Rattle.journal.specs.History.{Told, took, heard, taken}
-use Rattle.journal.specs.Questions.{questions}
+use Rattle.journal.specs.Questions.{IsInStep, questions}
 use Rattle.journal.specs.Replies.{IsWithin}
 use Rattle.run_status.specs.Readers.{Reader, SourceTold, VerifierTold, close_found}
 use Rattle.run_status.specs.declared.close.Close.{Close}
@@ -27,7 +27,6 @@ use Rattle.shared_reader.specs.Asks.{AsksFor, Says, verdict_count}
 use Rattle.shared_reader.specs.ReadsOne.{is_stopped}
 use Rattle.shared_reader.proofs.Inquiries.{asked_on}
 use Rattle.shared_reader.proofs.Verdicts.{verdict_count-append}
-use Rattle.shared_reader.specs.Steps.{IsInStep}
 use Rattle.reader_threads.specs.Asked.{EachAsksOnly, EachGoesOn}
 use Rattle.reader_threads.specs.Fed.{AllRead, ClosesReader, ClosesStream, HasNoSource, NextFindsNoRoom, ReadEach, ReadsBy, ReadsFrom, ends_of, most_turns}
 use Rattle.reader_threads.specs.Given.{Given, end_of, said_by, unread}

@@ -6,6 +6,7 @@ use Rattle.keri_specs.specs.Causes.{Rose}
 use Rattle.journal.specs.declared.mode.Mode.{Mode}
 use Rattle.journal.specs.Feeds.{IsHeardFrom, is_taken_by, reader_of}
 use Rattle.journal.specs.History.{Told, took, heard, taken}
+use Rattle.journal.specs.Questions.{IsInStep}
 use Rattle.run_status.specs.Readers.{Reader, VerifierTold, close_found}
 use Rattle.run_status.specs.declared.close.Close.{Close}
 use Rattle.run_status.specs.declared.close.Close.TheVariants.{End, Bad, ReadFault, VerifierFault, SignerFault, DiskFault, WriteFault, Malformed, Full, OutOfMemory as NoMemory}
@@ -16,7 +17,6 @@ use Rattle.validator_core.proofs.OpenQuestions.{follows_itself, follows_on}
 use Rattle.shared_reader.specs.Asks.{AsksFor, IsVerdict, Says, verdict_count}
 use Rattle.shared_reader.proofs.Inquiries.{at_most, none_asked}
 use Rattle.shared_reader.proofs.Verdicts.{verdict_count-append}
-use Rattle.shared_reader.specs.Steps.{IsInStep}
 use Rattle.reader_threads.specs.Asked.{EachGoesOn}
 use Rattle.reader_threads.specs.LastRound.{AllGiveUp, AsksEach, AsksOne, AsksRest, CountsFault, FailsNow, GivesUp, Hears, IsAsked, IsAskedIfThere, IsHeardOf, OneFails, joined, unheard_by}
 use Rattle.reader_threads.specs.declared.last_round.LastRound.{LastRound}

@@ -12,13 +12,12 @@ use Rattle.journal.specs.declared.body.Body.{Body}
 use Rattle.journal.specs.declared.mode.Mode.{Mode}
 use Rattle.journal.specs.History.{Told, heard}
 use Rattle.journal.specs.Journals.{Names}
-use Rattle.journal.specs.Questions.{next_question, questions}
+use Rattle.journal.specs.Questions.{IsInStep, next_question, questions}
 use Rattle.turn_lock.proofs.Histories.{prefix_refl}
 use Rattle.validator_core.specs.Verdicts.{AsksAbout, IsOpen, IsSaid}
 use Rattle.validator_core.specs.View.{CoreView, base_of, told_of}
 use Rattle.validator_core.proofs.OpenQuestions.{follows_itself, follows_on, named_on, no_bodies, open_question}
 use Rattle.shared_reader.specs.Asks.{AsksFor, AsksOnly, IsVerdict, Says, verdict_count}
-use Rattle.shared_reader.specs.Steps.{IsInStep}
 use Rattle.shared_reader.proofs.Inquiries.{asked_on, none_asked, unheard_asked}
 use Rattle.shared_reader.proofs.Known.{only_later, only_none, only_on, only_one, open_known}
 use Rattle.shared_reader.proofs.Steps.{in_step_more}

@@ -6,11 +6,11 @@ use Rattle.journal.specs.declared.body.Body.{Body}
 use Rattle.journal.specs.declared.question.Question.{Question}
 use Rattle.journal.specs.Feeds.{IsHeardFrom, reader_of}
 use Rattle.journal.specs.History.{Told, took, heard}
+use Rattle.journal.specs.Questions.{IsInStep}
 use Rattle.run_status.specs.Readers.{Reader, VerifierTold, close_found}
 use Rattle.turn_lock.specs.Histories.{share_of}
 use Rattle.validator_core.specs.View.{CoreView, Follows, open_of, told_of}
 use Rattle.shared_reader.specs.Asks.{AsksFor, AsksOnly, IsVerdict, Says, verdict_count}
-use Rattle.shared_reader.specs.Steps.{IsInStep}
 use Rattle.reader_threads.specs.Asked.{EachGoesOn}
 use Rattle.reader_threads.specs.declared.last_round.LastRound.{LastRound}
 use Rattle.reader_threads.specs.declared.last_round.LastRound.TheVariants.{NoneFailed, VerifierFailed, OutOfMemory}

@@ -3,10 +3,9 @@ use Rattle.std.specs.Prelude.{◌≡◌, ◌≢◌, ◌⊎◌, List, [], ◌∷�
 use Rattle.keri_specs.specs.Causes.{Rose}
 use Rattle.keri_outside.specs.declared.limits.Limits.{Limits}
 use Rattle.journal.specs.declared.mode.Mode.{Mode}
-use Rattle.journal.specs.Questions.{questions}
+use Rattle.journal.specs.Questions.{IsInStep, questions}
 use Rattle.run_status.specs.Readers.{Reader, VerifierTold}
 use Rattle.validator_core.specs.View.{CoreView, Stands, told_of}
-pub use Rattle.shared_reader.specs.Steps.{IsInStep}
 use Rattle.reader_threads.specs.Asked.{EachAsksOnly}
 use Rattle.reader_threads.specs.Fed.{AllRead}
 use Rattle.reader_threads.specs.Given.{Given}

@@ -7,7 +7,7 @@ ghost use Rattle.reader_threads.specs.Fed.{AllRead};
 ghost use Rattle.reader_threads.specs.Given.{given_by};
 ghost use Rattle.reader_threads.specs.Seats.{AreReady, HasSeats, mode_of};
 ghost use Rattle.reader_threads.specs.Told.{AllTold};
-ghost use Rattle.shared_reader.specs.Steps.{IsInStep};
+ghost use Rattle.journal.specs.Questions.{IsInStep};
 
 use crate::job::{Job, jobs_for};
 use crate::last_round::ask_rest;

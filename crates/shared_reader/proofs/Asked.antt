@@ -16,7 +16,7 @@ use Rattle.journal.specs.declared.question.Noted.TheVariants.{New, Known}
 use Rattle.journal.specs.CoreCalls.{Answers, told_with}
 use Rattle.journal.specs.History.{Told, Triple, heard, bodies, has_verdict, same_triple}
 use Rattle.journal.specs.Journals.{AnswersOn, Names}
-use Rattle.journal.specs.Questions.{next_question, noted, questions, raised}
+use Rattle.journal.specs.Questions.{IsInStep, ComesNext, next_question, noted, questions, raised}
 use Rattle.core_laws.proofs.RaisedStays.{bodies_stay, raised_stays}
 use Rattle.validator_core.specs.Verdicts.{inquiries_in}
 use Rattle.validator_core.proofs.OpenQuestions.{named_on}
@@ -26,7 +26,7 @@ use Rattle.reader_hub.specs.Hubs.{HubPass, AnswersAt, AsksAt}
 use Rattle.reader_hub.specs.declared.asked.Asked.{Asked}
 use Rattle.reader_hub.specs.declared.core_head.CoreHead.{CoreHead}
 use Rattle.shared_reader.specs.Asks.{Asks, AsksFor, AsksOnly, AsksOnlySeen, IsToldOrOpen, IsVerdict, LeavesNone, Says, TellsNothing, verdict_count}
-use Rattle.shared_reader.specs.Steps.{IsInStep, IsNext, StepsAlone}
+use Rattle.shared_reader.specs.Steps.{StepsAlone}
 use Rattle.reader_hub.specs.declared.extent.Extent.{Extent}
 use Rattle.reader_hub.specs.declared.extent.Extent.TheVariants.{First, Free, All as Every}
 use Rattle.shared_reader.proofs.Verdicts.{first_named, verdict_count-append, verdict_count_grows, named_open, new_heard, none_open}
@@ -211,7 +211,7 @@ module _ (extent : Extent) (says : Says) where
         was_met : later ≡ q.seen → later ≡ met
         was_met same = same ∙ (seen_then limit p met [] q asked.turn ∙ append-nil met)
 
-        first_open : (head : CoreHead) → q.head ≡ Some head → later ≡ q.seen → IsNext head.mode later entry
+        first_open : (head : CoreHead) → q.head ≡ Some head → later ≡ q.seen → ComesNext head.mode later entry
         first_open head head_is same =
             let is : head ≡ asked.meets.head = one_head q.head head asked.meets.head head_is (ap (λ x. x.head) asked.turn.now ∙ asked.meets.head_is) in
             let zero = asked.asked.1 first in

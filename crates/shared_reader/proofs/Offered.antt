@@ -19,7 +19,7 @@ use Rattle.journal.specs.declared.reply.Reply.TheVariants.{Taken, Again, Refused
 use Rattle.journal.specs.CoreCalls.{Takes}
 use Rattle.journal.specs.Feeds.{GivesBody, entry_of, entry_unless, is_taken_by, noted_at, refusal_of}
 use Rattle.journal.specs.History.{Told, took, heard}
-use Rattle.journal.specs.Questions.{questions}
+use Rattle.journal.specs.Questions.{IsInStep, questions}
 use Rattle.journal.specs.Replies.{claims_of, is_again, is_full, refusal, reply_to}
 use Rattle.validator_core.specs.Verdicts.{inquiries_in}
 use Rattle.turn_lock.specs.Histories.{longer_share}
@@ -30,7 +30,7 @@ use Rattle.reader_hub.specs.declared.extent.Extent.{Extent}
 use Rattle.reader_hub.specs.declared.extent.Extent.TheVariants.{First}
 use Rattle.shared_reader.specs.Asks.{Asks, AsksFor, IsVerdict, Says, TellsNothing, verdict_count}
 use Rattle.shared_reader.specs.Offers.{IsEntryOf, IsTurnedAway, Offers, OffersOne}
-use Rattle.shared_reader.specs.Steps.{IsInStep, SawNoneOpen, StepsAlone}
+use Rattle.shared_reader.specs.Steps.{SawNoneOpen, StepsAlone}
 use Rattle.shared_reader.proofs.Inquiries.{asked_on, at_most, none_asked}
 use Rattle.shared_reader.proofs.Known.{only_later, only_on}
 use Rattle.shared_reader.proofs.Steps.{in_step_offered, steps_still, steps_turn}

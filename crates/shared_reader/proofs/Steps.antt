@@ -10,14 +10,14 @@ use Rattle.journal.specs.declared.mode.Mode.{Mode}
 use Rattle.journal.specs.declared.reply.Reason.{Reason}
 use Rattle.journal.specs.Feeds.{entry_unless}
 use Rattle.journal.specs.History.{Told, bodies}
-use Rattle.journal.specs.Questions.{questions, raised}
+use Rattle.journal.specs.Questions.{IsInStep, ComesNext, questions, raised}
 use Rattle.journal.proofs.Keeping.{split_push}
 use Rattle.reader_hub.specs.Hubs.{HubPass, TookTurn}
 use Rattle.reader_hub.specs.declared.core_head.CoreHead.{CoreHead}
 use Rattle.reader_hub.specs.declared.extent.Extent.{Extent}
 use Rattle.reader_hub.specs.declared.extent.Extent.TheVariants.{First, Free, All as Every}
 use Rattle.shared_reader.specs.Asks.{LeavesNone, TellsNothing}
-use Rattle.shared_reader.specs.Steps.{IsInStep, IsNext, SawNoneOpen, StepsAlone}
+use Rattle.shared_reader.specs.Steps.{SawNoneOpen, StepsAlone}
 use Rattle.shared_reader.proofs.Turns.{seen_then}
 
 -- nothing is told, and nothing open
@@ -30,7 +30,7 @@ unfolding questions raised bodies distinct
 nothing_open mode = refl
 
 -- one entry more, which was the next one
-pub in_step_more : (mode : Mode) (told : List Told) (t : Told) → IsInStep mode told → IsNext mode told t → IsInStep mode (told ++ t ∷ [])
+pub in_step_more : (mode : Mode) (told : List Told) (t : Told) → IsInStep mode told → ComesNext mode told t → IsInStep mode (told ++ t ∷ [])
 in_step_more mode told t steps next earlier later u e = elim (split_push told earlier later t u e) [
   | inl h ↦ rw (← h.0, ← h.1) next
   | inr h ↦ steps earlier h.0 u h.1

@@ -2,7 +2,7 @@ use Rattle.std.proofs.Common.{◌≡◌, length, map, sym, ap, ◌∙◌, subst,
 use Rattle.std.proofs.lemmas.List.{length-map}
 use Rattle.run_status.specs.Readers.{reader_seen}
 use Rattle.validator_core.specs.View.{told_of}
-use Rattle.shared_reader.specs.Steps.{IsInStep}
+use Rattle.journal.specs.Questions.{IsInStep}
 use Rattle.reader_threads.specs.Given.{given_by}
 use Rattle.reader_threads.specs.LastRound.{AsksRest}
 use Rattle.reader_threads.specs.Seats.{mode_of}
