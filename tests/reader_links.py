@@ -66,7 +66,7 @@ def test_reset_behind_messages(place):
     door = place.serve(VALIDATE, 2)
     first, second = door.peers(2)
     first.send(SIGNED)
-    time.sleep(0.3)  # a reset takes back what isn't there yet
+    check("a link given up behind a message: it was read", first.is_read(), True)  # a reset takes back what wasn't
     first.reset()
     second.send(OTHER_SIGNED).end()
     check("a link given up behind a message", door.ended(), (by_prefix(log(ICP), log(OTHER)) + "fault 0 read\n", READ_FAULT))
