@@ -7,6 +7,7 @@ import sys
 import time
 
 FINDER = pathlib.Path(__file__).resolve().parent.parent / "release" / "program"
+SECONDS = 60
 
 
 def program_of(word):
@@ -20,17 +21,22 @@ def program_of(word):
 
 
 def interrupted(folder, script, *words):
-    """How a script ends and what it writes where Ctrl-C comes while its helper, which is made in the folder, hangs."""
+    """How a script ends and what it writes where Ctrl-C comes while its helper, which is made in the folder, hangs. Where this
+    test runs in the background SIGINT is ignored; the script is started as from a terminal all the same."""
     helper, begun = folder / "hangs", folder / "begun"
-    helper.write_text(f"#!/bin/sh\ntouch {begun}\nexec sleep 60\n")
+    helper.write_text(f"#!/bin/sh\ntouch '{begun}'\nexec sleep 300\n")
     helper.chmod(0o755)
-    child = subprocess.Popen([script, "--helper", helper, *words], stdin=subprocess.DEVNULL, stdout=subprocess.PIPE, stderr=subprocess.PIPE,
-                             start_new_session=True)
-    for _ in range(6_000):
-        if begun.exists() or child.poll() is not None:
-            break
+    child = subprocess.Popen([script, "--helper", helper, *words], stdin=subprocess.DEVNULL, stdout=subprocess.PIPE,
+                             stderr=subprocess.PIPE, start_new_session=True,
+                             preexec_fn=lambda: signal.signal(signal.SIGINT, signal.SIG_DFL))
+    until = time.monotonic() + SECONDS
+    while not begun.exists() and child.poll() is None and time.monotonic() < until:
         time.sleep(0.01)
     if child.poll() is None:
         os.killpg(child.pid, signal.SIGINT)
-    out, error = child.communicate(timeout=60)
+    try:
+        out, error = child.communicate(timeout=SECONDS)
+    except subprocess.TimeoutExpired:
+        os.killpg(child.pid, signal.SIGKILL)
+        return "it ran on", *child.communicate()
     return child.returncode, out, error
