@@ -1,18 +1,23 @@
 #!/usr/bin/env python3
-"""Sends what comes on standard input over a link, ends its side, and meanwhile writes what comes back, until the other side ends:
-`send.py HOST PORT < messages > receipts`. It waits 10 seconds for a door that isn't open yet. The status is 1 where there is no link, it broke, or
-the other side ended before all was sent; what came until then is written. It is 2 where the words are other ones.
+"""Sends what comes on standard input over a link, ends its side, and meanwhile writes what comes back, until the other side
+ends: `send.py HOST PORT < messages > receipts`. It waits 10 seconds for a door that isn't open yet. The status is 1 where there
+is no link, it broke, the other side ended before all was sent, or the receipts couldn't be written; what came until then is
+written. It is 2 where the words are other ones.
 """
+import os
 import signal
 import socket
 import sys
 import threading
 import time
 
-signal.signal(signal.SIGINT, signal.SIG_DFL)
+if signal.getsignal(signal.SIGINT) is signal.default_int_handler:
+    signal.signal(signal.SIGINT, signal.SIG_DFL)  # Ctrl-C ends it without a word
 if len(sys.argv) != 3 or not sys.argv[2].isdecimal():
     print("usage: send.py HOST PORT < messages > receipts", file=sys.stderr)
     sys.exit(2)
+if sys.stdin is None or sys.stdout is None:
+    sys.exit("send.py: standard input or output is closed")  # the link may not come to stand there
 host, port = sys.argv[1:]
 for attempt in range(101):
     try:
@@ -24,13 +29,14 @@ for attempt in range(101):
         time.sleep(0.1)
     except (OSError, OverflowError, UnicodeError) as fault:
         sys.exit(f"send.py: {host}, port {port}: {fault}")
-faults = []
+faults, is_sent = [], threading.Event()
 
 
 def send():
     try:
-        while piece := sys.stdin.buffer.read1(65536):
+        while piece := os.read(0, 65536):  # a buffered reader would be locked at the end
             link.sendall(piece)
+        is_sent.set()  # before the other side can know
         link.shutdown(socket.SHUT_WR)
     except OSError as fault:
         faults.append(fault)
@@ -42,11 +48,12 @@ sender.start()
 try:
     while piece := link.recv(65536):
         sys.stdout.buffer.write(piece)
+        sys.stdout.buffer.flush()
 except OSError as fault:
     faults.append(fault)
-sys.stdout.buffer.flush()
-sender.join(0.1)
-if sender.is_alive():
+if is_sent.wait(0.1):
+    sender.join()
+elif not faults:
     faults.append("the other side ended before all was sent")
 if faults:
     sys.exit(f"send.py: {faults[0]}")
