@@ -79,17 +79,17 @@ made() {
     esac
 }
 
-# Puts a file there whole, or leaves what was there.
+# Puts a file there whole, or leaves what was there. `new` is removed by whoever calls it.
 put() {
     to=$into/$2
+    new=$to.new
     if ! mkdir -p "${to%/*}" 2>/dev/null || [ ! -w "${to%/*}" ]; then
         refuse "can't write in ${to%/*}: take another folder, as --prefix ~/.local, or run this as root"
     fi
     case $3 in
         -) made "$2" ;;
         *) cat "$top/$3" ;;
-    esac >"$to.new" && chmod "$1" "$to.new" && mv -f "$to.new" "$to" && return
-    rm -f "$to.new"
+    esac >"$new" && chmod "$1" "$new" && mv -f "$new" "$to" && return
     refuse "$to couldn't be written"
 }
 
@@ -109,10 +109,15 @@ fi
 [ "$(uname -sm)" = "Linux x86_64" ] || refuse "the program is for Linux on x86-64, and this is $(uname -sm)"
 "$top/release/keri-x86_64-linux" check /dev/null ||
     refuse "the program doesn't run here: it needs glibc 2.34 or newer, and this is $(getconf GNU_LIBC_VERSION 2>/dev/null || echo 'none or another C library')"
-files | while read -r mode place source; do
-    [ "$source" != "$helper" ] || [ -x "$top/$helper" ] || continue
-    put "$mode" "$place" "$source"
-done || exit 1
+files | {
+    new=''
+    trap 'rm -f "$new"' EXIT
+    trap 'exit 1' HUP INT TERM
+    while read -r mode place source; do
+        [ "$source" != "$helper" ] || [ -x "$top/$helper" ] || continue
+        put "$mode" "$place" "$source"
+    done
+} || exit 1
 echo "keri is installed in $into; the checksum of the program is"
 (cd "$into" && sha256sum "$program")
 [ -x "$top/$helper" ] || echo "the Ed25519 helper isn't built: for real keys, make -C helpers/ed25519 and run this again"
