@@ -10,7 +10,7 @@ FINDER = pathlib.Path(__file__).resolve().parent.parent / "release" / "program"
 SECONDS = 60
 
 
-def program_of(word):
+def program_of(word=None):
     """The program that is named, or the one that `./keri` runs; where that can't be had, the script ends."""
     if word:
         return os.path.abspath(word)
