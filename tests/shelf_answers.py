@@ -5,7 +5,7 @@ import pathlib
 import resource
 import subprocess
 
-from shelf_runs import (EMPTY, GREATEST, MARK, OLD_GREATEST, OLD_MARK, PROGRAM, RECORDS, check, holds, lines, payloads_of, record,
+from shelf_runs import (EMPTY, GREATEST, MARK, OLD_GREATEST, OLD_MARK, PROGRAM, RECORDS, SECONDS, check, holds, lines, payloads_of, record,
                         refused, run, shelf, stored)
 
 
@@ -46,7 +46,7 @@ def test_words(top):
     words = ([], ["append"], ["list"], ["count"], ["migrate", file], ["append", file, file], ["list", file, file],
              ["migrate", file, file, file], ["--help"], ["add", file], ["Append", file], ["list", b"\xff"])
     for given in words:
-        done = subprocess.run([PROGRAM, *given], input=b"a\n", capture_output=True)
+        done = subprocess.run([PROGRAM, *given], input=b"a\n", capture_output=True, timeout=SECONDS)
         check(f"words {given}", (done.returncode, done.stdout, done.stderr[:18], done.stderr.count(b"\n")), (2, b"", b"usage: shelf_tool ", 1))
     check("nothing was made", list(top.iterdir()), [])
 
