@@ -1,6 +1,7 @@
-/* What bench/helper times. `loop FILE` reads a file of verdict questions, and has libsodium verify each signature, one after the
-   other. `child FILE HELPER` starts the helper, and once it has answered the first question asks it all of them, each when the
-   one before is answered. Both print the seconds that all verdicts took. One that isn't yes ends them. */
+/* What bench/helper times. `loop FILE` reads a file of verdict questions, and has libsodium verify each signature, one
+   after the other. `child FILE HELPER` starts the helper, and once it has answered the first question asks it all of
+   them, each when the one before is answered. Both print the seconds that all verdicts took. One that isn't yes ends
+   them. */
 #define _GNU_SOURCE
 #include <fcntl.h>
 #include <sodium.h>

@@ -1,7 +1,7 @@
-/* What bench/shelf compares shelf_tool with. `append FILE` makes a shelf of the lines of standard input by the same writes and
-   syncs, and says `stored N` after each; `read FILE` reads the whole file into one buffer and says how many bytes it has. Both
-   open the file as shelf_tool does: locked, it and its folder synced, and the kernel's copies of its pages dropped; with
-   `read-cached` they aren't. */
+/* What bench/shelf compares shelf_tool with. `append FILE` makes a shelf of the lines of standard input by the same
+   writes and syncs, and says `stored N` after each; `read FILE` reads the whole file into one buffer and says how many
+   bytes it has. Both open the file as shelf_tool does: locked, it and its folder synced, and the kernel's copies of its
+   pages dropped; with `read-cached` they aren't. */
 #define _GNU_SOURCE
 #include <fcntl.h>
 #include <stdio.h>

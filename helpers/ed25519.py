@@ -1,5 +1,6 @@
 #!/usr/bin/env python3
-"""The helper protocol over PyNaCl: what keri-ed25519 does, but for making keys and allowing what was refused, written apart from it.
+"""The helper protocol over PyNaCl: what keri-ed25519 does, but for making keys and allowing what was refused, written
+apart from it.
 
 It is there to test keri-ed25519 against. Seeds aren't locked in memory and aren't wiped here. README.md in the folder
 ed25519 has the protocol, the key folder and the statuses.
@@ -107,7 +108,8 @@ LINE = re.compile(rb"(0|[1-9a-f][0-9a-f]{0,15}) (icp|rot|ixn|dip|drt) ([EI][A-Za
 
 
 class Record:
-    """The lines of a file in the key folder, which is locked. The last one is left out where a stop left it unfinished."""
+    """The lines of a file in the key folder, which is locked. The last one is left out where a stop left it
+    unfinished."""
 
     def __init__(self, folder, name, form):
         self.folder = folder
@@ -178,7 +180,8 @@ def way_of(folder, key, asked, digest, lines):
 
 
 def recorded(key, body):
-    """Keeps that the key signs the event before it does; answers the record, which is locked until it is closed. None of other bytes."""
+    """Keeps that the key signs the event before it does; answers the record, which is locked until it is closed. None
+    of other bytes."""
     asked = FRONT.match(body)
     if not asked or int(asked[1], 16) != len(body) or not body.endswith(b"}"):
         return None

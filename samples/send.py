@@ -1,8 +1,8 @@
 #!/usr/bin/env python3
-"""Sends what comes on standard input over a link, ends its side, and meanwhile writes what comes back, until the other side
-ends: `send.py HOST PORT < messages > receipts`. It waits 10 seconds for a door that isn't open yet. The status is 1 where there
-is no link, it broke, the other side ended before all was sent, or the receipts couldn't be written; what came until then is
-written. It is 2 where the words are other ones.
+"""Sends what comes on standard input over a link, ends its side, and meanwhile writes what comes back, until the other
+side ends: `send.py HOST PORT < messages > receipts`. It waits 10 seconds for a door that isn't open yet. The status is
+1 where there is no link, it broke, the other side ended before all was sent, or the receipts couldn't be written; what
+came until then is written. It is 2 where the words are other ones.
 """
 import os
 import signal

@@ -1,7 +1,7 @@
 """The functions of a program that stand on a stack, without frames or tables to go by.
 
-A word on the stack is taken for a return address where it stands behind a call of the function that was found last. That is a guess, and a good one:
-a function that is called by its address alone ends it.
+A word on the stack is taken for a return address where it stands behind a call of the function that was found last.
+That is a guess, and a good one: a function that is called by its address alone ends it.
 """
 import bisect
 import pathlib
@@ -47,8 +47,8 @@ class Code:
         return place + int.from_bytes(self.data[at - 4:at], "little", signed=True)
 
     def path(self, place, words):
-        """The functions from that in which the place is, outwards, by the words of the stack above. Where it isn't in the program, the first is the
-        one that the program was left from."""
+        """The functions from that in which the place is, outwards, by the words of the stack above. Where it isn't in
+        the program, the first is the one that the program was left from."""
         start, names = None, []
         for word in (place, *words):
             called = self.called(word)

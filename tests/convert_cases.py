@@ -1,8 +1,8 @@
 #!/usr/bin/env python3
 """Makes the cases under tests/cases in which `convert` writes a stream in the binary or the text domain.
 
-What must be written is put together here, item by item, with Python's base64; what `convert_reference.py` finds in the streams has to be the
-same.
+What must be written is put together here, item by item, with Python's base64; what `convert_reference.py` finds in the
+streams has to be the same.
 """
 from convert_reference import binary, converted
 from kit import CHARACTERS, couples, signed

@@ -1,8 +1,8 @@
 """What `convert` has to write of a stream: its items, found apart from the program, in the domain that is asked for.
 
-A body stands as it is. A group, or a wrap of groups, is characters in fours, and in the binary domain each four characters are the three
-bytes of their 24 bits (Python's base64). The items are the good ones from the front: the first that is refused, or isn't all there, ends
-them.
+A body stands as it is. A group, or a wrap of groups, is characters in fours, and in the binary domain each four
+characters are the three bytes of their 24 bits (Python's base64). The items are the good ones from the front: the first
+that is refused, or isn't all there, ends them.
 """
 import base64
 import re
@@ -10,7 +10,8 @@ import re
 from kit import CHARACTERS
 
 DIGIT = b"[A-Za-z0-9_-]"
-# The bits before the raw bytes are zero: four before those of a signature and of a number, two before those of a key or a digest.
+# The bits before the raw bytes are zero: four before those of a signature and of a number, two before those of a key or
+# a digest.
 SIGNATURE, KEY, NUMBER = b"[A-D]%s{85}" % DIGIT, b"[A-P]%s{42}" % DIGIT, b"0A[A-D]%s{21}" % DIGIT
 MOMENT = rb"1AAG\d{4}-\d\d-\d\dT\d\dc\d\dc\d\dd\d{6}[p\-]\d\dc\d\d"
 INDEXED = b"(?:[AB]%s|2A%s{4}|2B%s{2}AA)%s" % (DIGIT, DIGIT, DIGIT, SIGNATURE)
@@ -74,7 +75,8 @@ def body_end(data, place):
 
 
 def items(data):
-    """The good items from the front, each as a body or as the characters of a group or a wrap, and whether they are all of the stream."""
+    """The good items from the front, each as a body or as the characters of a group or a wrap, and whether they are all
+    of the stream."""
     found, place = [], 0
     while place < len(data):
         if data[place : place + 1] == b"-" or 0xF8 <= data[place] <= 0xFB:

@@ -1,5 +1,5 @@
-"""What tests/ed25519 asks: questions of the helper protocol, the vectors of RFC 8032 and a folder of their keys, signatures to
-be refused, and questions that aren't of the form."""
+"""What tests/ed25519 asks: questions of the helper protocol, the vectors of RFC 8032 and a folder of their keys,
+signatures to be refused, and questions that aren't of the form."""
 import hashlib
 import pathlib
 

@@ -1,5 +1,5 @@
-"""The questions by chance that tests/ed25519 asks both helpers: signing questions, verdict questions on true signatures and
-on changed ones, and questions that aren't of the form or are cut short."""
+"""The questions by chance that tests/ed25519 asks both helpers: signing questions, verdict questions on true signatures
+and on changed ones, and questions that aren't of the form or are cut short."""
 from ed25519_questions import ORDER, SMALL, spelled
 from kit import CHARACTERS, primitive
 

@@ -1,8 +1,8 @@
 #!/usr/bin/env python3
 """Makes the cases under tests/cases in which bodies of all kinds are read: good ones, and ones that fail each rule.
 
-The bodies are made with Python's json and hashlib, by the field maps of docs/FORMATS.md (`kit.py`). What is written of a
-broken one says which rule it fails first.
+The bodies are made with Python's json and hashlib, by the field maps of docs/FORMATS.md (`kit.py`). What is written of
+a broken one says which rule it fails first.
 """
 import json
 

@@ -1,4 +1,5 @@
-"""A helper that answers by the rehearsal, and ends at a question: FAILS_AT says which, as V5 (the fifth verdict) or S1 (the first signature)."""
+"""A helper that answers by the rehearsal, and ends at a question: FAILS_AT says which, as V5 (the fifth verdict) or S1
+(the first signature)."""
 import base64
 import hashlib
 import os

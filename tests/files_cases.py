@@ -1,8 +1,8 @@
 #!/usr/bin/env python3
 """Makes the cases under tests/cases in which `validate` and `watch` read several files with the rehearsal.
 
-Each file is read in a thread of its own, so only what doesn't depend on the order of their messages is compared. Each case names its files,
-and what is to be written of them, as docs/FORMATS.md says it.
+Each file is read in a thread of its own, so only what doesn't depend on the order of their messages is compared. Each
+case names its files, and what is to be written of them, as docs/FORMATS.md says it.
 """
 import shutil
 

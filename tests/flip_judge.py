@@ -1,8 +1,10 @@
-"""Says which events a validator may accept of a stream in which something was changed, and asks the library of a helper itself.
+"""Says which events a validator may accept of a stream in which something was changed, and asks the library of a helper
+itself.
 
-An event may be accepted where its body is one of the stream as it was, byte for byte, and the signatures, receipts and seals that the
-changed stream has for it are enough by the definitions (`reference.py`), each signature being one that the library says yes of. Another
-body brings nothing: it is an event with a digest that isn't its own, or a receipt of no event that is there.
+An event may be accepted where its body is one of the stream as it was, byte for byte, and the signatures, receipts and
+seals that the changed stream has for it are enough by the definitions (`reference.py`), each signature being one that
+the library says yes of. Another body brings nothing: it is an event with a digest that isn't its own, or a receipt of
+no event that is there.
 """
 import functools
 import json

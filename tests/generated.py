@@ -1,8 +1,8 @@
 """Streams of key event logs made by a rule: for a seed, so many logs of so many events.
 
-Key `t` of log `j` is the SHA-256 of `key SEED j t`, and its witness `t` that of `wit SEED j t`. A sequence of numbers that
-begins with the seed and `j` says which event is a rotation, one of four, and which an interaction. Each event has one
-signature of its key and receipts of three of its four witnesses, by the rehearsal.
+Key `t` of log `j` is the SHA-256 of `key SEED j t`, and its witness `t` that of `wit SEED j t`. A sequence of numbers
+that begins with the seed and `j` says which event is a rotation, one of four, and which an interaction. Each event has
+one signature of its key and receipts of three of its four witnesses, by the rehearsal.
 """
 import hashlib
 import multiprocessing

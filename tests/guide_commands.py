@@ -1,8 +1,8 @@
 """The commands of docs/GUIDE.md and README.md, with what each has to write, and how they are run.
 
-Commands stand in the blocks that begin with ```console, behind which may stand the word for those that are run apart. A line that
-begins with `$ ` is a command, and lines right behind it that begin with `> ` go on with it. The lines up to the next command or the
-block's end are all that it writes. All commands with one word run in one shell.
+Commands stand in the blocks that begin with ```console, behind which may stand the word for those that are run apart. A
+line that begins with `$ ` is a command, and lines right behind it that begin with `> ` go on with it. The lines up to
+the next command or the block's end are all that it writes. All commands with one word run in one shell.
 """
 import os
 import pathlib
@@ -68,8 +68,8 @@ class Names:
 
 
 def first_other(found, folder, is_wanted=str.__eq__):
-    """Runs the commands in the folder. Answers the first that writes something else, with what that is, or None. What is
-    wanted, and what is written, is compared by the function."""
+    """Runs the commands in the folder. Answers the first that writes something else, with what that is, or None. What
+    is wanted, and what is written, is compared by the function."""
     script = "".join(command.text + "\n" + END for command in found)
     child = subprocess.Popen(["sh", "-c", script], cwd=folder, stdin=subprocess.DEVNULL, stdout=subprocess.PIPE, stderr=subprocess.STDOUT,
                              start_new_session=True)

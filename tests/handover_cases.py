@@ -1,9 +1,9 @@
 #!/usr/bin/env python3
-"""Makes the cases under tests/cases in which `export` writes a log for another validator and `blame` compares what two accept, and the samples
-of both.
+"""Makes the cases under tests/cases in which `export` writes a log for another validator and `blame` compares what two
+accept, and the samples of both.
 
-What must be written is put together here of the messages that went in, by docs/FORMATS.md. What `handover_reference.py` says of the streams
-has to be the same.
+What must be written is put together here of the messages that went in, by docs/FORMATS.md. What `handover_reference.py`
+says of the streams has to be the same.
 """
 import shutil
 

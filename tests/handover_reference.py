@@ -1,5 +1,5 @@
-"""What `export` and `blame` write of what a validator was told, by the definitions of docs/FORMATS.md, over the reference of a validator
-(`reference.py`): a peer of the program, written apart from it.
+"""What `export` and `blame` write of what a validator was told, by the definitions of docs/FORMATS.md, over the
+reference of a validator (`reference.py`): a peer of the program, written apart from it.
 """
 import base64
 
@@ -28,7 +28,8 @@ def spelled(claim):
 
 
 def good_claims(reference, event):
-    """The elements of the groups of an event: those whose verdict is yes, each once, sort by sort, in order of first coming."""
+    """The elements of the groups of an event: those whose verdict is yes, each once, sort by sort, in order of first
+    coming."""
     state = reference.state_before(event)
     good = [claim for claim in reference.claims_on(event)
             if reference.verdicts.get((event.text, claim.key_under(state, event), claim.signature))]

@@ -13,8 +13,8 @@ LOG = SAMPLES / "validated.cesr"
 LIFE = SAMPLES / "life"
 ROTATE = ["--plan", LIFE / "rotate.plan", "--log", LIFE / "rotate.cesr"]
 
-# A helper, but for what it does. It notes that it was started, with which words, and that it ends; it also ends where nobody reads
-# its output any more.
+# A helper, but for what it does. It notes that it was started, with which words, and that it ends; it also ends where
+# nobody reads its output any more.
 HELPER = '''#!%s -IS
 import base64, hashlib, os, select, sys, time
 
@@ -85,8 +85,8 @@ class Runs:
         return path
 
     def run(self, *words, **more):
-        """The status, what was written, and what was written to standard error. These are files: with pipes one would wait for
-        helpers too, which have the same standard error."""
+        """The status, what was written, and what was written to standard error. These are files: with pipes one would
+        wait for helpers too, which have the same standard error."""
         self.notes.unlink(missing_ok=True)
         more.setdefault("stdin", subprocess.DEVNULL)
         more["env"] = os.environ | {"NOTES": str(self.notes)} | more.get("env", {})

@@ -176,8 +176,8 @@ def compact(value):
 
 
 def body(kind, code="I", **values):
-    """The body of the kind with these values, and those of the plain inception for the others. Where no digest is given,
-    it is that of the text under the code, and the prefix too where there is none."""
+    """The body of the kind with these values, and those of the plain inception for the others. Where no digest is
+    given, it is that of the text under the code, and the prefix too where there is none."""
     fields = {**PLAIN, "d": PLACEHOLDER, **values}
     fields.setdefault("i", PLACEHOLDER)
     members = [("v", "KERI10JSONSIZE___"), ("t", kind)] + [(name, fields[name]) for name in KINDS[kind]]

@@ -1,5 +1,5 @@
-"""The life of an identifier and of one that it is the delegator of, step by step: the plan of each event, the log that it is made
-behind, and the message that must come out, which is spelled by `kit.py`.
+"""The life of an identifier and of one that it is the delegator of, step by step: the plan of each event, the log that
+it is made behind, and the message that must come out, which is spelled by `kit.py`.
 
 Keys are those of the kit, and all digests have the code `I`.
 """
@@ -50,8 +50,8 @@ EVENTS = [ICP, IXN_1, ROT_2, SEALING_3, SEALING_4]
 RECOVERED = "".join(map(event, EVENTS)) + event(STOLEN_5, "superseded") + event(RECOVERY_5)
 CHILD_LINES = log(CHILD, CHILD_1)
 
-# Each step: its plan, the messages that it is made behind (None for no log), what comes out, and, where it is appended to a log, what
-# is in the log then and what `validate` writes of that.
+# Each step: its plan, the messages that it is made behind (None for no log), what comes out, and, where it is appended
+# to a log, what is in the log then and what `validate` writes of that.
 STEPS = {
     "incept": (plan("icp", *HEAD, *keys(1, 2), SIGN), None, MESSAGES[0], (MESSAGES[:1], log(ICP))),
     "interact": (plan("ixn", *HEAD, prefix(ICP), SIGN), MESSAGES[:1], MESSAGES[1], (MESSAGES[:2], log(ICP, IXN_1))),

@@ -1,7 +1,7 @@
 """The program where links come over TCP, and peers that are the other ends of these links.
 
-Ports are taken below those that the system hands out by itself, so that none is another link's by chance. Whoever waits for a peer or for the
-program waits for at most SECONDS.
+Ports are taken below those that the system hands out by itself, so that none is another link's by chance. Whoever waits
+for a peer or for the program waits for at most SECONDS.
 """
 import pathlib
 import random
@@ -47,7 +47,8 @@ def free_port(host=HOST):
 
 
 def sockets():
-    """What the system says of each socket: its own port and the other end's, its state, and how many bytes of it wait to be taken and to be read."""
+    """What the system says of each socket: its own port and the other end's, its state, and how many bytes of it wait
+    to be taken and to be read."""
     tables = [pathlib.Path("/proc/net") / name for name in ("tcp", "tcp6")]
     for line in (line for table in tables if table.exists() for line in table.read_text().splitlines()[1:]):
         _, own, other, state, queues, *_ = line.split()

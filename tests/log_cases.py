@@ -1,9 +1,11 @@
 #!/usr/bin/env python3
-"""Makes the cases under tests/cases in which `validate` and `watch` read events of whole logs with the rehearsal, and their samples.
+"""Makes the cases under tests/cases in which `validate` and `watch` read events of whole logs with the rehearsal, and
+their samples.
 
-Primitives and bodies are made with Python's base64 and hashlib (`kit.py`). Each case names its messages and what is to be written
-of them, as docs/FORMATS.md says it. It is made thrice: with its messages in the order given, in the reversed one, and with those
-of its second half put between those of its first. Where what is written depends on the order, the case says so.
+Primitives and bodies are made with Python's base64 and hashlib (`kit.py`). Each case names its messages and what is to
+be written of them, as docs/FORMATS.md says it. It is made thrice: with its messages in the order given, in the reversed
+one, and with those of its second half put between those of its first. Where what is written depends on the order, the
+case says so.
 """
 from kit import PLAIN_ICP as ICP, body, couples, counter, digest, indexed_signature, key, primitive, receipts, rehearsal, rehearsed
 from kit import said, signed
@@ -250,8 +252,9 @@ CASES = {
     ),
 }
 
-# The evidence of a watcher: of each case its messages, and those of them that are written, in order; for other orders, where that is
-# other, by the order's name. A watcher waits for neither receipts nor seals, so more may conflict than for a validator.
+# The evidence of a watcher: of each case its messages, and those of them that are written, in order; for other orders,
+# where that is other, by the order's name. A watcher waits for neither receipts nor seals, so more may conflict than
+# for a validator.
 OTHER_CHILD_1 = rot(CHILD, 11, "drt", n=[digest(key(100))])
 ONE_WAY = ROT + counter("A", 2) + rehearsed(2, ROT) + rehearsed(2, ROT, "BA")
 OTHER_WAY = ROT + counter("A", 2) + rehearsed(2, ROT, "BA") + rehearsed(2, ROT)
@@ -287,7 +290,8 @@ WATCHED = {
 }
 
 
-# A story of two identifiers: an event that is accepted, one whose place a rotation took, one that waits, and two that conflict.
+# A story of two identifiers: an event that is accepted, one whose place a rotation took, one that waits, and two that
+# conflict.
 STORY_STOLEN, STORY_ROT, STORY_OTHER = (make(SEALING) for make in (
     lambda prior: ixn(prior, a=["not mine"]), lambda prior: rot(prior, 2), lambda prior: rot(prior, 2, n=[digest(key(100))]),
 ))

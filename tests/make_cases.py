@@ -1,8 +1,9 @@
 #!/usr/bin/env python3
-"""Makes the cases under tests/cases in which `make` reads plans and logs with the rehearsal, and the samples of an identifier's life.
+"""Makes the cases under tests/cases in which `make` reads plans and logs with the rehearsal, and the samples of an
+identifier's life.
 
-What must come out is written here, or spelled by `kit.py`, and it must be what `plans.py` answers, a model of `make` that stands apart
-from the program. Refusals are listed in `plan_refusals.py`, and the life in `life.py`.
+What must come out is written here, or spelled by `kit.py`, and it must be what `plans.py` answers, a model of `make`
+that stands apart from the program. Refusals are listed in `plan_refusals.py`, and the life in `life.py`.
 """
 import shutil
 
@@ -152,7 +153,8 @@ BEHIND_LOGS = {
 AS_WRITTEN = plan("icp", *HEAD, *keys(1, 2), 'trait "\\u00e9\\/"', "seal 1.50", 'seal {"a":1e5,"a":-0}', 'seal "\\ud800"', SIGN)
 
 PLAN, FROM_INPUT = {"plan": INTERACTION, "log": LOG}, ["make", "--helper", "rehearsal", "--plan", "-"]
-# Runs whose words, files or streams are other: the words, the files, what is written, the status, and what else the case has.
+# Runs whose words, files or streams are other: the words, the files, what is written, the status, and what else the
+# case has.
 RUNS = {
     "options_in_another_order": (["make", "--log", "log", "--plan", "plan", "--helper", "rehearsal"], PLAN, signed(IXN_1, 1), 0, {}),
     "helper_that_is_missing": (["make", "--helper", "no-such-helper", "--plan", "plan", "--log", "log"], PLAN, "", UNASKED, {}),

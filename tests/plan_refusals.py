@@ -1,5 +1,5 @@
-"""Plans of which no message is made, and why. Of each: the plan, the log's messages in a text (None for no log), and the words
-behind `plan`."""
+"""Plans of which no message is made, and why. Of each: the plan, the log's messages in a text (None for no log), and
+the words behind `plan`."""
 from kit import PLAIN_ICP as ICP, body, digest, key, rehearsed, said, signed
 from life import CHILD, ENDED, HEAD, IXN_1, MESSAGES, ROT_2, SIGN, keys, plan, prefix
 from log_cases import LISTED

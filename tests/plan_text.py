@@ -1,7 +1,7 @@
 """The text of a plan, read line by line: a peer of the program's reading, written apart from it.
 
-A value of JSON is kept as the text that spells it. Of a threshold the weights are kept too: a number of keys, or clauses of
-terms, where a term is its weight and the weights of its group, if it is one.
+A value of JSON is kept as the text that spells it. Of a threshold the weights are kept too: a number of keys, or
+clauses of terms, where a term is its weight and the weights of its group, if it is one.
 """
 import re
 from fractions import Fraction
@@ -32,8 +32,8 @@ class Scalar:
 
 
 def value_at(text, place):
-    """The JSON value that begins at the place, and the place behind it. A string is its text as it is written, an object
-    the list of its members in a tuple."""
+    """The JSON value that begins at the place, and the place behind it. A string is its text as it is written, an
+    object the list of its members in a tuple."""
     if match := JSON_STRING.match(text, place):
         return match[1], match.end()
     if match := JSON_SCALAR.match(text, place):

@@ -1,7 +1,7 @@
 """What `make` answers to a plan and a log: a peer of the program, written apart from it, by the definitions.
 
-The body is spelled here field by field and judged by the rules of bodies, the log is read by the reference of a validator that
-waits for neither receipts nor seals, and the signatures are the rehearsal's.
+The body is spelled here field by field and judged by the rules of bodies, the log is read by the reference of a
+validator that waits for neither receipts nor seals, and the signatures are the rehearsal's.
 """
 import base64
 import json

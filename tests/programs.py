@@ -21,8 +21,8 @@ def program_of(word=None):
 
 
 def interrupted(folder, script, *words):
-    """How a script ends and what it writes where Ctrl-C comes while its helper, which is made in the folder, hangs. Where this
-    test runs in the background SIGINT is ignored; the script is started as from a terminal all the same."""
+    """How a script ends and what it writes where Ctrl-C comes while its helper, which is made in the folder, hangs.
+    Where this test runs in the background SIGINT is ignored; the script is started as from a terminal all the same."""
     helper, begun = folder / "hangs", folder / "begun"
     helper.write_text(f"#!/bin/sh\ntouch '{begun}'\nexec sleep 300\n")
     helper.chmod(0o755)

@@ -1,5 +1,5 @@
-"""Random streams of messages: logs of several identifiers, some delegated, with rotations that take the place of interactions,
-changes of witnesses, and faults; each event with some of its signatures and receipts; in many orders.
+"""Random streams of messages: logs of several identifiers, some delegated, with rotations that take the place of
+interactions, changes of witnesses, and faults; each event with some of its signatures and receipts; in many orders.
 
 A stream is made by its seed alone. Each message has its text, and the parts that the reference takes.
 """

@@ -37,8 +37,8 @@ def test_same_as_files(place):
 
 
 def test_late_end(place):
-    """A link that ends late keeps the run. The first one's peer is told that nothing comes once the next one is asked for, and the last one's peer
-    only at the end."""
+    """A link that ends late keeps the run. The first one's peer is told that nothing comes once the next one is asked
+    for, and the last one's peer only at the end."""
     door = place.serve(VALIDATE, 2)
     first, second = door.peers(2)
     second.send(signed(IXN_1, 1)).end()

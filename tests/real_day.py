@@ -1,7 +1,8 @@
 """A day with real keys: two controllers, the second of whom stands under the first, and three witnesses of both.
 
-Each has keys in a folder of their own, which a helper makes and signs with. The program makes the events; the receipts in the day's stream
-are asked of the witnesses' helpers here. Each witness has a place for a shelf too, over which the program may be run as that witness.
+Each has keys in a folder of their own, which a helper makes and signs with. The program makes the events; the receipts
+in the day's stream are asked of the witnesses' helpers here. Each witness has a place for a shelf too, over which the
+program may be run as that witness.
 """
 import collections
 import subprocess
@@ -149,8 +150,8 @@ def key_lines(keys, following):
 
 
 def live(day):
-    """Has the two controllers make their events. Answers the stream of all, and another rotation that the first controller signs
-    for the place of the one in it."""
+    """Has the two controllers make their events. Answers the stream of all, and another rotation that the first
+    controller signs for the place of the one in it."""
     anna, ben = day.anna, day.ben
     one = [anna.party.new() for _ in range(4)]
     two = [[ben.party.new(), ben.party.new()] for _ in range(3)]

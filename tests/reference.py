@@ -1,7 +1,8 @@
-"""A validator and a watcher by the definitions of acceptance, which go over everything they were told each time: a peer of the
-program, written apart from it, for streams whose messages are in form.
+"""A validator and a watcher by the definitions of acceptance, which go over everything they were told each time: a peer
+of the program, written apart from it, for streams whose messages are in form.
 
-The verifier is the rehearsal, or the one that is handed in. Nothing is kept but the bodies, what was told, and the accepted events.
+The verifier is the rehearsal, or the one that is handed in. Nothing is kept but the bodies, what was told, and the
+accepted events.
 """
 import hashlib
 import json
@@ -139,8 +140,8 @@ def is_rehearsal(text, key, signature):
 
 
 class Reference:
-    """What a validator was told, and what it accepts of that; or a watcher, who waits for neither receipts nor seals. The verifier
-    says of a text, a key and a signature whether it is the key's on the text."""
+    """What a validator was told, and what it accepts of that; or a watcher, who waits for neither receipts nor seals.
+    The verifier says of a text, a key and a signature whether it is the key's on the text."""
 
     def __init__(self, watches=False, verifier=is_rehearsal):
         self.watches, self.verifier = watches, verifier
@@ -279,7 +280,8 @@ class Reference:
         return next((reason for reason, test in tests if not test(state, event)), "seal")
 
     def conflicts(self):
-        """The bodies of one place that differ, where each stands and is signed, by places; those of each place in byte order."""
+        """The bodies of one place that differ, where each stands and is signed, by places; those of each place in byte
+        order."""
         places = {}
         for event in self.bodies:
             state = self.state_before(event)
@@ -290,7 +292,8 @@ class Reference:
         return [events for events in sets if len(events) > 1]
 
     def evidence(self):
-        """Each body in conflict with its controller's good signatures, each once, in messages of as many as one may have."""
+        """Each body in conflict with its controller's good signatures, each once, in messages of as many as one may
+        have."""
         text = ""
         for event in (event for events in self.conflicts() for event in events):
             good = self.good(self.state_before(event), event)

@@ -18,8 +18,9 @@
 
 #define KEPT 8192
 
-/* How many allocations there were, and how many of them were refused. Of the first of these: the place to which the call
-   returns, the bytes of the stack above that are kept, and these. Where the program lies in memory, for all places. */
+/* How many allocations there were, and how many of them were refused. Of the first of these: the place to which the
+   call returns, the bytes of the stack above that are kept, and these. Where the program lies in memory, for all
+   places. */
 struct notes {
     _Atomic uint64_t count, refused;
     uint64_t base, place, kept, stack[KEPT];

@@ -1,5 +1,6 @@
 #!/usr/bin/env python3
-"""Makes the cases under tests/cases in which `rehearse` answers questions on standard input, as docs/FORMATS.md says it."""
+"""Makes the cases under tests/cases in which `rehearse` answers questions on standard input, as docs/FORMATS.md says
+it."""
 import shutil
 
 from kit import PLAIN_ICP as ICP, primitive, rehearsal

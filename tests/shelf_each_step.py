@@ -1,4 +1,5 @@
-"""Each step of shelf_tool on its files (steps.py): their order, stops and faults at each, and what a stop of the machine may leave."""
+"""Each step of shelf_tool on its files (steps.py): their order, stops and faults at each, and what a stop of the
+machine may leave."""
 import signal
 
 from shelf_runs import EMPTY, OLD_MARK, check, holds, lines, payloads_of, record, run, shelf, stored
@@ -88,8 +89,8 @@ def written_over(file, place, data):
 
 
 def images(synced, writes):
-    """Files that a stop of the machine may leave of the last synced one and the writes and cuts since: all of them, some, the
-    bytes of their ranges any, and any size between."""
+    """Files that a stop of the machine may leave of the last synced one and the writes and cuts since: all of them,
+    some, the bytes of their ranges any, and any size between."""
     fills = (None, 0, 1, 255)
     for chosen in range(1 << len(writes)):
         for fill in fills:

@@ -1,4 +1,5 @@
-"""Parts of the tests that are left out where a tool isn't there. Where the variable CI is set nothing may be left out."""
+"""Parts of the tests that are left out where a tool isn't there. Where the variable CI is set nothing may be left
+out."""
 import os
 import sys
 

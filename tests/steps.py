@@ -1,8 +1,8 @@
-"""The steps that a program takes on its files, as shelf_steps.c sees them when it stands before the C library, and may stop it or have them
-fail there.
+"""The steps that a program takes on its files, as shelf_steps.c sees them when it stands before the C library, and may
+stop it or have them fail there.
 
-A step is a write with its place and its bytes, a cut to a size, a sync of a file or of a folder, or bytes of what is answered: ("W", place,
-bytes), ("C", size), ("S",), ("F",) and ("A", bytes).
+A step is a write with its place and its bytes, a cut to a size, a sync of a file or of a folder, or bytes of what is
+answered: ("W", place, bytes), ("C", size), ("S",), ("F",) and ("A", bytes).
 """
 import pathlib
 import subprocess

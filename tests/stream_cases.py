@@ -1,8 +1,8 @@
 #!/usr/bin/env python3
 """Makes the cases under tests/cases in which `check` reads a stream.
 
-Primitives and bodies are made with Python's base64 and hashlib (`kit.py`). Each case names what the stream's bytes are and what is to
-be written, as docs/FORMATS.md says it.
+Primitives and bodies are made with Python's base64 and hashlib (`kit.py`). Each case names what the stream's bytes are
+and what is to be written, as docs/FORMATS.md says it.
 """
 import pathlib
 import shutil

@@ -1,7 +1,8 @@
-"""The messages of a stream, up to the first place at which it isn't in the form: a reader of any text, written apart from the program's.
+"""The messages of a stream, up to the first place at which it isn't in the form: a reader of any text, written apart
+from the program's.
 
-It knows the groups of signatures and receipts (`-A`, `-B`, `-C`), and wraps of these (`-V`). A body is what its size says; what is in
-it isn't looked at.
+It knows the groups of signatures and receipts (`-A`, `-B`, `-C`), and wraps of these (`-V`). A body is what its size
+says; what is in it isn't looked at.
 """
 import re
 

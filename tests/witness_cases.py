@@ -1,8 +1,10 @@
 #!/usr/bin/env python3
-"""Makes the cases under tests/cases in which `witness` serves a file with the rehearsal: what it writes, the status, and the shelf that it
-leaves. All three are what `witness_reference.py` answers, a model of a witness that stands apart from the program.
+"""Makes the cases under tests/cases in which `witness` serves a file with the rehearsal: what it writes, the status,
+and the shelf that it leaves. All three are what `witness_reference.py` answers, a model of a witness that stands apart
+from the program.
 
-It makes the samples of `witness` too, and samples/old.shelf: a shelf of version 1 with the bodies of samples/keripy/log.cesr.
+It makes the samples of `witness` too, and samples/old.shelf: a shelf of version 1 with the bodies of
+samples/keripy/log.cesr.
 """
 import shutil
 

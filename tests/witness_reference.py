@@ -1,7 +1,8 @@
-"""A witness by the definitions, which goes over everything it was told each time: a peer of the program, written apart from it.
+"""A witness by the definitions, which goes over everything it was told each time: a peer of the program, written apart
+from it.
 
-Its core is the reference of one who waits for neither receipts nor seals, asked one question after another. Its shelf is the list of
-payloads, which `append` brings to a disk.
+Its core is the reference of one who waits for neither receipts nor seals, asked one question after another. Its shelf
+is the list of payloads, which `append` brings to a disk.
 """
 import base64
 import json
@@ -184,7 +185,8 @@ class Helper:
 
 
 class Witness:
-    """A witness of a key, over a core and a shelf. The shelf has a list, a size, limits, and a call that appends a payload."""
+    """A witness of a key, over a core and a shelf. The shelf has a list, a size, limits, and a call that appends a
+    payload."""
 
     def __init__(self, key, core, shelf, limits):
         self.key, self.core, self.shelf, self.limits, self.broken = key, core, shelf, limits, False

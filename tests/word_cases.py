@@ -1,6 +1,6 @@
 #!/usr/bin/env python3
-"""Makes the cases under tests/cases in which an option or a FILE is written in each of its forms and places, and those of words that
-aren't in the form, but for what `gen_cases.py` and `make_cases.py` make of the words of `gen` and `make`.
+"""Makes the cases under tests/cases in which an option or a FILE is written in each of its forms and places, and those
+of words that aren't in the form, but for what `gen_cases.py` and `make_cases.py` make of the words of `gen` and `make`.
 """
 import shutil
 

@@ -1,8 +1,9 @@
 """Random worlds, and the orders in which they are told.
 
-A world is the bodies that come, each with its signatures or receipts: events of several identifiers, some delegated, no two different ones of one
-identifier and number, and receipts. Some events don't come, or lack signatures or receipts, so that they or others wait. In each order the same
-bodies come with the same signatures and receipts: in one message or in several, in groups of any order, once or more often, in one to five files.
+A world is the bodies that come, each with its signatures or receipts: events of several identifiers, some delegated, no
+two different ones of one identifier and number, and receipts. Some events don't come, or lack signatures or receipts,
+so that they or others wait. In each order the same bodies come with the same signatures and receipts: in one message or
+in several, in groups of any order, once or more often, in one to five files.
 """
 import itertools
 import random
@@ -13,7 +14,8 @@ from kit import body
 
 LETTERS = dict(GROUPS)
 FILES = 5
-# The order of number 0 has each body once, log by log from the front, and that of number 1 the same turned round, each in one file.
+# The order of number 0 has each body once, log by log from the front, and that of number 1 the same turned round, each
+# in one file.
 PLAIN, TURNED = 0, 1
 
 
@@ -58,7 +60,8 @@ class World(Streams):
         return self.some(signers) if self.is_chosen(0.06) else signers
 
     def bodies_of(self, made):
-        """The event, unless it doesn't come, and a receipt, where some come in one. Each receipt comes with the event, in the receipt, or in both."""
+        """The event, unless it doesn't come, and a receipt, where some come in one. Each receipt comes with the event,
+        in the receipt, or in both."""
         event = Message(made.text, made.text)
         event.add_indexed("controller", self.signers(made) or [(None, 0, 0)])
         receipt = Message(body("rct", d=made.event.said, i=made.event.prefix, s="%x" % made.event.number), made.text)
@@ -102,8 +105,8 @@ class Order:
         return files
 
     def messages_of(self, whole):
-        """A body with its claims in one to three messages, in any order. In each an event has a signature of its controller, or it would be refused;
-        and a receipt has a receipt."""
+        """A body with its claims in one to three messages, in any order. In each an event has a signature of its
+        controller, or it would be refused; and a receipt has a receipt."""
         parts = [[] for _ in range(self.random.choice([1, 1, 2, 3]))]
         for claim in self.shuffled(whole.claims):
             self.random.choice(parts).append(claim)

@@ -16,9 +16,9 @@ struct event_front {
     uint64_t number;
 };
 
-/* Reads the front of a KERI 1.00 event in JSON: the version string with the body's size, then `t`, `d`, `i` and `s`, and nothing
-   between them. False where the body isn't of that form, is no event (a receipt), or doesn't end with a brace; then it's just
-   bytes. Whether the rest is an event, and the digest is its own, isn't looked at. */
+/* Reads the front of a KERI 1.00 event in JSON: the version string with the body's size, then `t`, `d`, `i` and `s`,
+   and nothing between them. False where the body isn't of that form, is no event (a receipt), or doesn't end with a
+   brace; then it's just bytes. Whether the rest is an event, and the digest is its own, isn't looked at. */
 bool read_event_front(const unsigned char *body, size_t length, struct event_front *front);
 
 /* Whether the kind is one of an establishment event: an inception or a rotation. */

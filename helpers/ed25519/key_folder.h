@@ -1,7 +1,6 @@
 /* A folder of keys: a file for each, named by the key's 44 characters, which holds the seed's 44 characters (CESR's
-   code A) and a line feed, and beside them the records of what was signed (record.h). Folder and files are the caller's, and
-   nobody else can read or write them. What goes wrong ends
-   the program with KEY_FAULT. */
+   code A) and a line feed, and beside them the records of what was signed (record.h). Folder and files are the
+   caller's, and nobody else can read or write them. What goes wrong ends the program with KEY_FAULT. */
 #ifndef KEY_FOLDER_H
 #define KEY_FOLDER_H
 
@@ -9,12 +8,12 @@
 
 #include "primitives.h"
 
-/* Makes a key pair and keeps its seed in the folder, which is made where it isn't there; its file outlasts a crash then.
-   The key is spelled with the code, B or D, and a NUL behind. */
+/* Makes a key pair and keeps its seed in the folder, which is made where it isn't there; its file outlasts a crash
+   then. The key is spelled with the code, B or D, and a NUL behind. */
 void make_key(const char *folder, char code, char key[KEY_CHARACTERS + 1]);
 
-/* Signs the body with the secret of the key, whose spelling is the file's name. An event is recorded before, and refused where
-   the key has signed another one for its place. */
+/* Signs the body with the secret of the key, whose spelling is the file's name. An event is recorded before, and
+   refused where the key has signed another one for its place. */
 void sign_with(const char *folder, const char *key, const unsigned char *body, size_t length,
                unsigned char signature[SIGNATURE_BYTES]);
 

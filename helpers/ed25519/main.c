@@ -19,7 +19,8 @@
 
 enum { LEAST_STACK = 256 * 1024 };
 
-/* Puts something that can't be read or written where a standard stream is closed, lest a key's file come to stand there. */
+/* Puts something that can't be read or written where a standard stream is closed, lest a key's file come to stand
+   there. */
 static void fill_streams(void)
 {
     for (int stream = STDIN_FILENO; stream <= STDERR_FILENO; stream++)
@@ -27,8 +28,8 @@ static void fill_streams(void)
             fail(KEY_FAULT, "/dev/null", strerror(errno));
 }
 
-/* Sees to it that there is a stack for what follows, that no image of the memory is left or looked at, and that a file that may
-   grow no further, or a pipe that nobody reads, is a fault of writing and no end. */
+/* Sees to it that there is a stack for what follows, that no image of the memory is left or looked at, and that a file
+   that may grow no further, or a pipe that nobody reads, is a fault of writing and no end. */
 static void prepare(void)
 {
     static const struct rlimit none = {0, 0};
@@ -50,8 +51,8 @@ static void add_line(char *text, const char *name, const char *value)
     strcat(text, "\n");
 }
 
-/* Makes a key, and prints it and the digests by which an event before commits to it, as lines of a plan: that by SHA2-256, and that
-   by BLAKE3. */
+/* Makes a key, and prints it and the digests by which an event before commits to it, as lines of a plan: that by
+   SHA2-256, and that by BLAKE3. */
 static void new_key(const char *folder, char code)
 {
     char key[KEY_CHARACTERS + 1], by_sha256[KEY_CHARACTERS + 1], by_blake3[KEY_CHARACTERS + 1];

@@ -1,5 +1,5 @@
-/* CESR's primitives: a code, and the raw bytes in base 64, where the code takes the place of the characters that as many
-   zero bytes before the raw ones would give. */
+/* CESR's primitives: a code, and the raw bytes in base 64, where the code takes the place of the characters that as
+   many zero bytes before the raw ones would give. */
 #ifndef PRIMITIVES_H
 #define PRIMITIVES_H
 
@@ -13,8 +13,8 @@ enum {
     SIGNATURE_BYTES = 64
 };
 
-/* Reads characters of base 64, four for each three bytes, as so many bytes. Copies neither. False where one isn't of the
-   64, or they aren't so many. */
+/* Reads characters of base 64, four for each three bytes, as so many bytes. Copies neither. False where one isn't of
+   the 64, or they aren't so many. */
 bool read_base_64(const char *text, size_t characters, unsigned char *bytes, size_t length);
 
 /* Reads a key with the code B or D. False for other codes, for characters that aren't base 64, and where a bit before

@@ -16,7 +16,8 @@
 /* Names have the key without its code: under both codes it makes the same signatures. */
 enum { FILE_NAME = sizeof ".allowed-" + 2 * (KEY_CHARACTERS + 1), LINE = 160 };
 
-/* How an event came to be recorded: as the first of its place, in the place of an interaction, or because that was allowed. */
+/* How an event came to be recorded: as the first of its place, in the place of an interaction, or because that was
+   allowed. */
 static const char *const ways[] = {"first", "recovers", "allowed"};
 enum way { FIRST, RECOVERS, ALLOWED };
 
@@ -133,8 +134,8 @@ static bool take_leave(const char *line, size_t length, void *into)
     return true;
 }
 
-/* Hands each line to the taker. A last one that isn't whole is left out: a stop left it, and no signature went out with it. Answers
-   NULL, or what is wrong. */
+/* Hands each line to the taker. A last one that isn't whole is left out: a stop left it, and no signature went out with
+   it. Answers NULL, or what is wrong. */
 static const char *read_lines(struct lines *lines, bool (*take)(const char *, size_t, void *), void *into)
 {
     FILE *stream = fdopen(dup(lines->file), "r");

@@ -1,5 +1,6 @@
-"""Bodies of events: read and written again, refused by the first rule that they fail, and sealed under a code. They are made
-with Python's json and hashlib. What a row breaks is said by the rule's name, and never found by a reader of bodies."""
+"""Bodies of events: read and written again, refused by the first rule that they fail, and sealed under a code. They are
+made with Python's json and hashlib. What a row breaks is said by the rule's name, and never found by a reader of
+bodies."""
 import itertools
 import json
 
@@ -98,7 +99,8 @@ BAD = {
 
 
 def changed(text, places, closing="}"):
-    """The body with the names and the values at these places put in the place of its own, and with the size that it has then."""
+    """The body with the names and the values at these places put in the place of its own, and with the size that it has
+    then."""
     members = list(json.loads(text).items())
     for place, member in places.items():
         members[place] = member

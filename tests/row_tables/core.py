@@ -231,8 +231,8 @@ def read_back():
     yield row(2, signed(ICP, 1), "Taken none Spent(2) Spent(2)")
     yield row(1, signed(ICP, 1), "Taken Spent(1) Spent(1) Spent(1)")
     yield row(0, signed(ICP, 1), "Spent(0) Spent(0) Spent(0) Spent(0)")
-    # Two passes are given different questions while there are two, and the same one again; who asks for all, or for the first, is given
-    # what another one has.
+    # Two passes are given different questions while there are two, and the same one again; who asks for all, or for the
+    # first, is given what another one has.
     two = body("icp", kt="2", k=[key(1), key(2)])
     words = "Taken %s %s %s 0 %s New none %s %s" % (key(1), key(2), key(2), key(1), key(2), key(2))
     yield "passes " + argument(signed(two, 1, 2)), words

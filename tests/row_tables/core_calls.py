@@ -1,7 +1,7 @@
 """The calls of a core, as rows with their answers.
 
-Where a call is given a number of steps it is twice the number of events that it may look at: those that the message or the question
-names, and those that wait for an event that it accepts.
+Where a call is given a number of steps it is twice the number of events that it may look at: those that the message or
+the question names, and those that wait for an event that it accepts.
 """
 from kit import key
 from log_cases import field

@@ -1,5 +1,5 @@
-"""Messages that are made of plans. What comes out is made with Python's json and hashlib: a body of the plan's fields, and the
-rehearsal's signatures on it."""
+"""Messages that are made of plans. What comes out is made with Python's json and hashlib: a body of the plan's fields,
+and the rehearsal's signatures on it."""
 from kit import PLAIN_ICP, digest, key, rehearsed
 from row_tables.core import CHILD, SEALING
 from row_tables.states import ENDED, IXN_1, ixn, rot, texts

@@ -1,8 +1,8 @@
-"""Runs of the program over an outside in memory: what is written, and how the run ends, where a limit is reached or a call of
-the outside fails.
+"""Runs of the program over an outside in memory: what is written, and how the run ends, where a limit is reached or a
+call of the outside fails.
 
-A run's end is its status, how many messages and verdicts were told, how each reader closed, and what was made, with a `!`
-where that failed.
+A run's end is its status, how many messages and verdicts were told, how each reader closed, and what was made, with a
+`!` where that failed.
 """
 from kit import PLAIN_ICP as ICP, counter, couples, indexed, rehearsed, signed
 from log_cases import CONFLICTING, IXN_1, LOG, REALISTIC, REALISTIC_LINES, log, waits
@@ -23,7 +23,8 @@ def made_stream(accepted):
 
 
 def limits_of_made_streams():
-    """The inception has 486 bytes and its message 846, the interaction 203 and 563; each message has four signatures."""
+    """The inception has 486 bytes and its message 846, the interaction 203 and 563; each message has four
+    signatures."""
     yield from run(GEN, made_stream(2), "0 told=10 End")
     for limit, least in (("messages", 2), ("body_bytes", 689), ("signatures", 8), ("stream_bytes", 1409)):
         yield from run(GEN, made_stream(2), "0 told=10 End", **{limit: least})
@@ -85,7 +86,8 @@ def limits_of_watch():
 
 
 def conversions():
-    """An item is written as soon as it is whole, and how reading ended is found whether the sink takes the items or not."""
+    """An item is written as soon as it is whole, and how reading ended is found whether the sink takes the items or
+    not."""
     twice = RECEIPT * 2
     for size, written, end in (
         (290, twice, "0 told=0 End"), (289, RECEIPT, "9 told=0 Full"), (145, RECEIPT, "9 told=0 Full"), (144, "", "9 told=0 Full"), (0, "", "9 told=0 Full"),
@@ -172,7 +174,8 @@ def asks():
     yield from run(VALIDATE, log(prior, keys=3, witnesses=4, toad=3) + waits(LOG[1], "signatures") + VERIFIER_FAULT,
                    "7 told=7 VerifierFault " + MADE, stream, asks=5)
     yield from run(VALIDATE, REALISTIC_LINES, "0 told=36 End " + MADE, stream, asks=30)
-    # The fault comes before a refusal, and no later message is taken; a watcher's evidence is what was found until then.
+    # The fault comes before a refusal, and no later message is taken; a watcher's evidence is what was found until
+    # then.
     yield from run(VALIDATE, UNSIGNED + waits(ICP, "signatures") + VERIFIER_FAULT, "7 told=1 VerifierFault " + MADE, ICP + SIGNED, asks=0)
     yield from run(WATCH, "", "7 told=5 VerifierFault " + MADE, BOTH_ROTATIONS, asks=2)
     yield from run(WATCH, "".join(CONFLICTING), "7 told=7 VerifierFault " + MADE, BOTH_ROTATIONS + SIGNED_IXN, asks=3)
@@ -272,7 +275,8 @@ def receipt_of(text):
 
 
 def witnesses():
-    """A new shelf, one that is taken up, and one that is filled with an old one's list; and disks that fail, or aren't there."""
+    """A new shelf, one that is taken up, and one that is filled with an old one's list; and disks that fail, or aren't
+    there."""
     shelf, old = argument(file_of(NEW, payload(OWN, 1))), argument(file_of(OLD, OWN.encode()))
     first, second, both = signed(OWN, 1), signed(OWN_IXN, 1), signed(OWN, 1) + signed(OWN_IXN, 1)
     for words in (WITNESS_WORDS + ",a", FROM_OLD):
@@ -290,7 +294,8 @@ def witnesses():
 
 
 def several_files():
-    """The same file read by several readers, each with a verifier of its own: what is told doesn't depend on which comes first."""
+    """The same file read by several readers, each with a verifier of its own: what is told doesn't depend on which
+    comes first."""
     twice, thrice = VALIDATE + ",a", VALIDATE + ",a,a"
     two, three = MADE + " " + MADE, MADE + " " + MADE + " " + MADE
     stream, faults = "".join(REALISTIC), "fault 0 verifier\nfault 1 verifier\n"
@@ -308,7 +313,8 @@ def several_files():
 
 
 def links():
-    """Links of one door: as files, each of which holds the same; fewer than were wanted; and makings, calls and puts that fail."""
+    """Links of one door: as files, each of which holds the same; fewer than were wanted; and makings, calls and puts
+    that fail."""
     for command, written, end in ((VALIDATE, REPORT, "0 told=3"), (WATCH, "", "0 told=3")):
         words = command[:-1] + "--listen,door,--links,2"
         one = "0 told=2 End Door Verifier link=0"

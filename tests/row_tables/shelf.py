@@ -1,8 +1,10 @@
-"""Calls of a shelf on disks in memory, one session after another: what each gives, what the file holds, and what crashes leave.
+"""Calls of a shelf on disks in memory, one session after another: what each gives, what the file holds, and what
+crashes leave.
 
-The file's format and the disk are modelled here anew: a mark, records of a byte 1, four bytes of length with the high one first
-and the payload, and behind them a byte that isn't 1; and a disk that keeps each call. A call's number counts all calls of its
-disk, from 0. A write that fails does the first half of its bytes, and any other call that fails nothing.
+The file's format and the disk are modelled here anew: a mark, records of a byte 1, four bytes of length with the high
+one first and the payload, and behind them a byte that isn't 1; and a disk that keeps each call. A call's number counts
+all calls of its disk, from 0. A write that fails does the first half of its bytes, and any other call that fails
+nothing.
 """
 from kit import PLAIN_ICP as INCEPTION
 
@@ -85,7 +87,8 @@ class Disk:
             raise Fault("DiskFault")
 
     def image(self, moment, shape):
-        """What a crash just after so many calls leaves: all that was written since the last sync, nothing of it, or bytes 1."""
+        """What a crash just after so many calls leaves: all that was written since the last sync, nothing of it, or
+        bytes 1."""
         data = image = self.first
         for kind, *what in self.calls[:moment]:
             if kind == "write":

@@ -1,8 +1,8 @@
 """JSON values and thresholds.
 
-Of each text the row says what its longest front spells, by the grammar of RFC 8259 without white space, in strict UTF-8,
-nested at most so deep. The grammar is written out below, since Python's own reader is laxer; where Python's reader takes
-the front, its value and its end are compared with those of the grammar. The thresholds are worked by hand.
+Of each text the row says what its longest front spells, by the grammar of RFC 8259 without white space, in strict
+UTF-8, nested at most so deep. The grammar is written out below, since Python's own reader is laxer; where Python's
+reader takes the front, its value and its end are compared with those of the grammar. The thresholds are worked by hand.
 """
 import json
 import re

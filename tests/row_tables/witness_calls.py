@@ -1,4 +1,5 @@
-"""The calls of one witness, as rows with their answers by the reference of a witness, over disks in memory as `shelf.py` models them."""
+"""The calls of one witness, as rows with their answers by the reference of a witness, over disks in memory as
+`shelf.py` models them."""
 from kit import key
 from row_tables.shelf import NEW, Disk, Fault, sized, spelled
 from row_tables.shelf import Session as ShelfSession
