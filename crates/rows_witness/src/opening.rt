@@ -25,7 +25,7 @@ fn disk_of(alloc: Global, bytes: Vec<u8>, failing: Items<u64>) -> Result<MemDisk
 pub(crate) fn put_in(session: &mut Session, row: &Row) -> Result<String, AllocError> {
     let failing = failing_of(session.alloc, row, 1)?;
     let bytes = row.bytes(session.alloc, 2)?;
-    session.held = Held::Disk(disk_of(session.alloc, bytes, failing)?);
+    session.hold(Held::Disk(disk_of(session.alloc, bytes, failing)?));
     String::from_str(session.alloc, "Ok")
 }
 
@@ -52,11 +52,11 @@ fn begin(session: &mut Session, shelf: Shelf<MemDisk>) -> Result<String, AllocEr
 {
     match started(session.alloc, session.key, shelf, session.limits) {
         Some(Ok(witness)) => {
-            session.held = Held::Witness(witness);
+            session.hold(Held::Witness(witness));
             String::from_str(session.alloc, "Ok")
         }
         Some(Err(StartFault { shelf, fault })) => {
-            session.held = Held::Disk(shelf.into_disk());
+            session.hold(Held::Disk(shelf.into_disk()));
             not_started(session.alloc, fault)
         }
         None => String::from_str(session.alloc, "no-witness"),
@@ -66,7 +66,7 @@ fn begin(session: &mut Session, shelf: Shelf<MemDisk>) -> Result<String, AllocEr
 // The disk that came back is at hand.
 fn give_back(session: &mut Session, returned: Returned<MemDisk>) -> Result<String, AllocError> {
     let Returned { disk, fault } = returned;
-    session.held = Held::Disk(disk);
+    session.hold(Held::Disk(disk));
     refused(session.alloc, fault)
 }
 

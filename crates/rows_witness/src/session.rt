@@ -43,6 +43,12 @@ impl Session {
         }
     }
 
+    /// This is at hand from here on, and what was is let go. Each function that lets go of a witness takes long to prove, so one
+    /// does.
+    pub(crate) fn hold(&mut self, held: Held) {
+        self.held = held;
+    }
+
     /// The disk, which is at hand no more.
     pub(crate) fn take_disk(&mut self) -> Option<MemDisk> {
         match mem::replace(&mut self.held, Held::Nothing) {

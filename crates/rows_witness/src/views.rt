@@ -25,7 +25,7 @@ pub(crate) fn journal(session: &Session) -> Result<String, AllocError> {
 // The disk is at hand, and its file is told.
 fn told(session: &mut Session, disk: MemDisk) -> Result<String, AllocError> {
     let text = file_text(session.alloc, disk.bytes());
-    session.held = Held::Disk(disk);
+    session.hold(Held::Disk(disk));
     text
 }
 
