@@ -20,6 +20,8 @@ WORDS = ["witness", "--helper", "rehearsal", "--prefix", WITNESS, "--shelf", "sh
 REFUSED, SEEN, DISK_FAULT = 3, 4, 8
 UNSIGNED = OWN_ROT
 NEVER_READ = signed(OWN, 1)
+# What a stop leaves of a migration. Another file without a mark is not handed on by the wrapper.
+LEFTOVER = b"\0SHELF02\1\0"
 
 
 def served(messages, shelf=b""):
@@ -74,7 +76,7 @@ UNOPENED = {
 # The messages, the shelf, and an old one.
 FILLED = {
     "old_shelf": ([signed(OWN, 1)], b"", file_of(OLD, OWN.encode())),
-    "old_shelf_and_a_foreign_file": ([signed(OWN_IXN, 1)], b"hello", file_of(OLD, OWN.encode())),
+    "old_shelf_and_a_leftover": ([signed(OWN_IXN, 1)], LEFTOVER, file_of(OLD, OWN.encode())),
     "old_shelf_and_a_second_rotation": ([signed(OTHER_OWN_ROT, 2)], b"", file_of(OLD, OWN.encode(), OWN_ROT.encode())),
     "old_shelf_of_313_bytes": ([], b"", file_of(OLD, ICP.encode())),
 }
@@ -151,9 +153,9 @@ def main():
     # An old shelf that isn't there isn't made; where it isn't wanted it need not be there.
     del files["old"]
     write("old_shelf_that_is_missing_and_not_wanted", [*WORDS, "--from", "old", "a"], files, text, status, {"shelf": after}, gone=["old"])
-    for name, foreign in (("old_shelf_that_is_missing", b""), ("old_shelf_that_is_missing_beside_a_foreign_file", b"hello")):
-        files = {"a": NEVER_READ.encode(), **({"shelf": foreign} if foreign else {})}
-        write(name, [*WORDS, "--from", "old", "a"], files, "", DISK_FAULT, {"shelf": foreign}, gone=["old"])
+    for name, left in (("old_shelf_that_is_missing", b""), ("old_shelf_that_is_missing_beside_a_leftover", LEFTOVER)):
+        files = {"a": NEVER_READ.encode(), **({"shelf": left} if left else {})}
+        write(name, [*WORDS, "--from", "old", "a"], files, "", DISK_FAULT, {"shelf": left}, gone=["old"])
     print(len(SERVED) + len(UNOPENED) + len(FILLED) + 4, "cases")
 
 
