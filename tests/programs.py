@@ -1,12 +1,14 @@
 """The program that a script runs."""
 import os
 import pathlib
+import shutil
 import signal
 import subprocess
 import sys
 import time
 
-FINDER = pathlib.Path(__file__).resolve().parent.parent / "release" / "program"
+TOP = pathlib.Path(__file__).resolve().parent.parent
+FINDER = TOP / "release" / "program"
 SECONDS = 60
 
 
@@ -18,6 +20,14 @@ def program_of(word=None):
     if found.returncode:
         sys.exit(found.returncode)
     return found.stdout.rstrip("\n")
+
+
+def wrapped(program, folder):
+    """The path of the script `keri` round this program, as it would be installed in the folder, which is made."""
+    shutil.copytree(TOP / "packaging", folder / "lib" / "keri")
+    os.symlink(program, folder / "lib" / "keri" / "keri-x86_64-linux")
+    (folder / "bin").mkdir()
+    return shutil.copy2(TOP / "keri", folder / "bin")
 
 
 def interrupted(folder, script, *words):
