@@ -10,7 +10,8 @@ usage: ./install.sh [--prefix DIR] [--uninstall]
 
 Copies keri to DIR/bin, DIR/lib/keri and DIR/share, where DIR is /usr/local if none is named; --uninstall removes just these
 files again. Where the variable DESTDIR is set, that folder stands before DIR, as those who make packages want it.
-The status is 0, or 1 where something couldn't be done, which is said on standard error, or 2 for other words.
+The status is 0, or 1 where something couldn't be done, which is said on standard error, or 2 for other words, as a DIR
+that begins with ~ because the shell has left it so, as some do in --prefix=~/DIR.
 
 example: ./install.sh --prefix ~/.local
 TEXT
@@ -38,7 +39,14 @@ while [ $# -gt 0 ]; do
     esac
     shift
 done
-case $prefix in /*) ;; *) prefix=$PWD/$prefix ;; esac
+case $prefix in
+    /*) ;;
+    '~'*)
+        printf 'install.sh: %s: the shell has left the ~ as it is; write --prefix DIR in two words\n' "$prefix" >&2
+        exit 2
+        ;;
+    *) prefix=$PWD/$prefix ;;
+esac
 into=${DESTDIR-}$prefix
 program=lib/keri/keri-x86_64-linux
 helper=helpers/ed25519/out/keri-ed25519
