@@ -58,6 +58,7 @@ files() {
 644 lib/keri/judge packaging/judge
 644 lib/keri/look packaging/look
 644 lib/keri/door packaging/door
+644 lib/keri/plan packaging/plan
 644 lib/keri/words packaging/words
 755 bin/keri keri
 755 bin/keri-accepts keri-accepts
