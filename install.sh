@@ -57,6 +57,7 @@ files() {
 755 $program release/keri-x86_64-linux
 644 lib/keri/judge packaging/judge
 644 lib/keri/look packaging/look
+644 lib/keri/answers packaging/answers
 644 lib/keri/door packaging/door
 644 lib/keri/plan packaging/plan
 644 lib/keri/words packaging/words
