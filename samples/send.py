@@ -13,11 +13,13 @@ import time
 
 if signal.getsignal(signal.SIGINT) is signal.default_int_handler:
     signal.signal(signal.SIGINT, signal.SIG_DFL)  # Ctrl-C ends it without a word
+if sys.stdin is None or sys.stdout is None:
+    sys.exit("send.py: standard input or output is closed")  # the link may not come to stand there
+if sys.stderr is None:
+    sys.stderr = open(os.devnull, "w")
 if len(sys.argv) != 3 or not sys.argv[2].isdecimal():
     print("usage: send.py HOST PORT < messages > receipts", file=sys.stderr)
     sys.exit(2)
-if sys.stdin is None or sys.stdout is None:
-    sys.exit("send.py: standard input or output is closed")  # the link may not come to stand there
 host, port = sys.argv[1:]
 for attempt in range(101):
     try:
@@ -46,9 +48,9 @@ def send():
 sender = threading.Thread(target=send, daemon=True)
 sender.start()
 try:
-    while piece := link.recv(65536):
-        sys.stdout.buffer.write(piece)
-        sys.stdout.buffer.flush()
+    while rest := link.recv(65536):
+        while rest:
+            rest = rest[os.write(1, rest):]  # a write may take a part alone
 except OSError as fault:
     faults.append(fault)
 if is_sent.wait(0.1):
