@@ -61,6 +61,7 @@ files() {
 644 lib/keri/door packaging/door
 644 lib/keri/plan packaging/plan
 644 lib/keri/words packaging/words
+644 lib/keri/reports.py packaging/reports.py
 755 bin/keri keri
 755 bin/keri-accepts keri-accepts
 755 bin/keri-receipt keri-receipt

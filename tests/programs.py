@@ -1,6 +1,7 @@
 """The program that a script runs."""
 import os
 import pathlib
+import resource
 import shutil
 import signal
 import subprocess
@@ -50,3 +51,27 @@ def interrupted(folder, script, *words):
         os.killpg(child.pid, signal.SIGKILL)
         return "it ran on", *child.communicate()
     return child.returncode, out, error
+
+
+def cut_short(folder, *words, most=100):
+    """How a script ends where its output takes so many bytes alone, and how many are there then: with Python's buffer
+    and without, and where it is closed."""
+    found = []
+    for unbuffered in "", "1":
+        with open(folder / "cut", "wb") as file:
+            done = subprocess.run(words, stdin=subprocess.DEVNULL, stdout=file, stderr=subprocess.DEVNULL,
+                                  env=dict(os.environ, PYTHONUNBUFFERED=unbuffered), timeout=SECONDS,
+                                  preexec_fn=lambda: resource.setrlimit(resource.RLIMIT_FSIZE, (most, most)))
+        found.append((done.returncode, (folder / "cut").stat().st_size))
+    return [*found, without(words, 1)[0]]
+
+
+def without(words, *streams):
+    """How a script ends where these standard streams are closed, and what it writes to the others."""
+    def close():
+        for stream in streams:
+            os.close(stream)
+
+    done = subprocess.run(words, stdin=subprocess.DEVNULL, stdout=subprocess.PIPE, stderr=subprocess.PIPE,
+                          preexec_fn=close, timeout=SECONDS)
+    return done.returncode, done.stdout.decode(), done.stderr.decode()

@@ -1,0 +1,136 @@
+"""What keri-picture and keri-receipt share: how words are read and faults told, what is read and written, and the
+report of `keri validate` with the bodies of a stream.
+
+`keri` is the one beside the script that was started. In a clone this file is in packaging, and install.sh puts it into
+lib/keri.
+"""
+import argparse
+import fcntl
+import os
+import re
+import signal
+import subprocess
+import sys
+
+KERI = os.path.join(os.path.dirname(os.path.realpath(sys.argv[0])), "keri")
+DONE, WORDS, REFUSED, CONFLICT, READ_FAULT, WRITE_FAULT, HELPER_FAULT, NO_PROGRAM = 0, 2, 3, 4, 5, 6, 7, 70
+REPORTED = {DONE, REFUSED, CONFLICT}  # with these `keri validate` has reported
+
+
+class Fault(Exception):
+    """What ends a script: the status, and what is said."""
+
+
+def shown(text):
+    """A text as it is told: nothing in it acts on a terminal."""
+    return re.sub(r"[\x00-\x1f\x7f-\x9f]", "?", text)
+
+
+def say(text):
+    """Says a text on standard error, where that takes it."""
+    try:
+        os.write(2, (text + "\n").encode(errors="backslashreplace"))
+    except OSError:
+        pass
+
+
+def put(data):
+    """Writes all of the bytes to standard output. A write may take a part alone."""
+    rest = memoryview(data)
+    try:
+        while rest:
+            rest = rest[os.write(1, rest):]
+    except OSError as fault:
+        raise Fault(WRITE_FAULT, f"standard output: {fault.strerror}") from None
+
+
+class Words(argparse.ArgumentParser):
+    """The words of a script; a helper is among them."""
+
+    def __init__(self, **more):
+        super().__init__(allow_abbrev=False, formatter_class=argparse.RawDescriptionHelpFormatter, **more)
+        self.add_argument("--helper", required=True, metavar="HELPER",
+                          help="as for keri: a program, or `rehearsal`, which gives no security")
+
+    def error(self, message):
+        say(f"{self.format_usage()}{self.prog}: error: {shown(message)}")
+        sys.exit(WORDS)
+
+    def print_help(self, file=None):
+        put(self.format_help().encode())
+
+
+def content(path):
+    """What a file holds, or standard input where it is -."""
+    try:
+        with open(0 if path == "-" else path, "rb", closefd=path != "-") as file:
+            return file.read()
+    except OSError as fault:
+        raise Fault(READ_FAULT, f"{path}: {fault.strerror}") from None
+
+
+def ask(*words, stream):
+    """How `keri` ends with the words and - where the stream is its input, and the lines that it writes, each as its
+    words."""
+    try:
+        done = subprocess.run([KERI, *words, "-"], input=stream, stdout=subprocess.PIPE)
+    except FileNotFoundError:
+        raise Fault(NO_PROGRAM, "there is no keri beside this script: install again") from None
+    except OSError as fault:
+        raise Fault(NO_PROGRAM, f"{KERI}: {fault.strerror}") from None
+    status = done.returncode if done.returncode >= 0 else 128 - done.returncode  # as a shell has it where a signal ended it
+    return status, [line.split(" ") for line in done.stdout.decode(errors="replace").splitlines()]
+
+
+def report(helper, stream):
+    """The status and the lines of `keri validate`, where it has reported."""
+    status, lines = ask("validate", f"--helper={helper}", stream=stream)
+    if status not in REPORTED:
+        raise Fault(status, f"keri validate ended with {status}")
+    return status, lines
+
+
+def refused(lines):
+    """The lines of a report that say what was refused."""
+    return [" ".join(line) for line in lines if line[0] in ("refused", "malformed")]
+
+
+def texts(stream):
+    """The bodies of a stream, one after the other. Groups hold no brace, so the next one begins the next body."""
+    place = stream.find(b"{")
+    while place >= 0:
+        end = place + int(stream[place + 16:place + 22], 16)
+        yield stream[place:end]
+        place = stream.find(b"{", end)
+
+
+def fill_streams():
+    """Puts something that can't be read or written where a standard stream is closed, lest a pipe come to stand
+    there."""
+    for stream in range(3):
+        try:
+            os.fstat(stream)
+        except OSError:
+            os.set_inheritable(os.open(os.devnull, os.O_RDONLY if stream else os.O_WRONLY), True)
+
+
+def look_at_output():
+    """Sees that standard output isn't closed, before something is done for its sake that can't be taken back."""
+    if fcntl.fcntl(1, fcntl.F_GETFL) & os.O_ACCMODE == os.O_RDONLY:
+        raise Fault(WRITE_FAULT, "standard output: it is closed")
+
+
+def run(form, act):
+    """Has the function act on the words, and ends the script with the status that it answers, or with that of a
+    fault."""
+    if signal.getsignal(signal.SIGINT) is signal.default_int_handler:
+        signal.signal(signal.SIGINT, signal.SIG_DFL)  # Ctrl-C ends it without a word
+    fill_streams()
+    try:
+        asked = form.parse_args()
+        look_at_output()
+        status = act(asked)
+    except Fault as fault:
+        status, told = fault.args
+        say(f"{form.prog}: {shown(told)}")
+    sys.exit(status)
