@@ -1,11 +1,12 @@
 """What keri-picture and keri-receipt share: how words are read and faults told, what is read and written, and the
-report of `keri validate` with the bodies of a stream.
+report of `keri validate` with the bodies of the events that it names.
 
 `keri` is the one beside the script that was started. In a clone this file is in packaging, and install.sh puts it into
 lib/keri.
 """
 import argparse
 import fcntl
+import json
 import os
 import re
 import signal
@@ -13,8 +14,12 @@ import subprocess
 import sys
 
 KERI = os.path.join(os.path.dirname(os.path.realpath(sys.argv[0])), "keri")
-DONE, WORDS, REFUSED, CONFLICT, READ_FAULT, WRITE_FAULT, HELPER_FAULT, NO_PROGRAM = 0, 2, 3, 4, 5, 6, 7, 70
+DONE, WORDS, REFUSED, CONFLICT, READ_FAULT, WRITE_FAULT, HELPER_FAULT, NO_REPORT, NO_PROGRAM = 0, 2, 3, 4, 5, 6, 7, 15, 70
 REPORTED = {DONE, REFUSED, CONFLICT}  # with these `keri validate` has reported
+SIZES = {"event": 6, "state": 7, "waits": 5}  # of a line of the report: how many words it has
+KINDS = {"icp", "rot", "ixn", "dip", "drt"}
+VERSION = re.compile(rb'\{"v":"KERI10JSON([0-9a-f]{6})_"')
+FRONT = re.compile(rb'.{24},"t":"\w{3}","d":"([A-Za-z0-9_-]{44})"')
 
 
 class Fault(Exception):
@@ -87,6 +92,8 @@ def report(helper, stream):
     status, lines = ask("validate", f"--helper={helper}", stream=stream)
     if status not in REPORTED:
         raise Fault(status, f"keri validate ended with {status}")
+    if any(len(line) != SIZES.get(line[0], len(line)) for line in lines):
+        raise Fault(NO_REPORT, "the report of keri validate isn't whole")
     return status, lines
 
 
@@ -96,12 +103,28 @@ def refused(lines):
 
 
 def texts(stream):
-    """The bodies of a stream, one after the other. Groups hold no brace, so the next one begins the next body."""
+    """The bodies of a stream, one after the other, up to where `keri` reads no body any more. Groups hold no brace, so
+    the next one begins the next body."""
     place = stream.find(b"{")
-    while place >= 0:
-        end = place + int(stream[place + 16:place + 22], 16)
+    while head := VERSION.match(stream, place) if place >= 0 else None:
+        end = place + int(head[1], 16)
+        if not head.end() <= end <= len(stream):
+            return
         yield stream[place:end]
         place = stream.find(b"{", end)
+
+
+def bodies(stream, saids):
+    """What the events with these digests say, by their digests. `keri check` says of each body that names one whether
+    that is its own. A number is a float, whatever it has of digits."""
+    named = [text for text in texts(stream) if (front := FRONT.match(text)) and front[1].decode() in saids]
+    status, lines = ask("check", stream=b"".join(named))
+    if status not in (DONE, REFUSED):
+        raise Fault(status, f"keri check ended with {status}")
+    found = {line[3]: json.loads(text, parse_int=float) for line, text in zip(lines, named) if line[0] in KINDS}
+    if not found.keys() >= saids:
+        raise Fault(NO_REPORT, "the report of keri validate isn't that of the FILE")
+    return found
 
 
 def fill_streams():
