@@ -65,6 +65,16 @@ class Words(argparse.ArgumentParser):
         put(self.format_help().encode())
 
 
+def primitive(codes, name):
+    """What judges a word that is a primitive of 44 characters with one of these codes."""
+    def judged(text):
+        if not re.fullmatch(f"[{codes}][A-Za-z0-9_-]{{43}}", text):
+            *others, last = codes
+            raise argparse.ArgumentTypeError(f"{name} has 44 characters, the first of them {', '.join(others)}{' or ' if others else ''}{last}")
+        return text
+    return judged
+
+
 def content(path):
     """What a file holds, or standard input where it is -."""
     try:
