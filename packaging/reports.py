@@ -5,6 +5,7 @@ report of `keri validate` with the bodies of the events that it names.
 lib/keri.
 """
 import argparse
+import contextlib
 import fcntl
 import json
 import os
@@ -14,7 +15,9 @@ import subprocess
 import sys
 
 KERI = os.path.join(os.path.dirname(os.path.realpath(sys.argv[0])), "keri")
-DONE, WORDS, REFUSED, CONFLICT, READ_FAULT, WRITE_FAULT, HELPER_FAULT, NO_REPORT, NO_PROGRAM = 0, 2, 3, 4, 5, 6, 7, 15, 70
+DONE, WORDS, REFUSED, CONFLICT, READ_FAULT, WRITE_FAULT, HELPER_FAULT, NO_MEMORY = 0, 2, 3, 4, 5, 6, 7, 10
+NO_REPORT, NO_PROGRAM = 15, 70
+MOST_FILES = 64
 REPORTED = {DONE, REFUSED, CONFLICT}  # with these `keri validate` has reported
 SIZES = {"event": 6, "state": 7, "waits": 5}  # of a line of the report: how many words it has
 KINDS = {"icp", "rot", "ixn", "dip", "drt"}
@@ -39,23 +42,32 @@ def say(text):
         pass
 
 
-def put(data):
-    """Writes all of the bytes to standard output. A write may take a part alone."""
+def write_whole(file, data):
+    """Writes all of the bytes to an open file. A write may take a part alone."""
     rest = memoryview(data)
+    while rest:
+        rest = rest[os.write(file, rest):]
+
+
+def put(data):
+    """Writes all of the bytes to standard output."""
     try:
-        while rest:
-            rest = rest[os.write(1, rest):]
+        write_whole(1, data)
     except OSError as fault:
         raise Fault(WRITE_FAULT, f"standard output: {fault.strerror}") from None
 
 
 class Words(argparse.ArgumentParser):
-    """The words of a script; a helper is among them."""
+    """The words of a script; a helper and FILEs are among them."""
 
     def __init__(self, **more):
         super().__init__(allow_abbrev=False, formatter_class=argparse.RawDescriptionHelpFormatter, **more)
         self.add_argument("--helper", required=True, metavar="HELPER",
                           help="as for keri: a program, or `rehearsal`, which gives no security")
+
+    def take_files(self):
+        """Adds the FILEs, behind what other words stand alone."""
+        self.add_argument("files", metavar="FILE", nargs="+", help="a path, or - for standard input; up to 64")
 
     def error(self, message):
         say(f"{self.format_usage()}{self.prog}: error: {shown(message)}")
@@ -84,22 +96,38 @@ def content(path):
         raise Fault(READ_FAULT, f"{path}: {fault.strerror}") from None
 
 
-def ask(*words, stream):
-    """How `keri` ends with the words and - where the stream is its input, and the lines that it writes, each as its
-    words."""
-    try:
-        done = subprocess.run([KERI, *words, "-"], input=stream, stdout=subprocess.PIPE)
-    except FileNotFoundError:
-        raise Fault(NO_PROGRAM, "there is no keri beside this script: install again") from None
-    except OSError as fault:
-        raise Fault(NO_PROGRAM, f"{KERI}: {fault.strerror}") from None
+def in_memory(held, stream):
+    """The number of a new file in memory that holds the stream, and is there for so long."""
+    file = os.memfd_create("stream")
+    held.callback(os.close, file)
+    write_whole(file, stream)
+    return file
+
+
+def ask(*words, streams):
+    """How `keri` ends with the words where the streams are its FILEs, and the lines that it writes, each as its words.
+    One stream is its standard input; of several each is a file in memory."""
+    with contextlib.ExitStack() as held:
+        try:
+            files = [in_memory(held, stream) for stream in streams] if len(streams) > 1 else []
+        except OSError as fault:
+            raise Fault(NO_MEMORY, f"files in memory: {fault.strerror}") from None
+        paths, more = ["-"], {"input": streams[0]}
+        if files:
+            paths, more = [f"/dev/fd/{file}" for file in files], {"stdin": subprocess.DEVNULL, "pass_fds": files}
+        try:
+            done = subprocess.run([KERI, *words, *paths], stdout=subprocess.PIPE, **more)
+        except FileNotFoundError:
+            raise Fault(NO_PROGRAM, "there is no keri beside this script: install again") from None
+        except OSError as fault:
+            raise Fault(NO_PROGRAM, f"{KERI}: {fault.strerror}") from None
     status = done.returncode if done.returncode >= 0 else 128 - done.returncode  # as a shell has it where a signal ended it
     return status, [line.split(" ") for line in done.stdout.decode(errors="replace").splitlines()]
 
 
-def report(helper, stream):
+def report(helper, streams):
     """The status and the lines of `keri validate`, where it has reported."""
-    status, lines = ask("validate", f"--helper={helper}", stream=stream)
+    status, lines = ask("validate", f"--helper={helper}", streams=streams)
     if status not in REPORTED:
         raise Fault(status, f"keri validate ended with {status}")
     if any(len(line) != SIZES.get(line[0], len(line)) for line in lines):
@@ -124,16 +152,16 @@ def texts(stream):
         place = stream.find(b"{", end)
 
 
-def bodies(stream, saids):
+def bodies(streams, saids):
     """What the events with these digests say, by their digests. `keri check` says of each body that names one whether
     that is its own. A number is a float, whatever it has of digits."""
-    named = [text for text in texts(stream) if (front := FRONT.match(text)) and front[1].decode() in saids]
-    status, lines = ask("check", stream=b"".join(named))
+    named = [text for stream in streams for text in texts(stream) if (front := FRONT.match(text)) and front[1].decode() in saids]
+    status, lines = ask("check", streams=[b"".join(named)])
     if status not in (DONE, REFUSED):
         raise Fault(status, f"keri check ended with {status}")
     found = {line[3]: json.loads(text, parse_int=float) for line, text in zip(lines, named) if line[0] in KINDS}
     if not found.keys() >= saids:
-        raise Fault(NO_REPORT, "the report of keri validate isn't that of the FILE")
+        raise Fault(NO_REPORT, "the report of keri validate isn't that of the FILEs")
     return found
 
 
@@ -161,6 +189,8 @@ def run(form, act):
     fill_streams()
     try:
         asked = form.parse_args()
+        if len(asked.files) > MOST_FILES:
+            form.error(f"there are over {MOST_FILES} FILEs")
         look_at_output()
         status = act(asked)
     except Fault as fault:
