@@ -64,10 +64,12 @@ files() {
 644 lib/keri/reports.py packaging/reports.py
 755 bin/keri keri
 755 bin/keri-accepts keri-accepts
+755 bin/keri-keys keri-keys
 755 bin/keri-receipt keri-receipt
 755 bin/keri-picture keri-picture
 644 share/man/man1/keri.1 docs/keri.1
 644 share/man/man1/keri-accepts.1 -
+644 share/man/man1/keri-keys.1 -
 644 share/man/man1/keri-receipt.1 -
 644 share/man/man1/keri-picture.1 -
 644 share/man/man1/keri-ed25519.1 docs/keri-ed25519.1

@@ -1,5 +1,5 @@
-"""What keri-picture and keri-receipt share: how words are read and faults told, what is read and written, and the
-report of `keri validate` with the bodies of the events that it names.
+"""What keri-keys, keri-picture and keri-receipt share: how words are read and faults told, what is read and written,
+and the report of `keri validate` with the bodies of the events that it names.
 
 `keri` is the one beside the script that was started. In a clone this file is in packaging, and install.sh puts it into
 lib/keri.
@@ -57,11 +57,23 @@ def put(data):
         raise Fault(WRITE_FAULT, f"standard output: {fault.strerror}") from None
 
 
+class Once(argparse.Action):
+    """Keeps a value that stands once, and isn't empty."""
+
+    def __call__(self, parser, namespace, value, option=None):
+        if not value:
+            parser.error(f"argument {option or self.metavar}: it is empty")
+        if getattr(namespace, self.dest) is not None:
+            parser.error(f"argument {option}: it stands twice")
+        setattr(namespace, self.dest, value)
+
+
 class Words(argparse.ArgumentParser):
     """The words of a script; a helper and FILEs are among them."""
 
     def __init__(self, **more):
         super().__init__(allow_abbrev=False, formatter_class=argparse.RawDescriptionHelpFormatter, **more)
+        self.register("action", None, Once)
         self.add_argument("--helper", required=True, metavar="HELPER",
                           help="as for keri: a program, or `rehearsal`, which gives no security")
 
@@ -81,8 +93,8 @@ def primitive(codes, name):
     """What judges a word that is a primitive of 44 characters with one of these codes."""
     def judged(text):
         if not re.fullmatch(f"[{codes}][A-Za-z0-9_-]{{43}}", text):
-            *others, last = codes
-            raise argparse.ArgumentTypeError(f"{name} has 44 characters, the first of them {', '.join(others)}{' or ' if others else ''}{last}")
+            first = " or ".join(filter(None, [", ".join(codes[:-1]), codes[-1]]))
+            raise argparse.ArgumentTypeError(f"{name} has 44 characters, the first of them {first}")
         return text
     return judged
 
@@ -121,15 +133,17 @@ def ask(*words, streams):
             raise Fault(NO_PROGRAM, "there is no keri beside this script: install again") from None
         except OSError as fault:
             raise Fault(NO_PROGRAM, f"{KERI}: {fault.strerror}") from None
-    status = done.returncode if done.returncode >= 0 else 128 - done.returncode  # as a shell has it where a signal ended it
+    status = done.returncode if done.returncode >= 0 else 128 - done.returncode  # as a shell tells of a signal
     return status, [line.split(" ") for line in done.stdout.decode(errors="replace").splitlines()]
 
 
 def report(helper, streams):
     """The status and the lines of `keri validate`, where it has reported."""
     status, lines = ask("validate", f"--helper={helper}", streams=streams)
-    if status not in REPORTED:
-        raise Fault(status, f"keri validate ended with {status}")
+    faults = [": " + " ".join(line) for line in lines if line[0] in ("fault", "full")]
+    if status not in REPORTED or faults:
+        told = "".join([f"keri validate ended with {status}", *faults[:1]])
+        raise Fault(NO_REPORT if status in REPORTED else status, told)
     if any(len(line) != SIZES.get(line[0], len(line)) for line in lines):
         raise Fault(NO_REPORT, "the report of keri validate isn't whole")
     return status, lines
@@ -155,7 +169,8 @@ def texts(stream):
 def bodies(streams, saids):
     """What the events with these digests say, by their digests. `keri check` says of each body that names one whether
     that is its own. A number is a float, whatever it has of digits."""
-    named = [text for stream in streams for text in texts(stream) if (front := FRONT.match(text)) and front[1].decode() in saids]
+    fronts = ((FRONT.match(text), text) for stream in streams for text in texts(stream))
+    named = [text for front, text in fronts if front and front[1].decode() in saids]
     status, lines = ask("check", streams=[b"".join(named)])
     if status not in (DONE, REFUSED):
         raise Fault(status, f"keri check ended with {status}")
@@ -196,4 +211,7 @@ def run(form, act):
     except Fault as fault:
         status, told = fault.args
         say(f"{form.prog}: {shown(told)}")
+    except MemoryError:
+        status = NO_MEMORY
+        say(f"{form.prog}: there is no memory")
     sys.exit(status)
