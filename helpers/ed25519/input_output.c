@@ -1,8 +1,11 @@
 #include "input_output.h"
 
 #include <errno.h>
+#include <fcntl.h>
 #include <stdio.h>
 #include <stdlib.h>
+#include <string.h>
+#include <sys/stat.h>
 #include <unistd.h>
 
 void fail(enum status status, const char *subject, const char *fault)
@@ -39,4 +42,14 @@ bool write_whole(int file, const void *bytes, size_t length)
             return false;
     }
     return true;
+}
+
+const char *why_not_opened(int folder, const char *name)
+{
+    int error = errno;
+    struct stat found;
+
+    if (fstatat(folder, name, &found, AT_SYMLINK_NOFOLLOW) == 0 && S_ISLNK(found.st_mode))
+        return "it is a link: refused";
+    return strerror(error);
 }

@@ -25,4 +25,7 @@ ssize_t read_whole(int file, void *bytes, size_t length);
 /* Writes all bytes. At false, errno says why, and some of them may have been written. */
 bool write_whole(int file, const void *bytes, size_t length);
 
+/* Why a file of a folder couldn't be opened where no link is followed, by errno. */
+const char *why_not_opened(int folder, const char *name);
+
 #endif

@@ -5,6 +5,7 @@
 #include <fcntl.h>
 #include <limits.h>
 #include <sodium.h>
+#include <stdlib.h>
 #include <string.h>
 #include <sys/stat.h>
 #include <unistd.h>
@@ -38,10 +39,15 @@ static struct secret *new_secret(void)
 /* What is wrong with what was found, which has to be of the kind and the caller's alone; or NULL. */
 static const char *fault_of(const struct stat *found, mode_t kind)
 {
+    if (S_ISLNK(found->st_mode))
+        return "it is a link: refused";
     if ((found->st_mode & S_IFMT) != kind)
         return "it isn't a plain file: refused";
-    if (found->st_uid != geteuid() || (found->st_mode & 077) != 0)
-        return "others can read or write it, or it isn't yours: refused";
+    if (found->st_uid != geteuid())
+        return "it isn't yours: refused";
+    if ((found->st_mode & 077) != 0)
+        return kind == S_IFDIR ? "others can read or write it: refused (where nobody has: chmod 700 DIR)"
+                               : "others can read or write it: refused (where nobody has: chmod 600 FILE)";
     return NULL;
 }
 
@@ -64,10 +70,13 @@ static const char *without_slashes(const char *path)
 static int open_folder(const char *path)
 {
     struct stat found;
-    int folder = open(without_slashes(path), O_RDONLY | O_DIRECTORY | O_NOFOLLOW | O_CLOEXEC);
-    bool is_there = folder >= 0 && fstat(folder, &found) == 0;
-    const char *fault = is_there ? fault_of(&found, S_IFDIR) : strerror(errno);
+    const char *name = without_slashes(path);
+    int folder = open(name, O_RDONLY | O_DIRECTORY | O_NOFOLLOW | O_CLOEXEC);
+    const char *fault;
 
+    if (folder < 0)
+        fail(KEY_FAULT, path, why_not_opened(AT_FDCWD, name));
+    fault = fstat(folder, &found) == 0 ? fault_of(&found, S_IFDIR) : strerror(errno);
     if (fault != NULL)
         fail(KEY_FAULT, path, fault);
     return folder;
@@ -95,14 +104,23 @@ static const char *fault_of_entry(int folder, const char *name)
     return fault_of(&found, S_IFREG);
 }
 
+/* The entries of the folder, to be read one by one. */
+static DIR *entries_of(int folder, const char *path)
+{
+    int copy = dup(folder);
+    DIR *entries = copy < 0 ? NULL : fdopendir(copy);
+
+    if (entries == NULL)
+        fail(KEY_FAULT, path, strerror(errno));
+    return entries;
+}
+
 /* Looks at all that is in the folder: plain files that are the caller's alone. */
 static void look_through(int folder)
 {
-    DIR *entries = fdopendir(dup(folder));
+    DIR *entries = entries_of(folder, "the folder");
     const struct dirent *entry;
 
-    if (entries == NULL)
-        fail(KEY_FAULT, "the folder", strerror(errno));
     for (errno = 0; (entry = readdir(entries)) != NULL; errno = 0) {
         const char *fault = fault_of_entry(folder, entry->d_name);
         if (fault != NULL)
@@ -197,7 +215,7 @@ static const char *read_line(int folder, const char *key, struct secret *secret)
     ssize_t count = 0;
 
     if (file < 0)
-        return errno == ENOENT ? "there is no such key" : strerror(errno);
+        return errno == ENOENT ? "there is no such key" : why_not_opened(folder, key);
     fault = fstat(file, &found) == 0 ? fault_of(&found, S_IFREG) : strerror(errno);
     if (fault == NULL && (count = read_whole(file, secret->line, sizeof secret->line)) < 0)
         fault = strerror(errno);
@@ -239,6 +257,63 @@ void sign_with(const char *path, const char *key, const unsigned char *body, siz
     if (lock >= 0)
         (void)close(lock);
     (void)close(folder);
+}
+
+/* Whether a file of this name is a key's. */
+static bool is_key(const char *name)
+{
+    unsigned char key[KEY_BYTES];
+
+    return strlen(name) == KEY_CHARACTERS && read_key(name, key);
+}
+
+static int by_spelling(const void *one, const void *other)
+{
+    return memcmp(one, other, KEY_CHARACTERS);
+}
+
+/* The names of the folder's keys, in the order of their spellings; how many goes to the count. */
+static key_name *key_names(int folder, const char *path, size_t *count)
+{
+    DIR *entries = entries_of(folder, path);
+    const struct dirent *entry;
+    key_name *names = NULL;
+
+    *count = 0;
+    for (errno = 0; (entry = readdir(entries)) != NULL; errno = 0) {
+        if (!is_key(entry->d_name))
+            continue;
+        key_name *more = realloc(names, (*count + 1) * sizeof *names);
+        if (more == NULL)
+            fail(KEY_FAULT, "memory", strerror(errno));
+        names = more;
+        memcpy(names[(*count)++], entry->d_name, sizeof *names);
+    }
+    if (errno != 0)
+        fail(KEY_FAULT, path, strerror(errno));
+    (void)closedir(entries);
+    if (*count == 0)
+        fail(KEY_FAULT, path, "there is no key in it");
+    qsort(names, *count, sizeof *names, by_spelling);
+    return names;
+}
+
+key_name *kept_keys(const char *path, size_t *count)
+{
+    int folder = open_folder(path);
+    key_name *names = key_names(folder, path, count);
+
+    for (size_t place = 0; place < *count; place++) {
+        struct secret *secret = new_secret();
+        const char *fault = read_line(folder, names[place], secret);
+        if (fault == NULL)
+            fault = read_pair(names[place], secret);
+        sodium_free(secret);
+        if (fault != NULL)
+            fail(KEY_FAULT, names[place], fault);
+    }
+    (void)close(folder);
+    return names;
 }
 
 void allow_event(const char *path, const char *key, const char *said)

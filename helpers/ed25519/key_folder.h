@@ -12,6 +12,13 @@
    then. The key is spelled with the code, B or D, and a NUL behind. */
 void make_key(const char *folder, char code, char key[KEY_CHARACTERS + 1]);
 
+/* A key's spelling with a NUL behind. */
+typedef char key_name[KEY_CHARACTERS + 1];
+
+/* The keys that the folder keeps, one or more, in the order of their spellings; how many goes to the count. Each of
+   their files is looked at and read as for signing, and nothing is written. The caller frees them. */
+key_name *kept_keys(const char *folder, size_t *count);
+
 /* Signs the body with the secret of the key, whose spelling is the file's name. An event is recorded before, and
    refused where the key has signed another one for its place. */
 void sign_with(const char *folder, const char *key, const unsigned char *body, size_t length,

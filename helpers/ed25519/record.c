@@ -58,7 +58,9 @@ static const char *open_locked(int folder, const char *name, int *file)
     struct stat found;
 
     *file = openat(folder, name, O_RDWR | O_CREAT | O_NOFOLLOW | O_NONBLOCK | O_CLOEXEC, 0600);
-    if (*file < 0 || fstat(*file, &found) != 0)
+    if (*file < 0)
+        return told(why_not_opened(folder, name));
+    if (fstat(*file, &found) != 0)
         return told(strerror(errno));
     if (!S_ISREG(found.st_mode) || found.st_uid != geteuid() || (found.st_mode & 077) != 0)
         return told("the file isn't a plain one, or isn't yours alone");
