@@ -1,6 +1,6 @@
 #!/bin/sh
 # Copies the program, the scripts round it, the Ed25519 helper where it is built, the manual pages, three pages of the
-# documents, and the completions for bash and zsh into a folder, or removes them from there. It builds nothing.
+# documents, the samples, and the completions for bash and zsh into a folder, or removes them from there. It builds nothing.
 set -u
 umask 022
 
@@ -81,6 +81,12 @@ files() {
 644 share/zsh/site-functions/_keri -
 755 bin/keri-ed25519 $helper
 TEXT
+    # What a sample left that was run in its folder is none.
+    (cd "$top" && find samples -type f ! -path samples/shelf ! -path '*/__pycache__/*') | LC_ALL=C sort | while read -r sample; do
+        mode=644
+        [ "${sample##*/}" != send.py ] || mode=755
+        echo "$mode share/doc/keri/examples/${sample#samples/} $sample"
+    done
 }
 
 # Writes a file that is made here.
@@ -112,7 +118,7 @@ if [ -n "$uninstall" ]; then
         while read -r _ place _; do
             rm -f "$into/$place" || refuse "$into/$place couldn't be removed"
         done
-        rmdir "$into/lib/keri" "$into/share/doc/keri" 2>/dev/null
+        find "$into/lib/keri" "$into/share/doc/keri" -depth -type d -exec rmdir {} + 2>/dev/null
         exit 0
     } || exit 1
     echo "keri is removed from $into"
