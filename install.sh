@@ -1,6 +1,7 @@
 #!/bin/sh
 # Copies the program, the scripts round it, the Ed25519 helper where it is built, the manual pages, three pages of the
-# documents, the samples, and the completions for bash and zsh into a folder, or removes them from there. It builds nothing.
+# documents, the samples, and the completions for bash and zsh into a folder, or removes them from there. It builds
+# nothing.
 set -u
 umask 022
 
@@ -77,24 +78,27 @@ files() {
 644 share/doc/keri/FORMATS.md docs/FORMATS.md
 644 share/doc/keri/WITNESS.md docs/WITNESS.md
 644 share/doc/keri/copyright LICENSE
-644 share/bash-completion/completions/keri -
-644 share/zsh/site-functions/_keri -
 755 bin/keri-ed25519 $helper
 TEXT
-    # What a sample left that was run in its folder is none.
-    (cd "$top" && find samples -type f ! -path samples/shelf ! -path '*/__pycache__/*') | LC_ALL=C sort | while read -r sample; do
-        mode=644
-        [ "${sample##*/}" != send.py ] || mode=755
-        echo "$mode share/doc/keri/examples/${sample#samples/} $sample"
+    for name in keri keri-accepts keri-keys keri-receipt keri-picture keri-ed25519; do
+        echo "644 share/bash-completion/completions/$name -"
+        echo "644 share/zsh/site-functions/_$name -"
     done
+    # What a sample left that was run in its folder is none.
+    (cd "$top" && find samples -type f ! -path samples/shelf ! -path '*/__pycache__/*') | LC_ALL=C sort |
+        while read -r sample; do
+            mode=644
+            [ "${sample##*/}" != send.py ] || mode=755
+            echo "$mode share/doc/keri/examples/${sample#samples/} $sample"
+        done
 }
 
 # Writes a file that is made here.
 made() {
     case $1 in
         *.1) echo '.so man1/keri.1' ;;
-        */bash-completion/*) "$top/packaging/completions" bash ;;
-        */zsh/*) "$top/packaging/completions" zsh ;;
+        */bash-completion/*) "$top/packaging/completions" bash "${1##*/}" ;;
+        */zsh/*) "$top/packaging/completions" zsh "${1##*/_}" ;;
     esac
 }
 
