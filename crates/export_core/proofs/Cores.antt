@@ -33,7 +33,9 @@ use Rattle.export_core.specs.Export.{IsExport}
 use Rattle.export_core.specs.Exported.{IsWritten}
 use Rattle.export_core.specs.Messages.{IsExportText}
 use Rattle.export_core.specs.declared.exported_events.Exported.{Exported}
+use Rattle.export_core.proofs.MayBeTaken.{export_taken}
 use Rattle.export_core.proofs.Reading.{export_held, text_reads}
+use Rattle.export_core.proofs.Retold.{retold}
 use Rattle.export_core.proofs.Wanting.{wanted}
 
 stepped_some : (s : State) (e : Event) → is_some (stepped (Some s) e) ≡ true
@@ -127,7 +129,11 @@ module _ (core : CoreView) (full : core.mode ≡ Full) (no_base : core.base ≡ 
             messages_are_signed (told_of core) b m there (wanted (accepted Full [] (told_of core)) b log_held its)
             (subst (λ log. Contains (messages_of (told_of core) log b) m) full_log sent);
         count_is = is.count_is;
-        copied = λ whole clash replay. export_is_copied (told_of core) whole prefix is.family regular (subst HasNoClash full_log clash) (subst (λ log. IsFamily log prefix is.family) full_log is.is_family) replay;
+        copied = λ limits refused whole clash reads. let again = retold (export (told_of core) is.family) written.text.items (export_taken (told_of core) is.family log_held)
+            (export_held (told_of core) is.family all_held) its_text limits refused whole reads in (
+              again.0,
+              export_is_copied (told_of core) whole prefix is.family regular (subst HasNoClash full_log clash) (subst (λ log. IsFamily log prefix is.family) full_log is.is_family) again.1,
+            );
       }
     where
       all_held : All IsHeld (bodies [] (told_of core))

@@ -10,4 +10,9 @@ pub mod Putting
 pub mod Fixed
 pub mod Reading
 pub mod Wanting
+pub mod Alike
+pub mod LikeClaims
+pub mod LikeMessages
+pub mod Retold
+pub mod MayBeTaken
 pub mod Cores

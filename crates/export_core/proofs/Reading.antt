@@ -1,5 +1,5 @@
 -- What is written of messages is read as these messages.
-use Rattle.std.proofs.Common.{◌≡◌, ℕ, ◌≤◌, Bool, true, List, [], ◌∷◌, ◌++◌, length, map, refl, sym, ◌∙◌, subst, arith}
+use Rattle.std.proofs.Common.{◌≡◌, ℕ, ◌+◌, ◌≤◌, Bool, true, List, [], ◌∷◌, ◌++◌, length, map, refl, sym, ◌∙◌, ap, subst, arith}
 use Rattle.std.specs.Prelude.{All, flat_map}
 use Rattle.std.proofs.lemmas.List.Concat.{flat_map-append}
 use Rattle.std.proofs.lemmas.List.Elements.{All-append, All-cons, All-filter, All-head, All-nil, All-tail}
@@ -23,7 +23,7 @@ use Rattle.cesr_codes.specs.declared.prefix.Prefix.{Prefix}
 use Rattle.export_laws.specs.Export.{Sent, cut_claims, export, exported, is_of_some, messages_of, sent_claims}
 use Rattle.watcher_core.specs.Evidence.{placed_from}
 use Rattle.watcher_core.proofs.Written.{MayCome, MayFollow, written_reads}
-use Rattle.export_core.specs.Messages.{IsExportText, IsMessageText, couple_group, held_group, witness_group}
+use Rattle.export_core.specs.Messages.{IsExportText, IsMessageText, MayBeSent, couple_group, held_group, witness_group}
 use Rattle.export_core.specs.Reading.{AreItems, AreItemsOf, ReadsAs}
 
 -- a group may follow a body, where there is one
@@ -43,10 +43,20 @@ follow_on : (begun : Bool) (xs ys : List Item) → MayFollow begun xs → MayCom
 follow_on begun [] ys first behind = behind begun
 follow_on begun (x ∷ xs) ys first behind = (first.0, first.1, first.2, follow_on true xs ys first.3 behind)
 
+-- the items of a message, of which there are few enough, with raw bytes that are bytes
+pub record IsSentAs (m : Sent) (items : List Item) : Type 0 where
+  pub are : AreItemsOf m items
+  pub sent : MayBeSent are.held are.witness are.couples
+
+abbrev pub AreSent : List Sent → List Item → Type 0
+AreSent [] items = items ≡ []
+AreSent (m ∷ more) items = (front rest : List Item) × IsSentAs m front × AreSent more rest × (items ≡ front ++ rest)
+
 -- the items of a text of messages
 pub record Spells (ms : List Sent) (text : List ℕ) : Type 0 where
   pub items : List Item
   pub are_items : AreItems ms items
+  pub are_sent : AreSent ms items
   pub come : MayCome items
   pub text_is : text ≡ flat_map item_text items
 
@@ -77,8 +87,9 @@ module _ (m : Sent) (held : IsHeld m.body) (text : List ℕ) (is : IsMessageText
   )
 
 -- MESSAGES
-spells : (ms : List Sent) (text : List ℕ) → All (λ m. IsHeld m.body) ms → IsExportText ms text → Spells ms text
-spells [] text held is = record { items = []; are_items = refl; come = λ begun. tt; text_is = is }
+pub spells : (ms : List Sent) (text : List ℕ) → All (λ m. IsHeld m.body) ms → IsExportText ms text → Spells ms text
+unfolding its_items
+spells [] text held is = record { items = []; are_items = refl; are_sent = refl; come = λ begun. tt; text_is = is }
 spells (m ∷ more) text held is =
     let one = All-head (λ m. IsHeld m.body) m more held in
     let rest = spells more is.1 (All-tail (λ m. IsHeld m.body) m more held) is.3 in
@@ -86,9 +97,17 @@ spells (m ∷ more) text held is =
     record {
       items = front ++ rest.items;
       are_items = (front, rest.items, its_items m one is.0 is.2, rest.are_items, refl);
+      are_sent = (front, rest.items, record { are = its_items m one is.0 is.2; sent = is.2.sent }, rest.are_sent, refl);
       come = λ begun. follow_on begun front rest.items (items_come m one is.0 is.2 begun) rest.come;
       text_is = is.4 ∙ (λ i. is.2.text_is i ++ rest.text_is i) ∙ sym (flat_map-append item_text front rest.items);
     }
+
+pub spelled_reads : (ms : List Sent) (text : List ℕ) (s : Spells ms text) → Items 65535 text (placed_from 0 s.items) unfinished
+spelled_reads ms text s = subst (λ bytes. Items 65535 bytes (placed_from 0 s.items) unfinished) (sym s.text_is) (written_reads s.items s.come)
+
+pub placed_items : (place : ℕ) (items : List Item) → map (λ p. p.item) (placed_from place items) ≡ items
+placed_items place [] = refl
+placed_items place (item ∷ items) = ap (λ xs. item ∷ xs) (placed_items (place + length (item_text item)) items)
 
 pub text_reads : (ms : List Sent) (text : List ℕ) → All (λ m. IsHeld m.body) ms → IsExportText ms text → ReadsAs ms text
 text_reads ms text held is =
@@ -96,7 +115,7 @@ text_reads ms text held is =
     record {
       items = s.items;
       are_items = s.are_items;
-      reads = subst (λ bytes. Items 65535 bytes (placed_from 0 s.items) unfinished) (sym s.text_is) (written_reads s.items s.come);
+      reads = spelled_reads ms text s;
     }
 
 -- HELD: the bodies of the messages are held

@@ -71,17 +71,17 @@ couple_witness (Held s) h = cc
 couple_witness (Witness s) h = cc
 couple_witness (CoupleClaim key sig) h = refl
 
-ordered_held : (claims : List Claim) → filter is_held (ordered claims) ≡ filter is_held claims
+pub ordered_held : (claims : List Claim) → filter is_held (ordered claims) ≡ filter is_held claims
 ordered_held claims = ordered_parts is_held claims
     ∙ (λ i. left_in is_held is_held (λ c h. h) claims i ++ (left_out is_held is_witness witness_held claims i ++ left_out is_held is_couple couple_held claims i))
     ∙ append-nil (filter is_held claims)
 
-ordered_witness : (claims : List Claim) → filter is_witness (ordered claims) ≡ filter is_witness claims
+pub ordered_witness : (claims : List Claim) → filter is_witness (ordered claims) ≡ filter is_witness claims
 ordered_witness claims = ordered_parts is_witness claims
     ∙ (λ i. left_out is_witness is_held held_witness claims i ++ (left_in is_witness is_witness (λ c h. h) claims i ++ left_out is_witness is_couple couple_witness claims i))
     ∙ append-nil (filter is_witness claims)
 
-ordered_couples : (claims : List Claim) → filter is_couple (ordered claims) ≡ filter is_couple claims
+pub ordered_couples : (claims : List Claim) → filter is_couple (ordered claims) ≡ filter is_couple claims
 ordered_couples claims = ordered_parts is_couple claims
     ∙ (λ i. left_out is_couple is_held held_couple claims i ++ (left_out is_couple is_witness witness_couple claims i ++ left_in is_couple is_couple (λ c h. h) claims i))
 

@@ -5,17 +5,21 @@ use Rattle.cesr_codes.specs.declared.prefix.Prefix.{Prefix}
 use Rattle.core_laws.specs.Standing.{HasNoClash}
 use Rattle.export_core.specs.Messages.{IsExportText}
 use Rattle.export_core.specs.Reading.{ReadsAs}
-use Rattle.export_laws.specs.Export.{IsCopy, IsFamily, Replays, Sent, export, exported, messages_of}
+use Rattle.export_core.specs.Retelling.{ReadsAlone}
+use Rattle.export_laws.specs.Export.{IsCopy, IsFamily, Sent, export, exported, messages_of}
 use Rattle.journal.specs.declared.body.Body.{Body}
 use Rattle.journal.specs.History.{Told}
 use Rattle.journal.specs.Logs.{is_of}
 use Rattle.journal.specs.Replies.{is_held}
+use Rattle.journal.specs.declared.refusal.Refusal.{Refusal}
+use Rattle.keri_outside.specs.declared.limits.Limits.{Limits}
 use Rattle.validator_core.specs.View.{CoreView, accepted_by, told_of}
 
--- The text is that of the messages of the accepted events of the identifier's family, of which it has one itself; and whoever reads
--- it reads just these messages. Each message of an event has a signature of its controller, so that none is refused as unsigned.
--- Where no two different events of an identifier and number have one digest, each full validator that takes these messages in order,
--- and hears yes of each question, accepts just these events, in this order.
+-- The text is that of the messages of the accepted events of the identifier's family, of which it has one itself; and
+-- whoever reads it reads just these messages. Each message of an event has a signature of its controller, so that none is
+-- refused as unsigned. Where no two different events of an identifier and number have one digest, each full validator that
+-- is told by one reader of this text alone, whose verifier says yes to all, refuses no message, and accepts just these
+-- events, in this order.
 pub record IsExport (core : CoreView) (first : Prefix) (text : List ℕ) (count : ℕ) : Type 0 where
   pub family : List Prefix
   pub is_family : IsFamily (accepted_by core) first family
@@ -25,5 +29,5 @@ pub record IsExport (core : CoreView) (first : Prefix) (text : List ℕ) (count 
   pub signed : (b : Body) (m : Sent) → Contains (accepted_by core) b → Contains (messages_of (told_of core) (accepted_by core) b) m
       → list_any is_held m.claims ≡ true
   pub count_is : count ≡ length (exported family (accepted_by core))
-  pub copied : (whole : List Told) → HasNoClash (accepted_by core) → Replays (export (told_of core) family) [] whole
-      → IsCopy family (told_of core) whole
+  pub copied : (limits : Limits) (refused : List Refusal) (whole : List Told) → HasNoClash (accepted_by core) → ReadsAlone limits text refused whole
+      → (refused ≡ []) × IsCopy family (told_of core) whole

@@ -4,4 +4,5 @@ pub mod Signers
 pub mod Came
 pub mod GoodClaims
 pub mod Exported
+pub mod Retelling
 pub mod Export

@@ -17,7 +17,8 @@ pub fn export(alloc: Global, core: &Core, prefix: &Prefix) -> Result<Option<Expo
     requires full { core.now.mode ≡ Full }
     requires no_base { core.now.base ≡ 0 }
 
-    // A full validator that takes the text accepts just these events.
+    // A full validator that one reader alone tells of the text, with yes to all, accepts just these events, where no two of
+    // them have one digest.
     ensures exported { IfOk result (λ exported. IfSome exported (λ e.
         IsExport core.now prefix.now e.text.items e.count)) }
 

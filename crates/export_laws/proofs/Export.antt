@@ -20,7 +20,7 @@ use Rattle.journal.specs.Readiness.{is_backed, is_ready, signed, yes_to}
 use Rattle.journal.specs.Seals.{anchored, delegator_of, forbids, has_trait, is_sealed, seals}
 use Rattle.journal.proofs.Accepting.{accepted_extends, same_body-refl}
 use Rattle.core_laws.specs.Standing.{HasNoClash}
-use Rattle.export_laws.specs.Export.{ExportLaw, Replays, Sent, cut_claims, delegator, delegator_if, export, exported, is_good, is_of_some, messages_of, rules_under, sent_claims}
+use Rattle.export_laws.specs.Export.{AreRetold, ExportLaw, Sent, cut_claims, delegator, delegator_if, export, exported, is_good, is_of_some, messages_of, rules_under, sent_claims}
 use Rattle.key_state.proofs.Among.{Among, among, among_first, among_left, among_left_by, among_right, contained, distinct_among, left_among, passed, passing}
 use Rattle.journal_laws.proofs.Came.{accepted_came, bodies_differ, bodies_more, claims_more, grown, none_ready, same_bytes, were_ready}
 use Rattle.export_laws.proofs.Ready.{ready_by, ready_parts, yes_more}
@@ -28,6 +28,7 @@ use Rattle.export_laws.proofs.Family.{before_family, delegator_is, family_of, of
 use Rattle.journal_laws.proofs.Followed.{before_stays, follows, inception_rules, inception_stands, stands_by}
 use Rattle.journal_laws.proofs.Growing.{BackersCome, GoodCome, anchored_more, backed_more, signed_more}
 use Rattle.journal_laws.proofs.Numbered.{fit_parts}
+use Rattle.export_laws.proofs.Retold.{Replays, replays}
 use Rattle.export_laws.proofs.Rules.{before_log, its_fit, its_front_grown, kept_rules, rules_there}
 use Rattle.export_laws.proofs.Sending.{brings_body, brings_claims, brings_itself, brings_no, cut_all, cut_some, keeps_claims, sent_all}
 use Rattle.journal_laws.proofs.Verdicts.{answered_so, backs_by, by_backs, raises, triple_body, was_raised, yes_by}
@@ -322,18 +323,18 @@ module _ (told : List Told) (family : List Prefix) (regular : IsRegular Full [] 
   unfolding accepted grown_by
   nothing_accepted = refl
 
-  pub copied : (whole : List Told) → Replays (export told family) [] whole → accepted Full [] whole ≡ exported family log
+  pub copied : (whole : List Told) → AreRetold (export told family) whole → accepted Full [] whole ≡ exported family log
   unfolding export
-  copied whole replay = all_accepted [] log refl [] whole (λ b m. m) (λ t m. m) nothing_accepted replay
+  copied whole retold = all_accepted [] log refl [] whole (λ b m. m) (λ t m. m) nothing_accepted (replays (export told family) whole retold)
 
 -- EXPORT
 pub export_is_copied : ExportLaw
 unfolding live
-export_is_copied told whole first family regular clash is_family replay =
+export_is_copied told whole first family regular clash is_family retold =
     let log = accepted Full [] told in
     let closed : (p d : Prefix) → Among p family → delegator_if (state log p) ≡ Some d → Among d family = λ p d m e.
     among family d ((is_family d).1 (delegator ((is_family p).0 (contained family p m)) e)) in
-    let same = copied told family regular clash closed whole replay in
+    let same = copied told family regular clash closed whole retold in
     record {
       same = same;
       live_events = λ p m. ap (fold live_with []) (ap (filter (is_of p)) same ∙ own_family family p log (among family p m));

@@ -1,4 +1,5 @@
 pub mod Ready
+pub mod Retold
 pub mod Sending
 pub mod Family
 pub mod Rules

@@ -12,7 +12,8 @@ use Rattle.journal.specs.Logs.{same_body}
 use Rattle.journal.specs.Replies.{is_held, same_claim}
 use Rattle.journal.proofs.Accepting.{same_body-refl}
 use Rattle.journal.proofs.Same.{same_claim_is}
-use Rattle.export_laws.specs.Export.{AllYes, cut_claims, is_couple, is_good, is_witness, ordered, runs_by, sent_claims}
+use Rattle.export_laws.specs.Export.{cut_claims, is_couple, is_good, is_witness, ordered, runs_by, sent_claims}
+use Rattle.export_laws.proofs.Retold.{AllYes}
 use Rattle.key_state.proofs.Among.{Among, among_distinct, among_either, among_left, among_left_by, among_right, among_map}
 
 front_or_rest : {X : Type 0} (n : ℕ) (xs : List X) (x : X) → Among x xs → Among x (take n xs) ⊎ Among x (drop n xs)

@@ -1,6 +1,6 @@
 -- What is exported of a journal for a fresh validator: the events of an identifier and of its delegators, each with its claims
 -- that have a yes, in messages.
-use Rattle.std.specs.Prelude.{◌≡◌, ◌↔◌, ℕ, zero, suc, Bool, true, false, nat_le, List, [], ◌∷◌, ◌++◌, length, map, filter, flat_map, take, drop, Option, Some, None, Contains, if◌then◌else◌}
+use Rattle.std.specs.Prelude.{◌≡◌, ◌↔◌, ℕ, zero, suc, Bool, true, false, nat_le, List, [], ◌∷◌, ◌++◌, length, map, filter, flat_map, take, drop, Option, Some, None, All, Contains, if◌then◌else◌}
 use Rattle.std.specs.List.{list_any}
 use Rattle.cesr_codes.specs.declared.prefix.Prefix.{Prefix}
 use Rattle.key_state.specs.Exposure.{Rules, own_rules}
@@ -93,19 +93,26 @@ messages_of told log b = map (λ claims. record { body = b; claims = claims }) (
 unfoldable pub export : List Told → List Prefix → List Sent
 export told family = flat_map (messages_of told (accepted Full [] told)) (exported family (accepted Full [] told))
 
--- the entries are verdicts, and each is yes
-abbrev pub AllYes : List Told → Type 0
-AllYes [] = Unit {0}
-AllYes (took reader b claims ∷ told) = ⊥
-AllYes (heard reader b key sig verdict ∷ told) = (verdict ≡ true) × AllYes told
+-- the messages that were taken, in order
+abbrev pub sent_in : List Told → List Sent
+sent_in [] = []
+sent_in (took reader b claims ∷ told) = record { body = b; claims = claims } ∷ sent_in told
+sent_in (heard reader b key sig verdict ∷ told) = sent_in told
 
--- behind what was told, each message in order is taken, and then each question answered by yes, until none is open; and so the
--- whole comes about
-abbrev pub Replays : List Sent → List Told → List Told → Type 0
-Replays [] told whole = told ≡ whole
-Replays (m ∷ later) told whole = (reader : ℕ) × (answers : List Told) × AllYes answers
-    × (questions Full [] (told ++ took reader m.body m.claims ∷ answers) ≡ [])
-    × Replays later (told ++ took reader m.body m.claims ∷ answers) whole
+-- each verdict is yes
+abbrev pub SaysYes : Told → Type 0
+SaysYes (took reader b claims) = Unit {0}
+SaysYes (heard reader b key sig verdict) = verdict ≡ true
+
+-- The journal took these messages, in order, each once no question was open. Each verdict was given to a question that was open, and is
+-- yes; and no question is open at the end.
+pub record AreRetold (sent : List Sent) (whole : List Told) : Type 0 where
+  pub takes : sent_in whole ≡ sent
+  pub waited : (earlier later : List Told) (reader : ℕ) (b : Body) (claims : List Claim) → whole ≡ earlier ++ took reader b claims ∷ later
+      → questions Full [] earlier ≡ []
+  pub regular : IsRegular Full [] whole
+  pub none_open : questions Full [] whole ≡ []
+  pub all_yes : All SaysYes whole
 
 -- a journal that is told the export accepts its events, in their order, and so has the same live events of each identifier
 pub record IsCopy (family : List Prefix) (told whole : List Told) : Type 0 where
@@ -115,7 +122,7 @@ pub record IsCopy (family : List Prefix) (told whole : List Told) : Type 0 where
 -- EXPORT
 abbrev pub ExportLaw : Type 0
 ExportLaw = (told whole : List Told) (first : Prefix) (family : List Prefix) → IsRegular Full [] told → HasNoClash (accepted Full [] told)
-    → IsFamily (accepted Full [] told) first family → Replays (export told family) [] whole → IsCopy family told whole
+    → IsFamily (accepted Full [] told) first family → AreRetold (export told family) whole → IsCopy family told whole
 
 -- SIGNED: where an accepted event's own threshold wants a signature, each of its messages has one of the controller
 abbrev pub SignedLaw : Type 0

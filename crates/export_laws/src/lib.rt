@@ -1,5 +1,6 @@
 //! What is exported of a journal for a fresh validator, and the laws of it; and that what is accepted of identifiers which are tied by
-//! delegation depends on their own entries alone. Definitions and lemmas; no code.
+//! delegation depends on their own entries alone. Definitions and lemmas; the laws of
+//! families stand as the contracts of empty functions.
 #![tactic(auto)]
 
 mod family_laws;
