@@ -286,11 +286,11 @@ def witnesses():
         yield from run(words, "", "8 told=0 Disk", first, shelf=shelf, shelf_calls=0)
     yield from run(WITNESS_WORDS + ",a", receipt_of(OWN) + receipt_of(OWN_IXN), "0 told=4 End Disk " + WITNESS_MADE, both, shelf=EMPTY)
     yield from run(WITNESS_WORDS + ",a", "shelf 0\n", "3 told=0 Disk", first, shelf=old)
-    yield from run(FROM_OLD, receipt_of(OWN_IXN), "0 told=2 End Disk Disk " + WITNESS_MADE, second, shelf=EMPTY, old=old)
-    yield from run(FROM_OLD, "old 0\n", "3 told=0 Disk Disk", first, shelf=EMPTY, old=shelf)
-    yield from run(FROM_OLD, "", "8 told=0 Disk Disk!", first, shelf=EMPTY)
-    yield from run(FROM_OLD, "", "8 told=0 Disk Disk!", first, shelf=EMPTY, old=old, makings=1)
-    yield from run(FROM_OLD, "", "8 told=0 Disk Disk", first, shelf=EMPTY, old=old, old_calls=0)
+    yield from run(FROM_OLD, receipt_of(OWN_IXN), "0 told=2 End Disk OldDisk " + WITNESS_MADE, second, shelf=EMPTY, old=old)
+    yield from run(FROM_OLD, "old 0\n", "3 told=0 Disk OldDisk", first, shelf=EMPTY, old=shelf)
+    yield from run(FROM_OLD, "", "8 told=0 Disk OldDisk!", first, shelf=EMPTY)
+    yield from run(FROM_OLD, "", "8 told=0 Disk OldDisk!", first, shelf=EMPTY, old=old, makings=1)
+    yield from run(FROM_OLD, "", "8 told=0 Disk OldDisk", first, shelf=EMPTY, old=old, old_calls=0)
 
 
 def several_files():

@@ -8,7 +8,10 @@ pub enum MakingKind {
     Source,
     Verifier,
     Signer,
+    /// The disk of a shelf, whose file may be made and written.
     Disk,
+    /// The disk of an old shelf, whose file is there and is only read.
+    OldDisk,
     Door,
 }
 

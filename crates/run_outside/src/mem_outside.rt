@@ -35,7 +35,6 @@ impl MemOutside {
     ghost use Rattle.keri_specs.specs.Causes.{Rose};
     ghost use Rattle.run_outside.specs.Memory.{outside_told, outside_sink};
     ghost use Rattle.run_outside.specs.Told.{Grows, Makes, first_told, making};
-    ghost use Rattle.run_outside.specs.declared.making.MakingKind.TheVariants.{Disk as DiskKind};
     ghost use Rattle.run_outside.specs.Helpers.{says_under, gives_under};
     ghost use Rattle.run_outside.specs.Disks.{stored_under};
     ghost use Rattle.run_outside.specs.Addresses.{links_under};
@@ -138,8 +137,8 @@ impl MemOutside {
     }
 
     // Makes the disk of a name that has a file.
-    fn make_disk(&mut self, name: &str) -> Result<MemDisk, Failed>
-        ensures makes { Makes DiskKind name.now (outside_told self.old) (outside_told self.new) result }
+    fn make_disk(&mut self, kind: MakingKind, name: &str) -> Result<MemDisk, Failed>
+        ensures makes { Makes kind name.now (outside_told self.old) (outside_told self.new) result }
         ensures holds { IfOk result (λ disk. (mem_told disk).file ≡ stored_under self.old.disks name.now) }
         ensures none_yet { IfOk result (λ disk. (mem_told disk).faults ≡ 0) }
         ensures same_sink { outside_sink self.new ≡ outside_sink self.old }
@@ -147,10 +146,10 @@ impl MemOutside {
         let fails = self.next_fails();
         match disk_of(self.alloc, self.disks.as_slice(), name) {
             Some(disk) if !fails => {
-                self.note(MakingKind::Disk, name, false);
+                self.note(kind, name, false);
                 Ok(disk)
             }
-            _ => Err(self.fail(MakingKind::Disk, name)),
+            _ => Err(self.fail(kind, name)),
         }
     }
 
@@ -230,11 +229,11 @@ impl Outside for MemOutside {
     }
 
     fn disk(&mut self, name: &str) -> Result<MemDisk, Failed> {
-        self.make_disk(name)
+        self.make_disk(MakingKind::Disk, name)
     }
 
     fn old_disk(&mut self, name: &str) -> Result<MemDisk, Failed> {
-        self.make_disk(name)
+        self.make_disk(MakingKind::OldDisk, name)
     }
 
     fn door(&mut self, name: &str) -> Result<MemDoor, Failed> {

@@ -3,7 +3,9 @@ ghost use Rattle.std.specs.Prelude.{◌≡◌, IfOk};
 ghost use Rattle.std.specs.Borrow.{Lends, sem};
 ghost use Rattle.keri_specs.specs.Told.{HasNone};
 ghost use Rattle.run_outside.specs.Told.{Told, Makes};
-ghost use Rattle.run_outside.specs.declared.making.MakingKind.TheVariants.{Source as SourceKind, Verifier as VerifierKind, Signer as SignerKind, Disk as DiskKind, Door as DoorKind};
+ghost use Rattle.run_outside.specs.declared.making.MakingKind.TheVariants.{Source as SourceKind, Verifier as VerifierKind};
+ghost use Rattle.run_outside.specs.declared.making.MakingKind.TheVariants.{Signer as SignerKind, Disk as DiskKind, OldDisk as OldDiskKind};
+ghost use Rattle.run_outside.specs.declared.making.MakingKind.TheVariants.{Door as DoorKind};
 
 use keri_disk::Disk;
 use keri_outside::{Door, Failed, Gate, Limits, Signer, Sink, Source, Verifier};
@@ -65,7 +67,7 @@ pub trait Outside {
 
     /// Makes the disk of a name whose file is there and is only read. Where there is no such file it fails, and makes none.
     fn old_disk(&mut self, name: &str) -> Result<Self::Disk, Failed>
-        ensures makes { Makes DiskKind name.now (told self.old) (told self.new) result }
+        ensures makes { Makes OldDiskKind name.now (told self.old) (told self.new) result }
         ensures holds { IfOk result (λ disk. (Self.Disk.told disk).file ≡ (told self.old).stored name.now) }
         ensures none_yet { IfOk result (λ disk. (Self.Disk.told disk).faults ≡ 0) }
         ensures same_sink { sink self.new ≡ sink self.old };

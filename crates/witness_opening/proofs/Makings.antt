@@ -26,14 +26,14 @@ noted_two first second old (Some mid) (Some new) a b = (
   b.2 ∙ ap (λ (l : List Making). l ++ second ∷ []) (sym (same_Some mid b.0 b.1) ∙ a.2) ∙ append_assoc a.0 (first ∷ []) (second ∷ []),
 )
 
-pub two_made : (kind : MakingKind) (name other : List ℕ) (failed : Bool) (before mid after : Told) → AreMakings (making kind name false ∷ []) before mid
-    → AreMakings (making kind other failed ∷ []) mid after → AreMakings (making kind name false ∷ making kind other failed ∷ []) before after
-two_made kind name other true before mid after a b = record {
+pub two_made : (first second : MakingKind) (name other : List ℕ) (failed : Bool) (before mid after : Told) → AreMakings (making first name false ∷ []) before mid
+    → AreMakings (making second other failed ∷ []) mid after → AreMakings (making first name false ∷ making second other failed ∷ []) before after
+two_made first second name other true before mid after a b = record {
   noted = noted_two _ _ before.makings mid.makings after.makings a.noted b.noted;
   rose = λ e. rw (sym (a.kept refl)) (b.rose refl);
   kept = λ e. cc;
 }
-two_made kind name other false before mid after a b = record {
+two_made first second name other false before mid after a b = record {
   noted = noted_two _ _ before.makings mid.makings after.makings a.noted b.noted;
   rose = λ e. cc;
   kept = λ e. b.kept refl ∙ a.kept refl;

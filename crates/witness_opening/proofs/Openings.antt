@@ -7,13 +7,14 @@ use Rattle.keri_disk.proofs.Moments.{keeps_both}
 use Rattle.keri_outside.specs.declared.limits.Limits.{Limits}
 use Rattle.run_outside.specs.Makings.{AreMakings}
 use Rattle.run_outside.specs.Told.{Told, making}
-use Rattle.run_outside.specs.declared.making.MakingKind.TheVariants.{Disk}
+use Rattle.run_outside.specs.declared.making.MakingKind.TheVariants.{Disk, OldDisk}
 use Rattle.shelf_log.specs.Format.{IsUnmarked}
 use Rattle.shelf_log.specs.declared.version.Version.TheVariants.{One, Two}
 use Rattle.witness_opening.specs.Answers.{Answer, Answers, AnswersBeside, AnswersRead}
 use Rattle.witness_opening.specs.Disks.{Becomes, BecomesBeside, HasCause, IsMade, OnlyRead}
 use Rattle.witness_opening.specs.Opening.{IsOpening}
 use Rattle.witness_opening.specs.Ways.{FillsIt, HandsBack, IsFilledOrStays, ReadsIt}
+use Rattle.witness_opening.specs.declared.fault.OpeningFault.{OpeningFault}
 use Rattle.witness_opening.specs.declared.fault.OpeningFault.TheVariants.{DiskFault}
 use Rattle.witness_opening.proofs.Facts.{if_both, if_map}
 use Rattle.witness_opening.proofs.Makings.{two_made}
@@ -26,7 +27,8 @@ rose_on old mid new same (inr other) = inr other
 module _ {D : Type 0} (told : D → DiskTold) (limits : Limits) (before mid : Told) (name : List ℕ) (first synced : D)
     (makings : AreMakings (making Disk name false ∷ []) before mid) (is_made : IsMade told (before.stored name) first) (keeps : Keeps (told first) (told synced)) where
   -- it alone is handed back
-  module _ (named : Option (List ℕ)) (last : D) (answer : Answer) (answers : Answers limits before name named answer) (becomes : Becomes told before named first last) where
+  module _ (named : Option (List ℕ)) (last : D) (answer : Answer) (answers : Answers limits before name named answer) (becomes : Becomes told before named first last)
+      (kept : (fault : OpeningFault) → answer ≡ Err fault → fault ≢ DiskFault → Keeps (told first) (told last)) where
     handed_so : (answer ≡ Err DiskFault → Rose 0 (told last).faults) → (answer ≢ Err DiskFault → (told last).faults ≡ 0)
         → IsOpening told limits before mid name named (Some last) None answer
     handed_so rose same = record {
@@ -34,6 +36,7 @@ module _ {D : Type 0} (told : D → DiskTold) (limits : Limits) (before mid : To
       makes = inl (record { makings = makings; none_old = refl });
       cause = record { rose = λ e. inr (inl (rose e)); same = λ other. (makings.kept refl, same other, tt) };
       leaves = record { first = first; is_made = is_made; becomes = becomes };
+      kept = λ fault e other. record { first = first; is_made = is_made; keeps = kept fault e other };
       old_stays = tt;
     }
 
@@ -59,7 +62,8 @@ module _ {D : Type 0} (told : D → DiskTold) (limits : Limits) (before mid : To
         (if_both (λ file. IsUnmarked file → ⊥) (λ file. AnswersRead Two limits file answer) (λ file. AnswersBeside limits file (before.stored old_name) answer) (before.stored name)
         (λ file known read. record { filled = λ unmarked. absurd (known unmarked); read = λ n. read })
         (subst (λ o. IfSome o (λ file. IsUnmarked file → ⊥)) is_made.holds other) (at_stored _ reads.answers))
-        (inl (keeps_both (told first) (told synced) (told reads.last) keeps reads.keeps)) disk old still reads.hands
+        (inl (keeps_both (told first) (told synced) (told reads.last) keeps reads.keeps)) (λ fault e other. keeps_both (told first) (told synced) (told reads.last) keeps reads.keeps)
+        disk old still reads.hands
 
   module _ (durable : IsDurable (told synced)) where
     -- it was filled
@@ -85,7 +89,7 @@ module _ {D : Type 0} (told : D → DiskTold) (limits : Limits) (before mid : To
             (λ file is. record { filled = λ f. from_before (λ o. IfSome o (λ x. AnswersRead One limits x answer)) fills.answers; read = λ other. absurd (other is) })
             (subst (λ o. IfSome o IsUnmarked) is_made.holds unmarked);
         makes = inr (record {
-          makings = two_made Disk name old_name (is_none old) before mid after makings fills.makings;
+          makings = two_made Disk OldDisk name old_name (is_none old) before mid after makings fills.makings;
           unmarked = subst (λ o. IfSome o IsUnmarked) is_made.holds unmarked;
           answered = fills.answered;
         });
@@ -95,5 +99,6 @@ module _ {D : Type 0} (told : D → DiskTold) (limits : Limits) (before mid : To
           is_made = is_made;
           becomes = filled_or_stays (before.stored old_name) fills.last unmarked (from_before (λ o. IsFilledOrStays told synced o fills.last) fills.filled);
         };
+        kept = λ fault e other. record { first = first; is_made = is_made; keeps = keeps_both (told first) (told synced) (told fills.last) keeps (fills.kept fault e other) };
         old_stays = if_map (OnlyRead told (mid.stored old_name)) (OnlyRead told (before.stored old_name)) old (λ d stays. from_before (λ o. OnlyRead told o d) stays) fills.old_stays;
       })

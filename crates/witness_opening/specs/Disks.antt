@@ -8,7 +8,7 @@ use Rattle.keri_disk.specs.Calls.{Keeps}
 use Rattle.keri_disk.specs.Images.{DiskTold, IsDurable, LeavesOnly}
 use Rattle.run_outside.specs.Makings.{AreMakings}
 use Rattle.run_outside.specs.Told.{Told, making}
-use Rattle.run_outside.specs.declared.making.MakingKind.TheVariants.{Disk}
+use Rattle.run_outside.specs.declared.making.MakingKind.TheVariants.{Disk, OldDisk}
 use Rattle.shelf_log.specs.Format.{Holds, IsUnmarked}
 use Rattle.shelf_log.specs.Settled.{IsFilledOrUnmarked, IsUnfinished}
 use Rattle.shelf_log.specs.declared.version.Version.TheVariants.{One}
@@ -28,7 +28,7 @@ pub record MakesOne {D : Type 0} (before after : Told) (name : List ℕ) (old : 
 
 -- it was, and then the old one's, or that failed, which is answered: the shelf's file was to be filled
 pub record MakesBoth {D : Type 0} (before after : Told) (name named : List ℕ) (old : Option D) (answer : Answer) : Type 0 where
-  pub makings : AreMakings (making Disk name false ∷ making Disk named (is_none old) ∷ []) before after
+  pub makings : AreMakings (making Disk name false ∷ making OldDisk named (is_none old) ∷ []) before after
   pub unmarked : IfSome (before.stored name) IsUnmarked
   pub answered : old ≡ None → answer ≡ Err DiskFault
 

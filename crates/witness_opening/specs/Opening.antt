@@ -1,20 +1,25 @@
 -- What opening a shelf comes to.
-use Rattle.std.specs.Prelude.{◌≡◌, ℕ, Bool, false, List, IfSome}
+use Rattle.std.specs.Prelude.{◌≡◌, ◌≢◌, ℕ, Bool, false, List, IfSome}
 use Rattle.std.specs.declared.option.Option.{Option}
+use Rattle.std.specs.declared.result.Result.TheVariants.{Err}
 use Rattle.keri_disk.specs.Images.{DiskTold}
 use Rattle.keri_outside.specs.declared.limits.Limits.{Limits}
 use Rattle.run_outside.specs.Told.{Told}
 use Rattle.shelf_log.specs.Settled.{AllHold}
 use Rattle.witness_opening.specs.Answers.{Answer, Answers}
 use Rattle.witness_opening.specs.Disks.{HasCause, IsLeft, Makes, OnlyRead}
+use Rattle.witness_opening.specs.declared.fault.OpeningFault.{OpeningFault}
+use Rattle.witness_opening.specs.declared.fault.OpeningFault.TheVariants.{DiskFault}
 
 -- The shelf of a name was opened, with an old one where that is named, over an outside that told this before and after it: these
--- disks are handed back, where they were made, and this is answered.
+-- disks are handed back, where they were made, and this is answered. Where it is a fault, but of no disk, the file of the name was only
+-- read.
 pub record IsOpening {D : Type 0} (told : D → DiskTold) (limits : Limits) (before after : Told) (name : List ℕ) (named : Option (List ℕ)) (disk old : Option D) (answer : Answer) : Type 0 where
   pub answers : Answers limits before name named answer
   pub makes : Makes before after name named disk old answer
   pub cause : HasCause told before after disk old answer
   pub leaves : IfSome disk (IsLeft told before name named)
+  pub kept : (fault : OpeningFault) → answer ≡ Err fault → fault ≢ DiskFault → IfSome disk (OnlyRead told (before.stored name))
   pub old_stays : IfSome old (λ d. IfSome named (λ n. OnlyRead told (before.stored n) d))
 
 -- a shelf with these limits whose disk never failed, and on it the list stands

@@ -9,12 +9,13 @@ use Rattle.keri_disk.specs.Images.{DiskTold, LeavesOnly}
 use Rattle.keri_outside.specs.declared.limits.Limits.{Limits}
 use Rattle.run_outside.specs.Makings.{AreMakings}
 use Rattle.run_outside.specs.Told.{Told, making}
-use Rattle.run_outside.specs.declared.making.MakingKind.TheVariants.{Disk}
+use Rattle.run_outside.specs.declared.making.MakingKind.TheVariants.{OldDisk}
 use Rattle.shelf_log.specs.Format.{Holds}
 use Rattle.shelf_log.specs.Settled.{IsFilledOrUnmarked, IsUnfinished}
 use Rattle.shelf_log.specs.declared.version.Version.TheVariants.{One, Two}
 use Rattle.witness_opening.specs.Answers.{Answer, AnswersNew, AnswersRead}
 use Rattle.witness_opening.specs.Disks.{HasCause, OnlyRead}
+use Rattle.witness_opening.specs.declared.fault.OpeningFault.{OpeningFault}
 use Rattle.witness_opening.specs.declared.fault.OpeningFault.TheVariants.{DiskFault}
 
 module _ {D : Type 0} (told : D → DiskTold) (first : D) where
@@ -44,13 +45,15 @@ module _ {D : Type 0} (told : D → DiskTold) (first : D) where
   IsFilledOrStays from last = Keeps (told first) (told last)
       ⊎ ((list : List (List ℕ)) × IfSome from (λ file. Holds One file list) × LeavesOnly (told first) (told last) (IsFilledOrUnmarked list))
 
-  -- the old disk of the name is made, and its list is brought over
+  -- The old disk of the name is made, and its list is brought over. Where that isn't done for another reason than a fault of a disk,
+  -- the file stays as it was.
   pub record FillsIt (limits : Limits) (before after : Told) (named : List ℕ) (disk old : Option D) (answer : Answer) : Type 0 where
     pub last : D
     pub disk_is : disk ≡ Some last
-    pub makings : AreMakings (making Disk named (is_none old) ∷ []) before after
+    pub makings : AreMakings (making OldDisk named (is_none old) ∷ []) before after
     pub answered : old ≡ None → answer ≡ Err DiskFault
     pub answers : IfSome (before.stored named) (λ file. AnswersRead One limits file answer)
     pub cause : HasCause told before after disk old answer
     pub filled : IsFilledOrStays (before.stored named) last
+    pub kept : (fault : OpeningFault) → answer ≡ Err fault → fault ≢ DiskFault → Keeps (told first) (told last)
     pub old_stays : IfSome old (OnlyRead told (before.stored named))
