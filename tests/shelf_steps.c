@@ -7,7 +7,8 @@
    DIE_AT=n, FAIL_AT=n   the program is killed before the step of that number, from 1, or the step fails; of a pwrite half
                       the bytes are written then
    CHOPPED            every other pread or pwrite is interrupted, and the others move one byte
-   INTERRUPTED        every pread and pwrite is interrupted */
+   INTERRUPTED        every pread and pwrite is interrupted
+   NO_LOCKS           a file can't be locked, as on a file system without locks */
 #define _GNU_SOURCE
 #include <dlfcn.h>
 #include <errno.h>
@@ -16,6 +17,7 @@
 #include <stdio.h>
 #include <stdlib.h>
 #include <string.h>
+#include <sys/file.h>
 #include <sys/stat.h>
 #include <unistd.h>
 
@@ -24,6 +26,7 @@ typedef ssize_t placing(int, const void *, size_t, off_t);
 typedef ssize_t writing(int, const void *, size_t);
 typedef int cutting(int, off_t);
 typedef int syncing(int);
+typedef int locking(int, int);
 
 static int number(const char *name)
 {
@@ -114,6 +117,14 @@ static int sync_by(const char *name, int file)
 int fdatasync(int file)
 {
     return sync_by("fdatasync", file);
+}
+
+int flock(int file, int wanted)
+{
+    if (!getenv("NO_LOCKS"))
+        return ((locking *)dlsym(RTLD_NEXT, "flock"))(file, wanted);
+    errno = ENOLCK;
+    return -1;
 }
 
 int fsync(int file)

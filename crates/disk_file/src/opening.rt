@@ -1,4 +1,5 @@
 //! Opening a file for this process alone.
+ghost use Rattle.std.specs.Prelude.{◌≡◌, OnOk, false, is_err};
 
 use crate::OpenError;
 use std::fs::{File, OpenOptions, TryLockError};
@@ -41,7 +42,14 @@ fn is_of_another_kind(rt: &HostRuntime, path: &str) -> io::Result<bool> {
 }
 
 fn lock(file: &File) -> Result<(), OpenError> {
-    match file.try_lock() {
+    answer_to(file.try_lock())
+}
+
+// The file is this process's alone only where locking it came about.
+fn answer_to(tried: Result<(), TryLockError>) -> Result<(), OpenError>
+    ensures { OnOk result (is_err tried ≡ false) }
+{
+    match tried {
         Ok(()) => Ok(()),
         Err(TryLockError::WouldBlock) => Err(OpenError::Busy),
         Err(TryLockError::Error(error)) => Err(OpenError::Io(error)),

@@ -7,16 +7,16 @@ use std::{fs, io};
 /// Standard output. Where it is a file, no byte is written at the greatest size that files may have or behind it: the system
 /// raises a signal for that, which would end the program.
 #[derive(Drop)]
-pub(crate) struct StandardOutput {
-    output: Stdout,
+pub(crate) struct StandardOutput<W: Write + Drop> {
+    output: W,
     // The file's size before the first write, where it is a file: where writes append, the first one goes there, and not to
     // the position.
     size: Option<u64>,
 }
 
-impl StandardOutput {
+impl StandardOutput<Stdout> {
     /// That of this process.
-    pub(crate) fn new(rt: &HostRuntime) -> StandardOutput {
+    pub(crate) fn new(rt: &HostRuntime) -> StandardOutput<Stdout> {
         let size = match fs::metadata(rt, "/dev/stdout") {
             Ok(found) if found.is_file() => Some(found.len()),
             _ => None,
@@ -26,7 +26,9 @@ impl StandardOutput {
             size,
         }
     }
+}
 
+impl<W: Write + Drop> StandardOutput<W> {
     // How many bytes may be written yet.
     fn room(&self) -> u64 {
         let Some(size) = self.size else {
@@ -38,7 +40,10 @@ impl StandardOutput {
     }
 }
 
-impl Write for StandardOutput {
+// What was written is what the writer below has, as far as that one tells: no byte is passed over.
+impl<W: Write + Drop> Write for StandardOutput<W> {
+    ghost contents = { λ it. W.contents it.output };
+
     fn write(&mut self, bytes: &[u8]) -> io::Result<usize> {
         let count = bytes.len().min(self.room() as usize);
         if count == 0 {
