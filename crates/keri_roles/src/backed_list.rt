@@ -8,8 +8,8 @@ use journal::Mode;
 use validator_core::Core;
 
 /// The numbers of the bodies that a core accepted which wants receipts and seals and began with nothing, in order. Under every
-/// lawful signing history for which its verdicts are honest, witnesses stand behind them, and they agree with every other
-/// list of which that is so (KERI paper, witness agreement). It takes no memory.
+/// lawful signing history for which its verdicts are honest, witnesses stand behind them, and their inceptions and rotations agree
+/// with every other list of which that is so, unless digests collide (KERI paper, witness agreement). It takes no memory.
 pub fn backed(core: &Core) -> &[u32]
     requires full { core.now.mode ≡ Mode.Full }
     requires no_base { core.now.base ≡ 0 }

@@ -33,7 +33,8 @@ use std::alloc::{AllocError, Global};
 use std::sync::Wait;
 use std::thread::Threads;
 
-// `make` reads a plan and a log; `validate` and `watch` have room of their own, and every other command reads one stream.
+// `make` reads a plan and a log, and `blame` two files; `validate`, `watch`, `export` and links have room of their own, and every
+// other command reads one stream.
 const MOST_READERS: usize = 2;
 
 /// Does all that the program does: what the words ask for, over the outside that is handed in. Readers that are several run in

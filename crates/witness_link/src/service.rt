@@ -15,8 +15,8 @@ use run_status::Close;
 use std::alloc::Global;
 use witness_core::Witness;
 
-/// Serves a link: a witness takes the messages that the source gives, in order, and puts the receipts of each on the
-/// sink before it takes the next.
+/// Serves a link: a witness takes the messages that the source gives, in order, and puts the receipts of these on the
+/// sink, in order.
 pub fn serve_link<S: Source, K: Sink, D: Disk + Drop, V: Verifier, G: Signer>(
     alloc: Global,
     witness: &mut Witness<D>,
