@@ -11,7 +11,6 @@ use Rattle.journal.specs.declared.resume_fault.ResumeFault.{ResumeFault}
 use Rattle.journal.specs.declared.resume_fault.ResumeFault.TheVariants.{NotALog, OutOfMemory}
 use Rattle.keri_disk.specs.Images.{DiskTold}
 use Rattle.keri_outside.specs.declared.limits.Limits.{Limits}
-use Rattle.report_lines.specs.Lines.{log_text}
 use Rattle.run_outside.specs.Told.{Told}
 use Rattle.run_status.specs.declared.besides.Besides.{Besides}
 use Rattle.run_status.specs.Status.{nothing_besides}
@@ -20,6 +19,7 @@ use Rattle.validator_core.specs.View.{CoreView, open_of}
 use Rattle.witness_core.specs.Payloads.{AreListed}
 use Rattle.witness_core.specs.Starts.{AreNoStart, IsStarted}
 use Rattle.witness_opening.specs.Found.{found_by, text_of}
+use Rattle.witness_opening.specs.Lines.{log_text}
 use Rattle.witness_opening.specs.Names.{KeepsNames}
 use Rattle.witness_opening.specs.Opening.{IsOpening}
 use Rattle.witness_opening.specs.declared.fault.OpeningFault.{OpeningFault}

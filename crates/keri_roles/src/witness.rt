@@ -16,13 +16,12 @@ use cesr_codes::Key;
 use command_words::Inputs;
 use journal::ResumeFault;
 use keri_outside::{Door, Limits};
-use report_lines::log_line;
 use run_outside::Outside;
 use run_status::Besides;
 use std::alloc::{AllocError, Global};
 use witness_core::{StartFault, Witness};
 use witness_link::Witnessing;
-use witness_opening::{NotOpened, Opened, open_shelf};
+use witness_opening::{NotOpened, Opened, log_line, open_shelf};
 
 /// The words of `witness`.
 #[derive(Drop)]

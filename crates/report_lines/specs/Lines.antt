@@ -83,18 +83,6 @@ conflict_text prefix sn saids = line (codes "conflict" ∷ prefix_text prefix �
 abbrev pub plan_text : PlanRefusal → List ℕ
 plan_text refusal = line (codes "plan" ∷ plan_word refusal ∷ [])
 
--- `shelf`, and the place at which the file shows first that it is no shelf
-abbrev pub shelf_text : ℕ → List ℕ
-shelf_text place = line (codes "shelf" ∷ decimal place ∷ [])
-
--- `old`, and the same of an old shelf's file
-abbrev pub old_text : ℕ → List ℕ
-old_text place = line (codes "old" ∷ decimal place ∷ [])
-
--- `log`, and the number of the first payload of a shelf that is no event which follows those before it
-abbrev pub log_text : ℕ → List ℕ
-log_text number = line (codes "log" ∷ decimal number ∷ [])
-
 -- `refused`, the reader's number, the message's place, and why
 abbrev pub refused_text : ℕ → ℕ → Reason → List ℕ
 refused_text reader place reason = line (codes "refused" ∷ decimal reader ∷ decimal place ∷ reason_word reason ∷ [])

@@ -25,8 +25,7 @@ mod why_word;
 
 pub use core_standing::{CoreStanding, standing_of};
 pub use lines::{
-    WORDS, accepted_line, conflict_line, event_line, log_line, old_line, plan_line, shelf_line,
-    state_line, stream_line, waits_line,
+    WORDS, accepted_line, conflict_line, event_line, plan_line, state_line, stream_line, waits_line,
 };
 pub use plan_refusal::PlanRefusal;
 pub use reader_lines::{

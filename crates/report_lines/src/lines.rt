@@ -1,7 +1,7 @@
 //! Lines, each with its line feed.
 ghost use Rattle.std.specs.Prelude.{◌≡◌, ◌++◌, IfOk, codes, flat_map, string_bytes};
 ghost use Rattle.cesr_codes.specs.Spelling.{digest_text};
-ghost use Rattle.report_lines.specs.Lines.{accepted_text, conflict_text, event_text, log_text, old_text, plan_text, shelf_text, state_text, stream_text, waits_text};
+ghost use Rattle.report_lines.specs.Lines.{accepted_text, conflict_text, event_text, plan_text, state_text, stream_text, waits_text};
 
 use crate::plan_word::PlanWord;
 use crate::why_word::WhyWord;
@@ -20,27 +20,6 @@ pub fn plan_line(alloc: Global, refusal: PlanRefusal) -> Result<String, AllocErr
 {
     let word = PlanWord(refusal);
     format!(in alloc; "plan {word}\n")
-}
-
-/// The line of a file that is no shelf, which shows first at the place.
-pub fn shelf_line(alloc: Global, place: u64) -> Result<String, AllocError>
-    ensures { IfOk result (λ line. string_bytes line ≡ shelf_text place) }
-{
-    format!(in alloc; "shelf {place}\n")
-}
-
-/// The same of a file that is no old shelf.
-pub fn old_line(alloc: Global, place: u64) -> Result<String, AllocError>
-    ensures { IfOk result (λ line. string_bytes line ≡ old_text place) }
-{
-    format!(in alloc; "old {place}\n")
-}
-
-/// The line of a shelf whose list is no log, which shows first at the payload of this number.
-pub fn log_line(alloc: Global, number: u32) -> Result<String, AllocError>
-    ensures { IfOk result (λ line. string_bytes line ≡ log_text number) }
-{
-    format!(in alloc; "log {number}\n")
 }
 
 /// The line of an event with its sizes.

@@ -1,8 +1,8 @@
 -- What a run finds, owes and answers where it has no shelf.
 use Rattle.std.specs.Prelude.{ℕ, true, List, []}
-use Rattle.report_lines.specs.Lines.{old_text, shelf_text}
 use Rattle.run_status.specs.declared.besides.Besides.{Besides}
 use Rattle.run_status.specs.Status.{nothing_besides}
+use Rattle.witness_opening.specs.Lines.{old_text, shelf_text}
 use Rattle.witness_opening.specs.declared.fault.OpeningFault.{OpeningFault}
 use Rattle.witness_opening.specs.declared.fault.OpeningFault.TheVariants.{NotAShelf, NotAnOldShelf, DiskFault, Full, OutOfMemory}
 

@@ -1,7 +1,7 @@
 //! Why there is no shelf, and what a run makes of that.
 ghost use Rattle.std.specs.Prelude.{◌≡◌, ◌≢◌};
 
-use report_lines::{old_line, shelf_line};
+use crate::lines::{old_line, shelf_line};
 use run_status::Besides;
 use shelf_log::{ShelfFault, Version};
 use std::alloc::{AllocError, Global};

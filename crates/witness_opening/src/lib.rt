@@ -4,11 +4,13 @@
 
 mod fault;
 mod file_kind;
+mod lines;
 mod old_list;
 mod opened;
 mod opening;
 mod ways;
 
 pub use fault::OpeningFault;
+pub use lines::log_line;
 pub use opened::{NotOpened, Opened};
 pub use opening::open_shelf;
