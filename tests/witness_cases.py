@@ -147,6 +147,10 @@ def main():
         text, status, after = served(messages, bodies)
         files = {"a": "".join(messages).encode(), "old": old, **({"shelf": shelf} if shelf else {})}
         write(name, [*WORDS, "--from", "old", "a"], files, text, status, {"shelf": after, "old": old})
+    # That an old list is no log shows once it is brought over.
+    old = file_of(OLD, OWN_IXN.encode())
+    files, left = {"a": NEVER_READ.encode(), "old": old}, {"shelf": file(OWN_IXN.encode()), "old": old}
+    write("old_shelf_without_a_log", [*WORDS, "--from", "old", "a"], files, "log 0\n", REFUSED, left)
     text, status, after = served([signed(OWN_IXN, 1)], file(payload(OWN, 1)))
     files = {"a": signed(OWN_IXN, 1).encode(), "shelf": file(payload(OWN, 1)), "old": b"no shelf"}
     write("old_shelf_that_is_not_wanted", [*WORDS, "--from", "old", "a"], files, text, status, {"shelf": after, "old": b"no shelf"})
@@ -156,7 +160,7 @@ def main():
     for name, left in (("old_shelf_that_is_missing", b""), ("old_shelf_that_is_missing_beside_a_leftover", LEFTOVER)):
         files = {"a": NEVER_READ.encode(), **({"shelf": left} if left else {})}
         write(name, [*WORDS, "--from", "old", "a"], files, "", DISK_FAULT, {"shelf": left}, gone=["old"])
-    print(len(SERVED) + len(UNOPENED) + len(FILLED) + 4, "cases")
+    print(len(SERVED) + len(UNOPENED) + len(FILLED) + 5, "cases")
 
 
 if __name__ == "__main__":
