@@ -24,7 +24,11 @@ fn disk_words(
         Err(returned) => return refused(alloc, returned.fault),
     };
     match started(alloc, key, shelf, limits) {
-        Some(Ok(witness)) => list_text(alloc, "stored", witness.stored()),
+        Some(Ok(witness)) => {
+            let text = list_text(alloc, "stored", witness.stored());
+            witness.into_shelf();
+            text
+        }
         Some(Err(start)) => not_started(alloc, start.fault),
         None => String::from_str(alloc, "no-witness"),
     }

@@ -50,6 +50,6 @@ fn main(rt: HostRuntime) -> Result<()> {
     let text = io::read_to_string(rt.alloc(), &mut rt.reader())?;
     let mut session = Session::new(rt.alloc());
     let answered = answer_lines(&rt, &mut session, text.as_str());
-    drop(session);
+    session.end();
     answered
 }

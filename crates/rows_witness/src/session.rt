@@ -8,16 +8,25 @@ use std::alloc::Global;
 use std::mem;
 use witness_core::Witness;
 
-/// What is at hand.
-#[derive(Drop)]
+/// What is at hand. It is no `Drop`: each function that lets a witness go takes a minute to prove, so `into_disk` alone does.
 pub(crate) enum Held {
     Nothing,
     Disk(MemDisk),
     Witness(Witness<MemDisk>),
 }
 
+impl Held {
+    /// The disk, where there is one.
+    fn into_disk(self) -> Option<MemDisk> {
+        match self {
+            Held::Nothing => None,
+            Held::Disk(disk) => Some(disk),
+            Held::Witness(witness) => Some(witness.into_shelf().into_disk()),
+        }
+    }
+}
+
 /// A witness, or the disk that it left, with what it is given.
-#[derive(Drop)]
 pub(crate) struct Session {
     pub(crate) alloc: Global,
     pub(crate) limits: Limits,
@@ -43,18 +52,26 @@ impl Session {
         }
     }
 
-    /// This is at hand from here on, and what was is let go. Each function that lets go of a witness takes long to prove, so one
-    /// does.
+    /// This is at hand from here on, and what was is let go.
     pub(crate) fn hold(&mut self, held: Held) {
-        self.held = held;
+        mem::replace(&mut self.held, held).into_disk();
     }
 
     /// The disk, which is at hand no more.
     pub(crate) fn take_disk(&mut self) -> Option<MemDisk> {
-        match mem::replace(&mut self.held, Held::Nothing) {
-            Held::Nothing => None,
-            Held::Disk(disk) => Some(disk),
-            Held::Witness(witness) => Some(witness.into_shelf().into_disk()),
-        }
+        mem::replace(&mut self.held, Held::Nothing).into_disk()
+    }
+
+    /// Lets all go.
+    pub(crate) fn end(self) {
+        let Session {
+            alloc: _alloc,
+            limits: _limits,
+            key: _key,
+            verifier: _verifier,
+            signer: _signer,
+            held,
+        } = self;
+        held.into_disk();
     }
 }
