@@ -1,17 +1,22 @@
 -- The payloads by entries are those of the accepted events.
-use Rattle.std.proofs.Common.{◌≡◌, ℕ, List, [], ◌∷◌, ◌++◌, length, take, drop, map, refl, sym, ◌∙◌, ap, subst, append_assoc, append-nil, take-append-drop}
+use Rattle.std.proofs.Common.{◌≡◌, ℕ, true, List, [], ◌∷◌, ◌++◌, All, length, take, drop, map, refl, sym, ◌∙◌, ap, subst, append_assoc, append-nil, take-append-drop}
 use Rattle.std.proofs.lemmas.List.{length-map, length-take-le}
+use Rattle.std.proofs.lemmas.List.Elements.{All-head, All-tail}
+use Rattle.event_payload.specs.Kept.{kept, signed_by, state_under}
 use Rattle.event_payload.specs.Payloads.{text_in}
+use Rattle.event_payload.proofs.Enough.{kept_is_enough}
 use Rattle.journal.specs.declared.body.Body.{Body}
 use Rattle.journal.specs.declared.mode.Mode.{Mode}
 use Rattle.journal.specs.Acceptance.{grown_by}
 use Rattle.journal.specs.Accepted.{accepted}
 use Rattle.journal.specs.History.{Told}
+use Rattle.key_state.specs.Kept.{IsKept}
 use Rattle.validator_core.specs.View.{CoreView, accepted_by, base_of, told_of}
 use Rattle.witness_core.specs.Histories.{history_of}
 use Rattle.witness_core.specs.Payloads.{AreListed, IsPayload, Pointwise, payload_now}
 use Rattle.witness_core.specs.Storing.{IsOnWay, by_entries, newly, payloads, missing}
 use Rattle.witness_core.proofs.ByEntries.{entry_law, stays_law}
+use Rattle.witness_core.proofs.States.{kept_under}
 
 module _ {A B : Type 0} (P : A → B → Type 0) where
   both_more : (xs us : List A) (ys vs : List B) → Pointwise P xs ys → Pointwise P us vs → Pointwise P (xs ++ us) (ys ++ vs)
@@ -35,7 +40,22 @@ drop_front : {X : Type 0} (xs ys : List X) → drop (length xs) (xs ++ ys) ≡ y
 drop_front [] ys = refl
 drop_front (x ∷ xs) ys = drop_front xs ys
 
+all_behind : {X : Type 0} (P : X → Type 0) (xs ys : List X) → All P (xs ++ ys) → All P ys
+all_behind P [] ys all = all
+all_behind P (x ∷ xs) ys all = all_behind P xs ys (All-tail P x (xs ++ ys) all)
+
 module _ (mode : Mode) (base : List Body) where
+  -- an event that an entry made accepted is signed by the signatures that are kept then
+  enough_then : (told : List Told) (t : Told) (front later : List Body) (b : Body) → (entry_law mode base told t).0 ≡ front ++ b ∷ later
+      → All (λ a. IsKept a.event) (accepted mode base (told ++ t ∷ []))
+      → signed_by (state_under (accepted mode base (told ++ t ∷ [])) b) b.event (kept (told ++ t ∷ []) (accepted mode base (told ++ t ∷ [])) b) ≡ true
+  enough_then told t front later b e all =
+      let law = entry_law mode base told t in
+      let log = accepted mode base (told ++ t ∷ []) in
+      let new = all_behind (λ a. IsKept a.event) (accepted mode base told) law.0 (subst (All (λ a. IsKept a.event)) law.1 all) in
+      let has : IsKept b.event = All-head (λ a. IsKept a.event) b later (all_behind (λ a. IsKept a.event) front (b ∷ later) (subst (All (λ a. IsKept a.event)) e new)) in
+      kept_is_enough (told ++ t ∷ []) log b has (kept_under log all b) (law.2 front later b e).1
+
   -- the accepted events are the base, and others
   abbrev AreSo : List Told → List (List ℕ) → Type 0
   AreSo told list = (more : List Body) × (accepted mode base told ≡ base ++ more) × Pointwise (IsPayload mode base told) more list
@@ -50,11 +70,11 @@ module _ (mode : Mode) (base : List Body) where
       let then = told ++ t ∷ [] in
       let dropped : drop (length (accepted mode base told)) (accepted mode base then) ≡ law.0 = ap (drop (length (accepted mode base told))) law.1 ∙ drop_front (accepted mode base told) law.0 in
       let new : Pointwise (IsPayload mode base then) law.0 (map (payload_now then (accepted mode base then)) law.0)
-      = each_so (IsPayload mode base then) (payload_now then (accepted mode base then)) law.0 (λ front later b e. record { moment = then; at = (law.2 front later b e).0; is = refl }) in (
+      = each_so (IsPayload mode base then) (payload_now then (accepted mode base then)) law.0 (λ front later b e. record { moment = then; at = (law.2 front later b e).0; is = refl; enough = enough_then told t front later b e }) in (
         so.0 ++ law.0,
         law.1 ∙ ap (λ l. l ++ law.0) so.1 ∙ append_assoc base so.0 law.0,
         both_more (IsPayload mode base then) so.0 law.0 list (newly mode base told t)
-            (weaken (IsPayload mode base told) (IsPayload mode base then) (λ b p is. record { moment = is.moment; at = stays_law mode base told (t ∷ []) b is.moment is.at; is = is.is }) so.0 list so.2)
+            (weaken (IsPayload mode base told) (IsPayload mode base then) (λ b p is. record { moment = is.moment; at = stays_law mode base told (t ∷ []) b is.moment is.at; is = is.is; enough = is.enough }) so.0 list so.2)
             (subst (λ l. Pointwise (IsPayload mode base then) law.0 (map (payload_now then (accepted mode base then)) l)) (sym dropped) new),
       )
 

@@ -100,9 +100,13 @@ before_kept b (c ∷ log) kept = elim (cases_Bool (same_body c b)) [
 some_so : (o : Option State) → IfSome o IsState → (s : State) → o ≡ Some s → IsState s
 some_so o is s e = subst (λ p. IfSome p IsState) e is
 
+-- the state under which an event of such a log was accepted is one
+pub kept_under : (log : List Body) → All (λ b. IsKept b.event) log → (b : Body) (s : State) → state_under log b ≡ Some s → IsState s
+kept_under log kept b = some_so (state_under log b) (state_is _ (before b log) (before_kept b log kept))
+
 -- STATES: the state under which an event of a core was accepted is one
 pub under_is : (core : CoreView) → IsKnown core → ((event : Event) (bytes : List ℕ) → SpellsEvent event bytes → IsKept event) → (b : Body) (s : State) → state_under (accepted_by core) b ≡ Some s → IsState s
-under_is core known spelled b s e = some_so (state_under (accepted_by core) b) (state_is _ (before b (accepted_by core)) (before_kept b (accepted_by core) all)) s e
+under_is core known spelled b s e = kept_under (accepted_by core) all b s e
   where
     all : All (λ c. IsKept c.event) (accepted_by core)
     all = all_from (λ c. IsKept c.event) (accepted_by core) (λ i c at.
