@@ -1,9 +1,12 @@
 //! Receipts.
-ghost use Rattle.std.specs.Prelude.{◌≡◌, ◌≤◌, ◌<◌, ◌^◌, ◌∷◌, ◌++◌, [], length, IfOk};
+ghost use Rattle.std.specs.Prelude.{◌≡◌, ◌≤◌, ◌<◌, ◌^◌, ◌∷◌, ◌++◌, [], ℕ, List, length, IfErr, IfOk};
 ghost use Rattle.cesr_codes.specs.declared.key.KeyCode.TheVariants.{Fixed};
 ghost use Rattle.core_tables.specs.View.{body_of};
 ghost use Rattle.event_body.specs.Held.{IsHeldReceipt};
+ghost use Rattle.event_body.specs.Judging.{SpellsEvent};
 ghost use Rattle.event_body.specs.Spelling.{text_of};
+ghost use Rattle.event_body.specs.declared.body_fault.ReadBody.TheVariants.{OutOfMemory as NoMemory};
+ghost use Rattle.event_body.specs.declared.event.Event.TheVariants.{Rct};
 ghost use Rattle.keri_outside.specs.Asked.{signing};
 ghost use Rattle.keri_specs.specs.Told.{Puts};
 ghost use Rattle.witness_core.specs.Receipts.{CountsFaults, IsReceiptOf, couples_text, receipt_event};
@@ -92,11 +95,23 @@ fn receipt_body(alloc: Global, event: &Event) -> Result<Vec<u8>, AllocError>
         sn: sn_of(event),
     };
     held(receipt);
-    match write_body(alloc, &Event::Rct(receipt)) {
+    match written(alloc, receipt) {
         Ok(text) => Ok(text),
         Err(ReadBody::OutOfMemory) => Err(AllocError),
         Err(ReadBody::Fault(_)) => unreachable!(),
     }
+}
+
+// The body that spells the receipt. The event is let go by `drop`: at the end of the function that would take a minute to prove.
+fn written(alloc: Global, receipt: ReceiptBody) -> Result<Vec<u8>, ReadBody>
+    ensures text { IfOk result (λ text. text.items ≡ text_of (Rct receipt)) }
+    ensures whole { (bytes : List ℕ) → SpellsEvent (Rct receipt) bytes → length bytes ≤ 65535
+        → IfErr result (λ fault. fault ≡ NoMemory) }
+{
+    let event = Event::Rct(receipt);
+    let text = write_body(alloc, &event);
+    drop(event);
+    text
 }
 
 // What the types of a receipt's parts hold by themselves, which a proof learns where they are read.

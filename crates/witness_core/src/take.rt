@@ -1,4 +1,6 @@
 //! Messages that are judged, told to the core, and stored.
+//!
+//! An event that isn't taken is let go by `drop`: a function at whose end that happens of itself takes a minute longer to prove.
 ghost use Rattle.std.specs.Prelude.{◌≡◌, ◌⊎◌, ◌≤◌, true, false, length, IfOk, IfErr, OnOk, OnErr, MatchResult, Ok, Some, slice_get};
 ghost use Rattle.acceptance.specs.Standing.{IsHeld};
 ghost use Rattle.core_tables.specs.View.{body_of};
@@ -101,8 +103,11 @@ fn take_in<D: Disk + Drop>(
 {
     match judge_message(alloc, message)? {
         Err(reason) => Ok(Taken::Refused(reason)),
-        Ok(event) if is_receipt(&event) => Ok(Taken::NotAnEvent),
         Ok(event) => {
+            if is_receipt(&event) {
+                drop(event);
+                return Ok(Taken::NotAnEvent);
+            }
             let number = take_event(alloc, core, shelf, room, steps, limits, message, event)?;
             Ok(Taken::Event(number))
         }
@@ -133,13 +138,17 @@ fn take_event<D: Disk + Drop>(
         (replies.claims_of message.now) ≡ true) (body_of message.now.body event) (replies.claims_of message.now)
         core.old room.old core.new room.new) }
 {
-    let claims = claims_of(alloc, message)?;
+    let Ok(claims) = claims_of(alloc, message) else {
+        drop(event);
+        return Err(WitnessFault::OutOfMemory);
+    };
     let coming = Coming {
         number: core.number_of(message.body.as_slice(), &event),
         bytes: message.body.len(),
         signatures: count_signatures(claims.as_slice()),
     };
     if lacks_room(core, shelf, room, limits, coming) {
+        drop(event);
         return Err(WitnessFault::Full);
     }
     match coming.number {
@@ -205,7 +214,10 @@ fn take_first(
         (body_of body.now event) claims ≡ true) (body_of body.now event) claims core.old room.old core.new room.new) }
 {
     let signatures = count_signatures(claims.as_slice());
-    let number = length_u32(core.journal().bodies.len())?;
+    let Ok(number) = length_u32(core.journal().bodies.len()) else {
+        drop(event);
+        return Err(WitnessFault::OutOfMemory);
+    };
     enter(core, steps, body, event, claims)?;
     room.add_body(body.len(), signatures as u32)?;
     Ok(number)

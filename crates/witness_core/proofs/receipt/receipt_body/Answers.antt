@@ -9,6 +9,5 @@ use Rattle.witness_core.proofs.receipt.receipt_body.Goals as goal
 pub unreachable-requires : goal.unreachable-requires
 unreachable-requires c =
     let r : ReceiptBody = record { said = c.said_of_event.result; prefix = c.prefix_of.result; sn = c.sn_of.result } in
-    let both = c.in-Err-Fault.ensures.whole (text_of (Rct r)) (receipt_spelled r c.held.ensures) (omega (arith, receipt_few r c.held.ensures)) in
-    let is : c.in-Err-Fault.field-0 ≡ OutOfMemory = both.1 in
+    let is : c.in-Err-Fault.field-0 ≡ OutOfMemory = c.in-Err-Fault.ensures.whole (text_of (Rct r)) (receipt_spelled r c.held.ensures) (omega (arith, receipt_few r c.held.ensures)) in
     cc (is, c.in-Err-Fault.field-0-is)

@@ -9,13 +9,13 @@ use Rattle.witness_core.proofs.Results.{if_err}
 use Rattle.witness_core.proofs.Rooms.{signatures_few}
 use Rattle.witness_core.proofs.take.take_first.Goals as goal
 
-pub returns-in_err-number-clause-fault : goal.returns-in_err-number-clause-fault
-returns-in_err-number-clause-fault c = if_err c.from_residual.result _ _ c.from_residual.ensures.1 (untold (untold_itself c.args.core.now))
+pub returns-in_default-clause-fault : goal.returns-in_default-clause-fault
+returns-in_default-clause-fault c = untold (untold_itself c.args.core.now)
 
 pub returns-in_err-enter-clause-fault : goal.returns-in_err-enter-clause-fault
 returns-in_err-enter-clause-fault c =
     let fault = c.in_err-enter.field-0.0 in
-    if_err c.from_residual-in_err-enter.result fault _ c.from_residual-in_err-enter.ensures.1
+    if_err c.from_residual.result fault _ c.from_residual.ensures.1
     (fails_by _ (body_of c.args.body.now c.args.event) c.args.claims c.args.core.now c.args.room.now c.enter.new.core fault c.in_err-enter.ensures.untold c.in_err-enter.ensures.full c.in_err-enter.ensures.fault)
 
 pub overflow_cast-signatures : goal.overflow_cast-signatures
@@ -36,8 +36,9 @@ returns-in_err-add_body-clause-fault c = if_err c.from_residual-in_err-add_body.
 pub returns-clause-number : goal.returns-clause-number
 returns-clause-number c =
     let core = c.args.core.now in
-    first_number core c.requires.known c.enter.new.core c.in_ok-enter.ensures.known (body_of c.args.body.now c.args.event) c.args.claims c.in_ok-enter.ensures.came c.in_ok-number.number
-    (c.in_ok-number.ensures.ok ∙ c.len.ensures ∙ ap length c.journal.ensures.bodies ∙ length-map core.held (λ b. b.bytes)) c.requires.new
+    let numbered = rw c.in-Ok.is at c.length_u32.ensures.ok in
+    first_number core c.requires.known c.enter.new.core c.in_ok-enter.ensures.known (body_of c.args.body.now c.args.event) c.args.claims c.in_ok-enter.ensures.came c.in-Ok.number
+    (numbered ∙ c.len.ensures ∙ ap length c.journal.ensures.bodies ∙ length-map core.held (λ b. b.bytes)) c.requires.new
 
 pub returns-clause-room : goal.returns-clause-room
 returns-clause-room c =
