@@ -1,5 +1,5 @@
 -- What `blame` owes of both cores.
-use Rattle.std.proofs.Common.{◌≡◌, ◌≢◌, ℕ, Bool, [], ◌∷◌, Option, Some, None}
+use Rattle.std.proofs.Common.{◌≢◌, ℕ, Bool, [], ◌∷◌, Option, Some, None}
 use Rattle.std.specs.Prelude.{IfSome, Vec, option_map}
 use Rattle.std.proofs.lemmas.List.Elements.{All-nil, All-push}
 use Rattle.blame_core.proofs.Alike.{blames_alike}

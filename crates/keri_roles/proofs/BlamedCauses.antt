@@ -5,7 +5,8 @@ use Rattle.journal.specs.declared.journal.Journal.{Journal}
 use Rattle.run_status.specs.Readers.{Reader}
 use Rattle.keri_roles.specs.Blamed.{IsBlamed}
 use Rattle.keri_roles.specs.CoreTold.{fails_last}
-use Rattle.keri_roles.specs.Run.{Work, AreCaused, VerifierRose}
+use Rattle.run_record.specs.Run.{AreCaused, VerifierRose}
+use Rattle.keri_roles.specs.Work.{Work}
 use Rattle.keri_roles.proofs.Causes.{each_caused, failed_last, names_unfailed, regroup, some_rose}
 use Rattle.keri_roles.proofs.Never.{each_serves, is_serving, some_serves}
 

@@ -31,7 +31,8 @@ use Rattle.keri_roles.specs.CoreTold.{AreGiven, AreProvided, ReadsToCore, fails_
 use Rattle.keri_roles.specs.LinksTold.{AreLinked, AreLinksGiven, AreTakenBy, verifiers_of}
 use Rattle.keri_roles.specs.Made.{IsMade, IsMadeAlone, IsMadeBehind, given_alone, given_behind, last_close}
 use Rattle.keri_roles.specs.Rehearsed.{IsRehearsed, Serves, serving_close}
-use Rattle.keri_roles.specs.Run.{DoorTold, LinksTold, Run, Work, AreCaused, VerifierRose}
+use Rattle.run_record.specs.Run.{DoorTold, Run, AreCaused, VerifierRose}
+use Rattle.keri_roles.specs.Work.{LinksTold, Work}
 use Rattle.keri_roles.proofs.Made.{due_finds, due_signer, fourth_of, second, text_asked, text_read}
 
 -- where it may be that the source and the verifier couldn't be made, the count of the outside rose

@@ -22,7 +22,7 @@ use Rattle.reader_threads.specs.Given.{Given}
 use Rattle.keri_roles.specs.CoreTold.{AreProvided, AreThrough, HadMemory, HasBoth, IsOverCore, IsToldBy, MetNoFault, OwesText, ReadsToCore, core_of}
 use Rattle.keri_roles.specs.LinksTold.{AreLinked}
 use Rattle.keri_roles.specs.Made.{makings_behind}
-use Rattle.keri_roles.specs.Run.{LinksTold, Work}
+use Rattle.keri_roles.specs.Work.{LinksTold, Work}
 use Rattle.keri_roles.proofs.Causes.{files_rose, lacks, linked_rose, middle, names_lack, regroup}
 use Rattle.keri_roles.proofs.OverCore.{none_parts}
 

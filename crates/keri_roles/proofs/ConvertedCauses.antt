@@ -19,7 +19,7 @@ use Rattle.run_status.specs.Status.{nothing_besides, status_of}
 use Rattle.run_status.proofs.Causes.{faults_have_causes, words_refused}
 use Rattle.keri_roles.specs.Converted.{ConvertsFrom, IsConverted, unless_no_memory}
 use Rattle.keri_roles.specs.Rehearsed.{Serving}
-use Rattle.keri_roles.specs.Run.{HasCauses, Run}
+use Rattle.run_record.specs.Run.{HasCauses, Run}
 
 not_true : false ≡ true → ⊥
 not_true e = cc

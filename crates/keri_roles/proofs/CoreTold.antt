@@ -22,7 +22,7 @@ use Rattle.reader_threads.specs.declared.last_round.LastRound.{LastRound}
 use Rattle.reader_threads.specs.Given.{Given}
 use Rattle.reader_threads.specs.Told.{AllTold}
 use Rattle.keri_roles.specs.CoreTold.{AreSettled, IsJournalOf, IsToldBy, OwesText, core_of, plain}
-use Rattle.keri_roles.specs.Run.{Owes}
+use Rattle.keri_roles.specs.Work.{Owes}
 use Rattle.keri_roles.proofs.Complete.{is_complete}
 
 -- a core without entries was told nothing

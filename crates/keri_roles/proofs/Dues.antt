@@ -8,7 +8,7 @@ use Rattle.plan_answer.specs.Answers.{CountsFaults, IsAnswer, SignsNoMore, signe
 use Rattle.run_status.specs.declared.besides.Besides.{Besides}
 use Rattle.run_status.specs.Status.{nothing_besides}
 use Rattle.keri_roles.specs.Made.{MadeFrom, OwesAnswer, OwesNone, found_in, written}
-use Rattle.keri_roles.specs.Run.{SignerTold}
+use Rattle.run_record.specs.Run.{SignerTold}
 
 module _ (given : MadeFrom) (signer : SignerTold) (before : Option (List Signing)) (none_before : HasNone before) (owed : Option (List ℕ)) (besides : Besides) where
   -- the text of an answer is owed

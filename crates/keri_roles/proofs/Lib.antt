@@ -9,11 +9,6 @@ pub mod Made
 pub mod Causes
 pub mod CompleteOver
 pub mod Never
-pub mod Rehearsed
-pub mod Serving
-pub mod ServedFile
-pub mod ServedCauses
-pub mod WitnessedCauses
 pub mod ConvertedCauses
 pub mod Statuses
 pub mod Agreed
@@ -26,7 +21,3 @@ pub mod Generated
 pub mod Linked
 pub mod Blamed
 pub mod BlamedCauses
-mod ThroughLinks
-mod ComingLinks
-mod ServedLinks
-pub mod LinksCauses

@@ -18,7 +18,7 @@ use Rattle.reader_threads.specs.Seats.{AreReady}
 use Rattle.reader_threads.specs.declared.any_seats.AnySeats.{AnySeats}
 use Rattle.reader_threads.specs.declared.any_seats.AnySeats.TheVariants.{Nobody, Readers}
 use Rattle.keri_roles.specs.LinksTold.{AreLinked, AreLinksGiven, IsLinkGiven, ProvidesLinks, TakesLinks, verifiers_of}
-use Rattle.keri_roles.specs.Run.{LinksTold}
+use Rattle.keri_roles.specs.Work.{LinksTold}
 use Rattle.keri_roles.proofs.Provided.{makings_on}
 
 -- what is seen of all of a list

@@ -17,9 +17,9 @@ use Rattle.run_status.specs.declared.close.Close.TheVariants.{ReadFault, Verifie
 use Rattle.run_status.specs.Readers.{SourceTold}
 use Rattle.run_status.specs.Status.{nothing_besides}
 use Rattle.keri_roles.specs.Closes.{is_through}
-use Rattle.keri_roles.specs.Made.{MadeFrom, IsDue, IsDueBy, WasRead, close_of, found_in, is_out}
-use Rattle.keri_roles.specs.Run.{SignerTold}
-use Rattle.keri_roles.specs.Seen.{signer_seen}
+use Rattle.keri_roles.specs.Made.{MadeFrom, IsDue, IsDueBy, WasRead, close_of, found_in}
+use Rattle.run_record.specs.Run.{SignerTold, is_out}
+use Rattle.run_record.specs.Seen.{signer_seen}
 
 -- the reader of a text closes so by its source alone
 by_read : (closed : TextClose) → close_of closed ≡ ReadFault → closed ≡ text.ReadFault

@@ -22,7 +22,7 @@ use Rattle.reader_threads.specs.declared.last_round.LastRound.{LastRound}
 use Rattle.keri_roles.specs.CoreTold.{ReadsToCore}
 use Rattle.keri_roles.specs.Generated.{made_of}
 use Rattle.keri_roles.specs.Made.{IsMade, WasRead, close_of}
-use Rattle.keri_roles.specs.Run.{Work}
+use Rattle.keri_roles.specs.Work.{Work}
 
 -- a reader closes so only where it serves
 abbrev pub is_serving : Close → Bool

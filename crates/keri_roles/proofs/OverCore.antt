@@ -10,7 +10,7 @@ use Rattle.run_status.specs.Readers.{reader_seen}
 use Rattle.run_status.specs.declared.close.Close.{Close}
 use Rattle.run_status.specs.declared.close.Close.TheVariants.{OutOfMemory}
 use Rattle.run_status.specs.declared.reader_end.ReaderEnd.{ReaderEnd}
-use Rattle.keri_roles.specs.Made.{is_out}
+use Rattle.run_record.specs.Run.{is_out}
 
 -- a text that was made is owed, and says whether there is a conflict
 pub owes_so : {A E g : Type 0} (bytes : A → Vec ℕ g) (conflicts : A → Bool) (is_text : List ℕ → Bool → Type 0) (text : Result A E) (owed : Option (Vec ℕ g)) (has : Bool)

@@ -17,10 +17,11 @@ use Rattle.keri_roles.specs.Commands.{IsRunOf, IsUnbegun, CarriesOut}
 use Rattle.keri_roles.specs.CoreTold.{fails_last}
 use Rattle.keri_roles.specs.Made.{IsMade, given_alone, given_behind, last_close}
 use Rattle.keri_roles.specs.Rehearsed.{IsRehearsed, Serves, serving_close, serving_status}
-use Rattle.keri_roles.specs.Run.{AreCausedBy, DoorFails, DoorRose, LinksTold, Settles, Work, Run, HasCauses, SignerFails, VerifierRose, work_in}
+use Rattle.run_record.specs.Run.{AreCausedBy, DoorFails, DoorRose, Settles, Run, HasCauses, SignerFails, VerifierRose}
+use Rattle.keri_roles.specs.Work.{LinksTold, Work, work_in}
 use Rattle.keri_roles.specs.LinksTold.{AreUnseated}
-use Rattle.keri_roles.specs.Seen.{disk_seen}
-use Rattle.keri_roles.proofs.WitnessedCauses.{witnessed_causes}
+use Rattle.run_record.specs.Seen.{disk_seen}
+use Rattle.witness_role.proofs.WitnessedCauses.{witnessed_causes}
 use Rattle.keri_roles.proofs.ConvertedCauses.{converted_causes}
 use Rattle.keri_roles.proofs.Causes.{check_caused, door_rose, files_caused, files_unfailed, generated_caused, linked_caused, linked_door, linked_unfailed, made_caused, made_rose, made_signer, rehearsed_caused, told_rose}
 use Rattle.keri_roles.proofs.BlamedCauses.{blamed_caused, blamed_rose, blamed_serves}

@@ -15,7 +15,7 @@ use Rattle.run_status.specs.Readers.{Reader}
 use Rattle.run_status.specs.Status.{nothing_besides}
 use Rattle.validator_core.specs.View.{CoreView}
 use Rattle.keri_roles.specs.CoreTold.{AreProvided, HadMemory, HasBoth, IsToldBy, core_of, fails_last}
-use Rattle.keri_roles.specs.Run.{Work}
+use Rattle.keri_roles.specs.Work.{Work}
 use Rattle.keri_roles.specs.declared.blame.BlameWords.{BlameWords}
 
 -- the text is the lines of the blames of two cores, and it is said whether there are any

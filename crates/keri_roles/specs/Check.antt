@@ -11,9 +11,9 @@ use Rattle.message_feed.specs.Feeds.{Stream}
 use Rattle.run_status.specs.declared.close.Close.TheVariants.{OutOfMemory, ReadFault}
 use Rattle.keri_roles.specs.MessageLines.{AreLinesOf}
 use Rattle.keri_roles.specs.Closes.{Closes, ending_text}
-use Rattle.keri_roles.specs.NoJournal.{no_journal}
+use Rattle.run_record.specs.NoJournal.{no_journal}
 use Rattle.run_status.specs.Readers.{Reader, SourceTold}
-use Rattle.keri_roles.specs.Run.{Work, MakesSource, Owes}
+use Rattle.keri_roles.specs.Work.{Work, MakesSource, Owes}
 use Rattle.run_status.specs.Status.{nothing_besides}
 
 -- A stream was read: the text has the lines of its messages, and then how reading closed.

@@ -27,14 +27,15 @@ use Rattle.keri_roles.specs.Blamed.{IsBlamed}
 use Rattle.keri_roles.specs.Exports.{ExportsTo}
 use Rattle.keri_roles.specs.Generated.{counts_of, made_of}
 use Rattle.keri_roles.specs.Made.{IsMade}
-use Rattle.keri_roles.specs.NoJournal.{no_journal}
+use Rattle.run_record.specs.NoJournal.{no_journal}
 use Rattle.keri_roles.specs.Rehearsed.{IsRehearsed}
 use Rattle.keri_roles.specs.Reports.{Reports}
 use Rattle.run_status.specs.Readers.{Reader}
-use Rattle.keri_roles.specs.Run.{HasNoLinks, LinksTold, Run, Settles, Work, work_in}
+use Rattle.run_record.specs.Run.{HasNoLinks, Run, Settles}
+use Rattle.keri_roles.specs.Work.{LinksTold, Work, work_in}
 use Rattle.run_status.specs.Status.{nothing_besides}
 use Rattle.keri_disk.specs.Images.{DiskTold}
-use Rattle.keri_roles.specs.Witnessed.{IsWitnessed}
+use Rattle.witness_role.specs.Witnessed.{IsWitnessed}
 
 -- A core that wants receipts and seals is told what its readers read, and the text is its report. What it accepts agrees with what any
 -- other validator accepts; and what it accepts and reports any other does that was told the same.

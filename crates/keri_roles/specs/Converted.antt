@@ -11,9 +11,10 @@ use Rattle.run_status.specs.declared.close.Close.TheVariants.{End, Bad, ReadFaul
 use Rattle.run_status.specs.Readers.{Reader, SourceTold, SinkTold}
 use Rattle.run_status.specs.Settling.{found}
 use Rattle.run_status.specs.Status.{nothing_besides, status_of}
-use Rattle.keri_roles.specs.NoJournal.{no_journal}
+use Rattle.run_record.specs.NoJournal.{no_journal}
 use Rattle.keri_roles.specs.Rehearsed.{Serving}
-use Rattle.keri_roles.specs.Run.{HasNoLinks, MakesSource, Run}
+use Rattle.run_record.specs.Run.{HasNoLinks, Run}
+use Rattle.keri_roles.specs.Work.{MakesSource}
 
 -- what a source and a sink tell
 abbrev pub ends_of : SourceTold → SinkTold → EndsTold

@@ -30,7 +30,7 @@ use Rattle.reader_threads.specs.Fed.{ReadEach, ends_of, most_turns}
 use Rattle.reader_threads.specs.Given.{Given, said_by}
 use Rattle.reader_threads.specs.Told.{EachFailed, SomeFailed}
 use Rattle.keri_roles.specs.Closes.{is_through}
-use Rattle.keri_roles.specs.Run.{Work}
+use Rattle.keri_roles.specs.Work.{Work}
 
 -- what the reader of a name is given, with the verifier of a helper, as far as both could be made: nothing was read, asked or failed yet
 pub record IsGiven (before : Told) (helper name : List ℕ) (given : Given) : Type 0 where

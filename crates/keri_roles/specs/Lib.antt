@@ -1,6 +1,4 @@
-pub mod NoJournal
-pub mod Run
-pub mod Seen
+pub mod Work
 pub mod Closes
 pub mod MessageLines
 pub mod Checker
@@ -18,9 +16,6 @@ pub mod Made
 pub mod PlanDues
 pub mod Rehearsed
 pub mod Converted
-pub mod ServedFile
-pub mod ServedLinks
-pub mod Witnessed
 pub mod Blamed
 pub mod Exports
 pub mod Commands

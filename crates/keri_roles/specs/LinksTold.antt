@@ -8,13 +8,14 @@ use Rattle.run_outside.specs.Told.{Told, making}
 use Rattle.run_outside.specs.declared.making.Making.{Making}
 use Rattle.run_outside.specs.declared.making.MakingKind.TheVariants.{Door as DoorKind, Verifier as VerifierKind}
 use Rattle.run_status.specs.declared.besides.Besides.{Besides}
-use Rattle.run_status.specs.Readers.{Reader, SinkTold, SourceTold}
+use Rattle.run_status.specs.Readers.{Reader, SourceTold}
 use Rattle.run_status.specs.Status.{nothing_besides}
 use Rattle.reader_threads.specs.Given.{Given}
 use Rattle.validator_core.specs.View.{CoreView}
 use Rattle.keri_roles.specs.CoreTold.{IsOverCore}
-use Rattle.keri_roles.specs.NoJournal.{no_journal}
-use Rattle.keri_roles.specs.Run.{DoorTold, LinksTold, Work}
+use Rattle.run_record.specs.NoJournal.{no_journal}
+use Rattle.run_record.specs.Run.{DoorTold}
+use Rattle.keri_roles.specs.Work.{LinksTold, Work}
 
 -- So many links at most came, with these bytes left: fewer than were wanted only where the door failed, or had no more or doesn't tell.
 -- It failed only where its count rose.

@@ -23,7 +23,7 @@ use Rattle.plan_answer.specs.Asked.{LogTold}
 use Rattle.report_lines.specs.Lines.{plan_text}
 use Rattle.run_status.specs.declared.besides.Besides.{Besides}
 use Rattle.run_status.specs.declared.close.Close.{Close}
-use Rattle.run_status.specs.declared.close.Close.TheVariants.{End, Bad, ReadFault, VerifierFault, SignerFault as SignerClose, DiskFault, WriteFault, Malformed, Full, OutOfMemory}
+use Rattle.run_status.specs.declared.close.Close.TheVariants.{End, ReadFault, VerifierFault, Full, OutOfMemory}
 use Rattle.run_status.specs.Readers.{Reader, SourceTold}
 use Rattle.run_status.specs.Settling.{refuses}
 use Rattle.run_status.specs.Status.{nothing_besides}
@@ -33,9 +33,10 @@ use Rattle.reader_threads.specs.declared.last_round.LastRound.TheVariants.{NoneF
 use Rattle.reader_threads.specs.declared.providers.Providers.{Providers}
 use Rattle.keri_roles.specs.Closes.{is_through}
 use Rattle.keri_roles.specs.CoreTold.{HasBoth, IsGiven, IsToldBy, core_of, fails_last}
-use Rattle.keri_roles.specs.NoJournal.{no_journal}
+use Rattle.run_record.specs.NoJournal.{no_journal}
 use Rattle.run_outside.specs.Makings.{AreMakings}
-use Rattle.keri_roles.specs.Run.{SignerTold, Work}
+use Rattle.run_record.specs.Run.{SignerTold, is_out}
+use Rattle.keri_roles.specs.Work.{Work}
 use Rattle.keri_roles.specs.declared.make.MakeWords.{MakeWords}
 
 -- how the reader of a text closes
@@ -70,19 +71,6 @@ ReadsHeld left most source reader bytes = (held : Option (List ℕ)) → IfSome 
 -- one of nothing
 abbrev pub ReadsNothing : Reader → List ℕ → Type 0
 ReadsNothing reader bytes = (most : ℕ) (held : Option (List ℕ)) → ReadsWhole most held reader bytes
-
--- there was no memory for all that a reader read
-abbrev pub is_out : Close → Bool
-is_out OutOfMemory = true
-is_out End = false
-is_out (Bad bad) = false
-is_out ReadFault = false
-is_out VerifierFault = false
-is_out SignerClose = false
-is_out DiskFault = false
-is_out WriteFault = false
-is_out (Malformed place) = false
-is_out Full = false
 
 -- what an answer writes: the message, or the line of why there is none; and nothing where the signer failed
 abbrev pub written : PlanAnswer → List ℕ

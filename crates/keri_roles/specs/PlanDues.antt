@@ -9,7 +9,7 @@ use Rattle.plan_answer.specs.declared.read_log.ReadLog.{ReadLog}
 use Rattle.plan_answer.specs.Asked.{log_told}
 use Rattle.run_status.specs.declared.close.Close.{Close}
 use Rattle.keri_roles.specs.Made.{MadeFrom, IsDue, OwesAnswer, OwesNone, found_in, written}
-use Rattle.keri_roles.specs.Run.{SignerTold}
+use Rattle.run_record.specs.Run.{SignerTold}
 use Rattle.keri_roles.specs.declared.message_due.MessageDue.{MessageDue}
 
 -- what a message is made from, by the log that was read

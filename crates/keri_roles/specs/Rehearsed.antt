@@ -12,8 +12,9 @@ use Rattle.verifier_link.specs.Sides.{sink_told, source_told}
 use Rattle.run_status.specs.declared.close.Close.{Close}
 use Rattle.run_status.specs.declared.close.Close.TheVariants.{End as EndClose, Malformed as MalformedClose, ReadFault as ReadFaultClose, WriteFault as WriteFaultClose, Full as FullClose, OutOfMemory as OutOfMemoryClose}
 use Rattle.run_status.specs.Readers.{Reader, SourceTold, SinkTold, sink_seen}
-use Rattle.keri_roles.specs.NoJournal.{no_journal}
-use Rattle.keri_roles.specs.Run.{HasNoLinks, MakesSource, Run}
+use Rattle.run_record.specs.NoJournal.{no_journal}
+use Rattle.run_record.specs.Run.{HasNoLinks, Run}
+use Rattle.keri_roles.specs.Work.{MakesSource}
 
 -- the end of serving as a reader's close
 abbrev pub serving_close : Served → Close

@@ -2,10 +2,9 @@
 ghost use Rattle.std.specs.Prelude.{◌≡◌, ◌<◌, [], None, IsSome, option_map, string_bytes};
 ghost use Rattle.std.specs.Vec.{vec_capacity};
 ghost use Rattle.keri_roles.specs.Check.{ChecksAny, ChecksFile, ChecksHeld, IsChecked};
-ghost use Rattle.keri_roles.specs.Run.{MakesSource, Owes};
+ghost use Rattle.keri_roles.specs.Work.{MakesSource, Owes};
 
 use crate::checker::Checker;
-use crate::nothing_told::nothing_told;
 use crate::outcome::Outcome;
 use crate::reads::Reads;
 use crate::works::Works;
@@ -15,6 +14,7 @@ use lists::Items;
 use message_feed::feed_messages;
 use report_lines::read_fault_line;
 use run_outside::Outside;
+use run_record::nothing_told;
 use run_status::Besides;
 use std::alloc::{AllocError, Global};
 

@@ -5,10 +5,8 @@ ghost use Rattle.run_status.specs.Readers.{reader_seen};
 ghost use Rattle.item_conversion.specs.Converts.{Converts};
 ghost use Rattle.keri_roles.specs.Converted.{ConvertsFile, IsConverted};
 ghost use Rattle.keri_roles.specs.Converted as specs;
-ghost use Rattle.keri_roles.specs.Run.{MakesSource};
+ghost use Rattle.keri_roles.specs.Work.{MakesSource};
 
-use crate::done::NO_MEMORY;
-use crate::nothing_told::nothing_told;
 use crate::serves::Serves;
 use crate::{Close, Done, ReaderEnd, Runs};
 use cesr_binary::Domain;
@@ -16,6 +14,7 @@ use item_conversion::{Conversion, convert_items};
 use keri_outside::{Failed, Limits};
 use lists::Items;
 use run_outside::Outside;
+use run_record::{NO_MEMORY, nothing_told};
 use run_status::{Besides, status_by};
 use std::alloc::Global;
 

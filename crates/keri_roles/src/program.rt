@@ -5,33 +5,33 @@ ghost use Rattle.command_words.specs.Inputs.{AreFew, AreInForm, inputs_by};
 ghost use Rattle.command_words.specs.Words as asks_for;
 ghost use Rattle.command_words.specs.Words.{IsInForm, asked_by};
 ghost use Rattle.keri_roles.specs.Commands.{CarriesOut, IsRunOf, IsWritten, RefusesWords};
-ghost use Rattle.keri_roles.specs.Run.{HasCauses, HasNoSecond, IsSettled, asked_in};
-ghost use Rattle.keri_roles.specs.NoJournal.{no_journal};
+ghost use Rattle.run_record.specs.Run.{HasCauses, HasNoSecond, asked_in};
+ghost use Rattle.keri_roles.specs.Work.{IsSettled};
+ghost use Rattle.run_record.specs.NoJournal.{no_journal};
 
 use crate::blame::{BlameWords, blame_files};
 use crate::check::check;
 use crate::convert::convert;
-use crate::done::NO_MEMORY;
 use crate::export::export_files;
 use crate::generate::{StreamPlan, generate};
 use crate::make::{MakeWords, make};
-use crate::nothing_told::nothing_told;
 use crate::outcome::{LinkedOutcome, Outcome, RivalOutcome, SignedOutcome};
 use crate::over_core::FileWords;
 use crate::over_links::LinkWords;
 use crate::rehearse::rehearse;
 use crate::validate::{validate, validate_links};
 use crate::watch::{watch, watch_links};
-use crate::witness::{WitnessWords, witness};
 use crate::{Done, ReaderEnd, Runs};
 use command_words::{Command, Inputs, Links, command_of};
 use keri_outside::Door;
 use report_lines::WORDS;
 use run_outside::Outside;
+use run_record::{NO_MEMORY, nothing_told};
 use run_status::{Besides, settle};
 use std::alloc::{AllocError, Global};
 use std::sync::Wait;
 use std::thread::Threads;
+use witness_role::{WitnessWords, witness};
 
 // `make` reads a plan and a log, and `blame` two files; `validate`, `watch`, `export` and links have room of their own, and every
 // other command reads one stream.

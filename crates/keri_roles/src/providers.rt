@@ -3,7 +3,7 @@ ghost use Rattle.std.specs.Prelude.{◌≡◌, ◌≤◌, [], length, map, IfSom
 ghost use Rattle.std.specs.Vec.{vec_capacity};
 ghost use Rattle.keri_specs.specs.Told.{HasNone};
 ghost use Rattle.keri_roles.specs.CoreTold.{AreProvided, SameNames};
-ghost use Rattle.keri_roles.specs.Run.{MakesProviders};
+ghost use Rattle.keri_roles.specs.Work.{MakesProviders};
 
 use crate::works::Works;
 use reader_threads::Providers;

@@ -4,14 +4,14 @@ ghost use Rattle.std.specs.Vec.{vec_capacity};
 ghost use Rattle.verifier_link.specs.Serving.{IsServed};
 ghost use Rattle.keri_roles.specs.Rehearsed.{IsRehearsed, ServesInput};
 ghost use Rattle.keri_roles.specs.Rehearsed as specs;
-ghost use Rattle.keri_roles.specs.Run.{MakesSource};
+ghost use Rattle.keri_roles.specs.Work.{MakesSource};
 
-use crate::nothing_told::nothing_told;
 use crate::serves::Serves;
 use crate::{Close, Done, ReaderEnd, Runs};
 use keri_outside::{Failed, Limits};
 use lists::Items;
 use run_outside::Outside;
+use run_record::nothing_told;
 use std::alloc::Global;
 use verifier_link::{Served, serve_rehearsal};
 

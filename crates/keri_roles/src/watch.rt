@@ -2,7 +2,7 @@
 ghost use Rattle.std.specs.Prelude.{◌≡◌, ◌<◌, ◌≤◌, IfOk, OnErr, length, map};
 ghost use Rattle.std.specs.List.{list_any};
 ghost use Rattle.keri_roles.specs.Commands.{AreLinksWatched, IsWatched};
-ghost use Rattle.keri_roles.specs.Made.{is_out};
+ghost use Rattle.run_record.specs.Run.{is_out};
 
 use crate::core_text::{CommandText, CoreText};
 use crate::outcome::{LinkedOutcome, Outcome};

@@ -7,8 +7,7 @@ pub(crate) trait Works: Outside {
     ghost use Rattle.std.specs.Prelude.{◌≡◌};
     ghost use Rattle.run_status.specs.Readers.{Reader, reader_seen};
     ghost use Rattle.run_status.specs.declared.reader_end.ReaderEnd.{ReaderEnd as End};
-    ghost use Rattle.keri_roles.specs.Run.{LinksTold, Work};
-    ghost use Rattle.keri_roles.specs.Seen.{links_over, signed_over, work_over};
+    ghost use Rattle.keri_roles.specs.Work.{LinksTold, Work, links_over, signed_over, work_over};
     ghost use Rattle.reader_threads.specs.Given.{Given, given_by};
     ghost use Rattle.reader_threads.specs.declared.providers.Providers.{Providers as Gave};
     ghost use Rattle.keri_roles.specs.declared.outcome.LinkedOutcome.{LinkedOutcome as CameLinked};
@@ -52,7 +51,7 @@ impl<O: Outside> Works for O {
     ghost use Rattle.std.specs.Prelude.{refl};
     ghost use Rattle.reader_threads.specs.Given.{given_by};
     ghost use Rattle.run_status.specs.Readers.{reader_seen};
-    ghost use Rattle.keri_roles.specs.Seen.{links_over, signed_over, work_over};
+    ghost use Rattle.keri_roles.specs.Work.{links_over, signed_over, work_over};
 
     ghost reader = { reader_seen O.Source.left O.Source.faults
         O.Verifier.says O.Verifier.inquiries O.Verifier.faults };

@@ -1,6 +1,6 @@
 use Rattle.std.proofs.Common.{refl}
 use Rattle.run_outside.specs.declared.making.MakingKind.TheVariants.{Source}
-use Rattle.keri_roles.proofs.Rehearsed.{one_failed, one_made}
+use Rattle.run_record.proofs.Makings.{one_failed, one_made}
 use Rattle.keri_roles.proofs.convert.convert_file.Goals as goal
 
 pub returns-in-Ok : goal.returns-in-Ok

@@ -6,7 +6,7 @@ use Rattle.reader_threads.specs.Given.{Given, given_by}
 use Rattle.reader_threads.specs.Told.{AllTold}
 use Rattle.keri_roles.specs.CoreTold.{IsJournalOf}
 use Rattle.keri_roles.specs.Made.{makings_behind}
-use Rattle.keri_roles.specs.Seen.{signer_seen}
+use Rattle.run_record.specs.Seen.{signer_seen}
 use Rattle.keri_roles.proofs.CompleteOver.{log_there}
 use Rattle.keri_roles.proofs.CoreTold.{is_told_by, same_journal, seen_none}
 use Rattle.keri_roles.proofs.Made.{gives_seen, signer_none}

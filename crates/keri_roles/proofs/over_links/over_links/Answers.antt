@@ -5,8 +5,8 @@ use Rattle.reader_threads.specs.Given.{given_by}
 use Rattle.reader_threads.specs.Told.{AllTold}
 use Rattle.keri_roles.specs.CoreTold.{IsOverCore, OwesText, core_of, plain}
 use Rattle.keri_roles.specs.LinksTold.{AreLinked, TakesLinks}
-use Rattle.keri_roles.specs.Run.{LinksTold, Work}
-use Rattle.keri_roles.specs.Seen.{door_seen, sinks_seen}
+use Rattle.keri_roles.specs.Work.{LinksTold, Work}
+use Rattle.run_record.specs.Seen.{door_seen, sinks_seen}
 use Rattle.keri_roles.proofs.CompleteOver.{over_linked}
 use Rattle.keri_roles.proofs.CoreTold.{is_told_by, journal_of, owes_plain, same_journal, untold}
 use Rattle.keri_roles.proofs.Linked.{any_ready, are_linked}

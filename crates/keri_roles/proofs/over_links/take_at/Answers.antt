@@ -3,7 +3,7 @@ use Rattle.keri_specs.specs.Told.{HasNone}
 use Rattle.run_outside.specs.declared.making.MakingKind.TheVariants.{Door as DoorKind}
 use Rattle.run_status.specs.Readers.{sink_seen, source_seen}
 use Rattle.keri_roles.specs.LinksTold.{AreTakenAt}
-use Rattle.keri_roles.specs.Seen.{door_told}
+use Rattle.run_record.specs.Seen.{door_told}
 use Rattle.keri_roles.proofs.Linked.{all_map, length_map, makings_one, map_map}
 use Rattle.keri_roles.proofs.over_links.take_at.Goals as goal
 

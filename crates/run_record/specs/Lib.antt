@@ -1,0 +1,3 @@
+pub mod NoJournal
+pub mod Run
+pub mod Seen

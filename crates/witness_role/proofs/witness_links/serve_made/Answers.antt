@@ -1,0 +1,24 @@
+use Rattle.std.proofs.Common.{map, refl}
+use Rattle.run_status.specs.Readers.{reader_seen, verifier_seen}
+use Rattle.run_record.specs.Seen.{door_told, signer_told}
+use Rattle.witness_role.proofs.witness_links.serve_made.Goals as goal
+
+pub returns-clause-serves : goal.returns-clause-serves
+returns-clause-serves g c = λ before after.
+    let now = c.serve_coming-failed.new in
+    let served = c.serve_coming-failed.ensures in
+    let end = c.end.ensures in
+    record {
+      door = door_told g.O.Door.Door.left g.O.Door.Door.faults now.door;
+      verifier = verifier_seen g.O.Source.Source.left g.O.Source.Source.faults g.O.Verifier.Verifier.says g.O.Verifier.Verifier.inquiries g.O.Verifier.Verifier.faults now.verifier;
+      signer = signer_told g.O.Signer.Signer.gives g.O.Signer.Signer.signings g.O.Signer.Signer.faults now.signer;
+      each = map (reader_seen g.O.Source.Source.left g.O.Source.Source.faults g.O.Verifier.Verifier.says g.O.Verifier.Verifier.inquiries g.O.Verifier.Verifier.faults) now.kept.readers.items;
+      new = record { core = now.witness.core; list = now.witness.shelf.list; broken = now.witness.broken; disk = now.witness.shelf.disk };
+      failed = c.serve_coming-failed.result;
+      door_is = rw end.door refl;
+      signer_is = rw end.signer refl;
+      coming = rw end.sinks (rw c.from.ensures at served.serves);
+      says_is = served.says;
+      gives_is = served.gives;
+      ends = rw c.with_verifier-readers.ensures at end.ends before after;
+    }

@@ -1,0 +1,3 @@
+pub mod ServedFile
+pub mod ServedLinks
+pub mod Witnessed

@@ -1,0 +1,135 @@
+-- What becomes of a file that a witness is to serve.
+use Rattle.std.specs.Prelude.{◌≡◌, ℕ, Bool, false, true, List, [], ◌∷◌, map, is_none, IfSome, if◌then◌else◌}
+use Rattle.std.specs.List.{list_any}
+use Rattle.std.specs.declared.option.Option.{Option}
+use Rattle.std.specs.declared.option.Option.TheVariants.{None, Some}
+use Rattle.cesr_codes.specs.declared.digest.Digest.{Digest}
+use Rattle.cesr_codes.specs.declared.key.Key.{Key}
+use Rattle.journal.specs.declared.refusal.Refusal.{Refusal}
+use Rattle.keri_disk.specs.Images.{DiskTold}
+use Rattle.keri_outside.specs.declared.inquiry.Inquiry.{Inquiry}
+use Rattle.keri_outside.specs.declared.limits.Limits.{Limits}
+use Rattle.keri_outside.specs.declared.signing.Signing.{Signing}
+use Rattle.keri_specs.specs.Told.{HasNone}
+use Rattle.run_outside.specs.Makings.{AreMakings}
+use Rattle.run_outside.specs.Told.{Told, making}
+use Rattle.run_outside.specs.declared.making.MakingKind.{MakingKind}
+use Rattle.run_outside.specs.declared.making.MakingKind.TheVariants.{Source as SourceKind, Verifier as VerifierKind, Signer as SignerKind}
+use Rattle.run_status.specs.declared.besides.Besides.{Besides}
+use Rattle.run_status.specs.declared.close.Close.{Close}
+use Rattle.run_status.specs.declared.close.Close.TheVariants.{ReadFault, VerifierFault, SignerFault}
+use Rattle.run_status.specs.Readers.{Reader, SinkTold, SourceTold, VerifierTold}
+use Rattle.run_status.specs.Settling.{found}
+use Rattle.run_status.specs.Status.{nothing_besides, status_of}
+use Rattle.shelf_log.specs.Format.{Holds}
+use Rattle.shelf_log.specs.Settled.{AllHold}
+use Rattle.shelf_log.specs.declared.version.Version.TheVariants.{Two}
+use Rattle.validator_core.specs.View.{CoreView}
+use Rattle.witness_link.specs.Links.{LinkTold, WitnessTold, source_told, told_of_link}
+use Rattle.witness_link.specs.Served.{ServesLink}
+use Rattle.run_record.specs.Run.{HasNoLinks, Run, SignerTold, is_out}
+
+-- the status of a run that owes nothing more: by its readers, and by what was found besides
+abbrev pub status_closing : Besides → List Reader → ℕ
+status_closing besides readers = if list_any (λ r. is_out r.close) readers then 10 else status_of (found besides readers false)
+
+-- What is read, of this kind and name, and the verifier and the signer of a helper, are made in this order, up to the first that fails.
+abbrev pub MakesServing : {S V G : Type 0} → MakingKind → List ℕ → List ℕ → Option S → Option V → Option G → Told → Told → Type 0
+MakesServing kind name helper None verifier signer before after =
+    (is_none verifier ≡ true) × (is_none signer ≡ true) × AreMakings (making kind name true ∷ []) before after
+MakesServing kind name helper (Some first) None signer before after =
+    (is_none signer ≡ true) × AreMakings (making kind name false ∷ making VerifierKind helper true ∷ []) before after
+MakesServing kind name helper (Some first) (Some verifier) signer before after =
+    AreMakings (making kind name false ∷ making VerifierKind helper false ∷ making SignerKind helper (is_none signer) ∷ []) before after
+
+-- what a witness is at a moment: its core, the list of its shelf, whether it is broken, and its disk
+pub record Left (D : Type 0) : Type 0 where
+  pub core : CoreView
+  pub list : List (List ℕ)
+  pub broken : Bool
+  pub disk : D
+
+-- what is seen of it
+abbrev pub seen_as : {D : Type 0} → (D → DiskTold) → Key → Limits → Left D → WitnessTold
+seen_as told key limits left = record { key = key; limits = limits; core = left.core; list = left.list; disk = told left.disk; broken = left.broken }
+
+-- The run ends with these readers, and with this found besides, and hands back the disk and the journal of the witness as it is
+-- left. Nothing more is owed. Unless the witness is broken, each image of the disk stands for its list, and so does the file as it
+-- reads, where that is told.
+pub record EndsWith {D : Type 0} (told : D → DiskTold) (disk : Option D) (readers : List Reader) (besides : Besides) (new : Left D) (run : Run) : Type 0 where
+  pub all : run.readers ≡ readers
+  pub back : disk ≡ Some new.disk
+  pub bodies : run.journal.bodies ≡ map (λ b. b.bytes) new.core.held
+  pub entries : run.journal.entries ≡ new.core.entries
+  pub status : run.status ≡ status_closing besides run.readers
+  pub stand : new.broken ≡ false → AllHold (told new.disk) new.list
+  pub reads : new.broken ≡ false → IfSome (told new.disk).file (λ file. Holds Two file new.list)
+
+-- One of the makings failed: nothing is read, and the witness is as it was. A verifier that was made was asked nothing, and never failed.
+pub record ServesNone {D : Type 0} (held : Option (List ℕ)) (at : Close) (reader : Reader) (old new : Left D) (run : Run) : Type 0 where
+  pub close : reader.close ≡ at
+  pub none_refused : reader.refused ≡ []
+  pub none_seen : reader.seen ≡ []
+  pub unread : IfSome reader.source (λ s. s ≡ source_told held 0)
+  pub unasked : IfSome reader.verifier (λ v. HasNone v.inquiries × (v.faults ≡ 0))
+  pub same : new ≡ old
+  pub same_sink : run.sink_after ≡ run.sink_before
+
+-- a verifier and a signer of a helper that never failed, and were asked these
+abbrev pub verifier_of : Told → List ℕ → Option (List Inquiry) → VerifierTold
+verifier_of before helper inquiries = record { says = before.says helper; inquiries = inquiries; faults = 0 }
+
+abbrev pub signer_of : Told → List ℕ → Option (List Signing) → SignerTold
+signer_of before helper signings = record { gives = before.gives helper; signings = signings; faults = 0 }
+
+module _ {D : Type 0} (told : D → DiskTold) (key : Key) (limits : Limits) where
+  -- what is seen of a witness and of a verifier, a signer and a sink, and what was noted
+  abbrev pub at_link : Left D → VerifierTold → SignerTold → SinkTold → List Refusal → List Digest → LinkTold
+  at_link left verifier signer sink refused seen = told_of_link (seen_as told key limits left)
+      verifier.says verifier.inquiries verifier.faults signer.gives signer.signings signer.faults sink.written sink.faults refused seen
+
+  -- the link that a run has with its source, its verifier and its signer, which these were before, and the sink
+  abbrev pub ServesIts : Run → SourceTold → VerifierTold → SignerTold → Left D → SourceTold → VerifierTold → SignerTold → Reader → Left D → Type 0
+  ServesIts run source_old verifier_old signer_old old source verifier signer reader new =
+      ServesLink run.before.limits source_old (source_told source.left source.faults)
+      (at_link old verifier_old signer_old run.sink_before [] [])
+      (at_link new verifier signer run.sink_after reader.refused reader.seen) reader.close
+
+  -- all three were made of the name and of the helper, and serve the witness as a link; the verifier and the signer were asked nothing
+  -- before, where they tell, and none of the three had failed
+  pub record ServesMade (helper name : List ℕ) (old : Left D) (source : SourceTold) (verifier : VerifierTold) (signer : SignerTold) (reader : Reader) (new : Left D) (run : Run) : Type 0 where
+    pub inquiries : Option (List Inquiry)
+    pub none_inquired : HasNone inquiries
+    pub signings : Option (List Signing)
+    pub none_signed : HasNone signings
+    pub serves : ServesIts run (source_told (run.before.holds name) 0) (verifier_of run.before helper inquiries) (signer_of run.before helper signings) old source verifier signer reader new
+
+  -- what was made serves the witness as a link, where it was all made
+  abbrev pub ServesBy : List ℕ → List ℕ → Left D → Reader → Option SourceTold → Option VerifierTold → Option SignerTold → Left D → Run → Type 0
+  ServesBy helper name old reader None verifier signer new run = ServesNone (run.before.holds name) ReadFault reader old new run
+  ServesBy helper name old reader (Some source) None signer new run = ServesNone (run.before.holds name) VerifierFault reader old new run
+  ServesBy helper name old reader (Some source) (Some verifier) None new run = ServesNone (run.before.holds name) SignerFault reader old new run
+  ServesBy helper name old reader (Some source) (Some verifier) (Some signer) new run = ServesMade helper name old source verifier signer reader new run
+
+  -- What is made of a name and of a helper serves the witness, and the run ends.
+  pub record IsServing (helper name : List ℕ) (old : Left D) (disk : Option D) (run : Run) : Type 0 where
+    pub reader : Reader
+    pub makes : MakesServing SourceKind name helper reader.source reader.verifier run.signer run.before run.after
+    pub new : Left D
+    pub serves : ServesBy helper name old reader reader.source reader.verifier run.signer new run
+    pub no_links : HasNoLinks run
+    pub ends : EndsWith told disk (reader ∷ []) nothing_besides new run
+
+  -- all three were made, and were these before, and the run ends
+  pub record ServesAll (source_old : SourceTold) (verifier_old : VerifierTold) (signer_old : SignerTold) (old : Left D) (disk : Option D) (run : Run) : Type 0 where
+    pub source : SourceTold
+    pub verifier : VerifierTold
+    pub signer : SignerTold
+    pub reader : Reader
+    pub new : Left D
+    pub source_is : reader.source ≡ Some source
+    pub verifier_is : reader.verifier ≡ Some verifier
+    pub signer_is : run.signer ≡ Some signer
+    pub serves : ServesIts run source_old verifier_old signer_old old source verifier signer reader new
+    pub no_links : HasNoLinks run
+    pub ends : EndsWith told disk (reader ∷ []) nothing_besides new run

@@ -1,0 +1,224 @@
+-- What becomes of links that a witness is to serve, one after another.
+use Rattle.std.specs.Prelude.{◌≡◌, ℕ, ◌≤◌, ◌⊎◌, Bool, false, true, List, [], ◌∷◌, ◌++◌, length, map, All, IfSome}
+use Rattle.std.specs.List.{list_all}
+use Rattle.std.specs.declared.option.Option.{Option}
+use Rattle.std.specs.declared.option.Option.TheVariants.{None, Some}
+use Rattle.keri_specs.specs.Told.{HasNone}
+use Rattle.cesr_codes.specs.declared.digest.Digest.{Digest}
+use Rattle.cesr_codes.specs.declared.key.Key.{Key}
+use Rattle.cesr_codes.specs.declared.sig.Sig.{Sig}
+use Rattle.journal.specs.declared.refusal.Refusal.{Refusal}
+use Rattle.keri_disk.specs.Images.{DiskTold}
+use Rattle.door_links.specs.Taken.{AreTaken, IsCaused, IsEnough}
+use Rattle.keri_outside.specs.declared.inquiry.Inquiry.{Inquiry}
+use Rattle.keri_outside.specs.declared.limits.Limits.{Limits}
+use Rattle.keri_outside.specs.declared.signing.Signing.{Signing}
+use Rattle.run_outside.specs.declared.making.MakingKind.TheVariants.{Door as DoorKind}
+use Rattle.run_status.specs.declared.close.Close.{Close}
+use Rattle.run_status.specs.declared.close.Close.TheVariants.{End, Bad, ReadFault, VerifierFault, SignerFault, DiskFault, WriteFault, Malformed, Full, OutOfMemory}
+use Rattle.run_status.specs.Readers.{Reader, SinkTold, SourceTold, VerifierTold}
+use Rattle.run_status.specs.Status.{nothing_besides}
+use Rattle.validator_core.specs.View.{open_of}
+use Rattle.witness_core.specs.Storing.{StoresOn}
+use Rattle.witness_core.specs.Telling.{AsksVerdicts}
+use Rattle.witness_core.specs.declared.receipt.Receipt.{Receipt}
+use Rattle.witness_link.specs.Calls.{receipts_in}
+use Rattle.witness_link.specs.Links.{Terms}
+use Rattle.witness_link.specs.Served.{ServesLink}
+use Rattle.witness_link.specs.Stored.{HoldsEach, IsLawfulList, IsOfStored}
+use Rattle.run_record.specs.Run.{DoorTold, Run, SignerTold}
+use Rattle.witness_role.specs.ServedFile.{EndsWith, Left, MakesServing, at_link}
+
+-- after a link that closed so the next one is asked for; any other close ends the run
+abbrev pub goes_on : Close → Bool
+goes_on End = true
+goes_on (Bad bad) = true
+goes_on ReadFault = true
+goes_on WriteFault = true
+goes_on VerifierFault = false
+goes_on SignerFault = false
+goes_on DiskFault = false
+goes_on (Malformed place) = false
+goes_on Full = false
+goes_on OutOfMemory = false
+
+-- a link that was served: what its source and its sink were before and after, what was noted of its messages, and how it closed
+pub record ServedLink : Type 0 where
+  pub source_old : SourceTold
+  pub source : SourceTold
+  pub sink_old : SinkTold
+  pub sink : SinkTold
+  pub refused : List Refusal
+  pub seen : List Digest
+  pub close : Close
+
+-- the witness that serves links, and what its verifier and its signer were asked and how often they have failed, before one of the links
+-- or behind it
+pub record Between (D : Type 0) : Type 0 where
+  pub left : Left D
+  pub inquiries : Option (List Inquiry)
+  pub verifier_faults : ℕ
+  pub signings : Option (List Signing)
+  pub signer_faults : ℕ
+
+-- what its verifier and its signer tell then
+abbrev pub verifier_at : {D : Type 0} → (Key → List ℕ → Sig → Option Bool) → Between D → VerifierTold
+verifier_at says between = record { says = says; inquiries = between.inquiries; faults = between.verifier_faults }
+
+abbrev pub signer_at : {D : Type 0} → (Key → List ℕ → Option Sig) → Between D → SignerTold
+signer_at gives between = record { gives = gives; signings = between.signings; faults = between.signer_faults }
+
+-- a reader of no link, with the verifier, where there is one
+abbrev pub idle_reader : Option VerifierTold → Close → Reader
+idle_reader verifier close = record { source = None; verifier = verifier; refused = []; seen = []; close = close }
+
+-- the reader of a link, and with the verifier
+abbrev pub reader_of : ServedLink → Reader
+reader_of link = record { source = Some link.source; verifier = None; refused = link.refused; seen = link.seen; close = link.close }
+
+-- the readers of a run: the one verifier stands in the first, which there is also where no link came
+abbrev pub readers_with : VerifierTold → List Reader → List Reader
+readers_with verifier [] = idle_reader (Some verifier) End ∷ []
+readers_with verifier (reader ∷ readers) = record reader { verifier = Some verifier } ∷ readers
+
+-- No more links were served than so many, and fewer only where one closed so that the run ends, the door failed, or it had none left
+-- or doesn't tell.
+pub record AreEnough (count : ℕ) (links : List ServedLink) (failed : Bool) (left : Option (List (List ℕ))) : Type 0 where
+  pub no_more : length links ≤ count
+  pub no_fewer : IsEnough count (length links) failed left ⊎ (list_all (λ l. goes_on l.close) links ≡ false)
+
+-- a link came fresh: neither its source nor its sink had failed, and nothing was written to it
+pub record IsFresh (link : ServedLink) : Type 0 where
+  pub source_unfailed : link.source_old.faults ≡ 0
+  pub sink_unfailed : link.sink_old.faults ≡ 0
+  pub unwritten : HasNone link.sink_old.written
+
+module _ {D : Type 0} (told : D → DiskTold) (key : Key) (limits run_limits : Limits) (says : Key → List ℕ → Sig → Option Bool) (gives : Key → List ℕ → Option Sig) where
+  -- a link was served, as the witness stood before it
+  pub record ServesOne (link : ServedLink) (old new : Between D) : Type 0 where
+    pub fresh : IsFresh link
+    pub serves : ServesLink run_limits link.source_old link.source
+        (at_link told key limits old.left (verifier_at says old) (signer_at gives old) link.sink_old [] [])
+        (at_link told key limits new.left (verifier_at says new) (signer_at gives new) link.sink link.refused link.seen) link.close
+
+  -- what came with these bytes was served as a link, with this reader and this sink
+  pub record IsServed (held : Option (List ℕ)) (reader : Reader) (sink : SinkTold) (old new : Between D) : Type 0 where
+    pub link : ServedLink
+    pub one : ServesOne link old new
+    pub held_is : held ≡ link.source_old.left
+    pub reader_is : reader ≡ reader_of link
+    pub sink_is : sink ≡ link.sink
+
+  -- Links were served one after another, by one witness, verifier and signer: each begins where the one before it ended, and behind
+  -- one whose close ends the run none comes.
+  abbrev pub ServesEach : List ServedLink → Between D → Between D → Type 0
+  ServesEach [] old new = new ≡ old
+  ServesEach (link ∷ links) old new = (mid : Between D) × ServesOne link old mid × (goes_on link.close ≡ false → links ≡ []) × ServesEach links mid new
+
+  -- what the witness goes by at each link
+  abbrev pub link_terms : Terms
+  link_terms = record { says = says; gives = gives; key = key; limits = limits }
+
+  -- the receipts that were due at links, in order
+  abbrev pub receipts_due : (links : List ServedLink) (old new : Between D) → ServesEach links old new → List Receipt
+  receipts_due [] old new each = []
+  receipts_due (link ∷ links) old new each = receipts_in each.1.serves.serves.calls ++ receipts_due links each.0 new each.3
+
+  -- A stop at any moment leaves what was stored before the first link, and the first few of what was accepted since, none skipped,
+  -- which is lawful. Behind the last link the list, and each image, has the event of each receipt.
+  pub record StoresThrough (receipts : List Receipt) (old new : Left D) : Type 0 where
+    pub stores : StoresOn old.list (told old.disk) new.core new.list (told new.disk)
+    pub lawful : IsLawfulList stores.accepted
+    pub of_stored : All (IsOfStored link_terms new.list) receipts
+    pub held : (c : List ℕ) → (told new.disk).images c → HoldsEach link_terms receipts c
+
+  -- so it is through all links; where none came the witness is as it was
+  abbrev pub StopsLeave : (links : List ServedLink) (old new : Between D) → ServesEach links old new → Type 0
+  StopsLeave [] old new each = Unit {0}
+  StopsLeave (link ∷ links) old new each = StoresThrough (receipts_due (link ∷ links) old new each) old.left new.left
+
+  -- The links that came at a door were served, and so many are enough. These are their readers and their sinks, in order, and what a
+  -- stop leaves through all of them. Where no question was open before the first, the verifier was asked for the verdicts that the core
+  -- was told since, in order, and for nothing else, but maybe for the first question that is open behind the last.
+  pub record ServesComing (count : ℕ) (failed : Bool) (door_old door : DoorTold) (old new : Between D) (readers : List Reader) (sinks : List SinkTold) : Type 0 where
+    pub links : List ServedLink
+    pub serves : ServesEach links old new
+    pub stops : StopsLeave links old new serves
+    pub inquired : open_of old.left.core ≡ [] → AsksVerdicts old.inquiries new.inquiries old.left.core new.left.core
+    pub came : AreTaken door_old.left door.left (map (λ l. l.source_old.left) links)
+    pub enough : AreEnough count links failed door.left
+    pub cause : IsCaused failed door_old.faults door.faults
+    pub readers_are : readers ≡ map reader_of links
+    pub sinks_are : sinks ≡ map (λ l. l.sink) links
+
+-- nothing had failed yet, and these were asked
+abbrev pub at_first : {D : Type 0} → Option (List Inquiry) → Option (List Signing) → Left D → Between D
+at_first inquiries signings left = record { left = left; inquiries = inquiries; verifier_faults = 0; signings = signings; signer_faults = 0 }
+
+-- the verifier and the signer tell this in the end
+abbrev pub at_last : {D : Type 0} → Left D → VerifierTold → SignerTold → Between D
+at_last left verifier signer =
+    record { left = left; inquiries = verifier.inquiries; verifier_faults = verifier.faults; signings = signer.signings; signer_faults = signer.faults }
+
+-- One of the makings failed: no link is asked for, and the witness is as it was. A verifier that was made was asked nothing, and never
+-- failed.
+pub record ServesNoLink {D : Type 0} (links : Option (List (List ℕ))) (verifier : Option VerifierTold) (at : Close) (readers : List Reader) (old new : Left D) (run : Run) : Type 0 where
+  pub one : readers ≡ idle_reader verifier at ∷ []
+  pub unasked : IfSome run.door (λ door. door ≡ record { left = links; faults = 0 })
+  pub none_inquired : IfSome verifier (λ v. HasNone v.inquiries × (v.faults ≡ 0))
+  pub no_sinks : run.sinks ≡ []
+  pub same : new ≡ old
+
+module _ {D : Type 0} (told : D → DiskTold) (key : Key) (limits : Limits) where
+  -- All that was made serves the links that come. The verifier and the signer were asked nothing before, where they tell.
+  pub record ServesLinks (helper address : List ℕ) (count : ℕ) (old new : Left D) (door : DoorTold) (verifier : VerifierTold) (signer : SignerTold) (failed : Bool) (readers : List Reader) (run : Run) : Type 0 where
+    pub each : List Reader
+    pub inquiries : Option (List Inquiry)
+    pub none_inquired : HasNone inquiries
+    pub signings : Option (List Signing)
+    pub none_signed : HasNone signings
+    pub coming : ServesComing told key limits run.before.limits (run.before.says helper) (run.before.gives helper) count failed
+        (record { left = run.before.links address; faults = 0 }) door
+        (at_first inquiries signings old) (at_last new verifier signer) each run.sinks
+    pub says : verifier.says ≡ run.before.says helper
+    pub gives : signer.gives ≡ run.before.gives helper
+    pub readers_are : readers ≡ readers_with verifier each
+
+  -- all three were made, of which the door told this, and the verifier and the signer were so before; and the run ends
+  pub record ServesAllLinks (run_limits : Limits) (says : Key → List ℕ → Sig → Option Bool) (gives : Key → List ℕ → Option Sig) (count : ℕ) (door_old : DoorTold) (old : Between D) (disk : Option D) (run : Run) : Type 0 where
+    pub door : DoorTold
+    pub verifier : VerifierTold
+    pub signer : SignerTold
+    pub each : List Reader
+    pub new : Left D
+    pub failed : Bool
+    pub door_is : run.door ≡ Some door
+    pub signer_is : run.signer ≡ Some signer
+    pub coming : ServesComing told key limits run_limits says gives count failed door_old door
+        old (at_last new verifier signer) each run.sinks
+    pub says_is : verifier.says ≡ says
+    pub gives_is : signer.gives ≡ gives
+    pub ends : EndsWith told disk (readers_with verifier each) (record nothing_besides { door_failed = failed }) new run
+
+  -- What is made serves the links that come. Where the door couldn't be made, that is found, and the reader closes by nothing.
+  abbrev pub ServesLinksBy : List ℕ → List ℕ → ℕ → Left D → Left D → Option DoorTold → Option VerifierTold → Option SignerTold → Bool → List Reader → Run → Type 0
+  ServesLinksBy helper address count old new None verifier signer failed readers run =
+      (failed ≡ true) × ServesNoLink (run.before.links address) None End readers old new run
+  ServesLinksBy helper address count old new (Some door) None signer failed readers run =
+      (failed ≡ false) × ServesNoLink (run.before.links address) None VerifierFault readers old new run
+  ServesLinksBy helper address count old new (Some door) (Some verifier) None failed readers run =
+      (failed ≡ false) × ServesNoLink (run.before.links address) (Some verifier) SignerFault readers old new run
+  ServesLinksBy helper address count old new (Some door) (Some verifier) (Some signer) failed readers run =
+      ServesLinks helper address count old new door verifier signer failed readers run
+
+  -- The door of an address, and the verifier and the signer of a helper, are made. What was made serves the links that come at the
+  -- door, so many at most, each with its receipts to its own sink, and the run ends.
+  pub record IsServingLinks (helper address : List ℕ) (count : ℕ) (old : Left D) (disk : Option D) (run : Run) : Type 0 where
+    pub verifier : Option VerifierTold
+    pub makes : MakesServing DoorKind address helper run.door verifier run.signer run.before run.after
+    pub readers : List Reader
+    pub new : Left D
+    pub failed : Bool
+    pub serves : ServesLinksBy helper address count old new run.door verifier run.signer failed readers run
+    pub same_sink : run.sink_after ≡ run.sink_before
+    pub ends : EndsWith told disk readers (record nothing_besides { door_failed = failed }) new run

@@ -1,0 +1,13 @@
+//! A witness: it serves a file, or links that come at a door, and its run ends.
+#![tactic(auto)]
+
+mod door_end;
+mod link_service;
+mod links_kept;
+mod role;
+mod unread;
+mod witness_end;
+mod witness_file;
+mod witness_links;
+
+pub use role::{WitnessWords, witness};

@@ -1,0 +1,152 @@
+//! Links that come at a door, and are served to a witness.
+ghost use Rattle.std.specs.Prelude.{◌≡◌, ◌≤◌, ◌<◌, [], false, is_none};
+ghost use Rattle.std.specs.Vec.{vec_capacity};
+ghost use Rattle.run_record.specs.Seen.{door_told};
+ghost use Rattle.witness_role.specs.ServedLinks.{IsServingLinks, ServesAllLinks};
+
+use crate::door_end::DoorEnd;
+use crate::link_service::serve_coming;
+use crate::links_kept::{LinksKept, unserved, with_verifier};
+use crate::witness_end::{end, end_one};
+use command_words::Links;
+use keri_outside::{Door, Limits};
+use run_outside::Outside;
+use run_record::{Done, Runs};
+use run_status::Close;
+use std::alloc::Global;
+use witness_core::Witness;
+
+/// Makes the door of the address, and the verifier and the signer of the helper, and serves the witness the links that come, where
+/// all three could be made. There is room for the links.
+pub(crate) fn serve_links<O: Outside>(
+    alloc: Global,
+    helper: &str,
+    links: Links<'_>,
+    witness: Witness<O::Disk>,
+    old: Option<O::Disk>,
+    kept: LinksKept<O::Source, O::Verifier, <O::Door as Door>::Sink>,
+    outside: &mut O,
+) -> Done<O>
+    requires no_readers { kept.readers.items ≡ [] }
+    requires no_sinks { kept.sinks.items ≡ [] }
+    requires readers { links.count ≤ vec_capacity kept.readers }
+    requires sinks { links.count ≤ vec_capacity kept.sinks }
+    requires one { 0 < vec_capacity kept.readers }
+    requires whole { witness.broken ≡ false }
+    ensures old { result.old ≡ old }
+    ensures no_second { result.second ≡ None }
+    ensures serves { IsServingLinks O.Disk.told witness.key witness.limits helper.now links.entry.address.now links.entry.count
+        (record { core = witness.core; list = witness.shelf.list; broken = witness.broken; disk = witness.shelf.disk })
+        result.disk (⟦<O as Runs>⟧.run outside.old outside.new result) }
+{
+    let LinksKept { readers, sinks } = kept;
+    let Ok(door) = outside.door(links.address) else {
+        let reader = unserved(alloc, None, None, Close::End);
+        return end_one(witness, reader, None, old, readers, unasked(None, sinks));
+    };
+    let Ok(verifier) = outside.verifier(helper) else {
+        let reader = unserved(alloc, None, None, Close::VerifierFault);
+        return end_one(
+            witness,
+            reader,
+            None,
+            old,
+            readers,
+            unasked(Some(door), sinks),
+        );
+    };
+    let Ok(signer) = outside.signer(helper) else {
+        let reader = unserved(alloc, None, Some(verifier), Close::SignerFault);
+        return end_one(
+            witness,
+            reader,
+            None,
+            old,
+            readers,
+            unasked(Some(door), sinks),
+        );
+    };
+    let limits = outside.limits();
+    let kept = LinksKept { readers, sinks };
+    serve_made(
+        alloc,
+        links.count,
+        door,
+        witness,
+        verifier,
+        signer,
+        limits,
+        old,
+        kept,
+    )
+}
+
+// A door that isn't asked for links. Where there is none, its making failed.
+fn unasked<P, K>(door: Option<P>, sinks: Vec<K>) -> DoorEnd<P, K>
+    ensures door { result.door ≡ door }
+    ensures sinks { result.sinks ≡ sinks }
+    ensures failed { result.failed ≡ is_none door }
+{
+    let failed = door.is_none();
+    DoorEnd {
+        door,
+        sinks,
+        failed,
+    }
+}
+
+// Serves the witness the links that come at the door, by a verifier and a signer, and ends the run.
+fn serve_made<O: Outside>(
+    alloc: Global,
+    count: u16,
+    door: O::Door,
+    witness: Witness<O::Disk>,
+    verifier: O::Verifier,
+    signer: O::Signer,
+    limits: Limits,
+    old: Option<O::Disk>,
+    kept: LinksKept<O::Source, O::Verifier, <O::Door as Door>::Sink>,
+) -> Done<O>
+    requires no_readers { kept.readers.items ≡ [] }
+    requires no_sinks { kept.sinks.items ≡ [] }
+    requires readers { count ≤ vec_capacity kept.readers }
+    requires sinks { count ≤ vec_capacity kept.sinks }
+    requires one { 0 < vec_capacity kept.readers }
+    requires whole { witness.broken ≡ false }
+    ensures old { result.old ≡ old }
+    ensures no_second { result.second ≡ None }
+    ensures serves { (before after : O) → ServesAllLinks O.Disk.told witness.key witness.limits limits
+        (O.Verifier.says verifier) (O.Signer.gives signer) count (door_told O.Door.left O.Door.faults door)
+        (record {
+          left = record { core = witness.core; list = witness.shelf.list; broken = witness.broken; disk = witness.shelf.disk };
+          inquiries = O.Verifier.inquiries verifier;
+          verifier_faults = O.Verifier.faults verifier;
+          signings = O.Signer.signings signer;
+          signer_faults = O.Signer.faults signer;
+        })
+        result.disk (⟦<O as Runs>⟧.run before after result) }
+{
+    let mut door = door;
+    let mut witness = witness;
+    let mut verifier = verifier;
+    let mut signer = signer;
+    let mut kept = kept;
+    let failed = serve_coming(
+        alloc,
+        usize::from(count),
+        &mut door,
+        &mut witness,
+        &mut verifier,
+        &mut signer,
+        limits,
+        &mut kept,
+    );
+    let LinksKept { readers, sinks } = kept;
+    let readers = with_verifier(alloc, verifier, readers);
+    let links = DoorEnd {
+        door: Some(door),
+        sinks,
+        failed,
+    };
+    end(witness, readers, Some(signer), old, links)
+}
