@@ -1,5 +1,5 @@
 #!/usr/bin/env python3
-"""Makes the cases under tests/cases in which `check` reads a stream.
+"""Makes the cases under tests/cases in which `check` reads a stream, and those of where it reads and writes.
 
 Primitives and bodies are made with Python's base64 and hashlib (`kit.py`). Each case names what the stream's bytes are
 and what is to be written, as docs/FORMATS.md says it.
@@ -10,9 +10,24 @@ import shutil
 from kit import PLAIN_ICP as INCEPTION, body, digest, indexed, key, primitive, signature
 
 CASES = pathlib.Path(__file__).resolve().parent / "cases"
-RECEIPT = body("rct", d="EK8TSbn1-aGmoEBN6jbcyUmbyyXJrcESt8yak8rkHzJi", i=key(0))
-LINE = "rct %s 0 EK8TSbn1-aGmoEBN6jbcyUmbyyXJrcESt8yak8rkHzJi size=145 signatures=%d receipts=%d\n"
-BARE = LINE % (key(0), 0, 0)
+CHECK = ["check", "a"]
+READ_FAULT = "fault 0 read\n"
+# The digest of no bytes at all by BLAKE3, which others computed.
+OF_NOTHING = "EK8TSbn1-aGmoEBN6jbcyUmbyyXJrcESt8yak8rkHzJi"
+
+
+def receipt(**values):
+    """A receipt with these values, and those of the plain one for the others."""
+    return body("rct", **{"d": OF_NOTHING, "i": key(0), **values})
+
+
+def receipt_line(prefix=key(0), number="0", size=145, receipts=0):
+    return "rct %s %s %s size=%d signatures=0 receipts=%d\n" % (prefix, number, OF_NOTHING, size, receipts)
+
+
+RECEIPT = receipt()
+BARE = receipt_line()
+EXCHANGED = '{"v":"KERI10JSON000091_","t":"rct","i":"%s","d":"%s","s":"0"}' % (OF_NOTHING, key(0))
 COUPLE = key(1, "B") + signature("couple")
 FIRST_SEEN = primitive("0A", bytes(16)) + "1AAG2020-08-22T17c50c09d988921p00c00"
 ANCHOR = primitive("0A", bytes(16)) + digest("anchor")
@@ -32,13 +47,21 @@ def malformed(place, word):
     return "malformed 0 %d %s\n" % (place, word)
 
 
+def refused(reason):
+    return "refused 0 0 %s\n" % reason
+
+
 STREAMS = {
     # what is in order
+    "empty_file": ("", "", 0),
+    "receipt": (RECEIPT, BARE, 0),
+    "receipt_with_a_number": (receipt(s="1f"), receipt_line(number="1f", size=146), 0),
+    "receipt_of_a_digest": (receipt(i=digest("")), receipt_line(digest("")), 0),
     "signed_inception": (INCEPTION + "-AAB" + indexed("AA", "a"), inception_line(1), 0),
     "inception_without_a_signature": (INCEPTION + "-AAA", inception_line(0), 0),
     "witnesses_signatures": (INCEPTION + "-BAC" + indexed("AA", "a") + indexed("BB", "b"), inception_line(0, 2), 0),
     "large_index": (INCEPTION + "-AAB" + indexed("2AABAB", "a"), inception_line(1), 0),
-    "receipt_couple": (RECEIPT + "-CAB" + COUPLE, LINE % (key(0), 0, 1), 0),
+    "receipt_couple": (RECEIPT + "-CAB" + COUPLE, receipt_line(receipts=1), 0),
     "first_seen_and_anchor": behind_receipt("-EAB" + FIRST_SEEN + "-GAB" + ANCHOR, ""),
     "empty_group_in_a_wrap": behind_receipt("-VAB-AAA", ""),
     "wrapped_groups": (
@@ -48,18 +71,26 @@ STREAMS = {
     ),
     "two_messages": (RECEIPT + INCEPTION + "-AAB" + indexed("AA", "a"), BARE + inception_line(1), 0),
     # refused messages
-    "too_many_signatures": (INCEPTION + "-AQB" + indexed("AA", "a") * 1025, "refused 0 0 signatures\n", 3),
+    "another_kind": (RECEIPT.replace('"rct"', '"qry"'), refused("field 1"), 3),
+    "fields_exchanged": (EXCHANGED, refused("field 2"), 3),
+    "pad_bits": (receipt(i="DQ" + "_" * 42), refused("field 3"), 3),
+    "leading_zero": (receipt(s="01"), refused("field 4"), 3),
+    "more_behind_the_end": (RECEIPT.replace("000091", "000092") + "\n", refused("field 5"), 3),
+    "long_number": (receipt(s="1" * 17), refused("number"), 3),
+    "too_many_signatures": (INCEPTION + "-AQB" + indexed("AA", "a") * 1025, refused("signatures"), 3),
     "refused_among_others": (
         RECEIPT + INCEPTION.replace('"nt":"1"', '"nt":"2"') + RECEIPT, BARE + "refused 0 145 threshold\n" + BARE, 3,
     ),
-    "other_prefix": (INCEPTION.replace('"i":"I', '"i":"E'), "refused 0 0 prefix\n", 3),
-    "other_digest": (INCEPTION.replace(INCEPTION[40:84], digest("other")), "refused 0 0 said\n", 3),
+    "other_prefix": (INCEPTION.replace('"i":"I', '"i":"E'), refused("prefix"), 3),
+    "other_digest": (INCEPTION.replace(INCEPTION[40:84], digest("other")), refused("said"), 3),
     # refused streams
     "no_start": ("hello", malformed(0, "no-start"), 3),
     "line_feed_behind_a_body": behind_receipt("\n", malformed(145, "no-start")),
+    "large_file": ("{" * 65536, malformed(0, "version"), 3),
     "other_version": (RECEIPT.replace("KERI10", "KERI11"), malformed(0, "version"), 3),
     "size_below_the_head": (RECEIPT.replace("000091", "000017"), malformed(0, "version"), 3),
     "size_over_the_limit": (RECEIPT.replace("000091", "010000"), malformed(0, "too-large"), 3),
+    "other_size": (RECEIPT.replace("000091", "000092"), malformed(0, "truncated"), 3),
     "body_cut_short": (RECEIPT[:-1], malformed(0, "truncated"), 3),
     "head_cut_short": ("{", malformed(0, "truncated"), 3),
     "group_cut_short": behind_receipt("-AAB" + indexed("AA", "a")[:-1], malformed(145, "truncated")),
@@ -83,18 +114,39 @@ STREAMS = {
 }
 
 
-def write(name, stream, text, status):
+# Runs whose FILE, input or output is other: the words, the files, what is written, the status, and what else
+# the case has.
+RUNS = {
+    "receipt_from_standard_input": (["check", "-"], {}, BARE, 0, {"stdin": RECEIPT}),
+    "missing_file": (CHECK, {}, READ_FAULT, 5, {}),
+    "folder": (CHECK, {"a/file": ""}, READ_FAULT, 5, {}),
+    "standard_input_closed": (["check", "-"], {}, READ_FAULT, 5, {"stdin-closed": ""}),
+    "standard_output_closed": (CHECK, {"a": RECEIPT}, "", 6, {"stdout-closed": ""}),
+    "standard_output_full": (CHECK, {"a": RECEIPT}, "", 6, {"stdout-full": ""}),
+    "nothing_to_write_on_a_full_output": (CHECK, {"a": ""}, "", 0, {"stdout-full": ""}),
+}
+
+
+def write_case(name, words, files, text, status, further):
+    """The case: the files of its folder, further files beside them, and of its words, what is written and the
+    status those that aren't empty."""
     case = CASES / name
     shutil.rmtree(case, ignore_errors=True)
-    (case / "in").mkdir(parents=True)
-    (case / "in" / "a").write_bytes(stream.encode())
-    (case / "words").write_text("check\na\n")
-    (case / "stdout").write_text(text)
+    contents = {**{"in/" + file: content for file, content in files.items()}, **further}
+    if words:
+        contents["words"] = "".join(word + "\n" for word in words)
+    if text:
+        contents["stdout"] = text
     if status:
-        (case / "status").write_text("%d\n" % status)
+        contents["status"] = "%d\n" % status
+    for file, content in contents.items():
+        (case / file).parent.mkdir(parents=True, exist_ok=True)
+        (case / file).write_bytes(content.encode(errors="surrogateescape"))
 
 
 if __name__ == "__main__":
     for name, (stream, text, status) in STREAMS.items():
-        write(name, stream, text, status)
-    print(len(STREAMS), "cases")
+        write_case(name, CHECK, {"a": stream}, text, status, {})
+    for name, run in RUNS.items():
+        write_case(name, *run)
+    print(len(STREAMS) + len(RUNS), "cases")
