@@ -5,7 +5,7 @@ of words that aren't in the form, but for what `gen_cases.py` and `make_cases.py
 import shutil
 
 from kit import body, couples, digest, key, said, signed
-from stream_cases import BARE, CASES, RECEIPT
+from stream_cases import BARE, CASES, RECEIPT, write_case
 from validate_cases import EVENT, SIGNED, STATE
 
 REPORT = EVENT + STATE
@@ -144,6 +144,17 @@ REFUSED = {
     "blame_with_links": ["blame", *HELPER, *LINKS],
 }
 
+# Of `check` and of no command, with names of their own: the words, and the files that they are run beside.
+PLAIN = {
+    "no_words": ([], {}),
+    "no_file": (["check"], {}),
+    "two_files": (["check", "a", "a"], {"a": RECEIPT}),
+    "another_command": (["validate", "a"], {"a": RECEIPT}),
+    "help": (["--help"], {}),
+    "an_option": (["check", "--help"], {}),
+    "a_word_that_is_no_text": (["check", b"\xff".decode(errors="surrogateescape")], {}),
+}
+
 
 def write(name, words, files, text, status, further):
     """The case: the files of its folder, what is written, the status, and further files beside them."""
@@ -163,4 +174,7 @@ if __name__ == "__main__":
         write(name, words, files, text, 0, further)
     for name, words in REFUSED.items():
         write(name, words, {"a": SIGNED, "-F": RECEIPT}, "words\n", 2, {})
-    print(len(TAKEN) + len(REFUSED), "cases")
+    for name, (words, files) in PLAIN.items():
+        write_case(name, words, files, "words\n", 2, {})
+    write_case("words_on_a_full_output", [], {}, "", 6, {"stdout-full": ""})
+    print(len(TAKEN) + len(REFUSED) + len(PLAIN) + 1, "cases")
