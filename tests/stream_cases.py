@@ -128,8 +128,8 @@ RUNS = {
 
 
 def write_case(name, words, files, text, status, further):
-    """The case: the files of its folder, further files beside them, and of its words, what is written and the
-    status those that aren't empty."""
+    """The case: the files of its folder, further files beside them, and its words, what is written and the status,
+    each where it isn't empty or 0."""
     case = CASES / name
     shutil.rmtree(case, ignore_errors=True)
     contents = {**{"in/" + file: content for file, content in files.items()}, **further}

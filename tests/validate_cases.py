@@ -8,7 +8,7 @@ import pathlib
 import shutil
 
 from kit import body, indexed, key, rehearsed, said as said_of
-from stream_cases import CASES, COUPLE, INCEPTION, RECEIPT, malformed
+from stream_cases import CASES, COUPLE, INCEPTION, OF_NOTHING, RECEIPT, malformed
 
 SAMPLES = pathlib.Path(__file__).resolve().parent.parent / "samples"
 
@@ -20,7 +20,7 @@ def accepted(said):
 SAID = said_of(INCEPTION)
 SIGNED = INCEPTION + "-AAB" + rehearsed(1, INCEPTION)
 EVENT, STATE = accepted(SAID)
-BLAKE3 = body("icp", "E", k=[key(0)], n=["EK8TSbn1-aGmoEBN6jbcyUmbyyXJrcESt8yak8rkHzJi"])
+BLAKE3 = body("icp", "E", k=[key(0)], n=[OF_NOTHING])
 BLAKE3_SIGNED = BLAKE3 + "-AAB" + rehearsed(0, BLAKE3)
 BLAKE3_LINES = "".join(accepted(said_of(BLAKE3)))
 OTHER_PREFIX = BLAKE3[:100] + ("A" if BLAKE3[100] != "A" else "B") + BLAKE3[101:]

@@ -2,10 +2,8 @@
 """Makes the cases under tests/cases in which an option or a FILE is written in each of its forms and places, and those
 of words that aren't in the form, but for what `gen_cases.py` and `make_cases.py` make of the words of `gen` and `make`.
 """
-import shutil
-
 from kit import body, couples, digest, key, said, signed
-from stream_cases import BARE, CASES, RECEIPT, write_case
+from stream_cases import BARE, RECEIPT, write_case
 from validate_cases import EVENT, SIGNED, STATE
 
 REPORT = EVENT + STATE
@@ -156,24 +154,11 @@ PLAIN = {
 }
 
 
-def write(name, words, files, text, status, further):
-    """The case: the files of its folder, what is written, the status, and further files beside them."""
-    case = CASES / ("words_" + name)
-    shutil.rmtree(case, ignore_errors=True)
-    (case / "in").mkdir(parents=True)
-    for file, content in files.items():
-        (case / "in" / file).write_text(content)
-    for file, content in {"words": "".join(word + "\n" for word in words), "stdout": text, **further}.items():
-        (case / file).write_text(content)
-    if status:
-        (case / "status").write_text("%d\n" % status)
-
-
 if __name__ == "__main__":
     for name, (words, files, text, further) in TAKEN.items():
-        write(name, words, files, text, 0, further)
+        write_case("words_" + name, words, files, text, 0, further)
     for name, words in REFUSED.items():
-        write(name, words, {"a": SIGNED, "-F": RECEIPT}, "words\n", 2, {})
+        write_case("words_" + name, words, {"a": SIGNED, "-F": RECEIPT}, "words\n", 2, {})
     for name, (words, files) in PLAIN.items():
         write_case(name, words, files, "words\n", 2, {})
     write_case("words_on_a_full_output", [], {}, "", 6, {"stdout-full": ""})
