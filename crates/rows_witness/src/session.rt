@@ -8,7 +8,8 @@ use std::alloc::Global;
 use std::mem;
 use witness_core::Witness;
 
-/// What is at hand. It is no `Drop`: each function that lets a witness go takes a minute to prove, so `into_disk` alone does.
+/// What is at hand. It is no `Drop`: a witness is let go by `into_shelf` alone, and never where a function ends, since each such
+/// end takes long to prove.
 pub(crate) enum Held {
     Nothing,
     Disk(MemDisk),
