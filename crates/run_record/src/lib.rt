@@ -1,4 +1,4 @@
-//! What a run hands back, and what is seen of a run.
+//! What a run hands back, what is seen of it, and that each fault that it answers has its cause.
 #![tactic(auto)]
 
 mod done;

@@ -1,7 +1,7 @@
 -- The payloads by entries are those of the accepted events.
 use Rattle.std.proofs.Common.{◌≡◌, ℕ, true, List, [], ◌∷◌, ◌++◌, All, length, take, drop, map, refl, sym, ◌∙◌, ap, subst, append_assoc, append-nil, take-append-drop}
 use Rattle.std.proofs.lemmas.List.{length-map, length-take-le}
-use Rattle.std.proofs.lemmas.List.Elements.{All-head, All-tail}
+use Rattle.std.proofs.lemmas.List.Elements.{All-cons, All-head, All-nil, All-tail}
 use Rattle.event_payload.specs.Kept.{kept, signed_by, state_under}
 use Rattle.event_payload.specs.Payloads.{text_in}
 use Rattle.event_payload.proofs.Enough.{kept_is_enough}
@@ -10,10 +10,11 @@ use Rattle.journal.specs.declared.mode.Mode.{Mode}
 use Rattle.journal.specs.Acceptance.{grown_by}
 use Rattle.journal.specs.Accepted.{accepted}
 use Rattle.journal.specs.History.{Told}
+use Rattle.journal.proofs.Accepting.{accepted_extends}
 use Rattle.key_state.specs.Kept.{IsKept}
 use Rattle.validator_core.specs.View.{CoreView, accepted_by, base_of, told_of}
 use Rattle.witness_core.specs.Histories.{history_of}
-use Rattle.witness_core.specs.Payloads.{AreListed, IsPayload, Pointwise, payload_now}
+use Rattle.witness_core.specs.Payloads.{AreListed, IsAcceptedAt, IsPayload, Pointwise, payload_now}
 use Rattle.witness_core.specs.Storing.{IsOnWay, by_entries, newly, payloads, missing}
 use Rattle.witness_core.proofs.ByEntries.{entry_law, stays_law}
 use Rattle.witness_core.proofs.States.{kept_under}
@@ -40,9 +41,21 @@ drop_front : {X : Type 0} (xs ys : List X) → drop (length xs) (xs ++ ys) ≡ y
 drop_front [] ys = refl
 drop_front (x ∷ xs) ys = drop_front xs ys
 
+all_front : {X : Type 0} (P : X → Type 0) (xs ys : List X) → All P (xs ++ ys) → All P xs
+all_front P [] ys all = All-nil P
+all_front P (x ∷ xs) ys all = All-cons P x xs (All-head P x (xs ++ ys) all) (all_front P xs ys (All-tail P x (xs ++ ys) all))
+
 all_behind : {X : Type 0} (P : X → Type 0) (xs ys : List X) → All P (xs ++ ys) → All P ys
 all_behind P [] ys all = all
 all_behind P (x ∷ xs) ys all = all_behind P xs ys (All-tail P x (xs ++ ys) all)
+
+-- the payload of an accepted event, which is signed by its signatures where bodies spell the events that were accepted by then
+record IsPayloadIf (mode : Mode) (base : List Body) (told : List Told) (b : Body) (payload : List ℕ) : Type 0 where
+  moment : List Told
+  at : IsAcceptedAt mode base told b moment
+  is : payload ≡ payload_now moment (accepted mode base moment) b
+  enough : All (λ a. IsKept a.event) (accepted mode base moment)
+      → signed_by (state_under (accepted mode base moment) b) b.event (kept moment (accepted mode base moment) b) ≡ true
 
 module _ (mode : Mode) (base : List Body) where
   -- an event that an entry made accepted is signed by the signatures that are kept then
@@ -58,7 +71,7 @@ module _ (mode : Mode) (base : List Body) where
 
   -- the accepted events are the base, and others
   abbrev AreSo : List Told → List (List ℕ) → Type 0
-  AreSo told list = (more : List Body) × (accepted mode base told ≡ base ++ more) × Pointwise (IsPayload mode base told) more list
+  AreSo told list = (more : List Body) × (accepted mode base told ≡ base ++ more) × Pointwise (IsPayloadIf mode base told) more list
 
   so_first : AreSo [] []
   unfolding accepted grown_by
@@ -69,13 +82,13 @@ module _ (mode : Mode) (base : List Body) where
       let law = entry_law mode base told t in
       let then = told ++ t ∷ [] in
       let dropped : drop (length (accepted mode base told)) (accepted mode base then) ≡ law.0 = ap (drop (length (accepted mode base told))) law.1 ∙ drop_front (accepted mode base told) law.0 in
-      let new : Pointwise (IsPayload mode base then) law.0 (map (payload_now then (accepted mode base then)) law.0)
-      = each_so (IsPayload mode base then) (payload_now then (accepted mode base then)) law.0 (λ front later b e. record { moment = then; at = (law.2 front later b e).0; is = refl; enough = enough_then told t front later b e }) in (
+      let new : Pointwise (IsPayloadIf mode base then) law.0 (map (payload_now then (accepted mode base then)) law.0)
+      = each_so (IsPayloadIf mode base then) (payload_now then (accepted mode base then)) law.0 (λ front later b e. record { moment = then; at = (law.2 front later b e).0; is = refl; enough = enough_then told t front later b e }) in (
         so.0 ++ law.0,
         law.1 ∙ ap (λ l. l ++ law.0) so.1 ∙ append_assoc base so.0 law.0,
-        both_more (IsPayload mode base then) so.0 law.0 list (newly mode base told t)
-            (weaken (IsPayload mode base told) (IsPayload mode base then) (λ b p is. record { moment = is.moment; at = stays_law mode base told (t ∷ []) b is.moment is.at; is = is.is; enough = is.enough }) so.0 list so.2)
-            (subst (λ l. Pointwise (IsPayload mode base then) law.0 (map (payload_now then (accepted mode base then)) l)) (sym dropped) new),
+        both_more (IsPayloadIf mode base then) so.0 law.0 list (newly mode base told t)
+            (weaken (IsPayloadIf mode base told) (IsPayloadIf mode base then) (λ b p is. record { moment = is.moment; at = stays_law mode base told (t ∷ []) b is.moment is.at; is = is.is; enough = is.enough }) so.0 list so.2)
+            (subst (λ l. Pointwise (IsPayloadIf mode base then) law.0 (map (payload_now then (accepted mode base then)) l)) (sym dropped) new),
       )
 
   so_all : (earlier later : List Told) (list : List (List ℕ)) → AreSo earlier list → AreSo (earlier ++ later) (list ++ by_entries mode base earlier later)
@@ -85,13 +98,28 @@ module _ (mode : Mode) (base : List Body) where
       subst (λ l. AreSo l (list ++ by_entries mode base earlier (t ∷ later))) (append_assoc earlier (t ∷ []) later)
       (subst (AreSo ((earlier ++ t ∷ []) ++ later)) (append_assoc list (newly mode base earlier t) (by_entries mode base (earlier ++ t ∷ []) later)) rest)
 
-  pub are_so : (told : List Told) → AreSo told (by_entries mode base [] told)
-  are_so told = so_all [] told [] so_first
+  so_told : (told : List Told) → AreSo told (by_entries mode base [] told)
+  so_told told = so_all [] told [] so_first
+
+-- so it is of all where bodies spell the accepted events
+are_signed : (mode : Mode) (base : List Body) (told : List Told) → All (λ a. IsKept a.event) (accepted mode base told) → (bs : List Body) (ps : List (List ℕ))
+    → Pointwise (IsPayloadIf mode base told) bs ps → Pointwise (IsPayload mode base told) bs ps
+are_signed mode base told all = weaken (IsPayloadIf mode base told) (IsPayload mode base told) (λ b p is.
+    let grown = accepted_extends mode base is.moment is.at.later in
+    let log : All (λ a. IsKept a.event) (accepted mode base is.moment ++ grown.0) = subst (All (λ a. IsKept a.event)) (ap (accepted mode base) is.at.parted ∙ grown.1) all in
+    record { moment = is.moment; at = is.at; is = is.is; signed = is.enough (all_front (λ a. IsKept a.event) (accepted mode base is.moment) grown.0 log) })
+
+-- so the accepted events are the base, and others whose payloads these are
+pub are_so : (mode : Mode) (base : List Body) (told : List Told) → All (λ a. IsKept a.event) (accepted mode base told)
+    → (more : List Body) × (accepted mode base told ≡ base ++ more) × Pointwise (IsPayload mode base told) more (by_entries mode base [] told)
+are_so mode base told all =
+    let so = so_told mode base told in
+    (so.0, so.1, are_signed mode base told all so.0 (by_entries mode base [] told) so.2)
 
 -- LISTED: what is on its way lists the accepted events
-pub listed : (core : CoreView) (list : List (List ℕ)) → IsOnWay (history_of core) list → AreListed core (payloads (history_of core) list)
-listed core list way =
-    let so = are_so core.mode (base_of core) (told_of core) in
+pub listed : (core : CoreView) (list : List (List ℕ)) → All (λ a. IsKept a.event) (accepted_by core) → IsOnWay (history_of core) list → AreListed core (payloads (history_of core) list)
+listed core list all way =
+    let so = are_so core.mode (base_of core) (told_of core) all in
     let based : length (base_of core) ≡ core.base = sym (length-map (base_of core) (λ (b : Body). b.bytes)) ∙ sym (ap length way.texts) ∙ length-map (take core.base list) text_in
     ∙ length-take-le core.base list way.based in
     record {

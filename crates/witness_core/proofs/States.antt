@@ -1,5 +1,5 @@
 -- The states of a log of events that bodies spell.
-use Rattle.std.proofs.Common.{◌≡◌, ℕ, false, List, [], ◌∷◌, All, slice_get, Option, Some, None, refl, ◌∙◌, ap, subst, arith, inl, inr, length-append}
+use Rattle.std.proofs.Common.{◌≡◌, ◌<◌, ℕ, false, length, List, [], ◌∷◌, All, slice_get, Option, Some, None, refl, ◌∙◌, ap, subst, arith, inl, inr, length-append}
 use Rattle.std.specs.Prelude.{fold, filter, IfSome}
 use Rattle.std.specs.Result.{result_ok}
 use Rattle.std.proofs.lemmas.Bool.{cases_Bool}
@@ -13,6 +13,7 @@ use Rattle.event_body.specs.declared.event.Event.TheVariants.{Icp, Rot, Ixn, Dip
 use Rattle.event_body.specs.declared.rotation.Rotation.{Rotation}
 use Rattle.event_payload.specs.Kept.{state_under}
 use Rattle.journal.specs.declared.body.Body.{Body}
+use Rattle.journal.specs.Journals.{chosen}
 use Rattle.journal.specs.Logs.{before, is_of, same_body, state, stepped}
 use Rattle.journal.proofs.Places.{all_at}
 use Rattle.key_state.specs.Kept.{IsKept}
@@ -20,7 +21,7 @@ use Rattle.key_state.specs.KeyStates.{begun, first, is_bad_change, misfit, moved
 use Rattle.key_state.specs.States.{State, IsState}
 use Rattle.key_state.proofs.NoMisfit.{few_since, fits_list}
 use Rattle.key_state.proofs.WitnessLists.{are_changed, few_changed}
-use Rattle.validator_core.specs.View.{CoreView, accepted_by}
+use Rattle.validator_core.specs.View.{CoreView, Stands, accepted_by}
 use Rattle.witness_core.specs.Room.{IsKnown}
 use Rattle.witness_core.proofs.Waits.{chosen_at}
 
@@ -104,11 +105,13 @@ some_so o is s e = subst (λ p. IfSome p IsState) e is
 pub kept_under : (log : List Body) → All (λ b. IsKept b.event) log → (b : Body) (s : State) → state_under log b ≡ Some s → IsState s
 kept_under log kept b = some_so (state_under log b) (state_is _ (before b log) (before_kept b log kept))
 
+-- KEPT: the accepted events of a core are ones that bodies spell
+pub kept_all : (core : CoreView) → Stands core → All (λ n. n < length core.held) core.accepted → chosen core.held core.accepted ≡ accepted_by core
+    → ((event : Event) (bytes : List ℕ) → SpellsEvent event bytes → IsKept event) → All (λ b. IsKept b.event) (accepted_by core)
+kept_all core stands low is spelled = all_from (λ c. IsKept c.event) (accepted_by core) (λ i c at.
+    let found = chosen_at core.held core.accepted low i c (ap (λ l. slice_get l i) is ∙ at) in
+    spelled c.event c.bytes (all_at IsHeld core.held stands.spelled found.0 c found.2).spelled)
+
 -- STATES: the state under which an event of a core was accepted is one
 pub under_is : (core : CoreView) → IsKnown core → ((event : Event) (bytes : List ℕ) → SpellsEvent event bytes → IsKept event) → (b : Body) (s : State) → state_under (accepted_by core) b ≡ Some s → IsState s
-under_is core known spelled b s e = kept_under (accepted_by core) all b s e
-  where
-    all : All (λ c. IsKept c.event) (accepted_by core)
-    all = all_from (λ c. IsKept c.event) (accepted_by core) (λ i c at.
-        let found = chosen_at core.held core.accepted known.held i c (ap (λ l. slice_get l i) known.accepted ∙ at) in
-        spelled c.event c.bytes (all_at IsHeld core.held known.stands.spelled found.0 c found.2).spelled)
+under_is core known spelled b s e = kept_under (accepted_by core) (kept_all core known.stands known.held known.accepted spelled) b s e

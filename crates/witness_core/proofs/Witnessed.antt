@@ -1,5 +1,5 @@
 -- What a witness keeps from call to call.
-use Rattle.std.proofs.Common.{◌≡◌, ◌≤◌, ℕ, Bool, false, List, length, map, take, Option, Err, refl, sym, ◌∙◌, ap, subst, arith}
+use Rattle.std.proofs.Common.{◌≡◌, ◌≤◌, ℕ, Bool, false, List, All, length, map, take, Option, Err, refl, sym, ◌∙◌, ap, subst, arith}
 use Rattle.std.specs.Prelude.{IfSome}
 use Rattle.std.proofs.lemmas.Bool.{true≢false}
 use Rattle.std.proofs.lemmas.List.{length-map, take_all}
@@ -7,6 +7,7 @@ use Rattle.event_payload.specs.Payloads.{text_in}
 use Rattle.cesr_codes.specs.declared.key.Key.{Key}
 use Rattle.cesr_codes.specs.declared.sig.Sig.{Sig}
 use Rattle.cesr_stream.specs.declared.message.Message.{Message}
+use Rattle.key_state.specs.Kept.{IsKept}
 use Rattle.keri_disk.specs.Images.{DiskTold}
 use Rattle.keri_outside.specs.declared.limits.Limits.{Limits}
 use Rattle.shelf_log.specs.Format.{Holds}
@@ -28,8 +29,9 @@ use Rattle.witness_core.proofs.Starting.{started}
 use Rattle.witness_core.proofs.Stored.{payloads_all}
 
 -- STORED: what is stored is listed
-pub are_listed : (core : CoreView) (list : List (List ℕ)) (limits : Limits) (broken : Bool) (told : DiskTold) (room : Room) → AreStored (history_of core) list limits broken told room → AreListed core list
-are_listed core list limits broken told room stored = subst (AreListed core) (payloads_all (history_of core) list stored.all) (listed core list stored.on_way)
+pub are_listed : (core : CoreView) (list : List (List ℕ)) (limits : Limits) (broken : Bool) (told : DiskTold) (room : Room) → All (λ b. IsKept b.event) (accepted_by core)
+    → AreStored (history_of core) list limits broken told room → AreListed core list
+are_listed core list limits broken told room all stored = subst (AreListed core) (payloads_all (history_of core) list stored.all) (listed core list all stored.on_way)
 
 -- and reads as the accepted events
 pub reads_again : (core : CoreView) (list : List (List ℕ)) (limits : Limits) (broken : Bool) (told : DiskTold) (room : Room) → AreStored (history_of core) list limits broken told room → ReadsAgain core list
@@ -37,10 +39,11 @@ reads_again core list limits broken told room stored =
     stored.on_way.read ∙ ap (λ n. map (λ (b : Body). b.bytes) (take n (accepted_by core))) stored.all ∙ ap (map (λ (b : Body). b.bytes)) (take_all (length (accepted_by core)) (accepted_by core) (omega arith))
 
 -- and goes on so
-pub stores_on : (old : List (List ℕ)) (disk_old : DiskTold) (core : CoreView) (new : List (List ℕ)) (disk_new : DiskTold) → GoesOn old disk_old (history_of core) new disk_new → StoresOn old disk_old core new disk_new
-stores_on old disk_old core new disk_new goes = record {
+pub stores_on : (old : List (List ℕ)) (disk_old : DiskTold) (core : CoreView) (new : List (List ℕ)) (disk_new : DiskTold) → All (λ b. IsKept b.event) (accepted_by core)
+    → GoesOn old disk_old (history_of core) new disk_new → StoresOn old disk_old core new disk_new
+stores_on old disk_old core new disk_new all goes = record {
   accepted = payloads (history_of core) new;
-  listed = listed core new goes.on_way;
+  listed = listed core new all goes.on_way;
   grown = goes.grown;
   first = (missing (history_of core) new, refl);
   longer = goes.longer;

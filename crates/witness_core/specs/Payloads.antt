@@ -1,11 +1,10 @@
 -- What is stored of the accepted events.
-use Rattle.std.specs.Prelude.{◌≡◌, ℕ, true, false, List, [], ◌∷◌, ◌++◌, All, map, drop}
+use Rattle.std.specs.Prelude.{◌≡◌, ℕ, true, false, List, [], ◌∷◌, ◌++◌, map, drop}
 use Rattle.journal.specs.declared.body.Body.{Body}
 use Rattle.journal.specs.declared.mode.Mode.{Mode}
 use Rattle.journal.specs.Accepted.{accepted}
 use Rattle.journal.specs.History.{Told}
 use Rattle.journal.specs.Logs.{is_in}
-use Rattle.key_state.specs.Kept.{IsKept}
 use Rattle.event_payload.specs.Kept.{kept, signed_by, state_under}
 use Rattle.event_payload.specs.Payloads.{payload_of, text_in}
 use Rattle.validator_core.specs.View.{CoreView, accepted_by, base_of, told_of}
@@ -24,14 +23,13 @@ pub record IsAcceptedAt (mode : Mode) (base : List Body) (told : List Told) (b :
 abbrev pub payload_now : List Told → List Body → Body → List ℕ
 payload_now told log b = payload_of b.bytes (kept told log b)
 
--- The payload of an accepted event: by the moment at which it was accepted. With its signatures alone the event is signed, where each
--- event that was accepted by then is one that a body may spell (KERI, signing threshold and pre-rotation).
+-- The payload of an accepted event: by the moment at which it was accepted. With its signatures alone the event is signed (KERI,
+-- signing threshold and pre-rotation).
 pub record IsPayload (mode : Mode) (base : List Body) (told : List Told) (b : Body) (payload : List ℕ) : Type 0 where
   pub moment : List Told
   pub at : IsAcceptedAt mode base told b moment
   pub is : payload ≡ payload_now moment (accepted mode base moment) b
-  pub enough : All (λ a. IsKept a.event) (accepted mode base moment)
-      → signed_by (state_under (accepted mode base moment) b) b.event (kept moment (accepted mode base moment) b) ≡ true
+  pub signed : signed_by (state_under (accepted mode base moment) b) b.event (kept moment (accepted mode base moment) b) ≡ true
 
 -- the relation holds at each place, and the lists have as many places
 abbrev pub Pointwise : {A B : Type 0} → (A → B → Type 0) → List A → List B → Type 0

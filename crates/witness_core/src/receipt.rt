@@ -102,7 +102,7 @@ fn receipt_body(alloc: Global, event: &Event) -> Result<Vec<u8>, AllocError>
     }
 }
 
-// The body that spells the receipt. The event is let go by `drop`: at the end of the function that would take a minute to prove.
+// The body that spells the receipt. The event is let go by `drop`: of itself, at the function's end, that takes long to prove.
 fn written(alloc: Global, receipt: ReceiptBody) -> Result<Vec<u8>, ReadBody>
     ensures text { IfOk result (λ text. text.items ≡ text_of (Rct receipt)) }
     ensures whole { (bytes : List ℕ) → SpellsEvent (Rct receipt) bytes → length bytes ≤ 65535

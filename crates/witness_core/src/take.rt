@@ -1,6 +1,6 @@
 //! Messages that are judged, told to the core, and stored.
 //!
-//! An event that isn't taken is let go by `drop`: a function at whose end that happens of itself takes a minute longer to prove.
+//! An event that isn't taken is let go by `drop`: where that happens of itself at a function's end, its proof takes longer.
 ghost use Rattle.std.specs.Prelude.{◌≡◌, ◌⊎◌, ◌≤◌, true, false, length, IfOk, IfErr, OnOk, OnErr, MatchResult, Ok, Some, slice_get};
 ghost use Rattle.acceptance.specs.Standing.{IsHeld};
 ghost use Rattle.core_tables.specs.View.{body_of};

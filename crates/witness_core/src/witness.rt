@@ -8,6 +8,7 @@ ghost use Rattle.witness_core.specs.Histories.{history_of};
 ghost use Rattle.witness_core.specs.Storing.{AreStored};
 
 use crate::outcome::take_message;
+use crate::receipts::stands;
 use crate::room::Room;
 use crate::start::{Begun, begin};
 use crate::{Outcome, StartFault, WitnessFault};
@@ -16,6 +17,7 @@ use cesr_stream::Message;
 use journal::Journal;
 use keri_disk::Disk;
 use keri_outside::{Limits, Signer, Steps, Verifier};
+use key_state::spelled_is_kept;
 use lists::Items;
 use shelf_log::Shelf;
 use std::alloc::Global;
@@ -73,16 +75,20 @@ impl<D: Disk + Drop> Witness<D> {
         ensures refused { IfErr result (λ f. AreNoStart shelf.list f.fault) }
     {
         match begin(alloc, shelf.list(), limits) {
-            Ok(Begun { core, room }) => Ok(Witness {
-                alloc,
-                key,
-                limits,
-                core,
-                shelf,
-                steps: Steps::new(),
-                room,
-                broken: false,
-            }),
+            Ok(Begun { core, room }) => {
+                stands(&core);
+                spelled_is_kept();
+                Ok(Witness {
+                    alloc,
+                    key,
+                    limits,
+                    core,
+                    shelf,
+                    steps: Steps::new(),
+                    room,
+                    broken: false,
+                })
+            }
             Err(fault) => Err(StartFault { shelf, fault }),
         }
     }
@@ -156,9 +162,15 @@ impl<D: Disk + Drop> Witness<D> {
             verifier,
             signer,
         ) {
-            Ok(outcome) => Ok(outcome),
+            Ok(outcome) => {
+                stands(&self.core);
+                spelled_is_kept();
+                Ok(outcome)
+            }
             Err(fault) => {
                 self.broken = breaks(fault);
+                stands(&self.core);
+                spelled_is_kept();
                 Err(fault)
             }
         }

@@ -12,6 +12,7 @@ use Rattle.cesr_stream.specs.Parts.{Part, whole, refused, unfinished}
 use Rattle.cesr_stream.specs.declared.message.Message.{Message}
 use Rattle.core_tables.specs.View.{body_of}
 use Rattle.event_body.specs.Judging.{SpellsEvent}
+use Rattle.event_body.specs.declared.event.Event.{Event}
 use Rattle.event_payload.specs.Kept.{kept}
 use Rattle.event_payload.specs.Payloads.{are_groups, front_with, groups_text, parts_of, text_in}
 use Rattle.journal.specs.declared.body.Body.{Body}
@@ -20,6 +21,7 @@ use Rattle.journal.specs.Accepted.{accepted}
 use Rattle.journal.specs.History.{Told, took}
 use Rattle.journal.specs.Replies.{claims_of}
 use Rattle.journal.proofs.Accepting.{accepted_extends}
+use Rattle.key_state.specs.Kept.{IsKept}
 use Rattle.keri_disk.specs.Images.{DiskTold}
 use Rattle.keri_outside.specs.declared.limits.Limits.{Limits}
 use Rattle.validator_core.specs.Signatures.{is_witness_under}
@@ -46,8 +48,9 @@ pub stored_stand : (h : History) (list : List (List ℕ)) (limits : Limits) (bro
 stored_stand h list limits broken told room stored = λ c now. subst (λ a. HoldsFirst list a c) (append-nil list) (first_held list [] c (stored.holds c now))
 
 -- which lists the accepted events
-pub stored_listed : (core : CoreView) (list : List (List ℕ)) (limits : Limits) (broken : Bool) (told : DiskTold) (room : Room) → AreStored (history_of core) list limits broken told room → AreListed core list
-stored_listed core list limits broken told room stored = subst (AreListed core) (payloads_all (history_of core) list stored.all) (listed core list stored.on_way)
+pub stored_listed : (core : CoreView) (list : List (List ℕ)) (limits : Limits) (broken : Bool) (told : DiskTold) (room : Room) → All (λ b. IsKept b.event) (accepted_by core)
+    → AreStored (history_of core) list limits broken told room → AreListed core list
+stored_listed core list limits broken told room keeps stored = subst (AreListed core) (payloads_all (history_of core) list stored.all) (listed core list keeps stored.on_way)
 
 -- a payload begins with its text
 text_with : (payload : List ℕ) (are : Bool) (n : ℕ) → (rest : List ℕ) × (payload ≡ (if are then take n payload else []) ++ rest)
@@ -104,12 +107,17 @@ pub all_held : (core : CoreView) → Stands core → All IsHeld (accepted_by cor
 all_held core stands =
     accepted_inside IsHeld core.mode (base_of core) (told_of core) (All-take IsHeld core.base core.held stands.spelled) (subst (All IsHeld) stands.in_order stands.spelled)
 
+-- and so is one that a body may spell
+pub all_kept : (core : CoreView) → Stands core → ((event : Event) (bytes : List ℕ) → SpellsEvent event bytes → IsKept event) → All (λ b. IsKept b.event) (accepted_by core)
+all_kept core stands spelled = All-weaker IsHeld (λ b. IsKept b.event) (λ b held. spelled b.event b.bytes held.spelled) (accepted_by core) (all_held core stands)
+
 -- and so it has each accepted event
-pub stored_accepted : (core : CoreView) (list : List (List ℕ)) (limits : Limits) (broken : Bool) (told : DiskTold) (room : Room) → AreStored (history_of core) list limits broken told room → Stands core → HoldsAccepted core list
-stored_accepted core list limits broken told room stored stands =
+pub stored_accepted : (core : CoreView) (list : List (List ℕ)) (limits : Limits) (broken : Bool) (told : DiskTold) (room : Room) → All (λ b. IsKept b.event) (accepted_by core)
+    → AreStored (history_of core) list limits broken told room → Stands core → HoldsAccepted core list
+stored_accepted core list limits broken told room keeps stored stands =
     let way = stored.on_way in
     let base = base_of core in
-    let so = are_so core.mode base (told_of core) in
+    let so = are_so core.mode base (told_of core) keeps in
     let first = take core.base list in
     let later = by_entries core.mode base [] (told_of core) in
     let held : All IsHeld base = All-take IsHeld core.base core.held stands.spelled in

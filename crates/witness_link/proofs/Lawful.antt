@@ -23,6 +23,7 @@ use Rattle.journal.specs.History.{Told}
 use Rattle.journal.specs.declared.body.Body.{Body}
 use Rattle.journal.specs.declared.mode.Mode.{Mode}
 use Rattle.journal.proofs.Keeping.{accepted_grown}
+use Rattle.key_state.specs.Kept.{IsKept}
 use Rattle.keri_disk.specs.Images.{DiskTold}
 use Rattle.keri_outside.specs.declared.limits.Limits.{Limits}
 use Rattle.quorum_laws.specs.Histories.{AreLevel}
@@ -85,10 +86,10 @@ module _ (log : List Body) where
       (by_payloads mode base told bs ps all.1 (All-tail (Contains log) b bs inside))
 
 -- each payload of a list of the accepted events begins with one of them
-listed_begins : (core : CoreView) (list : List (List ℕ)) → AreListed core list → All (Begins (accepted_by core)) list
-listed_begins core list listed =
+listed_begins : (core : CoreView) (list : List (List ℕ)) → All (λ b. IsKept b.event) (accepted_by core) → AreListed core list → All (Begins (accepted_by core)) list
+listed_begins core list keeps listed =
     let log = accepted_by core in
-    let so = are_so core.mode (base_of core) (told_of core) in
+    let so = are_so core.mode (base_of core) (told_of core) keeps in
     let all = All-contains_itself log in
     let base : All (Contains log) (base_of core) = subst (λ l. All (Contains l) (base_of core)) (sym so.1)
     (All-weaker (Contains (base_of core)) (Contains (base_of core ++ so.0)) (λ b c. Contains-append_left (base_of core) so.0 b c) (base_of core) (All-contains_itself (base_of core))) in
@@ -96,10 +97,10 @@ listed_begins core list listed =
     (by_payloads log core.mode (base_of core) (told_of core) (drop core.base log) listed.more listed.each (All-drop (Contains log) core.base log all)))
 
 -- LAWFUL: So a list of the accepted events is lawful, where the core began with one that acceptance can make.
-pub lawful_list : (core : CoreView) (list : List (List ℕ)) → Stands core → IsGrown (base_of core) → AreListed core list → IsLawfulList list
-lawful_list core list stands grown listed b c has has' level =
+pub lawful_list : (core : CoreView) (list : List (List ℕ)) → Stands core → All (λ b. IsKept b.event) (accepted_by core) → IsGrown (base_of core) → AreListed core list → IsLawfulList list
+lawful_list core list stands keeps grown listed b c has has' level =
     let log = accepted_by core in
-    let begins = listed_begins core list listed in
+    let begins = listed_begins core list keeps listed in
     let held = all_held core stands in
     let log_grown = accepted_grown core.mode (base_of core) (told_of core) grown in
     let x = All-contains (Begins log) list has.payload begins has.among in
@@ -115,15 +116,15 @@ lawful_list core list stands grown listed b c has has' level =
 
 -- SOUND: so it is with what is stored, whatever else is seen of the witness
 pub sound : (core : CoreView) (list : List (List ℕ)) (shelf_limits : Limits) (shelf_broken : Bool) (told : DiskTold) (room : Room) → AreStored (history_of core) list shelf_limits shelf_broken told room
-    → Stands core → (key : Key) (limits : Limits) (broken : Bool) → IsSound (record { key = key; limits = limits; core = core; list = list; disk = told; broken = broken })
-sound core list shelf_limits shelf_broken told room stored stands key limits broken =
-    let listed = stored_listed core list shelf_limits shelf_broken told room stored in
+    → Stands core → All (λ b. IsKept b.event) (accepted_by core) → (key : Key) (limits : Limits) (broken : Bool) → IsSound (record { key = key; limits = limits; core = core; list = list; disk = told; broken = broken })
+sound core list shelf_limits shelf_broken told room stored stands keeps key limits broken =
+    let listed = stored_listed core list shelf_limits shelf_broken told room keeps stored in
     let read = reads_again core list shelf_limits shelf_broken told room stored in
     record {
       stand = stored_stand (history_of core) list shelf_limits shelf_broken told room stored;
       listed = listed;
-      holds = stored_accepted core list shelf_limits shelf_broken told room stored stands;
-      lawful = lawful_list core list stands stored.grown listed;
+      holds = stored_accepted core list shelf_limits shelf_broken told room keeps stored stands;
+      lawful = lawful_list core list stands keeps stored.grown listed;
       read = read;
       starts = starts_again core list stands stored.grown read;
     }

@@ -8,6 +8,7 @@ ghost use Rattle.witness_link.specs.Taking.{IsSound, KeepsSame, TakesMessage};
 use cesr_stream::Message;
 use keri_disk::Disk;
 use keri_outside::{Signer, Verifier};
+use key_state::spelled_is_kept;
 use witness_core::{Outcome, Witness, WitnessFault};
 
 /// A witness, as far as a link needs it.
@@ -63,11 +64,13 @@ impl<D: Disk + Drop> Witnessing for Witness<D> {
         let taken = Witness::take(self, message, verifier, signer);
         // What is true of its core, a proof learns here.
         let _journal = self.journal();
+        spelled_is_kept();
         taken
     }
 
     fn stands(&self) {
         let _journal = self.journal();
+        spelled_is_kept();
     }
 
     ghost only_now = { λ w. D.only_now w.shelf.disk };

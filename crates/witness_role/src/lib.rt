@@ -1,4 +1,4 @@
-//! A witness: it serves a file, or links that come at a door, and its run ends.
+//! `witness`: a witness that is started from its shelf serves a file, or links that come at a door, and how that run ends.
 #![tactic(auto)]
 
 mod door_end;

@@ -23,7 +23,7 @@ use witness_core::{StartFault, Witness};
 use witness_link::Witnessing;
 use witness_opening::{NotOpened, Opened, log_line, open_shelf};
 
-/// The words of `witness`.
+/// The words of `witness`: its helper, its key, the names of its shelf and of an old one to bring over, and what it serves.
 #[derive(Drop)]
 pub struct WitnessWords<'a> {
     pub helper: &'a str,

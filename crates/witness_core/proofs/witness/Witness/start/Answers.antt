@@ -1,5 +1,6 @@
 use Rattle.std.proofs.Common.{ap, arith, length, subst}
 use Rattle.witness_core.specs.Starts.{IsStarted}
+use Rattle.witness_core.proofs.States.{kept_all}
 use Rattle.witness_core.proofs.Witnessed.{are_listed, settled_holds, started_stored}
 use Rattle.witness_core.proofs.witness.Witness.start.Goals as goal
 
@@ -27,5 +28,6 @@ returns-in-Ok-clause-resumed g c =
     let started = subst (λ l. IsStarted c.args.limits l begun.core) c.list.ensures c.in-Ok.ensures.started in (
       started,
       are_listed begun.core s.list s.limits s.broken (g.D.Disk.told s.disk) begun.room
+          (kept_all begun.core c.stands.ensures.stands c.stands.ensures.held c.stands.ensures.accepted c.spelled_is_kept.ensures)
           (started_stored begun.core s.list c.args.limits s.limits s.broken (g.D.Disk.told s.disk) begun.room started c.in-Ok.ensures.room s.counted c.requires.whole (settled_holds (g.D.Disk.told s.disk) s.list (s.settled c.requires.whole))),
     )

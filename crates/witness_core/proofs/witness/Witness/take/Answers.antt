@@ -1,6 +1,7 @@
 use Rattle.std.proofs.Common.{◌≡◌, ◌∙◌, ap, sym}
 use Rattle.witness_core.specs.Faults.{breaks}
 use Rattle.witness_core.specs.declared.witness_fault.WitnessFault.TheVariants.{Full as NoRoom}
+use Rattle.witness_core.proofs.States.{kept_all}
 use Rattle.witness_core.proofs.Witnessed.{are_listed, full_untold, goes_by, reads_again, still_stored, stores_on}
 use Rattle.witness_core.proofs.witness.Witness.take.Goals as goal
 
@@ -8,7 +9,7 @@ pub returns-in-Ok-clause-stored : goal.returns-in-Ok-clause-stored
 returns-in-Ok-clause-stored g c =
     let core = c.take_message.new.core in
     let s = c.take_message.new.shelf in
-    λ _. are_listed core s.list s.limits s.broken (g.D.Disk.told s.disk) c.take_message.new.room c.in-Ok.ensures.stored
+    λ _. are_listed core s.list s.limits s.broken (g.D.Disk.told s.disk) c.take_message.new.room (kept_all core c.stands.ensures.stands c.stands.ensures.held c.stands.ensures.accepted c.spelled_is_kept.ensures) c.in-Ok.ensures.stored
 
 pub returns-in-Ok-clause-read : goal.returns-in-Ok-clause-read
 returns-in-Ok-clause-read g c =
@@ -20,7 +21,8 @@ pub returns-in-Ok-clause-stores : goal.returns-in-Ok-clause-stores
 returns-in-Ok-clause-stores g c =
     let old = c.args.self.now.shelf in
     let s = c.take_message.new.shelf in
-    λ _. stores_on old.list (g.D.Disk.told old.disk) c.take_message.new.core s.list (g.D.Disk.told s.disk) c.take_message.ensures.goes_on
+    λ _. stores_on old.list (g.D.Disk.told old.disk) c.take_message.new.core s.list (g.D.Disk.told s.disk)
+    (kept_all c.take_message.new.core c.stands.ensures.stands c.stands.ensures.held c.stands.ensures.accepted c.spelled_is_kept.ensures) c.take_message.ensures.goes_on
 
 pub returns-in-Err-clause-goes : goal.returns-in-Err-clause-goes
 returns-in-Err-clause-goes g c = goes_by _ _ c.in-Err.fault c.in-Err.ensures.kept c.args.self.now.broken c.breaks-self.result c.if-self.false c.breaks-self.ensures
@@ -36,7 +38,8 @@ pub returns-in-Err-clause-stored : goal.returns-in-Err-clause-stored
 returns-in-Err-clause-stored g c =
     let core = c.take_message.new.core in
     let s = c.take_message.new.shelf in
-    λ whole. are_listed core s.list s.limits s.broken (g.D.Disk.told s.disk) c.take_message.new.room (still_stored _ c.in-Err.fault c.in-Err.ensures.kept c.breaks-self.result c.breaks-self.ensures whole)
+    λ whole. are_listed core s.list s.limits s.broken (g.D.Disk.told s.disk) c.take_message.new.room
+    (kept_all core c.stands-in-Err.ensures.stands c.stands-in-Err.ensures.held c.stands-in-Err.ensures.accepted c.spelled_is_kept-in-Err.ensures) (still_stored _ c.in-Err.fault c.in-Err.ensures.kept c.breaks-self.result c.breaks-self.ensures whole)
 
 pub returns-in-Err-clause-read : goal.returns-in-Err-clause-read
 returns-in-Err-clause-read g c =
@@ -48,4 +51,5 @@ pub returns-in-Err-clause-stores : goal.returns-in-Err-clause-stores
 returns-in-Err-clause-stores g c =
     let old = c.args.self.now.shelf in
     let s = c.take_message.new.shelf in
-    λ _. stores_on old.list (g.D.Disk.told old.disk) c.take_message.new.core s.list (g.D.Disk.told s.disk) c.take_message.ensures.goes_on
+    λ _. stores_on old.list (g.D.Disk.told old.disk) c.take_message.new.core s.list (g.D.Disk.told s.disk)
+    (kept_all c.take_message.new.core c.stands-in-Err.ensures.stands c.stands-in-Err.ensures.held c.stands-in-Err.ensures.accepted c.spelled_is_kept-in-Err.ensures) c.take_message.ensures.goes_on

@@ -1,7 +1,9 @@
+use Rattle.witness_link.proofs.Holding.{all_kept}
 use Rattle.witness_link.proofs.Lawful.{sound}
 use Rattle.witness_link.proofs.witnessing.WitnessWitnessing.stands.Goals as goal
 
 pub returns : goal.returns
 returns g c = λ whole.
     let w = c.args.self.now in
-    sound w.core w.shelf.list w.shelf.limits w.shelf.broken (g.D.Disk.told w.shelf.disk) w.room (w.stored whole) c.journal-journal.ensures.stands w.key w.limits w.broken
+    sound w.core w.shelf.list w.shelf.limits w.shelf.broken (g.D.Disk.told w.shelf.disk) w.room (w.stored whole) c.journal-journal.ensures.stands
+    (all_kept w.core c.journal-journal.ensures.stands c.spelled_is_kept.ensures) w.key w.limits w.broken

@@ -1,5 +1,6 @@
 use Rattle.std.proofs.Common.{ap, subst}
 use Rattle.witness_core.specs.Faults.{Goes}
+use Rattle.witness_link.proofs.Holding.{all_kept}
 use Rattle.witness_link.proofs.Lawful.{lawful_list, still_grown}
 use Rattle.witness_link.proofs.Restart.{starts_again}
 use Rattle.witness_link.proofs.Witnessed.{taken_so}
@@ -32,5 +33,6 @@ returns-clause-same g c = λ whole.
       limits = e.same.1;
       stores = stores;
       lawful = lawful_list c.take-taken.new.self.core stores.accepted c.journal-journal.ensures.stands
+          (all_kept c.take-taken.new.self.core c.journal-journal.ensures.stands c.spelled_is_kept.ensures)
           (still_grown (g.V.Verifier.says c.args.verifier.now) c.args.self.now.core c.take-taken.new.self.core c.args.message.now c.take-taken.result (e.told whole) (c.args.self.now.stored whole).grown) stores.listed;
     }
