@@ -66,7 +66,10 @@ fn judge_event(event: Event, bytes: &[u8]) -> Result<Event, ReadBody>
     ensures { Judges bytes.now result }
 {
     match event_fault(&event, bytes) {
-        Some(fault) => Err(ReadBody::Fault(fault)),
+        Some(fault) => {
+            drop(event);
+            Err(ReadBody::Fault(fault))
+        }
         None => Ok(event),
     }
 }

@@ -38,10 +38,10 @@ fn inception(
     ensures fault { IfErr result (λ fault. IsThresholdFault
         (AreThresholds values.now.kt.now values.now.keys.now values.now.nt.now values.now.next.now) fault) }
 {
-    let set = key_set(alloc, values.kt, values.keys, values.nt, values.next)?;
     let list = fixed_keys_in(alloc, values.list)?;
     let traits = strings_in(alloc, values.traits)?;
     let anchors = values_in(alloc, values.anchors)?;
+    let set = key_set(alloc, values.kt, values.keys, values.nt, values.next)?;
     Ok(Inception {
         said: digest_in(values.said),
         prefix: prefix_in(values.prefix),

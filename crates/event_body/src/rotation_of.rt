@@ -31,10 +31,10 @@ fn rotation(alloc: Global, values: &RotationValues<'_>) -> Result<Rotation, Read
     ensures fault { IfErr result (λ fault. IsThresholdFault
         (AreThresholds values.now.kt.now values.now.keys.now values.now.nt.now values.now.next.now) fault) }
 {
-    let set = key_set(alloc, values.kt, values.keys, values.nt, values.next)?;
     let cuts = fixed_keys_in(alloc, values.cuts)?;
     let adds = fixed_keys_in(alloc, values.adds)?;
     let anchors = values_in(alloc, values.anchors)?;
+    let set = key_set(alloc, values.kt, values.keys, values.nt, values.next)?;
     Ok(Rotation {
         said: digest_in(values.said),
         prefix: prefix_in(values.prefix),

@@ -113,13 +113,13 @@ impl CopyValue for KeyState {
             est_sn: self.est_sn,
             since: copy_items(&self.since, alloc)?,
             keys: copy_items(&self.keys, alloc)?,
-            kt: self.kt.copy(alloc)?,
             next: copy_items(&self.next, alloc)?,
-            nt: self.nt.copy(alloc)?,
             list: copy_items(&self.list, alloc)?,
             toad: self.toad,
             traits: self.traits.copy(alloc)?,
             delegator: self.delegator,
+            kt: self.kt.copy(alloc)?,
+            nt: self.nt.copy(alloc)?,
         })
     }
 }

@@ -46,15 +46,18 @@ pub(crate) fn inception(alloc: Global, seed: u64, log: u64) -> Result<Event, All
 {
     let key = log_key(alloc, seed, log, 0)?;
     let next = key_digest(alloc, seed, log, 1)?;
+    let keys = one(alloc, key)?;
+    let next = one(alloc, next)?;
+    let list = witnesses(alloc, seed, log)?;
     Ok(Event::Icp(Inception {
         said: BLANK,
         prefix: Prefix::Said(BLANK),
         kt: Threshold::Count(1),
-        keys: one(alloc, key)?,
+        keys,
         nt: Threshold::Count(1),
-        next: one(alloc, next)?,
+        next,
         toad: 3,
-        list: witnesses(alloc, seed, log)?,
+        list,
         traits: Items::new(alloc),
         anchors: Items::new(alloc),
         delegator: None,
@@ -78,15 +81,17 @@ pub(crate) fn rotation(
 {
     let key = log_key(alloc, seed, log, number)?;
     let next = key_digest(alloc, seed, log, number + 1)?;
+    let keys = one(alloc, key)?;
+    let next = one(alloc, next)?;
     Ok(Event::Rot(Rotation {
         said: BLANK,
         prefix: Prefix::Said(first),
         sn,
         prior,
         kt: Threshold::Count(1),
-        keys: one(alloc, key)?,
+        keys,
         nt: Threshold::Count(1),
-        next: one(alloc, next)?,
+        next,
         toad: 3,
         cuts: Items::new(alloc),
         adds: Items::new(alloc),

@@ -38,7 +38,10 @@ impl Core {
         ensures err { OnErr result (self.new ≡ self.old) }
     {
         match self.tables.number_of(body.as_slice(), &event) {
-            Some(number) => self.take_claims(reader, number, claims, steps),
+            Some(number) => {
+                drop(event);
+                self.take_claims(reader, number, claims, steps)
+            }
             None => self.take_body(reader, body, event, claims, steps),
         }
     }
