@@ -8,7 +8,8 @@ use row_messages::message_of;
 use row_text::{Row, bytes_words};
 use std::alloc::{AllocError, Global};
 use std::fmt::Write;
-use witness_core::{Fate, Outcome, Receipt, Witness, WitnessFault};
+use witness_core::{Outcome, Witness, WitnessFault};
+use witness_receipts::{Fate, Receipt};
 
 // Takes the message. The contract of what it calls is left behind here, since it makes each proof above it longer.
 fn take_message(

@@ -16,14 +16,6 @@ pub mod Asked
 pub mod Messages
 pub mod Starting
 pub mod Appending
-pub mod ReceiptTexts
-pub mod Numbers
-pub mod Owns
-pub mod Signings
-pub mod Living
-pub mod LiveStates
-pub mod Reasons
-pub mod FateSteps
 pub mod Results
 pub mod Entering
 pub mod Judging

@@ -17,10 +17,10 @@ use Rattle.journal.specs.Waiting.{why_waits}
 use Rattle.validator_core.specs.Messages.{JudgesMessage}
 use Rattle.validator_core.specs.Signatures.{is_witness_under}
 use Rattle.validator_core.specs.View.{CoreView, accepted_by, state_of, told_of}
-use Rattle.witness_core.specs.Fates.{IsFate, event_fate, fate_of, first_some, live_there, signing_reason, waiting_fate, when}
+use Rattle.witness_receipts.specs.Fates.{IsFate, event_fate, fate_of, first_some, live_there, signing_reason, waiting_fate, when}
 use Rattle.witness_core.specs.Telling.{IsOfReceipt}
-use Rattle.witness_core.specs.declared.fate.Fate.{Fate}
-use Rattle.witness_core.specs.declared.fate.Fate.TheVariants.{Stored, Waits, Seen, NotAnEvent, Refused}
+use Rattle.witness_receipts.specs.declared.fate.Fate.{Fate}
+use Rattle.witness_receipts.specs.declared.fate.Fate.TheVariants.{Stored, Waits, Seen, NotAnEvent, Refused}
 
 -- it is the fate of an event that the core was told of
 abbrev pub IsOfEvent : Fate → Type 0

@@ -5,7 +5,5 @@ pub mod Storing
 pub mod Faults
 pub mod Telling
 pub mod Laws
-pub mod Receipts
-pub mod Fates
 pub mod Starts
 pub mod Outcomes

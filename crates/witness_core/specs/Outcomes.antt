@@ -9,13 +9,13 @@ use Rattle.keri_specs.specs.Told.{after}
 use Rattle.journal.specs.declared.body.Body.{Body}
 use Rattle.validator_core.specs.Messages.{JudgesMessage}
 use Rattle.validator_core.specs.View.{CoreView, accepted_by, open_of}
-use Rattle.witness_core.specs.Fates.{event_fate}
-use Rattle.witness_core.specs.Receipts.{AreReceiptsOf, due, signings_of}
+use Rattle.witness_receipts.specs.Fates.{event_fate}
+use Rattle.witness_receipts.specs.Receipts.{AreReceiptsOf, due, signings_of}
 use Rattle.witness_core.specs.Telling.{IsOfReceipt, IsUntold, TellsEvent}
-use Rattle.witness_core.specs.declared.fate.Fate.{Fate}
-use Rattle.witness_core.specs.declared.fate.Fate.TheVariants.{Stored, Waits, Seen, NotAnEvent, Refused}
+use Rattle.witness_receipts.specs.declared.fate.Fate.{Fate}
+use Rattle.witness_receipts.specs.declared.fate.Fate.TheVariants.{Stored, Waits, Seen, NotAnEvent, Refused}
 use Rattle.witness_core.specs.declared.outcome.Outcome.{Outcome}
-use Rattle.witness_core.specs.declared.receipt.Receipt.{Receipt}
+use Rattle.witness_receipts.specs.declared.receipt.Receipt.{Receipt}
 use Rattle.witness_core.specs.declared.witness_fault.WitnessFault.{WitnessFault}
 use Rattle.witness_core.specs.declared.witness_fault.WitnessFault.TheVariants.{DiskFault, SignerFault, VerifierFault, Full, Broken, OutOfMemory}
 

@@ -2,12 +2,9 @@
 //! the events that are stored.
 #![tactic(auto)]
 
-mod fate;
 mod open_questions;
 mod outcome;
 mod payload;
-mod receipt;
-mod receipts;
 mod room;
 mod start;
 mod store;
@@ -16,9 +13,7 @@ mod taken;
 mod witness;
 mod witness_fault;
 
-pub use fate::Fate;
 pub use outcome::Outcome;
-pub use receipt::Receipt;
 pub use start::StartFault;
 pub use witness::Witness;
 pub use witness_fault::WitnessFault;

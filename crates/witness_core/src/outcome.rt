@@ -7,22 +7,19 @@ ghost use Rattle.journal.specs.declared.body.Body.{Body};
 ghost use Rattle.keri_specs.specs.Told.{Puts};
 ghost use Rattle.validator_core.specs.View.{Follows, accepted_by, base_of};
 ghost use Rattle.witness_core.specs.Faults.{CausedBy, FullBy, SignFault, StoresStill};
-ghost use Rattle.witness_core.specs.Fates.{IsFate};
+ghost use Rattle.witness_receipts.specs.Fates.{IsFate};
 ghost use Rattle.witness_core.specs.Histories.{history_of};
 ghost use Rattle.witness_core.specs.Outcomes.{AreReceipts, AsksSigner, IsOfStored, IsOutcomeOf, KeepsList, TellsFate};
-ghost use Rattle.witness_core.specs.Receipts.{due, signings_of};
+ghost use Rattle.witness_receipts.specs.Receipts.{due, signings_of};
 ghost use Rattle.witness_core.specs.Room.{IsTurnedAway};
 ghost use Rattle.witness_core.specs.Storing.{AreStored, GoesOn};
 ghost use Rattle.witness_core.specs.Telling.{AsksVerdicts, TellsFault};
 ghost use Rattle.witness_core.specs.declared.witness_fault.WitnessFault.TheVariants.{Full as NoRoom};
 
-use crate::fate::event_fate;
-use crate::receipt::SigningFault;
-use crate::receipts::receipts_of;
+use crate::WitnessFault;
 use crate::room::Room;
 use crate::take::take_whole;
 use crate::taken::Taken;
-use crate::{Fate, Receipt, WitnessFault};
 use cesr_codes::Key;
 use cesr_stream::Message;
 use keri_disk::Disk;
@@ -30,6 +27,7 @@ use keri_outside::{Limits, Signer, Steps, Verifier};
 use shelf_log::Shelf;
 use std::alloc::Global;
 use validator_core::Core;
+use witness_receipts::{Fate, Receipt, SigningFault, event_fate, receipts_of};
 
 /// The fate of a message, and the receipts that are due once it is taken.
 #[derive(Drop)]

@@ -3,7 +3,6 @@ ghost use Rattle.std.specs.Prelude.{◌≡◌, ◌≤◌, IfErr, IfOk, length};
 ghost use Rattle.event_payload.specs.Payloads.{text_in as text_in_of};
 ghost use Rattle.witness_core.specs.Starts.{AreNoStart, IsFirstRoom, IsStarted, texts_in};
 
-use crate::receipts::stands;
 use crate::room::Room;
 use event_payload::text_in;
 use journal::{Mode, ResumeFault};
@@ -14,6 +13,7 @@ use lists::Items;
 use shelf_log::Shelf;
 use std::alloc::{AllocError, Global};
 use validator_core::Core;
+use witness_receipts::stands;
 
 /// A shelf with which no witness starts, as it was, and why.
 #[derive(Drop)]

@@ -19,7 +19,6 @@ ghost use Rattle.witness_core.specs.declared.witness_fault.WitnessFault.TheVaria
 
 use crate::WitnessFault;
 use crate::open_questions::ask_open;
-use crate::receipts::stands;
 use crate::room::{Coming, Room, count_signatures, lacks_room};
 use crate::store::store;
 use crate::taken::Taken;
@@ -33,6 +32,7 @@ use lists::{Items, length_u32};
 use shelf_log::Shelf;
 use std::alloc::Global;
 use validator_core::{Core, claims_of, judge_message};
+use witness_receipts::stands;
 
 /// Takes a message, asks each open question, and after each entry stores what it makes accepted.
 pub(crate) fn take_whole<D: Disk + Drop, V: Verifier>(

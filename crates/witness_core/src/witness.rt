@@ -8,7 +8,6 @@ ghost use Rattle.witness_core.specs.Histories.{history_of};
 ghost use Rattle.witness_core.specs.Storing.{AreStored};
 
 use crate::outcome::take_message;
-use crate::receipts::stands;
 use crate::room::Room;
 use crate::start::{Begun, begin};
 use crate::{Outcome, StartFault, WitnessFault};
@@ -22,6 +21,7 @@ use lists::Items;
 use shelf_log::Shelf;
 use std::alloc::Global;
 use validator_core::Core;
+use witness_receipts::stands;
 
 /// A witness: a core that waits for neither receipts nor seals, and a shelf with the payload of each event that it
 /// accepts.
@@ -49,7 +49,7 @@ impl<D: Disk + Drop> Witness<D> {
     ghost use Rattle.shelf_log.specs.Settled.{AllHold};
     ghost use Rattle.validator_core.specs.View.{Follows, Stands};
     ghost use Rattle.witness_core.specs.Faults.{CausedBy, FullBy, Goes};
-    ghost use Rattle.witness_core.specs.Fates.{IsFate};
+    ghost use Rattle.witness_receipts.specs.Fates.{IsFate};
     ghost use Rattle.witness_core.specs.Outcomes.{AreReceipts, AsksSigner, IsOfStored, KeepsList, TellsFate};
     ghost use Rattle.witness_core.specs.Payloads.{AreListed};
     ghost use Rattle.witness_core.specs.Room.{IsTurnedAway};

@@ -21,11 +21,11 @@ use Rattle.validator_core.specs.Verdicts.{inquiries_in, inquiry_in, inquiry_on}
 use Rattle.validator_core.specs.View.{CoreView, base_of, open_of, told_of}
 use Rattle.validator_core.proofs.OpenQuestions.{all_heard, follows_itself}
 use Rattle.witness_core.specs.Outcomes.{TellsFate, due_by}
-use Rattle.witness_core.specs.Receipts.{signings_of}
+use Rattle.witness_receipts.specs.Receipts.{signings_of}
 use Rattle.witness_core.specs.Starts.{IsStarted}
 use Rattle.witness_core.specs.Telling.{AsksVerdicts, IsUntold}
-use Rattle.witness_core.specs.declared.fate.Fate.{Fate}
-use Rattle.witness_core.specs.declared.fate.Fate.TheVariants.{Stored, Waits, Seen, NotAnEvent, Refused}
+use Rattle.witness_receipts.specs.declared.fate.Fate.{Fate}
+use Rattle.witness_receipts.specs.declared.fate.Fate.TheVariants.{Stored, Waits, Seen, NotAnEvent, Refused}
 use Rattle.witness_core.proofs.Asking.{untold_asks}
 use Rattle.witness_link.specs.Calls.{AreCalls, Call, signings_in}
 use Rattle.witness_link.specs.Links.{Standing, Terms}

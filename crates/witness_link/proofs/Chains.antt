@@ -15,7 +15,7 @@ use Rattle.run_status.specs.declared.close.Close.TheVariants.{End, Bad, ReadFaul
 use Rattle.validator_core.specs.View.{open_of}
 use Rattle.witness_core.specs.Outcomes.{AsksSigner}
 use Rattle.witness_core.specs.Storing.{AllStand, Grown}
-use Rattle.witness_core.specs.declared.receipt.Receipt.{Receipt}
+use Rattle.witness_receipts.specs.declared.receipt.Receipt.{Receipt}
 use Rattle.witness_core.specs.declared.witness_fault.WitnessFault.{WitnessFault}
 use Rattle.witness_core.specs.declared.witness_fault.WitnessFault.TheVariants as fault
 use Rattle.witness_link.specs.Calls.{AreCalls, Call, digests_in, messages_in, receipts_in, refusals_in, refused_as, seen_in, signings_in, text_of}

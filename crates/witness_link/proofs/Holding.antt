@@ -30,12 +30,12 @@ use Rattle.validator_core.specs.View.{CoreView, Follows, Stands, accepted_by, ba
 use Rattle.witness_core.specs.Histories.{History, history_of}
 use Rattle.witness_core.specs.Payloads.{AreListed, IsPayload, Pointwise}
 use Rattle.witness_core.specs.Outcomes.{TellsFate, due_by}
-use Rattle.witness_core.specs.Receipts.{AreReceiptsOf, IsReceiptOf, again, due}
+use Rattle.witness_receipts.specs.Receipts.{AreReceiptsOf, IsReceiptOf, again, due}
 use Rattle.witness_core.specs.Storing.{AllStand, AreStored, HoldsFirst, by_entries}
 use Rattle.witness_core.specs.Telling.{TellsEvent}
-use Rattle.witness_core.specs.declared.fate.Fate.{Fate}
-use Rattle.witness_core.specs.declared.fate.Fate.TheVariants.{Stored, Waits, Seen, NotAnEvent, Refused}
-use Rattle.witness_core.specs.declared.receipt.Receipt.{Receipt}
+use Rattle.witness_receipts.specs.declared.fate.Fate.{Fate}
+use Rattle.witness_receipts.specs.declared.fate.Fate.TheVariants.{Stored, Waits, Seen, NotAnEvent, Refused}
+use Rattle.witness_receipts.specs.declared.receipt.Receipt.{Receipt}
 use Rattle.witness_core.specs.declared.room.Room.{Room}
 use Rattle.witness_core.proofs.Listed.{are_so, listed}
 use Rattle.witness_core.proofs.Lists.{take_front}

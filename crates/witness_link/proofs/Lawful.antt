@@ -33,8 +33,8 @@ use Rattle.witness_core.specs.Outcomes.{TellsFate}
 use Rattle.witness_core.specs.Payloads.{AreListed, IsPayload, Pointwise}
 use Rattle.witness_core.specs.Storing.{AreStored}
 use Rattle.witness_core.specs.Telling.{TellsFault}
-use Rattle.witness_core.specs.declared.fate.Fate.{Fate}
-use Rattle.witness_core.specs.declared.fate.Fate.TheVariants.{Stored, Waits, Seen, NotAnEvent, Refused}
+use Rattle.witness_receipts.specs.declared.fate.Fate.{Fate}
+use Rattle.witness_receipts.specs.declared.fate.Fate.TheVariants.{Stored, Waits, Seen, NotAnEvent, Refused}
 use Rattle.witness_core.specs.declared.outcome.Outcome.{Outcome}
 use Rattle.witness_core.specs.declared.room.Room.{Room}
 use Rattle.witness_core.specs.declared.witness_fault.WitnessFault.{WitnessFault}

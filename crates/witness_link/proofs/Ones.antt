@@ -9,11 +9,11 @@ use Rattle.keri_specs.proofs.Putting.{after-nil}
 use Rattle.run_status.specs.declared.close.Close.{Close}
 use Rattle.run_status.specs.declared.close.Close.TheVariants.{WriteFault}
 use Rattle.witness_core.specs.Outcomes.{AsksSigner, due_by}
-use Rattle.witness_core.specs.Receipts.{signings_of}
+use Rattle.witness_receipts.specs.Receipts.{signings_of}
 use Rattle.witness_core.specs.Storing.{StoresOn}
 use Rattle.witness_core.specs.Telling.{AsksVerdicts}
-use Rattle.witness_core.specs.declared.fate.Fate.{Fate}
-use Rattle.witness_core.specs.declared.receipt.Receipt.{Receipt}
+use Rattle.witness_receipts.specs.declared.fate.Fate.{Fate}
+use Rattle.witness_receipts.specs.declared.receipt.Receipt.{Receipt}
 use Rattle.witness_core.specs.declared.witness_fault.WitnessFault.{WitnessFault}
 use Rattle.witness_core.specs.declared.witness_fault.WitnessFault.TheVariants as fault
 use Rattle.witness_link.specs.Calls.{Call, IsCall, refused_as, seen_in, text_of}

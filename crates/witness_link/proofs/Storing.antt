@@ -10,7 +10,7 @@ use Rattle.keri_disk.proofs.Moments.{KnowsNow, and_then, none_yet, weaker}
 use Rattle.validator_core.specs.View.{CoreView, accepted_by, base_of}
 use Rattle.witness_core.specs.Payloads.{AreListed, Pointwise}
 use Rattle.witness_core.specs.Storing.{AllStand, Grown, HoldsFirst, StoresOn}
-use Rattle.witness_core.specs.declared.receipt.Receipt.{Receipt}
+use Rattle.witness_receipts.specs.declared.receipt.Receipt.{Receipt}
 use Rattle.witness_core.proofs.Stored.{first_wider}
 use Rattle.witness_link.specs.Links.{Terms}
 use Rattle.witness_link.specs.Stored.{HoldsEach, IsLawfulList, IsOfStored}

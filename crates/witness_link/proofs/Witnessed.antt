@@ -8,7 +8,7 @@ use Rattle.core_tables.specs.View.{body_of}
 use Rattle.journal.specs.Replies.{claims_of, is_full}
 use Rattle.keri_outside.specs.declared.limits.Limits.{Limits}
 use Rattle.validator_core.specs.View.{CoreView}
-use Rattle.witness_core.specs.Fates.{IsFate}
+use Rattle.witness_receipts.specs.Fates.{IsFate}
 use Rattle.witness_core.specs.Faults.{CausedBy, FullBy, Goes}
 use Rattle.witness_core.specs.Histories.{history_of}
 use Rattle.witness_core.specs.Outcomes.{AreReceipts, KeepsList, TellsFate}

@@ -6,14 +6,14 @@ use Rattle.cesr_stream.specs.declared.message.Message.{Message}
 use Rattle.journal.specs.declared.refusal.Refusal.{Refusal}
 use Rattle.keri_outside.specs.declared.signing.Signing.{Signing}
 use Rattle.validator_core.specs.View.{CoreView}
-use Rattle.witness_core.specs.Fates.{IsFate}
+use Rattle.witness_receipts.specs.Fates.{IsFate}
 use Rattle.witness_core.specs.Payloads.{AreListed}
 use Rattle.witness_core.specs.Outcomes.{KeepsList, TellsFate, due_by}
-use Rattle.witness_core.specs.Receipts.{AreReceiptsOf, signings_of}
+use Rattle.witness_receipts.specs.Receipts.{AreReceiptsOf, signings_of}
 use Rattle.witness_core.specs.Room.{IsTurnedAway}
-use Rattle.witness_core.specs.declared.fate.Fate.{Fate}
-use Rattle.witness_core.specs.declared.fate.Fate.TheVariants.{Stored, Waits, Seen, NotAnEvent, Refused}
-use Rattle.witness_core.specs.declared.receipt.Receipt.{Receipt}
+use Rattle.witness_receipts.specs.declared.fate.Fate.{Fate}
+use Rattle.witness_receipts.specs.declared.fate.Fate.TheVariants.{Stored, Waits, Seen, NotAnEvent, Refused}
+use Rattle.witness_receipts.specs.declared.receipt.Receipt.{Receipt}
 use Rattle.witness_link.specs.Links.{Standing, Terms}
 
 -- a message that was taken, what became of it, the receipts that were due then, and how the witness stands behind it

@@ -7,8 +7,8 @@ use Rattle.quorum_laws.specs.Histories.{AreLevel}
 use Rattle.shelf_log.specs.Format.{Holds}
 use Rattle.shelf_log.specs.declared.version.Version.TheVariants.{Two}
 use Rattle.validator_core.specs.View.{CoreView, accepted_by}
-use Rattle.witness_core.specs.Receipts.{IsReceiptOf}
-use Rattle.witness_core.specs.declared.receipt.Receipt.{Receipt}
+use Rattle.witness_receipts.specs.Receipts.{IsReceiptOf}
+use Rattle.witness_receipts.specs.declared.receipt.Receipt.{Receipt}
 use Rattle.witness_link.specs.Links.{Terms}
 
 -- the list has a payload with the bytes at its front that spell the event

@@ -6,7 +6,7 @@ ghost use Rattle.witness_link.specs.Noting.{HasPlace};
 use cesr_codes::Digest;
 use journal::Refusal;
 use std::alloc::{AllocError, Global};
-use witness_core::Fate;
+use witness_receipts::Fate;
 
 /// The messages that were refused, and the digests of the events that were seen in place of others, in order.
 #[derive(Drop)]

@@ -4,7 +4,7 @@ ghost use Rattle.keri_specs.specs.Told.{Puts};
 ghost use Rattle.witness_link.specs.Calls.{text_of};
 
 use keri_outside::{Failed, Sink};
-use witness_core::Receipt;
+use witness_receipts::Receipt;
 
 /// Puts the receipts, one after the other, each whole.
 pub(crate) fn put_receipts<K: Sink>(sink: &mut K, receipts: &[Receipt]) -> Result<(), Failed>

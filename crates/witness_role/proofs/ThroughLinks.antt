@@ -12,7 +12,7 @@ use Rattle.validator_core.specs.View.{open_of}
 use Rattle.witness_core.specs.Payloads.{AreListed}
 use Rattle.witness_core.specs.Storing.{Grown}
 use Rattle.witness_core.specs.Telling.{AsksVerdicts}
-use Rattle.witness_core.specs.declared.receipt.Receipt.{Receipt}
+use Rattle.witness_receipts.specs.declared.receipt.Receipt.{Receipt}
 use Rattle.witness_link.specs.Calls.{receipts_in}
 use Rattle.witness_link.specs.Links.{LinkTold, Standing, standing_of, terms_of}
 use Rattle.witness_link.specs.Served.{ClosesLink}

@@ -21,7 +21,7 @@ use Rattle.run_status.specs.Status.{nothing_besides}
 use Rattle.validator_core.specs.View.{open_of}
 use Rattle.witness_core.specs.Storing.{StoresOn}
 use Rattle.witness_core.specs.Telling.{AsksVerdicts}
-use Rattle.witness_core.specs.declared.receipt.Receipt.{Receipt}
+use Rattle.witness_receipts.specs.declared.receipt.Receipt.{Receipt}
 use Rattle.witness_link.specs.Calls.{receipts_in}
 use Rattle.witness_link.specs.Links.{Terms}
 use Rattle.witness_link.specs.Served.{ServesLink}

@@ -1,7 +1,7 @@
 use Rattle.std.proofs.Common.{◌∙◌, Err, ap, refl, take}
 use Rattle.keri_specs.specs.Told.{after}
 use Rattle.keri_specs.proofs.Putting.{put_front}
-use Rattle.witness_core.specs.declared.receipt.Receipt.{Receipt}
+use Rattle.witness_receipts.specs.declared.receipt.Receipt.{Receipt}
 use Rattle.witness_link.proofs.receipts.put_receipts.Goals as goal
 
 pub returns-in-Err-clause-puts : goal.returns-in-Err-clause-puts

@@ -1,8 +1,0 @@
-use Rattle.std.proofs.Common.{◌≡◌, take}
-use Rattle.validator_core.specs.View.{accepted_by}
-use Rattle.witness_core.specs.Fates.{live_there}
-use Rattle.witness_core.proofs.fate.earlier_at.Given as goal
-
--- what is left says as much as all
-abbrev pub invariant-loop-place : goal.invariant-loop-place
-invariant-loop-place l = live_there (take l.place (accepted_by l.core)) l.prefix l.sn ≡ live_there (accepted_by l.core) l.prefix l.sn
