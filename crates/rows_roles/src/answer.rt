@@ -71,18 +71,31 @@ fn link_words(text: &mut String, sinks: &[MemSink]) -> Result<(), AllocError> {
     Ok(())
 }
 
-/// `run WORD,WORD.. NAME VALUE..`: what is written, and right behind it `=`, the status, how many messages and verdicts were
-/// told, how each reader closed, each making, with a `!` where it failed, and how many bytes each link was sent.
-fn ran<R: Threads + Wait + Sync>(rt: &R, alloc: Global, row: &Row) -> Result<String, AllocError> {
-    let mut outside = outside_of(alloc, row)?;
-    let words = words_of(alloc, row)?;
-    let done = run_words(rt, alloc, &words, &mut outside);
+// What is written, and right behind it `=`, the status, how many messages and verdicts were told, how each reader closed, each
+// making, with a `!` where it failed, and how many bytes each link was sent.
+fn told(
+    alloc: Global,
+    outside: &MemOutside,
+    done: &Done<MemOutside>,
+) -> Result<String, AllocError> {
     let mut text = String::from_utf8_lossy(alloc, outside.sink().bytes())?;
-    status_words(&mut text, &done)?;
+    status_words(&mut text, done)?;
     close_words(&mut text, done.readers.as_slice())?;
     making_words(&mut text, outside.makings())?;
     link_words(&mut text, done.sinks.as_slice())?;
     Ok(text)
+}
+
+/// `run WORD,WORD.. NAME VALUE..`: what the words come to over the outside of the row. That and what the run hands back are let go
+/// by `drop`, which takes less to prove than at each way out.
+fn ran<R: Threads + Wait + Sync>(rt: &R, alloc: Global, row: &Row) -> Result<String, AllocError> {
+    let words = words_of(alloc, row)?;
+    let mut outside = outside_of(alloc, row)?;
+    let done = run_words(rt, alloc, &words, &mut outside);
+    let text = told(alloc, &outside, &done);
+    drop(done);
+    drop(outside);
+    text
 }
 
 /// What a line is answered by: itself, where it names no run.

@@ -193,10 +193,9 @@ pub(crate) fn outside_of(alloc: Global, row: &Row) -> Result<MemOutside, AllocEr
     let disks = disks_of(alloc, row)?;
     let sink = MemSink::new(alloc, failing(alloc, row, "puts")?);
     let makings = failing(alloc, row, "makings")?;
-    let outside = MemOutside::new(alloc, files, sink, makings, limits_of(row));
     let doors = doors_of(alloc, row)?;
     Ok(
-        outside
+        MemOutside::new(alloc, files, sink, makings, limits_of(row))
             .with_helpers(helpers)
             .with_disks(disks)
             .with_doors(doors),
