@@ -1,5 +1,5 @@
 //! What becomes of a message, and the receipts that are due once it is taken.
-ghost use Rattle.std.specs.Prelude.{◌≡◌, ◌<◌, ◌≤◌, false, length, take, slice_get, All, Some, IfErr, IfOk, MatchResult, OnOk};
+ghost use Rattle.std.specs.Prelude.{◌≡◌, ◌⊎◌, ◌<◌, ◌≤◌, false, length, take, slice_get, All, Some, IfErr, IfOk, MatchResult, OnOk};
 ghost use Rattle.cesr_codes.specs.declared.key.KeyCode.TheVariants.{Fixed};
 ghost use Rattle.event_body.specs.Events as events;
 ghost use Rattle.journal.specs.Grown.{IsGrown};
@@ -75,6 +75,8 @@ pub(crate) fn take_message<D: Disk + Drop, V: Verifier, S: Signer>(
     ensures gives { S.gives signer.new ≡ S.gives signer.old }
     ensures asked { AsksSigner key.now core.old core.new message.now
         (S.signings signer.old) (S.signings signer.new) result }
+    ensures stored_first { (S.signings signer.new ≡ S.signings signer.old) ⊎ AreStored (history_of core.new)
+        shelf.new.list shelf.new.limits shelf.new.broken (D.told shelf.new.disk) room.new }
     ensures disk_same { OnOk result ((D.told shelf.new.disk).faults ≡ (D.told shelf.old.disk).faults) }
     ensures verifier_same { OnOk result (V.faults verifier.new ≡ V.faults verifier.old) }
     ensures signer_same { OnOk result (S.faults signer.new ≡ S.faults signer.old) }

@@ -45,7 +45,7 @@ pub struct Witness<D: Disk> {
 }
 
 impl<D: Disk + Drop> Witness<D> {
-    ghost use Rattle.std.specs.Prelude.{◌≡◌, true, map, All, Err, IfErr, IfOk, MatchResult, OnOk};
+    ghost use Rattle.std.specs.Prelude.{◌≡◌, ◌⊎◌, true, map, All, Err, IfErr, IfOk, MatchResult, OnOk};
     ghost use Rattle.shelf_log.specs.Settled.{AllHold};
     ghost use Rattle.validator_core.specs.View.{Follows, Stands};
     ghost use Rattle.witness_core.specs.Faults.{CausedBy, FullBy, Goes};
@@ -139,6 +139,10 @@ impl<D: Disk + Drop> Witness<D> {
         ensures gives { S.gives signer.new ≡ S.gives signer.old }
         ensures asked { AsksSigner self.old.key self.old.core self.new.core message.now
             (S.signings signer.old) (S.signings signer.new) result }
+
+        // The signer is asked only once all that is accepted is stored, whatever the call answers.
+        ensures stored_first { (S.signings signer.new ≡ S.signings signer.old)
+            ⊎ AreListed self.new.core self.new.shelf.list }
 
         // A fault is answered where its own count rose; the other counts are as they were.
         ensures disk_same { OnOk result ((D.told self.new.shelf.disk).faults ≡ (D.told self.old.shelf.disk).faults) }

@@ -1,4 +1,4 @@
-use Rattle.std.proofs.Common.{ap, arith, length, ◌∙◌}
+use Rattle.std.proofs.Common.{ap, arith, inl, inr, length, refl, ◌∙◌}
 use Rattle.std.proofs.lemmas.List.Elements.{All-nil}
 use Rattle.keri_specs.proofs.Putting.{after-nil}
 use Rattle.witness_core.specs.Outcomes.{IsOfStored}
@@ -16,6 +16,18 @@ returns-in_err-taken-clause-causes g c =
     if_err c.from_residual.result fault _ c.from_residual.ensures.1
     (take_caused (g.D.Disk.told c.args.shelf.now.disk).faults (g.D.Disk.told c.take_whole.new.shelf.disk).faults (g.V.Verifier.faults c.args.verifier.now) (g.V.Verifier.faults c.take_whole.new.verifier)
     (g.S.Signer.faults c.args.signer.now) fault c.in_err-taken.ensures.causes)
+
+pub returns-in_err-taken-clause-stored_first : goal.returns-in_err-taken-clause-stored_first
+returns-in_err-taken-clause-stored_first g c = inl refl
+
+pub returns-in-Refused-clause-stored_first : goal.returns-in-Refused-clause-stored_first
+returns-in-Refused-clause-stored_first g c = inl refl
+
+pub returns-in-NotAnEvent-clause-stored_first : goal.returns-in-NotAnEvent-clause-stored_first
+returns-in-NotAnEvent-clause-stored_first g c = inl refl
+
+pub returns-in-Event-clause-stored_first : goal.returns-in-Event-clause-stored_first
+returns-in-Event-clause-stored_first g c = inr c.in_ok-taken.ensures.stored
 
 pub event_outcome-requires-clause-front : goal.event_outcome-requires-clause-front
 event_outcome-requires-clause-front g c = omega (arith, ap length c.list-front.ensures, c.in_ok-taken.ensures.stored.all, c.take_whole.ensures.goes_on.longer)
