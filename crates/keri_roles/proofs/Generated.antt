@@ -24,7 +24,7 @@ use Rattle.reader_threads.specs.Told.{AllTold, SomeFailed}
 use Rattle.reader_threads.specs.declared.last_round.LastRound.{LastRound}
 use Rattle.reader_threads.specs.declared.last_round.LastRound.TheVariants.{VerifierFailed}
 use Rattle.report_lines.specs.Lines.{stream_text}
-use Rattle.keri_roles.specs.CoreTold.{HadMemory}
+use Rattle.core_roles.specs.CoreTold.{HadMemory}
 use Rattle.keri_roles.specs.Generated.{counts_of, made_of}
 use Rattle.keri_roles.specs.Planned.{HasCounts, made_close}
 use Rattle.keri_roles.specs.declared.generate.StreamPlan.{StreamPlan}

@@ -1,11 +1,17 @@
--- Why a reader of `make` or its signer failed, and what is found where a message is due.
-use Rattle.std.proofs.Common.{◌≡◌, ℕ, inl, inr, Bool, true, false, ◌||◌, List, Option, Some, None, refl, sym, ◌∙◌, ap}
+-- Why a reader of `make` or its signer failed, what is found where a message is due, and that nothing is lacking to the log's reader.
+use Rattle.std.proofs.Common.{◌≡◌, ℕ, inl, inr, Bool, true, false, ◌||◌, List, [], ◌∷◌, Option, Some, None, refl, sym, ◌∙◌, ap}
 use Rattle.std.specs.Prelude.{is_none, IfSome, MatchOption}
 use Rattle.std.specs.List.{list_any, list_all}
+use Rattle.std.proofs.lemmas.List.Elements.{All-head}
 use Rattle.keri_specs.specs.Causes.{Rose}
 use Rattle.cesr_codes.specs.declared.key.Key.{Key}
 use Rattle.cesr_codes.specs.declared.sig.Sig.{Sig}
+use Rattle.keri_outside.specs.declared.limits.Limits.{Limits}
 use Rattle.keri_outside.specs.declared.signing.Signing.{Signing}
+use Rattle.journal.specs.declared.journal.Journal.{Journal}
+use Rattle.journal.specs.declared.mode.Mode.TheVariants.{Local}
+use Rattle.run_outside.specs.Makings.{AreMakings}
+use Rattle.run_outside.specs.Told.{Told}
 use Rattle.message_feed.specs.declared.text_close.TextClose.{TextClose}
 use Rattle.message_feed.specs.declared.text_close.TextClose.TheVariants as text
 use Rattle.plan_answer.specs.declared.answer.PlanAnswer.{PlanAnswer}
@@ -14,10 +20,15 @@ use Rattle.plan_answer.specs.Answers.{CountsFaults}
 use Rattle.run_status.specs.declared.besides.Besides.{Besides}
 use Rattle.run_status.specs.declared.close.Close.{Close}
 use Rattle.run_status.specs.declared.close.Close.TheVariants.{ReadFault, VerifierFault}
-use Rattle.run_status.specs.Readers.{SourceTold}
+use Rattle.run_status.specs.Readers.{Reader, SourceTold}
 use Rattle.run_status.specs.Status.{nothing_besides}
-use Rattle.keri_roles.specs.Closes.{is_through}
-use Rattle.keri_roles.specs.Made.{MadeFrom, IsDue, IsDueBy, WasRead, close_of, found_in}
+use Rattle.reader_threads.specs.declared.last_round.LastRound.{LastRound}
+use Rattle.reader_threads.specs.Given.{Given}
+use Rattle.core_roles.specs.CoreTold.{HasBoth, IsToldBy}
+use Rattle.core_roles.specs.Through.{is_through}
+use Rattle.core_roles.proofs.Causes.{lacks, regroup}
+use Rattle.core_roles.proofs.CompleteOver.{not_so, told_one}
+use Rattle.keri_roles.specs.Made.{MadeFrom, IsDue, IsDueBy, WasRead, close_of, found_in, makings_behind}
 use Rattle.run_record.specs.Run.{SignerTold, is_out}
 use Rattle.run_record.specs.Seen.{signer_seen}
 
@@ -94,6 +105,13 @@ fourth_of false true c e = refl
 fourth_of false false true e = refl
 fourth_of false false false e = rw e refl
 
+-- one of two tests amid others is passed
+pub middle : (a b c d : Bool) → (b || (c || false)) ≡ true → (a || (b || (c || (d || false)))) ≡ true
+middle true b c d e = refl
+middle false true c d e = refl
+middle false false true d e = refl
+middle false false false d e = cc
+
 -- what is seen of a signer
 module _ {S : Type 0} (gives : S → Key → List ℕ → Option Sig) (signings : S → Option (List Signing)) (faults : S → ℕ) where
   pub signer_none : (signer : Option S) → is_none (signer_seen gives signings faults signer) ≡ is_none signer
@@ -104,3 +122,13 @@ module _ {S : Type 0} (gives : S → Key → List ℕ → Option Sig) (signings 
       → IfSome (signer_seen gives signings faults signer) (λ s. s.gives ≡ told)
   gives_seen None told e = tt
   gives_seen (Some s) told e = e
+
+-- of the log behind which a plan is answered
+module _ {S G : Type 0} (plan log helper : List ℕ) (plan_source : Option S) (given : Given) (signer : Option G) (reader : Reader) (rest : LastRound) (journal : Journal) (limits : Limits) (before after : Told) where
+  pub log_there : AreMakings (makings_behind plan log helper plan_source given.source given.verifier signer) before after
+      → IsToldBy Local limits (given ∷ []) (reader ∷ []) rest journal → (Rose before.faults after.faults → ⊥) → HasBoth reader
+  log_there makes t none =
+      let source = is_none given.source in
+      let verifier = is_none given.verifier in
+      let lack = not_so (lacks (given ∷ [])) (λ e. makes.rose (middle (is_none plan_source) source verifier (is_none signer) (regroup source verifier false ∙ e))) none in
+      All-head HasBoth reader [] (told_one Local limits given reader rest journal t lack)

@@ -1,68 +1,19 @@
--- No reader of a command that only reads closes by the fault of a signer, of a disk, or of a sink.
-use Rattle.std.proofs.Common.{◌≡◌, ◌≢◌, ℕ, inl, inr, Bool, true, false, ◌||◌, List, [], ◌∷◌, ◌+◌, Option, Some, None, refl, sym, ◌∙◌, ap}
-use Rattle.std.specs.List.{list_any}
+-- No reader of `check`, `make` or `gen` closes by the fault of a signer, of a disk, or of a sink.
+use Rattle.std.proofs.Common.{◌≡◌, ◌≢◌, ℕ, false, ◌||◌, List, [], ◌∷◌, Option, Some, None, refl, ◌∙◌, ap}
 use Rattle.cesr_codes.specs.declared.digest.Digest.{Digest}
-use Rattle.cesr_stream.specs.declared.message.Message.{Message}
 use Rattle.keri_outside.specs.declared.limits.Limits.{Limits}
-use Rattle.journal.specs.declared.mode.Mode.{Mode}
 use Rattle.journal.specs.declared.refusal.Refusal.{Refusal}
-use Rattle.journal.specs.Feeds.{FeedEach}
-use Rattle.journal.specs.History.{Told as ToldEntry}
 use Rattle.message_feed.specs.declared.text_close.TextClose.{TextClose}
 use Rattle.message_feed.specs.declared.text_close.TextClose.TheVariants as text
 use Rattle.run_status.specs.declared.close.Close.{Close}
-use Rattle.run_status.specs.declared.close.Close.TheVariants.{End, Bad, ReadFault, VerifierFault, SignerFault, DiskFault, WriteFault, Malformed, Full, OutOfMemory}
-use Rattle.run_status.specs.Readers.{HasClose, Reader, SourceTold, VerifierTold, close_found}
-use Rattle.run_outside.specs.Told.{Told}
+use Rattle.run_status.specs.declared.close.Close.TheVariants.{End, ReadFault, SignerFault, DiskFault, WriteFault, Full, OutOfMemory}
+use Rattle.run_status.specs.Readers.{Reader, SourceTold, VerifierTold}
 use Rattle.keri_roles.specs.Check.{IsChecked, OwesChecks}
 use Rattle.keri_roles.specs.Commands.{IsGenerated}
-use Rattle.reader_threads.specs.Fed.{ClosesStream, ReadEach, ReadsBy, ends_of}
-use Rattle.reader_threads.specs.Given.{Given}
-use Rattle.reader_threads.specs.declared.last_round.LastRound.{LastRound}
-use Rattle.keri_roles.specs.CoreTold.{ReadsToCore}
 use Rattle.keri_roles.specs.Generated.{made_of}
 use Rattle.keri_roles.specs.Made.{IsMade, WasRead, close_of}
-use Rattle.keri_roles.specs.Work.{Work}
-
--- a reader closes so only where it serves
-abbrev pub is_serving : Close → Bool
-is_serving close = (close_found close).signer_failed || ((close_found close).disk_failed || (close_found close).sink_failed)
-
-abbrev pub some_serves : List Reader → Bool
-some_serves readers = list_any (λ r. is_serving r.close) readers
-
-or_true : (a b : Bool) → a ≡ true → (a || b) ≡ true
-or_true true b e = refl
-or_true false b e = cc
-
-or_false : (a b : Bool) → a ≡ false → b ≡ false → (a || b) ≡ false
-or_false false b e f = f
-or_false true b e f = cc
-
-behind : (a b : Bool) → (a || b) ≡ false → b ≡ false
-behind false b e = e
-behind true b e = cc
-
--- where none serves, none closes so
-pub has_none : (at : Close) → is_serving at ≡ true → (readers : List Reader) → some_serves readers ≡ false → HasClose at readers → ⊥
-has_none at serves [] none h = h
-has_none at serves (reader ∷ readers) none (inl this) =
-    let clash : true ≡ false = sym (or_true (is_serving reader.close) (some_serves readers) (ap is_serving this ∙ serves)) ∙ none in cc
-has_none at serves (reader ∷ readers) none (inr later) = has_none at serves readers (behind (is_serving reader.close) (some_serves readers) none) later
-
--- what holds of none of these closes holds of one that isn't of serving
-module _ (Closes : Close → Type 0) (signer : Closes SignerFault → ⊥) (disk : Closes DiskFault → ⊥) (sink : Closes WriteFault → ⊥) where
-  reads_only : (close : Close) → Closes close → is_serving close ≡ false
-  reads_only End c = refl
-  reads_only (Bad bad) c = refl
-  reads_only ReadFault c = refl
-  reads_only VerifierFault c = refl
-  reads_only SignerFault c = absurd (signer c)
-  reads_only DiskFault c = absurd (disk c)
-  reads_only WriteFault c = absurd (sink c)
-  reads_only (Malformed place) c = refl
-  reads_only Full c = refl
-  reads_only OutOfMemory c = refl
+use Rattle.core_roles.specs.Work.{Work}
+use Rattle.core_roles.proofs.Never.{each_serves, is_serving, or_false, reads_only, some_serves}
 
 module _ (limits : Limits) (held : Option (List ℕ)) (verifier : Option VerifierTold) (refused : List Refusal) (seen : List Digest) where
   abbrev closing_so : Option SourceTold → Close → Reader
@@ -81,27 +32,6 @@ module _ (limits : Limits) (held : Option (List ℕ)) (verifier : Option Verifie
       (check_never DiskFault (λ e. cc) (λ e. cc) (λ s text o. o.1.closes) source owed)
       (check_never WriteFault (λ e. cc) (λ e. cc) (λ s text o. o.1.closes) source owed) close o
 
-module _ (limits : Limits) (told : List ToldEntry) (most number : ℕ) (rest : LastRound) (reader : Reader) (bytes : List ℕ) (offered : List Message) where
-  told_only : (source : Option SourceTold) (verifier : Option VerifierTold) → ReadsBy limits told most number rest source verifier reader bytes offered
-      → is_serving reader.close ≡ false
-  told_only None None r = ap (λ x. is_serving x.close) r.0
-  told_only None (Some verifier) r = ap is_serving r.0.close_is
-  told_only (Some source) None r = ap (λ x. is_serving x.close) r.0
-  told_only (Some source) (Some verifier) r = reads_only
-      (λ close. close ≢ OutOfMemory → ClosesStream limits told most number source r.source_left verifier r.verifier_left bytes offered close)
-      (λ c. (c (λ e. cc)).closes) (λ c. (c (λ e. cc)).closes) (λ c. (c (λ e. cc)).closes) reader.close r.closes
-
-module _ (limits : Limits) (told : List ToldEntry) (most : ℕ) (rest : LastRound) where
-  pub each_serves : (number : ℕ) (read : List (List ℕ)) (given : List Given) (readers : List Reader) (feeds : FeedEach limits told number (ends_of read readers))
-      → ReadEach limits told most rest number read given readers feeds → some_serves readers ≡ false
-  each_serves number [] [] [] feeds each = refl
-  each_serves number [] [] (reader ∷ readers) feeds each = absurd each
-  each_serves number [] (g ∷ given) readers feeds each = absurd each
-  each_serves number (bytes ∷ read) [] readers feeds each = absurd each
-  each_serves number (bytes ∷ read) (g ∷ given) [] feeds each = absurd each
-  each_serves number (bytes ∷ read) (g ∷ given) (reader ∷ readers) feeds each = or_false (is_serving reader.close) (some_serves readers)
-      (told_only limits told most number rest reader bytes _ g.source g.verifier each.0) (each_serves (number + 1) read given readers feeds.1 each.1)
-
 text_closes : (closed : TextClose) → is_serving (close_of closed) ≡ false
 text_closes text.End = refl
 text_closes text.ReadFault = refl
@@ -115,9 +45,6 @@ text_only most held bytes (Some source) close r = rw r.closes (text_closes r.clo
 pub check_serves : (name : List ℕ) (work : Work) → IsChecked name work → some_serves work.readers ≡ false
 check_serves name work c = ap some_serves c.one ∙ or_false (is_serving c.reader.close) false
     (check_only work.before.limits (work.before.holds name) c.reader.verifier c.reader.refused c.reader.seen c.reader.source work.owed c.reader.close c.owes) refl
-
-pub told_serves : (mode : Mode) (IsProvided : List Given → Told → Told → Type 0) (work : Work) → ReadsToCore mode IsProvided work → some_serves work.readers ≡ false
-told_serves mode IsProvided work t = each_serves _ _ _ t.rest 0 t.journal.read t.given work.readers t.journal.fed.fed.each t.journal.each
 
 pub made_serves : (helper plan : List ℕ) (log : Option (List ℕ)) (work : Work) → IsMade helper plan log work → some_serves work.readers ≡ false
 made_serves helper plan None work m = ap some_serves m.one ∙ or_false (is_serving m.reader.close) false

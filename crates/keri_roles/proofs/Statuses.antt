@@ -14,19 +14,21 @@ use Rattle.run_status.specs.Readers.{HasClose, Reader, SinkTold, SourceTold}
 use Rattle.run_status.specs.Status.{nothing_besides}
 use Rattle.run_status.proofs.Causes.{faults_have_causes, words_refused}
 use Rattle.keri_roles.specs.Commands.{IsRunOf, IsUnbegun, CarriesOut}
-use Rattle.keri_roles.specs.CoreTold.{fails_last}
-use Rattle.keri_roles.specs.Made.{IsMade, given_alone, given_behind, last_close}
+use Rattle.core_roles.specs.CoreTold.{fails_last, last_close}
+use Rattle.keri_roles.specs.Made.{IsMade, given_alone, given_behind}
 use Rattle.keri_roles.specs.Rehearsed.{IsRehearsed, Serves, serving_close, serving_status}
 use Rattle.run_record.specs.Run.{AreCausedBy, DoorFails, DoorRose, Settles, Run, HasCauses, SignerFails, VerifierRose}
-use Rattle.keri_roles.specs.Work.{LinksTold, Work, work_in}
-use Rattle.keri_roles.specs.LinksTold.{AreUnseated}
+use Rattle.core_roles.specs.Work.{LinksTold, Work, work_in}
+use Rattle.core_roles.specs.LinksTold.{AreUnseated}
 use Rattle.run_record.specs.Seen.{disk_seen}
 use Rattle.witness_role.proofs.WitnessedCauses.{witnessed_causes}
 use Rattle.keri_roles.proofs.ConvertedCauses.{converted_causes}
-use Rattle.keri_roles.proofs.Causes.{check_caused, door_rose, files_caused, files_unfailed, generated_caused, linked_caused, linked_door, linked_unfailed, made_caused, made_rose, made_signer, rehearsed_caused, told_rose}
-use Rattle.keri_roles.proofs.BlamedCauses.{blamed_caused, blamed_rose, blamed_serves}
+use Rattle.core_roles.proofs.Causes.{door_rose, files_caused, files_unfailed, linked_caused, linked_door, linked_unfailed, told_rose}
+use Rattle.keri_roles.proofs.Causes.{check_caused, generated_caused, made_caused, made_rose, made_signer, rehearsed_caused}
+use Rattle.core_roles.proofs.BlamedCauses.{blamed_caused, blamed_rose, blamed_serves}
 use Rattle.keri_roles.proofs.Made.{due_finds}
-use Rattle.keri_roles.proofs.Never.{check_serves, generated_serves, has_none, made_serves, some_serves, told_serves}
+use Rattle.core_roles.proofs.Never.{has_none, some_serves, told_serves}
+use Rattle.keri_roles.proofs.Never.{check_serves, generated_serves, made_serves}
 
 -- what a command finds that reads to a core: whether there is a conflict, whether an identifier isn't known, whether a verifier failed
 -- in the last round, whether its door failed, and nothing else

@@ -13,7 +13,7 @@ use Rattle.keri_roles.specs.MessageLines.{AreLinesOf}
 use Rattle.keri_roles.specs.Closes.{Closes, ending_text}
 use Rattle.run_record.specs.NoJournal.{no_journal}
 use Rattle.run_status.specs.Readers.{Reader, SourceTold}
-use Rattle.keri_roles.specs.Work.{Work, MakesSource, Owes}
+use Rattle.core_roles.specs.Work.{Work, MakesSource, Owes}
 use Rattle.run_status.specs.Status.{nothing_besides}
 
 -- A stream was read: the text has the lines of its messages, and then how reading closed.

@@ -1,5 +1,5 @@
 -- How the reading of a source closed.
-use Rattle.std.specs.Prelude.{ℕ, Bool, true, false, List, []}
+use Rattle.std.specs.Prelude.{ℕ, List, []}
 use Rattle.std.specs.declared.option.Option.{Option}
 use Rattle.cesr_stream.specs.Reading.{Reading}
 use Rattle.message_feed.specs.declared.feed_close.FeedClose.TheVariants.{End as FeedEnd, Bad as FeedBad, ReadFault as FeedReadFault, Full as FeedFull}
@@ -34,16 +34,3 @@ ending_text reader DiskFault = []
 ending_text reader WriteFault = []
 ending_text reader (Malformed place) = []
 ending_text reader OutOfMemory = []
-
--- the reader came to the end of its stream, or to what is refused of it
-abbrev pub is_through : Close → Bool
-is_through End = true
-is_through (Bad bad) = true
-is_through ReadFault = false
-is_through VerifierFault = false
-is_through SignerFault = false
-is_through DiskFault = false
-is_through WriteFault = false
-is_through (Malformed place) = false
-is_through Full = false
-is_through OutOfMemory = false

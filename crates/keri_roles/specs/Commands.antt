@@ -1,81 +1,32 @@
 -- What each command does, and what a run of the program does.
-use Rattle.std.specs.Prelude.{◌≡◌, ◌≢◌, ℕ, ◌∷◌, ◌⊎◌, true, false, Bool, List, [], codes, IfSome}
+use Rattle.std.specs.Prelude.{◌≡◌, ◌≢◌, ℕ, ◌∷◌, ◌⊎◌, true, List, [], codes, IfSome}
 use Rattle.std.specs.declared.option.Option.{Option}
 use Rattle.std.specs.declared.option.Option.TheVariants.{None, Some}
-use Rattle.cesr_codes.specs.declared.prefix.Prefix.{Prefix}
 use Rattle.command_words.specs.Inputs.{links, named}
 use Rattle.command_words.specs.Words.{Asked, blame, check, convert, export, generate, make, rehearse, validate, watch, witness}
-use Rattle.run_outside.specs.Told.{Told}
-use Rattle.reader_threads.specs.Given.{Given}
-use Rattle.journal.specs.declared.mode.Mode.TheVariants.{Full, Local}
+use Rattle.journal.specs.declared.mode.Mode.TheVariants.{Full}
 use Rattle.journal.specs.Accepted.{accepted}
 use Rattle.journal.specs.Journals.{told_by}
 use Rattle.report_lines.specs.Lines.{stream_text}
-use Rattle.validator_core.specs.View.{CoreView}
-use Rattle.watcher_core.specs.Evidence.{IsEvidenceText, ReadsAsEvidence}
 use Rattle.run_status.specs.declared.close.Close.TheVariants.{ReadFault, VerifierFault}
 use Rattle.run_status.specs.declared.besides.Besides.{Besides}
-use Rattle.keri_roles.specs.Agreement.{IsAgreed}
 use Rattle.keri_roles.specs.Check.{IsChecked}
-use Rattle.keri_roles.specs.Confluence.{ComesToTheSame, IsConfluent}
 use Rattle.keri_roles.specs.Converted.{IsConverted}
 use Rattle.reader_threads.specs.declared.last_round.LastRound.{LastRound}
 use Rattle.reader_threads.specs.declared.last_round.LastRound.TheVariants.{VerifierFailed}
-use Rattle.keri_roles.specs.CoreTold.{AreProvided, HadMemory, IsOverCore, IsToldBy, finds_conflict, finds_unknown}
-use Rattle.keri_roles.specs.LinksTold.{AreLinked, AreUnseated}
-use Rattle.keri_roles.specs.Blamed.{IsBlamed}
-use Rattle.keri_roles.specs.Exports.{ExportsTo}
+use Rattle.core_roles.specs.CoreTold.{HadMemory, IsToldBy}
+use Rattle.core_roles.specs.Blamed.{IsBlamed}
+use Rattle.core_roles.specs.Commands.{AreLinksValidated, AreLinksWatched, IsExported, IsValidated, IsWatched}
 use Rattle.keri_roles.specs.Generated.{counts_of, made_of}
 use Rattle.keri_roles.specs.Made.{IsMade}
 use Rattle.run_record.specs.NoJournal.{no_journal}
 use Rattle.keri_roles.specs.Rehearsed.{IsRehearsed}
-use Rattle.keri_roles.specs.Reports.{Reports}
 use Rattle.run_status.specs.Readers.{Reader}
 use Rattle.run_record.specs.Run.{HasNoLinks, Run, Settles}
-use Rattle.keri_roles.specs.Work.{LinksTold, Work, work_in}
+use Rattle.core_roles.specs.Work.{LinksTold, Work, work_in}
 use Rattle.run_status.specs.Status.{nothing_besides}
 use Rattle.keri_disk.specs.Images.{DiskTold}
 use Rattle.witness_role.specs.Witnessed.{IsWitnessed}
-
--- A core that wants receipts and seals is told what its readers read, and the text is its report. What it accepts agrees with what any
--- other validator accepts; and what it accepts and reports any other does that was told the same.
-pub record IsValidatedBy (IsProvided : List Given → Told → Told → Type 0) (door_failed : Bool) (work : Work) : Type 0 where
-  pub over : IsOverCore Full Reports finds_conflict IsProvided door_failed work
-  pub agreed : IsAgreed (told_by over.told.journal.fed.held work.journal.entries)
-  pub confluent : IsConfluent over.told.journal.fed.held work.journal.entries
-
--- `validate --helper HELPER FILE..`: the readers are of the files
-abbrev pub IsValidated : List ℕ → List (List ℕ) → Work → Type 0
-IsValidated helper names = IsValidatedBy (AreProvided helper names) false
-
--- `validate --helper HELPER --listen ADDRESS --links COUNT`: the readers are of links, unless there was no memory for readers
-abbrev pub AreLinksValidated : List ℕ → List ℕ → ℕ → LinksTold → Work → Type 0
-AreLinksValidated helper address count taken work = IsValidatedBy (AreLinked helper address count taken) taken.failed work ⊎ AreUnseated address count taken work
-
--- The evidence is of the core alone, whatever was refused and however the readers closed; and whoever reads it reads just the
--- bodies in conflict with their signatures.
-pub record IsEvidence (core : CoreView) (readers : List Reader) (text : List ℕ) (has_conflicts : Bool) : Type 0 where
-  pub text_is : IsEvidenceText core text has_conflicts
-  pub reads : ReadsAsEvidence core text
-
--- A core that wants neither receipts nor seals is told what its readers read, and the text is its evidence. What it accepts, and which
--- bodies are in conflict, is so for any other watcher that was told the same.
-pub record IsWatchedBy (IsProvided : List Given → Told → Told → Type 0) (door_failed : Bool) (work : Work) : Type 0 where
-  pub over : IsOverCore Local IsEvidence finds_conflict IsProvided door_failed work
-  pub confluent : ComesToTheSame Local (told_by over.told.journal.fed.held work.journal.entries)
-
--- `watch --helper HELPER FILE..`: the readers are of the files
-abbrev pub IsWatched : List ℕ → List (List ℕ) → Work → Type 0
-IsWatched helper names = IsWatchedBy (AreProvided helper names) false
-
--- `watch --helper HELPER --listen ADDRESS --links COUNT`: the readers are of links, unless there was no memory for readers
-abbrev pub AreLinksWatched : List ℕ → List ℕ → ℕ → LinksTold → Work → Type 0
-AreLinksWatched helper address count taken work = IsWatchedBy (AreLinked helper address count taken) taken.failed work ⊎ AreUnseated address count taken work
-
--- `export --helper HELPER --prefix PREFIX FILE..`: a core that wants receipts and seals is told what the files hold, and the text is the
--- export of the identifier, or says that it isn't known.
-abbrev pub IsExported : List ℕ → Prefix → List (List ℕ) → Work → Type 0
-IsExported helper prefix names = IsOverCore Full (ExportsTo prefix) finds_unknown (AreProvided helper names) false
 
 -- `gen --seed SEED --logs LOGS --events EVENTS`: a core that wants receipts and seals is told the stream that is made of the
 -- seed, with the verdicts of the rehearsal. Nothing is made of the outside, and no fault of a source or a verifier is answered.

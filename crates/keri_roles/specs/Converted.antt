@@ -14,7 +14,7 @@ use Rattle.run_status.specs.Status.{nothing_besides, status_of}
 use Rattle.run_record.specs.NoJournal.{no_journal}
 use Rattle.keri_roles.specs.Rehearsed.{Serving}
 use Rattle.run_record.specs.Run.{HasNoLinks, Run}
-use Rattle.keri_roles.specs.Work.{MakesSource}
+use Rattle.core_roles.specs.Work.{MakesSource}
 
 -- what a source and a sink tell
 abbrev pub ends_of : SourceTold → SinkTold → EndsTold

@@ -23,20 +23,19 @@ use Rattle.plan_answer.specs.Asked.{LogTold}
 use Rattle.report_lines.specs.Lines.{plan_text}
 use Rattle.run_status.specs.declared.besides.Besides.{Besides}
 use Rattle.run_status.specs.declared.close.Close.{Close}
-use Rattle.run_status.specs.declared.close.Close.TheVariants.{End, ReadFault, VerifierFault, Full, OutOfMemory}
+use Rattle.run_status.specs.declared.close.Close.TheVariants.{End, ReadFault, Full, OutOfMemory}
 use Rattle.run_status.specs.Readers.{Reader, SourceTold}
 use Rattle.run_status.specs.Settling.{refuses}
 use Rattle.run_status.specs.Status.{nothing_besides}
 use Rattle.reader_threads.specs.Given.{Given}
 use Rattle.reader_threads.specs.declared.last_round.LastRound.{LastRound}
-use Rattle.reader_threads.specs.declared.last_round.LastRound.TheVariants.{NoneFailed, VerifierFailed, OutOfMemory as NoMemory}
 use Rattle.reader_threads.specs.declared.providers.Providers.{Providers}
-use Rattle.keri_roles.specs.Closes.{is_through}
-use Rattle.keri_roles.specs.CoreTold.{HasBoth, IsGiven, IsToldBy, core_of, fails_last}
+use Rattle.core_roles.specs.Through.{is_through}
+use Rattle.core_roles.specs.CoreTold.{HasBoth, IsGiven, IsToldBy, core_of, fails_last, last_close}
 use Rattle.run_record.specs.NoJournal.{no_journal}
 use Rattle.run_outside.specs.Makings.{AreMakings}
 use Rattle.run_record.specs.Run.{SignerTold, is_out}
-use Rattle.keri_roles.specs.Work.{Work}
+use Rattle.core_roles.specs.Work.{Work}
 use Rattle.keri_roles.specs.declared.make.MakeWords.{MakeWords}
 
 -- how the reader of a text closes
@@ -161,12 +160,6 @@ pub record IsMadeAlone (helper plan : List ℕ) (work : Work) : Type 0 where
   pub signs : IfSome work.signer (λ s. s.gives ≡ work.before.gives helper)
   pub none_told : work.journal ≡ no_journal
   pub owes : IsDue (given_alone helper text work) (reader.close ∷ []) work.signer work.owed work.besides
-
--- what a last round came to, as a reader closes: by its verifier's fault, for want of memory, or by neither
-abbrev pub last_close : LastRound → Close
-last_close NoneFailed = End
-last_close VerifierFailed = VerifierFault
-last_close NoMemory = OutOfMemory
 
 -- Behind a log: the makings are the plan's source, the log's source, the verifier and the signer, and the journal was told by
 -- the log's reader, of the number 0, which has its source and its verifier where no making failed. Where its verifier failed in the last

@@ -14,7 +14,7 @@ use Rattle.run_status.specs.declared.close.Close.TheVariants.{End as EndClose, M
 use Rattle.run_status.specs.Readers.{Reader, SourceTold, SinkTold, sink_seen}
 use Rattle.run_record.specs.NoJournal.{no_journal}
 use Rattle.run_record.specs.Run.{HasNoLinks, Run}
-use Rattle.keri_roles.specs.Work.{MakesSource}
+use Rattle.core_roles.specs.Work.{MakesSource}
 
 -- the end of serving as a reader's close
 abbrev pub serving_close : Served → Close

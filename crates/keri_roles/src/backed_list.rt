@@ -1,6 +1,6 @@
 //! What a validator's core accepts, against what any other accepts.
 ghost use Rattle.std.specs.Prelude.{◌≡◌};
-ghost use Rattle.keri_roles.specs.Agreement.{IsAgreed};
+ghost use Rattle.core_roles.specs.Agreement.{IsAgreed};
 ghost use Rattle.validator_core.specs.View.{accepted_by, told_of};
 ghost use Rattle.journal.specs.Journals.{chosen};
 

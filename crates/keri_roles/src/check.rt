@@ -2,13 +2,12 @@
 ghost use Rattle.std.specs.Prelude.{◌≡◌, ◌<◌, [], None, IsSome, option_map, string_bytes};
 ghost use Rattle.std.specs.Vec.{vec_capacity};
 ghost use Rattle.keri_roles.specs.Check.{ChecksAny, ChecksFile, ChecksHeld, IsChecked};
-ghost use Rattle.keri_roles.specs.Work.{MakesSource, Owes};
+ghost use Rattle.core_roles.specs.Work.{MakesSource, Owes};
 
 use crate::checker::Checker;
-use crate::outcome::Outcome;
 use crate::reads::Reads;
-use crate::works::Works;
 use crate::{Close, ReaderEnd};
+use core_roles::{Outcome, Works};
 use keri_outside::{Failed, Limits, Source, Verifier};
 use lists::Items;
 use message_feed::feed_messages;

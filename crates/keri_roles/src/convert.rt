@@ -5,7 +5,7 @@ ghost use Rattle.run_status.specs.Readers.{reader_seen};
 ghost use Rattle.item_conversion.specs.Converts.{Converts};
 ghost use Rattle.keri_roles.specs.Converted.{ConvertsFile, IsConverted};
 ghost use Rattle.keri_roles.specs.Converted as specs;
-ghost use Rattle.keri_roles.specs.Work.{MakesSource};
+ghost use Rattle.core_roles.specs.Work.{MakesSource};
 
 use crate::serves::Serves;
 use crate::{Close, Done, ReaderEnd, Runs};

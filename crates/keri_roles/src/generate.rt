@@ -9,10 +9,8 @@ ghost use Rattle.keri_roles.specs.Commands.{IsGenerated};
 ghost use Rattle.keri_roles.specs.Generated as specs;
 ghost use Rattle.keri_roles.specs.Planned.{HasCounts, TellsMade, made_close};
 
-use crate::one_seat::{OneSeat, ReadAlone};
-use crate::outcome::Outcome;
-use crate::works::Works;
 use crate::{Close, ReaderEnd};
+use core_roles::{OneSeat, Outcome, ReadAlone, Works};
 use journal::Mode;
 use keri_outside::{Gate, Limits, Rehearsal};
 use log_maker::{LogMaker, totals_of};

@@ -4,13 +4,10 @@ ghost use Rattle.std.specs.Vec.{vec_capacity};
 ghost use Rattle.keri_roles.specs.Made.{IsMadeAlone, IsMadeBehind, IsMadeBy};
 
 use crate::ReaderEnd;
-use crate::last_round::{close_of, verifier_failed};
 use crate::make_parts::{MakeBehindParts, MakeParts, make_alone, make_behind};
 use crate::message_due::{MessageDue, message_due};
-use crate::one_seat::{OneSeat, ReadAlone};
-use crate::outcome::{Outcome, SignedOutcome};
 use crate::text_reader::{TextReader, read_whole};
-use crate::works::Works;
+use core_roles::{OneSeat, Outcome, ReadAlone, SignedOutcome, Works, close_of, verifier_failed};
 use journal::Mode;
 use plan_answer::ReadLog;
 use run_outside::Outside;

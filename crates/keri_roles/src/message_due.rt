@@ -2,7 +2,7 @@
 ghost use Rattle.std.specs.Prelude.{◌≡◌, IfSome, IfOk, OnErr, IsErr, is_none};
 ghost use Rattle.std.specs.List.{list_any, list_all};
 ghost use Rattle.keri_specs.specs.Told.{HasNone};
-ghost use Rattle.keri_roles.specs.Closes.{is_through};
+ghost use Rattle.core_roles.specs.Through.{is_through};
 ghost use Rattle.run_record.specs.Run.{is_out};
 ghost use Rattle.keri_roles.specs.PlanDues.{GivesTheSame, HasAnswer, IsAnswered, IsDueTo};
 

@@ -6,23 +6,20 @@ ghost use Rattle.command_words.specs.Words as asks_for;
 ghost use Rattle.command_words.specs.Words.{IsInForm, asked_by};
 ghost use Rattle.keri_roles.specs.Commands.{CarriesOut, IsRunOf, IsWritten, RefusesWords};
 ghost use Rattle.run_record.specs.Run.{HasCauses, HasNoSecond, asked_in};
-ghost use Rattle.keri_roles.specs.Work.{IsSettled};
+ghost use Rattle.core_roles.specs.Work.{IsSettled};
 ghost use Rattle.run_record.specs.NoJournal.{no_journal};
 
-use crate::blame::{BlameWords, blame_files};
 use crate::check::check;
 use crate::convert::convert;
-use crate::export::export_files;
 use crate::generate::{StreamPlan, generate};
 use crate::make::{MakeWords, make};
-use crate::outcome::{LinkedOutcome, Outcome, RivalOutcome, SignedOutcome};
-use crate::over_core::FileWords;
-use crate::over_links::LinkWords;
 use crate::rehearse::rehearse;
-use crate::validate::{validate, validate_links};
-use crate::watch::{watch, watch_links};
 use crate::{Done, ReaderEnd, Runs};
 use command_words::{Command, Inputs, Links, command_of};
+use core_roles::{
+    BlameWords, FileWords, LinkWords, LinkedOutcome, Outcome, RivalOutcome, SignedOutcome,
+    blame_files, export_files, validate_files, validate_links, watch_files, watch_links,
+};
 use keri_outside::Door;
 use report_lines::WORDS;
 use run_outside::Outside;
@@ -179,7 +176,7 @@ fn carry_validate<R: Threads + Wait + Sync, O: Outside>(
     match inputs {
         Inputs::Named(files) => {
             let names = files.as_slice();
-            let outcome = validate(rt, alloc, FileWords { helper, names }, outside)?;
+            let outcome = validate_files(rt, alloc, FileWords { helper, names }, outside)?;
             Ok(finish(alloc, unsigned(outcome), outside))
         }
         Inputs::Links(Links { address, count }) => {
@@ -213,7 +210,7 @@ fn carry_watch<R: Threads + Wait + Sync, O: Outside>(
     match inputs {
         Inputs::Named(files) => {
             let names = files.as_slice();
-            let outcome = watch(rt, alloc, FileWords { helper, names }, outside)?;
+            let outcome = watch_files(rt, alloc, FileWords { helper, names }, outside)?;
             Ok(finish(alloc, unsigned(outcome), outside))
         }
         Inputs::Links(Links { address, count }) => {

@@ -4,7 +4,7 @@ ghost use Rattle.std.specs.Vec.{vec_capacity};
 ghost use Rattle.verifier_link.specs.Serving.{IsServed};
 ghost use Rattle.keri_roles.specs.Rehearsed.{IsRehearsed, ServesInput};
 ghost use Rattle.keri_roles.specs.Rehearsed as specs;
-ghost use Rattle.keri_roles.specs.Work.{MakesSource};
+ghost use Rattle.core_roles.specs.Work.{MakesSource};
 
 use crate::serves::Serves;
 use crate::{Close, Done, ReaderEnd, Runs};

@@ -3,7 +3,7 @@ use Rattle.std.proofs.lemmas.List.Elements.{All-weaker}
 use Rattle.event_body.specs.Judging.{SpellsEvent}
 use Rattle.acceptance.specs.Standing.{IsHeld}
 use Rattle.journal.specs.Journals.{InOrder}
-use Rattle.keri_roles.proofs.Agreed.{is_agreed}
+use Rattle.core_roles.proofs.Agreed.{is_agreed}
 use Rattle.keri_roles.proofs.backed_list.backed.Goals as goal
 
 pub returns-clause-agreed : goal.returns-clause-agreed

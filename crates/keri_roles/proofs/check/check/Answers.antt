@@ -4,7 +4,7 @@ use Rattle.run_outside.specs.declared.making.MakingKind.TheVariants.{Source}
 use Rattle.keri_roles.specs.Check.{ChecksReader}
 use Rattle.run_status.specs.Readers.{reader_seen, source_seen}
 use Rattle.run_outside.specs.Makings.{AreMakings}
-use Rattle.keri_roles.proofs.CoreTold.{owes_it, seen_none}
+use Rattle.core_roles.proofs.CoreTold.{owes_it, seen_none}
 use Rattle.keri_roles.proofs.check.check.Goals as goal
 
 pub returns-clause-checked : goal.returns-clause-checked

@@ -3,7 +3,7 @@ use Rattle.run_status.specs.declared.close.Close.TheVariants.{End}
 use Rattle.run_status.specs.declared.reader_end.ReaderEnd.{ReaderEnd}
 use Rattle.run_status.specs.Readers.{reader_seen, source_seen}
 use Rattle.keri_roles.specs.Converted.{conversion_status}
-use Rattle.keri_roles.proofs.CoreTold.{seen_none}
+use Rattle.core_roles.proofs.CoreTold.{seen_none}
 use Rattle.keri_roles.proofs.convert.convert.Goals as goal
 
 pub returns : goal.returns

@@ -5,10 +5,10 @@ use Rattle.keri_outside.specs.Rehearsal.{rehearsal_says}
 use Rattle.validator_core.specs.View.{accepted_by}
 use Rattle.run_status.specs.Readers.{Reader, reader_seen}
 use Rattle.reader_threads.specs.Told.{AllTold}
-use Rattle.keri_roles.specs.CoreTold.{IsJournalOf}
+use Rattle.core_roles.specs.CoreTold.{IsJournalOf}
 use Rattle.keri_roles.specs.Generated.{made_of}
 use Rattle.keri_roles.specs.Planned.{made_close}
-use Rattle.keri_roles.proofs.CoreTold.{is_told_by, same_journal}
+use Rattle.core_roles.proofs.CoreTold.{is_told_by, same_journal}
 use Rattle.keri_roles.proofs.Generated.{accepted_of, closing, made_not_asked, made_not_read, never, none_counted, owes_line, tells_closed}
 use Rattle.keri_roles.proofs.generate.generate.Goals as goal
 

@@ -4,7 +4,7 @@ use Rattle.run_outside.specs.declared.making.MakingKind.TheVariants.{Source, Sig
 use Rattle.run_status.specs.Readers.{reader_seen, source_seen}
 use Rattle.run_outside.specs.Makings.{AreMakings}
 use Rattle.run_record.specs.Seen.{signer_seen}
-use Rattle.keri_roles.proofs.CoreTold.{seen_none}
+use Rattle.core_roles.proofs.CoreTold.{seen_none}
 use Rattle.keri_roles.proofs.Made.{gives_seen, signer_none}
 use Rattle.keri_roles.proofs.make.made_alone.Goals as goal
 

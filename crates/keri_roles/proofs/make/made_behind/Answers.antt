@@ -4,13 +4,12 @@ use Rattle.journal.specs.declared.mode.Mode.TheVariants.{Local}
 use Rattle.run_status.specs.Readers.{reader_seen, source_seen, verifier_seen}
 use Rattle.reader_threads.specs.Given.{Given, given_by}
 use Rattle.reader_threads.specs.Told.{AllTold}
-use Rattle.keri_roles.specs.CoreTold.{IsJournalOf}
+use Rattle.core_roles.specs.CoreTold.{IsJournalOf}
 use Rattle.keri_roles.specs.Made.{makings_behind}
 use Rattle.run_record.specs.Seen.{signer_seen}
-use Rattle.keri_roles.proofs.CompleteOver.{log_there}
-use Rattle.keri_roles.proofs.CoreTold.{is_told_by, same_journal, seen_none}
-use Rattle.keri_roles.proofs.Made.{gives_seen, signer_none}
-use Rattle.keri_roles.proofs.Provided.{is_given}
+use Rattle.core_roles.proofs.CoreTold.{is_told_by, same_journal, seen_none}
+use Rattle.keri_roles.proofs.Made.{gives_seen, log_there, signer_none}
+use Rattle.core_roles.proofs.Provided.{is_given}
 use Rattle.keri_roles.proofs.make.made_behind.Goals as goal
 
 pub unwrap-requires : goal.unwrap-requires

@@ -2,7 +2,7 @@ use Rattle.std.proofs.Common.{◌≡◌, refl, [], ◌∷◌, None, option_map, 
 use Rattle.run_status.specs.declared.close.Close.TheVariants.{End}
 use Rattle.run_status.specs.declared.reader_end.ReaderEnd.{ReaderEnd}
 use Rattle.run_status.specs.Readers.{source_seen}
-use Rattle.keri_roles.proofs.CoreTold.{seen_none}
+use Rattle.core_roles.proofs.CoreTold.{seen_none}
 use Rattle.keri_roles.proofs.rehearse.rehearse.Goals as goal
 
 pub returns : goal.returns

@@ -1,0 +1,7 @@
+use Rattle.std.proofs.Common.{◌≡◌, take, string_bytes}
+use Rattle.core_roles.specs.Reports.{refused_lines}
+use Rattle.core_roles.proofs.report.refused_text.Given as goal
+
+-- the lines of the messages so far
+abbrev pub invariant-loop-refusal : goal.invariant-loop-refusal
+invariant-loop-refusal l = string_bytes l.text ≡ refused_lines l.number (take l.refusal-index l.refused)

@@ -1,0 +1,11 @@
+use Rattle.core_roles.proofs.Agreed.{is_agreed}
+use Rattle.core_roles.proofs.Confluence.{is_confluent}
+use Rattle.core_roles.proofs.OverCore.{ok_then}
+use Rattle.core_roles.proofs.validate.validate_files.Goals as goal
+
+pub returns-clause-validated : goal.returns-clause-validated
+returns-clause-validated g c = ok_then c.over_core.result c.over_core.ensures.done (λ outcome over. record {
+  over = over;
+  agreed = is_agreed over.told.journal.fed.held outcome.journal.entries over.told.journal.fed.reading.spelled over.told.journal.fed.in_order;
+  confluent = is_confluent over.told.journal.fed.held outcome.journal.entries over.told.journal.fed.reading.spelled over.told.journal.fed.in_order;
+})

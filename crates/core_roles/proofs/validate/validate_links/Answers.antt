@@ -1,0 +1,15 @@
+use Rattle.std.proofs.Common.{inl, inr}
+use Rattle.core_roles.proofs.Agreed.{is_agreed}
+use Rattle.core_roles.proofs.Confluence.{is_confluent}
+use Rattle.core_roles.proofs.OverCore.{ok_then}
+use Rattle.core_roles.proofs.validate.validate_links.Goals as goal
+
+pub returns-clause-validated : goal.returns-clause-validated
+returns-clause-validated g c = ok_then c.over_links.result c.over_links.ensures.done (λ linked done. elim done [
+  | inl over ↦ inl (record {
+    over = over;
+    agreed = is_agreed over.told.journal.fed.held linked.outcome.journal.entries over.told.journal.fed.reading.spelled over.told.journal.fed.in_order;
+    confluent = is_confluent over.told.journal.fed.held linked.outcome.journal.entries over.told.journal.fed.reading.spelled over.told.journal.fed.in_order;
+  })
+  | inr unseated ↦ inr unseated
+])

@@ -1,0 +1,12 @@
+pub mod Work
+pub mod Through
+pub mod CoreTold
+pub mod LinksTold
+pub mod OneSeats
+pub mod CommandTexts
+pub mod Reports
+pub mod Agreement
+pub mod Confluence
+pub mod Blamed
+pub mod Exports
+pub mod Commands

@@ -1,0 +1,24 @@
+//! What the last round comes to for a command.
+ghost use Rattle.std.specs.Prelude.{◌≡◌};
+ghost use Rattle.core_roles.specs.CoreTold.{fails_last, last_close};
+
+use crate::Close;
+use reader_threads::LastRound;
+
+/// Whether a verifier failed in the last round.
+pub fn verifier_failed(rest: LastRound) -> bool
+    ensures { result ≡ fails_last rest }
+{
+    matches!(rest, LastRound::VerifierFailed)
+}
+
+/// How a reader closes by what the last round came to.
+pub fn close_of(rest: LastRound) -> Close
+    ensures { result ≡ last_close rest }
+{
+    match rest {
+        LastRound::NoneFailed => Close::End,
+        LastRound::VerifierFailed => Close::VerifierFault,
+        LastRound::OutOfMemory => Close::OutOfMemory,
+    }
+}
