@@ -1,4 +1,4 @@
--- Why a reader closed by a fault that told a core, by what its command did.
+-- Why a reader that told a core closed by a fault, by what its command did.
 use Rattle.std.proofs.Common.{◌≡◌, ◌≢◌, ℕ, inl, inr, Bool, true, false, ◌||◌, List, [], ◌∷◌, ◌+◌, Option, Some, None, refl, sym, ◌∙◌, ap, subst}
 use Rattle.std.specs.Prelude.{is_none, IfSome, IsSomeAnd, MatchOption}
 use Rattle.std.specs.List.{list_any}

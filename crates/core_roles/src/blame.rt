@@ -5,7 +5,7 @@ ghost use Rattle.journal.specs.declared.mode.Mode.TheVariants.{Full};
 ghost use Rattle.core_roles.specs.Blamed.{HadRoom, IsBlamedBy, IsBlamesText};
 ghost use Rattle.core_roles.specs.CoreTold.{AreProvided, fails_last};
 
-use crate::last_round::verifier_failed;
+use crate::last_round::verifier_failed_last;
 use crate::one_seat::{OneSeat, ReadAlone};
 use crate::outcome::{Outcome, RivalOutcome};
 use crate::providers::provide;
@@ -154,7 +154,7 @@ fn text_of<S: Source, V: Verifier>(
 fn some_failed(one: LastRound, other: LastRound) -> bool
     ensures { result ≡ (fails_last one || fails_last other) }
 {
-    verifier_failed(one) || verifier_failed(other)
+    verifier_failed_last(one) || verifier_failed_last(other)
 }
 
 // There was no memory for lines.

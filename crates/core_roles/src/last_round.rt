@@ -6,14 +6,14 @@ use crate::Close;
 use reader_threads::LastRound;
 
 /// Whether a verifier failed in the last round.
-pub fn verifier_failed(rest: LastRound) -> bool
+pub fn verifier_failed_last(rest: LastRound) -> bool
     ensures { result ≡ fails_last rest }
 {
     matches!(rest, LastRound::VerifierFailed)
 }
 
 /// How a reader closes by what the last round came to.
-pub fn close_of(rest: LastRound) -> Close
+pub fn last_close_of(rest: LastRound) -> Close
     ensures { result ≡ last_close rest }
 {
     match rest {

@@ -18,12 +18,12 @@ mod works;
 
 pub use blame::{BlameWords, blame_files};
 pub use export::export_files;
-pub use last_round::{close_of, verifier_failed};
+pub use last_round::{last_close_of, verifier_failed_last};
 pub use one_seat::{OneSeat, ReadAlone};
 pub use outcome::{LinkedOutcome, Outcome, RivalOutcome, SignedOutcome};
 pub use over_core::FileWords;
 pub use over_links::LinkWords;
-pub use run_status::{Close, ReaderEnd};
+pub(crate) use run_status::{Close, ReaderEnd};
 pub use validate::{validate_files, validate_links};
 pub use watch::{watch_files, watch_links};
 pub use works::Works;

@@ -4,7 +4,7 @@ ghost use Rattle.run_status.specs.Readers.{reader_seen};
 ghost use Rattle.core_roles.specs.CoreTold.{AreProvided, IsJournalOf, IsOverCore, OwesText, plain};
 
 use crate::core_text::{CommandText, CoreText};
-use crate::last_round::verifier_failed;
+use crate::last_round::verifier_failed_last;
 use crate::outcome::Outcome;
 use crate::providers::providers_for;
 use crate::works::Works;
@@ -78,7 +78,7 @@ pub(crate) fn outcome_of<S: Source, V: Verifier, T: CoreText>(
     let text = text.text_of(alloc, &core, readers.as_slice(), rest);
     let (owed, is_found) = owe(text);
     let besides = Besides {
-        verifier_failed: verifier_failed(rest),
+        verifier_failed: verifier_failed_last(rest),
         door_failed,
         ..T::finds(is_found)
     };

@@ -7,7 +7,9 @@ use crate::ReaderEnd;
 use crate::make_parts::{MakeBehindParts, MakeParts, make_alone, make_behind};
 use crate::message_due::{MessageDue, message_due};
 use crate::text_reader::{TextReader, read_whole};
-use core_roles::{OneSeat, Outcome, ReadAlone, SignedOutcome, Works, close_of, verifier_failed};
+use core_roles::{
+    OneSeat, Outcome, ReadAlone, SignedOutcome, Works, last_close_of, verifier_failed_last,
+};
 use journal::Mode;
 use plan_answer::ReadLog;
 use run_outside::Outside;
@@ -116,7 +118,7 @@ fn made_behind<R: Threads + Wait + Sync, O: Outside>(
         core: &core,
         is_refused: second.is_refused(),
     };
-    let closes = [first.close, second.close, close_of(rest)];
+    let closes = [first.close, second.close, last_close_of(rest)];
     let MessageDue { owed, besides } = message_due(alloc, &text, Some(log), &closes, &mut signer);
     readers.push(first).unwrap();
     readers.push(second).unwrap();
@@ -125,7 +127,7 @@ fn made_behind<R: Threads + Wait + Sync, O: Outside>(
         journal: core.into_journal(),
         owed,
         besides: Besides {
-            verifier_failed: verifier_failed(rest),
+            verifier_failed: verifier_failed_last(rest),
             ..besides
         },
     };

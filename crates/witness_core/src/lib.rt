@@ -17,3 +17,4 @@ pub use outcome::Outcome;
 pub use start::StartFault;
 pub use witness::Witness;
 pub use witness_fault::WitnessFault;
+pub use witness_receipts::{Fate, Receipt};

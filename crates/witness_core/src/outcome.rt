@@ -75,7 +75,7 @@ pub(crate) fn take_message<D: Disk + Drop, V: Verifier, S: Signer>(
     ensures gives { S.gives signer.new ≡ S.gives signer.old }
     ensures asked { AsksSigner key.now core.old core.new message.now
         (S.signings signer.old) (S.signings signer.new) result }
-    ensures stored_first { (S.signings signer.new ≡ S.signings signer.old) ⊎ AreStored (history_of core.new)
+    ensures stored_where_asked { (S.signings signer.new ≡ S.signings signer.old) ⊎ AreStored (history_of core.new)
         shelf.new.list shelf.new.limits shelf.new.broken (D.told shelf.new.disk) room.new }
     ensures disk_same { OnOk result ((D.told shelf.new.disk).faults ≡ (D.told shelf.old.disk).faults) }
     ensures verifier_same { OnOk result (V.faults verifier.new ≡ V.faults verifier.old) }

@@ -140,8 +140,8 @@ impl<D: Disk + Drop> Witness<D> {
         ensures asked { AsksSigner self.old.key self.old.core self.new.core message.now
             (S.signings signer.old) (S.signings signer.new) result }
 
-        // The signer is asked only once all that is accepted is stored, whatever the call answers.
-        ensures stored_first { (S.signings signer.new ≡ S.signings signer.old)
+        // Where the signer was asked, all that is accepted is stored, whatever the call answers.
+        ensures stored_where_asked { (S.signings signer.new ≡ S.signings signer.old)
             ⊎ AreListed self.new.core self.new.shelf.list }
 
         // A fault is answered where its own count rose; the other counts are as they were.

@@ -20,11 +20,10 @@ use Rattle.witness_core.specs.declared.witness_fault.WitnessFault.{WitnessFault}
 use Rattle.witness_core.specs.declared.witness_fault.WitnessFault.TheVariants as fault
 use Rattle.witness_link.specs.Calls.{AreCalls, Call, digests_in, messages_in, receipts_in, refusals_in, refused_as, seen_in, signings_in, text_of}
 use Rattle.witness_link.specs.Links.{LinkTold, Standing, Terms, counts_of, standing_of, terms_of}
-use Rattle.witness_link.specs.Serving.{AreFronts, FailsToPut, FailsToTake, GoesOn, HasEnded, HasServed, Serves, StopsBy, StopsTaking, Wrote, signed_for}
+use Rattle.witness_link.specs.Serving.{FailsToPut, FailsToTake, GoesOn, HasEnded, HasServed, Serves, StopsBy, StopsTaking, Wrote, signed_for}
 use Rattle.witness_link.specs.Stored.{IsLawfulList, IsOfStored}
 use Rattle.witness_link.specs.Taking.{Counted, FailsAt, IsWhole}
 use Rattle.witness_link.proofs.Asked.{asks_on, calls_close, signings_more, untold_asked}
-use Rattle.witness_link.proofs.Fronts.{fronts_more, fronts_none}
 use Rattle.witness_link.proofs.Storing.{front_of, of_longer, stores_more, stores_none}
 
 -- calls, and then others
@@ -82,8 +81,6 @@ module _ (first mid new : LinkTold) (a : Serves first mid) (on : GoesOn first mi
       stores = stores_more first.witness.list first.witness.disk mid.witness.core mid.witness.list mid.witness.disk new.witness.core new.witness.list new.witness.disk
           a.stores on.is_whole.listed b.stores;
       lawful = b.lawful;
-      fronts = fronts_more (terms_of first) first.witness mid.witness new.witness a.stores on.is_whole.listed b.stores a.calls a.behind a.taken on.now a.of_stored a.fronts b.calls
-          (subst (λ t. AreFronts t new.witness.disk mid.witness.list b.stores.accepted (standing_of mid.witness) b.calls) a.same_terms b.fronts);
       of_stored = subst (All (IsOfStored (terms_of first) new.witness.list)) (sym (flat_map-append (λ (c : Call). c.receipts) a.calls b.calls))
           (All-append (IsOfStored (terms_of first) new.witness.list) (receipts_in a.calls) (receipts_in b.calls)
           (All-weaker (IsOfStored (terms_of first) mid.witness.list) (IsOfStored (terms_of first) new.witness.list)
@@ -110,7 +107,7 @@ module _ (first mid new : LinkTold) (a : Serves first mid) (on : GoesOn first mi
       fails = subst (λ t. FailsAt t b.behind last new.witness why) a.same_terms f.fails;
       signed = subst (λ told. AsksSigner first.witness.key b.behind.core new.witness.core last told new.signings (Err why)) (signed_more b.calls)
           (subst (λ (key : Key). AsksSigner key b.behind.core new.witness.core last (signed_for mid b.calls) new.signings (Err why)) same_key f.signed);
-      stored_first = ⊎_elim (λ none. inl (none ∙ signed_more b.calls)) inr f.stored_first;
+      stored_where_asked = ⊎_elim (λ none. inl (none ∙ signed_more b.calls)) inr f.stored_where_asked;
       wrote = wrote_more b.calls f.wrote;
       counted = subst (λ k. Counted k (counts_of new) why) on.counts_same f.counted;
       sink_same = f.sink_same ∙ on.sink_same;
@@ -187,7 +184,6 @@ served_none link whole stand lawful knows = record {
     seen_are = sym (append-nil link.seen);
     stores = stores_none link.witness.list link.witness.disk link.witness.core knows stand whole.listed;
     lawful = lawful;
-    fronts = fronts_none (terms_of link) link.witness link.witness (stores_none link.witness.list link.witness.disk link.witness.core knows stand whole.listed);
     of_stored = All-nil (IsOfStored (terms_of link) link.witness.list);
     same_terms = refl;
     inquired = λ none. untold_asked link.inquiries link.witness.core;

@@ -25,12 +25,11 @@ use Rattle.run_status.specs.declared.close.Close.TheVariants.{End, Bad, ReadFaul
 use Rattle.witness_core.specs.declared.witness_fault.WitnessFault.{WitnessFault}
 use Rattle.witness_core.specs.declared.witness_fault.WitnessFault.TheVariants as fault
 use Rattle.witness_link.specs.Calls.{Call, messages_in, receipts_in}
-use Rattle.witness_link.specs.Links.{LinkTold, WitnessTold, standing_of, terms_of, told_of_link}
+use Rattle.witness_link.specs.Links.{LinkTold, WitnessTold, terms_of, told_of_link}
 use Rattle.witness_link.specs.Offered.{Finishes, HasStopped, HasTaken, LendsSame, link_told}
 use Rattle.witness_link.specs.Served.{ClosesLink, ReadsAll, ServesLink, StopsAtNext}
 use Rattle.witness_link.specs.Serving.{GoesOn, HasEnded, HasServed, Serves, StopsTaking}
 use Rattle.witness_link.specs.declared.link.Link.{Link}
-use Rattle.witness_link.proofs.Fronts.{held_behind}
 use Rattle.witness_link.proofs.Storing.{held_each}
 use Rattle.witness_link.proofs.Streams.{all_from, at_bad, at_end, first_none, first_of, some_open}
 
@@ -47,7 +46,6 @@ module _ (limits : Limits) (source_old source_new : SourceTold) (old new : LinkT
     messages_are = are;
     closes = closes;
     held = held_each (terms_of old) old.witness.list old.witness.disk new.witness.core new.witness.list new.witness.disk (receipts_in s.calls) s.stores s.lawful s.of_stored;
-    amid = held_behind (terms_of old) new.witness.disk old.witness.list s.stores.accepted (standing_of old.witness) s.calls s.lawful s.fronts;
   }
 
   -- there was no memory to read on, and no message was open

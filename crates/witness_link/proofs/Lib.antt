@@ -1,6 +1,5 @@
 pub mod Holding
 pub mod Storing
-pub mod Fronts
 pub mod Streams
 pub mod Witnessed
 pub mod Asked

@@ -3,7 +3,6 @@ use Rattle.std.proofs.Common.{◌≡◌, ◌⊎◌, ℕ, List, [], ◌∷◌, �
 use Rattle.std.specs.Prelude.{All, take}
 use Rattle.std.proofs.lemmas.List.Elements.{All-nil}
 use Rattle.cesr_stream.specs.declared.message.Message.{Message}
-use Rattle.keri_disk.proofs.Moments.{KnowsNow}
 use Rattle.keri_specs.specs.Causes.{Rose}
 use Rattle.keri_specs.specs.Told.{after}
 use Rattle.keri_specs.proofs.Putting.{after-nil}
@@ -24,7 +23,6 @@ use Rattle.witness_link.specs.Links.{LinkTold, counts_of, standing_of, terms_of}
 use Rattle.witness_link.specs.Serving.{FailsToTake, HasEnded, HasServed, Serves, StopsBy, signed_for}
 use Rattle.witness_link.specs.Stored.{HoldsAccepted, IsLawfulList, IsOfStored}
 use Rattle.witness_link.specs.Taking.{Counted, FailsAt, IsWhole}
-use Rattle.witness_link.proofs.Fronts.{fronts_none, fronts_one}
 use Rattle.witness_link.proofs.Holding.{of_fate}
 
 module _ (old new : LinkTold) (m : Message) (stores : StoresOn old.witness.list old.witness.disk new.witness.core new.witness.list new.witness.disk) (lawful : IsLawfulList stores.accepted) (same : terms_of new ≡ terms_of old)
@@ -34,8 +32,8 @@ module _ (old new : LinkTold) (m : Message) (stores : StoresOn old.witness.list 
   Asks why = AsksSigner old.witness.key old.witness.core new.witness.core m old.signings new.signings (Err why)
 
   -- it was asked for nothing, or all that is accepted is stored
-  abbrev StoredFirst : Type 0
-  StoredFirst = (new.signings ≡ old.signings) ⊎ AreListed new.witness.core new.witness.list
+  abbrev StoredWhereAsked : Type 0
+  StoredWhereAsked = (new.signings ≡ old.signings) ⊎ AreListed new.witness.core new.witness.list
 
   module _ (refused_same : new.refused ≡ old.refused) (seen_same : new.seen ≡ old.seen) (written_same : new.written ≡ old.written) (sink_same : new.sink_faults ≡ old.sink_faults) where
     serves_nothing : Serves old new
@@ -47,49 +45,44 @@ module _ (old new : LinkTold) (m : Message) (stores : StoresOn old.witness.list 
       seen_are = seen_same ∙ sym (append-nil old.seen);
       stores = stores;
       lawful = lawful;
-      fronts = fronts_none (terms_of old) old.witness new.witness stores;
       of_stored = All-nil (IsOfStored (terms_of old) new.witness.list);
       same_terms = same;
       inquired = λ none. asked;
     }
 
-    fails_so : (why : WitnessFault) → FailsAt (terms_of old) (standing_of old.witness) m new.witness why → Counted (counts_of old) (counts_of new) why → Asks why → StoredFirst → FailsToTake old new serves_nothing why m
+    fails_so : (why : WitnessFault) → FailsAt (terms_of old) (standing_of old.witness) m new.witness why → Counted (counts_of old) (counts_of new) why → Asks why → StoredWhereAsked → FailsToTake old new serves_nothing why m
     unfolding serves_nothing
-    fails_so why fails counted signed stored_first = record {
+    fails_so why fails counted signed stored = record {
       fails = fails;
       signed = subst (λ told. AsksSigner old.witness.key old.witness.core new.witness.core m told new.signings (Err why)) (after-nil old.signings) signed;
-      stored_first = ⊎_elim (λ none. inl (none ∙ after-nil old.signings)) inr stored_first;
+      stored_where_asked = ⊎_elim (λ none. inl (none ∙ after-nil old.signings)) inr stored;
       wrote = written_same ∙ after-nil old.written;
       counted = counted;
       sink_same = sink_same;
     }
 
-    stops_so : (why : WitnessFault) → FailsAt (terms_of old) (standing_of old.witness) m new.witness why → Counted (counts_of old) (counts_of new) why → Asks why → StoredFirst → StopsBy old new serves_nothing (m ∷ []) (close_by why)
+    stops_so : (why : WitnessFault) → FailsAt (terms_of old) (standing_of old.witness) m new.witness why → Counted (counts_of old) (counts_of new) why → Asks why → StoredWhereAsked → StopsBy old new serves_nothing (m ∷ []) (close_by why)
     unfolding serves_nothing
-    stops_so fault.DiskFault fails counted signed stored_first = (m, refl, fails_so fault.DiskFault fails counted signed stored_first)
-    stops_so fault.SignerFault fails counted signed stored_first = (m, refl, fails_so fault.SignerFault fails counted signed stored_first)
-    stops_so fault.VerifierFault fails counted signed stored_first = (m, refl, fails_so fault.VerifierFault fails counted signed stored_first)
-    stops_so fault.Full fails counted signed stored_first = (m, refl, fails_so fault.Full fails counted signed stored_first)
-    stops_so fault.OutOfMemory fails counted signed stored_first = (m, refl, fails_so fault.OutOfMemory fails counted signed stored_first)
-    stops_so fault.Broken fails counted signed stored_first = absurd fails
+    stops_so fault.DiskFault fails counted signed stored = (m, refl, fails_so fault.DiskFault fails counted signed stored)
+    stops_so fault.SignerFault fails counted signed stored = (m, refl, fails_so fault.SignerFault fails counted signed stored)
+    stops_so fault.VerifierFault fails counted signed stored = (m, refl, fails_so fault.VerifierFault fails counted signed stored)
+    stops_so fault.Full fails counted signed stored = (m, refl, fails_so fault.Full fails counted signed stored)
+    stops_so fault.OutOfMemory fails counted signed stored = (m, refl, fails_so fault.OutOfMemory fails counted signed stored)
+    stops_so fault.Broken fails counted signed stored = absurd fails
 
     -- FAILED: the witness failed at it
     pub one_failed : (why : WitnessFault) (close : Close) → close ≡ close_by why → FailsAt (terms_of old) (standing_of old.witness) m new.witness why → Counted (counts_of old) (counts_of new) why
-        → Asks why → StoredFirst → HasEnded old new close (m ∷ [])
-    one_failed why close is fails counted signed stored_first =
-        record { serves = serves_nothing; stops = subst (StopsBy old new serves_nothing (m ∷ [])) (sym is) (stops_so why fails counted signed stored_first) }
+        → Asks why → StoredWhereAsked → HasEnded old new close (m ∷ [])
+    one_failed why close is fails counted signed stored =
+        record { serves = serves_nothing; stops = subst (StopsBy old new serves_nothing (m ∷ [])) (sym is) (stops_so why fails counted signed stored) }
 
-  module _ (knows : KnowsNow new.witness.disk) (fate : Fate) (receipts : List Receipt) (holds : HoldsAccepted new.witness.core new.witness.list)
+  module _ (fate : Fate) (receipts : List Receipt) (holds : HoldsAccepted new.witness.core new.witness.list)
       (refused_more : new.refused ≡ old.refused ++ refused_as m.place fate) (seen_more : new.seen ≡ old.seen ++ seen_in fate) (whole : IsWhole new.witness) (counts_same : counts_of new ≡ counts_of old)
       (signed : new.signings ≡ after old.signings (signings_of old.witness.key (due_by old.witness.key old.witness.core new.witness.core m fate))) where
     abbrev call : Call
     call = record { message = m; fate = fate; receipts = receipts; behind = standing_of new.witness }
 
     module _ (is : IsCall (terms_of old) (standing_of old.witness) call) where
-      stored_one : All (IsOfStored (terms_of old) new.witness.list) (receipts ++ [])
-      stored_one = subst (All (IsOfStored (terms_of old) new.witness.list)) (sym (append-nil receipts))
-          (of_fate (terms_of old) old.witness.core new.witness.core new.witness.list m receipts holds fate is.tells is.receipts_are)
-
       serves_one : Serves old new
       serves_one = record {
         calls = call ∷ [];
@@ -99,8 +92,8 @@ module _ (old new : LinkTold) (m : Message) (stores : StoresOn old.witness.list 
         seen_are = seen_more ∙ ap (λ l. old.seen ++ l) (sym (append-nil (seen_in fate)));
         stores = stores;
         lawful = lawful;
-        fronts = fronts_one (terms_of old) old.witness new.witness stores call knows refl stored_one;
-        of_stored = stored_one;
+        of_stored = subst (All (IsOfStored (terms_of old) new.witness.list)) (sym (append-nil receipts))
+            (of_fate (terms_of old) old.witness.core new.witness.core new.witness.list m receipts holds fate is.tells is.receipts_are);
         same_terms = same;
         inquired = λ none. asked;
       }

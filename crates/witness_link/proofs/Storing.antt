@@ -95,21 +95,17 @@ of_longer terms list longer r g is = subst (λ l. IsOfStored terms l r) (sym g.1
 lawful_front : (xs ys all : List (List ℕ)) → all ≡ xs ++ ys → IsLawfulList all → IsLawfulList xs
 lawful_front xs ys all is lawful b c has has' level = let whole = subst IsLawfulList is lawful in whole b c (has_more xs ys b has) (has_more xs ys c has') level
 
--- a file that holds the first of what was accepted, and all of a list that has the event of each receipt, has these too
-pub held_first : (terms : Terms) (list accepted : List (List ℕ)) (receipts : List Receipt) → Grown list accepted → IsLawfulList accepted → All (IsOfStored terms list) receipts
-    → (c : List ℕ) → HoldsFirst list accepted c → HoldsEach terms receipts c
-held_first terms list accepted receipts among lawful of c f =
-    let stored = take f.count accepted in
-    let long : length stored ≡ f.count = length-take-le f.count accepted f.no_more in
-    let g = fronts list stored among.0 (drop f.count accepted) (sym among.1 ∙ sym (take-append-drop f.count accepted)) (omega (arith, long, f.no_fewer)) in
+-- HELD: each image has the event of each receipt
+pub held_each : (terms : Terms) (first : List (List ℕ)) (disk_first : DiskTold) (core : CoreView) (list : List (List ℕ)) (disk : DiskTold) (receipts : List Receipt)
+    → (s : StoresOn first disk_first core list disk) → IsLawfulList s.accepted → All (IsOfStored terms list) receipts → (c : List ℕ) → disk.images c → HoldsEach terms receipts c
+held_each terms first disk_first core list disk receipts s lawful of c now =
+    let f = s.images c now in
+    let stored = take f.count s.accepted in
+    let long : length stored ≡ f.count = length-take-le f.count s.accepted f.no_more in
+    let g = fronts list stored s.first.0 (drop f.count s.accepted) (sym s.first.1 ∙ sym (take-append-drop f.count s.accepted)) (omega (arith, long, f.no_fewer)) in
     record {
       stored = stored;
       holds = f.holds;
       each = All-weaker (IsOfStored terms list) (IsOfStored terms stored) (λ r is. of_longer terms list stored r g is) receipts of;
-      lawful = lawful_front stored (drop f.count accepted) accepted (sym (take-append-drop f.count accepted)) lawful;
+      lawful = lawful_front stored (drop f.count s.accepted) s.accepted (sym (take-append-drop f.count s.accepted)) lawful;
     }
-
--- HELD: each image has the event of each receipt
-pub held_each : (terms : Terms) (first : List (List ℕ)) (disk_first : DiskTold) (core : CoreView) (list : List (List ℕ)) (disk : DiskTold) (receipts : List Receipt)
-    → (s : StoresOn first disk_first core list disk) → IsLawfulList s.accepted → All (IsOfStored terms list) receipts → (c : List ℕ) → disk.images c → HoldsEach terms receipts c
-held_each terms first disk_first core list disk receipts s lawful of c now = held_first terms list s.accepted receipts s.first lawful of c (s.images c now)

@@ -42,11 +42,6 @@ abbrev pub AreCalls : Terms → Standing → List Call → Standing → Type 0
 AreCalls terms old [] new = new ≡ old
 AreCalls terms old (call ∷ calls) new = IsCall terms old call × AreCalls terms call.behind calls new
 
--- how the witness stands when the last of them has ended, and as before where there is none
-abbrev pub standing_behind : Standing → List Call → Standing
-standing_behind old [] = old
-standing_behind old (call ∷ calls) = standing_behind call.behind calls
-
 -- their messages, and their receipts, in order
 abbrev pub messages_in : List Call → List Message
 messages_in calls = map (λ c. c.message) calls

@@ -11,11 +11,10 @@ use Rattle.keri_outside.specs.declared.signing.Signing.{Signing}
 use Rattle.run_status.specs.Readers.{SourceTold}
 use Rattle.validator_core.specs.View.{CoreView}
 
--- a witness's core, the list of its shelf, and the moment of its disk
+-- a witness's core, and the list of its shelf
 pub record Standing : Type 0 where
   pub core : CoreView
   pub list : List (List ℕ)
-  pub moment : ℕ
 
 -- what is seen of a witness
 pub record WitnessTold : Type 1 where
@@ -27,7 +26,7 @@ pub record WitnessTold : Type 1 where
   pub broken : Bool
 
 abbrev pub standing_of : WitnessTold → Standing
-standing_of witness = record { core = witness.core; list = witness.list; moment = witness.disk.moment }
+standing_of witness = record { core = witness.core; list = witness.list }
 
 -- what the witness goes by in all its calls: what its verifier says and what its signer gives, where they tell, its key and its
 -- limits

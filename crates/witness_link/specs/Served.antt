@@ -18,8 +18,8 @@ use Rattle.run_status.specs.declared.close.Close.TheVariants.{End, Bad, ReadFaul
 use Rattle.witness_core.specs.declared.witness_fault.WitnessFault.{WitnessFault}
 use Rattle.witness_core.specs.declared.witness_fault.WitnessFault.TheVariants as fault
 use Rattle.witness_link.specs.Calls.{messages_in, receipts_in}
-use Rattle.witness_link.specs.Links.{LinkTold, standing_of, terms_of}
-use Rattle.witness_link.specs.Serving.{FailsToPut, FailsToTake, GoesOn, HoldBehind, Serves}
+use Rattle.witness_link.specs.Links.{LinkTold, terms_of}
+use Rattle.witness_link.specs.Serving.{FailsToPut, FailsToTake, GoesOn, Serves}
 use Rattle.witness_link.specs.Stored.{HoldsEach}
 
 module _ (limits : Limits) (source_old source_new : SourceTold) (bytes : List ℕ) where
@@ -69,8 +69,7 @@ module _ (limits : Limits) (source_old source_new : SourceTold) (bytes : List �
     ClosesLink (Malformed place) = ⊥
 
 -- SERVES A LINK: The source gave these bytes, at most as many as may be, and maybe more. Their first messages were taken in order,
--- and the link closes by its cause. Whatever that is, each image of the disk has the event of each receipt; and each that a stop
--- leaves amid the serving has the event of each receipt of the messages whose calls had ended by then.
+-- and the link closes by its cause. Whatever that is, each image of the disk has the event of each receipt.
 pub record ServesLink (limits : Limits) (source_old source_new : SourceTold) (old new : LinkTold) (close : Close) : Type 0 where
   pub serves : Serves old new
   pub bytes : List ℕ
@@ -80,4 +79,3 @@ pub record ServesLink (limits : Limits) (source_old source_new : SourceTold) (ol
   pub messages_are : AreFirst limits bytes (messages_in serves.calls)
   pub closes : ClosesLink limits source_old source_new bytes old new serves close
   pub held : (c : List ℕ) → new.witness.disk.images c → HoldsEach (terms_of old) (receipts_in serves.calls) c
-  pub amid : HoldBehind (terms_of old) new.witness.disk (standing_of old.witness) serves.calls

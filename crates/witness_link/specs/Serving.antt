@@ -1,10 +1,9 @@
 -- What stands while a link is served.
-use Rattle.std.specs.Prelude.{◌≡◌, ◌⊎◌, ◌≤◌, ℕ, List, [], ◌∷◌, ◌++◌, All, length, take}
+use Rattle.std.specs.Prelude.{◌≡◌, ◌⊎◌, ℕ, List, [], ◌∷◌, ◌++◌, All, take}
 use Rattle.std.specs.declared.option.Option.{Option}
 use Rattle.std.specs.declared.result.Result.{Result}
 use Rattle.std.specs.declared.result.Result.TheVariants.{Ok, Err}
 use Rattle.cesr_stream.specs.declared.message.Message.{Message}
-use Rattle.keri_disk.specs.Images.{DiskTold}
 use Rattle.keri_outside.specs.declared.signing.Signing.{Signing}
 use Rattle.keri_specs.specs.Causes.{Rose}
 use Rattle.keri_specs.specs.Told.{after}
@@ -13,41 +12,19 @@ use Rattle.run_status.specs.declared.close.Close.TheVariants.{End, Bad, ReadFaul
 use Rattle.validator_core.specs.View.{open_of}
 use Rattle.witness_core.specs.Outcomes.{AsksSigner}
 use Rattle.witness_core.specs.Payloads.{AreListed}
-use Rattle.witness_core.specs.Storing.{Grown, HoldsFirst, StoresOn}
+use Rattle.witness_core.specs.Storing.{StoresOn}
 use Rattle.witness_core.specs.Telling.{AsksVerdicts}
 use Rattle.witness_core.specs.declared.witness_fault.WitnessFault.{WitnessFault}
 use Rattle.witness_core.specs.declared.witness_fault.WitnessFault.TheVariants as fault
-use Rattle.witness_receipts.specs.declared.receipt.Receipt.{Receipt}
-use Rattle.witness_link.specs.Calls.{AreCalls, Call, digests_in, messages_in, receipts_in, refusals_in, signings_in, standing_behind, text_of}
-use Rattle.witness_link.specs.Links.{LinkTold, Standing, Terms, counts_of, standing_of, terms_of}
-use Rattle.witness_link.specs.Stored.{HoldsEach, IsLawfulList, IsOfStored}
+use Rattle.witness_link.specs.Calls.{AreCalls, Call, digests_in, messages_in, receipts_in, refusals_in, signings_in, text_of}
+use Rattle.witness_link.specs.Links.{LinkTold, Standing, counts_of, standing_of, terms_of}
+use Rattle.witness_link.specs.Stored.{IsLawfulList, IsOfStored}
 use Rattle.witness_link.specs.Taking.{Counted, FailsAt, IsWhole}
 
--- STANDS: The witness stood so when a call had ended. Its list, which is no shorter than before all calls, is the first of what was
--- accepted, and has the event of each of these receipts; and from that moment on each image that a stop leaves stands for that list
--- and the first few of what was accepted since.
-pub record StandsBehind (terms : Terms) (disk : DiskTold) (old accepted : List (List ℕ)) (behind : Standing) (receipts : List Receipt) : Type 0 where
-  pub longer : length old ≤ length behind.list
-  pub among : Grown behind.list accepted
-  pub ended : behind.moment ≤ disk.moment
-  pub of_stored : All (IsOfStored terms behind.list) receipts
-  pub stops : (c : List ℕ) → disk.images_since behind.moment c → HoldsFirst behind.list accepted c
-
--- so it did when each of these calls had ended, and before the first
-abbrev pub AreFronts : Terms → DiskTold → List (List ℕ) → List (List ℕ) → Standing → List Call → Type 0
-AreFronts terms disk list accepted old calls =
-    (earlier later : List Call) → calls ≡ earlier ++ later → StandsBehind terms disk list accepted (standing_behind old earlier) (receipts_in earlier)
-
--- AMID: from the moment on at which one of these calls had ended, each image that a stop leaves has the event of each receipt of that
--- call and of those before it
-abbrev pub HoldBehind : Terms → DiskTold → Standing → List Call → Type 0
-HoldBehind terms disk old calls =
-    (earlier later : List Call) → calls ≡ earlier ++ later → (c : List ℕ) → disk.images_since (standing_behind old earlier).moment c → HoldsEach terms (receipts_in earlier) c
-
 -- SERVES: Messages were taken, one behind the other, and what became of them is noted. At each moment a stop leaves what was stored
--- before, and the first few of what was accepted since, which is lawful; and so it is behind each message. Each receipt is of a
--- stored event. Where no question was open before, the verifier was asked for the verdicts that the core was told since, in order,
--- and for nothing else, but maybe for the first question that is open now.
+-- before, and the first few of what was accepted since, which is lawful. Each receipt is of a stored event. Where no question was
+-- open before, the verifier was asked for the verdicts that the core was told since, in order, and for nothing else, but maybe for
+-- the first question that is open now.
 pub record Serves (old new : LinkTold) : Type 0 where
   pub calls : List Call
   pub behind : Standing
@@ -56,7 +33,6 @@ pub record Serves (old new : LinkTold) : Type 0 where
   pub seen_are : new.seen ≡ old.seen ++ digests_in calls
   pub stores : StoresOn old.witness.list old.witness.disk new.witness.core new.witness.list new.witness.disk
   pub lawful : IsLawfulList stores.accepted
-  pub fronts : AreFronts (terms_of old) new.witness.disk old.witness.list stores.accepted (standing_of old.witness) calls
   pub of_stored : All (IsOfStored (terms_of old) new.witness.list) (receipts_in calls)
   pub same_terms : terms_of new ≡ terms_of old
   pub inquired : open_of old.witness.core ≡ [] → AsksVerdicts old.inquiries new.inquiries old.witness.core new.witness.core
@@ -80,12 +56,12 @@ module _ (old new : LinkTold) (serves : Serves old new) where
     pub sink_same : new.sink_faults ≡ old.sink_faults
 
   -- All receipts were signed and written, and then the witness failed at a message. Of that one the signer was asked for the first
-  -- few receipts that are due, where it failed itself or there was no memory, and else for none; and for any only once all that is
-  -- accepted was stored.
+  -- few receipts that are due, where it failed itself or there was no memory, and else for none; and where it was asked for any, all
+  -- that is accepted is stored.
   pub record FailsToTake (why : WitnessFault) (last : Message) : Type 0 where
     pub fails : FailsAt (terms_of old) serves.behind last new.witness why
     pub signed : AsksSigner old.witness.key serves.behind.core new.witness.core last (signed_for old serves.calls) new.signings (Err why)
-    pub stored_first : (new.signings ≡ signed_for old serves.calls) ⊎ AreListed new.witness.core new.witness.list
+    pub stored_where_asked : (new.signings ≡ signed_for old serves.calls) ⊎ AreListed new.witness.core new.witness.list
     pub wrote : Wrote old new serves.calls
     pub counted : Counted (counts_of old) (counts_of new) why
     pub sink_same : new.sink_faults ≡ old.sink_faults

@@ -32,11 +32,11 @@ pub trait Witnessing {
         ensures same { (seen self.old).broken ≡ false → KeepsSame (seen self.old) (seen self.new) }
         ensures says { V.says verifier.new ≡ V.says verifier.old }
         ensures gives { G.gives signer.new ≡ G.gives signer.old }
-        // The signer is asked for just the receipts that are due, and only once all that is accepted is stored. The verifier is
-        // asked for just the verdicts that came.
+        // The signer is asked for just the receipts that are due, and where it was asked all that is accepted is stored. The
+        // verifier is asked for just the verdicts that came.
         ensures asked { AsksSigner (seen self.old).key (seen self.old).core (seen self.new).core message.now
             (G.signings signer.old) (G.signings signer.new) result }
-        ensures stored_first { (G.signings signer.new ≡ G.signings signer.old)
+        ensures stored_where_asked { (G.signings signer.new ≡ G.signings signer.old)
             ⊎ AreListed (seen self.new).core (seen self.new).list }
         ensures verdicts { AsksVerdicts (V.inquiries verifier.old) (V.inquiries verifier.new)
             (seen self.old).core (seen self.new).core };

@@ -1,7 +1,5 @@
 -- What a stop leaves through all links that a witness served.
 use Rattle.std.proofs.Common.{◌≡◌, ℕ, Bool, true, false, List, [], ◌∷◌, ◌++◌, Option, refl, sym, subst, append-nil}
-use Rattle.std.specs.Prelude.{All}
-use Rattle.std.proofs.lemmas.Grind.{flat_map-append}
 use Rattle.std.proofs.lemmas.List.Elements.{All-append, All-weaker}
 use Rattle.cesr_codes.specs.declared.key.Key.{Key}
 use Rattle.cesr_codes.specs.declared.sig.Sig.{Sig}
@@ -14,16 +12,16 @@ use Rattle.validator_core.specs.View.{open_of}
 use Rattle.witness_core.specs.Payloads.{AreListed}
 use Rattle.witness_core.specs.Storing.{Grown}
 use Rattle.witness_core.specs.Telling.{AsksVerdicts}
-use Rattle.witness_link.specs.Calls.{Call, receipts_in}
-use Rattle.witness_link.specs.Links.{LinkTold, Standing, WitnessTold, standing_of, terms_of}
+use Rattle.witness_receipts.specs.declared.receipt.Receipt.{Receipt}
+use Rattle.witness_link.specs.Calls.{receipts_in}
+use Rattle.witness_link.specs.Links.{LinkTold, Standing, standing_of, terms_of}
 use Rattle.witness_link.specs.Served.{ClosesLink}
 use Rattle.witness_link.specs.Serving.{Serves}
 use Rattle.witness_link.specs.Stored.{IsOfStored}
 use Rattle.witness_link.proofs.Asked.{asks_on, calls_close, untold_asked}
-use Rattle.witness_link.proofs.Fronts.{fronts_more, held_behind}
 use Rattle.witness_link.proofs.Storing.{front_of, held_each, of_longer, stores_more}
-use Rattle.witness_role.specs.ServedFile.{Left, seen_as}
-use Rattle.witness_role.specs.ServedLinks.{Between, ServedLink, ServesEach, ServesOne, StopsLeave, StoresThrough, calls_at, goes_on, link_terms}
+use Rattle.witness_role.specs.ServedFile.{Left}
+use Rattle.witness_role.specs.ServedLinks.{Between, ServedLink, ServesEach, ServesOne, StopsLeave, StoresThrough, goes_on, link_terms, receipts_due}
 
 -- behind a link after which the next one is asked for all that is accepted is stored
 stored_behind : (limits : Limits) (source_old source_new : SourceTold) (bytes : List ℕ) (old new : LinkTold) (serves : Serves old new) (close : Close)
@@ -65,63 +63,51 @@ module _ {D : Type 0} (told : D → DiskTold) (key : Key) (limits run_limits : L
   abbrev One : ServedLink → Between D → Between D → Type 0
   One = ServesOne told key limits run_limits says gives
 
-  abbrev Through : List Call → Left D → Left D → Type 0
+  abbrev Through : List Receipt → Left D → Left D → Type 0
   Through = StoresThrough told key limits run_limits says gives
 
-  abbrev at : (links : List ServedLink) (old new : Between D) → Each links old new → List Call
-  at = calls_at told key limits run_limits says gives
-
-  abbrev seen : Left D → WitnessTold
-  seen = seen_as told key limits
+  abbrev due : (links : List ServedLink) (old new : Between D) → Each links old new → List Receipt
+  due = receipts_due told key limits run_limits says gives
 
   -- one link
-  through_one : (link : ServedLink) (old new : Between D) (one : One link old new) → Through one.serves.serves.calls old.left new.left
+  through_one : (link : ServedLink) (old new : Between D) (one : One link old new) → Through (receipts_in one.serves.serves.calls) old.left new.left
   through_one link old new one = record {
     stores = one.serves.serves.stores;
     lawful = one.serves.serves.lawful;
-    fronts = one.serves.serves.fronts;
     of_stored = one.serves.serves.of_stored;
     held = one.serves.held;
-    amid = one.serves.amid;
   }
 
   -- a link, and then others, where all that was accepted was stored
-  through_both : (link : ServedLink) (old mid : Between D) (one : One link old mid) (later : List Call) (new : Left D) → one.serves.serves.behind ≡ standing_of (seen mid.left)
-      → AreListed mid.left.core mid.left.list → Through later mid.left new → Through (one.serves.serves.calls ++ later) old.left new
+  through_both : (first later : List Receipt) (old mid new : Left D) → Through first old mid → AreListed mid.core mid.list → Through later mid new
+      → Through (first ++ later) old new
   unfolding stores_more
-  through_both link old mid one later new now listed b =
-      let a = one.serves.serves in
+  through_both first later old mid new a listed b =
+      let longer : Grown mid.list new.list = front_of mid.list new.list b.stores.accepted b.stores.grown b.stores.first b.stores.longer in
       let terms = link_terms told key limits run_limits says gives in
-      let longer : Grown mid.left.list new.list = front_of mid.left.list new.list b.stores.accepted b.stores.grown b.stores.first b.stores.longer in
-      let stores = stores_more old.left.list (told old.left.disk) mid.left.core mid.left.list (told mid.left.disk) new.core new.list (told new.disk) a.stores listed b.stores in
-      let fronts = fronts_more terms (seen old.left) (seen mid.left) (seen new) a.stores listed b.stores a.calls a.behind a.taken now a.of_stored a.fronts later b.fronts in
-      let of = subst (All (IsOfStored terms new.list)) (sym (flat_map-append (λ (c : Call). c.receipts) a.calls later)) (All-append (IsOfStored terms new.list) (receipts_in a.calls) (receipts_in later)
-      (All-weaker (IsOfStored terms mid.left.list) (IsOfStored terms new.list) (λ r is. of_longer terms mid.left.list new.list r longer is) (receipts_in a.calls) a.of_stored) b.of_stored) in
+      let stores = stores_more old.list (told old.disk) mid.core mid.list (told mid.disk) new.core new.list (told new.disk) a.stores listed b.stores in
+      let of = All-append (IsOfStored terms new.list) first later
+      (All-weaker (IsOfStored terms mid.list) (IsOfStored terms new.list) (λ r is. of_longer terms mid.list new.list r longer is) first a.of_stored) b.of_stored in
       record {
         stores = stores;
         lawful = b.lawful;
-        fronts = fronts;
         of_stored = of;
-        held = held_each terms old.left.list (told old.left.disk) new.core new.list (told new.disk) (receipts_in (a.calls ++ later)) stores b.lawful of;
-        amid = held_behind terms (told new.disk) old.left.list b.stores.accepted (standing_of (seen old.left)) (a.calls ++ later) b.lawful fronts;
+        held = held_each terms old.list (told old.disk) new.core new.list (told new.disk) (first ++ later) stores b.lawful of;
       }
 
-  through_last : (link : ServedLink) (old mid new : Between D) (one : One link old mid) (none : new ≡ mid) → Through (one.serves.serves.calls ++ []) old.left new.left
+  through_last : (link : ServedLink) (old mid new : Between D) (one : One link old mid) (none : new ≡ mid) → Through (receipts_in one.serves.serves.calls ++ []) old.left new.left
   through_last link old mid new one none =
-      let calls = one.serves.serves.calls in
-      subst (λ (n : Between D). Through (calls ++ []) old.left n.left) (sym none) (subst (λ cs. Through cs old.left mid.left) (sym (append-nil calls)) (through_one link old mid one))
+      let receipts = receipts_in one.serves.serves.calls in
+      subst (λ (n : Between D). Through (receipts ++ []) old.left n.left) (sym none) (subst (λ rs. Through rs old.left mid.left) (sym (append-nil receipts)) (through_one link old mid one))
 
   -- LEAVES: through all links
   pub stops_leave : (links : List ServedLink) (old new : Between D) (each : Each links old new) → StopsLeave told key limits run_limits says gives links old new each
   stops_leave [] old new each = tt
   stops_leave (link ∷ []) old new each = through_last link old each.0 new each.1 each.3
   stops_leave (link ∷ next ∷ links) old new each =
-      through_both link old each.0 each.1 (at (next ∷ links) each.0 new each.3) new.left (now (goes_on link.close) refl) (listed (goes_on link.close) refl) (stops_leave (next ∷ links) each.0 new each.3)
+      through_both (receipts_in each.1.serves.serves.calls) (due (next ∷ links) each.0 new each.3) old.left each.0.left new.left (through_one link old each.0 each.1)
+      (listed (goes_on link.close) refl) (stops_leave (next ∷ links) each.0 new each.3)
     where
-      now : (goes : Bool) → goes_on link.close ≡ goes → each.1.serves.serves.behind ≡ standing_of (seen each.0.left)
-      now true goes = now_behind run_limits link.source_old link.source each.1.serves.bytes _ _ each.1.serves.serves link.close each.1.serves.closes goes
-      now false ends = let none : next ∷ links ≡ [] = each.2 ends in cc
-
       listed : (goes : Bool) → goes_on link.close ≡ goes → AreListed each.0.left.core each.0.left.list
       listed true goes = stored_behind run_limits link.source_old link.source each.1.serves.bytes _ _ each.1.serves.serves link.close each.1.serves.closes goes
       listed false ends = let none : next ∷ links ≡ [] = each.2 ends in cc

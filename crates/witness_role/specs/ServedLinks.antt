@@ -21,13 +21,13 @@ use Rattle.run_status.specs.Status.{nothing_besides}
 use Rattle.validator_core.specs.View.{open_of}
 use Rattle.witness_core.specs.Storing.{StoresOn}
 use Rattle.witness_core.specs.Telling.{AsksVerdicts}
-use Rattle.witness_link.specs.Calls.{Call, receipts_in}
-use Rattle.witness_link.specs.Links.{Terms, standing_of}
+use Rattle.witness_receipts.specs.declared.receipt.Receipt.{Receipt}
+use Rattle.witness_link.specs.Calls.{receipts_in}
+use Rattle.witness_link.specs.Links.{Terms}
 use Rattle.witness_link.specs.Served.{ServesLink}
-use Rattle.witness_link.specs.Serving.{AreFronts, HoldBehind}
 use Rattle.witness_link.specs.Stored.{HoldsEach, IsLawfulList, IsOfStored}
 use Rattle.run_record.specs.Run.{DoorTold, Run, SignerTold}
-use Rattle.witness_role.specs.ServedFile.{EndsWith, Left, MakesServing, at_link, seen_as}
+use Rattle.witness_role.specs.ServedFile.{EndsWith, Left, MakesServing, at_link}
 
 -- after a link that closed so the next one is asked for; any other close ends the run
 abbrev pub goes_on : Close → Bool
@@ -119,26 +119,23 @@ module _ {D : Type 0} (told : D → DiskTold) (key : Key) (limits run_limits : L
   abbrev pub link_terms : Terms
   link_terms = record { says = says; gives = gives; key = key; limits = limits }
 
-  -- the calls of the witness at links, in order
-  abbrev pub calls_at : (links : List ServedLink) (old new : Between D) → ServesEach links old new → List Call
-  calls_at [] old new each = []
-  calls_at (link ∷ links) old new each = each.1.serves.serves.calls ++ calls_at links each.0 new each.3
+  -- the receipts that were due at links, in order
+  abbrev pub receipts_due : (links : List ServedLink) (old new : Between D) → ServesEach links old new → List Receipt
+  receipts_due [] old new each = []
+  receipts_due (link ∷ links) old new each = receipts_in each.1.serves.serves.calls ++ receipts_due links each.0 new each.3
 
   -- A stop at any moment leaves what was stored before the first link, and the first few of what was accepted since, none skipped,
-  -- which is lawful; and so it is behind each call. Behind the last link the list, and each image, has the event of each receipt, and
-  -- each image that a stop leaves before that has the event of each receipt of the calls that had ended by then.
-  pub record StoresThrough (calls : List Call) (old new : Left D) : Type 0 where
+  -- which is lawful. Behind the last link the list, and each image, has the event of each receipt.
+  pub record StoresThrough (receipts : List Receipt) (old new : Left D) : Type 0 where
     pub stores : StoresOn old.list (told old.disk) new.core new.list (told new.disk)
     pub lawful : IsLawfulList stores.accepted
-    pub fronts : AreFronts link_terms (told new.disk) old.list stores.accepted (standing_of (seen_as told key limits old)) calls
-    pub of_stored : All (IsOfStored link_terms new.list) (receipts_in calls)
-    pub held : (c : List ℕ) → (told new.disk).images c → HoldsEach link_terms (receipts_in calls) c
-    pub amid : HoldBehind link_terms (told new.disk) (standing_of (seen_as told key limits old)) calls
+    pub of_stored : All (IsOfStored link_terms new.list) receipts
+    pub held : (c : List ℕ) → (told new.disk).images c → HoldsEach link_terms receipts c
 
   -- so it is through all links; where none came the witness is as it was
   abbrev pub StopsLeave : (links : List ServedLink) (old new : Between D) → ServesEach links old new → Type 0
   StopsLeave [] old new each = Unit {0}
-  StopsLeave (link ∷ links) old new each = StoresThrough (calls_at (link ∷ links) old new each) old.left new.left
+  StopsLeave (link ∷ links) old new each = StoresThrough (receipts_due (link ∷ links) old new each) old.left new.left
 
   -- The links that came at a door were served, and so many are enough. These are their readers and their sinks, in order, and what a
   -- stop leaves through all of them. Where no question was open before the first, the verifier was asked for the verdicts that the core

@@ -14,5 +14,5 @@ returns-clause-owes g c =
       owes = owes_so (λ t. t.bytes) (λ t. t.is_found) (λ text has. HadMemory rest readers × g.T.CoreText.is_text c.args.text.now (plain core) readers text has)
           c.text_of-text.result c.owe-owed.result.0 c.owe-owed.result.1 (rw c.as_slice.ensures.value at c.text_of-text.ensures)
           c.owe-owed.ensures.ok c.owe-owed.ensures.err;
-      nothing_else = rw (c.finds.ensures, c.verifier_failed.ensures) refl;
+      nothing_else = rw (c.finds.ensures, c.verifier_failed_last.ensures) refl;
     }

@@ -67,7 +67,7 @@ returns-clause-made g c =
       rest = rest;
       journal = journal;
       due = c.message_due-owed.result.besides;
-      owes = rw (c.deref.ensures.value, c.is_refused.ensures, c.close_of.ensures, told.mode_is, told.limits_are, told.no_base) at
+      owes = rw (c.deref.ensures.value, c.is_refused.ensures, c.last_close_of.ensures, told.mode_is, told.limits_are, told.no_base) at
           (c.message_due-owed.ensures.due (before.gives c.args.helper.now) parts.signs);
-      besides = ap (λ b. record c.message_due-owed.result.besides { verifier_failed = b }) c.verifier_failed.ensures;
+      besides = ap (λ b. record c.message_due-owed.result.besides { verifier_failed = b }) c.verifier_failed_last.ensures;
     })

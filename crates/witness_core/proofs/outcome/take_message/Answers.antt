@@ -17,17 +17,17 @@ returns-in_err-taken-clause-causes g c =
     (take_caused (g.D.Disk.told c.args.shelf.now.disk).faults (g.D.Disk.told c.take_whole.new.shelf.disk).faults (g.V.Verifier.faults c.args.verifier.now) (g.V.Verifier.faults c.take_whole.new.verifier)
     (g.S.Signer.faults c.args.signer.now) fault c.in_err-taken.ensures.causes)
 
-pub returns-in_err-taken-clause-stored_first : goal.returns-in_err-taken-clause-stored_first
-returns-in_err-taken-clause-stored_first g c = inl refl
+pub returns-in_err-taken-clause-stored_where_asked : goal.returns-in_err-taken-clause-stored_where_asked
+returns-in_err-taken-clause-stored_where_asked g c = inl refl
 
-pub returns-in-Refused-clause-stored_first : goal.returns-in-Refused-clause-stored_first
-returns-in-Refused-clause-stored_first g c = inl refl
+pub returns-in-Refused-clause-stored_where_asked : goal.returns-in-Refused-clause-stored_where_asked
+returns-in-Refused-clause-stored_where_asked g c = inl refl
 
-pub returns-in-NotAnEvent-clause-stored_first : goal.returns-in-NotAnEvent-clause-stored_first
-returns-in-NotAnEvent-clause-stored_first g c = inl refl
+pub returns-in-NotAnEvent-clause-stored_where_asked : goal.returns-in-NotAnEvent-clause-stored_where_asked
+returns-in-NotAnEvent-clause-stored_where_asked g c = inl refl
 
-pub returns-in-Event-clause-stored_first : goal.returns-in-Event-clause-stored_first
-returns-in-Event-clause-stored_first g c = inr c.in_ok-taken.ensures.stored
+pub returns-in-Event-clause-stored_where_asked : goal.returns-in-Event-clause-stored_where_asked
+returns-in-Event-clause-stored_where_asked g c = inr c.in_ok-taken.ensures.stored
 
 pub event_outcome-requires-clause-front : goal.event_outcome-requires-clause-front
 event_outcome-requires-clause-front g c = omega (arith, ap length c.list-front.ensures, c.in_ok-taken.ensures.stored.all, c.take_whole.ensures.goes_on.longer)

@@ -23,7 +23,7 @@ returns-in-Ok-put_receipts g c = λ whole.
     let keeps = c.in-Ok-take.ensures.same whole in
     let outcome = c.in-Ok-take.outcome in
     one_put _ _ c.args.message.now keeps.stores keeps.lawful (λ i. record { says = c.take.ensures.says i; gives = c.take.ensures.gives i; key = keeps.key i; limits = keeps.limits i })
-    c.take.ensures.verdicts (g.met.W.Witnessing.only_now c.take.new.self) outcome.fate outcome.receipts.items (c.stands-in-Ok-take.ensures took.1.whole).holds
+    c.take.ensures.verdicts outcome.fate outcome.receipts.items (c.stands-in-Ok-take.ensures took.1.whole).holds
     (c.note.ensures.refused ∙ ap (λ l. l ++ refused_as c.args.message.now.place outcome.fate) c.make_place.ensures.refused)
     (c.note.ensures.seen ∙ ap (λ l. l ++ seen_in outcome.fate) c.make_place.ensures.seen) took.1 took.2 c.in-Ok-take.ensures.asked took.0
     (c.in-Ok-put_receipts.ensures.puts ∙ ap (λ l. after (g.K.Sink.written c.args.sink.now) (text_of l)) c.as_slice.ensures.value) c.in-Ok-put_receipts.ensures.cause.else_same
@@ -35,7 +35,7 @@ returns-in-Ok-take g c = λ whole.
     let outcome = c.in-Ok-take.outcome in
     let put = c.in-Err-put_receipts.ensures.puts in
     one_unput _ _ c.args.message.now keeps.stores keeps.lawful (λ i. record { says = c.take.ensures.says i; gives = c.take.ensures.gives i; key = keeps.key i; limits = keeps.limits i })
-    c.take.ensures.verdicts (g.met.W.Witnessing.only_now c.take.new.self) outcome.fate outcome.receipts.items (c.stands-in-Ok-take.ensures took.1.whole).holds
+    c.take.ensures.verdicts outcome.fate outcome.receipts.items (c.stands-in-Ok-take.ensures took.1.whole).holds
     (c.note.ensures.refused ∙ ap (λ l. l ++ refused_as c.args.message.now.place outcome.fate) c.make_place.ensures.refused)
     (c.note.ensures.seen ∙ ap (λ l. l ++ seen_in outcome.fate) c.make_place.ensures.seen) took.1 took.2 c.in-Ok-take.ensures.asked took.0
     put.0 (put.1 ∙ ap (λ l. after (g.K.Sink.written c.args.sink.now) (take put.0 (text_of l))) c.as_slice.ensures.value) c.in-Err-put_receipts.ensures.cause.failed
@@ -45,4 +45,4 @@ returns g c = λ whole.
     let took = c.in-Err-take.ensures.takes whole in
     let keeps = c.in-Err-take.ensures.same whole in
     one_failed _ _ c.args.message.now keeps.stores keeps.lawful (λ i. record { says = c.take.ensures.says i; gives = c.take.ensures.gives i; key = keeps.key i; limits = keeps.limits i })
-    c.take.ensures.verdicts c.make_place.ensures.refused c.make_place.ensures.seen refl refl c.in-Err-take.fault c.close_of.result c.close_of.ensures took.0 took.1 c.in-Err-take.ensures.asked c.take.ensures.stored_first
+    c.take.ensures.verdicts c.make_place.ensures.refused c.make_place.ensures.seen refl refl c.in-Err-take.fault c.close_of.result c.close_of.ensures took.0 took.1 c.in-Err-take.ensures.asked c.take.ensures.stored_where_asked

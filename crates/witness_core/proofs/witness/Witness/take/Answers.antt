@@ -11,8 +11,8 @@ returns-in-Ok-clause-stored g c =
     let s = c.take_message.new.shelf in
     λ _. are_listed core s.list s.limits s.broken (g.D.Disk.told s.disk) c.take_message.new.room (kept_all core c.stands.ensures.stands c.stands.ensures.held c.stands.ensures.accepted c.spelled_is_kept.ensures) c.in-Ok.ensures.stored
 
-pub returns-in-Ok-clause-stored_first : goal.returns-in-Ok-clause-stored_first
-returns-in-Ok-clause-stored_first g c =
+pub returns-in-Ok-clause-stored_where_asked : goal.returns-in-Ok-clause-stored_where_asked
+returns-in-Ok-clause-stored_where_asked g c =
     let core = c.take_message.new.core in
     let s = c.take_message.new.shelf in
     inr (are_listed core s.list s.limits s.broken (g.D.Disk.told s.disk) c.take_message.new.room (kept_all core c.stands.ensures.stands c.stands.ensures.held c.stands.ensures.accepted c.spelled_is_kept.ensures) c.in-Ok.ensures.stored)
@@ -47,14 +47,14 @@ returns-in-Err-clause-stored g c =
     λ whole. are_listed core s.list s.limits s.broken (g.D.Disk.told s.disk) c.take_message.new.room
     (kept_all core c.stands-in-Err.ensures.stands c.stands-in-Err.ensures.held c.stands-in-Err.ensures.accepted c.spelled_is_kept-in-Err.ensures) (still_stored _ c.in-Err.fault c.in-Err.ensures.kept c.breaks-self.result c.breaks-self.ensures whole)
 
-pub returns-in-Err-clause-stored_first : goal.returns-in-Err-clause-stored_first
-returns-in-Err-clause-stored_first g c =
+pub returns-in-Err-clause-stored_where_asked : goal.returns-in-Err-clause-stored_where_asked
+returns-in-Err-clause-stored_where_asked g c =
     let core = c.take_message.new.core in
     let s = c.take_message.new.shelf in
     ⊎_elim inl
     (λ stored. inr (are_listed core s.list s.limits s.broken (g.D.Disk.told s.disk) c.take_message.new.room
     (kept_all core c.stands-in-Err.ensures.stands c.stands-in-Err.ensures.held c.stands-in-Err.ensures.accepted c.spelled_is_kept-in-Err.ensures) stored))
-    c.take_message.ensures.stored_first
+    c.take_message.ensures.stored_where_asked
 
 pub returns-in-Err-clause-read : goal.returns-in-Err-clause-read
 returns-in-Err-clause-read g c =
