@@ -76,9 +76,12 @@ impl Core {
 
     /// What is true of each core, stated for proofs. Nothing is done here.
     pub fn stands(&self)
-        ensures { Stands self.now }
+        ensures stands { Stands self.now }
+        ensures held { All (λ n. n < length self.now.held) self.now.accepted }
+        ensures accepted { chosen self.now.held self.now.accepted ≡ accepted_by self.now }
     {
         let _journal = self.journal();
+        let _accepted = self.accepted();
     }
 
     /// The journal, for which the core is given up. It takes no memory.

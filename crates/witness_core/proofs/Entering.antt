@@ -17,16 +17,16 @@ use Rattle.journal.proofs.Accepting.{same_body-refl}
 use Rattle.journal.proofs.Places.{any_at, found_at}
 use Rattle.validator_core.specs.View.{CoreView, accepted_by}
 use Rattle.validator_core.proofs.Bodies.{bodies_new, bodies_old}
-use Rattle.witness_core.specs.Histories.{bodies_in, history_of, log_in}
-use Rattle.witness_core.specs.Room.{IsKnown, IsRoom, signatures_in, signatures_on}
+use Rattle.witness_store.specs.Histories.{bodies_in, history_of, log_in}
+use Rattle.witness_store.specs.Room.{IsKnown, IsRoom, signatures_in, signatures_on}
 use Rattle.witness_core.specs.Telling.{Came, Fails, IsUntold, full, untold}
-use Rattle.witness_core.specs.declared.room.Room.{Room}
-use Rattle.witness_core.specs.declared.witness_fault.WitnessFault.{WitnessFault}
-use Rattle.witness_core.specs.declared.witness_fault.WitnessFault.TheVariants.{Full, OutOfMemory}
+use Rattle.witness_store.specs.declared.room.Room.{Room}
+use Rattle.witness_store.specs.declared.witness_fault.WitnessFault.{WitnessFault}
+use Rattle.witness_store.specs.declared.witness_fault.WitnessFault.TheVariants.{Full, OutOfMemory}
 use Rattle.validator_core.proofs.OpenQuestions.{follows_itself}
-use Rattle.witness_core.proofs.Entries.{history_follows}
-use Rattle.witness_core.proofs.RoomSteps.{among, held_differ, held_is, room_again, room_first}
-use Rattle.witness_core.proofs.Waits.{number_listed, waiter_there}
+use Rattle.witness_store.proofs.Entries.{history_follows}
+use Rattle.witness_store.proofs.RoomSteps.{among, held_differ, held_is, room_again, room_first}
+use Rattle.witness_store.proofs.Waits.{number_listed, waiter_there}
 
 -- nothing was told
 pub untold_itself : (core : CoreView) → IsUntold core core

@@ -19,17 +19,17 @@ use Rattle.keri_outside.specs.declared.limits.Limits.{Limits}
 use Rattle.validator_core.specs.Messages.{JudgesMessage}
 use Rattle.validator_core.specs.View.{CoreView, base_of, told_of}
 use Rattle.witness_core.specs.Faults.{FullBy}
-use Rattle.witness_core.specs.Histories.{history_of, log_in}
-use Rattle.witness_core.specs.Room.{HasRoom, IsComing, IsKnown, IsRoom, IsTurnedAway, has_no_room, lacks_room, signatures_in}
-use Rattle.witness_core.specs.declared.room.Coming.{Coming}
-use Rattle.witness_core.specs.Telling.{Came, Fails, FailsMessage, IsReady, full, untold, told}
-use Rattle.witness_core.specs.declared.room.Room.{Room}
-use Rattle.witness_core.specs.declared.witness_fault.WitnessFault.{WitnessFault}
-use Rattle.witness_core.specs.declared.witness_fault.WitnessFault.TheVariants.{DiskFault, SignerFault, VerifierFault, Full, Broken, OutOfMemory}
+use Rattle.witness_store.specs.Histories.{history_of, log_in}
+use Rattle.witness_store.specs.Room.{HasRoom, IsComing, IsKnown, IsRoom, lacks_room, signatures_in}
+use Rattle.witness_store.specs.declared.room.Coming.{Coming}
+use Rattle.witness_core.specs.Telling.{Came, Fails, FailsMessage, IsReady, IsTurnedAway, full, has_no_room, told, untold}
+use Rattle.witness_store.specs.declared.room.Room.{Room}
+use Rattle.witness_store.specs.declared.witness_fault.WitnessFault.{WitnessFault}
+use Rattle.witness_store.specs.declared.witness_fault.WitnessFault.TheVariants.{DiskFault, SignerFault, VerifierFault, Full, Broken, OutOfMemory}
 use Rattle.witness_core.proofs.Entering.{there_in, unlogged}
-use Rattle.witness_core.proofs.Entries.{history_follows}
+use Rattle.witness_store.proofs.Entries.{history_follows}
 use Rattle.witness_core.proofs.Making.{IsThere, has_room_took}
-use Rattle.witness_core.proofs.RoomSteps.{held_is}
+use Rattle.witness_store.proofs.RoomSteps.{held_is}
 
 -- ONE: a message is judged in one way
 pub one_judged : (m : Message) (e f : Event) → JudgesMessage m (Ok e) → JudgesMessage m (Ok f) → e ≡ f

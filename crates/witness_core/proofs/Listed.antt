@@ -13,11 +13,11 @@ use Rattle.journal.specs.History.{Told}
 use Rattle.journal.proofs.Accepting.{accepted_extends}
 use Rattle.key_state.specs.Kept.{IsKept}
 use Rattle.validator_core.specs.View.{CoreView, accepted_by, base_of, told_of}
-use Rattle.witness_core.specs.Histories.{history_of}
-use Rattle.witness_core.specs.Payloads.{AreListed, IsAcceptedAt, IsPayload, Pointwise, payload_now}
-use Rattle.witness_core.specs.Storing.{IsOnWay, by_entries, newly, payloads, missing}
+use Rattle.witness_store.specs.Histories.{history_of}
+use Rattle.witness_store.specs.Payloads.{AreListed, IsAcceptedAt, IsPayload, Pointwise, payload_now}
+use Rattle.witness_store.specs.Storing.{IsOnWay, by_entries, newly, payloads, missing}
 use Rattle.witness_core.proofs.ByEntries.{entry_law, stays_law}
-use Rattle.witness_core.proofs.States.{kept_under}
+use Rattle.witness_store.proofs.States.{kept_under}
 
 module _ {A B : Type 0} (P : A → B → Type 0) where
   both_more : (xs us : List A) (ys vs : List B) → Pointwise P xs ys → Pointwise P us vs → Pointwise P (xs ++ us) (ys ++ vs)

@@ -15,11 +15,11 @@ use Rattle.keri_outside.specs.declared.limits.Limits.{Limits}
 use Rattle.shelf_log.specs.Format.{shelf_size}
 use Rattle.shelf_log.specs.declared.version.Version.TheVariants.{Two}
 use Rattle.validator_core.proofs.Bodies.{bodies_new, bodies_old}
-use Rattle.witness_core.specs.Histories.{History, bodies_in, log_in, told_more}
-use Rattle.witness_core.specs.Room.{HasRoom, IsRoom, count_waiting as count_in, if_waiting, lacks_room, reserve, signatures_in, weight}
-use Rattle.witness_core.specs.declared.room.Room.{Room}
-use Rattle.witness_core.proofs.RoomSteps.{log_before}
-use Rattle.witness_core.proofs.Rooms.{bodies_differ, reserve_again, reserve_first, signatures_fresh, weight_own}
+use Rattle.witness_store.specs.Histories.{History, bodies_in, log_in, told_more}
+use Rattle.witness_store.specs.Room.{HasRoom, IsRoom, count_waiting as count_in, if_waiting, lacks_room, reserve, signatures_in, weight}
+use Rattle.witness_store.specs.declared.room.Room.{Room}
+use Rattle.witness_store.proofs.RoomSteps.{log_before}
+use Rattle.witness_store.proofs.Rooms.{bodies_differ, reserve_again, reserve_first, signatures_fresh, weight_own}
 
 -- the body is one of them, or a new one
 abbrev pub IsThere : History → Body → Type 0

@@ -17,17 +17,18 @@ use Rattle.keri_outside.specs.declared.inquiry.Inquiry.{Inquiry}
 use Rattle.keri_outside.specs.declared.limits.Limits.{Limits}
 use Rattle.validator_core.specs.Messages.{JudgesMessage}
 use Rattle.validator_core.specs.View.{CoreView, Follows}
-use Rattle.witness_core.specs.Faults.{TakeFault, StoresStill}
-use Rattle.witness_core.specs.Histories.{history_of}
-use Rattle.witness_core.specs.Storing.{AreStored, GoesOn, IsOnWay}
+use Rattle.witness_core.specs.Faults.{TakeFault}
+use Rattle.witness_store.specs.Faults.{StoresStill}
+use Rattle.witness_store.specs.Histories.{history_of}
+use Rattle.witness_store.specs.Storing.{AreStored, GoesOn, IsOnWay}
 use Rattle.witness_core.specs.Telling.{AsksVerdicts, Came, Fails, FailsMessage, Hears, IsUntold, TellsEvent, TellsFault, full, untold, told}
-use Rattle.witness_core.specs.declared.room.Room.{Room}
-use Rattle.witness_core.specs.declared.witness_fault.WitnessFault.{WitnessFault}
-use Rattle.witness_core.specs.declared.witness_fault.WitnessFault.TheVariants.{DiskFault, SignerFault, VerifierFault, Full, Broken, OutOfMemory}
+use Rattle.witness_store.specs.declared.room.Room.{Room}
+use Rattle.witness_store.specs.declared.witness_fault.WitnessFault.{WitnessFault}
+use Rattle.witness_store.specs.declared.witness_fault.WitnessFault.TheVariants.{DiskFault, SignerFault, VerifierFault, Full, Broken, OutOfMemory}
 use Rattle.validator_core.proofs.OpenQuestions.{follows_on}
-use Rattle.witness_core.proofs.Asking.{came_asks, hears_none, untold_asks}
-use Rattle.witness_core.proofs.Entries.{history_follows, history_same, on_way_more}
-use Rattle.witness_core.proofs.Stored.{goes_none}
+use Rattle.witness_core.proofs.Heard.{came_asks, hears_none, untold_asks}
+use Rattle.witness_store.proofs.Entries.{history_follows, history_same, on_way_more}
+use Rattle.witness_store.proofs.Stored.{goes_none}
 
 module _ (says : Key → List ℕ → Sig → Option Bool) (m : Message) (event : Event) (judged : JudgesMessage m (Ok event)) (no_receipt : is_receipt event ≡ false) where
   -- its entry, and then verdicts

@@ -23,7 +23,8 @@ use Rattle.journal.proofs.Accepting.{accepted_extends}
 use Rattle.validator_core.specs.Messages.{JudgesMessage}
 use Rattle.validator_core.specs.Signatures.{is_witness_under}
 use Rattle.validator_core.specs.View.{CoreView, Follows, accepted_by, base_of, open_of, told_of}
-use Rattle.witness_core.specs.Faults.{CausedBy, FullBy, SignFault, StoresStill, TakeFault}
+use Rattle.witness_core.specs.Faults.{CausedBy, FullBy, SignFault, TakeFault}
+use Rattle.witness_store.specs.Faults.{StoresStill}
 use Rattle.witness_receipts.specs.Fates.{IsFate}
 use Rattle.witness_core.specs.Outcomes.{AreReceipts, AsksSigner, IsOfStored, IsOutcomeOf, KeepsList, TellsFate, due_by}
 use Rattle.witness_receipts.specs.Receipts.{IsReceiptOf, again, due, signings_of}
@@ -32,9 +33,9 @@ use Rattle.witness_receipts.specs.declared.fate.Fate.{Fate}
 use Rattle.witness_receipts.specs.declared.fate.Fate.TheVariants.{Stored, Waits, Seen, NotAnEvent, Refused}
 use Rattle.witness_core.specs.declared.outcome.Outcome.{Outcome}
 use Rattle.witness_receipts.specs.declared.receipt.Receipt.{Receipt}
-use Rattle.witness_core.specs.declared.witness_fault.WitnessFault.{WitnessFault}
-use Rattle.witness_core.specs.declared.witness_fault.WitnessFault.TheVariants.{DiskFault, SignerFault, VerifierFault, Full, Broken, OutOfMemory}
-use Rattle.witness_core.proofs.Lists.{take_front}
+use Rattle.witness_store.specs.declared.witness_fault.WitnessFault.{WitnessFault}
+use Rattle.witness_store.specs.declared.witness_fault.WitnessFault.TheVariants.{DiskFault, SignerFault, VerifierFault, Full, Broken, OutOfMemory}
+use Rattle.witness_store.proofs.Lists.{take_front}
 use Rattle.witness_core.proofs.MessageFates.{IsOfEvent, fate_judged, of_event}
 
 -- DUE: each event of which a receipt is due is accepted

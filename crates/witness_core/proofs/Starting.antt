@@ -24,11 +24,11 @@ use Rattle.keri_disk.specs.Images.{DiskTold}
 use Rattle.keri_outside.specs.declared.limits.Limits.{Limits}
 use Rattle.shelf_log.specs.Settled.{AllHold}
 use Rattle.validator_core.specs.View.{CoreView, told_of}
-use Rattle.witness_core.specs.Histories.{History, bodies_in, history_of, log_in}
-use Rattle.witness_core.specs.Room.{if_waiting, is_event, signatures_on, weight}
-use Rattle.witness_core.specs.Storing.{AreStored, missing}
-use Rattle.witness_core.specs.declared.room.Room.{Room}
-use Rattle.witness_core.proofs.Stored.{missing_none}
+use Rattle.witness_store.specs.Histories.{History, bodies_in, history_of, log_in}
+use Rattle.witness_store.specs.Room.{if_waiting, is_event, signatures_on, weight}
+use Rattle.witness_store.specs.Storing.{AreStored, missing}
+use Rattle.witness_store.specs.declared.room.Room.{Room}
+use Rattle.witness_store.proofs.Stored.{missing_none}
 
 -- what fits is no receipt
 fits_event : (before : List Body) (b : Body) → fits before b ≡ true → is_event b ≡ true

@@ -14,19 +14,19 @@ use Rattle.keri_outside.specs.declared.limits.Limits.{Limits}
 use Rattle.validator_core.specs.View.{CoreView, Stands, base_of, told_of}
 use Rattle.validator_core.specs.Verdicts.{IsVerdict}
 use Rattle.validator_core.proofs.Bodies.{bodies_heard}
-use Rattle.witness_core.specs.Faults.{AskFault, StoreFault}
-use Rattle.witness_core.specs.Histories.{history_of, log_in}
-use Rattle.witness_core.specs.Room.{IsKnown}
-use Rattle.witness_core.specs.Storing.{Appends, AreStored, GoesOn}
+use Rattle.witness_store.specs.Faults.{AskFault, StoreFault}
+use Rattle.witness_store.specs.Histories.{history_of, log_in}
+use Rattle.witness_store.specs.Room.{IsKnown}
+use Rattle.witness_store.specs.Storing.{Appends, AreStored, GoesOn}
 use Rattle.witness_core.specs.Telling.{Hears, IsReady, IsTakenAs, IsUntold, TellsEvent, TellsFault}
-use Rattle.witness_core.specs.declared.room.Room.{Room}
+use Rattle.witness_store.specs.declared.room.Room.{Room}
 use Rattle.witness_core.specs.declared.taken.Taken.TheVariants.{Event as EventTaken}
-use Rattle.witness_core.specs.declared.witness_fault.WitnessFault.{WitnessFault}
-use Rattle.witness_core.specs.declared.witness_fault.WitnessFault.TheVariants.{DiskFault, SignerFault, VerifierFault, Full, Broken, OutOfMemory}
+use Rattle.witness_store.specs.declared.witness_fault.WitnessFault.{WitnessFault}
+use Rattle.witness_store.specs.declared.witness_fault.WitnessFault.TheVariants.{DiskFault, SignerFault, VerifierFault, Full, Broken, OutOfMemory}
 use Rattle.witness_core.proofs.Entering.{untold_itself}
 use Rattle.witness_core.proofs.Judging.{one_judged}
-use Rattle.witness_core.proofs.RoomSteps.{held_is}
-use Rattle.witness_core.proofs.Stored.{goes_more, goes_none, goes_of}
+use Rattle.witness_store.proofs.RoomSteps.{held_is}
+use Rattle.witness_store.proofs.Stored.{goes_more, goes_none, goes_of}
 
 -- SAME: where the core and the room are as they were
 pub same_untold : (old new : CoreView) → new ≡ old → IsUntold old new

@@ -15,18 +15,19 @@ use Rattle.shelf_log.specs.Settled.{AllHold, IsSettled}
 use Rattle.shelf_log.specs.declared.version.Version.TheVariants.{Two}
 use Rattle.journal.specs.declared.body.Body.{Body}
 use Rattle.validator_core.specs.View.{CoreView, accepted_by}
-use Rattle.witness_core.specs.Faults.{Goes, StoresStill, breaks}
-use Rattle.witness_core.specs.Histories.{history_of}
-use Rattle.witness_core.specs.Payloads.{AreListed}
-use Rattle.witness_core.specs.Starts.{IsFirstRoom, IsStarted, ReadsAgain}
-use Rattle.witness_core.specs.Storing.{AreStored, GoesOn, StoresOn, missing, payloads}
+use Rattle.witness_core.specs.Faults.{Goes}
+use Rattle.witness_store.specs.Faults.{StoresStill, breaks}
+use Rattle.witness_store.specs.Histories.{history_of}
+use Rattle.witness_store.specs.Payloads.{AreListed}
+use Rattle.witness_store.specs.Starts.{IsFirstRoom, IsStarted, ReadsAgain}
+use Rattle.witness_store.specs.Storing.{AreStored, GoesOn, StoresOn, missing, payloads}
 use Rattle.witness_core.specs.Telling.{IsUntold, TellsFault}
-use Rattle.witness_core.specs.declared.room.Room.{Room}
-use Rattle.witness_core.specs.declared.witness_fault.WitnessFault.{WitnessFault}
-use Rattle.witness_core.specs.declared.witness_fault.WitnessFault.TheVariants.{DiskFault, SignerFault, VerifierFault, Full, Broken, OutOfMemory}
+use Rattle.witness_store.specs.declared.room.Room.{Room}
+use Rattle.witness_store.specs.declared.witness_fault.WitnessFault.{WitnessFault}
+use Rattle.witness_store.specs.declared.witness_fault.WitnessFault.TheVariants.{DiskFault, SignerFault, VerifierFault, Full, Broken, OutOfMemory}
 use Rattle.witness_core.proofs.Listed.{listed}
 use Rattle.witness_core.proofs.Starting.{started}
-use Rattle.witness_core.proofs.Stored.{payloads_all}
+use Rattle.witness_store.proofs.Stored.{payloads_all}
 
 -- STORED: what is stored is listed
 pub are_listed : (core : CoreView) (list : List (List ℕ)) (limits : Limits) (broken : Bool) (told : DiskTold) (room : Room) → All (λ b. IsKept b.event) (accepted_by core)

@@ -3,26 +3,8 @@ use Rattle.std.specs.Prelude.{◌≡◌, ℕ, Bool, true, false}
 use Rattle.std.specs.declared.result.Result.{Result}
 use Rattle.std.specs.declared.result.Result.TheVariants.{Ok, Err}
 use Rattle.keri_specs.specs.Causes.{Rose}
-use Rattle.witness_core.specs.declared.witness_fault.WitnessFault.{WitnessFault}
-use Rattle.witness_core.specs.declared.witness_fault.WitnessFault.TheVariants.{DiskFault, SignerFault, VerifierFault, Full, Broken, OutOfMemory}
-
--- the witness is broken after it
-abbrev pub breaks : WitnessFault → Bool
-breaks DiskFault = true
-breaks OutOfMemory = true
-breaks SignerFault = false
-breaks VerifierFault = false
-breaks Full = false
-breaks Broken = false
-
--- of the faults in the midst of a message, all but those by which the witness breaks leave all stored
-abbrev pub StoresStill : WitnessFault → Type 0 → Type 0
-StoresStill DiskFault stored = Unit {0}
-StoresStill OutOfMemory stored = Unit {0}
-StoresStill SignerFault stored = stored
-StoresStill VerifierFault stored = stored
-StoresStill Full stored = stored
-StoresStill Broken stored = ⊥
+use Rattle.witness_store.specs.declared.witness_fault.WitnessFault.{WitnessFault}
+use Rattle.witness_store.specs.declared.witness_fault.WitnessFault.TheVariants.{DiskFault, SignerFault, VerifierFault, Full, Broken, OutOfMemory}
 
 -- a witness that is broken answers that it is, and any other is broken then by just a fault of the disk or want of memory
 abbrev pub Goes : {T : Type 0} → Bool → Bool → Result T WitnessFault → Type 0
@@ -55,25 +37,7 @@ CausedBy disk disk_then verifier verifier_then signer signer_then Full = (disk_t
 CausedBy disk disk_then verifier verifier_then signer signer_then Broken = (disk_then ≡ disk) × (verifier_then ≡ verifier) × (signer_then ≡ signer)
 CausedBy disk disk_then verifier verifier_then signer signer_then OutOfMemory = (disk_then ≡ disk) × (verifier_then ≡ verifier) × (signer_then ≡ signer)
 
--- while payloads are stored the disk fails, and its count rises, or there is no memory
-abbrev pub StoreFault : ℕ → ℕ → WitnessFault → Type 0
-StoreFault disk disk_then DiskFault = Rose disk disk_then
-StoreFault disk disk_then OutOfMemory = disk_then ≡ disk
-StoreFault disk disk_then SignerFault = ⊥
-StoreFault disk disk_then VerifierFault = ⊥
-StoreFault disk disk_then Full = ⊥
-StoreFault disk disk_then Broken = ⊥
-
--- and while questions are asked too the verifier may
-abbrev pub AskFault : ℕ → ℕ → ℕ → ℕ → WitnessFault → Type 0
-AskFault disk disk_then verifier verifier_then DiskFault = Rose disk disk_then × (verifier_then ≡ verifier)
-AskFault disk disk_then verifier verifier_then VerifierFault = (disk_then ≡ disk) × Rose verifier verifier_then
-AskFault disk disk_then verifier verifier_then OutOfMemory = (disk_then ≡ disk) × (verifier_then ≡ verifier)
-AskFault disk disk_then verifier verifier_then SignerFault = ⊥
-AskFault disk disk_then verifier verifier_then Full = ⊥
-AskFault disk disk_then verifier verifier_then Broken = ⊥
-
--- and while a message is taken there may be no room
+-- while a message is taken the disk or the verifier fails, and its count rises, or there is no room, or no memory
 abbrev pub TakeFault : ℕ → ℕ → ℕ → ℕ → WitnessFault → Type 0
 TakeFault disk disk_then verifier verifier_then DiskFault = Rose disk disk_then × (verifier_then ≡ verifier)
 TakeFault disk disk_then verifier verifier_then VerifierFault = (disk_then ≡ disk) × Rose verifier verifier_then

@@ -1,4 +1,4 @@
--- Laws of what a witness stores.
+-- Laws of when an event was accepted.
 use Rattle.std.specs.Prelude.{◌≡◌, true, List, [], ◌∷◌, ◌++◌}
 use Rattle.event_payload.specs.Kept.{state_under}
 use Rattle.journal.specs.declared.body.Body.{Body}
@@ -6,7 +6,7 @@ use Rattle.journal.specs.declared.mode.Mode.{Mode}
 use Rattle.journal.specs.Accepted.{accepted}
 use Rattle.journal.specs.History.{Told}
 use Rattle.journal.specs.Readiness.{signed}
-use Rattle.witness_core.specs.Payloads.{IsAcceptedAt}
+use Rattle.witness_store.specs.Payloads.{IsAcceptedAt}
 
 -- What an entry makes accepted comes behind what was; each of it was accepted by that entry, and is signed by what was told then,
 -- under the state just before it in the log.

@@ -1,9 +1,4 @@
-pub mod Histories
-pub mod Payloads
-pub mod Room
-pub mod Storing
 pub mod Faults
 pub mod Telling
 pub mod Laws
-pub mod Starts
 pub mod Outcomes

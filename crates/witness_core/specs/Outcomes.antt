@@ -16,8 +16,8 @@ use Rattle.witness_receipts.specs.declared.fate.Fate.{Fate}
 use Rattle.witness_receipts.specs.declared.fate.Fate.TheVariants.{Stored, Waits, Seen, NotAnEvent, Refused}
 use Rattle.witness_core.specs.declared.outcome.Outcome.{Outcome}
 use Rattle.witness_receipts.specs.declared.receipt.Receipt.{Receipt}
-use Rattle.witness_core.specs.declared.witness_fault.WitnessFault.{WitnessFault}
-use Rattle.witness_core.specs.declared.witness_fault.WitnessFault.TheVariants.{DiskFault, SignerFault, VerifierFault, Full, Broken, OutOfMemory}
+use Rattle.witness_store.specs.declared.witness_fault.WitnessFault.{WitnessFault}
+use Rattle.witness_store.specs.declared.witness_fault.WitnessFault.TheVariants.{DiskFault, SignerFault, VerifierFault, Full, Broken, OutOfMemory}
 
 -- what the core was told, by the message's fate
 abbrev pub TellsFate : (Key → List ℕ → Sig → Option Bool) → CoreView → Message → Fate → CoreView → Type 0

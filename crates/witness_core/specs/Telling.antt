@@ -1,5 +1,5 @@
 -- What a message and the verdicts on its signatures tell the core (own).
-use Rattle.std.specs.Prelude.{◌≡◌, ◌⊎◌, ℕ, ◌+◌, ◌≤◌, Bool, true, false, List, [], ◌∷◌, ◌++◌, length, flat_map, slice_get, All, Option, Some, Ok, Err}
+use Rattle.std.specs.Prelude.{◌≡◌, ◌⊎◌, ℕ, ◌+◌, ◌≤◌, ◌||◌, Bool, true, false, List, [], ◌∷◌, ◌++◌, length, flat_map, slice_get, All, Option, Some, Ok, Err}
 use Rattle.cesr_codes.specs.declared.key.Key.{Key}
 use Rattle.cesr_codes.specs.declared.sig.Sig.{Sig}
 use Rattle.cesr_stream.specs.declared.message.Message.{Message}
@@ -9,19 +9,31 @@ use Rattle.event_body.specs.declared.event.Event.{Event}
 use Rattle.journal.specs.declared.body.Body.{Body}
 use Rattle.journal.specs.declared.claim.Claim.{Claim}
 use Rattle.journal.specs.History.{Told, took}
-use Rattle.journal.specs.Replies.{all_claims, claims_of}
+use Rattle.journal.specs.Replies.{all_claims, claims_of, is_full}
 use Rattle.keri_outside.specs.declared.limits.Limits.{Limits}
 use Rattle.keri_outside.specs.declared.inquiry.Inquiry.{Inquiry}
 use Rattle.validator_core.specs.Messages.{JudgesMessage}
 use Rattle.validator_core.specs.Verdicts.{AsksOpen, IsVerdict}
-use Rattle.validator_core.specs.View.{CoreView, Follows, told_of, open_of}
-use Rattle.witness_core.specs.Histories.{history_of}
-use Rattle.witness_core.specs.Room.{HasRoom, IsKnown}
-use Rattle.witness_core.specs.declared.room.Room.{Room}
+use Rattle.validator_core.specs.View.{CoreView, Follows, base_of, told_of, open_of}
+use Rattle.witness_store.specs.Histories.{history_of}
+use Rattle.witness_store.specs.Room.{HasRoom, IsKnown, lacks_room}
+use Rattle.witness_store.specs.declared.room.Room.{Room}
 use Rattle.witness_core.specs.declared.taken.Taken.{Taken}
 use Rattle.witness_core.specs.declared.taken.Taken.TheVariants.{Refused, NotAnEvent, Event as EventTaken}
-use Rattle.witness_core.specs.declared.witness_fault.WitnessFault.{WitnessFault}
-use Rattle.witness_core.specs.declared.witness_fault.WitnessFault.TheVariants.{DiskFault, SignerFault, VerifierFault, Full, Broken, OutOfMemory}
+use Rattle.witness_store.specs.declared.witness_fault.WitnessFault.{WitnessFault}
+use Rattle.witness_store.specs.declared.witness_fault.WitnessFault.TheVariants.{DiskFault, SignerFault, VerifierFault, Full, Broken, OutOfMemory}
+
+-- the core has no room for it, or the shelf
+abbrev pub has_no_room : Limits → CoreView → List (List ℕ) → Body → List Claim → Bool
+has_no_room limits core list b claims =
+    is_full core.limits (base_of core) (told_of core) b claims || lacks_room limits (history_of core) list b claims
+
+-- TURNED AWAY: the message is of an event, isn't refused, and the core or the shelf has no room for it
+pub record IsTurnedAway (limits : Limits) (core : CoreView) (list : List (List ℕ)) (m : Message) : Type 0 where
+  pub event : Event
+  pub judged : JudgesMessage m (Ok event)
+  pub no_receipt : is_receipt event ≡ false
+  pub full : has_no_room limits core list (body_of m.body event) (claims_of m) ≡ true
 
 -- nothing more was told
 pub record IsUntold (old new : CoreView) : Type 0 where

@@ -2,19 +2,14 @@
 //! the events that are stored.
 #![tactic(auto)]
 
-mod open_questions;
 mod outcome;
-mod payload;
-mod room;
-mod start;
-mod store;
+mod start_fault;
 mod take;
 mod taken;
 mod witness;
-mod witness_fault;
 
 pub use outcome::Outcome;
-pub use start::StartFault;
+pub use start_fault::StartFault;
 pub use witness::Witness;
-pub use witness_fault::WitnessFault;
 pub use witness_receipts::{Fate, Receipt};
+pub use witness_store::WitnessFault;

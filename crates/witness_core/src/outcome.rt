@@ -6,18 +6,17 @@ ghost use Rattle.journal.specs.Grown.{IsGrown};
 ghost use Rattle.journal.specs.declared.body.Body.{Body};
 ghost use Rattle.keri_specs.specs.Told.{Puts};
 ghost use Rattle.validator_core.specs.View.{Follows, accepted_by, base_of};
-ghost use Rattle.witness_core.specs.Faults.{CausedBy, FullBy, SignFault, StoresStill};
 ghost use Rattle.witness_receipts.specs.Fates.{IsFate};
-ghost use Rattle.witness_core.specs.Histories.{history_of};
-ghost use Rattle.witness_core.specs.Outcomes.{AreReceipts, AsksSigner, IsOfStored, IsOutcomeOf, KeepsList, TellsFate};
 ghost use Rattle.witness_receipts.specs.Receipts.{due, signings_of};
-ghost use Rattle.witness_core.specs.Room.{IsTurnedAway};
-ghost use Rattle.witness_core.specs.Storing.{AreStored, GoesOn};
-ghost use Rattle.witness_core.specs.Telling.{AsksVerdicts, TellsFault};
-ghost use Rattle.witness_core.specs.declared.witness_fault.WitnessFault.TheVariants.{Full as NoRoom};
+ghost use Rattle.witness_store.specs.Faults.{StoresStill};
+ghost use Rattle.witness_store.specs.Histories.{history_of};
+ghost use Rattle.witness_store.specs.Storing.{AreStored, GoesOn};
+ghost use Rattle.witness_store.specs.declared.witness_fault.WitnessFault.TheVariants.{Full as NoRoom};
+ghost use Rattle.witness_core.specs.Faults.{CausedBy, FullBy, SignFault};
+ghost use Rattle.witness_core.specs.Outcomes.{AreReceipts, AsksSigner, IsOfStored, IsOutcomeOf, KeepsList, TellsFate};
+ghost use Rattle.witness_core.specs.Telling.{AsksVerdicts, IsTurnedAway, TellsFault};
 
 use crate::WitnessFault;
-use crate::room::Room;
 use crate::take::take_whole;
 use crate::taken::Taken;
 use cesr_codes::Key;
@@ -28,6 +27,7 @@ use shelf_log::Shelf;
 use std::alloc::Global;
 use validator_core::Core;
 use witness_receipts::{Fate, Receipt, SigningFault, event_fate, receipts_of};
+use witness_store::Room;
 
 /// The fate of a message, and the receipts that are due once it is taken.
 #[derive(Drop)]

@@ -10,17 +10,15 @@ ghost use Rattle.journal.specs.Replies as replies;
 ghost use Rattle.journal.specs.Replies.{is_full};
 ghost use Rattle.validator_core.specs.Messages.{JudgesMessage};
 ghost use Rattle.validator_core.specs.View.{Follows, base_of, told_of};
-ghost use Rattle.witness_core.specs.Faults.{FullBy, StoresStill, TakeFault};
-ghost use Rattle.witness_core.specs.Histories.{history_of, log_in};
-ghost use Rattle.witness_core.specs.Room.{IsKnown, IsRoom, IsTurnedAway, has_no_room};
-ghost use Rattle.witness_core.specs.Storing.{AreStored, GoesOn};
-ghost use Rattle.witness_core.specs.Telling.{AsksVerdicts, Came, Fails, FailsMessage, IsTakenAs, IsUntold, IsReady, TakesIn, TellsFault, TellsTaken};
-ghost use Rattle.witness_core.specs.declared.witness_fault.WitnessFault.TheVariants.{Full as NoRoom, OutOfMemory as NoMemory};
+ghost use Rattle.witness_store.specs.Faults.{StoresStill};
+ghost use Rattle.witness_store.specs.Histories.{history_of, log_in};
+ghost use Rattle.witness_store.specs.Room.{IsKnown, IsRoom};
+ghost use Rattle.witness_store.specs.Storing.{AreStored, GoesOn};
+ghost use Rattle.witness_store.specs.declared.witness_fault.WitnessFault.TheVariants.{Full as NoRoom, OutOfMemory as NoMemory};
+ghost use Rattle.witness_core.specs.Faults.{FullBy, TakeFault};
+ghost use Rattle.witness_core.specs.Telling.{AsksVerdicts, Came, Fails, FailsMessage, IsReady, IsTakenAs, IsTurnedAway, IsUntold, TakesIn, TellsFault, TellsTaken, has_no_room};
 
 use crate::WitnessFault;
-use crate::open_questions::ask_open;
-use crate::room::{Coming, Room, count_signatures, lacks_room};
-use crate::store::store;
 use crate::taken::Taken;
 use cesr_stream::Message;
 use event_body::{Event, is_receipt};
@@ -32,7 +30,7 @@ use lists::{Items, length_u32};
 use shelf_log::Shelf;
 use std::alloc::Global;
 use validator_core::{Core, claims_of, judge_message};
-use witness_receipts::stands;
+use witness_store::{Coming, Room, ask_open, count_signatures, lacks_room, store};
 
 /// Takes a message, asks each open question, and after each entry stores what it makes accepted.
 pub(crate) fn take_whole<D: Disk + Drop, V: Verifier>(
@@ -76,7 +74,7 @@ pub(crate) fn take_whole<D: Disk + Drop, V: Verifier>(
         Taken::Event(number) => {
             store(alloc, core, shelf, room)?;
             ask_open(alloc, core, shelf, room, steps, verifier)?;
-            stands(core);
+            core.stands();
             Ok(Taken::Event(number))
         }
     }
@@ -242,7 +240,7 @@ fn enter(
     ensures fault { IfErr result (λ fault. (fault ≡ NoRoom) ⊎ (fault ≡ NoMemory)) }
 {
     let reply = core.take_event(0, body, event, claims, steps)?;
-    stands(core);
+    core.stands();
     match reply {
         Reply::Full => Err(WitnessFault::Full),
         Reply::Taken => Ok(()),

@@ -3,13 +3,10 @@ ghost use Rattle.std.specs.Prelude.{◌≡◌, false};
 ghost use Rattle.std.proofs.Props.{props};
 ghost use Rattle.cesr_codes.specs.declared.key.KeyCode.TheVariants.{Fixed};
 ghost use Rattle.journal.specs.declared.mode.Mode.TheVariants.{Local};
-ghost use Rattle.witness_core.specs.Faults.{breaks as breaks_by};
-ghost use Rattle.witness_core.specs.Histories.{history_of};
-ghost use Rattle.witness_core.specs.Storing.{AreStored};
+ghost use Rattle.witness_store.specs.Histories.{history_of};
+ghost use Rattle.witness_store.specs.Storing.{AreStored};
 
 use crate::outcome::take_message;
-use crate::room::Room;
-use crate::start::{Begun, begin};
 use crate::{Outcome, StartFault, WitnessFault};
 use cesr_codes::Key;
 use cesr_stream::Message;
@@ -21,7 +18,7 @@ use lists::Items;
 use shelf_log::Shelf;
 use std::alloc::Global;
 use validator_core::Core;
-use witness_receipts::stands;
+use witness_store::{Begun, Room, begin, breaks};
 
 /// A witness: a core that waits for neither receipts nor seals, and a shelf with the payload of each event that it
 /// accepts.
@@ -47,16 +44,15 @@ pub struct Witness<D: Disk> {
 impl<D: Disk + Drop> Witness<D> {
     ghost use Rattle.std.specs.Prelude.{◌≡◌, ◌⊎◌, true, map, All, Err, IfErr, IfOk, MatchResult, OnOk};
     ghost use Rattle.shelf_log.specs.Settled.{AllHold};
-    ghost use Rattle.validator_core.specs.View.{Follows, Stands};
-    ghost use Rattle.witness_core.specs.Faults.{CausedBy, FullBy, Goes};
+    ghost use Rattle.validator_core.specs.View.{Stands};
     ghost use Rattle.witness_receipts.specs.Fates.{IsFate};
+    ghost use Rattle.witness_store.specs.Payloads.{AreListed};
+    ghost use Rattle.witness_store.specs.Starts.{AreNoStart, IsStarted, ReadsAgain};
+    ghost use Rattle.witness_store.specs.Storing.{StoresOn};
+    ghost use Rattle.witness_store.specs.declared.witness_fault.WitnessFault.TheVariants.{Full as NoRoom};
+    ghost use Rattle.witness_core.specs.Faults.{CausedBy, FullBy, Goes};
     ghost use Rattle.witness_core.specs.Outcomes.{AreReceipts, AsksSigner, IsOfStored, KeepsList, TellsFate};
-    ghost use Rattle.witness_core.specs.Payloads.{AreListed};
-    ghost use Rattle.witness_core.specs.Room.{IsTurnedAway};
-    ghost use Rattle.witness_core.specs.Starts.{AreNoStart, IsStarted, ReadsAgain};
-    ghost use Rattle.witness_core.specs.Storing.{StoresOn};
-    ghost use Rattle.witness_core.specs.Telling.{AsksVerdicts, IsUntold, TellsFault};
-    ghost use Rattle.witness_core.specs.declared.witness_fault.WitnessFault.TheVariants.{Full as NoRoom};
+    ghost use Rattle.witness_core.specs.Telling.{AsksVerdicts, IsTurnedAway, IsUntold, TellsFault};
 
     /// A witness that starts from a shelf: the events of its payloads count as accepted, in their order. Its key can't be
     /// rotated.
@@ -76,7 +72,7 @@ impl<D: Disk + Drop> Witness<D> {
     {
         match begin(alloc, shelf.list(), limits) {
             Ok(Begun { core, room }) => {
-                stands(&core);
+                core.stands();
                 spelled_is_kept();
                 Ok(Witness {
                     alloc,
@@ -167,13 +163,13 @@ impl<D: Disk + Drop> Witness<D> {
             signer,
         ) {
             Ok(outcome) => {
-                stands(&self.core);
+                self.core.stands();
                 spelled_is_kept();
                 Ok(outcome)
             }
             Err(fault) => {
                 self.broken = breaks(fault);
-                stands(&self.core);
+                self.core.stands();
                 spelled_is_kept();
                 Err(fault)
             }
@@ -200,7 +196,9 @@ impl<D: Disk + Drop> Witness<D> {
     pub fn into_shelf(self) -> Shelf<D>
         ensures { result ≡ self.shelf }
     {
-        let Witness { shelf, .. } = self;
+        let Witness { core, shelf, .. } = self;
+        // Let go of itself, at the function's end, it takes longer to prove.
+        drop(core);
         shelf
     }
 
@@ -214,11 +212,4 @@ impl<D: Disk + Drop> Witness<D> {
         let Witness { core, shelf, .. } = self;
         (core.into_journal(), shelf)
     }
-}
-
-// Whether the witness is broken after a fault.
-fn breaks(fault: WitnessFault) -> bool
-    ensures { result ≡ breaks_by fault }
-{
-    matches!(fault, WitnessFault::DiskFault | WitnessFault::OutOfMemory)
 }

@@ -19,14 +19,15 @@ use Rattle.keri_specs.proofs.Putting.{after-append}
 use Rattle.key_state.specs.Same.{distinct}
 use Rattle.validator_core.specs.Verdicts.{inquiries_in, inquiry_in, inquiry_on}
 use Rattle.validator_core.specs.View.{CoreView, base_of, open_of, told_of}
-use Rattle.validator_core.proofs.OpenQuestions.{all_heard, follows_itself}
+use Rattle.validator_core.proofs.OpenQuestions.{all_heard}
 use Rattle.witness_core.specs.Outcomes.{TellsFate, due_by}
 use Rattle.witness_receipts.specs.Receipts.{signings_of}
-use Rattle.witness_core.specs.Starts.{IsStarted}
+use Rattle.witness_store.specs.Starts.{IsStarted}
 use Rattle.witness_core.specs.Telling.{AsksVerdicts, IsUntold}
 use Rattle.witness_receipts.specs.declared.fate.Fate.{Fate}
 use Rattle.witness_receipts.specs.declared.fate.Fate.TheVariants.{Stored, Waits, Seen, NotAnEvent, Refused}
-use Rattle.witness_core.proofs.Asking.{untold_asks}
+use Rattle.witness_core.proofs.Entering.{untold_itself}
+use Rattle.witness_core.proofs.Heard.{untold_asks}
 use Rattle.witness_link.specs.Calls.{AreCalls, Call, signings_in}
 use Rattle.witness_link.specs.Links.{Standing, Terms}
 
@@ -69,10 +70,6 @@ pub calls_close : (terms : Terms) (old : Standing) (calls : List Call) (new : St
 calls_close terms old [] new are none = ap (λ (s : Standing). open_of s.core) are ∙ none
 calls_close terms old (call ∷ calls) new are none =
     calls_close terms call.behind calls new are.1 (fate_closes terms.says old.core call.message call.fate call.behind.core are.0.tells none)
-
--- none was asked where nothing was done
-pub untold_itself : (core : CoreView) → IsUntold core core
-untold_itself core = record { told = refl; follows = follows_itself core }
 
 pub untold_asked : (told : Option (List Inquiry)) (core : CoreView) → AsksVerdicts told told core core
 untold_asked told core = untold_asks told core core (untold_itself core)

@@ -14,14 +14,14 @@ use Rattle.run_status.specs.declared.close.Close.{Close}
 use Rattle.run_status.specs.declared.close.Close.TheVariants.{End, Bad, ReadFault, VerifierFault, SignerFault, DiskFault, WriteFault, Malformed, Full, OutOfMemory}
 use Rattle.validator_core.specs.View.{open_of}
 use Rattle.witness_core.specs.Outcomes.{AsksSigner}
-use Rattle.witness_core.specs.Storing.{AllStand, Grown}
+use Rattle.witness_store.specs.Storing.{AllStand, Grown}
 use Rattle.witness_receipts.specs.declared.receipt.Receipt.{Receipt}
-use Rattle.witness_core.specs.declared.witness_fault.WitnessFault.{WitnessFault}
-use Rattle.witness_core.specs.declared.witness_fault.WitnessFault.TheVariants as fault
+use Rattle.witness_store.specs.declared.witness_fault.WitnessFault.{WitnessFault}
+use Rattle.witness_store.specs.declared.witness_fault.WitnessFault.TheVariants as fault
 use Rattle.witness_link.specs.Calls.{AreCalls, Call, digests_in, messages_in, receipts_in, refusals_in, refused_as, seen_in, signings_in, text_of}
 use Rattle.witness_link.specs.Links.{LinkTold, Standing, Terms, counts_of, standing_of, terms_of}
 use Rattle.witness_link.specs.Serving.{FailsToPut, FailsToTake, GoesOn, HasEnded, HasServed, Serves, StopsBy, StopsTaking, Wrote, signed_for}
-use Rattle.witness_link.specs.Stored.{IsLawfulList, IsOfStored}
+use Rattle.witness_link.specs.Stored.{IsLawfulList, IsOfListed}
 use Rattle.witness_link.specs.Taking.{Counted, FailsAt, IsWhole}
 use Rattle.witness_link.proofs.Asked.{asks_on, calls_close, signings_more, untold_asked}
 use Rattle.witness_link.proofs.Storing.{front_of, of_longer, stores_more, stores_none}
@@ -81,11 +81,11 @@ module _ (first mid new : LinkTold) (a : Serves first mid) (on : GoesOn first mi
       stores = stores_more first.witness.list first.witness.disk mid.witness.core mid.witness.list mid.witness.disk new.witness.core new.witness.list new.witness.disk
           a.stores on.is_whole.listed b.stores;
       lawful = b.lawful;
-      of_stored = subst (All (IsOfStored (terms_of first) new.witness.list)) (sym (flat_map-append (λ (c : Call). c.receipts) a.calls b.calls))
-          (All-append (IsOfStored (terms_of first) new.witness.list) (receipts_in a.calls) (receipts_in b.calls)
-          (All-weaker (IsOfStored (terms_of first) mid.witness.list) (IsOfStored (terms_of first) new.witness.list)
+      of_stored = subst (All (IsOfListed (terms_of first) new.witness.list)) (sym (flat_map-append (λ (c : Call). c.receipts) a.calls b.calls))
+          (All-append (IsOfListed (terms_of first) new.witness.list) (receipts_in a.calls) (receipts_in b.calls)
+          (All-weaker (IsOfListed (terms_of first) mid.witness.list) (IsOfListed (terms_of first) new.witness.list)
           (λ r is. of_longer (terms_of first) mid.witness.list new.witness.list r longer is) (receipts_in a.calls) a.of_stored)
-          (subst (λ t. All (IsOfStored t new.witness.list) (receipts_in b.calls)) a.same_terms b.of_stored));
+          (subst (λ t. All (IsOfListed t new.witness.list) (receipts_in b.calls)) a.same_terms b.of_stored));
       same_terms = b.same_terms ∙ a.same_terms;
       inquired = λ none. asks_on first.inquiries mid.inquiries new.inquiries first.witness.core mid.witness.core new.witness.core (a.inquired none) (closed none) (b.inquired (closed none));
     }
@@ -184,7 +184,7 @@ served_none link whole stand lawful knows = record {
     seen_are = sym (append-nil link.seen);
     stores = stores_none link.witness.list link.witness.disk link.witness.core knows stand whole.listed;
     lawful = lawful;
-    of_stored = All-nil (IsOfStored (terms_of link) link.witness.list);
+    of_stored = All-nil (IsOfListed (terms_of link) link.witness.list);
     same_terms = refl;
     inquired = λ none. untold_asked link.inquiries link.witness.core;
   };

@@ -22,8 +22,8 @@ use Rattle.message_feed.specs.declared.feed_close.FeedClose.TheVariants as feed
 use Rattle.run_status.specs.Readers.{SourceTold}
 use Rattle.run_status.specs.declared.close.Close.{Close}
 use Rattle.run_status.specs.declared.close.Close.TheVariants.{End, Bad, ReadFault, VerifierFault, SignerFault, DiskFault, WriteFault, Malformed, Full, OutOfMemory}
-use Rattle.witness_core.specs.declared.witness_fault.WitnessFault.{WitnessFault}
-use Rattle.witness_core.specs.declared.witness_fault.WitnessFault.TheVariants as fault
+use Rattle.witness_store.specs.declared.witness_fault.WitnessFault.{WitnessFault}
+use Rattle.witness_store.specs.declared.witness_fault.WitnessFault.TheVariants as fault
 use Rattle.witness_link.specs.Calls.{Call, messages_in, receipts_in}
 use Rattle.witness_link.specs.Links.{LinkTold, WitnessTold, terms_of, told_of_link}
 use Rattle.witness_link.specs.Offered.{Finishes, HasStopped, HasTaken, LendsSame, link_told}

@@ -8,7 +8,7 @@ use Rattle.keri_disk.proofs.Moments.{KnowsNow}
 use Rattle.keri_outside.specs.declared.inquiry.Inquiry.{Inquiry}
 use Rattle.keri_outside.specs.declared.signing.Signing.{Signing}
 use Rattle.run_status.specs.declared.close.Close.{Close}
-use Rattle.witness_core.specs.Storing.{AllStand}
+use Rattle.witness_store.specs.Storing.{AllStand}
 use Rattle.witness_link.specs.Links.{LinkTold, WitnessTold}
 use Rattle.witness_link.specs.Offered.{HasStopped, HasTaken, LendsSame, link_told}
 use Rattle.witness_link.specs.Serving.{ServesOne}

@@ -27,21 +27,21 @@ use Rattle.keri_outside.specs.declared.limits.Limits.{Limits}
 use Rattle.validator_core.specs.Signatures.{is_witness_under}
 use Rattle.quorum_laws.proofs.Inside.{accepted_inside}
 use Rattle.validator_core.specs.View.{CoreView, Follows, Stands, accepted_by, base_of, told_of}
-use Rattle.witness_core.specs.Histories.{History, history_of}
-use Rattle.witness_core.specs.Payloads.{AreListed, IsPayload, Pointwise}
+use Rattle.witness_store.specs.Histories.{History, history_of}
+use Rattle.witness_store.specs.Payloads.{AreListed, IsPayload, Pointwise}
 use Rattle.witness_core.specs.Outcomes.{TellsFate, due_by}
 use Rattle.witness_receipts.specs.Receipts.{AreReceiptsOf, IsReceiptOf, again, due}
-use Rattle.witness_core.specs.Storing.{AllStand, AreStored, HoldsFirst, by_entries}
+use Rattle.witness_store.specs.Storing.{AllStand, AreStored, HoldsFirst, by_entries}
 use Rattle.witness_core.specs.Telling.{TellsEvent}
 use Rattle.witness_receipts.specs.declared.fate.Fate.{Fate}
 use Rattle.witness_receipts.specs.declared.fate.Fate.TheVariants.{Stored, Waits, Seen, NotAnEvent, Refused}
 use Rattle.witness_receipts.specs.declared.receipt.Receipt.{Receipt}
-use Rattle.witness_core.specs.declared.room.Room.{Room}
+use Rattle.witness_store.specs.declared.room.Room.{Room}
 use Rattle.witness_core.proofs.Listed.{are_so, listed}
-use Rattle.witness_core.proofs.Lists.{take_front}
-use Rattle.witness_core.proofs.Stored.{first_held, missing_none, payloads_all}
+use Rattle.witness_store.proofs.Lists.{take_front}
+use Rattle.witness_store.proofs.Stored.{first_held, missing_none, payloads_all}
 use Rattle.witness_link.specs.Links.{Terms}
-use Rattle.witness_link.specs.Stored.{HasEvent, HoldsAccepted, IsOfStored}
+use Rattle.witness_link.specs.Stored.{HasEvent, HoldsAccepted, IsOfListed}
 
 -- each image stands for the list
 pub stored_stand : (h : History) (list : List (List ℕ)) (limits : Limits) (broken : Bool) (told : DiskTold) (room : Room) → AreStored h list limits broken told room → AllStand told list list
@@ -147,12 +147,12 @@ module _ (P : Body → Type 0) where
       (All-append P (drop (length stored) log) (again stored text) (All-drop P (length stored) log all) (found _ stored before))
 
 -- receipts of events that the list has
-by_events : (terms : Terms) (list : List (List ℕ)) (bs : List Body) (rs : List Receipt) → AllZip (IsReceiptOf terms.gives terms.key) bs rs → All (HasEvent list) bs → All (IsOfStored terms list) rs
-by_events terms list [] [] zip has = All-nil (IsOfStored terms list)
+by_events : (terms : Terms) (list : List (List ℕ)) (bs : List Body) (rs : List Receipt) → AllZip (IsReceiptOf terms.gives terms.key) bs rs → All (HasEvent list) bs → All (IsOfListed terms list) rs
+by_events terms list [] [] zip has = All-nil (IsOfListed terms list)
 by_events terms list [] (r ∷ rs) zip has = absurd zip
 by_events terms list (b ∷ bs) [] zip has = absurd zip
 by_events terms list (b ∷ bs) (r ∷ rs) zip has =
-    All-cons (IsOfStored terms list) r rs (record { event = b; has = All-head (HasEvent list) b bs has; is = zip.0 })
+    All-cons (IsOfListed terms list) r rs (record { event = b; has = All-head (HasEvent list) b bs has; is = zip.0 })
     (by_events terms list bs rs zip.1 (All-tail (HasEvent list) b bs has))
 
 -- what was accepted stays when more is told
@@ -162,17 +162,17 @@ grows old new entries told f =
     (e.0, (λ i. accepted (f.mode i) (f.bodies i) (told i)) ∙ e.1)
 
 module _ (terms : Terms) (old new : CoreView) (list : List (List ℕ)) (m : Message) (receipts : List Receipt) (holds : HoldsAccepted new list) where
-  of_event : TellsEvent terms.says old m new → AreReceiptsOf terms.gives terms.key (due terms.key (accepted_by old) (accepted_by new) m.body) receipts → All (IsOfStored terms list) receipts
+  of_event : TellsEvent terms.says old m new → AreReceiptsOf terms.gives terms.key (due terms.key (accepted_by old) (accepted_by new) m.body) receipts → All (IsOfListed terms list) receipts
   of_event t are =
       let entry = took 0 (body_of m.body t.event) (claims_of m) in
       let g = grows old new (entry ∷ t.verdicts) (t.behind ∙ append_assoc (told_of old) (entry ∷ []) t.verdicts) t.follows in
       by_events terms list (due terms.key (accepted_by old) (accepted_by new) m.body) receipts are (due_so (HasEvent list) terms.key (accepted_by old) g.0 (accepted_by new) m.body g.1 holds)
 
-  none_due : AreReceiptsOf terms.gives terms.key [] receipts → All (IsOfStored terms list) receipts
+  none_due : AreReceiptsOf terms.gives terms.key [] receipts → All (IsOfListed terms list) receipts
   none_due none = by_events terms list [] receipts none (All-nil (HasEvent list))
 
   -- the receipts of a call are of stored events
-  pub of_fate : (fate : Fate) → TellsFate terms.says old m fate new → AreReceiptsOf terms.gives terms.key (due_by terms.key old new m fate) receipts → All (IsOfStored terms list) receipts
+  pub of_fate : (fate : Fate) → TellsFate terms.says old m fate new → AreReceiptsOf terms.gives terms.key (due_by terms.key old new m fate) receipts → All (IsOfListed terms list) receipts
   of_fate (Refused reason) tells none = none_due none
   of_fate NotAnEvent tells none = none_due none
   of_fate (Stored listed) tells are = of_event tells.0 are

@@ -28,17 +28,17 @@ use Rattle.keri_disk.specs.Images.{DiskTold}
 use Rattle.keri_outside.specs.declared.limits.Limits.{Limits}
 use Rattle.quorum_laws.specs.Histories.{AreLevel}
 use Rattle.validator_core.specs.View.{CoreView, Follows, Stands, accepted_by, base_of, told_of}
-use Rattle.witness_core.specs.Histories.{history_of}
+use Rattle.witness_store.specs.Histories.{history_of}
 use Rattle.witness_core.specs.Outcomes.{TellsFate}
-use Rattle.witness_core.specs.Payloads.{AreListed, IsPayload, Pointwise}
-use Rattle.witness_core.specs.Storing.{AreStored}
+use Rattle.witness_store.specs.Payloads.{AreListed, IsPayload, Pointwise}
+use Rattle.witness_store.specs.Storing.{AreStored}
 use Rattle.witness_core.specs.Telling.{TellsFault}
 use Rattle.witness_receipts.specs.declared.fate.Fate.{Fate}
 use Rattle.witness_receipts.specs.declared.fate.Fate.TheVariants.{Stored, Waits, Seen, NotAnEvent, Refused}
 use Rattle.witness_core.specs.declared.outcome.Outcome.{Outcome}
-use Rattle.witness_core.specs.declared.room.Room.{Room}
-use Rattle.witness_core.specs.declared.witness_fault.WitnessFault.{WitnessFault}
-use Rattle.witness_core.specs.declared.witness_fault.WitnessFault.TheVariants as fault
+use Rattle.witness_store.specs.declared.room.Room.{Room}
+use Rattle.witness_store.specs.declared.witness_fault.WitnessFault.{WitnessFault}
+use Rattle.witness_store.specs.declared.witness_fault.WitnessFault.TheVariants as fault
 use Rattle.witness_core.proofs.Listed.{are_so}
 use Rattle.witness_core.proofs.Witnessed.{reads_again}
 use Rattle.witness_link.specs.Stored.{IsLawfulList}

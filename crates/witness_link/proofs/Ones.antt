@@ -10,18 +10,18 @@ use Rattle.run_status.specs.declared.close.Close.{Close}
 use Rattle.run_status.specs.declared.close.Close.TheVariants.{WriteFault}
 use Rattle.witness_core.specs.Outcomes.{AsksSigner, due_by}
 use Rattle.witness_receipts.specs.Receipts.{signings_of}
-use Rattle.witness_core.specs.Payloads.{AreListed}
-use Rattle.witness_core.specs.Storing.{StoresOn}
+use Rattle.witness_store.specs.Payloads.{AreListed}
+use Rattle.witness_store.specs.Storing.{StoresOn}
 use Rattle.witness_core.specs.Telling.{AsksVerdicts}
 use Rattle.witness_receipts.specs.declared.fate.Fate.{Fate}
 use Rattle.witness_receipts.specs.declared.receipt.Receipt.{Receipt}
-use Rattle.witness_core.specs.declared.witness_fault.WitnessFault.{WitnessFault}
-use Rattle.witness_core.specs.declared.witness_fault.WitnessFault.TheVariants as fault
+use Rattle.witness_store.specs.declared.witness_fault.WitnessFault.{WitnessFault}
+use Rattle.witness_store.specs.declared.witness_fault.WitnessFault.TheVariants as fault
 use Rattle.witness_link.specs.Calls.{Call, IsCall, refused_as, seen_in, text_of}
 use Rattle.witness_link.specs.Closes.{close_by}
 use Rattle.witness_link.specs.Links.{LinkTold, counts_of, standing_of, terms_of}
 use Rattle.witness_link.specs.Serving.{FailsToTake, HasEnded, HasServed, Serves, StopsBy, signed_for}
-use Rattle.witness_link.specs.Stored.{HoldsAccepted, IsLawfulList, IsOfStored}
+use Rattle.witness_link.specs.Stored.{HoldsAccepted, IsLawfulList, IsOfListed}
 use Rattle.witness_link.specs.Taking.{Counted, FailsAt, IsWhole}
 use Rattle.witness_link.proofs.Holding.{of_fate}
 
@@ -45,7 +45,7 @@ module _ (old new : LinkTold) (m : Message) (stores : StoresOn old.witness.list 
       seen_are = seen_same ∙ sym (append-nil old.seen);
       stores = stores;
       lawful = lawful;
-      of_stored = All-nil (IsOfStored (terms_of old) new.witness.list);
+      of_stored = All-nil (IsOfListed (terms_of old) new.witness.list);
       same_terms = same;
       inquired = λ none. asked;
     }
@@ -92,7 +92,7 @@ module _ (old new : LinkTold) (m : Message) (stores : StoresOn old.witness.list 
         seen_are = seen_more ∙ ap (λ l. old.seen ++ l) (sym (append-nil (seen_in fate)));
         stores = stores;
         lawful = lawful;
-        of_stored = subst (All (IsOfStored (terms_of old) new.witness.list)) (sym (append-nil receipts))
+        of_stored = subst (All (IsOfListed (terms_of old) new.witness.list)) (sym (append-nil receipts))
             (of_fate (terms_of old) old.witness.core new.witness.core new.witness.list m receipts holds fate is.tells is.receipts_are);
         same_terms = same;
         inquired = λ none. asked;

@@ -11,7 +11,7 @@ use Rattle.journal.proofs.Keeping.{accepted_grown}
 use Rattle.quorum_laws.proofs.Inside.{All-front}
 use Rattle.validator_core.specs.Base.{EndsAt, IsRead}
 use Rattle.validator_core.specs.View.{CoreView, Stands, accepted_by, base_of, told_of}
-use Rattle.witness_core.specs.Starts.{ReadsAgain, StartsAgain, texts_in}
+use Rattle.witness_store.specs.Starts.{ReadsAgain, StartsAgain, texts_in}
 use Rattle.witness_link.proofs.Holding.{all_held}
 
 -- a list whose texts are parted at one of them

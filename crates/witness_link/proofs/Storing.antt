@@ -8,12 +8,12 @@ use Rattle.journal.specs.declared.body.Body.{Body}
 use Rattle.keri_disk.specs.Images.{DiskTold}
 use Rattle.keri_disk.proofs.Moments.{KnowsNow, and_then, none_yet, weaker}
 use Rattle.validator_core.specs.View.{CoreView, accepted_by, base_of}
-use Rattle.witness_core.specs.Payloads.{AreListed, Pointwise}
-use Rattle.witness_core.specs.Storing.{AllStand, Grown, HoldsFirst, StoresOn}
+use Rattle.witness_store.specs.Payloads.{AreListed, Pointwise}
+use Rattle.witness_store.specs.Storing.{AllStand, Grown, HoldsFirst, StoresOn}
 use Rattle.witness_receipts.specs.declared.receipt.Receipt.{Receipt}
-use Rattle.witness_core.proofs.Stored.{first_wider}
+use Rattle.witness_store.proofs.Stored.{first_wider}
 use Rattle.witness_link.specs.Links.{Terms}
-use Rattle.witness_link.specs.Stored.{HoldsEach, IsLawfulList, IsOfStored}
+use Rattle.witness_link.specs.Stored.{HoldsEach, IsLawfulList, IsOfListed}
 use Rattle.witness_link.proofs.Holding.{has_more}
 
 -- of two fronts of one list the shorter is a front of the longer
@@ -88,8 +88,8 @@ stores_more first disk_first core mid disk_mid later new disk_new a listed b =
     }
 
 -- what is of a stored event is of one in a longer list
-pub of_longer : (terms : Terms) (list longer : List (List ℕ)) (r : Receipt) → Grown list longer → IsOfStored terms list r → IsOfStored terms longer r
-of_longer terms list longer r g is = subst (λ l. IsOfStored terms l r) (sym g.1) (record { event = is.event; has = has_more list g.0 is.event is.has; is = is.is })
+pub of_longer : (terms : Terms) (list longer : List (List ℕ)) (r : Receipt) → Grown list longer → IsOfListed terms list r → IsOfListed terms longer r
+of_longer terms list longer r g is = subst (λ l. IsOfListed terms l r) (sym g.1) (record { event = is.event; has = has_more list g.0 is.event is.has; is = is.is })
 
 -- a front of a lawful list is lawful
 lawful_front : (xs ys all : List (List ℕ)) → all ≡ xs ++ ys → IsLawfulList all → IsLawfulList xs
@@ -97,7 +97,7 @@ lawful_front xs ys all is lawful b c has has' level = let whole = subst IsLawful
 
 -- HELD: each image has the event of each receipt
 pub held_each : (terms : Terms) (first : List (List ℕ)) (disk_first : DiskTold) (core : CoreView) (list : List (List ℕ)) (disk : DiskTold) (receipts : List Receipt)
-    → (s : StoresOn first disk_first core list disk) → IsLawfulList s.accepted → All (IsOfStored terms list) receipts → (c : List ℕ) → disk.images c → HoldsEach terms receipts c
+    → (s : StoresOn first disk_first core list disk) → IsLawfulList s.accepted → All (IsOfListed terms list) receipts → (c : List ℕ) → disk.images c → HoldsEach terms receipts c
 held_each terms first disk_first core list disk receipts s lawful of c now =
     let f = s.images c now in
     let stored = take f.count s.accepted in
@@ -106,6 +106,6 @@ held_each terms first disk_first core list disk receipts s lawful of c now =
     record {
       stored = stored;
       holds = f.holds;
-      each = All-weaker (IsOfStored terms list) (IsOfStored terms stored) (λ r is. of_longer terms list stored r g is) receipts of;
+      each = All-weaker (IsOfListed terms list) (IsOfListed terms stored) (λ r is. of_longer terms list stored r g is) receipts of;
       lawful = lawful_front stored (drop f.count s.accepted) s.accepted (sym (take-append-drop f.count s.accepted)) lawful;
     }

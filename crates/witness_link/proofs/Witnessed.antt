@@ -10,14 +10,14 @@ use Rattle.keri_outside.specs.declared.limits.Limits.{Limits}
 use Rattle.validator_core.specs.View.{CoreView}
 use Rattle.witness_receipts.specs.Fates.{IsFate}
 use Rattle.witness_core.specs.Faults.{CausedBy, FullBy, Goes}
-use Rattle.witness_core.specs.Histories.{history_of}
+use Rattle.witness_store.specs.Histories.{history_of}
 use Rattle.witness_core.specs.Outcomes.{AreReceipts, KeepsList, TellsFate}
-use Rattle.witness_core.specs.Room.{IsTurnedAway, has_no_room, lacks_room}
-use Rattle.witness_core.specs.Telling.{IsUntold, TellsFault}
+use Rattle.witness_store.specs.Room.{lacks_room}
+use Rattle.witness_core.specs.Telling.{IsTurnedAway, IsUntold, TellsFault, has_no_room}
 use Rattle.witness_core.specs.declared.outcome.Outcome.{Outcome}
-use Rattle.witness_core.specs.declared.witness_fault.WitnessFault.{WitnessFault}
-use Rattle.witness_core.specs.declared.witness_fault.WitnessFault.TheVariants.{DiskFault, SignerFault, VerifierFault, Full, Broken, OutOfMemory}
-use Rattle.witness_core.proofs.Entries.{history_same}
+use Rattle.witness_store.specs.declared.witness_fault.WitnessFault.{WitnessFault}
+use Rattle.witness_store.specs.declared.witness_fault.WitnessFault.TheVariants.{DiskFault, SignerFault, VerifierFault, Full, Broken, OutOfMemory}
+use Rattle.witness_store.proofs.Entries.{history_same}
 use Rattle.witness_link.specs.Links.{WitnessTold, counts, terms_with}
 use Rattle.witness_link.specs.Taking.{IsWhole, TakesMessage}
 

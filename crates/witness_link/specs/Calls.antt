@@ -7,10 +7,10 @@ use Rattle.journal.specs.declared.refusal.Refusal.{Refusal}
 use Rattle.keri_outside.specs.declared.signing.Signing.{Signing}
 use Rattle.validator_core.specs.View.{CoreView}
 use Rattle.witness_receipts.specs.Fates.{IsFate}
-use Rattle.witness_core.specs.Payloads.{AreListed}
+use Rattle.witness_store.specs.Payloads.{AreListed}
 use Rattle.witness_core.specs.Outcomes.{KeepsList, TellsFate, due_by}
 use Rattle.witness_receipts.specs.Receipts.{AreReceiptsOf, signings_of}
-use Rattle.witness_core.specs.Room.{IsTurnedAway}
+use Rattle.witness_core.specs.Telling.{IsTurnedAway}
 use Rattle.witness_receipts.specs.declared.fate.Fate.{Fate}
 use Rattle.witness_receipts.specs.declared.fate.Fate.TheVariants.{Stored, Waits, Seen, NotAnEvent, Refused}
 use Rattle.witness_receipts.specs.declared.receipt.Receipt.{Receipt}
@@ -24,13 +24,13 @@ pub record Call : Type 0 where
   pub behind : Standing
 
 -- there was room for the message
-abbrev pub HasRoom : Terms → Standing → Message → Type 0
-HasRoom terms old m = IsTurnedAway terms.limits old.core old.list m → ⊥
+abbrev pub IsNotTurnedAway : Terms → Standing → Message → Type 0
+IsNotTurnedAway terms old m = IsTurnedAway terms.limits old.core old.list m → ⊥
 
 -- CALL: There was room for the message. Its event came, with the verdicts that its signatures ask for, unless it is refused or a
 -- receipt, and then nothing is stored; it has its fate and its receipts; and all accepted events are stored.
 pub record IsCall (terms : Terms) (old : Standing) (call : Call) : Type 0 where
-  pub room : HasRoom terms old call.message
+  pub room : IsNotTurnedAway terms old call.message
   pub tells : TellsFate terms.says old.core call.message call.fate call.behind.core
   pub fate_is : IsFate terms.key call.behind.core call.message call.fate
   pub receipts_are : AreReceiptsOf terms.gives terms.key (due_by terms.key old.core call.behind.core call.message call.fate) call.receipts

@@ -11,14 +11,14 @@ use Rattle.run_status.specs.declared.close.Close.{Close}
 use Rattle.run_status.specs.declared.close.Close.TheVariants.{End, Bad, ReadFault, VerifierFault, SignerFault, DiskFault, WriteFault, Malformed, Full, OutOfMemory}
 use Rattle.validator_core.specs.View.{open_of}
 use Rattle.witness_core.specs.Outcomes.{AsksSigner}
-use Rattle.witness_core.specs.Payloads.{AreListed}
-use Rattle.witness_core.specs.Storing.{StoresOn}
+use Rattle.witness_store.specs.Payloads.{AreListed}
+use Rattle.witness_store.specs.Storing.{StoresOn}
 use Rattle.witness_core.specs.Telling.{AsksVerdicts}
-use Rattle.witness_core.specs.declared.witness_fault.WitnessFault.{WitnessFault}
-use Rattle.witness_core.specs.declared.witness_fault.WitnessFault.TheVariants as fault
+use Rattle.witness_store.specs.declared.witness_fault.WitnessFault.{WitnessFault}
+use Rattle.witness_store.specs.declared.witness_fault.WitnessFault.TheVariants as fault
 use Rattle.witness_link.specs.Calls.{AreCalls, Call, digests_in, messages_in, receipts_in, refusals_in, signings_in, text_of}
 use Rattle.witness_link.specs.Links.{LinkTold, Standing, counts_of, standing_of, terms_of}
-use Rattle.witness_link.specs.Stored.{IsLawfulList, IsOfStored}
+use Rattle.witness_link.specs.Stored.{IsLawfulList, IsOfListed}
 use Rattle.witness_link.specs.Taking.{Counted, FailsAt, IsWhole}
 
 -- SERVES: Messages were taken, one behind the other, and what became of them is noted. At each moment a stop leaves what was stored
@@ -33,7 +33,7 @@ pub record Serves (old new : LinkTold) : Type 0 where
   pub seen_are : new.seen ≡ old.seen ++ digests_in calls
   pub stores : StoresOn old.witness.list old.witness.disk new.witness.core new.witness.list new.witness.disk
   pub lawful : IsLawfulList stores.accepted
-  pub of_stored : All (IsOfStored (terms_of old) new.witness.list) (receipts_in calls)
+  pub of_stored : All (IsOfListed (terms_of old) new.witness.list) (receipts_in calls)
   pub same_terms : terms_of new ≡ terms_of old
   pub inquired : open_of old.witness.core ≡ [] → AsksVerdicts old.inquiries new.inquiries old.witness.core new.witness.core
 

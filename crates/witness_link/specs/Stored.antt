@@ -29,7 +29,7 @@ abbrev pub IsLawfulList : List (List ℕ) → Type 0
 IsLawfulList list = (b c : Body) → HasEvent list b → HasEvent list c → AreLevel b.event c.event → b.bytes ≡ c.bytes
 
 -- the receipt is of an event of which the list has the payload
-pub record IsOfStored (terms : Terms) (list : List (List ℕ)) (r : Receipt) : Type 0 where
+pub record IsOfListed (terms : Terms) (list : List (List ℕ)) (r : Receipt) : Type 0 where
   pub event : Body
   pub has : HasEvent list event
   pub is : IsReceiptOf terms.gives terms.key event r
@@ -38,5 +38,5 @@ pub record IsOfStored (terms : Terms) (list : List (List ℕ)) (r : Receipt) : T
 pub record HoldsEach (terms : Terms) (receipts : List Receipt) (file : List ℕ) : Type 0 where
   pub stored : List (List ℕ)
   pub holds : Holds Two file stored
-  pub each : All (IsOfStored terms stored) receipts
+  pub each : All (IsOfListed terms stored) receipts
   pub lawful : IsLawfulList stored

@@ -5,15 +5,14 @@ use Rattle.std.specs.declared.result.Result.TheVariants.{Ok, Err}
 use Rattle.cesr_stream.specs.declared.message.Message.{Message}
 use Rattle.keri_specs.specs.Causes.{Rose}
 use Rattle.validator_core.specs.View.{open_of}
-use Rattle.witness_core.specs.Payloads.{AreListed}
-use Rattle.witness_core.specs.Room.{IsTurnedAway}
-use Rattle.witness_core.specs.Starts.{ReadsAgain, StartsAgain}
-use Rattle.witness_core.specs.Storing.{AllStand, StoresOn}
-use Rattle.witness_core.specs.Telling.{IsUntold, TellsEvent}
+use Rattle.witness_store.specs.Payloads.{AreListed}
+use Rattle.witness_store.specs.Starts.{ReadsAgain, StartsAgain}
+use Rattle.witness_store.specs.Storing.{AllStand, StoresOn}
+use Rattle.witness_core.specs.Telling.{IsTurnedAway, IsUntold, TellsEvent}
 use Rattle.witness_core.specs.declared.outcome.Outcome.{Outcome}
-use Rattle.witness_core.specs.declared.witness_fault.WitnessFault.{WitnessFault}
-use Rattle.witness_core.specs.declared.witness_fault.WitnessFault.TheVariants.{DiskFault, SignerFault, VerifierFault, Full, Broken, OutOfMemory}
-use Rattle.witness_link.specs.Calls.{HasRoom, IsCall}
+use Rattle.witness_store.specs.declared.witness_fault.WitnessFault.{WitnessFault}
+use Rattle.witness_store.specs.declared.witness_fault.WitnessFault.TheVariants.{DiskFault, SignerFault, VerifierFault, Full, Broken, OutOfMemory}
+use Rattle.witness_link.specs.Calls.{IsNotTurnedAway, IsCall}
 use Rattle.witness_link.specs.Stored.{HoldsAccepted, IsLawfulList}
 use Rattle.witness_link.specs.Links.{Counts, Standing, Terms, WitnessTold, standing_of}
 
@@ -48,9 +47,9 @@ pub record IsSound (witness : WitnessTold) : Type 0 where
 -- there still is none for it. Without memory its event may have come, or not. Else it came, and there was room for it; and but for a
 -- fault of the disk, all that is accepted is stored.
 abbrev pub FailsAt : Terms → Standing → Message → WitnessTold → WitnessFault → Type 0
-FailsAt terms old m new DiskFault = HasRoom terms old m × TellsEvent terms.says old.core m new.core
-FailsAt terms old m new VerifierFault = HasRoom terms old m × TellsEvent terms.says old.core m new.core × IsWhole new
-FailsAt terms old m new SignerFault = HasRoom terms old m × TellsEvent terms.says old.core m new.core × (open_of new.core ≡ []) × IsWhole new
+FailsAt terms old m new DiskFault = IsNotTurnedAway terms old m × TellsEvent terms.says old.core m new.core
+FailsAt terms old m new VerifierFault = IsNotTurnedAway terms old m × TellsEvent terms.says old.core m new.core × IsWhole new
+FailsAt terms old m new SignerFault = IsNotTurnedAway terms old m × TellsEvent terms.says old.core m new.core × (open_of new.core ≡ []) × IsWhole new
 FailsAt terms old m new Full = IsTurnedAway terms.limits new.core new.list m × IsUntold old.core new.core × (new.list ≡ old.list) × IsWhole new
 FailsAt terms old m new OutOfMemory = IsUntold old.core new.core ⊎ TellsEvent terms.says old.core m new.core
 FailsAt terms old m new Broken = ⊥

@@ -1,6 +1,6 @@
-//! How a link closes by a fault of its witness.
+//! How a link closes by a fault of its witness, and whether the next one is asked for.
 ghost use Rattle.std.specs.Prelude.{◌≡◌};
-ghost use Rattle.witness_link.specs.Closes.{close_by};
+ghost use Rattle.witness_link.specs.Closes.{close_by, asks_next as asks_next_by};
 
 use run_status::Close;
 use witness_core::WitnessFault;
@@ -16,5 +16,16 @@ pub(crate) fn close_of(fault: WitnessFault) -> Close
         WitnessFault::Full => Close::Full,
         WitnessFault::Broken => Close::DiskFault,
         WitnessFault::OutOfMemory => Close::OutOfMemory,
+    }
+}
+
+/// Whether after a link that closed so the next one is asked for.
+pub fn asks_next(close: Close) -> bool
+    ensures { result ≡ asks_next_by close }
+{
+    match close {
+        Close::End | Close::Bad(_) | Close::ReadFault | Close::WriteFault => true,
+        Close::VerifierFault | Close::SignerFault | Close::DiskFault => false,
+        Close::Malformed(_) | Close::Full | Close::OutOfMemory => false,
     }
 }

@@ -9,6 +9,7 @@ mod receipts;
 mod service;
 mod witnessing;
 
+pub use closes::asks_next;
 pub use link_end::LinkEnd;
 pub use run_status::Close;
 pub use service::serve_link;

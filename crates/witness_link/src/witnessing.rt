@@ -1,7 +1,7 @@
 //! What serving a link needs of a witness.
 ghost use Rattle.std.specs.Prelude.{◌≡◌, ◌⊎◌, false, List, ℕ};
 ghost use Rattle.witness_core.specs.Outcomes.{AsksSigner};
-ghost use Rattle.witness_core.specs.Payloads.{AreListed};
+ghost use Rattle.witness_store.specs.Payloads.{AreListed};
 ghost use Rattle.witness_core.specs.Telling.{AsksVerdicts};
 ghost use Rattle.witness_link.specs.Links.{WitnessTold, counts, terms_with};
 ghost use Rattle.witness_link.specs.Taking.{IsSound, KeepsSame, TakesMessage};

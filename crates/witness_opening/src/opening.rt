@@ -7,7 +7,7 @@ ghost use Rattle.witness_opening.specs.Opening.{IsOpen, IsOpening};
 use crate::file_kind::{is_empty, is_unmarked};
 use crate::old_list::fill;
 use crate::ways::{begin, read};
-use crate::{NotOpened, Opened, OpeningFault};
+use crate::{NotOpened, Opened};
 use keri_outside::{Failed, Limits};
 use run_outside::Outside;
 use std::alloc::Global;

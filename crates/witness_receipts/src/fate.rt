@@ -8,7 +8,6 @@ ghost use Rattle.validator_core.specs.View.{accepted_by, base_of, state_of};
 ghost use Rattle.witness_receipts.specs.Fates as fates;
 ghost use Rattle.witness_receipts.specs.Fates.{live_there, waiting_fate};
 
-use crate::receipts::stands;
 use cesr_codes::{Digest, Key, Prefix};
 use event_body::{Event, prefix_of, said_of_event, sn_of};
 use event_rules::takes;
@@ -38,7 +37,7 @@ pub fn event_fate(core: &Core, key: &Key, number: u32) -> Fate
     requires event { (b : Body) → slice_get core.now.held number ≡ Some b → events.is_receipt b.event ≡ false }
     ensures { (b : Body) → slice_get core.now.held number ≡ Some b → fates.event_fate key.now core.now b ≡ Some result }
 {
-    stands(core);
+    core.stands();
     match core.place_of(number) {
         Some(place) => Fate::Stored {
             listed: core.is_witness_at(place, key),
@@ -55,7 +54,7 @@ fn fate_of_waiting(core: &Core, number: u32) -> Fate
     requires waits { (b : Body) → slice_get core.now.held number ≡ Some b → is_in (accepted_by core.now) b ≡ false }
     ensures { (b : Body) → slice_get core.now.held number ≡ Some b → waiting_fate core.now b ≡ Some result }
 {
-    stands(core);
+    core.stands();
     let Some(event) = core.event(number) else {
         unreachable!()
     };

@@ -7,4 +7,4 @@ mod receipts;
 
 pub use fate::{Fate, event_fate};
 pub use receipt::{Receipt, SigningFault};
-pub use receipts::{receipts_of, stands};
+pub use receipts::receipts_of;

@@ -2,11 +2,10 @@
 ghost use Rattle.std.specs.Prelude.{◌≡◌, ◌==◌, ◌≤◌, ◌<◌, ◌∷◌, ◌++◌, [], All, IfOk, Some, drop, length, position, slice_get, take};
 ghost use Rattle.std.specs.List.{cons_option};
 ghost use Rattle.cesr_codes.specs.declared.key.KeyCode.TheVariants.{Fixed};
-ghost use Rattle.keri_outside.specs.Asked.{signing};
 ghost use Rattle.keri_specs.specs.Told.{Puts};
 ghost use Rattle.journal.specs.Journals.{chosen};
 ghost use Rattle.journal.specs.declared.body.Body.{Body};
-ghost use Rattle.validator_core.specs.View.{Stands, accepted_by};
+ghost use Rattle.validator_core.specs.View.{accepted_by};
 ghost use Rattle.witness_receipts.specs.Receipts.{AreReceiptsOf, CountsFaults, IsReceiptOf, again, due, listed, signings_of};
 
 use crate::Receipt;
@@ -97,7 +96,7 @@ fn own_listed(core: &Core, key: &Key, front: usize, number: u32) -> Option<u32>
         ≡ listed key.now (accepted_by core.now) (again (take front (accepted_by core.now)) b.bytes) }
     ensures held { All (λ n. n < length core.now.held) (cons_option result []) }
 {
-    stands(core);
+    core.stands();
     match core.place_of(number) {
         Some(place) => own_at(core, key, front, number, place),
         None => None,
@@ -112,7 +111,7 @@ fn own_at(core: &Core, key: &Key, front: usize, number: u32, place: usize) -> Op
         ≡ listed key.now (accepted_by core.now) (again (take front (accepted_by core.now)) b.bytes) }
     ensures held { All (λ n. n < length core.now.held) (cons_option result []) }
 {
-    stands(core);
+    core.stands();
     if place >= front {
         return None;
     }
@@ -121,16 +120,6 @@ fn own_at(core: &Core, key: &Key, front: usize, number: u32, place: usize) -> Op
     } else {
         None
     }
-}
-
-/// What is true of each core, stated for proofs. Nothing is done here.
-pub fn stands(core: &Core)
-    ensures stands { Stands core.now }
-    ensures held { All (λ n. n < length core.now.held) core.now.accepted }
-    ensures accepted { chosen core.now.held core.now.accepted ≡ accepted_by core.now }
-{
-    let _journal = core.journal();
-    let _accepted = core.accepted();
 }
 
 // The receipts of the bodies of these numbers.

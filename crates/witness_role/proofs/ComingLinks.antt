@@ -17,11 +17,12 @@ use Rattle.witness_link.specs.Served.{ClosesLink}
 use Rattle.witness_link.specs.Serving.{Serves}
 use Rattle.run_record.specs.Run.{DoorTold}
 use Rattle.witness_role.proofs.ThroughLinks.{asked_through, stops_leave}
-use Rattle.witness_role.specs.ServedLinks.{Between, IsServed, ServedLink, ServesComing, ServesEach, ServesOne, goes_on, reader_of}
+use Rattle.witness_link.specs.Closes.{asks_next}
+use Rattle.witness_role.specs.ServedLinks.{Between, IsServed, ServedLink, ServesComing, ServesEach, ServesOne, reader_of}
 
 -- each of these links closed so that the next one is asked for
-abbrev all_go_on : List ServedLink → Bool
-all_go_on links = list_all (λ l. goes_on l.close) links
+abbrev all_ask_next : List ServedLink → Bool
+all_ask_next links = list_all (λ l. asks_next l.close) links
 
 -- what a link held at first
 abbrev held_by : List ServedLink → List (Option (List ℕ))
@@ -29,7 +30,7 @@ held_by links = map (λ l. l.source_old.left) links
 
 -- behind a link after which the next one is asked for the witness is whole
 pub whole_kept : (limits : Limits) (source_old source_new : SourceTold) (bytes : List ℕ) (old new : LinkTold) (serves : Serves old new) (close : Close)
-    → ClosesLink limits source_old source_new bytes old new serves close → goes_on close ≡ true → new.witness.broken ≡ false
+    → ClosesLink limits source_old source_new bytes old new serves close → asks_next close ≡ true → new.witness.broken ≡ false
 whole_kept limits source_old source_new bytes old new serves End c goes = c.1.is_whole.whole
 whole_kept limits source_old source_new bytes old new serves (Bad bad) c goes = c.1.is_whole.whole
 whole_kept limits source_old source_new bytes old new serves ReadFault c goes = c.1.is_whole.whole
@@ -64,13 +65,13 @@ rest_true true b e = e
 rest_true false b e = cc
 
 -- all but the last of these go on, and so do all where it does
-last_decides : (links : List ServedLink) (last : ServedLink) → all_go_on links ≡ true → all_go_on (links ++ last ∷ []) ≡ goes_on last.close
-last_decides [] last e = alone (goes_on last.close)
+last_decides : (links : List ServedLink) (last : ServedLink) → all_ask_next links ≡ true → all_ask_next (links ++ last ∷ []) ≡ asks_next last.close
+last_decides [] last e = alone (asks_next last.close)
   where
     alone : (b : Bool) → (b && true) ≡ b
     alone true = refl
     alone false = refl
-last_decides (link ∷ links) last e = rw (first_true (goes_on link.close) (all_go_on links) e) (last_decides links last (rest_true (goes_on link.close) (all_go_on links) e))
+last_decides (link ∷ links) last e = rw (first_true (asks_next link.close) (all_ask_next links) e) (last_decides links last (rest_true (asks_next link.close) (all_ask_next links) e))
 
 -- the next link comes behind those that were taken
 taken_behind : {C : Type 0} (E : Type 0) (left : C → Option (List ℕ)) (old mid new : Option (List (List ℕ))) (held : List (Option (List ℕ))) (caller : C)
@@ -98,20 +99,20 @@ module _ {D : Type 0} (told : D → DiskTold) (key : Key) (limits run_limits : L
   abbrev One : ServedLink → Between D → Between D → Type 0
   One = ServesOne told key limits run_limits says gives
 
-  serves_more : (links : List ServedLink) (last : ServedLink) (old mid new : Between D) → all_go_on links ≡ true → Each links old mid → One last mid new → Each (links ++ last ∷ []) old new
+  serves_more : (links : List ServedLink) (last : ServedLink) (old mid new : Between D) → all_ask_next links ≡ true → Each links old mid → One last mid new → Each (links ++ last ∷ []) old new
   serves_more [] last old mid new all each one = (new, subst (λ (m : Between D). One last m new) each one, λ e. refl, refl)
   serves_more (link ∷ links) last old mid new all each one = (
     each.0,
     each.1,
-    λ ends. let clash : true ≡ false = sym (first_true (goes_on link.close) (all_go_on links) all) ∙ ends in cc,
-    serves_more links last each.0 mid new (rest_true (goes_on link.close) (all_go_on links) all) each.3 one,
+    λ ends. let clash : true ≡ false = sym (first_true (asks_next link.close) (all_ask_next links) all) ∙ ends in cc,
+    serves_more links last each.0 mid new (rest_true (asks_next link.close) (all_ask_next links) all) each.3 one,
   )
 
   -- Links came and were served, and another may come. These are their readers and their sinks.
   pub record IsComing (left_old left : Option (List (List ℕ))) (old now : Between D) (readers : List Reader) (sinks : List SinkTold) : Type 0 where
     pub links : List ServedLink
     pub serves : Each links old now
-    pub go_on : all_go_on links ≡ true
+    pub go_on : all_ask_next links ≡ true
     pub came : AreTaken left_old left (held_by links)
     pub readers_are : readers ≡ map reader_of links
     pub sinks_are : sinks ≡ map (λ l. l.sink) links
@@ -154,11 +155,11 @@ module _ {D : Type 0} (told : D → DiskTold) (key : Key) (limits run_limits : L
       sinks_more : sinks ++ sink ∷ [] ≡ map (λ l. l.sink) (c.links ++ s.link ∷ [])
       sinks_more = rw s.sink_is (ap (λ xs. xs ++ s.link.sink ∷ []) c.sinks_are ∙ sym (map-append (λ l. l.sink) c.links (s.link ∷ [])))
 
-      decided : (goes : Bool) → goes_on reader.close ≡ goes → all_go_on (c.links ++ s.link ∷ []) ≡ goes
-      decided goes e = last_decides c.links s.link c.go_on ∙ (ap (λ (r : Reader). goes_on r.close) (sym s.reader_is) ∙ e)
+      decided : (goes : Bool) → asks_next reader.close ≡ goes → all_ask_next (c.links ++ s.link ∷ []) ≡ goes
+      decided goes e = last_decides c.links s.link c.go_on ∙ (ap (λ (r : Reader). asks_next r.close) (sym s.reader_is) ∙ e)
 
       -- one more was served, behind which another may come
-      pub coming_more : goes_on reader.close ≡ true → IsComing left_old left_new old new (readers ++ reader ∷ []) (sinks ++ sink ∷ [])
+      pub coming_more : asks_next reader.close ≡ true → IsComing left_old left_new old new (readers ++ reader ∷ []) (sinks ++ sink ∷ [])
       coming_more goes = record {
         links = c.links ++ s.link ∷ [];
         serves = serves_more c.links s.link old now new c.go_on c.serves s.one;
@@ -170,7 +171,7 @@ module _ {D : Type 0} (told : D → DiskTold) (key : Key) (limits run_limits : L
 
       -- one more was served, which ends the run
       pub comes_last : (count : ℕ) (door_old door : DoorTold) → door_old.left ≡ left_old → door.left ≡ left_new → length (readers ++ reader ∷ []) ≤ count
-          → door.faults ≡ door_old.faults → goes_on reader.close ≡ false
+          → door.faults ≡ door_old.faults → asks_next reader.close ≡ false
           → ServesComing told key limits run_limits says gives count false door_old door old new (readers ++ reader ∷ []) (sinks ++ sink ∷ [])
       comes_last count door_old door was now_is few unfailed ends =
           let many : length (readers ++ reader ∷ []) ≡ length (c.links ++ s.link ∷ []) = ap length readers_more ∙ length-map (c.links ++ s.link ∷ []) reader_of in

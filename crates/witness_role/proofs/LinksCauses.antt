@@ -15,11 +15,12 @@ use Rattle.witness_link.specs.Served.{ClosesLink}
 use Rattle.witness_link.specs.Serving.{Serves}
 use Rattle.run_record.specs.Run.{DoorTold, ReadFaultsRose, Run, SignerTold, SinkRose, shared_verifier}
 use Rattle.witness_role.specs.ServedFile.{Left, MakesServing}
-use Rattle.witness_role.specs.ServedLinks.{Between, ServedLink, ServesEach, ServesLinksBy, ServesOne, goes_on, idle_reader, reader_of, readers_with}
+use Rattle.witness_link.specs.Closes.{asks_next}
+use Rattle.witness_role.specs.ServedLinks.{Between, ServedLink, ServesEach, ServesLinksBy, ServesOne, idle_reader, reader_of, readers_with}
 
 -- behind a link after which the next one is asked for no count but those of its source and its sink has risen
 counts_kept : (limits : Limits) (source_old source_new : SourceTold) (bytes : List ℕ) (old new : LinkTold) (serves : Serves old new) (close : Close)
-    → ClosesLink limits source_old source_new bytes old new serves close → goes_on close ≡ true → counts_of new ≡ counts_of old
+    → ClosesLink limits source_old source_new bytes old new serves close → asks_next close ≡ true → counts_of new ≡ counts_of old
 counts_kept limits source_old source_new bytes old new serves End c goes = c.1.counts_same
 counts_kept limits source_old source_new bytes old new serves (Bad bad) c goes = c.1.counts_same
 counts_kept limits source_old source_new bytes old new serves ReadFault c goes = c.1.counts_same
@@ -64,10 +65,10 @@ module _ {D : Type 0} (told : D → DiskTold) (key : Key) (limits run_limits : L
   counts_at b = counts (told b.left.disk).faults b.verifier_faults b.signer_faults
 
   -- a fault that ends the run raised its count in the last link, and that stood as at the first before
-  module _ (at : Close) (stops : goes_on at ≡ false) (count : Counts → ℕ)
+  module _ (at : Close) (stops : asks_next at ≡ false) (count : Counts → ℕ)
       (rises : (link : ServedLink) (old new : Between D) → One link old new → link.close ≡ at → Rose (count (counts_at old)) (count (counts_at new))) where
-    by_close : (link : ServedLink) (links : List ServedLink) (old mid new : Between D) → One link old mid → (goes_on link.close ≡ false → links ≡ [])
-        → HasClose at (map reader_of links) → Rose (count (counts_at mid)) (count (counts_at new)) → (goes : Bool) → goes_on link.close ≡ goes
+    by_close : (link : ServedLink) (links : List ServedLink) (old mid new : Between D) → One link old mid → (asks_next link.close ≡ false → links ≡ [])
+        → HasClose at (map reader_of links) → Rose (count (counts_at mid)) (count (counts_at new)) → (goes : Bool) → asks_next link.close ≡ goes
         → Rose (count (counts_at old)) (count (counts_at new))
     by_close link links old mid new one ends later rest true goes =
         let kept : counts_at mid ≡ counts_at old = counts_kept run_limits link.source_old link.source one.serves.bytes _ _ one.serves.serves link.close one.serves.closes goes in
@@ -77,11 +78,11 @@ module _ {D : Type 0} (told : D → DiskTold) (key : Key) (limits run_limits : L
     each_rose : (links : List ServedLink) (old new : Between D) → Each links old new → HasClose at (map reader_of links) → Rose (count (counts_at old)) (count (counts_at new))
     each_rose [] old new each closed = absurd closed
     each_rose (link ∷ links) old new each (inl e) =
-        let none : links ≡ [] = each.2 (ap goes_on e ∙ stops) in
+        let none : links ≡ [] = each.2 (ap asks_next e ∙ stops) in
         let same : new ≡ each.0 = subst (λ ls. Each ls each.0 new) none each.3 in
         subst (λ (b : Between D). Rose (count (counts_at old)) (count (counts_at b))) (sym same) (rises link old each.0 each.1 e)
     each_rose (link ∷ links) old new each (inr later) =
-        by_close link links old each.0 new each.1 each.2 later (each_rose links each.0 new each.3 later) (goes_on link.close) refl
+        by_close link links old each.0 new each.1 each.2 later (each_rose links each.0 new each.3 later) (asks_next link.close) refl
 
   asked_rose : (links : List ServedLink) (old new : Between D) → Each links old new → HasClose VerifierFault (map reader_of links) → Rose old.verifier_faults new.verifier_faults
   asked_rose = each_rose VerifierFault refl (λ c. c.verifier) (λ link old new one e. let closes = rw e at one.serves.closes in closes.fails.counted.1)

@@ -9,23 +9,24 @@ use Rattle.run_status.specs.declared.close.Close.{Close}
 use Rattle.run_status.specs.declared.close.Close.TheVariants.{End, Bad, ReadFault, VerifierFault, SignerFault, DiskFault, WriteFault, Malformed, Full, OutOfMemory}
 use Rattle.run_status.specs.Readers.{SourceTold}
 use Rattle.validator_core.specs.View.{open_of}
-use Rattle.witness_core.specs.Payloads.{AreListed}
-use Rattle.witness_core.specs.Storing.{Grown}
+use Rattle.witness_store.specs.Payloads.{AreListed}
+use Rattle.witness_store.specs.Storing.{Grown}
 use Rattle.witness_core.specs.Telling.{AsksVerdicts}
 use Rattle.witness_receipts.specs.declared.receipt.Receipt.{Receipt}
 use Rattle.witness_link.specs.Calls.{receipts_in}
 use Rattle.witness_link.specs.Links.{LinkTold, Standing, standing_of, terms_of}
 use Rattle.witness_link.specs.Served.{ClosesLink}
 use Rattle.witness_link.specs.Serving.{Serves}
-use Rattle.witness_link.specs.Stored.{IsOfStored}
+use Rattle.witness_link.specs.Stored.{IsOfListed}
 use Rattle.witness_link.proofs.Asked.{asks_on, calls_close, untold_asked}
 use Rattle.witness_link.proofs.Storing.{front_of, held_each, of_longer, stores_more}
 use Rattle.witness_role.specs.ServedFile.{Left}
-use Rattle.witness_role.specs.ServedLinks.{Between, ServedLink, ServesEach, ServesOne, StopsLeave, StoresThrough, goes_on, link_terms, receipts_due}
+use Rattle.witness_link.specs.Closes.{asks_next}
+use Rattle.witness_role.specs.ServedLinks.{Between, ServedLink, ServesEach, ServesOne, StopsLeave, StoresThrough, link_terms, receipts_due}
 
 -- behind a link after which the next one is asked for all that is accepted is stored
 stored_behind : (limits : Limits) (source_old source_new : SourceTold) (bytes : List ℕ) (old new : LinkTold) (serves : Serves old new) (close : Close)
-    → ClosesLink limits source_old source_new bytes old new serves close → goes_on close ≡ true → AreListed new.witness.core new.witness.list
+    → ClosesLink limits source_old source_new bytes old new serves close → asks_next close ≡ true → AreListed new.witness.core new.witness.list
 stored_behind limits source_old source_new bytes old new serves End c goes = c.1.is_whole.listed
 stored_behind limits source_old source_new bytes old new serves (Bad bad) c goes = c.1.is_whole.listed
 stored_behind limits source_old source_new bytes old new serves ReadFault c goes = c.1.is_whole.listed
@@ -39,7 +40,7 @@ stored_behind limits source_old source_new bytes old new serves (Malformed place
 
 -- the witness stands as behind the last message then
 now_behind : (limits : Limits) (source_old source_new : SourceTold) (bytes : List ℕ) (old new : LinkTold) (serves : Serves old new) (close : Close)
-    → ClosesLink limits source_old source_new bytes old new serves close → goes_on close ≡ true → serves.behind ≡ standing_of new.witness
+    → ClosesLink limits source_old source_new bytes old new serves close → asks_next close ≡ true → serves.behind ≡ standing_of new.witness
 now_behind limits source_old source_new bytes old new serves End c goes = c.1.now
 now_behind limits source_old source_new bytes old new serves (Bad bad) c goes = c.1.now
 now_behind limits source_old source_new bytes old new serves ReadFault c goes = c.1.now
@@ -86,8 +87,8 @@ module _ {D : Type 0} (told : D → DiskTold) (key : Key) (limits run_limits : L
       let longer : Grown mid.list new.list = front_of mid.list new.list b.stores.accepted b.stores.grown b.stores.first b.stores.longer in
       let terms = link_terms told key limits run_limits says gives in
       let stores = stores_more old.list (told old.disk) mid.core mid.list (told mid.disk) new.core new.list (told new.disk) a.stores listed b.stores in
-      let of = All-append (IsOfStored terms new.list) first later
-      (All-weaker (IsOfStored terms mid.list) (IsOfStored terms new.list) (λ r is. of_longer terms mid.list new.list r longer is) first a.of_stored) b.of_stored in
+      let of = All-append (IsOfListed terms new.list) first later
+      (All-weaker (IsOfListed terms mid.list) (IsOfListed terms new.list) (λ r is. of_longer terms mid.list new.list r longer is) first a.of_stored) b.of_stored in
       record {
         stores = stores;
         lawful = b.lawful;
@@ -106,9 +107,9 @@ module _ {D : Type 0} (told : D → DiskTold) (key : Key) (limits run_limits : L
   stops_leave (link ∷ []) old new each = through_last link old each.0 new each.1 each.3
   stops_leave (link ∷ next ∷ links) old new each =
       through_both (receipts_in each.1.serves.serves.calls) (due (next ∷ links) each.0 new each.3) old.left each.0.left new.left (through_one link old each.0 each.1)
-      (listed (goes_on link.close) refl) (stops_leave (next ∷ links) each.0 new each.3)
+      (listed (asks_next link.close) refl) (stops_leave (next ∷ links) each.0 new each.3)
     where
-      listed : (goes : Bool) → goes_on link.close ≡ goes → AreListed each.0.left.core each.0.left.list
+      listed : (goes : Bool) → asks_next link.close ≡ goes → AreListed each.0.left.core each.0.left.list
       listed true goes = stored_behind run_limits link.source_old link.source each.1.serves.bytes _ _ each.1.serves.serves link.close each.1.serves.closes goes
       listed false ends = let none : next ∷ links ≡ [] = each.2 ends in cc
 
@@ -122,10 +123,10 @@ module _ {D : Type 0} (told : D → DiskTold) (key : Key) (limits run_limits : L
       asks_on old.inquiries each.0.inquiries new.inquiries old.left.core each.0.left.core new.left.core (each.1.serves.serves.inquired none) closed
       (asked_through (next ∷ links) each.0 new each.3 closed)
     where
-      closes : (goes : Bool) → goes_on link.close ≡ goes → open_of each.0.left.core ≡ []
+      closes : (goes : Bool) → asks_next link.close ≡ goes → open_of each.0.left.core ≡ []
       closes true goes = none_behind _ _ each.1.serves.serves
           (now_behind run_limits link.source_old link.source each.1.serves.bytes _ _ each.1.serves.serves link.close each.1.serves.closes goes) none
       closes false ends = let none : next ∷ links ≡ [] = each.2 ends in cc
 
       closed : open_of each.0.left.core ≡ []
-      closed = closes (goes_on link.close) refl
+      closed = closes (asks_next link.close) refl

@@ -15,32 +15,20 @@ use Rattle.keri_outside.specs.declared.limits.Limits.{Limits}
 use Rattle.keri_outside.specs.declared.signing.Signing.{Signing}
 use Rattle.run_outside.specs.declared.making.MakingKind.TheVariants.{Door as DoorKind}
 use Rattle.run_status.specs.declared.close.Close.{Close}
-use Rattle.run_status.specs.declared.close.Close.TheVariants.{End, Bad, ReadFault, VerifierFault, SignerFault, DiskFault, WriteFault, Malformed, Full, OutOfMemory}
+use Rattle.run_status.specs.declared.close.Close.TheVariants.{End, VerifierFault, SignerFault}
 use Rattle.run_status.specs.Readers.{Reader, SinkTold, SourceTold, VerifierTold}
 use Rattle.run_status.specs.Status.{nothing_besides}
 use Rattle.validator_core.specs.View.{open_of}
-use Rattle.witness_core.specs.Storing.{StoresOn}
+use Rattle.witness_store.specs.Storing.{StoresOn}
 use Rattle.witness_core.specs.Telling.{AsksVerdicts}
 use Rattle.witness_receipts.specs.declared.receipt.Receipt.{Receipt}
 use Rattle.witness_link.specs.Calls.{receipts_in}
+use Rattle.witness_link.specs.Closes.{asks_next}
 use Rattle.witness_link.specs.Links.{Terms}
 use Rattle.witness_link.specs.Served.{ServesLink}
-use Rattle.witness_link.specs.Stored.{HoldsEach, IsLawfulList, IsOfStored}
+use Rattle.witness_link.specs.Stored.{HoldsEach, IsLawfulList, IsOfListed}
 use Rattle.run_record.specs.Run.{DoorTold, Run, SignerTold}
 use Rattle.witness_role.specs.ServedFile.{EndsWith, Left, MakesServing, at_link}
-
--- after a link that closed so the next one is asked for; any other close ends the run
-abbrev pub goes_on : Close → Bool
-goes_on End = true
-goes_on (Bad bad) = true
-goes_on ReadFault = true
-goes_on WriteFault = true
-goes_on VerifierFault = false
-goes_on SignerFault = false
-goes_on DiskFault = false
-goes_on (Malformed place) = false
-goes_on Full = false
-goes_on OutOfMemory = false
 
 -- a link that was served: what its source and its sink were before and after, what was noted of its messages, and how it closed
 pub record ServedLink : Type 0 where
@@ -85,7 +73,7 @@ readers_with verifier (reader ∷ readers) = record reader { verifier = Some ver
 -- or doesn't tell.
 pub record AreEnough (count : ℕ) (links : List ServedLink) (failed : Bool) (left : Option (List (List ℕ))) : Type 0 where
   pub no_more : length links ≤ count
-  pub no_fewer : IsEnough count (length links) failed left ⊎ (list_all (λ l. goes_on l.close) links ≡ false)
+  pub no_fewer : IsEnough count (length links) failed left ⊎ (list_all (λ l. asks_next l.close) links ≡ false)
 
 -- a link came fresh: neither its source nor its sink had failed, and nothing was written to it
 pub record IsFresh (link : ServedLink) : Type 0 where
@@ -113,7 +101,7 @@ module _ {D : Type 0} (told : D → DiskTold) (key : Key) (limits run_limits : L
   -- one whose close ends the run none comes.
   abbrev pub ServesEach : List ServedLink → Between D → Between D → Type 0
   ServesEach [] old new = new ≡ old
-  ServesEach (link ∷ links) old new = (mid : Between D) × ServesOne link old mid × (goes_on link.close ≡ false → links ≡ []) × ServesEach links mid new
+  ServesEach (link ∷ links) old new = (mid : Between D) × ServesOne link old mid × (asks_next link.close ≡ false → links ≡ []) × ServesEach links mid new
 
   -- what the witness goes by at each link
   abbrev pub link_terms : Terms
@@ -129,7 +117,7 @@ module _ {D : Type 0} (told : D → DiskTold) (key : Key) (limits run_limits : L
   pub record StoresThrough (receipts : List Receipt) (old new : Left D) : Type 0 where
     pub stores : StoresOn old.list (told old.disk) new.core new.list (told new.disk)
     pub lawful : IsLawfulList stores.accepted
-    pub of_stored : All (IsOfStored link_terms new.list) receipts
+    pub of_stored : All (IsOfListed link_terms new.list) receipts
     pub held : (c : List ℕ) → (told new.disk).images c → HoldsEach link_terms receipts c
 
   -- so it is through all links; where none came the witness is as it was

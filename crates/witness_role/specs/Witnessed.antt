@@ -16,8 +16,8 @@ use Rattle.run_status.specs.declared.besides.Besides.{Besides}
 use Rattle.run_status.specs.Status.{nothing_besides}
 use Rattle.shelf_log.specs.Settled.{AllHold}
 use Rattle.validator_core.specs.View.{CoreView, open_of}
-use Rattle.witness_core.specs.Payloads.{AreListed}
-use Rattle.witness_core.specs.Starts.{AreNoStart, IsStarted}
+use Rattle.witness_store.specs.Payloads.{AreListed}
+use Rattle.witness_store.specs.Starts.{AreNoStart, IsStarted}
 use Rattle.witness_opening.specs.Found.{found_by, text_of}
 use Rattle.witness_opening.specs.Lines.{log_text}
 use Rattle.witness_opening.specs.Names.{KeepsNames}

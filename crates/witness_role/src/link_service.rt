@@ -4,16 +4,17 @@ ghost use Rattle.std.specs.Vec.{vec_capacity};
 ghost use Rattle.keri_specs.specs.Told.{HasNone};
 ghost use Rattle.run_status.specs.Readers.{reader_seen, sink_seen};
 ghost use Rattle.run_record.specs.Seen.{door_told};
-ghost use Rattle.witness_role.specs.ServedLinks.{IsServed, ServesComing, goes_on as goes_on_by};
+ghost use Rattle.witness_role.specs.ServedLinks.{IsServed, ServesComing};
+ghost use Rattle.witness_link.specs.Closes.{asks_next as asks_next_by};
 
 use crate::links_kept::LinksKept;
 use keri_disk::Disk;
 use keri_outside::{Caller, Door, Failed, Limits, Signer, Sink, Source, Verifier};
 use lists::Items;
-use run_status::{Close, ReaderEnd};
+use run_status::ReaderEnd;
 use std::alloc::Global;
 use witness_core::Witness;
-use witness_link::{LinkEnd, serve_link};
+use witness_link::{LinkEnd, asks_next, serve_link};
 
 /// Serves each link that comes at the door, until so many came, none comes any more, the door fails, or a link closes so that the
 /// run ends. There is room for them. Answers whether the door failed.
@@ -60,10 +61,10 @@ pub(crate) fn serve_coming<P: Door, D: Disk + Drop, V: Verifier, G: Signer>(
                 let Served { reader, sink } = serve_one(
                     alloc, caller, witness, verifier, signer, limits,
                 );
-                let goes_on = goes_on(reader.close);
+                let asks_next = asks_next(reader.close);
                 kept.readers.push_reserved(reader);
                 kept.sinks.push_reserved(sink);
-                if !goes_on {
+                if !asks_next {
                     return false;
                 }
             }
@@ -111,7 +112,7 @@ fn serve_one<S: Source, K: Sink, D: Disk + Drop, V: Verifier, G: Signer>(
           signings = G.signings signer.new;
           signer_faults = G.faults signer.new;
         }) }
-    ensures whole { goes_on_by result.reader.close ≡ true → witness.new.broken ≡ false }
+    ensures whole { asks_next_by result.reader.close ≡ true → witness.new.broken ≡ false }
     ensures key { witness.new.key ≡ witness.old.key }
     ensures limits { witness.new.limits ≡ witness.old.limits }
     ensures says { V.says verifier.new ≡ V.says verifier.old }
@@ -142,15 +143,4 @@ fn serve_one<S: Source, K: Sink, D: Disk + Drop, V: Verifier, G: Signer>(
         close,
     };
     Served { reader, sink }
-}
-
-// Whether after a link that closed so the next one is asked for.
-fn goes_on(close: Close) -> bool
-    ensures { result ≡ goes_on_by close }
-{
-    match close {
-        Close::End | Close::Bad(_) | Close::ReadFault | Close::WriteFault => true,
-        Close::VerifierFault | Close::SignerFault | Close::DiskFault => false,
-        Close::Malformed(_) | Close::Full | Close::OutOfMemory => false,
-    }
 }

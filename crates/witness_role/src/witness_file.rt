@@ -10,7 +10,6 @@ ghost use Rattle.witness_role.specs.ServedFile.{IsServing, ServesAll};
 use crate::door_end::DoorEnd;
 use crate::links_kept::unserved;
 use crate::witness_end::end_one;
-use keri_outside::Limits;
 use lists::Items;
 use run_outside::Outside;
 use run_record::{Done, Runs};

@@ -4,7 +4,7 @@ use Rattle.keri_specs.proofs.Putting.{after-nil}
 use Rattle.witness_core.specs.Outcomes.{IsOfStored}
 use Rattle.witness_core.proofs.MessageFates.{fate_receipt, fate_refused}
 use Rattle.witness_core.proofs.Outcomes.{asks_none, outcome_asks, outcome_fate, outcome_list, outcome_receipts, outcome_stored, outcome_tells, own_event, own_held, sign_caused, sign_full, sign_kept, sign_room, sign_tells, take_caused}
-use Rattle.witness_core.proofs.Results.{err_weaker, if_err, match_both, ok_weaker, on_ok}
+use Rattle.witness_store.proofs.Results.{err_weaker, if_err, match_both, ok_weaker, on_ok}
 use Rattle.witness_core.proofs.outcome.take_message.Goals as goal
 
 pub returns-in_err-taken-clause-asked : goal.returns-in_err-taken-clause-asked

@@ -1,12 +1,12 @@
 use Rattle.std.proofs.Common.{ap, arith, ◌∙◌}
 use Rattle.core_tables.specs.View.{body_of}
 use Rattle.validator_core.specs.View.{told_of}
-use Rattle.witness_core.specs.Histories.{history_of}
-use Rattle.witness_core.specs.Room.{signatures_in}
+use Rattle.witness_store.specs.Histories.{history_of}
+use Rattle.witness_store.specs.Room.{signatures_in}
 use Rattle.witness_core.proofs.Entering.{again_number, again_room, fails_by, number_within, there_in, waits_is}
-use Rattle.witness_core.proofs.Results.{if_err}
-use Rattle.witness_core.proofs.Rooms.{signatures_few}
-use Rattle.witness_core.proofs.RoomSteps.{signatures_at}
+use Rattle.witness_store.proofs.Results.{if_err}
+use Rattle.witness_store.proofs.Rooms.{signatures_few}
+use Rattle.witness_store.proofs.RoomSteps.{signatures_at}
 use Rattle.witness_core.proofs.take.take_again.Goals as goal
 
 pub returns-in_err-enter-clause-fault : goal.returns-in_err-enter-clause-fault

@@ -2,12 +2,12 @@ use Rattle.std.proofs.Common.{◌≡◌, Some, ap, refl, subst, sym, ◌∙◌, 
 use Rattle.core_tables.specs.View.{body_of}
 use Rattle.journal.specs.Logs.{is_in}
 use Rattle.journal.specs.Replies.{claims_of}
-use Rattle.witness_core.specs.Histories.{history_of}
-use Rattle.witness_core.specs.Room.{IsRoom, lacks_room, signatures_in}
+use Rattle.witness_store.specs.Histories.{history_of}
+use Rattle.witness_store.specs.Room.{IsRoom, lacks_room, signatures_in}
 use Rattle.witness_core.specs.Telling.{full, untold}
 use Rattle.witness_core.proofs.Entering.{untold_itself}
 use Rattle.witness_core.proofs.Judging.{coming_is, full_lacks, is_new, is_there, tells_ready}
-use Rattle.witness_core.proofs.Results.{some_within}
+use Rattle.witness_store.proofs.Results.{some_within}
 use Rattle.witness_core.proofs.take.take_event.Goals as goal
 
 pub returns-in_default-clause-fault : goal.returns-in_default-clause-fault

@@ -24,8 +24,8 @@ loop-alloc-init g c = record {
       (g.V.Verifier.says c.args.verifier.now) (g.G.Signer.gives c.args.signer.now) (g.P.Door.left c.args.door.now) _);
 }
 
-pub returns-then-not-goes_on-clause-serves : goal.returns-then-not-goes_on-clause-serves
-returns-then-not-goes_on-clause-serves g c =
+pub returns-then-not-asks_next-clause-serves : goal.returns-then-not-asks_next-clause-serves
+returns-then-not-asks_next-clause-serves g c =
     let inv = c.loop-alloc.invariant in
     let before = c.loop-alloc.kept in
     let came = c.in-Ok-Some.ensures in

@@ -100,10 +100,10 @@ returns g c =
       mode = ap (λ h. h.mode) same;
       limits = ap (λ h. h.limits) same ∙ ready.limits_are;
       no_base = no_base;
-      stands = c.stands.ensures;
+      stands = c.stands.ensures.stands;
       read = subst (λ l. AllRead self.limits (told_of core) (map (given_by left faults says inquiries failed) l)
           (map (reader_seen left faults says inquiries failed) all.ends.readers.items) NoneFailed) (sym given)
-          (what_was_read left faults says inquiries failed self.limits self.hub head own jobs all ran seats.0 seats.1 core closed ready.limits_are ready.turns no_base c.stands.ensures);
+          (what_was_read left faults says inquiries failed self.limits self.hub head own jobs all ran seats.0 seats.1 core closed ready.limits_are ready.turns no_base c.stands.ensures.stands);
       only = subst (λ l. EachAsksOnly head.mode (told_of core) (map (given_by left faults says inquiries failed) l) (map (reader_seen left faults says inquiries failed) all.ends.readers.items)) (sym given)
           (what_was_asked left faults says inquiries failed self.limits self.hub head own jobs all ran seats.0 seats.1 core closed);
       alone = λ is.

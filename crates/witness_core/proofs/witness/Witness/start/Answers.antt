@@ -1,6 +1,6 @@
 use Rattle.std.proofs.Common.{ap, arith, length, subst}
-use Rattle.witness_core.specs.Starts.{IsStarted}
-use Rattle.witness_core.proofs.States.{kept_all}
+use Rattle.witness_store.specs.Starts.{IsStarted}
+use Rattle.witness_store.proofs.States.{kept_all}
 use Rattle.witness_core.proofs.Witnessed.{are_listed, settled_holds, started_stored}
 use Rattle.witness_core.proofs.witness.Witness.start.Goals as goal
 

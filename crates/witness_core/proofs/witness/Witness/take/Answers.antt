@@ -1,7 +1,7 @@
 use Rattle.std.proofs.Common.{◌≡◌, ◌∙◌, ⊎_elim, ap, inl, inr, sym}
-use Rattle.witness_core.specs.Faults.{breaks}
-use Rattle.witness_core.specs.declared.witness_fault.WitnessFault.TheVariants.{Full as NoRoom}
-use Rattle.witness_core.proofs.States.{kept_all}
+use Rattle.witness_store.specs.Faults.{breaks}
+use Rattle.witness_store.specs.declared.witness_fault.WitnessFault.TheVariants.{Full as NoRoom}
+use Rattle.witness_store.proofs.States.{kept_all}
 use Rattle.witness_core.proofs.Witnessed.{are_listed, full_untold, goes_by, reads_again, still_stored, stores_on}
 use Rattle.witness_core.proofs.witness.Witness.take.Goals as goal
 

@@ -1,6 +1,0 @@
-use Rattle.std.proofs.Common.{◌≡◌, take}
-use Rattle.witness_core.specs.Starts.{texts_in}
-use Rattle.witness_core.proofs.start.bodies.Given as goal
-
-abbrev pub invariant-loop-payload : goal.invariant-loop-payload
-invariant-loop-payload l = l.texts.items ≡ texts_in (take l.payload-index l.payloads)

@@ -1,0 +1,17 @@
+pub mod Lists
+pub mod Stored
+pub mod Entries
+pub mod Sums
+pub mod Waits
+pub mod Rooms
+pub mod RoomSteps
+pub mod States
+pub mod Sized
+pub mod Appending
+pub mod Known
+pub mod Counting
+pub mod Releasing
+pub mod Lacking
+pub mod Results
+pub mod Asking
+pub mod Asked

@@ -1,0 +1,13 @@
+use Rattle.std.proofs.Common.{◌-◌, length}
+use Rattle.validator_core.specs.View.{accepted_by}
+use Rattle.witness_store.specs.Histories.{history_of}
+use Rattle.witness_store.proofs.Stored.{IsStoring}
+use Rattle.witness_store.proofs.appends.store.Given as goal
+
+-- some of the payloads are stored
+abbrev pub invariant-loop-alloc : goal.invariant-loop-alloc
+invariant-loop-alloc g l = IsStoring (history_of l.core) l.fn.shelf.list l.shelf.list (g.D.Disk.told l.fn.shelf.disk) (g.D.Disk.told l.shelf.disk) l.fn.shelf.limits l.shelf.limits l.shelf.broken l.room
+
+-- the others are left
+abbrev pub decreases-loop-alloc : goal.decreases-loop-alloc
+decreases-loop-alloc g l = length (accepted_by l.core) - length l.shelf.list

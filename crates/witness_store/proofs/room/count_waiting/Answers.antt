@@ -1,0 +1,32 @@
+use Rattle.std.proofs.Common.{ap, arith, length}
+use Rattle.std.proofs.lemmas.List.{length-map}
+use Rattle.journal.specs.declared.body.Body.{Body}
+use Rattle.witness_store.proofs.Known.{known_by}
+use Rattle.witness_store.proofs.RoomSteps.{waiting_counted}
+use Rattle.witness_store.proofs.room.count_waiting.Goals as goal
+
+pub overflow_sub-result : goal.overflow_sub-result
+overflow_sub-result c =
+    let core = c.args.core.now in
+    let known = known_by core c.accepted.result.now c.accepted.ensures.held c.accepted.ensures.accepted c.accepted.ensures.numbers c.journal.ensures.stands in
+    omega (
+      arith,
+      waiting_counted core known c.requires.grown c.requires.events,
+      ap length c.accepted.ensures.numbers,
+      c.len.ensures,
+      ap length c.journal.ensures.bodies,
+      length-map core.held (λ (b : Body). b.bytes),
+    )
+
+pub returns-clause-count : goal.returns-clause-count
+returns-clause-count c =
+    let core = c.args.core.now in
+    let known = known_by core c.accepted.result.now c.accepted.ensures.held c.accepted.ensures.accepted c.accepted.ensures.numbers c.journal.ensures.stands in
+    omega (
+      arith,
+      waiting_counted core known c.requires.grown c.requires.events,
+      ap length c.accepted.ensures.numbers,
+      c.len.ensures,
+      ap length c.journal.ensures.bodies,
+      length-map core.held (λ (b : Body). b.bytes),
+    )
