@@ -30,7 +30,8 @@ use Rattle.core_laws.proofs.Steps.{has_new, has_raised, has_same}
 use Rattle.core_laws.proofs.Told.{verdict_took, verdict_there}
 use Rattle.core_tables.specs.View.{View, log_of, number_of, with_rows}
 use Rattle.acceptance.specs.Standing.{IsHeld, IsStanding, told_of}
-use Rattle.acceptance.proofs.Taken.{took_off, with_entry}
+use Rattle.acceptance.specs.Taken.{with_entry}
+use Rattle.acceptance.proofs.Taken.{took_off}
 use Rattle.acceptance.proofs.Entries.{told_front, unheard_outside}
 use Rattle.acceptance.proofs.FoundClaims.{found_unnamed}
 

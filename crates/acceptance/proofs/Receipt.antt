@@ -27,7 +27,8 @@ use Rattle.core_tables.specs.View.{View, log_of, with_rows}
 use Rattle.acceptance.specs.Standing.{IsStanding, told_of}
 use Rattle.acceptance.specs.Turned.{turned}
 use Rattle.acceptance.proofs.Behind.{stands_not}
-use Rattle.acceptance.proofs.Taken.{found_by, held_entry, told_took, with_entry}
+use Rattle.acceptance.specs.Taken.{found_by, with_entry}
+use Rattle.acceptance.proofs.Taken.{held_entry, told_took}
 use Rattle.acceptance.proofs.Turned.{turned_begins, turned_ends}
 use Rattle.acceptance.proofs.FoundClaims.{found_unnamed}
 

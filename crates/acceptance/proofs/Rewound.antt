@@ -12,7 +12,7 @@ use Rattle.claim_table.specs.Rows.{raised, raised_all}
 use Rattle.claim_table.specs.Table.{KeepsPending}
 use Rattle.core_tables.specs.View.{View, IsCut, mark_of, number_of, rewound, with_rows}
 use Rattle.acceptance.specs.Standing.{Extends, IsStanding}
-use Rattle.acceptance.proofs.Taken.{with_entry}
+use Rattle.acceptance.specs.Taken.{with_entry}
 
 -- the front of a front is a front
 take_front : {X : Type 0} (xs ys zs : List X) → take (length xs) ys ≡ xs → take (length ys) zs ≡ ys → take (length xs) zs ≡ xs

@@ -24,6 +24,7 @@ use Rattle.core_laws.proofs.Steps.{found_push, has_raised, has_same}
 use Rattle.core_laws.proofs.Told.{verdict_took}
 use Rattle.core_tables.specs.View.{View, log_of, number_of, with_rows}
 use Rattle.acceptance.specs.Standing.{IsStanding, told_of}
+use Rattle.acceptance.specs.Taken.{found_by, with_entry}
 use Rattle.acceptance.proofs.FoundClaims.{found_unnamed}
 
 -- the claims that come with an event stand on it, and on no other body
@@ -32,10 +33,6 @@ took_on reader b claims = let same = same_body-refl b in rw same refl
 
 pub took_off : (reader : ℕ) (b c : Body) (claims : List Claim) → is_receipt b.event ≡ false → same_body b c ≡ false → claims_in c (took reader b claims) ≡ []
 took_off reader b c claims event other = rw (other, event) refl
-
--- the view with one entry more
-abbrev pub with_entry : Entry → View → View
-with_entry e v = record v { entries = v.entries ++ e ∷ [] }
 
 -- an entry of a body that is held comes last in what is told
 pub told_took : (v : View) (reader n : ℕ) (b : Body) (claims : List Claim) → slice_get v.held n ≡ Some b → told_of (with_entry (Took reader n claims) v) ≡ told_of v ++ took reader b claims ∷ []
@@ -49,10 +46,6 @@ held_entry v e low below i f at = elim (cases_Bool (i == length v.entries)) [
       let one : e ≡ f = cc in subst (λ g. number_of g < length v.held) one low)
   | inr k ↦ below i f (slice_get_before v.entries e i f (λ same. (let yes_same : (i == length v.entries) ≡ true = ap (λ m. m == length v.entries) same ∙ number_itself (length v.entries) in cc)) at)
 ]
-
--- what is found of a body with the claims of an entry that stand on it
-abbrev pub found_by : List Body → Body → List Claim → List Found
-found_by log b claims = if stands log b then rows_of (own_rules (state_before log b) b.event) claims else []
 
 module _ (v : View) (is : IsStanding v) (reader n : ℕ) (b : Body) (at : slice_get v.held n ≡ Some b) (low : n < length v.held) (event : is_receipt b.event ≡ false) (claims : List Claim) where
   abbrev after : View

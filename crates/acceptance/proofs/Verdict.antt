@@ -15,7 +15,8 @@ use Rattle.core_laws.proofs.Steps.{has_heard, has_same}
 use Rattle.core_laws.proofs.Told.{verdict_heard, verdict_there}
 use Rattle.core_tables.specs.View.{View, log_of, with_rows}
 use Rattle.acceptance.specs.Standing.{IsStanding, told_of}
-use Rattle.acceptance.proofs.Taken.{held_entry, with_entry}
+use Rattle.acceptance.specs.Taken.{with_entry}
+use Rattle.acceptance.proofs.Taken.{held_entry}
 use Rattle.acceptance.proofs.FoundClaims.{found_unnamed}
 
 module _ (v : View) (is : IsStanding v) (reader n : ℕ) (b : Body) (at : slice_get v.held n ≡ Some b) (low : n < length v.held) (key : Key) (sig : Sig) (verdict : Bool) where

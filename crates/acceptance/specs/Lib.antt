@@ -8,3 +8,4 @@ pub mod Wants
 pub mod Entries
 pub mod EntrySupports
 pub mod Differences
+pub mod Taken

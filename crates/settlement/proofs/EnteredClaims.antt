@@ -4,7 +4,8 @@ use Rattle.std.proofs.lemmas.Bool.{cases_Bool}
 use Rattle.std.specs.Prelude.{slice_get}
 use Rattle.acceptance.specs.Standing.{Comes, IsHeld, IsStanding, told_of}
 use Rattle.acceptance.proofs.NewBody.{log_body, standing_new, told_body, with_body}
-use Rattle.acceptance.proofs.Taken.{found_by, standing_again, took_on, with_entry}
+use Rattle.acceptance.specs.Taken.{found_by, with_entry}
+use Rattle.acceptance.proofs.Taken.{standing_again, took_on}
 use Rattle.core_laws.specs.ClaimRows.{AreFound, found_on}
 use Rattle.core_tables.specs.declared.name.Name.{Name}
 use Rattle.core_tables.specs.Names.{name_of}

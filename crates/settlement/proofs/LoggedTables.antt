@@ -7,7 +7,7 @@ use Rattle.accepted_log.proofs.Extensions.{extends_refl}
 use Rattle.acceptance.specs.Standing.{Extends, IsHeld, IsStanding}
 use Rattle.acceptance.proofs.NewBody.{chosen_more, differ_push, last_or}
 use Rattle.acceptance.proofs.Rewound.{extends_claimed, extends_held, extends_told}
-use Rattle.acceptance.proofs.Taken.{with_entry}
+use Rattle.acceptance.specs.Taken.{with_entry}
 use Rattle.claim_table.specs.declared.claimed.Claimed.{Claimed}
 use Rattle.claim_table.specs.declared.row.Row.{Row}
 use Rattle.claim_table.specs.Rows.{raised_all}

@@ -7,7 +7,7 @@ use Rattle.acceptance.specs.Standing.{IsStanding, told_of}
 use Rattle.acceptance.specs.Turned.{turned}
 use Rattle.acceptance.proofs.NewBody.{low_at}
 use Rattle.acceptance.proofs.Receipt.{AreReceipted, found_before, found_then, receipt_begins, standing_receipt, told_receipt}
-use Rattle.acceptance.proofs.Taken.{found_by}
+use Rattle.acceptance.specs.Taken.{found_by}
 use Rattle.acceptance.proofs.Turned.{turned_raised, turned_there}
 use Rattle.core_laws.proofs.Members.{member_any}
 use Rattle.core_laws.specs.ClaimRows.{AreFound, verdict_in}

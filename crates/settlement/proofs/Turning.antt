@@ -17,7 +17,7 @@ use Rattle.acceptance.specs.Turned.{turned}
 use Rattle.acceptance.proofs.Behind.{stands_not}
 use Rattle.acceptance.proofs.NewBody.{low_at}
 use Rattle.acceptance.proofs.NewEvent.{log_then, precedes_some, standing_accepted, turning_begins, turning_stays}
-use Rattle.acceptance.proofs.Taken.{found_by}
+use Rattle.acceptance.specs.Taken.{found_by}
 use Rattle.acceptance.proofs.Turned.{turned_raised, turned_same}
 use Rattle.settlement.specs.Turning.{IsAppended, IsBehindLast, IsTurning}
 use Rattle.settlement.proofs.Lasts.{first_is_last, last_is_first}

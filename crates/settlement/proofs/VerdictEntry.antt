@@ -1,7 +1,7 @@
 -- A verdict comes, or is taken back.
 use Rattle.std.proofs.Common.{◌≡◌, ℕ, ◌<◌, Bool, true, [], ◌∷◌, ◌++◌, length, Some, None, sym, ◌∙◌, ap, subst}
 use Rattle.acceptance.specs.Standing.{Hears, IsStanding}
-use Rattle.acceptance.proofs.Taken.{with_entry}
+use Rattle.acceptance.specs.Taken.{with_entry}
 use Rattle.acceptance.proofs.Verdict.{standing_heard}
 use Rattle.claim_table.specs.Table.{Table}
 use Rattle.claim_table.specs.Rows.{heard, is_raised, unheard, verdict_of}

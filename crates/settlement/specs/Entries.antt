@@ -4,7 +4,7 @@ use Rattle.event_body.specs.Events.{is_receipt}
 use Rattle.acceptance.specs.declared.footing.Footing.{Footing}
 use Rattle.acceptance.specs.declared.footing.Footing.TheVariants.{Inception, Behind}
 use Rattle.acceptance.specs.Standing.{IsHeld, IsStanding}
-use Rattle.acceptance.proofs.Taken.{found_by, with_entry}
+use Rattle.acceptance.specs.Taken.{found_by, with_entry}
 use Rattle.accepted_log.specs.Cuts.{IsLog}
 use Rattle.core_laws.specs.ClaimRows.{AreFound}
 use Rattle.claim_table.specs.declared.claimed.Claimed.{Claimed}
