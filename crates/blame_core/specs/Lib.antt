@@ -1,9 +1,2 @@
-pub mod Blames
-pub mod OwnLists
-pub mod Establishments
-pub mod NamedEntries
-pub mod FirstSignatures
-pub mod Signatures
-pub mod Culprits
-pub mod Rivals
-pub mod Lines
+pub mod BlameLaws
+pub mod BlameCore

@@ -1,21 +1,6 @@
-//! Who signed twice: the witnesses with a good signature on each of two different establishment events of one
-//! identifier and number, the first accepted by one validator's core and the second by another's.
+//! Whom two validators that differ have to blame.
 #![tactic(auto)]
 
-mod blames;
-mod culprit;
-mod culprits;
-mod establishments;
-mod first_signatures;
-mod lines;
-mod named_entries;
-mod own_lists;
-mod place;
-mod rivals;
-mod signatures;
-mod signed;
+mod blame_core;
 
-pub use blames::Blame;
-pub use culprit::Culprit;
-pub use lines::blame_lines;
-pub use rivals::blame;
+pub use blame_core::{Blame, Culprit, blame, blame_lines};

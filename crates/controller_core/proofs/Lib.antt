@@ -1,8 +1,3 @@
-mod Seals
-mod LastNumbers
-mod Asking
-mod Enough
-mod Signing
-mod Zipped
-mod Behind
-mod Keys
+pub mod LogMakerLemmas
+pub mod ControllerCoreLemmas
+pub mod PlanTextLemmas

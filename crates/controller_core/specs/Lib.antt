@@ -1,7 +1,3 @@
-pub mod Plans
-pub mod Slots
-pub mod Messages
-pub mod Refusals
-pub mod LastNumbers
-pub mod Signings
-pub mod Signing
+pub mod LogMaker
+pub mod ControllerCore
+pub mod PlanText

@@ -1,26 +1,10 @@
-//! Making the messages of an identifier's own events from plans.
+//! A controller's plans, the messages that are made of them, and whole logs.
 #![tactic(auto)]
 
-mod delegation;
-mod event_seal;
-mod inception;
-mod interaction;
-mod last_number;
-mod made;
-mod plan;
-mod plan_fault;
-mod planned_body;
-mod planned_event;
-mod rotation;
-mod signature;
-mod slot;
-mod slot_support;
-mod slots;
+mod controller_core;
+mod log_maker;
+mod plan_text;
 
-pub use delegation::delegate;
-pub use inception::incept;
-pub use interaction::interact;
-pub use plan::Plan;
-pub use plan_fault::PlanFault;
-pub use rotation::rotate;
-pub use slot::Slot;
+pub use controller_core::{Plan, PlanFault, Slot, delegate, incept, interact, rotate};
+pub use log_maker::{LogMaker, Totals, totals_of};
+pub use plan_text::{EventPlan, PlanTextFault, PlannedEvent, read_plan, spelled_is_makeable};

@@ -1,10 +1,2 @@
-pub mod View
-pub mod Names
-pub mod NamedPlaces
-pub mod Hints
-pub mod Rows
-pub mod Raised
-pub mod Inside
-pub mod ClaimEntries
-pub mod EntryClaims
-pub mod RaisedRows
+pub mod AcceptedLog
+pub mod CoreTables

@@ -1,5 +1,2 @@
-mod Digests
-mod Held
-mod Lists
-mod Tables
-pub mod Crosses
+pub mod EventIndexLemmas
+pub mod EscrowLemmas

@@ -1,2 +1,2 @@
+pub mod EventIndex
 pub mod Escrow
-pub mod Tables

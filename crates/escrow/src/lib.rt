@@ -1,11 +1,8 @@
-//! Escrow: events that wait to be accepted, by the numbers of their bodies.
+//! The events that wait, by cause, and the hints by which rows are found.
 #![tactic(auto)]
 
-mod digest_numbers;
-mod room;
-mod waiter;
-mod waiting;
+mod escrow;
+mod event_index;
 
-pub use room::Room;
-pub use waiter::Waiter;
-pub use waiting::Waiting;
+pub use escrow::{Room, Waiter, Waiting};
+pub use event_index::{Index, Rising};

@@ -1,7 +1,3 @@
-pub mod Values
-pub mod Parts
-pub mod Digested
-mod Places
-pub mod Whole
-pub mod Keeping
-pub mod Crosses
+pub mod BodyFieldsLemmas
+pub mod EventBodyLemmas
+pub mod EventWritingLemmas

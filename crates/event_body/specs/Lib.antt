@@ -1,9 +1,3 @@
-pub mod Events
-pub mod Ranges
-pub mod Spelling
-pub mod Rules
-pub mod KeySets
-pub mod Held
-pub mod Kept
-pub mod Judging
-pub mod Inception
+pub mod BodyFields
+pub mod EventBody
+pub mod EventWriting

@@ -1,32 +1,10 @@
-//! Bodies of key events, and their one spelling.
+//! The bodies of events: their fields, their reading and their writing.
 #![tactic(auto)]
 
-mod body;
-mod body_fault;
-mod event;
-mod event_of;
-mod field_values;
-mod inception;
-mod inception_of;
-mod interaction;
-mod key_set;
-mod laws;
-mod numbers;
-mod prefix_rule;
-mod receipt_body;
-mod rotation;
-mod rotation_of;
-mod said_rule;
-mod value_rules;
-mod witness_rule;
+mod body_fields;
+mod event_body;
+mod event_writing;
 
-pub use body::read_body;
-pub use body_fault::{BodyFault, ReadBody};
-pub use event::{
-    Event, hides_prefix, is_establishment, is_receipt, kind_of, prefix_of, said_of_event, sn_of,
-};
-pub use inception::Inception;
-pub use interaction::Interaction;
-pub use laws::one_event;
-pub use receipt_body::ReceiptBody;
-pub use rotation::Rotation;
+pub use body_fields::{Field, Fields, FieldsFault, Form, Kind, LARGEST, digest_in, digest_tree, digests_in, digests_tree, fixed_keys_in, keys_in, keys_tree, members_in, number_in, number_tree, numbers, prefix_in, prefix_tree, read_fields, strings_in, strings_tree, values_in, write_fields};
+pub use event_body::{BodyFault, Event, Inception, Interaction, ReadBody, ReceiptBody, Rotation, hides_prefix, is_establishment, is_receipt, kind_of, one_event, prefix_of, read_body, said_of_event, sn_of};
+pub use event_writing::{EventText, sealed, sealed_text, writable, write_body};

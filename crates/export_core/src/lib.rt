@@ -1,14 +1,8 @@
-//! The log of an identifier and of its delegators, as messages for a fresh validator.
+//! A log handed on, which a fresh validator accepts whole.
 #![tactic(auto)]
 
-mod came;
-mod exported_events;
-mod family;
-mod family_export;
-mod good_claims;
-mod groups;
-mod messages;
-mod signers;
+mod export_core;
+mod export_laws;
 
-pub use exported_events::Exported;
-pub use family_export::export;
+pub use export_core::{Exported, export};
+pub use export_laws::{families_are_accepted_alone, families_are_regular, families_ask_alone, families_report_alone, named_families_are_accepted_alone};

@@ -1,14 +1,2 @@
-pub mod Settling
-pub mod Accepting
-pub mod Keeping
-pub mod Distinct
-pub mod Readings
-pub mod StateSteps
-pub mod Premises
-pub mod Locality
-pub mod Apart
-pub mod Different
-pub mod Asking
-pub mod Same
-pub mod Places
-pub mod Held
+pub mod JournalLemmas
+pub mod EventRulesLemmas

@@ -1,23 +1,24 @@
-//! The journal itself.
+//! Journals: what a core was told, what it accepts of that, and what is still asked.
+mod body;
+mod claim;
+mod conflict;
+mod entry;
+mod journal;
+mod mode;
+mod question;
+mod refusal;
+mod reply;
+mod resume_fault;
+mod why;
 
-use crate::Entry;
-use json_tree::Text;
-use lists::{CopyValue, Items};
-use std::alloc::{AllocError, Global};
-
-/// What a core was told, in order.
-#[derive(Drop, PartialEq, Debug)]
-pub struct Journal {
-    /// Each distinct body once, in order of first coming. Its place is its number.
-    pub bodies: Items<Text>,
-    pub entries: Items<Entry>,
-}
-
-impl CopyValue for Journal {
-    fn copy(&self, alloc: Global) -> Result<Journal, AllocError> {
-        Ok(Journal {
-            bodies: self.bodies.copy(alloc)?,
-            entries: self.entries.copy(alloc)?,
-        })
-    }
-}
+pub use body::Body;
+pub use claim::Claim;
+pub use conflict::Conflict;
+pub use entry::Entry;
+pub use journal::Journal;
+pub use mode::Mode;
+pub use question::{Noted, Question};
+pub use refusal::Refusal;
+pub use reply::{Reason, Reply};
+pub use resume_fault::ResumeFault;
+pub use why::Why;

@@ -1,26 +1,8 @@
-//! Journals: what a core was told, what it accepts of that, and what is still asked.
+//! What a core was told, and the rules by which an event is accepted.
 #![tactic(auto)]
 
-mod body;
-mod claim;
-mod conflict;
-mod entry;
+mod event_rules;
 mod journal;
-mod mode;
-mod question;
-mod refusal;
-mod reply;
-mod resume_fault;
-mod why;
 
-pub use body::Body;
-pub use claim::Claim;
-pub use conflict::Conflict;
-pub use entry::Entry;
-pub use journal::Journal;
-pub use mode::Mode;
-pub use question::{Noted, Question};
-pub use refusal::Refusal;
-pub use reply::{Reason, Reply};
-pub use resume_fault::ResumeFault;
-pub use why::Why;
+pub use event_rules::{Additions, ClaimSupport, Support, Verdicts, claimed_key, claimed_sig, delegator_of, has_witness, is_backed, is_behind, is_delegated, is_inception, meets_before, meets_own, prior_of, reveal_of, signing_keys, takes, toad_of, witness, witness_count};
+pub use journal::{Body, Claim, Conflict, Entry, Journal, Mode, Noted, Question, Reason, Refusal, Reply, ResumeFault, Why};

@@ -1,7 +1,3 @@
-pub mod Differing
-mod Bodies
-mod Cuts
-mod Living
-mod Numbers
-mod Orders
-mod Rivals
+pub mod JournalLawsLemmas
+pub mod EventPayloadLemmas
+pub mod JournalViewsLemmas

@@ -1,3 +1,3 @@
-pub mod Groups
-pub mod Rankings
-pub mod Rises
+pub mod JournalLaws
+pub mod EventPayload
+pub mod JournalViews

@@ -1,9 +1,8 @@
-//! What a list of accepted bodies shows: the live events of an identifier, and the sets of conflicting bodies.
+//! What can be read off a journal: live events, conflicts, what is kept of an event; and its laws.
 #![tactic(auto)]
 
-mod conflicts;
-mod live_events;
-mod places;
+mod event_payload;
+mod journal_views;
 
-pub use conflicts::conflict_sets;
-pub use live_events::live;
+pub use event_payload::{Kept, StreamText, body_part, payload, text_in};
+pub use journal_views::{conflict_sets, live};

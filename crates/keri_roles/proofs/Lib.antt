@@ -1,8 +1,4 @@
-pub mod Messages
-pub mod Dues
-pub mod Made
-pub mod Causes
-pub mod Never
-pub mod ConvertedCauses
-pub mod Statuses
-pub mod Generated
+pub mod ItemConversionLemmas
+pub mod PlanAnswerLemmas
+pub mod CoreRolesLemmas
+pub mod KeriRolesLemmas

@@ -1,25 +1,12 @@
-//! The commands of the program, of which those over a core and the witness have crates of their own, and the one call that
-//! does all that the program does.
+//! The commands.
 #![tactic(auto)]
 
-mod backed_list;
-mod check;
-mod checker;
-mod convert;
-mod generate;
-mod make;
-mod make_parts;
-mod message_due;
-mod message_line;
-mod program;
-mod reads;
-mod rehearse;
-mod serves;
-mod signs;
-mod sizes;
-mod text_reader;
+mod core_roles;
+mod item_conversion;
+mod keri_roles;
+mod plan_answer;
 
-pub use backed_list::backed;
-pub use program::run;
-pub use run_record::{Done, Runs};
-pub use run_status::{Close, ReaderEnd};
+pub use core_roles::{BlameWords, FileWords, LinkWords, LinkedOutcome, OneSeat, Outcome, ReadAlone, RivalOutcome, SignedOutcome, Works, blame_files, export_files, last_close_of, validate_files, validate_links, verifier_failed_last, watch_files, watch_links};
+pub use item_conversion::{Conversion, convert_items};
+pub use keri_roles::{Close, Done, ReaderEnd, Runs, backed, run};
+pub use plan_answer::{PlanAnswer, ReadLog, answer_plan};

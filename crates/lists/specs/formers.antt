@@ -1,1 +1,1 @@
-pub mod items
+pub mod lists

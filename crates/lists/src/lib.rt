@@ -1,12 +1,8 @@
-//! The list type of the values that contracts compare: a `Vec` that is seen as its list of elements. And lengths as numbers.
+//! Lists and hexadecimal numbers, and definitions that the contracts of all rooms cite.
 #![tactic(auto)]
 
-mod copies;
-mod copy_value;
-mod items;
-mod lengths;
+mod hex_numbers;
+mod lists;
 
-pub use copies::copy_items;
-pub use copy_value::CopyValue;
-pub use items::Items;
-pub use lengths::length_u32;
+pub use hex_numbers::{all_hex, hex_value, is_hex_number, saturating_hex_value};
+pub use lists::{CopyValue, Items, copy_items, length_u32};

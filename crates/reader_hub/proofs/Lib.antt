@@ -1,4 +1,3 @@
-pub mod Appending
-pub mod Crosses
-pub mod Joins
-pub mod Turns
+pub mod ReaderHubLemmas
+pub mod SharedReaderLemmas
+pub mod ReaderThreadsLemmas

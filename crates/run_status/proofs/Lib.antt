@@ -1,1 +1,4 @@
-pub mod Causes
+pub mod MessageFeedLemmas
+pub mod DoorLinksLemmas
+pub mod RunStatusLemmas
+pub mod RunRecordLemmas

@@ -1,3 +1,5 @@
-pub mod Status
-pub mod Readers
-pub mod Settling
+pub mod RunOutside
+pub mod MessageFeed
+pub mod DoorLinks
+pub mod RunStatus
+pub mod RunRecord

@@ -1,14 +1,14 @@
-//! How a run ends: how its readers closed, what is found of them and of writing, and the status.
+//! All that a run reaches, how its sources are read, and how it ends.
 #![tactic(auto)]
 
-mod besides;
-mod close;
-mod closes;
-mod findings;
-mod reader_end;
-mod run_end;
+mod door_links;
+mod message_feed;
+mod run_outside;
+mod run_record;
+mod run_status;
 
-pub use besides::Besides;
-pub use close::Close;
-pub use reader_end::ReaderEnd;
-pub use run_end::{settle, status_by};
+pub use door_links::{Taken, take_links};
+pub use message_feed::{FeedClose, SourceText, Taker, TextClose, feed_messages, read_text};
+pub use run_outside::{Making, MakingKind, MemAddress, MemDiskFile, MemFile, MemHelper, MemOutside, MemPeer, Outside};
+pub use run_record::{Done, NO_MEMORY, Runs, nothing_told};
+pub use run_status::{Besides, Close, ReaderEnd, settle, status_by};

@@ -1,6 +1,2 @@
-pub mod Answers
-pub mod Blank
-pub mod Durable
-pub mod Format
-pub mod Scans
-pub mod Settled
+pub mod KeriDisk
+pub mod ShelfLog

@@ -1,23 +1,8 @@
-//! A list of payloads on a disk, which a stop at any moment leaves as it was before a call or as it is after it.
+//! A disk and what a crash leaves of it, and a list of texts that outlasts one.
 #![tactic(auto)]
 
-mod behind;
-mod durable;
-mod fault;
-mod list_file;
-mod migration;
-mod old_shelf;
-mod piece;
-mod record;
-mod returned;
-mod scan;
-mod shelf;
-mod store;
-mod version;
+mod keri_disk;
+mod shelf_log;
 
-pub use fault::ShelfFault;
-pub use list_file::begins_with_mark;
-pub use old_shelf::OldShelf;
-pub use returned::Returned;
-pub use shelf::Shelf;
-pub use version::Version;
+pub use keri_disk::{Disk, MemDisk, Shape};
+pub use shelf_log::{OldShelf, Returned, Shelf, ShelfFault, Version, begins_with_mark};

@@ -1,13 +1,3 @@
-pub mod Messages
-pub mod MessageCalls
-pub mod View
-pub mod Tally
-pub mod Looks
-pub mod Tables
-pub mod Calls
-pub mod Inside
-pub mod Views
-pub mod Confluent
-pub mod Base
-pub mod Signatures
-pub mod Verdicts
+pub mod Acceptance
+pub mod Settlement
+pub mod ValidatorCore

@@ -1,24 +1,10 @@
-//! A validator's core: it judges messages, and says of what it was told what is accepted, asked, live and in conflict, and why
-//! events wait.
+//! A validator's core: what is accepted, asked and in conflict, of all that it was told.
 #![tactic(auto)]
 
-mod accepted_events;
-mod asked_verdicts;
-mod base;
-mod claims;
-mod core_send;
-mod judgement;
-mod messages;
-mod open_questions;
-mod signatures;
-mod taken_bodies;
-mod tally;
-mod validator;
-mod views;
-mod whole_entries;
+mod acceptance;
+mod settlement;
+mod validator_core;
 
-pub use asked_verdicts::VerdictFault;
-pub use claims::claims_of;
-pub use core_send::core_is_send;
-pub use judgement::judge_message;
-pub use validator::Core;
+pub use acceptance::{Footing, counts, footing_of, is_ready, is_there, why_waits};
+pub use settlement::{accept, enter_body, enter_claims, enter_verdict, settle};
+pub use validator_core::{Core, VerdictFault, claims_of, core_is_send, judge_message};

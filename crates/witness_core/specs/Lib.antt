@@ -1,4 +1,6 @@
-pub mod Faults
-pub mod Telling
-pub mod Laws
-pub mod Outcomes
+pub mod WitnessReceipts
+pub mod WitnessStore
+pub mod WitnessCore
+pub mod WitnessOpening
+pub mod WitnessLink
+pub mod WitnessRole

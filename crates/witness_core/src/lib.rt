@@ -1,15 +1,16 @@
-//! A witness: it stores each event that its core accepts, with the signatures under which it was accepted, and gives receipts of
-//! the events that are stored.
+//! A witness: what it takes, stores and receipts, and its service.
 #![tactic(auto)]
 
-mod outcome;
-mod start_fault;
-mod take;
-mod taken;
-mod witness;
+mod witness_core;
+mod witness_link;
+mod witness_opening;
+mod witness_receipts;
+mod witness_role;
+mod witness_store;
 
-pub use outcome::Outcome;
-pub use start_fault::StartFault;
-pub use witness::Witness;
-pub use witness_receipts::{Fate, Receipt};
-pub use witness_store::WitnessFault;
+pub use witness_core::{Outcome, StartFault, Witness};
+pub use witness_link::{Close, LinkEnd, Witnessing, asks_next, serve_link};
+pub use witness_opening::{NotOpened, Opened, OpeningFault, log_line, open_shelf};
+pub use witness_receipts::{Fate, Receipt, SigningFault, event_fate, receipts_of};
+pub use witness_role::{WitnessWords, witness};
+pub use witness_store::{Begun, Coming, Room, WitnessFault, ask_open, begin, breaks, count_signatures, lacks_room, store};

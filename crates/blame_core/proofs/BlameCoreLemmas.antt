@@ -1,0 +1,13 @@
+pub mod Lists
+pub mod Chosen
+pub mod EntrySignatures
+pub mod EntryNames
+pub mod Places
+pub mod ListSteps
+pub mod Walks
+pub mod BothSigned
+pub mod Judged
+pub mod Pairs
+pub mod Alike
+pub mod FirstPlaces
+pub mod KeyPlaces

@@ -1,0 +1,9 @@
+pub mod Blames
+pub mod OwnLists
+pub mod Establishments
+pub mod NamedEntries
+pub mod FirstSignatures
+pub mod Signatures
+pub mod Culprits
+pub mod Rivals
+pub mod Lines

@@ -1,2 +1,0 @@
-pub mod Blame
-pub mod Signatures

@@ -1,0 +1,13 @@
+pub mod Rows
+pub mod Backers
+pub mod Counting
+pub mod Entries
+pub mod Hinted
+pub mod Hints
+pub mod Kept
+pub mod Lists
+pub mod Opening
+pub mod Places
+pub mod Questions
+pub mod Setting
+pub mod Spots

@@ -1,0 +1,8 @@
+pub mod Seals
+pub mod LastNumbers
+pub mod Asking
+pub mod Enough
+pub mod Signing
+pub mod Zipped
+pub mod Behind
+pub mod Keys

@@ -1,0 +1,7 @@
+pub mod Plans
+pub mod Slots
+pub mod Messages
+pub mod Refusals
+pub mod LastNumbers
+pub mod Signings
+pub mod Signing

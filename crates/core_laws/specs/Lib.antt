@@ -1,9 +1,0 @@
-pub mod Alike
-pub mod Candidates
-pub mod Waking
-pub mod Entries
-pub mod Support
-pub mod Claimed
-pub mod Standing
-pub mod Looks
-pub mod ClaimRows

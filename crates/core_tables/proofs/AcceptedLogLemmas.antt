@@ -1,0 +1,10 @@
+pub mod Lists
+pub mod Last
+pub mod Hinted
+pub mod StateSteps
+pub mod Growth
+pub mod Readings
+pub mod Extensions
+pub mod Behind
+pub mod Under
+pub mod Made

@@ -1,0 +1,18 @@
+//! The tables of a core: lists that only grow while a call runs, hints over them, and their rewinding.
+mod bodies;
+mod claim_entries;
+mod claims;
+mod entries;
+mod entry_claims;
+mod held;
+mod log;
+mod mark;
+mod name;
+mod named_places;
+mod raised_claims;
+mod tables;
+
+pub use entry_claims::claims_by;
+pub use mark::Mark;
+pub use name::{ClaimKey, Name, SealKey, name_of, prior_name};
+pub use tables::Tables;

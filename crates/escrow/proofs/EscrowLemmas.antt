@@ -1,0 +1,5 @@
+pub mod Digests
+pub mod Held
+pub mod Lists
+pub mod Tables
+pub mod Crosses

@@ -1,0 +1,9 @@
+pub mod Fronts
+pub mod Lists
+pub mod Plain
+pub mod Depths
+pub mod Members
+pub mod Heads
+pub mod Whole
+pub mod Objects
+pub mod Texts

@@ -1,0 +1,7 @@
+pub mod Values
+pub mod Parts
+pub mod Digested
+pub mod Places
+pub mod Whole
+pub mod Keeping
+pub mod Crosses

@@ -1,0 +1,9 @@
+pub mod Events
+pub mod Ranges
+pub mod Spelling
+pub mod Rules
+pub mod KeySets
+pub mod Held
+pub mod Kept
+pub mod Judging
+pub mod Inception

@@ -1,4 +1,0 @@
-pub mod Orders
-pub mod Rows
-pub mod Lookups
-mod Same

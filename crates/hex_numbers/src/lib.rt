@@ -1,6 +1,0 @@
-//! Lower-case hexadecimal numbers.
-#![tactic(auto)]
-
-mod numbers;
-
-pub use numbers::{all_hex, hex_value, is_hex_number, saturating_hex_value};

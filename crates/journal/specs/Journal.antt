@@ -1,0 +1,14 @@
+pub mod Logs
+pub mod Seals
+pub mod History
+pub mod Readiness
+pub mod Acceptance
+pub mod Accepted
+pub mod Questions
+pub mod Waiting
+pub mod Grown
+pub mod Conflicts
+pub mod Replies
+pub mod CoreCalls
+pub mod Journals
+pub mod Feeds

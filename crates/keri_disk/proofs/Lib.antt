@@ -1,3 +1,0 @@
-pub mod Moments
-mod Replays
-mod Steps

@@ -1,0 +1,17 @@
+pub mod Provided
+pub mod OverCore
+pub mod WholeStreams
+pub mod Complete
+pub mod CoreTold
+pub mod Causes
+pub mod CompleteOver
+pub mod Never
+pub mod Agreed
+pub mod OneOrder
+pub mod NoConflicts
+pub mod OneListing
+pub mod OneReport
+pub mod Confluence
+pub mod Linked
+pub mod Blamed
+pub mod BlamedCauses

@@ -1,0 +1,11 @@
+pub mod Closes
+pub mod MessageLines
+pub mod Checker
+pub mod Check
+pub mod Generated
+pub mod Planned
+pub mod Made
+pub mod PlanDues
+pub mod Rehearsed
+pub mod Converted
+pub mod Commands

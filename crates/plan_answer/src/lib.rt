@@ -1,9 +1,0 @@
-//! What is answered to a plan: the message of its event, or why there is none.
-#![tactic(auto)]
-
-mod answer;
-mod message_text;
-mod read_log;
-
-pub use answer::{PlanAnswer, answer_plan};
-pub use read_log::ReadLog;

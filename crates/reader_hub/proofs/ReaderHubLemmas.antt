@@ -1,0 +1,4 @@
+pub mod Appending
+pub mod Crosses
+pub mod Joins
+pub mod Turns

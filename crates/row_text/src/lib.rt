@@ -1,8 +1,0 @@
-//! Rows of the programs of rows: a line that names a library call with its arguments.
-#![tactic(auto)]
-
-mod row;
-mod spelling;
-
-pub use row::{Row, given};
-pub use spelling::bytes_words;

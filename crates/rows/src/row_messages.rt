@@ -1,0 +1,4 @@
+//! Messages of rows.
+mod message;
+
+pub use message::message_of;

@@ -1,0 +1,4 @@
+//! The taking of links at a door.
+mod taken;
+
+pub use taken::{Taken, take_links};

@@ -1,0 +1,13 @@
+pub mod Blanks
+pub mod Changes
+pub mod Crash
+pub mod Emptied
+pub mod Files
+pub mod Migrated
+pub mod Pieces
+pub mod Readings
+pub mod Refusals
+pub mod ScanSteps
+pub mod Sizes
+pub mod Stored
+pub mod Windows

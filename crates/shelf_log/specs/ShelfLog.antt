@@ -1,0 +1,6 @@
+pub mod Answers
+pub mod Blank
+pub mod Durable
+pub mod Format
+pub mod Scans
+pub mod Settled

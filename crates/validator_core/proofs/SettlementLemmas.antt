@@ -1,0 +1,15 @@
+pub mod Candidates
+pub mod DueNumbers
+pub mod Ends
+pub mod Events
+pub mod Few
+pub mod Lasts
+pub mod Steps
+pub mod Turning
+pub mod Waking
+pub mod StandingClaims
+pub mod LoggedTables
+pub mod EachOnce
+pub mod ReceiptClaims
+pub mod EnteredClaims
+pub mod VerdictEntry

@@ -1,0 +1,13 @@
+pub mod Messages
+pub mod MessageCalls
+pub mod View
+pub mod Tally
+pub mod Looks
+pub mod Tables
+pub mod Calls
+pub mod Inside
+pub mod Views
+pub mod Confluent
+pub mod Base
+pub mod Signatures
+pub mod Verdicts

@@ -1,0 +1,13 @@
+pub mod ByEntries
+pub mod Listed
+pub mod Heard
+pub mod Taking
+pub mod Making
+pub mod Messages
+pub mod Starting
+pub mod Entering
+pub mod Judging
+pub mod Takes
+pub mod MessageFates
+pub mod Outcomes
+pub mod Witnessed

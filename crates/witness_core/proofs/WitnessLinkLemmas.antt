@@ -1,0 +1,12 @@
+pub mod Holding
+pub mod Storing
+pub mod Streams
+pub mod Witnessed
+pub mod Asked
+pub mod Chains
+pub mod Ones
+pub mod Handing
+pub mod Closed
+pub mod OnePlace
+pub mod Restart
+pub mod Lawful

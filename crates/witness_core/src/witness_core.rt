@@ -1,0 +1,13 @@
+//! A witness: it stores each event that its core accepts, with the signatures under which it was accepted, and gives receipts of
+//! the events that are stored.
+mod outcome;
+mod start_fault;
+mod take;
+mod taken;
+mod witness;
+
+pub use outcome::Outcome;
+pub use start_fault::StartFault;
+pub use witness::Witness;
+pub use witness_receipts::{Fate, Receipt};
+pub use witness_store::WitnessFault;

@@ -1,3 +1,0 @@
-mod Facts
-mod Makings
-mod Openings
