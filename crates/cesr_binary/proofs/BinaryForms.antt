@@ -3,8 +3,8 @@ use Rattle.std.proofs.Common.{◌≡◌, ℕ, ◌+◌, ◌-◌, ◌*◌, ◌/◌
 use Rattle.std.proofs.Common.{arith, append_assoc, length-append}
 use Rattle.std.specs.List.{list_all}
 use Rattle.std.proofs.lemmas.Bool.Decides.{nat_tests}
-use Rattle.keri_specs.specs.Base64.{base64_text, digits_in, digit_of, is_character, number_of_text, whole_number}
-use Rattle.keri_specs.proofs.Digits.{number-digits_in, length-digits_in}
+use Rattle.lists.specs.KeriSpecs.Base64.{base64_text, digits_in, digit_of, is_character, number_of_text, whole_number}
+use Rattle.lists.proofs.KeriSpecsLemmas.Digits.{number-digits_in, length-digits_in}
 use Rattle.cesr_codes.proofs.Numbers.{characters-drop, character-digit, character_at, text-number, text_low, length-base64_text}
 use Rattle.cesr_binary.specs.BinaryForm.{text_of, binary_of, is_binary}
 

@@ -4,7 +4,7 @@ use Rattle.std.proofs.Common.{Some, None, length-append, slice_index, subst}
 use Rattle.std.specs.List.{list_all, list_any, zip}
 use Rattle.std.specs.declared.option.Option.{Option}
 use Rattle.std.proofs.lemmas.Bool.{cases_Bool, eqb-true}
-use Rattle.keri_specs.specs.Base64.{base64_text, is_character, whole_number}
+use Rattle.lists.specs.KeriSpecs.Base64.{base64_text, is_character, whole_number}
 use Rattle.std.specs.Option.{is_none}
 use Rattle.cesr_codes.specs.Dates.{shape, allowed, written, first_misfit, is_date_time}
 use Rattle.cesr_codes.specs.Indexed.{indexed_text}

@@ -1,6 +1,6 @@
 -- The bytes of texts one behind the other are those of each.
 use Rattle.std.proofs.Common.{◌≡◌, ℕ, ◌/◌, List, [], ◌∷◌, ◌++◌, length, flat_map, refl, sym, ap, ◌∙◌, arith}
-use Rattle.keri_specs.specs.Base64.{base64_text}
+use Rattle.lists.specs.KeriSpecs.Base64.{base64_text}
 use Rattle.cesr_codes.proofs.Numbers.{length-base64_text}
 use Rattle.cesr_binary.specs.BinaryForm.{binary_of, IsTurnable}
 use Rattle.cesr_binary.proofs.BinaryForms.{binary_of-append}

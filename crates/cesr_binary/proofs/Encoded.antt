@@ -7,10 +7,10 @@ use Rattle.base64.specs.GeneralPurpose.{encode_of, encoded_size_of, decode_of, I
 use Rattle.base64.specs.declared.EncodeSliceError.{EncodeSliceError}
 use Rattle.std.proofs.lemmas.List.{take_at}
 use Rattle.cesr_binary.proofs.BinaryForms.{length-text_of, length-binary_of, text_of-binary_of}
-use Rattle.keri_specs.proofs.Digits.{all_below-digits_in}
+use Rattle.lists.proofs.KeriSpecsLemmas.Digits.{all_below-digits_in}
 use Rattle.base64.proofs.EngineFacts.{decode_of-encode_of}
 use Rattle.base64.specs.Engines.{url_safe_no_pad}
-use Rattle.keri_specs.specs.Base64.{base64_text, characters, digits_in, number_of_text, whole_number}
+use Rattle.lists.specs.KeriSpecs.Base64.{base64_text, characters, digits_in, number_of_text, whole_number}
 use Rattle.cesr_binary.specs.BinaryForm.{text_of, binary_of, IsTurnable}
 
 -- bytes are digits in base 256

@@ -7,7 +7,7 @@ use Rattle.std.proofs.Math.Seq.{take-add}
 use Rattle.std.specs.List.{list_all}
 use Rattle.std.specs.declared.result.Result.{Result}
 use Rattle.std.specs.declared.result.Result.TheVariants.{Ok, Err}
-use Rattle.keri_specs.specs.Base64.{base64_text, is_character, whole_number}
+use Rattle.lists.specs.KeriSpecs.Base64.{base64_text, is_character, whole_number}
 use Rattle.cesr_codes.proofs.Numbers.{characters-append, characters-text, character_at}
 use Rattle.cesr_stream.specs.declared.bad.BadReason.{BadReason}
 use Rattle.cesr_stream.specs.declared.item.Item.{Item}

@@ -6,7 +6,7 @@ use Rattle.std.proofs.lemmas.Bool.Decides.{nat_tests}
 use Rattle.std.proofs.lemmas.List.{map-append}
 use Rattle.std.proofs.lemmas.List.Elements.{All-pop}
 use Rattle.std.specs.List.{list_all}
-use Rattle.keri_specs.specs.Base64.{is_character}
+use Rattle.lists.specs.KeriSpecs.Base64.{is_character}
 use Rattle.cesr_codes.proofs.Numbers.{character_at}
 use Rattle.cesr_stream.specs.declared.item.Item.{Item}
 use Rattle.cesr_stream.specs.declared.item.Item.TheVariants.{Body, Group as GroupItem, Wrapped}

@@ -1,7 +1,7 @@
 -- The binary domain (CESR): four characters of six bits are three bytes.
 use Rattle.std.specs.Prelude.{◌≡◌, ℕ, ◌*◌, ◌/◌, ◌%◌, Bool, true, ◌&&◌, nat_le, List, [], ◌∷◌, ◌++◌, length}
 use Rattle.std.specs.List.{list_all}
-use Rattle.keri_specs.specs.Base64.{base64_text, digits_in, is_character, number_of_text, whole_number}
+use Rattle.lists.specs.KeriSpecs.Base64.{base64_text, digits_in, is_character, number_of_text, whole_number}
 
 -- each whole three bytes as four characters; a rest of one or two is left out
 unfoldable pub text_of : List ℕ → List ℕ

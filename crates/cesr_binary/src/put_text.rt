@@ -1,7 +1,7 @@
 //! Characters on a sink, as bytes.
 ghost use Rattle.std.specs.Prelude.{◌≡◌, ◌≤◌, ◌++◌, length, take};
-ghost use Rattle.keri_specs.specs.Causes.{HasCause};
-ghost use Rattle.keri_specs.specs.Told.{Puts};
+ghost use Rattle.lists.specs.KeriSpecs.Causes.{HasCause};
+ghost use Rattle.lists.specs.KeriSpecs.Told.{Puts};
 ghost use Rattle.cesr_binary.specs.BinaryForm.{IsTurnable, binary_of};
 
 use base64::engine::general_purpose::URL_SAFE_NO_PAD;

@@ -1,8 +1,8 @@
 //! Texts on a sink, one behind the other, as bytes.
 ghost use Rattle.std.specs.Prelude.{◌≡◌, ◌<◌, ◌^◌, ◌+◌, ◌++◌, ◌∷◌, true, List, ℕ, flat_map, length};
-ghost use Rattle.keri_specs.specs.Base64.{base64_text, is_character};
-ghost use Rattle.keri_specs.specs.Causes.{HasCause};
-ghost use Rattle.keri_specs.specs.Told.{Puts};
+ghost use Rattle.lists.specs.KeriSpecs.Base64.{base64_text, is_character};
+ghost use Rattle.lists.specs.KeriSpecs.Causes.{HasCause};
+ghost use Rattle.lists.specs.KeriSpecs.Told.{Puts};
 ghost use Rattle.cesr_binary.specs.BinaryForm.{binary_of};
 
 use crate::put_text::put_text;

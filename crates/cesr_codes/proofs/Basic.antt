@@ -2,7 +2,7 @@
 use Rattle.std.proofs.Common.{◌≡◌, ◌≢◌, ℕ, true, false, List, [], ◌∷◌, ◌++◌, length, refl, sym, ap, ◌∙◌, arith, inl, inr, Some}
 use Rattle.std.proofs.lemmas.Bool.{cases_Bool, le-ltb}
 use Rattle.std.specs.List.{list_all}
-use Rattle.keri_specs.specs.Base64.{whole_number, AreBytes, base64_text, is_character}
+use Rattle.lists.specs.KeriSpecs.Base64.{whole_number, AreBytes, base64_text, is_character}
 use Rattle.cesr_codes.specs.declared.code_fault.CodeFault.TheVariants.{CodeNotHeld}
 use Rattle.cesr_codes.specs.declared.digest.Digest.{Digest}
 use Rattle.cesr_codes.specs.declared.digest.DigestCode.{DigestCode}

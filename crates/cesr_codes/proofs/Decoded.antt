@@ -15,8 +15,8 @@ use Rattle.base64.specs.declared.decode.DecodeError.{DecodeError}
 use Rattle.base64.proofs.Decoding.{conservative_ok, slice_result_room}
 use Rattle.base64.proofs.EngineFacts.{decode_of_strict, decode_of-encode_of}
 use Rattle.base64.proofs.RoundTrip.{length-encode_symbols}
-use Rattle.keri_specs.specs.Base64.{digits_in, whole_number, AreBytes, characters, base64_text, is_character, number_of_text}
-use Rattle.keri_specs.proofs.Digits.{length-digits_in, all_below-digits_in, number-digits_in, number_after-split, number-zeros}
+use Rattle.lists.specs.KeriSpecs.Base64.{digits_in, whole_number, AreBytes, characters, base64_text, is_character, number_of_text}
+use Rattle.lists.proofs.KeriSpecsLemmas.Digits.{length-digits_in, all_below-digits_in, number-digits_in, number_after-split, number-zeros}
 use Rattle.cesr_codes.specs.Decoding.{IsDecoded}
 use Rattle.cesr_codes.specs.declared.symbols.Decoded.TheVariants.{Held, Large}
 use Rattle.cesr_codes.proofs.Groups.{encoded_text, pow_groups}

@@ -3,7 +3,7 @@ use Rattle.std.proofs.Common.{◌≡◌, ℕ, ◌<◌, ◌≤◌, ◌==◌, ◌&
 use Rattle.std.proofs.lemmas.Bool.{and_parts, eqb-true, leb-true}
 use Rattle.base64.specs.Tables.{all_below}
 use Rattle.base64.proofs.Tables.{all_below_at}
-use Rattle.keri_specs.specs.Base64.{digit_of, is_character}
+use Rattle.lists.specs.KeriSpecs.Base64.{digit_of, is_character}
 use Rattle.cesr_codes.specs.declared.character.TheConstants.{DIGITS}
 
 abbrev same_test : Bool → Bool → Bool

@@ -6,8 +6,8 @@ use Rattle.std.proofs.lemmas.Bool.{le-ltb}
 use Rattle.std.proofs.lemmas.Int.Digits.{number_more}
 use Rattle.std.proofs.lemmas.List.{take_all, take_at, drop_at}
 use Rattle.std.specs.Int.{w128, byte_at, byte_worth, bytes_high_first, sum_through, from_be_bytes}
-use Rattle.keri_specs.specs.Base64.{whole_number, base64_text}
-use Rattle.keri_specs.proofs.Digits.{number_after-split}
+use Rattle.lists.specs.KeriSpecs.Base64.{whole_number, base64_text}
+use Rattle.lists.proofs.KeriSpecsLemmas.Digits.{number_after-split}
 use Rattle.cesr_codes.specs.declared.number.Number.{Number}
 use Rattle.cesr_codes.specs.Codes.{number_layout}
 use Rattle.cesr_codes.specs.Reading.{Stands, IsCoded}

@@ -5,7 +5,7 @@ use Rattle.std.proofs.lemmas.Bool.{le-ltb, le-leb, lt-leb}
 use Rattle.std.proofs.lemmas.List.{take_at, drop_at, drop-take, take-append-drop}
 use Rattle.std.proofs.lemmas.Slice.Eq.{bytes_eq-Decides}
 use Rattle.std.specs.List.{list_all}
-use Rattle.keri_specs.specs.Base64.{whole_number, AreBytes, base64_text, is_character, number_of_text}
+use Rattle.lists.specs.KeriSpecs.Base64.{whole_number, AreBytes, base64_text, is_character, number_of_text}
 use Rattle.cesr_codes.specs.declared.code_fault.CodeFault.{CodeFault}
 use Rattle.cesr_codes.specs.declared.code_fault.CodeFault.TheVariants.{Short, CodeNotHeld, BadCharacter, PadBits, OtherIndex}
 use Rattle.cesr_codes.specs.declared.symbols.Decoded.TheVariants.{Held, Large}

@@ -7,8 +7,8 @@ use Rattle.std.specs.Int.Digits.{AllBelowBase}
 use Rattle.base64.specs.Rfc4648.{encode_symbols, encode_group}
 use Rattle.base64.specs.GeneralPurpose.{encode_of}
 use Rattle.base64.specs.Engines.{url_safe_no_pad}
-use Rattle.keri_specs.specs.Base64.{digits_in, whole_number, AreBytes, characters, character, base64_text}
-use Rattle.keri_specs.proofs.Digits.{digits_in-split, drop-digits_in, number_after-split, number-zeros}
+use Rattle.lists.specs.KeriSpecs.Base64.{digits_in, whole_number, AreBytes, characters, character, base64_text}
+use Rattle.lists.proofs.KeriSpecsLemmas.Digits.{digits_in-split, drop-digits_in, number_after-split, number-zeros}
 
 -- bytes are digits in base 256
 pub bytes_below : (xs : List ℕ) → ((i : ℕ) → slice_index xs i < 256) → AllBelowBase 256 xs

@@ -7,7 +7,7 @@ use Rattle.std.proofs.lemmas.List.{take_at, drop_at, drop_all, drop-drop, drop-t
 use Rattle.std.proofs.lemmas.Slice.Eq.{bytes_eq-Decides}
 use Rattle.std.proofs.Props.{props}
 use Rattle.std.specs.List.{list_all}
-use Rattle.keri_specs.specs.Base64.{digits_in, whole_number, AreBytes, base64_text, character, digit_of, is_character, number_of_text}
+use Rattle.lists.specs.KeriSpecs.Base64.{digits_in, whole_number, AreBytes, base64_text, character, digit_of, is_character, number_of_text}
 use Rattle.cesr_codes.specs.declared.indexed_code.IndexedCode.{IndexedCode}
 use Rattle.cesr_codes.specs.declared.indexed_code.IndexedCode.TheVariants.{Both, Current, BigBoth, BigCurrent}
 use Rattle.cesr_codes.specs.declared.indexed_sig.IndexedSig.{IndexedSig}

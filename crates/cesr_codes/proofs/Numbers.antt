@@ -8,8 +8,8 @@ use Rattle.std.specs.Int.Digits.{AllBelowBase, number_from_digits}
 use Rattle.std.proofs.lemmas.Int.Digits.{number_lt}
 use Rattle.base64.specs.Tables.{all_below}
 use Rattle.base64.proofs.Tables.{all_below_at}
-use Rattle.keri_specs.specs.Base64.{digits_in, whole_number, AreBytes, characters, character, base64_text, is_character, digit_of, number_of_text}
-use Rattle.keri_specs.proofs.Digits.{all_below-digits_in, number-digits_in, digits_in-number, length-digits_in}
+use Rattle.lists.specs.KeriSpecs.Base64.{digits_in, whole_number, AreBytes, characters, character, base64_text, is_character, digit_of, number_of_text}
+use Rattle.lists.proofs.KeriSpecsLemmas.Digits.{all_below-digits_in, number-digits_in, digits_in-number, length-digits_in}
 use Rattle.cesr_codes.proofs.Groups.{bytes_below}
 
 -- a digit is the digit of its character

@@ -1,7 +1,7 @@
 -- At the front of bytes one primitive of a type is spelled at most, and what is behind it is fixed.
 use Rattle.std.proofs.Common.{◌≡◌, ℕ, List, ◌++◌, length, take, drop, slice_index, sym, ap, ◌∙◌, arith}
 use Rattle.std.proofs.lemmas.List.{take_at, drop_at}
-use Rattle.keri_specs.specs.Base64.{AreBytes, whole_number}
+use Rattle.lists.specs.KeriSpecs.Base64.{AreBytes, whole_number}
 use Rattle.cesr_codes.specs.declared.digest.Digest.{Digest}
 use Rattle.cesr_codes.specs.declared.key.Key.{Key}
 use Rattle.cesr_codes.specs.declared.prefix.Prefix.{Prefix}

@@ -1,7 +1,7 @@
 -- Signatures: what stands at the front, that it is good, and that it is the only one.
 use Rattle.std.proofs.Common.{◌≡◌, ℕ, List, [], ◌∷◌, ◌++◌, length, codes, refl, sym, ap, ◌∙◌, arith, Some}
 use Rattle.std.proofs.lemmas.Bool.{le-ltb}
-use Rattle.keri_specs.specs.Base64.{whole_number, base64_text}
+use Rattle.lists.specs.KeriSpecs.Base64.{whole_number, base64_text}
 use Rattle.cesr_codes.specs.declared.sig.Sig.{Sig}
 use Rattle.cesr_codes.specs.Codes.{sig_layout}
 use Rattle.cesr_codes.specs.Reading.{Stands, IsCoded}

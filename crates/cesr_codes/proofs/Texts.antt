@@ -6,7 +6,7 @@ use Rattle.std.proofs.lemmas.Str.{IsAscii-append}
 use Rattle.std.proofs.lemmas.Str.Ascii.{IsAscii-cons}
 use Rattle.std.specs.List.{list_all}
 use Rattle.std.specs.Prelude.{nat_lt}
-use Rattle.keri_specs.specs.Base64.{characters, character, digits_in, whole_number, base64_text}
+use Rattle.lists.specs.KeriSpecs.Base64.{characters, character, digits_in, whole_number, base64_text}
 use Rattle.cesr_codes.specs.declared.digest.Digest.{Digest}
 use Rattle.cesr_codes.specs.declared.prefix.Prefix.{Prefix}
 use Rattle.cesr_codes.specs.declared.prefix.Prefix.TheVariants.{Basic, Said}

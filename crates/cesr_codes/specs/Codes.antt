@@ -1,6 +1,6 @@
 -- The codes of each type and their rows of the code table, what their indices are, and that no two of one character are the same.
 use Rattle.std.proofs.Common.{◌≡◌, ℕ, ◌+◌, ◌*◌, Bool, true, false, List, [], ◌∷◌, slice_index, codes, Option, None, Some, refl, lit≤}
-use Rattle.keri_specs.specs.Base64.{digit_of}
+use Rattle.lists.specs.KeriSpecs.Base64.{digit_of}
 use Rattle.std.proofs.lemmas.Bool.{eqb-false}
 use Rattle.cesr_codes.specs.declared.digest.DigestCode.{DigestCode}
 use Rattle.cesr_codes.specs.declared.digest.DigestCode.TheVariants.{Blake3, Sha256}

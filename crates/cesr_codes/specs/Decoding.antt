@@ -1,7 +1,7 @@
 -- What digits in base 64 are to raw bytes (RFC 4648, section 5; CESR: conversion by left-padding).
 use Rattle.std.specs.Prelude.{◌≡◌, ℕ, ◌^◌, ◌≤◌, List, length, true, false}
 use Rattle.std.specs.List.{list_all}
-use Rattle.keri_specs.specs.Base64.{whole_number, number_of_text, is_character, AreBytes}
+use Rattle.lists.specs.KeriSpecs.Base64.{whole_number, number_of_text, is_character, AreBytes}
 use Rattle.cesr_codes.specs.declared.symbols.Decoded.{Decoded}
 use Rattle.cesr_codes.specs.declared.symbols.Decoded.TheVariants.{Held, Large, Bad}
 

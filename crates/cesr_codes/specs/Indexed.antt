@@ -1,6 +1,6 @@
 -- How indexed signatures are spelled (CESR: indexed code table).
 use Rattle.std.specs.Prelude.{List, ℕ, ◌++◌}
-use Rattle.keri_specs.specs.Base64.{base64_text, whole_number}
+use Rattle.lists.specs.KeriSpecs.Base64.{base64_text, whole_number}
 use Rattle.cesr_codes.specs.declared.indexed_sig.IndexedSig.{IndexedSig}
 use Rattle.cesr_codes.specs.Indices.{indexed_code, index_text}
 use Rattle.cesr_codes.specs.Spelling.{IsSig}

@@ -2,7 +2,7 @@
 use Rattle.std.specs.Prelude.{ℕ, ◌==◌, ◌&&◌, nat_lt, Bool, true, false, List, ◌++◌, codes}
 use Rattle.std.specs.declared.option.Option.{Option}
 use Rattle.std.specs.declared.option.Option.TheVariants.{None, Some}
-use Rattle.keri_specs.specs.Base64.{base64_text}
+use Rattle.lists.specs.KeriSpecs.Base64.{base64_text}
 
 -- A small one has an index of one digit, and the same as other index or none. A big one has indices of two digits.
 abbrev pub has_form : Bool → ℕ → Option ℕ → Bool

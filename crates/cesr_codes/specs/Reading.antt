@@ -4,7 +4,7 @@ use Rattle.std.specs.List.{list_all}
 use Rattle.std.specs.declared.option.Option.TheVariants.{Some}
 use Rattle.std.specs.declared.result.Result.{Result}
 use Rattle.std.specs.declared.result.Result.TheVariants.{Ok, Err}
-use Rattle.keri_specs.specs.Base64.{base64_text, whole_number, is_character, AreBytes}
+use Rattle.lists.specs.KeriSpecs.Base64.{base64_text, whole_number, is_character, AreBytes}
 use Rattle.cesr_codes.specs.declared.code_fault.CodeFault.{CodeFault}
 use Rattle.cesr_codes.specs.declared.code_fault.CodeFault.TheVariants.{Short}
 use Rattle.cesr_codes.specs.Table.{Layout, Verdict, good, short, bad, verdict, has_code, has_other_index, layout_verdict, whole_verdict, total}

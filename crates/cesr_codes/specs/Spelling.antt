@@ -1,6 +1,6 @@
 -- How primitives are spelled (CESR: code table, and conversion by left-padding).
 use Rattle.std.specs.Prelude.{ℕ, ◌^◌, ◌<◌, List, ◌∷◌, ◌++◌, codes}
-use Rattle.keri_specs.specs.Base64.{base64_text, whole_number, AreBytes}
+use Rattle.lists.specs.KeriSpecs.Base64.{base64_text, whole_number, AreBytes}
 use Rattle.cesr_codes.specs.declared.digest.DigestCode.{DigestCode}
 use Rattle.cesr_codes.specs.declared.digest.DigestCode.TheVariants.{Blake3, Sha256}
 use Rattle.cesr_codes.specs.declared.digest.Digest.{Digest}

@@ -1,7 +1,7 @@
 //! The 64 characters and their digits (RFC 4648, section 5).
 ghost use Rattle.std.specs.Prelude.{◌≡◌, ◌<◌, ◌≤◌, position, not};
 ghost use Rattle.std.specs.List.{list_all};
-ghost use Rattle.keri_specs.specs.Base64.{character, digit_of, is_character};
+ghost use Rattle.lists.specs.KeriSpecs.Base64.{character, digit_of, is_character};
 
 const CHARACTERS: [u8; 64] = *b"ABCDEFGHIJKLMNOPQRSTUVWXYZabcdefghijklmnopqrstuvwxyz0123456789-_";
 

@@ -23,7 +23,7 @@ pub struct IndexedSig {
 
 impl IndexedSig {
     ghost use Rattle.std.specs.Prelude.{◌≡◌, ◌++◌, ℕ, List, drop, length, IfSome, IfNone, false, true};
-    ghost use Rattle.keri_specs.specs.Base64.{base64_text};
+    ghost use Rattle.lists.specs.KeriSpecs.Base64.{base64_text};
     ghost use Rattle.cesr_codes.specs.Indices.{has_form, indexed_code, index_text};
     ghost use Rattle.cesr_codes.specs.Indexed.{IsIndexed, indexed_text};
     ghost use Rattle.cesr_codes.specs.Reading.{Reads};

@@ -1,7 +1,7 @@
 //! Raw bytes behind a code and its indices.
 ghost use Rattle.std.specs.Prelude.{◌≡◌, ◌++◌, ◌+◌, ◌-◌, ◌*◌, ◌/◌, ◌≤◌, length, drop, position, not, false, Some};
 ghost use Rattle.std.specs.List.{list_all};
-ghost use Rattle.keri_specs.specs.Base64.{base64_text, is_character, whole_number};
+ghost use Rattle.lists.specs.KeriSpecs.Base64.{base64_text, is_character, whole_number};
 ghost use Rattle.cesr_codes.specs.Decoding.{IsDecoded};
 ghost use Rattle.cesr_codes.specs.Table.{total};
 ghost use Rattle.cesr_codes.specs.Reading.{ReadsCoded, ReadsBehind, ReadsWhole};

@@ -3,7 +3,7 @@ ghost use Rattle.std.specs.Prelude.{◌≡◌, ◌++◌, ◌+◌, ◌-◌, ◌*�
 ghost use Rattle.std.specs.List.{list_all};
 ghost use Rattle.base64.specs.GeneralPurpose.{encode_of};
 ghost use Rattle.base64.specs.Engines.{url_safe_no_pad};
-ghost use Rattle.keri_specs.specs.Base64.{AreBytes, base64_text, is_character, whole_number};
+ghost use Rattle.lists.specs.KeriSpecs.Base64.{AreBytes, base64_text, is_character, whole_number};
 ghost use Rattle.cesr_codes.specs.Decoding.{IsDecoded};
 
 use base64::engine::general_purpose::URL_SAFE_NO_PAD;

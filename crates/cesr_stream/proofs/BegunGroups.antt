@@ -2,7 +2,7 @@
 use Rattle.std.proofs.Common.{◌≡◌, ℕ, ◌+◌, ◌≤◌, List, [], ◌∷◌, ◌++◌, length, take, drop, slice_index, refl, sym, ap, ◌∙◌, arith, append-nil, append_assoc, length-append, length-drop, Option, Some, None, subst}
 use Rattle.std.proofs.Math.Seq.{take-add}
 use Rattle.std.proofs.lemmas.List.{drop-append-le, take-append-le}
-use Rattle.keri_specs.specs.Base64.{base64_text}
+use Rattle.lists.specs.KeriSpecs.Base64.{base64_text}
 use Rattle.cesr_stream.specs.declared.begun_group.BegunGroup.{BegunGroup}
 use Rattle.cesr_stream.specs.declared.group.Group.{Group}
 use Rattle.cesr_stream.specs.declared.group.Group.TheVariants.{Held, Witness, Couples, FirstSeen, Anchor}

@@ -5,7 +5,7 @@ use Rattle.std.proofs.Math.Seq.{take-add}
 use Rattle.std.proofs.lemmas.List.Elements.{All-append, All-cons, All-nil}
 use Rattle.std.proofs.lemmas.Bool.{eqb-true, eq-eqb, false_from_ne_true}
 use Rattle.std.proofs.lemmas.List.{drop-drop, drop-append-le, take-append-le}
-use Rattle.keri_specs.specs.Base64.{base64_text}
+use Rattle.lists.specs.KeriSpecs.Base64.{base64_text}
 use Rattle.cesr_stream.specs.declared.begun_group.BegunGroup.{BegunGroup}
 use Rattle.cesr_stream.specs.declared.begun_wrap.BegunWrap.{BegunWrap}
 use Rattle.cesr_stream.specs.declared.group.Group.{Group}

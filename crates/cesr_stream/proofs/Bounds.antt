@@ -2,7 +2,7 @@
 use Rattle.std.proofs.Common.{◌≡◌, ◌≢◌, ℕ, zero, suc, ◌+◌, ◌-◌, ◌*◌, ◌%◌, ◌<◌, ◌≤◌, ◌==◌, ◌||◌, not, nat_lt, if◌then◌else◌, Bool, true, false, List, [], ◌∷◌, length, drop, slice_index, refl, arith, inl, inr, Option, None, Some, length-drop, lit≤, lit<}
 use Rattle.std.specs.List.{list_all}
 use Rattle.std.proofs.lemmas.Bool.{cases_Bool, eqb-false, ltb-true, ltb-false}
-use Rattle.keri_specs.specs.Base64.{is_character}
+use Rattle.lists.specs.KeriSpecs.Base64.{is_character}
 use Rattle.cesr_codes.proofs.Numbers.{text_low}
 use Rattle.cesr_codes.specs.declared.code_fault.CodeFault.TheVariants.{BadCharacter}
 use Rattle.cesr_stream.specs.declared.bad.BadReason.TheVariants.{NoStart, Version, TooLarge, GroupNotSupported, Code}

@@ -2,7 +2,7 @@
 use Rattle.std.proofs.Common.{◌≡◌, ℕ, ◌≤◌, ◌<◌, not, nat_lt, if◌then◌else◌, Bool, true, false, List, [], ◌∷◌, length, take, slice_index, refl, sym, ap, ◌∙◌, arith, ◌==◌, ◌≢◌}
 use Rattle.std.specs.List.{list_all}
 use Rattle.std.proofs.lemmas.Bool.{eqb-true, false_from_ne_true}
-use Rattle.keri_specs.specs.Base64.{base64_text, is_character}
+use Rattle.lists.specs.KeriSpecs.Base64.{base64_text, is_character}
 use Rattle.cesr_codes.proofs.Numbers.{text-number, text_low}
 use Rattle.cesr_codes.specs.declared.code_fault.CodeFault.TheVariants.{BadCharacter}
 use Rattle.cesr_stream.specs.declared.bad.BadReason.TheVariants.{GroupNotSupported, Code}

@@ -3,7 +3,7 @@ use Rattle.std.proofs.Common.{◌≡◌, ℕ, ◌≤◌, ◌==◌, ◌*◌, ◌/
 use Rattle.std.proofs.Props.{props}
 use Rattle.std.proofs.lemmas.Bool.{eqb-false}
 use Rattle.std.proofs.lemmas.List.Elements.{All-head, All-tail}
-use Rattle.keri_specs.specs.Base64.{base64_text}
+use Rattle.lists.specs.KeriSpecs.Base64.{base64_text}
 use Rattle.cesr_codes.specs.declared.key.Key.{Key}
 use Rattle.cesr_codes.specs.declared.key.KeyCode.{KeyCode}
 use Rattle.cesr_codes.specs.declared.key.KeyCode.TheVariants.{Fixed}

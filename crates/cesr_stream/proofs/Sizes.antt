@@ -1,8 +1,8 @@
 -- How long the texts are, and the count of a counter.
 use Rattle.std.proofs.Common.{◌≡◌, ℕ, ◌+◌, Bool, true, false, List, [], ◌∷◌, ◌++◌, length, drop, map, get_or, refl, sym, ap, ◌∙◌, arith, length-append}
 use Rattle.std.proofs.lemmas.List.{get_or-drop, drop-map}
-use Rattle.keri_specs.proofs.Digits.{drop-digits_in}
-use Rattle.keri_specs.specs.Base64.{base64_text, digits_in, character}
+use Rattle.lists.proofs.KeriSpecsLemmas.Digits.{drop-digits_in}
+use Rattle.lists.specs.KeriSpecs.Base64.{base64_text, digits_in, character}
 use Rattle.cesr_codes.specs.declared.indexed_sig.IndexedSig.{IndexedSig}
 use Rattle.cesr_codes.specs.Indexed.{indexed_text}
 use Rattle.cesr_codes.specs.Spelling.{key_text, sig_text, number_text, digest_text}

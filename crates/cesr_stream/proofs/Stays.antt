@@ -4,7 +4,7 @@ use Rattle.std.proofs.lemmas.Bool.{cases_Bool, le-ltb, ltb-false}
 use Rattle.std.proofs.lemmas.List.{take-append-le, drop-append-le, get_or_append_left}
 use Rattle.cesr_stream.specs.Parts.{Part, whole, refused, unfinished, shifted, followed_by}
 use Rattle.cesr_stream.specs.Front.{body_part, has_version, size_of, counter_part, count_of}
-use Rattle.keri_specs.specs.Base64.{is_character}
+use Rattle.lists.specs.KeriSpecs.Base64.{is_character}
 use Rattle.cesr_stream.specs.declared.bad.BadReason.TheVariants.{Version, TooLarge, GroupNotSupported, Code}
 use Rattle.cesr_codes.specs.declared.code_fault.CodeFault.TheVariants.{BadCharacter}
 

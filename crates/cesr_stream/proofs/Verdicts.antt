@@ -4,7 +4,7 @@ use Rattle.std.specs.List.{list_all}
 use Rattle.std.proofs.lemmas.Bool.{eqb-true, leb-true, cases_Bool, le-ltb, ltb-false, ltb-true, lt-ltb, false_from_ne_true}
 use Rattle.std.proofs.lemmas.List.{take-append-le, take_all}
 use Rattle.std.proofs.lemmas.Slice.Eq.{bytes_eq-Decides}
-use Rattle.keri_specs.specs.Base64.{is_character, number_of_text}
+use Rattle.lists.specs.KeriSpecs.Base64.{is_character, number_of_text}
 use Rattle.cesr_codes.specs.declared.code_fault.CodeFault.TheVariants.{PadBits, OtherIndex}
 use Rattle.cesr_codes.specs.Table.{Layout, good, short, bad, verdict, layout_verdict, whole_verdict, is_within_code, has_code, has_other_index, total}
 use Rattle.cesr_stream.specs.Front.{shown}

@@ -4,7 +4,7 @@ use Rattle.std.specs.List.{list_all}
 use Rattle.std.proofs.lemmas.Bool.{cases_Bool, eqb-true, false_from_ne_true, le-ltb}
 use Rattle.std.proofs.lemmas.List.{drop_at}
 use Rattle.std.proofs.lemmas.List.Elements.{All-head, All-tail}
-use Rattle.keri_specs.specs.Base64.{base64_text, is_character, number_of_text}
+use Rattle.lists.specs.KeriSpecs.Base64.{base64_text, is_character, number_of_text}
 use Rattle.cesr_codes.specs.declared.key.KeyCode.TheVariants.{Fixed}
 use Rattle.cesr_codes.specs.declared.indexed_sig.IndexedSig.{IndexedSig}
 use Rattle.cesr_codes.specs.Dates.{moment_verdict}

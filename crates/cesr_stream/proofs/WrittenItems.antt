@@ -3,8 +3,8 @@ use Rattle.std.proofs.Common.{◌≡◌, ℕ, zero, suc, ◌+◌, ◌-◌, ◌*�
 use Rattle.std.proofs.lemmas.Bool.{cases_Bool, eqb-true, eq-eqb, false_from_ne_true, le-ltb}
 use Rattle.std.specs.List.{list_all}
 use Rattle.std.proofs.lemmas.List.{take_all, take_at, drop_at}
-use Rattle.keri_specs.specs.Base64.{base64_text}
-use Rattle.keri_specs.specs.Hex.{is_hex}
+use Rattle.lists.specs.KeriSpecs.Base64.{base64_text}
+use Rattle.lists.specs.KeriSpecs.Hex.{is_hex}
 use Rattle.std.proofs.lemmas.List.Elements.{All-head, All-tail}
 use Rattle.std.proofs.lemmas.Slice.Eq.{bytes_eq-Decides}
 use Rattle.cesr_codes.specs.Indexed.{indexed_text}

@@ -2,7 +2,7 @@
 use Rattle.std.specs.Prelude.{◌≡◌, ℕ, ◌+◌, ◌-◌, ◌*◌, ◌%◌, ◌^◌, ◌≤◌, ◌<◌, Bool, true, nat_lt, if◌then◌else◌, List, [], ◌∷◌, ◌++◌, length, take, drop, slice_index, flat_map, All}
 use Rattle.std.specs.declared.option.Option.{Option}
 use Rattle.std.specs.declared.option.Option.TheVariants.{None, Some}
-use Rattle.keri_specs.specs.Base64.{base64_text}
+use Rattle.lists.specs.KeriSpecs.Base64.{base64_text}
 use Rattle.cesr_codes.specs.Indexed.{indexed_text}
 use Rattle.cesr_stream.specs.declared.begun_group.BegunGroup.{BegunGroup}
 use Rattle.cesr_stream.specs.declared.begun_item.BegunItem.{BegunItem}

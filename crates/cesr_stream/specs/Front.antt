@@ -1,8 +1,8 @@
 -- The item at the front of a stream (CESR: framing by counters; this project's profile).
 use Rattle.std.specs.Prelude.{ℕ, zero, suc, Bool, true, false, ◌&&◌, ◌||◌, not, ◌==◌, nat_lt, if◌then◌else◌, List, [], ◌∷◌, length, take, drop, slice_index, codes, find, option_map, bytes_eq, ◌-◌, ◌*◌}
 use Rattle.std.specs.List.{list_all}
-use Rattle.keri_specs.specs.Base64.{is_character, number_of_text}
-use Rattle.keri_specs.specs.Hex.{is_hex, hex_value}
+use Rattle.lists.specs.KeriSpecs.Base64.{is_character, number_of_text}
+use Rattle.lists.specs.KeriSpecs.Hex.{is_hex, hex_value}
 use Rattle.std.specs.declared.option.Option.{Option}
 use Rattle.std.specs.declared.option.Option.TheVariants.{None, Some}
 use Rattle.cesr_codes.specs.Dates.{moment_verdict}

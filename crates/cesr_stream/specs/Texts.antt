@@ -1,6 +1,6 @@
 -- The texts of groups and items.
 use Rattle.std.specs.Prelude.{◌≡◌, ℕ, ◌/◌, List, ◌++◌, length, flat_map, slice_index, codes}
-use Rattle.keri_specs.specs.Base64.{base64_text}
+use Rattle.lists.specs.KeriSpecs.Base64.{base64_text}
 use Rattle.cesr_codes.specs.Indexed.{indexed_text}
 use Rattle.cesr_codes.specs.Moments.{moment_text}
 use Rattle.cesr_codes.specs.Spelling.{key_text, sig_text, number_text, digest_text}

@@ -6,7 +6,7 @@ ghost use Rattle.cesr_stream.specs.Stops.{Stops};
 
 use crate::BadReason;
 use crate::stop::Stop;
-use hex_numbers::{all_hex, hex_value};
+use lists::{all_hex, hex_value};
 
 /// The version string and what stands before it have so many bytes.
 const HEAD: usize = 24;

@@ -1,6 +1,6 @@
 //! Counters at the front of a stream.
 ghost use Rattle.std.specs.Prelude.{◌≡◌, ◌≤◌, ◌<◌, ◌^◌, ◌∷◌, OnOk, IfErr, length, slice_index};
-ghost use Rattle.keri_specs.specs.Base64.{base64_text};
+ghost use Rattle.lists.specs.KeriSpecs.Base64.{base64_text};
 ghost use Rattle.cesr_stream.specs.Front.{counter_part, count_of, is_group};
 ghost use Rattle.cesr_stream.specs.Parts.{whole};
 ghost use Rattle.cesr_stream.specs.Stops.{Stops};

@@ -1,8 +1,8 @@
 //! Texts on a sink, one behind the other.
 ghost use Rattle.std.specs.Prelude.{◌≡◌, ◌<◌, ◌^◌, ◌+◌, ◌++◌, ◌∷◌, List, ℕ, flat_map, length};
-ghost use Rattle.keri_specs.specs.Base64.{base64_text};
-ghost use Rattle.keri_specs.specs.Causes.{HasCause};
-ghost use Rattle.keri_specs.specs.Told.{Puts};
+ghost use Rattle.lists.specs.KeriSpecs.Base64.{base64_text};
+ghost use Rattle.lists.specs.KeriSpecs.Causes.{HasCause};
+ghost use Rattle.lists.specs.KeriSpecs.Told.{Puts};
 
 use crate::counter::counter;
 use keri_outside::{Failed, Sink};

@@ -1,7 +1,7 @@
 //! Writing the items of a stream.
 ghost use Rattle.std.specs.Prelude.{◌≡◌};
-ghost use Rattle.keri_specs.specs.Causes.{HasCause};
-ghost use Rattle.keri_specs.specs.Told.{Puts};
+ghost use Rattle.lists.specs.KeriSpecs.Causes.{HasCause};
+ghost use Rattle.lists.specs.KeriSpecs.Told.{Puts};
 ghost use Rattle.cesr_stream.specs.Written.{IsWritable, item_text};
 
 use crate::spellings::{Spelled, put_counted, size_counted, size_of_all};

@@ -3,8 +3,8 @@ use Rattle.std.proofs.Common.{◌≡◌, ◌≢◌, ◌∙◌, ℕ, zero, suc, �
 use Rattle.std.proofs.lemmas.Bool.{cases_Bool}
 use Rattle.std.proofs.lemmas.Slice.Eq.{bytes_eq-Decides}
 use Rattle.std.specs.Int.Digits.{AllBelowBase}
-use Rattle.keri_specs.specs.Base64.{AreBytes, base64_text, digits_in, number_of_text, whole_number}
-use Rattle.keri_specs.proofs.Digits.{all_below-digits_in, length-digits_in, number-digits_in}
+use Rattle.lists.specs.KeriSpecs.Base64.{AreBytes, base64_text, digits_in, number_of_text, whole_number}
+use Rattle.lists.proofs.KeriSpecsLemmas.Digits.{all_below-digits_in, length-digits_in, number-digits_in}
 use Rattle.cesr_codes.specs.declared.key.Key.{Key}
 use Rattle.cesr_codes.specs.declared.key.KeyCode.TheVariants.{Fixed, Rotating}
 use Rattle.cesr_codes.specs.Spelling.{IsKey, key_code, key_text}

@@ -3,7 +3,7 @@ use Rattle.std.proofs.Common.{◌≡◌, ◌≢◌, ◌∙◌, ℕ, Bool, List, 
 use Rattle.std.specs.Prelude.{IfNone, IfSome, find}
 use Rattle.std.proofs.lemmas.Bool.{false_from_ne_true}
 use Rattle.std.proofs.lemmas.Slice.Eq.{bytes_eq-Decides}
-use Rattle.keri_specs.specs.Base64.{AreBytes, number_of_text}
+use Rattle.lists.specs.KeriSpecs.Base64.{AreBytes, number_of_text}
 use Rattle.cesr_codes.specs.declared.digest.DigestCode.{DigestCode}
 use Rattle.cesr_codes.specs.declared.digest.DigestCode.TheVariants.{Blake3, Sha256}
 use Rattle.cesr_codes.specs.declared.key.KeyCode.{KeyCode}

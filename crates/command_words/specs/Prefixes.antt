@@ -1,7 +1,7 @@
 -- Prefixes as words.
 use Rattle.std.specs.Prelude.{ℕ, List, [], ◌∷◌, bytes_eq, drop, find}
 use Rattle.std.specs.declared.option.Option.{Option}
-use Rattle.keri_specs.specs.Base64.{digits_in, number_of_text}
+use Rattle.lists.specs.KeriSpecs.Base64.{digits_in, number_of_text}
 use Rattle.cesr_codes.specs.declared.digest.DigestCode.TheVariants.{Blake3, Sha256}
 use Rattle.cesr_codes.specs.declared.key.KeyCode.TheVariants.{Fixed, Rotating}
 use Rattle.cesr_codes.specs.declared.prefix.Prefix.{Prefix}

@@ -1,7 +1,7 @@
 -- What a real file tells: how often it has failed, and nothing of its content. It has no bytes and no image.
 use Rattle.std.specs.Prelude.{ℕ}
 use Rattle.std.specs.declared.option.Option.TheVariants.{None}
-use Rattle.keri_disk.specs.Images.{DiskTold}
+use Rattle.shelf_log.specs.KeriDisk.Images.{DiskTold}
 use Rattle.disk_file.specs.declared.file_disk.FileDisk.{FileDisk}
 
 abbrev pub disk_faults : FileDisk → ℕ

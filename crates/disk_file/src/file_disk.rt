@@ -3,8 +3,8 @@
 use crate::OpenError;
 use crate::opening::open_alone;
 use crate::transfer::{read_all, write_all};
-use keri_disk::Disk;
 use keri_outside::Failed;
+use shelf_log::Disk;
 use std::fs::{File, OpenOptions};
 
 /// A regular file that nobody else has open as a disk until this value is dropped. It tells no content.
@@ -16,7 +16,7 @@ pub struct FileDisk {
 
 impl FileDisk {
     ghost use Rattle.std.specs.Prelude.{◌≡◌, ◌≤◌, IfOk};
-    ghost use Rattle.keri_specs.specs.Causes.{Rose};
+    ghost use Rattle.lists.specs.KeriSpecs.Causes.{Rose};
     ghost use Rattle.disk_file.specs.Untold.{disk_faults};
 
     /// Opens a file, and makes it where there is none. Its name is on the disk afterwards.

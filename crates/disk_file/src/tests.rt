@@ -2,8 +2,8 @@
 //! way out makes it long to prove.
 
 use crate::{FileDisk, OpenError};
-use keri_disk::Disk;
 use keri_outside::Failed;
+use shelf_log::Disk;
 use std::fs;
 use std::test::Fail;
 

@@ -6,9 +6,9 @@ use Rattle.std.proofs.Math.Bool.{or_assoc, or-false}
 use Rattle.std.proofs.lemmas.Bool.{cases_Bool, and_parts, not-true}
 use Rattle.cesr_codes.specs.declared.key.Key.{Key}
 use Rattle.key_state.specs.Same.{same_key, has_key, distinct, is_fixed, are_witnesses}
-use Rattle.journal.specs.History.{Told, Triple, yes_in}
-use Rattle.journal.specs.declared.body.Body.{Body}
-use Rattle.journal.specs.Readiness.{backs, backers}
+use Rattle.journal.specs.Journal.History.{Told, Triple, yes_in}
+use Rattle.journal.specs.declared.journal.body.Body.{Body}
+use Rattle.journal.specs.Journal.Readiness.{backs, backers}
 use Rattle.event_backing.specs.Backing.{Backing, none_added, with_added, with_each, keys_on}
 use Rattle.event_backing.proofs.Keys.{same_key-turned, filter_alike, has_key-filter, filter_none}
 

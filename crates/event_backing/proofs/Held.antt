@@ -10,13 +10,13 @@ use Rattle.cesr_codes.specs.Spelling.{prefix_text, digest_text}
 use Rattle.cesr_codes.proofs.Same as codes
 use Rattle.json_tree.specs.declared.tree.Tree.{Tree}
 use Rattle.json_tree.specs.declared.tree.Tree.TheVariants.{Str}
-use Rattle.keri_specs.specs.Hex.{hex_value}
+use Rattle.lists.specs.KeriSpecs.Hex.{hex_value}
 use Rattle.sith.proofs.Numerals.{hex_is}
-use Rattle.event_body.specs.declared.event.Event.{Event}
-use Rattle.event_body.specs.Events.{anchors_of}
+use Rattle.event_body.specs.declared.event_body.event.Event.{Event}
+use Rattle.event_body.specs.EventBody.Events.{anchors_of}
 use Rattle.key_state.specs.Same.{same_prefix, same_digest}
 use Rattle.key_state.proofs.Same.{same_prefix_is, same_prefix_itself, numbers, number_itself}
-use Rattle.journal.specs.Seals.{Named, members_of, seals}
+use Rattle.journal.specs.Journal.Seals.{Named, members_of, seals}
 use Rattle.event_backing.specs.declared.event_seal.EventSeal.{EventSeal}
 use Rattle.event_backing.specs.EventSeals.{named, is_seal, holds_seal, IsEventSeal, names}
 use Rattle.event_backing.specs.Texts.{string_member}

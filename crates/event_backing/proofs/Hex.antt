@@ -10,9 +10,9 @@ use Rattle.std.proofs.lemmas.Bool.Decides.{nat_tests, Decides-eqb}
 use Rattle.std.proofs.lemmas.Int.Digits.{number_lt}
 use Rattle.std.proofs.lemmas.List.{length-map}
 use Rattle.std.proofs.Math.Nat.{pow-le-pow_right, mul-le-mul_left}
-use Rattle.keri_specs.specs.Base64.{digits_in}
-use Rattle.keri_specs.specs.Hex.{is_hex, hex_digit, hex_value, IsHexOf}
-use Rattle.keri_specs.proofs.Digits.{digits_in-number, number_after-split}
+use Rattle.lists.specs.KeriSpecs.Base64.{digits_in}
+use Rattle.lists.specs.KeriSpecs.Hex.{is_hex, hex_digit, hex_value, IsHexOf}
+use Rattle.lists.proofs.KeriSpecsLemmas.Digits.{digits_in-number, number_after-split}
 use Rattle.sith.proofs.Numerals.{hex_is}
 
 digit_small : (c : ℕ) → is_hex c ≡ true → hex_digit c < 16

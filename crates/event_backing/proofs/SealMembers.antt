@@ -9,9 +9,9 @@ use Rattle.cesr_codes.specs.Spelling.{prefix_text, digest_text}
 use Rattle.json_tree.specs.declared.tree.Tree.{Tree, Null, Bool as TreeBool, Number, Str, List', Object', Row_of-Member, end_of-Member, more_of-Member, items-the_row-Member, the_lemmas}
 use Rattle.json_tree.specs.declared.tree.Tree.TheVariants.{Object as TreeObject}
 use Rattle.json_tree.specs.declared.tree.Member.{Member}
-use Rattle.event_body.specs.Events.{prefix_of, sn_of, said_of, anchors_of}
-use Rattle.event_body.specs.declared.event.Event.{Event}
-use Rattle.journal.specs.Seals.{Named, named_values, members_of, is_string, are_seal, seals}
+use Rattle.event_body.specs.EventBody.Events.{prefix_of, sn_of, said_of, anchors_of}
+use Rattle.event_body.specs.declared.event_body.event.Event.{Event}
+use Rattle.journal.specs.Journal.Seals.{Named, named_values, members_of, is_string, are_seal, seals}
 use Rattle.event_backing.specs.Texts.{named_value, string_member, seal_members}
 use Rattle.event_backing.specs.EventSeals.{named, holds_seal}
 use Rattle.event_backing.specs.Listing.{Is}

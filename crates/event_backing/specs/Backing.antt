@@ -2,8 +2,8 @@
 use Rattle.std.specs.Prelude.{◌||◌, List, [], ◌∷◌, filter, map, flat_map, bytes_eq}
 use Rattle.cesr_codes.specs.declared.key.Key.{Key}
 use Rattle.key_state.specs.Same.{same_key, has_key}
-use Rattle.journal.specs.History.{Told, yes_in}
-use Rattle.journal.specs.declared.body.Body.{Body}
+use Rattle.journal.specs.Journal.History.{Told, yes_in}
+use Rattle.journal.specs.declared.journal.body.Body.{Body}
 
 -- the witnesses of a list, and those of them that were added, in the list's order
 pub record Backing : Type 0 where

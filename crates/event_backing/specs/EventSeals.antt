@@ -4,10 +4,10 @@ use Rattle.cesr_codes.specs.declared.digest.Digest.{Digest}
 use Rattle.cesr_codes.specs.declared.prefix.Prefix.{Prefix}
 use Rattle.cesr_codes.specs.Spelling.{IsDigest, IsPrefix}
 use Rattle.json_tree.specs.declared.tree.Tree.{Tree}
-use Rattle.event_body.specs.declared.event.Event.{Event}
-use Rattle.event_body.specs.declared.event.Event.TheVariants.{Rct}
+use Rattle.event_body.specs.declared.event_body.event.Event.{Event}
+use Rattle.event_body.specs.declared.event_body.event.Event.TheVariants.{Rct}
 use Rattle.key_state.specs.Same.{same_digest, same_prefix}
-use Rattle.journal.specs.Seals.{are_seal, members_of, seals}
+use Rattle.journal.specs.Journal.Seals.{are_seal, members_of, seals}
 use Rattle.event_backing.specs.declared.event_seal.EventSeal.{EventSeal}
 
 -- an event as a receipt names it: by its identifier, number and digest, which is all that a seal says of it

@@ -2,7 +2,7 @@
 use Rattle.std.specs.Prelude.{ℕ, List, [], ◌∷◌, codes}
 use Rattle.json_tree.specs.declared.tree.Member.{Member}
 use Rattle.json_tree.specs.declared.tree.Tree.{Str}
-use Rattle.journal.specs.Seals.{Named}
+use Rattle.journal.specs.Journal.Seals.{Named}
 
 -- a member as its name and value
 abbrev pub named_value : Member → Named

@@ -1,7 +1,7 @@
 //! Event seals that an event holds.
 ghost use Rattle.std.specs.Prelude.{◌≡◌, IfOk};
 ghost use Rattle.std.specs.List.{list_any};
-ghost use Rattle.event_body.specs.Events as events;
+ghost use Rattle.event_body.specs.EventBody.Events as events;
 ghost use Rattle.event_backing.specs.EventSeals.{holds_seal, is_seal as seal_test};
 ghost use Rattle.event_backing.specs.Listing.{AreSealsOf, Is};
 

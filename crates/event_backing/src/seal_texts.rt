@@ -1,6 +1,6 @@
 //! The texts of an event seal.
 ghost use Rattle.std.specs.Prelude.{◌≡◌, ◌≢◌, List, ℕ, IfSome, IfNone, map};
-ghost use Rattle.journal.specs.Seals.{members_of};
+ghost use Rattle.journal.specs.Journal.Seals.{members_of};
 ghost use Rattle.event_backing.specs.Texts.{named_value, seal_members, string_member};
 
 use json_tree::{Member, Tree};

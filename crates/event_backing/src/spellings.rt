@@ -4,7 +4,7 @@ ghost use Rattle.std.specs.Fmt.{digits};
 ghost use Rattle.cesr_codes.specs.Spelling.{digest_text, prefix_text};
 
 use cesr_codes::{Digest, Prefix};
-use hex_numbers::{hex_value, is_hex_number};
+use lists::{hex_value, is_hex_number};
 
 /// How many digits the number of an event seal has at most.
 const MOST_DIGITS: usize = 16;

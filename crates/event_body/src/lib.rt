@@ -5,6 +5,13 @@ mod body_fields;
 mod event_body;
 mod event_writing;
 
-pub use body_fields::{Field, Fields, FieldsFault, Form, Kind, LARGEST, digest_in, digest_tree, digests_in, digests_tree, fixed_keys_in, keys_in, keys_tree, members_in, number_in, number_tree, numbers, prefix_in, prefix_tree, read_fields, strings_in, strings_tree, values_in, write_fields};
-pub use event_body::{BodyFault, Event, Inception, Interaction, ReadBody, ReceiptBody, Rotation, hides_prefix, is_establishment, is_receipt, kind_of, one_event, prefix_of, read_body, said_of_event, sn_of};
+pub use body_fields::{
+    Field, Fields, FieldsFault, Form, Kind, LARGEST, digest_in, digest_tree, digests_in,
+    digests_tree, fixed_keys_in, keys_in, keys_tree, members_in, number_in, number_tree, numbers,
+    prefix_in, prefix_tree, read_fields, strings_in, strings_tree, values_in, write_fields,
+};
+pub use event_body::{
+    BodyFault, Event, Inception, Interaction, ReadBody, ReceiptBody, Rotation, hides_prefix,
+    is_establishment, is_receipt, kind_of, one_event, prefix_of, read_body, said_of_event, sn_of,
+};
 pub use event_writing::{EventText, sealed, sealed_text, writable, write_body};

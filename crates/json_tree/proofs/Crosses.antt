@@ -5,8 +5,8 @@ use denote.Param.SendFields.{variants_send, declared_send, as_row_send}
 use denote.RattleType.{RattleType}
 use denote.Struct.Field.{row_field}
 use denote.Hole.FixSend.{fix_send, Sends}
-use Rattle.lists.proofs.items.Items.TheSendSync as items
-use Rattle.lists.specs.contracts.items.Items as rows
+use Rattle.lists.proofs.lists.items.Items.TheSendSync as items
+use Rattle.lists.specs.contracts.lists.items.Items as rows
 use Rattle.json_tree.specs.contracts.tree.Tree as tree
 use Rattle.json_tree.specs.contracts.tree.Tree.TheKnot as knot
 use Rattle.json_tree.specs.declared.tree.Tree.TheBlock.{member-Tree, member-Member}

@@ -5,8 +5,8 @@ ghost use Rattle.keri.specs.Opened.{IsOpenedAt, what_opened};
 
 use crate::behind_streams::behind_streams;
 use disk_file::{FileDisk, OpenError};
-use keri_disk::Disk;
 use keri_outside::Failed;
+use shelf_log::Disk;
 use std::fs::File;
 use std::io::Read;
 use std::{fs, io};

@@ -1,7 +1,7 @@
 //! Where links come.
 ghost use Rattle.std.specs.Prelude.{◌≡◌, List, ℕ, Option, IfOk, IfSome};
-ghost use Rattle.keri_specs.specs.Causes.{HasCause};
-ghost use Rattle.keri_specs.specs.Told.{HasNone};
+ghost use Rattle.lists.specs.KeriSpecs.Causes.{HasCause};
+ghost use Rattle.lists.specs.KeriSpecs.Told.{HasNone};
 ghost use Rattle.keri_outside.specs.Doors.{Comes};
 
 use crate::{Caller, Failed, Sink, Source};

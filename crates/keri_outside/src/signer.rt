@@ -1,7 +1,7 @@
 //! What gives signatures.
 ghost use Rattle.std.specs.Prelude.{◌≡◌, ◌≤◌, ◌∷◌, [], ℕ, List, length, Option, IfOk, IfSome};
-ghost use Rattle.keri_specs.specs.Causes.{HasCause};
-ghost use Rattle.keri_specs.specs.Told.{Puts};
+ghost use Rattle.lists.specs.KeriSpecs.Causes.{HasCause};
+ghost use Rattle.lists.specs.KeriSpecs.Told.{Puts};
 ghost use Rattle.cesr_codes.specs.declared.key.Key.{Key};
 ghost use Rattle.cesr_codes.specs.declared.sig.Sig.{Sig};
 ghost use Rattle.keri_outside.specs.Asked.{signing};

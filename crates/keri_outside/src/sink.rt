@@ -1,7 +1,7 @@
 //! What is written.
 ghost use Rattle.std.specs.Prelude.{List, ℕ, Option};
-ghost use Rattle.keri_specs.specs.Causes.{HasCause};
-ghost use Rattle.keri_specs.specs.Told.{Puts};
+ghost use Rattle.lists.specs.KeriSpecs.Causes.{HasCause};
+ghost use Rattle.lists.specs.KeriSpecs.Told.{Puts};
 
 use crate::Failed;
 

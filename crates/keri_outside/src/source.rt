@@ -1,7 +1,7 @@
 //! What is read.
 ghost use Rattle.std.specs.Prelude.{◌<◌, List, ℕ, length, Option};
-ghost use Rattle.keri_specs.specs.Causes.{HasCause};
-ghost use Rattle.keri_specs.specs.Told.{Reads};
+ghost use Rattle.lists.specs.KeriSpecs.Causes.{HasCause};
+ghost use Rattle.lists.specs.KeriSpecs.Told.{Reads};
 
 use crate::Failed;
 

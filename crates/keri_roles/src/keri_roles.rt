@@ -19,5 +19,4 @@ mod text_reader;
 
 pub use backed_list::backed;
 pub use program::run;
-pub use run_record::{Done, Runs};
-pub use run_status::{Close, ReaderEnd};
+pub use run_status::{Close, Done, ReaderEnd, Runs};

@@ -3,10 +3,10 @@ use Rattle.std.proofs.Common.{◌≡◌, ℕ, zero, suc, ◌+◌, ◌<◌, ◌^�
 use Rattle.std.specs.Prelude.{slice_get}
 use Rattle.std.proofs.lemmas.Bool.{cases_Bool}
 use Rattle.std.proofs.lemmas.Bool.Decides.{nat_tests}
-use Rattle.event_body.specs.declared.event.Event.{Event}
-use Rattle.event_body.specs.declared.event.Event.TheVariants.{Rot, Ixn, Drt}
-use Rattle.event_body.specs.declared.interaction.Interaction.{Interaction}
-use Rattle.event_body.specs.declared.rotation.Rotation.{Rotation}
+use Rattle.event_body.specs.declared.event_body.event.Event.{Event}
+use Rattle.event_body.specs.declared.event_body.event.Event.TheVariants.{Rot, Ixn, Drt}
+use Rattle.event_body.specs.declared.event_body.interaction.Interaction.{Interaction}
+use Rattle.event_body.specs.declared.event_body.rotation.Rotation.{Rotation}
 use Rattle.key_state.specs.KeyStates.{first_true, misfit, misfit_rules, is_other_sn, is_other_prior, is_other_list, is_bad_change}
 use Rattle.key_state.specs.States.{State}
 

@@ -3,16 +3,16 @@ use Rattle.std.proofs.Common.{◌≡◌, ℕ, true, false, List, [], ◌∷◌, 
 use Rattle.std.specs.Prelude.{Contains}
 use Rattle.std.proofs.lemmas.Bool.{cases_Bool}
 use Rattle.std.proofs.lemmas.Map.Views.{Contains-from_any}
-use Rattle.body_fields.specs.Forms.{AreFixed}
+use Rattle.event_body.specs.BodyFields.Forms.{AreFixed}
 use Rattle.cesr_codes.specs.declared.key.Key.{Key}
-use Rattle.event_body.specs.declared.event.Event.{Event}
-use Rattle.event_body.specs.declared.event.Event.TheVariants.{Icp, Rot, Ixn, Dip, Drt, Rct}
-use Rattle.event_body.specs.declared.inception.Inception.{Inception}
-use Rattle.event_body.specs.declared.rotation.Rotation.{Rotation}
-use Rattle.event_body.specs.Judging.{SpellsEvent}
-use Rattle.event_body.specs.Kept as bodies
-use Rattle.event_body.specs.Rules.{AreDistinct}
-use Rattle.event_body.proofs.Keeping.{kept}
+use Rattle.event_body.specs.declared.event_body.event.Event.{Event}
+use Rattle.event_body.specs.declared.event_body.event.Event.TheVariants.{Icp, Rot, Ixn, Dip, Drt, Rct}
+use Rattle.event_body.specs.declared.event_body.inception.Inception.{Inception}
+use Rattle.event_body.specs.declared.event_body.rotation.Rotation.{Rotation}
+use Rattle.event_body.specs.EventBody.Judging.{SpellsEvent}
+use Rattle.event_body.specs.EventBody.Kept as bodies
+use Rattle.event_body.specs.EventBody.Rules.{AreDistinct}
+use Rattle.event_body.proofs.EventBodyLemmas.Keeping.{kept}
 use Rattle.key_state.specs.Kept.{IsKept, IsKeptInception, IsKeptRotation}
 use Rattle.key_state.specs.Same.{has_key, are_witnesses}
 use Rattle.key_state.proofs.Same.{same_key_is}

@@ -9,7 +9,7 @@ use Rattle.std.proofs.lemmas.List.Folds.{list_any-append}
 use Rattle.cesr_codes.specs.declared.key.Key.{Key}
 use Rattle.cesr_codes.specs.contracts.key.KeyPartialEq.TheImpl as test
 use Rattle.cesr_codes.specs.contracts.key.KeyPartialEq.TheImpl.Laws as laws
-use Rattle.event_body.specs.declared.rotation.Rotation.{Rotation}
+use Rattle.event_body.specs.declared.event_body.rotation.Rotation.{Rotation}
 use Rattle.key_state.specs.KeyStates.{changed_list, fits_count, is_bad_change}
 use Rattle.key_state.specs.Same.{same_key, has_key, is_fixed, are_witnesses}
 

@@ -3,11 +3,11 @@ use Rattle.std.specs.Prelude.{◌≡◌, ℕ, ◌+◌, ◌-◌, Bool, false, not
 use Rattle.std.specs.List.{list_any}
 use Rattle.cesr_codes.specs.declared.digest.Digest.{Digest}
 use Rattle.cesr_codes.specs.declared.key.Key.{Key}
-use Rattle.event_body.specs.declared.event.Event.{Event}
-use Rattle.event_body.specs.declared.event.Event.TheVariants.{Icp, Rot, Ixn, Dip, Drt, Rct}
-use Rattle.event_body.specs.declared.inception.Inception.{Inception}
-use Rattle.event_body.specs.declared.rotation.Rotation.{Rotation}
-use Rattle.event_body.specs.Events.{prefix_of, sn_of, prior_of, is_inception, is_receipt, is_interaction}
+use Rattle.event_body.specs.declared.event_body.event.Event.{Event}
+use Rattle.event_body.specs.declared.event_body.event.Event.TheVariants.{Icp, Rot, Ixn, Dip, Drt, Rct}
+use Rattle.event_body.specs.declared.event_body.inception.Inception.{Inception}
+use Rattle.event_body.specs.declared.event_body.rotation.Rotation.{Rotation}
+use Rattle.event_body.specs.EventBody.Events.{prefix_of, sn_of, prior_of, is_inception, is_receipt, is_interaction}
 use Rattle.key_state.specs.declared.state_fault.Misfit.{Misfit}
 use Rattle.key_state.specs.declared.state_fault.Misfit.TheVariants.{Sn, Prior, Ended, EstOnly, Kind, WitnessChange}
 use Rattle.key_state.specs.declared.state_fault.StateFault.{StateFault}

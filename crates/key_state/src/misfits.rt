@@ -1,6 +1,6 @@
 //! Which event may come next.
 ghost use Rattle.std.specs.Prelude.{◌≡◌, ◌+◌, ◌-◌, ◌<◌, ◌≤◌, ◌==◌, ◌&&◌, ◌||◌, length, not, nat_le, nat_lt, codes, Some};
-ghost use Rattle.event_body.specs.Events.{is_inception, is_receipt, is_interaction};
+ghost use Rattle.event_body.specs.EventBody.Events.{is_inception, is_receipt, is_interaction};
 ghost use Rattle.key_state.specs.Heads.{head_sn};
 ghost use Rattle.key_state.specs.KeyStates as states;
 ghost use Rattle.key_state.specs.KeyStates.{state_behind};

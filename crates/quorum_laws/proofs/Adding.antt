@@ -4,7 +4,7 @@ use Rattle.std.proofs.lemmas.Bool.{cases_Bool}
 use Rattle.std.proofs.lemmas.List.{take_more}
 use Rattle.std.proofs.lemmas.List.Folds.{list_any-append}
 use Rattle.cesr_codes.specs.declared.key.Key.{Key}
-use Rattle.journal.proofs.Distinct.{distinct-push_new, distinct-push_old}
+use Rattle.journal.proofs.JournalLemmas.Distinct.{distinct-push_new, distinct-push_old}
 use Rattle.key_state.specs.Same.{same_key, has_key, distinct}
 use Rattle.quorum_laws.specs.Agreement.{union}
 

@@ -5,9 +5,9 @@ use Rattle.std.specs.Cmp.Lexicographic.{bytes_decides}
 use Rattle.std.proofs.lemmas.Bool.{and_parts, not-true, or_cases}
 use Rattle.std.proofs.lemmas.List.Elements.{All-contains}
 use Rattle.cesr_codes.specs.declared.key.Key.{Key}
-use Rattle.event_body.proofs.Whole.{one_event}
-use Rattle.event_body.specs.Judging.{SpellsEvent}
-use Rattle.journal.specs.declared.body.Body.{Body}
+use Rattle.event_body.proofs.EventBodyLemmas.Whole.{one_event}
+use Rattle.event_body.specs.EventBody.Judging.{SpellsEvent}
+use Rattle.journal.specs.declared.journal.body.Body.{Body}
 use Rattle.key_state.proofs.Same.{same_key_is}
 use Rattle.key_state.specs.Same.{same_key, has_key, distinct}
 use Rattle.quorum_laws.specs.Agreement.{union, Binds, IsUnder, ShareHistory}

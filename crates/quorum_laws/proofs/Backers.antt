@@ -7,18 +7,18 @@ use Rattle.std.proofs.lemmas.List.Folds.{list_any-append}
 use Rattle.std.proofs.lemmas.List.Sums.{length-filter}
 use Rattle.std.proofs.lemmas.Bool.{cases_Bool, and_parts, or_parts, or_left, or_right, leb-true, not-true}
 use Rattle.cesr_codes.specs.declared.key.Key.{Key}
-use Rattle.event_body.specs.Events.{prefix_of, is_receipt}
-use Rattle.event_body.specs.Judging.{SpellsEvent}
-use Rattle.journal.proofs.Accepting.{same_body-refl}
-use Rattle.journal.proofs.Keeping.{accepted_keeps, accepted_grown, split_push}
-use Rattle.journal.proofs.Premises.{nothing_grown}
-use Rattle.journal.specs.Accepted.{accepted}
-use Rattle.journal.specs.declared.mode.Mode.TheVariants.{Full}
-use Rattle.journal.specs.Grown.{IsGrown, fits}
-use Rattle.journal.specs.History.{Told, yes_in, bodies}
-use Rattle.journal.specs.declared.body.Body.{Body}
-use Rattle.journal.specs.Logs.{same_body, is_in, state, before}
-use Rattle.journal.specs.Readiness.{is_ready, is_backed, backers, backs}
+use Rattle.event_body.specs.EventBody.Events.{prefix_of, is_receipt}
+use Rattle.event_body.specs.EventBody.Judging.{SpellsEvent}
+use Rattle.journal.proofs.JournalLemmas.Accepting.{same_body-refl}
+use Rattle.journal.proofs.JournalLemmas.Keeping.{accepted_keeps, accepted_grown, split_push}
+use Rattle.journal.proofs.JournalLemmas.Premises.{nothing_grown}
+use Rattle.journal.specs.Journal.Accepted.{accepted}
+use Rattle.journal.specs.declared.journal.mode.Mode.TheVariants.{Full}
+use Rattle.journal.specs.Journal.Grown.{IsGrown, fits}
+use Rattle.journal.specs.Journal.History.{Told, yes_in, bodies}
+use Rattle.journal.specs.declared.journal.body.Body.{Body}
+use Rattle.journal.specs.Journal.Logs.{same_body, is_in, state, before}
+use Rattle.journal.specs.Journal.Readiness.{is_ready, is_backed, backers, backs}
 use Rattle.key_state.specs.Exposure.{own_rules, Rules}
 use Rattle.key_state.specs.Same.{same_key, has_key, distinct}
 use Rattle.quorum_laws.specs.Backing.{AreSpelled, IsBacked, IsHonest, rules_in, vouches}

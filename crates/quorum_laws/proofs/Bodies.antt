@@ -7,7 +7,7 @@ use Rattle.cesr_codes.specs.declared.key.Key.{Key}
 use Rattle.cesr_codes.specs.declared.key.KeyCode.TheVariants.{Fixed, Rotating}
 use Rattle.cesr_codes.specs.declared.prefix.Prefix.TheVariants.{Basic}
 use Rattle.sith.specs.declared.threshold.Threshold.TheVariants.{Count}
-use Rattle.event_body.specs.declared.inception.Inception.{Inception}
+use Rattle.event_body.specs.declared.event_body.inception.Inception.{Inception}
 
 abbrev pub controller : Key
 controller = record { code = Rotating; raw = replicate 32 9 }

@@ -7,19 +7,19 @@ use Rattle.std.proofs.lemmas.List.Folds.{list_any-append}
 use Rattle.std.proofs.lemmas.Bool.{and_parts, and_from, or_parts, or_left, not-false, not-true, leb-false, eqb-true}
 use Rattle.cesr_codes.specs.declared.digest.Digest.{Digest}
 use Rattle.cesr_codes.specs.declared.prefix.Prefix.TheVariants.{Said}
-use Rattle.event_body.specs.declared.event.Event.{Event}
-use Rattle.event_body.specs.declared.event.Event.TheVariants.{Icp, Rot, Ixn, Dip, Drt, Rct}
-use Rattle.event_body.specs.Events.{prefix_of, sn_of, said_of, prior_of, is_inception, is_receipt}
+use Rattle.event_body.specs.declared.event_body.event.Event.{Event}
+use Rattle.event_body.specs.declared.event_body.event.Event.TheVariants.{Icp, Rot, Ixn, Dip, Drt, Rct}
+use Rattle.event_body.specs.EventBody.Events.{prefix_of, sn_of, said_of, prior_of, is_inception, is_receipt}
 use Rattle.key_state.specs.Heads.{head_sn}
 use Rattle.key_state.specs.KeyStates.{digest_at, misfit, are_same, is_other_sn}
 use Rattle.key_state.specs.Same.{same_digest}
 use Rattle.key_state.specs.States.{State}
 use Rattle.key_state.proofs.NoMisfit.{fits_prior, fits_sn}
 use Rattle.key_state.proofs.Same.{same_prefix_is, same_prefix_itself}
-use Rattle.journal.specs.declared.body.Body.{Body}
-use Rattle.journal.specs.Logs.{is_in, is_of, state, takes, precedes, predecessor}
-use Rattle.journal.specs.Grown.{IsGrown, fits, chain_back}
-use Rattle.journal.proofs.Settling.{find-true}
+use Rattle.journal.specs.declared.journal.body.Body.{Body}
+use Rattle.journal.specs.Journal.Logs.{is_in, is_of, state, takes, precedes, predecessor}
+use Rattle.journal.specs.Journal.Grown.{IsGrown, fits, chain_back}
+use Rattle.journal.proofs.JournalLemmas.Settling.{find-true}
 use Rattle.quorum_laws.specs.Agreement.{NoClash}
 use Rattle.quorum_laws.proofs.Members.{find_contains, find_some, member_any, parts_at}
 use Rattle.quorum_laws.proofs.StateNames.{NamesIf, state_names}

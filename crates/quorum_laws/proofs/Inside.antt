@@ -3,13 +3,13 @@ use Rattle.std.proofs.Common.{◌≡◌, ℕ, zero, suc, Bool, List, [], ◌∷�
 use Rattle.std.specs.Prelude.{All, find, filter, flat_map}
 use Rattle.std.proofs.lemmas.List.Concat.{flat_map-append}
 use Rattle.std.proofs.lemmas.List.Elements.{All-contains, All-contains_itself, All-push, All-weaker, Contains-append_left, filter-append}
-use Rattle.journal.specs.Acceptance.{appended, settled, settled_over, grown_by}
-use Rattle.journal.specs.Accepted.{accepted}
-use Rattle.journal.specs.declared.mode.Mode.{Mode}
-use Rattle.journal.specs.History.{Told, taken, bodies}
-use Rattle.journal.specs.declared.body.Body.{Body}
-use Rattle.journal.specs.Logs.{same_body}
-use Rattle.journal.specs.Readiness.{is_ready}
+use Rattle.journal.specs.Journal.Acceptance.{appended, settled, settled_over, grown_by}
+use Rattle.journal.specs.Journal.Accepted.{accepted}
+use Rattle.journal.specs.declared.journal.mode.Mode.{Mode}
+use Rattle.journal.specs.Journal.History.{Told, taken, bodies}
+use Rattle.journal.specs.declared.journal.body.Body.{Body}
+use Rattle.journal.specs.Journal.Logs.{same_body}
+use Rattle.journal.specs.Journal.Readiness.{is_ready}
 use Rattle.key_state.specs.Same.{distinct}
 use Rattle.quorum_laws.proofs.Members.{find_contains}
 

@@ -1,9 +1,9 @@
 -- The law of agreement.
 use Rattle.std.proofs.Common.{◌≡◌, ℕ, List, Contains, refl, sym, ◌∙◌, ap, subst}
 use Rattle.cesr_codes.specs.declared.key.Key.{Key}
-use Rattle.event_body.specs.Events.{sn_of}
-use Rattle.journal.specs.Grown.{chain_back}
-use Rattle.journal.specs.declared.body.Body.{Body}
+use Rattle.event_body.specs.EventBody.Events.{sn_of}
+use Rattle.journal.specs.Journal.Grown.{chain_back}
+use Rattle.journal.specs.declared.journal.body.Body.{Body}
 use Rattle.quorum_laws.specs.Agreement.{Binds, AgreeUnder, AgreementLaw}
 use Rattle.quorum_laws.proofs.Agreeing.{spelled_at, one_body, one_signed}
 use Rattle.quorum_laws.proofs.Chains.{chain_same}

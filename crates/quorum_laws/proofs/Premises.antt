@@ -4,27 +4,27 @@ use Rattle.std.specs.Prelude.{count_by}
 use Rattle.std.proofs.lemmas.List.Elements.{All-nil, All-cons, All-head, All-contains}
 use Rattle.cesr_codes.specs.declared.key.Key.{Key}
 use Rattle.cesr_codes.specs.declared.sig.Sig.{Sig}
-use Rattle.event_body.proofs.Whole.{one_event}
-use Rattle.event_body.specs.declared.event.Event.{Event}
-use Rattle.event_body.specs.declared.event.Event.TheVariants.{Icp, Ixn}
-use Rattle.event_body.specs.declared.interaction.Interaction.{Interaction}
-use Rattle.event_body.specs.Events.{is_establishment, said_of}
-use Rattle.event_body.specs.Judging.{SpellsEvent}
+use Rattle.event_body.proofs.EventBodyLemmas.Whole.{one_event}
+use Rattle.event_body.specs.declared.event_body.event.Event.{Event}
+use Rattle.event_body.specs.declared.event_body.event.Event.TheVariants.{Icp, Ixn}
+use Rattle.event_body.specs.declared.event_body.interaction.Interaction.{Interaction}
+use Rattle.event_body.specs.EventBody.Events.{is_establishment, said_of}
+use Rattle.event_body.specs.EventBody.Judging.{SpellsEvent}
 use Rattle.key_state.specs.Exposure.{exposed}
 use Rattle.key_state.specs.Same.{same_key, has_key, distinct}
 use Rattle.sith.specs.Tests.{satisfied}
-use Rattle.journal.proofs.Keeping.{IsGrown-push}
-use Rattle.journal.proofs.Premises.{nothing_grown}
-use Rattle.journal.specs.Acceptance.{settled, grown_by}
-use Rattle.journal.specs.Accepted.{accepted}
-use Rattle.journal.specs.declared.body.Body.{Body}
-use Rattle.journal.specs.declared.claim.Claim.TheVariants.{Held}
-use Rattle.journal.specs.declared.mode.Mode.TheVariants.{Full}
-use Rattle.journal.specs.Grown.{fits}
-use Rattle.journal.specs.History.{Told, took, heard, bodies, claims_on, said_yes}
-use Rattle.journal.specs.Logs.{state}
-use Rattle.journal.specs.Readiness.{is_ready, signed, good_sigs, backers, backs}
-use Rattle.journal.specs.Seals.{anchored}
+use Rattle.journal.proofs.JournalLemmas.Keeping.{IsGrown-push}
+use Rattle.journal.proofs.JournalLemmas.Premises.{nothing_grown}
+use Rattle.journal.specs.Journal.Acceptance.{settled, grown_by}
+use Rattle.journal.specs.Journal.Accepted.{accepted}
+use Rattle.journal.specs.declared.journal.body.Body.{Body}
+use Rattle.journal.specs.declared.journal.claim.Claim.TheVariants.{Held}
+use Rattle.journal.specs.declared.journal.mode.Mode.TheVariants.{Full}
+use Rattle.journal.specs.Journal.Grown.{fits}
+use Rattle.journal.specs.Journal.History.{Told, took, heard, bodies, claims_on, said_yes}
+use Rattle.journal.specs.Journal.Logs.{state}
+use Rattle.journal.specs.Journal.Readiness.{is_ready, signed, good_sigs, backers, backs}
+use Rattle.journal.specs.Journal.Seals.{anchored}
 use Rattle.quorum_laws.proofs.Bodies.{controller, witness, inception, first_said, second_said, first_bytes, second_bytes}
 use Rattle.quorum_laws.specs.Agreement.{union, Binds, NoClash, IsUnder, ShareHistory, AreOneEvent}
 use Rattle.quorum_laws.specs.Backing.{AreSpelled, IsBacked, IsHonest, rules_in, vouches}

@@ -5,15 +5,15 @@ use Rattle.std.proofs.lemmas.Bool.{cases_Bool, ltb-false, le-ltb, eqb-true, not-
 use Rattle.std.specs.Result.{result_ok}
 use Rattle.cesr_codes.specs.declared.digest.Digest.{Digest}
 use Rattle.cesr_codes.specs.declared.prefix.Prefix.{Prefix}
-use Rattle.event_body.specs.declared.event.Event.{Event}
-use Rattle.event_body.specs.declared.event.Event.TheVariants.{Icp, Rot, Ixn, Dip, Drt, Rct}
-use Rattle.event_body.specs.Events.{sn_of, said_of}
+use Rattle.event_body.specs.declared.event_body.event.Event.{Event}
+use Rattle.event_body.specs.declared.event_body.event.Event.TheVariants.{Icp, Rot, Ixn, Dip, Drt, Rct}
+use Rattle.event_body.specs.EventBody.Events.{sn_of, said_of}
 use Rattle.key_state.specs.Heads.{head_sn}
 use Rattle.key_state.specs.KeyStates.{digest_at, misfit, moved, begun, first}
 use Rattle.key_state.specs.States.{State}
 use Rattle.key_state.proofs.NoMisfit.{fits_sn}
-use Rattle.journal.specs.declared.body.Body.{Body}
-use Rattle.journal.specs.Logs.{is_of, state, stepped}
+use Rattle.journal.specs.declared.journal.body.Body.{Body}
+use Rattle.journal.specs.Journal.Logs.{is_of, state, stepped}
 
 -- some event of the identifier in the list has the number and the digest
 pub record IsNamed (prefix : Prefix) (log : List Body) (n : ℕ) (d : Digest) : Type 0 where

@@ -2,10 +2,10 @@
 -- same event after the same chain (KERI paper: witness agreement).
 use Rattle.std.specs.Prelude.{◌≡◌, ℕ, ◌+◌, ◌<◌, ◌≤◌, List, ◌++◌, length, count_by, Contains}
 use Rattle.cesr_codes.specs.declared.key.Key.{Key}
-use Rattle.event_body.specs.Events.{said_of}
+use Rattle.event_body.specs.EventBody.Events.{said_of}
 use Rattle.key_state.specs.Same.{same_key, has_key, distinct}
-use Rattle.journal.specs.Grown.{chain}
-use Rattle.journal.specs.declared.body.Body.{Body}
+use Rattle.journal.specs.Journal.Grown.{chain}
+use Rattle.journal.specs.declared.journal.body.Body.{Body}
 use Rattle.quorum_laws.specs.Histories.{Signing, IsLawful, AreLevel}
 use Rattle.quorum_laws.specs.Backing.{IsBacked, rules_in}
 

@@ -1,15 +1,15 @@
 -- Lists of events that witnesses stand behind (KERI paper: witness receipts, the threshold of accountable duplicity).
 use Rattle.std.specs.Prelude.{◌≡◌, ◌≤◌, Bool, true, false, ◌||◌, List, count_by, All, Contains}
 use Rattle.cesr_codes.specs.declared.key.Key.{Key}
-use Rattle.event_body.specs.Events.{prefix_of, is_establishment}
-use Rattle.event_body.specs.Judging.{SpellsEvent}
+use Rattle.event_body.specs.EventBody.Events.{prefix_of, is_establishment}
+use Rattle.event_body.specs.EventBody.Judging.{SpellsEvent}
 use Rattle.key_state.specs.Exposure.{own_rules, Rules}
 use Rattle.key_state.specs.Same.{same_key, has_key, distinct}
-use Rattle.journal.specs.Grown.{IsGrown}
-use Rattle.journal.specs.History.{Told}
-use Rattle.journal.specs.declared.body.Body.{Body}
-use Rattle.journal.specs.Logs.{state, before}
-use Rattle.journal.specs.Readiness.{backers}
+use Rattle.journal.specs.Journal.Grown.{IsGrown}
+use Rattle.journal.specs.Journal.History.{Told}
+use Rattle.journal.specs.declared.journal.body.Body.{Body}
+use Rattle.journal.specs.Journal.Logs.{state, before}
+use Rattle.journal.specs.Journal.Readiness.{backers}
 use Rattle.quorum_laws.specs.Histories.{Signing, did_sign}
 
 -- each body's event is the one that its bytes spell

@@ -2,11 +2,11 @@
 use Rattle.std.specs.Prelude.{◌≡◌, ℕ, Bool, true, false, ◌&&◌, List, bytes_eq, Contains}
 use Rattle.std.specs.List.{list_any}
 use Rattle.cesr_codes.specs.declared.key.Key.{Key}
-use Rattle.event_body.specs.declared.event.Event.{Event}
-use Rattle.event_body.specs.Events.{prefix_of, sn_of, is_establishment}
-use Rattle.event_body.specs.Judging.{SpellsEvent}
+use Rattle.event_body.specs.declared.event_body.event.Event.{Event}
+use Rattle.event_body.specs.EventBody.Events.{prefix_of, sn_of, is_establishment}
+use Rattle.event_body.specs.EventBody.Judging.{SpellsEvent}
 use Rattle.key_state.specs.Same.{same_key, has_key}
-use Rattle.journal.specs.declared.body.Body.{Body}
+use Rattle.journal.specs.declared.journal.body.Body.{Body}
 
 -- a key signed a body, the body by its bytes
 pub record Signing : Type 0 where

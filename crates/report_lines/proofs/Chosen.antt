@@ -4,11 +4,11 @@ use Rattle.std.specs.Prelude.{filter_map, option_map, option_to_list, slice_get}
 use Rattle.std.specs.List.{cons_option, list_any}
 use Rattle.std.proofs.lemmas.List.{map-append, take_more}
 use Rattle.std.proofs.lemmas.List.Elements.{filter_map-append}
-use Rattle.event_body.specs.Events.{said_of}
-use Rattle.event_body.specs.declared.event.Event.{Event}
-use Rattle.journal.specs.declared.body.Body.{Body}
-use Rattle.journal.specs.Journals.{chosen}
-use Rattle.journal.proofs.Locality.{flat_map-push}
+use Rattle.event_body.specs.EventBody.Events.{said_of}
+use Rattle.event_body.specs.declared.event_body.event.Event.{Event}
+use Rattle.journal.specs.declared.journal.body.Body.{Body}
+use Rattle.journal.specs.Journal.Journals.{chosen}
+use Rattle.journal.proofs.JournalLemmas.Locality.{flat_map-push}
 use Rattle.report_lines.specs.Lines.{accepted_text}
 use Rattle.report_lines.specs.declared.standing.Standing.TheVariants.{Live, Superseded}
 use Rattle.report_lines.specs.Logs.{Marks}

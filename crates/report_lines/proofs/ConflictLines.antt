@@ -3,11 +3,11 @@ use Rattle.std.proofs.Common.{◌≡◌, ◌≤◌, List, [], ◌∷◌, map, le
 use Rattle.std.specs.Prelude.{All, flat_map}
 use Rattle.std.proofs.lemmas.List.Elements.{All-cons, All-head, All-nil, All-tail}
 use Rattle.std.proofs.lemmas.List.Folds.{flat_map-map}
-use Rattle.event_body.specs.Events.{prefix_of, sn_of}
-use Rattle.journal.specs.declared.body.Body.{Body}
-use Rattle.journal.specs.declared.conflict.Conflict.{Conflict}
-use Rattle.journal.specs.Journals.{NameConflicts, chosen}
-use Rattle.journal.proofs.Apart.{flat_map-All}
+use Rattle.event_body.specs.EventBody.Events.{prefix_of, sn_of}
+use Rattle.journal.specs.declared.journal.body.Body.{Body}
+use Rattle.journal.specs.declared.journal.conflict.Conflict.{Conflict}
+use Rattle.journal.specs.Journal.Journals.{NameConflicts, chosen}
+use Rattle.journal.proofs.JournalLemmas.Apart.{flat_map-All}
 use Rattle.report_lines.specs.Lines.{conflict_text}
 use Rattle.report_lines.specs.Conflicts.{named_line}
 use Rattle.report_lines.specs.Report.{conflict_lines, saids_of}

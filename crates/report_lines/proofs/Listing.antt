@@ -6,8 +6,8 @@ use Rattle.std.proofs.lemmas.List.Sorted.{IsPermutation-map, All-permutation}
 use Rattle.std.specs.List.Sorted.{IsPermutation, IsSorted}
 use Rattle.std.specs.Prelude.{flat_map, option_to_list, string_bytes}
 use Rattle.std.proofs.lemmas.List.Folds.{flat_map-map}
-use Rattle.journal.specs.declared.body.Body.{Body}
-use Rattle.journal.proofs.Apart.{flat_map-All}
+use Rattle.journal.specs.declared.journal.body.Body.{Body}
+use Rattle.journal.proofs.JournalLemmas.Apart.{flat_map-All}
 use Rattle.report_lines.specs.Report.{body_cmp, IsListing}
 use Rattle.report_lines.specs.Rows.{AreRows, HasLines, IsRow, body_of}
 use Rattle.report_lines.specs.declared.row.Row.{Row}

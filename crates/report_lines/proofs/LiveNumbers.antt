@@ -9,14 +9,14 @@ use Rattle.std.proofs.lemmas.List.Sorted.{IsNonDecreasingBy-from_sort, list_any-
 use Rattle.std.proofs.lemmas.Option.{get_or_from_slice_get, slice_get_within}
 use Rattle.cesr_codes.specs.declared.prefix.Prefix.{Prefix}
 use Rattle.key_state.proofs.Same.{number_itself, numbers}
-use Rattle.journal.specs.declared.body.Body.{Body}
-use Rattle.journal.specs.History.{bodies, taken}
-use Rattle.journal.specs.Journals.{chosen}
-use Rattle.journal.specs.Logs.{is_in, is_of, live, live_with, same_body}
-use Rattle.journal.proofs.Different.{Differ, differ-distinct}
-use Rattle.journal.proofs.Places.{all_at, found_at}
-use Rattle.acceptance.proofs.Bodies.{among}
-use Rattle.validator_core.specs.View.{CoreView, Stands, base_of, told_of}
+use Rattle.journal.specs.declared.journal.body.Body.{Body}
+use Rattle.journal.specs.Journal.History.{bodies, taken}
+use Rattle.journal.specs.Journal.Journals.{chosen}
+use Rattle.journal.specs.Journal.Logs.{is_in, is_of, live, live_with, same_body}
+use Rattle.journal.proofs.JournalLemmas.Different.{Differ, differ-distinct}
+use Rattle.journal.proofs.JournalLemmas.Places.{all_at, found_at}
+use Rattle.validator_core.proofs.AcceptanceLemmas.Bodies.{among}
+use Rattle.validator_core.specs.ValidatorCore.View.{CoreView, Stands, base_of, told_of}
 use Rattle.report_lines.specs.Logs.{Marks}
 use Rattle.report_lines.specs.Report.{own_of}
 

@@ -16,15 +16,15 @@ use Rattle.std.proofs.lemmas.Option.{slice_get_within}
 use Rattle.cesr_codes.specs.Spelling.{IsPrefix, prefix_text}
 use Rattle.cesr_codes.specs.declared.prefix.Prefix.{Prefix}
 use Rattle.cesr_codes.proofs.Same as texts
-use Rattle.event_body.specs.Events.{prefix_of}
+use Rattle.event_body.specs.EventBody.Events.{prefix_of}
 use Rattle.key_state.specs.Same.{distinct, same_prefix}
 use Rattle.key_state.proofs.Same.{same_prefix_is, same_prefix_itself}
-use Rattle.journal.specs.declared.body.Body.{Body}
-use Rattle.journal.specs.Journals.{chosen}
-use Rattle.journal.specs.Logs.{is_of}
-use Rattle.journal.proofs.Distinct.{any-distinct, distinct-push_new, distinct-push_old}
-use Rattle.journal.proofs.Held.{chosen_push}
-use Rattle.journal.proofs.Same.{moves, turned}
+use Rattle.journal.specs.declared.journal.body.Body.{Body}
+use Rattle.journal.specs.Journal.Journals.{chosen}
+use Rattle.journal.specs.Journal.Logs.{is_of}
+use Rattle.journal.proofs.JournalLemmas.Distinct.{any-distinct, distinct-push_new, distinct-push_old}
+use Rattle.journal.proofs.JournalLemmas.Held.{chosen_push}
+use Rattle.journal.proofs.JournalLemmas.Same.{moves, turned}
 use Rattle.report_lines.specs.Logs.{AreLogs, IsHead, heads_of, items_of, numbers_at, prefixes_in}
 use Rattle.report_lines.specs.Report.{own_of, prefixes_of}
 use Rattle.report_lines.specs.declared.logs.Log.{Log}

@@ -15,8 +15,8 @@ use Rattle.std.proofs.lemmas.List.Folds.{flat_map-map}
 use Rattle.std.proofs.lemmas.Map.Keys.{Less-from_sorted}
 use Rattle.cesr_codes.specs.Spelling.{prefix_text}
 use Rattle.cesr_codes.specs.declared.prefix.Prefix.{Prefix}
-use Rattle.journal.specs.declared.body.Body.{Body}
-use Rattle.journal.specs.Journals.{chosen}
+use Rattle.journal.specs.declared.journal.body.Body.{Body}
+use Rattle.journal.specs.Journal.Journals.{chosen}
 use Rattle.report_lines.specs.Logs.{AreLogs, IsHead, heads_of, items_of, prefixes_in}
 use Rattle.report_lines.specs.Report.{IsListing, log_lines, own_of, prefix_cmp, prefixes_of}
 use Rattle.report_lines.specs.declared.logs.Log.{Log}

@@ -5,7 +5,7 @@ use Rattle.std.proofs.lemmas.List.{get_or-map, length-map}
 use Rattle.std.specs.Cmp.{IsTotalOrder}
 use Rattle.std.specs.List.Sorted.{IsSortedBy}
 use Rattle.cesr_codes.specs.Spelling.{prefix_text}
-use Rattle.event_body.specs.Events.{prefix_of, sn_of}
+use Rattle.event_body.specs.EventBody.Events.{prefix_of, sn_of}
 use Rattle.report_lines.specs.Report.{body_cmp}
 
 pub body_cmp_total : IsTotalOrder body_cmp

@@ -4,8 +4,8 @@ use Rattle.std.specs.Prelude.{filter, slice_get, option_to_list, is_some}
 use Rattle.std.proofs.lemmas.Bool.{cases_Bool}
 use Rattle.std.proofs.lemmas.List.Elements.{filter_more}
 use Rattle.std.proofs.lemmas.Option.{slice_get-get_or, slice_get_cases}
-use Rattle.journal.specs.declared.body.Body.{Body}
-use Rattle.validator_core.specs.View.{CoreView}
+use Rattle.journal.specs.declared.journal.body.Body.{Body}
+use Rattle.validator_core.specs.ValidatorCore.View.{CoreView}
 use Rattle.report_lines.specs.Report.{reason_of}
 use Rattle.report_lines.specs.Rows.{if_waits}
 

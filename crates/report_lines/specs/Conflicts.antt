@@ -1,8 +1,8 @@
 -- Conflicts by the numbers of their bodies.
 use Rattle.std.specs.Prelude.{ℕ, List}
-use Rattle.journal.specs.Journals.{chosen}
-use Rattle.journal.specs.declared.body.Body.{Body}
-use Rattle.journal.specs.declared.conflict.Conflict.{Conflict}
+use Rattle.journal.specs.Journal.Journals.{chosen}
+use Rattle.journal.specs.declared.journal.body.Body.{Body}
+use Rattle.journal.specs.declared.journal.conflict.Conflict.{Conflict}
 use Rattle.report_lines.specs.Lines.{conflict_text}
 use Rattle.report_lines.specs.Report.{saids_of}
 

@@ -5,10 +5,10 @@ use Rattle.cesr_codes.specs.Spelling.{digest_text, prefix_text}
 use Rattle.cesr_codes.specs.declared.digest.Digest.{Digest}
 use Rattle.cesr_codes.specs.declared.prefix.Prefix.{Prefix}
 use Rattle.cesr_stream.specs.declared.bad.Bad.{Bad}
-use Rattle.event_body.specs.Events.{kind_of, prefix_of, sn_of, said_of}
-use Rattle.event_body.specs.declared.event.Event.{Event}
-use Rattle.journal.specs.declared.reply.Reason.{Reason}
-use Rattle.journal.specs.declared.why.Why.{Why}
+use Rattle.event_body.specs.EventBody.Events.{kind_of, prefix_of, sn_of, said_of}
+use Rattle.event_body.specs.declared.event_body.event.Event.{Event}
+use Rattle.journal.specs.declared.journal.reply.Reason.{Reason}
+use Rattle.journal.specs.declared.journal.why.Why.{Why}
 use Rattle.report_lines.specs.Words.{bad_word, plan_word, reason_word, standing_word, why_word}
 use Rattle.report_lines.specs.declared.plan_refusal.PlanRefusal.{PlanRefusal}
 use Rattle.report_lines.specs.declared.sizes.Sizes.{Sizes}

@@ -7,19 +7,19 @@ use Rattle.std.specs.List.Sorted.{IsPermutation, IsSorted}
 use Rattle.cesr_codes.specs.Spelling.{prefix_text}
 use Rattle.cesr_codes.specs.declared.digest.Digest.{Digest}
 use Rattle.cesr_codes.specs.declared.prefix.Prefix.{Prefix}
-use Rattle.event_body.specs.Events.{prefix_of, sn_of, said_of}
+use Rattle.event_body.specs.EventBody.Events.{prefix_of, sn_of, said_of}
 use Rattle.key_state.specs.Heads.{head_sn, head_said}
 use Rattle.key_state.specs.Same.{same_prefix, distinct}
 use Rattle.key_state.specs.States.{State}
-use Rattle.journal.specs.Conflicts.{IsConflictList}
-use Rattle.journal.specs.Logs.{is_in, is_of, live, state}
-use Rattle.journal.specs.Waiting.{why_waits}
-use Rattle.journal.specs.declared.body.Body.{Body}
-use Rattle.journal.specs.declared.why.Why.{Why}
+use Rattle.journal.specs.Journal.Conflicts.{IsConflictList}
+use Rattle.journal.specs.Journal.Logs.{is_in, is_of, live, state}
+use Rattle.journal.specs.Journal.Waiting.{why_waits}
+use Rattle.journal.specs.declared.journal.body.Body.{Body}
+use Rattle.journal.specs.declared.journal.why.Why.{Why}
 use Rattle.report_lines.specs.Lines.{accepted_text, conflict_text, state_text, waits_text}
 use Rattle.report_lines.specs.declared.standing.Standing.{Standing}
 use Rattle.report_lines.specs.declared.standing.Standing.TheVariants.{Live, Superseded}
-use Rattle.validator_core.specs.View.{CoreView, base_of, told_of, accepted_by}
+use Rattle.validator_core.specs.ValidatorCore.View.{CoreView, base_of, told_of, accepted_by}
 
 -- prefixes are ordered by their texts, byte by byte
 abbrev pub prefix_cmp : Prefix → Prefix → Ordering

@@ -1,7 +1,7 @@
 -- Rows of bodies with their lines.
 use Rattle.std.specs.Prelude.{◌≡◌, ℕ, List, map, All, Option, Some, None, IfSome, is_some, option_map, string_bytes, if◌then◌else◌}
-use Rattle.journal.specs.declared.body.Body.{Body}
-use Rattle.validator_core.specs.View.{CoreView}
+use Rattle.journal.specs.declared.journal.body.Body.{Body}
+use Rattle.validator_core.specs.ValidatorCore.View.{CoreView}
 use Rattle.report_lines.specs.Report.{reason_of}
 use Rattle.report_lines.specs.declared.row.Row.{Row}
 

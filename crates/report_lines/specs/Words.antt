@@ -5,12 +5,12 @@ use Rattle.cesr_codes.specs.declared.code_fault.CodeFault.{CodeFault}
 use Rattle.cesr_codes.specs.declared.code_fault.CodeFault.TheVariants.{Short, CodeNotHeld, BadCharacter, PadBits, OtherIndex}
 use Rattle.cesr_stream.specs.declared.bad.BadReason.{BadReason}
 use Rattle.cesr_stream.specs.declared.bad.BadReason.TheVariants as bad
-use Rattle.event_body.specs.declared.body_fault.BodyFault.{BodyFault}
-use Rattle.event_body.specs.declared.body_fault.BodyFault.TheVariants.{Field, SizeField, Said, Prefix, Threshold, Witnesses, TooMany, NumberTooLarge, TooLarge}
-use Rattle.journal.specs.declared.reply.Reason.{Reason}
-use Rattle.journal.specs.declared.reply.Reason.TheVariants.{Body, Unsigned, WrongGroup, DigestOnly, TooManySigs}
-use Rattle.journal.specs.declared.why.Why.{Why}
-use Rattle.journal.specs.declared.why.Why.TheVariants.{Predecessor, Signatures, Next, Receipts, Seal, Never}
+use Rattle.event_body.specs.declared.event_body.body_fault.BodyFault.{BodyFault}
+use Rattle.event_body.specs.declared.event_body.body_fault.BodyFault.TheVariants.{Field, SizeField, Said, Prefix, Threshold, Witnesses, TooMany, NumberTooLarge, TooLarge}
+use Rattle.journal.specs.declared.journal.reply.Reason.{Reason}
+use Rattle.journal.specs.declared.journal.reply.Reason.TheVariants.{Body, Unsigned, WrongGroup, DigestOnly, TooManySigs}
+use Rattle.journal.specs.declared.journal.why.Why.{Why}
+use Rattle.journal.specs.declared.journal.why.Why.TheVariants.{Predecessor, Signatures, Next, Receipts, Seal, Never}
 use Rattle.key_state.specs.declared.state_fault.Misfit.{Misfit}
 use Rattle.key_state.specs.declared.state_fault.Misfit.TheVariants.{Sn, Prior, Ended, EstOnly, Kind, WitnessChange}
 use Rattle.report_lines.specs.declared.plan_refusal.PlanRefusal.{PlanRefusal}

@@ -1,6 +1,6 @@
 //! The conflicts.
 ghost use Rattle.std.specs.Prelude.{◌≡◌, IfOk, flat_map, string_bytes};
-ghost use Rattle.journal.specs.Journals.{chosen};
+ghost use Rattle.journal.specs.Journal.Journals.{chosen};
 ghost use Rattle.report_lines.specs.Conflicts.{named_line};
 ghost use Rattle.report_lines.specs.Report.{AreConflictLines, saids_of};
 

@@ -2,11 +2,11 @@
 ghost use Rattle.std.specs.Prelude.{◌≡◌, ◌<◌, ◌==◌, All, IfOk, IsSorted, List, Some, length, option_map, string_bytes, if◌then◌else◌};
 ghost use Rattle.std.specs.List.{list_any};
 ghost use Rattle.std.specs.Ordering.{nat_cmp};
-ghost use Rattle.journal.specs.declared.body.Body.{Body};
-ghost use Rattle.journal.specs.Journals.{chosen};
-ghost use Rattle.journal.specs.Logs as logs;
+ghost use Rattle.journal.specs.declared.journal.body.Body.{Body};
+ghost use Rattle.journal.specs.Journal.Journals.{chosen};
+ghost use Rattle.journal.specs.Journal.Logs as logs;
 ghost use Rattle.report_lines.specs.declared.standing.Standing.TheVariants.{Live, Superseded};
-ghost use Rattle.validator_core.specs.View.{accepted_by};
+ghost use Rattle.validator_core.specs.ValidatorCore.View.{accepted_by};
 ghost use Rattle.report_lines.specs.Logs.{Marks};
 ghost use Rattle.report_lines.specs.Report as report;
 ghost use Rattle.report_lines.specs.Report.{IsListing, events_lines, log_lines, prefix_cmp, prefixes_of};

@@ -1,8 +1,8 @@
 //! The accepted events by their identifiers.
 ghost use Rattle.std.specs.Prelude.{◌≡◌, ◌++◌, ◌∷◌, [], List, Some, IfOk, OnOk, slice_get};
-ghost use Rattle.event_body.specs.Events as events;
-ghost use Rattle.journal.specs.declared.body.Body.{Body};
-ghost use Rattle.validator_core.specs.View.{accepted_by};
+ghost use Rattle.event_body.specs.EventBody.Events as events;
+ghost use Rattle.journal.specs.declared.journal.body.Body.{Body};
+ghost use Rattle.validator_core.specs.ValidatorCore.View.{accepted_by};
 ghost use Rattle.report_lines.specs.Logs.{AreLogs};
 
 use cesr_codes::{Prefix, Spelled};

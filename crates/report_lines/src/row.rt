@@ -1,7 +1,7 @@
 //! Rows of the report.
 ghost use Rattle.std.specs.Prelude.{◌≡◌};
 ghost use Rattle.cesr_codes.specs.Spelling.{prefix_text};
-ghost use Rattle.event_body.specs.Events.{prefix_of as event_prefix};
+ghost use Rattle.event_body.specs.EventBody.Events.{prefix_of as event_prefix};
 
 use event_body::{Event, prefix_of, sn_of};
 use std::cmp::Ordering;

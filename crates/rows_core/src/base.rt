@@ -6,7 +6,7 @@ use journal::{Mode, ResumeFault};
 use json_tree::Text;
 use keri_outside::Limits;
 use lists::Items;
-use row_text::Row;
+use rows::Row;
 use std::alloc::{AllocError, Global};
 use validator_core::Core;
 

@@ -7,8 +7,7 @@ use cesr_codes::Sig;
 use cesr_stream::Message;
 use journal::Question;
 use keri_outside::{Rehearsal, Verifier};
-use row_messages::message_of;
-use row_text::{Row, given};
+use rows::{Row, given, message_of};
 use std::alloc::{AllocError, Global};
 use validator_core::Core;
 

@@ -1,13 +1,12 @@
 //! The evidence of a watcher.
 ghost use Rattle.std.specs.Prelude.{◌≡◌};
-ghost use Rattle.journal.specs.declared.mode.Mode.TheVariants.{Local};
+ghost use Rattle.journal.specs.declared.journal.mode.Mode.TheVariants.{Local};
 
 use crate::calls::{MOST_QUESTIONS, verdict};
 use journal::Mode;
 use keri_outside::{Limits, MemSink, Steps};
 use lists::Items;
-use row_messages::message_of;
-use row_text::Row;
+use rows::{Row, message_of};
 use std::alloc::{AllocError, Global};
 use validator_core::Core;
 use watcher_core::Watcher;

@@ -1,7 +1,7 @@
 //! Hubs of one pass and of two.
 ghost use Rattle.std.specs.Prelude.{◌≡◌, []};
 ghost use Rattle.turn_lock.specs.Locks.{IsPassOf};
-ghost use Rattle.validator_core.specs.View.{told_of};
+ghost use Rattle.validator_core.specs.ValidatorCore.View.{told_of};
 
 use crate::views::{prefix_of, state_words};
 use cesr_codes::Prefix;
@@ -9,8 +9,7 @@ use cesr_stream::Message;
 use journal::Mode;
 use keri_outside::{Limits, Rehearsal, Verifier};
 use reader_hub::{Asked, Extent, Hub, Pass};
-use row_messages::message_of;
-use row_text::Row;
+use rows::{Row, message_of};
 use std::alloc::{AllocError, Global};
 use std::sync::Wait;
 use validator_core::Core;

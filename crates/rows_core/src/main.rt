@@ -11,7 +11,7 @@ mod session;
 mod views;
 
 use anyhow::Result;
-use row_text::{Row, given};
+use rows::{Row, given};
 use session::Session;
 use std::alloc::{AllocError, Global};
 use std::io;

@@ -3,7 +3,7 @@ ghost use Rattle.std.specs.Prelude.{◌≤◌};
 
 use journal::{Mode, Question};
 use keri_outside::{Limits, Steps};
-use row_text::Row;
+use rows::Row;
 use std::alloc::Global;
 use std::mem;
 use validator_core::Core;

@@ -6,7 +6,7 @@ use cesr_codes::Prefix;
 use journal::Conflict;
 use keri_outside::Steps;
 use key_state::KeyState;
-use row_text::{Row, given};
+use rows::{Row, given};
 use std::alloc::{AllocError, Global};
 use std::fmt::Write;
 

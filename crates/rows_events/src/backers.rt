@@ -5,7 +5,7 @@ use cesr_codes::{Digest, Key, KeyCode, Prefix};
 use event_backing::{Backers, EventSeal, anchors, seals};
 use event_body::{Event, prefix_of};
 use quorum_laws::{binds, union_size};
-use row_text::{Row, given};
+use rows::{Row, given};
 use std::alloc::{AllocError, Global};
 use std::fmt::Write;
 

@@ -1,11 +1,10 @@
 //! Bodies of events: read, written again and sealed.
 ghost use Rattle.std.specs.Prelude.{IfOk};
-ghost use Rattle.event_writing.specs.Writable.{IsWritable};
+ghost use Rattle.event_body.specs.EventWriting.Writable.{IsWritable};
 
 use cesr_codes::DigestCode;
-use event_body::{Event, ReadBody, read_body};
-use event_writing::{sealed, writable, write_body};
-use row_text::{Row, given};
+use event_body::{Event, ReadBody, read_body, sealed, writable, write_body};
+use rows::{Row, given};
 use std::alloc::{AllocError, Global};
 
 // The event that the text spells, which can be written.

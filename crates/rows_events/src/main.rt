@@ -10,7 +10,7 @@ mod plans;
 mod states;
 
 use anyhow::Result;
-use row_text::Row;
+use rows::Row;
 use std::alloc::{AllocError, Global};
 use std::io;
 

@@ -13,7 +13,7 @@ use json_tree::{Text, Tree};
 use keri_outside::MemSigner;
 use key_state::KeyState;
 use lists::Items;
-use row_text::{Row, given};
+use rows::{Row, given};
 use sith::Threshold;
 use std::alloc::{AllocError, Global};
 use std::fmt::Write;

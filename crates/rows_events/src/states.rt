@@ -5,7 +5,7 @@ use crate::event::kept_event;
 use cesr_codes::{IndexedSig, Key};
 use event_body::Event;
 use key_state::{KeyState, Misfit, StateFault, first};
-use row_text::{Row, given};
+use rows::{Row, given};
 use std::alloc::{AllocError, Global};
 use std::fmt::Write;
 use std::mem;

@@ -1,10 +1,10 @@
 //! What a row is answered by.
 
-use crate::outside::outside_of;
+use crate::outside_text::outside_of;
 use keri_outside::{MemSink, MemSource, MemVerifier};
 use keri_roles::{Close, Done, ReaderEnd, run};
-use row_text::Row;
-use run_outside::{Making, MemOutside};
+use rows::Row;
+use run_status::{Making, MemOutside};
 use std::alloc::{AllocError, Global};
 use std::fmt::Write;
 use std::sync::Wait;

@@ -5,7 +5,7 @@
 #![tactic(auto)]
 
 mod answer;
-mod outside;
+mod outside_text;
 
 use answer::answer;
 use anyhow::Result;

@@ -3,8 +3,8 @@ ghost use Rattle.std.specs.Prelude.{◌≤◌};
 
 use keri_outside::{Limits, MemSink, VerdictRule};
 use lists::Items;
-use row_text::Row;
-use run_outside::{MemAddress, MemDiskFile, MemFile, MemHelper, MemOutside, MemPeer};
+use rows::Row;
+use run_status::{MemAddress, MemDiskFile, MemFile, MemHelper, MemOutside, MemPeer};
 use std::alloc::{AllocError, Global};
 
 /// The name of the file that holds a stream.

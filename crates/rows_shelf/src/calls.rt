@@ -1,12 +1,11 @@
 //! Calls of a shelf.
-ghost use Rattle.shelf_log.specs.Format.{IsSized};
-ghost use Rattle.shelf_log.specs.declared.version.Version.TheVariants.{Two};
+ghost use Rattle.shelf_log.specs.ShelfLog.Format.{IsSized};
+ghost use Rattle.shelf_log.specs.declared.shelf_log.version.Version.TheVariants.{Two};
 
 use crate::session::{Held, Session};
 use crate::spelling::{file_text, list_text, refused};
-use keri_disk::MemDisk;
-use row_text::Row;
-use shelf_log::{Shelf, ShelfFault};
+use rows::Row;
+use shelf_log::{MemDisk, Shelf, ShelfFault};
 use std::alloc::{AllocError, Global};
 
 // Bytes of the longest payload.

@@ -1,14 +1,13 @@
 //! What crashes leave.
 ghost use Rattle.std.specs.Prelude.{◌≤◌};
-ghost use Rattle.keri_disk.specs.Memory.{mem_told};
+ghost use Rattle.shelf_log.specs.KeriDisk.Memory.{mem_told};
 
 use crate::opening::old_of;
 use crate::session::{Held, Session};
 use crate::spelling::{list_text, refused};
-use keri_disk::{MemDisk, Shape};
 use keri_outside::Limits;
 use lists::Items;
-use shelf_log::{Returned, Shelf, ShelfFault};
+use shelf_log::{MemDisk, Returned, Shape, Shelf, ShelfFault};
 use std::alloc::{AllocError, Global};
 
 // What stands on the disk as a file of version 1.

@@ -10,7 +10,7 @@ mod session;
 mod spelling;
 
 use anyhow::Result;
-use row_text::Row;
+use rows::Row;
 use session::{Held, Session};
 use std::alloc::AllocError;
 use std::io;

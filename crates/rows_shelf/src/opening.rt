@@ -1,17 +1,16 @@
 //! Calls that make a disk or open a shelf.
 ghost use Rattle.std.specs.Prelude.{◌≡◌, ℕ, List, IfOk, IfSome, IsTrue};
 ghost use Rattle.std.specs.List.{All};
-ghost use Rattle.keri_disk.specs.Memory.{mem_told};
-ghost use Rattle.shelf_log.specs.Format.{IsSized, IsNoShelf};
-ghost use Rattle.shelf_log.specs.declared.version.Version.TheVariants.{One, Two};
+ghost use Rattle.shelf_log.specs.KeriDisk.Memory.{mem_told};
+ghost use Rattle.shelf_log.specs.ShelfLog.Format.{IsSized, IsNoShelf};
+ghost use Rattle.shelf_log.specs.declared.shelf_log.version.Version.TheVariants.{One, Two};
 
 use crate::session::{Held, Session};
 use crate::spelling::list_text;
-use keri_disk::MemDisk;
 use keri_outside::Limits;
 use lists::Items;
-use row_text::Row;
-use shelf_log::{OldShelf, Returned, Shelf, ShelfFault};
+use rows::Row;
+use shelf_log::{MemDisk, OldShelf, Returned, Shelf, ShelfFault};
 use std::alloc::{AllocError, Global};
 
 // Bytes of the longest payload of version 1.

@@ -1,8 +1,7 @@
 //! The shelf that rows speak of.
 
 use crate::spelling::refused;
-use keri_disk::MemDisk;
-use shelf_log::{Returned, Shelf};
+use shelf_log::{MemDisk, Returned, Shelf};
 use std::alloc::{AllocError, Global};
 use std::mem;
 

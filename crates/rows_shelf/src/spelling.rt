@@ -1,7 +1,7 @@
 //! What rows write of faults and bytes.
 
 use lists::Items;
-use row_text::bytes_words;
+use rows::bytes_words;
 use shelf_log::ShelfFault;
 use std::alloc::{AllocError, Global};
 use std::fmt::Write;

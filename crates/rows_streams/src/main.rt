@@ -6,7 +6,7 @@
 mod streams;
 
 use anyhow::Result;
-use row_text::Row;
+use rows::Row;
 use std::alloc::{AllocError, Global};
 use std::io;
 

@@ -10,7 +10,7 @@ use cesr_stream::{
 };
 use keri_outside::{Limits, MemSink};
 use lists::Items;
-use row_text::{Row, given};
+use rows::{Row, given};
 use std::alloc::{AllocError, Global};
 use std::fmt::Write;
 

@@ -1,7 +1,7 @@
 //! Primitives: what is read of a text, and how it is written again.
 
 use cesr_codes::{CodeFault, Digest, IndexedSig, Key, Moment, Number, Prefix, Sig};
-use row_text::{Row, given};
+use rows::{Row, given};
 use std::alloc::{AllocError, Global};
 use std::fmt::{Debug, Write};
 

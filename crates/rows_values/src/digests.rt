@@ -6,7 +6,7 @@ ghost use Rattle.said_digest.specs.Replaced.{LieIn};
 use crate::codes::hex;
 use blake3_hash::{Hasher, digest};
 use cesr_codes::{Digest, DigestCode};
-use row_text::{Row, given};
+use rows::{Row, given};
 use said_digest::{digest_of, holds, said_of};
 use std::alloc::{AllocError, Global};
 

@@ -8,7 +8,7 @@ mod digests;
 mod trees;
 
 use anyhow::Result;
-use row_text::Row;
+use rows::Row;
 use std::alloc::{AllocError, Global};
 use std::io;
 

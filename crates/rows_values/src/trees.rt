@@ -4,7 +4,7 @@ ghost use Rattle.sith.specs.Rules.{IsReadFor};
 
 use json_tree::{Text, Tree, TreeFault, is_json, is_json_string, read_tree, tree_text};
 use lists::{CopyValue, Items};
-use row_text::{Row, given};
+use rows::{Row, given};
 use sith::{SithFault, Threshold};
 use std::alloc::{AllocError, Global};
 

@@ -1,15 +1,14 @@
 //! What crashes leave of a witness's disk.
 ghost use Rattle.std.specs.Prelude.{◌≤◌};
-ghost use Rattle.keri_disk.specs.Memory.{mem_told};
+ghost use Rattle.shelf_log.specs.KeriDisk.Memory.{mem_told};
 
 use crate::opening::started;
 use crate::session::{Held, Session};
 use crate::spelling::{list_text, not_started, refused};
 use cesr_codes::Key;
-use keri_disk::{MemDisk, Shape};
 use keri_outside::Limits;
 use lists::Items;
-use shelf_log::Shelf;
+use shelf_log::{MemDisk, Shape, Shelf};
 use std::alloc::{AllocError, Global};
 
 // What a witness stores that starts from the disk.

@@ -7,13 +7,13 @@ mod images;
 mod journals;
 mod opening;
 mod outcomes;
-mod outside;
+mod outside_files;
 mod session;
 mod spelling;
 mod views;
 
 use anyhow::Result;
-use row_text::Row;
+use rows::Row;
 use session::Session;
 use std::alloc::AllocError;
 use std::io;
@@ -22,10 +22,10 @@ use std::io;
 fn answer(session: &mut Session, line: &str) -> Result<String, AllocError> {
     let row = Row::of(session.alloc, line)?;
     match row.word(0) {
-        "limits" => outside::limits(session, &row),
-        "key" => outside::key(session, &row),
-        "verifier" => outside::verifier(session, &row),
-        "signer" => outside::signer(session, &row),
+        "limits" => outside_files::limits(session, &row),
+        "key" => outside_files::key(session, &row),
+        "verifier" => outside_files::verifier(session, &row),
+        "signer" => outside_files::signer(session, &row),
         "disk" => opening::put_in(session, &row),
         "create" => opening::create(session, &row),
         "start" => opening::start(session),

@@ -1,16 +1,15 @@
 //! Calls that make a disk or start a witness.
 ghost use Rattle.std.specs.Prelude.{◌≡◌, ℕ, List, IfOk, false};
-ghost use Rattle.keri_disk.specs.Memory.{mem_told};
+ghost use Rattle.shelf_log.specs.KeriDisk.Memory.{mem_told};
 
-use crate::outside::failing_of;
+use crate::outside_files::failing_of;
 use crate::session::{Held, Session};
 use crate::spelling::{not_started, refused};
 use cesr_codes::{Key, KeyCode};
-use keri_disk::MemDisk;
 use keri_outside::Limits;
 use lists::Items;
-use row_text::Row;
-use shelf_log::{Returned, Shelf};
+use rows::Row;
+use shelf_log::{MemDisk, Returned, Shelf};
 use std::alloc::{AllocError, Global};
 use witness_core::{StartFault, Witness};
 

@@ -2,14 +2,12 @@
 
 use crate::session::{Held, Session};
 use cesr_stream::Message;
-use keri_disk::MemDisk;
 use keri_outside::{MemSigner, MemVerifier};
-use row_messages::message_of;
-use row_text::{Row, bytes_words};
+use rows::{Row, bytes_words, message_of};
+use shelf_log::MemDisk;
 use std::alloc::{AllocError, Global};
 use std::fmt::Write;
-use witness_core::{Outcome, Witness, WitnessFault};
-use witness_receipts::{Fate, Receipt};
+use witness_core::{Fate, Outcome, Receipt, Witness, WitnessFault};
 
 // Takes the message. The contract of what it calls is left behind here, since it makes each proof above it longer.
 fn take_message(

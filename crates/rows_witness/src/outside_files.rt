@@ -5,7 +5,7 @@ use crate::session::Session;
 use cesr_codes::Key;
 use keri_outside::{Limits, MemSigner, MemVerifier, VerdictRule};
 use lists::Items;
-use row_text::Row;
+use rows::Row;
 use std::alloc::{AllocError, Global};
 
 // The number behind the name, or this one where there is none or a greater one.

@@ -1,9 +1,9 @@
 //! The witness that rows speak of.
 
 use cesr_codes::{Key, KeyCode};
-use keri_disk::MemDisk;
 use keri_outside::{Limits, MemSigner, MemVerifier, VerdictRule};
 use lists::Items;
+use shelf_log::MemDisk;
 use std::alloc::Global;
 use std::mem;
 use witness_core::Witness;

@@ -2,7 +2,7 @@
 
 use journal::ResumeFault;
 use lists::Items;
-use row_text::bytes_words;
+use rows::bytes_words;
 use shelf_log::ShelfFault;
 use std::alloc::{AllocError, Global};
 

@@ -3,7 +3,7 @@
 use crate::journals::journal_text;
 use crate::session::{Held, Session};
 use crate::spelling::{file_text, list_text};
-use keri_disk::MemDisk;
+use shelf_log::MemDisk;
 use std::alloc::AllocError;
 
 /// `stored`: the size and the bytes of each payload.

@@ -9,6 +9,8 @@ mod run_status;
 
 pub use door_links::{Taken, take_links};
 pub use message_feed::{FeedClose, SourceText, Taker, TextClose, feed_messages, read_text};
-pub use run_outside::{Making, MakingKind, MemAddress, MemDiskFile, MemFile, MemHelper, MemOutside, MemPeer, Outside};
+pub use run_outside::{
+    Making, MakingKind, MemAddress, MemDiskFile, MemFile, MemHelper, MemOutside, MemPeer, Outside,
+};
 pub use run_record::{Done, NO_MEMORY, Runs, nothing_told};
 pub use run_status::{Besides, Close, ReaderEnd, settle, status_by};

@@ -10,7 +10,7 @@ mod mem_file;
 mod mem_helper;
 mod mem_outside;
 mod mem_peer;
-mod outside;
+mod whole_outside;
 
 pub use making::{Making, MakingKind};
 pub use mem_address::MemAddress;
@@ -19,4 +19,4 @@ pub use mem_file::MemFile;
 pub use mem_helper::MemHelper;
 pub use mem_outside::MemOutside;
 pub use mem_peer::MemPeer;
-pub use outside::Outside;
+pub use whole_outside::Outside;

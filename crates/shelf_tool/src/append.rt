@@ -1,6 +1,6 @@
 //! Appending the lines of standard input.
-ghost use Rattle.shelf_log.specs.Format.{IsSized};
-ghost use Rattle.shelf_log.specs.declared.version.Version.TheVariants.{Two};
+ghost use Rattle.shelf_log.specs.ShelfLog.Format.{IsSized};
+ghost use Rattle.shelf_log.specs.declared.shelf_log.version.Version.TheVariants.{Two};
 
 use crate::opening::open_or_create;
 use crate::stop::Stop;

@@ -4,10 +4,9 @@ use crate::append::say_stored;
 use crate::opening::opened;
 use crate::stop::Stop;
 use disk_file::FileDisk;
-use keri_disk::Disk;
 use keri_outside::Limits;
 use lists::Items;
-use shelf_log::{OldShelf, Returned, Shelf, ShelfFault};
+use shelf_log::{Disk, OldShelf, Returned, Shelf, ShelfFault};
 
 /// Makes a file a shelf of the payloads of an old one, to which nothing is written. Where a stop cut that short, the same
 /// words do it again; where it was done, they change nothing.

@@ -3,9 +3,8 @@ ghost use Rattle.std.specs.Prelude.{◌≡◌, IfOk, Ok};
 
 use crate::stop::Stop;
 use disk_file::FileDisk;
-use keri_disk::Disk;
 use keri_outside::Limits;
-use shelf_log::{Returned, Shelf};
+use shelf_log::{Disk, Returned, Shelf};
 
 /// The shelf in a file; a new one where the file is empty or isn't there yet.
 pub(crate) fn open_or_create(rt: &HostRuntime, path: &str) -> Result<Shelf<FileDisk>, Stop> {

@@ -9,7 +9,7 @@ use Rattle.std.proofs.lemmas.List.{map-append}
 use Rattle.std.proofs.lemmas.Bool.Decides.{nat_tests}
 use Rattle.std.proofs.lemmas.Bool.{cases_Bool, eqb-true}
 use native.Mathlib.Nat.{mod-lt, div-add-mod, pow-suc, pow-zero}
-use Rattle.keri_specs.specs.Hex.{is_hex, hex_digit, hex_value, IsHexOf}
+use Rattle.lists.specs.KeriSpecs.Hex.{is_hex, hex_digit, hex_value, IsHexOf}
 
 glyph_hex : (d : ℕ) → d < 16 → is_hex (digit_glyph false d) ≡ true
 glyph_hex d small = grind (arith, nat_tests)

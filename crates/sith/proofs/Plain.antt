@@ -10,7 +10,7 @@ use Rattle.std.specs.Fmt.{decimal}
 use Rattle.std.specs.List.{list_all}
 use Rattle.std.specs.Str.{IsAscii}
 use Rattle.std.specs.Str.Parse.{AllDigits}
-use Rattle.keri_specs.specs.Hex.{is_hex, IsHexNumber}
+use Rattle.lists.specs.KeriSpecs.Hex.{is_hex, IsHexNumber}
 use Rattle.json_tree.specs.Strings.{IsUnescaped, unescaped, AreChars, IsString}
 use Rattle.sith.specs.declared.weight.Weight.{Weight}
 use Rattle.sith.specs.declared.weight.Weight.TheVariants.{Zero, One, Part}

@@ -1,7 +1,7 @@
 -- What spells a threshold is its value.
 use Rattle.std.proofs.Common.{◌≡◌, ℕ, ◌^◌, ◌<◌, ◌≤◌, List, length, ap, ◌∙◌, arith}
 use Rattle.std.proofs.Math.Nat.{pow-le-pow_right}
-use Rattle.keri_specs.specs.Hex.{IsHexNumber, hex_value}
+use Rattle.lists.specs.KeriSpecs.Hex.{IsHexNumber, hex_value}
 use Rattle.json_tree.specs.declared.tree.Tree.{Tree}
 use Rattle.json_tree.specs.declared.tree.Tree.TheVariants.{Str}
 use Rattle.sith.specs.declared.threshold.Threshold.{Threshold}

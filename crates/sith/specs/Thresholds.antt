@@ -2,7 +2,7 @@
 use Rattle.std.specs.Prelude.{◌≡◌, ◌≢◌, ◌+◌, ◌-◌, ◌^◌, ◌⊎◌, min, ℕ, false, List, [], ◌∷◌, ◌++◌, ⊤, length, map, codes}
 use Rattle.std.specs.List.{AllByRecursion, flat_map, sum_by}
 use Rattle.std.specs.Fmt.{digits, decimal}
-use Rattle.keri_specs.specs.Hex.{IsHexNumber, hex_value}
+use Rattle.lists.specs.KeriSpecs.Hex.{IsHexNumber, hex_value}
 use Rattle.json_tree.specs.declared.tree.Tree.{Tree}
 use Rattle.json_tree.specs.declared.tree.Tree.TheVariants.{Str, List as TreeList, Object as TreeObject}
 use Rattle.sith.specs.declared.weight.Weight.{Weight}

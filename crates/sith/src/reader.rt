@@ -11,9 +11,8 @@ use crate::sith_fault::SithFault;
 use crate::term::Term;
 use crate::threshold::Threshold;
 use crate::weight::Weight;
-use hex_numbers::{is_hex_number, saturating_hex_value};
 use json_tree::{Member, Tree};
-use lists::Items;
+use lists::{Items, is_hex_number, saturating_hex_value};
 use std::alloc::Global;
 
 /// Reads the weight of this number, and counts on.

@@ -2,8 +2,8 @@
 use Rattle.std.proofs.Common.{◌≡◌, ℕ, ◌-◌, ◌≤◌, List, [], ◌∷◌, ◌++◌, length, flat_map, take, refl, sym, ap, ◌∙◌, subst, arith, append-nil, length-append}
 use Rattle.std.specs.List.{AllByRecursion}
 use Rattle.std.proofs.lemmas.Grind.{flat_map-append}
-use Rattle.keri_specs.specs.Causes.{Rose}
-use Rattle.keri_specs.specs.Told.{after}
+use Rattle.lists.specs.KeriSpecs.Causes.{Rose}
+use Rattle.lists.specs.KeriSpecs.Told.{after}
 use Rattle.verifier_link.specs.declared.served.Served.TheVariants.{WriteFault}
 use Rattle.verifier_link.specs.declared.stop.Stop.{Stop}
 use Rattle.verifier_link.specs.declared.stop.Stop.TheVariants.{Ended, Malformed, ReadFault, Full}
@@ -16,7 +16,7 @@ use Rattle.verifier_link.specs.Sides.{SourceTold, SinkTold, Gave}
 use Rattle.verifier_link.specs.Stops.{StopsReading, served_at}
 use Rattle.verifier_link.proofs.Behind.{taken_more, left_more, rose_more, next_more}
 use Rattle.verifier_link.proofs.Pieces.{gave_more}
-use Rattle.keri_specs.proofs.Putting.{after-append}
+use Rattle.lists.proofs.KeriSpecsLemmas.Putting.{after-append}
 
 -- Questions were read and answered, and so many bytes more may be read.
 pub record AreAnswered (most room : ℕ) (first now : SidesTold) : Type 0 where

@@ -1,7 +1,7 @@
 -- What is behind the bytes of a question that were read, where reading stops.
 use Rattle.std.proofs.Common.{◌≡◌, ℕ, ◌≤◌, List, [], ◌∷◌, ◌++◌, length, Result, Ok, Err, IfErr, IsErrAnd, refl, sym, subst, arith, append_assoc, length-append, inl, inr}
-use Rattle.keri_specs.specs.Causes.{Rose}
-use Rattle.keri_specs.specs.Told.{before}
+use Rattle.lists.specs.KeriSpecs.Causes.{Rose}
+use Rattle.lists.specs.KeriSpecs.Told.{before}
 use Rattle.verifier_link.specs.declared.stop.Stop.{Stop}
 use Rattle.verifier_link.specs.declared.stop.Stop.TheVariants.{Ended, Malformed, ReadFault, Full}
 use Rattle.verifier_link.specs.Fields.{Field, field_size, IsDue, IsBegun, IsRefused, IsTaken, IsCut, FieldStops}

@@ -5,9 +5,9 @@ use Rattle.std.specs.Int.Digits.{AllBelowBase, number_from_digits}
 use Rattle.std.proofs.lemmas.Bool.{and_parts}
 use Rattle.std.proofs.lemmas.Bool.Decides.{nat_tests}
 use Rattle.std.proofs.lemmas.List.{length-map}
-use Rattle.keri_specs.specs.Base64.{digits_in}
-use Rattle.keri_specs.specs.Hex.{is_hex, hex_digit, hex_value}
-use Rattle.keri_specs.proofs.Digits.{digits_in-number, length-digits_in, number-digits_in, all_below-digits_in}
+use Rattle.lists.specs.KeriSpecs.Base64.{digits_in}
+use Rattle.lists.specs.KeriSpecs.Hex.{is_hex, hex_digit, hex_value}
+use Rattle.lists.proofs.KeriSpecsLemmas.Digits.{digits_in-number, length-digits_in, number-digits_in, all_below-digits_in}
 use Rattle.verifier_link.specs.Questions.{hex_character, length_text}
 
 digits_are : (n : ℕ) → n < 2 ^ 16 → digits_in 16 8 n ≡ 0 ∷ 0 ∷ 0 ∷ 0 ∷ n / 4096 ∷ n / 256 % 16 ∷ n / 16 % 16 ∷ n % 16 ∷ []

@@ -4,7 +4,7 @@ use Rattle.std.proofs.Math.Seq.{take-append-add}
 use Rattle.std.proofs.lemmas.List.{take-take, length-take, length-take-le}
 use Rattle.std.proofs.lemmas.Slice.{take-put_mid}
 use borrow.Rule.Slice.PartMut.{put_mid}
-use Rattle.keri_specs.specs.Told.{before}
+use Rattle.lists.specs.KeriSpecs.Told.{before}
 use Rattle.verifier_link.specs.Sides.{SourceTold, Gave}
 
 pub before_more : (first middle last : Option (List ℕ)) (bytes piece : List ℕ) → first ≡ before bytes middle → middle ≡ before piece last → first ≡ before (bytes ++ piece) last

@@ -2,8 +2,8 @@
 use Rattle.std.specs.Prelude.{◌≡◌, ℕ, ◌+◌, ◌-◌, ◌^◌, ◌<◌, ◌⊎◌, min, List, length, take}
 use Rattle.std.specs.declared.result.Result.{Result}
 use Rattle.std.specs.declared.result.Result.TheVariants.{Ok, Err}
-use Rattle.keri_specs.specs.Causes.{Rose}
-use Rattle.keri_specs.specs.Told.{before, after, IsAtEnd}
+use Rattle.lists.specs.KeriSpecs.Causes.{Rose}
+use Rattle.lists.specs.KeriSpecs.Told.{before, after, IsAtEnd}
 use Rattle.verifier_link.specs.Answers.{answer_size}
 use Rattle.verifier_link.specs.Questions.{Question, question_text}
 use Rattle.verifier_link.specs.Sides.{LinkTold, SourceTold, SinkTold, Gave}

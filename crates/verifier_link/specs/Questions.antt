@@ -1,6 +1,6 @@
 -- Questions to a helper and how they are spelled (the helper's protocol).
 use Rattle.std.specs.Prelude.{ℕ, ◌+◌, ◌≤◌, nat_lt, if◌then◌else◌, List, ◌∷◌, ◌++◌, length, map}
-use Rattle.keri_specs.specs.Base64.{digits_in}
+use Rattle.lists.specs.KeriSpecs.Base64.{digits_in}
 use Rattle.cesr_codes.specs.declared.key.Key.{Key}
 use Rattle.cesr_codes.specs.declared.sig.Sig.{Sig}
 use Rattle.cesr_codes.specs.Spelling.{key_text, sig_text, IsKey, IsSig}

@@ -1,7 +1,7 @@
 -- What is told of a source and of a sink.
 use Rattle.std.specs.Prelude.{◌≡◌, ℕ, List}
 use Rattle.std.specs.declared.option.Option.{Option}
-use Rattle.keri_specs.specs.Told.{before}
+use Rattle.lists.specs.KeriSpecs.Told.{before}
 use Rattle.verifier_link.specs.declared.link.Link.{Link}
 
 -- the bytes that a source has left, where it tells, and how often it has failed

@@ -1,8 +1,8 @@
 -- Where the reading of a question stops.
 use Rattle.std.specs.Prelude.{◌≡◌, ◌≢◌, ℕ, ◌≤◌, ◌⊎◌, List, [], ◌∷◌, ◌++◌, length}
 use Rattle.std.specs.declared.option.Option.{Option}
-use Rattle.keri_specs.specs.Causes.{Rose}
-use Rattle.keri_specs.specs.Told.{before, IsAtEnd}
+use Rattle.lists.specs.KeriSpecs.Causes.{Rose}
+use Rattle.lists.specs.KeriSpecs.Told.{before, IsAtEnd}
 use Rattle.verifier_link.specs.declared.served.Served.{Served}
 use Rattle.verifier_link.specs.declared.served.Served.TheVariants.{End, Malformed as MalformedAt, ReadFault as ReadFailed, Full as ReadAll}
 use Rattle.verifier_link.specs.declared.stop.Stop.{Stop}

@@ -16,7 +16,7 @@ pub enum Helper<S, K, P> {
 
 impl<S: Source, K: Sink, P> Verifier for Helper<S, K, P> {
     ghost use Rattle.std.specs.Prelude.{◌≡◌, ◌≤◌, IfOk, IfSome, None, length};
-    ghost use Rattle.keri_specs.specs.Causes.{HasCause};
+    ghost use Rattle.lists.specs.KeriSpecs.Causes.{HasCause};
     ghost use Rattle.keri_outside.specs.Rehearsal.{is_rehearsed};
     ghost use Rattle.verifier_link.specs.Answers.{SaysVerdict};
     ghost use Rattle.verifier_link.specs.Helpers.{IsAnswered, helper_faults, helper_says, helper_told};
@@ -49,7 +49,7 @@ impl<S: Source, K: Sink, P> Verifier for Helper<S, K, P> {
 
 impl<S: Source, K: Sink, P> Signer for Helper<S, K, P> {
     ghost use Rattle.std.specs.Prelude.{◌≡◌, ◌≤◌, IfOk, IfSome, None, length};
-    ghost use Rattle.keri_specs.specs.Causes.{HasCause};
+    ghost use Rattle.lists.specs.KeriSpecs.Causes.{HasCause};
     ghost use Rattle.keri_outside.specs.Rehearsal.{rehearsed};
     ghost use Rattle.verifier_link.specs.Answers.{SaysSig};
     ghost use Rattle.verifier_link.specs.Helpers.{IsAnswered, helper_faults, helper_gives, helper_told};

@@ -2,7 +2,7 @@
 ghost use Rattle.std.specs.Prelude.{◌≡◌, ◌≢◌, ℕ, ◌<◌, ◌≤◌, IfSome, IfNone};
 ghost use Rattle.verifier_link.specs.Questions.{hex_character, length_text};
 
-use hex_numbers::{all_hex, hex_value};
+use lists::{all_hex, hex_value};
 
 /// A length as 8 lower-case hexadecimal digits.
 pub(crate) fn length_digits(length: u16) -> [u8; 8]

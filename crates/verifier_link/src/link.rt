@@ -19,7 +19,7 @@ pub struct Link<S, K> {
 
 impl<S: Source, K: Sink> Link<S, K> {
     ghost use Rattle.std.specs.Prelude.{◌+◌, ◌-◌, ◌^◌, ◌≤◌, min, length, OnOk, IfErr};
-    ghost use Rattle.keri_specs.specs.Causes.{HasCause};
+    ghost use Rattle.lists.specs.KeriSpecs.Causes.{HasCause};
     ghost use Rattle.verifier_link.specs.Questions.{question};
     ghost use Rattle.verifier_link.specs.Exchanges.{Fetches};
     ghost use Rattle.verifier_link.specs.Sides.{link_faults, link_told, source_told, sink_told};
@@ -72,7 +72,7 @@ impl<S: Source, K: Sink> Link<S, K> {
 
 impl<S: Source, K: Sink> Verifier for Link<S, K> {
     ghost use Rattle.std.specs.Prelude.{◌≤◌, None, length};
-    ghost use Rattle.keri_specs.specs.Causes.{HasCause};
+    ghost use Rattle.lists.specs.KeriSpecs.Causes.{HasCause};
     ghost use Rattle.verifier_link.specs.Answers.{SaysVerdict};
     ghost use Rattle.verifier_link.specs.Exchanges.{Exchanges};
     ghost use Rattle.verifier_link.specs.Questions.{verdict_question};
@@ -105,7 +105,7 @@ impl<S: Source, K: Sink> Verifier for Link<S, K> {
 
 impl<S: Source, K: Sink> Signer for Link<S, K> {
     ghost use Rattle.std.specs.Prelude.{◌≤◌, None, length};
-    ghost use Rattle.keri_specs.specs.Causes.{HasCause};
+    ghost use Rattle.lists.specs.KeriSpecs.Causes.{HasCause};
     ghost use Rattle.verifier_link.specs.Answers.{SaysSig};
     ghost use Rattle.verifier_link.specs.Exchanges.{Exchanges};
     ghost use Rattle.verifier_link.specs.Questions.{signing_question};

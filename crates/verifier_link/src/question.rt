@@ -1,8 +1,8 @@
 //! Questions on a sink.
 ghost use Rattle.std.specs.Prelude.{◌≡◌, ◌+◌, ◌≤◌, ◌∷◌, ◌++◌, length};
 ghost use Rattle.cesr_codes.specs.Spelling.{key_text, sig_text};
-ghost use Rattle.keri_specs.specs.Causes.{HasCause};
-ghost use Rattle.keri_specs.specs.Told.{Puts};
+ghost use Rattle.lists.specs.KeriSpecs.Causes.{HasCause};
+ghost use Rattle.lists.specs.KeriSpecs.Told.{Puts};
 ghost use Rattle.verifier_link.specs.Questions.{length_text, wanted_text};
 
 use crate::Wanted;

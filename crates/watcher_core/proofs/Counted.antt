@@ -10,15 +10,15 @@ use Rattle.cesr_codes.specs.Indexed.{IsIndexed}
 use Rattle.cesr_stream.specs.Items.{Items}
 use Rattle.cesr_stream.specs.Parts.{unfinished}
 use Rattle.cesr_stream.specs.Written.{item_text}
-use Rattle.journal.specs.Conflicts.{IsConflictList, counted, counts}
-use Rattle.journal.specs.History.{Told, bodies}
-use Rattle.journal.specs.Journals.{NameConflicts, chosen}
-use Rattle.journal.specs.Logs.{stands}
-use Rattle.journal.specs.declared.conflict.Conflict.{Conflict}
-use Rattle.journal.specs.declared.body.Body.{Body}
-use Rattle.journal.proofs.Apart.{flat_map-All}
-use Rattle.validator_core.specs.View.{CoreView, Stands, accepted_by, base_of, told_of}
-use Rattle.acceptance.specs.Standing.{IsHeld}
+use Rattle.journal.specs.Journal.Conflicts.{IsConflictList, counted, counts}
+use Rattle.journal.specs.Journal.History.{Told, bodies}
+use Rattle.journal.specs.Journal.Journals.{NameConflicts, chosen}
+use Rattle.journal.specs.Journal.Logs.{stands}
+use Rattle.journal.specs.declared.journal.conflict.Conflict.{Conflict}
+use Rattle.journal.specs.declared.journal.body.Body.{Body}
+use Rattle.journal.proofs.JournalLemmas.Apart.{flat_map-All}
+use Rattle.validator_core.specs.ValidatorCore.View.{CoreView, Stands, accepted_by, base_of, told_of}
+use Rattle.validator_core.specs.Acceptance.Standing.{IsHeld}
 use Rattle.watcher_core.specs.Evidence.{items_of, items_of_sets, placed_from, signatures_of}
 use Rattle.watcher_core.specs.Named.{PutsBodies, firsts_on, text_on}
 use Rattle.watcher_core.proofs.Texts.{flat_map-flat_map}

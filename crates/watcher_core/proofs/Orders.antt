@@ -7,7 +7,7 @@ use Rattle.cesr_codes.specs.contracts.indexed_sig.IndexedSigOrd.TheImpl as sig_o
 use Rattle.cesr_codes.specs.contracts.indexed_sig.IndexedSigOrd.TheImpl.Laws as sig_laws
 use Rattle.cesr_codes.specs.contracts.indexed_sig.IndexedSigPartialEq.TheImpl as sig_test
 use Rattle.cesr_codes.specs.declared.indexed_sig.IndexedSig.{IndexedSig}
-use Rattle.journal.specs.Replies.{same_indexed}
+use Rattle.journal.specs.Journal.Replies.{same_indexed}
 use denote.Param as param
 
 abbrev pub sig_cmp : IndexedSig → IndexedSig → Ordering

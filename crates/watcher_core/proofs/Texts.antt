@@ -8,13 +8,13 @@ use Rattle.cesr_codes.specs.Indexed.{IsIndexed}
 use Rattle.std.proofs.lemmas.List.Concat.{flat_map-append}
 use Rattle.cesr_codes.specs.declared.indexed_sig.IndexedSig.{IndexedSig}
 use Rattle.cesr_stream.specs.Written.{item_text}
-use Rattle.journal.specs.declared.body.Body.{Body}
-use Rattle.journal.specs.Journals.{chosen}
-use Rattle.journal.specs.Replies.{same_indexed}
-use Rattle.journal.proofs.Locality.{flat_map-push}
+use Rattle.journal.specs.declared.journal.body.Body.{Body}
+use Rattle.journal.specs.Journal.Journals.{chosen}
+use Rattle.journal.specs.Journal.Replies.{same_indexed}
+use Rattle.journal.proofs.JournalLemmas.Locality.{flat_map-push}
 use Rattle.key_state.specs.Same.{distinct}
-use Rattle.validator_core.specs.View.{CoreView}
-use Rattle.validator_core.specs.Signatures.{good_on}
+use Rattle.validator_core.specs.ValidatorCore.View.{CoreView}
+use Rattle.validator_core.specs.ValidatorCore.Signatures.{good_on}
 use Rattle.watcher_core.specs.Evidence.{items_with}
 use Rattle.watcher_core.specs.Named.{PutsBodies, PutsBody, firsts_on, text_on}
 

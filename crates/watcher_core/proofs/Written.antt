@@ -5,7 +5,7 @@ use Rattle.std.specs.Simd.{first_chunks}
 use Rattle.std.specs.Slice.Iter.{chunk_count}
 use Rattle.std.proofs.lemmas.List.{drop_all}
 use Rattle.std.proofs.lemmas.List.Elements.{All-drop, All-head, All-tail, All-take}
-use Rattle.event_body.specs.Judging.{HasEvent}
+use Rattle.event_body.specs.EventBody.Judging.{HasEvent}
 use Rattle.cesr_codes.specs.Indexed.{IsIndexed}
 use Rattle.cesr_codes.specs.declared.indexed_sig.IndexedSig.{IndexedSig}
 use Rattle.cesr_stream.specs.Front.{front}
@@ -14,8 +14,8 @@ use Rattle.cesr_stream.specs.Parts.{unfinished}
 use Rattle.cesr_stream.specs.Written.{IsItem, IsWritable, MayStand, item_text}
 use Rattle.cesr_stream.specs.declared.item.Item.{Item}
 use Rattle.cesr_stream.proofs.WrittenItems.{written_more}
-use Rattle.event_payload.proofs.Written.{event_writable}
-use Rattle.journal.specs.declared.body.Body.{Body}
+use Rattle.journal_views.proofs.EventPayloadLemmas.Written.{event_writable}
+use Rattle.journal.specs.declared.journal.body.Body.{Body}
 use Rattle.watcher_core.specs.Evidence.{items_with, message_of, placed_from}
 
 -- each item may be written, and stand behind those before it, where a body is among these or not

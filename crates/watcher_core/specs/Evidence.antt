@@ -10,12 +10,12 @@ use Rattle.cesr_stream.specs.declared.group.Group.TheVariants.{Held}
 use Rattle.cesr_stream.specs.declared.item.Item.{Item}
 use Rattle.cesr_stream.specs.declared.item.Item.TheVariants.{Body as BodyItem, Group as GroupItem}
 use Rattle.key_state.specs.Same.{distinct}
-use Rattle.journal.specs.Conflicts.{IsConflictList}
-use Rattle.journal.specs.Questions.{state_before}
-use Rattle.journal.specs.Readiness.{good_sigs}
-use Rattle.journal.specs.Replies.{same_indexed}
-use Rattle.journal.specs.declared.body.Body.{Body}
-use Rattle.validator_core.specs.View.{CoreView, base_of, told_of, accepted_by}
+use Rattle.journal.specs.Journal.Conflicts.{IsConflictList}
+use Rattle.journal.specs.Journal.Questions.{state_before}
+use Rattle.journal.specs.Journal.Readiness.{good_sigs}
+use Rattle.journal.specs.Journal.Replies.{same_indexed}
+use Rattle.journal.specs.declared.journal.body.Body.{Body}
+use Rattle.validator_core.specs.ValidatorCore.View.{CoreView, base_of, told_of, accepted_by}
 
 -- the controller's signatures on a body that have a yes verdict, by the state that the body follows, each at its first coming
 abbrev pub signatures_of : CoreView → Body → List IndexedSig

@@ -4,10 +4,10 @@ use Rattle.cesr_codes.specs.declared.indexed_sig.IndexedSig.{IndexedSig}
 use Rattle.cesr_codes.specs.Indexed.{IsIndexed}
 use Rattle.cesr_stream.specs.Written.{item_text}
 use Rattle.key_state.specs.Same.{distinct}
-use Rattle.journal.specs.Replies.{same_indexed}
-use Rattle.journal.specs.declared.body.Body.{Body}
-use Rattle.validator_core.specs.View.{CoreView}
-use Rattle.validator_core.specs.Signatures.{good_on}
+use Rattle.journal.specs.Journal.Replies.{same_indexed}
+use Rattle.journal.specs.declared.journal.body.Body.{Body}
+use Rattle.validator_core.specs.ValidatorCore.View.{CoreView}
+use Rattle.validator_core.specs.ValidatorCore.Signatures.{good_on}
 use Rattle.watcher_core.specs.Evidence.{items_with}
 
 -- the good signatures that the core answers, each at its first coming

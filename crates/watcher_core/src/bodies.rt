@@ -1,12 +1,12 @@
 //! Bodies with the good signatures on them.
 ghost use Rattle.std.specs.Prelude.{OnOk, flat_map, slice_get};
-ghost use Rattle.journal.specs.Journals.{chosen};
+ghost use Rattle.journal.specs.Journal.Journals.{chosen};
 ghost use Rattle.watcher_core.specs.Named.{PutsBodies, PutsBody};
 
 use crate::messages::put_signed;
 use crate::signatures::first_comings;
-use event_payload::StreamText;
 use journal::Conflict;
+use journal_views::StreamText;
 use std::alloc::{AllocError, Global};
 use validator_core::Core;
 

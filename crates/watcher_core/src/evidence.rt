@@ -3,7 +3,7 @@ ghost use Rattle.std.specs.Prelude.{IfOk};
 ghost use Rattle.watcher_core.specs.Evidence.{IsEvidenceText, ReadsAsEvidence};
 
 use crate::bodies::put_sets;
-use event_payload::StreamText;
+use journal_views::StreamText;
 use std::alloc::{AllocError, Global};
 use validator_core::Core;
 

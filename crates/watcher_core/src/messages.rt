@@ -5,7 +5,7 @@ ghost use Rattle.watcher_core.specs.Evidence.{items_with, message_of, parts_of};
 
 use cesr_codes::IndexedSig;
 use cesr_stream::{Group, Item};
-use event_payload::StreamText;
+use journal_views::StreamText;
 use lists::Items;
 use std::alloc::{AllocError, Global};
 

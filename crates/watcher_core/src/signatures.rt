@@ -1,7 +1,7 @@
 //! Signatures, each once.
 ghost use Rattle.std.specs.Prelude.{◌≡◌, All, IfOk};
 ghost use Rattle.cesr_codes.specs.Indexed.{IsIndexed};
-ghost use Rattle.journal.specs.Replies.{same_indexed};
+ghost use Rattle.journal.specs.Journal.Replies.{same_indexed};
 ghost use Rattle.key_state.specs.Same.{distinct};
 
 use cesr_codes::IndexedSig;

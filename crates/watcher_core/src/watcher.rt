@@ -1,10 +1,10 @@
 //! The watcher.
 ghost use Rattle.std.specs.Prelude.{◌≡◌, IfOk, List};
-ghost use Rattle.journal.specs.Conflicts.{IsConflictList};
-ghost use Rattle.journal.specs.Journals.{NameConflicts};
-ghost use Rattle.journal.specs.declared.body.Body.{Body};
-ghost use Rattle.journal.specs.declared.mode.Mode.TheVariants.{Local};
-ghost use Rattle.validator_core.specs.View.{base_of, told_of};
+ghost use Rattle.journal.specs.Journal.Conflicts.{IsConflictList};
+ghost use Rattle.journal.specs.Journal.Journals.{NameConflicts};
+ghost use Rattle.journal.specs.declared.journal.body.Body.{Body};
+ghost use Rattle.journal.specs.declared.journal.mode.Mode.TheVariants.{Local};
+ghost use Rattle.validator_core.specs.ValidatorCore.View.{base_of, told_of};
 ghost use Rattle.watcher_core.specs.Writing.{FaultsHaveCause, WritesEvidence};
 
 use crate::evidence::evidence_of;
@@ -23,7 +23,7 @@ pub struct Watcher {
 }
 
 impl Model for Watcher {
-    ghost use Rattle.validator_core.specs.View.{CoreView};
+    ghost use Rattle.validator_core.specs.ValidatorCore.View.{CoreView};
     ghost use Rattle.json_tree.specs.contracts.tree.Tree as tree;
     ghost use Rattle.std.specs.Coded.{codes};
 
@@ -32,7 +32,7 @@ impl Model for Watcher {
     ghost coded = { Prim.hlevel (codes, tree.the_row.coded) };
 
     ghost use Rattle.std.specs.Prelude.{◌≡◌};
-    ghost use Rattle.journal.specs.declared.mode.Mode.TheVariants.{Local};
+    ghost use Rattle.journal.specs.declared.journal.mode.Mode.TheVariants.{Local};
 
     ghost view = { λ w. w.core };
 

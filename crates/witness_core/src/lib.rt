@@ -13,4 +13,6 @@ pub use witness_link::{Close, LinkEnd, Witnessing, asks_next, serve_link};
 pub use witness_opening::{NotOpened, Opened, OpeningFault, log_line, open_shelf};
 pub use witness_receipts::{Fate, Receipt, SigningFault, event_fate, receipts_of};
 pub use witness_role::{WitnessWords, witness};
-pub use witness_store::{Begun, Coming, Room, WitnessFault, ask_open, begin, breaks, count_signatures, lacks_room, store};
+pub use witness_store::{
+    Begun, Coming, Room, WitnessFault, ask_open, begin, breaks, count_signatures, lacks_room, store,
+};

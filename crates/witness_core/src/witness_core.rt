@@ -6,8 +6,8 @@ mod take;
 mod taken;
 mod witness;
 
+pub use crate::witness_receipts::{Fate, Receipt};
+pub use crate::witness_store::WitnessFault;
 pub use outcome::Outcome;
 pub use start_fault::StartFault;
 pub use witness::Witness;
-pub use witness_receipts::{Fate, Receipt};
-pub use witness_store::WitnessFault;

@@ -1,10 +1,10 @@
 -- Two cores that differ in their lists of accepted numbers alone have the same blames.
 use Rattle.std.proofs.Common.{ℕ, List}
 use Rattle.std.proofs.lemmas.List.Elements.{All-weaker}
-use Rattle.blame_core.specs.Blames.{AreBlames, IsBlame, IsListed}
-use Rattle.blame_core.specs.declared.blames.Blame.{Blame}
-use Rattle.journal.specs.declared.body.Body.{Body}
-use Rattle.validator_core.specs.View.{CoreView}
+use Rattle.blame_core.specs.BlameCore.Blames.{AreBlames, IsBlame, IsListed}
+use Rattle.blame_core.specs.declared.blame_core.blames.Blame.{Blame}
+use Rattle.journal.specs.declared.journal.body.Body.{Body}
+use Rattle.validator_core.specs.ValidatorCore.View.{CoreView}
 
 module _ (first second : CoreView) (ns ms : List ℕ) where
   -- the cores with other lists

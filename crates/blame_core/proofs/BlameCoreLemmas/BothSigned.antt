@@ -6,10 +6,10 @@ use Rattle.std.proofs.lemmas.List.Elements.{All-cons, All-nil}
 use Rattle.cesr_codes.specs.declared.key.Key.{Key}
 use Rattle.cesr_codes.specs.declared.sig.Sig.{Sig}
 use Rattle.key_state.specs.Same.{same_key, has_key, distinct}
-use Rattle.journal.proofs.Distinct.{distinct-push_new, distinct-push_old}
-use Rattle.blame_core.specs.Culprits.{culprit_of}
-use Rattle.blame_core.specs.declared.culprit.Culprit.{Culprit}
-use Rattle.blame_core.proofs.Lists.{filter_map_push}
+use Rattle.journal.proofs.JournalLemmas.Distinct.{distinct-push_new, distinct-push_old}
+use Rattle.blame_core.specs.BlameCore.Culprits.{culprit_of}
+use Rattle.blame_core.specs.declared.blame_core.culprit.Culprit.{Culprit}
+use Rattle.blame_core.proofs.BlameCoreLemmas.Lists.{filter_map_push}
 
 -- one more member of the list, at its first coming
 module _ (f : Key → Option Culprit) (seen : List Key) (key : Key) (known : Bool) (is : known ≡ has_key seen key)

@@ -2,16 +2,16 @@
 use Rattle.std.proofs.Common.{◌≡◌, ℕ, ◌+◌, ◌<◌, List, [], ◌∷◌, ◌++◌, length, take, get_or, Option, Some, None, refl, sym, ◌∙◌, ap, subst, append-nil}
 use Rattle.std.specs.Prelude.{option_map, option_to_list, slice_get}
 use Rattle.std.proofs.lemmas.List.{take_more}
-use Rattle.core_tables.specs.View.{body_of}
-use Rattle.event_body.specs.declared.event.Event.{Event}
-use Rattle.journal.specs.Grown.{IsGrown}
-use Rattle.journal.specs.Journals.{chosen}
-use Rattle.journal.specs.declared.body.Body.{Body}
-use Rattle.journal.proofs.Keeping.{accepted_grown}
-use Rattle.journal.proofs.Premises.{nothing_grown}
-use Rattle.blame_core.specs.Establishments.{IsFollowedBy}
-use Rattle.blame_core.proofs.Lists.{filter_map_parts, filter_map_push}
-use Rattle.validator_core.specs.View.{CoreView, accepted_by, told_of}
+use Rattle.core_tables.specs.CoreTables.View.{body_of}
+use Rattle.event_body.specs.declared.event_body.event.Event.{Event}
+use Rattle.journal.specs.Journal.Grown.{IsGrown}
+use Rattle.journal.specs.Journal.Journals.{chosen}
+use Rattle.journal.specs.declared.journal.body.Body.{Body}
+use Rattle.journal.proofs.JournalLemmas.Keeping.{accepted_grown}
+use Rattle.journal.proofs.JournalLemmas.Premises.{nothing_grown}
+use Rattle.blame_core.specs.BlameCore.Establishments.{IsFollowedBy}
+use Rattle.blame_core.proofs.BlameCoreLemmas.Lists.{filter_map_parts, filter_map_push}
+use Rattle.validator_core.specs.ValidatorCore.View.{CoreView, accepted_by, told_of}
 
 -- a body has the event that is given, or there is none
 pub with_event : (o : Option Body) (e : Event) → Some e ≡ option_map (λ b. b.event) o → (b : Body) × (o ≡ Some b) × (b.event ≡ e)

@@ -9,29 +9,29 @@ use Rattle.std.proofs.lemmas.Bool.Decides.{nat_tests}
 use Rattle.std.proofs.lemmas.Option.{slice_get_within}
 use Rattle.cesr_codes.specs.declared.key.Key.{Key}
 use Rattle.cesr_codes.specs.declared.sig.Sig.{Sig}
-use Rattle.core_tables.specs.Names.{name_of}
-use Rattle.core_tables.specs.Raised.{claims_at, claims_of}
-use Rattle.core_tables.specs.View.{number_of}
-use Rattle.core_tables.specs.declared.name.Name.{Name}
-use Rattle.core_tables.proofs.GatheredLists.{flat_map-numbers}
-use Rattle.core_tables.proofs.ToldClaims.{told_claims}
-use Rattle.event_body.specs.declared.event.Event.{Event}
-use Rattle.journal.specs.declared.body.Body.{Body}
-use Rattle.journal.specs.declared.claim.Claim.{Claim}
-use Rattle.journal.specs.declared.entry.Entry.{Entry}
-use Rattle.journal.specs.declared.entry.Entry.TheVariants.{Took, Heard}
-use Rattle.journal.specs.History.{Told, took, heard, bodies, claimed_sig, said_yes, taken}
-use Rattle.journal.specs.Journals.{told_by, whole}
-use Rattle.journal.specs.Logs.{same_body}
-use Rattle.journal.proofs.Different.{Differ, differ-distinct}
-use Rattle.journal.proofs.Places.{one_body}
-use Rattle.blame_laws.specs.Signatures.{came_on, triple_on}
-use Rattle.blame_core.specs.NamedEntries.{AreNamed}
-use Rattle.blame_core.specs.FirstSignatures.{is_signed}
-use Rattle.blame_core.specs.Signatures.{came_at, came_with, good_at, good_in}
-use Rattle.blame_core.proofs.EntrySignatures.{good_all}
-use Rattle.blame_core.proofs.Lists.{map_flat}
-use Rattle.validator_core.specs.View.{CoreView, Stands, told_of}
+use Rattle.core_tables.specs.CoreTables.Names.{name_of}
+use Rattle.core_tables.specs.CoreTables.Raised.{claims_at, claims_of}
+use Rattle.core_tables.specs.CoreTables.View.{number_of}
+use Rattle.core_tables.specs.declared.core_tables.name.Name.{Name}
+use Rattle.core_tables.proofs.CoreTablesLemmas.GatheredLists.{flat_map-numbers}
+use Rattle.core_tables.proofs.CoreTablesLemmas.ToldClaims.{told_claims}
+use Rattle.event_body.specs.declared.event_body.event.Event.{Event}
+use Rattle.journal.specs.declared.journal.body.Body.{Body}
+use Rattle.journal.specs.declared.journal.claim.Claim.{Claim}
+use Rattle.journal.specs.declared.journal.entry.Entry.{Entry}
+use Rattle.journal.specs.declared.journal.entry.Entry.TheVariants.{Took, Heard}
+use Rattle.journal.specs.Journal.History.{Told, took, heard, bodies, claimed_sig, said_yes, taken}
+use Rattle.journal.specs.Journal.Journals.{told_by, whole}
+use Rattle.journal.specs.Journal.Logs.{same_body}
+use Rattle.journal.proofs.JournalLemmas.Different.{Differ, differ-distinct}
+use Rattle.journal.proofs.JournalLemmas.Places.{one_body}
+use Rattle.blame_core.specs.BlameLaws.Signatures.{came_on, triple_on}
+use Rattle.blame_core.specs.BlameCore.NamedEntries.{AreNamed}
+use Rattle.blame_core.specs.BlameCore.FirstSignatures.{is_signed}
+use Rattle.blame_core.specs.BlameCore.Signatures.{came_at, came_with, good_at, good_in}
+use Rattle.blame_core.proofs.BlameCoreLemmas.EntrySignatures.{good_all}
+use Rattle.blame_core.proofs.BlameCoreLemmas.Lists.{map_flat}
+use Rattle.validator_core.specs.ValidatorCore.View.{CoreView, Stands, told_of}
 
 -- no entries yet
 pub named_none : (held : List Body) (entries : List Entry) (at : Name → List ℕ) → AreNamed held entries 0 at

@@ -7,19 +7,19 @@ use Rattle.std.proofs.lemmas.Bool.{cases_Bool}
 use Rattle.std.proofs.lemmas.List.Folds.{list_any-append}
 use Rattle.cesr_codes.specs.declared.key.Key.{Key}
 use Rattle.cesr_codes.specs.declared.sig.Sig.{Sig}
-use Rattle.journal.specs.declared.body.Body.{Body}
-use Rattle.journal.specs.declared.claim.Claim.{Claim}
-use Rattle.journal.specs.declared.entry.Entry.{Entry}
-use Rattle.journal.specs.declared.entry.Entry.TheVariants.{Took}
-use Rattle.journal.specs.History.{Told, took, heard, claimed_sig, said_yes, same_triple, yes_in}
-use Rattle.journal.specs.Journals.{told_by, whole}
-use Rattle.journal.proofs.Locality.{bytes_differ}
-use Rattle.blame_laws.specs.Signatures.{came_on, signature_of, triple_on}
-use Rattle.blame_core.specs.FirstSignatures.{at_place, is_signed}
-use Rattle.blame_core.specs.Signatures.{came_with, good_in, stands_on}
-use Rattle.blame_core.specs.declared.signed.Signed.{Signed}
-use Rattle.blame_core.proofs.FirstPlaces.{at_position}
-use Rattle.blame_core.proofs.Lists.{flat_found}
+use Rattle.journal.specs.declared.journal.body.Body.{Body}
+use Rattle.journal.specs.declared.journal.claim.Claim.{Claim}
+use Rattle.journal.specs.declared.journal.entry.Entry.{Entry}
+use Rattle.journal.specs.declared.journal.entry.Entry.TheVariants.{Took}
+use Rattle.journal.specs.Journal.History.{Told, took, heard, claimed_sig, said_yes, same_triple, yes_in}
+use Rattle.journal.specs.Journal.Journals.{told_by, whole}
+use Rattle.journal.proofs.JournalLemmas.Locality.{bytes_differ}
+use Rattle.blame_core.specs.BlameLaws.Signatures.{came_on, signature_of, triple_on}
+use Rattle.blame_core.specs.BlameCore.FirstSignatures.{at_place, is_signed}
+use Rattle.blame_core.specs.BlameCore.Signatures.{came_with, good_in, stands_on}
+use Rattle.blame_core.specs.declared.blame_core.signed.Signed.{Signed}
+use Rattle.blame_core.proofs.BlameCoreLemmas.FirstPlaces.{at_position}
+use Rattle.blame_core.proofs.BlameCoreLemmas.Lists.{flat_found}
 
 -- none stand on a body of another
 none_with : (b : Body) (o : Option Body) (reader : ℕ) (claims : List Claim) → stands_on b o ≡ false

@@ -4,7 +4,7 @@ use Rattle.std.specs.Prelude.{find, nat_le, nat_lt, position, if◌then◌else�
 use Rattle.std.specs.List.{position_or_len}
 use Rattle.std.proofs.lemmas.Bool.{cases_Bool}
 use Rattle.std.proofs.lemmas.Bool.Decides.{nat_tests}
-use Rattle.blame_core.specs.FirstSignatures.{at_place, earlier}
+use Rattle.blame_core.specs.BlameCore.FirstSignatures.{at_place, earlier}
 
 -- one place further on
 abbrev next : Option ℕ → Option ℕ

@@ -14,10 +14,10 @@ use Rattle.cesr_codes.specs.declared.key.Key.{Key}
 use Rattle.cesr_codes.specs.declared.sig.Sig.{Sig}
 use Rattle.key_state.specs.Same.{has_key, same_key, same_sig}
 use Rattle.key_state.proofs.Same.{same_key_is, same_key_itself}
-use Rattle.blame_core.specs.Culprits.{HasKeys}
-use Rattle.blame_core.specs.FirstSignatures.{earlier, is_signed, key_cmp, sig_cmp}
-use Rattle.blame_core.specs.declared.signed.Signed.{Signed}
-use Rattle.blame_core.proofs.FirstPlaces.{position_either, position_never, position_push}
+use Rattle.blame_core.specs.BlameCore.Culprits.{HasKeys}
+use Rattle.blame_core.specs.BlameCore.FirstSignatures.{earlier, is_signed, key_cmp, sig_cmp}
+use Rattle.blame_core.specs.declared.blame_core.signed.Signed.{Signed}
+use Rattle.blame_core.proofs.BlameCoreLemmas.FirstPlaces.{position_either, position_never, position_push}
 
 -- the orders find the same keys and signatures
 keys_alike : (k l : Key) → (key_test.ghosts).eq k l ≡ same_key k l

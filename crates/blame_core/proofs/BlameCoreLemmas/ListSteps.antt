@@ -2,19 +2,19 @@
 use Rattle.std.proofs.Common.{◌≡◌, true, false, List, [], ◌∷◌, ◌++◌, Option, Some, None, refl, ◌∙◌, ap}
 use Rattle.std.proofs.lemmas.Bool.{or_parts}
 use Rattle.cesr_codes.specs.declared.key.Key.{Key}
-use Rattle.event_body.specs.declared.event.Event.{Event}
-use Rattle.event_body.specs.declared.event.Event.TheVariants.{Icp, Rot, Ixn, Dip, Drt, Rct}
-use Rattle.event_body.specs.Events.{prefix_of, is_establishment, is_receipt}
+use Rattle.event_body.specs.declared.event_body.event.Event.{Event}
+use Rattle.event_body.specs.declared.event_body.event.Event.TheVariants.{Icp, Rot, Ixn, Dip, Drt, Rct}
+use Rattle.event_body.specs.EventBody.Events.{prefix_of, is_establishment, is_receipt}
 use Rattle.key_state.specs.Exposure.{own_rules, rules_of}
 use Rattle.key_state.specs.KeyStates.{misfit}
 use Rattle.key_state.specs.States.{State}
-use Rattle.journal.specs.declared.body.Body.{Body}
-use Rattle.journal.specs.Logs.{before, is_in, same_body, state, stepped, takes}
-use Rattle.journal.proofs.Accepting.{same_body-refl}
+use Rattle.journal.specs.declared.journal.body.Body.{Body}
+use Rattle.journal.specs.Journal.Logs.{before, is_in, same_body, state, stepped, takes}
+use Rattle.journal.proofs.JournalLemmas.Accepting.{same_body-refl}
 use Rattle.quorum_laws.specs.Backing.{rules_in}
-use Rattle.blame_core.specs.Establishments.{IsFollowedBy}
-use Rattle.blame_core.specs.OwnLists.{list_after}
-use Rattle.blame_laws.proofs.Journals.{fit_parts}
+use Rattle.blame_core.specs.BlameCore.Establishments.{IsFollowedBy}
+use Rattle.blame_core.specs.BlameCore.OwnLists.{list_after}
+use Rattle.blame_core.proofs.BlameLawsLemmas.Journals.{fit_parts}
 
 -- an event that a state takes leaves this list
 pub list_taken : (o : Option State) (e : Event) → is_receipt e ≡ false → takes o e ≡ true

@@ -11,37 +11,37 @@ use Rattle.std.proofs.lemmas.Bool.{cases_Bool}
 use Rattle.std.proofs.lemmas.List.Elements.{All-cons, All-nil, All-weaker}
 use Rattle.std.proofs.lemmas.Option.{get_or_from_slice_get, slice_get_within}
 use Rattle.cesr_codes.specs.Spelling.{IsPrefix, prefix_text}
-use Rattle.event_body.specs.Events.{prefix_of, is_establishment}
-use Rattle.event_body.specs.Judging.{SpellsEvent}
+use Rattle.event_body.specs.EventBody.Events.{prefix_of, is_establishment}
+use Rattle.event_body.specs.EventBody.Judging.{SpellsEvent}
 use Rattle.key_state.specs.Same.{distinct, has_key, same_key}
-use Rattle.acceptance.specs.Standing.{IsHeld}
-use Rattle.journal.specs.Accepted.{accepted}
-use Rattle.journal.specs.Grown.{IsGrown}
-use Rattle.journal.specs.History.{bodies}
-use Rattle.journal.specs.Questions.{IsRegular}
-use Rattle.journal.specs.Readiness.{backs}
-use Rattle.journal.specs.declared.body.Body.{Body}
-use Rattle.journal.specs.declared.mode.Mode.TheVariants.{Full}
-use Rattle.journal.proofs.Keeping.{accepted_grown}
-use Rattle.journal.proofs.Premises.{nothing_grown}
+use Rattle.validator_core.specs.Acceptance.Standing.{IsHeld}
+use Rattle.journal.specs.Journal.Accepted.{accepted}
+use Rattle.journal.specs.Journal.Grown.{IsGrown}
+use Rattle.journal.specs.Journal.History.{bodies}
+use Rattle.journal.specs.Journal.Questions.{IsRegular}
+use Rattle.journal.specs.Journal.Readiness.{backs}
+use Rattle.journal.specs.declared.journal.body.Body.{Body}
+use Rattle.journal.specs.declared.journal.mode.Mode.TheVariants.{Full}
+use Rattle.journal.proofs.JournalLemmas.Keeping.{accepted_grown}
+use Rattle.journal.proofs.JournalLemmas.Premises.{nothing_grown}
 use Rattle.quorum_laws.specs.Backing.{AreSpelled, rules_in}
 use Rattle.quorum_laws.specs.Histories.{AreLevel}
-use Rattle.blame_laws.specs.Blame.{culprits}
-use Rattle.blame_laws.specs.Signatures.{signature_of}
+use Rattle.blame_core.specs.BlameLaws.Blame.{culprits}
+use Rattle.blame_core.specs.BlameLaws.Signatures.{signature_of}
 use Rattle.key_state.proofs.Among.{Among, contained, map_among}
-use Rattle.blame_laws.proofs.Blame.{blame}
-use Rattle.blame_laws.proofs.Claimed.{claimed}
-use Rattle.blame_laws.proofs.Rising.{one_establishment}
-use Rattle.blame_core.specs.Blames.{AreBlames, AreNamed, AreRivals, IsBlame, IsListed, blame_cmp}
-use Rattle.blame_core.specs.Establishments.{AreEstablishments, IsAt, event_at, place_cmp, place_of}
-use Rattle.blame_core.specs.Rivals.{AnswersOf, IsAnswer, Judges, alone, beside}
-use Rattle.blame_core.specs.declared.establishments.Establishment.{Establishment}
-use Rattle.blame_core.specs.declared.blames.Blame.{Blame}
-use Rattle.blame_core.specs.declared.place.Place.{Place}
-use Rattle.blame_core.proofs.BothSigned.{named_keys, named_ones, named_others}
-use Rattle.blame_core.proofs.Judged.{AllJudged, given, judged_so, judgement_of}
-use Rattle.blame_core.proofs.Places.{looked_up, one_place, place_itself, place_same}
-use Rattle.validator_core.specs.View.{CoreView, Stands, accepted_by, told_of}
+use Rattle.blame_core.proofs.BlameLawsLemmas.Blame.{blame}
+use Rattle.blame_core.proofs.BlameLawsLemmas.Claimed.{claimed}
+use Rattle.blame_core.proofs.BlameLawsLemmas.Rising.{one_establishment}
+use Rattle.blame_core.specs.BlameCore.Blames.{AreBlames, AreNamed, AreRivals, IsBlame, IsListed, blame_cmp}
+use Rattle.blame_core.specs.BlameCore.Establishments.{AreEstablishments, IsAt, event_at, place_cmp, place_of}
+use Rattle.blame_core.specs.BlameCore.Rivals.{AnswersOf, IsAnswer, Judges, alone, beside}
+use Rattle.blame_core.specs.declared.blame_core.establishments.Establishment.{Establishment}
+use Rattle.blame_core.specs.declared.blame_core.blames.Blame.{Blame}
+use Rattle.blame_core.specs.declared.blame_core.place.Place.{Place}
+use Rattle.blame_core.proofs.BlameCoreLemmas.BothSigned.{named_keys, named_ones, named_others}
+use Rattle.blame_core.proofs.BlameCoreLemmas.Judged.{AllJudged, given, judged_so, judgement_of}
+use Rattle.blame_core.proofs.BlameCoreLemmas.Places.{looked_up, one_place, place_itself, place_same}
+use Rattle.validator_core.specs.ValidatorCore.View.{CoreView, Stands, accepted_by, told_of}
 
 all_by : {X : Type 0} (P : X → Type 0) (xs : List X) (x : X) → AllByRecursion P xs → Among x xs → P x
 all_by P [] x all m = absurd m

@@ -12,12 +12,12 @@ use Rattle.std.proofs.lemmas.Bool.Decides.{nat_tests}
 use Rattle.cesr_codes.specs.Spelling.{IsPrefix, prefix_text}
 use Rattle.cesr_codes.specs.declared.prefix.Prefix.{Prefix}
 use Rattle.cesr_codes.proofs.Same as texts
-use Rattle.event_body.specs.declared.event.Event.{Event}
-use Rattle.event_body.specs.Events.{prefix_of, sn_of}
+use Rattle.event_body.specs.declared.event_body.event.Event.{Event}
+use Rattle.event_body.specs.EventBody.Events.{prefix_of, sn_of}
 use Rattle.key_state.specs.Same.{same_prefix}
 use Rattle.key_state.proofs.Same.{same_prefix_is, same_prefix_itself}
-use Rattle.blame_core.specs.Establishments.{place_cmp, place_of}
-use Rattle.blame_core.specs.declared.place.Place.{Place}
+use Rattle.blame_core.specs.BlameCore.Establishments.{place_cmp, place_of}
+use Rattle.blame_core.specs.declared.blame_core.place.Place.{Place}
 use Rattle.key_state.proofs.Among.{Among}
 
 -- the text finds a text

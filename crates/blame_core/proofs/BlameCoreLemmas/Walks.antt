@@ -9,21 +9,21 @@ use Rattle.std.proofs.lemmas.Bool.{cases_Bool, cond-false, cond-true}
 use Rattle.cesr_codes.specs.Spelling.{IsPrefix, prefix_text}
 use Rattle.cesr_codes.specs.declared.key.Key.{Key}
 use Rattle.cesr_codes.specs.declared.prefix.Prefix.{Prefix}
-use Rattle.event_body.specs.Events.{prefix_of, is_establishment}
+use Rattle.event_body.specs.EventBody.Events.{prefix_of, is_establishment}
 use Rattle.key_state.specs.Exposure.{rules_of}
 use Rattle.key_state.specs.Same.{same_prefix}
 use Rattle.key_state.proofs.Same.{same_prefix_is}
-use Rattle.journal.specs.declared.body.Body.{Body}
-use Rattle.journal.specs.Logs.{state, stepped}
-use Rattle.journal.proofs.StateSteps.{state-own, state-other}
-use Rattle.blame_core.specs.Establishments.{HasPlace, IsAt, IsFollowedBy, IsWalked, event_at, list_at, place_cmp, place_of}
-use Rattle.blame_core.specs.OwnLists.{list_after, list_of}
-use Rattle.blame_core.specs.declared.establishments.Establishment.{Establishment}
-use Rattle.blame_core.specs.declared.place.Place.{Place}
-use Rattle.blame_core.proofs.ListSteps.{list_kept, list_taken, own_next}
-use Rattle.blame_core.proofs.Places.{place_itself, place_same, prefix_at}
+use Rattle.journal.specs.declared.journal.body.Body.{Body}
+use Rattle.journal.specs.Journal.Logs.{state, stepped}
+use Rattle.journal.proofs.JournalLemmas.StateSteps.{state-own, state-other}
+use Rattle.blame_core.specs.BlameCore.Establishments.{HasPlace, IsAt, IsFollowedBy, IsWalked, event_at, list_at, place_cmp, place_of}
+use Rattle.blame_core.specs.BlameCore.OwnLists.{list_after, list_of}
+use Rattle.blame_core.specs.declared.blame_core.establishments.Establishment.{Establishment}
+use Rattle.blame_core.specs.declared.blame_core.place.Place.{Place}
+use Rattle.blame_core.proofs.BlameCoreLemmas.ListSteps.{list_kept, list_taken, own_next}
+use Rattle.blame_core.proofs.BlameCoreLemmas.Places.{place_itself, place_same, prefix_at}
 use Rattle.key_state.proofs.Among.{Among, among, among_either, contained}
-use Rattle.blame_laws.proofs.Journals.{fit_parts}
+use Rattle.blame_core.proofs.BlameLawsLemmas.Journals.{fit_parts}
 
 -- nothing is walked over yet
 pub walk_none : (held log : List Body) (lists : List (List ℕ × List Key)) (entries : List (Place × Establishment)) → lists ≡ [] → entries ≡ []

@@ -7,15 +7,15 @@ use Rattle.std.proofs.lemmas.Bool.{cases_Bool, and_parts, and_from, or_cases, no
 use Rattle.std.proofs.lemmas.List.Elements.{All-nil}
 use Rattle.std.proofs.lemmas.List.Sums.{length-filter}
 use Rattle.cesr_codes.specs.declared.key.Key.{Key}
-use Rattle.event_body.specs.Events.{is_establishment}
-use Rattle.event_body.specs.Judging.{SpellsEvent}
+use Rattle.event_body.specs.EventBody.Events.{is_establishment}
+use Rattle.event_body.specs.EventBody.Judging.{SpellsEvent}
 use Rattle.key_state.specs.Same.{same_key, has_key, distinct}
 use Rattle.key_state.proofs.Same.{same_key_is, same_key_itself}
-use Rattle.journal.specs.declared.body.Body.{Body}
-use Rattle.journal.specs.declared.mode.Mode.TheVariants.{Full}
-use Rattle.journal.specs.Accepted.{accepted}
-use Rattle.journal.specs.History.{Told, Triple, bodies, yes_in}
-use Rattle.journal.specs.Readiness.{backers, backs}
+use Rattle.journal.specs.declared.journal.body.Body.{Body}
+use Rattle.journal.specs.declared.journal.mode.Mode.TheVariants.{Full}
+use Rattle.journal.specs.Journal.Accepted.{accepted}
+use Rattle.journal.specs.Journal.History.{Told, Triple, bodies, yes_in}
+use Rattle.journal.specs.Journal.Readiness.{backers, backs}
 use Rattle.quorum_laws.specs.Agreement.{union}
 use Rattle.quorum_laws.specs.Backing.{AreSpelled, IsHonest, rules_in, vouches}
 use Rattle.quorum_laws.specs.Histories.{Signing, did_sign}
@@ -23,7 +23,7 @@ use Rattle.quorum_laws.proofs.Agreeing.{spelled_at}
 use Rattle.quorum_laws.proofs.Backers.{accepted_is_backed}
 use Rattle.quorum_laws.proofs.Counting.{number, count_by-number, number-le, number-left, number-distinct_left, number-distinct_right}
 use Rattle.quorum_laws.proofs.Inside.{accepted_inside}
-use Rattle.blame_laws.specs.Blame.{BlameLaw, culprits}
+use Rattle.blame_core.specs.BlameLaws.Blame.{BlameLaw, culprits}
 use Rattle.key_state.proofs.Among.{Among, among, among_distinct, among_left_by, contained, distinct_among, left_among, passed, passing}
 
 abbrev one_if : Bool → ℕ

@@ -3,17 +3,17 @@ use Rattle.std.proofs.Common.{◌≡◌, true, false, List, [], Option, Some, No
 use Rattle.std.proofs.lemmas.Bool.{cases_Bool}
 use Rattle.cesr_codes.specs.declared.key.Key.{Key}
 use Rattle.cesr_codes.specs.declared.sig.Sig.{Sig}
-use Rattle.journal.specs.declared.body.Body.{Body}
-use Rattle.journal.specs.declared.mode.Mode.{Mode}
-use Rattle.journal.specs.History.{Told, bodies, claimed_sig, claims_on, said_yes}
-use Rattle.journal.specs.Questions.{IsRegular}
-use Rattle.journal.specs.Readiness.{backs}
-use Rattle.journal.proofs.Settling.{find-true}
+use Rattle.journal.specs.declared.journal.body.Body.{Body}
+use Rattle.journal.specs.declared.journal.mode.Mode.{Mode}
+use Rattle.journal.specs.Journal.History.{Told, bodies, claimed_sig, claims_on, said_yes}
+use Rattle.journal.specs.Journal.Questions.{IsRegular}
+use Rattle.journal.specs.Journal.Readiness.{backs}
+use Rattle.journal.proofs.JournalLemmas.Settling.{find-true}
 use Rattle.quorum_laws.proofs.Members.{find_some}
-use Rattle.blame_laws.specs.Signatures.{ClaimedLaw, came_on, signature_of, triple_on}
+use Rattle.blame_core.specs.BlameLaws.Signatures.{ClaimedLaw, came_on, signature_of, triple_on}
 use Rattle.key_state.proofs.Among.{Among, among, among_map, passed}
-use Rattle.blame_laws.proofs.Journals.{bodies_differ, bodies_more, claims_more, same_bytes}
-use Rattle.journal_laws.proofs.Verdicts.{backs_by, by_backs, was_raised}
+use Rattle.blame_core.proofs.BlameLawsLemmas.Journals.{bodies_differ, bodies_more, claims_more, same_bytes}
+use Rattle.journal_views.proofs.JournalLawsLemmas.Verdicts.{backs_by, by_backs, was_raised}
 
 -- of a key that backs a body a signature came with it
 came : (mode : Mode) (told : List Told) (b : Body) (key : Key) → IsRegular mode [] told → Among b (bodies [] told) → backs told b key ≡ true

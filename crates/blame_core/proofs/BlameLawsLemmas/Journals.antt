@@ -5,14 +5,14 @@ use Rattle.std.specs.List.{list_all}
 use Rattle.std.specs.Cmp.Lexicographic.{bytes_decides}
 use Rattle.std.proofs.lemmas.Bool.{and_parts, not-true}
 use Rattle.std.proofs.lemmas.List.Concat.{flat_map-append}
-use Rattle.event_body.specs.Events.{prefix_of, is_receipt}
+use Rattle.event_body.specs.EventBody.Events.{prefix_of, is_receipt}
 use Rattle.key_state.specs.Same.{distinct}
-use Rattle.journal.specs.declared.body.Body.{Body}
-use Rattle.journal.specs.declared.claim.Claim.{Claim}
-use Rattle.journal.specs.Grown.{fits}
-use Rattle.journal.specs.History.{Told, bodies, claims_in, claims_on, taken}
-use Rattle.journal.specs.Logs.{is_in, same_body, state, takes}
-use Rattle.journal.proofs.Different.{Differ, differ-distinct}
+use Rattle.journal.specs.declared.journal.body.Body.{Body}
+use Rattle.journal.specs.declared.journal.claim.Claim.{Claim}
+use Rattle.journal.specs.Journal.Grown.{fits}
+use Rattle.journal.specs.Journal.History.{Told, bodies, claims_in, claims_on, taken}
+use Rattle.journal.specs.Journal.Logs.{is_in, same_body, state, takes}
+use Rattle.journal.proofs.JournalLemmas.Different.{Differ, differ-distinct}
 use Rattle.key_state.proofs.Among.{Among, among_left, among_left_by, left_among}
 
 -- what all pass each member passes

@@ -2,22 +2,22 @@
 use Rattle.std.proofs.Common.{◌≡◌, ℕ, ◌+◌, ◌<◌, ◌≤◌, true, List, [], ◌∷◌, ◌++◌, Option, Some, None, is_none, sym, ◌∙◌, ap, subst, arith, inl, inr, append-nil, append_assoc}
 use Rattle.std.proofs.lemmas.Bool.{cases_Bool, or_parts, not-false, leb-false, eqb-true}
 use Rattle.cesr_codes.specs.declared.prefix.Prefix.{Prefix}
-use Rattle.event_body.specs.declared.event.Event.{Event}
-use Rattle.event_body.specs.declared.event.Event.TheVariants.{Icp, Rot, Ixn, Dip, Drt, Rct}
-use Rattle.event_body.specs.Events.{prefix_of, sn_of, is_establishment}
+use Rattle.event_body.specs.declared.event_body.event.Event.{Event}
+use Rattle.event_body.specs.declared.event_body.event.Event.TheVariants.{Icp, Rot, Ixn, Dip, Drt, Rct}
+use Rattle.event_body.specs.EventBody.Events.{prefix_of, sn_of, is_establishment}
 use Rattle.key_state.specs.Heads.{head_sn}
 use Rattle.key_state.specs.KeyStates.{misfit, moved}
 use Rattle.key_state.specs.States.{State}
 use Rattle.key_state.proofs.NoMisfit.{fits_sn}
 use Rattle.key_state.proofs.Same.{same_prefix_itself}
-use Rattle.journal.specs.declared.body.Body.{Body}
-use Rattle.journal.specs.Grown.{IsGrown}
-use Rattle.journal.specs.Logs.{is_of, state, stepped, takes}
-use Rattle.journal.proofs.StateSteps.{state-own, state-other}
+use Rattle.journal.specs.declared.journal.body.Body.{Body}
+use Rattle.journal.specs.Journal.Grown.{IsGrown}
+use Rattle.journal.specs.Journal.Logs.{is_of, state, stepped, takes}
+use Rattle.journal.proofs.JournalLemmas.StateSteps.{state-own, state-other}
 use Rattle.quorum_laws.specs.Histories.{AreLevel}
-use Rattle.blame_laws.specs.Blame.{OneEstablishmentLaw}
+use Rattle.blame_core.specs.BlameLaws.Blame.{OneEstablishmentLaw}
 use Rattle.key_state.proofs.Among.{Among, among, among_either, parted}
-use Rattle.blame_laws.proofs.Journals.{fit_parts, none_is}
+use Rattle.blame_core.proofs.BlameLawsLemmas.Journals.{fit_parts, none_is}
 
 -- the state is there, and its last establishment event has this number or a later one
 abbrev IsFrom : ℕ → Option State → Type 0

@@ -6,15 +6,15 @@ use Rattle.std.specs.Ordering.{nat_cmp, ordering_then}
 use Rattle.std.specs.Cmp.Lexicographic.{slice_cmp}
 use Rattle.std.specs.List.Sorted.{IsStrictlySortedBy}
 use Rattle.cesr_codes.specs.Spelling.{prefix_text}
-use Rattle.event_body.specs.Events.{prefix_of, sn_of}
-use Rattle.journal.specs.declared.body.Body.{Body}
-use Rattle.journal.specs.History.{Told}
+use Rattle.event_body.specs.EventBody.Events.{prefix_of, sn_of}
+use Rattle.journal.specs.declared.journal.body.Body.{Body}
+use Rattle.journal.specs.Journal.History.{Told}
 use Rattle.quorum_laws.specs.Histories.{AreLevel}
-use Rattle.blame_laws.specs.Blame.{AreBlamed, culprits}
-use Rattle.blame_laws.specs.Signatures.{signature_of}
-use Rattle.blame_core.specs.declared.culprit.Culprit.{Culprit}
-use Rattle.blame_core.specs.declared.blames.Blame.{Blame}
-use Rattle.validator_core.specs.View.{CoreView, accepted_by, told_of}
+use Rattle.blame_core.specs.BlameLaws.Blame.{AreBlamed, culprits}
+use Rattle.blame_core.specs.BlameLaws.Signatures.{signature_of}
+use Rattle.blame_core.specs.declared.blame_core.culprit.Culprit.{Culprit}
+use Rattle.blame_core.specs.declared.blame_core.blames.Blame.{Blame}
+use Rattle.validator_core.specs.ValidatorCore.View.{CoreView, accepted_by, told_of}
 
 -- two establishment events of one identifier and number, each accepted in its own log, that differ
 pub record AreRivals (log other : List Body) (b c : Body) : Type 0 where

@@ -4,8 +4,8 @@ use Rattle.std.specs.BTreeSet.{BTreeSet, contains}
 use Rattle.cesr_codes.specs.declared.key.Key.{Key}
 use Rattle.cesr_codes.specs.declared.sig.Sig.{Sig}
 use Rattle.key_state.specs.Same.{has_key}
-use Rattle.blame_core.specs.FirstSignatures.{key_cmp}
-use Rattle.blame_core.specs.declared.culprit.Culprit.{Culprit}
+use Rattle.blame_core.specs.BlameCore.FirstSignatures.{key_cmp}
+use Rattle.blame_core.specs.declared.blame_core.culprit.Culprit.{Culprit}
 
 -- the key with both signatures, where both are there
 abbrev pub with_both : Key → Option Sig → Option Sig → Option Culprit

@@ -8,16 +8,16 @@ use Rattle.std.specs.Map.{lookup}
 use Rattle.cesr_codes.specs.Spelling.{IsPrefix, prefix_text}
 use Rattle.cesr_codes.specs.declared.key.Key.{Key}
 use Rattle.cesr_codes.specs.declared.prefix.Prefix.{Prefix}
-use Rattle.event_body.specs.declared.event.Event.{Event}
-use Rattle.event_body.specs.Events.{prefix_of, sn_of, is_establishment}
+use Rattle.event_body.specs.declared.event_body.event.Event.{Event}
+use Rattle.event_body.specs.EventBody.Events.{prefix_of, sn_of, is_establishment}
 use Rattle.key_state.specs.Exposure.{rules_of}
-use Rattle.journal.specs.declared.body.Body.{Body}
-use Rattle.journal.specs.Grown.{IsGrown}
-use Rattle.journal.specs.Logs.{state}
+use Rattle.journal.specs.declared.journal.body.Body.{Body}
+use Rattle.journal.specs.Journal.Grown.{IsGrown}
+use Rattle.journal.specs.Journal.Logs.{state}
 use Rattle.quorum_laws.specs.Backing.{rules_in}
-use Rattle.blame_core.specs.OwnLists.{list_of}
-use Rattle.blame_core.specs.declared.establishments.Establishment.{Establishment}
-use Rattle.blame_core.specs.declared.place.Place.{Place}
+use Rattle.blame_core.specs.BlameCore.OwnLists.{list_of}
+use Rattle.blame_core.specs.declared.blame_core.establishments.Establishment.{Establishment}
+use Rattle.blame_core.specs.declared.blame_core.place.Place.{Place}
 
 -- the text of an event's prefix, and its number
 abbrev pub place_of : Event → Place

@@ -7,7 +7,7 @@ use Rattle.cesr_codes.specs.contracts.sig.SigOrd.TheImpl as sig_order
 use Rattle.cesr_codes.specs.declared.key.Key.{Key}
 use Rattle.cesr_codes.specs.declared.sig.Sig.{Sig}
 use Rattle.key_state.specs.Same.{same_key, same_sig}
-use Rattle.blame_core.specs.declared.signed.Signed.{Signed}
+use Rattle.blame_core.specs.declared.blame_core.signed.Signed.{Signed}
 use denote.Param as param
 
 -- the orders of keys and of signatures

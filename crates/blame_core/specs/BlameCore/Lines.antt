@@ -3,11 +3,11 @@ use Rattle.std.specs.Prelude.{ℕ, List, [], ◌∷◌, ◌++◌, flat_map, code
 use Rattle.cesr_codes.specs.Spelling.{digest_text, key_text, prefix_text, sig_text}
 use Rattle.cesr_codes.specs.declared.digest.Digest.{Digest}
 use Rattle.cesr_codes.specs.declared.prefix.Prefix.{Prefix}
-use Rattle.event_body.specs.Events.{said_of}
-use Rattle.journal.specs.declared.body.Body.{Body}
+use Rattle.event_body.specs.EventBody.Events.{said_of}
+use Rattle.journal.specs.declared.journal.body.Body.{Body}
 use Rattle.report_lines.specs.Lines.{line, number}
-use Rattle.blame_core.specs.declared.culprit.Culprit.{Culprit}
-use Rattle.blame_core.specs.declared.blames.Blame.{Blame}
+use Rattle.blame_core.specs.declared.blame_core.culprit.Culprit.{Culprit}
+use Rattle.blame_core.specs.declared.blame_core.blames.Blame.{Blame}
 
 -- `blame`, the prefix, the number, and the digests of both events
 abbrev pub pair_text : Prefix → ℕ → Digest → Digest → List ℕ

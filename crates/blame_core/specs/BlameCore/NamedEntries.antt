@@ -2,15 +2,15 @@
 use Rattle.std.specs.Prelude.{◌≡◌, ℕ, ◌<◌, List, length, slice_get, Some, Contains}
 use Rattle.std.specs.declared.cmp.Ordering.{Ordering}
 use Rattle.std.specs.declared.cmp.Ord as ord
-use Rattle.core_tables.specs.Names.{name_of}
-use Rattle.core_tables.specs.View.{number_of}
-use Rattle.core_tables.specs.declared.name.Name.{Name}
-use Rattle.core_tables.specs.contracts.name.NameOrd.TheImpl as name_order
-use Rattle.event_index.specs.Keys.{numbers_at}
-use Rattle.event_index.specs.declared.index.Index.{Index}
-use Rattle.journal.specs.declared.body.Body.{Body}
-use Rattle.journal.specs.declared.entry.Entry.{Entry}
-use Rattle.validator_core.specs.View.{CoreView}
+use Rattle.core_tables.specs.CoreTables.Names.{name_of}
+use Rattle.core_tables.specs.CoreTables.View.{number_of}
+use Rattle.core_tables.specs.declared.core_tables.name.Name.{Name}
+use Rattle.core_tables.specs.contracts.core_tables.name.NameOrd.TheImpl as name_order
+use Rattle.escrow.specs.EventIndex.Keys.{numbers_at}
+use Rattle.escrow.specs.declared.event_index.index.Index.{Index}
+use Rattle.journal.specs.declared.journal.body.Body.{Body}
+use Rattle.journal.specs.declared.journal.entry.Entry.{Entry}
+use Rattle.validator_core.specs.ValidatorCore.View.{CoreView}
 use denote.Param as param
 
 -- the order of names

@@ -1,8 +1,8 @@
 -- The own witness lists of the events of one identifier, one behind the other.
 use Rattle.std.specs.Prelude.{List, [], Option, Some, None}
 use Rattle.cesr_codes.specs.declared.key.Key.{Key}
-use Rattle.event_body.specs.declared.event.Event.{Event}
-use Rattle.event_body.specs.declared.event.Event.TheVariants.{Icp, Rot, Ixn, Dip, Drt, Rct}
+use Rattle.event_body.specs.declared.event_body.event.Event.{Event}
+use Rattle.event_body.specs.declared.event_body.event.Event.TheVariants.{Icp, Rot, Ixn, Dip, Drt, Rct}
 use Rattle.key_state.specs.KeyStates.{changed_list}
 
 -- the list, or none

@@ -1,15 +1,15 @@
 -- What is said of an event of the first core and that of the same place of the second.
 use Rattle.std.specs.Prelude.{◌≡◌, ◌≢◌, List, filter_map, Option, Some, None, slice_get}
-use Rattle.event_body.specs.Events.{prefix_of, sn_of}
+use Rattle.event_body.specs.EventBody.Events.{prefix_of, sn_of}
 use Rattle.key_state.specs.Same.{distinct, same_key}
-use Rattle.journal.specs.declared.body.Body.{Body}
-use Rattle.blame_laws.specs.Signatures.{signature_of}
-use Rattle.blame_core.specs.Culprits.{culprit_of}
-use Rattle.blame_core.specs.Establishments.{event_at}
-use Rattle.blame_core.specs.declared.establishments.Establishment.{Establishment}
-use Rattle.blame_core.specs.declared.blames.Blame.{Blame}
-use Rattle.blame_core.specs.declared.place.Place.{Place}
-use Rattle.validator_core.specs.View.{CoreView, told_of}
+use Rattle.journal.specs.declared.journal.body.Body.{Body}
+use Rattle.blame_core.specs.BlameLaws.Signatures.{signature_of}
+use Rattle.blame_core.specs.BlameCore.Culprits.{culprit_of}
+use Rattle.blame_core.specs.BlameCore.Establishments.{event_at}
+use Rattle.blame_core.specs.declared.blame_core.establishments.Establishment.{Establishment}
+use Rattle.blame_core.specs.declared.blame_core.blames.Blame.{Blame}
+use Rattle.blame_core.specs.declared.blame_core.place.Place.{Place}
+use Rattle.validator_core.specs.ValidatorCore.View.{CoreView, told_of}
 
 -- the blame of two bodies that differ: their place, their numbers, and the culprits
 pub record IsAnswer (first second : CoreView) (one other : Establishment) (b c : Body) (x : Blame) : Type 0 where

@@ -3,16 +3,16 @@ use Rattle.std.specs.Prelude.{◌≡◌, ℕ, Bool, false, ◌&&◌, ◌||◌, L
 use Rattle.std.specs.BTreeMap.{get}
 use Rattle.cesr_codes.specs.declared.key.Key.{Key}
 use Rattle.cesr_codes.specs.declared.sig.Sig.{Sig}
-use Rattle.event_body.specs.declared.event.Event.{Event}
-use Rattle.journal.specs.declared.body.Body.{Body}
-use Rattle.journal.specs.History.{Told, took, heard, claimed_sig, claims_in, is_receipt_for}
-use Rattle.journal.specs.Journals.{whole}
-use Rattle.journal.specs.Logs.{same_body}
-use Rattle.journal.specs.declared.entry.Entry.{Entry}
-use Rattle.blame_laws.specs.Signatures.{signature_of}
-use Rattle.blame_core.specs.FirstSignatures.{at_place, key_cmp}
-use Rattle.blame_core.specs.declared.signatures.Signatures.{Signatures}
-use Rattle.blame_core.specs.declared.signed.Signed.{Signed}
+use Rattle.event_body.specs.declared.event_body.event.Event.{Event}
+use Rattle.journal.specs.declared.journal.body.Body.{Body}
+use Rattle.journal.specs.Journal.History.{Told, took, heard, claimed_sig, claims_in, is_receipt_for}
+use Rattle.journal.specs.Journal.Journals.{whole}
+use Rattle.journal.specs.Journal.Logs.{same_body}
+use Rattle.journal.specs.declared.journal.entry.Entry.{Entry}
+use Rattle.blame_core.specs.BlameLaws.Signatures.{signature_of}
+use Rattle.blame_core.specs.BlameCore.FirstSignatures.{at_place, key_cmp}
+use Rattle.blame_core.specs.declared.blame_core.signatures.Signatures.{Signatures}
+use Rattle.blame_core.specs.declared.blame_core.signed.Signed.{Signed}
 
 -- the body, where there is one, has these bytes
 abbrev pub is_body : List ℕ → Option Body → Bool

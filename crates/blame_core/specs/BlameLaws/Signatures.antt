@@ -2,11 +2,11 @@
 use Rattle.std.specs.Prelude.{◌≡◌, List, [], map, find, Option, Contains, is_some}
 use Rattle.cesr_codes.specs.declared.key.Key.{Key}
 use Rattle.cesr_codes.specs.declared.sig.Sig.{Sig}
-use Rattle.journal.specs.declared.body.Body.{Body}
-use Rattle.journal.specs.declared.mode.Mode.{Mode}
-use Rattle.journal.specs.History.{Told, Triple, bodies, claimed_sig, claims_on, said_yes}
-use Rattle.journal.specs.Questions.{IsRegular}
-use Rattle.journal.specs.Readiness.{backs}
+use Rattle.journal.specs.declared.journal.body.Body.{Body}
+use Rattle.journal.specs.declared.journal.mode.Mode.{Mode}
+use Rattle.journal.specs.Journal.History.{Told, Triple, bodies, claimed_sig, claims_on, said_yes}
+use Rattle.journal.specs.Journal.Questions.{IsRegular}
+use Rattle.journal.specs.Journal.Readiness.{backs}
 
 -- the key's signature on the body
 abbrev pub triple_on : Body → Key → Sig → Triple

@@ -1,6 +1,6 @@
 //! Two events of one identifier and number, and who signed both.
 
-use crate::Culprit;
+use crate::blame_core::Culprit;
 use cesr_codes::Prefix;
 use lists::Items;
 

@@ -1,12 +1,12 @@
 //! The witnesses of both events that signed both.
 ghost use Rattle.std.specs.Prelude.{◌≡◌, ◌++◌, List, filter_map, option_to_list, IfOk, OnOk};
-ghost use Rattle.blame_core.specs.Culprits.{HasKeys, culprit_of};
-ghost use Rattle.blame_core.specs.Signatures.{signature_by};
+ghost use Rattle.blame_core.specs.BlameCore.Culprits.{HasKeys, culprit_of};
+ghost use Rattle.blame_core.specs.BlameCore.Signatures.{signature_by};
 ghost use Rattle.cesr_codes.specs.declared.key.Key.{Key as KeyValue};
 ghost use Rattle.key_state.specs.Same.{distinct, same_key};
 
-use crate::Culprit;
-use crate::signatures::{Signatures, signature_of};
+use crate::blame_core::Culprit;
+use crate::blame_core::signatures::{Signatures, signature_of};
 use cesr_codes::Key;
 use lists::Items;
 use std::alloc::{AllocError, Global};

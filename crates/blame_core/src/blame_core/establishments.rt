@@ -1,14 +1,14 @@
 //! The accepted establishment events of a core, by identifier and number.
 ghost use Rattle.std.specs.Prelude.{◌≡◌, ◌++◌, ◌∷◌, [], List, Some, IfOk, OnOk, slice_get};
-ghost use Rattle.blame_core.specs.Establishments.{AreEstablishments, IsFollowedBy, IsWalked};
-ghost use Rattle.blame_core.specs.Establishments as establishments;
+ghost use Rattle.blame_core.specs.BlameCore.Establishments.{AreEstablishments, IsFollowedBy, IsWalked};
+ghost use Rattle.blame_core.specs.BlameCore.Establishments as establishments;
 ghost use Rattle.cesr_codes.specs.Spelling.{IsPrefix};
-ghost use Rattle.event_body.specs.Events as events;
-ghost use Rattle.journal.specs.declared.body.Body.{Body};
-ghost use Rattle.validator_core.specs.View.{accepted_by};
+ghost use Rattle.event_body.specs.EventBody.Events as events;
+ghost use Rattle.journal.specs.declared.journal.body.Body.{Body};
+ghost use Rattle.validator_core.specs.ValidatorCore.View.{accepted_by};
 
-use crate::own_lists::own_list;
-use crate::place::Place;
+use crate::blame_core::own_lists::own_list;
+use crate::blame_core::place::Place;
 use cesr_codes::{Key, Spelled};
 use event_body::{Event, is_establishment, prefix_of, sn_of};
 use lists::{Items, copy_items};

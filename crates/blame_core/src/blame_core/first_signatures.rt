@@ -2,13 +2,13 @@
 ghost use Rattle.std.specs.Prelude.{◌≡◌, IfOk, None, OnOk, Some, position, if◌then◌else◌};
 ghost use Rattle.std.specs.BTreeMap.{get, is_at};
 ghost use Rattle.std.specs.List.{list_any};
-ghost use Rattle.blame_core.specs.FirstSignatures as first;
-ghost use Rattle.blame_core.specs.FirstSignatures.{is_signed, key_cmp, sig_cmp};
+ghost use Rattle.blame_core.specs.BlameCore.FirstSignatures as first;
+ghost use Rattle.blame_core.specs.BlameCore.FirstSignatures.{is_signed, key_cmp, sig_cmp};
 ghost use Rattle.cesr_codes.specs.declared.key.Key.{Key as KeyValue};
 ghost use Rattle.cesr_codes.specs.declared.sig.Sig.{Sig as SigValue};
 ghost use Rattle.key_state.specs.Same.{same_sig};
 
-use crate::signed::Signed;
+use crate::blame_core::signed::Signed;
 use cesr_codes::{Key, Sig};
 use std::alloc::{AllocError, Global};
 use std::collections::BTreeMap;

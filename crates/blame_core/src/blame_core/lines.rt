@@ -1,8 +1,8 @@
 //! The lines of blames.
 ghost use Rattle.std.specs.Prelude.{◌≡◌, IfOk, flat_map, string_bytes};
-ghost use Rattle.blame_core.specs.Lines.{blames_text, culprit_text, pair_text, rivals_text};
+ghost use Rattle.blame_core.specs.BlameCore.Lines.{blames_text, culprit_text, pair_text, rivals_text};
 
-use crate::{Blame, Culprit};
+use crate::blame_core::{Blame, Culprit};
 use cesr_codes::{Digest, Prefix};
 use event_body::said_of_event;
 use lists::Items;

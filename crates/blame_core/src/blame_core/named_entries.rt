@@ -1,10 +1,10 @@
 //! The entries of a journal by the names of their bodies.
 ghost use Rattle.std.specs.Prelude.{◌≡◌, IfOk};
-ghost use Rattle.blame_core.specs.NamedEntries.{HasNamed};
-ghost use Rattle.core_tables.specs.View as tables;
+ghost use Rattle.blame_core.specs.BlameCore.NamedEntries.{HasNamed};
+ghost use Rattle.core_tables.specs.CoreTables.View as tables;
 
 use core_tables::{Name, name_of};
-use event_index::Index;
+use escrow::Index;
 use journal::Entry;
 use lists::length_u32;
 use std::alloc::{AllocError, Global};

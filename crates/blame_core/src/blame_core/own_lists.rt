@@ -1,7 +1,7 @@
 //! The own witness lists of establishment events.
 ghost use Rattle.std.specs.Prelude.{◌≡◌, IfOk};
 ghost use Rattle.std.specs.Option.{option_copied};
-ghost use Rattle.blame_core.specs.OwnLists.{list_after, list_of};
+ghost use Rattle.blame_core.specs.BlameCore.OwnLists.{list_after, list_of};
 
 use cesr_codes::Key;
 use event_body::Event;

@@ -1,19 +1,19 @@
 //! The pairs of different establishment events of one identifier and number, and who signed both.
 ghost use Rattle.std.specs.Prelude.{◌≡◌, ◌++◌, bytes_eq, option_to_list, IfOk, OnOk};
-ghost use Rattle.blame_core.specs.Blames.{AreBlames};
-ghost use Rattle.blame_core.specs.NamedEntries.{HasNamed};
-ghost use Rattle.blame_core.specs.Rivals.{Answers, Judges};
-ghost use Rattle.journal.specs.declared.mode.Mode.TheVariants.{Full};
+ghost use Rattle.blame_core.specs.BlameCore.Blames.{AreBlames};
+ghost use Rattle.blame_core.specs.BlameCore.NamedEntries.{HasNamed};
+ghost use Rattle.blame_core.specs.BlameCore.Rivals.{Answers, Judges};
+ghost use Rattle.journal.specs.declared.journal.mode.Mode.TheVariants.{Full};
 
-use crate::Blame;
-use crate::culprits::culprits_of;
-use crate::establishments::{Establishment, establishments};
-use crate::named_entries::named_entries;
-use crate::place::Place;
-use crate::signatures::signatures_on;
+use crate::blame_core::Blame;
+use crate::blame_core::culprits::culprits_of;
+use crate::blame_core::establishments::{Establishment, establishments};
+use crate::blame_core::named_entries::named_entries;
+use crate::blame_core::place::Place;
+use crate::blame_core::signatures::signatures_on;
 use core_tables::Name;
+use escrow::Index;
 use event_body::{prefix_of, sn_of};
-use event_index::Index;
 use lists::Items;
 use std::alloc::{AllocError, Global};
 use std::collections::BTreeMap;

@@ -1,22 +1,21 @@
 //! The signatures on a body that came, and of each key the first that a verifier called good.
 ghost use Rattle.std.specs.Prelude.{◌≡◌, ◌++◌, Some, flat_map, map, option_map, slice_get, IfOk, OnOk};
-ghost use Rattle.blame_core.specs.NamedEntries.{HasNamed};
-ghost use Rattle.blame_core.specs.Signatures.{AreSignatures, came_at, came_with, good_at, good_in, is_body};
-ghost use Rattle.blame_core.specs.Signatures.{is_receipt_of, signature_by, stands_on};
-ghost use Rattle.core_tables.specs.View.{body_of};
-ghost use Rattle.journal.specs.History as history;
-ghost use Rattle.journal.specs.Journals.{whole};
-ghost use Rattle.journal.specs.declared.body.Body.{Body};
-ghost use Rattle.validator_core.specs.View.{told_of};
+ghost use Rattle.blame_core.specs.BlameCore.NamedEntries.{HasNamed};
+ghost use Rattle.blame_core.specs.BlameCore.Signatures.{AreSignatures, came_at, came_with, good_at, good_in, is_body};
+ghost use Rattle.blame_core.specs.BlameCore.Signatures.{is_receipt_of, signature_by, stands_on};
+ghost use Rattle.core_tables.specs.CoreTables.View.{body_of};
+ghost use Rattle.journal.specs.Journal.History as history;
+ghost use Rattle.journal.specs.Journal.Journals.{whole};
+ghost use Rattle.journal.specs.declared.journal.body.Body.{Body};
+ghost use Rattle.validator_core.specs.ValidatorCore.View.{told_of};
 
-use crate::first_signatures::first_places;
-use crate::signed::Signed;
+use crate::blame_core::first_signatures::first_places;
+use crate::blame_core::signed::Signed;
 use cesr_codes::{Key, Sig};
 use core_tables::{Name, name_of};
+use escrow::Index;
 use event_body::{Event, is_receipt, prefix_of, said_of_event, sn_of};
-use event_index::Index;
-use event_rules::claimed_sig;
-use journal::{Claim, Entry};
+use journal::{Claim, Entry, claimed_sig};
 use std::alloc::{AllocError, Global};
 use std::collections::BTreeMap;
 use validator_core::Core;

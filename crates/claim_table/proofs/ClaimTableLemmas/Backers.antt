@@ -11,12 +11,12 @@ use Rattle.std.proofs.lemmas.Cmp.{eq_by_cmp_equiv}
 use Rattle.std.proofs.lemmas.Map.{lookup-none}
 use Rattle.std.proofs.lemmas.Map.Entries.{none_past_head}
 use Rattle.std.proofs.lemmas.Map.Keys.{IsDistinct-tail}
-use Rattle.claim_table.specs.declared.part.Part.{Part}
-use Rattle.claim_table.specs.declared.part.Part.TheVariants.{Indexed, Revealed, Backed}
-use Rattle.claim_table.specs.Entries.{Entries, backer_count, backs, bit, or_zero, part_cmp, part_entry, same_part}
-use Rattle.claim_table.specs.Parts.{AreSoMany, count_below}
-use Rattle.claim_table.proofs.Entries.{same_is, total}
-use Rattle.claim_table.proofs.Lists.{count_cons, differ}
+use Rattle.claim_table.specs.declared.claim_table.part.Part.{Part}
+use Rattle.claim_table.specs.declared.claim_table.part.Part.TheVariants.{Indexed, Revealed, Backed}
+use Rattle.claim_table.specs.ClaimTable.Entries.{Entries, backer_count, backs, bit, or_zero, part_cmp, part_entry, same_part}
+use Rattle.claim_table.specs.ClaimTable.Parts.{AreSoMany, count_below}
+use Rattle.claim_table.proofs.ClaimTableLemmas.Entries.{same_is, total}
+use Rattle.claim_table.proofs.ClaimTableLemmas.Lists.{count_cons, differ}
 
 -- no more pass below a lesser bound
 below_more : (test : ℕ → Bool) (m n : ℕ) → m ≤ n → count_below test m ≤ count_below test n

@@ -3,13 +3,13 @@ use Rattle.std.proofs.Common.{◌≡◌, ℕ, ◌+◌, false, ◌&&◌, Option, 
 use Rattle.std.specs.Prelude.{◌==◌}
 use Rattle.std.specs.Option.{option_map}
 use Rattle.std.proofs.Math.Bool.{and-false}
-use Rattle.claim_table.specs.declared.claimed.Parts.{Parts}
-use Rattle.claim_table.specs.BodyParts.{BodyPart}
-use Rattle.claim_table.specs.declared.part.Part.{Part}
-use Rattle.claim_table.specs.declared.part.Part.TheVariants.{Indexed, Revealed, Backed}
-use Rattle.claim_table.specs.Counts.{is_one}
-use Rattle.claim_table.specs.Entries.{bit, same_part}
-use Rattle.claim_table.specs.Parts.{brings, is_number}
+use Rattle.claim_table.specs.declared.claim_table.claimed.Parts.{Parts}
+use Rattle.claim_table.specs.ClaimTable.BodyParts.{BodyPart}
+use Rattle.claim_table.specs.declared.claim_table.part.Part.{Part}
+use Rattle.claim_table.specs.declared.claim_table.part.Part.TheVariants.{Indexed, Revealed, Backed}
+use Rattle.claim_table.specs.ClaimTable.Counts.{is_one}
+use Rattle.claim_table.specs.ClaimTable.Entries.{bit, same_part}
+use Rattle.claim_table.specs.ClaimTable.Parts.{brings, is_number}
 
 abbrev of_body : ℕ → Part → BodyPart
 of_body b part = record { body = b; part = part }

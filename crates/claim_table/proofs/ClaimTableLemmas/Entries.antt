@@ -18,12 +18,12 @@ use Rattle.std.proofs.lemmas.Map.{keys-set_value, lookup-insert, lookup-set_valu
 use Rattle.std.proofs.lemmas.Map.Entries.{length-keys_of, lookup_at_gap, lookup_from_place}
 use Rattle.std.proofs.lemmas.Map.Keys.{IsDistinct-from_sorted, IsDistinct-head, IsDistinct-tail, Less-from_sorted}
 use Rattle.std.proofs.lemmas.Option.{get_or_from_slice_get, slice_get-get_or, slice_get_within}
-use Rattle.claim_table.specs.contracts.part.PartOrd.TheImpl.Laws as part_laws
-use Rattle.claim_table.specs.declared.part.Part.{Part}
-use Rattle.claim_table.specs.declared.part.Part.TheVariants.{Indexed, Revealed, Backed}
-use Rattle.claim_table.specs.Entries.{Entries, IsGapFor, IsPlaceOf, backer_count, backs, bit, or_zero, part_cmp, part_entry, same_part}
-use Rattle.claim_table.specs.Parts.{is_backer}
-use Rattle.claim_table.proofs.Lists.{count_at, count_cons, set_at_place}
+use Rattle.claim_table.specs.contracts.claim_table.part.PartOrd.TheImpl.Laws as part_laws
+use Rattle.claim_table.specs.declared.claim_table.part.Part.{Part}
+use Rattle.claim_table.specs.declared.claim_table.part.Part.TheVariants.{Indexed, Revealed, Backed}
+use Rattle.claim_table.specs.ClaimTable.Entries.{Entries, IsGapFor, IsPlaceOf, backer_count, backs, bit, or_zero, part_cmp, part_entry, same_part}
+use Rattle.claim_table.specs.ClaimTable.Parts.{is_backer}
+use Rattle.claim_table.proofs.ClaimTableLemmas.Lists.{count_at, count_cons, set_at_place}
 
 pub total : IsTotalOrder part_cmp
 total = part_laws.total-law

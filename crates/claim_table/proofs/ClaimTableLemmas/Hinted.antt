@@ -4,10 +4,10 @@ use Rattle.std.specs.Prelude.{slice_get, nat_lt, Contains, OnOk, Ok, Err, Result
 use Rattle.std.proofs.lemmas.Bool.{cases_eq, cases_lt, lt-ltb}
 use Rattle.std.proofs.lemmas.List.Elements.{Contains-append_cases, Contains-append_left, Contains-append_right}
 use Rattle.std.proofs.lemmas.Bool.Decides.{nat_tests}
-use Rattle.event_index.specs.Keys.{numbers_in}
-use Rattle.event_index.specs.Numbers.{Numbers}
-use Rattle.claim_table.specs.Hinted.{few_in, shown}
-use Rattle.claim_table.proofs.Places.{set_elsewhere, set_here}
+use Rattle.escrow.specs.EventIndex.Keys.{numbers_in}
+use Rattle.escrow.specs.EventIndex.Numbers.{Numbers}
+use Rattle.claim_table.specs.ClaimTable.Hinted.{few_in, shown}
+use Rattle.claim_table.proofs.ClaimTableLemmas.Places.{set_elsewhere, set_here}
 
 -- a body more has no numbers
 pub few_pushed : (lists : List Numbers) (more : Numbers) → more.list ≡ [] → (b : ℕ) → few_in (lists ++ more ∷ []) b ≡ few_in lists b

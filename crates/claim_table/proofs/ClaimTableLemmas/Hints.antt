@@ -7,15 +7,15 @@ use Rattle.std.proofs.lemmas.Bool.{cases_Bool, cases_eq, cases_lt}
 use Rattle.std.proofs.lemmas.List.{length-take}
 use Rattle.std.proofs.lemmas.List.Elements.{Contains-append_cases}
 use Rattle.std.proofs.lemmas.Option.{slice_get_within}
-use Rattle.claim_table.specs.BodyParts.{BodyPart}
-use Rattle.claim_table.specs.declared.row.Row.{Row}
-use Rattle.claim_table.specs.declared.signature.Signature.{Signature}
-use Rattle.claim_table.specs.Keeping.{AreEntered, AreHinted, IsFirstOf, IsLeast, is_of_at, lesser}
-use Rattle.claim_table.specs.Parts.{brings}
-use Rattle.claim_table.specs.Rows.{is_of, is_raised, signature_of, with_verdicts}
-use Rattle.claim_table.proofs.Lists.{any_none}
-use Rattle.lists.proofs.Places.{at_end, not_at_end, of_front}
-use Rattle.claim_table.proofs.Rows.{same_is, set_at, set_claimed}
+use Rattle.claim_table.specs.ClaimTable.BodyParts.{BodyPart}
+use Rattle.claim_table.specs.declared.claim_table.row.Row.{Row}
+use Rattle.claim_table.specs.declared.claim_table.signature.Signature.{Signature}
+use Rattle.claim_table.specs.ClaimTable.Keeping.{AreEntered, AreHinted, IsFirstOf, IsLeast, is_of_at, lesser}
+use Rattle.claim_table.specs.ClaimTable.Parts.{brings}
+use Rattle.claim_table.specs.ClaimTable.Rows.{is_of, is_raised, signature_of, with_verdicts}
+use Rattle.claim_table.proofs.ClaimTableLemmas.Lists.{any_none}
+use Rattle.lists.proofs.ListsLemmas.Places.{at_end, not_at_end, of_front}
+use Rattle.claim_table.proofs.ClaimTableLemmas.Rows.{same_is, set_at, set_claimed}
 
 -- within a list no default counts
 pub default : (numbers : List ℕ) (k d e : ℕ) → k < length numbers → slice_index_or numbers k d ≡ slice_index_or numbers k e

@@ -5,21 +5,21 @@ use Rattle.std.specs.BTreeMap.{is_at}
 use Rattle.std.specs.Option.{option_flatten, option_map}
 use Rattle.std.proofs.lemmas.List.{length-append, length-map}
 use Rattle.std.proofs.Math.Seq.{take-append_seam}
-use Rattle.claim_table.specs.declared.claim_rows.Pending.{Pending}
-use Rattle.claim_table.specs.declared.claimed.Claimed.{Claimed}
-use Rattle.claim_table.specs.BodyParts.{BodyPart}
-use Rattle.claim_table.specs.declared.row.Row.{Row}
-use Rattle.claim_table.specs.declared.signature.Signature.{Signature}
-use Rattle.claim_table.specs.declared.spot.Spot.{Spot}
-use Rattle.claim_table.specs.Entries.{bit}
-use Rattle.claim_table.specs.Keeping.{AreCounted, AreEntered, AreHinted, IsFirstAt, IsKept, IsPending, IsPendingBelow, spot_at, spot_cmp}
-use Rattle.claim_table.specs.Parts.{brings, supports}
-use Rattle.claim_table.specs.Table.{KeepsPending}
-use Rattle.claim_table.specs.Rows.{DoAgree, heard, is_raised, raised, signature_of, unheard, verdict_of, with_verdict}
-use Rattle.claim_table.proofs.Hints.{entered_added, entered_front, entered_more, entered_set, hinted_added, hinted_front, hinted_more, hinted_set}
-use Rattle.claim_table.proofs.Lists.{count_end}
-use Rattle.claim_table.proofs.Rows.{agree_front, agree_raised, agree_set, first_front, first_longer, first_raised, first_set, first_within, verdict_front, verdict_heard, verdict_longer, verdict_none}
-use Rattle.claim_table.proofs.Spots.{had_verdict, open_added, open_closed, open_heard, open_popped, open_unheard}
+use Rattle.claim_table.specs.declared.claim_table.claim_rows.Pending.{Pending}
+use Rattle.claim_table.specs.declared.claim_table.claimed.Claimed.{Claimed}
+use Rattle.claim_table.specs.ClaimTable.BodyParts.{BodyPart}
+use Rattle.claim_table.specs.declared.claim_table.row.Row.{Row}
+use Rattle.claim_table.specs.declared.claim_table.signature.Signature.{Signature}
+use Rattle.claim_table.specs.declared.claim_table.spot.Spot.{Spot}
+use Rattle.claim_table.specs.ClaimTable.Entries.{bit}
+use Rattle.claim_table.specs.ClaimTable.Keeping.{AreCounted, AreEntered, AreHinted, IsFirstAt, IsKept, IsPending, IsPendingBelow, spot_at, spot_cmp}
+use Rattle.claim_table.specs.ClaimTable.Parts.{brings, supports}
+use Rattle.claim_table.specs.ClaimTable.Table.{KeepsPending}
+use Rattle.claim_table.specs.ClaimTable.Rows.{DoAgree, heard, is_raised, raised, signature_of, unheard, verdict_of, with_verdict}
+use Rattle.claim_table.proofs.ClaimTableLemmas.Hints.{entered_added, entered_front, entered_more, entered_set, hinted_added, hinted_front, hinted_more, hinted_set}
+use Rattle.claim_table.proofs.ClaimTableLemmas.Lists.{count_end}
+use Rattle.claim_table.proofs.ClaimTableLemmas.Rows.{agree_front, agree_raised, agree_set, first_front, first_longer, first_raised, first_set, first_within, verdict_front, verdict_heard, verdict_longer, verdict_none}
+use Rattle.claim_table.proofs.ClaimTableLemmas.Spots.{had_verdict, open_added, open_closed, open_heard, open_popped, open_unheard}
 
 same_entries : (rows : List Row) (old new : BodyPart → Bool) → ((q : BodyPart) → new q ≡ old q) → AreEntered rows old → AreEntered rows new
 same_entries rows old new same h = entered_more rows old new (λ q k. same q ∙ k) h

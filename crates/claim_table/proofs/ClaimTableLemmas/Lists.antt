@@ -5,8 +5,8 @@ use Rattle.std.specs.List.{list_any}
 use Rattle.std.proofs.lemmas.Bool.{cases_Bool, lt-ltb}
 use Rattle.std.proofs.lemmas.List.Sums.{sum_by-cons, sum_by_push}
 use Rattle.std.proofs.lemmas.Bool.Decides.{nat_tests}
-use Rattle.claim_table.specs.Entries.{bit}
-use Rattle.claim_table.specs.Keeping.{at_place}
+use Rattle.claim_table.specs.ClaimTable.Entries.{bit}
+use Rattle.claim_table.specs.ClaimTable.Keeping.{at_place}
 
 pub differ : (m n : ℕ) → (m ≡ n → ⊥) → (m == n) ≡ false
 differ m n h = grind (arith, nat_tests, h)

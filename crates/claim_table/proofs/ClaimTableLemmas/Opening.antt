@@ -12,12 +12,12 @@ use Rattle.std.proofs.lemmas.Bool.{cases_Bool, cases_lt}
 use Rattle.std.proofs.Math.Bool.{or-false}
 use Rattle.std.proofs.lemmas.List.Folds.{list_any-append}
 use Rattle.std.proofs.lemmas.Map.Lookups.{btree_set_from_contains}
-use Rattle.claim_table.specs.declared.row.Row.{Row}
-use Rattle.claim_table.specs.declared.spot.Spot.{Spot}
-use Rattle.claim_table.specs.Keeping.{AreOpen, is_open_at, opens, spot_at, spot_cmp}
-use Rattle.claim_table.specs.Table.{AreBelow}
-use Rattle.claim_table.proofs.Lists.{differ}
-use Rattle.claim_table.proofs.Spots.{spot_is, spot_itself, spot_total}
+use Rattle.claim_table.specs.declared.claim_table.row.Row.{Row}
+use Rattle.claim_table.specs.declared.claim_table.spot.Spot.{Spot}
+use Rattle.claim_table.specs.ClaimTable.Keeping.{AreOpen, is_open_at, opens, spot_at, spot_cmp}
+use Rattle.claim_table.specs.ClaimTable.Table.{AreBelow}
+use Rattle.claim_table.proofs.ClaimTableLemmas.Lists.{differ}
+use Rattle.claim_table.proofs.ClaimTableLemmas.Spots.{spot_is, spot_itself, spot_total}
 
 -- the spots of a body's open rows, after some rows, the first of the rest having this place
 abbrev pub open_from : ℕ → List Row → ℕ → List Row → List Spot

@@ -3,12 +3,12 @@ use Rattle.std.proofs.Common.{◌≡◌, ℕ, zero, suc, ◌+◌, ◌-◌, Bool,
 use Rattle.std.specs.Prelude.{slice_get, is_some, ◌==◌}
 use Rattle.std.proofs.lemmas.Bool.{and_parts, cases_eq}
 use Rattle.std.proofs.lemmas.Bool.Decides.{nat_tests}
-use Rattle.claim_table.specs.Counts.{entry_at, is_one}
-use Rattle.claim_table.specs.Entries.{Entries, bit, or_zero, part_entry, same_part}
-use Rattle.claim_table.specs.BodyParts.{BodyPart}
-use Rattle.claim_table.specs.declared.part.Part.{Part}
-use Rattle.claim_table.specs.declared.part.Part.TheVariants.{Indexed, Revealed, Backed}
-use Rattle.claim_table.proofs.Lists.{differ}
+use Rattle.claim_table.specs.ClaimTable.Counts.{entry_at, is_one}
+use Rattle.claim_table.specs.ClaimTable.Entries.{Entries, bit, or_zero, part_entry, same_part}
+use Rattle.claim_table.specs.ClaimTable.BodyParts.{BodyPart}
+use Rattle.claim_table.specs.declared.claim_table.part.Part.{Part}
+use Rattle.claim_table.specs.declared.claim_table.part.Part.TheVariants.{Indexed, Revealed, Backed}
+use Rattle.claim_table.proofs.ClaimTableLemmas.Lists.{differ}
 
 equal : (m n : ℕ) → m ≡ n → (m == n) ≡ true
 equal m n h = grind (arith, nat_tests, h)

@@ -8,14 +8,14 @@ use Rattle.std.proofs.lemmas.Bool.{cases_Bool}
 use Rattle.std.proofs.Math.Bool.{and-false, and-true}
 use Rattle.std.proofs.lemmas.List.{length-append, length-map}
 use Rattle.std.proofs.lemmas.Option.{slice_get-map}
-use Rattle.claim_table.specs.declared.row.Row.{Row}
-use Rattle.claim_table.specs.declared.signature.Signature.{Signature}
-use Rattle.claim_table.specs.declared.spot.Spot.{Spot}
-use Rattle.claim_table.specs.Keeping.{AreOpen, opens, spot_cmp}
-use Rattle.claim_table.specs.Rows.{first_rows, is_of, is_open_on, is_raised, open_rows, same_signature, signature_of}
-use Rattle.claim_table.specs.Table.{AreBelow}
-use Rattle.claim_table.proofs.Opening.{keys_are, open_from, open_of}
-use Rattle.claim_table.proofs.Rows.{same_is, same_itself}
+use Rattle.claim_table.specs.declared.claim_table.row.Row.{Row}
+use Rattle.claim_table.specs.declared.claim_table.signature.Signature.{Signature}
+use Rattle.claim_table.specs.declared.claim_table.spot.Spot.{Spot}
+use Rattle.claim_table.specs.ClaimTable.Keeping.{AreOpen, opens, spot_cmp}
+use Rattle.claim_table.specs.ClaimTable.Rows.{first_rows, is_of, is_open_on, is_raised, open_rows, same_signature, signature_of}
+use Rattle.claim_table.specs.ClaimTable.Table.{AreBelow}
+use Rattle.claim_table.proofs.ClaimTableLemmas.Opening.{keys_are, open_from, open_of}
+use Rattle.claim_table.proofs.ClaimTableLemmas.Rows.{same_is, same_itself}
 
 abbrev is_new : List Row → Row → Bool
 is_new before q = not (is_raised before (signature_of q.claimed))

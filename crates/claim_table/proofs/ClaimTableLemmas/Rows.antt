@@ -11,13 +11,13 @@ use Rattle.std.proofs.lemmas.Option.{slice_get-map, slice_get_within}
 use Rattle.cesr_codes.specs.Spelling.{key_code}
 use Rattle.cesr_codes.specs.declared.key.KeyCode.{KeyCode}
 use Rattle.cesr_codes.specs.declared.key.KeyCode.TheVariants.{Fixed, Rotating}
-use Rattle.claim_table.specs.declared.claimed.Claimed.{Claimed}
-use Rattle.claim_table.specs.declared.row.Row.{Row}
-use Rattle.claim_table.specs.declared.signature.Signature.{Signature}
-use Rattle.claim_table.specs.Keeping.{IsFirstAt}
-use Rattle.claim_table.specs.Rows.{DoAgree, heard, is_of, is_raised, raised, raised_all, same_key, same_signature, signature_of, unheard, verdict_of, with_verdict, with_verdicts}
-use Rattle.claim_table.proofs.Lists.{any_front, any_some, map_back, take_before, take_map}
-use Rattle.lists.proofs.Places.{at_end, in_front, not_at_end, of_front}
+use Rattle.claim_table.specs.declared.claim_table.claimed.Claimed.{Claimed}
+use Rattle.claim_table.specs.declared.claim_table.row.Row.{Row}
+use Rattle.claim_table.specs.declared.claim_table.signature.Signature.{Signature}
+use Rattle.claim_table.specs.ClaimTable.Keeping.{IsFirstAt}
+use Rattle.claim_table.specs.ClaimTable.Rows.{DoAgree, heard, is_of, is_raised, raised, raised_all, same_key, same_signature, signature_of, unheard, verdict_of, with_verdict, with_verdicts}
+use Rattle.claim_table.proofs.ClaimTableLemmas.Lists.{any_front, any_some, map_back, take_before, take_map}
+use Rattle.lists.proofs.ListsLemmas.Places.{at_end, in_front, not_at_end, of_front}
 
 numbers : (m n : ℕ) → (m == n) ≡ true → m ≡ n
 numbers m n h = (Decides-eqb m n).0 h

@@ -6,16 +6,16 @@ use Rattle.std.proofs.lemmas.Bool.{cases_Bool, cases_eq}
 use Rattle.std.proofs.lemmas.List.{length-map}
 use Rattle.std.proofs.lemmas.List.Sums.{count_by-le-length}
 use Rattle.std.proofs.lemmas.Option.{slice_get-map, slice_get_read, slice_get_within}
-use Rattle.claim_table.specs.BodyParts.{BodyPart}
-use Rattle.claim_table.specs.declared.row.Row.{Row}
-use Rattle.claim_table.specs.declared.signature.Signature.{Signature}
-use Rattle.claim_table.specs.Entries.{bit}
-use Rattle.claim_table.specs.Keeping.{AreCounted, AreEntered, at_place, is_of_at}
-use Rattle.claim_table.specs.Parts.{brings, supports}
-use Rattle.claim_table.specs.Rows.{is_of, same_signature, signature_of, with_verdict, with_verdicts}
-use Rattle.claim_table.proofs.Hints.{default}
-use Rattle.claim_table.proofs.Lists.{at_place_made, at_place_same, at_place_there, bit_within, count_at, length-at_place, map_at_place, map_same}
-use Rattle.claim_table.proofs.Rows.{set_again, set_at, set_claimed, set_elsewhere}
+use Rattle.claim_table.specs.ClaimTable.BodyParts.{BodyPart}
+use Rattle.claim_table.specs.declared.claim_table.row.Row.{Row}
+use Rattle.claim_table.specs.declared.claim_table.signature.Signature.{Signature}
+use Rattle.claim_table.specs.ClaimTable.Entries.{bit}
+use Rattle.claim_table.specs.ClaimTable.Keeping.{AreCounted, AreEntered, at_place, is_of_at}
+use Rattle.claim_table.specs.ClaimTable.Parts.{brings, supports}
+use Rattle.claim_table.specs.ClaimTable.Rows.{is_of, same_signature, signature_of, with_verdict, with_verdicts}
+use Rattle.claim_table.proofs.ClaimTableLemmas.Hints.{default}
+use Rattle.claim_table.proofs.ClaimTableLemmas.Lists.{at_place_made, at_place_same, at_place_there, bit_within, count_at, length-at_place, map_at_place, map_same}
+use Rattle.claim_table.proofs.ClaimTableLemmas.Rows.{set_again, set_at, set_claimed, set_elsewhere}
 
 module _ (s : Signature) (v : Option Bool) where
   -- where no row of the signature stands, nothing is set

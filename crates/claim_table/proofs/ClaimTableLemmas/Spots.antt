@@ -9,17 +9,17 @@ use Rattle.std.proofs.Math.Seq.{take-length}
 use Rattle.std.proofs.Math.Bool.{and-false, or-false}
 use Rattle.std.proofs.lemmas.Bool.Decides.{Decides-eqb}
 use Rattle.std.proofs.lemmas.Option.{slice_get-map, slice_get_past}
-use Rattle.claim_table.specs.contracts.spot.SpotOrd.TheImpl.Laws as spot_laws
-use Rattle.claim_table.specs.contracts.spot.SpotPartialEq.TheImpl as spot_eq
-use Rattle.claim_table.specs.declared.claim_rows.Pending.{Pending}
-use Rattle.claim_table.specs.declared.row.Row.{Row}
-use Rattle.claim_table.specs.declared.signature.Signature.{Signature}
-use Rattle.claim_table.specs.declared.spot.Spot.{Spot}
-use Rattle.claim_table.specs.Keeping.{AreOpen, IsFirstAt, IsPendingBelow, is_open_at, is_pending, opens, spot_at, spot_cmp}
-use Rattle.claim_table.specs.Rows.{DoAgree, heard, is_of, is_raised, signature_of, unheard, verdict_of, with_verdict, with_verdicts}
-use Rattle.claim_table.proofs.Lists.{any_some, differ, take_before, take_map}
-use Rattle.lists.proofs.Places.{at_end, in_front, not_at_end}
-use Rattle.claim_table.proofs.Rows.{agree_set, first_raised, first_set, raised_set, same_is, set_elsewhere, set_there, unheard_heard, verdict_heard}
+use Rattle.claim_table.specs.contracts.claim_table.spot.SpotOrd.TheImpl.Laws as spot_laws
+use Rattle.claim_table.specs.contracts.claim_table.spot.SpotPartialEq.TheImpl as spot_eq
+use Rattle.claim_table.specs.declared.claim_table.claim_rows.Pending.{Pending}
+use Rattle.claim_table.specs.declared.claim_table.row.Row.{Row}
+use Rattle.claim_table.specs.declared.claim_table.signature.Signature.{Signature}
+use Rattle.claim_table.specs.declared.claim_table.spot.Spot.{Spot}
+use Rattle.claim_table.specs.ClaimTable.Keeping.{AreOpen, IsFirstAt, IsPendingBelow, is_open_at, is_pending, opens, spot_at, spot_cmp}
+use Rattle.claim_table.specs.ClaimTable.Rows.{DoAgree, heard, is_of, is_raised, signature_of, unheard, verdict_of, with_verdict, with_verdicts}
+use Rattle.claim_table.proofs.ClaimTableLemmas.Lists.{any_some, differ, take_before, take_map}
+use Rattle.lists.proofs.ListsLemmas.Places.{at_end, in_front, not_at_end}
+use Rattle.claim_table.proofs.ClaimTableLemmas.Rows.{agree_set, first_raised, first_set, raised_set, same_is, set_elsewhere, set_there, unheard_heard, verdict_heard}
 
 spot_eq_is : (x y : Spot) → (spot_eq.ghosts).eq x y ≡ ((x.body == y.body) && (x.row == y.row))
 spot_eq_is x y = search (rules, tests)

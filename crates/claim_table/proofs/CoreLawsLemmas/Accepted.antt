@@ -1,11 +1,11 @@
 -- The claims on a body whose keys are found, in a log with one more event.
 use Rattle.std.proofs.Common.{◌≡◌, false, List, [], ◌∷◌, ◌++◌, Some, None, refl}
-use Rattle.journal.specs.declared.body.Body.{Body}
-use Rattle.journal.specs.History.{Told}
-use Rattle.journal.specs.Logs.{precedes, predecessor, stands}
-use Rattle.journal.specs.Questions.{state_before}
-use Rattle.core_laws.proofs.Predecessors.{state_before-kept, state_before-none}
-use Rattle.core_laws.specs.ClaimRows.{found_on}
+use Rattle.journal.specs.declared.journal.body.Body.{Body}
+use Rattle.journal.specs.Journal.History.{Told}
+use Rattle.journal.specs.Journal.Logs.{precedes, predecessor, stands}
+use Rattle.journal.specs.Journal.Questions.{state_before}
+use Rattle.claim_table.proofs.CoreLawsLemmas.Predecessors.{state_before-kept, state_before-none}
+use Rattle.claim_table.specs.CoreLaws.ClaimRows.{found_on}
 
 stands-same : (log more : List Body) (b : Body) → state_before more b ≡ state_before log b → stands more b ≡ stands log b
 unfolding stands

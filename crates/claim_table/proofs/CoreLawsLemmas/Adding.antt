@@ -9,26 +9,26 @@ use Rattle.std.proofs.Math.Bool.{or-false}
 use Rattle.cesr_codes.specs.declared.indexed_sig.IndexedSig.{IndexedSig}
 use Rattle.cesr_codes.specs.declared.key.Key.{Key}
 use Rattle.cesr_codes.specs.declared.sig.Sig.{Sig}
-use Rattle.event_body.specs.declared.event.Event.{Event}
-use Rattle.event_body.specs.declared.event.Event.TheVariants.{Icp, Rot, Ixn, Dip, Drt, Rct}
-use Rattle.event_body.specs.Events.{is_inception}
+use Rattle.event_body.specs.declared.event_body.event.Event.{Event}
+use Rattle.event_body.specs.declared.event_body.event.Event.TheVariants.{Icp, Rot, Ixn, Dip, Drt, Rct}
+use Rattle.event_body.specs.EventBody.Events.{is_inception}
 use Rattle.key_state.specs.Exposure.{Rules, own_rules}
 use Rattle.key_state.specs.Same.{same_key, same_sig}
 use Rattle.key_state.specs.States.{State}
-use Rattle.journal.specs.declared.body.Body.{Body}
-use Rattle.journal.specs.declared.claim.Claim.{Claim}
-use Rattle.journal.specs.declared.claim.Claim.TheVariants.{Held, Witness, Couple}
-use Rattle.journal.specs.Logs.{same_body}
-use Rattle.journal.specs.History.{Told, took, heard, same_triple, claimed_key, claims_in, claims_on, said_yes, yes_in}
-use Rattle.journal.specs.Readiness.{backs}
-use Rattle.journal.proofs.Locality.{flat_map-push, bytes_differ}
-use Rattle.event_rules.specs.Claims.{is_good, is_held_so, is_yes}
-use Rattle.core_laws.specs.Alike.{AreAlike}
-use Rattle.core_laws.proofs.Alike.{own_rules-alike}
-use Rattle.core_laws.proofs.Predecessors.{state_before-kept}
-use Rattle.event_rules.specs.Claims.{is_so}
-use Rattle.event_rules.specs.Parts.{Part, index, reveal, backer, says_of, opens_at, parts_in, supports}
-use Rattle.core_laws.specs.Support.{parts_of_yes, ClaimsLaw, VerdictLaw, KeptLaw, InceptionLaw, AlikeLaw}
+use Rattle.journal.specs.declared.journal.body.Body.{Body}
+use Rattle.journal.specs.declared.journal.claim.Claim.{Claim}
+use Rattle.journal.specs.declared.journal.claim.Claim.TheVariants.{Held, Witness, Couple}
+use Rattle.journal.specs.Journal.Logs.{same_body}
+use Rattle.journal.specs.Journal.History.{Told, took, heard, same_triple, claimed_key, claims_in, claims_on, said_yes, yes_in}
+use Rattle.journal.specs.Journal.Readiness.{backs}
+use Rattle.journal.proofs.JournalLemmas.Locality.{flat_map-push, bytes_differ}
+use Rattle.journal.specs.EventRules.Claims.{is_good, is_held_so, is_yes}
+use Rattle.claim_table.specs.CoreLaws.Alike.{AreAlike}
+use Rattle.claim_table.proofs.CoreLawsLemmas.Alike.{own_rules-alike}
+use Rattle.claim_table.proofs.CoreLawsLemmas.Predecessors.{state_before-kept}
+use Rattle.journal.specs.EventRules.Claims.{is_so}
+use Rattle.journal.specs.EventRules.Parts.{Part, index, reveal, backer, says_of, opens_at, parts_in, supports}
+use Rattle.claim_table.specs.CoreLaws.Support.{parts_of_yes, ClaimsLaw, VerdictLaw, KeptLaw, InceptionLaw, AlikeLaw}
 
 -- more claims
 claims-push : (told : List Told) (t : Told) (b : Body) → claims_on (told ++ t ∷ []) b ≡ claims_on told b ++ claims_in b t

@@ -8,15 +8,15 @@ use Rattle.cesr_codes.specs.declared.key.Key.{Key}
 use Rattle.cesr_codes.specs.declared.sig.Sig.{Sig}
 use Rattle.key_state.specs.Exposure.{Rules, own_rules}
 use Rattle.key_state.specs.States.{State}
-use Rattle.journal.specs.declared.body.Body.{Body}
-use Rattle.journal.specs.declared.claim.Claim.{Claim}
-use Rattle.journal.specs.declared.claim.Claim.TheVariants.{Held, Witness, Couple}
-use Rattle.journal.specs.History.{claimed_key, claimed_sig, triple_of}
-use Rattle.event_rules.specs.Claims.{is_held_so, is_yes}
-use Rattle.event_rules.specs.Parts.{Part, index, reveal, backer, opens_at, parts_in}
-use Rattle.event_rules.specs.Claims.{is_held_as}
-use Rattle.event_rules.specs.Parts.{Row, brings}
-use Rattle.core_laws.specs.Claimed.{rows_of, RowsLaw}
+use Rattle.journal.specs.declared.journal.body.Body.{Body}
+use Rattle.journal.specs.declared.journal.claim.Claim.{Claim}
+use Rattle.journal.specs.declared.journal.claim.Claim.TheVariants.{Held, Witness, Couple}
+use Rattle.journal.specs.Journal.History.{claimed_key, claimed_sig, triple_of}
+use Rattle.journal.specs.EventRules.Claims.{is_held_so, is_yes}
+use Rattle.journal.specs.EventRules.Parts.{Part, index, reveal, backer, opens_at, parts_in}
+use Rattle.journal.specs.EventRules.Claims.{is_held_as}
+use Rattle.journal.specs.EventRules.Parts.{Row, brings}
+use Rattle.claim_table.specs.CoreLaws.Claimed.{rows_of, RowsLaw}
 
 triples_are : (rules : Rules) (b : Body) (claims : List Claim) → filter_map (triple_of rules b) claims ≡ map (λ r. record { body = b.bytes; key = r.key; sig = claimed_sig r.claim }) (rows_of rules claims)
 triples_are rules b [] = refl

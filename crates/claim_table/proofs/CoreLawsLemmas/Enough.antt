@@ -6,28 +6,28 @@ use Rattle.std.proofs.lemmas.Bool.{cases_Bool, and_parts, and_from, not-true, no
 use Rattle.std.proofs.lemmas.List.{length-append, take_all}
 use Rattle.std.proofs.lemmas.List.Elements.{filter-append}
 use Rattle.cesr_codes.specs.declared.key.Key.{Key}
-use Rattle.event_body.specs.declared.event.Event.{Event}
-use Rattle.event_body.specs.declared.event.Event.TheVariants.{Icp, Rot, Ixn, Dip, Drt, Rct}
-use Rattle.event_body.specs.Events.{prefix_of, is_rotation}
+use Rattle.event_body.specs.declared.event_body.event.Event.{Event}
+use Rattle.event_body.specs.declared.event_body.event.Event.TheVariants.{Icp, Rot, Ixn, Dip, Drt, Rct}
+use Rattle.event_body.specs.EventBody.Events.{prefix_of, is_rotation}
 use Rattle.sith.specs.Tests.{satisfied}
 use Rattle.key_state.specs.Exposure.{Rules, own_rules, exposed, opens, numbers_below}
 use Rattle.key_state.specs.Same.{same_key, has_key, distinct, is_fixed, are_witnesses}
 use Rattle.key_state.specs.States.{State}
 use Rattle.key_state.proofs.Same.{same_key_is, same_key_itself}
-use Rattle.journal.specs.declared.body.Body.{Body}
-use Rattle.journal.specs.declared.claim.Claim.{Claim}
-use Rattle.journal.specs.Logs.{state}
-use Rattle.journal.specs.History.{Told, claims_on, claimed_key, triple_of}
-use Rattle.journal.specs.Readiness.{is_ready, is_backed, signed, good_sigs, held_sig, meets_next, yes_to, backs, backers}
-use Rattle.journal.proofs.Apart.{filter-all}
-use Rattle.journal.proofs.Same.{turned}
-use Rattle.event_rules.specs.Claims.{is_good, is_held_so}
+use Rattle.journal.specs.declared.journal.body.Body.{Body}
+use Rattle.journal.specs.declared.journal.claim.Claim.{Claim}
+use Rattle.journal.specs.Journal.Logs.{state}
+use Rattle.journal.specs.Journal.History.{Told, claims_on, claimed_key, triple_of}
+use Rattle.journal.specs.Journal.Readiness.{is_ready, is_backed, signed, good_sigs, held_sig, meets_next, yes_to, backs, backers}
+use Rattle.journal.proofs.JournalLemmas.Apart.{filter-all}
+use Rattle.journal.proofs.JournalLemmas.Same.{turned}
+use Rattle.journal.specs.EventRules.Claims.{is_good, is_held_so}
 use Rattle.key_state.proofs.Numbers.{filter_below, none_below}
-use Rattle.core_laws.proofs.Below.{same_satisfied}
-use Rattle.core_laws.proofs.GoodSigs.{any_good, good, places_are}
-use Rattle.event_rules.specs.Claims.{is_so}
-use Rattle.event_rules.specs.Parts.{says_of, opens_at, supports, has_own, has_next, has_signed, has_backed}
-use Rattle.core_laws.specs.Support.{AreSound, SupportLaw, ReadyLaw}
+use Rattle.claim_table.proofs.CoreLawsLemmas.Below.{same_satisfied}
+use Rattle.claim_table.proofs.CoreLawsLemmas.GoodSigs.{any_good, good, places_are}
+use Rattle.journal.specs.EventRules.Claims.{is_so}
+use Rattle.journal.specs.EventRules.Parts.{says_of, opens_at, supports, has_own, has_next, has_signed, has_backed}
+use Rattle.claim_table.specs.CoreLaws.Support.{AreSound, SupportLaw, ReadyLaw}
 
 -- the good signatures of a body are those of its claims by what verifiers say
 yes_is : (told : List Told) (rules : Rules) (b : Body) (c : Claim) → is_good (says_of told b) rules c ≡ yes_to told (triple_of rules b c)

@@ -2,7 +2,7 @@
 use Rattle.std.proofs.Common.{◌≡◌, ℕ, true, false, List, [], ◌∷◌, ◌++◌, length, map, Option, Some, None, refl, sym, subst, codes}
 use Rattle.std.specs.Prelude.{find}
 use Rattle.std.specs.Fmt.{digits}
-use Rattle.keri_specs.specs.Base64.{digits_in}
+use Rattle.lists.specs.KeriSpecs.Base64.{digits_in}
 use Rattle.json_tree.specs.declared.tree.Tree.{Tree, Str, Object', more_of-Member, end_of-Member}
 use Rattle.cesr_codes.specs.declared.digest.Digest.{Digest}
 use Rattle.cesr_codes.specs.declared.digest.DigestCode.TheVariants.{Blake3}
@@ -13,26 +13,26 @@ use Rattle.cesr_codes.specs.Spelling.{digest_text, key_text}
 use Rattle.said_digest.specs.Digests.{digest_of}
 use Rattle.sith.specs.declared.threshold.Threshold.TheVariants.{Count}
 use Rattle.sith.specs.Tests.{satisfied}
-use Rattle.event_body.specs.declared.event.Event.TheVariants.{Icp, Ixn, Dip, Drt}
+use Rattle.event_body.specs.declared.event_body.event.Event.TheVariants.{Icp, Ixn, Dip, Drt}
 use Rattle.key_state.specs.Exposure.{commits, exposed, numbers_below}
 use Rattle.key_state.specs.KeyStates.{misfit}
 use Rattle.key_state.specs.Same.{distinct}
 use Rattle.key_state.proofs.Same.{same_prefix_itself}
-use Rattle.core_laws.proofs.SampleEvents.{key, witness, digest, identifier, begin}
-use Rattle.journal.specs.declared.body.Body.{Body}
-use Rattle.journal.specs.declared.claim.Claim.{Claim}
-use Rattle.journal.specs.declared.claim.Claim.TheVariants.{Held}
-use Rattle.journal.specs.declared.mode.Mode.TheVariants.{Full}
-use Rattle.journal.specs.Logs.{state, stands, precedes}
-use Rattle.journal.specs.Seals.{anchored, seals}
-use Rattle.journal.specs.History.{Told, took, heard, same_triple, bodies, claims_on, said_yes}
-use Rattle.journal.specs.Readiness.{is_ready, signed, good_sigs, backers, backs}
-use Rattle.journal.specs.Acceptance.{settled, grown_by, Settles, rest, more}
-use Rattle.journal.specs.Accepted.{accepted}
-use Rattle.journal.specs.Questions.{raised_by}
-use Rattle.event_rules.specs.Parts.{index, supports}
-use Rattle.core_laws.specs.Support.{parts_of_yes}
-use Rattle.core_laws.proofs.Entries.{settles_accepted}
+use Rattle.claim_table.proofs.CoreLawsLemmas.SampleEvents.{key, witness, digest, identifier, begin}
+use Rattle.journal.specs.declared.journal.body.Body.{Body}
+use Rattle.journal.specs.declared.journal.claim.Claim.{Claim}
+use Rattle.journal.specs.declared.journal.claim.Claim.TheVariants.{Held}
+use Rattle.journal.specs.declared.journal.mode.Mode.TheVariants.{Full}
+use Rattle.journal.specs.Journal.Logs.{state, stands, precedes}
+use Rattle.journal.specs.Journal.Seals.{anchored, seals}
+use Rattle.journal.specs.Journal.History.{Told, took, heard, same_triple, bodies, claims_on, said_yes}
+use Rattle.journal.specs.Journal.Readiness.{is_ready, signed, good_sigs, backers, backs}
+use Rattle.journal.specs.Journal.Acceptance.{settled, grown_by, Settles, rest, more}
+use Rattle.journal.specs.Journal.Accepted.{accepted}
+use Rattle.journal.specs.Journal.Questions.{raised_by}
+use Rattle.journal.specs.EventRules.Parts.{index, supports}
+use Rattle.claim_table.specs.CoreLaws.Support.{parts_of_yes}
+use Rattle.claim_table.proofs.CoreLawsLemmas.Entries.{settles_accepted}
 
 abbrev pub signature : Sig
 signature = record { raw = 7 ∷ [] }

@@ -8,12 +8,12 @@ use Rattle.std.proofs.lemmas.List.Folds.{list_any-append}
 use Rattle.std.proofs.lemmas.List.Sums.{sum_by-append, sum_by-cons}
 use Rattle.std.proofs.lemmas.Grind.{flat_map-append}
 use Rattle.keri_outside.specs.declared.limits.Limits.{Limits}
-use Rattle.journal.specs.declared.body.Body.{Body}
-use Rattle.journal.specs.declared.claim.Claim.{Claim}
-use Rattle.journal.specs.History.{Told, bodies, taken}
-use Rattle.journal.specs.Logs.{is_in, same_body}
-use Rattle.journal.specs.Replies.{IsWithin, all_claims, is_full}
-use Rattle.core_laws.proofs.RaisedStays.{bodies_begin}
+use Rattle.journal.specs.declared.journal.body.Body.{Body}
+use Rattle.journal.specs.declared.journal.claim.Claim.{Claim}
+use Rattle.journal.specs.Journal.History.{Told, bodies, taken}
+use Rattle.journal.specs.Journal.Logs.{is_in, same_body}
+use Rattle.journal.specs.Journal.Replies.{IsWithin, all_claims, is_full}
+use Rattle.claim_table.proofs.CoreLawsLemmas.RaisedStays.{bodies_begin}
 
 abbrev size : List Body → ℕ
 size bs = sum_by (λ c. length c.bytes) bs

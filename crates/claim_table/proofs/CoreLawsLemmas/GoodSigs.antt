@@ -8,14 +8,14 @@ use Rattle.std.proofs.lemmas.List.Folds.{list_any-append}
 use Rattle.cesr_codes.specs.declared.indexed_sig.IndexedSig.{IndexedSig}
 use Rattle.cesr_codes.specs.declared.key.Key.{Key}
 use Rattle.cesr_codes.specs.declared.sig.Sig.{Sig}
-use Rattle.journal.specs.declared.claim.Claim.{Claim}
-use Rattle.journal.specs.declared.claim.Claim.TheVariants.{Held, Witness, Couple}
+use Rattle.journal.specs.declared.journal.claim.Claim.{Claim}
+use Rattle.journal.specs.declared.journal.claim.Claim.TheVariants.{Held, Witness, Couple}
 use Rattle.key_state.proofs.Numbers.{filter_below-suc}
 use Rattle.key_state.proofs.Same.{number_itself, numbers}
 use Rattle.key_state.specs.Exposure.{Rules, numbers_below}
-use Rattle.journal.specs.Readiness.{held_sig}
-use Rattle.event_rules.specs.Claims.{is_good, is_held_so}
-use Rattle.core_laws.proofs.Below.{AreSameBelow, is_among}
+use Rattle.journal.specs.Journal.Readiness.{held_sig}
+use Rattle.journal.specs.EventRules.Claims.{is_good, is_held_so}
+use Rattle.claim_table.proofs.CoreLawsLemmas.Below.{AreSameBelow, is_among}
 
 -- the controller's signatures among the claims that have a yes
 unfoldable pub good : (Key → Sig → Bool) → Rules → List Claim → List IndexedSig

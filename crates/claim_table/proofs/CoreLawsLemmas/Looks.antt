@@ -4,15 +4,15 @@ use Rattle.std.specs.Prelude.{count_by}
 use Rattle.std.specs.List.{sum_by}
 use Rattle.std.proofs.lemmas.Bool.{cases_Bool, or_parts}
 use Rattle.std.proofs.lemmas.List.Sums.{sum_by-cons, sum_by-le-sum_by}
-use Rattle.journal.specs.Grown.{IsGrown}
-use Rattle.journal.specs.History.{bodies}
-use Rattle.journal.specs.Accepted.{accepted}
-use Rattle.journal.specs.Readiness.{is_ready}
-use Rattle.core_laws.specs.Candidates.{Runs, ends, passes, appends}
-use Rattle.core_laws.specs.Looks.{times, is_counted, counted, looks, appended_in, IsFrugal, LooksLaw, BoundTwiceLaw, BoundOnceLaw}
-use Rattle.core_laws.specs.Standing.{HasNoClash}
-use Rattle.core_laws.specs.Waking.{may_wake, wakes}
-use Rattle.core_laws.proofs.Woken.{woken_once, woken_twice}
+use Rattle.journal.specs.Journal.Grown.{IsGrown}
+use Rattle.journal.specs.Journal.History.{bodies}
+use Rattle.journal.specs.Journal.Accepted.{accepted}
+use Rattle.journal.specs.Journal.Readiness.{is_ready}
+use Rattle.claim_table.specs.CoreLaws.Candidates.{Runs, ends, passes, appends}
+use Rattle.claim_table.specs.CoreLaws.Looks.{times, is_counted, counted, looks, appended_in, IsFrugal, LooksLaw, BoundTwiceLaw, BoundOnceLaw}
+use Rattle.claim_table.specs.CoreLaws.Standing.{HasNoClash}
+use Rattle.claim_table.specs.CoreLaws.Waking.{may_wake, wakes}
+use Rattle.claim_table.proofs.CoreLawsLemmas.Woken.{woken_once, woken_twice}
 
 module _ {B : Type 0} (ready : List B → B → Bool) (wakes : List B → B → B → Bool) (all : List B) where
   -- each look takes out one that was there or counts

@@ -3,18 +3,18 @@ use Rattle.std.proofs.Common.{◌≡◌, ℕ, zero, suc, ◌+◌, ◌-◌, ◌<�
 use Rattle.std.proofs.lemmas.Bool.{cases_Bool, or_parts, not-false, leb-false, ltb-false, eqb-true, le-ltb}
 use Rattle.std.proofs.lemmas.Bool.Decides.{nat_tests}
 use Rattle.cesr_codes.specs.declared.digest.Digest.{Digest}
-use Rattle.event_body.specs.declared.event.Event.{Event}
-use Rattle.event_body.specs.declared.event.Event.TheVariants.{Icp, Rot, Ixn, Dip, Drt, Rct}
-use Rattle.event_body.specs.declared.inception.Inception.{Inception}
-use Rattle.event_body.specs.declared.rotation.Rotation.{Rotation}
-use Rattle.event_body.specs.Events.{sn_of, said_of, prior_of}
+use Rattle.event_body.specs.declared.event_body.event.Event.{Event}
+use Rattle.event_body.specs.declared.event_body.event.Event.TheVariants.{Icp, Rot, Ixn, Dip, Drt, Rct}
+use Rattle.event_body.specs.declared.event_body.inception.Inception.{Inception}
+use Rattle.event_body.specs.declared.event_body.rotation.Rotation.{Rotation}
+use Rattle.event_body.specs.EventBody.Events.{sn_of, said_of, prior_of}
 use Rattle.key_state.specs.Heads.{head_sn}
 use Rattle.key_state.specs.KeyStates.{digest_at, misfit, misfit_rules, moved, begun, first_true, are_same, is_other_sn, is_other_prior}
 use Rattle.key_state.specs.States.{State}
-use Rattle.journal.specs.Logs.{stepped, takes}
-use Rattle.journal.specs.Seals.{is_delegated}
-use Rattle.core_laws.specs.Alike.{AreAlike}
-use Rattle.core_laws.proofs.States.{none_is}
+use Rattle.journal.specs.Journal.Logs.{stepped, takes}
+use Rattle.journal.specs.Journal.Seals.{is_delegated}
+use Rattle.claim_table.specs.CoreLaws.Alike.{AreAlike}
+use Rattle.claim_table.proofs.CoreLawsLemmas.States.{none_is}
 
 -- each test is false
 abbrev pub AllFalse : {X : Type 0} → List (Bool × X) → Type 0

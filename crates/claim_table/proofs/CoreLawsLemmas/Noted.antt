@@ -10,23 +10,23 @@ use Rattle.cesr_codes.specs.declared.key.Key.{Key}
 use Rattle.cesr_codes.specs.declared.sig.Sig.{Sig}
 use Rattle.key_state.specs.Same.{distinct}
 use Rattle.key_state.proofs.Same.{number_itself}
-use Rattle.journal.specs.declared.body.Body.{Body}
-use Rattle.journal.specs.declared.mode.Mode.{Mode}
-use Rattle.journal.specs.declared.question.Noted.TheVariants.{New, Known, Unasked}
-use Rattle.journal.specs.Logs.{same_body}
-use Rattle.journal.specs.History.{Told, Triple, same_triple, bodies, has_verdict}
-use Rattle.journal.specs.Accepted.{accepted}
-use Rattle.journal.specs.Questions.{raised_by, raised, noted}
-use Rattle.journal.proofs.Different.{Differ}
-use Rattle.journal.proofs.Distinct.{any-distinct}
-use Rattle.journal.proofs.Locality.{bytes_differ}
-use Rattle.journal.proofs.Places.{test_at}
-use Rattle.journal.proofs.Same.{same_triple_is, same_triple_itself, any_turned, moves}
-use Rattle.claim_table.specs.declared.row.Row.{Row}
-use Rattle.claim_table.specs.Rows.{is_of, is_raised, same_key}
-use Rattle.core_laws.specs.ClaimRows.{triple_on, AreClaims}
-use Rattle.core_laws.proofs.RaisedQuestions.{own_of}
-use Rattle.core_laws.proofs.Open.{row_triple, on_body, triple_is, rows_raise}
+use Rattle.journal.specs.declared.journal.body.Body.{Body}
+use Rattle.journal.specs.declared.journal.mode.Mode.{Mode}
+use Rattle.journal.specs.declared.journal.question.Noted.TheVariants.{New, Known, Unasked}
+use Rattle.journal.specs.Journal.Logs.{same_body}
+use Rattle.journal.specs.Journal.History.{Told, Triple, same_triple, bodies, has_verdict}
+use Rattle.journal.specs.Journal.Accepted.{accepted}
+use Rattle.journal.specs.Journal.Questions.{raised_by, raised, noted}
+use Rattle.journal.proofs.JournalLemmas.Different.{Differ}
+use Rattle.journal.proofs.JournalLemmas.Distinct.{any-distinct}
+use Rattle.journal.proofs.JournalLemmas.Locality.{bytes_differ}
+use Rattle.journal.proofs.JournalLemmas.Places.{test_at}
+use Rattle.journal.proofs.JournalLemmas.Same.{same_triple_is, same_triple_itself, any_turned, moves}
+use Rattle.claim_table.specs.declared.claim_table.row.Row.{Row}
+use Rattle.claim_table.specs.ClaimTable.Rows.{is_of, is_raised, same_key}
+use Rattle.claim_table.specs.CoreLaws.ClaimRows.{triple_on, AreClaims}
+use Rattle.claim_table.proofs.CoreLawsLemmas.RaisedQuestions.{own_of}
+use Rattle.claim_table.proofs.CoreLawsLemmas.Open.{row_triple, on_body, triple_is, rows_raise}
 
 -- a body raises no triple of another
 none_of : (told : List Told) (log : List Body) (c : Body) (t : Triple) → bytes_eq t.body c.bytes ≡ false → list_any (same_triple t) (raised_by told log c) ≡ false

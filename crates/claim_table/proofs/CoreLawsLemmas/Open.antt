@@ -1,30 +1,30 @@
 -- The rows of a table that are open are the open questions of the journal, in order.
 use Rattle.std.proofs.Common.{◌≡◌, ℕ, suc, ◌+◌, Bool, true, false, not, ◌&&◌, ◌==◌, List, [], ◌∷◌, ◌++◌, length, map, Option, Some, None, refl, sym, ◌∙◌, ap, inl, inr, arith, append_assoc, if◌then◌else◌}
 use Rattle.std.specs.List.{list_all, range_with_len}
-use Rattle.journal.proofs.Keeping.{list_all-filter}
+use Rattle.journal.proofs.JournalLemmas.Keeping.{list_all-filter}
 use Rattle.std.specs.Prelude.{is_none, filter, flat_map, slice_get, option_map, bytes_eq}
 use Rattle.std.specs.Cmp.Lexicographic.{bytes_decides}
 use Rattle.std.proofs.lemmas.Bool.{cases_Bool, and_from, and_parts}
 use Rattle.key_state.specs.Same.{distinct, same_key, same_sig}
 use Rattle.key_state.specs.States.{State}
 use Rattle.key_state.proofs.Same.{numbers, number_itself, same_key_is, same_key_itself, same_sig_is, same_sig_itself}
-use Rattle.journal.specs.declared.body.Body.{Body}
-use Rattle.journal.specs.Logs.{stands}
-use Rattle.journal.specs.History.{Told, Triple, same_triple, claimed_sig, claims_on, has_verdict}
-use Rattle.journal.specs.Questions.{state_before, raised_by}
-use Rattle.journal.specs.declared.question.Question.{Question}
-use Rattle.journal.specs.Journals.{asked}
-use Rattle.journal.proofs.Different.{all-filter}
-use Rattle.journal.proofs.Same.{turned}
-use Rattle.core_laws.proofs.Told.{verdict_there}
-use Rattle.claim_table.specs.declared.claimed.Claimed.{Claimed}
-use Rattle.claim_table.specs.declared.row.Row.{Row}
-use Rattle.claim_table.specs.declared.signature.Signature.{Signature}
-use Rattle.claim_table.specs.Rows.{signature_of, same_signature, is_of, verdict_of, first_rows, is_open_on, open_rows}
-use Rattle.core_laws.specs.ClaimRows.{AreFound, found_on, claimed_at, triple_on, AreClaims}
-use Rattle.event_rules.specs.Parts.{Row as Found}
-use Rattle.core_laws.proofs.Claimed.{rows_are}
-use Rattle.core_laws.proofs.RaisedQuestions.{open_on}
+use Rattle.journal.specs.declared.journal.body.Body.{Body}
+use Rattle.journal.specs.Journal.Logs.{stands}
+use Rattle.journal.specs.Journal.History.{Told, Triple, same_triple, claimed_sig, claims_on, has_verdict}
+use Rattle.journal.specs.Journal.Questions.{state_before, raised_by}
+use Rattle.journal.specs.declared.journal.question.Question.{Question}
+use Rattle.journal.specs.Journal.Journals.{asked}
+use Rattle.journal.proofs.JournalLemmas.Different.{all-filter}
+use Rattle.journal.proofs.JournalLemmas.Same.{turned}
+use Rattle.claim_table.proofs.CoreLawsLemmas.Told.{verdict_there}
+use Rattle.claim_table.specs.declared.claim_table.claimed.Claimed.{Claimed}
+use Rattle.claim_table.specs.declared.claim_table.row.Row.{Row}
+use Rattle.claim_table.specs.declared.claim_table.signature.Signature.{Signature}
+use Rattle.claim_table.specs.ClaimTable.Rows.{signature_of, same_signature, is_of, verdict_of, first_rows, is_open_on, open_rows}
+use Rattle.claim_table.specs.CoreLaws.ClaimRows.{AreFound, found_on, claimed_at, triple_on, AreClaims}
+use Rattle.journal.specs.EventRules.Parts.{Row as Found}
+use Rattle.claim_table.proofs.CoreLawsLemmas.Claimed.{rows_are}
+use Rattle.claim_table.proofs.CoreLawsLemmas.RaisedQuestions.{open_on}
 
 -- a verdict is there in both or in neither
 abbrev pub same_verdict : Option Bool → Option Bool → Bool

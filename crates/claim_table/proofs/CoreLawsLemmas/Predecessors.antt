@@ -2,12 +2,12 @@
 use Rattle.std.proofs.Common.{◌≡◌, Bool, true, false, List, [], ◌∷◌, ◌++◌, Some, None, refl, ◌∙◌, ap, inl, inr, if◌then◌else◌}
 use Rattle.std.specs.Prelude.{find}
 use Rattle.std.proofs.lemmas.Bool.{cases_Bool, or_left, or_parts, or_right, or_cases}
-use Rattle.event_body.specs.Events.{prefix_of}
-use Rattle.journal.specs.declared.body.Body.{Body}
-use Rattle.journal.specs.Logs.{is_in, precedes, predecessor, same_body, state, up_to}
-use Rattle.journal.specs.Questions.{state_before}
-use Rattle.journal.proofs.Accepting.{same_body-refl}
-use Rattle.core_laws.proofs.Finding.{find-kept, find-next}
+use Rattle.event_body.specs.EventBody.Events.{prefix_of}
+use Rattle.journal.specs.declared.journal.body.Body.{Body}
+use Rattle.journal.specs.Journal.Logs.{is_in, precedes, predecessor, same_body, state, up_to}
+use Rattle.journal.specs.Journal.Questions.{state_before}
+use Rattle.journal.proofs.JournalLemmas.Accepting.{same_body-refl}
+use Rattle.claim_table.proofs.CoreLawsLemmas.Finding.{find-kept, find-next}
 
 -- what is found is in the list
 pub found_in : (test : Body → Bool) (log : List Body) (b : Body) → find test log ≡ Some b → is_in log b ≡ true

@@ -6,36 +6,36 @@ use Rattle.std.proofs.lemmas.Bool.{and_parts, ltb-true}
 use Rattle.std.proofs.lemmas.List.Elements.{All-nil, All-cons}
 use Rattle.std.proofs.lemmas.Map.Views.{Contains-from_any}
 use Rattle.std.specs.Fmt.{digits}
-use Rattle.keri_specs.specs.Base64.{digits_in}
-use Rattle.event_body.specs.declared.event.Event.TheVariants.{Icp, Rot}
-use Rattle.event_body.specs.Events.{sn_of}
+use Rattle.lists.specs.KeriSpecs.Base64.{digits_in}
+use Rattle.event_body.specs.declared.event_body.event.Event.TheVariants.{Icp, Rot}
+use Rattle.event_body.specs.EventBody.Events.{sn_of}
 use Rattle.key_state.specs.Exposure.{exposed, numbers_below}
 use Rattle.key_state.specs.KeyStates.{misfit}
 use Rattle.key_state.specs.Same.{distinct}
 use Rattle.key_state.proofs.Same.{numbers}
 use Rattle.sith.specs.declared.threshold.Threshold.TheVariants.{Count}
-use Rattle.core_laws.proofs.SampleEvents.{witness, digest, identifier, begin, ixn, rot}
+use Rattle.claim_table.proofs.CoreLawsLemmas.SampleEvents.{witness, digest, identifier, begin, ixn, rot}
 use Rattle.sith.specs.Tests.{satisfied}
-use Rattle.journal.specs.declared.body.Body.{Body}
-use Rattle.journal.specs.declared.claim.Claim.TheVariants.{Couple}
-use Rattle.journal.specs.declared.mode.Mode.TheVariants.{Full}
-use Rattle.journal.specs.Logs.{state, takes, predecessor, up_to}
-use Rattle.journal.specs.Seals.{anchored, seals}
-use Rattle.journal.specs.History.{Told, took, heard, bodies, claims_on, said_yes}
-use Rattle.journal.specs.Questions.{state_before}
-use Rattle.journal.specs.Readiness.{is_ready, signed, good_sigs, backers, backs}
-use Rattle.journal.specs.Accepted.{accepted}
-use Rattle.journal.specs.Grown.{IsGrown, fits}
-use Rattle.journal.proofs.Keeping.{IsGrown-push}
-use Rattle.journal.proofs.Premises.{nothing_grown}
-use Rattle.core_laws.specs.Candidates.{Runs, ends, passes, appends, Widens}
-use Rattle.core_laws.specs.Entries.{HaveNamed, names}
-use Rattle.core_laws.specs.Looks.{appended_in, IsClear, is_counted, IsFrugal, looks, times}
-use Rattle.core_laws.specs.Standing.{AreAlikeIf, HasNoClash}
-use Rattle.event_rules.specs.Parts.{index, supports}
-use Rattle.core_laws.specs.Waking.{may_wake, wakes}
-use Rattle.core_laws.proofs.Examples.{delegator, first_seal, delegated, rotation, second_seal, held_up, let_go, yes_on, nothing_before, at_first, signature, first_look, second_look}
-use Rattle.core_laws.proofs.Entries.{entry_settles}
+use Rattle.journal.specs.declared.journal.body.Body.{Body}
+use Rattle.journal.specs.declared.journal.claim.Claim.TheVariants.{Couple}
+use Rattle.journal.specs.declared.journal.mode.Mode.TheVariants.{Full}
+use Rattle.journal.specs.Journal.Logs.{state, takes, predecessor, up_to}
+use Rattle.journal.specs.Journal.Seals.{anchored, seals}
+use Rattle.journal.specs.Journal.History.{Told, took, heard, bodies, claims_on, said_yes}
+use Rattle.journal.specs.Journal.Questions.{state_before}
+use Rattle.journal.specs.Journal.Readiness.{is_ready, signed, good_sigs, backers, backs}
+use Rattle.journal.specs.Journal.Accepted.{accepted}
+use Rattle.journal.specs.Journal.Grown.{IsGrown, fits}
+use Rattle.journal.proofs.JournalLemmas.Keeping.{IsGrown-push}
+use Rattle.journal.proofs.JournalLemmas.Premises.{nothing_grown}
+use Rattle.claim_table.specs.CoreLaws.Candidates.{Runs, ends, passes, appends, Widens}
+use Rattle.claim_table.specs.CoreLaws.Entries.{HaveNamed, names}
+use Rattle.claim_table.specs.CoreLaws.Looks.{appended_in, IsClear, is_counted, IsFrugal, looks, times}
+use Rattle.claim_table.specs.CoreLaws.Standing.{AreAlikeIf, HasNoClash}
+use Rattle.journal.specs.EventRules.Parts.{index, supports}
+use Rattle.claim_table.specs.CoreLaws.Waking.{may_wake, wakes}
+use Rattle.claim_table.proofs.CoreLawsLemmas.Examples.{delegator, first_seal, delegated, rotation, second_seal, held_up, let_go, yes_on, nothing_before, at_first, signature, first_look, second_look}
+use Rattle.claim_table.proofs.CoreLawsLemmas.Entries.{entry_settles}
 
 -- the five bodies
 abbrev all : List Body

@@ -6,15 +6,15 @@ use Rattle.std.proofs.lemmas.Bool.{cases_Bool, and_from, and_parts, not-true}
 use Rattle.std.proofs.lemmas.List.Folds.{list_all-append}
 use Rattle.key_state.specs.Same.{distinct}
 use Rattle.key_state.specs.Exposure.{own_rules}
-use Rattle.journal.specs.declared.mode.Mode.{Mode}
-use Rattle.journal.specs.declared.body.Body.{Body}
-use Rattle.journal.specs.Logs.{same_body, stands}
-use Rattle.journal.specs.History.{Told, Triple, same_triple, claims_on, taken, bodies, has_verdict}
-use Rattle.journal.specs.Accepted.{accepted}
-use Rattle.journal.specs.Questions.{state_before, raised_by, raised, questions}
-use Rattle.journal.proofs.Apart.{Apart, AllApart, distinct-flat_map, filter-flat_map}
-use Rattle.journal.proofs.Asking.{all_of, apart}
-use Rattle.journal.proofs.Different.{Differ, differ-distinct}
+use Rattle.journal.specs.declared.journal.mode.Mode.{Mode}
+use Rattle.journal.specs.declared.journal.body.Body.{Body}
+use Rattle.journal.specs.Journal.Logs.{same_body, stands}
+use Rattle.journal.specs.Journal.History.{Told, Triple, same_triple, claims_on, taken, bodies, has_verdict}
+use Rattle.journal.specs.Journal.Accepted.{accepted}
+use Rattle.journal.specs.Journal.Questions.{state_before, raised_by, raised, questions}
+use Rattle.journal.proofs.JournalLemmas.Apart.{Apart, AllApart, distinct-flat_map, filter-flat_map}
+use Rattle.journal.proofs.JournalLemmas.Asking.{all_of, apart}
+use Rattle.journal.proofs.JournalLemmas.Different.{Differ, differ-distinct}
 
 -- each triple that a body raises names it
 pub own_of : (told : List Told) (log : List Body) (b : Body) → list_all (λ t. bytes_eq t.body b.bytes) (raised_by told log b) ≡ true

@@ -6,23 +6,23 @@ use Rattle.std.proofs.lemmas.Bool.{cases_Bool, or_left, or_right}
 use Rattle.std.proofs.lemmas.List.Folds.{list_any-append}
 use Rattle.std.proofs.lemmas.List.Elements.{filter_map-append}
 use Rattle.std.proofs.lemmas.Grind.{flat_map-append}
-use Rattle.event_body.specs.declared.event.Event.{Event}
-use Rattle.event_body.specs.declared.event.Event.TheVariants.{Icp, Rot, Ixn, Dip, Drt, Rct}
-use Rattle.event_body.specs.Events.{is_inception, prefix_of, prior_of, said_of, sn_of}
-use Rattle.journal.specs.declared.body.Body.{Body}
-use Rattle.journal.specs.declared.mode.Mode.{Mode}
-use Rattle.journal.specs.Accepted.{accepted}
-use Rattle.journal.specs.History.{Told, Triple, bodies, claims_in, claims_on, same_triple, taken, triple_of}
-use Rattle.journal.specs.Logs.{is_of, precedes, predecessor, same_body, stands}
-use Rattle.journal.specs.Questions.{raised, raised_by, state_before}
-use Rattle.journal.proofs.Accepting.{accepted_extends}
-use Rattle.journal.proofs.Distinct.{any-distinct, distinct-push_new, distinct-push_old}
-use Rattle.journal.proofs.Places.{slice_get_front}
-use Rattle.journal.proofs.Same.{any_turned, moves, same_triple_is, same_triple_itself}
+use Rattle.event_body.specs.declared.event_body.event.Event.{Event}
+use Rattle.event_body.specs.declared.event_body.event.Event.TheVariants.{Icp, Rot, Ixn, Dip, Drt, Rct}
+use Rattle.event_body.specs.EventBody.Events.{is_inception, prefix_of, prior_of, said_of, sn_of}
+use Rattle.journal.specs.declared.journal.body.Body.{Body}
+use Rattle.journal.specs.declared.journal.mode.Mode.{Mode}
+use Rattle.journal.specs.Journal.Accepted.{accepted}
+use Rattle.journal.specs.Journal.History.{Told, Triple, bodies, claims_in, claims_on, same_triple, taken, triple_of}
+use Rattle.journal.specs.Journal.Logs.{is_of, precedes, predecessor, same_body, stands}
+use Rattle.journal.specs.Journal.Questions.{raised, raised_by, state_before}
+use Rattle.journal.proofs.JournalLemmas.Accepting.{accepted_extends}
+use Rattle.journal.proofs.JournalLemmas.Distinct.{any-distinct, distinct-push_new, distinct-push_old}
+use Rattle.journal.proofs.JournalLemmas.Places.{slice_get_front}
+use Rattle.journal.proofs.JournalLemmas.Same.{any_turned, moves, same_triple_is, same_triple_itself}
 use Rattle.key_state.specs.Exposure.{own_rules}
 use Rattle.key_state.specs.KeyStates.{are_same}
 use Rattle.key_state.specs.Same.{distinct}
-use Rattle.core_laws.proofs.Predecessors.{state_before-kept, state_before-none}
+use Rattle.claim_table.proofs.CoreLawsLemmas.Predecessors.{state_before-kept, state_before-none}
 
 prior_none : (e : Event) → is_inception e ≡ true → prior_of e ≡ None
 prior_none (Icp e) h = refl

@@ -6,9 +6,9 @@ use Rattle.cesr_codes.specs.declared.key.Key.{Key}
 use Rattle.cesr_codes.specs.declared.key.KeyCode.TheVariants.{Fixed, Rotating}
 use Rattle.cesr_codes.specs.declared.prefix.Prefix.{Prefix}
 use Rattle.cesr_codes.specs.declared.prefix.Prefix.TheVariants.{Said}
-use Rattle.event_body.specs.declared.event.Event.{Event}
-use Rattle.event_body.specs.declared.event.Event.TheVariants.{Ixn, Rot}
-use Rattle.event_body.specs.declared.inception.Inception.{Inception}
+use Rattle.event_body.specs.declared.event_body.event.Event.{Event}
+use Rattle.event_body.specs.declared.event_body.event.Event.TheVariants.{Ixn, Rot}
+use Rattle.event_body.specs.declared.event_body.inception.Inception.{Inception}
 use Rattle.sith.specs.declared.threshold.Threshold.TheVariants.{Count}
 
 -- keys of controllers and of witnesses

@@ -1,20 +1,20 @@
 -- What a body stands on as the list grows, and the rules of what a state takes.
 use Rattle.std.proofs.Common.{◌≡◌, Bool, true, false, not, ◌&&◌, ◌||◌, [], ◌∷◌, ◌++◌, Some, None, refl, sym, ◌∙◌, ap, inl, inr}
 use Rattle.std.proofs.lemmas.Bool.{cases_Bool}
-use Rattle.event_body.specs.declared.event.Event.TheVariants.{Icp, Rot, Ixn, Dip, Drt, Rct}
-use Rattle.event_body.specs.Events.{prefix_of, is_receipt}
+use Rattle.event_body.specs.declared.event_body.event.Event.TheVariants.{Icp, Rot, Ixn, Dip, Drt, Rct}
+use Rattle.event_body.specs.EventBody.Events.{prefix_of, is_receipt}
 use Rattle.key_state.specs.Exposure.{own_rules}
 use Rattle.key_state.specs.KeyStates.{misfit}
 use Rattle.key_state.proofs.WitnessLists.{are_changed}
-use Rattle.journal.specs.Logs.{is_in, state, takes}
-use Rattle.journal.specs.Readiness.{is_ready, is_local, is_backed, signed}
-use Rattle.journal.specs.Seals.{anchored}
-use Rattle.core_laws.proofs.Predecessors.{state_before-next, state_before-none}
-use Rattle.core_laws.specs.Standing.{BehindLaw, SoundLaw, ReadyKeptLaw}
-use Rattle.event_rules.specs.Parts.{has_signed, has_backed}
-use Rattle.core_laws.proofs.Enough.{ready_is}
-use Rattle.core_laws.proofs.Woken.{parts_of}
-use Rattle.core_laws.proofs.NextEvents.{rules_of_taken}
+use Rattle.journal.specs.Journal.Logs.{is_in, state, takes}
+use Rattle.journal.specs.Journal.Readiness.{is_ready, is_local, is_backed, signed}
+use Rattle.journal.specs.Journal.Seals.{anchored}
+use Rattle.claim_table.proofs.CoreLawsLemmas.Predecessors.{state_before-next, state_before-none}
+use Rattle.claim_table.specs.CoreLaws.Standing.{BehindLaw, SoundLaw, ReadyKeptLaw}
+use Rattle.journal.specs.EventRules.Parts.{has_signed, has_backed}
+use Rattle.claim_table.proofs.CoreLawsLemmas.Enough.{ready_is}
+use Rattle.claim_table.proofs.CoreLawsLemmas.Woken.{parts_of}
+use Rattle.claim_table.proofs.CoreLawsLemmas.NextEvents.{rules_of_taken}
 
 -- BEHIND
 pub behind : BehindLaw

@@ -5,29 +5,29 @@ use Rattle.std.specs.Cmp.Lexicographic.{bytes_decides}
 use Rattle.std.proofs.lemmas.Bool.{and_parts, and_from, or_parts, not-true, not-false, eqb-true, le-ltb, lt-leb}
 use Rattle.cesr_codes.specs.declared.digest.Digest.{Digest}
 use Rattle.cesr_codes.specs.declared.prefix.Prefix.{Prefix}
-use Rattle.event_body.specs.declared.event.Event.{Event}
-use Rattle.event_body.specs.declared.event.Event.TheVariants.{Icp, Rot, Ixn, Dip, Drt, Rct}
-use Rattle.event_body.specs.Events.{prefix_of, sn_of, said_of, prior_of, is_inception, is_interaction, is_receipt}
+use Rattle.event_body.specs.declared.event_body.event.Event.{Event}
+use Rattle.event_body.specs.declared.event_body.event.Event.TheVariants.{Icp, Rot, Ixn, Dip, Drt, Rct}
+use Rattle.event_body.specs.EventBody.Events.{prefix_of, sn_of, said_of, prior_of, is_inception, is_interaction, is_receipt}
 use Rattle.key_state.specs.declared.state_fault.Misfit.TheVariants.{Sn, Prior, Ended, EstOnly, Kind, WitnessChange}
 use Rattle.key_state.specs.Heads.{head_sn}
 use Rattle.key_state.specs.KeyStates.{digest_at, misfit, are_same, first_true, is_other_kind, is_other_list, is_other_prior, is_other_sn}
 use Rattle.key_state.specs.Same.{has_text, same_digest}
 use Rattle.key_state.specs.States.{State}
 use Rattle.key_state.proofs.Same.{same_prefix_is}
-use Rattle.journal.specs.declared.body.Body.{Body}
-use Rattle.journal.specs.Grown.{IsGrown, fits}
-use Rattle.journal.specs.Logs.{is_in, is_of, same_body, state, takes, precedes, predecessor, stands, state_behind, up_to}
-use Rattle.journal.specs.History.{Told}
-use Rattle.journal.specs.Questions.{state_before}
-use Rattle.journal.proofs.Settling.{find-true}
-use Rattle.core_laws.proofs.Members.{find_contains, find_some, member_any}
+use Rattle.journal.specs.declared.journal.body.Body.{Body}
+use Rattle.journal.specs.Journal.Grown.{IsGrown, fits}
+use Rattle.journal.specs.Journal.Logs.{is_in, is_of, same_body, state, takes, precedes, predecessor, stands, state_behind, up_to}
+use Rattle.journal.specs.Journal.History.{Told}
+use Rattle.journal.specs.Journal.Questions.{state_before}
+use Rattle.journal.proofs.JournalLemmas.Settling.{find-true}
+use Rattle.claim_table.proofs.CoreLawsLemmas.Members.{find_contains, find_some, member_any}
 use Rattle.key_state.proofs.NoMisfit.{fits_sn, fits_prior}
-use Rattle.core_laws.specs.Alike.{AreAlike}
-use Rattle.core_laws.specs.Standing.{AreAlikeIf, HasNoClash, CurrentLaw, StandingReadyLaw, InceptionReadyLaw}
-use Rattle.event_rules.specs.Parts.{Part, supports}
-use Rattle.core_laws.proofs.Adding.{alike_same, inception_same}
-use Rattle.core_laws.proofs.Enough.{ready_is}
-use Rattle.core_laws.proofs.States.{AllStand, IsStanding, StandIf, all_stand, are_same-some, inside_of, none_is, same_digest_is, same_itself, sn_positive}
+use Rattle.claim_table.specs.CoreLaws.Alike.{AreAlike}
+use Rattle.claim_table.specs.CoreLaws.Standing.{AreAlikeIf, HasNoClash, CurrentLaw, StandingReadyLaw, InceptionReadyLaw}
+use Rattle.journal.specs.EventRules.Parts.{Part, supports}
+use Rattle.claim_table.proofs.CoreLawsLemmas.Adding.{alike_same, inception_same}
+use Rattle.claim_table.proofs.CoreLawsLemmas.Enough.{ready_is}
+use Rattle.claim_table.proofs.CoreLawsLemmas.States.{AllStand, IsStanding, StandIf, all_stand, are_same-some, inside_of, none_is, same_digest_is, same_itself, sn_positive}
 
 -- what a rotation or another kind may be, and how the witness list may change, are asked of parts that are alike
 other_kind : (s t : State) → AreAlike s t → (e : Event) → is_other_kind s e ≡ is_other_kind t e

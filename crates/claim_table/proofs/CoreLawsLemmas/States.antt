@@ -7,19 +7,19 @@ use Rattle.std.proofs.lemmas.List.Elements.{Contains-append_right}
 use Rattle.cesr_codes.specs.declared.digest.Digest.{Digest}
 use Rattle.cesr_codes.specs.declared.prefix.Prefix.{Prefix}
 use Rattle.cesr_codes.specs.declared.prefix.Prefix.TheVariants.{Said}
-use Rattle.event_body.specs.declared.event.Event.{Event}
-use Rattle.event_body.specs.declared.event.Event.TheVariants.{Icp, Rot, Ixn, Dip, Drt, Rct}
-use Rattle.event_body.specs.Events.{sn_of, said_of, is_inception, is_receipt}
+use Rattle.event_body.specs.declared.event_body.event.Event.{Event}
+use Rattle.event_body.specs.declared.event_body.event.Event.TheVariants.{Icp, Rot, Ixn, Dip, Drt, Rct}
+use Rattle.event_body.specs.EventBody.Events.{sn_of, said_of, is_inception, is_receipt}
 use Rattle.key_state.specs.Heads.{head_sn}
 use Rattle.key_state.specs.KeyStates.{digest_at, misfit, moved, begun, first, are_same, is_other_sn}
 use Rattle.key_state.specs.Same.{same_digest}
 use Rattle.key_state.specs.States.{State}
 use Rattle.key_state.proofs.Same.{same_prefix_is, same_prefix_itself}
-use Rattle.journal.specs.declared.body.Body.{Body}
-use Rattle.journal.specs.Logs.{is_of, state, stepped}
-use Rattle.journal.proofs.StateSteps.{state-own, state-other}
-use Rattle.core_laws.specs.Alike.{AreAlike}
-use Rattle.core_laws.proofs.Alike.{alike-grown, alike-itself}
+use Rattle.journal.specs.declared.journal.body.Body.{Body}
+use Rattle.journal.specs.Journal.Logs.{is_of, state, stepped}
+use Rattle.journal.proofs.JournalLemmas.StateSteps.{state-own, state-other}
+use Rattle.claim_table.specs.CoreLaws.Alike.{AreAlike}
+use Rattle.claim_table.proofs.CoreLawsLemmas.Alike.{alike-grown, alike-itself}
 use Rattle.key_state.proofs.NoMisfit.{fits_sn}
 
 -- an event of the identifier with this number and digest stands in the list and is the head of the state just behind it, which is

@@ -6,28 +6,28 @@ use Rattle.std.proofs.lemmas.Bool.{cases_Bool, and_parts}
 use Rattle.std.proofs.lemmas.List.Elements.{filter-append, filter_map-append}
 use Rattle.cesr_codes.specs.declared.key.Key.{Key}
 use Rattle.cesr_codes.specs.declared.sig.Sig.{Sig}
-use Rattle.event_body.specs.declared.event.Event.{Event}
+use Rattle.event_body.specs.declared.event_body.event.Event.{Event}
 use Rattle.key_state.specs.Exposure.{own_rules}
 use Rattle.key_state.specs.States.{State}
 use Rattle.key_state.proofs.Same.{numbers, number_itself}
-use Rattle.journal.specs.declared.body.Body.{Body}
-use Rattle.journal.specs.Logs.{same_body, stands}
-use Rattle.journal.specs.History.{Told, Triple, same_triple, claims_in, claims_on}
-use Rattle.journal.specs.Questions.{state_before}
-use Rattle.journal.proofs.Places.{one_body, one_place, slice_get_last, slice_get_before}
-use Rattle.journal.proofs.Different.{Differ}
-use Rattle.journal.proofs.Same.{same_triple_is, same_triple_itself}
-use Rattle.event_rules.specs.Parts.{Row as Found}
-use Rattle.core_laws.specs.Claimed.{row_of, rows_of}
-use Rattle.claim_table.specs.declared.claimed.Claimed.{Claimed}
-use Rattle.claim_table.specs.declared.row.Row.{Row}
-use Rattle.claim_table.specs.declared.signature.Signature.{Signature}
-use Rattle.claim_table.specs.Rows.{DoAgree}
-use Rattle.claim_table.specs.Rows.{signature_of, is_of, is_raised, verdict_of, raised, raised_all, same_signature, with_verdicts}
-use Rattle.claim_table.specs.Table.{AreBelow}
-use Rattle.claim_table.proofs.Rows.{agree_raised, agree_set, same_is, same_itself, set_at, set_claimed, verdict_heard, verdict_none, verdict_other, verdict_raised}
-use Rattle.core_laws.specs.ClaimRows.{AreFound, found_on, claimed_at, triple_on, HasClaims}
-use Rattle.core_laws.proofs.Told.{claims_push}
+use Rattle.journal.specs.declared.journal.body.Body.{Body}
+use Rattle.journal.specs.Journal.Logs.{same_body, stands}
+use Rattle.journal.specs.Journal.History.{Told, Triple, same_triple, claims_in, claims_on}
+use Rattle.journal.specs.Journal.Questions.{state_before}
+use Rattle.journal.proofs.JournalLemmas.Places.{one_body, one_place, slice_get_last, slice_get_before}
+use Rattle.journal.proofs.JournalLemmas.Different.{Differ}
+use Rattle.journal.proofs.JournalLemmas.Same.{same_triple_is, same_triple_itself}
+use Rattle.journal.specs.EventRules.Parts.{Row as Found}
+use Rattle.claim_table.specs.CoreLaws.Claimed.{row_of, rows_of}
+use Rattle.claim_table.specs.declared.claim_table.claimed.Claimed.{Claimed}
+use Rattle.claim_table.specs.declared.claim_table.row.Row.{Row}
+use Rattle.claim_table.specs.declared.claim_table.signature.Signature.{Signature}
+use Rattle.claim_table.specs.ClaimTable.Rows.{DoAgree}
+use Rattle.claim_table.specs.ClaimTable.Rows.{signature_of, is_of, is_raised, verdict_of, raised, raised_all, same_signature, with_verdicts}
+use Rattle.claim_table.specs.ClaimTable.Table.{AreBelow}
+use Rattle.claim_table.proofs.ClaimTableLemmas.Rows.{agree_raised, agree_set, same_is, same_itself, set_at, set_claimed, verdict_heard, verdict_none, verdict_other, verdict_raised}
+use Rattle.claim_table.specs.CoreLaws.ClaimRows.{AreFound, found_on, claimed_at, triple_on, HasClaims}
+use Rattle.claim_table.proofs.CoreLawsLemmas.Told.{claims_push}
 
 length_push : {X : Type 0} (xs : List X) (x : X) → length (xs ++ x ∷ []) ≡ suc (length xs)
 length_push [] x = refl

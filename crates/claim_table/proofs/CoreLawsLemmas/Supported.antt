@@ -10,27 +10,27 @@ use Rattle.cesr_codes.specs.declared.sig.Sig.{Sig}
 use Rattle.key_state.specs.Exposure.{own_rules}
 use Rattle.key_state.specs.Same.{same_key, are_witnesses}
 use Rattle.key_state.proofs.Same.{numbers}
-use Rattle.journal.specs.declared.body.Body.{Body}
-use Rattle.journal.specs.Logs.{stands}
-use Rattle.journal.specs.History.{Told, Triple, same_triple, claimed_sig, claims_on, said_yes, has_verdict, yes_in}
-use Rattle.journal.specs.Questions.{state_before, raised_by}
-use Rattle.journal.specs.Readiness.{backs}
-use Rattle.journal.proofs.Places.{found_at, any_at}
-use Rattle.journal.proofs.Same.{same_triple_is, same_triple_itself}
-use Rattle.event_rules.specs.Claims.{is_so}
-use Rattle.event_rules.specs.Parts.{index, reveal, Row as Found, brings_all, says_of, supports}
-use Rattle.core_laws.specs.Claimed.{rows_of}
-use Rattle.core_laws.proofs.Claimed.{rows_are}
-use Rattle.claim_table.specs.declared.claimed.Claimed.{Claimed}
-use Rattle.claim_table.specs.declared.part.Part.{Part as TablePart}
-use Rattle.claim_table.specs.declared.part.Part.TheVariants.{Indexed, Revealed, Backed}
-use Rattle.claim_table.specs.declared.row.Row.{Row}
-use Rattle.claim_table.specs.declared.signature.Signature.{Signature}
-use Rattle.claim_table.specs.Parts.{brings_part, has_part, supports as row_supports}
-use Rattle.claim_table.specs.Rows.{is_of, is_raised, is_yes, verdict_of}
-use Rattle.core_laws.specs.ClaimRows.{part_of, AreFound, found_on, claimed_at, triple_on, verdict_in, AreClaims}
-use Rattle.core_laws.proofs.Noted.{any-map, any-when, raised_is}
-use Rattle.core_laws.proofs.Open.{on_body, filter-map, triples_raised}
+use Rattle.journal.specs.declared.journal.body.Body.{Body}
+use Rattle.journal.specs.Journal.Logs.{stands}
+use Rattle.journal.specs.Journal.History.{Told, Triple, same_triple, claimed_sig, claims_on, said_yes, has_verdict, yes_in}
+use Rattle.journal.specs.Journal.Questions.{state_before, raised_by}
+use Rattle.journal.specs.Journal.Readiness.{backs}
+use Rattle.journal.proofs.JournalLemmas.Places.{found_at, any_at}
+use Rattle.journal.proofs.JournalLemmas.Same.{same_triple_is, same_triple_itself}
+use Rattle.journal.specs.EventRules.Claims.{is_so}
+use Rattle.journal.specs.EventRules.Parts.{index, reveal, Row as Found, brings_all, says_of, supports}
+use Rattle.claim_table.specs.CoreLaws.Claimed.{rows_of}
+use Rattle.claim_table.proofs.CoreLawsLemmas.Claimed.{rows_are}
+use Rattle.claim_table.specs.declared.claim_table.claimed.Claimed.{Claimed}
+use Rattle.claim_table.specs.declared.claim_table.part.Part.{Part as TablePart}
+use Rattle.claim_table.specs.declared.claim_table.part.Part.TheVariants.{Indexed, Revealed, Backed}
+use Rattle.claim_table.specs.declared.claim_table.row.Row.{Row}
+use Rattle.claim_table.specs.declared.claim_table.signature.Signature.{Signature}
+use Rattle.claim_table.specs.ClaimTable.Parts.{brings_part, has_part, supports as row_supports}
+use Rattle.claim_table.specs.ClaimTable.Rows.{is_of, is_raised, is_yes, verdict_of}
+use Rattle.claim_table.specs.CoreLaws.ClaimRows.{part_of, AreFound, found_on, claimed_at, triple_on, verdict_in, AreClaims}
+use Rattle.claim_table.proofs.CoreLawsLemmas.Noted.{any-map, any-when, raised_is}
+use Rattle.claim_table.proofs.CoreLawsLemmas.Open.{on_body, filter-map, triples_raised}
 
 -- tests that are equal for each member are passed by one or by none
 any-members : {X : Type 0} (p q : X → Bool) (xs : List X) → ((i : ℕ) (x : X) → slice_get xs i ≡ Some x → p x ≡ q x) → list_any p xs ≡ list_any q xs

@@ -4,15 +4,15 @@ use Rattle.std.specs.Prelude.{flat_map, is_none}
 use Rattle.std.specs.List.{list_any}
 use Rattle.std.proofs.lemmas.Bool.{cases_Bool, or_parts, or_left, or_right}
 use Rattle.std.proofs.lemmas.List.Folds.{list_any-append}
-use Rattle.journal.specs.declared.claim.Claim.{Claim}
-use Rattle.journal.specs.declared.body.Body.{Body}
-use Rattle.journal.specs.History.{Told, took, heard, Triple, same_triple, claims_in, claims_on, heard_in, yes_in, said_yes, has_verdict}
+use Rattle.journal.specs.declared.journal.claim.Claim.{Claim}
+use Rattle.journal.specs.declared.journal.body.Body.{Body}
+use Rattle.journal.specs.Journal.History.{Told, took, heard, Triple, same_triple, claims_in, claims_on, heard_in, yes_in, said_yes, has_verdict}
 use Rattle.std.proofs.Math.Bool.{or-false}
 use Rattle.cesr_codes.specs.declared.key.Key.{Key}
 use Rattle.cesr_codes.specs.declared.sig.Sig.{Sig}
-use Rattle.journal.proofs.Same.{same_triple_is}
-use Rattle.journal.proofs.Locality.{flat_map-push}
-use Rattle.core_laws.specs.ClaimRows.{verdict_in, triple_on}
+use Rattle.journal.proofs.JournalLemmas.Same.{same_triple_is}
+use Rattle.journal.proofs.JournalLemmas.Locality.{flat_map-push}
+use Rattle.claim_table.specs.CoreLaws.ClaimRows.{verdict_in, triple_on}
 
 -- where no verdict was heard, no yes was
 pub yes_is_heard : (told : List Told) (x : Triple) → has_verdict told x ≡ false → said_yes told x ≡ false

@@ -7,29 +7,29 @@ use Rattle.std.proofs.lemmas.List.Folds.{list_any-append}
 use Rattle.std.proofs.Math.Bool.{or-false}
 use Rattle.cesr_codes.specs.declared.prefix.Prefix.{Prefix}
 use Rattle.cesr_codes.specs.declared.prefix.Prefix.TheVariants.{Said}
-use Rattle.event_body.specs.declared.event.Event.{Event}
-use Rattle.event_body.specs.declared.event.Event.TheVariants.{Icp, Rot, Ixn, Dip, Drt, Rct}
-use Rattle.event_body.specs.Events.{prefix_of, sn_of, said_of, prior_of, is_receipt}
+use Rattle.event_body.specs.declared.event_body.event.Event.{Event}
+use Rattle.event_body.specs.declared.event_body.event.Event.TheVariants.{Icp, Rot, Ixn, Dip, Drt, Rct}
+use Rattle.event_body.specs.EventBody.Events.{prefix_of, sn_of, said_of, prior_of, is_receipt}
 use Rattle.key_state.specs.Heads.{head_sn}
 use Rattle.key_state.specs.KeyStates.{digest_at, misfit_rules, are_same}
 use Rattle.key_state.specs.Same.{same_digest}
 use Rattle.key_state.specs.States.{State}
-use Rattle.journal.specs.declared.mode.Mode.{Mode}
-use Rattle.journal.specs.declared.mode.Mode.TheVariants.{Full, Local}
-use Rattle.journal.specs.declared.body.Body.{Body}
-use Rattle.journal.specs.Logs.{is_in, is_of, same_body, state, stepped, takes, precedes, predecessor}
-use Rattle.journal.specs.Seals.{seals, anchored, is_delegated, is_sealed, delegator_of, forbids, has_trait}
-use Rattle.journal.specs.History.{Told}
-use Rattle.journal.specs.Readiness.{is_ready, is_local, is_backed, signed}
-use Rattle.journal.proofs.StateSteps.{state-own, state-other}
-use Rattle.journal.proofs.Settling.{outside}
-use Rattle.core_laws.specs.Alike.{AreAlike}
+use Rattle.journal.specs.declared.journal.mode.Mode.{Mode}
+use Rattle.journal.specs.declared.journal.mode.Mode.TheVariants.{Full, Local}
+use Rattle.journal.specs.declared.journal.body.Body.{Body}
+use Rattle.journal.specs.Journal.Logs.{is_in, is_of, same_body, state, stepped, takes, precedes, predecessor}
+use Rattle.journal.specs.Journal.Seals.{seals, anchored, is_delegated, is_sealed, delegator_of, forbids, has_trait}
+use Rattle.journal.specs.Journal.History.{Told}
+use Rattle.journal.specs.Journal.Readiness.{is_ready, is_local, is_backed, signed}
+use Rattle.journal.proofs.JournalLemmas.StateSteps.{state-own, state-other}
+use Rattle.journal.proofs.JournalLemmas.Settling.{outside}
+use Rattle.claim_table.specs.CoreLaws.Alike.{AreAlike}
 use Rattle.key_state.proofs.Same.{same_prefix_itself}
-use Rattle.core_laws.proofs.Members.{find_some, member_any}
-use Rattle.core_laws.proofs.States.{StandIf, all_stand, are_same-some, inside_of}
-use Rattle.core_laws.specs.Waking.{holds_first_seal, is_anchored, is_there, may_wake, WakingLaw}
-use Rattle.core_laws.proofs.Alike.{signed-alike, is_backed-alike}
-use Rattle.core_laws.proofs.NextEvents.{AllFalse, HasSome, rules_of_taken, step_next}
+use Rattle.claim_table.proofs.CoreLawsLemmas.Members.{find_some, member_any}
+use Rattle.claim_table.proofs.CoreLawsLemmas.States.{StandIf, all_stand, are_same-some, inside_of}
+use Rattle.claim_table.specs.CoreLaws.Waking.{holds_first_seal, is_anchored, is_there, may_wake, WakingLaw}
+use Rattle.claim_table.proofs.CoreLawsLemmas.Alike.{signed-alike, is_backed-alike}
+use Rattle.claim_table.proofs.CoreLawsLemmas.NextEvents.{AllFalse, HasSome, rules_of_taken, step_next}
 
 -- a body is ready under a state of its identifier
 abbrev ready_under : Mode → List Told → List Body → Option State → Body → Bool

@@ -8,25 +8,25 @@ use Rattle.std.proofs.lemmas.List.Elements.{Contains-push, Contains-append_left,
 use Rattle.std.proofs.lemmas.List.Folds.{list_any-append}
 use Rattle.cesr_codes.specs.declared.digest.Digest.{Digest}
 use Rattle.cesr_codes.specs.declared.prefix.Prefix.{Prefix}
-use Rattle.event_body.specs.declared.event.Event.{Event}
-use Rattle.event_body.specs.declared.event.Event.TheVariants.{Icp, Rot, Ixn, Dip, Drt, Rct}
-use Rattle.event_body.specs.Events.{prefix_of, sn_of, said_of, prior_of, is_inception, is_receipt}
+use Rattle.event_body.specs.declared.event_body.event.Event.{Event}
+use Rattle.event_body.specs.declared.event_body.event.Event.TheVariants.{Icp, Rot, Ixn, Dip, Drt, Rct}
+use Rattle.event_body.specs.EventBody.Events.{prefix_of, sn_of, said_of, prior_of, is_inception, is_receipt}
 use Rattle.key_state.specs.KeyStates.{are_same, misfit, moved}
 use Rattle.key_state.specs.States.{State}
 use Rattle.key_state.proofs.Same.{same_prefix_is}
-use Rattle.journal.specs.declared.body.Body.{Body}
-use Rattle.journal.specs.declared.mode.Mode.{Mode}
-use Rattle.journal.specs.Grown.{IsGrown, fits}
-use Rattle.journal.specs.Logs.{is_in, is_of, same_body, state, stepped, precedes, predecessor}
-use Rattle.journal.specs.Seals.{seals, anchored, forbids, is_delegated, is_sealed, delegator_of}
-use Rattle.journal.specs.Readiness.{is_local}
-use Rattle.journal.proofs.StateSteps.{state-own, state-other}
-use Rattle.journal.proofs.Settling.{find-true}
-use Rattle.core_laws.proofs.Members.{find_contains, member_any}
-use Rattle.core_laws.specs.Looks.{times, TwiceLaw, OnceLaw}
-use Rattle.core_laws.specs.Standing.{HasNoClash}
-use Rattle.core_laws.specs.Waking.{holds_first_seal, seals_first, is_waiting, is_there, is_anchored, may_wake, wakes}
-use Rattle.core_laws.proofs.States.{same_digest_is}
+use Rattle.journal.specs.declared.journal.body.Body.{Body}
+use Rattle.journal.specs.declared.journal.mode.Mode.{Mode}
+use Rattle.journal.specs.Journal.Grown.{IsGrown, fits}
+use Rattle.journal.specs.Journal.Logs.{is_in, is_of, same_body, state, stepped, precedes, predecessor}
+use Rattle.journal.specs.Journal.Seals.{seals, anchored, forbids, is_delegated, is_sealed, delegator_of}
+use Rattle.journal.specs.Journal.Readiness.{is_local}
+use Rattle.journal.proofs.JournalLemmas.StateSteps.{state-own, state-other}
+use Rattle.journal.proofs.JournalLemmas.Settling.{find-true}
+use Rattle.claim_table.proofs.CoreLawsLemmas.Members.{find_contains, member_any}
+use Rattle.claim_table.specs.CoreLaws.Looks.{times, TwiceLaw, OnceLaw}
+use Rattle.claim_table.specs.CoreLaws.Standing.{HasNoClash}
+use Rattle.claim_table.specs.CoreLaws.Waking.{holds_first_seal, seals_first, is_waiting, is_there, is_anchored, may_wake, wakes}
+use Rattle.claim_table.proofs.CoreLawsLemmas.States.{same_digest_is}
 
 one_prior : (o : Option Digest) (d e : Digest) → are_same o (Some d) ≡ true → are_same o (Some e) ≡ true → d ≡ e
 one_prior None d e h k = cc

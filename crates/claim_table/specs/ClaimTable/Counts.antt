@@ -1,9 +1,9 @@
 -- Counts of parts.
 use Rattle.std.specs.Prelude.{ℕ, Bool, false, ◌&&◌, ◌==◌, Option, Some, None, is_some, slice_get}
-use Rattle.claim_table.specs.BodyParts.{BodyPart}
-use Rattle.claim_table.specs.Entries.{Entries, or_zero, part_entry, same_part}
-use Rattle.claim_table.specs.declared.part.Part.{Part}
-use Rattle.claim_table.specs.declared.part_counts.PartCounts.{PartCounts}
+use Rattle.claim_table.specs.ClaimTable.BodyParts.{BodyPart}
+use Rattle.claim_table.specs.ClaimTable.Entries.{Entries, or_zero, part_entry, same_part}
+use Rattle.claim_table.specs.declared.claim_table.part.Part.{Part}
+use Rattle.claim_table.specs.declared.claim_table.part_counts.PartCounts.{PartCounts}
 
 -- the entry of a part, where there are entries for its body
 abbrev pub entry_at : Option Entries → Part → Option ℕ

@@ -6,10 +6,10 @@ use Rattle.std.specs.Map.{keys_of, lookup}
 use Rattle.std.specs.declared.cmp.Ordering.{Ordering}
 use Rattle.std.specs.declared.cmp.Ordering.TheVariants.{Less, Greater}
 use Rattle.std.specs.declared.cmp.Ord as ord
-use Rattle.claim_table.specs.contracts.part.PartOrd.TheImpl as part_order
-use Rattle.claim_table.specs.declared.part.Part.{Part}
-use Rattle.claim_table.specs.declared.part.Part.TheVariants.{Indexed, Revealed, Backed}
-use Rattle.claim_table.specs.Parts.{is_backer}
+use Rattle.claim_table.specs.contracts.claim_table.part.PartOrd.TheImpl as part_order
+use Rattle.claim_table.specs.declared.claim_table.part.Part.{Part}
+use Rattle.claim_table.specs.declared.claim_table.part.Part.TheVariants.{Indexed, Revealed, Backed}
+use Rattle.claim_table.specs.ClaimTable.Parts.{is_backer}
 use denote.Param as param
 
 abbrev pub part_cmp : Part → Part → Ordering

@@ -1,10 +1,10 @@
 -- What an index has at a key of a body.
 use Rattle.std.specs.Prelude.{ℕ, List, [], ◌++◌, length, nat_lt, slice_get, if◌then◌else◌}
 use Rattle.std.specs.declared.cmp.Ordering.{Ordering}
-use Rattle.event_index.specs.Keys.{numbers_at, numbers_in}
-use Rattle.event_index.specs.Numbers.{Numbers}
-use Rattle.claim_table.specs.declared.body_index.BodyIndex.{BodyIndex}
-use Rattle.claim_table.specs.declared.body_numbers.BodyNumbers.{BodyNumbers}
+use Rattle.escrow.specs.EventIndex.Keys.{numbers_at, numbers_in}
+use Rattle.escrow.specs.EventIndex.Numbers.{Numbers}
+use Rattle.claim_table.specs.declared.claim_table.body_index.BodyIndex.{BodyIndex}
+use Rattle.claim_table.specs.declared.claim_table.body_numbers.BodyNumbers.{BodyNumbers}
 
 -- the numbers of a body, and none where there is no place for it
 abbrev pub few_in : List Numbers → ℕ → List ℕ

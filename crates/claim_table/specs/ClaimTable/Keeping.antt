@@ -4,20 +4,20 @@ use Rattle.std.specs.Option.{option_map}
 use Rattle.std.specs.declared.cmp.Ordering.{Ordering}
 use Rattle.std.specs.declared.cmp.Ord as ord
 use Rattle.std.specs.BTreeSet.{contains}
-use Rattle.claim_table.specs.contracts.signature.SignatureOrd.TheImpl as signature_order
-use Rattle.claim_table.specs.contracts.spot.SpotOrd.TheImpl as spot_order
-use Rattle.claim_table.specs.declared.body_index.BodyIndex.{BodyIndex}
-use Rattle.claim_table.specs.declared.claim_rows.ClaimRows.{ClaimRows}
-use Rattle.claim_table.specs.declared.claim_rows.Pending.{Pending}
-use Rattle.claim_table.specs.BodyParts.{BodyPart}
-use Rattle.claim_table.specs.declared.row.Row.{Row}
-use Rattle.claim_table.specs.declared.signature.Signature.{Signature}
-use Rattle.claim_table.specs.declared.spot.Spot.{Spot}
-use Rattle.claim_table.specs.Counts.{amount, is_entered}
-use Rattle.claim_table.specs.Hinted.{hints_at}
-use Rattle.claim_table.specs.Parts.{brings, supports}
-use Rattle.claim_table.specs.Rows.{DoAgree, is_of, is_raised, signature_of, verdict_of}
-use Rattle.claim_table.specs.Table.{Table}
+use Rattle.claim_table.specs.contracts.claim_table.signature.SignatureOrd.TheImpl as signature_order
+use Rattle.claim_table.specs.contracts.claim_table.spot.SpotOrd.TheImpl as spot_order
+use Rattle.claim_table.specs.declared.claim_table.body_index.BodyIndex.{BodyIndex}
+use Rattle.claim_table.specs.declared.claim_table.claim_rows.ClaimRows.{ClaimRows}
+use Rattle.claim_table.specs.declared.claim_table.claim_rows.Pending.{Pending}
+use Rattle.claim_table.specs.ClaimTable.BodyParts.{BodyPart}
+use Rattle.claim_table.specs.declared.claim_table.row.Row.{Row}
+use Rattle.claim_table.specs.declared.claim_table.signature.Signature.{Signature}
+use Rattle.claim_table.specs.declared.claim_table.spot.Spot.{Spot}
+use Rattle.claim_table.specs.ClaimTable.Counts.{amount, is_entered}
+use Rattle.claim_table.specs.ClaimTable.Hinted.{hints_at}
+use Rattle.claim_table.specs.ClaimTable.Parts.{brings, supports}
+use Rattle.claim_table.specs.ClaimTable.Rows.{DoAgree, is_of, is_raised, signature_of, verdict_of}
+use Rattle.claim_table.specs.ClaimTable.Table.{Table}
 use denote.Param as param
 
 -- the orders of the keys

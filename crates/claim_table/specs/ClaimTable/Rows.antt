@@ -3,9 +3,9 @@ use Rattle.std.specs.Prelude.{◌≡◌, ℕ, Bool, false, ◌&&◌, ◌==◌, n
 use Rattle.std.specs.List.{list_any, range_with_len}
 use Rattle.cesr_codes.specs.Spelling.{key_code}
 use Rattle.cesr_codes.specs.declared.key.Key.{Key}
-use Rattle.claim_table.specs.declared.claimed.Claimed.{Claimed}
-use Rattle.claim_table.specs.declared.row.Row.{Row}
-use Rattle.claim_table.specs.declared.signature.Signature.{Signature}
+use Rattle.claim_table.specs.declared.claim_table.claimed.Claimed.{Claimed}
+use Rattle.claim_table.specs.declared.claim_table.row.Row.{Row}
+use Rattle.claim_table.specs.declared.claim_table.signature.Signature.{Signature}
 
 -- a claim's signature
 abbrev pub signature_of : Claimed → Signature

@@ -1,8 +1,8 @@
 -- The table as its callers see it.
 use Rattle.std.specs.Prelude.{◌≡◌, ◌<◌, ℕ, true, List, [], Option, Some, None, slice_get, take}
-use Rattle.claim_table.specs.declared.row.Row.{Row}
-use Rattle.claim_table.specs.declared.signature.Signature.{Signature}
-use Rattle.claim_table.specs.Rows.{is_raised}
+use Rattle.claim_table.specs.declared.claim_table.row.Row.{Row}
+use Rattle.claim_table.specs.declared.claim_table.signature.Signature.{Signature}
+use Rattle.claim_table.specs.ClaimTable.Rows.{is_raised}
 
 -- the rows, and the signature whose verdict may still be taken back, where there is one
 pub record Table : Type 0 where

@@ -2,24 +2,24 @@
 use Rattle.std.specs.Prelude.{◌≡◌, ℕ, Bool, true, false, ◌==◌, List, [], ◌∷◌, length, map, filter, slice_get, Option, Some, None, if◌then◌else◌}
 use Rattle.cesr_codes.specs.declared.key.Key.{Key}
 use Rattle.cesr_codes.specs.declared.sig.Sig.{Sig}
-use Rattle.event_body.specs.declared.event.Event.{Event}
+use Rattle.event_body.specs.declared.event_body.event.Event.{Event}
 use Rattle.key_state.specs.Exposure.{own_rules}
 use Rattle.key_state.specs.Same.{are_witnesses}
 use Rattle.key_state.specs.States.{State}
-use Rattle.journal.specs.declared.body.Body.{Body}
-use Rattle.journal.specs.Logs.{stands}
-use Rattle.journal.specs.History.{Told, Triple, claimed_sig, claims_on, said_yes, has_verdict}
-use Rattle.journal.specs.Questions.{state_before}
-use Rattle.event_rules.specs.Parts.{Part, index, reveal, backer, Row as Found, brings_all}
-use Rattle.core_laws.specs.Claimed.{rows_of}
-use Rattle.claim_table.specs.declared.claimed.Claimed.{Claimed}
-use Rattle.claim_table.specs.declared.part.Part.{Part as TablePart}
-use Rattle.claim_table.specs.declared.part.Part.TheVariants.{Indexed, Revealed, Backed}
-use Rattle.claim_table.specs.declared.row.Row.{Row}
-use Rattle.claim_table.specs.Parts.{brings_part}
-use Rattle.claim_table.specs.Rows.{DoAgree}
-use Rattle.claim_table.specs.Rows.{verdict_of}
-use Rattle.claim_table.specs.Table.{AreBelow}
+use Rattle.journal.specs.declared.journal.body.Body.{Body}
+use Rattle.journal.specs.Journal.Logs.{stands}
+use Rattle.journal.specs.Journal.History.{Told, Triple, claimed_sig, claims_on, said_yes, has_verdict}
+use Rattle.journal.specs.Journal.Questions.{state_before}
+use Rattle.journal.specs.EventRules.Parts.{Part, index, reveal, backer, Row as Found, brings_all}
+use Rattle.claim_table.specs.CoreLaws.Claimed.{rows_of}
+use Rattle.claim_table.specs.declared.claim_table.claimed.Claimed.{Claimed}
+use Rattle.claim_table.specs.declared.claim_table.part.Part.{Part as TablePart}
+use Rattle.claim_table.specs.declared.claim_table.part.Part.TheVariants.{Indexed, Revealed, Backed}
+use Rattle.claim_table.specs.declared.claim_table.row.Row.{Row}
+use Rattle.claim_table.specs.ClaimTable.Parts.{brings_part}
+use Rattle.claim_table.specs.ClaimTable.Rows.{DoAgree}
+use Rattle.claim_table.specs.ClaimTable.Rows.{verdict_of}
+use Rattle.claim_table.specs.ClaimTable.Table.{AreBelow}
 
 -- a part as the table names it
 abbrev pub part_of : TablePart → Part

@@ -5,10 +5,10 @@ use Rattle.cesr_codes.specs.declared.key.Key.{Key}
 use Rattle.cesr_codes.specs.declared.sig.Sig.{Sig}
 use Rattle.key_state.specs.Exposure.{Rules, own_rules}
 use Rattle.key_state.specs.States.{State}
-use Rattle.journal.specs.declared.body.Body.{Body}
-use Rattle.journal.specs.declared.claim.Claim.{Claim}
-use Rattle.journal.specs.History.{claimed_key, claimed_sig, triple_of}
-use Rattle.event_rules.specs.Parts.{Part, Row, brings, parts_in}
+use Rattle.journal.specs.declared.journal.body.Body.{Body}
+use Rattle.journal.specs.declared.journal.claim.Claim.{Claim}
+use Rattle.journal.specs.Journal.History.{claimed_key, claimed_sig, triple_of}
+use Rattle.journal.specs.EventRules.Parts.{Part, Row, brings, parts_in}
 
 -- a claim with its key, where that is found
 abbrev pub row_of : Rules → Claim → Option Row

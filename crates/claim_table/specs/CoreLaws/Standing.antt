@@ -1,19 +1,19 @@
 -- The state that an event follows, and the current state of its identifier.
 use Rattle.std.specs.Prelude.{◌≡◌, Bool, true, false, List, [], ◌∷◌, ◌++◌, Option, Some, None, IfSome, Contains}
-use Rattle.event_body.specs.Events.{prefix_of, sn_of, said_of, is_inception, is_receipt}
-use Rattle.event_body.specs.declared.event.Event.{Event}
+use Rattle.event_body.specs.EventBody.Events.{prefix_of, sn_of, said_of, is_inception, is_receipt}
+use Rattle.event_body.specs.declared.event_body.event.Event.{Event}
 use Rattle.key_state.specs.Kept.{IsKept}
 use Rattle.key_state.specs.States.{State, IsState}
-use Rattle.journal.specs.declared.body.Body.{Body}
-use Rattle.journal.specs.declared.mode.Mode.{Mode}
-use Rattle.journal.specs.Grown.{IsGrown}
-use Rattle.journal.specs.Logs.{is_in, precedes, predecessor, state, takes}
-use Rattle.journal.specs.History.{Told}
-use Rattle.journal.specs.Questions.{state_before}
-use Rattle.journal.specs.Readiness.{is_ready}
-use Rattle.core_laws.specs.Alike.{AreAlike}
-use Rattle.event_rules.specs.Parts.{Part, supports}
-use Rattle.core_laws.specs.Support.{ready_by, AreSound}
+use Rattle.journal.specs.declared.journal.body.Body.{Body}
+use Rattle.journal.specs.declared.journal.mode.Mode.{Mode}
+use Rattle.journal.specs.Journal.Grown.{IsGrown}
+use Rattle.journal.specs.Journal.Logs.{is_in, precedes, predecessor, state, takes}
+use Rattle.journal.specs.Journal.History.{Told}
+use Rattle.journal.specs.Journal.Questions.{state_before}
+use Rattle.journal.specs.Journal.Readiness.{is_ready}
+use Rattle.claim_table.specs.CoreLaws.Alike.{AreAlike}
+use Rattle.journal.specs.EventRules.Parts.{Part, supports}
+use Rattle.claim_table.specs.CoreLaws.Support.{ready_by, AreSound}
 use Rattle.key_state.specs.Exposure.{own_rules}
 
 -- both states are there and differ in their live events alone

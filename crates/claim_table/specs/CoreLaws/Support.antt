@@ -2,22 +2,22 @@
 use Rattle.std.specs.Prelude.{◌≡◌, ℕ, Bool, true, ◌&&◌, ◌||◌, not, List, [], ◌∷◌, ◌++◌, length, slice_get, Option, Some, IsTrue}
 use Rattle.cesr_codes.specs.declared.key.Key.{Key}
 use Rattle.cesr_codes.specs.declared.sig.Sig.{Sig}
-use Rattle.event_body.specs.Events.{prefix_of, is_receipt, is_inception}
+use Rattle.event_body.specs.EventBody.Events.{prefix_of, is_receipt, is_inception}
 use Rattle.sith.specs.Rules.{IsReadFor}
 use Rattle.key_state.specs.Exposure.{Rules, own_rules}
 use Rattle.key_state.specs.Same.{same_key, same_sig, are_witnesses}
 use Rattle.key_state.specs.States.{State}
-use Rattle.journal.specs.declared.body.Body.{Body}
-use Rattle.journal.specs.declared.claim.Claim.{Claim}
-use Rattle.journal.specs.declared.mode.Mode.{Mode}
-use Rattle.journal.specs.Logs.{is_in, same_body, state, takes, predecessor}
-use Rattle.journal.specs.Seals.{anchored}
-use Rattle.journal.specs.History.{Told, took, heard, claims_in, claims_on}
-use Rattle.journal.specs.Questions.{state_before}
-use Rattle.journal.specs.Readiness.{is_ready, is_local, is_backed, signed}
-use Rattle.event_rules.specs.Claims.{is_so}
-use Rattle.event_rules.specs.Parts.{Part, index, reveal, backer, has_backed, has_signed, parts_in, says_of, supports}
-use Rattle.core_laws.specs.Alike.{AreAlike}
+use Rattle.journal.specs.declared.journal.body.Body.{Body}
+use Rattle.journal.specs.declared.journal.claim.Claim.{Claim}
+use Rattle.journal.specs.declared.journal.mode.Mode.{Mode}
+use Rattle.journal.specs.Journal.Logs.{is_in, same_body, state, takes, predecessor}
+use Rattle.journal.specs.Journal.Seals.{anchored}
+use Rattle.journal.specs.Journal.History.{Told, took, heard, claims_in, claims_on}
+use Rattle.journal.specs.Journal.Questions.{state_before}
+use Rattle.journal.specs.Journal.Readiness.{is_ready, is_local, is_backed, signed}
+use Rattle.journal.specs.EventRules.Claims.{is_so}
+use Rattle.journal.specs.EventRules.Parts.{Part, index, reveal, backer, has_backed, has_signed, parts_in, says_of, supports}
+use Rattle.claim_table.specs.CoreLaws.Alike.{AreAlike}
 
 -- the event's own threshold is one of so many keys, and its witnesses stand once
 pub record AreSound (rules : Rules) : Type 0 where

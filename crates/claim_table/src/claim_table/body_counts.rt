@@ -2,10 +2,10 @@
 ghost use Rattle.std.specs.Prelude.{◌≡◌, ◌+◌, ◌-◌, ◌<◌, ◌^◌, true, [], set, slice_get, Some, None, IfOk, IfErr, IfSome, IfNone, OnOk, is_some};
 ghost use Rattle.std.specs.List.Sorted.{IsStrictlySortedBy};
 ghost use Rattle.std.specs.Map.{keys_of};
-ghost use Rattle.claim_table.specs.Entries.{AreEntries, IsGapFor, IsPlaceOf, backer_count, backs, bit, or_zero, part_cmp, part_entry, same_part};
-ghost use Rattle.claim_table.specs.declared.part.Part.{Part as PartValue};
+ghost use Rattle.claim_table.specs.ClaimTable.Entries.{AreEntries, IsGapFor, IsPlaceOf, backer_count, backs, bit, or_zero, part_cmp, part_entry, same_part};
+ghost use Rattle.claim_table.specs.declared.claim_table.part.Part.{Part as PartValue};
 
-use crate::part::Part;
+use crate::claim_table::part::Part;
 use std::alloc::{AllocError, Global};
 use std::marker::Model;
 
@@ -19,7 +19,7 @@ pub(crate) struct BodyCounts {
 }
 
 impl Model for BodyCounts {
-    ghost use Rattle.claim_table.specs.Entries.{AreEntries, Entries};
+    ghost use Rattle.claim_table.specs.ClaimTable.Entries.{AreEntries, Entries};
 
     ghost Value = { Entries };
 

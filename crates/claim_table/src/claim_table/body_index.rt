@@ -1,10 +1,10 @@
 //! Numbers by bodies and keys.
 ghost use Rattle.std.specs.Prelude.{◌≡◌, ◌<◌, ℕ, [], Contains, OnOk};
 ghost use Rattle.std.specs.List.Sorted.{IsStrictlyIncreasing};
-ghost use Rattle.claim_table.specs.Hinted.{few_at, hints_at, many_at};
+ghost use Rattle.claim_table.specs.ClaimTable.Hinted.{few_at, hints_at, many_at};
 
-use crate::body_numbers::{BodyNumbers, FEW};
-use event_index::Index;
+use crate::claim_table::body_numbers::{BodyNumbers, FEW};
+use escrow::Index;
 use std::alloc::{AllocError, Global};
 
 /// For a body and a key of it the numbers of rows, among which the right ones are: whoever reads them compares the rows, as those

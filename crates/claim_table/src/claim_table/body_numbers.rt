@@ -1,15 +1,15 @@
 //! Numbers by bodies.
 ghost use Rattle.std.specs.Prelude.{◌≡◌, ◌≤◌, ◌<◌, ℕ, [], true, false, length, Contains, IfOk, OnOk};
 ghost use Rattle.std.specs.List.Sorted.{IsStrictlyIncreasing};
-ghost use Rattle.claim_table.specs.Hinted.{few_at, few_in};
+ghost use Rattle.claim_table.specs.ClaimTable.Hinted.{few_at, few_in};
 
-use event_index::Rising;
+use escrow::Rising;
 use std::alloc::{AllocError, Global};
 
 /// So many numbers of a body stand here at most.
 pub const FEW: usize = 8;
 
-/// For a body the numbers of rows of it, as long as they are few: hints, as those of an `event_index::Index`. Mostly a body has no
+/// For a body the numbers of rows of it, as long as they are few: hints, as those of an `escrow::Index`. Mostly a body has no
 /// more rows, and going over them is faster than to find a key among those of all bodies.
 #[derive(Drop)]
 pub struct BodyNumbers {

@@ -2,20 +2,20 @@
 ghost use Rattle.std.specs.Prelude.{◌≡◌, ◌≢◌, ◌≤◌, ℕ, true, length, take, slice_get, Some, None, OnOk, OnErr, if◌then◌else◌};
 ghost use Rattle.std.specs.BTreeSet.{IsOrdered};
 ghost use Rattle.std.specs.Option.{option_map};
-ghost use Rattle.claim_table.specs.Parts.{AreSoMany, count_below, has_part};
-ghost use Rattle.claim_table.specs.Rows.{DoAgree, has_yes_by, heard, is_raised, open_rows, raised, signature_of, unheard, verdict_of};
-ghost use Rattle.claim_table.specs.Table.{AreBelow, KeepsPending, nothing};
-ghost use Rattle.claim_table.specs.declared.part.Part.TheVariants.{Indexed, Revealed, Backed};
-ghost use Rattle.claim_table.specs.declared.signature.Signature.{Signature};
+ghost use Rattle.claim_table.specs.ClaimTable.Parts.{AreSoMany, count_below, has_part};
+ghost use Rattle.claim_table.specs.ClaimTable.Rows.{DoAgree, has_yes_by, heard, is_raised, open_rows, raised, signature_of, unheard, verdict_of};
+ghost use Rattle.claim_table.specs.ClaimTable.Table.{AreBelow, KeepsPending, nothing};
+ghost use Rattle.claim_table.specs.declared.claim_table.part.Part.TheVariants.{Indexed, Revealed, Backed};
+ghost use Rattle.claim_table.specs.declared.claim_table.signature.Signature.{Signature};
 
-use crate::body_index::BodyIndex;
-use crate::claim_rows::ClaimRows;
-use crate::claimed::Claimed;
-use crate::part::Part;
-use crate::part_counts::PartCounts;
-use crate::row::Row;
-use crate::signature::Signature;
-use crate::spot::Spot;
+use crate::claim_table::body_index::BodyIndex;
+use crate::claim_table::claim_rows::ClaimRows;
+use crate::claim_table::claimed::Claimed;
+use crate::claim_table::part::Part;
+use crate::claim_table::part_counts::PartCounts;
+use crate::claim_table::row::Row;
+use crate::claim_table::signature::Signature;
+use crate::claim_table::spot::Spot;
 use cesr_codes::Key;
 use std::alloc::{AllocError, Global};
 use std::collections::BTreeSet;
@@ -30,13 +30,13 @@ pub struct ClaimTable {
 
 impl Model for ClaimTable {
     ghost use Rattle.std.specs.Coded.{codes};
-    ghost use Rattle.claim_table.specs.Table.{Table};
+    ghost use Rattle.claim_table.specs.ClaimTable.Table.{Table};
 
     ghost Value = { Table };
 
     ghost coded = { Prim.hlevel codes };
 
-    ghost use Rattle.claim_table.specs.Keeping.{IsSound, seen};
+    ghost use Rattle.claim_table.specs.ClaimTable.Keeping.{IsSound, seen};
 
     ghost view = { λ t. seen t.inner };
 

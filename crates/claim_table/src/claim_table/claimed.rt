@@ -1,8 +1,8 @@
 //! Claims: a key's signature on a body, and what it adds once a verifier says yes.
 ghost use Rattle.std.specs.Prelude.{◌≡◌};
-ghost use Rattle.claim_table.specs.Rows.{signature_of};
+ghost use Rattle.claim_table.specs.ClaimTable.Rows.{signature_of};
 
-use crate::signature::Signature;
+use crate::claim_table::signature::Signature;
 use cesr_codes::{Key, Sig};
 
 /// What a claim adds once a verifier says yes.

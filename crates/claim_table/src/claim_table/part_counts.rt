@@ -1,15 +1,15 @@
 //! How many claims with a yes bring each part of a body.
 ghost use Rattle.std.specs.Prelude.{◌≡◌, ◌+◌, ◌-◌, ◌<◌, ◌^◌, ℕ, true, OnOk, nat_lt, length, slice_get};
-ghost use Rattle.claim_table.specs.Counts.{amount, entry_at, is_entered, is_one};
-ghost use Rattle.claim_table.specs.Entries.{bit};
-ghost use Rattle.claim_table.specs.declared.part.Part.TheVariants.{Backed};
-ghost use Rattle.claim_table.specs.Parts.{AreSoMany, brings, supports};
-ghost use Rattle.claim_table.specs.BodyParts.{BodyPart};
+ghost use Rattle.claim_table.specs.ClaimTable.Counts.{amount, entry_at, is_entered, is_one};
+ghost use Rattle.claim_table.specs.ClaimTable.Entries.{bit};
+ghost use Rattle.claim_table.specs.declared.claim_table.part.Part.TheVariants.{Backed};
+ghost use Rattle.claim_table.specs.ClaimTable.Parts.{AreSoMany, brings, supports};
+ghost use Rattle.claim_table.specs.ClaimTable.BodyParts.{BodyPart};
 
-use crate::body_counts::BodyCounts;
-use crate::claimed::Parts;
-use crate::part::Part;
-use crate::row::Row;
+use crate::claim_table::body_counts::BodyCounts;
+use crate::claim_table::claimed::Parts;
+use crate::claim_table::part::Part;
+use crate::claim_table::row::Row;
 use std::alloc::{AllocError, Global};
 
 /// The counts of the bodies by their numbers. No count is greater than the number of rows, which are fewer than there are

@@ -1,8 +1,8 @@
 //! Rows of the table.
 ghost use Rattle.std.specs.Prelude.{◌≡◌};
-ghost use Rattle.claim_table.specs.Rows.{is_yes};
+ghost use Rattle.claim_table.specs.ClaimTable.Rows.{is_yes};
 
-use crate::claimed::Claimed;
+use crate::claim_table::claimed::Claimed;
 
 /// A claim, with the verdict on its signature where one was heard.
 #[derive(Clone, Copy, PartialEq, Eq, Debug)]

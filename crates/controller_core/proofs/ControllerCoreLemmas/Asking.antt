@@ -3,14 +3,14 @@ use Rattle.std.proofs.Common.{◌≡◌, ◌∙◌, ◌⊎◌, inl, inr, ℕ, Li
 use Rattle.std.specs.Prelude.{IsErrAnd}
 use Rattle.std.proofs.lemmas.List.{take_all}
 use Rattle.std.proofs.lemmas.Result.{err_from_is_err_and}
-use Rattle.keri_specs.specs.Told.{after}
-use Rattle.keri_specs.proofs.Putting.{after-nil}
+use Rattle.lists.specs.KeriSpecs.Told.{after}
+use Rattle.lists.proofs.KeriSpecsLemmas.Putting.{after-nil}
 use Rattle.cesr_codes.specs.declared.key.Key.{Key}
 use Rattle.keri_outside.specs.declared.signing.Signing.{Signing}
-use Rattle.controller_core.specs.declared.plan_fault.PlanFault.{PlanFault}
-use Rattle.controller_core.specs.declared.plan_fault.PlanFault.TheVariants.{Body, Misfit, Unsigned, SignerFault, OutOfMemory}
-use Rattle.controller_core.specs.declared.slot.Slot.{Slot}
-use Rattle.controller_core.specs.Signings.{AsksFor, AsksFront, signings_in}
+use Rattle.controller_core.specs.declared.controller_core.plan_fault.PlanFault.{PlanFault}
+use Rattle.controller_core.specs.declared.controller_core.plan_fault.PlanFault.TheVariants.{Body, Misfit, Unsigned, SignerFault, OutOfMemory}
+use Rattle.controller_core.specs.declared.controller_core.slot.Slot.{Slot}
+use Rattle.controller_core.specs.ControllerCore.Signings.{AsksFor, AsksFront, signings_in}
 
 -- the same keys, text and slots want the same signatures
 pub same_signings : (keys keys' : List Key) (text text' : List ℕ) (slots slots' : List Slot) → keys ≡ keys' → text ≡ text' → slots ≡ slots'

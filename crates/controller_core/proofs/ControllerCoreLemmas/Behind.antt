@@ -4,18 +4,18 @@ use Rattle.std.specs.Prelude.{IfOk, IfErr}
 use Rattle.cesr_codes.specs.declared.key.Key.{Key}
 use Rattle.cesr_codes.specs.declared.sig.Sig.{Sig}
 use Rattle.cesr_stream.specs.declared.message.Message.{Message}
-use Rattle.event_body.specs.declared.event.Event.{Event}
+use Rattle.event_body.specs.declared.event_body.event.Event.{Event}
 use Rattle.keri_outside.specs.declared.signing.Signing.{Signing}
 use Rattle.key_state.specs.Heads.{head_sn}
 use Rattle.key_state.specs.States.{State}
-use Rattle.controller_core.specs.declared.plan.Plan.{Plan}
-use Rattle.controller_core.specs.declared.plan_fault.PlanFault.{PlanFault}
-use Rattle.controller_core.specs.LastNumbers.{IsLastAnswer}
-use Rattle.controller_core.specs.Messages.{IsMessageOf, event_text}
-use Rattle.controller_core.specs.Plans.{sealed}
-use Rattle.controller_core.specs.Refusals.{IsRefusal}
-use Rattle.controller_core.specs.Signing.{IsSignedByYes}
-use Rattle.controller_core.specs.Signings.{AsksFor, signings_of}
+use Rattle.controller_core.specs.declared.controller_core.plan.Plan.{Plan}
+use Rattle.controller_core.specs.declared.controller_core.plan_fault.PlanFault.{PlanFault}
+use Rattle.controller_core.specs.ControllerCore.LastNumbers.{IsLastAnswer}
+use Rattle.controller_core.specs.ControllerCore.Messages.{IsMessageOf, event_text}
+use Rattle.controller_core.specs.ControllerCore.Plans.{sealed}
+use Rattle.controller_core.specs.ControllerCore.Refusals.{IsRefusal}
+use Rattle.controller_core.specs.ControllerCore.Signing.{IsSignedByYes}
+use Rattle.controller_core.specs.ControllerCore.Signings.{AsksFor, signings_of}
 
 -- what is said of the answer to a plan, where this event is sealed behind the state
 pub record IsAnswerBehind (gives : Key → List ℕ → Option Sig) (old new : Option (List Signing)) (s : State) (plan : Plan) (answer : Result Message PlanFault) (e : Event) : Type 0 where

@@ -7,13 +7,13 @@ use Rattle.cesr_codes.specs.declared.key.Key.{Key}
 use Rattle.cesr_codes.specs.declared.sig.Sig.{Sig}
 use Rattle.cesr_stream.specs.declared.group.Group.TheVariants.{Held}
 use Rattle.cesr_stream.specs.declared.message.Message.{Message}
-use Rattle.event_body.specs.declared.event.Event.{Event}
-use Rattle.event_body.specs.declared.event.Event.TheVariants.{Icp, Rot, Ixn, Dip, Drt, Rct}
+use Rattle.event_body.specs.declared.event_body.event.Event.{Event}
+use Rattle.event_body.specs.declared.event_body.event.Event.TheVariants.{Icp, Rot, Ixn, Dip, Drt, Rct}
 use Rattle.key_state.specs.Exposure.{own_rules}
 use Rattle.key_state.specs.States.{State}
-use Rattle.controller_core.specs.declared.slot.Slot.{Slot}
-use Rattle.controller_core.specs.Messages.{HasSigs, IsInSlot}
-use Rattle.controller_core.specs.Plans.{sealed}
+use Rattle.controller_core.specs.declared.controller_core.slot.Slot.{Slot}
+use Rattle.controller_core.specs.ControllerCore.Messages.{HasSigs, IsInSlot}
+use Rattle.controller_core.specs.ControllerCore.Plans.{sealed}
 
 -- an event has the same keys with another digest
 pub same_keys : (s : Option State) (code : DigestCode) (e : Event) → (own_rules s e).keys ≡ (own_rules s (sealed code e)).keys

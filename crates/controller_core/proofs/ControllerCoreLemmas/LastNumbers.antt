@@ -1,14 +1,14 @@
 -- Texts of so few bytes with few members.
 use Rattle.std.proofs.Common.{ℕ, ◌<◌, ◌^◌, List, length, sym, subst, arith}
-use Rattle.body_fields.specs.Bodies.{IsBody}
-use Rattle.body_fields.proofs.Texts.{is_body}
-use Rattle.event_body.specs.Judging.{HasEvent, HasValues, SpellsEvent, IsFirstFault}
-use Rattle.event_body.specs.Rules.{AreFew}
-use Rattle.event_body.specs.Spelling.{body_kind, values_of}
-use Rattle.event_body.specs.declared.event.Event.{Event}
-use Rattle.event_body.specs.declared.body_fault.BodyFault.{BodyFault}
-use Rattle.event_body.specs.declared.body_fault.BodyFault.TheVariants.{Field, SizeField, Said, Prefix, Threshold, Witnesses, TooMany, NumberTooLarge, TooLarge}
-use Rattle.controller_core.specs.LastNumbers.{IsLastFault, with_number}
+use Rattle.event_body.specs.BodyFields.Bodies.{IsBody}
+use Rattle.event_body.proofs.BodyFieldsLemmas.Texts.{is_body}
+use Rattle.event_body.specs.EventBody.Judging.{HasEvent, HasValues, SpellsEvent, IsFirstFault}
+use Rattle.event_body.specs.EventBody.Rules.{AreFew}
+use Rattle.event_body.specs.EventBody.Spelling.{body_kind, values_of}
+use Rattle.event_body.specs.declared.event_body.event.Event.{Event}
+use Rattle.event_body.specs.declared.event_body.body_fault.BodyFault.{BodyFault}
+use Rattle.event_body.specs.declared.event_body.body_fault.BodyFault.TheVariants.{Field, SizeField, Said, Prefix, Threshold, Witnesses, TooMany, NumberTooLarge, TooLarge}
+use Rattle.controller_core.specs.ControllerCore.LastNumbers.{IsLastFault, with_number}
 
 -- an event's text is a body of its values
 body_of : (event : Event) (bytes : List ℕ) → HasEvent event bytes → IsBody (body_kind event) (values_of event) bytes

@@ -8,15 +8,15 @@ use Rattle.json_tree.specs.Spelling.{IsJson}
 use Rattle.json_tree.proofs.Trees.{IsJson-from_object}
 use Rattle.sith.proofs.Numerals.{hex_is}
 use Rattle.sith.proofs.Plain.{number_string, plain_string}
-use Rattle.body_fields.proofs.Plain.{digest_string, prefix_string}
-use Rattle.event_body.specs.declared.event.Event.{Event}
-use Rattle.event_body.specs.Events.{prefix_of, sn_of, said_of}
+use Rattle.event_body.proofs.BodyFieldsLemmas.Plain.{digest_string, prefix_string}
+use Rattle.event_body.specs.declared.event_body.event.Event.{Event}
+use Rattle.event_body.specs.EventBody.Events.{prefix_of, sn_of, said_of}
 use Rattle.key_state.specs.States.{State}
-use Rattle.journal.specs.Seals.{are_seal, members_of, seals}
+use Rattle.journal.specs.Journal.Seals.{are_seal, members_of, seals}
 use Rattle.event_backing.specs.Texts.{seal_members}
 use Rattle.event_backing.proofs.SealMembers.{members_of-object}
-use Rattle.controller_core.specs.declared.plan.Plan.{Plan}
-use Rattle.controller_core.specs.Plans.{string_member, seal_of, interaction, sealed, sealed_delegation}
+use Rattle.controller_core.specs.declared.controller_core.plan.Plan.{Plan}
+use Rattle.controller_core.specs.ControllerCore.Plans.{string_member, seal_of, interaction, sealed, sealed_delegation}
 
 pub seal_json : (e : Event) → sn_of e < 2 ^ 64 → IsJson (seal_of e)
 unfolding seal_of

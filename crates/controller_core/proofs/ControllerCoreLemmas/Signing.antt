@@ -10,27 +10,27 @@ use Rattle.cesr_codes.specs.declared.sig.Sig.{Sig}
 use Rattle.cesr_codes.specs.declared.digest.Digest.{Digest}
 use Rattle.cesr_stream.specs.declared.message.Message.{Message}
 use Rattle.cesr_stream.specs.declared.group.Group.TheVariants.{Held as HeldGroup}
-use Rattle.event_body.specs.declared.event.Event.{Event}
-use Rattle.event_body.specs.declared.event.Event.TheVariants.{Icp, Rot, Ixn, Dip, Drt, Rct}
-use Rattle.event_body.specs.Events.{is_rotation}
+use Rattle.event_body.specs.declared.event_body.event.Event.{Event}
+use Rattle.event_body.specs.declared.event_body.event.Event.TheVariants.{Icp, Rot, Ixn, Dip, Drt, Rct}
+use Rattle.event_body.specs.EventBody.Events.{is_rotation}
 use Rattle.sith.specs.Tests.{satisfied}
 use Rattle.key_state.specs.Exposure.{commits, exposed, numbers_below, opens, own_rules}
 use Rattle.key_state.specs.States.{State}
 use Rattle.key_state.proofs.Same.{numbers}
-use Rattle.journal.specs.declared.body.Body.{Body}
-use Rattle.journal.specs.declared.claim.Claim.{Claim}
-use Rattle.journal.specs.declared.claim.Claim.TheVariants.{Held, Witness, Couple}
-use Rattle.journal.specs.History.{Told, claims_on, triple_of}
-use Rattle.journal.specs.Readiness.{good_sigs, held_sig, meets_next, signed, yes_to}
-use Rattle.journal.specs.Replies.{claims_of, claims_of_group}
-use Rattle.event_rules.specs.Parts.{has_next, has_own}
-use Rattle.controller_core.specs.declared.plan_fault.PlanFault.{PlanFault}
-use Rattle.controller_core.specs.declared.slot.Slot.{Slot}
-use Rattle.controller_core.specs.Slots.{slot_opens, slots_have}
-use Rattle.controller_core.specs.Messages.{event_text, IsInSlot, IsMessageOf}
-use Rattle.controller_core.specs.Signing.{body_of, IsAnswered, IsSignedByYes}
+use Rattle.journal.specs.declared.journal.body.Body.{Body}
+use Rattle.journal.specs.declared.journal.claim.Claim.{Claim}
+use Rattle.journal.specs.declared.journal.claim.Claim.TheVariants.{Held, Witness, Couple}
+use Rattle.journal.specs.Journal.History.{Told, claims_on, triple_of}
+use Rattle.journal.specs.Journal.Readiness.{good_sigs, held_sig, meets_next, signed, yes_to}
+use Rattle.journal.specs.Journal.Replies.{claims_of, claims_of_group}
+use Rattle.journal.specs.EventRules.Parts.{has_next, has_own}
+use Rattle.controller_core.specs.declared.controller_core.plan_fault.PlanFault.{PlanFault}
+use Rattle.controller_core.specs.declared.controller_core.slot.Slot.{Slot}
+use Rattle.controller_core.specs.ControllerCore.Slots.{slot_opens, slots_have}
+use Rattle.controller_core.specs.ControllerCore.Messages.{event_text, IsInSlot, IsMessageOf}
+use Rattle.controller_core.specs.ControllerCore.Signing.{body_of, IsAnswered, IsSignedByYes}
 use Rattle.sith.proofs.More.{is_among, more_left, more_satisfied, passes}
-use Rattle.controller_core.proofs.Enough.{signed_by_slots}
+use Rattle.controller_core.proofs.ControllerCoreLemmas.Enough.{signed_by_slots}
 
 -- a claim's signature is among those of the claims that pass a test, where the claim is one that does
 module _ (yes : Claim → Bool) (test : IndexedSig → Bool) (sig : IndexedSig) (good : yes (Held sig) ≡ true) (so : test sig ≡ true) where

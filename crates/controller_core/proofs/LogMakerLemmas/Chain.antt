@@ -2,11 +2,11 @@
 use Rattle.std.proofs.Common.{◌≡◌, ℕ, zero, suc, ◌+◌, ◌<◌, Bool, true, false, if◌then◌else◌, Result, Ok, Err, refl, ap, ◌∙◌, sym, arith, add-one}
 use Rattle.std.specs.Prelude.{IfOk}
 use Rattle.cesr_codes.specs.declared.digest.Digest.{Digest}
-use Rattle.event_body.specs.declared.event.Event.{Event}
-use Rattle.event_body.specs.Events.{said_of}
-use Rattle.log_maker.specs.Behind.{first_before, prior_before}
-use Rattle.log_maker.specs.Draws.{is_rotation, key_number}
-use Rattle.log_maker.specs.Plans.{sealed, inception, rotation, interaction, plan_at, first_event, event_at}
+use Rattle.event_body.specs.declared.event_body.event.Event.{Event}
+use Rattle.event_body.specs.EventBody.Events.{said_of}
+use Rattle.controller_core.specs.LogMaker.Behind.{first_before, prior_before}
+use Rattle.controller_core.specs.LogMaker.Draws.{is_rotation, key_number}
+use Rattle.controller_core.specs.LogMaker.Plans.{sealed, inception, rotation, interaction, plan_at, first_event, event_at}
 
 pub first_before-more : (seed log sn : ℕ) → first_before seed log (sn + 1) ≡ said_of (first_event seed log)
 unfolding first_before

@@ -3,11 +3,11 @@ use Rattle.std.proofs.Common.{◌≡◌, ℕ, zero, suc, ◌+◌, ◌-◌, ◌*�
 use Rattle.std.proofs.Math.Nat.{suc-mul}
 use Rattle.std.proofs.lemmas.Fmt.{hex_one_digit}
 use Rattle.std.specs.Fmt.{digits}
-use Rattle.log_maker.specs.Draws.{is_rotation, rotations_before}
-use Rattle.log_maker.specs.Messages.{message_text}
-use Rattle.log_maker.specs.Streams.{messages_from, logs_from, rotations_from}
-use Rattle.log_maker.proofs.Left.{messages-next, logs-next, no_messages, no_logs}
-use Rattle.log_maker.proofs.Lengths.{message_size, first_size, rotation_size, interaction_size, few_bytes}
+use Rattle.controller_core.specs.LogMaker.Draws.{is_rotation, rotations_before}
+use Rattle.controller_core.specs.LogMaker.Messages.{message_text}
+use Rattle.controller_core.specs.LogMaker.Streams.{messages_from, logs_from, rotations_from}
+use Rattle.controller_core.proofs.LogMakerLemmas.Left.{messages-next, logs-next, no_messages, no_logs}
+use Rattle.controller_core.proofs.LogMakerLemmas.Lengths.{message_size, first_size, rotation_size, interaction_size, few_bytes}
 
 -- the bytes of a message, by what its event is
 pub first_bytes : (seed log sn : ℕ) → sn ≡ 0 → 845 + length (digits 16 false sn) ≡ length (message_text seed log sn)

@@ -1,7 +1,7 @@
 -- What is left of a stream, one message or one log further.
 use Rattle.std.proofs.Common.{◌≡◌, ℕ, zero, suc, ◌+◌, ◌-◌, ◌<◌, ◌≤◌, ◌⊎◌, inl, inr, [], ◌++◌, refl, sym, arith, append_assoc}
-use Rattle.log_maker.specs.Messages.{message_text}
-use Rattle.log_maker.specs.Streams.{messages_from, logs_from}
+use Rattle.controller_core.specs.LogMaker.Messages.{message_text}
+use Rattle.controller_core.specs.LogMaker.Streams.{messages_from, logs_from}
 
 pub no_messages : (seed log sn : ℕ) → messages_from seed log sn 0 ≡ []
 unfolding messages_from

@@ -2,20 +2,20 @@
 use Rattle.std.proofs.Common.{◌≡◌, ℕ, zero, suc, ◌+◌, ◌/◌, ◌%◌, ◌<◌, ◌≤◌, ◌==◌, inl, inr, true, false, List, [], ◌∷◌, ◌++◌, length, codes, if◌then◌else◌, refl, ap, ◌∙◌, arith, length-append}
 use Rattle.std.specs.Fmt.{digits, digits_onto, digit_glyph}
 use Rattle.std.proofs.lemmas.Bool.{cases_Bool}
-use Rattle.keri_specs.specs.Base64.{base64_text, whole_number}
+use Rattle.lists.specs.KeriSpecs.Base64.{base64_text, whole_number}
 use Rattle.cesr_codes.specs.declared.digest.DigestCode.TheVariants.{Blake3}
 use Rattle.cesr_codes.specs.declared.sig.Sig.{Sig}
 use Rattle.cesr_codes.proofs.Numbers.{length-base64_text}
-use Rattle.event_writing.specs.Sealed.{digest_in}
+use Rattle.event_body.specs.EventWriting.Sealed.{digest_in}
 use Rattle.keri_outside.specs.Rehearsal.{rehearsed}
-use Rattle.log_maker.specs.Behind.{first_before, prior_before}
-use Rattle.log_maker.specs.Draws.{is_rotation, key_number}
-use Rattle.log_maker.specs.Messages.{signature_text, message_text}
-use Rattle.log_maker.specs.Names.{log_key, log_witness}
-use Rattle.log_maker.specs.Plans.{inception, rotation, interaction, sealed, event_at, event_text}
-use Rattle.log_maker.proofs.Chain.{event_at-inception, event_at-rotation, event_at-interaction}
-use Rattle.log_maker.proofs.Sizes.{inception_long, rotation_long, interaction_long}
-use Rattle.log_maker.proofs.Texts.{signed_parts}
+use Rattle.controller_core.specs.LogMaker.Behind.{first_before, prior_before}
+use Rattle.controller_core.specs.LogMaker.Draws.{is_rotation, key_number}
+use Rattle.controller_core.specs.LogMaker.Messages.{signature_text, message_text}
+use Rattle.controller_core.specs.LogMaker.Names.{log_key, log_witness}
+use Rattle.controller_core.specs.LogMaker.Plans.{inception, rotation, interaction, sealed, event_at, event_text}
+use Rattle.controller_core.proofs.LogMakerLemmas.Chain.{event_at-inception, event_at-rotation, event_at-interaction}
+use Rattle.controller_core.proofs.LogMakerLemmas.Sizes.{inception_long, rotation_long, interaction_long}
+use Rattle.controller_core.proofs.LogMakerLemmas.Texts.{signed_parts}
 
 -- so many digits at most
 onto_few : (k n : ℕ) (behind : List ℕ) → length (digits_onto k 16 false n behind) ≤ k + length behind

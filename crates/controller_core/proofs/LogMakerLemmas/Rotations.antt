@@ -1,6 +1,6 @@
 -- Which events are rotations, one event further.
 use Rattle.std.proofs.Common.{◌≡◌, ℕ, zero, suc, ◌+◌, ◌^◌, ◌<◌, ◌≤◌, true, false, nat_lt, if◌then◌else◌, refl, ap, ◌∙◌, arith, add-one}
-use Rattle.log_maker.specs.Draws.{draw_at, drawn_behind, is_rotation, rotations_before, key_number}
+use Rattle.controller_core.specs.LogMaker.Draws.{draw_at, drawn_behind, is_rotation, rotations_before, key_number}
 
 -- the first event is none
 pub no_first : (seed log sn : ℕ) → sn ≤ 0 → is_rotation seed log sn ≡ false

@@ -10,18 +10,18 @@ use Rattle.json_tree.specs.declared.tree.Tree.{Tree}
 use Rattle.json_tree.specs.declared.tree.Tree.TheVariants.{Str, List as TreeList}
 use Rattle.json_tree.specs.Spelling.{spelling, separated, after_commas}
 use Rattle.json_tree.proofs.Trees.{spelling-list}
-use Rattle.body_fields.specs.declared.field.Field.{Field}
-use Rattle.body_fields.specs.declared.field.Field.TheVariants as fields
-use Rattle.body_fields.specs.declared.kind.Kind.{Kind}
-use Rattle.body_fields.specs.Bodies.{kind_text, name_text, member_text, members_text, body_text}
-use Rattle.body_fields.specs.Forms.{digest_value, key_value, keys_value, digests_value, strings_value, number_value}
-use Rattle.body_fields.specs.Maps.{fields_of}
-use Rattle.body_fields.proofs.Texts.{text_long}
-use Rattle.event_body.specs.declared.event.Event.{Event}
-use Rattle.event_body.specs.Spelling.{text_of, body_kind, values_of}
-use Rattle.event_writing.specs.Sealed.{with_digest}
-use Rattle.log_maker.specs.Names.{log_key, log_witness, key_digest}
-use Rattle.log_maker.specs.Plans.{inception, rotation, interaction}
+use Rattle.event_body.specs.declared.body_fields.field.Field.{Field}
+use Rattle.event_body.specs.declared.body_fields.field.Field.TheVariants as fields
+use Rattle.event_body.specs.declared.body_fields.kind.Kind.{Kind}
+use Rattle.event_body.specs.BodyFields.Bodies.{kind_text, name_text, member_text, members_text, body_text}
+use Rattle.event_body.specs.BodyFields.Forms.{digest_value, key_value, keys_value, digests_value, strings_value, number_value}
+use Rattle.event_body.specs.BodyFields.Maps.{fields_of}
+use Rattle.event_body.proofs.BodyFieldsLemmas.Texts.{text_long}
+use Rattle.event_body.specs.declared.event_body.event.Event.{Event}
+use Rattle.event_body.specs.EventBody.Spelling.{text_of, body_kind, values_of}
+use Rattle.event_body.specs.EventWriting.Sealed.{with_digest}
+use Rattle.controller_core.specs.LogMaker.Names.{log_key, log_witness, key_digest}
+use Rattle.controller_core.specs.LogMaker.Plans.{inception, rotation, interaction}
 
 -- a string under a name
 string_long : (field : Field) (text : List ℕ) → length (member_text field (Str text)) ≡ length (name_text field) + (length text + 2)

@@ -1,12 +1,12 @@
 -- Messages as texts one behind the other.
 use Rattle.std.proofs.Common.{◌≡◌, ℕ, List, [], ◌∷◌, ◌++◌, codes, refl, append_assoc, append-nil}
-use Rattle.keri_specs.specs.Base64.{base64_text, digits_in}
+use Rattle.lists.specs.KeriSpecs.Base64.{base64_text, digits_in}
 use Rattle.cesr_codes.specs.declared.key.Key.{Key}
 use Rattle.cesr_codes.specs.declared.sig.Sig.{Sig}
 use Rattle.keri_outside.specs.Rehearsal.{rehearsed}
-use Rattle.log_maker.specs.Plans.{event_at, event_text}
-use Rattle.log_maker.specs.Names.{log_witness}
-use Rattle.log_maker.specs.Messages.{signature_text, signed_text, text_with, message_text}
+use Rattle.controller_core.specs.LogMaker.Plans.{event_at, event_text}
+use Rattle.controller_core.specs.LogMaker.Names.{log_witness}
+use Rattle.controller_core.specs.LogMaker.Messages.{signature_text, signed_text, text_with, message_text}
 
 one_text : base64_text 2 1 ≡ codes "AB"
 unfolding digits_in

@@ -1,8 +1,8 @@
 -- What a reader answers for a value that is spelled.
 use Rattle.std.proofs.Common.{◌≡◌, Ok, Err, inl, inr}
-use Rattle.plan_text.specs.declared.line_fault.LineFault.{LineFault}
-use Rattle.plan_text.specs.declared.line_fault.LineFault.TheVariants.{OutOfMemory}
-use Rattle.plan_text.specs.Reading.{Gives}
+use Rattle.controller_core.specs.declared.plan_text.line_fault.LineFault.{LineFault}
+use Rattle.controller_core.specs.declared.plan_text.line_fault.LineFault.TheVariants.{OutOfMemory}
+use Rattle.controller_core.specs.PlanText.Reading.{Gives}
 
 pub same_given : {A : Type 0} (found value : A) → Gives (Ok found) value → value ≡ found
 same_given found value (inl is) = cc

@@ -4,20 +4,20 @@ use Rattle.std.specs.Prelude.{⊤, is_some, option_map}
 use Rattle.std.specs.List.{AllByRecursion, filter_map}
 use Rattle.json_tree.specs.Spelling.{IsJson}
 use Rattle.json_tree.specs.Strings.{IsString}
-use Rattle.plan_text.specs.declared.entry.Entry.{Entry}
-use Rattle.plan_text.specs.declared.entry.Entry.TheVariants as entry
-use Rattle.plan_text.specs.declared.event_plan.EventPlan.{EventPlan}
-use Rattle.plan_text.specs.declared.event_plan.PlannedEvent.{PlannedEvent}
-use Rattle.plan_text.specs.declared.event_plan.PlannedEvent.TheVariants.{Inception, Rotation, Interaction}
+use Rattle.controller_core.specs.declared.plan_text.entry.Entry.{Entry}
+use Rattle.controller_core.specs.declared.plan_text.entry.Entry.TheVariants as entry
+use Rattle.controller_core.specs.declared.plan_text.event_plan.EventPlan.{EventPlan}
+use Rattle.controller_core.specs.declared.plan_text.event_plan.PlannedEvent.{PlannedEvent}
+use Rattle.controller_core.specs.declared.plan_text.event_plan.PlannedEvent.TheVariants.{Inception, Rotation, Interaction}
 use Rattle.cesr_codes.specs.declared.prefix.Prefix.{Prefix}
-use Rattle.plan_text.specs.declared.kind.Kind.{Kind}
-use Rattle.plan_text.specs.declared.kind.Kind.TheVariants.{Icp, Dip, Rot, Drt, Ixn}
-use Rattle.plan_text.specs.declared.name.Name.{Name}
-use Rattle.plan_text.specs.declared.name.Name.TheVariants as name
-use Rattle.plan_text.specs.Entries.{AreLines, Says}
-use Rattle.plan_text.specs.Makeable.{HasDelegator, IsMakeable}
-use Rattle.plan_text.specs.Plans.{IsPlanText, event_of, first_of, has_delegator, identifier_in, plan_of}
-use Rattle.plan_text.specs.Sheets.{Sheet, seal_in, sheet_of, trait_in}
+use Rattle.controller_core.specs.declared.plan_text.kind.Kind.{Kind}
+use Rattle.controller_core.specs.declared.plan_text.kind.Kind.TheVariants.{Icp, Dip, Rot, Drt, Ixn}
+use Rattle.controller_core.specs.declared.plan_text.name.Name.{Name}
+use Rattle.controller_core.specs.declared.plan_text.name.Name.TheVariants as name
+use Rattle.controller_core.specs.PlanText.Entries.{AreLines, Says}
+use Rattle.controller_core.specs.PlanText.Makeable.{HasDelegator, IsMakeable}
+use Rattle.controller_core.specs.PlanText.Plans.{IsPlanText, event_of, first_of, has_delegator, identifier_in, plan_of}
+use Rattle.controller_core.specs.PlanText.Sheets.{Sheet, seal_in, sheet_of, trait_in}
 
 -- what is true of an entry that a line spells
 abbrev IsGood : Entry → Type 0

@@ -2,13 +2,13 @@
 use Rattle.std.proofs.Common.{◌≡◌, ℕ, List, [], ◌∷◌, ◌++◌, refl, sym, ap, subst, ◌∙◌, unwrap_or}
 use Rattle.std.specs.List.{find}
 use Rattle.std.specs.Str.{bytes_eq}
-use Rattle.plan_text.specs.declared.kind.Kind.{Kind}
-use Rattle.plan_text.specs.declared.name.Name.{Name}
-use Rattle.plan_text.specs.declared.name.Name.TheVariants.{Prefix, Code, Kt, Nt, Key, Next, Cut, Add, Bt, Trait, Seal, Di, Sign}
-use Rattle.plan_text.specs.declared.entry.Entry.{Entry}
-use Rattle.plan_text.specs.Lines.{Splits}
-use Rattle.plan_text.specs.Entries.{name_text, Says, IsLine}
-use Rattle.plan_text.proofs.Parts.{Lacks, parts_of, whole}
+use Rattle.controller_core.specs.declared.plan_text.kind.Kind.{Kind}
+use Rattle.controller_core.specs.declared.plan_text.name.Name.{Name}
+use Rattle.controller_core.specs.declared.plan_text.name.Name.TheVariants.{Prefix, Code, Kt, Nt, Key, Next, Cut, Add, Bt, Trait, Seal, Di, Sign}
+use Rattle.controller_core.specs.declared.plan_text.entry.Entry.{Entry}
+use Rattle.controller_core.specs.PlanText.Lines.{Splits}
+use Rattle.controller_core.specs.PlanText.Entries.{name_text, Says, IsLine}
+use Rattle.controller_core.proofs.PlanTextLemmas.Parts.{Lacks, parts_of, whole}
 
 abbrev names : List Name
 names = Prefix ∷ Code ∷ Kt ∷ Nt ∷ Key ∷ Next ∷ Cut ∷ Add ∷ Bt ∷ Trait ∷ Seal ∷ Di ∷ Sign ∷ []

@@ -7,10 +7,10 @@ use Rattle.std.specs.Char.{digit_value}
 use Rattle.std.specs.Str.Parse.{AllDigits}
 use Rattle.std.proofs.lemmas.Bool.Decides.{nat_tests}
 use Rattle.std.proofs.lemmas.Fmt.{decimal_is_IsNumeral}
-use Rattle.controller_core.specs.declared.slot.Slot.{Slot}
-use Rattle.plan_text.specs.Lines.{Splits}
-use Rattle.plan_text.specs.Entries.{IsSlot, slot_text, ondex_text}
-use Rattle.plan_text.proofs.Parts.{Lacks, parts_of, stands}
+use Rattle.controller_core.specs.declared.controller_core.slot.Slot.{Slot}
+use Rattle.controller_core.specs.PlanText.Lines.{Splits}
+use Rattle.controller_core.specs.PlanText.Entries.{IsSlot, slot_text, ondex_text}
+use Rattle.controller_core.proofs.PlanTextLemmas.Parts.{Lacks, parts_of, stands}
 
 space_is_no_digit : (c : ℕ) → digit_value c < 10 → c ≢ 32
 space_is_no_digit c digit is = let value : digit_value 32 < 10 = subst (λ b. digit_value b < 10) is digit in omega arith

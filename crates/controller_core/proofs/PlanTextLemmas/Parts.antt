@@ -7,7 +7,7 @@ use Rattle.std.proofs.lemmas.Grind.{common_steps}
 use Rattle.std.proofs.lemmas.List.Folds.{prefix_len-append}
 use Rattle.std.proofs.lemmas.List.{take_rest, take_at, drop_at}
 use Rattle.std.proofs.lemmas.List.Sums.{split_at_first, passes_at_first}
-use Rattle.plan_text.specs.Lines.{Splits}
+use Rattle.controller_core.specs.PlanText.Lines.{Splits}
 
 module _ (separator : ℕ) where
   abbrev is_it : ℕ → Bool

@@ -2,16 +2,16 @@
 use Rattle.std.proofs.Common.{◌≡◌, ℕ, List, [], ◌∷◌, refl, sym, ap, subst, ◌∙◌, unwrap_or}
 use Rattle.std.specs.List.{find}
 use Rattle.std.specs.Str.{bytes_eq}
-use Rattle.plan_text.specs.declared.kind.Kind.{Kind}
-use Rattle.plan_text.specs.declared.kind.Kind.TheVariants.{Icp, Dip, Rot, Drt, Ixn}
-use Rattle.plan_text.specs.declared.entry.Entry.{Entry}
-use Rattle.plan_text.specs.declared.event_plan.EventPlan.{EventPlan}
-use Rattle.plan_text.specs.declared.plan_text_fault.PlanTextFault.{PlanTextFault}
-use Rattle.plan_text.specs.declared.plan_text_fault.PlanTextFault.TheVariants.{Line, OutOfMemory}
-use Rattle.plan_text.specs.Entries.{kind_line, AreLines}
-use Rattle.plan_text.specs.Sheets.{Sheet, IsOnce, sheet_of}
-use Rattle.plan_text.specs.Plans.{BeginsWith, IsEventPlan, IsGoodText, IsPlanText}
-use Rattle.plan_text.specs.Reading.{IsCause, IsLineCause, IsRefusedAt, IsRead, bad_line, no_plan}
+use Rattle.controller_core.specs.declared.plan_text.kind.Kind.{Kind}
+use Rattle.controller_core.specs.declared.plan_text.kind.Kind.TheVariants.{Icp, Dip, Rot, Drt, Ixn}
+use Rattle.controller_core.specs.declared.plan_text.entry.Entry.{Entry}
+use Rattle.controller_core.specs.declared.plan_text.event_plan.EventPlan.{EventPlan}
+use Rattle.controller_core.specs.declared.plan_text.plan_text_fault.PlanTextFault.{PlanTextFault}
+use Rattle.controller_core.specs.declared.plan_text.plan_text_fault.PlanTextFault.TheVariants.{Line, OutOfMemory}
+use Rattle.controller_core.specs.PlanText.Entries.{kind_line, AreLines}
+use Rattle.controller_core.specs.PlanText.Sheets.{Sheet, IsOnce, sheet_of}
+use Rattle.controller_core.specs.PlanText.Plans.{BeginsWith, IsEventPlan, IsGoodText, IsPlanText}
+use Rattle.controller_core.specs.PlanText.Reading.{IsCause, IsLineCause, IsRefusedAt, IsRead, bad_line, no_plan}
 
 abbrev kinds : List Kind
 kinds = Icp ∷ Dip ∷ Rot ∷ Drt ∷ Ixn ∷ []

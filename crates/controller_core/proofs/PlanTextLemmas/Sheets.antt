@@ -3,11 +3,11 @@ use Rattle.std.proofs.Common.{◌≡◌, ◌≤◌, List, [], ◌∷◌, ◌++�
 use Rattle.std.specs.List.{filter_map}
 use Rattle.std.specs.Option.{option_to_list}
 use Rattle.std.proofs.lemmas.List.Elements.{filter_map-append}
-use Rattle.plan_text.specs.declared.entry.Entry.{Entry}
-use Rattle.plan_text.specs.declared.entry.Entry.TheVariants.{Prefix, Code, Kt, Nt, Key, Next, Cut, Add, Bt, Trait, Seal, Di, Sign}
-use Rattle.plan_text.specs.declared.draft.Draft.{Draft}
-use Rattle.plan_text.specs.Sheets.{IsOnce, sheet_of}
-use Rattle.plan_text.specs.Drafts.{push, sheet}
+use Rattle.controller_core.specs.declared.plan_text.entry.Entry.{Entry}
+use Rattle.controller_core.specs.declared.plan_text.entry.Entry.TheVariants.{Prefix, Code, Kt, Nt, Key, Next, Cut, Add, Bt, Trait, Seal, Di, Sign}
+use Rattle.controller_core.specs.declared.plan_text.draft.Draft.{Draft}
+use Rattle.controller_core.specs.PlanText.Sheets.{IsOnce, sheet_of}
+use Rattle.controller_core.specs.PlanText.Drafts.{push, sheet}
 
 pub sheet_of-push : (entries : List Entry) (is : Entry) → sheet_of (entries ++ is ∷ []) ≡ push is (sheet_of entries)
 sheet_of-push entries (Prefix x) = simp (filter_map-append, append-nil)

@@ -1,13 +1,13 @@
 -- Lines that are read one after the other.
 use Rattle.std.proofs.Common.{◌≡◌, ◌≢◌, ℕ, ◌+◌, ◌<◌, ◌≤◌, List, [], ◌∷◌, ◌++◌, length, refl, sym, ap, subst, ◌∙◌, arith, append_assoc, append-nil, length-append, length-drop}
-use Rattle.plan_text.specs.declared.kind.Kind.{Kind}
-use Rattle.plan_text.specs.declared.entry.Entry.{Entry}
-use Rattle.plan_text.specs.Lines.{Splits}
-use Rattle.plan_text.specs.Entries.{BeginsEntry, AreLines, IsLine}
-use Rattle.plan_text.specs.Sheets.{Sheet, IsOnce, sheet_of}
-use Rattle.plan_text.specs.Reading.{IsBadLine, IsRead}
-use Rattle.plan_text.specs.Drafts.{empty, push, TakesLine, IsRefusedLine}
-use Rattle.plan_text.proofs.Sheets.{sheet_of-push, once_before}
+use Rattle.controller_core.specs.declared.plan_text.kind.Kind.{Kind}
+use Rattle.controller_core.specs.declared.plan_text.entry.Entry.{Entry}
+use Rattle.controller_core.specs.PlanText.Lines.{Splits}
+use Rattle.controller_core.specs.PlanText.Entries.{BeginsEntry, AreLines, IsLine}
+use Rattle.controller_core.specs.PlanText.Sheets.{Sheet, IsOnce, sheet_of}
+use Rattle.controller_core.specs.PlanText.Reading.{IsBadLine, IsRead}
+use Rattle.controller_core.specs.PlanText.Drafts.{empty, push, TakesLine, IsRefusedLine}
+use Rattle.controller_core.proofs.PlanTextLemmas.Sheets.{sheet_of-push, once_before}
 
 -- what stands behind a byte is shorter
 shorter : (separator : ℕ) (bytes front behind : List ℕ) → Splits separator bytes front behind → length behind < length bytes

@@ -2,12 +2,12 @@
 -- said is said of the event of the greatest number: its text has one digit fewer.
 use Rattle.std.specs.Prelude.{◌<◌, ◌≤◌, ℕ, List, length, Result, Ok, Err}
 use Rattle.cesr_stream.specs.declared.message.Message.{Message}
-use Rattle.event_body.specs.Judging.{HasValues, IsFirstFault}
-use Rattle.event_body.specs.Rules.{AreFew}
-use Rattle.event_body.specs.declared.body_fault.BodyFault.{BodyFault}
-use Rattle.event_body.specs.declared.body_fault.BodyFault.TheVariants.{Field, SizeField, Said, Prefix, Threshold, Witnesses, TooMany, NumberTooLarge, TooLarge}
-use Rattle.controller_core.specs.declared.plan_fault.PlanFault.{PlanFault}
-use Rattle.controller_core.specs.declared.plan_fault.PlanFault.TheVariants.{Body, Misfit, Unsigned, SignerFault, OutOfMemory}
+use Rattle.event_body.specs.EventBody.Judging.{HasValues, IsFirstFault}
+use Rattle.event_body.specs.EventBody.Rules.{AreFew}
+use Rattle.event_body.specs.declared.event_body.body_fault.BodyFault.{BodyFault}
+use Rattle.event_body.specs.declared.event_body.body_fault.BodyFault.TheVariants.{Field, SizeField, Said, Prefix, Threshold, Witnesses, TooMany, NumberTooLarge, TooLarge}
+use Rattle.controller_core.specs.declared.controller_core.plan_fault.PlanFault.{PlanFault}
+use Rattle.controller_core.specs.declared.controller_core.plan_fault.PlanFault.TheVariants.{Body, Misfit, Unsigned, SignerFault, OutOfMemory}
 
 -- The text is too long with one digit more; or it has one of the faults that are tested before a number's; or else the
 -- number is too large, whatever other rule fails.

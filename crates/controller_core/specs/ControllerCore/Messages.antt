@@ -6,14 +6,14 @@ use Rattle.cesr_codes.specs.declared.key.Key.{Key}
 use Rattle.cesr_codes.specs.declared.sig.Sig.{Sig}
 use Rattle.cesr_stream.specs.declared.group.Group.TheVariants.{Held}
 use Rattle.cesr_stream.specs.declared.message.Message.{Message}
-use Rattle.event_body.specs.declared.event.Event.{Event}
-use Rattle.event_body.specs.Judging.{SpellsEvent}
-use Rattle.event_body.specs.Spelling.{text_of}
+use Rattle.event_body.specs.declared.event_body.event.Event.{Event}
+use Rattle.event_body.specs.EventBody.Judging.{SpellsEvent}
+use Rattle.event_body.specs.EventBody.Spelling.{text_of}
 use Rattle.key_state.specs.Exposure.{own_rules}
 use Rattle.key_state.specs.KeyStates.{misfit}
 use Rattle.key_state.specs.States.{State}
-use Rattle.controller_core.specs.declared.slot.Slot.{Slot}
-use Rattle.controller_core.specs.Slots.{are_enough, is_big}
+use Rattle.controller_core.specs.declared.controller_core.slot.Slot.{Slot}
+use Rattle.controller_core.specs.ControllerCore.Slots.{are_enough, is_big}
 
 -- the text of an event
 unfoldable pub event_text : Event → List ℕ

@@ -11,15 +11,15 @@ use Rattle.cesr_codes.specs.declared.prefix.Prefix.TheVariants.{Basic, Said}
 use Rattle.json_tree.specs.declared.tree.Member.{Member}
 use Rattle.json_tree.specs.declared.tree.Tree.{Tree}
 use Rattle.json_tree.specs.declared.tree.Tree.TheVariants.{Str, Object}
-use Rattle.event_body.specs.declared.event.Event.{Event}
-use Rattle.event_body.specs.declared.event.Event.TheVariants.{Icp, Rot, Ixn, Dip, Drt}
-use Rattle.event_body.specs.declared.inception.Inception.{Inception}
-use Rattle.event_body.specs.declared.rotation.Rotation.{Rotation}
-use Rattle.event_body.specs.Events.{prefix_of, sn_of, said_of}
-use Rattle.event_writing.specs.Sealed.{sealed_event}
+use Rattle.event_body.specs.declared.event_body.event.Event.{Event}
+use Rattle.event_body.specs.declared.event_body.event.Event.TheVariants.{Icp, Rot, Ixn, Dip, Drt}
+use Rattle.event_body.specs.declared.event_body.inception.Inception.{Inception}
+use Rattle.event_body.specs.declared.event_body.rotation.Rotation.{Rotation}
+use Rattle.event_body.specs.EventBody.Events.{prefix_of, sn_of, said_of}
+use Rattle.event_body.specs.EventWriting.Sealed.{sealed_event}
 use Rattle.key_state.specs.States.{State}
 use Rattle.key_state.specs.Heads.{head_sn, head_said}
-use Rattle.controller_core.specs.declared.plan.Plan.{Plan}
+use Rattle.controller_core.specs.declared.controller_core.plan.Plan.{Plan}
 
 -- what stands in the place of a digest that isn't known yet
 abbrev pub blank : Digest

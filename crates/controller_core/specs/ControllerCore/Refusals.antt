@@ -1,16 +1,16 @@
 -- Why no message is made of a plan.
 use Rattle.std.specs.Prelude.{◌≡◌, ℕ, false, List, Option, Some, Result, Ok, Err}
 use Rattle.std.specs.Option.{IsSomeAnd}
-use Rattle.keri_specs.specs.Causes.{Rose}
-use Rattle.event_body.specs.declared.event.Event.{Event}
-use Rattle.event_body.specs.Judging.{IsFirstFault}
+use Rattle.lists.specs.KeriSpecs.Causes.{Rose}
+use Rattle.event_body.specs.declared.event_body.event.Event.{Event}
+use Rattle.event_body.specs.EventBody.Judging.{IsFirstFault}
 use Rattle.key_state.specs.KeyStates.{misfit}
 use Rattle.key_state.specs.States.{State}
-use Rattle.controller_core.specs.declared.plan_fault.PlanFault.{PlanFault}
-use Rattle.controller_core.specs.declared.plan_fault.PlanFault.TheVariants.{Body, Misfit, Unsigned, SignerFault, OutOfMemory}
-use Rattle.controller_core.specs.declared.slot.Slot.{Slot}
-use Rattle.controller_core.specs.Messages.{event_text, IsWhole, Follows, IsSignable}
-use Rattle.controller_core.specs.Slots.{are_enough}
+use Rattle.controller_core.specs.declared.controller_core.plan_fault.PlanFault.{PlanFault}
+use Rattle.controller_core.specs.declared.controller_core.plan_fault.PlanFault.TheVariants.{Body, Misfit, Unsigned, SignerFault, OutOfMemory}
+use Rattle.controller_core.specs.declared.controller_core.slot.Slot.{Slot}
+use Rattle.controller_core.specs.ControllerCore.Messages.{event_text, IsWhole, Follows, IsSignable}
+use Rattle.controller_core.specs.ControllerCore.Slots.{are_enough}
 
 -- The first that is so of the event behind a state: its text is no body, by this first fault; it doesn't follow the state,
 -- by this first misfit; the slots aren't enough; or the signer failed. Or there was no memory.

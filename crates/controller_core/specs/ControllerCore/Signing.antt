@@ -2,15 +2,15 @@
 use Rattle.std.specs.Prelude.{◌≡◌, true, List, Option}
 use Rattle.std.specs.List.{AllByRecursion, Contains}
 use Rattle.cesr_stream.specs.declared.message.Message.{Message}
-use Rattle.event_body.specs.declared.event.Event.{Event}
+use Rattle.event_body.specs.declared.event_body.event.Event.{Event}
 use Rattle.key_state.specs.Exposure.{own_rules}
 use Rattle.key_state.specs.States.{State}
-use Rattle.journal.specs.declared.body.Body.{Body}
-use Rattle.journal.specs.declared.claim.Claim.{Claim}
-use Rattle.journal.specs.History.{Told, claims_on, triple_of}
-use Rattle.journal.specs.Readiness.{signed, yes_to}
-use Rattle.journal.specs.Replies.{claims_of}
-use Rattle.controller_core.specs.Messages.{event_text}
+use Rattle.journal.specs.declared.journal.body.Body.{Body}
+use Rattle.journal.specs.declared.journal.claim.Claim.{Claim}
+use Rattle.journal.specs.Journal.History.{Told, claims_on, triple_of}
+use Rattle.journal.specs.Journal.Readiness.{signed, yes_to}
+use Rattle.journal.specs.Journal.Replies.{claims_of}
+use Rattle.controller_core.specs.ControllerCore.Messages.{event_text}
 
 -- the body of an event
 abbrev pub body_of : Event → Body

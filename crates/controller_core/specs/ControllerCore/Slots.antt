@@ -4,13 +4,13 @@ use Rattle.std.specs.List.{list_any, list_all}
 use Rattle.cesr_codes.specs.Indices.{has_form}
 use Rattle.cesr_codes.specs.declared.digest.Digest.{Digest}
 use Rattle.cesr_codes.specs.declared.key.Key.{Key}
-use Rattle.event_body.specs.declared.event.Event.{Event}
-use Rattle.event_body.specs.declared.event.Event.TheVariants.{Icp, Rot, Ixn, Dip, Drt, Rct}
+use Rattle.event_body.specs.declared.event_body.event.Event.{Event}
+use Rattle.event_body.specs.declared.event_body.event.Event.TheVariants.{Icp, Rot, Ixn, Dip, Drt, Rct}
 use Rattle.key_state.specs.Exposure.{commits, own_rules}
 use Rattle.key_state.specs.States.{State}
-use Rattle.event_rules.specs.Additions.{is_number}
-use Rattle.event_rules.specs.Parts.{Part, index, reveal, backer, has_signed}
-use Rattle.controller_core.specs.declared.slot.Slot.{Slot}
+use Rattle.journal.specs.EventRules.Additions.{is_number}
+use Rattle.journal.specs.EventRules.Parts.{Part, index, reveal, backer, has_signed}
+use Rattle.controller_core.specs.declared.controller_core.slot.Slot.{Slot}
 
 -- the slot names the commitment of this number, and the key at its index is the one that was committed to
 abbrev pub slot_opens : List Digest → List Key → ℕ → Slot → Bool

@@ -1,8 +1,8 @@
 -- What an event names of those before it (own; private functions alone).
 use Rattle.std.specs.Prelude.{ℕ, zero, suc}
 use Rattle.cesr_codes.specs.declared.digest.Digest.{Digest}
-use Rattle.event_body.specs.Events.{said_of}
-use Rattle.log_maker.specs.Plans.{blank, first_event, event_at}
+use Rattle.event_body.specs.EventBody.Events.{said_of}
+use Rattle.controller_core.specs.LogMaker.Plans.{blank, first_event, event_at}
 
 -- the first event's digest, behind it
 unfoldable pub first_before : ℕ → ℕ → ℕ → Digest

@@ -2,9 +2,9 @@
 use Rattle.std.specs.Prelude.{ℕ, suc, List, ◌++◌, drop}
 use Rattle.std.specs.declared.option.Option.{Option}
 use Rattle.std.specs.declared.option.Option.TheVariants.{Some}
-use Rattle.log_maker.specs.Streams.{messages_from, logs_from}
-use Rattle.log_maker.specs.declared.rest.Rest.{Rest}
-use Rattle.log_maker.specs.declared.log_maker.LogMaker.{LogMaker}
+use Rattle.controller_core.specs.LogMaker.Streams.{messages_from, logs_from}
+use Rattle.controller_core.specs.declared.log_maker.rest.Rest.{Rest}
+use Rattle.controller_core.specs.declared.log_maker.log_maker.LogMaker.{LogMaker}
 
 -- the messages of the open log that aren't made yet, and the logs behind it
 unfoldable pub rest_text : Rest → List ℕ

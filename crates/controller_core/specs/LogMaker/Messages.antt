@@ -2,7 +2,7 @@
 use Rattle.std.specs.Prelude.{◌≡◌, ℕ, true, false, List, [], ◌∷◌, ◌++◌, codes}
 use Rattle.std.proofs.Common.{refl}
 use Rattle.std.specs.declared.option.Option.TheVariants.{Some}
-use Rattle.keri_specs.specs.Base64.{base64_text, whole_number}
+use Rattle.lists.specs.KeriSpecs.Base64.{base64_text, whole_number}
 use Rattle.cesr_codes.specs.Indices.{has_form, indexed_code, index_text}
 use Rattle.cesr_codes.specs.declared.indexed_sig.IndexedSig.{IndexedSig}
 use Rattle.cesr_codes.specs.declared.key.Key.{Key}
@@ -11,9 +11,9 @@ use Rattle.keri_outside.specs.Rehearsal.{rehearsed}
 use Rattle.cesr_stream.specs.declared.group.Group.{Group}
 use Rattle.cesr_stream.specs.declared.group.Group.TheVariants.{Held, Witness}
 use Rattle.cesr_stream.specs.Texts.{group_text}
-use Rattle.log_maker.specs.Names.{log_key, log_witness}
-use Rattle.log_maker.specs.Draws.{key_number}
-use Rattle.log_maker.specs.Plans.{event_at, event_text}
+use Rattle.controller_core.specs.LogMaker.Names.{log_key, log_witness}
+use Rattle.controller_core.specs.LogMaker.Draws.{key_number}
+use Rattle.controller_core.specs.LogMaker.Plans.{event_at, event_text}
 
 -- the rehearsal's signature of a key on a body, for the key's place in the current list and in the next one
 abbrev pub signature : (place : ℕ) → has_form false place (Some place) ≡ true → Key → List ℕ → IndexedSig

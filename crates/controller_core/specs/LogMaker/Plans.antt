@@ -5,13 +5,13 @@ use Rattle.cesr_codes.specs.declared.digest.Digest.{Digest}
 use Rattle.cesr_codes.specs.declared.digest.DigestCode.TheVariants.{Blake3}
 use Rattle.cesr_codes.specs.declared.prefix.Prefix.TheVariants.{Said}
 use Rattle.sith.specs.declared.threshold.Threshold.TheVariants.{Count}
-use Rattle.event_body.specs.declared.event.Event.{Event}
-use Rattle.event_body.specs.declared.event.Event.TheVariants.{Icp, Rot, Ixn}
-use Rattle.event_body.specs.Events.{said_of}
-use Rattle.event_body.specs.Spelling.{text_of}
-use Rattle.event_writing.specs.Sealed.{sealed_event}
-use Rattle.log_maker.specs.Names.{log_key, log_witness, key_digest}
-use Rattle.log_maker.specs.Draws.{is_rotation, key_number}
+use Rattle.event_body.specs.declared.event_body.event.Event.{Event}
+use Rattle.event_body.specs.declared.event_body.event.Event.TheVariants.{Icp, Rot, Ixn}
+use Rattle.event_body.specs.EventBody.Events.{said_of}
+use Rattle.event_body.specs.EventBody.Spelling.{text_of}
+use Rattle.event_body.specs.EventWriting.Sealed.{sealed_event}
+use Rattle.controller_core.specs.LogMaker.Names.{log_key, log_witness, key_digest}
+use Rattle.controller_core.specs.LogMaker.Draws.{is_rotation, key_number}
 
 -- what stands in the place of a digest that isn't known yet
 abbrev pub blank : Digest

@@ -1,7 +1,7 @@
 -- Made streams: logs, one behind the other (own).
 use Rattle.std.specs.Prelude.{ℕ, zero, suc, ◌+◌, List, [], ◌++◌}
-use Rattle.log_maker.specs.Draws.{rotations_before}
-use Rattle.log_maker.specs.Messages.{message_text}
+use Rattle.controller_core.specs.LogMaker.Draws.{rotations_before}
+use Rattle.controller_core.specs.LogMaker.Messages.{message_text}
 
 -- the messages of so many events of a log, from the one of this sequence number on
 unfoldable pub messages_from : ℕ → ℕ → ℕ → ℕ → List ℕ

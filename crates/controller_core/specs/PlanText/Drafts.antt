@@ -1,13 +1,13 @@
 -- Plans that are being read: what the lines so far give.
 use Rattle.std.specs.Prelude.{◌≡◌, ℕ, List, [], ◌∷◌, ◌++◌}
 use Rattle.std.specs.Option.{option_to_list}
-use Rattle.plan_text.specs.declared.kind.Kind.{Kind}
-use Rattle.plan_text.specs.declared.entry.Entry.{Entry}
-use Rattle.plan_text.specs.declared.entry.Entry.TheVariants as entry
-use Rattle.plan_text.specs.declared.draft.Draft.{Draft}
-use Rattle.plan_text.specs.Lines.{HasLine}
-use Rattle.plan_text.specs.Entries.{IsLine}
-use Rattle.plan_text.specs.Sheets.{Sheet, IsOnce}
+use Rattle.controller_core.specs.declared.plan_text.kind.Kind.{Kind}
+use Rattle.controller_core.specs.declared.plan_text.entry.Entry.{Entry}
+use Rattle.controller_core.specs.declared.plan_text.entry.Entry.TheVariants as entry
+use Rattle.controller_core.specs.declared.plan_text.draft.Draft.{Draft}
+use Rattle.controller_core.specs.PlanText.Lines.{HasLine}
+use Rattle.controller_core.specs.PlanText.Entries.{IsLine}
+use Rattle.controller_core.specs.PlanText.Sheets.{Sheet, IsOnce}
 
 abbrev pub empty : Sheet
 empty = record { prefixes = []; digest_codes = []; kts = []; nts = []; keys = []; nexts = []; cuts = []; adds = []; toads = []; traits = []; seals = []; delegators = []; slots = [] }

@@ -2,7 +2,7 @@
 -- of CESR, JSON values those of RFC 8259, and thresholds those of KERI.
 use Rattle.std.specs.Prelude.{◌≡◌, ℕ, ◌^◌, ◌<◌, ◌≤◌, List, [], ◌∷◌, ◌++◌, length, codes, ⊤, Option, Some, None}
 use Rattle.std.specs.Fmt.{decimal}
-use Rattle.keri_specs.specs.Hex.{IsHexOf}
+use Rattle.lists.specs.KeriSpecs.Hex.{IsHexOf}
 use Rattle.cesr_codes.specs.declared.digest.Digest.{Digest}
 use Rattle.cesr_codes.specs.declared.digest.DigestCode.{DigestCode}
 use Rattle.cesr_codes.specs.declared.key.Key.{Key}
@@ -13,16 +13,16 @@ use Rattle.json_tree.specs.declared.tree.Tree.TheVariants.{Str}
 use Rattle.json_tree.specs.Spelling.{Fits, spelling}
 use Rattle.sith.specs.declared.threshold.Threshold.{Threshold}
 use Rattle.sith.specs.Thresholds.{Spells}
-use Rattle.controller_core.specs.declared.slot.Slot.{Slot}
-use Rattle.plan_text.specs.declared.kind.Kind.{Kind}
-use Rattle.plan_text.specs.declared.kind.Kind.TheVariants.{Icp, Dip, Rot, Drt, Ixn}
-use Rattle.plan_text.specs.declared.name.Name.{Name}
-use Rattle.plan_text.specs.declared.name.Name.TheVariants as name
-use Rattle.plan_text.specs.declared.given_prefix.GivenPrefix.{GivenPrefix}
-use Rattle.plan_text.specs.declared.given_prefix.GivenPrefix.TheVariants.{Said, Basic, Of}
-use Rattle.plan_text.specs.declared.entry.Entry.{Entry}
-use Rattle.plan_text.specs.declared.entry.Entry.TheVariants as entry
-use Rattle.plan_text.specs.Lines.{HasLine}
+use Rattle.controller_core.specs.declared.controller_core.slot.Slot.{Slot}
+use Rattle.controller_core.specs.declared.plan_text.kind.Kind.{Kind}
+use Rattle.controller_core.specs.declared.plan_text.kind.Kind.TheVariants.{Icp, Dip, Rot, Drt, Ixn}
+use Rattle.controller_core.specs.declared.plan_text.name.Name.{Name}
+use Rattle.controller_core.specs.declared.plan_text.name.Name.TheVariants as name
+use Rattle.controller_core.specs.declared.plan_text.given_prefix.GivenPrefix.{GivenPrefix}
+use Rattle.controller_core.specs.declared.plan_text.given_prefix.GivenPrefix.TheVariants.{Said, Basic, Of}
+use Rattle.controller_core.specs.declared.plan_text.entry.Entry.{Entry}
+use Rattle.controller_core.specs.declared.plan_text.entry.Entry.TheVariants as entry
+use Rattle.controller_core.specs.PlanText.Lines.{HasLine}
 
 -- the first line
 abbrev pub kind_line : Kind → List ℕ

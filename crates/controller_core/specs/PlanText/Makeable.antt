@@ -3,10 +3,10 @@ use Rattle.std.specs.Prelude.{◌≡◌, ⊤, is_some}
 use Rattle.std.specs.List.{AllByRecursion}
 use Rattle.json_tree.specs.Spelling.{IsJson}
 use Rattle.json_tree.specs.Strings.{IsString}
-use Rattle.controller_core.specs.declared.plan.Plan.{Plan}
-use Rattle.plan_text.specs.declared.event_plan.EventPlan.{EventPlan}
-use Rattle.plan_text.specs.declared.event_plan.PlannedEvent.{PlannedEvent}
-use Rattle.plan_text.specs.declared.event_plan.PlannedEvent.TheVariants.{Inception, Rotation, Interaction}
+use Rattle.controller_core.specs.declared.controller_core.plan.Plan.{Plan}
+use Rattle.controller_core.specs.declared.plan_text.event_plan.EventPlan.{EventPlan}
+use Rattle.controller_core.specs.declared.plan_text.event_plan.PlannedEvent.{PlannedEvent}
+use Rattle.controller_core.specs.declared.plan_text.event_plan.PlannedEvent.TheVariants.{Inception, Rotation, Interaction}
 
 -- a delegated inception alone names its delegator
 abbrev pub HasDelegator : Plan → PlannedEvent → Type 0

@@ -5,18 +5,18 @@ use Rattle.cesr_codes.specs.declared.digest.DigestCode.TheVariants.{Blake3}
 use Rattle.cesr_codes.specs.declared.prefix.Prefix.{Prefix}
 use Rattle.sith.specs.declared.threshold.Threshold.{Threshold}
 use Rattle.sith.specs.declared.threshold.Threshold.TheVariants.{Count}
-use Rattle.controller_core.specs.declared.plan.Plan.{Plan}
-use Rattle.plan_text.specs.declared.kind.Kind.{Kind}
-use Rattle.plan_text.specs.declared.kind.Kind.TheVariants.{Icp, Dip, Rot, Drt, Ixn}
-use Rattle.plan_text.specs.declared.given_prefix.GivenPrefix.{GivenPrefix}
-use Rattle.plan_text.specs.declared.given_prefix.GivenPrefix.TheVariants.{Said, Basic, Of}
-use Rattle.plan_text.specs.declared.entry.Entry.{Entry}
-use Rattle.plan_text.specs.declared.event_plan.EventPlan.{EventPlan}
-use Rattle.plan_text.specs.declared.event_plan.PlannedEvent.{PlannedEvent}
-use Rattle.plan_text.specs.declared.event_plan.PlannedEvent.TheVariants.{Inception, Rotation, Interaction}
-use Rattle.plan_text.specs.Lines.{HasLine}
-use Rattle.plan_text.specs.Entries.{kind_line, AreLines}
-use Rattle.plan_text.specs.Sheets.{Sheet, IsOnce, sheet_of}
+use Rattle.controller_core.specs.declared.controller_core.plan.Plan.{Plan}
+use Rattle.controller_core.specs.declared.plan_text.kind.Kind.{Kind}
+use Rattle.controller_core.specs.declared.plan_text.kind.Kind.TheVariants.{Icp, Dip, Rot, Drt, Ixn}
+use Rattle.controller_core.specs.declared.plan_text.given_prefix.GivenPrefix.{GivenPrefix}
+use Rattle.controller_core.specs.declared.plan_text.given_prefix.GivenPrefix.TheVariants.{Said, Basic, Of}
+use Rattle.controller_core.specs.declared.plan_text.entry.Entry.{Entry}
+use Rattle.controller_core.specs.declared.plan_text.event_plan.EventPlan.{EventPlan}
+use Rattle.controller_core.specs.declared.plan_text.event_plan.PlannedEvent.{PlannedEvent}
+use Rattle.controller_core.specs.declared.plan_text.event_plan.PlannedEvent.TheVariants.{Inception, Rotation, Interaction}
+use Rattle.controller_core.specs.PlanText.Lines.{HasLine}
+use Rattle.controller_core.specs.PlanText.Entries.{kind_line, AreLines}
+use Rattle.controller_core.specs.PlanText.Sheets.{Sheet, IsOnce, sheet_of}
 
 -- the value that a line gives, or this one where none does
 abbrev pub first_or : {A : Type 0} → A → List A → A

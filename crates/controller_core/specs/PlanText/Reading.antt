@@ -1,15 +1,15 @@
 -- What reading a plan's text answers.
 use Rattle.std.specs.Prelude.{◌≡◌, ◌≢◌, ◌⊎◌, ℕ, ◌+◌, List, [], ◌∷◌, ◌++◌, length, ⊤, Result, Ok, Err}
-use Rattle.plan_text.specs.declared.kind.Kind.{Kind}
-use Rattle.plan_text.specs.declared.entry.Entry.{Entry}
-use Rattle.plan_text.specs.declared.event_plan.EventPlan.{EventPlan}
-use Rattle.plan_text.specs.declared.line_fault.LineFault.{LineFault}
-use Rattle.plan_text.specs.declared.line_fault.LineFault.TheVariants as line
-use Rattle.plan_text.specs.declared.plan_text_fault.PlanTextFault.{PlanTextFault}
-use Rattle.plan_text.specs.declared.plan_text_fault.PlanTextFault.TheVariants.{Line, OutOfMemory}
-use Rattle.plan_text.specs.Entries.{BeginsEntry, AreLines}
-use Rattle.plan_text.specs.Sheets.{Sheet, IsOnce, sheet_of}
-use Rattle.plan_text.specs.Plans.{BeginsWith, IsEventPlan, IsGoodText}
+use Rattle.controller_core.specs.declared.plan_text.kind.Kind.{Kind}
+use Rattle.controller_core.specs.declared.plan_text.entry.Entry.{Entry}
+use Rattle.controller_core.specs.declared.plan_text.event_plan.EventPlan.{EventPlan}
+use Rattle.controller_core.specs.declared.plan_text.line_fault.LineFault.{LineFault}
+use Rattle.controller_core.specs.declared.plan_text.line_fault.LineFault.TheVariants as line
+use Rattle.controller_core.specs.declared.plan_text.plan_text_fault.PlanTextFault.{PlanTextFault}
+use Rattle.controller_core.specs.declared.plan_text.plan_text_fault.PlanTextFault.TheVariants.{Line, OutOfMemory}
+use Rattle.controller_core.specs.PlanText.Entries.{BeginsEntry, AreLines}
+use Rattle.controller_core.specs.PlanText.Sheets.{Sheet, IsOnce, sheet_of}
+use Rattle.controller_core.specs.PlanText.Plans.{BeginsWith, IsEventPlan, IsGoodText}
 
 -- the value, unless memory runs out
 abbrev pub Gives : {A : Type 0} → Result A LineFault → A → Type 0

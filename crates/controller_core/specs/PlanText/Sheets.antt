@@ -7,10 +7,10 @@ use Rattle.cesr_codes.specs.declared.key.Key.{Key}
 use Rattle.cesr_codes.specs.declared.prefix.Prefix.{Prefix}
 use Rattle.json_tree.specs.declared.tree.Tree.{Tree}
 use Rattle.sith.specs.declared.threshold.Threshold.{Threshold}
-use Rattle.controller_core.specs.declared.slot.Slot.{Slot}
-use Rattle.plan_text.specs.declared.given_prefix.GivenPrefix.{GivenPrefix}
-use Rattle.plan_text.specs.declared.entry.Entry.{Entry}
-use Rattle.plan_text.specs.declared.entry.Entry.TheVariants as entry
+use Rattle.controller_core.specs.declared.controller_core.slot.Slot.{Slot}
+use Rattle.controller_core.specs.declared.plan_text.given_prefix.GivenPrefix.{GivenPrefix}
+use Rattle.controller_core.specs.declared.plan_text.entry.Entry.{Entry}
+use Rattle.controller_core.specs.declared.plan_text.entry.Entry.TheVariants as entry
 
 pub record Sheet : Type 0 where
   pub prefixes : List GivenPrefix

@@ -1,18 +1,18 @@
 //! Interactions that seal an event.
 ghost use Rattle.std.specs.Prelude.{◌≡◌, ◌+◌, ◌-◌, ◌<◌, ◌^◌, true, Some, IfOk, IfErr};
-ghost use Rattle.journal.specs.Seals.{seals};
+ghost use Rattle.journal.specs.Journal.Seals.{seals};
 ghost use Rattle.key_state.specs.Heads.{head_sn};
-ghost use Rattle.controller_core.specs.LastNumbers.{IsLastAnswer};
-ghost use Rattle.controller_core.specs.Messages.{IsMessageOf, event_text};
-ghost use Rattle.controller_core.specs.Plans.{sealed_delegation};
-ghost use Rattle.controller_core.specs.Refusals.{CountsSignerFaults, IsRefusal};
-ghost use Rattle.controller_core.specs.Signing.{IsSignedByYes};
-ghost use Rattle.controller_core.specs.Signings.{AsksFor, signings_of};
+ghost use Rattle.controller_core.specs.ControllerCore.LastNumbers.{IsLastAnswer};
+ghost use Rattle.controller_core.specs.ControllerCore.Messages.{IsMessageOf, event_text};
+ghost use Rattle.controller_core.specs.ControllerCore.Plans.{sealed_delegation};
+ghost use Rattle.controller_core.specs.ControllerCore.Refusals.{CountsSignerFaults, IsRefusal};
+ghost use Rattle.controller_core.specs.ControllerCore.Signing.{IsSignedByYes};
+ghost use Rattle.controller_core.specs.ControllerCore.Signings.{AsksFor, signings_of};
 
-use crate::event_seal::seal_anchor;
-use crate::made::made_behind;
-use crate::planned_event::interaction;
-use crate::{Plan, PlanFault};
+use crate::controller_core::event_seal::seal_anchor;
+use crate::controller_core::made::made_behind;
+use crate::controller_core::planned_event::interaction;
+use crate::controller_core::{Plan, PlanFault};
 use cesr_stream::Message;
 use event_body::Event;
 use keri_outside::Signer;
@@ -20,7 +20,7 @@ use key_state::KeyState;
 use std::alloc::Global;
 
 /// The message of an interaction behind the head of a state, whose one anchor is the event seal of an event.
-#[tactic(auto, using(crate::proofs::Seals::holds_seal, crate::proofs::Asking::asks_without_memory))]
+#[tactic(auto, using(crate::proofs::ControllerCoreLemmas::Seals::holds_seal, crate::proofs::ControllerCoreLemmas::Asking::asks_without_memory))]
 pub fn delegate<S: Signer>(
     alloc: Global,
     state: &KeyState,

@@ -2,10 +2,9 @@
 ghost use Rattle.std.specs.Prelude.{◌≡◌, ◌++◌, ◌∷◌, [], IfOk, OnOk};
 ghost use Rattle.std.specs.List.{AllByRecursion};
 ghost use Rattle.json_tree.specs.Spelling.{IsJson};
-ghost use Rattle.controller_core.specs.Plans as plans;
+ghost use Rattle.controller_core.specs.ControllerCore.Plans as plans;
 
-use body_fields::{digest_tree, number_tree, prefix_tree};
-use event_body::{Event, prefix_of, said_of_event, sn_of};
+use event_body::{Event, digest_tree, number_tree, prefix_of, prefix_tree, said_of_event, sn_of};
 use json_tree::{Member, Tree};
 use lists::Items;
 use std::alloc::{AllocError, Global};
@@ -21,7 +20,7 @@ pub(crate) fn seal_anchor(alloc: Global, event: &Event) -> Result<Items<Tree>, A
 }
 
 // The event seal of an event: an object of its identifier, its number and its digest (KERI, event seals).
-#[tactic(auto, unfolding(crate::specs::Plans::seal_of), using(crate::proofs::Seals::seal_json))]
+#[tactic(auto, unfolding(crate::specs::ControllerCore::Plans::seal_of), using(crate::proofs::ControllerCoreLemmas::Seals::seal_json))]
 fn event_seal(alloc: Global, event: &Event) -> Result<Tree, AllocError>
     ensures seal { IfOk result (λ seal. seal ≡ plans.seal_of event.now) }
     ensures json { IfOk result IsJson }

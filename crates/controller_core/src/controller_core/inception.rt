@@ -3,22 +3,22 @@ ghost use Rattle.std.specs.Prelude.{◌≡◌, None, IfOk, IfErr, is_some};
 ghost use Rattle.std.specs.List.{AllByRecursion};
 ghost use Rattle.json_tree.specs.Spelling.{IsJson};
 ghost use Rattle.json_tree.specs.Strings.{IsString};
-ghost use Rattle.controller_core.specs.Messages.{IsMessageOf};
-ghost use Rattle.controller_core.specs.Plans.{sealed_inception};
-ghost use Rattle.controller_core.specs.Refusals.{CountsSignerFaults, IsRefusal};
-ghost use Rattle.controller_core.specs.Signing.{IsSignedByYes};
-ghost use Rattle.controller_core.specs.Signings.{AsksFor, signings_of};
+ghost use Rattle.controller_core.specs.ControllerCore.Messages.{IsMessageOf};
+ghost use Rattle.controller_core.specs.ControllerCore.Plans.{sealed_inception};
+ghost use Rattle.controller_core.specs.ControllerCore.Refusals.{CountsSignerFaults, IsRefusal};
+ghost use Rattle.controller_core.specs.ControllerCore.Signing.{IsSignedByYes};
+ghost use Rattle.controller_core.specs.ControllerCore.Signings.{AsksFor, signings_of};
 
-use crate::made::made;
-use crate::planned_event::inception;
-use crate::{Plan, PlanFault};
+use crate::controller_core::made::made;
+use crate::controller_core::planned_event::inception;
+use crate::controller_core::{Plan, PlanFault};
 use cesr_stream::Message;
 use keri_outside::Signer;
 use std::alloc::Global;
 
 /// The message of the inception that a plan says. It is a delegated one exactly where the plan is, and its witnesses are
 /// those that the plan adds.
-#[tactic(auto, using(crate::proofs::Asking::asks_without_memory))]
+#[tactic(auto, using(crate::proofs::ControllerCoreLemmas::Asking::asks_without_memory))]
 pub fn incept<S: Signer>(alloc: Global, plan: &Plan, signer: &mut S) -> Result<Message, PlanFault>
     requires anchors { AllByRecursion IsJson plan.now.anchors }
     requires traits { AllByRecursion IsString plan.now.traits }

@@ -1,15 +1,14 @@
 //! Plans behind a head of the greatest number.
-ghost use Rattle.event_writing.specs.Writable.{IsWritable};
+ghost use Rattle.event_body.specs.EventWriting.Writable.{IsWritable};
 ghost use Rattle.std.specs.Prelude.{◌≡◌};
-ghost use Rattle.controller_core.specs.LastNumbers as specs;
-ghost use Rattle.controller_core.specs.LastNumbers.{IsLastRefusal};
-ghost use Rattle.controller_core.specs.Messages.{event_text};
-ghost use Rattle.controller_core.specs.Plans.{sealed};
+ghost use Rattle.controller_core.specs.ControllerCore.LastNumbers as specs;
+ghost use Rattle.controller_core.specs.ControllerCore.LastNumbers.{IsLastRefusal};
+ghost use Rattle.controller_core.specs.ControllerCore.Messages.{event_text};
+ghost use Rattle.controller_core.specs.ControllerCore.Plans.{sealed};
 
-use crate::PlanFault;
+use crate::controller_core::PlanFault;
 use cesr_codes::DigestCode;
-use event_body::{BodyFault, Event, ReadBody, read_body};
-use event_writing::{EventText, sealed_text};
+use event_body::{BodyFault, Event, EventText, ReadBody, read_body, sealed_text};
 use std::alloc::Global;
 
 // With one digit more, so many bytes are too many.
@@ -17,7 +16,7 @@ const TOO_MANY: usize = 65_535;
 
 /// Why no message is made of an event behind a head of the greatest number, when the event has that number in the place of
 /// the next one.
-#[tactic(auto, unfolding(crate::specs::Plans::sealed, crate::specs::Messages::event_text))]
+#[tactic(auto, unfolding(crate::specs::ControllerCore::Plans::sealed, crate::specs::ControllerCore::Messages::event_text))]
 pub(crate) fn last_fault(alloc: Global, event: &Event, code: DigestCode) -> PlanFault
     requires { IsWritable event.now }
     ensures { IsLastRefusal (event_text (sealed code event.now)) result }

@@ -2,23 +2,23 @@
 ghost use Rattle.std.specs.Prelude.{◌≡◌, ◌+◌, ◌-◌, ◌<◌, ◌^◌, ◌∷◌, [], false, Some, IfOk, IfErr};
 ghost use Rattle.std.specs.Option.{option_copied};
 ghost use Rattle.cesr_stream.specs.declared.group.Group.TheVariants.{Held};
-ghost use Rattle.event_writing.specs.Writable.{IsWritable};
+ghost use Rattle.event_body.specs.EventWriting.Writable.{IsWritable};
 ghost use Rattle.key_state.specs.Heads.{head_sn};
-ghost use Rattle.controller_core.specs.LastNumbers.{IsLastAnswer};
-ghost use Rattle.controller_core.specs.Messages.{IsMessageOf, event_text};
-ghost use Rattle.controller_core.specs.Plans.{sealed};
-ghost use Rattle.controller_core.specs.Refusals.{CountsSignerFaults, IsRefusal};
-ghost use Rattle.controller_core.specs.Signing.{IsSignedByYes};
-ghost use Rattle.controller_core.specs.Signings.{AsksFor, signings_of};
+ghost use Rattle.controller_core.specs.ControllerCore.LastNumbers.{IsLastAnswer};
+ghost use Rattle.controller_core.specs.ControllerCore.Messages.{IsMessageOf, event_text};
+ghost use Rattle.controller_core.specs.ControllerCore.Plans.{sealed};
+ghost use Rattle.controller_core.specs.ControllerCore.Refusals.{CountsSignerFaults, IsRefusal};
+ghost use Rattle.controller_core.specs.ControllerCore.Signing.{IsSignedByYes};
+ghost use Rattle.controller_core.specs.ControllerCore.Signings.{AsksFor, signings_of};
 
-use crate::last_number::last_fault;
-use crate::planned_body::planned_text;
-use crate::signature::signatures;
-use crate::{Plan, PlanFault};
+use crate::controller_core::last_number::last_fault;
+use crate::controller_core::planned_body::planned_text;
+use crate::controller_core::signature::signatures;
+use crate::controller_core::{Plan, PlanFault};
 use cesr_codes::IndexedSig;
 use cesr_stream::{Group, Message};
 use event_body::Event;
-use event_rules::signing_keys;
+use journal::signing_keys;
 use keri_outside::Signer;
 use key_state::KeyState;
 use lists::Items;
@@ -50,7 +50,7 @@ pub(crate) fn made<S: Signer>(
 }
 
 /// The same behind a head of any number.
-#[tactic(auto, using(crate::proofs::Asking::asks_nothing))]
+#[tactic(auto, using(crate::proofs::ControllerCoreLemmas::Asking::asks_nothing))]
 pub(crate) fn made_behind<S: Signer>(
     alloc: Global,
     state: &KeyState,

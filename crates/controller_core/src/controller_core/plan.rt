@@ -1,6 +1,6 @@
 //! Plans of events.
 
-use crate::Slot;
+use crate::controller_core::Slot;
 use cesr_codes::{Digest, DigestCode, Key, Prefix};
 use json_tree::{Text, Tree};
 use lists::Items;

@@ -1,6 +1,6 @@
 //! Why no message is made.
 ghost use Rattle.std.specs.Prelude.{◌≡◌};
-ghost use Rattle.controller_core.specs.declared.plan_fault.PlanFault.TheVariants.{OutOfMemory, SignerFault};
+ghost use Rattle.controller_core.specs.declared.controller_core.plan_fault.PlanFault.TheVariants.{OutOfMemory, SignerFault};
 
 use event_body::BodyFault;
 use keri_outside::Failed;

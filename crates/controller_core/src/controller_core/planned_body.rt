@@ -1,19 +1,18 @@
 //! Bodies of planned events that can be signed.
 ghost use Rattle.std.specs.Prelude.{◌≡◌, ◌≢◌, Some, IfOk, IfErr, IfNone, IfSome, OnOk};
 ghost use Rattle.std.specs.Option.{IsSomeAnd, option_copied};
-ghost use Rattle.event_writing.specs.Faults.{IsFaultOf};
-ghost use Rattle.event_writing.specs.Writable.{IsWritable};
-ghost use Rattle.controller_core.specs.Messages.{Follows, IsSignable, IsWhole, event_text};
-ghost use Rattle.controller_core.specs.Plans.{sealed};
-ghost use Rattle.controller_core.specs.Refusals.{IsRefusal};
-ghost use Rattle.controller_core.specs.declared.plan_fault.PlanFault.TheVariants.{SignerFault};
+ghost use Rattle.event_body.specs.EventWriting.Faults.{IsFaultOf};
+ghost use Rattle.event_body.specs.EventWriting.Writable.{IsWritable};
+ghost use Rattle.controller_core.specs.ControllerCore.Messages.{Follows, IsSignable, IsWhole, event_text};
+ghost use Rattle.controller_core.specs.ControllerCore.Plans.{sealed};
+ghost use Rattle.controller_core.specs.ControllerCore.Refusals.{IsRefusal};
+ghost use Rattle.controller_core.specs.declared.controller_core.plan_fault.PlanFault.TheVariants.{SignerFault};
 ghost use Rattle.key_state.specs.KeyStates as states;
 
-use crate::slots::are_enough;
-use crate::{Plan, PlanFault};
+use crate::controller_core::slots::are_enough;
+use crate::controller_core::{Plan, PlanFault};
 use cesr_codes::DigestCode;
-use event_body::{Event, ReadBody};
-use event_writing::{EventText, sealed_text, write_body};
+use event_body::{Event, EventText, ReadBody, sealed_text, write_body};
 use key_state::{KeyState, Misfit, spelled_is_kept};
 use std::alloc::Global;
 
@@ -61,7 +60,7 @@ fn signable_text(
 }
 
 // The event with the digest of its own text, and that text, where it is a body.
-#[tactic(auto, unfolding(crate::specs::Plans::sealed, crate::specs::Messages::event_text))]
+#[tactic(auto, unfolding(crate::specs::ControllerCore::Plans::sealed, crate::specs::ControllerCore::Messages::event_text))]
 fn body_of(alloc: Global, event: &Event, code: DigestCode) -> Result<EventText, ReadBody>
     requires { IsWritable event.now }
     ensures event { IfOk result (λ made. made.event ≡ sealed code event.now) }
@@ -76,7 +75,7 @@ fn body_of(alloc: Global, event: &Event, code: DigestCode) -> Result<EventText, 
 }
 
 // The event with its text, which is written once more as its rules are looked at, where that is a body.
-#[tactic(auto, unfolding(crate::specs::Messages::event_text))]
+#[tactic(auto, unfolding(crate::specs::ControllerCore::Messages::event_text))]
 fn body_with(alloc: Global, event: Event) -> Result<EventText, ReadBody>
     requires { IsWritable event }
     ensures event { IfOk result (λ made. made.event ≡ event) }

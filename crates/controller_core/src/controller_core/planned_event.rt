@@ -3,10 +3,10 @@ ghost use Rattle.std.specs.Prelude.{◌≡◌, IfOk, is_some};
 ghost use Rattle.std.specs.List.{AllByRecursion};
 ghost use Rattle.json_tree.specs.Spelling.{IsJson};
 ghost use Rattle.json_tree.specs.Strings.{IsString};
-ghost use Rattle.event_writing.specs.Writable.{IsWritable};
-ghost use Rattle.controller_core.specs.Plans as plans;
+ghost use Rattle.event_body.specs.EventWriting.Writable.{IsWritable};
+ghost use Rattle.controller_core.specs.ControllerCore.Plans as plans;
 
-use crate::Plan;
+use crate::controller_core::Plan;
 use cesr_codes::{Digest, DigestCode, Key, Prefix};
 use event_body::{Event, Inception, Interaction, Rotation};
 use json_tree::Tree;
@@ -53,7 +53,7 @@ fn begun(alloc: Global, plan: &Plan) -> Result<Inception, AllocError>
 }
 
 /// The inception that a plan says.
-#[tactic(auto, unfolding(crate::specs::Plans::inception))]
+#[tactic(auto, unfolding(crate::specs::ControllerCore::Plans::inception))]
 pub(crate) fn inception(alloc: Global, plan: &Plan) -> Result<Event, AllocError>
     requires anchors { AllByRecursion IsJson plan.now.anchors }
     requires traits { AllByRecursion IsString plan.now.traits }
@@ -104,7 +104,7 @@ fn rotated(alloc: Global, state: &KeyState, plan: &Plan) -> Result<Rotation, All
 }
 
 /// The rotation that a plan says behind the head of a state.
-#[tactic(auto, unfolding(crate::specs::Plans::rotation))]
+#[tactic(auto, unfolding(crate::specs::ControllerCore::Plans::rotation))]
 pub(crate) fn rotation(alloc: Global, state: &KeyState, plan: &Plan) -> Result<Event, AllocError>
     requires { AllByRecursion IsJson plan.now.anchors }
     ensures event { IfOk result (λ event. event ≡ plans.rotation state.now plan.now) }
@@ -119,7 +119,7 @@ pub(crate) fn rotation(alloc: Global, state: &KeyState, plan: &Plan) -> Result<E
 }
 
 /// The interaction with these anchors behind the head of a state.
-#[tactic(auto, unfolding(crate::specs::Plans::interaction))]
+#[tactic(auto, unfolding(crate::specs::ControllerCore::Plans::interaction))]
 pub(crate) fn interaction(state: &KeyState, anchors: Items<Tree>) -> Event
     requires { AllByRecursion IsJson anchors }
     ensures event { result ≡ plans.interaction state.now anchors }

@@ -3,23 +3,23 @@ ghost use Rattle.std.specs.Prelude.{◌≡◌, ◌+◌, ◌-◌, ◌<◌, ◌^�
 ghost use Rattle.std.specs.List.{AllByRecursion};
 ghost use Rattle.json_tree.specs.Spelling.{IsJson};
 ghost use Rattle.key_state.specs.Heads.{head_sn};
-ghost use Rattle.controller_core.specs.LastNumbers.{IsLastAnswer};
-ghost use Rattle.controller_core.specs.Messages.{IsMessageOf, event_text};
-ghost use Rattle.controller_core.specs.Plans.{sealed_rotation};
-ghost use Rattle.controller_core.specs.Refusals.{CountsSignerFaults, IsRefusal};
-ghost use Rattle.controller_core.specs.Signing.{IsSignedByYes};
-ghost use Rattle.controller_core.specs.Signings.{AsksFor, signings_of};
+ghost use Rattle.controller_core.specs.ControllerCore.LastNumbers.{IsLastAnswer};
+ghost use Rattle.controller_core.specs.ControllerCore.Messages.{IsMessageOf, event_text};
+ghost use Rattle.controller_core.specs.ControllerCore.Plans.{sealed_rotation};
+ghost use Rattle.controller_core.specs.ControllerCore.Refusals.{CountsSignerFaults, IsRefusal};
+ghost use Rattle.controller_core.specs.ControllerCore.Signing.{IsSignedByYes};
+ghost use Rattle.controller_core.specs.ControllerCore.Signings.{AsksFor, signings_of};
 
-use crate::made::made_behind;
-use crate::planned_event::rotation;
-use crate::{Plan, PlanFault};
+use crate::controller_core::made::made_behind;
+use crate::controller_core::planned_event::rotation;
+use crate::controller_core::{Plan, PlanFault};
 use cesr_stream::Message;
 use keri_outside::Signer;
 use key_state::KeyState;
 use std::alloc::Global;
 
 /// The message of the rotation that a plan says behind the head of a state. It is a delegated one exactly where the plan is.
-#[tactic(auto, using(crate::proofs::Asking::asks_without_memory))]
+#[tactic(auto, using(crate::proofs::ControllerCoreLemmas::Asking::asks_without_memory))]
 pub fn rotate<S: Signer>(
     alloc: Global,
     state: &KeyState,

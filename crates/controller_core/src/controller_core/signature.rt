@@ -2,15 +2,15 @@
 ghost use Rattle.std.specs.Prelude.{◌≡◌, ◌≤◌, ◌⊎◌, true, length, IfOk, IfErr};
 ghost use Rattle.std.specs.List.{AllZip, list_all};
 ghost use Rattle.cesr_codes.specs.Indices.{has_form};
-ghost use Rattle.controller_core.specs.declared.plan_fault.PlanFault.TheVariants.{OutOfMemory, SignerFault};
-ghost use Rattle.keri_specs.specs.Causes.{HasCause};
-ghost use Rattle.keri_specs.specs.Told.{Puts};
-ghost use Rattle.controller_core.specs.Messages.{IsInSlot};
-ghost use Rattle.controller_core.specs.Refusals.{CountsSignerFaults};
-ghost use Rattle.controller_core.specs.Signings.{signing_at, signings_in};
-ghost use Rattle.controller_core.specs.Slots as specs;
+ghost use Rattle.controller_core.specs.declared.controller_core.plan_fault.PlanFault.TheVariants.{OutOfMemory, SignerFault};
+ghost use Rattle.lists.specs.KeriSpecs.Causes.{HasCause};
+ghost use Rattle.lists.specs.KeriSpecs.Told.{Puts};
+ghost use Rattle.controller_core.specs.ControllerCore.Messages.{IsInSlot};
+ghost use Rattle.controller_core.specs.ControllerCore.Refusals.{CountsSignerFaults};
+ghost use Rattle.controller_core.specs.ControllerCore.Signings.{signing_at, signings_in};
+ghost use Rattle.controller_core.specs.ControllerCore.Slots as specs;
 
-use crate::{PlanFault, Slot};
+use crate::controller_core::{PlanFault, Slot};
 use cesr_codes::{IndexedSig, Key, Sig};
 use keri_outside::{Failed, Signer};
 use lists::Items;

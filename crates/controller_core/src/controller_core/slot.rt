@@ -1,7 +1,7 @@
 //! Places of signatures.
 ghost use Rattle.std.specs.Prelude.{◌≡◌, true};
 ghost use Rattle.cesr_codes.specs.Indices.{has_form};
-ghost use Rattle.controller_core.specs.Slots as specs;
+ghost use Rattle.controller_core.specs.ControllerCore.Slots as specs;
 
 /// The places of a signature's key: in the list of signing keys and, where it has one, in the list of the next keys'
 /// digests that the state before gives.

@@ -2,12 +2,12 @@
 ghost use Rattle.std.specs.Prelude.{◌≡◌, Some};
 ghost use Rattle.std.specs.Option.{option_copied};
 ghost use Rattle.key_state.specs.Exposure as exposure;
-ghost use Rattle.controller_core.specs.Slots as slots;
+ghost use Rattle.controller_core.specs.ControllerCore.Slots as slots;
 
-use crate::Slot;
+use crate::controller_core::Slot;
 use cesr_codes::{Digest, Key};
 use event_body::Event;
-use event_rules::Support;
+use journal::Support;
 use key_state::KeyState;
 use said_digest::digest_of;
 
@@ -22,19 +22,19 @@ pub(crate) struct SlotSupport<'a> {
 impl<'a> Support for SlotSupport<'a> {
     ghost has = { λ s. slots.slots_have (option_copied s.state) s.event.now s.slots.now };
 
-    #[tactic(auto, unfolding(crate::specs::Slots::slots_have))]
+    #[tactic(auto, unfolding(crate::specs::ControllerCore::Slots::slots_have))]
     fn has_index(&self, index: u16) -> bool {
         self.slots.iter().any(|slot| slot.index == index)
     }
 
-    #[tactic(auto, unfolding(crate::specs::Slots::slots_have))]
+    #[tactic(auto, unfolding(crate::specs::ControllerCore::Slots::slots_have))]
     fn reveals(&self, place: u16) -> bool {
         self.slots
             .iter()
             .any(|slot| opens_at(self.state, self.event, place, slot))
     }
 
-    #[tactic(auto, unfolding(crate::specs::Slots::slots_have))]
+    #[tactic(auto, unfolding(crate::specs::ControllerCore::Slots::slots_have))]
     fn backs(&self, _place: u16) -> bool {
         false
     }

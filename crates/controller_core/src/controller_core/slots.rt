@@ -2,14 +2,14 @@
 ghost use Rattle.std.specs.Prelude.{◌≡◌, length};
 ghost use Rattle.std.specs.List.{list_all};
 ghost use Rattle.std.specs.Option.{option_copied};
-ghost use Rattle.event_rules.specs.Parts.{has_signed};
+ghost use Rattle.journal.specs.EventRules.Parts.{has_signed};
 ghost use Rattle.key_state.specs.Kept.{IsKept};
-ghost use Rattle.controller_core.specs.Slots as specs;
+ghost use Rattle.controller_core.specs.ControllerCore.Slots as specs;
 
-use crate::Slot;
-use crate::slot_support::SlotSupport;
+use crate::controller_core::Slot;
+use crate::controller_core::slot_support::SlotSupport;
 use event_body::Event;
-use event_rules::{meets_before, meets_own, signing_keys};
+use journal::{meets_before, meets_own, signing_keys};
 use key_state::KeyState;
 
 // How many signatures one group counts.
@@ -17,7 +17,7 @@ const MOST: usize = 4_095;
 
 /// Whether there are no more slots than one group counts, each is in range, and good signatures in them sign the event
 /// behind the state.
-#[tactic(auto, unfolding(crate::specs::Slots::are_enough))]
+#[tactic(auto, unfolding(crate::specs::ControllerCore::Slots::are_enough))]
 pub(crate) fn are_enough(state: Option<&KeyState>, event: &Event, slots: &[Slot]) -> bool
     requires { IsKept event.now }
     ensures { result ≡ specs.are_enough (option_copied state.entry) event.now slots.now }

@@ -1,7 +1,7 @@
 //! What is drawn for an event.
 ghost use Rattle.std.specs.Prelude.{◌≡◌, ◌≤◌, ◌<◌, ◌+◌, ◌-◌, ◌^◌};
-ghost use Rattle.log_maker.specs.Draws as draws;
-ghost use Rattle.log_maker.specs.Draws.{draw_at, drawn_behind, rotations_before};
+ghost use Rattle.controller_core.specs.LogMaker.Draws as draws;
+ghost use Rattle.controller_core.specs.LogMaker.Draws.{draw_at, drawn_behind, rotations_before};
 
 /// An event of a log by its place, and whether it is a rotation.
 #[derive(Clone, Copy)]
@@ -20,7 +20,7 @@ pub(crate) struct Draw {
 
 impl Draw {
     /// The first event of a log.
-    #[tactic(auto, unfolding(crate::specs::Draws::draw_at, crate::specs::Draws::rotations_before))]
+    #[tactic(auto, unfolding(crate::specs::LogMaker::Draws::draw_at, crate::specs::LogMaker::Draws::rotations_before))]
     pub(crate) fn first(seed: u64, log: u64) -> Draw
         ensures of { (result.seed ≡ seed) × (result.log ≡ log) }
         ensures sn { result.sn ≡ 0 }
@@ -71,7 +71,7 @@ impl Draw {
 }
 
 // The number that is drawn behind this one.
-#[tactic(auto, unfolding(crate::specs::Draws::drawn_behind))]
+#[tactic(auto, unfolding(crate::specs::LogMaker::Draws::drawn_behind))]
 fn next_drawn(drawn: u64) -> u64
     ensures { result ≡ drawn_behind drawn }
 {

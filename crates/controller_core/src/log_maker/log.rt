@@ -1,9 +1,9 @@
 //! A log, as far as it is made.
 ghost use Rattle.std.specs.Prelude.{◌≡◌};
-ghost use Rattle.log_maker.specs.Behind.{first_before, prior_before};
+ghost use Rattle.controller_core.specs.LogMaker.Behind.{first_before, prior_before};
 
-use crate::draw::Draw;
-use crate::plans::{BLANK, inception, interaction, rotation};
+use crate::log_maker::draw::Draw;
+use crate::log_maker::plans::{BLANK, inception, interaction, rotation};
 use cesr_codes::Digest;
 use event_body::Event;
 use std::alloc::{AllocError, Global};
@@ -23,12 +23,12 @@ pub(crate) struct Log {
 
 impl Log {
     ghost use Rattle.std.specs.Prelude.{◌+◌, ◌<◌, ◌^◌, IfOk};
-    ghost use Rattle.event_body.specs.Events.{said_of};
-    ghost use Rattle.event_writing.specs.Writable.{IsWritable};
-    ghost use Rattle.log_maker.specs.Plans.{event_at, sealed};
+    ghost use Rattle.event_body.specs.EventBody.Events.{said_of};
+    ghost use Rattle.event_body.specs.EventWriting.Writable.{IsWritable};
+    ghost use Rattle.controller_core.specs.LogMaker.Plans.{event_at, sealed};
 
     /// The log of this number, of which nothing is made.
-    #[tactic(auto, unfolding(crate::specs::Behind::first_before, crate::specs::Behind::prior_before))]
+    #[tactic(auto, unfolding(crate::specs::LogMaker::Behind::first_before, crate::specs::LogMaker::Behind::prior_before))]
     pub(crate) fn new(seed: u64, log: u64) -> Log
         ensures of { (result.next.seed ≡ seed) × (result.next.log ≡ log) }
         ensures none { result.next.sn ≡ 0 }

@@ -1,8 +1,8 @@
 //! A stream of logs as a source, which is made event by event.
 ghost use Rattle.std.specs.Prelude.{◌≡◌, ◌≤◌, ◌<◌, ◌++◌, [], drop, length, take};
 
-use crate::message::next_message;
-use crate::rest::Rest;
+use crate::log_maker::message::next_message;
+use crate::log_maker::rest::Rest;
 use keri_outside::{Failed, Source};
 use std::alloc::{AllocError, Global};
 
@@ -21,8 +21,8 @@ pub struct LogMaker {
 
 impl LogMaker {
     ghost use Rattle.std.specs.Prelude.{Some, OnOk};
-    ghost use Rattle.log_maker.specs.Making.{maker_left, maker_faults};
-    ghost use Rattle.log_maker.specs.Streams.{stream_text};
+    ghost use Rattle.controller_core.specs.LogMaker.Making.{maker_left, maker_faults};
+    ghost use Rattle.controller_core.specs.LogMaker.Streams.{stream_text};
 
     /// The stream of the seed: so many logs of so many events each.
     pub fn new(alloc: Global, seed: u64, logs: u64, events: u64) -> LogMaker
@@ -60,7 +60,7 @@ impl LogMaker {
 }
 
 impl Source for LogMaker {
-    ghost use Rattle.log_maker.specs.Making.{maker_left, maker_faults};
+    ghost use Rattle.controller_core.specs.LogMaker.Making.{maker_left, maker_faults};
 
     ghost left = { maker_left };
 

@@ -1,12 +1,11 @@
 //! Texts that are made of events.
 ghost use Rattle.std.specs.Prelude.{◌≡◌, ◌≤◌, IfOk, length};
-ghost use Rattle.event_body.specs.Events.{said_of};
-ghost use Rattle.event_writing.specs.Writable.{IsWritable};
-ghost use Rattle.log_maker.specs.Plans.{event_text, sealed};
+ghost use Rattle.event_body.specs.EventBody.Events.{said_of};
+ghost use Rattle.event_body.specs.EventWriting.Writable.{IsWritable};
+ghost use Rattle.controller_core.specs.LogMaker.Plans.{event_text, sealed};
 
 use cesr_codes::{Digest, DigestCode};
-use event_body::{Event, ReadBody, said_of_event};
-use event_writing::{EventText, sealed_text};
+use event_body::{Event, EventText, ReadBody, said_of_event, sealed_text};
 use std::alloc::{AllocError, Global};
 
 /// What was made of an event, its body or its whole message, and the event's digest.
@@ -17,7 +16,7 @@ pub(crate) struct Made {
 }
 
 /// The body of the event with the digest of its own text.
-#[tactic(auto, unfolding(crate::specs::Plans::event_text, crate::specs::Plans::sealed))]
+#[tactic(auto, unfolding(crate::specs::LogMaker::Plans::event_text, crate::specs::LogMaker::Plans::sealed))]
 pub(crate) fn sealed_body(alloc: Global, plan: &Event) -> Result<Made, AllocError>
     requires writable { IsWritable plan.now }
     requires short { length (event_text (sealed plan.now)) ≤ 65535 }

@@ -1,14 +1,14 @@
 //! Messages: bodies with a signature and receipts, all by the rehearsal.
 ghost use Rattle.std.specs.Prelude.{◌≡◌, ◌+◌, ◌<◌, ◌++◌, ◌^◌, IfOk, OnOk};
-ghost use Rattle.event_body.specs.Events.{said_of};
+ghost use Rattle.event_body.specs.EventBody.Events.{said_of};
 ghost use Rattle.keri_outside.specs.Rehearsal as rehearsal;
-ghost use Rattle.log_maker.specs.Names as names;
-ghost use Rattle.log_maker.specs.Messages.{message_text, signature_text, signed_text, text_with};
-ghost use Rattle.log_maker.specs.Plans.{event_at, event_text};
+ghost use Rattle.controller_core.specs.LogMaker.Names as names;
+ghost use Rattle.controller_core.specs.LogMaker.Messages.{message_text, signature_text, signed_text, text_with};
+ghost use Rattle.controller_core.specs.LogMaker.Plans.{event_at, event_text};
 
-use crate::log::Log;
-use crate::made::{Made, sealed_body};
-use crate::names::{log_key, log_witness};
+use crate::log_maker::log::Log;
+use crate::log_maker::made::{Made, sealed_body};
+use crate::log_maker::names::{log_key, log_witness};
 use cesr_codes::{IndexedSig, Key, Sig};
 use keri_outside::rehearse;
 use std::alloc::{AllocError, Global};

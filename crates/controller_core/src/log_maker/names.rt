@@ -1,7 +1,7 @@
 //! The keys of a log, by their numbers.
 ghost use Rattle.std.specs.Prelude.{◌≡◌, IfOk};
 ghost use Rattle.sha2.specs.Sha256.{sha256};
-ghost use Rattle.log_maker.specs.Names as specs;
+ghost use Rattle.controller_core.specs.LogMaker.Names as specs;
 
 use cesr_codes::{Digest, DigestCode, Key, KeyCode};
 use said_digest::digest_of;

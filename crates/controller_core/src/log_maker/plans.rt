@@ -1,10 +1,10 @@
 //! Events of a log before they have their digests.
 ghost use Rattle.std.specs.Prelude.{◌≡◌, ◌+◌, ◌<◌, ◌^◌, ◌∷◌, [], IfOk};
-ghost use Rattle.event_writing.specs.Writable.{IsWritable};
-ghost use Rattle.log_maker.specs.Names.{log_witness as witness_at};
-ghost use Rattle.log_maker.specs.Plans as specs;
+ghost use Rattle.event_body.specs.EventWriting.Writable.{IsWritable};
+ghost use Rattle.controller_core.specs.LogMaker.Names.{log_witness as witness_at};
+ghost use Rattle.controller_core.specs.LogMaker.Plans as specs;
 
-use crate::names::{key_digest, log_key, log_witness};
+use crate::log_maker::names::{key_digest, log_key, log_witness};
 use cesr_codes::{Digest, DigestCode, Key, Prefix};
 use event_body::{Event, Inception, Interaction, Rotation};
 use lists::Items;
@@ -39,7 +39,7 @@ fn witnesses(alloc: Global, seed: u64, log: u64) -> Result<Items<Key>, AllocErro
 }
 
 /// The inception of a log.
-#[tactic(auto, unfolding(crate::specs::Plans::inception))]
+#[tactic(auto, unfolding(crate::specs::LogMaker::Plans::inception))]
 pub(crate) fn inception(alloc: Global, seed: u64, log: u64) -> Result<Event, AllocError>
     ensures plan { IfOk result (λ event. event ≡ specs.inception seed log) }
     ensures writable { IfOk result IsWritable }
@@ -65,7 +65,7 @@ pub(crate) fn inception(alloc: Global, seed: u64, log: u64) -> Result<Event, All
 }
 
 /// A rotation to the key of this number.
-#[tactic(auto, unfolding(crate::specs::Plans::rotation))]
+#[tactic(auto, unfolding(crate::specs::LogMaker::Plans::rotation))]
 pub(crate) fn rotation(
     alloc: Global,
     seed: u64,
@@ -100,7 +100,7 @@ pub(crate) fn rotation(
 }
 
 /// An interaction without anchors.
-#[tactic(auto, unfolding(crate::specs::Plans::interaction))]
+#[tactic(auto, unfolding(crate::specs::LogMaker::Plans::interaction))]
 pub(crate) fn interaction(alloc: Global, sn: u64, first: Digest, prior: Digest) -> Event
     ensures plan { result ≡ specs.interaction sn first prior }
     ensures writable { IsWritable result }

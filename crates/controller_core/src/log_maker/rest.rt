@@ -1,7 +1,7 @@
 //! What is left to make of a stream.
 ghost use Rattle.std.specs.Prelude.{◌≡◌, ◌+◌, ◌<◌, ◌^◌};
 
-use crate::log::Log;
+use crate::log_maker::log::Log;
 use cesr_codes::Digest;
 
 /// The events that are left of the open log, and the logs behind it.
@@ -19,11 +19,11 @@ pub(crate) struct Rest {
 
 impl Rest {
     ghost use Rattle.std.specs.Prelude.{◌++◌, []};
-    ghost use Rattle.event_body.specs.Events.{said_of};
-    ghost use Rattle.log_maker.specs.Making.{rest_text};
-    ghost use Rattle.log_maker.specs.Messages.{message_text};
-    ghost use Rattle.log_maker.specs.Plans.{event_at};
-    ghost use Rattle.log_maker.specs.Streams.{stream_text};
+    ghost use Rattle.event_body.specs.EventBody.Events.{said_of};
+    ghost use Rattle.controller_core.specs.LogMaker.Making.{rest_text};
+    ghost use Rattle.controller_core.specs.LogMaker.Messages.{message_text};
+    ghost use Rattle.controller_core.specs.LogMaker.Plans.{event_at};
+    ghost use Rattle.controller_core.specs.LogMaker.Streams.{stream_text};
 
     /// A whole stream.
     pub(crate) fn new(seed: u64, logs: u64, events: u64) -> Rest

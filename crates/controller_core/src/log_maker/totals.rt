@@ -1,11 +1,11 @@
 //! How much a stream has in all.
 ghost use Rattle.std.specs.Prelude.{◌≡◌, ◌≤◌, ◌+◌, ◌*◌, ◌^◌, length, false, IfSome, IfNone};
 ghost use Rattle.std.specs.Fmt.{digits as hexadecimal};
-ghost use Rattle.log_maker.specs.Draws.{rotations_before};
-ghost use Rattle.log_maker.specs.Messages.{message_text};
-ghost use Rattle.log_maker.specs.Streams.{log_text, stream_rotations, stream_text};
+ghost use Rattle.controller_core.specs.LogMaker.Draws.{rotations_before};
+ghost use Rattle.controller_core.specs.LogMaker.Messages.{message_text};
+ghost use Rattle.controller_core.specs.LogMaker.Streams.{log_text, stream_rotations, stream_text};
 
-use crate::draw::Draw;
+use crate::log_maker::draw::Draw;
 
 // The bytes of a message without the digits of its event's number, by the event's kind. Of an inception's body there are 485, of a
 // rotation's 351 and of an interaction's 202: names, brackets and commas, and 44 characters for each key and digest, by the

@@ -1,16 +1,16 @@
 //! Plans that are being read.
 ghost use Rattle.std.specs.Prelude.{◌≡◌, ◌++◌, ◌∷◌, [], IsSome, IfSome, IfNone, IfErr, OnOk, OnErr, IfOk};
 ghost use Rattle.std.specs.Option.{option_to_list};
-ghost use Rattle.plan_text.specs.Plans.{default_threshold, event_of};
+ghost use Rattle.controller_core.specs.PlanText.Plans.{default_threshold, event_of};
 
-use crate::entry::Entry;
-use crate::event_plan::{EventPlan, PlannedEvent};
-use crate::given_prefix::GivenPrefix;
-use crate::kind::Kind;
-use crate::line_fault::LineFault;
-use crate::split::split;
+use crate::controller_core::{Plan, Slot};
+use crate::plan_text::entry::Entry;
+use crate::plan_text::event_plan::{EventPlan, PlannedEvent};
+use crate::plan_text::given_prefix::GivenPrefix;
+use crate::plan_text::kind::Kind;
+use crate::plan_text::line_fault::LineFault;
+use crate::plan_text::split::split;
 use cesr_codes::{Digest, DigestCode, Key, Prefix};
-use controller_core::{Plan, Slot};
 use json_tree::{Text, Tree};
 use lists::Items;
 use sith::Threshold;
@@ -36,12 +36,12 @@ pub(crate) struct Draft {
 
 impl Draft {
     ghost use Rattle.std.specs.Prelude.{Some, List, ℕ};
-    ghost use Rattle.plan_text.specs.declared.entry.Entry.{Entry};
-    ghost use Rattle.plan_text.specs.declared.event_plan.EventPlan.{EventPlan};
-    ghost use Rattle.plan_text.specs.declared.line_fault.LineFault.TheVariants.{Refused};
-    ghost use Rattle.plan_text.specs.Sheets.{IsOnce};
-    ghost use Rattle.plan_text.specs.Plans.{IsEventPlan, plan_of};
-    ghost use Rattle.plan_text.specs.Drafts.{IsRefusedLine, TakesLine, empty, push, sheet};
+    ghost use Rattle.controller_core.specs.declared.plan_text.entry.Entry.{Entry};
+    ghost use Rattle.controller_core.specs.declared.plan_text.event_plan.EventPlan.{EventPlan};
+    ghost use Rattle.controller_core.specs.declared.plan_text.line_fault.LineFault.TheVariants.{Refused};
+    ghost use Rattle.controller_core.specs.PlanText.Sheets.{IsOnce};
+    ghost use Rattle.controller_core.specs.PlanText.Plans.{IsEventPlan, plan_of};
+    ghost use Rattle.controller_core.specs.PlanText.Drafts.{IsRefusedLine, TakesLine, empty, push, sheet};
 
     /// That of no lines.
     pub(crate) fn new(alloc: Global) -> Draft

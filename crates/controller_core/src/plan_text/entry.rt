@@ -1,14 +1,14 @@
 //! The lines behind a plan's first.
 ghost use Rattle.std.specs.Prelude.{◌≡◌, IfOk};
 
-use crate::given_prefix::GivenPrefix;
-use crate::kind::Kind;
-use crate::line_fault::LineFault;
-use crate::name::Name;
-use crate::split::split;
-use crate::value::read_value;
+use crate::controller_core::Slot;
+use crate::plan_text::given_prefix::GivenPrefix;
+use crate::plan_text::kind::Kind;
+use crate::plan_text::line_fault::LineFault;
+use crate::plan_text::name::Name;
+use crate::plan_text::split::split;
+use crate::plan_text::value::read_value;
 use cesr_codes::{Digest, DigestCode, Key, Prefix};
-use controller_core::Slot;
 use json_tree::{Text, Tree};
 use sith::Threshold;
 use std::alloc::Global;
@@ -32,9 +32,9 @@ pub(crate) enum Entry {
 }
 
 impl Entry {
-    ghost use Rattle.plan_text.specs.declared.entry.Entry.{Entry};
-    ghost use Rattle.plan_text.specs.Entries.{IsLine};
-    ghost use Rattle.plan_text.specs.Reading.{Gives};
+    ghost use Rattle.controller_core.specs.declared.plan_text.entry.Entry.{Entry};
+    ghost use Rattle.controller_core.specs.PlanText.Entries.{IsLine};
+    ghost use Rattle.controller_core.specs.PlanText.Reading.{Gives};
 
     /// The entry that the line of a plan of this kind spells.
     pub(crate) fn read(alloc: Global, kind: Kind, line: &[u8]) -> Result<Entry, LineFault>

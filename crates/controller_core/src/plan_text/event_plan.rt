@@ -1,7 +1,7 @@
 //! Planned events.
 
+use crate::controller_core::Plan;
 use cesr_codes::Prefix;
-use controller_core::Plan;
 
 /// What an author plans: an event, and what it is to say.
 #[derive(Drop, PartialEq, Debug)]

@@ -1,9 +1,9 @@
 //! Prefixes that plans give.
 ghost use Rattle.std.specs.Prelude.{◌≡◌, IfOk};
 
-use crate::kind::Kind;
-use crate::line_fault::LineFault;
-use crate::primitive::read_primitive;
+use crate::plan_text::kind::Kind;
+use crate::plan_text::line_fault::LineFault;
+use crate::plan_text::primitive::read_primitive;
 use cesr_codes::Prefix;
 
 /// The prefix of a plan's identifier.
@@ -19,9 +19,9 @@ pub(crate) enum GivenPrefix {
 
 impl GivenPrefix {
     ghost use Rattle.std.specs.Prelude.{Ok};
-    ghost use Rattle.plan_text.specs.declared.given_prefix.GivenPrefix.{GivenPrefix};
-    ghost use Rattle.plan_text.specs.Entries.{IsGiven, IsWord};
-    ghost use Rattle.plan_text.specs.Plans.{is_basic};
+    ghost use Rattle.controller_core.specs.declared.plan_text.given_prefix.GivenPrefix.{GivenPrefix};
+    ghost use Rattle.controller_core.specs.PlanText.Entries.{IsGiven, IsWord};
+    ghost use Rattle.controller_core.specs.PlanText.Plans.{is_basic};
 
     /// The prefix that a plan of this kind spells so.
     pub(crate) fn read(kind: Kind, value: &[u8]) -> Result<GivenPrefix, LineFault>

@@ -2,11 +2,11 @@
 ghost use Rattle.std.specs.Prelude.{◌≡◌, ◌↔◌, IfOk, IsTrue, List, ℕ};
 ghost use Rattle.json_tree.specs.declared.tree.Tree.{Tree};
 ghost use Rattle.sith.specs.declared.threshold.Threshold.{Threshold};
-ghost use Rattle.plan_text.specs.Entries.{IsJsonValue, IsShort, IsThresholdText, IsTraitText};
-ghost use Rattle.plan_text.specs.Reading.{Gives};
+ghost use Rattle.controller_core.specs.PlanText.Entries.{IsJsonValue, IsShort, IsThresholdText, IsTraitText};
+ghost use Rattle.controller_core.specs.PlanText.Reading.{Gives};
 
-use crate::line_fault::LineFault;
-use crate::number::MOST_DIGITS;
+use crate::plan_text::line_fault::LineFault;
+use crate::plan_text::number::MOST_DIGITS;
 use json_tree::{Text, Tree, TreeFault, read_tree};
 use sith::{SithFault, Threshold};
 use std::alloc::Global;
@@ -39,7 +39,7 @@ pub(crate) fn read_trait(alloc: Global, value: &[u8]) -> Result<Text, LineFault>
 }
 
 /// The threshold that is spelled as a JSON value.
-#[tactic(auto, unfolding(crate::specs::Entries::IsThresholdText))]
+#[tactic(auto, unfolding(crate::specs::PlanText::Entries::IsThresholdText))]
 pub(crate) fn read_threshold(alloc: Global, value: &[u8]) -> Result<Threshold, LineFault>
     ensures some { IfOk result (λ threshold. IsThresholdText threshold value.now) }
     ensures only { (threshold : Threshold) → IsThresholdText threshold value.now → Gives result threshold }

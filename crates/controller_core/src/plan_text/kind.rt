@@ -17,9 +17,9 @@ pub(crate) enum Kind {
 }
 
 impl Kind {
-    ghost use Rattle.plan_text.specs.declared.kind.Kind.{Kind};
-    ghost use Rattle.plan_text.specs.Entries.{kind_line};
-    ghost use Rattle.plan_text.specs.Plans.{has_delegator, is_delegated};
+    ghost use Rattle.controller_core.specs.declared.plan_text.kind.Kind.{Kind};
+    ghost use Rattle.controller_core.specs.PlanText.Entries.{kind_line};
+    ghost use Rattle.controller_core.specs.PlanText.Plans.{has_delegator, is_delegated};
 
     /// The kind that the line names.
     pub(crate) fn of_line(line: &[u8]) -> Option<Kind>

@@ -1,8 +1,8 @@
 //! What is true of each plan that a text spells.
 ghost use Rattle.std.specs.Prelude.{List, ℕ};
-ghost use Rattle.plan_text.specs.declared.event_plan.EventPlan.{EventPlan};
-ghost use Rattle.plan_text.specs.Makeable.{IsMakeable};
-ghost use Rattle.plan_text.specs.Plans.{IsPlanText};
+ghost use Rattle.controller_core.specs.declared.plan_text.event_plan.EventPlan.{EventPlan};
+ghost use Rattle.controller_core.specs.PlanText.Makeable.{IsMakeable};
+ghost use Rattle.controller_core.specs.PlanText.Plans.{IsPlanText};
 
 /// A plan that a text spells is one of which a message may be made: its anchors and traits are of JSON's grammar, and where it
 /// asks for an inception it names a delegator exactly where that is delegated.

@@ -1,6 +1,6 @@
 //! Why a line is refused.
 ghost use Rattle.std.specs.Prelude.{◌≡◌};
-ghost use Rattle.plan_text.specs.declared.line_fault.LineFault.TheVariants.{OutOfMemory};
+ghost use Rattle.controller_core.specs.declared.plan_text.line_fault.LineFault.TheVariants.{OutOfMemory};
 
 use std::alloc::{AllocError, AllocFailed};
 

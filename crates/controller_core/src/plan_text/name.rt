@@ -20,8 +20,8 @@ pub(crate) enum Name {
 }
 
 impl Name {
-    ghost use Rattle.plan_text.specs.declared.name.Name.{Name};
-    ghost use Rattle.plan_text.specs.Entries.{name_text};
+    ghost use Rattle.controller_core.specs.declared.plan_text.name.Name.{Name};
+    ghost use Rattle.controller_core.specs.PlanText.Entries.{name_text};
 
     /// The name that is written so.
     pub(crate) fn of(text: &[u8]) -> Option<Name>

@@ -1,10 +1,10 @@
 //! Numbers.
 ghost use Rattle.std.specs.Prelude.{◌≡◌, ◌^◌, ◌<◌, Ok, IfOk, ℕ};
 ghost use Rattle.std.specs.Fmt.{decimal};
-ghost use Rattle.plan_text.specs.Entries.{IsNumberText};
+ghost use Rattle.controller_core.specs.PlanText.Entries.{IsNumberText};
 
-use crate::line_fault::LineFault;
-use hex_numbers::{hex_value, is_hex_number};
+use crate::plan_text::line_fault::LineFault;
+use lists::{hex_value, is_hex_number};
 use std::str::from_utf8;
 
 /// A number has at most so many hexadecimal digits.

@@ -1,21 +1,21 @@
 //! Reading the text of a plan.
 ghost use Rattle.std.specs.Prelude.{◌≡◌, ◌⊎◌, Ok, Err, List, [], IfOk, IfErr, IfNone, IfSome, MatchResult, ℕ};
-ghost use Rattle.plan_text.specs.declared.entry.Entry.{Entry};
-ghost use Rattle.plan_text.specs.declared.event_plan.EventPlan.{EventPlan};
-ghost use Rattle.plan_text.specs.declared.kind.Kind.{Kind};
-ghost use Rattle.plan_text.specs.declared.plan_text_fault.PlanTextFault.TheVariants.{OutOfMemory};
-ghost use Rattle.plan_text.specs.Entries.{AreLines};
-ghost use Rattle.plan_text.specs.Sheets.{IsOnce, sheet_of};
-ghost use Rattle.plan_text.specs.Plans.{BeginsWith, IsPlanText};
-ghost use Rattle.plan_text.specs.Reading.{IsCause, IsLineCause, IsRead};
-ghost use Rattle.plan_text.specs.Drafts.{sheet};
+ghost use Rattle.controller_core.specs.declared.plan_text.entry.Entry.{Entry};
+ghost use Rattle.controller_core.specs.declared.plan_text.event_plan.EventPlan.{EventPlan};
+ghost use Rattle.controller_core.specs.declared.plan_text.kind.Kind.{Kind};
+ghost use Rattle.controller_core.specs.declared.plan_text.plan_text_fault.PlanTextFault.TheVariants.{OutOfMemory};
+ghost use Rattle.controller_core.specs.PlanText.Entries.{AreLines};
+ghost use Rattle.controller_core.specs.PlanText.Sheets.{IsOnce, sheet_of};
+ghost use Rattle.controller_core.specs.PlanText.Plans.{BeginsWith, IsPlanText};
+ghost use Rattle.controller_core.specs.PlanText.Reading.{IsCause, IsLineCause, IsRead};
+ghost use Rattle.controller_core.specs.PlanText.Drafts.{sheet};
 
-use crate::draft::Draft;
-use crate::event_plan::EventPlan;
-use crate::kind::Kind;
-use crate::line_fault::LineFault;
-use crate::plan_text_fault::PlanTextFault;
-use crate::split::split;
+use crate::plan_text::draft::Draft;
+use crate::plan_text::event_plan::EventPlan;
+use crate::plan_text::kind::Kind;
+use crate::plan_text::line_fault::LineFault;
+use crate::plan_text::plan_text_fault::PlanTextFault;
+use crate::plan_text::split::split;
 use std::alloc::Global;
 
 /// The plan that a text spells: a line for its kind, and one for each value, which is a name, a space and the value. A line

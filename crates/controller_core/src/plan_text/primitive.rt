@@ -3,7 +3,7 @@ ghost use Rattle.std.specs.Prelude.{◌≡◌, ◌∷◌, [], Ok, IfOk};
 ghost use Rattle.cesr_codes.specs.declared.digest.DigestCode.{DigestCode};
 ghost use Rattle.cesr_codes.specs.Spelling.{digest_code};
 
-use crate::line_fault::LineFault;
+use crate::plan_text::line_fault::LineFault;
 use cesr_codes::{DigestCode, Spelled, of_text};
 
 /// The key, digest or prefix that the value spells.

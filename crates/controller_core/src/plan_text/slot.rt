@@ -1,12 +1,12 @@
 //! Places of signatures.
 ghost use Rattle.std.specs.Prelude.{◌≡◌, Ok, IfOk, ℕ, Option};
-ghost use Rattle.controller_core.specs.declared.slot.Slot.{Slot};
-ghost use Rattle.plan_text.specs.Entries.{IsOndex, IsSlot, ondex_text, slot_text};
+ghost use Rattle.controller_core.specs.declared.controller_core.slot.Slot.{Slot};
+ghost use Rattle.controller_core.specs.PlanText.Entries.{IsOndex, IsSlot, ondex_text, slot_text};
 
-use crate::line_fault::LineFault;
-use crate::number::read_index;
-use crate::split::split;
-use controller_core::Slot;
+use crate::controller_core::Slot;
+use crate::plan_text::line_fault::LineFault;
+use crate::plan_text::number::read_index;
+use crate::plan_text::split::split;
 
 /// The place of a signature's key that is written so.
 pub(crate) fn read_slot(value: &[u8]) -> Result<Slot, LineFault>

@@ -1,7 +1,7 @@
 //! The two parts round a byte.
 ghost use Rattle.std.specs.Prelude.{◌≡◌, ◌==◌, ◌≤◌, IfSome, IfNone, length, position};
 ghost use Rattle.std.specs.List.{position_or_len};
-ghost use Rattle.plan_text.specs.Lines.{Splits};
+ghost use Rattle.controller_core.specs.PlanText.Lines.{Splits};
 
 /// What stands before the first such byte, and what behind it.
 pub(crate) fn split(bytes: &[u8], separator: u8) -> Option<(&[u8], &[u8])>

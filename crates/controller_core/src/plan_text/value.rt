@@ -1,18 +1,18 @@
 //! Values of a plan's lines.
 ghost use Rattle.std.specs.Prelude.{◌≡◌, IfOk};
-ghost use Rattle.plan_text.specs.declared.entry.Entry.{Entry};
-ghost use Rattle.plan_text.specs.Entries.{Says};
-ghost use Rattle.plan_text.specs.Reading.{Gives};
+ghost use Rattle.controller_core.specs.declared.plan_text.entry.Entry.{Entry};
+ghost use Rattle.controller_core.specs.PlanText.Entries.{Says};
+ghost use Rattle.controller_core.specs.PlanText.Reading.{Gives};
 
-use crate::entry::Entry;
-use crate::given_prefix::GivenPrefix;
-use crate::json_value::{read_json, read_threshold, read_trait};
-use crate::kind::Kind;
-use crate::line_fault::LineFault;
-use crate::name::Name;
-use crate::number::read_number;
-use crate::primitive::{read_code, read_primitive};
-use crate::slot::read_slot;
+use crate::plan_text::entry::Entry;
+use crate::plan_text::given_prefix::GivenPrefix;
+use crate::plan_text::json_value::{read_json, read_threshold, read_trait};
+use crate::plan_text::kind::Kind;
+use crate::plan_text::line_fault::LineFault;
+use crate::plan_text::name::Name;
+use crate::plan_text::number::read_number;
+use crate::plan_text::primitive::{read_code, read_primitive};
+use crate::plan_text::slot::read_slot;
 use std::alloc::Global;
 
 /// The entry of this name, in a plan of this kind, with the value that is spelled so.

@@ -3,18 +3,18 @@ use Rattle.std.proofs.Common.{◌≡◌, ℕ, zero, suc, ◌+◌, ◌-◌, ◌�
 use Rattle.std.specs.Prelude.{slice_get}
 use Rattle.std.proofs.lemmas.Bool.{or_parts}
 use Rattle.std.proofs.lemmas.Option.{slice_get_within}
-use Rattle.event_body.specs.Events.{prefix_of, sn_of, said_of}
+use Rattle.event_body.specs.EventBody.Events.{prefix_of, sn_of, said_of}
 use Rattle.key_state.specs.States.{State}
-use Rattle.journal.specs.declared.body.Body.{Body}
-use Rattle.journal.specs.Grown.{IsGrown}
-use Rattle.journal.specs.Logs.{is_in, predecessor, same_body, state, state_at, state_behind, up_to}
-use Rattle.journal.specs.Questions.{state_before}
-use Rattle.journal.proofs.Accepting.{same_body-refl}
-use Rattle.accepted_log.specs.declared.place.Place.{Place}
-use Rattle.accepted_log.specs.Cuts.{AreAlike, IsLog, cut}
-use Rattle.accepted_log.specs.Values.{Log, last_from, last_of, last_place, nothing, state_there}
-use Rattle.accepted_log.proofs.Lists.{cut_at}
-use Rattle.accepted_log.proofs.StateSteps.{fits_parts, live_at}
+use Rattle.journal.specs.declared.journal.body.Body.{Body}
+use Rattle.journal.specs.Journal.Grown.{IsGrown}
+use Rattle.journal.specs.Journal.Logs.{is_in, predecessor, same_body, state, state_at, state_behind, up_to}
+use Rattle.journal.specs.Journal.Questions.{state_before}
+use Rattle.journal.proofs.JournalLemmas.Accepting.{same_body-refl}
+use Rattle.core_tables.specs.declared.accepted_log.place.Place.{Place}
+use Rattle.core_tables.specs.AcceptedLog.Cuts.{AreAlike, IsLog, cut}
+use Rattle.core_tables.specs.AcceptedLog.Values.{Log, last_from, last_of, last_place, nothing, state_there}
+use Rattle.core_tables.proofs.AcceptedLogLemmas.Lists.{cut_at}
+use Rattle.core_tables.proofs.AcceptedLogLemmas.StateSteps.{fits_parts, live_at}
 
 -- NOTHING: no events
 pub nothing_is_log : IsLog [] nothing

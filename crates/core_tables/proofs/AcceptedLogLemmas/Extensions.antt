@@ -6,10 +6,10 @@ use Rattle.std.proofs.lemmas.Bool.Decides.{nat_tests}
 use Rattle.std.proofs.lemmas.List.{take-take, take_all}
 use Rattle.cesr_codes.specs.declared.digest.Digest.{Digest}
 use Rattle.key_state.specs.States.{State}
-use Rattle.accepted_log.specs.declared.place.Place.{Place}
-use Rattle.accepted_log.specs.Values.{Extends, Log, at_place, established, gone_onto, has_more, undone, undone_all, with_since, without_last}
-use Rattle.accepted_log.proofs.Lists.{at_place_back, at_place_here, drop_parts}
-use Rattle.lists.proofs.Places.{at_end}
+use Rattle.core_tables.specs.declared.accepted_log.place.Place.{Place}
+use Rattle.core_tables.specs.AcceptedLog.Values.{Extends, Log, at_place, established, gone_onto, has_more, undone, undone_all, with_since, without_last}
+use Rattle.core_tables.proofs.AcceptedLogLemmas.Lists.{at_place_back, at_place_here, drop_parts}
+use Rattle.lists.proofs.ListsLemmas.Places.{at_end}
 
 pub undone_all-append : (earlier later : List Place) (states : List State) → undone_all (earlier ++ later) states ≡ undone_all earlier (undone_all later states)
 undone_all-append [] later states = refl

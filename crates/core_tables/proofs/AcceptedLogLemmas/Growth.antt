@@ -7,23 +7,23 @@ use Rattle.std.proofs.lemmas.List.{take-append-le, take_all}
 use Rattle.std.proofs.lemmas.Option.{slice_get_within}
 use Rattle.cesr_codes.specs.declared.digest.Digest.{Digest}
 use Rattle.cesr_codes.specs.declared.prefix.Prefix.{Prefix}
-use Rattle.event_body.specs.Events.{prefix_of, sn_of, said_of, is_interaction}
+use Rattle.event_body.specs.EventBody.Events.{prefix_of, sn_of, said_of, is_interaction}
 use Rattle.key_state.specs.Heads.{head_sn}
 use Rattle.key_state.specs.KeyStates.{digest_at}
 use Rattle.key_state.specs.Same.{same_prefix}
 use Rattle.key_state.specs.States.{State}
 use Rattle.key_state.proofs.Same.{same_prefix_is, same_prefix_itself}
-use Rattle.journal.specs.declared.body.Body.{Body}
-use Rattle.journal.specs.Grown.{fits}
-use Rattle.journal.specs.Logs.{is_of, state}
-use Rattle.journal.proofs.StateSteps.{state-other}
-use Rattle.accepted_log.specs.declared.place.Place.{Place}
-use Rattle.accepted_log.specs.Cuts.{GrowsByInteraction, GrowsByState, HasState, IsBehind, IsLog, cut}
-use Rattle.accepted_log.specs.Values.{Log, at_place, established, gone_onto, interacted, last_of, last_place, with_since}
-use Rattle.accepted_log.proofs.Last.{last_is_last, last_of-at, last_of-other, last_of-push, place_of_last, there}
-use Rattle.accepted_log.proofs.Lists.{at_place_here, at_place_there, front_within, still_at, take_at_place}
-use Rattle.lists.proofs.Places.{at_end, not_at_end, of_front}
-use Rattle.accepted_log.proofs.StateSteps.{IsNew, cut_all, cut_more, fits_parts, goes_onto, live_at, live_from, new_of, own_state}
+use Rattle.journal.specs.declared.journal.body.Body.{Body}
+use Rattle.journal.specs.Journal.Grown.{fits}
+use Rattle.journal.specs.Journal.Logs.{is_of, state}
+use Rattle.journal.proofs.JournalLemmas.StateSteps.{state-other}
+use Rattle.core_tables.specs.declared.accepted_log.place.Place.{Place}
+use Rattle.core_tables.specs.AcceptedLog.Cuts.{GrowsByInteraction, GrowsByState, HasState, IsBehind, IsLog, cut}
+use Rattle.core_tables.specs.AcceptedLog.Values.{Log, at_place, established, gone_onto, interacted, last_of, last_place, with_since}
+use Rattle.core_tables.proofs.AcceptedLogLemmas.Last.{last_is_last, last_of-at, last_of-other, last_of-push, place_of_last, there}
+use Rattle.core_tables.proofs.AcceptedLogLemmas.Lists.{at_place_here, at_place_there, front_within, still_at, take_at_place}
+use Rattle.lists.proofs.ListsLemmas.Places.{at_end, not_at_end, of_front}
+use Rattle.core_tables.proofs.AcceptedLogLemmas.StateSteps.{IsNew, cut_all, cut_more, fits_parts, goes_onto, live_at, live_from, new_of, own_state}
 
 module _ (log : List Body) (v w : Log) (b : Body) (number : ℕ) (p : Place) (is : IsLog log v) where
   -- where the states of the earlier events stay, that of the new one is there, and the last states are the current ones

@@ -10,11 +10,11 @@ use Rattle.cesr_codes.specs.declared.digest.Digest.{Digest}
 use Rattle.cesr_codes.specs.declared.prefix.Prefix.{Prefix}
 use Rattle.key_state.specs.States.{State}
 use Rattle.key_state.proofs.Same.{same_prefix_is}
-use Rattle.accepted_log.specs.declared.place.Place.{Place}
-use Rattle.accepted_log.specs.Hints.{AreHinted, IsLast, IsSound, is_state_of}
-use Rattle.accepted_log.specs.Values.{Log, at_place, established, gone_onto, has_more, last_from, last_place, rewound, undone, undone_all, with_since, without_last}
-use Rattle.accepted_log.proofs.Lists.{at_place_seen}
-use Rattle.lists.proofs.Places.{at_end, not_at_end, of_front}
+use Rattle.core_tables.specs.declared.accepted_log.place.Place.{Place}
+use Rattle.core_tables.specs.AcceptedLog.Hints.{AreHinted, IsLast, IsSound, is_state_of}
+use Rattle.core_tables.specs.AcceptedLog.Values.{Log, at_place, established, gone_onto, has_more, last_from, last_place, rewound, undone, undone_all, with_since, without_last}
+use Rattle.core_tables.proofs.AcceptedLogLemmas.Lists.{at_place_seen}
+use Rattle.lists.proofs.ListsLemmas.Places.{at_end, not_at_end, of_front}
 
 -- a number that is among others stands at some place
 pub contained_at : (numbers : List ℕ) (n : ℕ) → Contains numbers n → (k : ℕ) × (slice_get numbers k ≡ Some n)

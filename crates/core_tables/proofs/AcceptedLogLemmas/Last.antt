@@ -7,9 +7,9 @@ use Rattle.cesr_codes.specs.declared.prefix.Prefix.{Prefix}
 use Rattle.key_state.specs.Same.{same_prefix}
 use Rattle.key_state.specs.States.{State}
 use Rattle.key_state.proofs.Same.{same_prefix_is, same_prefix_itself}
-use Rattle.accepted_log.specs.Values.{at_place, last_from, last_of, last_place, state_there}
-use Rattle.accepted_log.proofs.Lists.{at_place_here, at_place_there, still_at}
-use Rattle.lists.proofs.Places.{at_end}
+use Rattle.core_tables.specs.AcceptedLog.Values.{at_place, last_from, last_of, last_place, state_there}
+use Rattle.core_tables.proofs.AcceptedLogLemmas.Lists.{at_place_here, at_place_there, still_at}
+use Rattle.lists.proofs.ListsLemmas.Places.{at_end}
 
 last_from-push : (n : ℕ) (prefix : Prefix) (states : List State) (s : State) → last_from n prefix (states ++ s ∷ []) ≡ (if same_prefix s.prefix prefix then Some (n + length states) else last_from n prefix states)
 unfolding last_from

@@ -1,7 +1,7 @@
 -- Lists with one more element, or with one changed.
 use Rattle.std.proofs.Common.{◌≡◌, ℕ, zero, suc, ◌≤◌, ◌<◌, List, [], ◌∷◌, ◌++◌, length, take, drop, Some, refl, sym, ◌∙◌, ap, set, arith}
 use Rattle.std.specs.Prelude.{slice_get}
-use Rattle.accepted_log.specs.Values.{at_place}
+use Rattle.core_tables.specs.AcceptedLog.Values.{at_place}
 
 pub set_at_place : {X : Type 0} (f : X → X) (xs : List X) (k : ℕ) (x y : X) → slice_get xs k ≡ Some x → f x ≡ y → set xs k y ≡ at_place k f xs
 set_at_place f [] k x y e h = refl

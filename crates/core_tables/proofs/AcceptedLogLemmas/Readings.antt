@@ -4,7 +4,7 @@ use Rattle.std.specs.Prelude.{slice_get}
 use Rattle.std.proofs.lemmas.Bool.Decides.{nat_tests}
 use Rattle.std.proofs.lemmas.Option.{slice_get_within}
 use Rattle.key_state.specs.States.{State}
-use Rattle.accepted_log.specs.Values.{has_more}
+use Rattle.core_tables.specs.AcceptedLog.Values.{has_more}
 
 pub under_ok : {A E P Q : Type 0} (r : Result A E) → OnOk r P → (P → Q) → OnOk r Q
 under_ok (Ok x) p f = f p

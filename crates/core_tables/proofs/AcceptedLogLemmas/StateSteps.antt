@@ -5,21 +5,21 @@ use Rattle.std.proofs.lemmas.Bool.{cases_Bool, and_parts, eqb-true, ltb-false, l
 use Rattle.std.proofs.lemmas.List.{take_all, take-append-le}
 use Rattle.cesr_codes.specs.declared.digest.Digest.{Digest}
 use Rattle.cesr_codes.specs.declared.prefix.Prefix.{Prefix}
-use Rattle.event_body.specs.declared.event.Event.{Event}
-use Rattle.event_body.specs.declared.event.Event.TheVariants.{Icp, Rot, Ixn, Dip, Drt, Rct}
-use Rattle.event_body.specs.Events.{prefix_of, sn_of, said_of, is_inception, is_interaction, is_receipt}
+use Rattle.event_body.specs.declared.event_body.event.Event.{Event}
+use Rattle.event_body.specs.declared.event_body.event.Event.TheVariants.{Icp, Rot, Ixn, Dip, Drt, Rct}
+use Rattle.event_body.specs.EventBody.Events.{prefix_of, sn_of, said_of, is_inception, is_interaction, is_receipt}
 use Rattle.key_state.specs.Heads.{head_sn}
 use Rattle.key_state.specs.KeyStates.{begun, digest_at, misfit, moved}
 use Rattle.key_state.specs.Same.{same_prefix}
 use Rattle.key_state.specs.States.{State}
 use Rattle.key_state.proofs.NoMisfit.{fits_sn}
 use Rattle.key_state.proofs.Same.{same_prefix_is, same_prefix_itself}
-use Rattle.journal.specs.declared.body.Body.{Body}
-use Rattle.journal.specs.Grown.{fits}
-use Rattle.journal.specs.Logs.{is_in, is_of, state, stepped, takes}
-use Rattle.journal.proofs.StateSteps.{state-own}
-use Rattle.accepted_log.specs.Cuts.{cut}
-use Rattle.accepted_log.specs.Values.{with_since}
+use Rattle.journal.specs.declared.journal.body.Body.{Body}
+use Rattle.journal.specs.Journal.Grown.{fits}
+use Rattle.journal.specs.Journal.Logs.{is_in, is_of, state, stepped, takes}
+use Rattle.journal.proofs.JournalLemmas.StateSteps.{state-own}
+use Rattle.core_tables.specs.AcceptedLog.Cuts.{cut}
+use Rattle.core_tables.specs.AcceptedLog.Values.{with_since}
 
 -- a state is of its identifier, and has the digest of the event that made it
 pub record IsOwn (prefix : Prefix) (s : State) : Type 0 where

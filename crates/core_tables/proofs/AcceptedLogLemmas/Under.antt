@@ -2,17 +2,17 @@
 use Rattle.std.proofs.Common.{◌≡◌, ℕ, zero, suc, ◌+◌, true, false, List, [], ◌∷◌, ◌++◌, length, take, drop, Option, Some, None, refl, sym, ◌∙◌, ap, subst, inl, inr, arith}
 use Rattle.std.specs.Prelude.{slice_get}
 use Rattle.std.proofs.lemmas.Bool.{cases_Bool, or_parts}
-use Rattle.event_body.specs.Events.{prefix_of, sn_of, said_of, is_interaction}
+use Rattle.event_body.specs.EventBody.Events.{prefix_of, sn_of, said_of, is_interaction}
 use Rattle.key_state.specs.States.{State}
-use Rattle.journal.specs.declared.body.Body.{Body}
-use Rattle.journal.specs.Grown.{IsGrown}
-use Rattle.journal.specs.Logs.{before, is_in, same_body, state}
-use Rattle.journal.proofs.Accepting.{same_body-refl}
-use Rattle.accepted_log.specs.declared.place.Place.{Place}
-use Rattle.accepted_log.specs.Cuts.{AreAlike, AreBothAlike, IsLog, cut, under_at}
-use Rattle.accepted_log.specs.Values.{Log, with_since}
-use Rattle.accepted_log.proofs.Lists.{cut_at, take_one_more}
-use Rattle.accepted_log.proofs.StateSteps.{fits_parts, goes_onto}
+use Rattle.journal.specs.declared.journal.body.Body.{Body}
+use Rattle.journal.specs.Journal.Grown.{IsGrown}
+use Rattle.journal.specs.Journal.Logs.{before, is_in, same_body, state}
+use Rattle.journal.proofs.JournalLemmas.Accepting.{same_body-refl}
+use Rattle.core_tables.specs.declared.accepted_log.place.Place.{Place}
+use Rattle.core_tables.specs.AcceptedLog.Cuts.{AreAlike, AreBothAlike, IsLog, cut, under_at}
+use Rattle.core_tables.specs.AcceptedLog.Values.{Log, with_since}
+use Rattle.core_tables.proofs.AcceptedLogLemmas.Lists.{cut_at, take_one_more}
+use Rattle.core_tables.proofs.AcceptedLogLemmas.StateSteps.{fits_parts, goes_onto}
 
 -- the list before a member that isn't there before
 before_at : (log : List Body) (i : ℕ) (b : Body) → slice_get log i ≡ Some b → is_in (take i log) b ≡ false → before b log ≡ take i log

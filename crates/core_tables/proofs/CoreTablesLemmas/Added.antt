@@ -7,28 +7,28 @@ use Rattle.std.proofs.lemmas.Bool.{and_from, or_left}
 use Rattle.std.proofs.lemmas.List.{take_more}
 use Rattle.std.proofs.lemmas.List.Elements.{filter_map-append}
 use Rattle.std.proofs.lemmas.List.Folds.{list_all-append}
-use Rattle.event_body.specs.declared.event.Event.{Event}
+use Rattle.event_body.specs.declared.event_body.event.Event.{Event}
 use Rattle.key_state.specs.Exposure.{own_rules}
 use Rattle.key_state.specs.States.{State}
 use Rattle.key_state.proofs.Same.{number_itself}
-use Rattle.event_rules.specs.Additions.{adds, is_number as is_added}
-use Rattle.event_rules.specs.Parts.{Row as Found}
-use Rattle.event_rules.specs.declared.additions.Additions.{Additions}
-use Rattle.core_laws.specs.Claimed.{row_of}
-use Rattle.claim_table.specs.declared.claimed.Claimed.{Claimed}
-use Rattle.claim_table.specs.declared.claimed.Parts.{Parts}
-use Rattle.claim_table.specs.declared.part.Part.{Part}
-use Rattle.claim_table.specs.declared.part.Part.TheVariants.{Indexed, Revealed, Backed}
-use Rattle.claim_table.specs.declared.row.Row.{Row}
-use Rattle.claim_table.specs.declared.signature.Signature.{Signature}
-use Rattle.claim_table.specs.Parts.{brings_part, is_number}
-use Rattle.claim_table.specs.Rows.{is_raised, raised, raised_all}
-use Rattle.claim_table.specs.Table.{Table}
-use Rattle.claim_table.proofs.Rows.{raised_more}
-use Rattle.core_laws.specs.ClaimRows.{AreFound, IsFound, part_of}
-use Rattle.journal.specs.declared.claim.Claim.{Claim}
-use Rattle.journal.specs.History.{claimed_key}
-use Rattle.core_tables.specs.RaisedRows.{RaisesRows, RaisesSomeRows}
+use Rattle.journal.specs.EventRules.Additions.{adds, is_number as is_added}
+use Rattle.journal.specs.EventRules.Parts.{Row as Found}
+use Rattle.journal.specs.declared.event_rules.additions.Additions.{Additions}
+use Rattle.claim_table.specs.CoreLaws.Claimed.{row_of}
+use Rattle.claim_table.specs.declared.claim_table.claimed.Claimed.{Claimed}
+use Rattle.claim_table.specs.declared.claim_table.claimed.Parts.{Parts}
+use Rattle.claim_table.specs.declared.claim_table.part.Part.{Part}
+use Rattle.claim_table.specs.declared.claim_table.part.Part.TheVariants.{Indexed, Revealed, Backed}
+use Rattle.claim_table.specs.declared.claim_table.row.Row.{Row}
+use Rattle.claim_table.specs.declared.claim_table.signature.Signature.{Signature}
+use Rattle.claim_table.specs.ClaimTable.Parts.{brings_part, is_number}
+use Rattle.claim_table.specs.ClaimTable.Rows.{is_raised, raised, raised_all}
+use Rattle.claim_table.specs.ClaimTable.Table.{Table}
+use Rattle.claim_table.proofs.ClaimTableLemmas.Rows.{raised_more}
+use Rattle.claim_table.specs.CoreLaws.ClaimRows.{AreFound, IsFound, part_of}
+use Rattle.journal.specs.declared.journal.claim.Claim.{Claim}
+use Rattle.journal.specs.Journal.History.{claimed_key}
+use Rattle.core_tables.specs.CoreTables.RaisedRows.{RaisesRows, RaisesSomeRows}
 
 raised_all-append : (rows : List Row) (xs ys : List Claimed) → raised_all rows (xs ++ ys) ≡ raised_all (raised_all rows xs) ys
 raised_all-append rows [] ys = refl

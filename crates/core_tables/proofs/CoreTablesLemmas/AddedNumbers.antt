@@ -5,8 +5,8 @@ use Rattle.std.specs.Prelude.{Result, Ok, Err}
 use Rattle.std.specs.Result.{OnOk}
 use Rattle.std.proofs.lemmas.List.{take_more}
 use Rattle.std.proofs.lemmas.List.Elements.{Contains-append_cases, Contains-append_left, Contains-append_right}
-use Rattle.event_index.proofs.Orders.{Contains-one}
-use Rattle.core_tables.specs.Hints.{KeepsBelow}
+use Rattle.escrow.proofs.EventIndexLemmas.Orders.{Contains-one}
+use Rattle.core_tables.specs.CoreTables.Hints.{KeepsBelow}
 
 pub keeps_more : {K : Type 0} (number : ℕ) (f g h : K → List ℕ) → KeepsBelow number f g → KeepsBelow number g h → KeepsBelow number f h
 keeps_more number f g h one two q n low has = two q n low (one q n low has)

@@ -4,28 +4,28 @@ use denote.Param.Send.{IsSend, sendable}
 use denote.Param.SendFields.{declared_send}
 use Rattle.std.proofs.Crossing as crossing
 use Rattle.std.specs.contracts.alloc.Global as global
-use Rattle.accepted_log.proofs.accepted_log.AcceptedLog.TheSendSync as log
-use Rattle.claim_table.proofs.claim_table.ClaimTable.TheSendSync as claims
-use Rattle.event_index.proofs.index.Index.TheSendSync as index
-use Rattle.journal.proofs.journal.Journal.TheSendSync as journal
-use Rattle.escrow.proofs.Crosses.{waiting_send}
-use Rattle.event_body.proofs.Crosses.{event_send}
-use Rattle.event_body.specs.contracts.event.Event as event
-use Rattle.core_tables.proofs.claim_entries.ClaimEntries.TheSendSync as came
-use Rattle.core_tables.proofs.named_places.NamedPlaces.TheSendSync as places
-use Rattle.core_tables.proofs.name.Name.TheSendSync as name
-use Rattle.core_tables.proofs.name.SealKey.TheSendSync as seal_key
-use Rattle.core_tables.specs.contracts.name.Name as names
-use Rattle.core_tables.specs.contracts.name.NameOrd.TheImpl as name_ord
-use Rattle.core_tables.specs.contracts.name.NamePartialEq.TheImpl as name_eq
-use Rattle.core_tables.specs.contracts.name.NamePartialOrd.TheImpl as name_partial
-use Rattle.core_tables.specs.contracts.name.SealKey as seal_keys
-use Rattle.core_tables.specs.contracts.name.SealKeyOrd.TheImpl as seal_ord
-use Rattle.core_tables.specs.contracts.name.SealKeyPartialEq.TheImpl as seal_eq
-use Rattle.core_tables.specs.contracts.name.SealKeyPartialOrd.TheImpl as seal_partial
-use Rattle.core_tables.specs.contracts.tables.Tables as tables
-use Rattle.core_tables.specs.contracts.tables.Tables.TheInside as inside
-use Rattle.event_index.specs.contracts.index.Index as indices
+use Rattle.core_tables.proofs.accepted_log.accepted_log.AcceptedLog.TheSendSync as log
+use Rattle.claim_table.proofs.claim_table.claim_table.ClaimTable.TheSendSync as claims
+use Rattle.escrow.proofs.event_index.index.Index.TheSendSync as index
+use Rattle.journal.proofs.journal.journal.Journal.TheSendSync as journal
+use Rattle.escrow.proofs.EscrowLemmas.Crosses.{waiting_send}
+use Rattle.event_body.proofs.EventBodyLemmas.Crosses.{event_send}
+use Rattle.event_body.specs.contracts.event_body.event.Event as event
+use Rattle.core_tables.proofs.core_tables.claim_entries.ClaimEntries.TheSendSync as came
+use Rattle.core_tables.proofs.core_tables.named_places.NamedPlaces.TheSendSync as places
+use Rattle.core_tables.proofs.core_tables.name.Name.TheSendSync as name
+use Rattle.core_tables.proofs.core_tables.name.SealKey.TheSendSync as seal_key
+use Rattle.core_tables.specs.contracts.core_tables.name.Name as names
+use Rattle.core_tables.specs.contracts.core_tables.name.NameOrd.TheImpl as name_ord
+use Rattle.core_tables.specs.contracts.core_tables.name.NamePartialEq.TheImpl as name_eq
+use Rattle.core_tables.specs.contracts.core_tables.name.NamePartialOrd.TheImpl as name_partial
+use Rattle.core_tables.specs.contracts.core_tables.name.SealKey as seal_keys
+use Rattle.core_tables.specs.contracts.core_tables.name.SealKeyOrd.TheImpl as seal_ord
+use Rattle.core_tables.specs.contracts.core_tables.name.SealKeyPartialEq.TheImpl as seal_eq
+use Rattle.core_tables.specs.contracts.core_tables.name.SealKeyPartialOrd.TheImpl as seal_partial
+use Rattle.core_tables.specs.contracts.core_tables.tables.Tables as tables
+use Rattle.core_tables.specs.contracts.core_tables.tables.Tables.TheInside as inside
+use Rattle.escrow.specs.contracts.event_index.index.Index as indices
 
 global_send : IsSend global.the_row
 global_send = search sendable depth 20

@@ -10,31 +10,31 @@ use Rattle.std.proofs.lemmas.Iterator.Adapters.{position_from-zero}
 use Rattle.cesr_codes.specs.declared.digest.Digest.{Digest}
 use Rattle.cesr_codes.specs.declared.prefix.Prefix.{Prefix}
 use Rattle.event_backing.specs.EventSeals.{IsEventSeal}
-use Rattle.event_body.specs.declared.event.Event.{Event}
-use Rattle.event_body.specs.Events.{prefix_of, prior_of, said_of, sn_of}
-use Rattle.escrow.specs.Escrow.{Escrow}
-use Rattle.event_index.specs.Rows.{HasRows, is_row}
-use Rattle.journal.specs.declared.body.Body.{Body}
-use Rattle.journal.specs.declared.claim.Claim.{Claim}
-use Rattle.journal.specs.declared.entry.Entry.{Entry}
-use Rattle.journal.specs.Journals.{chosen}
-use Rattle.journal.specs.Logs.{is_in, precedes, same_body}
-use Rattle.journal.specs.Replies.{same_claim}
-use Rattle.journal.specs.Seals.{is_sealed}
-use Rattle.journal.proofs.Places.{some_at}
+use Rattle.event_body.specs.declared.event_body.event.Event.{Event}
+use Rattle.event_body.specs.EventBody.Events.{prefix_of, prior_of, said_of, sn_of}
+use Rattle.escrow.specs.Escrow.Escrow.{Escrow}
+use Rattle.escrow.specs.EventIndex.Rows.{HasRows, is_row}
+use Rattle.journal.specs.declared.journal.body.Body.{Body}
+use Rattle.journal.specs.declared.journal.claim.Claim.{Claim}
+use Rattle.journal.specs.declared.journal.entry.Entry.{Entry}
+use Rattle.journal.specs.Journal.Journals.{chosen}
+use Rattle.journal.specs.Journal.Logs.{is_in, precedes, same_body}
+use Rattle.journal.specs.Journal.Replies.{same_claim}
+use Rattle.journal.specs.Journal.Seals.{is_sealed}
+use Rattle.journal.proofs.JournalLemmas.Places.{some_at}
 use Rattle.key_state.specs.KeyStates.{are_same}
 use Rattle.key_state.specs.Same.{same_prefix}
-use Rattle.core_tables.specs.declared.name.Name.{Name}
-use Rattle.core_tables.specs.declared.name.SealKey.{SealKey}
-use Rattle.core_tables.specs.declared.name.ClaimKey.{ClaimKey}
-use Rattle.core_tables.specs.Hints.{AreHinted, IsNameNew}
-use Rattle.core_tables.specs.Names.{claim_key, name_of, prior_name, seal_key}
-use Rattle.core_tables.specs.Rows.{event_there, has_claim, is_named, is_number, is_seal_of, is_text, same_name}
-use Rattle.core_tables.specs.View.{body_of, came_with}
-use Rattle.core_laws.proofs.Members.{find_some, member_any}
-use Rattle.core_tables.proofs.ListedNumbers.{found_row, none_row}
-use Rattle.core_tables.proofs.NamedRows.{come_is, place_is, predecessor_is, same_name_itself, sealed_is}
-use Rattle.core_tables.proofs.Rows.{differ, none_below, not_some, some_is}
+use Rattle.core_tables.specs.declared.core_tables.name.Name.{Name}
+use Rattle.core_tables.specs.declared.core_tables.name.SealKey.{SealKey}
+use Rattle.core_tables.specs.declared.core_tables.name.ClaimKey.{ClaimKey}
+use Rattle.core_tables.specs.CoreTables.Hints.{AreHinted, IsNameNew}
+use Rattle.core_tables.specs.CoreTables.Names.{claim_key, name_of, prior_name, seal_key}
+use Rattle.core_tables.specs.CoreTables.Rows.{event_there, has_claim, is_named, is_number, is_seal_of, is_text, same_name}
+use Rattle.core_tables.specs.CoreTables.View.{body_of, came_with}
+use Rattle.claim_table.proofs.CoreLawsLemmas.Members.{find_some, member_any}
+use Rattle.core_tables.proofs.CoreTablesLemmas.ListedNumbers.{found_row, none_row}
+use Rattle.core_tables.proofs.CoreTablesLemmas.NamedRows.{come_is, place_is, predecessor_is, same_name_itself, sealed_is}
+use Rattle.core_tables.proofs.CoreTablesLemmas.Rows.{differ, none_below, not_some, some_is}
 
 -- an element that passes a test has a place just where there is one
 unfound : {X : Type 0} (test : X → Bool) (xs : List X) → list_any test xs ≡ false → position test xs ≡ None

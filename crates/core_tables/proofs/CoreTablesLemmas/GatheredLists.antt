@@ -5,8 +5,8 @@ use Rattle.std.specs.List.{cons_option}
 use Rattle.std.specs.List.Sorted.{IsStrictlyIncreasing}
 use Rattle.std.specs.Option.{option_map_or}
 use Rattle.std.proofs.lemmas.Bool.{cases_Bool}
-use Rattle.event_index.specs.Rows.{HasRows, is_row}
-use Rattle.event_index.proofs.Rows.{filter_map-numbers}
+use Rattle.escrow.specs.EventIndex.Rows.{HasRows, is_row}
+use Rattle.escrow.proofs.EventIndexLemmas.Rows.{filter_map-numbers}
 
 -- what is there gives all, where nothing gives nothing
 pub flat_map-filter_map : {X Y Z : Type 0} (g : Option Y → List Z) (h : X → Option Y) (xs : List X) → g None ≡ [] → flat_map (λ x. g (h x)) xs ≡ flat_map (λ y. g (Some y)) (filter_map h xs)

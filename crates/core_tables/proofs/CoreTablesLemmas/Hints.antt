@@ -5,21 +5,21 @@ use Rattle.std.specs.List.{list_any}
 use Rattle.std.proofs.lemmas.Bool.{cases_lt}
 use Rattle.std.proofs.lemmas.List.{length-append, length-take-le, take-append-le, take_all}
 use Rattle.std.proofs.lemmas.Option.{slice_get_within}
-use Rattle.escrow.specs.Escrow.{Escrow, held as held_by}
-use Rattle.journal.specs.declared.body.Body.{Body}
-use Rattle.journal.specs.declared.claim.Claim.{Claim}
-use Rattle.journal.specs.declared.entry.Entry.{Entry}
-use Rattle.journal.specs.declared.entry.Entry.TheVariants.{Took}
-use Rattle.core_tables.specs.declared.name.Name.{Name}
-use Rattle.core_tables.specs.declared.name.SealKey.{SealKey}
-use Rattle.core_tables.specs.declared.name.ClaimKey.{ClaimKey}
-use Rattle.core_tables.specs.Hints.{AreHinted, IsNameNew, IsSealedAt, KeepsBelow}
-use Rattle.core_tables.specs.Names.{name_of, claim_key}
-use Rattle.core_tables.specs.Rows.{placed, waiter_for}
-use Rattle.core_tables.specs.View.{number_of, waiter_at}
-use Rattle.core_tables.proofs.Rows.{none_below, not_some, pushed, front_of_front, some_is}
-use Rattle.lists.proofs.Places.{of_front}
-use Rattle.core_tables.proofs.Waiters.{escrow_body, escrow_cut, escrow_settled}
+use Rattle.escrow.specs.Escrow.Escrow.{Escrow, held as held_by}
+use Rattle.journal.specs.declared.journal.body.Body.{Body}
+use Rattle.journal.specs.declared.journal.claim.Claim.{Claim}
+use Rattle.journal.specs.declared.journal.entry.Entry.{Entry}
+use Rattle.journal.specs.declared.journal.entry.Entry.TheVariants.{Took}
+use Rattle.core_tables.specs.declared.core_tables.name.Name.{Name}
+use Rattle.core_tables.specs.declared.core_tables.name.SealKey.{SealKey}
+use Rattle.core_tables.specs.declared.core_tables.name.ClaimKey.{ClaimKey}
+use Rattle.core_tables.specs.CoreTables.Hints.{AreHinted, IsNameNew, IsSealedAt, KeepsBelow}
+use Rattle.core_tables.specs.CoreTables.Names.{name_of, claim_key}
+use Rattle.core_tables.specs.CoreTables.Rows.{placed, waiter_for}
+use Rattle.core_tables.specs.CoreTables.View.{number_of, waiter_at}
+use Rattle.core_tables.proofs.CoreTablesLemmas.Rows.{none_below, not_some, pushed, front_of_front, some_is}
+use Rattle.lists.proofs.ListsLemmas.Places.{of_front}
+use Rattle.core_tables.proofs.CoreTablesLemmas.Waiters.{escrow_body, escrow_cut, escrow_settled}
 
 pub keeps_itself : {K : Type 0} (n : ℕ) (f : K → List ℕ) → KeepsBelow n f f
 keeps_itself n f q k low h = h

@@ -2,19 +2,19 @@
 use Rattle.std.proofs.Common.{◌≡◌, ℕ, Bool, false, List, [], ◌∷◌, ◌++◌, length, refl, sym, ◌∙◌, ap, subst, inl, inr, Result, Ok, Err, Option, Some, None}
 use Rattle.std.specs.Prelude.{◌⊎◌, Contains, slice_get}
 use Rattle.std.specs.Result.{OnErr, OnOk}
-use Rattle.accepted_log.specs.Values.{Log, gone_onto}
+use Rattle.core_tables.specs.AcceptedLog.Values.{Log, gone_onto}
 use Rattle.cesr_codes.specs.declared.digest.Digest.{Digest}
-use Rattle.event_body.specs.declared.event.Event.{Event}
-use Rattle.escrow.specs.Escrow.{Escrow}
-use Rattle.journal.specs.declared.body.Body.{Body}
-use Rattle.journal.specs.declared.entry.Entry.{Entry}
-use Rattle.core_tables.specs.declared.name.Name.{Name}
-use Rattle.core_tables.specs.declared.name.SealKey.{SealKey}
-use Rattle.core_tables.specs.declared.name.ClaimKey.{ClaimKey}
-use Rattle.core_tables.specs.Hints.{AreHinted, IsNameNew, IsSealedAt, KeepsBelow}
-use Rattle.core_tables.specs.Names.{name_of}
-use Rattle.core_tables.specs.View.{View, with_log}
-use Rattle.core_tables.proofs.Hints.{hinted_accepted, hinted_clash, hinted_kept, keeps_itself}
+use Rattle.event_body.specs.declared.event_body.event.Event.{Event}
+use Rattle.escrow.specs.Escrow.Escrow.{Escrow}
+use Rattle.journal.specs.declared.journal.body.Body.{Body}
+use Rattle.journal.specs.declared.journal.entry.Entry.{Entry}
+use Rattle.core_tables.specs.declared.core_tables.name.Name.{Name}
+use Rattle.core_tables.specs.declared.core_tables.name.SealKey.{SealKey}
+use Rattle.core_tables.specs.declared.core_tables.name.ClaimKey.{ClaimKey}
+use Rattle.core_tables.specs.CoreTables.Hints.{AreHinted, IsNameNew, IsSealedAt, KeepsBelow}
+use Rattle.core_tables.specs.CoreTables.Names.{name_of}
+use Rattle.core_tables.specs.CoreTables.View.{View, with_log}
+use Rattle.core_tables.proofs.CoreTablesLemmas.Hints.{hinted_accepted, hinted_clash, hinted_kept, keeps_itself}
 
 -- what follows from both outcomes
 pub on_both : {T E P Q R : Type 0} (r : Result T E) → OnOk r P → OnErr r Q → (P → R) → (Q → R) → R

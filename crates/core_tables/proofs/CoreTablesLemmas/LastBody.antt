@@ -3,20 +3,20 @@ use Rattle.std.proofs.Common.{◌≡◌, ℕ, ◌<◌, List, [], ◌∷◌, ◌+
 use Rattle.std.specs.Prelude.{Contains, Result, Ok, Err}
 use Rattle.std.specs.Result.{OnErr, OnOk}
 use Rattle.std.proofs.lemmas.List.{length-append}
-use Rattle.event_body.specs.declared.event.Event.{Event}
-use Rattle.escrow.specs.Escrow.{Escrow, held as held_by}
-use Rattle.journal.specs.declared.body.Body.{Body}
-use Rattle.journal.specs.declared.entry.Entry.{Entry}
-use Rattle.core_tables.specs.declared.name.Name.{Name}
-use Rattle.core_tables.specs.declared.name.SealKey.{SealKey}
-use Rattle.core_tables.specs.declared.name.ClaimKey.{ClaimKey}
-use Rattle.core_tables.specs.Hints.{AreHinted, KeepsBelow}
-use Rattle.core_tables.specs.Inside.{paired}
-use Rattle.core_tables.specs.Names.{name_of}
-use Rattle.core_tables.specs.Rows.{placed, waiter_for}
-use Rattle.core_tables.specs.View.{View, body_of}
-use Rattle.core_tables.proofs.Hints.{hinted_body}
-use Rattle.core_tables.proofs.Pairs.{paired-push}
+use Rattle.event_body.specs.declared.event_body.event.Event.{Event}
+use Rattle.escrow.specs.Escrow.Escrow.{Escrow, held as held_by}
+use Rattle.journal.specs.declared.journal.body.Body.{Body}
+use Rattle.journal.specs.declared.journal.entry.Entry.{Entry}
+use Rattle.core_tables.specs.declared.core_tables.name.Name.{Name}
+use Rattle.core_tables.specs.declared.core_tables.name.SealKey.{SealKey}
+use Rattle.core_tables.specs.declared.core_tables.name.ClaimKey.{ClaimKey}
+use Rattle.core_tables.specs.CoreTables.Hints.{AreHinted, KeepsBelow}
+use Rattle.core_tables.specs.CoreTables.Inside.{paired}
+use Rattle.core_tables.specs.CoreTables.Names.{name_of}
+use Rattle.core_tables.specs.CoreTables.Rows.{placed, waiter_for}
+use Rattle.core_tables.specs.CoreTables.View.{View, body_of}
+use Rattle.core_tables.proofs.CoreTablesLemmas.Hints.{hinted_body}
+use Rattle.core_tables.proofs.CoreTablesLemmas.Pairs.{paired-push}
 
 module _ (bodies bodies_new : List (List ℕ)) (events events_new : List Event) (text : List ℕ) (event : Event) (even : length bodies ≡ length events) (b : bodies_new ≡ bodies ++ text ∷ []) (e : events_new ≡ events ++ event ∷ []) where
   pub pushed_even : length bodies_new ≡ length events_new

@@ -2,8 +2,8 @@
 use Rattle.std.proofs.Common.{◌≡◌, List, [], ◌∷◌, ◌++◌, ◌∙◌, ap}
 use Rattle.std.specs.Prelude.{Result, Ok, Err}
 use Rattle.std.specs.Result.{OnErr}
-use Rattle.journal.specs.declared.entry.Entry.{Entry}
-use Rattle.core_tables.specs.View.{View}
+use Rattle.journal.specs.declared.journal.entry.Entry.{Entry}
+use Rattle.core_tables.specs.CoreTables.View.{View}
 
 pub on_err : {T E : Type 0} {P : Type 0} (r : Result T E) → P → OnErr r P
 on_err (Ok x) p = tt

@@ -5,11 +5,11 @@ use Rattle.std.specs.List.{list_any, position_from, range_with_len}
 use Rattle.std.specs.Option.{option_map_or}
 use Rattle.std.proofs.lemmas.Bool.{cases_Bool}
 use Rattle.std.proofs.lemmas.Iterator.Adapters.{position_from-zero}
-use Rattle.core_laws.proofs.Members.{member_any}
-use Rattle.event_index.specs.Rows.{HasRows, is_row, numbers_of}
-use Rattle.event_index.proofs.Rows.{find-numbers}
-use Rattle.journal.proofs.Places.{any_at, found_at}
-use Rattle.core_tables.proofs.Rows.{not_some}
+use Rattle.claim_table.proofs.CoreLawsLemmas.Members.{member_any}
+use Rattle.escrow.specs.EventIndex.Rows.{HasRows, is_row, numbers_of}
+use Rattle.escrow.proofs.EventIndexLemmas.Rows.{find-numbers}
+use Rattle.journal.proofs.JournalLemmas.Places.{any_at, found_at}
+use Rattle.core_tables.proofs.CoreTablesLemmas.Rows.{not_some}
 
 first_from : {X : Type 0} (test : X → Bool) (rows : List X) (a : ℕ) (q : ℕ → Bool) → ((i : ℕ) → q (a + i) ≡ is_row test rows i)
     → slice_get (filter q (range_with_len a (length rows))) 0 ≡ position_from test a rows

@@ -2,15 +2,15 @@
 use Rattle.std.proofs.Common.{◌≡◌, ℕ, ◌<◌, ◌≤◌, true, List, length, refl, sym, ◌∙◌, ap, subst, Option, Some, None}
 use Rattle.std.specs.Prelude.{All, slice_get}
 use Rattle.std.proofs.Math.Seq.{take-length}
-use Rattle.core_laws.proofs.Entries.{all_from}
-use Rattle.claim_table.specs.declared.row.Row.{Row}
-use Rattle.claim_table.specs.declared.signature.Signature.{Signature}
-use Rattle.claim_table.specs.Rows.{is_raised}
-use Rattle.claim_table.specs.Table.{KeepsPending, Table}
-use Rattle.journal.specs.declared.entry.Entry.{Entry}
-use Rattle.core_tables.specs.declared.mark.Mark.{Mark}
-use Rattle.core_tables.specs.Hints.{IsPending}
-use Rattle.core_tables.specs.View.{IsCut, View, mark_of, number_of, with_claims}
+use Rattle.claim_table.proofs.CoreLawsLemmas.Entries.{all_from}
+use Rattle.claim_table.specs.declared.claim_table.row.Row.{Row}
+use Rattle.claim_table.specs.declared.claim_table.signature.Signature.{Signature}
+use Rattle.claim_table.specs.ClaimTable.Rows.{is_raised}
+use Rattle.claim_table.specs.ClaimTable.Table.{KeepsPending, Table}
+use Rattle.journal.specs.declared.journal.entry.Entry.{Entry}
+use Rattle.core_tables.specs.declared.core_tables.mark.Mark.{Mark}
+use Rattle.core_tables.specs.CoreTables.Hints.{IsPending}
+use Rattle.core_tables.specs.CoreTables.View.{IsCut, View, mark_of, number_of, with_claims}
 
 pub mark_is : (v : View) (bodies entries accepted claims : ℕ) → bodies ≡ length v.held → entries ≡ length v.entries → accepted ≡ length v.log.numbers → claims ≡ length v.claims.rows
     → (let m : Mark = record { bodies = bodies; entries = entries; accepted = accepted; claims = claims } in m) ≡ mark_of v

@@ -11,34 +11,34 @@ use Rattle.cesr_codes.specs.declared.digest.Digest.{Digest}
 use Rattle.cesr_codes.specs.declared.prefix.Prefix.{Prefix}
 use Rattle.event_backing.specs.EventSeals.{IsEventSeal}
 use Rattle.event_backing.proofs.SealMembers.{seals-named}
-use Rattle.event_body.specs.declared.event.Event.{Event}
-use Rattle.event_body.specs.Events.{prefix_of, prior_of, said_of, sn_of}
-use Rattle.event_index.specs.Rows.{is_row}
-use Rattle.escrow.specs.Escrow.{Escrow}
+use Rattle.event_body.specs.declared.event_body.event.Event.{Event}
+use Rattle.event_body.specs.EventBody.Events.{prefix_of, prior_of, said_of, sn_of}
+use Rattle.escrow.specs.EventIndex.Rows.{is_row}
+use Rattle.escrow.specs.Escrow.Escrow.{Escrow}
 use Rattle.key_state.specs.KeyStates.{are_same}
 use Rattle.key_state.specs.Same.{same_digest, same_prefix}
 use Rattle.key_state.proofs.Same.{number_itself, numbers, same_prefix_is, same_prefix_itself}
-use Rattle.core_laws.proofs.States.{same_digest_is, same_itself}
-use Rattle.journal.specs.declared.body.Body.{Body}
-use Rattle.journal.specs.declared.claim.Claim.{Claim}
-use Rattle.journal.specs.declared.entry.Entry.{Entry}
-use Rattle.journal.specs.declared.entry.Entry.TheVariants.{Took, Heard}
-use Rattle.journal.specs.Journals.{chosen}
-use Rattle.journal.specs.Logs.{is_of, precedes}
-use Rattle.journal.specs.Replies.{same_claim}
-use Rattle.journal.specs.Seals.{is_sealed, seals as seals_event}
-use Rattle.journal.proofs.Places.{found_at, some_at}
-use Rattle.journal.proofs.Same.{same_claim_is}
-use Rattle.core_tables.specs.declared.name.Name.{Name}
-use Rattle.core_tables.specs.declared.name.SealKey.{SealKey}
-use Rattle.core_tables.specs.declared.name.ClaimKey.{ClaimKey}
-use Rattle.core_laws.specs.Standing.{HasNoClash}
-use Rattle.core_tables.specs.Hints.{AreHinted}
-use Rattle.core_tables.specs.Names.{claim_key, name_of, seal_key}
-use Rattle.core_tables.specs.Rows.{event_there, has_claim, is_named, is_number, is_seal_of, same_name}
-use Rattle.core_tables.specs.View.{came_by, came_with}
-use Rattle.core_tables.proofs.ListedNumbers.{any_among, any_place, find_place}
-use Rattle.core_tables.proofs.Rows.{contained, not_some, some_is}
+use Rattle.claim_table.proofs.CoreLawsLemmas.States.{same_digest_is, same_itself}
+use Rattle.journal.specs.declared.journal.body.Body.{Body}
+use Rattle.journal.specs.declared.journal.claim.Claim.{Claim}
+use Rattle.journal.specs.declared.journal.entry.Entry.{Entry}
+use Rattle.journal.specs.declared.journal.entry.Entry.TheVariants.{Took, Heard}
+use Rattle.journal.specs.Journal.Journals.{chosen}
+use Rattle.journal.specs.Journal.Logs.{is_of, precedes}
+use Rattle.journal.specs.Journal.Replies.{same_claim}
+use Rattle.journal.specs.Journal.Seals.{is_sealed, seals as seals_event}
+use Rattle.journal.proofs.JournalLemmas.Places.{found_at, some_at}
+use Rattle.journal.proofs.JournalLemmas.Same.{same_claim_is}
+use Rattle.core_tables.specs.declared.core_tables.name.Name.{Name}
+use Rattle.core_tables.specs.declared.core_tables.name.SealKey.{SealKey}
+use Rattle.core_tables.specs.declared.core_tables.name.ClaimKey.{ClaimKey}
+use Rattle.claim_table.specs.CoreLaws.Standing.{HasNoClash}
+use Rattle.core_tables.specs.CoreTables.Hints.{AreHinted}
+use Rattle.core_tables.specs.CoreTables.Names.{claim_key, name_of, seal_key}
+use Rattle.core_tables.specs.CoreTables.Rows.{event_there, has_claim, is_named, is_number, is_seal_of, same_name}
+use Rattle.core_tables.specs.CoreTables.View.{came_by, came_with}
+use Rattle.core_tables.proofs.CoreTablesLemmas.ListedNumbers.{any_among, any_place, find_place}
+use Rattle.core_tables.proofs.CoreTablesLemmas.Rows.{contained, not_some, some_is}
 
 -- the body of a number, where there is a number
 abbrev pub body_there : List Body → Option ℕ → Option Body

@@ -1,19 +1,19 @@
 -- Tables of nothing.
 use Rattle.std.proofs.Common.{◌≡◌, ℕ, false, List, [], length, refl}
-use Rattle.accepted_log.specs.Values.{Log, nothing as no_events}
-use Rattle.claim_table.specs.Table.{Table, nothing as no_claims}
-use Rattle.event_body.specs.declared.event.Event.{Event}
-use Rattle.escrow.specs.Escrow.{Escrow, held as held_by}
-use Rattle.journal.specs.declared.entry.Entry.{Entry}
+use Rattle.core_tables.specs.AcceptedLog.Values.{Log, nothing as no_events}
+use Rattle.claim_table.specs.ClaimTable.Table.{Table, nothing as no_claims}
+use Rattle.event_body.specs.declared.event_body.event.Event.{Event}
+use Rattle.escrow.specs.Escrow.Escrow.{Escrow, held as held_by}
+use Rattle.journal.specs.declared.journal.entry.Entry.{Entry}
 use Rattle.std.specs.Prelude.{None}
-use Rattle.core_tables.specs.declared.name.Name.{Name}
-use Rattle.core_tables.specs.declared.name.SealKey.{SealKey}
-use Rattle.core_tables.specs.declared.name.ClaimKey.{ClaimKey}
-use Rattle.core_tables.specs.Hints.{AreHinted, IsPending}
-use Rattle.core_tables.specs.Inside.{paired}
-use Rattle.core_tables.specs.View.{View, nothing}
-use Rattle.core_tables.proofs.Hints.{hinted_nothing}
-use Rattle.core_tables.proofs.Rows.{not_some}
+use Rattle.core_tables.specs.declared.core_tables.name.Name.{Name}
+use Rattle.core_tables.specs.declared.core_tables.name.SealKey.{SealKey}
+use Rattle.core_tables.specs.declared.core_tables.name.ClaimKey.{ClaimKey}
+use Rattle.core_tables.specs.CoreTables.Hints.{AreHinted, IsPending}
+use Rattle.core_tables.specs.CoreTables.Inside.{paired}
+use Rattle.core_tables.specs.CoreTables.View.{View, nothing}
+use Rattle.core_tables.proofs.CoreTablesLemmas.Hints.{hinted_nothing}
+use Rattle.core_tables.proofs.CoreTablesLemmas.Rows.{not_some}
 
 module _ (bodies : List (List ℕ)) (events : List Event) (entries : List Entry) (log : Log) (no_bodies : bodies ≡ []) (no_entries : entries ≡ []) (none : events ≡ []) (no_log : log ≡ no_events) where
   pub hinted_start : (claims : Table) → claims ≡ no_claims → (w : Escrow) (names told places : Name → List ℕ) (came : ClaimKey → List ℕ) (seals : SealKey → List ℕ) → ((n : ℕ) → held_by n w ≡ None)

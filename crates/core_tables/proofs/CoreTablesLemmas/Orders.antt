@@ -1,12 +1,12 @@
 -- The orders of the keys.
 use Rattle.std.specs.declared.cmp.Ordering.{Ordering}
 use Rattle.std.specs.declared.cmp.Ord as ord
-use Rattle.core_tables.specs.declared.name.Name.{Name}
-use Rattle.core_tables.specs.declared.name.SealKey.{SealKey}
-use Rattle.core_tables.specs.declared.name.ClaimKey.{ClaimKey}
-use Rattle.core_tables.specs.contracts.name.NameOrd.TheImpl as name_order
-use Rattle.core_tables.specs.contracts.name.SealKeyOrd.TheImpl as seal_order
-use Rattle.core_tables.specs.contracts.name.ClaimKeyOrd.TheImpl as claim_order
+use Rattle.core_tables.specs.declared.core_tables.name.Name.{Name}
+use Rattle.core_tables.specs.declared.core_tables.name.SealKey.{SealKey}
+use Rattle.core_tables.specs.declared.core_tables.name.ClaimKey.{ClaimKey}
+use Rattle.core_tables.specs.contracts.core_tables.name.NameOrd.TheImpl as name_order
+use Rattle.core_tables.specs.contracts.core_tables.name.SealKeyOrd.TheImpl as seal_order
+use Rattle.core_tables.specs.contracts.core_tables.name.ClaimKeyOrd.TheImpl as claim_order
 use denote.Param as param
 
 abbrev pub name_cmp : Name → Name → Ordering

@@ -3,10 +3,10 @@ use Rattle.std.proofs.Common.{◌≡◌, ℕ, zero, suc, List, [], ◌∷◌, �
 use Rattle.std.specs.Prelude.{option_map, slice_get}
 use Rattle.std.proofs.lemmas.List.{length-map}
 use Rattle.std.proofs.lemmas.Option.{get_or_from_slice_get, slice_get-map}
-use Rattle.event_body.specs.declared.event.Event.{Event}
-use Rattle.journal.specs.declared.body.Body.{Body}
-use Rattle.core_tables.specs.View.{body_of}
-use Rattle.core_tables.specs.Inside.{paired}
+use Rattle.event_body.specs.declared.event_body.event.Event.{Event}
+use Rattle.journal.specs.declared.journal.body.Body.{Body}
+use Rattle.core_tables.specs.CoreTables.View.{body_of}
+use Rattle.core_tables.specs.CoreTables.Inside.{paired}
 
 shorter : (m n : ℕ) → suc m ≡ suc n → m ≡ n
 shorter m n e = omega arith

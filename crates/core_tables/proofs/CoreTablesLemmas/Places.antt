@@ -6,7 +6,7 @@ use Rattle.std.specs.Slice.{IsItemAt}
 use Rattle.std.proofs.lemmas.Bool.{ltb-false, ltb-true}
 use Rattle.std.proofs.lemmas.List.{take_more}
 use Rattle.std.proofs.lemmas.Option.{get_or_from_slice_get, slice_get_past, slice_get_read}
-use Rattle.journal.proofs.Locality.{flat_map-push}
+use Rattle.journal.proofs.JournalLemmas.Locality.{flat_map-push}
 
 -- what a slice gives at a number is what stands there
 pub got : {X : Type 0} (xs : List X) (i : ℕ) (r : Option (Bor X)) → IsItemAt xs i r → option_copied r ≡ slice_get xs i

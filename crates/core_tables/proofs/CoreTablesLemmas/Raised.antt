@@ -4,28 +4,28 @@ use Rattle.std.specs.Prelude.{Contains, Result, Ok, Err, flat_map, option_map, s
 use Rattle.std.specs.List.Sorted.{IsStrictlyIncreasing}
 use Rattle.std.specs.Result.{OnErr, OnOk}
 use Rattle.std.proofs.lemmas.Option.{slice_get_within}
-use Rattle.claim_table.specs.Table.{Table}
-use Rattle.event_body.specs.declared.event.Event.{Event}
-use Rattle.journal.specs.declared.body.Body.{Body}
-use Rattle.journal.specs.declared.claim.Claim.{Claim}
-use Rattle.journal.specs.declared.entry.Entry.{Entry}
-use Rattle.journal.specs.History.{claims_on}
-use Rattle.journal.specs.Journals.{told_by}
-use Rattle.journal.specs.Logs.{same_body}
-use Rattle.journal.proofs.Different.{Differ}
-use Rattle.journal.proofs.Places.{some_at}
+use Rattle.claim_table.specs.ClaimTable.Table.{Table}
+use Rattle.event_body.specs.declared.event_body.event.Event.{Event}
+use Rattle.journal.specs.declared.journal.body.Body.{Body}
+use Rattle.journal.specs.declared.journal.claim.Claim.{Claim}
+use Rattle.journal.specs.declared.journal.entry.Entry.{Entry}
+use Rattle.journal.specs.Journal.History.{claims_on}
+use Rattle.journal.specs.Journal.Journals.{told_by}
+use Rattle.journal.specs.Journal.Logs.{same_body}
+use Rattle.journal.proofs.JournalLemmas.Different.{Differ}
+use Rattle.journal.proofs.JournalLemmas.Places.{some_at}
 use Rattle.key_state.specs.Kept.{IsKept}
 use Rattle.key_state.specs.States.{State}
-use Rattle.core_tables.specs.EntryClaims.{came_to}
-use Rattle.core_tables.specs.RaisedRows.{RaisesRows, RaisesSomeRows}
-use Rattle.core_tables.proofs.Added.{raised_stays, some_of}
-use Rattle.core_tables.specs.declared.name.Name.{Name}
-use Rattle.core_tables.specs.Hints.{AreTold, IsPending}
-use Rattle.core_tables.specs.Names.{name_of}
-use Rattle.core_tables.specs.Raised.{Raises, RaisesSome, claims_at, state_there}
-use Rattle.core_tables.specs.View.{View, with_claims}
-use Rattle.core_tables.proofs.Rows.{not_some, some_is}
-use Rattle.core_tables.proofs.ToldClaims.{came_is, told_claims}
+use Rattle.core_tables.specs.CoreTables.EntryClaims.{came_to}
+use Rattle.core_tables.specs.CoreTables.RaisedRows.{RaisesRows, RaisesSomeRows}
+use Rattle.core_tables.proofs.CoreTablesLemmas.Added.{raised_stays, some_of}
+use Rattle.core_tables.specs.declared.core_tables.name.Name.{Name}
+use Rattle.core_tables.specs.CoreTables.Hints.{AreTold, IsPending}
+use Rattle.core_tables.specs.CoreTables.Names.{name_of}
+use Rattle.core_tables.specs.CoreTables.Raised.{Raises, RaisesSome, claims_at, state_there}
+use Rattle.core_tables.specs.CoreTables.View.{View, with_claims}
+use Rattle.core_tables.proofs.CoreTablesLemmas.Rows.{not_some, some_is}
+use Rattle.core_tables.proofs.CoreTablesLemmas.ToldClaims.{came_is, told_claims}
 
 -- the pending signature is still of some row
 pub pending_stays : (n : ℕ) (t u : Table) → RaisesSomeRows n t u → IsPending t → IsPending u

@@ -2,22 +2,22 @@
 use Rattle.std.proofs.Common.{◌≡◌, ℕ, ◌<◌, ◌≤◌, true, List, length, take, min, sym, ◌∙◌, ap, subst, Some, None, nat_le, nat_lt, Bool}
 use Rattle.std.specs.Prelude.{◌&&◌, if◌then◌else◌, slice_get}
 use Rattle.std.proofs.lemmas.List.{length-take}
-use Rattle.accepted_log.specs.Values.{Log, rewound as log_rewound}
-use Rattle.claim_table.specs.Rows.{is_raised}
-use Rattle.claim_table.specs.Table.{KeepsPending, Table}
-use Rattle.event_body.specs.declared.event.Event.{Event}
-use Rattle.escrow.specs.Escrow.{Escrow, held as held_by}
-use Rattle.journal.specs.declared.body.Body.{Body}
-use Rattle.journal.specs.declared.entry.Entry.{Entry}
-use Rattle.core_tables.specs.declared.mark.Mark.{Mark}
-use Rattle.core_tables.specs.declared.name.Name.{Name}
-use Rattle.core_tables.specs.declared.name.SealKey.{SealKey}
-use Rattle.core_tables.specs.declared.name.ClaimKey.{ClaimKey}
-use Rattle.core_tables.specs.Hints.{AreHinted, IsPending}
-use Rattle.core_tables.specs.Inside.{paired}
-use Rattle.core_tables.specs.View.{View, number_of, rewound}
-use Rattle.core_tables.proofs.Hints.{hinted_cut}
-use Rattle.core_tables.proofs.Pairs.{paired-take}
+use Rattle.core_tables.specs.AcceptedLog.Values.{Log, rewound as log_rewound}
+use Rattle.claim_table.specs.ClaimTable.Rows.{is_raised}
+use Rattle.claim_table.specs.ClaimTable.Table.{KeepsPending, Table}
+use Rattle.event_body.specs.declared.event_body.event.Event.{Event}
+use Rattle.escrow.specs.Escrow.Escrow.{Escrow, held as held_by}
+use Rattle.journal.specs.declared.journal.body.Body.{Body}
+use Rattle.journal.specs.declared.journal.entry.Entry.{Entry}
+use Rattle.core_tables.specs.declared.core_tables.mark.Mark.{Mark}
+use Rattle.core_tables.specs.declared.core_tables.name.Name.{Name}
+use Rattle.core_tables.specs.declared.core_tables.name.SealKey.{SealKey}
+use Rattle.core_tables.specs.declared.core_tables.name.ClaimKey.{ClaimKey}
+use Rattle.core_tables.specs.CoreTables.Hints.{AreHinted, IsPending}
+use Rattle.core_tables.specs.CoreTables.Inside.{paired}
+use Rattle.core_tables.specs.CoreTables.View.{View, number_of, rewound}
+use Rattle.core_tables.proofs.CoreTablesLemmas.Hints.{hinted_cut}
+use Rattle.core_tables.proofs.CoreTablesLemmas.Pairs.{paired-take}
 
 module _ (n : ℕ) (bodies fewer : List (List ℕ)) (events less : List Event) (even : length bodies ≡ length events) (b : fewer ≡ take n bodies) (e : less ≡ take n events) where
   pub cut_even : length fewer ≡ length less

@@ -4,7 +4,7 @@ use Rattle.std.specs.Prelude.{◌⊎◌, Contains, slice_get, ◌==◌}
 use Rattle.std.specs.List.{list_any}
 use Rattle.std.proofs.lemmas.Bool.{cases_Bool, cases_eq}
 use Rattle.key_state.proofs.Same.{numbers}
-use Rattle.journal.proofs.Places.{slice_get_before, slice_get_last}
+use Rattle.journal.proofs.JournalLemmas.Places.{slice_get_before, slice_get_last}
 
 pub some_is : {X : Type 0} (x y : X) → Some x ≡ Some y → x ≡ y
 some_is x y e = cc

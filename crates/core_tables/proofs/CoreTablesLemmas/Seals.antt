@@ -6,14 +6,14 @@ use Rattle.event_backing.specs.EventSeals.{names}
 use Rattle.event_backing.specs.Listing.{AreSealsOf}
 use Rattle.event_backing.specs.declared.event_seal.EventSeal.{EventSeal}
 use Rattle.event_backing.proofs.Held.{listed-held}
-use Rattle.event_body.specs.declared.event.Event.{Event}
-use Rattle.event_body.specs.Events.{anchors_of, prefix_of}
-use Rattle.journal.proofs.Places.{found_at}
-use Rattle.core_tables.specs.declared.name.SealKey.{SealKey}
-use Rattle.core_tables.specs.Hints.{IsSealedAt}
-use Rattle.core_tables.specs.Names.{name_in, seal_key}
-use Rattle.core_tables.proofs.NamedRows.{same_name_is}
-use Rattle.core_tables.proofs.Rows.{contained}
+use Rattle.event_body.specs.declared.event_body.event.Event.{Event}
+use Rattle.event_body.specs.EventBody.Events.{anchors_of, prefix_of}
+use Rattle.journal.proofs.JournalLemmas.Places.{found_at}
+use Rattle.core_tables.specs.declared.core_tables.name.SealKey.{SealKey}
+use Rattle.core_tables.specs.CoreTables.Hints.{IsSealedAt}
+use Rattle.core_tables.specs.CoreTables.Names.{name_in, seal_key}
+use Rattle.core_tables.proofs.CoreTablesLemmas.NamedRows.{same_name_is}
+use Rattle.core_tables.proofs.CoreTablesLemmas.Rows.{contained}
 
 pub sealed_at : (seals : SealKey → List ℕ) (e : Event) (place : ℕ) (holder : Prefix) (listed : List EventSeal) → holder ≡ prefix_of e → AreSealsOf (anchors_of e) listed
     → ((seal : EventSeal) → Contains listed seal → Contains (seals (seal_key holder (name_in seal))) place) → IsSealedAt seals e place

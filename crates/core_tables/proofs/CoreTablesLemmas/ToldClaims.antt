@@ -4,27 +4,27 @@ use Rattle.std.specs.Prelude.{Contains, flat_map, option_map, slice_get}
 use Rattle.std.specs.List.Sorted.{IsStrictlyIncreasing}
 use Rattle.std.specs.Cmp.Lexicographic.{bytes_decides}
 use Rattle.std.proofs.lemmas.Bool.{and_parts, cases_Bool, or_cases}
-use Rattle.core_laws.proofs.States.{same_digest_is}
+use Rattle.claim_table.proofs.CoreLawsLemmas.States.{same_digest_is}
 use Rattle.cesr_codes.specs.declared.key.Key.{Key}
 use Rattle.cesr_codes.specs.declared.sig.Sig.{Sig}
-use Rattle.event_body.specs.declared.event.Event.{Event}
-use Rattle.event_body.specs.Events.{is_receipt, prefix_of, said_of, sn_of}
-use Rattle.journal.specs.declared.body.Body.{Body}
-use Rattle.journal.specs.declared.claim.Claim.{Claim}
-use Rattle.journal.specs.declared.entry.Entry.{Entry}
-use Rattle.journal.specs.declared.entry.Entry.TheVariants.{Took, Heard}
-use Rattle.journal.specs.History.{claims_on, heard, is_receipt_for, took}
-use Rattle.journal.specs.Journals.{told_by, whole}
-use Rattle.journal.specs.Logs.{same_body}
-use Rattle.journal.proofs.Different.{Differ}
-use Rattle.journal.proofs.Places.{one_body, one_place}
+use Rattle.event_body.specs.declared.event_body.event.Event.{Event}
+use Rattle.event_body.specs.EventBody.Events.{is_receipt, prefix_of, said_of, sn_of}
+use Rattle.journal.specs.declared.journal.body.Body.{Body}
+use Rattle.journal.specs.declared.journal.claim.Claim.{Claim}
+use Rattle.journal.specs.declared.journal.entry.Entry.{Entry}
+use Rattle.journal.specs.declared.journal.entry.Entry.TheVariants.{Took, Heard}
+use Rattle.journal.specs.Journal.History.{claims_on, heard, is_receipt_for, took}
+use Rattle.journal.specs.Journal.Journals.{told_by, whole}
+use Rattle.journal.specs.Journal.Logs.{same_body}
+use Rattle.journal.proofs.JournalLemmas.Different.{Differ}
+use Rattle.journal.proofs.JournalLemmas.Places.{one_body, one_place}
 use Rattle.key_state.specs.Same.{same_digest, same_prefix}
 use Rattle.key_state.proofs.Same.{number_itself, numbers, same_prefix_is}
-use Rattle.core_tables.specs.EntryClaims.{came_to, is_receipt_of, stands_on}
-use Rattle.core_tables.specs.Names.{name_of}
-use Rattle.core_tables.specs.Raised.{claims_at, claims_of}
-use Rattle.core_tables.proofs.GatheredLists.{flat_map-filter_map, flat_map-numbers}
-use Rattle.core_tables.proofs.Rows.{not_some, some_is}
+use Rattle.core_tables.specs.CoreTables.EntryClaims.{came_to, is_receipt_of, stands_on}
+use Rattle.core_tables.specs.CoreTables.Names.{name_of}
+use Rattle.core_tables.specs.CoreTables.Raised.{claims_at, claims_of}
+use Rattle.core_tables.proofs.CoreTablesLemmas.GatheredLists.{flat_map-filter_map, flat_map-numbers}
+use Rattle.core_tables.proofs.CoreTablesLemmas.Rows.{not_some, some_is}
 
 -- a receipt has the name of the event that it speaks of
 receipt_named : (c b : Body) → is_receipt_for c b ≡ true → name_of c.event ≡ name_of b.event

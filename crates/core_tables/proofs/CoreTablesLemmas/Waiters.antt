@@ -7,17 +7,17 @@ use Rattle.std.proofs.lemmas.List.{take-append-drop}
 use Rattle.std.proofs.lemmas.List.Folds.{list_any-append}
 use Rattle.std.proofs.lemmas.Option.{slice_get_past}
 use Rattle.std.proofs.Math.Seq.{take-length}
-use Rattle.event_body.specs.Events.{is_receipt}
-use Rattle.escrow.specs.Escrow.{Escrow, held as held_by}
-use Rattle.escrow.specs.declared.waiter.Waiter.{Waiter}
-use Rattle.journal.specs.declared.body.Body.{Body}
-use Rattle.journal.proofs.Places.{slice_get_last}
+use Rattle.event_body.specs.EventBody.Events.{is_receipt}
+use Rattle.escrow.specs.Escrow.Escrow.{Escrow, held as held_by}
+use Rattle.escrow.specs.declared.escrow.waiter.Waiter.{Waiter}
+use Rattle.journal.specs.declared.journal.body.Body.{Body}
+use Rattle.journal.proofs.JournalLemmas.Places.{slice_get_last}
 use Rattle.key_state.proofs.Same.{number_itself}
-use Rattle.core_tables.specs.Hints.{IsEscrow}
-use Rattle.core_tables.specs.Rows.{placed, waiter_for}
-use Rattle.core_tables.specs.View.{waiter_at}
-use Rattle.core_tables.proofs.Rows.{differ, past_front}
-use Rattle.lists.proofs.Places.{not_at_end, in_front}
+use Rattle.core_tables.specs.CoreTables.Hints.{IsEscrow}
+use Rattle.core_tables.specs.CoreTables.Rows.{placed, waiter_for}
+use Rattle.core_tables.specs.CoreTables.View.{waiter_at}
+use Rattle.core_tables.proofs.CoreTablesLemmas.Rows.{differ, past_front}
+use Rattle.lists.proofs.ListsLemmas.Places.{not_at_end, in_front}
 
 -- nothing waits under the next number
 pub next_free : (w : Escrow) (held : List Body) (done : List ℕ) (n : ℕ) → IsEscrow w held done → n ≡ length held → held_by n w ≡ None

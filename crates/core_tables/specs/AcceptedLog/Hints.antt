@@ -6,7 +6,7 @@ use Rattle.cesr_codes.specs.declared.prefix.Prefix.{Prefix}
 use Rattle.cesr_codes.specs.contracts.prefix.PrefixOrd.TheImpl as prefix_order
 use Rattle.key_state.specs.Same.{same_prefix}
 use Rattle.key_state.specs.States.{State}
-use Rattle.accepted_log.specs.Values.{Log}
+use Rattle.core_tables.specs.AcceptedLog.Values.{Log}
 use denote.Param as param
 
 -- the order of identifiers

@@ -4,7 +4,7 @@ use Rattle.cesr_codes.specs.declared.digest.Digest.{Digest}
 use Rattle.cesr_codes.specs.declared.prefix.Prefix.{Prefix}
 use Rattle.key_state.specs.Same.{same_prefix}
 use Rattle.key_state.specs.States.{State}
-use Rattle.accepted_log.specs.declared.place.Place.{Place}
+use Rattle.core_tables.specs.declared.accepted_log.place.Place.{Place}
 
 -- the numbers of the accepted events' bodies and the places of the events, in order of acceptance; and a state for each
 -- establishment event, with the digests of the interactions that went onto it

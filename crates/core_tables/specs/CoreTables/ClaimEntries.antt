@@ -2,11 +2,11 @@
 use Rattle.std.specs.Prelude.{ℕ, List, ◌++◌}
 use Rattle.std.specs.declared.cmp.Ordering.{Ordering}
 use Rattle.std.specs.declared.cmp.Ord as ord
-use Rattle.claim_table.specs.Hinted.{few_at}
-use Rattle.event_index.specs.Keys.{numbers_at}
-use Rattle.core_tables.specs.contracts.name.ClaimKeyOrd.TheImpl as claim_order
-use Rattle.core_tables.specs.declared.claim_entries.ClaimEntries.{ClaimEntries}
-use Rattle.core_tables.specs.declared.name.ClaimKey.{ClaimKey}
+use Rattle.claim_table.specs.ClaimTable.Hinted.{few_at}
+use Rattle.escrow.specs.EventIndex.Keys.{numbers_at}
+use Rattle.core_tables.specs.contracts.core_tables.name.ClaimKeyOrd.TheImpl as claim_order
+use Rattle.core_tables.specs.declared.core_tables.claim_entries.ClaimEntries.{ClaimEntries}
+use Rattle.core_tables.specs.declared.core_tables.name.ClaimKey.{ClaimKey}
 use denote.Param as param
 
 -- the order of the keys

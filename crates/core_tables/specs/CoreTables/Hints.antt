@@ -1,22 +1,22 @@
 -- What the hints say: under its key stands the number of each row (and perhaps of others).
 use Rattle.std.specs.Prelude.{◌≡◌, ℕ, ◌<◌, ◌≤◌, Bool, false, true, List, length, take, slice_get, Some, Contains}
-use Rattle.event_body.specs.Events.{prefix_of}
-use Rattle.escrow.specs.Escrow.{Escrow, held as held_by}
-use Rattle.claim_table.specs.declared.signature.Signature.{Signature}
-use Rattle.claim_table.specs.Rows.{is_raised}
-use Rattle.claim_table.specs.Table.{Table}
+use Rattle.event_body.specs.EventBody.Events.{prefix_of}
+use Rattle.escrow.specs.Escrow.Escrow.{Escrow, held as held_by}
+use Rattle.claim_table.specs.declared.claim_table.signature.Signature.{Signature}
+use Rattle.claim_table.specs.ClaimTable.Rows.{is_raised}
+use Rattle.claim_table.specs.ClaimTable.Table.{Table}
 use Rattle.event_backing.specs.EventSeals.{IsEventSeal, holds_seal}
 use Rattle.event_backing.specs.declared.event_seal.EventSeal.{EventSeal}
-use Rattle.event_body.specs.declared.event.Event.{Event}
-use Rattle.journal.specs.declared.body.Body.{Body}
-use Rattle.journal.specs.declared.claim.Claim.{Claim}
-use Rattle.journal.specs.declared.entry.Entry.{Entry}
-use Rattle.journal.specs.declared.entry.Entry.TheVariants.{Took}
-use Rattle.core_tables.specs.declared.name.Name.{Name}
-use Rattle.core_tables.specs.declared.name.SealKey.{SealKey}
-use Rattle.core_tables.specs.declared.name.ClaimKey.{ClaimKey}
-use Rattle.core_tables.specs.Names.{name_of, name_in, seal_key, claim_key}
-use Rattle.core_tables.specs.View.{number_of, waiter_at}
+use Rattle.event_body.specs.declared.event_body.event.Event.{Event}
+use Rattle.journal.specs.declared.journal.body.Body.{Body}
+use Rattle.journal.specs.declared.journal.claim.Claim.{Claim}
+use Rattle.journal.specs.declared.journal.entry.Entry.{Entry}
+use Rattle.journal.specs.declared.journal.entry.Entry.TheVariants.{Took}
+use Rattle.core_tables.specs.declared.core_tables.name.Name.{Name}
+use Rattle.core_tables.specs.declared.core_tables.name.SealKey.{SealKey}
+use Rattle.core_tables.specs.declared.core_tables.name.ClaimKey.{ClaimKey}
+use Rattle.core_tables.specs.CoreTables.Names.{name_of, name_in, seal_key, claim_key}
+use Rattle.core_tables.specs.CoreTables.View.{number_of, waiter_at}
 
 -- each body under its name
 abbrev pub AreNamed : (Name → List ℕ) → List Body → Type 0

@@ -1,9 +1,9 @@
 -- What the fields of the tables stand for.
 use Rattle.std.specs.Prelude.{◌≡◌, ℕ, List, [], ◌∷◌, length}
-use Rattle.event_body.specs.declared.event.Event.{Event}
-use Rattle.journal.specs.declared.body.Body.{Body}
-use Rattle.core_tables.specs.declared.tables.Tables.TheInside.{Inside}
-use Rattle.core_tables.specs.View.{View, body_of}
+use Rattle.event_body.specs.declared.event_body.event.Event.{Event}
+use Rattle.journal.specs.declared.journal.body.Body.{Body}
+use Rattle.core_tables.specs.declared.core_tables.tables.Tables.TheInside.{Inside}
+use Rattle.core_tables.specs.CoreTables.View.{View, body_of}
 
 -- the bodies with their events
 unfoldable pub paired : List (List ℕ) → List Event → List Body

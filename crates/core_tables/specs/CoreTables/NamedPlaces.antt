@@ -3,9 +3,9 @@ use Rattle.std.specs.Prelude.{ℕ, List, [], ◌∷◌, slice_index}
 use Rattle.std.specs.Int.{from_be_bytes, w64}
 use Rattle.std.specs.Ordering.{nat_cmp}
 use Rattle.cesr_codes.specs.declared.digest.Digest.{Digest}
-use Rattle.event_index.specs.Keys.{numbers_at}
-use Rattle.core_tables.specs.declared.name.Name.{Name}
-use Rattle.core_tables.specs.declared.named_places.NamedPlaces.{NamedPlaces}
+use Rattle.escrow.specs.EventIndex.Keys.{numbers_at}
+use Rattle.core_tables.specs.declared.core_tables.name.Name.{Name}
+use Rattle.core_tables.specs.declared.core_tables.named_places.NamedPlaces.{NamedPlaces}
 
 -- the first eight bytes of a digest, as a number
 abbrev pub short_of : Digest → ℕ

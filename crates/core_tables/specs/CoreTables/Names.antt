@@ -1,13 +1,13 @@
 -- The keys of the hints: names of events, seals, and claims on bodies.
 use Rattle.std.specs.Prelude.{ℕ, ◌-◌, Option, option_map}
 use Rattle.cesr_codes.specs.declared.prefix.Prefix.{Prefix}
-use Rattle.event_body.specs.declared.event.Event.{Event}
-use Rattle.event_body.specs.Events.{prefix_of, sn_of, said_of, prior_of}
+use Rattle.event_body.specs.declared.event_body.event.Event.{Event}
+use Rattle.event_body.specs.EventBody.Events.{prefix_of, sn_of, said_of, prior_of}
 use Rattle.event_backing.specs.declared.event_seal.EventSeal.{EventSeal}
-use Rattle.journal.specs.declared.claim.Claim.{Claim}
-use Rattle.core_tables.specs.declared.name.Name.{Name}
-use Rattle.core_tables.specs.declared.name.SealKey.{SealKey}
-use Rattle.core_tables.specs.declared.name.ClaimKey.{ClaimKey}
+use Rattle.journal.specs.declared.journal.claim.Claim.{Claim}
+use Rattle.core_tables.specs.declared.core_tables.name.Name.{Name}
+use Rattle.core_tables.specs.declared.core_tables.name.SealKey.{SealKey}
+use Rattle.core_tables.specs.declared.core_tables.name.ClaimKey.{ClaimKey}
 
 -- an event's identifier, number and digest, as an event seal names it; of a receipt, those of the event that it speaks of
 abbrev pub name_of : Event → Name

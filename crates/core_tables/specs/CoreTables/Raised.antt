@@ -1,19 +1,19 @@
 -- What raising claims on a body adds to the tables.
 use Rattle.std.specs.Prelude.{◌≡◌, ℕ, ◌==◌, true, List, [], slice_get, Option, Some, None}
 use Rattle.std.specs.List.{list_all}
-use Rattle.event_body.specs.declared.event.Event.{Event}
+use Rattle.event_body.specs.declared.event_body.event.Event.{Event}
 use Rattle.key_state.specs.Exposure.{own_rules}
 use Rattle.key_state.specs.States.{State}
-use Rattle.core_laws.specs.Claimed.{rows_of}
-use Rattle.claim_table.specs.declared.claimed.Claimed.{Claimed}
-use Rattle.claim_table.specs.Rows.{raised_all}
-use Rattle.core_laws.specs.ClaimRows.{AreFound}
-use Rattle.journal.specs.declared.body.Body.{Body}
-use Rattle.journal.specs.declared.claim.Claim.{Claim}
-use Rattle.journal.specs.declared.entry.Entry.{Entry}
-use Rattle.journal.specs.History.{Told, claims_in}
-use Rattle.journal.specs.Journals.{whole}
-use Rattle.core_tables.specs.View.{View, with_rows}
+use Rattle.claim_table.specs.CoreLaws.Claimed.{rows_of}
+use Rattle.claim_table.specs.declared.claim_table.claimed.Claimed.{Claimed}
+use Rattle.claim_table.specs.ClaimTable.Rows.{raised_all}
+use Rattle.claim_table.specs.CoreLaws.ClaimRows.{AreFound}
+use Rattle.journal.specs.declared.journal.body.Body.{Body}
+use Rattle.journal.specs.declared.journal.claim.Claim.{Claim}
+use Rattle.journal.specs.declared.journal.entry.Entry.{Entry}
+use Rattle.journal.specs.Journal.History.{Told, claims_in}
+use Rattle.journal.specs.Journal.Journals.{whole}
+use Rattle.core_tables.specs.CoreTables.View.{View, with_rows}
 
 -- the state at a place, where one is given
 abbrev pub state_there : Option ℕ → List State → Option State

@@ -1,15 +1,15 @@
 -- What raising claims adds to the rows of a table.
 use Rattle.std.specs.Prelude.{◌≡◌, ℕ, ◌==◌, true, List, Option}
 use Rattle.std.specs.List.{list_all}
-use Rattle.event_body.specs.declared.event.Event.{Event}
+use Rattle.event_body.specs.declared.event_body.event.Event.{Event}
 use Rattle.key_state.specs.Exposure.{own_rules}
 use Rattle.key_state.specs.States.{State}
-use Rattle.core_laws.specs.Claimed.{rows_of}
-use Rattle.claim_table.specs.declared.claimed.Claimed.{Claimed}
-use Rattle.claim_table.specs.Rows.{raised_all}
-use Rattle.claim_table.specs.Table.{Table}
-use Rattle.core_laws.specs.ClaimRows.{AreFound}
-use Rattle.journal.specs.declared.claim.Claim.{Claim}
+use Rattle.claim_table.specs.CoreLaws.Claimed.{rows_of}
+use Rattle.claim_table.specs.declared.claim_table.claimed.Claimed.{Claimed}
+use Rattle.claim_table.specs.ClaimTable.Rows.{raised_all}
+use Rattle.claim_table.specs.ClaimTable.Table.{Table}
+use Rattle.claim_table.specs.CoreLaws.ClaimRows.{AreFound}
+use Rattle.journal.specs.declared.journal.claim.Claim.{Claim}
 
 -- the claims whose keys are found are raised on the event of a number, behind a state
 pub record RaisesRows (n : ℕ) (s : Option State) (e : Event) (claims : List Claim) (old new : Table) : Type 0 where

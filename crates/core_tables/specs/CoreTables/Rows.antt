@@ -2,18 +2,18 @@
 use Rattle.std.specs.Prelude.{ℕ, Bool, false, ◌&&◌, ◌==◌, List, slice_get, bytes_eq, Option, Some, None, if◌then◌else◌}
 use Rattle.std.specs.List.{list_any}
 use Rattle.cesr_codes.specs.declared.prefix.Prefix.{Prefix}
-use Rattle.event_body.specs.declared.event.Event.{Event}
-use Rattle.event_body.specs.Events.{prefix_of, is_receipt}
+use Rattle.event_body.specs.declared.event_body.event.Event.{Event}
+use Rattle.event_body.specs.EventBody.Events.{prefix_of, is_receipt}
 use Rattle.event_backing.specs.EventSeals.{holds_seal}
-use Rattle.escrow.specs.declared.waiter.Waiter.{Waiter}
-use Rattle.journal.specs.declared.claim.Claim.{Claim}
-use Rattle.journal.specs.declared.entry.Entry.{Entry}
-use Rattle.journal.specs.declared.entry.Entry.TheVariants.{Took, Heard}
-use Rattle.journal.specs.Replies.{same_claim}
+use Rattle.escrow.specs.declared.escrow.waiter.Waiter.{Waiter}
+use Rattle.journal.specs.declared.journal.claim.Claim.{Claim}
+use Rattle.journal.specs.declared.journal.entry.Entry.{Entry}
+use Rattle.journal.specs.declared.journal.entry.Entry.TheVariants.{Took, Heard}
+use Rattle.journal.specs.Journal.Replies.{same_claim}
 use Rattle.key_state.specs.Same.{same_digest, same_prefix}
-use Rattle.core_tables.specs.declared.name.Name.{Name}
-use Rattle.core_tables.specs.Names.{name_of}
-use Rattle.core_tables.specs.View.{waiter_of}
+use Rattle.core_tables.specs.declared.core_tables.name.Name.{Name}
+use Rattle.core_tables.specs.CoreTables.Names.{name_of}
+use Rattle.core_tables.specs.CoreTables.View.{waiter_of}
 
 -- it is these bytes
 abbrev pub is_text : List ℕ → Option (List ℕ) → Bool

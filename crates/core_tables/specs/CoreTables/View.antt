@@ -2,18 +2,18 @@
 -- the claims on bodies whose keys are found. Each is a list that only grows while a call runs.
 use Rattle.std.specs.Prelude.{ℕ, ◌<◌, ◌≤◌, ◌==◌, ◌||◌, List, [], length, take, flat_map, Option, Some, None, All, if◌then◌else◌}
 use Rattle.std.specs.List.{list_any}
-use Rattle.event_body.specs.declared.event.Event.{Event}
-use Rattle.event_body.specs.Events.{said_of, prior_of, is_receipt}
-use Rattle.escrow.specs.declared.waiter.Waiter.{Waiter}
-use Rattle.accepted_log.specs.Values.{Log, nothing as no_events, rewound as log_rewound}
-use Rattle.claim_table.specs.Table.{Table, nothing as no_claims, KeepsPending}
-use Rattle.claim_table.specs.declared.row.Row.{Row}
-use Rattle.journal.specs.declared.body.Body.{Body}
-use Rattle.journal.specs.declared.claim.Claim.{Claim}
-use Rattle.journal.specs.declared.entry.Entry.{Entry}
-use Rattle.journal.specs.declared.entry.Entry.TheVariants.{Took, Heard}
-use Rattle.journal.specs.Journals.{chosen}
-use Rattle.core_tables.specs.declared.mark.Mark.{Mark}
+use Rattle.event_body.specs.declared.event_body.event.Event.{Event}
+use Rattle.event_body.specs.EventBody.Events.{said_of, prior_of, is_receipt}
+use Rattle.escrow.specs.declared.escrow.waiter.Waiter.{Waiter}
+use Rattle.core_tables.specs.AcceptedLog.Values.{Log, nothing as no_events, rewound as log_rewound}
+use Rattle.claim_table.specs.ClaimTable.Table.{Table, nothing as no_claims, KeepsPending}
+use Rattle.claim_table.specs.declared.claim_table.row.Row.{Row}
+use Rattle.journal.specs.declared.journal.body.Body.{Body}
+use Rattle.journal.specs.declared.journal.claim.Claim.{Claim}
+use Rattle.journal.specs.declared.journal.entry.Entry.{Entry}
+use Rattle.journal.specs.declared.journal.entry.Entry.TheVariants.{Took, Heard}
+use Rattle.journal.specs.Journal.Journals.{chosen}
+use Rattle.core_tables.specs.declared.core_tables.mark.Mark.{Mark}
 
 -- the bodies with their events, the entries, the log, the claims, and how many events of the log have left the escrow
 pub record View : Type 0 where

@@ -2,21 +2,21 @@
 ghost use Rattle.std.specs.Prelude.{◌≡◌, ◌<◌, ◌+◌, ◌^◌, [], List, Some, length, slice_get, take, vec_len, vec_capacity, IfSome, IfOk, OnOk, OnErr};
 ghost use Rattle.std.specs.Option.{option_map};
 ghost use Rattle.key_state.specs.Heads.{head_sn};
-ghost use Rattle.event_body.specs.Events as events;
-ghost use Rattle.event_body.specs.Events.{prefix_of};
-ghost use Rattle.journal.specs.Grown.{IsGrown};
-ghost use Rattle.journal.specs.Logs as logs;
-ghost use Rattle.journal.specs.declared.body.Body.{Body};
-ghost use Rattle.accepted_log.specs.Cuts.{AreBothAlike, GrowsByInteraction, GrowsByState, IsLog, under_at};
-ghost use Rattle.accepted_log.specs.Values as values;
-ghost use Rattle.accepted_log.specs.Values.{Extends, established, interacted, last_of, last_place, nothing, rewound};
+ghost use Rattle.event_body.specs.EventBody.Events as events;
+ghost use Rattle.event_body.specs.EventBody.Events.{prefix_of};
+ghost use Rattle.journal.specs.Journal.Grown.{IsGrown};
+ghost use Rattle.journal.specs.Journal.Logs as logs;
+ghost use Rattle.journal.specs.declared.journal.body.Body.{Body};
+ghost use Rattle.core_tables.specs.AcceptedLog.Cuts.{AreBothAlike, GrowsByInteraction, GrowsByState, IsLog, under_at};
+ghost use Rattle.core_tables.specs.AcceptedLog.Values as values;
+ghost use Rattle.core_tables.specs.AcceptedLog.Values.{Extends, established, interacted, last_of, last_place, nothing, rewound};
 
-use crate::Place;
-use crate::hints::last_at;
-use crate::states::{go_onto, undo_from};
+use crate::accepted_log::Place;
+use crate::accepted_log::hints::last_at;
+use crate::accepted_log::states::{go_onto, undo_from};
 use cesr_codes::{Digest, Prefix};
+use escrow::Index;
 use event_body::{Event, prefix_of};
-use event_index::Index;
 use key_state::KeyState;
 use lists::length_u32;
 use std::alloc::{AllocError, Global};
@@ -34,12 +34,12 @@ pub struct AcceptedLog {
 }
 
 impl Model for AcceptedLog {
-    ghost use Rattle.accepted_log.specs.Values.{Log};
+    ghost use Rattle.core_tables.specs.AcceptedLog.Values.{Log};
 
     ghost Value = { Log };
 
-    ghost use Rattle.accepted_log.specs.Hints.{IsSound};
-    ghost use Rattle.event_index.specs.Keys.{numbers_at};
+    ghost use Rattle.core_tables.specs.AcceptedLog.Hints.{IsSound};
+    ghost use Rattle.escrow.specs.EventIndex.Keys.{numbers_at};
 
     ghost view = { λ l. record {
       numbers = l.numbers.items;

@@ -1,7 +1,7 @@
 //! The last state of an identifier, among the numbers of a hint.
 ghost use Rattle.std.specs.Prelude.{◌≡◌, IfOk, slice_get};
 ghost use Rattle.std.specs.List.Sorted.{IsStrictlyIncreasing};
-ghost use Rattle.accepted_log.specs.Hints.{IsLast, is_state_of};
+ghost use Rattle.core_tables.specs.AcceptedLog.Hints.{IsLast, is_state_of};
 
 use cesr_codes::Prefix;
 use key_state::KeyState;

@@ -1,9 +1,9 @@
 //! The states with one more interaction, and without the last events.
 ghost use Rattle.std.specs.Prelude.{◌≡◌, ◌<◌, ◌+◌, ◌^◌, length, take, drop, slice_get, IfSome, OnOk, OnErr};
 ghost use Rattle.key_state.specs.Heads.{head_sn};
-ghost use Rattle.accepted_log.specs.Values.{at_place, has_more, undone, undone_all, with_since, without_last};
+ghost use Rattle.core_tables.specs.AcceptedLog.Values.{at_place, has_more, undone, undone_all, with_since, without_last};
 
-use crate::Place;
+use crate::accepted_log::Place;
 use cesr_codes::Digest;
 use key_state::KeyState;
 use std::alloc::AllocError;

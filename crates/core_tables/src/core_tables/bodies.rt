@@ -1,22 +1,21 @@
 //! Bodies, found by the names of their events.
 ghost use Rattle.std.specs.Prelude.{◌≡◌, ◌<◌, ◌++◌, ◌∷◌, [], ℕ, false, find, length, Contains, IfOk, IfNone, IfSome, OnOk, OnErr, None, Some, slice_get, vec_len, vec_capacity};
 ghost use Rattle.std.specs.List.Sorted.{IsStrictlyIncreasing};
-ghost use Rattle.event_body.specs.Judging.{SpellsEvent};
-ghost use Rattle.event_index.specs.Keys.{numbers_at};
-ghost use Rattle.escrow.specs.Escrow.{held as held_by};
-ghost use Rattle.journal.specs.Logs.{is_in};
-ghost use Rattle.journal.specs.declared.body.Body.{Body};
-ghost use Rattle.core_tables.specs.Hints.{KeepsBelow};
-ghost use Rattle.core_tables.specs.Names.{name_of as name_of_event};
-ghost use Rattle.core_tables.specs.Rows.{is_text, placed, waiter_for};
-ghost use Rattle.core_tables.specs.View.{body_of, waiter_of as waiter};
+ghost use Rattle.event_body.specs.EventBody.Judging.{SpellsEvent};
+ghost use Rattle.escrow.specs.EventIndex.Keys.{numbers_at};
+ghost use Rattle.escrow.specs.Escrow.Escrow.{held as held_by};
+ghost use Rattle.journal.specs.Journal.Logs.{is_in};
+ghost use Rattle.journal.specs.declared.journal.body.Body.{Body};
+ghost use Rattle.core_tables.specs.CoreTables.Hints.{KeepsBelow};
+ghost use Rattle.core_tables.specs.CoreTables.Names.{name_of as name_of_event};
+ghost use Rattle.core_tables.specs.CoreTables.Rows.{is_text, placed, waiter_for};
+ghost use Rattle.core_tables.specs.CoreTables.View.{body_of, waiter_of as waiter};
 
-use crate::Tables;
-use crate::name::{Name, name_of};
-use escrow::{Waiter, Waiting};
+use crate::core_tables::Tables;
+use crate::core_tables::name::{Name, name_of};
+use escrow::{Index, Waiter, Waiting};
 use event_body::{Event, is_receipt, one_event, said_of_event};
-use event_index::Index;
-use event_rules::prior_of;
+use journal::prior_of;
 use json_tree::Text;
 use lists::{CopyValue, Items, length_u32};
 use std::alloc::AllocError;

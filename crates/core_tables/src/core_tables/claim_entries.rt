@@ -1,16 +1,16 @@
 //! The entries by which claims came with bodies.
 ghost use Rattle.std.specs.Prelude.{◌≡◌, ℕ, [], true, Contains, IfOk, OnOk};
 ghost use Rattle.std.specs.List.Sorted.{IsStrictlyIncreasing};
-ghost use Rattle.claim_table.specs.Hinted.{few_at};
-ghost use Rattle.event_index.specs.Keys.{numbers_at};
-ghost use Rattle.journal.specs.declared.claim.Claim.{Claim as ClaimValue};
-ghost use Rattle.core_tables.specs.ClaimEntries.{came_at};
-ghost use Rattle.core_tables.specs.Hints.{KeepsBelow};
-ghost use Rattle.core_tables.specs.Names.{claim_key};
+ghost use Rattle.claim_table.specs.ClaimTable.Hinted.{few_at};
+ghost use Rattle.escrow.specs.EventIndex.Keys.{numbers_at};
+ghost use Rattle.journal.specs.declared.journal.claim.Claim.{Claim as ClaimValue};
+ghost use Rattle.core_tables.specs.CoreTables.ClaimEntries.{came_at};
+ghost use Rattle.core_tables.specs.CoreTables.Hints.{KeepsBelow};
+ghost use Rattle.core_tables.specs.CoreTables.Names.{claim_key};
 
-use crate::name::ClaimKey;
+use crate::core_tables::name::ClaimKey;
 use claim_table::BodyNumbers;
-use event_index::Index;
+use escrow::Index;
 use journal::Claim;
 use std::alloc::{AllocError, Global};
 

@@ -1,21 +1,21 @@
 //! The claims on bodies: raised where their keys are found, and the verdicts on them.
 ghost use Rattle.std.specs.Prelude.{◌≡◌, ◌≢◌, ◌<◌, ℕ, true, None, Some, OnOk, OnErr, length, slice_get};
 ghost use Rattle.std.specs.Option.{option_copied};
-ghost use Rattle.claim_table.specs.Rows as rows;
-ghost use Rattle.claim_table.specs.declared.signature.Signature.{Signature as SignatureValue};
-ghost use Rattle.core_tables.specs.Raised.{Raises, RaisesSome, claims_at, state_there};
-ghost use Rattle.core_tables.specs.View.{with_claims};
-ghost use Rattle.journal.specs.History.{claims_on};
-ghost use Rattle.journal.specs.Journals.{told_by};
-ghost use Rattle.journal.specs.Logs.{same_body};
-ghost use Rattle.journal.specs.declared.body.Body.{Body};
-ghost use Rattle.journal.proofs.Different.{Differ};
+ghost use Rattle.claim_table.specs.ClaimTable.Rows as rows;
+ghost use Rattle.claim_table.specs.declared.claim_table.signature.Signature.{Signature as SignatureValue};
+ghost use Rattle.core_tables.specs.CoreTables.Raised.{Raises, RaisesSome, claims_at, state_there};
+ghost use Rattle.core_tables.specs.CoreTables.View.{with_claims};
+ghost use Rattle.journal.specs.Journal.History.{claims_on};
+ghost use Rattle.journal.specs.Journal.Journals.{told_by};
+ghost use Rattle.journal.specs.Journal.Logs.{same_body};
+ghost use Rattle.journal.specs.declared.journal.body.Body.{Body};
+ghost use Rattle.journal.proofs.JournalLemmas.Different.{Differ};
 ghost use Rattle.key_state.specs.Kept.{IsKept};
 
-use crate::Tables;
-use crate::entry_claims::{claims_by, raise_claims_by, raise_entries};
-use crate::name::name_of;
-use accepted_log::AcceptedLog;
+use crate::accepted_log::AcceptedLog;
+use crate::core_tables::Tables;
+use crate::core_tables::entry_claims::{claims_by, raise_claims_by, raise_entries};
+use crate::core_tables::name::name_of;
 use claim_table::Signature;
 use journal::Claim;
 use key_state::KeyState;

@@ -1,12 +1,12 @@
 //! What came with entries of a journal, raised on an event.
 ghost use Rattle.std.specs.Prelude.{◌≡◌, ◌<◌, flat_map, length, slice_get, Some, OnOk, OnErr};
 ghost use Rattle.std.specs.Option.{option_copied};
-ghost use Rattle.event_body.specs.declared.event.Event.{Event as EventValue};
+ghost use Rattle.event_body.specs.declared.event_body.event.Event.{Event as EventValue};
 ghost use Rattle.key_state.specs.Kept.{IsKept};
-ghost use Rattle.core_tables.specs.EntryClaims.{came_to, is_receipt_of, stands_on};
-ghost use Rattle.core_tables.specs.RaisedRows.{RaisesRows, RaisesSomeRows};
+ghost use Rattle.core_tables.specs.CoreTables.EntryClaims.{came_to, is_receipt_of, stands_on};
+ghost use Rattle.core_tables.specs.CoreTables.RaisedRows.{RaisesRows, RaisesSomeRows};
 
-use crate::raised_claims::raise_claims;
+use crate::core_tables::raised_claims::raise_claims;
 use claim_table::ClaimTable;
 use event_body::{Event, is_receipt, prefix_of, said_of_event, sn_of};
 use journal::{Claim, Entry};

@@ -3,7 +3,7 @@
 ghost use Rattle.std.specs.Prelude.{◌<◌, ◌^◌};
 ghost use Rattle.event_backing.specs.EventSeals.{IsEventSeal};
 
-use crate::Name;
+use crate::core_tables::Name;
 use cesr_codes::Spelled;
 
 fn number(_number: u64)

@@ -1,10 +1,10 @@
 //! Where the lists ended.
 ghost use Rattle.std.specs.Prelude.{◌≡◌, ◌≤◌, ◌&&◌, ℕ, None, nat_le, nat_lt, if◌then◌else◌};
-ghost use Rattle.core_tables.specs.View.{IsCut, mark_of, rewound};
-ghost use Rattle.escrow.specs.Escrow.{held as held_by};
+ghost use Rattle.core_tables.specs.CoreTables.View.{IsCut, mark_of, rewound};
+ghost use Rattle.escrow.specs.Escrow.Escrow.{held as held_by};
 
-use crate::Tables;
-use crate::log::take_out;
+use crate::core_tables::Tables;
+use crate::core_tables::log::take_out;
 use escrow::Waiting;
 
 /// How long each list was.

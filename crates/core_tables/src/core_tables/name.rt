@@ -1,12 +1,11 @@
 //! The keys of the hints.
 ghost use Rattle.std.specs.Prelude.{◌≡◌};
-ghost use Rattle.core_tables.specs.Names as names;
-ghost use Rattle.core_tables.specs.Rows.{same_name};
+ghost use Rattle.core_tables.specs.CoreTables.Names as names;
+ghost use Rattle.core_tables.specs.CoreTables.Rows.{same_name};
 
 use cesr_codes::{Digest, Prefix};
 use event_body::{Event, prefix_of, said_of_event, sn_of};
-use event_rules::prior_of;
-use journal::Claim;
+use journal::{Claim, prior_of};
 
 /// An event's identifier, number and digest, as an event seal names it (KERI). Names are ordered by their numbers first: those of
 /// one log, among which names are mostly looked for, differ there.

@@ -1,12 +1,12 @@
 //! The places of the log by the names of the events there.
 ghost use Rattle.std.specs.Prelude.{◌≡◌, ◌<◌, ℕ, [], Contains, OnOk};
 ghost use Rattle.std.specs.List.Sorted.{IsStrictlyIncreasing};
-ghost use Rattle.core_tables.specs.Hints.{KeepsBelow};
-ghost use Rattle.core_tables.specs.NamedPlaces.{places_at, short_of};
+ghost use Rattle.core_tables.specs.CoreTables.Hints.{KeepsBelow};
+ghost use Rattle.core_tables.specs.CoreTables.NamedPlaces.{places_at, short_of};
 
-use crate::name::Name;
+use crate::core_tables::name::Name;
 use cesr_codes::Digest;
-use event_index::Index;
+use escrow::Index;
 use std::alloc::{AllocError, Global};
 
 /// For a name the places of accepted events, among which are those of the events that have it: hints, as those of an [`Index`],

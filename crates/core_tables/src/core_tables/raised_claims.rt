@@ -2,12 +2,11 @@
 ghost use Rattle.std.specs.Prelude.{◌≡◌, ◌∷◌, [], OnOk, OnErr};
 ghost use Rattle.std.specs.Option.{option_copied};
 ghost use Rattle.key_state.specs.Kept.{IsKept};
-ghost use Rattle.core_tables.specs.RaisedRows.{RaisesRows, RaisesSomeRows};
+ghost use Rattle.core_tables.specs.CoreTables.RaisedRows.{RaisesRows, RaisesSomeRows};
 
 use claim_table::{ClaimTable, Claimed, Parts};
 use event_body::Event;
-use event_rules::{Additions, claimed_key, claimed_sig};
-use journal::Claim;
+use journal::{Additions, Claim, claimed_key, claimed_sig};
 use key_state::KeyState;
 use std::alloc::AllocError;
 

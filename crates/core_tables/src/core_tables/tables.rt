@@ -1,17 +1,16 @@
 //! The tables.
 ghost use Rattle.std.specs.Prelude.{◌≡◌, length, map, slice_get, take};
 ghost use Rattle.std.specs.Option.{option_copied, option_map};
-ghost use Rattle.core_tables.specs.Hints.{IsEscrow};
-ghost use Rattle.core_tables.specs.View.{nothing};
+ghost use Rattle.core_tables.specs.CoreTables.Hints.{IsEscrow};
+ghost use Rattle.core_tables.specs.CoreTables.View.{nothing};
 
-use crate::claim_entries::ClaimEntries;
-use crate::name::{Name, SealKey};
-use crate::named_places::NamedPlaces;
-use accepted_log::AcceptedLog;
+use crate::accepted_log::AcceptedLog;
+use crate::core_tables::claim_entries::ClaimEntries;
+use crate::core_tables::name::{Name, SealKey};
+use crate::core_tables::named_places::NamedPlaces;
 use claim_table::ClaimTable;
-use escrow::Waiting;
+use escrow::{Index, Waiting};
 use event_body::Event;
-use event_index::Index;
 use journal::Journal;
 use json_tree::Text;
 use lists::Items;
@@ -46,7 +45,7 @@ pub struct Tables {
 }
 
 impl Model for Tables {
-    ghost use Rattle.core_tables.specs.View.{View};
+    ghost use Rattle.core_tables.specs.CoreTables.View.{View};
     ghost use Rattle.json_tree.specs.contracts.tree.Tree as tree;
     ghost use Rattle.std.specs.Coded.{codes};
 
@@ -54,11 +53,11 @@ impl Model for Tables {
 
     ghost coded = { Prim.hlevel (codes, tree.the_row.coded) };
 
-    ghost use Rattle.core_tables.specs.ClaimEntries.{came_at};
-    ghost use Rattle.core_tables.specs.Hints.{AreHinted, IsPending};
-    ghost use Rattle.core_tables.specs.Inside.{are_paired, held_in, view_of};
-    ghost use Rattle.core_tables.specs.NamedPlaces.{places_at};
-    ghost use Rattle.event_index.specs.Keys.{numbers_at};
+    ghost use Rattle.core_tables.specs.CoreTables.ClaimEntries.{came_at};
+    ghost use Rattle.core_tables.specs.CoreTables.Hints.{AreHinted, IsPending};
+    ghost use Rattle.core_tables.specs.CoreTables.Inside.{are_paired, held_in, view_of};
+    ghost use Rattle.core_tables.specs.CoreTables.NamedPlaces.{places_at};
+    ghost use Rattle.escrow.specs.EventIndex.Keys.{numbers_at};
 
     ghost view = { λ t. view_of t };
 

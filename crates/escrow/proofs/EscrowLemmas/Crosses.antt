@@ -10,22 +10,22 @@ use Rattle.std.specs.contracts.hash.BuildHasherDefault as builder
 use Rattle.std.specs.contracts.hash.FoldHasher as fold
 use Rattle.std.specs.contracts.impls.GlobalAllocator.TheImpl as allocator
 use Rattle.cesr_codes.proofs.digest.Digest.TheSendSync as digest
-use Rattle.event_index.proofs.rising.Rising.TheSendSync as rising
+use Rattle.escrow.proofs.event_index.rising.Rising.TheSendSync as rising
 use Rattle.cesr_codes.specs.contracts.digest.Digest as digests
 use Rattle.cesr_codes.specs.contracts.digest.DigestOrd.TheImpl as digest_ord
 use Rattle.cesr_codes.specs.contracts.digest.DigestPartialEq.TheImpl as digest_eq
 use Rattle.cesr_codes.specs.contracts.digest.DigestPartialOrd.TheImpl as digest_partial
-use Rattle.event_index.specs.contracts.rising.Rising as risings
+use Rattle.escrow.specs.contracts.event_index.rising.Rising as risings
 use Rattle.std.specs.contracts.prelude.U32PartialEq.TheImpl as u32_eq
 use Rattle.std.specs.contracts.prelude.U32Hash.TheImpl as u32_hash
 use Rattle.std.specs.contracts.prelude.FoldHasherHasher.TheImpl as fold_hasher
 use Rattle.indexmap.proofs.map.IndexMap.TheSendSync as map
 use Rattle.std.proofs.option.Option.TheSendSync as options
 use Rattle.std.specs.contracts.option.Option as option
-use Rattle.escrow.specs.contracts.digest_numbers.DigestNumbers as numbers
-use Rattle.escrow.specs.contracts.waiter.Waiter as waiter
-use Rattle.escrow.specs.contracts.waiting.Waiting as waiting
-use Rattle.escrow.specs.contracts.waiting.Waiting.TheInside as inside
+use Rattle.escrow.specs.contracts.escrow.digest_numbers.DigestNumbers as numbers
+use Rattle.escrow.specs.contracts.escrow.waiter.Waiter as waiter
+use Rattle.escrow.specs.contracts.escrow.waiting.Waiting as waiting
+use Rattle.escrow.specs.contracts.escrow.waiting.Waiting.TheInside as inside
 
 global_send : IsSend global.the_row
 global_send = search sendable depth 20

@@ -6,7 +6,7 @@ use Rattle.std.proofs.lemmas.Map.Text.{is_eq-slice_cmp}
 use Rattle.cesr_codes.specs.declared.digest.Digest.{Digest}
 use Rattle.cesr_codes.specs.declared.digest.DigestCode.{DigestCode}
 use Rattle.cesr_codes.specs.declared.digest.DigestCode.TheVariants.{Blake3, Sha256}
-use Rattle.escrow.specs.Tables.{digest_eq}
+use Rattle.escrow.specs.Escrow.Tables.{digest_eq}
 
 decides : (c k : DigestCode) (r s : List ℕ) → (digest_eq (record { code = c; raw = r }) (record { code = k; raw = s }) ≡ true) ↔ (◌≡◌ {A = Digest} (record { code = c; raw = r }) (record { code = k; raw = s }))
 decides Blake3 Blake3 r s = (λ h. let raw = (bytes_decides r s).0 (sym (is_eq-slice_cmp r s) ∙ h) in λ i. record { code = Blake3; raw = raw i }, λ h. is_eq-slice_cmp r s ∙ (bytes_decides r s).1 (ap (λ d. d.raw) h))

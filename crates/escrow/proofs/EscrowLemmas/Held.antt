@@ -8,7 +8,7 @@ use Rattle.std.specs.Cmp.{nat_cmp_total, unsigned_tied}
 use Rattle.std.specs.FinMap.{from_entries, get-from_entries}
 use Rattle.std.specs.FinMap as map
 use Rattle.std.specs.Map.{lookup}
-use Rattle.escrow.specs.declared.waiter.Waiter.{Waiter}
+use Rattle.escrow.specs.declared.escrow.waiter.Waiter.{Waiter}
 
 same_find : {X : Type 0} (n : ℕ) (es : List (ℕ × X)) → map.find nat_cmp n es ≡ lookup (nat_eq n) es
 same_find n [] = refl

@@ -3,10 +3,10 @@ use Rattle.std.proofs.Common.{◌≡◌, ◌≢◌, ◌≤◌, ℕ, Bool, true, 
 use Rattle.std.specs.Prelude.{◌↔◌, ◌⊎◌, Contains, Option}
 use Rattle.std.proofs.lemmas.Bool.{cases_Bool}
 use Rattle.cesr_codes.specs.declared.digest.Digest.{Digest}
-use Rattle.event_index.specs.Numbers.{Numbers}
-use Rattle.event_index.specs.Keys.{numbers_in}
-use Rattle.escrow.specs.Tables.{digest_eq, room_in}
-use Rattle.escrow.proofs.Digests.{Decides-digest_eq}
+use Rattle.escrow.specs.EventIndex.Numbers.{Numbers}
+use Rattle.escrow.specs.EventIndex.Keys.{numbers_in}
+use Rattle.escrow.specs.Escrow.Tables.{digest_eq, room_in}
+use Rattle.escrow.proofs.EscrowLemmas.Digests.{Decides-digest_eq}
 
 module _ (old new : Digest → Option Numbers) (key : Digest) (was is : Numbers) (got : old key ≡ Some was) (updates : (q : Digest) → new q ≡ cond (digest_eq key q) (Some is) (old q)) where
   -- at the digest stands what was written, and at another what stood

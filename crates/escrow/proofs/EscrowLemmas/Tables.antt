@@ -4,9 +4,9 @@ use Rattle.std.specs.Prelude.{◌↔◌, ◌⊎◌, ◌==◌, Contains, Option}
 use Rattle.std.proofs.lemmas.Bool.{cases_Bool}
 use Rattle.std.proofs.lemmas.Bool.Decides.{Decides-eqb}
 use Rattle.cesr_codes.specs.declared.digest.Digest.{Digest}
-use Rattle.escrow.specs.declared.room.Room.{Room}
-use Rattle.escrow.specs.declared.waiter.Waiter.{Waiter}
-use Rattle.escrow.specs.Tables.{HasNumbers, HasRoom}
+use Rattle.escrow.specs.declared.escrow.room.Room.{Room}
+use Rattle.escrow.specs.declared.escrow.waiter.Waiter.{Waiter}
+use Rattle.escrow.specs.Escrow.Tables.{HasNumbers, HasRoom}
 
 module _ (key : Waiter → Option Digest) (at now : ℕ → Option Waiter) (numbers those : Digest → List ℕ) (has : HasNumbers key at numbers) where
   -- where neither changes

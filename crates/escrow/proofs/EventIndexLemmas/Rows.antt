@@ -9,9 +9,9 @@ use Rattle.std.proofs.lemmas.List.{reverse-append}
 use Rattle.std.proofs.lemmas.List.Elements.{filter-append, filter_map-append}
 use Rattle.std.proofs.lemmas.List.FromFn.{length-range_with_len, get_or-range_with_len}
 use Rattle.std.proofs.lemmas.List.Kept.{IsStrictlyIncreasing-filter}
-use Rattle.event_index.specs.Rows.{is_row, numbers_of, HasRows}
-use Rattle.event_index.proofs.Orders.{Contains-cons, Contains-filter}
-use Rattle.event_index.proofs.Same.{rising_same}
+use Rattle.escrow.specs.EventIndex.Rows.{is_row, numbers_of, HasRows}
+use Rattle.escrow.proofs.EventIndexLemmas.Orders.{Contains-cons, Contains-filter}
+use Rattle.escrow.proofs.EventIndexLemmas.Same.{rising_same}
 
 -- the first that passes a test, of a list and of what passes
 find-filter : {X : Type 0} (p : X → Bool) (xs : List X) → find p xs ≡ slice_get (filter p xs) 0

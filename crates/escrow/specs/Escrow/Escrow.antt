@@ -2,8 +2,8 @@
 use Rattle.std.specs.Prelude.{◌≡◌, ℕ, Option, Some}
 use Rattle.std.specs.Ordering.{nat_cmp}
 use Rattle.std.specs.FinMap.{FinMap, get}
-use Rattle.escrow.specs.declared.room.Room.{Room}
-use Rattle.escrow.specs.declared.waiter.Waiter.{Waiter}
+use Rattle.escrow.specs.declared.escrow.room.Room.{Room}
+use Rattle.escrow.specs.declared.escrow.waiter.Waiter.{Waiter}
 
 -- the events that wait, by their numbers, and the room that is kept for one more
 pub record Escrow : Type 0 where

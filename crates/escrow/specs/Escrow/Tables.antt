@@ -6,11 +6,11 @@ use Rattle.std.specs.declared.cmp.Ord as ord
 use Rattle.std.specs.declared.cmp.Ordering.{Ordering}
 use Rattle.cesr_codes.specs.contracts.digest.DigestOrd.TheImpl as digest_order
 use Rattle.cesr_codes.specs.declared.digest.Digest.{Digest}
-use Rattle.event_index.specs.Keys.{numbers_in}
-use Rattle.event_index.specs.Numbers.{Numbers}
-use Rattle.escrow.specs.declared.digest_numbers.DigestNumbers.{DigestNumbers}
-use Rattle.escrow.specs.declared.room.Room.{Room}
-use Rattle.escrow.specs.declared.waiter.Waiter.{Waiter}
+use Rattle.escrow.specs.EventIndex.Keys.{numbers_in}
+use Rattle.escrow.specs.EventIndex.Numbers.{Numbers}
+use Rattle.escrow.specs.declared.escrow.digest_numbers.DigestNumbers.{DigestNumbers}
+use Rattle.escrow.specs.declared.escrow.room.Room.{Room}
+use Rattle.escrow.specs.declared.escrow.waiter.Waiter.{Waiter}
 use denote.Param as param
 
 -- the order of digests

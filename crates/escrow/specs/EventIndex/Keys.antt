@@ -2,8 +2,8 @@
 use Rattle.std.specs.Prelude.{ℕ, List, [], Option, Some, None}
 use Rattle.std.specs.declared.cmp.Ordering.{Ordering}
 use Rattle.std.specs.BTreeMap as tree
-use Rattle.event_index.specs.Numbers.{Numbers}
-use Rattle.event_index.specs.declared.index.Index.{Index}
+use Rattle.escrow.specs.EventIndex.Numbers.{Numbers}
+use Rattle.escrow.specs.declared.event_index.index.Index.{Index}
 
 -- the numbers of an entry, and none where there is no entry
 abbrev pub numbers_in : Option Numbers → List ℕ

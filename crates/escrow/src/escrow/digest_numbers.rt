@@ -3,10 +3,10 @@ ghost use Rattle.std.specs.Prelude.{◌≡◌, ◌≤◌, ◌<◌, ◌⊎◌, �
 ghost use Rattle.std.specs.List.Sorted.{IsStrictlyIncreasing};
 ghost use Rattle.std.specs.Option.{ForSome};
 ghost use Rattle.cesr_codes.specs.declared.digest.Digest.{Digest};
-ghost use Rattle.escrow.specs.Tables.{numbers_at, room_at};
+ghost use Rattle.escrow.specs.Escrow.Tables.{numbers_at, room_at};
 
+use crate::event_index::Rising;
 use cesr_codes::Digest;
-use event_index::Rising;
 use std::alloc::{AllocError, Global};
 use std::collections::BTreeMap;
 

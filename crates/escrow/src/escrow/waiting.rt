@@ -2,10 +2,10 @@
 ghost use Rattle.std.specs.Prelude.{◌≡◌, ◌+◌, ◌-◌, ◌^◌, ◌↔◌, ℕ, min, None, Some, OnOk, OnErr, Contains, if◌then◌else◌, ◌==◌};
 ghost use Rattle.std.specs.List.Sorted.{IsStrictlyIncreasing};
 ghost use Rattle.std.specs.Option.{option_map};
-ghost use Rattle.escrow.specs.Escrow.{Waits, held, room_for};
+ghost use Rattle.escrow.specs.Escrow.Escrow.{Waits, held, room_for};
 
-use crate::digest_numbers::DigestNumbers;
-use crate::{Room, Waiter};
+use crate::escrow::digest_numbers::DigestNumbers;
+use crate::escrow::{Room, Waiter};
 use cesr_codes::Digest;
 use indexmap::IndexMap;
 use keri_outside::Steps;
@@ -28,8 +28,8 @@ impl Model for Waiting {
     ghost use Rattle.std.specs.Coded.{codes};
     ghost use Rattle.std.specs.FinMap.{code, from_entries};
     ghost use Rattle.indexmap.specs.IndexMap.{get, spare};
-    ghost use Rattle.escrow.specs.Escrow.{Escrow};
-    ghost use Rattle.escrow.specs.Tables.{HasNumbers, HasRoom, numbers_at, room_at};
+    ghost use Rattle.escrow.specs.Escrow.Escrow.{Escrow};
+    ghost use Rattle.escrow.specs.Escrow.Tables.{HasNumbers, HasRoom, numbers_at, room_at};
 
     ghost Value = { Escrow };
 

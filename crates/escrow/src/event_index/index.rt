@@ -1,9 +1,9 @@
 //! Numbers by keys.
 ghost use Rattle.std.specs.Prelude.{◌≡◌, ◌<◌, ℕ, [], Contains, OnOk};
 ghost use Rattle.std.specs.List.Sorted.{IsStrictlyIncreasing};
-ghost use Rattle.event_index.specs.Keys.{numbers_at};
+ghost use Rattle.escrow.specs.EventIndex.Keys.{numbers_at};
 
-use crate::Rising;
+use crate::event_index::Rising;
 use std::alloc::{AllocError, Global};
 use std::collections::BTreeMap;
 

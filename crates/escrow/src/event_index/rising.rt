@@ -20,7 +20,7 @@ impl Model for Rising {
     ghost use Rattle.std.specs.Prelude.{◌-◌};
     ghost use Rattle.smallvec.specs.SmallVec.{small_vec_len};
     ghost use Rattle.std.specs.List.Sorted.{IsStrictlyIncreasing};
-    ghost use Rattle.event_index.specs.Numbers.{Numbers};
+    ghost use Rattle.escrow.specs.EventIndex.Numbers.{Numbers};
 
     ghost Value = { Numbers };
 

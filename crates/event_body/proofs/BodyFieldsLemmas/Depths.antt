@@ -8,11 +8,11 @@ use Rattle.json_tree.specs.Spelling.{spelling, separated, IsJson, Fits, EndsBefo
 use Rattle.json_tree.specs.Strings.{IsString}
 use Rattle.json_tree.proofs.Readers.{reads_list}
 use Rattle.json_tree.proofs.Unique.{one_at_front}
-use Rattle.body_fields.specs.declared.form.Form.{Form}
-use Rattle.body_fields.specs.declared.form.Form.TheVariants.{Digest as OneDigest, Prefix as OnePrefix, Zero, Positive, Number, Threshold, Keys, FixedKeys, Digests, Strings, Values}
-use Rattle.body_fields.specs.Forms.{IsOfForm, depth_of, IsStringOrList}
+use Rattle.event_body.specs.declared.body_fields.form.Form.{Form}
+use Rattle.event_body.specs.declared.body_fields.form.Form.TheVariants.{Digest as OneDigest, Prefix as OnePrefix, Zero, Positive, Number, Threshold, Keys, FixedKeys, Digests, Strings, Values}
+use Rattle.event_body.specs.BodyFields.Forms.{IsOfForm, depth_of, IsStringOrList}
 use Rattle.sith.proofs.Plain.{number_string}
-use Rattle.body_fields.proofs.Plain.{digest_string, key_string, prefix_string}
+use Rattle.event_body.proofs.BodyFieldsLemmas.Plain.{digest_string, key_string, prefix_string}
 
 -- a string
 string_fits : (value : Tree) (text : List ℕ) → value ≡ Str text → IsString text → Fits 0 value × IsStringOrList value

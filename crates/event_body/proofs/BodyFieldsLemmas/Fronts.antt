@@ -1,8 +1,8 @@
 -- What stands at the front of bytes.
 use Rattle.std.proofs.Common.{◌≡◌, ℕ, List, ◌++◌, length, take, drop, refl, sym, ap, ◌∙◌, append_assoc, codes, arith}
 use Rattle.std.proofs.lemmas.List.{append_cancel_left, take_at, drop_at}
-use Rattle.body_fields.specs.Fronts.{between}
-use Rattle.body_fields.specs.Versions.{IsSize, version_text}
+use Rattle.event_body.specs.BodyFields.Fronts.{between}
+use Rattle.event_body.specs.BodyFields.Versions.{IsSize, version_text}
 
 pub between_behind : (opening closing text rest : List ℕ) → between opening closing text ++ rest ≡ opening ++ (text ++ (closing ++ rest))
 between_behind opening closing text rest = append_assoc opening (text ++ closing) rest ∙ ap (λ x. opening ++ x) (append_assoc text closing rest)

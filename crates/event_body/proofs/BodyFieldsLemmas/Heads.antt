@@ -1,16 +1,16 @@
 -- The version string and the kind.
 use Rattle.std.proofs.Common.{◌≡◌, ◌≢◌, ℕ, suc, ◌+◌, ◌==◌, if◌then◌else◌, List, ◌++◌, length, slice_index, refl, sym, ap, ◌∙◌, subst, arith, append_assoc}
 use Rattle.std.proofs.lemmas.List.{append_cancel_left}
-use Rattle.keri_specs.specs.Hex.{hex_value}
-use Rattle.body_fields.specs.declared.kind.Kind.{Kind}
-use Rattle.body_fields.specs.declared.kind.Kind.TheVariants.{Icp, Rot, Ixn, Dip, Drt, Rct}
-use Rattle.body_fields.specs.declared.fields_fault.FieldsFault.{FieldsFault}
-use Rattle.body_fields.specs.declared.fields_fault.FieldsFault.TheVariants.{OtherSize, Ends, OutOfMemory}
-use Rattle.body_fields.specs.Maps.{fields_of}
-use Rattle.body_fields.specs.Versions.{IsSize, version_text, HasOtherSize}
-use Rattle.body_fields.specs.Bodies.{kind_text, head_text, Begins}
-use Rattle.body_fields.specs.Faults.{IsFault, StopsAt}
-use Rattle.body_fields.proofs.Fronts.{same_version}
+use Rattle.lists.specs.KeriSpecs.Hex.{hex_value}
+use Rattle.event_body.specs.declared.body_fields.kind.Kind.{Kind}
+use Rattle.event_body.specs.declared.body_fields.kind.Kind.TheVariants.{Icp, Rot, Ixn, Dip, Drt, Rct}
+use Rattle.event_body.specs.declared.body_fields.fields_fault.FieldsFault.{FieldsFault}
+use Rattle.event_body.specs.declared.body_fields.fields_fault.FieldsFault.TheVariants.{OtherSize, Ends, OutOfMemory}
+use Rattle.event_body.specs.BodyFields.Maps.{fields_of}
+use Rattle.event_body.specs.BodyFields.Versions.{IsSize, version_text, HasOtherSize}
+use Rattle.event_body.specs.BodyFields.Bodies.{kind_text, head_text, Begins}
+use Rattle.event_body.specs.BodyFields.Faults.{IsFault, StopsAt}
+use Rattle.event_body.proofs.BodyFieldsLemmas.Fronts.{same_version}
 
 -- the kind that a text names, by two of its letters
 abbrev named : List ℕ → Kind

@@ -13,10 +13,10 @@ use Rattle.json_tree.specs.Strings.{IsString}
 use Rattle.json_tree.proofs.Unique.{list_fits}
 use Rattle.json_tree.proofs.Trees.{IsJson-to_list}
 use Rattle.sith.proofs.Values.{list_injective}
-use Rattle.body_fields.specs.declared.primitive.FixedKey.{FixedKey}
-use Rattle.body_fields.specs.declared.form.Form.TheVariants.{FixedKeys, Strings, Values}
-use Rattle.body_fields.specs.Forms.{IsOfForm, AreFixed, key_value, keys_value}
-use Rattle.body_fields.specs.Strings.{HoldsOne, IsListOf, IsText}
+use Rattle.event_body.specs.declared.body_fields.primitive.FixedKey.{FixedKey}
+use Rattle.event_body.specs.declared.body_fields.form.Form.TheVariants.{FixedKeys, Strings, Values}
+use Rattle.event_body.specs.BodyFields.Forms.{IsOfForm, AreFixed, key_value, keys_value}
+use Rattle.event_body.specs.BodyFields.Strings.{HoldsOne, IsListOf, IsText}
 
 -- what is said of the members of a list
 pub members_are : (Is : Tree → Type 0) (value : Tree) (members : List Tree) → value ≡ TreeList members → IsListOf Is value → AllByRecursion Is members

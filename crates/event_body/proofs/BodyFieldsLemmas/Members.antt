@@ -4,11 +4,11 @@ use Rattle.std.specs.List.{AllByRecursion}
 use Rattle.std.proofs.lemmas.List.{append_cancel_left, take_more, drop_all}
 use Rattle.json_tree.specs.declared.tree.Tree.{Tree}
 use Rattle.json_tree.specs.Spelling.{spelling}
-use Rattle.body_fields.specs.declared.field.Field.{Field}
-use Rattle.body_fields.specs.Maps.{form_of}
-use Rattle.body_fields.specs.Forms.{IsOfForm}
-use Rattle.body_fields.specs.Bodies.{name_text, member_text, members_text, AreOfForms, Begins}
-use Rattle.body_fields.proofs.Depths.{IsValue, form_value, same_value}
+use Rattle.event_body.specs.declared.body_fields.field.Field.{Field}
+use Rattle.event_body.specs.BodyFields.Maps.{form_of}
+use Rattle.event_body.specs.BodyFields.Forms.{IsOfForm}
+use Rattle.event_body.specs.BodyFields.Bodies.{name_text, member_text, members_text, AreOfForms, Begins}
+use Rattle.event_body.proofs.BodyFieldsLemmas.Depths.{IsValue, form_value, same_value}
 
 member_whole : (field : Field) (value : Tree) (rest : List ℕ) → member_text field value ++ rest ≡ name_text field ++ (spelling value ++ rest)
 member_whole field value rest = append_assoc (name_text field) (spelling value) rest

@@ -3,10 +3,10 @@ use Rattle.std.proofs.Common.{◌≡◌, List, [], ◌∷◌, ◌++◌, map, ref
 use Rattle.json_tree.specs.declared.tree.Tree.{Tree}
 use Rattle.json_tree.specs.Spelling.{spelling, after_commas}
 use Rattle.json_tree.specs.Spelling as json
-use Rattle.body_fields.specs.declared.field.Field.{Field}
-use Rattle.body_fields.specs.Maps.{name_of}
-use Rattle.body_fields.specs.Bodies.{member_text, members_text}
-use Rattle.body_fields.specs.Objects.{named, further_members}
+use Rattle.event_body.specs.declared.body_fields.field.Field.{Field}
+use Rattle.event_body.specs.BodyFields.Maps.{name_of}
+use Rattle.event_body.specs.BodyFields.Bodies.{member_text, members_text}
+use Rattle.event_body.specs.BodyFields.Objects.{named, further_members}
 
 -- a further field with the comma before it
 one_member : (field : Field) (value : Tree) → 44 ∷ json.member_text (named (name_of field) value) ≡ member_text field value

@@ -4,17 +4,17 @@ use Rattle.std.specs.Fmt.{digit_glyph}
 use Rattle.std.specs.List.{AllByRecursion}
 use Rattle.std.proofs.Math.Nat.{pow-le-pow_right}
 use Rattle.std.proofs.lemmas.Bool.Decides.{nat_tests}
-use Rattle.keri_specs.specs.Hex.{is_hex, hex_digit, hex_value}
+use Rattle.lists.specs.KeriSpecs.Hex.{is_hex, hex_digit, hex_value}
 use Rattle.json_tree.specs.declared.tree.Tree.{Tree}
 use Rattle.json_tree.specs.declared.tree.Tree.TheVariants.{Str}
-use Rattle.body_fields.specs.declared.kind.Kind.{Kind}
-use Rattle.body_fields.specs.Versions.{IsSize, size_text, version_text}
-use Rattle.body_fields.specs.Forms.{IsNumberValue, number_value}
-use Rattle.body_fields.specs.Maps.{fields_of}
-use Rattle.body_fields.specs.Bodies.{kind_text, head_text, members_text, behind_version, body_text, AreOfForms, IsBody}
-use Rattle.body_fields.proofs.Depths.{IsValue}
-use Rattle.body_fields.proofs.Heads.{same_head}
-use Rattle.body_fields.proofs.Members.{same_members}
+use Rattle.event_body.specs.declared.body_fields.kind.Kind.{Kind}
+use Rattle.event_body.specs.BodyFields.Versions.{IsSize, size_text, version_text}
+use Rattle.event_body.specs.BodyFields.Forms.{IsNumberValue, number_value}
+use Rattle.event_body.specs.BodyFields.Maps.{fields_of}
+use Rattle.event_body.specs.BodyFields.Bodies.{kind_text, head_text, members_text, behind_version, body_text, AreOfForms, IsBody}
+use Rattle.event_body.proofs.BodyFieldsLemmas.Depths.{IsValue}
+use Rattle.event_body.proofs.BodyFieldsLemmas.Heads.{same_head}
+use Rattle.event_body.proofs.BodyFieldsLemmas.Members.{same_members}
 use Rattle.sith.proofs.Digits.{same_digits, value_low, printed}
 
 glyph_hex : (d : ℕ) → d < 16 → is_hex (digit_glyph false d) ≡ true

@@ -1,19 +1,19 @@
 -- A body is one kind and one list of values.
 use Rattle.std.proofs.Common.{◌≡◌, ◌⊎◌, ℕ, zero, suc, List, ◌++◌, refl, sym, ap, ◌∙◌, subst, append_assoc, codes, inl, inr, Result, Ok, Err}
 use Rattle.std.specs.Prelude.{IfOk, IfErr}
-use Rattle.keri_specs.specs.Hex.{hex_value}
+use Rattle.lists.specs.KeriSpecs.Hex.{hex_value}
 use Rattle.json_tree.specs.declared.tree.Tree.{Tree}
-use Rattle.body_fields.specs.declared.kind.Kind.{Kind}
-use Rattle.body_fields.specs.declared.fields.Fields.{Fields}
-use Rattle.body_fields.specs.declared.fields_fault.FieldsFault.{FieldsFault}
-use Rattle.body_fields.specs.declared.fields_fault.FieldsFault.TheVariants.{OtherSize, Ends, OutOfMemory}
-use Rattle.body_fields.specs.Maps.{fields_of}
-use Rattle.body_fields.specs.Versions.{version_text}
-use Rattle.body_fields.specs.Bodies.{kind_text, members_text, AreOfForms, IsBody, Stand}
-use Rattle.body_fields.specs.Faults.{IsFault}
-use Rattle.body_fields.proofs.Fronts.{same_version}
-use Rattle.body_fields.proofs.Heads.{same_head}
-use Rattle.body_fields.proofs.Members.{same_members, forms_values, all_begin}
+use Rattle.event_body.specs.declared.body_fields.kind.Kind.{Kind}
+use Rattle.event_body.specs.declared.body_fields.fields.Fields.{Fields}
+use Rattle.event_body.specs.declared.body_fields.fields_fault.FieldsFault.{FieldsFault}
+use Rattle.event_body.specs.declared.body_fields.fields_fault.FieldsFault.TheVariants.{OtherSize, Ends, OutOfMemory}
+use Rattle.event_body.specs.BodyFields.Maps.{fields_of}
+use Rattle.event_body.specs.BodyFields.Versions.{version_text}
+use Rattle.event_body.specs.BodyFields.Bodies.{kind_text, members_text, AreOfForms, IsBody, Stand}
+use Rattle.event_body.specs.BodyFields.Faults.{IsFault}
+use Rattle.event_body.proofs.BodyFieldsLemmas.Fronts.{same_version}
+use Rattle.event_body.proofs.BodyFieldsLemmas.Heads.{same_head}
+use Rattle.event_body.proofs.BodyFieldsLemmas.Members.{same_members, forms_values, all_begin}
 
 -- the text behind the version string and the kind
 abbrev behind : Kind → List Tree → List ℕ

@@ -6,8 +6,8 @@ use Rattle.cesr_codes.proofs.digest.Digest.TheSendSync as digest
 use Rattle.cesr_codes.proofs.key.Key.TheSendSync as key
 use Rattle.cesr_codes.proofs.prefix.Prefix.TheSendSync as prefix
 use Rattle.sith.proofs.threshold.Threshold.TheSendSync as threshold
-use Rattle.lists.proofs.items.Items.TheSendSync as items
-use Rattle.lists.specs.contracts.items.Items as row
+use Rattle.lists.proofs.lists.items.Items.TheSendSync as items
+use Rattle.lists.specs.contracts.lists.items.Items as row
 use Rattle.std.specs.contracts.option.Option as option
 use Rattle.std.proofs.option.Option.TheSendSync as options
 use Rattle.cesr_codes.specs.contracts.digest.Digest as digests
@@ -15,11 +15,11 @@ use Rattle.cesr_codes.specs.contracts.key.Key as keys
 use Rattle.cesr_codes.specs.contracts.prefix.Prefix as prefixes
 use Rattle.json_tree.specs.contracts.tree.Tree as trees
 use Rattle.json_tree.proofs.Crosses.{tree_send}
-use Rattle.event_body.specs.contracts.event.Event as event
-use Rattle.event_body.specs.contracts.inception.Inception as inception
-use Rattle.event_body.specs.contracts.rotation.Rotation as rotation
-use Rattle.event_body.specs.contracts.interaction.Interaction as interaction
-use Rattle.event_body.specs.contracts.receipt_body.ReceiptBody as receipt
+use Rattle.event_body.specs.contracts.event_body.event.Event as event
+use Rattle.event_body.specs.contracts.event_body.inception.Inception as inception
+use Rattle.event_body.specs.contracts.event_body.rotation.Rotation as rotation
+use Rattle.event_body.specs.contracts.event_body.interaction.Interaction as interaction
+use Rattle.event_body.specs.contracts.event_body.receipt_body.ReceiptBody as receipt
 
 text_send : IsSend (row.the_row u8)
 text_send = items.the_send u8 (search sendable)

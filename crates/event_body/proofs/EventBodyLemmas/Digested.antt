@@ -7,17 +7,17 @@ use Rattle.json_tree.specs.declared.tree.Tree.{Tree}
 use Rattle.json_tree.specs.declared.tree.Tree.TheVariants.{Str}
 use Rattle.json_tree.specs.Spelling.{spelling}
 use Rattle.said_digest.specs.Replaced.{placeholder}
-use Rattle.body_fields.specs.declared.kind.Kind.{Kind}
-use Rattle.body_fields.specs.declared.field.Field.{Field}
-use Rattle.body_fields.specs.Forms.{prefix_value}
-use Rattle.body_fields.specs.Maps.{fields_of}
-use Rattle.body_fields.specs.Versions.{size_text}
-use Rattle.body_fields.specs.Bodies.{kind_text, name_text, member_text, members_text, behind_version}
-use Rattle.body_fields.proofs.Texts.{size_of, text_long}
-use Rattle.event_body.specs.declared.event.Event.{Event}
-use Rattle.event_body.specs.Events.{prefix_of, said_of, hides_prefix}
-use Rattle.event_body.specs.Rules.{digested_values, digested_text}
-use Rattle.event_body.specs.Spelling.{body_kind, further_values, values_of, text_of}
+use Rattle.event_body.specs.declared.body_fields.kind.Kind.{Kind}
+use Rattle.event_body.specs.declared.body_fields.field.Field.{Field}
+use Rattle.event_body.specs.BodyFields.Forms.{prefix_value}
+use Rattle.event_body.specs.BodyFields.Maps.{fields_of}
+use Rattle.event_body.specs.BodyFields.Versions.{size_text}
+use Rattle.event_body.specs.BodyFields.Bodies.{kind_text, name_text, member_text, members_text, behind_version}
+use Rattle.event_body.proofs.BodyFieldsLemmas.Texts.{size_of, text_long}
+use Rattle.event_body.specs.declared.event_body.event.Event.{Event}
+use Rattle.event_body.specs.EventBody.Events.{prefix_of, said_of, hides_prefix}
+use Rattle.event_body.specs.EventBody.Rules.{digested_values, digested_text}
+use Rattle.event_body.specs.EventBody.Spelling.{body_kind, further_values, values_of, text_of}
 
 -- texts of one length stand for each other
 member_long : (field : Field) (a : List ℕ) → length (member_text field (Str a)) ≡ length (name_text field) + (length a + 2)

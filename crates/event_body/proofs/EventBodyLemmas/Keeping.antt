@@ -5,18 +5,18 @@ use Rattle.std.proofs.lemmas.List.{length-map}
 use Rattle.cesr_codes.specs.declared.prefix.Prefix.{Prefix}
 use Rattle.json_tree.specs.declared.tree.Tree.{Tree}
 use Rattle.json_tree.specs.declared.tree.Tree.TheVariants.{Str, List as TreeList}
-use Rattle.body_fields.specs.declared.field.Field.TheVariants.{Delegator}
-use Rattle.body_fields.specs.Bodies.{AreOfForms}
-use Rattle.body_fields.specs.Forms.{key_value, digest_value, keys_value, digests_value, strings_value}
-use Rattle.event_body.specs.declared.event.Event.{Event}
-use Rattle.event_body.specs.declared.event.Event.TheVariants.{Icp, Rot, Ixn, Dip, Drt, Rct}
-use Rattle.event_body.specs.declared.inception.Inception.{Inception}
-use Rattle.event_body.specs.declared.rotation.Rotation.{Rotation}
-use Rattle.event_body.specs.Kept.{IsKept, IsKeptInception, IsKeptRotation}
-use Rattle.event_body.specs.Ranges.{IsInception, IsRotation}
-use Rattle.event_body.specs.Spelling.{delegator_values}
-use Rattle.event_body.specs.Rules.{HasFewMembers, HasWitnesses, ChangesWitnesses}
-use Rattle.event_body.specs.Judging.{SpellsEvent}
+use Rattle.event_body.specs.declared.body_fields.field.Field.TheVariants.{Delegator}
+use Rattle.event_body.specs.BodyFields.Bodies.{AreOfForms}
+use Rattle.event_body.specs.BodyFields.Forms.{key_value, digest_value, keys_value, digests_value, strings_value}
+use Rattle.event_body.specs.declared.event_body.event.Event.{Event}
+use Rattle.event_body.specs.declared.event_body.event.Event.TheVariants.{Icp, Rot, Ixn, Dip, Drt, Rct}
+use Rattle.event_body.specs.declared.event_body.inception.Inception.{Inception}
+use Rattle.event_body.specs.declared.event_body.rotation.Rotation.{Rotation}
+use Rattle.event_body.specs.EventBody.Kept.{IsKept, IsKeptInception, IsKeptRotation}
+use Rattle.event_body.specs.EventBody.Ranges.{IsInception, IsRotation}
+use Rattle.event_body.specs.EventBody.Spelling.{delegator_values}
+use Rattle.event_body.specs.EventBody.Rules.{HasFewMembers, HasWitnesses, ChangesWitnesses}
+use Rattle.event_body.specs.EventBody.Judging.{SpellsEvent}
 
 -- a list of spellings has few members where the list of what they spell has
 few : {A : Type 0} (f : A → Tree) (xs : List A) → HasFewMembers (TreeList (map f xs)) → length xs ≤ 64

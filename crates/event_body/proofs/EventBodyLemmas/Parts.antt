@@ -2,7 +2,7 @@
 use Rattle.std.proofs.Common.{◌≡◌, ℕ, ◌^◌, ◌<◌, false, List, [], ◌++◌, refl, sym, ap, subst, ◌∙◌, Option, Some, None}
 use Rattle.std.specs.Prelude.{IfSome}
 use Rattle.std.specs.Fmt.{digits}
-use Rattle.keri_specs.specs.Hex.{hex_value}
+use Rattle.lists.specs.KeriSpecs.Hex.{hex_value}
 use Rattle.cesr_codes.specs.declared.digest.Digest.{Digest}
 use Rattle.cesr_codes.specs.declared.key.Key.{Key}
 use Rattle.cesr_codes.specs.declared.prefix.Prefix.{Prefix}
@@ -14,17 +14,17 @@ use Rattle.sith.specs.Thresholds.{Spells, threshold_value}
 use Rattle.sith.proofs.Numerals.{hex_is}
 use Rattle.sith.proofs.OneThreshold.{one_threshold, text_injective}
 use Rattle.sith.proofs.Values.{list_injective}
-use Rattle.body_fields.specs.Forms.{digest_value, key_value, prefix_value, number_value}
-use Rattle.event_body.specs.declared.event.Event.{Event}
-use Rattle.event_body.specs.declared.event.Event.TheVariants.{Icp, Rot, Ixn, Dip, Drt, Rct}
-use Rattle.event_body.specs.declared.inception.Inception.{Inception}
-use Rattle.event_body.specs.declared.rotation.Rotation.{Rotation}
-use Rattle.event_body.specs.declared.interaction.Interaction.{Interaction}
-use Rattle.event_body.specs.declared.receipt_body.ReceiptBody.{ReceiptBody}
-use Rattle.event_body.specs.Held.{IsHeld, IsHeldInception, IsHeldRotation, IsHeldInteraction, IsHeldReceipt}
-use Rattle.event_body.specs.Ranges.{AreInRange, IsInception, IsRotation, IsInteraction, IsReceipt}
-use Rattle.event_body.specs.Spelling.{body_kind, delegator_values, values_of}
-use Rattle.event_body.proofs.Values.{one_list, one_strings}
+use Rattle.event_body.specs.BodyFields.Forms.{digest_value, key_value, prefix_value, number_value}
+use Rattle.event_body.specs.declared.event_body.event.Event.{Event}
+use Rattle.event_body.specs.declared.event_body.event.Event.TheVariants.{Icp, Rot, Ixn, Dip, Drt, Rct}
+use Rattle.event_body.specs.declared.event_body.inception.Inception.{Inception}
+use Rattle.event_body.specs.declared.event_body.rotation.Rotation.{Rotation}
+use Rattle.event_body.specs.declared.event_body.interaction.Interaction.{Interaction}
+use Rattle.event_body.specs.declared.event_body.receipt_body.ReceiptBody.{ReceiptBody}
+use Rattle.event_body.specs.EventBody.Held.{IsHeld, IsHeldInception, IsHeldRotation, IsHeldInteraction, IsHeldReceipt}
+use Rattle.event_body.specs.EventBody.Ranges.{AreInRange, IsInception, IsRotation, IsInteraction, IsReceipt}
+use Rattle.event_body.specs.EventBody.Spelling.{body_kind, delegator_values, values_of}
+use Rattle.event_body.proofs.EventBodyLemmas.Values.{one_list, one_strings}
 
 -- a string spells one primitive
 module _ {A : Type 0} (text : A → List ℕ) (IsValid : A → Type 0) (same : (a b : A) (r s : List ℕ) → IsValid a → IsValid b → text a ++ r ≡ text b ++ s → (a ≡ b) × (r ≡ s)) where

@@ -10,19 +10,19 @@ use Rattle.json_tree.specs.declared.tree.Tree.{Tree}
 use Rattle.json_tree.specs.declared.tree.Tree.TheVariants.{Str}
 use Rattle.said_digest.specs.Digests.{digest_of, said}
 use Rattle.said_digest.specs.Replaced.{placeholder, with_placeholder, replaced, LieIn}
-use Rattle.body_fields.specs.declared.kind.Kind.{Kind}
-use Rattle.body_fields.specs.declared.kind.Kind.TheVariants as kinds
-use Rattle.body_fields.specs.declared.field.Field.{Field}
-use Rattle.body_fields.specs.declared.field.Field.TheVariants.{Said, Identifier}
-use Rattle.body_fields.specs.Bodies.{head_text, members_text}
-use Rattle.body_fields.specs.Maps.{kind_name, fields_of}
-use Rattle.event_body.specs.declared.event.Event.{Event}
-use Rattle.event_body.specs.declared.event.Event.TheVariants.{Icp, Rot, Ixn, Dip, Drt, Rct}
-use Rattle.body_fields.proofs.Texts.{size_of, headed}
-use Rattle.event_body.specs.Events.{said_of, prefix_of, is_receipt, hides_prefix, places_of}
-use Rattle.event_body.specs.Spelling.{body_kind, further_values, values_of, text_of}
-use Rattle.event_body.specs.Rules.{digested_values, digested_text, IsDigested, HasSaid}
-use Rattle.event_body.proofs.Digested.{hidden_text, digested, same_size}
+use Rattle.event_body.specs.declared.body_fields.kind.Kind.{Kind}
+use Rattle.event_body.specs.declared.body_fields.kind.Kind.TheVariants as kinds
+use Rattle.event_body.specs.declared.body_fields.field.Field.{Field}
+use Rattle.event_body.specs.declared.body_fields.field.Field.TheVariants.{Said, Identifier}
+use Rattle.event_body.specs.BodyFields.Bodies.{head_text, members_text}
+use Rattle.event_body.specs.BodyFields.Maps.{kind_name, fields_of}
+use Rattle.event_body.specs.declared.event_body.event.Event.{Event}
+use Rattle.event_body.specs.declared.event_body.event.Event.TheVariants.{Icp, Rot, Ixn, Dip, Drt, Rct}
+use Rattle.event_body.proofs.BodyFieldsLemmas.Texts.{size_of, headed}
+use Rattle.event_body.specs.EventBody.Events.{said_of, prefix_of, is_receipt, hides_prefix, places_of}
+use Rattle.event_body.specs.EventBody.Spelling.{body_kind, further_values, values_of, text_of}
+use Rattle.event_body.specs.EventBody.Rules.{digested_values, digested_text, IsDigested, HasSaid}
+use Rattle.event_body.proofs.EventBodyLemmas.Digested.{hidden_text, digested, same_size}
 
 -- the fields behind the first two
 further : List Field → List Field

@@ -2,7 +2,7 @@
 use Rattle.std.proofs.Common.{◌≡◌, ◌≢◌, ◌⊎◌, ℕ, List, [], ◌∷◌, length, map, false, codes, refl, sym, ap, subst, ◌∙◌, arith, inl, inr, Ok, Err, Result}
 use Rattle.std.specs.List.{AllByRecursion}
 use Rattle.std.proofs.lemmas.Fmt.{hex_one_digit}
-use Rattle.keri_specs.specs.Hex.{hex_value}
+use Rattle.lists.specs.KeriSpecs.Hex.{hex_value}
 use Rattle.std.proofs.lemmas.List.{length-map}
 use Rattle.json_tree.specs.declared.tree.Tree.{Tree}
 use Rattle.json_tree.specs.declared.tree.Tree.TheVariants.{Str, List as TreeList}
@@ -15,10 +15,10 @@ use Rattle.sith.specs.Thresholds.{Spells}
 use Rattle.sith.specs.Rules.{IsReadFor}
 use Rattle.sith.proofs.OneThreshold.{text_injective}
 use Rattle.sith.proofs.Values.{list_injective}
-use Rattle.body_fields.specs.declared.form.Form.TheVariants.{Strings, Values}
-use Rattle.body_fields.specs.Forms.{IsOfForm, IsNumberValue, strings_value, number_value}
-use Rattle.body_fields.proofs.Texts.{number_is}
-use Rattle.event_body.specs.Rules.{HasFewDigits, IsThresholdOf}
+use Rattle.event_body.specs.declared.body_fields.form.Form.TheVariants.{Strings, Values}
+use Rattle.event_body.specs.BodyFields.Forms.{IsOfForm, IsNumberValue, strings_value, number_value}
+use Rattle.event_body.proofs.BodyFieldsLemmas.Texts.{number_is}
+use Rattle.event_body.specs.EventBody.Rules.{HasFewDigits, IsThresholdOf}
 
 -- a list of the spellings of values has as many members
 pub length_listed : {A : Type 0} (f : A → Tree) (members : List Tree) (xs : List A) → TreeList members ≡ TreeList (map f xs) → length members ≡ length xs

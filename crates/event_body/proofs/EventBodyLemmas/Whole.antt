@@ -1,24 +1,24 @@
 -- What is spelled is read, and each list of bytes spells one event at most.
 use Rattle.std.proofs.Common.{◌≡◌, ℕ, ◌^◌, ◌<◌, ◌≤◌, ◌≢◌, ◌⊎◌, List, length, refl, sym, ap, subst, arith, inl, inr, Ok, Err, Result}
 use Rattle.json_tree.specs.declared.tree.Tree.{Tree}
-use Rattle.body_fields.specs.declared.kind.Kind.{Kind}
-use Rattle.body_fields.specs.declared.fields_fault.FieldsFault.TheVariants.{OtherSize, Ends}
-use Rattle.body_fields.specs.Faults.{IsFault}
-use Rattle.body_fields.specs.declared.fields_fault.FieldsFault.{FieldsFault}
-use Rattle.body_fields.specs.declared.fields_fault.FieldsFault.TheVariants as no_fields
-use Rattle.body_fields.specs.Bodies.{IsBody}
-use Rattle.body_fields.proofs.Texts.{is_body, text_is}
-use Rattle.body_fields.proofs.Whole as bodies
-use Rattle.event_body.specs.declared.event.Event.{Event}
-use Rattle.event_body.specs.declared.body_fault.BodyFault.{BodyFault}
-use Rattle.event_body.specs.declared.body_fault.BodyFault.TheVariants.{Field, SizeField, Said, Prefix, Threshold, Witnesses, TooMany, NumberTooLarge, TooLarge}
-use Rattle.event_body.specs.declared.body_fault.ReadBody.{ReadBody}
-use Rattle.event_body.specs.declared.body_fault.ReadBody.TheVariants.{Fault, OutOfMemory}
-use Rattle.event_body.specs.Ranges.{AreInRange}
-use Rattle.event_body.specs.Spelling.{body_kind, values_of}
-use Rattle.event_body.specs.Rules.{AreFew, AreShort, HasThresholds, AreWitnesses, HasPrefix, HasSaid}
-use Rattle.event_body.specs.Judging.{HasEvent, SpellsEvent, IsFirstFault, Judges}
-use Rattle.event_body.proofs.Parts as parts
+use Rattle.event_body.specs.declared.body_fields.kind.Kind.{Kind}
+use Rattle.event_body.specs.declared.body_fields.fields_fault.FieldsFault.TheVariants.{OtherSize, Ends}
+use Rattle.event_body.specs.BodyFields.Faults.{IsFault}
+use Rattle.event_body.specs.declared.body_fields.fields_fault.FieldsFault.{FieldsFault}
+use Rattle.event_body.specs.declared.body_fields.fields_fault.FieldsFault.TheVariants as no_fields
+use Rattle.event_body.specs.BodyFields.Bodies.{IsBody}
+use Rattle.event_body.proofs.BodyFieldsLemmas.Texts.{is_body, text_is}
+use Rattle.event_body.proofs.BodyFieldsLemmas.Whole as bodies
+use Rattle.event_body.specs.declared.event_body.event.Event.{Event}
+use Rattle.event_body.specs.declared.event_body.body_fault.BodyFault.{BodyFault}
+use Rattle.event_body.specs.declared.event_body.body_fault.BodyFault.TheVariants.{Field, SizeField, Said, Prefix, Threshold, Witnesses, TooMany, NumberTooLarge, TooLarge}
+use Rattle.event_body.specs.declared.event_body.body_fault.ReadBody.{ReadBody}
+use Rattle.event_body.specs.declared.event_body.body_fault.ReadBody.TheVariants.{Fault, OutOfMemory}
+use Rattle.event_body.specs.EventBody.Ranges.{AreInRange}
+use Rattle.event_body.specs.EventBody.Spelling.{body_kind, values_of}
+use Rattle.event_body.specs.EventBody.Rules.{AreFew, AreShort, HasThresholds, AreWitnesses, HasPrefix, HasSaid}
+use Rattle.event_body.specs.EventBody.Judging.{HasEvent, SpellsEvent, IsFirstFault, Judges}
+use Rattle.event_body.proofs.EventBodyLemmas.Parts as parts
 
 -- a body has no fault in its form
 no_form_fault : (kind : Kind) (values : List Tree) (bytes : List ℕ) → IsBody kind values bytes → (fault : FieldsFault) → fault ≢ no_fields.OutOfMemory → ¬ IsFault bytes fault

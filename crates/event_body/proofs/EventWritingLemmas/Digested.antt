@@ -5,16 +5,16 @@ use Rattle.cesr_codes.specs.declared.prefix.Prefix.{Prefix}
 use Rattle.cesr_codes.specs.declared.prefix.Prefix.TheVariants.{Basic, Said}
 use Rattle.json_tree.specs.declared.tree.Tree.TheVariants.{Str}
 use Rattle.said_digest.specs.Replaced.{placeholder}
-use Rattle.body_fields.specs.Bodies.{body_text}
-use Rattle.body_fields.specs.declared.kind.Kind.TheVariants as kinds
-use Rattle.body_fields.specs.Forms.{prefix_value}
-use Rattle.event_body.specs.declared.event.Event.{Event}
-use Rattle.event_body.specs.declared.event.Event.TheVariants.{Icp, Rot, Ixn, Dip, Drt, Rct}
-use Rattle.event_body.specs.Events.{is_said}
-use Rattle.event_body.specs.Rules.{digested_text}
-use Rattle.event_body.specs.Spelling.{further_values, text_of}
-use Rattle.event_body.proofs.Digested.{as_long}
-use Rattle.event_writing.specs.Sealed.{sealed_prefix, with_digest}
+use Rattle.event_body.specs.BodyFields.Bodies.{body_text}
+use Rattle.event_body.specs.declared.body_fields.kind.Kind.TheVariants as kinds
+use Rattle.event_body.specs.BodyFields.Forms.{prefix_value}
+use Rattle.event_body.specs.declared.event_body.event.Event.{Event}
+use Rattle.event_body.specs.declared.event_body.event.Event.TheVariants.{Icp, Rot, Ixn, Dip, Drt, Rct}
+use Rattle.event_body.specs.EventBody.Events.{is_said}
+use Rattle.event_body.specs.EventBody.Rules.{digested_text}
+use Rattle.event_body.specs.EventBody.Spelling.{further_values, text_of}
+use Rattle.event_body.proofs.EventBodyLemmas.Digested.{as_long}
+use Rattle.event_body.specs.EventWriting.Sealed.{sealed_prefix, with_digest}
 
 hidden_sealed : (p : Prefix) (digest : Digest) → (if is_said (sealed_prefix p digest) then Str placeholder else prefix_value (sealed_prefix p digest)) ≡ (if is_said p then Str placeholder else prefix_value p)
 hidden_sealed (Basic key) digest = refl

@@ -18,19 +18,19 @@ use Rattle.sith.specs.OwnValues.{HasOwnValue}
 use Rattle.sith.specs.Thresholds.{threshold_value}
 use Rattle.sith.proofs.Numerals.{hex_is}
 use Rattle.sith.proofs.Plain.{number_string, plain_string}
-use Rattle.body_fields.specs.Forms.{digest_value, key_value, prefix_value, number_value, keys_value, digests_value, strings_value}
-use Rattle.body_fields.specs.Maps.{fields_of}
-use Rattle.body_fields.proofs.Depths.{IsValue}
-use Rattle.body_fields.proofs.Plain.{digest_string, key_string, prefix_string}
-use Rattle.event_body.specs.declared.event.Event.{Event}
-use Rattle.event_body.specs.declared.event.Event.TheVariants.{Icp, Rot, Ixn, Dip, Drt, Rct}
-use Rattle.event_body.specs.declared.inception.Inception.{Inception}
-use Rattle.event_body.specs.declared.rotation.Rotation.{Rotation}
-use Rattle.event_body.specs.Events.{prefix_of, said_of, hides_prefix}
-use Rattle.event_body.specs.Held.{IsHeld, IsHeldInception, IsHeldRotation}
-use Rattle.event_body.specs.Rules.{digested_values}
-use Rattle.event_body.specs.Spelling.{body_kind, delegator_values, inception_values, rotation_values, further_values, values_of}
-use Rattle.event_writing.specs.Writable.{IsWritable, HasOwnThresholds}
+use Rattle.event_body.specs.BodyFields.Forms.{digest_value, key_value, prefix_value, number_value, keys_value, digests_value, strings_value}
+use Rattle.event_body.specs.BodyFields.Maps.{fields_of}
+use Rattle.event_body.proofs.BodyFieldsLemmas.Depths.{IsValue}
+use Rattle.event_body.proofs.BodyFieldsLemmas.Plain.{digest_string, key_string, prefix_string}
+use Rattle.event_body.specs.declared.event_body.event.Event.{Event}
+use Rattle.event_body.specs.declared.event_body.event.Event.TheVariants.{Icp, Rot, Ixn, Dip, Drt, Rct}
+use Rattle.event_body.specs.declared.event_body.inception.Inception.{Inception}
+use Rattle.event_body.specs.declared.event_body.rotation.Rotation.{Rotation}
+use Rattle.event_body.specs.EventBody.Events.{prefix_of, said_of, hides_prefix}
+use Rattle.event_body.specs.EventBody.Held.{IsHeld, IsHeldInception, IsHeldRotation}
+use Rattle.event_body.specs.EventBody.Rules.{digested_values}
+use Rattle.event_body.specs.EventBody.Spelling.{body_kind, delegator_values, inception_values, rotation_values, further_values, values_of}
+use Rattle.event_body.specs.EventWriting.Writable.{IsWritable, HasOwnThresholds}
 
 string_value : (text : List ℕ) → IsString text → IsValue (Str text)
 string_value text is = (is, inl (text, refl))

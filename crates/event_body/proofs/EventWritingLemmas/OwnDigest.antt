@@ -7,22 +7,22 @@ use Rattle.cesr_codes.specs.declared.prefix.Prefix.{Prefix}
 use Rattle.cesr_codes.specs.declared.prefix.Prefix.TheVariants.{Basic, Said as SaidPrefix}
 use Rattle.cesr_codes.specs.Spelling.{IsDigest, IsPrefix}
 use Rattle.said_digest.specs.Digests.{digest_of}
-use Rattle.event_body.specs.declared.event.Event.{Event}
-use Rattle.event_body.specs.declared.event.Event.TheVariants.{Icp, Rot, Ixn, Dip, Drt, Rct}
-use Rattle.event_body.specs.declared.inception.Inception.{Inception}
-use Rattle.event_body.specs.declared.rotation.Rotation.{Rotation}
-use Rattle.event_body.specs.declared.body_fault.BodyFault.TheVariants.{Said, TooLarge}
-use Rattle.event_body.specs.declared.body_fault.ReadBody.{ReadBody}
-use Rattle.event_body.specs.declared.body_fault.ReadBody.TheVariants.{Fault, OutOfMemory}
-use Rattle.event_body.specs.Held.{IsHeld, IsHeldInception, IsHeldRotation}
-use Rattle.event_body.specs.Judging.{IsFirstFault, IsSpelled}
-use Rattle.event_body.specs.Rules.{digested_text, HasSaid}
-use Rattle.event_body.specs.Spelling.{text_of}
-use Rattle.event_writing.specs.Faults.{IsFaultOf, IsLengthFault}
-use Rattle.event_writing.specs.Sealed.{sealed_prefix, with_digest, digest_in, sealed_event}
-use Rattle.event_writing.specs.Writable.{IsWritable, HasOwnThresholds}
-use Rattle.event_writing.proofs.Digested.{same_digested}
-use Rattle.event_writing.proofs.Read.{event_again, no_other}
+use Rattle.event_body.specs.declared.event_body.event.Event.{Event}
+use Rattle.event_body.specs.declared.event_body.event.Event.TheVariants.{Icp, Rot, Ixn, Dip, Drt, Rct}
+use Rattle.event_body.specs.declared.event_body.inception.Inception.{Inception}
+use Rattle.event_body.specs.declared.event_body.rotation.Rotation.{Rotation}
+use Rattle.event_body.specs.declared.event_body.body_fault.BodyFault.TheVariants.{Said, TooLarge}
+use Rattle.event_body.specs.declared.event_body.body_fault.ReadBody.{ReadBody}
+use Rattle.event_body.specs.declared.event_body.body_fault.ReadBody.TheVariants.{Fault, OutOfMemory}
+use Rattle.event_body.specs.EventBody.Held.{IsHeld, IsHeldInception, IsHeldRotation}
+use Rattle.event_body.specs.EventBody.Judging.{IsFirstFault, IsSpelled}
+use Rattle.event_body.specs.EventBody.Rules.{digested_text, HasSaid}
+use Rattle.event_body.specs.EventBody.Spelling.{text_of}
+use Rattle.event_body.specs.EventWriting.Faults.{IsFaultOf, IsLengthFault}
+use Rattle.event_body.specs.EventWriting.Sealed.{sealed_prefix, with_digest, digest_in, sealed_event}
+use Rattle.event_body.specs.EventWriting.Writable.{IsWritable, HasOwnThresholds}
+use Rattle.event_body.proofs.EventWritingLemmas.Digested.{same_digested}
+use Rattle.event_body.proofs.EventWritingLemmas.Read.{event_again, no_other}
 
 -- the parts stay in the ranges of their types
 prefix_held : (prefix : Prefix) (digest : Digest) → IsPrefix prefix → IsDigest digest → IsPrefix (sealed_prefix prefix digest)

@@ -6,22 +6,22 @@ use Rattle.sith.specs.declared.threshold.Threshold.{Threshold}
 use Rattle.sith.specs.OwnValues.{HasOwnValue}
 use Rattle.sith.specs.Rules.{IsReadFor}
 use Rattle.sith.specs.Thresholds.{Spells, threshold_value}
-use Rattle.body_fields.specs.Maps.{fields_of}
-use Rattle.body_fields.proofs.Members.{forms_values}
-use Rattle.body_fields.proofs.Texts.{same_text}
-use Rattle.event_body.specs.declared.event.Event.{Event}
-use Rattle.event_body.specs.declared.event.Event.TheVariants.{Icp, Rot, Dip, Drt}
-use Rattle.event_body.specs.declared.body_fault.ReadBody.{ReadBody}
-use Rattle.event_body.specs.declared.body_fault.ReadBody.TheVariants.{Fault, OutOfMemory}
-use Rattle.event_body.specs.Held.{IsHeld}
-use Rattle.event_body.specs.Judging.{HasEvent, SpellsEvent, IsFirstFault, Judges}
-use Rattle.event_body.specs.Ranges.{AreInRange}
-use Rattle.event_body.specs.Spelling.{body_kind, values_of, text_of}
-use Rattle.event_body.proofs.Parts.{Matches, MatchThresholds, same_event}
-use Rattle.event_body.proofs.Whole.{no_fault}
-use Rattle.event_writing.specs.Faults.{IsFaultOf, IsLengthFault}
-use Rattle.event_writing.specs.Writable.{IsWritable, HasOwnThresholds}
-use Rattle.event_writing.proofs.JsonValues.{values_are, values_long}
+use Rattle.event_body.specs.BodyFields.Maps.{fields_of}
+use Rattle.event_body.proofs.BodyFieldsLemmas.Members.{forms_values}
+use Rattle.event_body.proofs.BodyFieldsLemmas.Texts.{same_text}
+use Rattle.event_body.specs.declared.event_body.event.Event.{Event}
+use Rattle.event_body.specs.declared.event_body.event.Event.TheVariants.{Icp, Rot, Dip, Drt}
+use Rattle.event_body.specs.declared.event_body.body_fault.ReadBody.{ReadBody}
+use Rattle.event_body.specs.declared.event_body.body_fault.ReadBody.TheVariants.{Fault, OutOfMemory}
+use Rattle.event_body.specs.EventBody.Held.{IsHeld}
+use Rattle.event_body.specs.EventBody.Judging.{HasEvent, SpellsEvent, IsFirstFault, Judges}
+use Rattle.event_body.specs.EventBody.Ranges.{AreInRange}
+use Rattle.event_body.specs.EventBody.Spelling.{body_kind, values_of, text_of}
+use Rattle.event_body.proofs.EventBodyLemmas.Parts.{Matches, MatchThresholds, same_event}
+use Rattle.event_body.proofs.EventBodyLemmas.Whole.{no_fault}
+use Rattle.event_body.specs.EventWriting.Faults.{IsFaultOf, IsLengthFault}
+use Rattle.event_body.specs.EventWriting.Writable.{IsWritable, HasOwnThresholds}
+use Rattle.event_body.proofs.EventWritingLemmas.JsonValues.{values_are, values_long}
 
 matches : (t u : Threshold) (keys : ℕ) → Spells t (threshold_value t) → IsReadFor t keys → HasOwnValue u → Matches t u
 matches t u keys spells read own e = own.one t keys (subst (Spells t) e spells) read

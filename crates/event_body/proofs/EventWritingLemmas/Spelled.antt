@@ -3,12 +3,12 @@ use Rattle.std.proofs.Common.{ℕ, List, [], ◌∷◌}
 use Rattle.std.specs.List.{AllByRecursion}
 use Rattle.json_tree.specs.declared.tree.Tree.{Tree}
 use Rattle.json_tree.specs.Spelling.{IsJson, Fits}
-use Rattle.event_body.specs.declared.event.Event.{Event}
-use Rattle.event_body.specs.declared.event.Event.TheVariants.{Icp, Rot, Ixn, Dip, Drt, Rct}
-use Rattle.event_body.specs.Judging.{IsSpelled}
-use Rattle.event_body.specs.Kept.{IsKept}
-use Rattle.event_body.proofs.Keeping.{kept}
-use Rattle.event_writing.specs.Writable.{IsWritable}
+use Rattle.event_body.specs.declared.event_body.event.Event.{Event}
+use Rattle.event_body.specs.declared.event_body.event.Event.TheVariants.{Icp, Rot, Ixn, Dip, Drt, Rct}
+use Rattle.event_body.specs.EventBody.Judging.{IsSpelled}
+use Rattle.event_body.specs.EventBody.Kept.{IsKept}
+use Rattle.event_body.proofs.EventBodyLemmas.Keeping.{kept}
+use Rattle.event_body.specs.EventWriting.Writable.{IsWritable}
 
 fit_json : (n : ℕ) (values : List Tree) → AllByRecursion (Fits n) values → AllByRecursion IsJson values
 fit_json n [] all = tt

@@ -1,13 +1,13 @@
 -- A body as a JSON object: what it is, and how far bytes are one.
 use Rattle.std.specs.Prelude.{◌+◌, ◌≡◌, ℕ, zero, suc, List, [], ◌∷◌, ◌++◌, length, codes}
-use Rattle.keri_specs.specs.Hex.{hex_value}
+use Rattle.lists.specs.KeriSpecs.Hex.{hex_value}
 use Rattle.json_tree.specs.declared.tree.Tree.{Tree}
 use Rattle.json_tree.specs.Spelling.{spelling}
-use Rattle.body_fields.specs.declared.kind.Kind.{Kind}
-use Rattle.body_fields.specs.declared.field.Field.{Field}
-use Rattle.body_fields.specs.Versions.{IsSize, size_text, version_text}
-use Rattle.body_fields.specs.Maps.{kind_name, name_of, form_of, fields_of}
-use Rattle.body_fields.specs.Forms.{IsOfForm}
+use Rattle.event_body.specs.declared.body_fields.kind.Kind.{Kind}
+use Rattle.event_body.specs.declared.body_fields.field.Field.{Field}
+use Rattle.event_body.specs.BodyFields.Versions.{IsSize, size_text, version_text}
+use Rattle.event_body.specs.BodyFields.Maps.{kind_name, name_of, form_of, fields_of}
+use Rattle.event_body.specs.BodyFields.Forms.{IsOfForm}
 
 -- the kind, behind a comma
 abbrev pub kind_text : Kind → List ℕ

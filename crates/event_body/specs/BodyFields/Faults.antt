@@ -1,12 +1,12 @@
 -- What reading a body finds.
 use Rattle.std.specs.Prelude.{◌≡◌, ℕ, suc, ◌+◌, List, ◌++◌, codes}
 use Rattle.json_tree.specs.declared.tree.Tree.{Tree}
-use Rattle.body_fields.specs.declared.kind.Kind.{Kind}
-use Rattle.body_fields.specs.declared.fields_fault.FieldsFault.{FieldsFault}
-use Rattle.body_fields.specs.declared.fields_fault.FieldsFault.TheVariants.{OtherSize, Ends, OutOfMemory}
-use Rattle.body_fields.specs.Versions.{HasOtherSize}
-use Rattle.body_fields.specs.Maps.{fields_of}
-use Rattle.body_fields.specs.Bodies.{AreOfForms, members_text, Begins, EndsAt}
+use Rattle.event_body.specs.declared.body_fields.kind.Kind.{Kind}
+use Rattle.event_body.specs.declared.body_fields.fields_fault.FieldsFault.{FieldsFault}
+use Rattle.event_body.specs.declared.body_fields.fields_fault.FieldsFault.TheVariants.{OtherSize, Ends, OutOfMemory}
+use Rattle.event_body.specs.BodyFields.Versions.{HasOtherSize}
+use Rattle.event_body.specs.BodyFields.Maps.{fields_of}
+use Rattle.event_body.specs.BodyFields.Bodies.{AreOfForms, members_text, Begins, EndsAt}
 
 -- The first rule that the bytes fail. The size is looked at before the fields.
 abbrev pub IsFault : List ℕ → FieldsFault → Type 0

@@ -2,7 +2,7 @@
 use Rattle.std.specs.Prelude.{◌≡◌, ◌≢◌, ◌⊎◌, ℕ, false, List, map, codes}
 use Rattle.std.specs.Fmt.{digits}
 use Rattle.std.specs.List.{AllByRecursion}
-use Rattle.keri_specs.specs.Hex.{IsHexNumber}
+use Rattle.lists.specs.KeriSpecs.Hex.{IsHexNumber}
 use Rattle.cesr_codes.specs.declared.digest.Digest.{Digest}
 use Rattle.cesr_codes.specs.declared.key.Key.{Key}
 use Rattle.cesr_codes.specs.declared.key.KeyCode.TheVariants.{Fixed}
@@ -12,8 +12,8 @@ use Rattle.json_tree.specs.declared.tree.Tree.{Tree}
 use Rattle.json_tree.specs.declared.tree.Tree.TheVariants.{Str, List as TreeList}
 use Rattle.json_tree.specs.Spelling.{Fits}
 use Rattle.json_tree.specs.Strings.{IsString}
-use Rattle.body_fields.specs.declared.form.Form.{Form}
-use Rattle.body_fields.specs.declared.form.Form.TheVariants.{Digest as OneDigest, Prefix as OnePrefix, Zero, Positive, Number, Threshold, Keys, FixedKeys, Digests, Strings, Values}
+use Rattle.event_body.specs.declared.body_fields.form.Form.{Form}
+use Rattle.event_body.specs.declared.body_fields.form.Form.TheVariants.{Digest as OneDigest, Prefix as OnePrefix, Zero, Positive, Number, Threshold, Keys, FixedKeys, Digests, Strings, Values}
 
 -- a digest, a key and an identifier as strings
 abbrev pub digest_value : Digest → Tree

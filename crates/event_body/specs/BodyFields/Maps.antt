@@ -1,12 +1,12 @@
 -- The field maps of bodies (KERI: field maps of key event messages; this project's profile): which fields a kind has
 -- behind `v` and `t`, in which order, and what may stand in each.
 use Rattle.std.specs.Prelude.{ℕ, List, [], ◌∷◌, codes}
-use Rattle.body_fields.specs.declared.kind.Kind.{Kind}
-use Rattle.body_fields.specs.declared.kind.Kind.TheVariants.{Icp, Rot, Ixn, Dip, Drt, Rct}
-use Rattle.body_fields.specs.declared.field.Field.{Field}
-use Rattle.body_fields.specs.declared.field.Field.TheVariants.{Said, Identifier, First, Later, Any, Prior, KeysThreshold, Keys, NextThreshold, Next, Toad, Witnesses, Cuts, Adds, Traits, Anchors, Delegator}
-use Rattle.body_fields.specs.declared.form.Form.{Form}
-use Rattle.body_fields.specs.declared.form.Form.TheVariants.{Digest, Prefix, Zero, Positive, Number, Threshold, Keys as KeyList, FixedKeys, Digests, Strings, Values}
+use Rattle.event_body.specs.declared.body_fields.kind.Kind.{Kind}
+use Rattle.event_body.specs.declared.body_fields.kind.Kind.TheVariants.{Icp, Rot, Ixn, Dip, Drt, Rct}
+use Rattle.event_body.specs.declared.body_fields.field.Field.{Field}
+use Rattle.event_body.specs.declared.body_fields.field.Field.TheVariants.{Said, Identifier, First, Later, Any, Prior, KeysThreshold, Keys, NextThreshold, Next, Toad, Witnesses, Cuts, Adds, Traits, Anchors, Delegator}
+use Rattle.event_body.specs.declared.body_fields.form.Form.{Form}
+use Rattle.event_body.specs.declared.body_fields.form.Form.TheVariants.{Digest, Prefix, Zero, Positive, Number, Threshold, Keys as KeyList, FixedKeys, Digests, Strings, Values}
 
 -- the kind as a body writes it
 abbrev pub kind_name : Kind → List ℕ

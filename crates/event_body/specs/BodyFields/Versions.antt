@@ -2,7 +2,7 @@
 use Rattle.std.specs.Prelude.{◌≡◌, ◌≢◌, ◌/◌, ◌%◌, ℕ, true, false, List, [], ◌∷◌, ◌++◌, length, codes}
 use Rattle.std.specs.Fmt.{digit_glyph}
 use Rattle.std.specs.List.{list_all}
-use Rattle.keri_specs.specs.Hex.{is_hex, hex_value}
+use Rattle.lists.specs.KeriSpecs.Hex.{is_hex, hex_value}
 
 -- six lower-case hexadecimal digits
 abbrev pub IsSize : List ℕ → Type 0

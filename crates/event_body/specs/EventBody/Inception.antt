@@ -5,7 +5,7 @@ use Rattle.cesr_codes.specs.declared.digest.Digest.{Digest}
 use Rattle.cesr_codes.specs.declared.key.Key.{Key}
 use Rattle.cesr_codes.specs.declared.prefix.Prefix.TheVariants.{Said}
 use Rattle.sith.specs.declared.threshold.Threshold.TheVariants.{Count}
-use Rattle.event_body.specs.declared.inception.Inception.{Inception}
+use Rattle.event_body.specs.declared.event_body.inception.Inception.{Inception}
 
 -- one key and one next key, each with the threshold 1, and nothing else; the prefix is the digest
 abbrev pub one_key_inception : Digest → Key → Digest → Inception

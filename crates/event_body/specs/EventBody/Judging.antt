@@ -3,18 +3,18 @@ use Rattle.std.specs.Prelude.{◌≡◌, ℕ, ◌<◌, ◌≤◌, ◌^◌, List,
 use Rattle.std.specs.declared.result.Result.{Result}
 use Rattle.std.specs.declared.result.Result.TheVariants.{Ok, Err}
 use Rattle.json_tree.specs.declared.tree.Tree.{Tree}
-use Rattle.body_fields.specs.declared.kind.Kind.{Kind}
-use Rattle.body_fields.specs.Versions.{HasOtherSize}
-use Rattle.body_fields.specs.Bodies.{IsBody, EndsAt, AreOfForms}
-use Rattle.body_fields.specs.Maps.{fields_of}
-use Rattle.event_body.specs.Ranges.{AreInRange}
-use Rattle.event_body.specs.Spelling.{body_kind, values_of, text_of}
-use Rattle.event_body.specs.Rules.{AreFew, AreShort, HasThresholds, AreWitnesses, HasPrefix, HasSaid}
-use Rattle.event_body.specs.declared.event.Event.{Event}
-use Rattle.event_body.specs.declared.body_fault.BodyFault.{BodyFault}
-use Rattle.event_body.specs.declared.body_fault.BodyFault.TheVariants.{Field, SizeField, Said, Prefix, Threshold, Witnesses, TooMany, NumberTooLarge, TooLarge}
-use Rattle.event_body.specs.declared.body_fault.ReadBody.{ReadBody}
-use Rattle.event_body.specs.declared.body_fault.ReadBody.TheVariants.{Fault, OutOfMemory}
+use Rattle.event_body.specs.declared.body_fields.kind.Kind.{Kind}
+use Rattle.event_body.specs.BodyFields.Versions.{HasOtherSize}
+use Rattle.event_body.specs.BodyFields.Bodies.{IsBody, EndsAt, AreOfForms}
+use Rattle.event_body.specs.BodyFields.Maps.{fields_of}
+use Rattle.event_body.specs.EventBody.Ranges.{AreInRange}
+use Rattle.event_body.specs.EventBody.Spelling.{body_kind, values_of, text_of}
+use Rattle.event_body.specs.EventBody.Rules.{AreFew, AreShort, HasThresholds, AreWitnesses, HasPrefix, HasSaid}
+use Rattle.event_body.specs.declared.event_body.event.Event.{Event}
+use Rattle.event_body.specs.declared.event_body.body_fault.BodyFault.{BodyFault}
+use Rattle.event_body.specs.declared.event_body.body_fault.BodyFault.TheVariants.{Field, SizeField, Said, Prefix, Threshold, Witnesses, TooMany, NumberTooLarge, TooLarge}
+use Rattle.event_body.specs.declared.event_body.body_fault.ReadBody.{ReadBody}
+use Rattle.event_body.specs.declared.event_body.body_fault.ReadBody.TheVariants.{Fault, OutOfMemory}
 
 -- The bytes are the event's text, whose values are of their forms, and no rule of the values fails. The version string
 -- has six digits for the size.

@@ -1,11 +1,11 @@
 -- What is true of each event that a body spells (this project's profile).
 use Rattle.std.specs.Prelude.{◌≡◌, ◌≢◌, ◌≤◌, [], length, None, IsSome}
-use Rattle.event_body.specs.declared.event.Event.{Event}
-use Rattle.event_body.specs.declared.event.Event.TheVariants.{Icp, Rot, Ixn, Dip, Drt, Rct}
-use Rattle.event_body.specs.declared.inception.Inception.{Inception}
-use Rattle.event_body.specs.declared.rotation.Rotation.{Rotation}
-use Rattle.event_body.specs.Ranges.{IsInception, IsRotation, IsInteraction, IsReceipt}
-use Rattle.event_body.specs.Rules.{HasWitnesses, ChangesWitnesses}
+use Rattle.event_body.specs.declared.event_body.event.Event.{Event}
+use Rattle.event_body.specs.declared.event_body.event.Event.TheVariants.{Icp, Rot, Ixn, Dip, Drt, Rct}
+use Rattle.event_body.specs.declared.event_body.inception.Inception.{Inception}
+use Rattle.event_body.specs.declared.event_body.rotation.Rotation.{Rotation}
+use Rattle.event_body.specs.EventBody.Ranges.{IsInception, IsRotation, IsInteraction, IsReceipt}
+use Rattle.event_body.specs.EventBody.Rules.{HasWitnesses, ChangesWitnesses}
 
 -- an inception's parts are in their ranges, it has a key, no list has more than 64 members, and the rule of witnesses
 -- is kept

@@ -5,11 +5,11 @@ use Rattle.cesr_codes.specs.Spelling.{IsDigest, IsKey}
 use Rattle.json_tree.specs.declared.tree.Tree.{Tree}
 use Rattle.sith.specs.Rules.{IsReadFor}
 use Rattle.sith.specs.Thresholds.{Spells, threshold_value}
-use Rattle.body_fields.specs.Forms.{keys_value, digests_value}
-use Rattle.event_body.specs.declared.key_set.KeySet.{KeySet}
-use Rattle.event_body.specs.declared.body_fault.BodyFault.TheVariants.{Threshold}
-use Rattle.event_body.specs.declared.body_fault.ReadBody.{ReadBody}
-use Rattle.event_body.specs.declared.body_fault.ReadBody.TheVariants.{Fault, OutOfMemory}
+use Rattle.event_body.specs.BodyFields.Forms.{keys_value, digests_value}
+use Rattle.event_body.specs.declared.event_body.key_set.KeySet.{KeySet}
+use Rattle.event_body.specs.declared.event_body.body_fault.BodyFault.TheVariants.{Threshold}
+use Rattle.event_body.specs.declared.event_body.body_fault.ReadBody.{ReadBody}
+use Rattle.event_body.specs.declared.event_body.body_fault.ReadBody.TheVariants.{Fault, OutOfMemory}
 
 -- the thresholds aren't as this says, or there was no memory
 abbrev pub IsThresholdFault : Type 0 → ReadBody → Type 0

@@ -6,13 +6,13 @@ use Rattle.json_tree.specs.Spelling.{Fits}
 use Rattle.json_tree.specs.Strings.{IsString}
 use Rattle.sith.specs.Rules.{IsReadFor}
 use Rattle.sith.specs.Thresholds.{Spells, threshold_value}
-use Rattle.body_fields.specs.Forms.{AreFixed}
-use Rattle.event_body.specs.declared.event.Event.{Event}
-use Rattle.event_body.specs.declared.event.Event.TheVariants.{Icp, Rot, Ixn, Dip, Drt, Rct}
-use Rattle.event_body.specs.declared.inception.Inception.{Inception}
-use Rattle.event_body.specs.declared.rotation.Rotation.{Rotation}
-use Rattle.event_body.specs.declared.interaction.Interaction.{Interaction}
-use Rattle.event_body.specs.declared.receipt_body.ReceiptBody.{ReceiptBody}
+use Rattle.event_body.specs.BodyFields.Forms.{AreFixed}
+use Rattle.event_body.specs.declared.event_body.event.Event.{Event}
+use Rattle.event_body.specs.declared.event_body.event.Event.TheVariants.{Icp, Rot, Ixn, Dip, Drt, Rct}
+use Rattle.event_body.specs.declared.event_body.inception.Inception.{Inception}
+use Rattle.event_body.specs.declared.event_body.rotation.Rotation.{Rotation}
+use Rattle.event_body.specs.declared.event_body.interaction.Interaction.{Interaction}
+use Rattle.event_body.specs.declared.event_body.receipt_body.ReceiptBody.{ReceiptBody}
 
 -- An inception's parts are in their ranges: the thresholds are ones that are read for so many keys and digests, the
 -- witnesses' keys can't be rotated, and no anchor nests more than 8 deep.

@@ -2,7 +2,7 @@
 -- body's fields, and then those of the event that they are the parts of.
 use Rattle.std.specs.Prelude.{◌≡◌, ◌≢◌, ◌≤◌, ◌⊎◌, ℕ, if◌then◌else◌, List, [], ◌∷◌, length, Contains}
 use Rattle.std.specs.List.{AllZip}
-use Rattle.keri_specs.specs.Hex.{IsHexNumber}
+use Rattle.lists.specs.KeriSpecs.Hex.{IsHexNumber}
 use Rattle.cesr_codes.specs.declared.key.Key.{Key}
 use Rattle.cesr_codes.specs.declared.key.KeyCode.TheVariants.{Fixed}
 use Rattle.cesr_codes.specs.declared.prefix.Prefix.{Prefix}
@@ -14,19 +14,19 @@ use Rattle.said_digest.specs.Replaced.{placeholder}
 use Rattle.sith.specs.declared.threshold.Threshold.{Threshold}
 use Rattle.sith.specs.Thresholds.{Spells}
 use Rattle.sith.specs.Rules.{IsReadFor}
-use Rattle.body_fields.specs.declared.form.Form.{Form}
-use Rattle.body_fields.specs.declared.form.Form.TheVariants as forms
-use Rattle.body_fields.specs.declared.kind.Kind.{Kind}
-use Rattle.body_fields.specs.declared.kind.Kind.TheVariants as kinds
-use Rattle.body_fields.specs.Maps.{form_of, fields_of}
-use Rattle.body_fields.specs.Bodies.{body_text}
-use Rattle.body_fields.specs.Forms.{prefix_value}
-use Rattle.event_body.specs.Spelling.{body_kind, further_values}
-use Rattle.event_body.specs.Events.{prefix_of, said_of, hides_prefix}
-use Rattle.event_body.specs.declared.event.Event.{Event}
-use Rattle.event_body.specs.declared.event.Event.TheVariants.{Icp, Rot, Dip, Drt, Rct}
-use Rattle.event_body.specs.declared.inception.Inception.{Inception}
-use Rattle.event_body.specs.declared.rotation.Rotation.{Rotation}
+use Rattle.event_body.specs.declared.body_fields.form.Form.{Form}
+use Rattle.event_body.specs.declared.body_fields.form.Form.TheVariants as forms
+use Rattle.event_body.specs.declared.body_fields.kind.Kind.{Kind}
+use Rattle.event_body.specs.declared.body_fields.kind.Kind.TheVariants as kinds
+use Rattle.event_body.specs.BodyFields.Maps.{form_of, fields_of}
+use Rattle.event_body.specs.BodyFields.Bodies.{body_text}
+use Rattle.event_body.specs.BodyFields.Forms.{prefix_value}
+use Rattle.event_body.specs.EventBody.Spelling.{body_kind, further_values}
+use Rattle.event_body.specs.EventBody.Events.{prefix_of, said_of, hides_prefix}
+use Rattle.event_body.specs.declared.event_body.event.Event.{Event}
+use Rattle.event_body.specs.declared.event_body.event.Event.TheVariants.{Icp, Rot, Dip, Drt, Rct}
+use Rattle.event_body.specs.declared.event_body.inception.Inception.{Inception}
+use Rattle.event_body.specs.declared.event_body.rotation.Rotation.{Rotation}
 
 -- a list has at most 64 members
 abbrev pub HasFewMembers : Tree → Type 0

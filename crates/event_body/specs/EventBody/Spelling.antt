@@ -5,17 +5,17 @@ use Rattle.cesr_codes.specs.declared.prefix.Prefix.{Prefix}
 use Rattle.json_tree.specs.declared.tree.Tree.{Tree}
 use Rattle.json_tree.specs.declared.tree.Tree.TheVariants.{List as TreeList}
 use Rattle.sith.specs.Thresholds.{threshold_value}
-use Rattle.body_fields.specs.declared.kind.Kind.{Kind}
-use Rattle.body_fields.specs.declared.kind.Kind.TheVariants as kinds
-use Rattle.body_fields.specs.Bodies.{body_text}
-use Rattle.body_fields.specs.Forms.{digest_value, prefix_value, keys_value, digests_value, strings_value, number_value}
-use Rattle.event_body.specs.declared.event.Event.{Event}
-use Rattle.event_body.specs.declared.event.Event.TheVariants.{Icp, Rot, Ixn, Dip, Drt, Rct}
-use Rattle.event_body.specs.declared.inception.Inception.{Inception}
-use Rattle.event_body.specs.declared.rotation.Rotation.{Rotation}
-use Rattle.event_body.specs.declared.interaction.Interaction.{Interaction}
-use Rattle.event_body.specs.declared.receipt_body.ReceiptBody.{ReceiptBody}
-use Rattle.event_body.specs.Events.{prefix_of, said_of}
+use Rattle.event_body.specs.declared.body_fields.kind.Kind.{Kind}
+use Rattle.event_body.specs.declared.body_fields.kind.Kind.TheVariants as kinds
+use Rattle.event_body.specs.BodyFields.Bodies.{body_text}
+use Rattle.event_body.specs.BodyFields.Forms.{digest_value, prefix_value, keys_value, digests_value, strings_value, number_value}
+use Rattle.event_body.specs.declared.event_body.event.Event.{Event}
+use Rattle.event_body.specs.declared.event_body.event.Event.TheVariants.{Icp, Rot, Ixn, Dip, Drt, Rct}
+use Rattle.event_body.specs.declared.event_body.inception.Inception.{Inception}
+use Rattle.event_body.specs.declared.event_body.rotation.Rotation.{Rotation}
+use Rattle.event_body.specs.declared.event_body.interaction.Interaction.{Interaction}
+use Rattle.event_body.specs.declared.event_body.receipt_body.ReceiptBody.{ReceiptBody}
+use Rattle.event_body.specs.EventBody.Events.{prefix_of, said_of}
 
 -- the kind of its body
 abbrev pub body_kind : Event → Kind

@@ -1,11 +1,11 @@
 -- Why an event isn't written.
 use Rattle.std.specs.Prelude.{◌≡◌, ◌<◌, ℕ, List, length}
-use Rattle.event_body.specs.declared.event.Event.{Event}
-use Rattle.event_body.specs.declared.body_fault.BodyFault.TheVariants.{TooLarge}
-use Rattle.event_body.specs.declared.body_fault.ReadBody.{ReadBody}
-use Rattle.event_body.specs.declared.body_fault.ReadBody.TheVariants.{Fault, OutOfMemory}
-use Rattle.event_body.specs.Judging.{IsFirstFault}
-use Rattle.event_body.specs.Spelling.{text_of}
+use Rattle.event_body.specs.declared.event_body.event.Event.{Event}
+use Rattle.event_body.specs.declared.event_body.body_fault.BodyFault.TheVariants.{TooLarge}
+use Rattle.event_body.specs.declared.event_body.body_fault.ReadBody.{ReadBody}
+use Rattle.event_body.specs.declared.event_body.body_fault.ReadBody.TheVariants.{Fault, OutOfMemory}
+use Rattle.event_body.specs.EventBody.Judging.{IsFirstFault}
+use Rattle.event_body.specs.EventBody.Spelling.{text_of}
 
 -- it is the first rule that the event's text fails; or there was no memory
 abbrev pub IsFaultOf : Event → ReadBody → Type 0

@@ -4,8 +4,8 @@ use Rattle.std.specs.List.{AllByRecursion}
 use Rattle.json_tree.specs.Spelling.{IsJson}
 use Rattle.json_tree.specs.Strings.{IsString}
 use Rattle.sith.specs.OwnValues.{HasOwnValue}
-use Rattle.event_body.specs.declared.event.Event.{Event}
-use Rattle.event_body.specs.declared.event.Event.TheVariants.{Icp, Rot, Ixn, Dip, Drt, Rct}
+use Rattle.event_body.specs.declared.event_body.event.Event.{Event}
+use Rattle.event_body.specs.declared.event_body.event.Event.TheVariants.{Icp, Rot, Ixn, Dip, Drt, Rct}
 
 -- The anchors and the traits are of JSON's grammar, and a delegated inception alone names a delegator.
 abbrev pub IsWritable : Event → Type 0

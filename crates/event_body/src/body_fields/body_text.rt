@@ -3,12 +3,12 @@ ghost use Rattle.std.specs.Prelude.{◌≡◌, ◌++◌, ◌<◌, ◌≤◌, fal
 ghost use Rattle.std.specs.Fmt.{digit_glyph};
 ghost use Rattle.std.specs.List.{AllByRecursion};
 ghost use Rattle.json_tree.specs.Spelling.{IsJson};
-ghost use Rattle.body_fields.specs.Bodies as bodies;
-ghost use Rattle.body_fields.specs.Bodies.{kind_text, member_text, members_text};
-ghost use Rattle.body_fields.specs.Versions.{size_text, version_text};
+ghost use Rattle.event_body.specs.BodyFields.Bodies as bodies;
+ghost use Rattle.event_body.specs.BodyFields.Bodies.{kind_text, member_text, members_text};
+ghost use Rattle.event_body.specs.BodyFields.Versions.{size_text, version_text};
 
-use crate::field::Field;
-use crate::kind::Kind;
+use crate::body_fields::field::Field;
+use crate::body_fields::kind::Kind;
 use json_tree::{Tree, tree_text};
 use std::alloc::{AllocError, Global};
 

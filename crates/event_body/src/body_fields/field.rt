@@ -1,8 +1,8 @@
 //! The fields of bodies.
 ghost use Rattle.std.specs.Prelude.{◌≡◌};
-ghost use Rattle.body_fields.specs.Maps.{form_of, name_of};
+ghost use Rattle.event_body.specs.BodyFields.Maps.{form_of, name_of};
 
-use crate::form::Form;
+use crate::body_fields::form::Form;
 
 /// A field behind the version string and the kind. The number `s` is three fields here, by what it may be.
 #[derive(Clone, Copy, PartialEq, Eq, Debug)]

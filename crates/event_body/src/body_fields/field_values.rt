@@ -4,10 +4,10 @@ ghost use Rattle.std.specs.List.{AllByRecursion};
 ghost use Rattle.cesr_codes.specs.Spelling.{IsDigest, IsKey, IsPrefix};
 ghost use Rattle.json_tree.specs.declared.tree.Tree.{Tree};
 ghost use Rattle.json_tree.specs.declared.tree.Tree.TheVariants.{List as TreeList};
-ghost use Rattle.body_fields.specs.Forms.{AreFixed, IsNumberValue, IsOfForm, digest_value, digests_value, keys_value, prefix_value, strings_value};
+ghost use Rattle.event_body.specs.BodyFields.Forms.{AreFixed, IsNumberValue, IsOfForm, digest_value, digests_value, keys_value, prefix_value, strings_value};
 
-use crate::form::Form;
-use crate::strings::{all, all_texts, digits, one};
+use crate::body_fields::form::Form;
+use crate::body_fields::strings::{all, all_texts, digits, one};
 use cesr_codes::{Digest, Key, Prefix};
 use json_tree::{Text, Tree};
 use lists::{CopyValue, Items};

@@ -1,18 +1,17 @@
 //! The fields of a body, and their reader.
 ghost use Rattle.std.specs.Prelude.{◌≡◌, ◌⊎◌, ◌↔◌, IsTrue, codes, List, Ok, Err, IfOk, IfErr};
 ghost use Rattle.json_tree.specs.declared.tree.Tree.{Tree};
-ghost use Rattle.body_fields.specs.declared.kind.Kind.{Kind};
-ghost use Rattle.body_fields.specs.declared.fields_fault.FieldsFault.TheVariants.{OutOfMemory};
-ghost use Rattle.body_fields.specs.Bodies.{IsBody};
-ghost use Rattle.body_fields.specs.Faults.{AreFields, IsFault, StopsAt};
+ghost use Rattle.event_body.specs.declared.body_fields.kind.Kind.{Kind};
+ghost use Rattle.event_body.specs.declared.body_fields.fields_fault.FieldsFault.TheVariants.{OutOfMemory};
+ghost use Rattle.event_body.specs.BodyFields.Bodies.{IsBody};
+ghost use Rattle.event_body.specs.BodyFields.Faults.{AreFields, IsFault, StopsAt};
 
-use crate::fields_fault::FieldsFault;
-use crate::front::{kind, version};
-use crate::kind::Kind;
-use crate::member::member;
-use hex_numbers::hex_value;
+use crate::body_fields::fields_fault::FieldsFault;
+use crate::body_fields::front::{kind, version};
+use crate::body_fields::kind::Kind;
+use crate::body_fields::member::member;
 use json_tree::{Tree, TreeFault};
-use lists::Items;
+use lists::{Items, hex_value};
 use std::alloc::Global;
 
 /// A body's kind, and the values of the fields behind it, in the order of the kind's field map.

@@ -14,7 +14,7 @@ pub enum FieldsFault {
 
 impl<T: Drop> From<AllocFailed<T>> for FieldsFault {
     ghost use Rattle.std.specs.Prelude.{◌≡◌};
-    ghost use Rattle.body_fields.specs.declared.fields_fault.FieldsFault.TheVariants.{OutOfMemory};
+    ghost use Rattle.event_body.specs.declared.body_fields.fields_fault.FieldsFault.TheVariants.{OutOfMemory};
 
     ghost from_gives = { λ _ fault. fault ≡ OutOfMemory };
 

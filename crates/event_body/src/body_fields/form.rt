@@ -3,10 +3,10 @@ ghost use Rattle.std.specs.Prelude.{◌≡◌, ◌↔◌, ◌≢◌, ◌⊎◌, 
 ghost use Rattle.json_tree.specs.declared.tree.Tree.{Tree};
 ghost use Rattle.json_tree.specs.declared.tree.Tree.TheVariants.{Str, List as TreeList};
 ghost use Rattle.json_tree.specs.Spelling.{Fits};
-ghost use Rattle.body_fields.specs.Forms.{depth_of, IsOfForm, IsNumberValue, IsStringOrList};
+ghost use Rattle.event_body.specs.BodyFields.Forms.{depth_of, IsOfForm, IsNumberValue, IsStringOrList};
 
-use crate::primitive::FixedKey;
-use crate::strings::{digits, is_list_of, is_string_list, one};
+use crate::body_fields::primitive::FixedKey;
+use crate::body_fields::strings::{digits, is_list_of, is_string_list, one};
 use cesr_codes::{Digest, Key, Prefix};
 use json_tree::Tree;
 

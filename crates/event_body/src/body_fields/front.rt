@@ -1,13 +1,13 @@
 //! What stands at the front of bytes.
 ghost use Rattle.std.specs.Prelude.{◌≡◌, ◌≢◌, ◌++◌, List, ℕ, IfSome, IfNone};
-ghost use Rattle.body_fields.specs.declared.kind.Kind.{Kind};
-ghost use Rattle.body_fields.specs.Fronts.{between};
-ghost use Rattle.body_fields.specs.Versions.{IsSize, version_text};
-ghost use Rattle.body_fields.specs.Bodies.{kind_text, name_text};
+ghost use Rattle.event_body.specs.declared.body_fields.kind.Kind.{Kind};
+ghost use Rattle.event_body.specs.BodyFields.Fronts.{between};
+ghost use Rattle.event_body.specs.BodyFields.Versions.{IsSize, version_text};
+ghost use Rattle.event_body.specs.BodyFields.Bodies.{kind_text, name_text};
 
-use crate::field::Field;
-use crate::kind::Kind;
-use hex_numbers::all_hex;
+use crate::body_fields::field::Field;
+use crate::body_fields::kind::Kind;
+use lists::all_hex;
 
 /// What follows the literal at the front.
 pub(crate) fn literal<'a>(bytes: &'a [u8], text: &[u8]) -> Option<&'a [u8]>

@@ -1,8 +1,8 @@
 //! The kinds of bodies, and their field maps.
 ghost use Rattle.std.specs.Prelude.{◌≡◌, ◌≤◌, length};
-ghost use Rattle.body_fields.specs.Maps.{fields_of, kind_name};
+ghost use Rattle.event_body.specs.BodyFields.Maps.{fields_of, kind_name};
 
-use crate::field::Field;
+use crate::body_fields::field::Field;
 
 /// What a body is, as its field `t` says.
 #[derive(Clone, Copy, PartialEq, Eq, Debug)]

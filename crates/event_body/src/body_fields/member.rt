@@ -2,13 +2,13 @@
 ghost use Rattle.std.specs.Prelude.{◌≡◌, ◌≢◌, ◌++◌, List, ℕ, IfOk, IfErr};
 ghost use Rattle.json_tree.specs.declared.tree.Tree.{Tree};
 ghost use Rattle.json_tree.specs.Spelling.{spelling};
-ghost use Rattle.body_fields.specs.Bodies.{member_text};
-ghost use Rattle.body_fields.specs.Forms.{IsOfForm};
-ghost use Rattle.body_fields.specs.Maps.{form_of};
+ghost use Rattle.event_body.specs.BodyFields.Bodies.{member_text};
+ghost use Rattle.event_body.specs.BodyFields.Forms.{IsOfForm};
+ghost use Rattle.event_body.specs.BodyFields.Maps.{form_of};
 
-use crate::field::Field;
-use crate::form::Form;
-use crate::front::name;
+use crate::body_fields::field::Field;
+use crate::body_fields::form::Form;
+use crate::body_fields::front::name;
 use json_tree::{Tree, TreeFault, read_tree};
 use std::alloc::Global;
 

@@ -1,15 +1,14 @@
 //! What strings and lists of strings hold.
 ghost use Rattle.std.specs.Prelude.{◌≡◌, ◌≢◌, ◌↔◌, IsTrue, List, ℕ, IfSome, IfNone, IfOk, map};
 ghost use Rattle.std.specs.List.{AllByRecursion};
-ghost use Rattle.keri_specs.specs.Hex.{IsHexNumber};
+ghost use Rattle.lists.specs.KeriSpecs.Hex.{IsHexNumber};
 ghost use Rattle.json_tree.specs.declared.tree.Tree.TheVariants.{Str};
-ghost use Rattle.body_fields.specs.Forms.{IsNumberValue};
-ghost use Rattle.body_fields.specs.Strings.{HoldsOne, HoldsIt, IsListOf, IsText};
+ghost use Rattle.event_body.specs.BodyFields.Forms.{IsNumberValue};
+ghost use Rattle.event_body.specs.BodyFields.Strings.{HoldsOne, HoldsIt, IsListOf, IsText};
 
-use crate::primitive::Primitive;
-use hex_numbers::is_hex_number;
+use crate::body_fields::primitive::Primitive;
 use json_tree::{Text, Tree};
-use lists::{CopyValue, Items};
+use lists::{CopyValue, Items, is_hex_number};
 use std::alloc::{AllocError, Global};
 
 /// The primitive that the string holds.

@@ -1,9 +1,9 @@
 //! The values of fields, from what they say.
 ghost use Rattle.std.specs.Prelude.{◌≡◌, IfOk, map};
 ghost use Rattle.json_tree.specs.declared.tree.Tree.TheVariants.{Str, List as TreeList};
-ghost use Rattle.body_fields.specs.Forms.{digest_value, digests_value, keys_value, number_value, prefix_value, strings_value};
+ghost use Rattle.event_body.specs.BodyFields.Forms.{digest_value, digests_value, keys_value, number_value, prefix_value, strings_value};
 
-use crate::primitive::Primitive;
+use crate::body_fields::primitive::Primitive;
 use cesr_codes::{Digest, Key, Prefix};
 use json_tree::{Text, Tree};
 use lists::{CopyValue, Items};

@@ -1,17 +1,17 @@
 //! A whole body, and its reader.
 ghost use Rattle.std.specs.Prelude.{◌≡◌, ◌⊎◌, ◌≤◌, Ok, Err, IfNone, IfSome, length};
-ghost use Rattle.body_fields.specs.Bodies.{IsBody};
-ghost use Rattle.event_body.specs.Judging.{HasEvent, IsFirstFault, Judges, SpellsEvent};
-ghost use Rattle.event_body.specs.declared.body_fault.ReadBody.TheVariants.{OutOfMemory};
-ghost use Rattle.event_body.specs.declared.event.Event.{Event};
+ghost use Rattle.event_body.specs.BodyFields.Bodies.{IsBody};
+ghost use Rattle.event_body.specs.EventBody.Judging.{HasEvent, IsFirstFault, Judges, SpellsEvent};
+ghost use Rattle.event_body.specs.declared.event_body.body_fault.ReadBody.TheVariants.{OutOfMemory};
+ghost use Rattle.event_body.specs.declared.event_body.event.Event.{Event};
 
-use crate::event_of::event_of;
-use crate::prefix_rule::has_prefix;
-use crate::said_rule::has_said;
-use crate::value_rules::{are_few, are_short};
-use crate::witness_rule::are_witnesses;
-use crate::{BodyFault, Event, ReadBody};
-use body_fields::{Fields, FieldsFault, LARGEST, read_fields};
+use crate::body_fields::{Fields, FieldsFault, LARGEST, read_fields};
+use crate::event_body::event_of::event_of;
+use crate::event_body::prefix_rule::has_prefix;
+use crate::event_body::said_rule::has_said;
+use crate::event_body::value_rules::{are_few, are_short};
+use crate::event_body::witness_rule::are_witnesses;
+use crate::event_body::{BodyFault, Event, ReadBody};
 use std::alloc::Global;
 
 /// Reads a whole body.

@@ -1,6 +1,6 @@
 //! Why a body is refused.
 ghost use Rattle.std.specs.Prelude.{◌≡◌};
-ghost use Rattle.event_body.specs.declared.body_fault.ReadBody.TheVariants.{OutOfMemory};
+ghost use Rattle.event_body.specs.declared.event_body.body_fault.ReadBody.TheVariants.{OutOfMemory};
 
 use std::alloc::AllocError;
 

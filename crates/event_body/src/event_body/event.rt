@@ -1,8 +1,8 @@
 //! Events.
 ghost use Rattle.std.specs.Prelude.{◌≡◌};
-ghost use Rattle.event_body.specs.Events as events;
+ghost use Rattle.event_body.specs.EventBody.Events as events;
 
-use crate::{Inception, Interaction, ReceiptBody, Rotation};
+use crate::event_body::{Inception, Interaction, ReceiptBody, Rotation};
 use cesr_codes::{Digest, Prefix};
 use lists::CopyValue;
 use std::alloc::{AllocError, Global};

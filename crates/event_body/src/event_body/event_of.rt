@@ -1,22 +1,22 @@
 //! The event that the values of a body are the parts of.
 ghost use Rattle.std.specs.Prelude.{◌≡◌, IfOk, IfErr};
-ghost use Rattle.body_fields.specs.Bodies.{AreOfForms};
-ghost use Rattle.body_fields.specs.Maps.{fields_of, interaction_fields, receipt_fields};
-ghost use Rattle.event_body.specs.KeySets.{IsThresholdFault};
-ghost use Rattle.event_body.specs.Ranges.{AreInRange, IsInteraction, IsReceipt};
-ghost use Rattle.event_body.specs.Rules.{AreFew, AreShort, HasThresholds};
-ghost use Rattle.event_body.specs.Spelling.{body_kind, values_of};
+ghost use Rattle.event_body.specs.BodyFields.Bodies.{AreOfForms};
+ghost use Rattle.event_body.specs.BodyFields.Maps.{fields_of, interaction_fields, receipt_fields};
+ghost use Rattle.event_body.specs.EventBody.KeySets.{IsThresholdFault};
+ghost use Rattle.event_body.specs.EventBody.Ranges.{AreInRange, IsInteraction, IsReceipt};
+ghost use Rattle.event_body.specs.EventBody.Rules.{AreFew, AreShort, HasThresholds};
+ghost use Rattle.event_body.specs.EventBody.Spelling.{body_kind, values_of};
 
-use crate::field_values::split;
-use crate::inception_of::{dip, icp};
-use crate::numbers::{later_number, number};
-use crate::rotation_of::rot;
-use crate::{Event, Interaction, ReadBody, ReceiptBody};
-use body_fields::{Kind, digest_in, prefix_in, values_in};
+use crate::body_fields::{Kind, digest_in, prefix_in, values_in};
+use crate::event_body::field_values::split;
+use crate::event_body::inception_of::{dip, icp};
+use crate::event_body::numbers::{later_number, number};
+use crate::event_body::rotation_of::rot;
+use crate::event_body::{Event, Interaction, ReadBody, ReceiptBody};
 use json_tree::Tree;
 use std::alloc::{AllocError, Global};
 
-#[tactic(auto, using(crate::proofs::Values::values_held))]
+#[tactic(auto, using(crate::proofs::EventBodyLemmas::Values::values_held))]
 fn ixn(alloc: Global, values: &[Tree]) -> Result<Interaction, AllocError>
     requires forms { AreOfForms interaction_fields values.now }
     requires short { AreShort Kind.Ixn values.now }

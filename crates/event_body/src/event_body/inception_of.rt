@@ -1,18 +1,18 @@
 //! The inception that the values of a body are the parts of.
 ghost use Rattle.std.specs.Prelude.{◌≡◌, ◌∷◌, [], IfOk, IfErr, IfSome};
 ghost use Rattle.cesr_codes.specs.Spelling.{IsPrefix};
-ghost use Rattle.body_fields.specs.Bodies.{AreOfForms};
-ghost use Rattle.body_fields.specs.Maps.{delegated_inception_fields, inception_fields};
-ghost use Rattle.event_body.specs.KeySets.{IsThresholdFault};
-ghost use Rattle.event_body.specs.Ranges.{IsInception};
-ghost use Rattle.event_body.specs.Rules.{AreFew, AreShort, AreThresholds, HasFewDigits, HasFewMembers, HasThresholds};
-ghost use Rattle.event_body.specs.Spelling.{delegator_values, values_of};
+ghost use Rattle.event_body.specs.BodyFields.Bodies.{AreOfForms};
+ghost use Rattle.event_body.specs.BodyFields.Maps.{delegated_inception_fields, inception_fields};
+ghost use Rattle.event_body.specs.EventBody.KeySets.{IsThresholdFault};
+ghost use Rattle.event_body.specs.EventBody.Ranges.{IsInception};
+ghost use Rattle.event_body.specs.EventBody.Rules.{AreFew, AreShort, AreThresholds, HasFewDigits, HasFewMembers, HasThresholds};
+ghost use Rattle.event_body.specs.EventBody.Spelling.{delegator_values, values_of};
 
-use crate::field_values::{InceptionValues, inception_values};
-use crate::key_set::key_set;
-use crate::numbers::number;
-use crate::{Event, Inception, ReadBody};
-use body_fields::{Kind, digest_in, fixed_keys_in, prefix_in, strings_in, values_in};
+use crate::body_fields::{Kind, digest_in, fixed_keys_in, prefix_in, strings_in, values_in};
+use crate::event_body::field_values::{InceptionValues, inception_values};
+use crate::event_body::key_set::key_set;
+use crate::event_body::numbers::number;
+use crate::event_body::{Event, Inception, ReadBody};
 use cesr_codes::Prefix;
 use json_tree::Tree;
 use std::alloc::Global;

@@ -4,12 +4,12 @@ ghost use Rattle.json_tree.specs.declared.tree.Tree.{Tree};
 ghost use Rattle.json_tree.specs.declared.tree.Tree.TheVariants.{List as TreeList};
 ghost use Rattle.sith.specs.Rules.{IsReadFor};
 ghost use Rattle.sith.specs.Thresholds.{Spells, threshold_value};
-ghost use Rattle.body_fields.specs.Forms.{IsOfForm};
-ghost use Rattle.event_body.specs.KeySets.{AreOfKeySet, IsThresholdFault};
-ghost use Rattle.event_body.specs.Rules.{AreThresholds, HasFewMembers, IsThresholdOf};
+ghost use Rattle.event_body.specs.BodyFields.Forms.{IsOfForm};
+ghost use Rattle.event_body.specs.EventBody.KeySets.{AreOfKeySet, IsThresholdFault};
+ghost use Rattle.event_body.specs.EventBody.Rules.{AreThresholds, HasFewMembers, IsThresholdOf};
 
-use crate::{BodyFault, ReadBody};
-use body_fields::{Form, digests_in, keys_in, members_in};
+use crate::body_fields::{Form, digests_in, keys_in, members_in};
+use crate::event_body::{BodyFault, ReadBody};
 use cesr_codes::{Digest, Key};
 use json_tree::Tree;
 use lists::Items;

@@ -1,7 +1,7 @@
 //! Laws of the definition of bodies.
 ghost use Rattle.std.specs.Prelude.{◌≡◌, ℕ, List};
-ghost use Rattle.event_body.specs.Judging.{SpellsEvent};
-ghost use Rattle.event_body.specs.declared.event.Event.{Event};
+ghost use Rattle.event_body.specs.EventBody.Judging.{SpellsEvent};
+ghost use Rattle.event_body.specs.declared.event_body.event.Event.{Event};
 
 /// One list of bytes spells at most one event.
 pub fn one_event()

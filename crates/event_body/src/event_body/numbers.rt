@@ -1,11 +1,11 @@
 //! Numbers that the values of fields spell.
 ghost use Rattle.std.specs.Prelude.{◌≡◌};
-ghost use Rattle.body_fields.specs.Forms.{IsOfForm, number_value};
-ghost use Rattle.event_body.specs.Rules.{HasFewDigits};
+ghost use Rattle.event_body.specs.BodyFields.Forms.{IsOfForm, number_value};
+ghost use Rattle.event_body.specs.EventBody.Rules.{HasFewDigits};
 
-use body_fields::{Form, number_in, numbers};
-use hex_numbers::hex_value;
+use crate::body_fields::{Form, number_in, numbers};
 use json_tree::Tree;
+use lists::hex_value;
 
 /// The number that the value spells.
 pub(crate) fn number(value: &Tree) -> u64

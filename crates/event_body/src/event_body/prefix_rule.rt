@@ -1,8 +1,8 @@
 //! The rule of prefixes.
 ghost use Rattle.std.specs.Prelude.{◌≡◌, ◌↔◌, ◌∷◌, [], IsTrue};
-ghost use Rattle.event_body.specs.Rules.{IsPrefixOf, HasPrefix};
+ghost use Rattle.event_body.specs.EventBody.Rules.{IsPrefixOf, HasPrefix};
 
-use crate::{Event, Inception};
+use crate::event_body::{Event, Inception};
 use cesr_codes::{Digest, Key, KeyCode, Prefix};
 
 fn is_same_key(one: Key, other: Key) -> bool

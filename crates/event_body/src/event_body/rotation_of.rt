@@ -1,17 +1,17 @@
 //! The rotation that the values of a body are the parts of.
 ghost use Rattle.std.specs.Prelude.{◌≡◌, ◌∷◌, [], IfOk, IfErr};
-ghost use Rattle.body_fields.specs.Bodies.{AreOfForms};
-ghost use Rattle.body_fields.specs.Maps.{rotation_fields};
-ghost use Rattle.event_body.specs.KeySets.{IsThresholdFault};
-ghost use Rattle.event_body.specs.Ranges.{IsRotation};
-ghost use Rattle.event_body.specs.Rules.{AreFew, AreShort, AreThresholds, HasFewDigits, HasFewMembers, HasThresholds};
-ghost use Rattle.event_body.specs.Spelling.{values_of};
+ghost use Rattle.event_body.specs.BodyFields.Bodies.{AreOfForms};
+ghost use Rattle.event_body.specs.BodyFields.Maps.{rotation_fields};
+ghost use Rattle.event_body.specs.EventBody.KeySets.{IsThresholdFault};
+ghost use Rattle.event_body.specs.EventBody.Ranges.{IsRotation};
+ghost use Rattle.event_body.specs.EventBody.Rules.{AreFew, AreShort, AreThresholds, HasFewDigits, HasFewMembers, HasThresholds};
+ghost use Rattle.event_body.specs.EventBody.Spelling.{values_of};
 
-use crate::field_values::{RotationValues, rotation_values};
-use crate::key_set::key_set;
-use crate::numbers::{later_number, number};
-use crate::{Event, ReadBody, Rotation};
-use body_fields::{Kind, digest_in, fixed_keys_in, prefix_in, values_in};
+use crate::body_fields::{Kind, digest_in, fixed_keys_in, prefix_in, values_in};
+use crate::event_body::field_values::{RotationValues, rotation_values};
+use crate::event_body::key_set::key_set;
+use crate::event_body::numbers::{later_number, number};
+use crate::event_body::{Event, ReadBody, Rotation};
 use json_tree::Tree;
 use std::alloc::Global;
 

@@ -1,10 +1,10 @@
 //! The rule of digests.
 ghost use Rattle.std.specs.Prelude.{◌≡◌, ◌↔◌, IsTrue};
-ghost use Rattle.event_body.specs.Events.{places_of};
-ghost use Rattle.event_body.specs.Judging.{HasEvent};
-ghost use Rattle.event_body.specs.Rules.{HasSaid};
+ghost use Rattle.event_body.specs.EventBody.Events.{places_of};
+ghost use Rattle.event_body.specs.EventBody.Judging.{HasEvent};
+ghost use Rattle.event_body.specs.EventBody.Rules.{HasSaid};
 
-use crate::{Event, hides_prefix, is_receipt, said_of_event};
+use crate::event_body::{Event, hides_prefix, is_receipt, said_of_event};
 use said_digest::holds;
 
 /// Where the digest stands in a body of any kind.

@@ -1,12 +1,12 @@
 //! The rules of values: lists with few enough members, and numbers with few enough digits.
 ghost use Rattle.std.specs.Prelude.{◌↔◌, IsTrue};
 ghost use Rattle.std.specs.List.{AllZip};
-ghost use Rattle.body_fields.specs.Maps.{form_of};
-ghost use Rattle.event_body.specs.Rules.{HasFewMembers, HasFewDigits, IsFew, IsShort, AreFew, AreShort};
+ghost use Rattle.event_body.specs.BodyFields.Maps.{form_of};
+ghost use Rattle.event_body.specs.EventBody.Rules.{HasFewMembers, HasFewDigits, IsFew, IsShort, AreFew, AreShort};
 
-use body_fields::{Field, Form, Kind};
-use hex_numbers::is_hex_number;
+use crate::body_fields::{Field, Form, Kind};
 use json_tree::Tree;
+use lists::is_hex_number;
 
 /// A list of keys, digests or strings has at most so many members.
 const MOST_MEMBERS: usize = 64;

@@ -1,9 +1,9 @@
 //! The rule of witnesses: no key stands twice, and so many of them can be wanted.
 ghost use Rattle.std.specs.Prelude.{◌↔◌, Contains, IsTrue};
-ghost use Rattle.event_body.specs.Rules as rules;
-ghost use Rattle.event_body.specs.Rules.{AreDistinct, AreApart, IsToadOf, HasWitnesses, ChangesWitnesses};
+ghost use Rattle.event_body.specs.EventBody.Rules as rules;
+ghost use Rattle.event_body.specs.EventBody.Rules.{AreDistinct, AreApart, IsToadOf, HasWitnesses, ChangesWitnesses};
 
-use crate::{Event, Inception, Rotation};
+use crate::event_body::{Event, Inception, Rotation};
 use cesr_codes::Key;
 
 fn has_key(keys: &[Key], key: &Key) -> bool

@@ -2,17 +2,17 @@
 ghost use Rattle.std.specs.Prelude.{◌≡◌, ◌≤◌, ℕ, List, length, IfOk, IfErr, IfNone, IfSome};
 ghost use Rattle.std.specs.List.{AllByRecursion};
 ghost use Rattle.json_tree.specs.Spelling.{IsJson};
-ghost use Rattle.body_fields.specs.Bodies as bodies;
-ghost use Rattle.event_body.specs.Held.{IsHeld};
-ghost use Rattle.event_body.specs.Judging.{SpellsEvent};
-ghost use Rattle.event_body.specs.Spelling.{text_of, values_of};
-ghost use Rattle.event_writing.specs.Faults.{IsFaultOf, IsLengthFault};
-ghost use Rattle.event_writing.specs.Writable.{HasOwnThresholds, IsWritable};
+ghost use Rattle.event_body.specs.BodyFields.Bodies as bodies;
+ghost use Rattle.event_body.specs.EventBody.Held.{IsHeld};
+ghost use Rattle.event_body.specs.EventBody.Judging.{SpellsEvent};
+ghost use Rattle.event_body.specs.EventBody.Spelling.{text_of, values_of};
+ghost use Rattle.event_body.specs.EventWriting.Faults.{IsFaultOf, IsLengthFault};
+ghost use Rattle.event_body.specs.EventWriting.Writable.{HasOwnThresholds, IsWritable};
 
-use crate::held::held;
-use crate::values::{kind_of, values};
-use body_fields::{Kind, digest_tree, prefix_tree, write_fields};
-use event_body::{BodyFault, Event, ReadBody, prefix_of, read_body, said_of_event};
+use crate::body_fields::{Kind, digest_tree, prefix_tree, write_fields};
+use crate::event_body::{BodyFault, Event, ReadBody, prefix_of, read_body, said_of_event};
+use crate::event_writing::held::held;
+use crate::event_writing::values::{kind_of, values};
 use json_tree::Tree;
 use lists::Items;
 use std::alloc::{AllocError, Global};

@@ -1,15 +1,15 @@
 //! Texts of sealed events, whatever rules the events keep.
 ghost use Rattle.std.specs.Prelude.{◌≡◌, IfOk, IfErr};
-ghost use Rattle.event_body.specs.Spelling.{text_of};
-ghost use Rattle.event_writing.specs.Faults.{IsLengthFault};
-ghost use Rattle.event_writing.specs.Sealed as specs;
-ghost use Rattle.event_writing.specs.Writable.{IsWritable};
+ghost use Rattle.event_body.specs.EventBody.Spelling.{text_of};
+ghost use Rattle.event_body.specs.EventWriting.Faults.{IsLengthFault};
+ghost use Rattle.event_body.specs.EventWriting.Sealed as specs;
+ghost use Rattle.event_body.specs.EventWriting.Writable.{IsWritable};
 
-use crate::body::event_text;
-use crate::held::held;
-use crate::sealed_event::{digested_text, with_digest};
+use crate::event_body::{Event, ReadBody};
+use crate::event_writing::body::event_text;
+use crate::event_writing::held::held;
+use crate::event_writing::sealed_event::{digested_text, with_digest};
 use cesr_codes::{Digest, DigestCode};
-use event_body::{Event, ReadBody};
 use said_digest::digest_of;
 use std::alloc::Global;
 

@@ -3,11 +3,11 @@
 ghost use Rattle.std.specs.Prelude.{◌<◌, ◌^◌, IfSome};
 ghost use Rattle.cesr_codes.specs.Spelling.{IsPrefix};
 ghost use Rattle.sith.specs.OwnValues.{HasOwnValue};
-ghost use Rattle.event_body.specs.Held.{IsHeld, IsHeldInception, IsHeldInteraction, IsHeldReceipt, IsHeldRotation};
-ghost use Rattle.event_writing.specs.Writable.{HasOwnThresholds};
+ghost use Rattle.event_body.specs.EventBody.Held.{IsHeld, IsHeldInception, IsHeldInteraction, IsHeldReceipt, IsHeldRotation};
+ghost use Rattle.event_body.specs.EventWriting.Writable.{HasOwnThresholds};
 
+use crate::event_body::{Event, Inception, Interaction, ReceiptBody, Rotation};
 use cesr_codes::{Prefix, Spelled, all_held};
-use event_body::{Event, Inception, Interaction, ReceiptBody, Rotation};
 
 fn delegator(delegator: Option<Prefix>)
     ensures { IfSome delegator IsPrefix }

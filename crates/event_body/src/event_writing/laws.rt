@@ -1,7 +1,7 @@
 //! A law of the definitions, for callers' proofs.
-ghost use Rattle.event_body.specs.declared.event.Event.{Event};
-ghost use Rattle.event_body.specs.Judging.{IsSpelled};
-ghost use Rattle.event_writing.specs.Writable.{IsWritable};
+ghost use Rattle.event_body.specs.declared.event_body.event.Event.{Event};
+ghost use Rattle.event_body.specs.EventBody.Judging.{IsSpelled};
+ghost use Rattle.event_body.specs.EventWriting.Writable.{IsWritable};
 
 /// An event that a body spells can be written.
 pub fn writable()

@@ -2,21 +2,21 @@
 ghost use Rattle.std.specs.Prelude.{◌≡◌, ◌≢◌, ◌⊎◌, ◌≤◌, Ok, Err, length, IfOk, IfErr};
 ghost use Rattle.json_tree.specs.declared.tree.Tree.TheVariants.{Str};
 ghost use Rattle.said_digest.specs.Replaced.{placeholder};
-ghost use Rattle.event_body.specs.Held.{IsHeld};
-ghost use Rattle.event_body.specs.Judging.{IsSpelled};
-ghost use Rattle.event_body.specs.Rules as rules;
-ghost use Rattle.event_writing.specs.Faults.{IsFaultOf, IsLengthFault};
-ghost use Rattle.event_writing.specs.Sealed as specs;
-ghost use Rattle.event_writing.specs.Writable.{HasOwnThresholds, IsWritable};
+ghost use Rattle.event_body.specs.EventBody.Held.{IsHeld};
+ghost use Rattle.event_body.specs.EventBody.Judging.{IsSpelled};
+ghost use Rattle.event_body.specs.EventBody.Rules as rules;
+ghost use Rattle.event_body.specs.EventWriting.Faults.{IsFaultOf, IsLengthFault};
+ghost use Rattle.event_body.specs.EventWriting.Sealed as specs;
+ghost use Rattle.event_body.specs.EventWriting.Writable.{HasOwnThresholds, IsWritable};
 
-use crate::body::{body_text, write_body};
-use crate::held::held;
-use crate::values::{kind_of, values};
-use body_fields::prefix_tree;
-use cesr_codes::{Digest, DigestCode, Prefix};
-use event_body::{
+use crate::body_fields::prefix_tree;
+use crate::event_body::{
     BodyFault, Event, Inception, Interaction, ReadBody, Rotation, hides_prefix, prefix_of,
 };
+use crate::event_writing::body::{body_text, write_body};
+use crate::event_writing::held::held;
+use crate::event_writing::values::{kind_of, values};
+use cesr_codes::{Digest, DigestCode, Prefix};
 use json_tree::Tree;
 use lists::{CopyValue, Items};
 use said_digest::digest_of;

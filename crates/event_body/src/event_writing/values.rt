@@ -1,15 +1,15 @@
 //! The values of an event's fields.
 ghost use Rattle.std.specs.Prelude.{◌≡◌, ◌++◌, ◌∷◌, [], IfOk, OnOk};
 ghost use Rattle.sith.specs.Thresholds.{threshold_value};
-ghost use Rattle.body_fields.specs.Forms.{digest_value, digests_value, keys_value, number_value};
-ghost use Rattle.event_body.specs.Spelling as spelling;
-ghost use Rattle.event_body.specs.Spelling.{body_kind, delegator_values};
+ghost use Rattle.event_body.specs.BodyFields.Forms.{digest_value, digests_value, keys_value, number_value};
+ghost use Rattle.event_body.specs.EventBody.Spelling as spelling;
+ghost use Rattle.event_body.specs.EventBody.Spelling.{body_kind, delegator_values};
 
-use body_fields::{
+use crate::body_fields::{
     Kind, digest_tree, digests_tree, keys_tree, number_tree, prefix_tree, strings_tree,
 };
+use crate::event_body::{Event, Inception, Interaction, ReceiptBody, Rotation};
 use cesr_codes::{Digest, Key, Prefix};
-use event_body::{Event, Inception, Interaction, ReceiptBody, Rotation};
 use json_tree::Tree;
 use lists::{CopyValue, Items};
 use sith::Threshold;

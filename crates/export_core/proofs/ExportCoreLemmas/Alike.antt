@@ -1,7 +1,7 @@
 -- Who reads a text that is written of items reads items that spell the same, one by one.
 use Rattle.std.proofs.Common.{◌≡◌, ℕ, ◌+◌, ◌*◌, ◌≤◌, Bool, true, false, List, [], ◌∷◌, ◌++◌, length, map, take, drop, flat_map, slice_index, refl, sym, ◌∙◌, ap, subst, arith, append-nil, append_assoc, length-append}
 use Rattle.std.proofs.lemmas.List.{map-append}
-use Rattle.keri_specs.specs.Base64.{base64_text}
+use Rattle.lists.specs.KeriSpecs.Base64.{base64_text}
 use Rattle.cesr_codes.proofs.Numbers.{length-base64_text, same_digits}
 use Rattle.cesr_codes.proofs.Same.{same_front}
 use Rattle.cesr_codes.specs.Indexed.{indexed_text}

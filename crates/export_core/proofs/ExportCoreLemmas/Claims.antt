@@ -10,25 +10,25 @@ use Rattle.std.proofs.lemmas.List.Folds.{list_any-append}
 use Rattle.std.specs.Cmp.Lexicographic.{bytes_decides}
 use Rattle.cesr_codes.specs.declared.key.Key.{Key}
 use Rattle.cesr_codes.specs.declared.sig.Sig.{Sig}
-use Rattle.claim_table.specs.declared.signature.Signature.{Signature}
-use Rattle.core_laws.specs.ClaimRows.{triple_on}
-use Rattle.event_rules.specs.Claims.{is_yes}
-use Rattle.journal.specs.declared.body.Body.{Body}
-use Rattle.journal.specs.declared.claim.Claim.{Claim}
-use Rattle.journal.specs.declared.entry.Entry.{Entry}
-use Rattle.journal.specs.declared.entry.Entry.TheVariants.{Took, Heard}
-use Rattle.journal.specs.History.{Triple, claimed_key, claimed_sig, heard, said_yes, same_triple, took, triple_of, yes_in}
-use Rattle.journal.specs.Journals.{told_by, whole}
-use Rattle.journal.specs.Logs.{same_body}
-use Rattle.journal.specs.Readiness.{yes_to}
-use Rattle.journal.proofs.Different.{Differ}
-use Rattle.journal.proofs.Places.{others_differ}
+use Rattle.claim_table.specs.declared.claim_table.signature.Signature.{Signature}
+use Rattle.claim_table.specs.CoreLaws.ClaimRows.{triple_on}
+use Rattle.journal.specs.EventRules.Claims.{is_yes}
+use Rattle.journal.specs.declared.journal.body.Body.{Body}
+use Rattle.journal.specs.declared.journal.claim.Claim.{Claim}
+use Rattle.journal.specs.declared.journal.entry.Entry.{Entry}
+use Rattle.journal.specs.declared.journal.entry.Entry.TheVariants.{Took, Heard}
+use Rattle.journal.specs.Journal.History.{Triple, claimed_key, claimed_sig, heard, said_yes, same_triple, took, triple_of, yes_in}
+use Rattle.journal.specs.Journal.Journals.{told_by, whole}
+use Rattle.journal.specs.Journal.Logs.{same_body}
+use Rattle.journal.specs.Journal.Readiness.{yes_to}
+use Rattle.journal.proofs.JournalLemmas.Different.{Differ}
+use Rattle.journal.proofs.JournalLemmas.Places.{others_differ}
 use Rattle.key_state.specs.Same.{same_key, same_sig}
 use Rattle.key_state.proofs.Same.{numbers, number_itself, same_key_is, same_key_itself, same_sig_is, same_sig_itself}
-use Rattle.export_core.specs.Came.{HasYes, is_signature, signature_cmp, yes_of}
-use Rattle.export_core.specs.GoodClaims.{is_good_by}
-use Rattle.export_core.specs.Signers.{rules_by}
-use Rattle.export_core.specs.declared.signers.Signers.{Signers}
+use Rattle.export_core.specs.ExportCore.Came.{HasYes, is_signature, signature_cmp, yes_of}
+use Rattle.export_core.specs.ExportCore.GoodClaims.{is_good_by}
+use Rattle.export_core.specs.ExportCore.Signers.{rules_by}
+use Rattle.export_core.specs.declared.export_core.signers.Signers.{Signers}
 use Rattle.std.specs.BTreeSet.{BTreeSet}
 
 pub if_ok_so : {T E : Type 0} (r : Result T E) (P Q : T → Type 0) → IfOk r P → ((x : T) → P x → Q x) → IfOk r Q

@@ -5,38 +5,38 @@ use Rattle.std.specs.List.{list_any}
 use Rattle.std.proofs.lemmas.Bool.{cases_Bool}
 use Rattle.std.proofs.lemmas.List.Elements.{All-contains, All-nil}
 use Rattle.cesr_codes.specs.declared.prefix.Prefix.{Prefix}
-use Rattle.acceptance.specs.Standing.{IsHeld}
-use Rattle.core_laws.specs.Standing.{HasNoClash}
-use Rattle.event_body.specs.Events.{prefix_of}
-use Rattle.event_body.specs.declared.event.Event.{Event}
-use Rattle.event_body.specs.declared.event.Event.TheVariants.{Icp, Rot, Ixn, Dip, Drt, Rct}
-use Rattle.export_laws.specs.Export.{IsFamily, export, exported, messages_of}
+use Rattle.validator_core.specs.Acceptance.Standing.{IsHeld}
+use Rattle.claim_table.specs.CoreLaws.Standing.{HasNoClash}
+use Rattle.event_body.specs.EventBody.Events.{prefix_of}
+use Rattle.event_body.specs.declared.event_body.event.Event.{Event}
+use Rattle.event_body.specs.declared.event_body.event.Event.TheVariants.{Icp, Rot, Ixn, Dip, Drt, Rct}
+use Rattle.export_core.specs.ExportLaws.Export.{IsFamily, export, exported, messages_of}
 use Rattle.key_state.proofs.Among.{parted, passing}
-use Rattle.journal_laws.proofs.Came.{grown}
-use Rattle.export_laws.proofs.Export.{export_is_copied}
-use Rattle.export_laws.proofs.Signed.{messages_are_signed}
-use Rattle.journal_laws.proofs.Numbered.{fit_parts}
+use Rattle.journal_views.proofs.JournalLawsLemmas.Came.{grown}
+use Rattle.export_core.proofs.ExportLawsLemmas.Export.{export_is_copied}
+use Rattle.export_core.proofs.ExportLawsLemmas.Signed.{messages_are_signed}
+use Rattle.journal_views.proofs.JournalLawsLemmas.Numbered.{fit_parts}
 use Rattle.quorum_laws.proofs.Inside.{accepted_inside}
-use Rattle.journal.specs.Accepted.{accepted}
-use Rattle.journal.specs.declared.body.Body.{Body}
-use Rattle.journal.specs.declared.mode.Mode.TheVariants.{Full}
-use Rattle.journal.specs.Grown.{IsGrown}
-use Rattle.journal.specs.History.{bodies}
-use Rattle.journal.specs.Logs.{is_of, state, stepped, takes}
-use Rattle.journal.specs.Questions.{IsRegular}
-use Rattle.journal.proofs.StateSteps.{state-other, state-own}
+use Rattle.journal.specs.Journal.Accepted.{accepted}
+use Rattle.journal.specs.declared.journal.body.Body.{Body}
+use Rattle.journal.specs.declared.journal.mode.Mode.TheVariants.{Full}
+use Rattle.journal.specs.Journal.Grown.{IsGrown}
+use Rattle.journal.specs.Journal.History.{bodies}
+use Rattle.journal.specs.Journal.Logs.{is_of, state, stepped, takes}
+use Rattle.journal.specs.Journal.Questions.{IsRegular}
+use Rattle.journal.proofs.JournalLemmas.StateSteps.{state-other, state-own}
 use Rattle.key_state.specs.KeyStates.{misfit}
 use Rattle.key_state.specs.States.{State}
 use Rattle.key_state.proofs.Same.{same_prefix_is, same_prefix_itself}
-use Rattle.validator_core.specs.View.{CoreView, accepted_by, told_of}
-use Rattle.export_core.specs.Export.{IsExport}
-use Rattle.export_core.specs.Exported.{IsWritten}
-use Rattle.export_core.specs.Messages.{IsExportText}
-use Rattle.export_core.specs.declared.exported_events.Exported.{Exported}
-use Rattle.export_core.proofs.MayBeTaken.{export_taken}
-use Rattle.export_core.proofs.Reading.{export_held, text_reads}
-use Rattle.export_core.proofs.Retold.{retold}
-use Rattle.export_core.proofs.Wanting.{wanted}
+use Rattle.validator_core.specs.ValidatorCore.View.{CoreView, accepted_by, told_of}
+use Rattle.export_core.specs.ExportCore.Export.{IsExport}
+use Rattle.export_core.specs.ExportCore.Exported.{IsWritten}
+use Rattle.export_core.specs.ExportCore.Messages.{IsExportText}
+use Rattle.export_core.specs.declared.export_core.exported_events.Exported.{Exported}
+use Rattle.export_core.proofs.ExportCoreLemmas.MayBeTaken.{export_taken}
+use Rattle.export_core.proofs.ExportCoreLemmas.Reading.{export_held, text_reads}
+use Rattle.export_core.proofs.ExportCoreLemmas.Retold.{retold}
+use Rattle.export_core.proofs.ExportCoreLemmas.Wanting.{wanted}
 
 stepped_some : (s : State) (e : Event) → is_some (stepped (Some s) e) ≡ true
 stepped_some s e = elim (cases_Bool (is_none (misfit s e))) [ inl k ↦ rw k refl | inr k ↦ rw k refl ]

@@ -4,15 +4,15 @@ use Rattle.std.specs.BTreeMap.{is_at}
 use Rattle.std.specs.BTreeSet.{BTreeSet, contains}
 use Rattle.std.proofs.lemmas.Bool.{cases_Bool}
 use Rattle.cesr_codes.specs.declared.prefix.Prefix.{Prefix}
-use Rattle.export_laws.specs.Export.{InFamily, IsFamily, delegator, delegator_if, itself}
+use Rattle.export_core.specs.ExportLaws.Export.{InFamily, IsFamily, delegator, delegator_if, itself}
 use Rattle.key_state.proofs.Among.{Among, passed, passing}
-use Rattle.export_laws.proofs.Family.{family_by}
-use Rattle.journal.specs.declared.body.Body.{Body}
-use Rattle.journal.specs.Logs.{state}
+use Rattle.export_core.proofs.ExportLawsLemmas.Family.{family_by}
+use Rattle.journal.specs.declared.journal.body.Body.{Body}
+use Rattle.journal.specs.Journal.Logs.{state}
 use Rattle.key_state.specs.Same.{same_prefix}
 use Rattle.key_state.proofs.Same.{same_prefix_is, same_prefix_itself}
-use Rattle.export_core.specs.Exported.{prefix_cmp}
-use Rattle.export_core.proofs.Orders.{prefix_at}
+use Rattle.export_core.specs.ExportCore.Exported.{prefix_cmp}
+use Rattle.export_core.proofs.ExportCoreLemmas.Orders.{prefix_at}
 
 -- the second list has the members of the first, and one more
 pub record Joins (old : List Prefix) (d : Prefix) (new : List Prefix) : Type 0 where

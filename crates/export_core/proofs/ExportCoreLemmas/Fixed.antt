@@ -5,21 +5,21 @@ use Rattle.std.proofs.lemmas.Bool.{cases_Bool, and_parts}
 use Rattle.cesr_codes.specs.declared.key.Key.{Key}
 use Rattle.cesr_codes.specs.declared.key.KeyCode.{KeyCode}
 use Rattle.cesr_codes.specs.declared.key.KeyCode.TheVariants.{Fixed, Rotating}
-use Rattle.core_laws.proofs.Entries.{all_from}
-use Rattle.export_laws.specs.Export.{is_couple, is_witness, ordered}
+use Rattle.claim_table.proofs.CoreLawsLemmas.Entries.{all_from}
+use Rattle.export_core.specs.ExportLaws.Export.{is_couple, is_witness, ordered}
 use Rattle.key_state.proofs.Among.{Among, among_either, distinct_among, left_among, passing}
-use Rattle.journal.specs.declared.body.Body.{Body}
-use Rattle.journal.specs.declared.claim.Claim.{Claim}
-use Rattle.journal.specs.declared.claim.Claim.TheVariants.{Held, Witness, Couple}
-use Rattle.journal.specs.History.{Told, claims_on, triple_of}
-use Rattle.journal.specs.Readiness.{yes_to}
-use Rattle.journal.specs.Replies.{is_held, same_claim}
+use Rattle.journal.specs.declared.journal.body.Body.{Body}
+use Rattle.journal.specs.declared.journal.claim.Claim.{Claim}
+use Rattle.journal.specs.declared.journal.claim.Claim.TheVariants.{Held, Witness, Couple}
+use Rattle.journal.specs.Journal.History.{Told, claims_on, triple_of}
+use Rattle.journal.specs.Journal.Readiness.{yes_to}
+use Rattle.journal.specs.Journal.Replies.{is_held, same_claim}
 use Rattle.key_state.specs.Same.{are_witnesses, distinct, has_key, is_fixed, same_key}
 use Rattle.key_state.proofs.Same.{same_key_is}
-use Rattle.export_core.specs.Exported.{sent_by}
-use Rattle.export_core.specs.Messages.{IsFixed}
-use Rattle.export_core.specs.Signers.{rules_by}
-use Rattle.export_core.specs.declared.signers.Signers.{Signers}
+use Rattle.export_core.specs.ExportCore.Exported.{sent_by}
+use Rattle.export_core.specs.ExportCore.Messages.{IsFixed}
+use Rattle.export_core.specs.ExportCore.Signers.{rules_by}
+use Rattle.export_core.specs.declared.export_core.signers.Signers.{Signers}
 
 fixed_code : (c : KeyCode) → is_fixed c ≡ true → c ≡ Fixed
 fixed_code Fixed h = refl

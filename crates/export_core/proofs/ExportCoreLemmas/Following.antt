@@ -3,14 +3,14 @@ use Rattle.std.proofs.Common.{◌≡◌, true, false, Option, Some, None, refl, 
 use Rattle.std.specs.Prelude.{IsTrue}
 use Rattle.std.proofs.lemmas.Bool.{cases_Bool}
 use Rattle.cesr_codes.specs.declared.prefix.Prefix.{Prefix}
-use Rattle.core_laws.proofs.States.{none_is}
-use Rattle.event_body.specs.declared.event.Event.{Event}
-use Rattle.event_body.specs.declared.event.Event.TheVariants.{Icp, Rot, Ixn, Dip, Drt, Rct}
-use Rattle.journal.specs.declared.body.Body.{Body}
-use Rattle.journal.specs.declared.claim.Claim.{Claim}
-use Rattle.journal.specs.declared.claim.Claim.TheVariants.{Held, Witness, Couple}
-use Rattle.journal.specs.History.{triple_of}
-use Rattle.journal.specs.Logs.{stepped, takes}
+use Rattle.claim_table.proofs.CoreLawsLemmas.States.{none_is}
+use Rattle.event_body.specs.declared.event_body.event.Event.{Event}
+use Rattle.event_body.specs.declared.event_body.event.Event.TheVariants.{Icp, Rot, Ixn, Dip, Drt, Rct}
+use Rattle.journal.specs.declared.journal.body.Body.{Body}
+use Rattle.journal.specs.declared.journal.claim.Claim.{Claim}
+use Rattle.journal.specs.declared.journal.claim.Claim.TheVariants.{Held, Witness, Couple}
+use Rattle.journal.specs.Journal.History.{triple_of}
+use Rattle.journal.specs.Journal.Logs.{stepped, takes}
 use Rattle.key_state.specs.Exposure.{Rules, own_rules, rules_of}
 use Rattle.key_state.specs.Kept.{IsKept}
 use Rattle.key_state.specs.KeyStates.{misfit}
@@ -19,7 +19,7 @@ use Rattle.key_state.specs.States.{State}
 use Rattle.key_state.proofs.NoMisfit.{fits_list}
 use Rattle.key_state.proofs.Same.{same_prefix_is, same_prefix_itself}
 use Rattle.key_state.proofs.WitnessLists.{are_changed}
-use Rattle.export_core.specs.Signers.{own_signers, rules_by, signers_of}
+use Rattle.export_core.specs.ExportCore.Signers.{own_signers, rules_by, signers_of}
 
 pub prefix_turns : (p q : Prefix) → same_prefix p q ≡ same_prefix q p
 prefix_turns p q = elim (cases_Bool (same_prefix p q)) [

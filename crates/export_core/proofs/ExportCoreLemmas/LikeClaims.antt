@@ -20,12 +20,12 @@ use Rattle.cesr_stream.specs.declared.group.Group.TheVariants.{Held as HeldGroup
 use Rattle.cesr_stream.specs.declared.item.Item.{Item}
 use Rattle.cesr_stream.specs.declared.item.Item.TheVariants.{Group as GroupItem}
 use Rattle.cesr_stream.proofs.SameItems.{same_item}
-use Rattle.journal.specs.Replies.{claims_of_group, is_held}
-use Rattle.journal.specs.declared.claim.Claim.{Claim}
-use Rattle.journal.specs.declared.claim.Claim.TheVariants.{Held, Witness}
-use Rattle.export_core.specs.Messages.{claim_of, couple_group, held_group, witness_group}
-use Rattle.export_core.specs.Retelling.{HasRawBytes}
-use Rattle.export_core.proofs.Alike.{AreAlike, as_many, couple_sizes, couples_alike, held_alike, indexed_sizes, witness_alike}
+use Rattle.journal.specs.Journal.Replies.{claims_of_group, is_held}
+use Rattle.journal.specs.declared.journal.claim.Claim.{Claim}
+use Rattle.journal.specs.declared.journal.claim.Claim.TheVariants.{Held, Witness}
+use Rattle.export_core.specs.ExportCore.Messages.{claim_of, couple_group, held_group, witness_group}
+use Rattle.export_core.specs.ExportCore.Retelling.{HasRawBytes}
+use Rattle.export_core.proofs.ExportCoreLemmas.Alike.{AreAlike, as_many, couple_sizes, couples_alike, held_alike, indexed_sizes, witness_alike}
 
 -- what is so of all of two lists is so of all of each
 all_front : {X : Type 0} (P : X → Type 0) (xs ys : List X) → All P (xs ++ ys) → All P xs

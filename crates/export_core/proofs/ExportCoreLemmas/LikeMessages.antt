@@ -4,7 +4,7 @@ use Rattle.std.specs.Prelude.{All, sum_by}
 use Rattle.std.specs.List.{list_any}
 use Rattle.std.proofs.lemmas.Bool.{le-ltb}
 use Rattle.std.proofs.lemmas.List.Elements.{All-head, All-tail}
-use Rattle.acceptance.specs.Standing.{IsHeld}
+use Rattle.validator_core.specs.Acceptance.Standing.{IsHeld}
 use Rattle.cesr_codes.specs.declared.indexed_sig.IndexedSig.{IndexedSig}
 use Rattle.cesr_stream.specs.Groups.{elements_of}
 use Rattle.cesr_stream.specs.Items.{Placed}
@@ -16,15 +16,15 @@ use Rattle.cesr_stream.specs.declared.item.Item.{Item}
 use Rattle.cesr_stream.specs.declared.item.Item.TheVariants.{Body as BodyItem}
 use Rattle.cesr_stream.specs.declared.message.Message.{Message}
 use Rattle.cesr_stream.proofs.Keeping.{kept-all}
-use Rattle.event_body.specs.Events.{is_receipt}
-use Rattle.event_payload.proofs.Written.{event_writable}
-use Rattle.journal.specs.Replies.{is_held}
-use Rattle.journal.specs.declared.claim.Claim.TheVariants.{Held, Witness}
-use Rattle.export_laws.specs.Export.{Sent, ordered}
-use Rattle.export_core.specs.Messages.{claim_of, couple_group, held_group, witness_group}
-use Rattle.export_core.proofs.Alike.{AreAlike, body_alike}
-use Rattle.export_core.proofs.LikeClaims.{IsLike, couples_like, held_like, like_both, witness_like}
-use Rattle.export_core.proofs.Reading.{AreSent, IsSentAs}
+use Rattle.event_body.specs.EventBody.Events.{is_receipt}
+use Rattle.journal_views.proofs.EventPayloadLemmas.Written.{event_writable}
+use Rattle.journal.specs.Journal.Replies.{is_held}
+use Rattle.journal.specs.declared.journal.claim.Claim.TheVariants.{Held, Witness}
+use Rattle.export_core.specs.ExportLaws.Export.{Sent, ordered}
+use Rattle.export_core.specs.ExportCore.Messages.{claim_of, couple_group, held_group, witness_group}
+use Rattle.export_core.proofs.ExportCoreLemmas.Alike.{AreAlike, body_alike}
+use Rattle.export_core.proofs.ExportCoreLemmas.LikeClaims.{IsLike, couples_like, held_like, like_both, witness_like}
+use Rattle.export_core.proofs.ExportCoreLemmas.Reading.{AreSent, IsSentAs}
 
 -- the message is none that a reader refuses: its body is that of an event, and its claims are in order, not too many,
 -- and one of them the controller's

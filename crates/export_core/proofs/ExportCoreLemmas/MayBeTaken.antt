@@ -5,23 +5,23 @@ use Rattle.std.specs.List.{list_any}
 use Rattle.std.proofs.lemmas.Bool.{cases_Bool}
 use Rattle.std.proofs.lemmas.Bool.Decides.{nat_tests}
 use Rattle.std.proofs.lemmas.List.Elements.{All-cons, All-contains, All-nil}
-use Rattle.acceptance.specs.Standing.{IsHeld}
+use Rattle.validator_core.specs.Acceptance.Standing.{IsHeld}
 use Rattle.cesr_codes.specs.declared.prefix.Prefix.{Prefix}
-use Rattle.journal.specs.Accepted.{accepted}
-use Rattle.journal.specs.History.{Told}
-use Rattle.journal.specs.Replies.{is_held}
-use Rattle.journal.specs.declared.body.Body.{Body}
-use Rattle.journal.specs.declared.claim.Claim.{Claim}
-use Rattle.journal.specs.declared.claim.Claim.TheVariants.{Held, Witness, Couple}
-use Rattle.journal.specs.declared.mode.Mode.TheVariants.{Full}
-use Rattle.journal_laws.proofs.Came.{were_ready}
+use Rattle.journal.specs.Journal.Accepted.{accepted}
+use Rattle.journal.specs.Journal.History.{Told}
+use Rattle.journal.specs.Journal.Replies.{is_held}
+use Rattle.journal.specs.declared.journal.body.Body.{Body}
+use Rattle.journal.specs.declared.journal.claim.Claim.{Claim}
+use Rattle.journal.specs.declared.journal.claim.Claim.TheVariants.{Held, Witness, Couple}
+use Rattle.journal.specs.declared.journal.mode.Mode.TheVariants.{Full}
+use Rattle.journal_views.proofs.JournalLawsLemmas.Came.{were_ready}
 use Rattle.key_state.proofs.Among.{Among, contained, flat_map_among, left_among, map_among, parted}
-use Rattle.export_laws.specs.Export.{Sent, cut_claims, export, exported, is_couple, is_of_some, is_witness, messages_of, ordered, runs_by, sent_claims}
-use Rattle.export_laws.proofs.Ready.{ready_parts}
-use Rattle.export_laws.proofs.Signed.{messages_are_signed}
-use Rattle.export_core.proofs.LikeMessages.{MayBeTaken}
-use Rattle.export_core.proofs.Texts.{ordered_couples, ordered_held, ordered_witness}
-use Rattle.export_core.proofs.Wanting.{wanted}
+use Rattle.export_core.specs.ExportLaws.Export.{Sent, cut_claims, export, exported, is_couple, is_of_some, is_witness, messages_of, ordered, runs_by, sent_claims}
+use Rattle.export_core.proofs.ExportLawsLemmas.Ready.{ready_parts}
+use Rattle.export_core.proofs.ExportLawsLemmas.Signed.{messages_are_signed}
+use Rattle.export_core.proofs.ExportCoreLemmas.LikeMessages.{MayBeTaken}
+use Rattle.export_core.proofs.ExportCoreLemmas.Texts.{ordered_couples, ordered_held, ordered_witness}
+use Rattle.export_core.proofs.ExportCoreLemmas.Wanting.{wanted}
 
 -- the order of kinds is one of them already, and leaves as many
 ordered_twice : (claims : List Claim) → ordered (ordered claims) ≡ ordered claims

@@ -6,17 +6,17 @@ use Rattle.std.specs.declared.cmp.Ord as ord
 use Rattle.cesr_codes.specs.contracts.prefix.PrefixOrd.TheImpl.Laws as prefix_laws
 use Rattle.cesr_codes.specs.contracts.prefix.PrefixPartialEq.TheImpl as prefix_test
 use Rattle.cesr_codes.specs.declared.prefix.Prefix.{Prefix}
-use Rattle.claim_table.specs.contracts.signature.SignatureOrd.TheImpl.Laws as signature_laws
-use Rattle.claim_table.specs.contracts.signature.SignaturePartialEq.TheImpl as signature_test
-use Rattle.claim_table.specs.declared.signature.Signature.{Signature}
-use Rattle.journal.specs.contracts.claim.ClaimOrd.TheImpl as claim_order
-use Rattle.journal.specs.contracts.claim.ClaimOrd.TheImpl.Laws as claim_laws
-use Rattle.journal.specs.contracts.claim.ClaimPartialEq.TheImpl as claim_test
-use Rattle.journal.specs.declared.claim.Claim.{Claim}
-use Rattle.journal.specs.Replies.{same_claim}
+use Rattle.claim_table.specs.contracts.claim_table.signature.SignatureOrd.TheImpl.Laws as signature_laws
+use Rattle.claim_table.specs.contracts.claim_table.signature.SignaturePartialEq.TheImpl as signature_test
+use Rattle.claim_table.specs.declared.claim_table.signature.Signature.{Signature}
+use Rattle.journal.specs.contracts.journal.claim.ClaimOrd.TheImpl as claim_order
+use Rattle.journal.specs.contracts.journal.claim.ClaimOrd.TheImpl.Laws as claim_laws
+use Rattle.journal.specs.contracts.journal.claim.ClaimPartialEq.TheImpl as claim_test
+use Rattle.journal.specs.declared.journal.claim.Claim.{Claim}
+use Rattle.journal.specs.Journal.Replies.{same_claim}
 use Rattle.key_state.specs.Same.{same_key, same_prefix, same_sig}
-use Rattle.export_core.specs.Came.{signature_cmp}
-use Rattle.export_core.specs.Exported.{prefix_cmp}
+use Rattle.export_core.specs.ExportCore.Came.{signature_cmp}
+use Rattle.export_core.specs.ExportCore.Exported.{prefix_cmp}
 use denote.Param as param
 
 abbrev pub claim_cmp : Claim → Claim → Ordering

@@ -7,30 +7,30 @@ use Rattle.std.proofs.lemmas.Bool.{cases_Bool}
 use Rattle.std.proofs.lemmas.List.Concat.{flat_map-append}
 use Rattle.std.proofs.lemmas.List.Elements.{filter-append}
 use Rattle.cesr_codes.specs.declared.prefix.Prefix.{Prefix}
-use Rattle.event_body.specs.Events.{prefix_of}
-use Rattle.export_laws.specs.Export.{Sent, cut_claims, exported, is_of_some, messages_of, ordered, rules_under, sent_claims}
-use Rattle.journal_laws.proofs.Numbered.{fit_parts}
-use Rattle.export_laws.proofs.Rules.{before_there}
-use Rattle.journal.specs.declared.body.Body.{Body}
-use Rattle.journal.specs.declared.claim.Claim.{Claim}
-use Rattle.journal.specs.Grown.{IsGrown, fits}
-use Rattle.journal.specs.History.{claims_on, triple_of}
-use Rattle.journal.specs.Logs.{before, is_of, state}
-use Rattle.journal.specs.Readiness.{yes_to}
-use Rattle.journal.specs.Replies.{same_claim}
-use Rattle.journal.proofs.StateSteps.{state-other, state-own}
+use Rattle.event_body.specs.EventBody.Events.{prefix_of}
+use Rattle.export_core.specs.ExportLaws.Export.{Sent, cut_claims, exported, is_of_some, messages_of, ordered, rules_under, sent_claims}
+use Rattle.journal_views.proofs.JournalLawsLemmas.Numbered.{fit_parts}
+use Rattle.export_core.proofs.ExportLawsLemmas.Rules.{before_there}
+use Rattle.journal.specs.declared.journal.body.Body.{Body}
+use Rattle.journal.specs.declared.journal.claim.Claim.{Claim}
+use Rattle.journal.specs.Journal.Grown.{IsGrown, fits}
+use Rattle.journal.specs.Journal.History.{claims_on, triple_of}
+use Rattle.journal.specs.Journal.Logs.{before, is_of, state}
+use Rattle.journal.specs.Journal.Readiness.{yes_to}
+use Rattle.journal.specs.Journal.Replies.{same_claim}
+use Rattle.journal.proofs.JournalLemmas.StateSteps.{state-other, state-own}
 use Rattle.key_state.specs.Exposure.{own_rules, rules_of}
 use Rattle.key_state.specs.Kept.{IsKept}
 use Rattle.key_state.specs.Same.{are_witnesses, distinct, same_prefix}
 use Rattle.key_state.proofs.Same.{same_prefix_is, same_prefix_itself}
-use Rattle.validator_core.specs.View.{CoreView, accepted_by, told_of}
-use Rattle.export_core.specs.Exported.{HasSigners, PutsAt, PutsEvent, messages_at, prefix_cmp, sent_by}
-use Rattle.export_core.specs.Messages.{AreTexts, IsExportText, PutsCut}
-use Rattle.export_core.specs.Signers.{own_signers, rules_by, signers_in, signers_of}
-use Rattle.export_core.specs.declared.signers.Signers.{Signers}
-use Rattle.export_core.proofs.Following.{behind_are, own_are, own_fixed, prefix_turns, same_triples}
-use Rattle.export_core.proofs.Orders.{prefix_at}
-use Rattle.export_core.proofs.Placed.{cut_at, take_one}
+use Rattle.validator_core.specs.ValidatorCore.View.{CoreView, accepted_by, told_of}
+use Rattle.export_core.specs.ExportCore.Exported.{HasSigners, PutsAt, PutsEvent, messages_at, prefix_cmp, sent_by}
+use Rattle.export_core.specs.ExportCore.Messages.{AreTexts, IsExportText, PutsCut}
+use Rattle.export_core.specs.ExportCore.Signers.{own_signers, rules_by, signers_in, signers_of}
+use Rattle.export_core.specs.declared.export_core.signers.Signers.{Signers}
+use Rattle.export_core.proofs.ExportCoreLemmas.Following.{behind_are, own_are, own_fixed, prefix_turns, same_triples}
+use Rattle.export_core.proofs.ExportCoreLemmas.Orders.{prefix_at}
+use Rattle.export_core.proofs.ExportCoreLemmas.Placed.{cut_at, take_one}
 
 -- texts of more messages
 pub texts_more : (ms more : List Sent) (front rest : List ℕ) → IsExportText ms front → IsExportText more rest → IsExportText (ms ++ more) (front ++ rest)

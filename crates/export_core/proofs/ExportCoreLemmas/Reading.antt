@@ -3,7 +3,7 @@ use Rattle.std.proofs.Common.{◌≡◌, ℕ, ◌+◌, ◌≤◌, Bool, true, Li
 use Rattle.std.specs.Prelude.{All, flat_map}
 use Rattle.std.proofs.lemmas.List.Concat.{flat_map-append}
 use Rattle.std.proofs.lemmas.List.Elements.{All-append, All-cons, All-filter, All-head, All-nil, All-tail}
-use Rattle.acceptance.specs.Standing.{IsHeld}
+use Rattle.validator_core.specs.Acceptance.Standing.{IsHeld}
 use Rattle.cesr_codes.specs.Indexed.{IsIndexed}
 use Rattle.cesr_codes.specs.declared.indexed_sig.IndexedSig.{IndexedSig}
 use Rattle.cesr_stream.specs.Items.{Items}
@@ -12,19 +12,19 @@ use Rattle.cesr_stream.specs.Written.{IsCouple, item_text}
 use Rattle.cesr_stream.specs.declared.couple.Couple.{Couple}
 use Rattle.cesr_stream.specs.declared.item.Item.{Item}
 use Rattle.cesr_stream.specs.declared.item.Item.TheVariants.{Body as BodyItem}
-use Rattle.event_payload.proofs.Written.{event_writable}
-use Rattle.journal.specs.Accepted.{accepted}
-use Rattle.journal.specs.History.{Told, bodies}
-use Rattle.journal.specs.declared.body.Body.{Body}
-use Rattle.journal.specs.declared.claim.Claim.{Claim}
-use Rattle.journal.specs.declared.mode.Mode.TheVariants.{Full}
+use Rattle.journal_views.proofs.EventPayloadLemmas.Written.{event_writable}
+use Rattle.journal.specs.Journal.Accepted.{accepted}
+use Rattle.journal.specs.Journal.History.{Told, bodies}
+use Rattle.journal.specs.declared.journal.body.Body.{Body}
+use Rattle.journal.specs.declared.journal.claim.Claim.{Claim}
+use Rattle.journal.specs.declared.journal.mode.Mode.TheVariants.{Full}
 use Rattle.quorum_laws.proofs.Inside.{accepted_inside}
 use Rattle.cesr_codes.specs.declared.prefix.Prefix.{Prefix}
-use Rattle.export_laws.specs.Export.{Sent, cut_claims, export, exported, is_of_some, messages_of, sent_claims}
+use Rattle.export_core.specs.ExportLaws.Export.{Sent, cut_claims, export, exported, is_of_some, messages_of, sent_claims}
 use Rattle.watcher_core.specs.Evidence.{placed_from}
 use Rattle.watcher_core.proofs.Written.{MayCome, MayFollow, written_reads}
-use Rattle.export_core.specs.Messages.{IsExportText, IsMessageText, MayBeSent, couple_group, held_group, witness_group}
-use Rattle.export_core.specs.Reading.{AreItems, AreItemsOf, ReadsAs}
+use Rattle.export_core.specs.ExportCore.Messages.{IsExportText, IsMessageText, MayBeSent, couple_group, held_group, witness_group}
+use Rattle.export_core.specs.ExportCore.Reading.{AreItems, AreItemsOf, ReadsAs}
 
 -- a group may follow a body, where there is one
 held_follows : (sigs : List IndexedSig) (more : List Item) → length sigs ≤ 1024 → All IsIndexed sigs → MayFollow true more → MayFollow true (held_group sigs ++ more)

@@ -4,31 +4,31 @@ use Rattle.std.specs.Prelude.{All, Result, Ok, Err, filter, flat_map, slice_get}
 use Rattle.std.specs.List.{list_any}
 use Rattle.std.proofs.lemmas.Bool.{or_left}
 use Rattle.std.proofs.lemmas.List.Elements.{All-cons, All-filter, All-head, All-nil, All-tail}
-use Rattle.acceptance.specs.Standing.{IsHeld}
+use Rattle.validator_core.specs.Acceptance.Standing.{IsHeld}
 use Rattle.cesr_stream.specs.Items.{Items}
 use Rattle.cesr_stream.specs.Messages.{messages}
 use Rattle.cesr_stream.specs.Parts.{unfinished}
-use Rattle.event_body.specs.Judging.{IsFirstFault, SpellsEvent}
-use Rattle.event_body.specs.declared.body_fault.BodyFault.{BodyFault}
-use Rattle.event_body.specs.declared.event.Event.{Event}
-use Rattle.event_body.proofs.Whole.{no_fault, one_event}
-use Rattle.journal.specs.Feeds.{GivesBody, IsHeardFrom, Judged, entry_of, entry_unless, is_taken_by, noted_at, reader_of, refusal_of}
-use Rattle.journal.specs.History.{Told, Triple, heard, same_triple, took}
-use Rattle.journal.specs.Questions.{IsInStep, IsRegular, questions}
-use Rattle.journal.specs.Replies.{claims_of, refusal}
-use Rattle.journal.specs.declared.body.Body.{Body}
-use Rattle.journal.specs.declared.mode.Mode.TheVariants.{Full}
-use Rattle.journal.specs.declared.refusal.Refusal.{Refusal}
-use Rattle.journal.proofs.Same.{same_triple_itself}
+use Rattle.event_body.specs.EventBody.Judging.{IsFirstFault, SpellsEvent}
+use Rattle.event_body.specs.declared.event_body.body_fault.BodyFault.{BodyFault}
+use Rattle.event_body.specs.declared.event_body.event.Event.{Event}
+use Rattle.event_body.proofs.EventBodyLemmas.Whole.{no_fault, one_event}
+use Rattle.journal.specs.Journal.Feeds.{GivesBody, IsHeardFrom, Judged, entry_of, entry_unless, is_taken_by, noted_at, reader_of, refusal_of}
+use Rattle.journal.specs.Journal.History.{Told, Triple, heard, same_triple, took}
+use Rattle.journal.specs.Journal.Questions.{IsInStep, IsRegular, questions}
+use Rattle.journal.specs.Journal.Replies.{claims_of, refusal}
+use Rattle.journal.specs.declared.journal.body.Body.{Body}
+use Rattle.journal.specs.declared.journal.mode.Mode.TheVariants.{Full}
+use Rattle.journal.specs.declared.journal.refusal.Refusal.{Refusal}
+use Rattle.journal.proofs.JournalLemmas.Same.{same_triple_itself}
 use Rattle.keri_outside.specs.declared.limits.Limits.{Limits}
-use Rattle.export_laws.specs.Export.{AreRetold, SaysYes, Sent, sent_in}
-use Rattle.export_laws.proofs.Signed.{unrefused}
+use Rattle.export_core.specs.ExportLaws.Export.{AreRetold, SaysYes, Sent, sent_in}
+use Rattle.export_core.proofs.ExportLawsLemmas.Signed.{unrefused}
 use Rattle.watcher_core.specs.Evidence.{placed_from}
-use Rattle.export_core.specs.Messages.{IsExportText}
-use Rattle.export_core.specs.Retelling.{ReadsAlone, TakesBytes}
-use Rattle.export_core.proofs.Alike.{AreAlike, items_alike}
-use Rattle.export_core.proofs.LikeMessages.{AreLike, IsLikeMessage, MayBeTaken, reads_messages}
-use Rattle.export_core.proofs.Reading.{placed_items, spelled_reads, spells}
+use Rattle.export_core.specs.ExportCore.Messages.{IsExportText}
+use Rattle.export_core.specs.ExportCore.Retelling.{ReadsAlone, TakesBytes}
+use Rattle.export_core.proofs.ExportCoreLemmas.Alike.{AreAlike, items_alike}
+use Rattle.export_core.proofs.ExportCoreLemmas.LikeMessages.{AreLike, IsLikeMessage, MayBeTaken, reads_messages}
+use Rattle.export_core.proofs.ExportCoreLemmas.Reading.{placed_items, spelled_reads, spells}
 
 -- reading a body gives the event that it spells
 body_given : (b : Body) (bytes : List ℕ) (given : Result Event BodyFault) → IsHeld b → bytes ≡ b.bytes → GivesBody bytes given → given ≡ Ok b.event

@@ -2,10 +2,10 @@
 use Rattle.std.proofs.Common.{◌≡◌, ◌+◌, ◌≤◌, ◌<◌, ℕ, zero, suc, true, false, List, [], ◌∷◌, ◌++◌, map, length, take, drop, refl, sym, ◌∙◌, ap, subst, arith, append_assoc}
 use Rattle.std.specs.Prelude.{nat_le}
 use Rattle.std.proofs.lemmas.Bool.Decides.{nat_tests}
-use Rattle.journal.specs.declared.claim.Claim.{Claim}
-use Rattle.export_laws.specs.Export.{runs_by}
-use Rattle.export_core.specs.Messages.{AreTexts, PutsCut, PutsMessage, PutsRuns}
-use Rattle.export_core.proofs.Texts.{one_text, ordered_texts}
+use Rattle.journal.specs.declared.journal.claim.Claim.{Claim}
+use Rattle.export_core.specs.ExportLaws.Export.{runs_by}
+use Rattle.export_core.specs.ExportCore.Messages.{AreTexts, PutsCut, PutsMessage, PutsRuns}
+use Rattle.export_core.proofs.ExportCoreLemmas.Texts.{one_text, ordered_texts}
 
 at_most : (m n : ℕ) → m ≤ n → nat_le m n ≡ true
 at_most m n h = grind (arith, nat_tests, h)

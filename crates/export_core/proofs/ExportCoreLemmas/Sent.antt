@@ -2,27 +2,27 @@
 use Rattle.std.proofs.Common.{◌≡◌, ℕ, zero, suc, Bool, List, [], ◌∷◌, ◌++◌, Some, map, refl, sym, ◌∙◌, ap, subst}
 use Rattle.std.specs.Prelude.{Contains, filter, flat_map, option_map, slice_get}
 use Rattle.std.specs.List.Sorted.{IsStrictlyIncreasing}
-use Rattle.core_tables.specs.EntryClaims.{came_to}
-use Rattle.core_tables.specs.Names.{name_of}
-use Rattle.core_tables.proofs.ToldClaims.{came_is, told_claims}
-use Rattle.event_body.specs.declared.event.Event.{Event}
-use Rattle.event_index.specs.Keys.{numbers_at}
-use Rattle.journal.specs.declared.body.Body.{Body}
-use Rattle.journal.specs.History.{bodies, claims_on, taken, triple_of}
-use Rattle.journal.specs.Logs.{same_body}
-use Rattle.journal.specs.Readiness.{yes_to}
-use Rattle.journal.specs.Replies.{same_claim}
-use Rattle.journal.proofs.Different.{Differ, differ-distinct}
+use Rattle.core_tables.specs.CoreTables.EntryClaims.{came_to}
+use Rattle.core_tables.specs.CoreTables.Names.{name_of}
+use Rattle.core_tables.proofs.CoreTablesLemmas.ToldClaims.{came_is, told_claims}
+use Rattle.event_body.specs.declared.event_body.event.Event.{Event}
+use Rattle.escrow.specs.EventIndex.Keys.{numbers_at}
+use Rattle.journal.specs.declared.journal.body.Body.{Body}
+use Rattle.journal.specs.Journal.History.{bodies, claims_on, taken, triple_of}
+use Rattle.journal.specs.Journal.Logs.{same_body}
+use Rattle.journal.specs.Journal.Readiness.{yes_to}
+use Rattle.journal.specs.Journal.Replies.{same_claim}
+use Rattle.journal.proofs.JournalLemmas.Different.{Differ, differ-distinct}
 use Rattle.key_state.specs.Same.{distinct}
-use Rattle.export_laws.specs.Export.{ordered}
-use Rattle.validator_core.specs.View.{CoreView, Stands, base_of, told_of}
-use Rattle.export_core.specs.Came.{event_in, name_cmp}
-use Rattle.export_core.specs.Exported.{HasCome, sent_by}
-use Rattle.export_core.specs.GoodClaims.{is_good_by}
-use Rattle.export_core.specs.Signers.{rules_by}
-use Rattle.export_core.specs.declared.exported_events.Came.{Came}
-use Rattle.export_core.specs.declared.signers.Signers.{Signers}
-use Rattle.export_core.proofs.Claims.{good_there}
+use Rattle.export_core.specs.ExportLaws.Export.{ordered}
+use Rattle.validator_core.specs.ValidatorCore.View.{CoreView, Stands, base_of, told_of}
+use Rattle.export_core.specs.ExportCore.Came.{event_in, name_cmp}
+use Rattle.export_core.specs.ExportCore.Exported.{HasCome, sent_by}
+use Rattle.export_core.specs.ExportCore.GoodClaims.{is_good_by}
+use Rattle.export_core.specs.ExportCore.Signers.{rules_by}
+use Rattle.export_core.specs.declared.export_core.exported_events.Came.{Came}
+use Rattle.export_core.specs.declared.export_core.signers.Signers.{Signers}
+use Rattle.export_core.proofs.ExportCoreLemmas.Claims.{good_there}
 
 -- the event of a number is that of its body
 event_at : (held : List Body) (m : ℕ) → slice_get (map (λ b. b.event) held) m ≡ option_map (λ c. c.event) (slice_get held m)

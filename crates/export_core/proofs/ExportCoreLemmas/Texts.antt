@@ -7,11 +7,11 @@ use Rattle.std.proofs.lemmas.List.Elements.{filter-append}
 use Rattle.cesr_codes.specs.declared.indexed_sig.IndexedSig.{IndexedSig}
 use Rattle.cesr_stream.specs.Written.{item_text}
 use Rattle.cesr_stream.specs.declared.couple.Couple.{Couple}
-use Rattle.journal.specs.Replies.{is_held}
-use Rattle.journal.specs.declared.claim.Claim.{Claim}
-use Rattle.journal.specs.declared.claim.Claim.TheVariants.{Held, Witness, Couple as CoupleClaim}
-use Rattle.export_laws.specs.Export.{is_couple, is_witness, ordered}
-use Rattle.export_core.specs.Messages.{AreTexts, IsMessageText, MayBeSent, PutsMessage, claim_of, couple_group, held_group, witness_group}
+use Rattle.journal.specs.Journal.Replies.{is_held}
+use Rattle.journal.specs.declared.journal.claim.Claim.{Claim}
+use Rattle.journal.specs.declared.journal.claim.Claim.TheVariants.{Held, Witness, Couple as CoupleClaim}
+use Rattle.export_core.specs.ExportLaws.Export.{is_couple, is_witness, ordered}
+use Rattle.export_core.specs.ExportCore.Messages.{AreTexts, IsMessageText, MayBeSent, PutsMessage, claim_of, couple_group, held_group, witness_group}
 
 -- what an answer says of success
 pub on_ok_so : {T E P Q : Type 0} (r : Result T E) → OnOk r P → (P → Q) → OnOk r Q

@@ -4,18 +4,18 @@ use Rattle.std.proofs.Common.{◌≡◌, ◌≢◌, ℕ, ◌<◌, false, List, [
 use Rattle.std.specs.Prelude.{All, filter, fold}
 use Rattle.std.proofs.lemmas.Bool.{cases_Bool}
 use Rattle.std.proofs.lemmas.List.Elements.{All-cons, All-filter, All-head, All-nil, All-tail}
-use Rattle.acceptance.specs.Standing.{IsHeld}
+use Rattle.validator_core.specs.Acceptance.Standing.{IsHeld}
 use Rattle.cesr_codes.specs.declared.key.Key.{Key}
 use Rattle.cesr_codes.specs.declared.prefix.Prefix.{Prefix}
-use Rattle.event_body.specs.declared.event.Event.{Event}
-use Rattle.event_body.specs.declared.event.Event.TheVariants.{Icp, Rot, Ixn, Dip, Drt, Rct}
-use Rattle.event_body.specs.Events.{prefix_of}
-use Rattle.event_body.specs.Judging.{SpellsEvent}
-use Rattle.event_body.proofs.Keeping.{kept}
-use Rattle.export_laws.specs.Export.{rules_under}
-use Rattle.export_laws.proofs.Wants.{wants}
-use Rattle.journal.specs.declared.body.Body.{Body}
-use Rattle.journal.specs.Logs.{before, is_of, same_body, state, stepped}
+use Rattle.event_body.specs.declared.event_body.event.Event.{Event}
+use Rattle.event_body.specs.declared.event_body.event.Event.TheVariants.{Icp, Rot, Ixn, Dip, Drt, Rct}
+use Rattle.event_body.specs.EventBody.Events.{prefix_of}
+use Rattle.event_body.specs.EventBody.Judging.{SpellsEvent}
+use Rattle.event_body.proofs.EventBodyLemmas.Keeping.{kept}
+use Rattle.export_core.specs.ExportLaws.Export.{rules_under}
+use Rattle.export_core.proofs.ExportLawsLemmas.Wants.{wants}
+use Rattle.journal.specs.declared.journal.body.Body.{Body}
+use Rattle.journal.specs.Journal.Logs.{before, is_of, same_body, state, stepped}
 use Rattle.key_state.specs.Exposure.{Rules, own_rules, rules_of}
 use Rattle.key_state.specs.KeyStates.{misfit, moved}
 use Rattle.key_state.specs.States.{State}

@@ -5,33 +5,33 @@ use Rattle.std.specs.Cmp.Lexicographic.{bytes_decides}
 use Rattle.std.proofs.lemmas.Bool.{cases_Bool, and_parts, and_from}
 use Rattle.std.proofs.lemmas.List.Elements.{filter-append}
 use Rattle.cesr_codes.specs.declared.prefix.Prefix.{Prefix}
-use Rattle.event_body.specs.Events.{prefix_of, is_inception}
+use Rattle.event_body.specs.EventBody.Events.{prefix_of, is_inception}
 use Rattle.key_state.specs.Exposure.{own_rules}
-use Rattle.journal.specs.declared.body.Body.{Body}
-use Rattle.journal.specs.declared.claim.Claim.{Claim}
-use Rattle.journal.specs.declared.mode.Mode.TheVariants.{Full}
-use Rattle.journal.specs.Acceptance.{grown_by}
-use Rattle.journal.specs.Accepted.{accepted}
-use Rattle.journal.specs.Grown.{IsGrown, fits}
-use Rattle.journal.specs.History.{Told, took, Triple, bodies, claims_on, no_in, said_yes, same_triple, taken, triple_of}
-use Rattle.journal.specs.Logs.{is_in, is_of, live, live_with, same_body, state, stands, takes}
-use Rattle.journal.specs.Questions.{IsRegular, questions, raised_by, state_before}
-use Rattle.journal.specs.Readiness.{is_backed, is_ready, signed, yes_to}
-use Rattle.journal.specs.Seals.{anchored, delegator_of, forbids, has_trait, is_sealed, seals}
-use Rattle.journal.proofs.Accepting.{accepted_extends, same_body-refl}
-use Rattle.core_laws.specs.Standing.{HasNoClash}
-use Rattle.export_laws.specs.Export.{AreRetold, ExportLaw, Sent, cut_claims, delegator, delegator_if, export, exported, is_good, is_of_some, messages_of, rules_under, sent_claims}
+use Rattle.journal.specs.declared.journal.body.Body.{Body}
+use Rattle.journal.specs.declared.journal.claim.Claim.{Claim}
+use Rattle.journal.specs.declared.journal.mode.Mode.TheVariants.{Full}
+use Rattle.journal.specs.Journal.Acceptance.{grown_by}
+use Rattle.journal.specs.Journal.Accepted.{accepted}
+use Rattle.journal.specs.Journal.Grown.{IsGrown, fits}
+use Rattle.journal.specs.Journal.History.{Told, took, Triple, bodies, claims_on, no_in, said_yes, same_triple, taken, triple_of}
+use Rattle.journal.specs.Journal.Logs.{is_in, is_of, live, live_with, same_body, state, stands, takes}
+use Rattle.journal.specs.Journal.Questions.{IsRegular, questions, raised_by, state_before}
+use Rattle.journal.specs.Journal.Readiness.{is_backed, is_ready, signed, yes_to}
+use Rattle.journal.specs.Journal.Seals.{anchored, delegator_of, forbids, has_trait, is_sealed, seals}
+use Rattle.journal.proofs.JournalLemmas.Accepting.{accepted_extends, same_body-refl}
+use Rattle.claim_table.specs.CoreLaws.Standing.{HasNoClash}
+use Rattle.export_core.specs.ExportLaws.Export.{AreRetold, ExportLaw, Sent, cut_claims, delegator, delegator_if, export, exported, is_good, is_of_some, messages_of, rules_under, sent_claims}
 use Rattle.key_state.proofs.Among.{Among, among, among_first, among_left, among_left_by, among_right, contained, distinct_among, left_among, passed, passing}
-use Rattle.journal_laws.proofs.Came.{accepted_came, bodies_differ, bodies_more, claims_more, grown, none_ready, same_bytes, were_ready}
-use Rattle.export_laws.proofs.Ready.{ready_by, ready_parts, yes_more}
-use Rattle.export_laws.proofs.Family.{before_family, delegator_is, family_of, of_family, own_family, state_family}
-use Rattle.journal_laws.proofs.Followed.{before_stays, follows, inception_rules, inception_stands, stands_by}
-use Rattle.journal_laws.proofs.Growing.{BackersCome, GoodCome, anchored_more, backed_more, signed_more}
-use Rattle.journal_laws.proofs.Numbered.{fit_parts}
-use Rattle.export_laws.proofs.Retold.{Replays, replays}
-use Rattle.export_laws.proofs.Rules.{before_log, its_fit, its_front_grown, kept_rules, rules_there}
-use Rattle.export_laws.proofs.Sending.{brings_body, brings_claims, brings_itself, brings_no, cut_all, cut_some, keeps_claims, sent_all}
-use Rattle.journal_laws.proofs.Verdicts.{answered_so, backs_by, by_backs, raises, triple_body, was_raised, yes_by}
+use Rattle.journal_views.proofs.JournalLawsLemmas.Came.{accepted_came, bodies_differ, bodies_more, claims_more, grown, none_ready, same_bytes, were_ready}
+use Rattle.export_core.proofs.ExportLawsLemmas.Ready.{ready_by, ready_parts, yes_more}
+use Rattle.export_core.proofs.ExportLawsLemmas.Family.{before_family, delegator_is, family_of, of_family, own_family, state_family}
+use Rattle.journal_views.proofs.JournalLawsLemmas.Followed.{before_stays, follows, inception_rules, inception_stands, stands_by}
+use Rattle.journal_views.proofs.JournalLawsLemmas.Growing.{BackersCome, GoodCome, anchored_more, backed_more, signed_more}
+use Rattle.journal_views.proofs.JournalLawsLemmas.Numbered.{fit_parts}
+use Rattle.export_core.proofs.ExportLawsLemmas.Retold.{Replays, replays}
+use Rattle.export_core.proofs.ExportLawsLemmas.Rules.{before_log, its_fit, its_front_grown, kept_rules, rules_there}
+use Rattle.export_core.proofs.ExportLawsLemmas.Sending.{brings_body, brings_claims, brings_itself, brings_no, cut_all, cut_some, keeps_claims, sent_all}
+use Rattle.journal_views.proofs.JournalLawsLemmas.Verdicts.{answered_so, backs_by, by_backs, raises, triple_body, was_raised, yes_by}
 
 -- no verdict is no
 abbrev HasNoNo : List Told → Type 0

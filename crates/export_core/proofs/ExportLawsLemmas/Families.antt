@@ -7,33 +7,33 @@ use Rattle.std.specs.Cmp.Lexicographic.{bytes_decides}
 use Rattle.std.proofs.lemmas.Bool.{cases_Bool}
 use Rattle.std.proofs.lemmas.List.Elements.{filter-append}
 use Rattle.cesr_codes.specs.declared.prefix.Prefix.{Prefix}
-use Rattle.event_body.specs.Events.{prefix_of}
-use Rattle.event_body.specs.Judging.{SpellsEvent}
-use Rattle.event_body.proofs.Whole.{one_event}
+use Rattle.event_body.specs.EventBody.Events.{prefix_of}
+use Rattle.event_body.specs.EventBody.Judging.{SpellsEvent}
+use Rattle.event_body.proofs.EventBodyLemmas.Whole.{one_event}
 use Rattle.key_state.specs.KeyStates.{misfit}
 use Rattle.key_state.specs.Same.{distinct, same_prefix}
 use Rattle.key_state.specs.States.{State}
-use Rattle.journal.specs.declared.body.Body.{Body}
-use Rattle.journal.specs.declared.mode.Mode.{Mode}
-use Rattle.journal.specs.Acceptance.{Settles, grown_by, more, rest}
-use Rattle.journal.specs.Accepted.{accepted}
-use Rattle.journal.specs.History.{Told, bodies, heard, taken, took}
-use Rattle.journal.specs.Logs.{is_of, live, live_with, same_body, state, stepped}
-use Rattle.journal.specs.Readiness.{is_local, is_ready}
-use Rattle.journal.proofs.Accepting.{accepted_extends}
-use Rattle.journal.proofs.Keeping.{accepted_ends}
-use Rattle.journal.proofs.Settling.{Settles-unique}
+use Rattle.journal.specs.declared.journal.body.Body.{Body}
+use Rattle.journal.specs.declared.journal.mode.Mode.{Mode}
+use Rattle.journal.specs.Journal.Acceptance.{Settles, grown_by, more, rest}
+use Rattle.journal.specs.Journal.Accepted.{accepted}
+use Rattle.journal.specs.Journal.History.{Told, bodies, heard, taken, took}
+use Rattle.journal.specs.Journal.Logs.{is_of, live, live_with, same_body, state, stepped}
+use Rattle.journal.specs.Journal.Readiness.{is_local, is_ready}
+use Rattle.journal.proofs.JournalLemmas.Accepting.{accepted_extends}
+use Rattle.journal.proofs.JournalLemmas.Keeping.{accepted_ends}
+use Rattle.journal.proofs.JournalLemmas.Settling.{Settles-unique}
 use Rattle.quorum_laws.specs.Backing.{AreSpelled}
 use Rattle.quorum_laws.proofs.Agreeing.{spelled_at}
 use Rattle.key_state.proofs.Among.{Among, among, among_left, among_map, among_right, contained, found, left_among}
-use Rattle.export_laws.specs.Export.{delegator_if, exported, is_of_some}
-use Rattle.export_laws.specs.Families.{FamilyLaw, HaveOneReading, IsClosed, IsPart, NamedFamilyLaw, NamesItsOwn, told_bodies, told_body, within}
-use Rattle.export_laws.proofs.Family.{delegator_is, delegator_stays, family_of, moved_delegator, of_family, own_family, state_family}
-use Rattle.export_laws.proofs.Ready.{ready_parts}
-use Rattle.export_laws.proofs.Filters.{distinct_filter, find_filter, none_filter}
-use Rattle.core_laws.proofs.Entries.{accepted_settles}
-use Rattle.export_laws.proofs.Rounds.{accepted_from, bodies_came, came, came_told, rounds_extend, told_more}
-use Rattle.export_laws.proofs.Within.{ready_within, ready_without}
+use Rattle.export_core.specs.ExportLaws.Export.{delegator_if, exported, is_of_some}
+use Rattle.export_core.specs.ExportLaws.Families.{FamilyLaw, HaveOneReading, IsClosed, IsPart, NamedFamilyLaw, NamesItsOwn, told_bodies, told_body, within}
+use Rattle.export_core.proofs.ExportLawsLemmas.Family.{delegator_is, delegator_stays, family_of, moved_delegator, of_family, own_family, state_family}
+use Rattle.export_core.proofs.ExportLawsLemmas.Ready.{ready_parts}
+use Rattle.export_core.proofs.ExportLawsLemmas.Filters.{distinct_filter, find_filter, none_filter}
+use Rattle.claim_table.proofs.CoreLawsLemmas.Entries.{accepted_settles}
+use Rattle.export_core.proofs.ExportLawsLemmas.Rounds.{accepted_from, bodies_came, came, came_told, rounds_extend, told_more}
+use Rattle.export_core.proofs.ExportLawsLemmas.Within.{ready_within, ready_without}
 
 module _ (mode : Mode) (base : List Body) (whole : List Told) (family : List Prefix)
     (one : HaveOneReading (told_bodies base whole))

@@ -4,22 +4,22 @@ use Rattle.std.specs.Prelude.{find, filter}
 use Rattle.std.proofs.lemmas.Bool.{cases_Bool}
 use Rattle.std.proofs.lemmas.List.Elements.{filter-append}
 use Rattle.cesr_codes.specs.declared.prefix.Prefix.{Prefix}
-use Rattle.event_body.specs.declared.event.Event.{Event}
-use Rattle.event_body.specs.declared.event.Event.TheVariants.{Icp, Rot, Ixn, Dip, Drt, Rct}
-use Rattle.event_body.specs.Events.{prefix_of}
+use Rattle.event_body.specs.declared.event_body.event.Event.{Event}
+use Rattle.event_body.specs.declared.event_body.event.Event.TheVariants.{Icp, Rot, Ixn, Dip, Drt, Rct}
+use Rattle.event_body.specs.EventBody.Events.{prefix_of}
 use Rattle.key_state.specs.KeyStates.{misfit, moved}
 use Rattle.key_state.specs.States.{State}
 use Rattle.key_state.proofs.Same.{same_prefix_is, same_prefix_itself}
-use Rattle.journal.specs.declared.body.Body.{Body}
-use Rattle.journal.specs.Grown.{IsGrown}
-use Rattle.journal.specs.Logs.{is_in, is_of, precedes, predecessor, same_body, state, state_behind, stepped, takes, up_to}
-use Rattle.journal.specs.Questions.{state_before}
-use Rattle.journal.specs.Seals.{delegator_of}
-use Rattle.journal.proofs.StateSteps.{state-own, state-other}
-use Rattle.export_laws.specs.Export.{InFamily, IsFamily, delegator, delegator_if, exported, is_of_some, itself}
+use Rattle.journal.specs.declared.journal.body.Body.{Body}
+use Rattle.journal.specs.Journal.Grown.{IsGrown}
+use Rattle.journal.specs.Journal.Logs.{is_in, is_of, precedes, predecessor, same_body, state, state_behind, stepped, takes, up_to}
+use Rattle.journal.specs.Journal.Questions.{state_before}
+use Rattle.journal.specs.Journal.Seals.{delegator_of}
+use Rattle.journal.proofs.JournalLemmas.StateSteps.{state-own, state-other}
+use Rattle.export_core.specs.ExportLaws.Export.{InFamily, IsFamily, delegator, delegator_if, exported, is_of_some, itself}
 use Rattle.key_state.proofs.Among.{Among, among, contained, left_among, parted, passed, passing}
-use Rattle.journal_laws.proofs.Followed.{up_to_there, predecessor_found, precedes_parts, same_own}
-use Rattle.journal_laws.proofs.Numbered.{fit_parts, own}
+use Rattle.journal_views.proofs.JournalLawsLemmas.Followed.{up_to_there, predecessor_found, precedes_parts, same_own}
+use Rattle.journal_views.proofs.JournalLawsLemmas.Numbered.{fit_parts, own}
 
 -- one more event leaves the delegator of a state
 pub moved_delegator : (s : State) (e : Event) → (moved s e).delegator ≡ s.delegator

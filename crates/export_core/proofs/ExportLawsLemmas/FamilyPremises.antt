@@ -9,32 +9,32 @@ use Rattle.cesr_codes.specs.declared.key.KeyCode.TheVariants.{Rotating}
 use Rattle.cesr_codes.specs.declared.prefix.Prefix.{Prefix}
 use Rattle.cesr_codes.specs.declared.prefix.Prefix.TheVariants.{Said}
 use Rattle.cesr_codes.specs.declared.sig.Sig.{Sig}
-use Rattle.event_body.specs.declared.event.Event.TheVariants.{Dip, Icp, Ixn}
-use Rattle.event_body.specs.declared.inception.Inception.{Inception}
-use Rattle.event_body.specs.declared.interaction.Interaction.{Interaction}
+use Rattle.event_body.specs.declared.event_body.event.Event.TheVariants.{Dip, Icp, Ixn}
+use Rattle.event_body.specs.declared.event_body.inception.Inception.{Inception}
+use Rattle.event_body.specs.declared.event_body.interaction.Interaction.{Interaction}
 use Rattle.sith.specs.declared.threshold.Threshold.TheVariants.{Count}
-use Rattle.event_body.specs.Events.{prefix_of}
+use Rattle.event_body.specs.EventBody.Events.{prefix_of}
 use Rattle.sith.specs.Tests.{satisfied}
 use Rattle.key_state.specs.Exposure.{exposed}
 use Rattle.key_state.specs.KeyStates.{misfit}
 use Rattle.key_state.specs.Same.{distinct, same_prefix}
 use Rattle.key_state.proofs.Among.{Among, among, contained}
 use Rattle.key_state.proofs.Same.{same_prefix_is}
-use Rattle.journal.specs.declared.body.Body.{Body}
-use Rattle.journal.specs.declared.claim.Claim.TheVariants.{Held}
-use Rattle.journal.specs.declared.mode.Mode.{Mode}
-use Rattle.journal.specs.declared.mode.Mode.TheVariants.{Full, Local}
-use Rattle.journal.specs.Acceptance.{Settles, grown_by, more, rest, settled}
-use Rattle.journal.specs.Accepted.{accepted}
-use Rattle.journal.specs.History.{Told, heard, bodies, claims_on, said_yes, taken, took}
-use Rattle.journal.specs.Logs.{state, stepped}
-use Rattle.journal.specs.Readiness.{backers, backs, good_sigs, is_ready, signed}
-use Rattle.journal.specs.Seals.{anchored, seals}
-use Rattle.core_laws.proofs.Entries.{settles_accepted}
-use Rattle.journal_laws.proofs.Came.{all_pass}
-use Rattle.export_laws.specs.Export.{delegator_if, exported}
-use Rattle.export_laws.specs.Families.{HaveOneReading, IsPart, NamesItsOwn, told_bodies, within}
-use Rattle.export_laws.proofs.Families.{named_families}
+use Rattle.journal.specs.declared.journal.body.Body.{Body}
+use Rattle.journal.specs.declared.journal.claim.Claim.TheVariants.{Held}
+use Rattle.journal.specs.declared.journal.mode.Mode.{Mode}
+use Rattle.journal.specs.declared.journal.mode.Mode.TheVariants.{Full, Local}
+use Rattle.journal.specs.Journal.Acceptance.{Settles, grown_by, more, rest, settled}
+use Rattle.journal.specs.Journal.Accepted.{accepted}
+use Rattle.journal.specs.Journal.History.{Told, heard, bodies, claims_on, said_yes, taken, took}
+use Rattle.journal.specs.Journal.Logs.{state, stepped}
+use Rattle.journal.specs.Journal.Readiness.{backers, backs, good_sigs, is_ready, signed}
+use Rattle.journal.specs.Journal.Seals.{anchored, seals}
+use Rattle.claim_table.proofs.CoreLawsLemmas.Entries.{settles_accepted}
+use Rattle.journal_views.proofs.JournalLawsLemmas.Came.{all_pass}
+use Rattle.export_core.specs.ExportLaws.Export.{delegator_if, exported}
+use Rattle.export_core.specs.ExportLaws.Families.{HaveOneReading, IsPart, NamesItsOwn, told_bodies, within}
+use Rattle.export_core.proofs.ExportLawsLemmas.Families.{named_families}
 
 -- bodies whose identifier is told by their bytes
 read_by : (reading : List ℕ → Prefix) (all : List Body)

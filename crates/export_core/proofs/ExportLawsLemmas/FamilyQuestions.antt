@@ -8,26 +8,26 @@ use Rattle.std.proofs.lemmas.List.Elements.{filter-append}
 use Rattle.cesr_codes.specs.declared.prefix.Prefix.{Prefix}
 use Rattle.key_state.specs.Exposure.{own_rules}
 use Rattle.key_state.specs.Same.{distinct}
-use Rattle.journal.specs.declared.body.Body.{Body}
-use Rattle.journal.specs.declared.mode.Mode.{Mode}
-use Rattle.journal.specs.Accepted.{accepted}
-use Rattle.journal.specs.Grown.{IsGrown}
-use Rattle.journal.specs.History.{Told, Triple, bodies, has_verdict, heard, heard_in, same_triple, took}
-use Rattle.journal.specs.Questions.{questions, raised, raised_by, state_before}
-use Rattle.journal.specs.Readiness.{is_local}
-use Rattle.journal.proofs.Keeping.{accepted_grown}
-use Rattle.journal.proofs.Same.{same_triple_is}
-use Rattle.journal_laws.proofs.Followed.{stands_same}
-use Rattle.journal_laws.proofs.Verdicts.{raised_from, triple_body}
+use Rattle.journal.specs.declared.journal.body.Body.{Body}
+use Rattle.journal.specs.declared.journal.mode.Mode.{Mode}
+use Rattle.journal.specs.Journal.Accepted.{accepted}
+use Rattle.journal.specs.Journal.Grown.{IsGrown}
+use Rattle.journal.specs.Journal.History.{Told, Triple, bodies, has_verdict, heard, heard_in, same_triple, took}
+use Rattle.journal.specs.Journal.Questions.{questions, raised, raised_by, state_before}
+use Rattle.journal.specs.Journal.Readiness.{is_local}
+use Rattle.journal.proofs.JournalLemmas.Keeping.{accepted_grown}
+use Rattle.journal.proofs.JournalLemmas.Same.{same_triple_is}
+use Rattle.journal_views.proofs.JournalLawsLemmas.Followed.{stands_same}
+use Rattle.journal_views.proofs.JournalLawsLemmas.Verdicts.{raised_from, triple_body}
 use Rattle.key_state.proofs.Among.{Among, among, among_either, among_left, among_left_by, among_map, among_right, contained, distinct_among, flat_map_among, left_among, map_among, passed, passing}
-use Rattle.export_laws.specs.Export.{exported, is_of_some}
-use Rattle.export_laws.specs.Families.{HaveOneReading, IsClosed, told_bodies, told_body, within}
-use Rattle.export_laws.specs.FamilyQuestions.{FamilyQuestionsLaw, FamilyRegularLaw, is_on}
-use Rattle.export_laws.proofs.Family.{before_family}
-use Rattle.export_laws.proofs.Families.{apart, bodies_within, came_all, closed_here, entry_all, families}
-use Rattle.export_laws.proofs.Filters.{distinct_filter, filter_alike, filter_each, filter_no, filters_turned}
-use Rattle.export_laws.proofs.Rounds.{bodies_came}
-use Rattle.export_laws.proofs.Within.{any_within, claims_within}
+use Rattle.export_core.specs.ExportLaws.Export.{exported, is_of_some}
+use Rattle.export_core.specs.ExportLaws.Families.{HaveOneReading, IsClosed, told_bodies, told_body, within}
+use Rattle.export_core.specs.ExportLaws.FamilyQuestions.{FamilyQuestionsLaw, FamilyRegularLaw, is_on}
+use Rattle.export_core.proofs.ExportLawsLemmas.Family.{before_family}
+use Rattle.export_core.proofs.ExportLawsLemmas.Families.{apart, bodies_within, came_all, closed_here, entry_all, families}
+use Rattle.export_core.proofs.ExportLawsLemmas.Filters.{distinct_filter, filter_alike, filter_each, filter_no, filters_turned}
+use Rattle.export_core.proofs.ExportLawsLemmas.Rounds.{bodies_came}
+use Rattle.export_core.proofs.ExportLawsLemmas.Within.{any_within, claims_within}
 
 module _ (mode : Mode) (base : List Body) (told : List Told) (family : List Prefix)
     (one : HaveOneReading (told_bodies base told)) (grown : IsGrown base)

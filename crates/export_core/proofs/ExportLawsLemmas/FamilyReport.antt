@@ -3,34 +3,34 @@ use Rattle.std.proofs.Common.{◌≡◌, ◌⊎◌, true, false, not, ◌&&◌, 
 use Rattle.std.specs.Prelude.{filter}
 use Rattle.std.proofs.lemmas.Bool.{cases_Bool}
 use Rattle.cesr_codes.specs.declared.prefix.Prefix.{Prefix}
-use Rattle.event_body.specs.declared.event.Event.{Event}
-use Rattle.event_body.specs.declared.event.Event.TheVariants.{Icp, Rot, Ixn, Dip, Drt, Rct}
-use Rattle.event_body.specs.Events.{prefix_of, is_inception, is_receipt}
+use Rattle.event_body.specs.declared.event_body.event.Event.{Event}
+use Rattle.event_body.specs.declared.event_body.event.Event.TheVariants.{Icp, Rot, Ixn, Dip, Drt, Rct}
+use Rattle.event_body.specs.EventBody.Events.{prefix_of, is_inception, is_receipt}
 use Rattle.key_state.specs.KeyStates.{first_true}
 use Rattle.key_state.specs.States.{State}
 use Rattle.key_state.proofs.Among.{Among, among, contained, left_among}
-use Rattle.journal.specs.declared.body.Body.{Body}
-use Rattle.journal.specs.declared.mode.Mode.{Mode}
-use Rattle.journal.specs.declared.why.Why.TheVariants.{Predecessor, Signatures, Next, Receipts, Seal, Never}
-use Rattle.journal.specs.Accepted.{accepted}
-use Rattle.journal.specs.Conflicts.{counted, counts}
-use Rattle.journal.specs.Grown.{IsGrown}
-use Rattle.journal.specs.History.{Told, bodies}
-use Rattle.journal.specs.Logs.{is_in, precedes, predecessor, same_body, stands, state, stepped}
-use Rattle.journal.specs.Questions.{state_before}
-use Rattle.journal.specs.Readiness.{is_local, meets_before, meets_own}
-use Rattle.journal.specs.Seals.{anchored, delegator_of}
-use Rattle.journal.specs.Waiting.{is_lost, reason_under, why_waits}
-use Rattle.journal.proofs.Keeping.{accepted_grown}
-use Rattle.journal_laws.proofs.Followed.{precedes_parts, stands_same}
-use Rattle.export_laws.specs.Export.{delegator_if, exported, is_of_some}
-use Rattle.export_laws.specs.Families.{HaveOneReading, IsClosed, NamesItsOwn, told_bodies, told_body, within}
-use Rattle.export_laws.specs.FamilyReport.{FamilyReportLaw}
-use Rattle.export_laws.proofs.Families.{apart, bodies_within, came_all, closed_by, entry_all, families}
-use Rattle.export_laws.proofs.Family.{before_family, family_of, find_family, of_family, state_family}
-use Rattle.export_laws.proofs.Filters.{filter_alike, filters_turned}
-use Rattle.export_laws.proofs.Rounds.{accepted_from, bodies_came, came}
-use Rattle.export_laws.proofs.Within.{backed_within, forbids_within, good_sigs_within, is_in_within, sealed_within, signed_within}
+use Rattle.journal.specs.declared.journal.body.Body.{Body}
+use Rattle.journal.specs.declared.journal.mode.Mode.{Mode}
+use Rattle.journal.specs.declared.journal.why.Why.TheVariants.{Predecessor, Signatures, Next, Receipts, Seal, Never}
+use Rattle.journal.specs.Journal.Accepted.{accepted}
+use Rattle.journal.specs.Journal.Conflicts.{counted, counts}
+use Rattle.journal.specs.Journal.Grown.{IsGrown}
+use Rattle.journal.specs.Journal.History.{Told, bodies}
+use Rattle.journal.specs.Journal.Logs.{is_in, precedes, predecessor, same_body, stands, state, stepped}
+use Rattle.journal.specs.Journal.Questions.{state_before}
+use Rattle.journal.specs.Journal.Readiness.{is_local, meets_before, meets_own}
+use Rattle.journal.specs.Journal.Seals.{anchored, delegator_of}
+use Rattle.journal.specs.Journal.Waiting.{is_lost, reason_under, why_waits}
+use Rattle.journal.proofs.JournalLemmas.Keeping.{accepted_grown}
+use Rattle.journal_views.proofs.JournalLawsLemmas.Followed.{precedes_parts, stands_same}
+use Rattle.export_core.specs.ExportLaws.Export.{delegator_if, exported, is_of_some}
+use Rattle.export_core.specs.ExportLaws.Families.{HaveOneReading, IsClosed, NamesItsOwn, told_bodies, told_body, within}
+use Rattle.export_core.specs.ExportLaws.FamilyReport.{FamilyReportLaw}
+use Rattle.export_core.proofs.ExportLawsLemmas.Families.{apart, bodies_within, came_all, closed_by, entry_all, families}
+use Rattle.export_core.proofs.ExportLawsLemmas.Family.{before_family, family_of, find_family, of_family, state_family}
+use Rattle.export_core.proofs.ExportLawsLemmas.Filters.{filter_alike, filters_turned}
+use Rattle.export_core.proofs.ExportLawsLemmas.Rounds.{accepted_from, bodies_came, came}
+use Rattle.export_core.proofs.ExportLawsLemmas.Within.{backed_within, forbids_within, good_sigs_within, is_in_within, sealed_within, signed_within}
 
 -- the delegator of an event is the one that it names or that of the state
 named_or_state : (o : Option State) (e : Event) (d : Prefix) → delegator_of o e ≡ Some d

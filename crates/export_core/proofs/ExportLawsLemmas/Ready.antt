@@ -3,15 +3,15 @@ use Rattle.std.proofs.Common.{◌≡◌, true, false, not, ◌&&◌, ◌||◌, L
 use Rattle.std.specs.Prelude.{flat_map}
 use Rattle.std.proofs.lemmas.Bool.{and_parts, and_from, not-true, not_from_false}
 use Rattle.std.proofs.lemmas.List.Concat.{flat_map-append}
-use Rattle.event_body.specs.Events.{prefix_of, is_receipt}
-use Rattle.journal.specs.declared.body.Body.{Body}
-use Rattle.journal.specs.declared.mode.Mode.{Mode}
-use Rattle.journal.specs.History.{Told, Triple, said_yes, yes_in}
-use Rattle.journal.specs.Logs.{is_in, state, takes}
-use Rattle.journal.specs.Readiness.{is_backed, is_local, is_ready, signed}
-use Rattle.journal.specs.Seals.{anchored}
+use Rattle.event_body.specs.EventBody.Events.{prefix_of, is_receipt}
+use Rattle.journal.specs.declared.journal.body.Body.{Body}
+use Rattle.journal.specs.declared.journal.mode.Mode.{Mode}
+use Rattle.journal.specs.Journal.History.{Told, Triple, said_yes, yes_in}
+use Rattle.journal.specs.Journal.Logs.{is_in, state, takes}
+use Rattle.journal.specs.Journal.Readiness.{is_backed, is_local, is_ready, signed}
+use Rattle.journal.specs.Journal.Seals.{anchored}
 use Rattle.key_state.proofs.Among.{Among, among_left}
-use Rattle.journal_laws.proofs.Verdicts.{among_yes, yes_among}
+use Rattle.journal_views.proofs.JournalLawsLemmas.Verdicts.{among_yes, yes_among}
 
 -- what makes a body ready
 pub record AreReady (mode : Mode) (told : List Told) (log : List Body) (b : Body) : Type 0 where

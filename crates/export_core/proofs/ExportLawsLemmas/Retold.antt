@@ -4,12 +4,12 @@ use Rattle.std.specs.Prelude.{All, IsTrue}
 use Rattle.std.specs.List.{list_any}
 use Rattle.std.proofs.lemmas.List.Elements.{All-head, All-tail}
 use Rattle.key_state.specs.Same.{distinct}
-use Rattle.journal.specs.declared.body.Body.{Body}
-use Rattle.journal.specs.declared.claim.Claim.{Claim}
-use Rattle.journal.specs.declared.mode.Mode.TheVariants.{Full}
-use Rattle.journal.specs.History.{Told, Triple, took, heard, bodies, same_triple}
-use Rattle.journal.specs.Questions.{IsRegular, questions, raised}
-use Rattle.export_laws.specs.Export.{AreRetold, SaysYes, Sent, sent_in}
+use Rattle.journal.specs.declared.journal.body.Body.{Body}
+use Rattle.journal.specs.declared.journal.claim.Claim.{Claim}
+use Rattle.journal.specs.declared.journal.mode.Mode.TheVariants.{Full}
+use Rattle.journal.specs.Journal.History.{Told, Triple, took, heard, bodies, same_triple}
+use Rattle.journal.specs.Journal.Questions.{IsRegular, questions, raised}
+use Rattle.export_core.specs.ExportLaws.Export.{AreRetold, SaysYes, Sent, sent_in}
 
 -- the entries are verdicts, and each is yes
 abbrev pub AllYes : List Told → Type 0

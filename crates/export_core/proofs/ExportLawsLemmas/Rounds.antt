@@ -2,15 +2,15 @@
 use Rattle.std.proofs.Common.{◌≡◌, Bool, List, [], ◌∷◌, ◌++◌, map, Contains, sym, ◌∙◌, subst, inl, inr, append_assoc, append-nil}
 use Rattle.std.specs.Prelude.{All, flat_map}
 use Rattle.std.proofs.lemmas.List.Elements.{All-contains, All-contains_itself, All-weaker}
-use Rattle.journal.specs.declared.body.Body.{Body}
-use Rattle.journal.specs.declared.mode.Mode.{Mode}
-use Rattle.journal.specs.Acceptance.{Settles, more, rest}
-use Rattle.journal.specs.Accepted.{accepted}
-use Rattle.journal.specs.History.{Told, bodies, heard, taken, took}
-use Rattle.journal.specs.Logs.{same_body}
+use Rattle.journal.specs.declared.journal.body.Body.{Body}
+use Rattle.journal.specs.declared.journal.mode.Mode.{Mode}
+use Rattle.journal.specs.Journal.Acceptance.{Settles, more, rest}
+use Rattle.journal.specs.Journal.Accepted.{accepted}
+use Rattle.journal.specs.Journal.History.{Told, bodies, heard, taken, took}
+use Rattle.journal.specs.Journal.Logs.{same_body}
 use Rattle.quorum_laws.proofs.Inside.{accepted_inside}
 use Rattle.key_state.proofs.Among.{Among, among, among_either, among_flat_map, among_left, among_map, among_right, contained, distinct_among, flat_map_among}
-use Rattle.export_laws.specs.Families.{told_bodies, told_body}
+use Rattle.export_core.specs.ExportLaws.Families.{told_bodies, told_body}
 
 -- what holds of each member
 all_by : {X : Type 0} (P : X → Type 0) (xs : List X) → ((x : X) → Among x xs → P x) → All P xs

@@ -1,26 +1,26 @@
 -- The rules of an accepted event under the state that it follows are those by which it was accepted.
 use Rattle.std.proofs.Common.{◌≡◌, true, false, List, [], ◌∷◌, ◌++◌, Option, Some, None, Contains, refl, sym, ◌∙◌, ap, subst, inl, inr, append_assoc}
 use Rattle.std.proofs.lemmas.Bool.{cases_Bool}
-use Rattle.event_body.specs.declared.event.Event.{Event}
-use Rattle.event_body.specs.Events.{prefix_of, is_inception}
+use Rattle.event_body.specs.declared.event_body.event.Event.{Event}
+use Rattle.event_body.specs.EventBody.Events.{prefix_of, is_inception}
 use Rattle.key_state.specs.Exposure.{own_rules}
 use Rattle.key_state.specs.States.{State}
-use Rattle.journal.specs.declared.body.Body.{Body}
-use Rattle.journal.specs.declared.mode.Mode.TheVariants.{Full}
-use Rattle.journal.specs.Accepted.{accepted}
-use Rattle.journal.specs.Grown.{IsGrown, fits}
-use Rattle.journal.specs.History.{Told}
-use Rattle.journal.specs.Logs.{before, is_in, same_body, state}
-use Rattle.journal.specs.Questions.{state_before}
-use Rattle.journal.proofs.Accepting.{same_body-refl}
-use Rattle.export_laws.specs.Export.{rules_under}
-use Rattle.core_laws.specs.Standing.{AreAlikeIf, HasNoClash}
-use Rattle.core_laws.proofs.Alike.{own_rules-alike}
-use Rattle.core_laws.proofs.Standing.{current}
+use Rattle.journal.specs.declared.journal.body.Body.{Body}
+use Rattle.journal.specs.declared.journal.mode.Mode.TheVariants.{Full}
+use Rattle.journal.specs.Journal.Accepted.{accepted}
+use Rattle.journal.specs.Journal.Grown.{IsGrown, fits}
+use Rattle.journal.specs.Journal.History.{Told}
+use Rattle.journal.specs.Journal.Logs.{before, is_in, same_body, state}
+use Rattle.journal.specs.Journal.Questions.{state_before}
+use Rattle.journal.proofs.JournalLemmas.Accepting.{same_body-refl}
+use Rattle.export_core.specs.ExportLaws.Export.{rules_under}
+use Rattle.claim_table.specs.CoreLaws.Standing.{AreAlikeIf, HasNoClash}
+use Rattle.claim_table.proofs.CoreLawsLemmas.Alike.{own_rules-alike}
+use Rattle.claim_table.proofs.CoreLawsLemmas.Standing.{current}
 use Rattle.key_state.proofs.Among.{Among, among, among_left, contained}
-use Rattle.journal_laws.proofs.Came.{grown}
-use Rattle.journal_laws.proofs.Followed.{before_stays, inception_rules, prior_of_fit}
-use Rattle.journal_laws.proofs.Numbered.{fit_parts}
+use Rattle.journal_views.proofs.JournalLawsLemmas.Came.{grown}
+use Rattle.journal_views.proofs.JournalLawsLemmas.Followed.{before_stays, inception_rules, prior_of_fit}
+use Rattle.journal_views.proofs.JournalLawsLemmas.Numbered.{fit_parts}
 
 -- states alike have the same rules
 alike_rules : (o p : Option State) (e : Event) → AreAlikeIf o p → own_rules o e ≡ own_rules p e

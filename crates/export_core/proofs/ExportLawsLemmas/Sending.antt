@@ -4,16 +4,16 @@ use Rattle.std.specs.Prelude.{filter, flat_map, nat_le}
 use Rattle.std.proofs.lemmas.Bool.{cases_Bool, or_left}
 use Rattle.std.proofs.lemmas.List.Concat.{flat_map-append}
 use Rattle.key_state.specs.Same.{distinct}
-use Rattle.journal.specs.declared.body.Body.{Body}
-use Rattle.journal.specs.declared.claim.Claim.{Claim}
-use Rattle.journal.specs.declared.claim.Claim.TheVariants.{Held, Witness, Couple}
-use Rattle.journal.specs.History.{Told, took, heard, Triple, claims_in, claims_on, is_receipt_for, no_in, taken}
-use Rattle.journal.specs.Logs.{same_body}
-use Rattle.journal.specs.Replies.{is_held, same_claim}
-use Rattle.journal.proofs.Accepting.{same_body-refl}
-use Rattle.journal.proofs.Same.{same_claim_is}
-use Rattle.export_laws.specs.Export.{cut_claims, is_couple, is_good, is_witness, ordered, runs_by, sent_claims}
-use Rattle.export_laws.proofs.Retold.{AllYes}
+use Rattle.journal.specs.declared.journal.body.Body.{Body}
+use Rattle.journal.specs.declared.journal.claim.Claim.{Claim}
+use Rattle.journal.specs.declared.journal.claim.Claim.TheVariants.{Held, Witness, Couple}
+use Rattle.journal.specs.Journal.History.{Told, took, heard, Triple, claims_in, claims_on, is_receipt_for, no_in, taken}
+use Rattle.journal.specs.Journal.Logs.{same_body}
+use Rattle.journal.specs.Journal.Replies.{is_held, same_claim}
+use Rattle.journal.proofs.JournalLemmas.Accepting.{same_body-refl}
+use Rattle.journal.proofs.JournalLemmas.Same.{same_claim_is}
+use Rattle.export_core.specs.ExportLaws.Export.{cut_claims, is_couple, is_good, is_witness, ordered, runs_by, sent_claims}
+use Rattle.export_core.proofs.ExportLawsLemmas.Retold.{AllYes}
 use Rattle.key_state.proofs.Among.{Among, among_distinct, among_either, among_left, among_left_by, among_right, among_map}
 
 front_or_rest : {X : Type 0} (n : ℕ) (xs : List X) (x : X) → Among x xs → Among x (take n xs) ⊎ Among x (drop n xs)

@@ -4,28 +4,28 @@ use Rattle.std.specs.Prelude.{filter, Ok}
 use Rattle.std.specs.List.{list_any}
 use Rattle.std.proofs.lemmas.Bool.{and_parts}
 use Rattle.cesr_codes.specs.declared.indexed_sig.IndexedSig.{IndexedSig}
-use Rattle.event_body.specs.Events.{prefix_of, is_receipt}
+use Rattle.event_body.specs.EventBody.Events.{prefix_of, is_receipt}
 use Rattle.sith.specs.Tests.{satisfied}
 use Rattle.key_state.specs.Exposure.{own_rules}
 use Rattle.key_state.specs.States.{State}
-use Rattle.journal.specs.declared.body.Body.{Body}
-use Rattle.journal.specs.declared.claim.Claim.{Claim}
-use Rattle.journal.specs.declared.claim.Claim.TheVariants.{Held, Witness, Couple}
-use Rattle.journal.specs.declared.mode.Mode.TheVariants.{Full}
-use Rattle.journal.specs.Accepted.{accepted}
-use Rattle.journal.specs.History.{Told, claims_on, said_yes, triple_of}
-use Rattle.journal.specs.Logs.{state}
-use Rattle.journal.specs.Readiness.{good_sigs, held_sig, meets_before, meets_own, signed, yes_to}
-use Rattle.journal.specs.Replies.{claims_of, is_held, refusal}
+use Rattle.journal.specs.declared.journal.body.Body.{Body}
+use Rattle.journal.specs.declared.journal.claim.Claim.{Claim}
+use Rattle.journal.specs.declared.journal.claim.Claim.TheVariants.{Held, Witness, Couple}
+use Rattle.journal.specs.declared.journal.mode.Mode.TheVariants.{Full}
+use Rattle.journal.specs.Journal.Accepted.{accepted}
+use Rattle.journal.specs.Journal.History.{Told, claims_on, said_yes, triple_of}
+use Rattle.journal.specs.Journal.Logs.{state}
+use Rattle.journal.specs.Journal.Readiness.{good_sigs, held_sig, meets_before, meets_own, signed, yes_to}
+use Rattle.journal.specs.Journal.Replies.{claims_of, is_held, refusal}
 use Rattle.cesr_stream.specs.declared.message.Message.{Message}
-use Rattle.event_body.specs.declared.event.Event.{Event}
-use Rattle.export_laws.specs.Export.{SignedLaw, cut_claims, is_couple, is_good, is_witness, messages_of, ordered, runs_by, sent_claims}
+use Rattle.event_body.specs.declared.event_body.event.Event.{Event}
+use Rattle.export_core.specs.ExportLaws.Export.{SignedLaw, cut_claims, is_couple, is_good, is_witness, messages_of, ordered, runs_by, sent_claims}
 use Rattle.key_state.proofs.Among.{Among, among, among_left_by, filter_map_among, left_among, map_among, parted, passed}
-use Rattle.journal_laws.proofs.Came.{claims_more, were_ready}
-use Rattle.export_laws.proofs.Ready.{ready_parts, yes_more}
-use Rattle.export_laws.proofs.Rules.{rules_there}
-use Rattle.export_laws.proofs.Sending.{good_all, ordered_all}
-use Rattle.journal_laws.proofs.Verdicts.{yes_by}
+use Rattle.journal_views.proofs.JournalLawsLemmas.Came.{claims_more, were_ready}
+use Rattle.export_core.proofs.ExportLawsLemmas.Ready.{ready_parts, yes_more}
+use Rattle.export_core.proofs.ExportLawsLemmas.Rules.{rules_there}
+use Rattle.export_core.proofs.ExportLawsLemmas.Sending.{good_all, ordered_all}
+use Rattle.journal_views.proofs.JournalLawsLemmas.Verdicts.{yes_by}
 
 -- a signature of the controller is one of its claims
 held_is : (c : Claim) (g : IndexedSig) → held_sig c ≡ Some g → is_held c ≡ true

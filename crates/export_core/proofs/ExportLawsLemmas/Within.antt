@@ -7,25 +7,25 @@ use Rattle.std.proofs.lemmas.List.Folds.{list_any-append}
 use Rattle.cesr_codes.specs.declared.key.Key.{Key}
 use Rattle.cesr_codes.specs.declared.prefix.Prefix.{Prefix}
 use Rattle.cesr_codes.specs.declared.sig.Sig.{Sig}
-use Rattle.event_body.specs.Events.{is_receipt, prefix_of, said_of}
+use Rattle.event_body.specs.EventBody.Events.{is_receipt, prefix_of, said_of}
 use Rattle.key_state.specs.Exposure.{Rules, own_rules}
 use Rattle.key_state.specs.Same.{same_digest, same_key, same_prefix}
 use Rattle.key_state.specs.States.{State}
-use Rattle.journal.specs.declared.body.Body.{Body}
-use Rattle.journal.specs.declared.claim.Claim.{Claim}
-use Rattle.journal.specs.declared.mode.Mode.{Mode}
-use Rattle.journal.specs.History.{Told, Triple, claimed_key, claimed_sig, claims_in, claims_on, heard, is_receipt_for, said_yes, same_triple, took, triple_of, yes_in}
-use Rattle.journal.specs.Logs.{is_in, is_of, same_body, state, takes}
-use Rattle.journal.specs.Readiness.{backers, backs, good_sigs, held_sig, is_backed, is_local, is_ready, signed, yes_to}
-use Rattle.journal.specs.Seals.{anchored, delegator_of, forbids, has_trait, is_sealed, seals}
-use Rattle.journal.proofs.Locality.{bytes_differ}
+use Rattle.journal.specs.declared.journal.body.Body.{Body}
+use Rattle.journal.specs.declared.journal.claim.Claim.{Claim}
+use Rattle.journal.specs.declared.journal.mode.Mode.{Mode}
+use Rattle.journal.specs.Journal.History.{Told, Triple, claimed_key, claimed_sig, claims_in, claims_on, heard, is_receipt_for, said_yes, same_triple, took, triple_of, yes_in}
+use Rattle.journal.specs.Journal.Logs.{is_in, is_of, same_body, state, takes}
+use Rattle.journal.specs.Journal.Readiness.{backers, backs, good_sigs, held_sig, is_backed, is_local, is_ready, signed, yes_to}
+use Rattle.journal.specs.Journal.Seals.{anchored, delegator_of, forbids, has_trait, is_sealed, seals}
+use Rattle.journal.proofs.JournalLemmas.Locality.{bytes_differ}
 use Rattle.key_state.proofs.Among.{Among, left_among, passing}
 use Rattle.key_state.proofs.Same.{same_prefix_is}
-use Rattle.journal_laws.proofs.Growing.{anchored_more}
-use Rattle.export_laws.specs.Export.{exported, is_of_some}
-use Rattle.export_laws.specs.Families.{told_body, within}
-use Rattle.export_laws.proofs.Family.{family_of, of_family, state_family}
-use Rattle.export_laws.proofs.Ready.{ready_by, ready_parts}
+use Rattle.journal_views.proofs.JournalLawsLemmas.Growing.{anchored_more}
+use Rattle.export_core.specs.ExportLaws.Export.{exported, is_of_some}
+use Rattle.export_core.specs.ExportLaws.Families.{told_body, within}
+use Rattle.export_core.proofs.ExportLawsLemmas.Family.{family_of, of_family, state_family}
+use Rattle.export_core.proofs.ExportLawsLemmas.Ready.{ready_by, ready_parts}
 
 -- a signature of a key on a body
 abbrev triple_on : Body → Key → Sig → Triple

@@ -4,16 +4,16 @@ use Rattle.std.specs.BTreeSet.{BTreeSet, contains}
 use Rattle.std.specs.List.{list_any}
 use Rattle.std.specs.declared.cmp.Ordering.{Ordering}
 use Rattle.std.specs.declared.cmp.Ord as ord
-use Rattle.claim_table.specs.contracts.signature.SignatureOrd.TheImpl as signature_order
-use Rattle.claim_table.specs.declared.signature.Signature.{Signature}
-use Rattle.core_tables.specs.contracts.name.NameOrd.TheImpl as name_order
-use Rattle.core_tables.specs.declared.name.Name.{Name}
-use Rattle.core_tables.specs.Names.{name_of}
-use Rattle.event_body.specs.declared.event.Event.{Event}
-use Rattle.event_index.specs.Keys.{numbers_at}
-use Rattle.event_index.specs.declared.index.Index.{Index}
-use Rattle.journal.specs.declared.entry.Entry.{Entry}
-use Rattle.journal.specs.declared.entry.Entry.TheVariants.{Took, Heard}
+use Rattle.claim_table.specs.contracts.claim_table.signature.SignatureOrd.TheImpl as signature_order
+use Rattle.claim_table.specs.declared.claim_table.signature.Signature.{Signature}
+use Rattle.core_tables.specs.contracts.core_tables.name.NameOrd.TheImpl as name_order
+use Rattle.core_tables.specs.declared.core_tables.name.Name.{Name}
+use Rattle.core_tables.specs.CoreTables.Names.{name_of}
+use Rattle.event_body.specs.declared.event_body.event.Event.{Event}
+use Rattle.escrow.specs.EventIndex.Keys.{numbers_at}
+use Rattle.escrow.specs.declared.event_index.index.Index.{Index}
+use Rattle.journal.specs.declared.journal.entry.Entry.{Entry}
+use Rattle.journal.specs.declared.journal.entry.Entry.TheVariants.{Took, Heard}
 use Rattle.key_state.specs.Same.{same_key, same_sig}
 use denote.Param as param
 

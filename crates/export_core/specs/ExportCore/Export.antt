@@ -2,18 +2,18 @@
 use Rattle.std.specs.Prelude.{◌≡◌, ℕ, true, List, [], length, Contains}
 use Rattle.std.specs.List.{list_any}
 use Rattle.cesr_codes.specs.declared.prefix.Prefix.{Prefix}
-use Rattle.core_laws.specs.Standing.{HasNoClash}
-use Rattle.export_core.specs.Messages.{IsExportText}
-use Rattle.export_core.specs.Reading.{ReadsAs}
-use Rattle.export_core.specs.Retelling.{ReadsAlone}
-use Rattle.export_laws.specs.Export.{IsCopy, IsFamily, Sent, export, exported, messages_of}
-use Rattle.journal.specs.declared.body.Body.{Body}
-use Rattle.journal.specs.History.{Told}
-use Rattle.journal.specs.Logs.{is_of}
-use Rattle.journal.specs.Replies.{is_held}
-use Rattle.journal.specs.declared.refusal.Refusal.{Refusal}
+use Rattle.claim_table.specs.CoreLaws.Standing.{HasNoClash}
+use Rattle.export_core.specs.ExportCore.Messages.{IsExportText}
+use Rattle.export_core.specs.ExportCore.Reading.{ReadsAs}
+use Rattle.export_core.specs.ExportCore.Retelling.{ReadsAlone}
+use Rattle.export_core.specs.ExportLaws.Export.{IsCopy, IsFamily, Sent, export, exported, messages_of}
+use Rattle.journal.specs.declared.journal.body.Body.{Body}
+use Rattle.journal.specs.Journal.History.{Told}
+use Rattle.journal.specs.Journal.Logs.{is_of}
+use Rattle.journal.specs.Journal.Replies.{is_held}
+use Rattle.journal.specs.declared.journal.refusal.Refusal.{Refusal}
 use Rattle.keri_outside.specs.declared.limits.Limits.{Limits}
-use Rattle.validator_core.specs.View.{CoreView, accepted_by, told_of}
+use Rattle.validator_core.specs.ValidatorCore.View.{CoreView, accepted_by, told_of}
 
 -- The text is that of the messages of the accepted events of the identifier's family, of which it has one itself; and
 -- whoever reads it reads just these messages. Each message of an event has a signature of its controller, so that none is

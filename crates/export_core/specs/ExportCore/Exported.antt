@@ -6,22 +6,22 @@ use Rattle.std.specs.declared.cmp.Ordering.{Ordering}
 use Rattle.std.specs.declared.cmp.Ord as ord
 use Rattle.cesr_codes.specs.contracts.prefix.PrefixOrd.TheImpl as prefix_order
 use Rattle.cesr_codes.specs.declared.prefix.Prefix.{Prefix}
-use Rattle.journal.specs.declared.body.Body.{Body}
-use Rattle.journal.specs.declared.claim.Claim.{Claim}
-use Rattle.journal.specs.History.{Told, claims_on, triple_of}
-use Rattle.journal.specs.Logs.{state}
-use Rattle.journal.specs.Readiness.{yes_to}
-use Rattle.journal.specs.Replies.{same_claim}
+use Rattle.journal.specs.declared.journal.body.Body.{Body}
+use Rattle.journal.specs.declared.journal.claim.Claim.{Claim}
+use Rattle.journal.specs.Journal.History.{Told, claims_on, triple_of}
+use Rattle.journal.specs.Journal.Logs.{state}
+use Rattle.journal.specs.Journal.Readiness.{yes_to}
+use Rattle.journal.specs.Journal.Replies.{same_claim}
 use Rattle.key_state.specs.Exposure.{rules_of}
 use Rattle.key_state.specs.Same.{are_witnesses, distinct, same_prefix}
-use Rattle.validator_core.specs.View.{CoreView, Stands, accepted_by, told_of}
-use Rattle.export_laws.specs.Export.{IsFamily, Sent, exported, is_of_some, messages_of, ordered}
-use Rattle.export_core.specs.Came.{HasEntries, HasYes}
-use Rattle.export_core.specs.Messages.{IsExportText}
-use Rattle.export_core.specs.Signers.{rules_by, signers_in, signers_of}
-use Rattle.export_core.specs.declared.exported_events.Came.{Came}
-use Rattle.export_core.specs.declared.exported_events.Exported.{Exported}
-use Rattle.export_core.specs.declared.signers.Signers.{Signers}
+use Rattle.validator_core.specs.ValidatorCore.View.{CoreView, Stands, accepted_by, told_of}
+use Rattle.export_core.specs.ExportLaws.Export.{IsFamily, Sent, exported, is_of_some, messages_of, ordered}
+use Rattle.export_core.specs.ExportCore.Came.{HasEntries, HasYes}
+use Rattle.export_core.specs.ExportCore.Messages.{IsExportText}
+use Rattle.export_core.specs.ExportCore.Signers.{rules_by, signers_in, signers_of}
+use Rattle.export_core.specs.declared.export_core.exported_events.Came.{Came}
+use Rattle.export_core.specs.declared.export_core.exported_events.Exported.{Exported}
+use Rattle.export_core.specs.declared.export_core.signers.Signers.{Signers}
 use denote.Param as param
 
 -- the order of identifiers

@@ -8,10 +8,10 @@ use Rattle.cesr_stream.specs.declared.couple.Couple.{Couple}
 use Rattle.cesr_stream.specs.declared.group.Group.TheVariants.{Held as HeldGroup, Witness as WitnessGroup, Couples}
 use Rattle.cesr_stream.specs.declared.item.Item.{Item}
 use Rattle.cesr_stream.specs.declared.item.Item.TheVariants.{Group as GroupItem}
-use Rattle.journal.specs.Replies.{is_held}
-use Rattle.journal.specs.declared.claim.Claim.{Claim}
-use Rattle.journal.specs.declared.claim.Claim.TheVariants.{Held, Witness, Couple as CoupleClaim}
-use Rattle.export_laws.specs.Export.{Sent, cut_claims, is_couple, is_witness, runs_by}
+use Rattle.journal.specs.Journal.Replies.{is_held}
+use Rattle.journal.specs.declared.journal.claim.Claim.{Claim}
+use Rattle.journal.specs.declared.journal.claim.Claim.TheVariants.{Held, Witness, Couple as CoupleClaim}
+use Rattle.export_core.specs.ExportLaws.Export.{Sent, cut_claims, is_couple, is_witness, runs_by}
 
 -- the claim of a couple
 abbrev pub claim_of : Couple → Claim

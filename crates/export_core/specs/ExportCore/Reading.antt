@@ -6,11 +6,11 @@ use Rattle.cesr_stream.specs.Parts.{unfinished}
 use Rattle.cesr_stream.specs.declared.couple.Couple.{Couple}
 use Rattle.cesr_stream.specs.declared.item.Item.{Item}
 use Rattle.cesr_stream.specs.declared.item.Item.TheVariants.{Body as BodyItem}
-use Rattle.journal.specs.Replies.{is_held}
-use Rattle.journal.specs.declared.claim.Claim.TheVariants.{Held, Witness}
-use Rattle.export_laws.specs.Export.{Sent, is_couple, is_witness}
+use Rattle.journal.specs.Journal.Replies.{is_held}
+use Rattle.journal.specs.declared.journal.claim.Claim.TheVariants.{Held, Witness}
+use Rattle.export_core.specs.ExportLaws.Export.{Sent, is_couple, is_witness}
 use Rattle.watcher_core.specs.Evidence.{placed_from}
-use Rattle.export_core.specs.Messages.{claim_of, couple_group, held_group, witness_group}
+use Rattle.export_core.specs.ExportCore.Messages.{claim_of, couple_group, held_group, witness_group}
 
 -- the items of a message: its body, and behind it its claims as a group of each kind
 pub record AreItemsOf (m : Sent) (items : List Item) : Type 0 where

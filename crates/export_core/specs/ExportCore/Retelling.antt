@@ -2,13 +2,13 @@
 use Rattle.std.specs.Prelude.{◌≡◌, ℕ, true, false, List, [], ◌∷◌, All, Some}
 use Rattle.cesr_codes.specs.Indexed.{IsIndexed}
 use Rattle.cesr_codes.specs.Spelling.{IsKey, IsSig}
-use Rattle.journal.specs.Feeds.{Fed}
-use Rattle.journal.specs.History.{Told, took, heard}
-use Rattle.journal.specs.Questions.{IsInStep, questions}
-use Rattle.journal.specs.declared.claim.Claim.{Claim}
-use Rattle.journal.specs.declared.claim.Claim.TheVariants.{Held, Witness, Couple}
-use Rattle.journal.specs.declared.mode.Mode.TheVariants.{Full}
-use Rattle.journal.specs.declared.refusal.Refusal.{Refusal}
+use Rattle.journal.specs.Journal.Feeds.{Fed}
+use Rattle.journal.specs.Journal.History.{Told, took, heard}
+use Rattle.journal.specs.Journal.Questions.{IsInStep, questions}
+use Rattle.journal.specs.declared.journal.claim.Claim.{Claim}
+use Rattle.journal.specs.declared.journal.claim.Claim.TheVariants.{Held, Witness, Couple}
+use Rattle.journal.specs.declared.journal.mode.Mode.TheVariants.{Full}
+use Rattle.journal.specs.declared.journal.refusal.Refusal.{Refusal}
 use Rattle.keri_outside.specs.declared.limits.Limits.{Limits}
 
 -- the raw bytes of a claim's signature, and of its key where it has one, are bytes

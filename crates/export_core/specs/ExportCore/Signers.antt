@@ -1,11 +1,11 @@
 -- Who signs an event, and its witnesses.
 use Rattle.std.specs.Prelude.{[], Option, Some, None}
-use Rattle.event_body.specs.declared.event.Event.{Event}
-use Rattle.event_body.specs.declared.event.Event.TheVariants.{Icp, Rot, Ixn, Dip, Drt, Rct}
+use Rattle.event_body.specs.declared.event_body.event.Event.{Event}
+use Rattle.event_body.specs.declared.event_body.event.Event.TheVariants.{Icp, Rot, Ixn, Dip, Drt, Rct}
 use Rattle.key_state.specs.Exposure.{Rules}
 use Rattle.key_state.specs.KeyStates.{changed_list}
 use Rattle.sith.specs.declared.threshold.Threshold.TheVariants.{Count}
-use Rattle.export_core.specs.declared.signers.Signers.{Signers}
+use Rattle.export_core.specs.declared.export_core.signers.Signers.{Signers}
 
 -- the keys and the witnesses of rules
 abbrev pub signers_of : Rules → Signers

@@ -6,18 +6,18 @@ use Rattle.cesr_codes.specs.declared.prefix.Prefix.{Prefix}
 use Rattle.key_state.specs.Exposure.{Rules, own_rules}
 use Rattle.key_state.specs.Same.{distinct}
 use Rattle.key_state.specs.States.{State}
-use Rattle.event_body.specs.Events.{prefix_of}
-use Rattle.journal.specs.declared.body.Body.{Body}
-use Rattle.journal.specs.declared.claim.Claim.{Claim}
-use Rattle.journal.specs.declared.claim.Claim.TheVariants.{Held, Witness, Couple}
-use Rattle.journal.specs.declared.mode.Mode.TheVariants.{Full}
-use Rattle.journal.specs.Accepted.{accepted}
-use Rattle.journal.specs.History.{Told, took, heard, claims_on, triple_of}
-use Rattle.journal.specs.Logs.{before, is_of, live, state}
-use Rattle.journal.specs.Questions.{IsRegular, questions}
-use Rattle.journal.specs.Readiness.{yes_to}
-use Rattle.journal.specs.Replies.{is_held, same_claim}
-use Rattle.core_laws.specs.Standing.{HasNoClash}
+use Rattle.event_body.specs.EventBody.Events.{prefix_of}
+use Rattle.journal.specs.declared.journal.body.Body.{Body}
+use Rattle.journal.specs.declared.journal.claim.Claim.{Claim}
+use Rattle.journal.specs.declared.journal.claim.Claim.TheVariants.{Held, Witness, Couple}
+use Rattle.journal.specs.declared.journal.mode.Mode.TheVariants.{Full}
+use Rattle.journal.specs.Journal.Accepted.{accepted}
+use Rattle.journal.specs.Journal.History.{Told, took, heard, claims_on, triple_of}
+use Rattle.journal.specs.Journal.Logs.{before, is_of, live, state}
+use Rattle.journal.specs.Journal.Questions.{IsRegular, questions}
+use Rattle.journal.specs.Journal.Readiness.{yes_to}
+use Rattle.journal.specs.Journal.Replies.{is_held, same_claim}
+use Rattle.claim_table.specs.CoreLaws.Standing.{HasNoClash}
 use Rattle.sith.specs.Tests.{satisfied}
 
 -- the delegator of a state, where there is one

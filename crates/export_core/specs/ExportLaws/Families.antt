@@ -2,14 +2,14 @@
 -- by family among machines that know nothing of each other.
 use Rattle.std.specs.Prelude.{◌≡◌, true, false, List, ◌++◌, filter, flat_map, map, Some, None, Contains}
 use Rattle.cesr_codes.specs.declared.prefix.Prefix.{Prefix}
-use Rattle.event_body.specs.Events.{prefix_of}
-use Rattle.journal.specs.declared.body.Body.{Body}
-use Rattle.journal.specs.declared.mode.Mode.{Mode}
-use Rattle.journal.specs.Accepted.{accepted}
-use Rattle.journal.specs.History.{Told, took, heard, taken}
-use Rattle.journal.specs.Logs.{is_of, live, state, stepped}
-use Rattle.journal.specs.Readiness.{is_local}
-use Rattle.export_laws.specs.Export.{delegator_if, exported, is_of_some}
+use Rattle.event_body.specs.EventBody.Events.{prefix_of}
+use Rattle.journal.specs.declared.journal.body.Body.{Body}
+use Rattle.journal.specs.declared.journal.mode.Mode.{Mode}
+use Rattle.journal.specs.Journal.Accepted.{accepted}
+use Rattle.journal.specs.Journal.History.{Told, took, heard, taken}
+use Rattle.journal.specs.Journal.Logs.{is_of, live, state, stepped}
+use Rattle.journal.specs.Journal.Readiness.{is_local}
+use Rattle.export_core.specs.ExportLaws.Export.{delegator_if, exported, is_of_some}
 
 -- the body that an entry is of
 abbrev pub told_body : Told → Body

@@ -2,15 +2,15 @@
 use Rattle.std.specs.Prelude.{◌≡◌, Bool, false, List, filter, bytes_eq}
 use Rattle.std.specs.List.{list_any}
 use Rattle.cesr_codes.specs.declared.prefix.Prefix.{Prefix}
-use Rattle.journal.specs.declared.body.Body.{Body}
-use Rattle.journal.specs.declared.mode.Mode.{Mode}
-use Rattle.journal.specs.Accepted.{accepted}
-use Rattle.journal.specs.Grown.{IsGrown}
-use Rattle.journal.specs.History.{Told, Triple, bodies}
-use Rattle.journal.specs.Questions.{IsRegular, questions}
-use Rattle.journal.specs.Readiness.{is_local}
-use Rattle.export_laws.specs.Export.{exported}
-use Rattle.export_laws.specs.Families.{HaveOneReading, IsClosed, told_bodies, within}
+use Rattle.journal.specs.declared.journal.body.Body.{Body}
+use Rattle.journal.specs.declared.journal.mode.Mode.{Mode}
+use Rattle.journal.specs.Journal.Accepted.{accepted}
+use Rattle.journal.specs.Journal.Grown.{IsGrown}
+use Rattle.journal.specs.Journal.History.{Told, Triple, bodies}
+use Rattle.journal.specs.Journal.Questions.{IsRegular, questions}
+use Rattle.journal.specs.Journal.Readiness.{is_local}
+use Rattle.export_core.specs.ExportLaws.Export.{exported}
+use Rattle.export_core.specs.ExportLaws.Families.{HaveOneReading, IsClosed, told_bodies, within}
 
 -- the signature is on one of the bodies
 abbrev pub is_on : List Body → Triple → Bool

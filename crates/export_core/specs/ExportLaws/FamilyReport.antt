@@ -1,16 +1,16 @@
 -- What a report says of a family besides its accepted events: why events wait, and which bodies count for conflicts.
 use Rattle.std.specs.Prelude.{◌≡◌, true, false, List, ◌++◌, flat_map, Contains}
 use Rattle.cesr_codes.specs.declared.prefix.Prefix.{Prefix}
-use Rattle.journal.specs.declared.body.Body.{Body}
-use Rattle.journal.specs.declared.mode.Mode.{Mode}
-use Rattle.journal.specs.Accepted.{accepted}
-use Rattle.journal.specs.Conflicts.{counted}
-use Rattle.journal.specs.Grown.{IsGrown}
-use Rattle.journal.specs.History.{Told, bodies, taken}
-use Rattle.journal.specs.Readiness.{is_local}
-use Rattle.journal.specs.Waiting.{why_waits}
-use Rattle.export_laws.specs.Export.{exported, is_of_some}
-use Rattle.export_laws.specs.Families.{HaveOneReading, NamesItsOwn, told_bodies, within}
+use Rattle.journal.specs.declared.journal.body.Body.{Body}
+use Rattle.journal.specs.declared.journal.mode.Mode.{Mode}
+use Rattle.journal.specs.Journal.Accepted.{accepted}
+use Rattle.journal.specs.Journal.Conflicts.{counted}
+use Rattle.journal.specs.Journal.Grown.{IsGrown}
+use Rattle.journal.specs.Journal.History.{Told, bodies, taken}
+use Rattle.journal.specs.Journal.Readiness.{is_local}
+use Rattle.journal.specs.Journal.Waiting.{why_waits}
+use Rattle.export_core.specs.ExportLaws.Export.{exported, is_of_some}
+use Rattle.export_core.specs.ExportLaws.Families.{HaveOneReading, NamesItsOwn, told_bodies, within}
 
 -- the part has the family's bodies, the same in the same order; each of them waits for the same reason, or for none;
 -- and those that count for conflicts are the same

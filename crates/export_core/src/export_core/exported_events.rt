@@ -1,22 +1,22 @@
 //! The events of a family, as messages.
 ghost use Rattle.std.specs.Prelude.{◌≡◌, ◌+◌, IfOk, Some, slice_get, take};
-ghost use Rattle.export_core.specs.Exported.{HasCome, HasSigners, IsWritten, PutsAt, sent_by};
-ghost use Rattle.journal.specs.declared.body.Body.{Body};
-ghost use Rattle.journal.specs.declared.mode.Mode.TheVariants.{Full};
-ghost use Rattle.validator_core.specs.View.{Stands, accepted_by, told_of};
+ghost use Rattle.export_core.specs.ExportCore.Exported.{HasCome, HasSigners, IsWritten, PutsAt, sent_by};
+ghost use Rattle.journal.specs.declared.journal.body.Body.{Body};
+ghost use Rattle.journal.specs.declared.journal.mode.Mode.TheVariants.{Full};
+ghost use Rattle.validator_core.specs.ValidatorCore.View.{Stands, accepted_by, told_of};
 
-use crate::came::{claims_by_all, entries_by_name, good_signatures};
-use crate::family::{family_of, has_prefix};
-use crate::good_claims::{good_claims, ordered};
-use crate::messages::put_messages;
-use crate::signers::Signers;
+use crate::export_core::came::{claims_by_all, entries_by_name, good_signatures};
+use crate::export_core::family::{family_of, has_prefix};
+use crate::export_core::good_claims::{good_claims, ordered};
+use crate::export_core::messages::put_messages;
+use crate::export_core::signers::Signers;
 use cesr_codes::Prefix;
 use claim_table::Signature;
 use core_tables::{Name, name_of};
+use escrow::Index;
 use event_body::{Event, prefix_of};
-use event_index::Index;
-use event_payload::StreamText;
 use journal::Claim;
+use journal_views::StreamText;
 use key_state::spelled_is_kept;
 use std::alloc::{AllocError, Global};
 use std::collections::{BTreeMap, BTreeSet};

@@ -1,9 +1,9 @@
 //! The family of an identifier.
 ghost use Rattle.std.specs.Prelude.{◌≡◌, IfOk};
-ghost use Rattle.export_laws.specs.Export.{IsFamily, delegator_if};
+ghost use Rattle.export_core.specs.ExportLaws.Export.{IsFamily, delegator_if};
 ghost use Rattle.key_state.specs.Same.{same_prefix};
 ghost use Rattle.std.specs.List.{list_any};
-ghost use Rattle.validator_core.specs.View.{accepted_by, state_of};
+ghost use Rattle.validator_core.specs.ValidatorCore.View.{accepted_by, state_of};
 
 use cesr_codes::Prefix;
 use std::alloc::{AllocError, Global};

@@ -1,12 +1,12 @@
 //! The export.
 ghost use Rattle.std.specs.Prelude.{◌≡◌, IfOk, IfSome, is_none, true, false};
 ghost use Rattle.std.specs.List.{list_any};
-ghost use Rattle.export_core.specs.Export.{IsExport};
-ghost use Rattle.journal.specs.declared.mode.Mode.TheVariants.{Full};
-ghost use Rattle.journal.specs.Logs.{is_of};
-ghost use Rattle.validator_core.specs.View.{accepted_by};
+ghost use Rattle.export_core.specs.ExportCore.Export.{IsExport};
+ghost use Rattle.journal.specs.declared.journal.mode.Mode.TheVariants.{Full};
+ghost use Rattle.journal.specs.Journal.Logs.{is_of};
+ghost use Rattle.validator_core.specs.ValidatorCore.View.{accepted_by};
 
-use crate::exported_events::{Exported, exported_of};
+use crate::export_core::exported_events::{Exported, exported_of};
 use cesr_codes::Prefix;
 use std::alloc::{AllocError, Global};
 use validator_core::Core;

@@ -1,15 +1,14 @@
 //! The claims on an event that are sent.
 ghost use Rattle.std.specs.Prelude.{◌≡◌, IfOk, filter};
-ghost use Rattle.export_core.specs.GoodClaims.{is_good_by};
-ghost use Rattle.export_laws.specs.Export as export;
-ghost use Rattle.journal.specs.Replies as replies;
-ghost use Rattle.journal.specs.Replies.{same_claim};
+ghost use Rattle.export_core.specs.ExportCore.GoodClaims.{is_good_by};
+ghost use Rattle.export_core.specs.ExportLaws.Export as export;
+ghost use Rattle.journal.specs.Journal.Replies as replies;
+ghost use Rattle.journal.specs.Journal.Replies.{same_claim};
 ghost use Rattle.key_state.specs.Same.{distinct};
 
-use crate::signers::Signers;
+use crate::export_core::signers::Signers;
 use claim_table::Signature;
-use event_rules::claimed_sig;
-use journal::Claim;
+use journal::{Claim, claimed_sig};
 use std::alloc::{AllocError, Global};
 use std::collections::BTreeSet;
 

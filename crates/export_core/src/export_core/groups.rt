@@ -3,15 +3,15 @@ ghost use Rattle.std.specs.Prelude.{◌≡◌, ◌≤◌, ◌++◌, All, IfOk, O
 ghost use Rattle.cesr_codes.specs.declared.key.KeyCode.TheVariants.{Fixed};
 ghost use Rattle.cesr_codes.specs.Indexed.{IsIndexed};
 ghost use Rattle.cesr_stream.specs.Written.{IsCouple, item_text};
-ghost use Rattle.export_laws.specs.Export.{is_couple, is_witness};
-ghost use Rattle.export_core.specs.Messages.{IsFixed, claim_of, couple_group, held_group, witness_group};
-ghost use Rattle.journal.specs.Replies.{is_held};
-ghost use Rattle.journal.specs.declared.claim.Claim.TheVariants.{Held, Witness};
+ghost use Rattle.export_core.specs.ExportLaws.Export.{is_couple, is_witness};
+ghost use Rattle.export_core.specs.ExportCore.Messages.{IsFixed, claim_of, couple_group, held_group, witness_group};
+ghost use Rattle.journal.specs.Journal.Replies.{is_held};
+ghost use Rattle.journal.specs.declared.journal.claim.Claim.TheVariants.{Held, Witness};
 
 use cesr_codes::{IndexedSig, Key, Sig};
 use cesr_stream::{Couple, Group, Item};
-use event_payload::StreamText;
 use journal::Claim;
+use journal_views::StreamText;
 use lists::Items;
 use std::alloc::{AllocError, Global};
 

@@ -1,10 +1,12 @@
 //! The messages of an event.
 ghost use Rattle.std.specs.Prelude.{◌≤◌, ◌∷◌, All, OnOk, length};
-ghost use Rattle.export_core.specs.Messages.{IsFixed, PutsCut, PutsMessage, PutsRuns};
+ghost use Rattle.export_core.specs.ExportCore.Messages.{IsFixed, PutsCut, PutsMessage, PutsRuns};
 
-use crate::groups::{couples_of, held_sigs, put_couples, put_held, put_witness, witness_sigs};
-use event_payload::StreamText;
+use crate::export_core::groups::{
+    couples_of, held_sigs, put_couples, put_held, put_witness, witness_sigs,
+};
 use journal::Claim;
+use journal_views::StreamText;
 use std::alloc::{AllocError, Global};
 
 // How many claims a message has behind the first: a reader takes no more than 1,024 at the standard limits.

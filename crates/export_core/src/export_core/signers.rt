@@ -1,8 +1,8 @@
 //! Who signs an event.
 ghost use Rattle.std.specs.Prelude.{◌≡◌, IfOk};
 ghost use Rattle.std.specs.Option.{option_copied};
-ghost use Rattle.export_core.specs.Signers.{own_signers, rules_by, signers_in};
-ghost use Rattle.journal.specs.History as history;
+ghost use Rattle.export_core.specs.ExportCore.Signers.{own_signers, rules_by, signers_in};
+ghost use Rattle.journal.specs.Journal.History as history;
 
 use cesr_codes::Key;
 use event_body::Event;

@@ -1,7 +1,7 @@
 //! Laws of families of identifiers, which are tied by delegation: as the contracts of empty functions.
-ghost use Rattle.export_laws.specs.Families.{FamilyLaw, NamedFamilyLaw};
-ghost use Rattle.export_laws.specs.FamilyQuestions.{FamilyQuestionsLaw, FamilyRegularLaw};
-ghost use Rattle.export_laws.specs.FamilyReport.{FamilyReportLaw};
+ghost use Rattle.export_core.specs.ExportLaws.Families.{FamilyLaw, NamedFamilyLaw};
+ghost use Rattle.export_core.specs.ExportLaws.FamilyQuestions.{FamilyQuestionsLaw, FamilyRegularLaw};
+ghost use Rattle.export_core.specs.ExportLaws.FamilyReport.{FamilyReportLaw};
 
 /// What is accepted of identifiers and their delegators depends on their own entries alone.
 pub fn families_are_accepted_alone()

@@ -5,10 +5,10 @@ use Rattle.std.proofs.lemmas.Bool.{cases_Bool}
 use Rattle.cesr_codes.specs.declared.key.Key.{Key}
 use Rattle.key_state.specs.Same.{are_witnesses, has_key, same_key}
 use Rattle.key_state.proofs.Same.{number_itself, numbers, same_key_is, same_key_itself}
-use Rattle.journal.proofs.Same.{turned}
-use Rattle.event_rules.specs.Claims.{has_this, is_so}
-use Rattle.event_rules.specs.Additions.{is_number}
-use Rattle.event_rules.proofs.KeyPlaces.{has_at, one_place}
+use Rattle.journal.proofs.JournalLemmas.Same.{turned}
+use Rattle.journal.specs.EventRules.Claims.{has_this, is_so}
+use Rattle.journal.specs.EventRules.Additions.{is_number}
+use Rattle.journal.proofs.EventRulesLemmas.KeyPlaces.{has_at, one_place}
 
 same_turned : (k l : Key) → same_key k l ≡ same_key l k
 same_turned = turned same_key same_key_is same_key_itself

@@ -8,11 +8,11 @@ use Rattle.std.proofs.lemmas.List.Folds.{list_any-append, list_any_none}
 use Rattle.std.proofs.lemmas.List.Sums.{fails_before_first}
 use Rattle.std.proofs.lemmas.Option.{slice_get_within}
 use Rattle.cesr_codes.specs.declared.key.Key.{Key}
-use Rattle.event_body.specs.declared.rotation.Rotation.{Rotation}
+use Rattle.event_body.specs.declared.event_body.rotation.Rotation.{Rotation}
 use Rattle.key_state.specs.KeyStates.{changed_list}
 use Rattle.key_state.specs.Same.{has_key, same_key}
 use Rattle.key_state.proofs.Same.{same_key_is, same_key_itself}
-use Rattle.event_rules.specs.Claims.{has_this}
+use Rattle.journal.specs.EventRules.Claims.{has_this}
 
 -- where there is no first place, the key isn't in the list
 pub none_has : (keys : List Key) (key : Key) (place : Option ℕ) → place ≡ position (λ held. same_key held key) keys → IfNone place (has_key keys key ≡ false)

@@ -4,7 +4,7 @@ use Rattle.std.specs.Prelude.{filter, slice_get}
 use Rattle.std.proofs.lemmas.Bool.{cases_Bool}
 use Rattle.std.proofs.lemmas.Option.{slice_get_within}
 use Rattle.cesr_codes.specs.declared.key.Key.{Key}
-use Rattle.event_rules.specs.Claims.{is_so}
+use Rattle.journal.specs.EventRules.Claims.{is_so}
 use Rattle.std.proofs.lemmas.List.{length-append}
 use Rattle.key_state.specs.Exposure.{numbers_below}
 use Rattle.key_state.proofs.Numbers.{filter_below, none_below}

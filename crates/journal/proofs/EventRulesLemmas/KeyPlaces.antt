@@ -4,11 +4,11 @@ use Rattle.std.specs.Prelude.{filter, slice_get}
 use Rattle.std.proofs.lemmas.Bool.{and_parts, cases_Bool, or_left, or_right, not-true}
 use Rattle.std.proofs.lemmas.List.{length-append}
 use Rattle.cesr_codes.specs.declared.key.Key.{Key}
-use Rattle.event_body.specs.declared.rotation.Rotation.{Rotation}
+use Rattle.event_body.specs.declared.event_body.rotation.Rotation.{Rotation}
 use Rattle.key_state.specs.KeyStates.{changed_list}
 use Rattle.key_state.specs.Same.{are_witnesses, has_key, is_fixed, same_key}
 use Rattle.key_state.proofs.Same.{same_key_is}
-use Rattle.event_rules.specs.Claims.{has_this}
+use Rattle.journal.specs.EventRules.Claims.{has_this}
 
 -- those that are left are no more
 pub filter_few : (p : Key → Bool) (keys : List Key) → length (filter p keys) ≤ length keys

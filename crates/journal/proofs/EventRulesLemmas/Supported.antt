@@ -2,10 +2,10 @@
 use Rattle.std.proofs.Common.{◌≡◌, Bool, Option, List}
 use Rattle.cesr_codes.specs.declared.key.Key.{Key}
 use Rattle.cesr_codes.specs.declared.sig.Sig.{Sig}
-use Rattle.event_rules.specs.Parts.{Part, parts_by, says_of, supports}
-use Rattle.journal.specs.declared.body.Body.{Body}
-use Rattle.journal.specs.History.{Told, claims_on}
-use Rattle.journal.specs.Readiness.{backs}
+use Rattle.journal.specs.EventRules.Parts.{Part, parts_by, says_of, supports}
+use Rattle.journal.specs.declared.journal.body.Body.{Body}
+use Rattle.journal.specs.Journal.History.{Told, claims_on}
+use Rattle.journal.specs.Journal.Readiness.{backs}
 use Rattle.key_state.specs.States.{State}
 
 pub claims_are : (told : List Told) (s : Option State) (b : Body) (says : Key → Sig → Bool) (by : Key → Bool)

@@ -6,13 +6,13 @@ use Rattle.std.specs.Cmp.Lexicographic.{bytes_decides}
 use Rattle.std.proofs.lemmas.List.Sums.{count_by-le-length}
 use Rattle.std.proofs.lemmas.List.Folds.{list_any-append}
 use Rattle.std.proofs.lemmas.Bool.{and_parts, or_left, not-true}
-use Rattle.journal.specs.declared.mode.Mode.{Mode}
-use Rattle.journal.specs.Logs.{Body, same_body, is_in}
-use Rattle.journal.specs.History.{Told, bodies}
-use Rattle.journal.specs.Readiness.{is_ready}
-use Rattle.journal.specs.Acceptance.{settled_over, Settles, rest, more, grown_by}
-use Rattle.journal.specs.Accepted.{accepted}
-use Rattle.journal.proofs.Settling.{settled_ends, settled_extends, left}
+use Rattle.journal.specs.declared.journal.mode.Mode.{Mode}
+use Rattle.journal.specs.Journal.Logs.{Body, same_body, is_in}
+use Rattle.journal.specs.Journal.History.{Told, bodies}
+use Rattle.journal.specs.Journal.Readiness.{is_ready}
+use Rattle.journal.specs.Journal.Acceptance.{settled_over, Settles, rest, more, grown_by}
+use Rattle.journal.specs.Journal.Accepted.{accepted}
+use Rattle.journal.proofs.JournalLemmas.Settling.{settled_ends, settled_extends, left}
 
 module _ {T B : Type 0} (ready : List T → List B → B → Bool) (all : List T → List B) where
   -- growth by some entries and then by others

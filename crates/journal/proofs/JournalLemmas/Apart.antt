@@ -5,7 +5,7 @@ use Rattle.std.specs.List.{list_all}
 use Rattle.std.proofs.lemmas.List.Elements.{filter-append, All-head, All-tail}
 use Rattle.std.proofs.lemmas.Bool.{and_parts}
 use Rattle.key_state.specs.Same.{distinct}
-use Rattle.journal.proofs.Keeping.{list_all-distinct}
+use Rattle.journal.proofs.JournalLemmas.Keeping.{list_all-distinct}
 
 -- a test that all pass leaves the list as it is
 pub filter-all : {X : Type 0} (q : X → Bool) (xs : List X) → list_all q xs ≡ true → filter q xs ≡ xs

@@ -5,10 +5,10 @@ use Rattle.std.specs.List.{list_all}
 use Rattle.std.specs.Cmp.Lexicographic.{bytes_decides}
 use Rattle.std.proofs.lemmas.Bool.{and_from, and_parts}
 use Rattle.key_state.specs.Exposure.{Rules}
-use Rattle.journal.specs.declared.claim.Claim.{Claim}
-use Rattle.journal.specs.Logs.{Body}
-use Rattle.journal.specs.History.{Triple, same_triple, triple_of, claimed_key}
-use Rattle.journal.proofs.Apart.{Apart}
+use Rattle.journal.specs.declared.journal.claim.Claim.{Claim}
+use Rattle.journal.specs.Journal.Logs.{Body}
+use Rattle.journal.specs.Journal.History.{Triple, same_triple, triple_of, claimed_key}
+use Rattle.journal.proofs.JournalLemmas.Apart.{Apart}
 
 -- each triple of a body names it
 pub all_of : (rules : Rules) (b : Body) (claims : List Claim) → list_all (λ t. bytes_eq t.body b.bytes) (filter_map (triple_of rules b) claims) ≡ true

@@ -6,7 +6,7 @@ use Rattle.std.proofs.lemmas.Bool.{cases_Bool}
 use Rattle.std.proofs.lemmas.List.Elements.{filter_passes}
 use Rattle.std.proofs.lemmas.List.Sums.{list_all-from_AllPass}
 use Rattle.key_state.specs.Same.{distinct}
-use Rattle.journal.proofs.Keeping.{list_all-filter}
+use Rattle.journal.proofs.JournalLemmas.Keeping.{list_all-filter}
 
 -- what a test leaves passes it
 pub all-filter : {X : Type 0} (q : X → Bool) (xs : List X) → list_all q (filter q xs) ≡ true

@@ -7,7 +7,7 @@ use Rattle.std.proofs.lemmas.List.Elements.{filter-append}
 use Rattle.std.proofs.lemmas.Bool.{cases_Bool, or_parts, or_cases}
 use Rattle.std.proofs.lemmas.List.Filters.{length-filter_both}
 use Rattle.key_state.specs.Same.{distinct}
-use Rattle.journal.specs.Logs.{Body, same_body}
+use Rattle.journal.specs.Journal.Logs.{Body, same_body}
 
 module _ {X : Type 0} (same : X → X → Bool) where
   -- one that is new comes last

@@ -3,12 +3,12 @@ use Rattle.std.proofs.Common.{◌≡◌, ℕ, ◌<◌, true, List, [], ◌∷◌
 use Rattle.std.specs.Prelude.{All, slice_get, filter_map}
 use Rattle.std.proofs.lemmas.Bool.{or_cases}
 use Rattle.std.proofs.lemmas.List.Elements.{All-head, All-tail, filter_map-append}
-use Rattle.journal.specs.declared.body.Body.{Body}
-use Rattle.journal.specs.declared.entry.Entry.{Entry}
-use Rattle.journal.specs.Logs.{same_body, is_in}
-use Rattle.journal.specs.History.{Told}
-use Rattle.journal.specs.Journals.{whole, told_by, chosen}
-use Rattle.journal.proofs.Places.{slice_get_front, any_at, some_at}
+use Rattle.journal.specs.declared.journal.body.Body.{Body}
+use Rattle.journal.specs.declared.journal.entry.Entry.{Entry}
+use Rattle.journal.specs.Journal.Logs.{same_body, is_in}
+use Rattle.journal.specs.Journal.History.{Told}
+use Rattle.journal.specs.Journal.Journals.{whole, told_by, chosen}
+use Rattle.journal.proofs.JournalLemmas.Places.{slice_get_front, any_at, some_at}
 
 pub told_push : (held : List Body) (entries : List Entry) (e : Entry) (t : Told) → whole held e ≡ Some t → told_by held (entries ++ e ∷ []) ≡ told_by held entries ++ t ∷ []
 unfolding told_by

@@ -5,17 +5,17 @@ use Rattle.std.specs.List.{list_any, list_all}
 use Rattle.std.proofs.lemmas.List.Sums.{count_by-le-length}
 use Rattle.std.proofs.lemmas.List.Folds.{list_any-append}
 use Rattle.std.proofs.lemmas.Bool.{cases_Bool, and_parts, and_from, or_left, or_right}
-use Rattle.journal.specs.declared.mode.Mode.{Mode}
+use Rattle.journal.specs.declared.journal.mode.Mode.{Mode}
 use Rattle.key_state.specs.Same.{distinct}
-use Rattle.event_body.specs.Events.{is_receipt}
-use Rattle.journal.specs.Logs.{Body, same_body, is_in}
-use Rattle.journal.specs.History.{Told, bodies}
-use Rattle.journal.specs.Readiness.{is_ready}
-use Rattle.journal.specs.Grown.{IsGrown, fits}
-use Rattle.journal.specs.Acceptance.{settled_over, Settles, rest, more, grown_by}
-use Rattle.journal.specs.Accepted.{accepted}
-use Rattle.journal.proofs.Settling.{find-true, settled_ends, left}
-use Rattle.journal.proofs.Accepting.{same_body-refl, ready_is_new, grown_by_ends}
+use Rattle.event_body.specs.EventBody.Events.{is_receipt}
+use Rattle.journal.specs.Journal.Logs.{Body, same_body, is_in}
+use Rattle.journal.specs.Journal.History.{Told, bodies}
+use Rattle.journal.specs.Journal.Readiness.{is_ready}
+use Rattle.journal.specs.Journal.Grown.{IsGrown, fits}
+use Rattle.journal.specs.Journal.Acceptance.{settled_over, Settles, rest, more, grown_by}
+use Rattle.journal.specs.Journal.Accepted.{accepted}
+use Rattle.journal.proofs.JournalLemmas.Settling.{find-true, settled_ends, left}
+use Rattle.journal.proofs.JournalLemmas.Accepting.{same_body-refl, ready_is_new, grown_by_ends}
 
 -- what each append of a ready body keeps holds at the end
 pub Settles-keeps : {B : Type 0} (ready : List B → B → Bool) (all : List B) (P : List B → Type 0)

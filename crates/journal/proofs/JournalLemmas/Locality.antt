@@ -10,14 +10,14 @@ use Rattle.std.proofs.lemmas.List.{flat_map_more}
 use Rattle.cesr_codes.specs.declared.key.Key.{Key}
 use Rattle.cesr_codes.specs.declared.sig.Sig.{Sig}
 use Rattle.key_state.specs.States.{State}
-use Rattle.journal.specs.declared.claim.Claim.{Claim}
-use Rattle.journal.specs.declared.mode.Mode.{Mode}
-use Rattle.event_body.specs.Events.{prefix_of}
+use Rattle.journal.specs.declared.journal.claim.Claim.{Claim}
+use Rattle.journal.specs.declared.journal.mode.Mode.{Mode}
+use Rattle.event_body.specs.EventBody.Events.{prefix_of}
 use Rattle.key_state.specs.Same.{same_key}
 use Rattle.key_state.specs.Exposure.{Rules, own_rules}
-use Rattle.journal.specs.Logs.{Body, same_body, state}
-use Rattle.journal.specs.History.{Told, took, heard, Triple, same_triple, triple_of, claimed_key, claimed_sig, claims_on, claims_in, is_receipt_for, said_yes, yes_in}
-use Rattle.journal.specs.Readiness.{is_ready, signed, good_sigs, yes_to, held_sig, backers, backs}
+use Rattle.journal.specs.Journal.Logs.{Body, same_body, state}
+use Rattle.journal.specs.Journal.History.{Told, took, heard, Triple, same_triple, triple_of, claimed_key, claimed_sig, claims_on, claims_in, is_receipt_for, said_yes, yes_in}
+use Rattle.journal.specs.Journal.Readiness.{is_ready, signed, good_sigs, yes_to, held_sig, backers, backs}
 
 -- the entry is of the body: it came, or a receipt for it did, or a verdict on it was heard
 abbrev pub concerns : Told → Body → Bool

@@ -1,8 +1,8 @@
 -- What laws ask of lists and journals holds of what has nothing in it.
 use Rattle.std.proofs.Common.{[], ◌∷◌}
-use Rattle.journal.specs.declared.mode.Mode.{Mode}
-use Rattle.journal.specs.Questions.{IsRegular}
-use Rattle.journal.specs.Grown.{IsGrown}
+use Rattle.journal.specs.declared.journal.mode.Mode.{Mode}
+use Rattle.journal.specs.Journal.Questions.{IsRegular}
+use Rattle.journal.specs.Journal.Grown.{IsGrown}
 
 -- an empty log is grown
 pub nothing_grown : IsGrown []

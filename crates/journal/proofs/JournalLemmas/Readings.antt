@@ -1,9 +1,9 @@
 -- A journal has one reading, since bytes spell one event at most.
 use Rattle.std.proofs.Common.{◌≡◌, ℕ, List, [], ◌∷◌, map, All, refl, sym, ◌∙◌}
 use Rattle.std.proofs.lemmas.List.Elements.{All-head, All-tail}
-use Rattle.event_body.specs.declared.event.Event.{Event}
-use Rattle.journal.specs.Logs.{Body}
-use Rattle.journal.specs.Journals.{IsReading}
+use Rattle.event_body.specs.declared.event_body.event.Event.{Event}
+use Rattle.journal.specs.Journal.Logs.{Body}
+use Rattle.journal.specs.Journal.Journals.{IsReading}
 
 module _ (spells : Event → List ℕ → Type 0) (one : (e f : Event) (bytes : List ℕ) → spells e bytes → spells f bytes → e ≡ f) where
   same_read : (held other : List Body) → map (λ b. b.bytes) held ≡ map (λ b. b.bytes) other

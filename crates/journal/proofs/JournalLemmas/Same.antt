@@ -11,10 +11,10 @@ use Rattle.std.specs.List.{list_any}
 use mathlib.Core.HLevel.{is_prop→PathP}
 use Rattle.cesr_codes.specs.Indices.{has_form}
 use Rattle.cesr_codes.specs.declared.indexed_sig.IndexedSig.{IndexedSig}
-use Rattle.journal.specs.declared.claim.Claim.{Claim}
-use Rattle.journal.specs.declared.claim.Claim.TheVariants.{Held, Witness, Couple}
-use Rattle.journal.specs.Replies.{same_indexed, same_claim}
-use Rattle.journal.specs.History.{Triple, same_triple}
+use Rattle.journal.specs.declared.journal.claim.Claim.{Claim}
+use Rattle.journal.specs.declared.journal.claim.Claim.TheVariants.{Held, Witness, Couple}
+use Rattle.journal.specs.Journal.Replies.{same_indexed, same_claim}
+use Rattle.journal.specs.Journal.History.{Triple, same_triple}
 
 pub same_triple_is : (x y : Triple) → same_triple x y ≡ true → x ≡ y
 same_triple_is x y h =

@@ -5,7 +5,7 @@ use Rattle.std.specs.List.{list_any}
 use Rattle.std.proofs.lemmas.List.Sums.{sum_by-cons, sum_by-le-sum_by}
 use Rattle.std.proofs.lemmas.List.Folds.{list_any-append}
 use Rattle.std.proofs.lemmas.Bool.{cases_Bool, or_left, or_right, not_from_true, not_from_false, not-true, or_parts}
-use Rattle.journal.specs.Acceptance.{appended, settled, Settles, rest, more}
+use Rattle.journal.specs.Journal.Acceptance.{appended, settled, Settles, rest, more}
 
 -- what is found passes the test
 pub find-true : {B : Type 0} (test : B → Bool) (xs : List B) (b : B) → find test xs ≡ Some b → test b ≡ true

@@ -3,7 +3,7 @@ use Rattle.std.proofs.Common.{◌≡◌, true, false, List, [], ◌∷◌, ◌++
 use Rattle.std.proofs.lemmas.List.Elements.{filter-append}
 use Rattle.std.proofs.lemmas.List.Sums.{fold_push}
 use Rattle.cesr_codes.specs.declared.prefix.Prefix.{Prefix}
-use Rattle.journal.specs.Logs.{Body, is_of, state, stepped}
+use Rattle.journal.specs.Journal.Logs.{Body, is_of, state, stepped}
 
 pub state-other : (log : List Body) (c : Body) (prefix : Prefix) → is_of prefix c ≡ false → state (log ++ c ∷ []) prefix ≡ state log prefix
 unfolding state

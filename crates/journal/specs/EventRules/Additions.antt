@@ -1,7 +1,7 @@
 -- The parts that a claim adds to the support of its event.
 use Rattle.std.specs.Prelude.{ℕ, Bool, false, ◌==◌, Option, Some, None}
-use Rattle.event_rules.specs.Parts.{Part, index, reveal, backer}
-use Rattle.event_rules.specs.declared.additions.Additions.{Additions}
+use Rattle.journal.specs.EventRules.Parts.{Part, index, reveal, backer}
+use Rattle.journal.specs.declared.event_rules.additions.Additions.{Additions}
 
 -- it is this number, where there is one
 abbrev pub is_number : Option ℕ → ℕ → Bool

@@ -5,18 +5,18 @@ use Rattle.std.specs.List.{list_any}
 use Rattle.cesr_codes.specs.declared.indexed_sig.IndexedSig.{IndexedSig}
 use Rattle.cesr_codes.specs.declared.key.Key.{Key}
 use Rattle.cesr_codes.specs.declared.sig.Sig.{Sig}
-use Rattle.event_body.specs.declared.event.Event.{Event}
-use Rattle.event_body.specs.declared.event.Event.TheVariants.{Icp, Rot, Ixn, Dip, Drt, Rct}
-use Rattle.event_body.specs.Events.{is_rotation}
+use Rattle.event_body.specs.declared.event_body.event.Event.{Event}
+use Rattle.event_body.specs.declared.event_body.event.Event.TheVariants.{Icp, Rot, Ixn, Dip, Drt, Rct}
+use Rattle.event_body.specs.EventBody.Events.{is_rotation}
 use Rattle.sith.specs.Tests.{satisfied}
 use Rattle.key_state.specs.Exposure.{Rules, own_rules, opens, numbers_below}
 use Rattle.key_state.specs.Same.{same_key}
 use Rattle.key_state.specs.States.{State}
-use Rattle.journal.specs.declared.body.Body.{Body}
-use Rattle.journal.specs.declared.claim.Claim.{Claim}
-use Rattle.journal.specs.History.{Told, claimed_sig, claims_on, said_yes}
-use Rattle.journal.specs.Readiness.{backs}
-use Rattle.event_rules.specs.Claims.{is_held_as, is_held_so, is_so}
+use Rattle.journal.specs.declared.journal.body.Body.{Body}
+use Rattle.journal.specs.declared.journal.claim.Claim.{Claim}
+use Rattle.journal.specs.Journal.History.{Told, claimed_sig, claims_on, said_yes}
+use Rattle.journal.specs.Journal.Readiness.{backs}
+use Rattle.journal.specs.EventRules.Claims.{is_held_as, is_held_so, is_so}
 
 -- a good signature of the controller has this index; one opens the commitment of this number; the witness of this number
 -- has a yes

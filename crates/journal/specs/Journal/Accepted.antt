@@ -1,10 +1,10 @@
 -- The accepted events of a journal.
 use Rattle.std.specs.Prelude.{List, []}
-use Rattle.journal.specs.declared.mode.Mode.{Mode}
-use Rattle.journal.specs.Logs.{Body}
-use Rattle.journal.specs.History.{Told, bodies}
-use Rattle.journal.specs.Readiness.{is_ready}
-use Rattle.journal.specs.Acceptance.{grown_by}
+use Rattle.journal.specs.declared.journal.mode.Mode.{Mode}
+use Rattle.journal.specs.Journal.Logs.{Body}
+use Rattle.journal.specs.Journal.History.{Told, bodies}
+use Rattle.journal.specs.Journal.Readiness.{is_ready}
+use Rattle.journal.specs.Journal.Acceptance.{grown_by}
 
 -- the base, and then what each entry makes ready, the earliest body first
 unfoldable pub accepted : Mode → List Body → List Told → List Body

@@ -6,13 +6,13 @@ use Rattle.std.specs.Ordering.{nat_cmp, ordering_then, is_eq}
 use Rattle.std.specs.Cmp.Lexicographic.{slice_cmp}
 use Rattle.cesr_codes.specs.declared.digest.Digest.{Digest}
 use Rattle.cesr_codes.specs.Spelling.{prefix_text, digest_text}
-use Rattle.journal.specs.declared.mode.Mode.{Mode}
-use Rattle.event_body.specs.Events.{prefix_of, sn_of, prior_of, is_receipt, is_interaction}
-use Rattle.journal.specs.Logs.{Body, same_body, stands}
-use Rattle.journal.specs.History.{Told, bodies}
-use Rattle.journal.specs.Readiness.{signed}
-use Rattle.journal.specs.Accepted.{accepted}
-use Rattle.journal.specs.Questions.{state_before}
+use Rattle.journal.specs.declared.journal.mode.Mode.{Mode}
+use Rattle.event_body.specs.EventBody.Events.{prefix_of, sn_of, prior_of, is_receipt, is_interaction}
+use Rattle.journal.specs.Journal.Logs.{Body, same_body, stands}
+use Rattle.journal.specs.Journal.History.{Told, bodies}
+use Rattle.journal.specs.Journal.Readiness.{signed}
+use Rattle.journal.specs.Journal.Accepted.{accepted}
+use Rattle.journal.specs.Journal.Questions.{state_before}
 
 -- the order of texts by their bytes
 abbrev pub text_cmp : List ℕ → List ℕ → Ordering

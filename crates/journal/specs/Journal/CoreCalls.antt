@@ -2,19 +2,19 @@
 use Rattle.std.specs.Prelude.{◌≡◌, ℕ, Bool, List, [], ◌∷◌, ◌++◌, Option, Some, None, Result, Ok, Err}
 use Rattle.cesr_codes.specs.declared.key.Key.{Key}
 use Rattle.cesr_codes.specs.declared.sig.Sig.{Sig}
-use Rattle.event_body.specs.declared.event.Event.{Event}
-use Rattle.event_body.specs.declared.body_fault.BodyFault.{BodyFault}
+use Rattle.event_body.specs.declared.event_body.event.Event.{Event}
+use Rattle.event_body.specs.declared.event_body.body_fault.BodyFault.{BodyFault}
 use Rattle.cesr_stream.specs.declared.message.Message.{Message}
-use Rattle.journal.specs.declared.mode.Mode.{Mode}
-use Rattle.journal.specs.declared.reply.Reason.{Reason}
-use Rattle.journal.specs.declared.reply.Reply.{Reply}
-use Rattle.journal.specs.declared.reply.Reply.TheVariants.{Taken, Again, Refused, Full}
-use Rattle.journal.specs.declared.question.Noted.{Noted}
-use Rattle.journal.specs.declared.question.Noted.TheVariants.{New, Known, Unasked}
-use Rattle.journal.specs.Logs.{Body}
-use Rattle.journal.specs.History.{Told, took, heard}
-use Rattle.journal.specs.Questions.{noted}
-use Rattle.journal.specs.Replies.{claims_of, refusal, reply_to}
+use Rattle.journal.specs.declared.journal.mode.Mode.{Mode}
+use Rattle.journal.specs.declared.journal.reply.Reason.{Reason}
+use Rattle.journal.specs.declared.journal.reply.Reply.{Reply}
+use Rattle.journal.specs.declared.journal.reply.Reply.TheVariants.{Taken, Again, Refused, Full}
+use Rattle.journal.specs.declared.journal.question.Noted.{Noted}
+use Rattle.journal.specs.declared.journal.question.Noted.TheVariants.{New, Known, Unasked}
+use Rattle.journal.specs.Journal.Logs.{Body}
+use Rattle.journal.specs.Journal.History.{Told, took, heard}
+use Rattle.journal.specs.Journal.Questions.{noted}
+use Rattle.journal.specs.Journal.Replies.{claims_of, refusal, reply_to}
 use Rattle.keri_outside.specs.declared.limits.Limits.{Limits}
 
 -- what is told after a reply to a message with this body

@@ -2,23 +2,23 @@
 use Rattle.std.specs.Prelude.{◌≡◌, ℕ, ◌+◌, ◌<◌, Bool, false, ◌==◌, List, [], ◌∷◌, ◌++◌, length, map, filter, flat_map, drop, Option, Some, None, IfSome, All, Result, Ok, Err}
 use Rattle.cesr_codes.specs.declared.key.Key.{Key}
 use Rattle.cesr_codes.specs.declared.sig.Sig.{Sig}
-use Rattle.event_body.specs.declared.event.Event.{Event}
-use Rattle.event_body.specs.declared.body_fault.BodyFault.{BodyFault}
-use Rattle.event_body.specs.declared.body_fault.ReadBody.TheVariants.{Fault}
-use Rattle.event_body.specs.Judging.{Judges, SpellsEvent}
+use Rattle.event_body.specs.declared.event_body.event.Event.{Event}
+use Rattle.event_body.specs.declared.event_body.body_fault.BodyFault.{BodyFault}
+use Rattle.event_body.specs.declared.event_body.body_fault.ReadBody.TheVariants.{Fault}
+use Rattle.event_body.specs.EventBody.Judging.{Judges, SpellsEvent}
 use Rattle.keri_outside.specs.declared.limits.Limits.{Limits}
 use Rattle.cesr_stream.specs.declared.message.Message.{Message}
 use Rattle.cesr_stream.specs.Parts.{Part}
 use Rattle.cesr_stream.specs.Front.{front}
 use Rattle.cesr_stream.specs.Items.{Placed, Items, Stand, IsEnd}
 use Rattle.cesr_stream.specs.Messages.{messages}
-use Rattle.journal.specs.declared.journal.Journal.{Journal}
-use Rattle.journal.specs.declared.refusal.Refusal.{Refusal}
-use Rattle.journal.specs.declared.reply.Reason.{Reason}
-use Rattle.journal.specs.Logs.{Body}
-use Rattle.journal.specs.History.{Told, took, heard}
-use Rattle.journal.specs.Replies.{claims_of, refusal}
-use Rattle.journal.specs.Journals.{IsReading, InOrder, told_by}
+use Rattle.journal.specs.declared.journal.journal.Journal.{Journal}
+use Rattle.journal.specs.declared.journal.refusal.Refusal.{Refusal}
+use Rattle.journal.specs.declared.journal.reply.Reason.{Reason}
+use Rattle.journal.specs.Journal.Logs.{Body}
+use Rattle.journal.specs.Journal.History.{Told, took, heard}
+use Rattle.journal.specs.Journal.Replies.{claims_of, refusal}
+use Rattle.journal.specs.Journal.Journals.{IsReading, InOrder, told_by}
 
 -- the messages of the items that the bytes begin with
 pub record AreMessages (limits : Limits) (bytes : List ℕ) (found : List Message) : Type 0 where

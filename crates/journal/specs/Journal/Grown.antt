@@ -1,7 +1,7 @@
 -- Lists that acceptance can make, and the chain behind an event (KERI, key event logs).
 use Rattle.std.specs.Prelude.{◌≡◌, ℕ, zero, suc, Bool, ◌&&◌, not, List, [], ◌∷◌, ◌++◌, Option, Some, None, IsTrue}
-use Rattle.event_body.specs.Events.{prefix_of, sn_of, is_receipt}
-use Rattle.journal.specs.Logs.{Body, is_in, state, takes, predecessor}
+use Rattle.event_body.specs.EventBody.Events.{prefix_of, sn_of, is_receipt}
+use Rattle.journal.specs.Journal.Logs.{Body, is_in, state, takes, predecessor}
 
 -- the body is an event that isn't in the list, and is the first of its identifier or follows its state
 unfoldable pub fits : List Body → Body → Bool

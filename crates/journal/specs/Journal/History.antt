@@ -3,12 +3,12 @@ use Rattle.std.specs.Prelude.{ℕ, Bool, ◌&&◌, ◌||◌, ◌==◌, List, [],
 use Rattle.std.specs.List.{list_any}
 use Rattle.cesr_codes.specs.declared.key.Key.{Key}
 use Rattle.cesr_codes.specs.declared.sig.Sig.{Sig}
-use Rattle.journal.specs.declared.claim.Claim.{Claim}
-use Rattle.journal.specs.declared.claim.Claim.TheVariants.{Held, Witness, Couple}
+use Rattle.journal.specs.declared.journal.claim.Claim.{Claim}
+use Rattle.journal.specs.declared.journal.claim.Claim.TheVariants.{Held, Witness, Couple}
 use Rattle.key_state.specs.Same.{same_key, same_sig, same_digest, same_prefix, has_key, distinct}
-use Rattle.event_body.specs.Events.{prefix_of, sn_of, said_of, is_receipt}
+use Rattle.event_body.specs.EventBody.Events.{prefix_of, sn_of, said_of, is_receipt}
 use Rattle.key_state.specs.Exposure.{Rules}
-use Rattle.journal.specs.Logs.{Body, same_body}
+use Rattle.journal.specs.Journal.Logs.{Body, same_body}
 
 -- an entry: a body came with its claims, or a verifier said yes or no of a signature on a body
 pub data Told : Type 0 where

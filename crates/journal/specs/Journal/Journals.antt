@@ -1,19 +1,19 @@
 -- What a journal of bodies and numbers tells: with the event of each body, the rest is computed.
 use Rattle.std.specs.Prelude.{◌≡◌, ℕ, ◌+◌, ◌<◌, Bool, List, [], ◌∷◌, ◌++◌, length, map, take, filter_map, slice_get, Option, Some, None, option_map, All, if◌then◌else◌}
-use Rattle.event_body.specs.declared.event.Event.{Event}
-use Rattle.journal.specs.declared.entry.Entry.{Entry}
-use Rattle.journal.specs.declared.entry.Entry.TheVariants.{Took, Heard}
-use Rattle.journal.specs.declared.mode.Mode.{Mode}
-use Rattle.event_body.specs.Events.{prefix_of, sn_of}
-use Rattle.journal.specs.declared.conflict.Conflict.{Conflict}
-use Rattle.journal.specs.declared.question.Question.{Question}
-use Rattle.journal.specs.declared.question.Noted.{Noted}
-use Rattle.journal.specs.declared.question.Noted.TheVariants.{Unasked}
-use Rattle.journal.specs.Logs.{Body}
-use Rattle.journal.specs.History.{Told, took, heard, bodies, Triple}
-use Rattle.journal.specs.Grown.{fits}
-use Rattle.journal.specs.CoreCalls.{Answers}
-use Rattle.journal.specs.Accepted.{accepted}
+use Rattle.event_body.specs.declared.event_body.event.Event.{Event}
+use Rattle.journal.specs.declared.journal.entry.Entry.{Entry}
+use Rattle.journal.specs.declared.journal.entry.Entry.TheVariants.{Took, Heard}
+use Rattle.journal.specs.declared.journal.mode.Mode.{Mode}
+use Rattle.event_body.specs.EventBody.Events.{prefix_of, sn_of}
+use Rattle.journal.specs.declared.journal.conflict.Conflict.{Conflict}
+use Rattle.journal.specs.declared.journal.question.Question.{Question}
+use Rattle.journal.specs.declared.journal.question.Noted.{Noted}
+use Rattle.journal.specs.declared.journal.question.Noted.TheVariants.{Unasked}
+use Rattle.journal.specs.Journal.Logs.{Body}
+use Rattle.journal.specs.Journal.History.{Told, took, heard, bodies, Triple}
+use Rattle.journal.specs.Journal.Grown.{fits}
+use Rattle.journal.specs.Journal.CoreCalls.{Answers}
+use Rattle.journal.specs.Journal.Accepted.{accepted}
 
 -- an entry with its whole body, where its number is held
 abbrev pub whole : List Body → Entry → Option Told

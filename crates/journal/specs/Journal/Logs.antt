@@ -3,11 +3,11 @@ use Rattle.std.specs.Prelude.{◌+◌, Bool, false, ◌&&◌, ◌||◌, ◌==◌
 use Rattle.std.specs.List.{list_any}
 use Rattle.std.specs.Result.{result_ok}
 use Rattle.cesr_codes.specs.declared.prefix.Prefix.{Prefix}
-use Rattle.event_body.specs.declared.event.Event.{Event}
-pub use Rattle.journal.specs.declared.body.Body.{Body}
+use Rattle.event_body.specs.declared.event_body.event.Event.{Event}
+pub use Rattle.journal.specs.declared.journal.body.Body.{Body}
 use Rattle.key_state.specs.States.{State}
 use Rattle.key_state.specs.Same.{same_prefix}
-use Rattle.event_body.specs.Events.{prefix_of, sn_of, said_of, prior_of, is_inception}
+use Rattle.event_body.specs.EventBody.Events.{prefix_of, sn_of, said_of, prior_of, is_inception}
 use Rattle.key_state.specs.KeyStates.{first, misfit, moved, are_same}
 
 -- the bodies have the same bytes

@@ -4,14 +4,14 @@ use Rattle.std.specs.List.{list_any}
 use Rattle.cesr_codes.specs.declared.key.Key.{Key}
 use Rattle.cesr_codes.specs.declared.sig.Sig.{Sig}
 use Rattle.key_state.specs.States.{State}
-use Rattle.journal.specs.declared.mode.Mode.{Mode}
-use Rattle.journal.specs.declared.question.Noted.{Noted}
-use Rattle.journal.specs.declared.question.Noted.TheVariants.{New, Known, Unasked}
+use Rattle.journal.specs.declared.journal.mode.Mode.{Mode}
+use Rattle.journal.specs.declared.journal.question.Noted.{Noted}
+use Rattle.journal.specs.declared.journal.question.Noted.TheVariants.{New, Known, Unasked}
 use Rattle.key_state.specs.Same.{distinct}
 use Rattle.key_state.specs.Exposure.{own_rules}
-use Rattle.journal.specs.Logs.{Body, predecessor, state_behind, stands}
-use Rattle.journal.specs.History.{Told, took, heard, Triple, same_triple, triple_of, claims_on, bodies, has_verdict}
-use Rattle.journal.specs.Accepted.{accepted}
+use Rattle.journal.specs.Journal.Logs.{Body, predecessor, state_behind, stands}
+use Rattle.journal.specs.Journal.History.{Told, took, heard, Triple, same_triple, triple_of, claims_on, bodies, has_verdict}
+use Rattle.journal.specs.Journal.Accepted.{accepted}
 
 -- the state that the body follows, where its predecessor is accepted
 abbrev pub state_before : List Body → Body → Option State

@@ -3,19 +3,19 @@ use Rattle.std.specs.Prelude.{Bool, true, false, ◌&&◌, ◌||◌, not, nat_le
 use Rattle.std.specs.List.{list_any}
 use Rattle.cesr_codes.specs.declared.key.Key.{Key}
 use Rattle.cesr_codes.specs.declared.indexed_sig.IndexedSig.{IndexedSig}
-use Rattle.event_body.specs.declared.event.Event.{Event}
+use Rattle.event_body.specs.declared.event_body.event.Event.{Event}
 use Rattle.key_state.specs.States.{State}
-use Rattle.journal.specs.declared.claim.Claim.{Claim}
-use Rattle.journal.specs.declared.claim.Claim.TheVariants.{Held, Witness, Couple}
-use Rattle.journal.specs.declared.mode.Mode.{Mode}
-use Rattle.journal.specs.declared.mode.Mode.TheVariants.{Full, Local}
+use Rattle.journal.specs.declared.journal.claim.Claim.{Claim}
+use Rattle.journal.specs.declared.journal.claim.Claim.TheVariants.{Held, Witness, Couple}
+use Rattle.journal.specs.declared.journal.mode.Mode.{Mode}
+use Rattle.journal.specs.declared.journal.mode.Mode.TheVariants.{Full, Local}
 use Rattle.key_state.specs.Same.{same_key, distinct}
 use Rattle.sith.specs.Tests.{satisfied}
-use Rattle.event_body.specs.Events.{prefix_of, is_rotation, is_receipt}
+use Rattle.event_body.specs.EventBody.Events.{prefix_of, is_rotation, is_receipt}
 use Rattle.key_state.specs.Exposure.{own_rules, exposed}
-use Rattle.journal.specs.Logs.{Body, is_in, state, takes}
-use Rattle.journal.specs.Seals.{anchored}
-use Rattle.journal.specs.History.{Told, Triple, claims_on, triple_of, said_yes, yes_in}
+use Rattle.journal.specs.Journal.Logs.{Body, is_in, state, takes}
+use Rattle.journal.specs.Journal.Seals.{anchored}
+use Rattle.journal.specs.Journal.History.{Told, Triple, claims_on, triple_of, said_yes, yes_in}
 
 -- a verdict says yes of the triple, where there is one
 abbrev pub yes_to : List Told → Option Triple → Bool

@@ -3,23 +3,23 @@ use Rattle.std.specs.Prelude.{◌+◌, Bool, true, false, ◌&&◌, ◌||◌, �
 use Rattle.std.specs.List.{list_any, list_all}
 use Rattle.std.specs.Option.{option_eq}
 use Rattle.cesr_codes.specs.declared.indexed_sig.IndexedSig.{IndexedSig}
-use Rattle.event_body.specs.declared.event.Event.{Event}
-use Rattle.event_body.specs.declared.body_fault.BodyFault.{BodyFault}
+use Rattle.event_body.specs.declared.event_body.event.Event.{Event}
+use Rattle.event_body.specs.declared.event_body.body_fault.BodyFault.{BodyFault}
 use Rattle.cesr_stream.specs.declared.group.Group.{Group}
 use Rattle.cesr_stream.specs.declared.group.Group.TheVariants.{Held as HeldGroup, Witness as WitnessGroup, Couples, FirstSeen, Anchor}
 use Rattle.cesr_stream.specs.declared.message.Message.{Message}
 use Rattle.keri_outside.specs.declared.limits.Limits.{Limits}
-use Rattle.journal.specs.declared.claim.Claim.{Claim}
-use Rattle.journal.specs.declared.claim.Claim.TheVariants.{Held, Witness, Couple}
-use Rattle.journal.specs.declared.reply.Reason.{Reason}
-use Rattle.journal.specs.declared.reply.Reason.TheVariants.{Body as BodyReason, Unsigned, WrongGroup, DigestOnly, TooManySigs}
-use Rattle.journal.specs.declared.reply.Reply.{Reply}
-use Rattle.journal.specs.declared.reply.Reply.TheVariants.{Taken, Again, Full}
+use Rattle.journal.specs.declared.journal.claim.Claim.{Claim}
+use Rattle.journal.specs.declared.journal.claim.Claim.TheVariants.{Held, Witness, Couple}
+use Rattle.journal.specs.declared.journal.reply.Reason.{Reason}
+use Rattle.journal.specs.declared.journal.reply.Reason.TheVariants.{Body as BodyReason, Unsigned, WrongGroup, DigestOnly, TooManySigs}
+use Rattle.journal.specs.declared.journal.reply.Reply.{Reply}
+use Rattle.journal.specs.declared.journal.reply.Reply.TheVariants.{Taken, Again, Full}
 use Rattle.key_state.specs.Same.{same_key, same_sig}
-use Rattle.event_body.specs.Events.{is_receipt}
+use Rattle.event_body.specs.EventBody.Events.{is_receipt}
 use Rattle.key_state.specs.KeyStates.{first_true}
-use Rattle.journal.specs.Logs.{Body, same_body, is_in}
-use Rattle.journal.specs.History.{Told, took, heard, bodies, taken}
+use Rattle.journal.specs.Journal.Logs.{Body, same_body, is_in}
+use Rattle.journal.specs.Journal.History.{Told, took, heard, bodies, taken}
 
 -- the claims of a group: the controller's, the witnesses', and the receipts by other keys (-A, -B, -C)
 abbrev pub claims_of_group : Group → List Claim

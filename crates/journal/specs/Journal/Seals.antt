@@ -5,12 +5,12 @@ use Rattle.std.specs.Fmt.{digits}
 use Rattle.cesr_codes.specs.declared.prefix.Prefix.{Prefix}
 use Rattle.cesr_codes.specs.Spelling.{prefix_text, digest_text}
 use Rattle.json_tree.specs.declared.tree.Tree.{Tree, Str, Object', Row_of-Member, end_of-Member, more_of-Member}
-use Rattle.event_body.specs.declared.event.Event.{Event}
-use Rattle.event_body.specs.declared.event.Event.TheVariants.{Icp, Dip, Drt}
+use Rattle.event_body.specs.declared.event_body.event.Event.{Event}
+use Rattle.event_body.specs.declared.event_body.event.Event.TheVariants.{Icp, Dip, Drt}
 use Rattle.key_state.specs.States.{State}
 use Rattle.key_state.specs.Same.{has_text}
-use Rattle.event_body.specs.Events.{prefix_of, sn_of, said_of, anchors_of}
-use Rattle.journal.specs.Logs.{Body, is_of}
+use Rattle.event_body.specs.EventBody.Events.{prefix_of, sn_of, said_of, anchors_of}
+use Rattle.journal.specs.Journal.Logs.{Body, is_of}
 
 -- the names and values of an object's members
 pub record Named : Type 0 where

@@ -2,15 +2,15 @@
 use Rattle.std.specs.Prelude.{Bool, true, false, ◌&&◌, ◌||◌, not, List, [], ◌∷◌, Option, Some, None, is_some, is_none}
 use Rattle.cesr_codes.specs.declared.prefix.Prefix.{Prefix}
 use Rattle.key_state.specs.States.{State}
-use Rattle.journal.specs.declared.mode.Mode.{Mode}
-use Rattle.journal.specs.declared.why.Why.{Why}
-use Rattle.journal.specs.declared.why.Why.TheVariants.{Predecessor, Signatures, Next, Receipts, Seal, Never}
-use Rattle.event_body.specs.Events.{prefix_of, is_inception, is_receipt}
+use Rattle.journal.specs.declared.journal.mode.Mode.{Mode}
+use Rattle.journal.specs.declared.journal.why.Why.{Why}
+use Rattle.journal.specs.declared.journal.why.Why.TheVariants.{Predecessor, Signatures, Next, Receipts, Seal, Never}
+use Rattle.event_body.specs.EventBody.Events.{prefix_of, is_inception, is_receipt}
 use Rattle.key_state.specs.KeyStates.{first_true}
-use Rattle.journal.specs.Logs.{Body, is_in, state, takes, predecessor, stands}
-use Rattle.journal.specs.Seals.{anchored, delegator_of, forbids}
-use Rattle.journal.specs.History.{Told}
-use Rattle.journal.specs.Readiness.{meets_own, meets_before, is_backed, is_local}
+use Rattle.journal.specs.Journal.Logs.{Body, is_in, state, takes, predecessor, stands}
+use Rattle.journal.specs.Journal.Seals.{anchored, delegator_of, forbids}
+use Rattle.journal.specs.Journal.History.{Told}
+use Rattle.journal.specs.Journal.Readiness.{meets_own, meets_before, is_backed, is_local}
 
 -- the delegator forbids delegation, where there is one
 abbrev pub is_forbidden : List Body → Option Prefix → Bool

@@ -1,18 +1,18 @@
 //! What a claim adds to the support of its event.
 ghost use Rattle.std.specs.Prelude.{◌≡◌, ◌==◌, ℕ, true, false, slice_get, IfNone, IfSome};
 ghost use Rattle.std.specs.Option.{option_copied};
-ghost use Rattle.event_rules.specs.Additions.{adds, is_number};
-ghost use Rattle.event_rules.specs.Claims.{has_this, is_held_as};
-ghost use Rattle.event_rules.specs.Parts.{Part, brings_all, opens_at};
+ghost use Rattle.journal.specs.EventRules.Additions.{adds, is_number};
+ghost use Rattle.journal.specs.EventRules.Claims.{has_this, is_held_as};
+ghost use Rattle.journal.specs.EventRules.Parts.{Part, brings_all, opens_at};
 ghost use Rattle.key_state.specs.Exposure.{own_rules};
 ghost use Rattle.key_state.specs.Kept.{IsKept};
 ghost use Rattle.key_state.specs.Same.{are_witnesses, has_key};
 
-use crate::signers::opens_commitment;
-use crate::witnesses::{place_of, witness};
+use crate::event_rules::signers::opens_commitment;
+use crate::event_rules::witnesses::{place_of, witness};
+use crate::journal::Claim;
 use cesr_codes::{IndexedSig, Key};
 use event_body::Event;
-use journal::Claim;
 use key_state::{KeyState, is_key};
 
 /// The parts that a claim adds to the support of its event, once its signature has a yes.
@@ -27,7 +27,7 @@ pub struct Additions {
 }
 
 impl Additions {
-    /// What a claim on an event behind a state adds, by its key, which [`crate::claimed_key`] finds. It takes no memory.
+    /// What a claim on an event behind a state adds, by its key, which [`crate::event_rules::claimed_key`] finds. It takes no memory.
     /// Where a witness stood twice, one of its places is given; in the list of an event that follows a state each stands once.
     pub fn of(state: Option<&KeyState>, event: &Event, claim: &Claim, key: &Key) -> Additions
         requires { IsKept event.now }

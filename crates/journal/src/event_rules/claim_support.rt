@@ -3,16 +3,16 @@ ghost use Rattle.std.specs.Prelude.{◌≡◌, ◌==◌, Bool, slice_get};
 ghost use Rattle.std.specs.List.{list_any};
 ghost use Rattle.std.specs.Option.{option_copied};
 ghost use Rattle.cesr_codes.specs.declared.indexed_sig.IndexedSig.{IndexedSig};
-ghost use Rattle.event_rules.specs.Claims.{is_held_so, is_so, passes};
-ghost use Rattle.event_rules.specs.Parts.{opens_at, parts_by};
+ghost use Rattle.journal.specs.EventRules.Claims.{is_held_so, is_so, passes};
+ghost use Rattle.journal.specs.EventRules.Parts.{opens_at, parts_by};
 ghost use Rattle.key_state.specs.Exposure.{own_rules};
 
-use crate::signers::{claimed_key, claimed_sig, opens_commitment};
-use crate::witnesses::{witness, witness_count};
-use crate::{Support, Verdicts};
+use crate::event_rules::signers::{claimed_key, claimed_sig, opens_commitment};
+use crate::event_rules::witnesses::{witness, witness_count};
+use crate::event_rules::{Support, Verdicts};
+use crate::journal::Claim;
 use cesr_codes::IndexedSig;
 use event_body::Event;
-use journal::Claim;
 use key_state::KeyState;
 
 /// The support of an event behind a state, found by going over the claims on it each time: for an event whose parts weren't

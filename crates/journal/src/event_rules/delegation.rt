@@ -1,7 +1,7 @@
 //! Delegation.
 ghost use Rattle.std.specs.Prelude.{◌≡◌};
 ghost use Rattle.std.specs.Option.{option_copied};
-ghost use Rattle.journal.specs.Seals as seals;
+ghost use Rattle.journal.specs.Journal.Seals as seals;
 
 use cesr_codes::Prefix;
 use event_body::Event;

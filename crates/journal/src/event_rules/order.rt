@@ -1,8 +1,8 @@
 //! Which event stands behind which.
 ghost use Rattle.std.specs.Prelude.{◌≡◌, ◌&&◌, ◌==◌, ◌+◌, Some};
 ghost use Rattle.std.specs.Option.{option_copied};
-ghost use Rattle.event_body.specs.Events as events;
-ghost use Rattle.journal.specs.Logs as logs;
+ghost use Rattle.event_body.specs.EventBody.Events as events;
+ghost use Rattle.journal.specs.Journal.Logs as logs;
 ghost use Rattle.key_state.specs.KeyStates.{are_same};
 ghost use Rattle.key_state.specs.Kept.{IsKept};
 ghost use Rattle.key_state.specs.Same.{same_prefix};

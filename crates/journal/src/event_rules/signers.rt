@@ -1,14 +1,14 @@
 //! The signing keys of an event, the keys of claims, and what their signatures open.
 ghost use Rattle.std.specs.Prelude.{◌≡◌};
 ghost use Rattle.std.specs.Option.{option_copied};
-ghost use Rattle.event_rules.specs.Parts.{opens_at};
-ghost use Rattle.journal.specs.History as history;
+ghost use Rattle.journal.specs.EventRules.Parts.{opens_at};
+ghost use Rattle.journal.specs.Journal.History as history;
 ghost use Rattle.key_state.specs.Exposure.{own_rules};
 
-use crate::witnesses::{has_witness, witness};
+use crate::event_rules::witnesses::{has_witness, witness};
+use crate::journal::Claim;
 use cesr_codes::{IndexedSig, Key, Sig};
 use event_body::Event;
-use journal::Claim;
 use key_state::{KeyState, opens};
 
 /// The keys that sign the event: its own, or for an interaction those of the state before it.

@@ -1,7 +1,7 @@
 //! What supports an event.
 ghost use Rattle.std.specs.Prelude.{◌≡◌, ◌≤◌, ℕ, Bool, filter, length};
-ghost use Rattle.event_rules.specs.Parts as parts;
-ghost use Rattle.event_rules.specs.Parts.{Part};
+ghost use Rattle.journal.specs.EventRules.Parts as parts;
+ghost use Rattle.journal.specs.EventRules.Parts.{Part};
 ghost use Rattle.key_state.specs.Exposure.{numbers_below};
 
 /// The parts that the good signatures on an event add up to.

@@ -2,15 +2,15 @@
 //! has signing keys, commitments or witnesses.
 ghost use Rattle.std.specs.Prelude.{◌≡◌, ◌≤◌, ◌||◌, filter, length, not};
 ghost use Rattle.std.specs.Option.{option_copied};
-ghost use Rattle.event_body.specs.Events.{is_rotation};
-ghost use Rattle.event_rules.specs.Parts as parts;
+ghost use Rattle.event_body.specs.EventBody.Events.{is_rotation};
+ghost use Rattle.journal.specs.EventRules.Parts as parts;
 ghost use Rattle.key_state.specs.Exposure.{numbers_below, own_rules};
 ghost use Rattle.key_state.specs.Kept.{IsKept};
 ghost use Rattle.sith.specs.Tests.{satisfied};
 
-use crate::Support;
-use crate::places::Places;
-use crate::witnesses::{place_count, toad_of};
+use crate::event_rules::Support;
+use crate::event_rules::places::Places;
+use crate::event_rules::witnesses::{place_count, toad_of};
 use event_body::Event;
 use key_state::KeyState;
 
@@ -122,7 +122,7 @@ pub fn is_backed<S: Support>(support: &S, state: Option<&KeyState>, event: &Even
 }
 
 // How many of the witnesses below a bound have a good signature.
-#[tactic(auto, using(crate::proofs::Filters::passing_more, key_state::proofs::Numbers::none_below))]
+#[tactic(auto, using(crate::proofs::EventRulesLemmas::Filters::passing_more, key_state::proofs::Numbers::none_below))]
 fn backer_count<S: Support>(support: &S, count: u16) -> u16
     ensures { result ≡ length (filter (λ n. S.has support.now (parts.backer n)) (numbers_below count)) }
 {

@@ -1,7 +1,7 @@
 //! The witnesses of an event, and how many of them must agree.
 ghost use Rattle.std.specs.Prelude.{◌≡◌, ◌≤◌, true, false, filter, length, not, slice_get, IfSome, IfNone};
 ghost use Rattle.std.specs.Option.{option_copied};
-ghost use Rattle.event_rules.specs.Claims.{has_this};
+ghost use Rattle.journal.specs.EventRules.Claims.{has_this};
 ghost use Rattle.key_state.specs.Exposure.{own_rules, rules_of};
 ghost use Rattle.key_state.specs.Kept.{IsKept};
 ghost use Rattle.key_state.specs.KeyStates.{changed_list};
@@ -59,7 +59,7 @@ pub fn has_witness(state: Option<&KeyState>, event: &Event, key: &Key) -> bool
 }
 
 /// How many witnesses the event's own list has: at most 128, 64 of the state and 64 that a body adds. It takes no memory.
-#[tactic(auto, using(crate::proofs::KeyPlaces::few_changed))]
+#[tactic(auto, using(crate::proofs::EventRulesLemmas::KeyPlaces::few_changed))]
 pub(crate) fn place_count(state: Option<&KeyState>, event: &Event) -> u16
     requires { IsKept event.now }
     ensures { result ≡ length (own_rules (option_copied state.entry) event.now).witnesses }
@@ -72,7 +72,7 @@ pub(crate) fn place_count(state: Option<&KeyState>, event: &Event) -> u16
 }
 
 /// A place of the key in the event's own list. It takes no memory.
-#[tactic(auto, using(crate::proofs::KeyPlaces::few_changed, crate::proofs::ChangedPlaces::place_within))]
+#[tactic(auto, using(crate::proofs::EventRulesLemmas::KeyPlaces::few_changed, crate::proofs::EventRulesLemmas::ChangedPlaces::place_within))]
 pub(crate) fn place_of(state: Option<&KeyState>, event: &Event, key: &Key) -> Option<u16>
     requires { IsKept event.now }
     ensures found { IfSome result (λ place. has_this
@@ -156,7 +156,7 @@ fn left_witness(old: &[Key], cuts: &[Key], number: usize) -> Option<Key>
 }
 
 // Whether the key is in that list. It goes over each list once.
-#[tactic(auto, using(crate::proofs::ChangedPlaces::has_changed))]
+#[tactic(auto, using(crate::proofs::EventRulesLemmas::ChangedPlaces::has_changed))]
 fn is_changed_witness(old: &[Key], event: &Rotation, key: &Key) -> bool
     ensures { result ≡ same.has_key (changed_list old.now event.now) key.now }
 {

@@ -1,6 +1,6 @@
 //! Entries of a journal.
 
-use crate::Claim;
+use crate::journal::Claim;
 use cesr_codes::{Key, Sig};
 use lists::{CopyValue, Items, copy_items};
 use std::alloc::{AllocError, Global};

@@ -1,6 +1,6 @@
 //! The journal itself.
 
-use crate::Entry;
+use crate::journal::Entry;
 use json_tree::Text;
 use lists::{CopyValue, Items};
 use std::alloc::{AllocError, Global};

@@ -1,6 +1,6 @@
 //! Messages that were refused.
 
-use crate::Reason;
+use crate::journal::Reason;
 
 /// A message that was refused, by the place of its body in the stream.
 #[derive(Clone, Copy, PartialEq, Eq, Debug)]

@@ -7,15 +7,15 @@ use Rattle.std.proofs.lemmas.List.Elements.{All-nil, All-push}
 use Rattle.std.proofs.lemmas.List.Folds.{list_any-append}
 use Rattle.cesr_codes.specs.Indexed.{IsIndexed}
 use Rattle.cesr_codes.specs.declared.indexed_sig.IndexedSig.{IndexedSig}
-use Rattle.event_body.specs.declared.event.Event.{Event}
+use Rattle.event_body.specs.declared.event_body.event.Event.{Event}
 use Rattle.key_state.specs.Same.{distinct}
 use Rattle.key_state.specs.States.{State}
-use Rattle.journal.proofs.Distinct.{distinct-push_new, distinct-push_old}
-use Rattle.event_payload.specs.Holding.{HasKept, part_cmp, part_of}
-use Rattle.event_payload.specs.Kept.{same_part}
-use Rattle.event_payload.specs.declared.kept.Kept.{Kept}
-use Rattle.event_payload.specs.declared.part.Part.{Part}
-use Rattle.event_payload.proofs.Orders.{at_is}
+use Rattle.journal.proofs.JournalLemmas.Distinct.{distinct-push_new, distinct-push_old}
+use Rattle.journal_views.specs.EventPayload.Holding.{HasKept, part_cmp, part_of}
+use Rattle.journal_views.specs.EventPayload.Kept.{same_part}
+use Rattle.journal_views.specs.declared.event_payload.kept.Kept.{Kept}
+use Rattle.journal_views.specs.declared.event_payload.part.Part.{Part}
+use Rattle.journal_views.proofs.EventPayloadLemmas.Orders.{at_is}
 
 -- a set that has the one, and what it had
 pub seen_more : {X : Type 0} (same : X → X → Bool) (xs : List X) (x : X) (old new at : X → Bool)

@@ -6,7 +6,7 @@ use Rattle.std.proofs.lemmas.Bool.{cases_lt}
 use Rattle.std.proofs.lemmas.List.{drop_all, nil_from_length, take_all, take-append-le}
 use Rattle.std.proofs.Math.Seq.{take-length, drop-append_seam}
 use Rattle.cesr_codes.specs.declared.indexed_sig.IndexedSig.{IndexedSig}
-use Rattle.event_payload.specs.Payloads.{parts_of}
+use Rattle.journal_views.specs.EventPayload.Payloads.{parts_of}
 
 -- one more part than are behind the first
 counts : (n : ℕ) → 0 < n → chunk_count n 4095 ≡ suc (chunk_count (n - min 4095 n) 4095)

@@ -5,24 +5,24 @@ use Rattle.std.specs.Prelude.{filter}
 use Rattle.std.specs.Option.{option_eq}
 use Rattle.std.proofs.lemmas.Bool.{and_from, and_parts}
 use Rattle.cesr_codes.specs.declared.indexed_sig.IndexedSig.{IndexedSig}
-use Rattle.event_body.specs.Events.{is_rotation}
-use Rattle.event_body.specs.declared.event.Event.{Event}
-use Rattle.event_body.specs.declared.event.Event.TheVariants.{Icp, Rot, Ixn, Dip, Drt, Rct}
-use Rattle.event_rules.specs.Additions.{is_number}
-use Rattle.event_rules.specs.Parts.{opens_at}
+use Rattle.event_body.specs.EventBody.Events.{is_rotation}
+use Rattle.event_body.specs.declared.event_body.event.Event.{Event}
+use Rattle.event_body.specs.declared.event_body.event.Event.TheVariants.{Icp, Rot, Ixn, Dip, Drt, Rct}
+use Rattle.journal.specs.EventRules.Additions.{is_number}
+use Rattle.journal.specs.EventRules.Parts.{opens_at}
 use Rattle.sith.specs.Tests.{satisfied}
 use Rattle.key_state.specs.Exposure.{exposed, numbers_below, own_rules}
 use Rattle.key_state.specs.Kept.{IsKept}
 use Rattle.key_state.specs.Same.{distinct}
 use Rattle.key_state.specs.States.{IsState, State}
 use Rattle.key_state.proofs.Same.{numbers}
-use Rattle.journal.specs.History.{Told}
-use Rattle.journal.specs.Readiness.{good_sigs, meets_next, signed}
-use Rattle.journal.specs.declared.body.Body.{Body}
-use Rattle.core_laws.proofs.Below.{AreSameBelow, same_satisfied}
-use Rattle.event_payload.specs.Kept.{kept, reveal_of, same_part, signed_by, state_under}
-use Rattle.event_payload.proofs.Firsts.{any_first, any_map}
-use Rattle.event_payload.proofs.Reveals.{opens_is}
+use Rattle.journal.specs.Journal.History.{Told}
+use Rattle.journal.specs.Journal.Readiness.{good_sigs, meets_next, signed}
+use Rattle.journal.specs.declared.journal.body.Body.{Body}
+use Rattle.claim_table.proofs.CoreLawsLemmas.Below.{AreSameBelow, same_satisfied}
+use Rattle.journal_views.specs.EventPayload.Kept.{kept, reveal_of, same_part, signed_by, state_under}
+use Rattle.journal_views.proofs.EventPayloadLemmas.Firsts.{any_first, any_map}
+use Rattle.journal_views.proofs.EventPayloadLemmas.Reveals.{opens_is}
 
 same_option : (o r : Option ℕ) → option_eq (λ i j. i == j) o r ≡ true → o ≡ r
 same_option None None h = refl

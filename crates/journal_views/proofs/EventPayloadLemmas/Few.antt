@@ -9,22 +9,22 @@ use Rattle.std.proofs.lemmas.Map.Steps.{length-le_from_distinct_below}
 use Rattle.std.proofs.lemmas.Option.{slice_get_within}
 use Rattle.cesr_codes.specs.declared.indexed_sig.IndexedSig.{IndexedSig}
 use Rattle.cesr_codes.specs.declared.key.Key.{Key}
-use Rattle.event_body.specs.declared.event.Event.{Event}
-use Rattle.event_body.specs.declared.event.Event.TheVariants.{Icp, Rot, Ixn, Dip, Drt, Rct}
+use Rattle.event_body.specs.declared.event_body.event.Event.{Event}
+use Rattle.event_body.specs.declared.event_body.event.Event.TheVariants.{Icp, Rot, Ixn, Dip, Drt, Rct}
 use Rattle.key_state.specs.Exposure.{Rules, own_rules}
 use Rattle.key_state.specs.Kept.{IsKept}
 use Rattle.key_state.specs.Same.{distinct}
 use Rattle.key_state.specs.States.{IsState, State}
-use Rattle.journal.specs.History.{Told, claims_on, triple_of}
-use Rattle.journal.specs.Readiness.{good_sigs, held_sig, yes_to}
-use Rattle.journal.specs.declared.body.Body.{Body}
-use Rattle.journal.specs.declared.claim.Claim.{Claim}
-use Rattle.journal.specs.declared.claim.Claim.TheVariants.{Held, Witness, Couple}
-use Rattle.event_payload.specs.Kept.{kept, reveal_of, same_part, state_under}
-use Rattle.event_payload.specs.Payloads.{payload_of}
-use Rattle.event_payload.proofs.Firsts.{All-distinct, chosen_fewer, distinct_shorter}
-use Rattle.event_payload.proofs.Reveals.{reveal_within}
-use Rattle.event_payload.proofs.Sizes.{payload_long}
+use Rattle.journal.specs.Journal.History.{Told, claims_on, triple_of}
+use Rattle.journal.specs.Journal.Readiness.{good_sigs, held_sig, yes_to}
+use Rattle.journal.specs.declared.journal.body.Body.{Body}
+use Rattle.journal.specs.declared.journal.claim.Claim.{Claim}
+use Rattle.journal.specs.declared.journal.claim.Claim.TheVariants.{Held, Witness, Couple}
+use Rattle.journal_views.specs.EventPayload.Kept.{kept, reveal_of, same_part, state_under}
+use Rattle.journal_views.specs.EventPayload.Payloads.{payload_of}
+use Rattle.journal_views.proofs.EventPayloadLemmas.Firsts.{All-distinct, chosen_fewer, distinct_shorter}
+use Rattle.journal_views.proofs.EventPayloadLemmas.Reveals.{reveal_within}
+use Rattle.journal_views.proofs.EventPayloadLemmas.Sizes.{payload_long}
 
 -- no reveal is 0, and the others follow
 abbrev rank : Option ℕ → ℕ

@@ -15,8 +15,8 @@ use Rattle.cesr_stream.specs.declared.group.Group.TheVariants.{Held, Witness, Co
 use Rattle.cesr_stream.specs.declared.item.Item.{Item}
 use Rattle.cesr_stream.specs.declared.item.Item.TheVariants.{Body as BodyItem, Group as GroupItem, Wrapped}
 use Rattle.cesr_stream.proofs.WrittenItems.{four_of, written_front}
-use Rattle.event_payload.specs.Payloads.{are_groups, followed, group_of, groups_text}
-use Rattle.event_payload.specs.Steps.{is_held}
+use Rattle.journal_views.specs.EventPayload.Payloads.{are_groups, followed, group_of, groups_text}
+use Rattle.journal_views.specs.EventPayload.Steps.{is_held}
 
 -- the bytes begin as a group of the controller's signatures does
 abbrev pub begins : List ℕ → Bool

@@ -4,7 +4,7 @@ use Rattle.std.specs.List.{list_all}
 use Rattle.std.proofs.lemmas.Bool.{and_parts}
 use Rattle.std.proofs.lemmas.List.{take-append-le, drop-append-le, take_at}
 use Rattle.std.proofs.lemmas.Slice.Eq.{bytes_eq-Decides}
-use Rattle.keri_specs.specs.Hex.{is_hex, hex_value}
+use Rattle.lists.specs.KeriSpecs.Hex.{is_hex, hex_value}
 use Rattle.cesr_stream.specs.Front.{has_version, size_of}
 use Rattle.cesr_stream.specs.Written.{IsWritable}
 use Rattle.cesr_stream.specs.declared.item.Item.TheVariants.{Body as BodyItem}

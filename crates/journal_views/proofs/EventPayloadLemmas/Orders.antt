@@ -2,10 +2,10 @@
 use Rattle.std.proofs.Common.{◌≡◌, ◌&&◌, ◌==◌, sym, ◌∙◌, rules, tests}
 use Rattle.std.specs.BTreeMap.{is_at}
 use Rattle.std.specs.Option.{option_eq}
-use Rattle.event_payload.specs.Holding.{part_cmp}
-use Rattle.event_payload.specs.contracts.part.PartOrd.TheImpl.Laws as part_laws
-use Rattle.event_payload.specs.contracts.part.PartPartialEq.TheImpl as part_test
-use Rattle.event_payload.specs.declared.part.Part.{Part}
+use Rattle.journal_views.specs.EventPayload.Holding.{part_cmp}
+use Rattle.journal_views.specs.contracts.event_payload.part.PartOrd.TheImpl.Laws as part_laws
+use Rattle.journal_views.specs.contracts.event_payload.part.PartPartialEq.TheImpl as part_test
+use Rattle.journal_views.specs.declared.event_payload.part.Part.{Part}
 
 alike : (p q : Part) → (part_test.ghosts).eq p q ≡ ((p.index == q.index) && option_eq (λ i j. i == j) p.reveal q.reveal)
 alike p q = search (rules, tests)

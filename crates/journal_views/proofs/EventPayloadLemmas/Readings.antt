@@ -13,9 +13,9 @@ use Rattle.cesr_stream.specs.declared.item.Item.TheVariants.{Body as BodyItem, G
 use Rattle.cesr_stream.specs.declared.step.Step.{Step}
 use Rattle.cesr_stream.specs.declared.step.Step.TheVariants.{Item as ItemStep, NeedMore, Bad as BadStep}
 use Rattle.cesr_stream.proofs.WrittenItems.{four_of}
-use Rattle.event_payload.specs.Payloads.{IsBehindBody, are_groups, front_with, text_in}
-use Rattle.event_payload.specs.Steps.{is_group, size_in}
-use Rattle.event_payload.proofs.Groups.{held_begins, none_left, not_finished, not_good, one_more, other_begins, otherwise, parted}
+use Rattle.journal_views.specs.EventPayload.Payloads.{IsBehindBody, are_groups, front_with, text_in}
+use Rattle.journal_views.specs.EventPayload.Steps.{is_group, size_in}
+use Rattle.journal_views.proofs.EventPayloadLemmas.Groups.{held_begins, none_left, not_finished, not_good, one_more, other_begins, otherwise, parted}
 
 -- What is left is groups just where all behind the body was.
 pub record Left (start reading : Reading) : Type 0 where

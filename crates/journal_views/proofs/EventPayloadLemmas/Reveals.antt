@@ -9,15 +9,15 @@ use Rattle.std.proofs.lemmas.Option.{slice_get_within}
 use Rattle.cesr_codes.specs.declared.digest.Digest.{Digest}
 use Rattle.cesr_codes.specs.declared.indexed_sig.IndexedSig.{IndexedSig}
 use Rattle.cesr_codes.specs.declared.key.Key.{Key}
-use Rattle.event_body.specs.declared.event.Event.{Event}
-use Rattle.event_body.specs.declared.event.Event.TheVariants.{Icp, Rot, Ixn, Dip, Drt, Rct}
-use Rattle.event_rules.specs.Additions.{is_number}
-use Rattle.event_rules.specs.Parts.{opens_at}
+use Rattle.event_body.specs.declared.event_body.event.Event.{Event}
+use Rattle.event_body.specs.declared.event_body.event.Event.TheVariants.{Icp, Rot, Ixn, Dip, Drt, Rct}
+use Rattle.journal.specs.EventRules.Additions.{is_number}
+use Rattle.journal.specs.EventRules.Parts.{opens_at}
 use Rattle.key_state.specs.Exposure.{commits, exposed, numbers_below, opened, opens}
 use Rattle.key_state.specs.States.{State}
 use Rattle.key_state.proofs.Numbers.{filter_below-suc}
 use Rattle.key_state.proofs.Same.{number_itself, numbers}
-use Rattle.event_payload.specs.Kept.{reveal_of}
+use Rattle.journal_views.specs.EventPayload.Kept.{reveal_of}
 
 module _ (test : ℕ → Bool) where
   -- the numbers that pass, pass

@@ -6,7 +6,7 @@ use Rattle.cesr_codes.specs.Indexed.{indexed_text}
 use Rattle.cesr_codes.specs.declared.indexed_sig.IndexedSig.{IndexedSig}
 use Rattle.cesr_stream.specs.Written.{item_text}
 use Rattle.cesr_stream.proofs.Sizes.{length-counted, size_big, size_small}
-use Rattle.event_payload.specs.Payloads.{group_of, groups_text, parts_of, payload_of}
+use Rattle.journal_views.specs.EventPayload.Payloads.{group_of, groups_text, parts_of, payload_of}
 
 -- a signature has 88 characters or 92
 indexed_few : (sig : IndexedSig) → length (indexed_text sig) ≤ 92

@@ -4,13 +4,13 @@ use Rattle.std.specs.Simd.{first_chunks}
 use Rattle.std.specs.Slice.Iter.{chunk_count}
 use Rattle.std.proofs.lemmas.List.{drop_at, take_at}
 use Rattle.std.proofs.lemmas.List.Elements.{All-cons, All-drop, All-nil, All-take}
-use Rattle.keri_specs.specs.Hex.{hex_value}
+use Rattle.lists.specs.KeriSpecs.Hex.{hex_value}
 use Rattle.json_tree.specs.declared.tree.Tree.{Tree}
-use Rattle.body_fields.specs.Bodies.{IsBody, kind_text, members_text}
-use Rattle.body_fields.specs.Maps.{fields_of}
-use Rattle.body_fields.specs.Versions.{IsSize, version_text}
-use Rattle.body_fields.specs.declared.kind.Kind.{Kind}
-use Rattle.body_fields.proofs.Texts.{is_body}
+use Rattle.event_body.specs.BodyFields.Bodies.{IsBody, kind_text, members_text}
+use Rattle.event_body.specs.BodyFields.Maps.{fields_of}
+use Rattle.event_body.specs.BodyFields.Versions.{IsSize, version_text}
+use Rattle.event_body.specs.declared.body_fields.kind.Kind.{Kind}
+use Rattle.event_body.proofs.BodyFieldsLemmas.Texts.{is_body}
 use Rattle.cesr_codes.specs.Indexed.{IsIndexed}
 use Rattle.cesr_codes.specs.declared.indexed_sig.IndexedSig.{IndexedSig}
 use Rattle.cesr_stream.specs.Front.{front, has_version, size_of}
@@ -18,11 +18,11 @@ use Rattle.cesr_stream.specs.Parts.{whole}
 use Rattle.cesr_stream.specs.Written.{IsWritable}
 use Rattle.cesr_stream.specs.declared.item.Item.TheVariants.{Body as BodyItem}
 use Rattle.cesr_stream.proofs.WrittenItems.{written_front}
-use Rattle.event_body.specs.Judging.{HasEvent}
-use Rattle.event_body.specs.Spelling.{body_kind, text_of, values_of}
-use Rattle.event_body.specs.declared.event.Event.{Event}
-use Rattle.event_payload.specs.Payloads.{BeginsWithBody, IsPayloadText, are_groups, front_with, groups_text, parts_of, payload_of, text_in}
-use Rattle.event_payload.proofs.Groups.{groups_enough, groups_read}
+use Rattle.event_body.specs.EventBody.Judging.{HasEvent}
+use Rattle.event_body.specs.EventBody.Spelling.{body_kind, text_of, values_of}
+use Rattle.event_body.specs.declared.event_body.event.Event.{Event}
+use Rattle.journal_views.specs.EventPayload.Payloads.{BeginsWithBody, IsPayloadText, are_groups, front_with, groups_text, parts_of, payload_of, text_in}
+use Rattle.journal_views.proofs.EventPayloadLemmas.Groups.{groups_enough, groups_read}
 
 -- a version string at the front
 version_there : (size rest : List ℕ) → IsSize size → (has_version (version_text size ++ rest) ≡ true) × (size_of (version_text size ++ rest) ≡ hex_value size)

@@ -7,21 +7,21 @@ use Rattle.std.proofs.lemmas.Bool.{and_parts, not-true}
 use Rattle.std.proofs.lemmas.List.Concat.{flat_map-append}
 use Rattle.std.proofs.lemmas.List.Elements.{All-nil, All-contains, All-contains_itself, All-weaker}
 use Rattle.key_state.specs.Same.{distinct}
-use Rattle.journal.specs.declared.body.Body.{Body}
-use Rattle.journal.specs.declared.claim.Claim.{Claim}
-use Rattle.journal.specs.declared.mode.Mode.{Mode}
-use Rattle.journal.specs.Accepted.{accepted}
-use Rattle.journal.specs.Grown.{IsGrown}
-use Rattle.journal.specs.History.{Told, bodies, claims_in, claims_on, taken}
-use Rattle.journal.specs.Logs.{same_body}
-use Rattle.journal.specs.Readiness.{is_ready}
-use Rattle.journal.proofs.Accepting.{accepted_extends}
-use Rattle.journal.proofs.Different.{Differ, differ-distinct}
-use Rattle.journal.proofs.Keeping.{accepted_ends, accepted_grown, accepted_keeps, split_push}
-use Rattle.journal.proofs.Premises.{nothing_grown}
+use Rattle.journal.specs.declared.journal.body.Body.{Body}
+use Rattle.journal.specs.declared.journal.claim.Claim.{Claim}
+use Rattle.journal.specs.declared.journal.mode.Mode.{Mode}
+use Rattle.journal.specs.Journal.Accepted.{accepted}
+use Rattle.journal.specs.Journal.Grown.{IsGrown}
+use Rattle.journal.specs.Journal.History.{Told, bodies, claims_in, claims_on, taken}
+use Rattle.journal.specs.Journal.Logs.{same_body}
+use Rattle.journal.specs.Journal.Readiness.{is_ready}
+use Rattle.journal.proofs.JournalLemmas.Accepting.{accepted_extends}
+use Rattle.journal.proofs.JournalLemmas.Different.{Differ, differ-distinct}
+use Rattle.journal.proofs.JournalLemmas.Keeping.{accepted_ends, accepted_grown, accepted_keeps, split_push}
+use Rattle.journal.proofs.JournalLemmas.Premises.{nothing_grown}
 use Rattle.quorum_laws.proofs.Inside.{accepted_inside}
 use Rattle.key_state.proofs.Among.{Among, among, among_left, among_left_by, contained, left_among, none_passes, parted}
-use Rattle.journal_laws.proofs.Numbered.{AreEvents, fit_parts}
+use Rattle.journal_views.proofs.JournalLawsLemmas.Numbered.{AreEvents, fit_parts}
 
 -- what all pass each member passes
 pub all_pass : {X : Type 0} (q : X → Bool) (xs : List X) (x : X) → list_all q xs ≡ true → Among x xs → q x ≡ true

@@ -5,28 +5,28 @@ use Rattle.std.specs.Cmp.Lexicographic.{bytes_decides}
 use Rattle.std.proofs.lemmas.Bool.{cases_Bool, cases_lt, and_parts, and_from, or_left, or_right, or_cases, not-true, not_from_false}
 use Rattle.std.proofs.lemmas.List.Concat.{flat_map-append}
 use Rattle.cesr_codes.specs.declared.prefix.Prefix.{Prefix}
-use Rattle.event_body.specs.Events.{prefix_of, is_inception, is_receipt}
+use Rattle.event_body.specs.EventBody.Events.{prefix_of, is_inception, is_receipt}
 use Rattle.key_state.specs.Exposure.{own_rules}
 use Rattle.key_state.specs.States.{State}
 use Rattle.key_state.proofs.Same.{same_prefix_is}
-use Rattle.journal.specs.declared.body.Body.{Body}
-use Rattle.journal.specs.declared.claim.Claim.{Claim}
-use Rattle.journal.specs.declared.mode.Mode.{Mode}
-use Rattle.journal.specs.Accepted.{accepted}
-use Rattle.journal.specs.Grown.{IsGrown, fits}
-use Rattle.journal.specs.History.{Told, Triple, bodies, claims_on, said_yes, triple_of, yes_in}
-use Rattle.journal.specs.Logs.{is_in, is_of, same_body, state, stands, takes}
-use Rattle.journal.specs.Questions.{state_before}
-use Rattle.journal.specs.Readiness.{is_backed, is_local, is_ready, signed, yes_to}
-use Rattle.journal.specs.Seals.{anchored, forbids, has_trait, is_sealed, seals}
-use Rattle.journal.proofs.Accepting.{same_body-refl}
-use Rattle.journal_laws.specs.Alike.{Leads}
+use Rattle.journal.specs.declared.journal.body.Body.{Body}
+use Rattle.journal.specs.declared.journal.claim.Claim.{Claim}
+use Rattle.journal.specs.declared.journal.mode.Mode.{Mode}
+use Rattle.journal.specs.Journal.Accepted.{accepted}
+use Rattle.journal.specs.Journal.Grown.{IsGrown, fits}
+use Rattle.journal.specs.Journal.History.{Told, Triple, bodies, claims_on, said_yes, triple_of, yes_in}
+use Rattle.journal.specs.Journal.Logs.{is_in, is_of, same_body, state, stands, takes}
+use Rattle.journal.specs.Journal.Questions.{state_before}
+use Rattle.journal.specs.Journal.Readiness.{is_backed, is_local, is_ready, signed, yes_to}
+use Rattle.journal.specs.Journal.Seals.{anchored, forbids, has_trait, is_sealed, seals}
+use Rattle.journal.proofs.JournalLemmas.Accepting.{same_body-refl}
+use Rattle.journal_views.specs.JournalLaws.Alike.{Leads}
 use Rattle.key_state.proofs.Among.{Among, among, among_either, among_left, among_left_by, among_right, contained, left_among, passed, passing}
-use Rattle.journal_laws.proofs.Came.{accepted_came, bodies_differ, bodies_more, claims_more, grown, none_ready, same_bytes, were_ready}
-use Rattle.journal_laws.proofs.Followed.{fit_stands, follows, inception_rules, same_before, same_own}
-use Rattle.journal_laws.proofs.Growing.{BackersCome, GoodCome, anchored_more, backed_more, signed_more, traits_first}
-use Rattle.journal_laws.proofs.Numbered.{AreEvents, HasOne, all_counted, first_sn, fit_number, fit_parts, no_more, numbered, own, own_events, same_numbered}
-use Rattle.journal_laws.proofs.Verdicts.{among_yes, answered_so, backs_by, by_backs, raises, triple_body, was_raised, yes_among, yes_by}
+use Rattle.journal_views.proofs.JournalLawsLemmas.Came.{accepted_came, bodies_differ, bodies_more, claims_more, grown, none_ready, same_bytes, were_ready}
+use Rattle.journal_views.proofs.JournalLawsLemmas.Followed.{fit_stands, follows, inception_rules, same_before, same_own}
+use Rattle.journal_views.proofs.JournalLawsLemmas.Growing.{BackersCome, GoodCome, anchored_more, backed_more, signed_more, traits_first}
+use Rattle.journal_views.proofs.JournalLawsLemmas.Numbered.{AreEvents, HasOne, all_counted, first_sn, fit_number, fit_parts, no_more, numbered, own, own_events, same_numbered}
+use Rattle.journal_views.proofs.JournalLawsLemmas.Verdicts.{among_yes, answered_so, backs_by, by_backs, raises, triple_body, was_raised, yes_among, yes_by}
 
 -- what makes a body ready
 pub record AreReady (mode : Mode) (told : List Told) (log : List Body) (b : Body) : Type 0 where

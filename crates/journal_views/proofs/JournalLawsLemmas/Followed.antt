@@ -5,23 +5,23 @@ use Rattle.std.specs.Prelude.{fold}
 use Rattle.std.proofs.lemmas.Bool.{cases_Bool, and_parts, and_from, or_parts, or_left, or_right, not-false, eqb-true}
 use Rattle.std.proofs.lemmas.List.Elements.{filter-append}
 use Rattle.cesr_codes.specs.declared.prefix.Prefix.{Prefix}
-use Rattle.event_body.specs.declared.event.Event.{Event}
-use Rattle.event_body.specs.declared.event.Event.TheVariants.{Icp, Rot, Ixn, Dip, Drt, Rct}
-use Rattle.event_body.specs.Events.{prefix_of, sn_of, said_of, prior_of, is_inception, is_receipt}
+use Rattle.event_body.specs.declared.event_body.event.Event.{Event}
+use Rattle.event_body.specs.declared.event_body.event.Event.TheVariants.{Icp, Rot, Ixn, Dip, Drt, Rct}
+use Rattle.event_body.specs.EventBody.Events.{prefix_of, sn_of, said_of, prior_of, is_inception, is_receipt}
 use Rattle.key_state.specs.Exposure.{own_rules}
 use Rattle.key_state.specs.KeyStates.{digest_at, misfit, are_same}
 use Rattle.key_state.specs.Same.{same_digest}
 use Rattle.key_state.specs.States.{State}
 use Rattle.key_state.proofs.NoMisfit.{fits_sn, fits_prior}
 use Rattle.key_state.proofs.Same.{same_prefix_is}
-use Rattle.journal.specs.declared.body.Body.{Body}
-use Rattle.journal.specs.Grown.{IsGrown, fits}
-use Rattle.journal.specs.Logs.{is_in, is_of, precedes, predecessor, same_body, state, state_behind, stands, stepped, takes, up_to}
-use Rattle.journal.specs.Questions.{state_before}
-use Rattle.journal.proofs.Accepting.{same_body-refl}
-use Rattle.core_laws.proofs.States.{StandIf, all_stand, are_same-some, inside_of, none_is, same_itself, sn_positive}
+use Rattle.journal.specs.declared.journal.body.Body.{Body}
+use Rattle.journal.specs.Journal.Grown.{IsGrown, fits}
+use Rattle.journal.specs.Journal.Logs.{is_in, is_of, precedes, predecessor, same_body, state, state_behind, stands, stepped, takes, up_to}
+use Rattle.journal.specs.Journal.Questions.{state_before}
+use Rattle.journal.proofs.JournalLemmas.Accepting.{same_body-refl}
+use Rattle.claim_table.proofs.CoreLawsLemmas.States.{StandIf, all_stand, are_same-some, inside_of, none_is, same_itself, sn_positive}
 use Rattle.key_state.proofs.Among.{Among, among, among_either, among_left, find_front, finding, found, parted, passed}
-use Rattle.journal_laws.proofs.Numbered.{own, AreFrom, AreEvents, HasOne, all_counted, fit_number, fit_parts, from_push, length_push, own_events, same_numbered}
+use Rattle.journal_views.proofs.JournalLawsLemmas.Numbered.{own, AreFrom, AreEvents, HasOne, all_counted, fit_number, fit_parts, from_push, length_push, own_events, same_numbered}
 
 -- what comes right before a body
 pub precedes_parts : (b c : Body) → precedes b c ≡ true → (is_of (prefix_of b.event) c ≡ true) × (sn_of c.event + 1 ≡ sn_of b.event)

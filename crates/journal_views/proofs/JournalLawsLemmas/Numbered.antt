@@ -6,20 +6,20 @@ use Rattle.std.proofs.lemmas.Bool.{cases_Bool, cases_lt, and_parts, or_parts, no
 use Rattle.std.proofs.lemmas.Bool.Decides.{nat_tests}
 use Rattle.std.proofs.lemmas.List.Elements.{filter-append}
 use Rattle.cesr_codes.specs.declared.prefix.Prefix.{Prefix}
-use Rattle.event_body.specs.declared.event.Event.{Event}
-use Rattle.event_body.specs.declared.event.Event.TheVariants.{Icp, Rot, Ixn, Dip, Drt, Rct}
-use Rattle.event_body.specs.Events.{prefix_of, sn_of, is_inception, is_receipt}
+use Rattle.event_body.specs.declared.event_body.event.Event.{Event}
+use Rattle.event_body.specs.declared.event_body.event.Event.TheVariants.{Icp, Rot, Ixn, Dip, Drt, Rct}
+use Rattle.event_body.specs.EventBody.Events.{prefix_of, sn_of, is_inception, is_receipt}
 use Rattle.key_state.specs.Heads.{head_sn}
 use Rattle.key_state.specs.KeyStates.{misfit, moved}
 use Rattle.key_state.specs.States.{State}
 use Rattle.key_state.proofs.NoMisfit.{fits_sn}
 use Rattle.key_state.proofs.Same.{same_prefix_is, same_prefix_itself}
-use Rattle.journal.specs.declared.body.Body.{Body}
-use Rattle.journal.specs.Grown.{IsGrown, fits}
-use Rattle.journal.specs.Logs.{is_in, is_of, same_body, state, stepped, takes}
-use Rattle.journal.proofs.Accepting.{same_body-refl}
-use Rattle.journal.proofs.StateSteps.{state-own, state-other}
-use Rattle.core_laws.proofs.States.{none_is}
+use Rattle.journal.specs.declared.journal.body.Body.{Body}
+use Rattle.journal.specs.Journal.Grown.{IsGrown, fits}
+use Rattle.journal.specs.Journal.Logs.{is_in, is_of, same_body, state, stepped, takes}
+use Rattle.journal.proofs.JournalLemmas.Accepting.{same_body-refl}
+use Rattle.journal.proofs.JournalLemmas.StateSteps.{state-own, state-other}
+use Rattle.claim_table.proofs.CoreLawsLemmas.States.{none_is}
 use Rattle.key_state.proofs.Among.{Among, among_left, among_left_by, among_right, left_among, passed}
 
 -- the events of an identifier

@@ -4,9 +4,9 @@ use Rattle.std.specs.Prelude.{filter, flat_map}
 use Rattle.std.specs.List.Sorted.{IsPermutation}
 use Rattle.std.proofs.lemmas.Bool.{cases_Bool, not-true}
 use Rattle.std.proofs.lemmas.List.Sorted.{IsPermutation-refl, IsPermutation-sym, IsPermutation-cons, IsPermutation-middle, IsPermutation-trans, Contains-permutation}
-use Rattle.journal.proofs.Different.{Differ}
+use Rattle.journal.proofs.JournalLemmas.Different.{Differ}
 use Rattle.key_state.proofs.Among.{Among, among, contained, among_either, among_left, among_right, left_among, parted}
-use Rattle.journal_laws.proofs.Came.{all_pass}
+use Rattle.journal_views.proofs.JournalLawsLemmas.Came.{all_pass}
 
 -- no element comes again
 abbrev pub NoneAgain : {X : Type 0} → List X → Type 0

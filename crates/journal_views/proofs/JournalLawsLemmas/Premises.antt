@@ -8,26 +8,26 @@ use Rattle.cesr_codes.specs.declared.key.KeyCode.TheVariants.{Fixed, Rotating}
 use Rattle.cesr_codes.specs.declared.prefix.Prefix.{Prefix}
 use Rattle.cesr_codes.specs.declared.prefix.Prefix.TheVariants.{Said}
 use Rattle.cesr_codes.specs.declared.sig.Sig.{Sig}
-use Rattle.event_body.specs.declared.event.Event.TheVariants.{Icp}
-use Rattle.event_body.specs.declared.inception.Inception.{Inception}
+use Rattle.event_body.specs.declared.event_body.event.Event.TheVariants.{Icp}
+use Rattle.event_body.specs.declared.event_body.inception.Inception.{Inception}
 use Rattle.sith.specs.Tests.{satisfied}
 use Rattle.sith.specs.declared.threshold.Threshold.TheVariants.{Count}
 use Rattle.key_state.specs.Exposure.{exposed}
 use Rattle.key_state.specs.KeyStates.{misfit}
 use Rattle.key_state.specs.Same.{distinct}
-use Rattle.journal.specs.declared.body.Body.{Body}
-use Rattle.journal.specs.declared.claim.Claim.{Claim}
-use Rattle.journal.specs.declared.claim.Claim.TheVariants.{Held}
-use Rattle.journal.specs.declared.mode.Mode.{Mode}
-use Rattle.journal.specs.declared.mode.Mode.TheVariants.{Full}
-use Rattle.journal.specs.Acceptance.{grown_by, settled}
-use Rattle.journal.specs.Accepted.{accepted}
-use Rattle.journal.specs.History.{Told, took, heard, bodies, claims_on, has_verdict, said_yes, same_triple}
-use Rattle.journal.specs.Logs.{predecessor, stands, state}
-use Rattle.journal.specs.Questions.{IsRegular, questions, raised, raised_by}
-use Rattle.journal.specs.Readiness.{backers, backs, good_sigs, is_ready, signed}
-use Rattle.journal.specs.Seals.{anchored}
-use Rattle.journal_laws.specs.Alike.{AreAlike, AreSame, HasOneEach, Leads}
+use Rattle.journal.specs.declared.journal.body.Body.{Body}
+use Rattle.journal.specs.declared.journal.claim.Claim.{Claim}
+use Rattle.journal.specs.declared.journal.claim.Claim.TheVariants.{Held}
+use Rattle.journal.specs.declared.journal.mode.Mode.{Mode}
+use Rattle.journal.specs.declared.journal.mode.Mode.TheVariants.{Full}
+use Rattle.journal.specs.Journal.Acceptance.{grown_by, settled}
+use Rattle.journal.specs.Journal.Accepted.{accepted}
+use Rattle.journal.specs.Journal.History.{Told, took, heard, bodies, claims_on, has_verdict, said_yes, same_triple}
+use Rattle.journal.specs.Journal.Logs.{predecessor, stands, state}
+use Rattle.journal.specs.Journal.Questions.{IsRegular, questions, raised, raised_by}
+use Rattle.journal.specs.Journal.Readiness.{backers, backs, good_sigs, is_ready, signed}
+use Rattle.journal.specs.Journal.Seals.{anchored}
+use Rattle.journal_views.specs.JournalLaws.Alike.{AreAlike, AreSame, HasOneEach, Leads}
 use Rattle.key_state.proofs.Among.{Among, among, contained}
 
 -- a verdict was asked for behind what was told before

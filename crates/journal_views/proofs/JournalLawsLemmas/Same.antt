@@ -4,34 +4,34 @@ use Rattle.std.specs.Prelude.{fold, codes}
 use Rattle.std.specs.List.{list_any}
 use Rattle.std.proofs.lemmas.Bool.{cases_Bool}
 use Rattle.cesr_codes.specs.declared.prefix.Prefix.{Prefix}
-use Rattle.event_body.specs.Events.{prefix_of, is_inception, is_receipt}
+use Rattle.event_body.specs.EventBody.Events.{prefix_of, is_inception, is_receipt}
 use Rattle.key_state.specs.Exposure.{own_rules}
 use Rattle.key_state.specs.KeyStates.{first_true}
 use Rattle.key_state.specs.States.{State}
 use Rattle.key_state.proofs.Same.{same_prefix_is, same_prefix_itself}
-use Rattle.journal.specs.declared.body.Body.{Body}
-use Rattle.journal.specs.declared.mode.Mode.{Mode}
-use Rattle.journal.specs.declared.why.Why.TheVariants.{Predecessor, Signatures, Next, Receipts, Seal, Never}
-use Rattle.journal.specs.Accepted.{accepted}
-use Rattle.journal.specs.Conflicts.{AreConflicts, counted, counts}
-use Rattle.journal.specs.History.{Told, bodies, triple_of}
-use Rattle.journal.specs.Logs.{is_in, is_of, live, live_with, predecessor, same_body, state, stands}
-use Rattle.journal.specs.Questions.{state_before}
-use Rattle.journal.specs.Readiness.{is_backed, is_local, meets_before, meets_own, signed}
-use Rattle.journal.specs.Seals.{anchored, delegator_of, forbids, has_trait, is_sealed, seals}
-use Rattle.journal.specs.Waiting.{is_lost, reason_under, why_waits}
-use Rattle.journal_laws.specs.Alike.{AreAlike, AreSame, ConfluenceLaw, Leads, identifiers_of, waiting_of}
-use Rattle.journal_laws.proofs.Permuted.{NoneAgain, differ_once, filter_once, permuted}
-use Rattle.journal.proofs.Accepting.{same_body-refl}
-use Rattle.journal.proofs.Different.{differ-distinct}
+use Rattle.journal.specs.declared.journal.body.Body.{Body}
+use Rattle.journal.specs.declared.journal.mode.Mode.{Mode}
+use Rattle.journal.specs.declared.journal.why.Why.TheVariants.{Predecessor, Signatures, Next, Receipts, Seal, Never}
+use Rattle.journal.specs.Journal.Accepted.{accepted}
+use Rattle.journal.specs.Journal.Conflicts.{AreConflicts, counted, counts}
+use Rattle.journal.specs.Journal.History.{Told, bodies, triple_of}
+use Rattle.journal.specs.Journal.Logs.{is_in, is_of, live, live_with, predecessor, same_body, state, stands}
+use Rattle.journal.specs.Journal.Questions.{state_before}
+use Rattle.journal.specs.Journal.Readiness.{is_backed, is_local, meets_before, meets_own, signed}
+use Rattle.journal.specs.Journal.Seals.{anchored, delegator_of, forbids, has_trait, is_sealed, seals}
+use Rattle.journal.specs.Journal.Waiting.{is_lost, reason_under, why_waits}
+use Rattle.journal_views.specs.JournalLaws.Alike.{AreAlike, AreSame, ConfluenceLaw, Leads, identifiers_of, waiting_of}
+use Rattle.journal_views.proofs.JournalLawsLemmas.Permuted.{NoneAgain, differ_once, filter_once, permuted}
+use Rattle.journal.proofs.JournalLemmas.Accepting.{same_body-refl}
+use Rattle.journal.proofs.JournalLemmas.Different.{differ-distinct}
 use Rattle.key_state.specs.Same.{same_prefix}
 use Rattle.key_state.proofs.Among.{Among, among, among_distinct, among_left_by, among_map, contained, distinct_among, left_among, map_among, passed, passing}
-use Rattle.journal_laws.proofs.Came.{accepted_came, accepted_more, bodies_differ, bodies_more, grown, same_bytes}
-use Rattle.journal_laws.proofs.Confluence.{accepted_comes, backers_come, good_come}
-use Rattle.journal_laws.proofs.Followed.{follows, inception_stands, predecessor_found, predecessor_from, predecessor_none, precedes_parts, same_before, same_own, stands_by, stands_same}
-use Rattle.journal_laws.proofs.Growing.{BackersCome, GoodCome, backed_more, before_more, own_more, signed_more}
-use Rattle.journal_laws.proofs.Numbered.{AreEvents, HasOne, all_counted, no_more, own, own_events, same_numbered}
-use Rattle.journal_laws.proofs.Verdicts.{backs_by, triple_body, was_raised, yes_by}
+use Rattle.journal_views.proofs.JournalLawsLemmas.Came.{accepted_came, accepted_more, bodies_differ, bodies_more, grown, same_bytes}
+use Rattle.journal_views.proofs.JournalLawsLemmas.Confluence.{accepted_comes, backers_come, good_come}
+use Rattle.journal_views.proofs.JournalLawsLemmas.Followed.{follows, inception_stands, predecessor_found, predecessor_from, predecessor_none, precedes_parts, same_before, same_own, stands_by, stands_same}
+use Rattle.journal_views.proofs.JournalLawsLemmas.Growing.{BackersCome, GoodCome, backed_more, before_more, own_more, signed_more}
+use Rattle.journal_views.proofs.JournalLawsLemmas.Numbered.{AreEvents, HasOne, all_counted, no_more, own, own_events, same_numbered}
+use Rattle.journal_views.proofs.JournalLawsLemmas.Verdicts.{backs_by, triple_body, was_raised, yes_by}
 
 -- tests that imply each other are the same
 both_ways : (p q : Bool) → (p ≡ true → q ≡ true) → (q ≡ true → p ≡ true) → p ≡ q

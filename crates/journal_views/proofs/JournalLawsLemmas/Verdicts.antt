@@ -9,15 +9,15 @@ use Rattle.cesr_codes.specs.declared.sig.Sig.{Sig}
 use Rattle.key_state.specs.Exposure.{Rules, own_rules}
 use Rattle.key_state.specs.Same.{same_key}
 use Rattle.key_state.proofs.Same.{same_key_is, same_key_itself}
-use Rattle.journal.specs.declared.body.Body.{Body}
-use Rattle.journal.specs.declared.claim.Claim.{Claim}
-use Rattle.journal.specs.declared.mode.Mode.{Mode}
-use Rattle.journal.specs.Accepted.{accepted}
-use Rattle.journal.specs.History.{Told, took, heard, Triple, bodies, claimed_key, claimed_sig, claims_on, has_verdict, heard_in, no_in, said_yes, same_triple, triple_of, yes_in}
-use Rattle.journal.specs.Logs.{stands}
-use Rattle.journal.specs.Questions.{IsRegular, questions, raised, raised_by, state_before}
-use Rattle.journal.specs.Readiness.{backs, yes_to}
-use Rattle.journal.proofs.Same.{same_triple_is, same_triple_itself}
+use Rattle.journal.specs.declared.journal.body.Body.{Body}
+use Rattle.journal.specs.declared.journal.claim.Claim.{Claim}
+use Rattle.journal.specs.declared.journal.mode.Mode.{Mode}
+use Rattle.journal.specs.Journal.Accepted.{accepted}
+use Rattle.journal.specs.Journal.History.{Told, took, heard, Triple, bodies, claimed_key, claimed_sig, claims_on, has_verdict, heard_in, no_in, said_yes, same_triple, triple_of, yes_in}
+use Rattle.journal.specs.Journal.Logs.{stands}
+use Rattle.journal.specs.Journal.Questions.{IsRegular, questions, raised, raised_by, state_before}
+use Rattle.journal.specs.Journal.Readiness.{backs, yes_to}
+use Rattle.journal.proofs.JournalLemmas.Same.{same_triple_is, same_triple_itself}
 use Rattle.key_state.proofs.Among.{Among, among_distinct, among_filter_map, among_flat_map, among_left_by, distinct_among, filter_map_among, flat_map_among, left_among, parted, passed, passing}
 
 -- the triple of a claim names the body, and has the claim's signature

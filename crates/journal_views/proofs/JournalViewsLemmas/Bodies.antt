@@ -3,11 +3,11 @@ use Rattle.std.proofs.Common.{◌≡◌, ◌⊎◌, ℕ, zero, suc, ◌<◌, Lis
 use Rattle.std.specs.Prelude.{Contains, slice_get, option_map}
 use Rattle.std.proofs.lemmas.List.{length-map}
 use Rattle.std.proofs.lemmas.Option.{slice_get-map, slice_get-get_or}
-use Rattle.event_body.specs.declared.event.Event.{Event}
-use Rattle.journal.specs.declared.body.Body.{Body}
-use Rattle.journal.specs.Conflicts.{place_cmp}
-use Rattle.journal.proofs.Places.{some_at}
-use Rattle.journal_views.specs.Rankings.{event_cmp}
+use Rattle.event_body.specs.declared.event_body.event.Event.{Event}
+use Rattle.journal.specs.declared.journal.body.Body.{Body}
+use Rattle.journal.specs.Journal.Conflicts.{place_cmp}
+use Rattle.journal.proofs.JournalLemmas.Places.{some_at}
+use Rattle.journal_views.specs.JournalViews.Rankings.{event_cmp}
 
 -- what an index reads
 pub got : {X : Type 0} (xs : List X) (n : ℕ) (x : X) → n < length xs → x ≡ get_or xs n x → slice_get xs n ≡ Some x

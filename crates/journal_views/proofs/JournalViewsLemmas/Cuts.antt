@@ -5,7 +5,7 @@ use Rattle.std.specs.Ordering.{is_ne}
 use Rattle.std.proofs.lemmas.Bool.{cases_Bool}
 use Rattle.std.proofs.lemmas.List.{length-map, map-append}
 use Rattle.std.proofs.lemmas.List.Elements.{All-append, All-head, All-nil, All-push, All-tail}
-use Rattle.journal_views.specs.Groups.{as_set, cut, is_apart}
+use Rattle.journal_views.specs.JournalViews.Groups.{as_set, cut, is_apart}
 
 module _ {X : Type 0} (place : X → X → Ordering) where
   pub cut-end : (group : List X) → cut place group [] ≡ as_set group

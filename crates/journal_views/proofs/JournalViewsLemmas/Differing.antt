@@ -5,9 +5,9 @@ use Rattle.std.specs.List.{list_all}
 use Rattle.std.proofs.lemmas.Bool.{cases_Bool, and_parts}
 use Rattle.std.proofs.lemmas.List.Elements.{All-cons}
 use Rattle.std.proofs.lemmas.List.Kept.{AllPairs-cons}
-use Rattle.journal.specs.declared.body.Body.{Body}
-use Rattle.journal.specs.Logs.{same_body}
-use Rattle.journal.proofs.Different.{Differ}
+use Rattle.journal.specs.declared.journal.body.Body.{Body}
+use Rattle.journal.specs.Journal.Logs.{same_body}
+use Rattle.journal.proofs.JournalLemmas.Different.{Differ}
 
 others : (b : Body) (bodies : List Body) → list_all (λ c. not (same_body b c)) bodies ≡ true → All (λ x. bytes_eq b.bytes x ≡ false) (map (λ c. c.bytes) bodies)
 others b [] h = λ k d h. absurd (omega (arith, h))

@@ -9,14 +9,14 @@ use Rattle.std.proofs.lemmas.List.Kept.{AllPairs-filter}
 use Rattle.std.proofs.lemmas.List.Quantifiers.{all_pairs_push}
 use Rattle.std.proofs.lemmas.List.Sums.{fold-append}
 use Rattle.cesr_codes.specs.declared.prefix.Prefix.{Prefix}
-use Rattle.event_body.specs.declared.event.Event.{Event}
-use Rattle.event_body.specs.Events.{sn_of}
-use Rattle.journal.specs.declared.body.Body.{Body}
-use Rattle.journal.specs.Logs.{is_of, live, live_with}
-use Rattle.journal.specs.Journals.{chosen}
-use Rattle.journal.proofs.Held.{chosen_push}
-use Rattle.journal_views.specs.Rises.{sn_or, sn_at}
-use Rattle.journal_views.proofs.Bodies.{event-of}
+use Rattle.event_body.specs.declared.event_body.event.Event.{Event}
+use Rattle.event_body.specs.EventBody.Events.{sn_of}
+use Rattle.journal.specs.declared.journal.body.Body.{Body}
+use Rattle.journal.specs.Journal.Logs.{is_of, live, live_with}
+use Rattle.journal.specs.Journal.Journals.{chosen}
+use Rattle.journal.proofs.JournalLemmas.Held.{chosen_push}
+use Rattle.journal_views.specs.JournalViews.Rises.{sn_or, sn_at}
+use Rattle.journal_views.proofs.JournalViewsLemmas.Bodies.{event-of}
 
 -- a further event of the identifier
 pub live-more : (bodies : List Body) (prefix : Prefix) (b : Body) → is_of prefix b ≡ true

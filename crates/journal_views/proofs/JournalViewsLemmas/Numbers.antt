@@ -10,16 +10,16 @@ use Rattle.std.proofs.lemmas.List.Elements.{All-from_recursion, All-head, All-ni
 use Rattle.std.proofs.lemmas.List.Kept.{AllPairs-cons}
 use Rattle.std.proofs.lemmas.Map.Text.{is_eq-slice_cmp}
 use Rattle.std.proofs.lemmas.Option.{get_or_from_slice_get, slice_get-get_or, slice_get_within}
-use Rattle.event_body.specs.declared.event.Event.{Event}
-use Rattle.journal.specs.declared.body.Body.{Body}
-use Rattle.journal.specs.Conflicts.{AreConflicts, place_cmp, text_cmp}
-use Rattle.journal.specs.Journals.{chosen}
-use Rattle.journal.proofs.Places.{some_at}
-use Rattle.journal_views.specs.Groups.{cut}
-use Rattle.journal_views.specs.Rankings.{body_cmp, event_cmp, number_cmp, number_place}
-use Rattle.journal_views.proofs.Bodies.{told-of, event-of, places}
-use Rattle.journal_views.proofs.Cuts.{All-cut, cut-end, cut-map}
-use Rattle.journal_views.proofs.Rivals.{conflicts-cut, conflicts-same, of_none}
+use Rattle.event_body.specs.declared.event_body.event.Event.{Event}
+use Rattle.journal.specs.declared.journal.body.Body.{Body}
+use Rattle.journal.specs.Journal.Conflicts.{AreConflicts, place_cmp, text_cmp}
+use Rattle.journal.specs.Journal.Journals.{chosen}
+use Rattle.journal.proofs.JournalLemmas.Places.{some_at}
+use Rattle.journal_views.specs.JournalViews.Groups.{cut}
+use Rattle.journal_views.specs.JournalViews.Rankings.{body_cmp, event_cmp, number_cmp, number_place}
+use Rattle.journal_views.proofs.JournalViewsLemmas.Bodies.{told-of, event-of, places}
+use Rattle.journal_views.proofs.JournalViewsLemmas.Cuts.{All-cut, cut-end, cut-map}
+use Rattle.journal_views.proofs.JournalViewsLemmas.Rivals.{conflicts-cut, conflicts-same, of_none}
 
 -- each of a list in order comes before those behind it
 pub pairs : {X : Type 0} (cmp : X → X → Ordering) (xs : List X) → IsStrictlySortedBy cmp xs → AllPairs (λ x y. cmp x y ≡ Less) xs

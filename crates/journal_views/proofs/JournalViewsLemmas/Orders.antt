@@ -12,12 +12,12 @@ use Rattle.std.proofs.lemmas.Cmp.{nat_cmp_total, nat_list_cmp_total, lists_total
 use Rattle.std.proofs.lemmas.Bool.{cases_eq, eq-eqb, ne_eqb}
 use Rattle.cesr_codes.specs.Spelling.{prefix_text}
 use Rattle.cesr_codes.specs.declared.prefix.Prefix.{Prefix}
-use Rattle.event_body.specs.declared.event.Event.{Event}
-use Rattle.event_body.specs.Events.{prefix_of, sn_of, prior_of}
+use Rattle.event_body.specs.declared.event_body.event.Event.{Event}
+use Rattle.event_body.specs.EventBody.Events.{prefix_of, sn_of, prior_of}
 use Rattle.key_state.specs.Same.{same_prefix}
 use Rattle.key_state.proofs.Same.{same_prefix_is}
-use Rattle.journal.specs.Conflicts.{place_cmp, text_cmp, prior_text, sort_of}
-use Rattle.journal_views.specs.Rankings.{event_cmp, listed, log_cmp, number_cmp, number_place, of_event, spelled_cmp}
+use Rattle.journal.specs.Journal.Conflicts.{place_cmp, text_cmp, prior_text, sort_of}
+use Rattle.journal_views.specs.JournalViews.Rankings.{event_cmp, listed, log_cmp, number_cmp, number_place, of_event, spelled_cmp}
 
 -- one prefix has one text
 pub same_text : (p q : Prefix) → same_prefix p q ≡ true → Equal ≡ text_cmp (prefix_text p) (prefix_text q)

@@ -12,15 +12,15 @@ use Rattle.std.proofs.lemmas.List.{append-nil, append_assoc, get_or_default}
 use Rattle.std.proofs.lemmas.List.Elements.{All-cons, All-nil, Contains-get_or, Contains-append_left, Contains-append_right, Contains-append_cases, Contains-push_cases}
 use Rattle.std.proofs.lemmas.List.Kept.{AllPairs-cons}
 use Rattle.std.proofs.lemmas.List.Quantifiers.{all_pairs_push}
-use Rattle.journal.specs.declared.body.Body.{Body}
-use Rattle.journal.specs.Logs.{same_body}
-use Rattle.journal.specs.Conflicts.{place_cmp, text_cmp, are_rivals, HeadsRise, AreConflicts}
-use Rattle.journal.proofs.Accepting.{same_body-refl}
-use Rattle.journal_views.specs.Groups.{as_set, cut, is_apart}
-use Rattle.journal_views.specs.Rankings.{body_cmp}
-use Rattle.journal_views.proofs.Bodies.{first_or_other, other}
-use Rattle.journal_views.proofs.Cuts.{cut-end, cut-apart, cut-here}
-use Rattle.journal_views.proofs.Orders.{place_total}
+use Rattle.journal.specs.declared.journal.body.Body.{Body}
+use Rattle.journal.specs.Journal.Logs.{same_body}
+use Rattle.journal.specs.Journal.Conflicts.{place_cmp, text_cmp, are_rivals, HeadsRise, AreConflicts}
+use Rattle.journal.proofs.JournalLemmas.Accepting.{same_body-refl}
+use Rattle.journal_views.specs.JournalViews.Groups.{as_set, cut, is_apart}
+use Rattle.journal_views.specs.JournalViews.Rankings.{body_cmp}
+use Rattle.journal_views.proofs.JournalViewsLemmas.Bodies.{first_or_other, other}
+use Rattle.journal_views.proofs.JournalViewsLemmas.Cuts.{cut-end, cut-apart, cut-here}
+use Rattle.journal_views.proofs.JournalViewsLemmas.Orders.{place_total}
 
 none : {X : Type 0} (x : X) → Contains [] x → ⊥
 none x (k, h, is) = omega (arith, h)

@@ -6,13 +6,13 @@ use Rattle.std.specs.declared.cmp.Ordering.{Ordering}
 use Rattle.std.specs.declared.cmp.Ord as ord
 use Rattle.cesr_codes.specs.Indexed.{IsIndexed}
 use Rattle.cesr_codes.specs.declared.indexed_sig.IndexedSig.{IndexedSig}
-use Rattle.event_body.specs.declared.event.Event.{Event}
+use Rattle.event_body.specs.declared.event_body.event.Event.{Event}
 use Rattle.key_state.specs.Same.{distinct}
 use Rattle.key_state.specs.States.{State}
-use Rattle.event_payload.specs.Kept.{reveal_of, same_part}
-use Rattle.event_payload.specs.contracts.part.PartOrd.TheImpl as part_order
-use Rattle.event_payload.specs.declared.kept.Kept.{Kept}
-use Rattle.event_payload.specs.declared.part.Part.{Part}
+use Rattle.journal_views.specs.EventPayload.Kept.{reveal_of, same_part}
+use Rattle.journal_views.specs.contracts.event_payload.part.PartOrd.TheImpl as part_order
+use Rattle.journal_views.specs.declared.event_payload.kept.Kept.{Kept}
+use Rattle.journal_views.specs.declared.event_payload.part.Part.{Part}
 use denote.Param as param
 
 -- the order of parts

@@ -2,16 +2,16 @@
 use Rattle.std.specs.Prelude.{ℕ, Bool, ◌&&◌, ◌||◌, ◌==◌, not, List, [], ◌∷◌, length, map, slice_get, Option, Some, None}
 use Rattle.std.specs.Option.{option_eq}
 use Rattle.cesr_codes.specs.declared.indexed_sig.IndexedSig.{IndexedSig}
-use Rattle.event_body.specs.Events.{is_rotation, prefix_of}
-use Rattle.event_body.specs.declared.event.Event.{Event}
+use Rattle.event_body.specs.EventBody.Events.{is_rotation, prefix_of}
+use Rattle.event_body.specs.declared.event_body.event.Event.{Event}
 use Rattle.sith.specs.Tests.{satisfied}
 use Rattle.key_state.specs.Exposure.{exposed, own_rules}
 use Rattle.key_state.specs.Same.{distinct}
 use Rattle.key_state.specs.States.{State}
-use Rattle.journal.specs.History.{Told}
-use Rattle.journal.specs.Logs.{before, state}
-use Rattle.journal.specs.Readiness.{good_sigs, meets_next}
-use Rattle.journal.specs.declared.body.Body.{Body}
+use Rattle.journal.specs.Journal.History.{Told}
+use Rattle.journal.specs.Journal.Logs.{before, state}
+use Rattle.journal.specs.Journal.Readiness.{good_sigs, meets_next}
+use Rattle.journal.specs.declared.journal.body.Body.{Body}
 
 -- the state under which an event was accepted: that of its identifier just before it in the log (KERI, key event log)
 abbrev pub state_under : List Body → Body → Option State

@@ -3,10 +3,10 @@ use Rattle.std.specs.Prelude.{ℕ, List, [], ◌∷◌, Option, Some, None, slic
 use Rattle.std.specs.declared.cmp.Ordering.{Ordering}
 use Rattle.std.specs.Ordering.{nat_cmp, ordering_then}
 use Rattle.std.specs.Cmp.Lexicographic.{slice_cmp}
-use Rattle.event_body.specs.declared.event.Event.{Event}
-use Rattle.event_body.specs.Events.{prior_of, sn_of}
-use Rattle.journal.specs.declared.body.Body.{Body}
-use Rattle.journal.specs.Conflicts.{place_cmp, prior_text, sort_of, text_cmp}
+use Rattle.event_body.specs.declared.event_body.event.Event.{Event}
+use Rattle.event_body.specs.EventBody.Events.{prior_of, sn_of}
+use Rattle.journal.specs.declared.journal.body.Body.{Body}
+use Rattle.journal.specs.Journal.Conflicts.{place_cmp, prior_text, sort_of, text_cmp}
 
 -- by place, then by bytes
 abbrev pub body_cmp : Body → Body → Ordering

@@ -1,7 +1,7 @@
 -- The numbers of events in their logs.
 use Rattle.std.specs.Prelude.{ℕ, List, Option, Some, None, slice_get}
-use Rattle.event_body.specs.Events.{sn_of}
-use Rattle.event_body.specs.declared.event.Event.{Event}
+use Rattle.event_body.specs.EventBody.Events.{sn_of}
+use Rattle.event_body.specs.declared.event_body.event.Event.{Event}
 
 -- the number in its log, and 0 for none
 abbrev pub sn_or : Option Event → ℕ

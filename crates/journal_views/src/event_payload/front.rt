@@ -1,17 +1,17 @@
 //! Reading payloads.
 ghost use Rattle.std.specs.Prelude.{◌≡◌, ◌≤◌, ◌++◌, ℕ, List, IfOk, length, take, drop, true};
 ghost use Rattle.std.specs.List.{list_all};
-ghost use Rattle.keri_specs.specs.Hex.{is_hex};
+ghost use Rattle.lists.specs.KeriSpecs.Hex.{is_hex};
 ghost use Rattle.cesr_stream.specs.Front.{size_of};
 ghost use Rattle.cesr_stream.specs.Written.{IsWritable};
 ghost use Rattle.cesr_stream.specs.declared.item.Item.TheVariants.{Body as BodyItem};
-ghost use Rattle.event_payload.specs.Payloads.{BeginsWithBody, IsBehindBody, are_groups as are_groups_alone};
-ghost use Rattle.event_payload.specs.Payloads.{text_in as text_in_of};
-ghost use Rattle.event_payload.specs.Steps.{is_group as is_group_step, size_in as size_in_step};
+ghost use Rattle.journal_views.specs.EventPayload.Payloads.{BeginsWithBody, IsBehindBody, are_groups as are_groups_alone};
+ghost use Rattle.journal_views.specs.EventPayload.Payloads.{text_in as text_in_of};
+ghost use Rattle.journal_views.specs.EventPayload.Steps.{is_group as is_group_step, size_in as size_in_step};
 
 use cesr_stream::{Group, Item, Reader, Step};
-use hex_numbers::hex_value;
 use keri_outside::Limits;
+use lists::hex_value;
 use std::alloc::{AllocError, Global};
 
 /// The body at the front, by the size that its version string says. It takes no memory.

@@ -1,7 +1,7 @@
 //! The signatures that are kept with an accepted event.
 ghost use Rattle.cesr_codes.specs.Indexed.{IsIndexed};
 
-use crate::part::Part;
+use crate::event_payload::part::Part;
 use cesr_codes::IndexedSig;
 use std::alloc::{AllocError, Global};
 use std::collections::BTreeSet;
@@ -17,10 +17,10 @@ pub struct Kept {
 impl Kept {
     ghost use Rattle.std.specs.Prelude.{◌≡◌, ◌++◌, ◌∷◌, [], List, Option, OnOk, OnErr};
     ghost use Rattle.cesr_codes.specs.declared.indexed_sig.IndexedSig.{IndexedSig as IndexedSigOf};
-    ghost use Rattle.event_body.specs.declared.event.Event.{Event};
+    ghost use Rattle.event_body.specs.declared.event_body.event.Event.{Event};
     ghost use Rattle.key_state.specs.States.{State};
-    ghost use Rattle.event_payload.specs.Holding.{HasKept};
-    ghost use Rattle.event_payload.specs.Kept.{reveal_of};
+    ghost use Rattle.journal_views.specs.EventPayload.Holding.{HasKept};
+    ghost use Rattle.journal_views.specs.EventPayload.Kept.{reveal_of};
 
     /// No signatures.
     pub fn new(alloc: Global) -> Kept
@@ -33,7 +33,7 @@ impl Kept {
     }
 
     /// Adds the next good signature. Its reveal is the place of the commitment that it opens alone, as
-    /// `event_rules::reveal_of` gives it.
+    /// `journal::reveal_of` gives it.
     pub fn add(&mut self, sig: IndexedSig, reveal: Option<u16>) -> Result<(), AllocError>
         // With all good signatures of an event added in order, these are just the kept ones.
         ensures kept { (s : Option State) (e : Event) (came : List IndexedSigOf) → reveal ≡ reveal_of s e sig

@@ -1,9 +1,9 @@
 //! Writing payloads.
 ghost use Rattle.std.specs.Prelude.{◌≡◌, ◌≤◌, ◌++◌, OnOk, IfOk, flat_map, length};
 ghost use Rattle.cesr_stream.specs.Written.{item_text};
-ghost use Rattle.event_payload.specs.Payloads.{group_of, groups_text, parts_of, payload_of};
+ghost use Rattle.journal_views.specs.EventPayload.Payloads.{group_of, groups_text, parts_of, payload_of};
 
-use crate::stream_text::StreamText;
+use crate::event_payload::stream_text::StreamText;
 use cesr_codes::IndexedSig;
 use cesr_stream::{Group, Item};
 use lists::Items;

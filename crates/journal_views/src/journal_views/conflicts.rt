@@ -1,13 +1,13 @@
 //! The sets of conflicting bodies.
 ghost use Rattle.std.specs.Prelude.{◌≡◌, ◌<◌, ◌↔◌, ◌++◌, [], ℕ, false, List, length, map, bytes_eq, IfOk, OnOk, All, AllPairs, Contains};
 ghost use Rattle.std.specs.declared.cmp.Ordering.TheVariants.{Less};
-ghost use Rattle.journal.specs.declared.body.Body.{Body};
-ghost use Rattle.journal.specs.Conflicts.{AreConflicts};
-ghost use Rattle.journal.specs.Journals.{chosen};
-ghost use Rattle.journal_views.specs.Groups.{as_set, cut, is_apart};
-ghost use Rattle.journal_views.specs.Rankings.{number_cmp, number_place};
+ghost use Rattle.journal.specs.declared.journal.body.Body.{Body};
+ghost use Rattle.journal.specs.Journal.Conflicts.{AreConflicts};
+ghost use Rattle.journal.specs.Journal.Journals.{chosen};
+ghost use Rattle.journal_views.specs.JournalViews.Groups.{as_set, cut, is_apart};
+ghost use Rattle.journal_views.specs.JournalViews.Rankings.{number_cmp, number_place};
 
-use crate::places::{event_order, number_order, prefix_texts};
+use crate::journal_views::places::{event_order, number_order, prefix_texts};
 use event_body::Event;
 use json_tree::Text;
 use std::alloc::{AllocError, Global};

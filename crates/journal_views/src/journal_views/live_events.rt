@@ -1,10 +1,10 @@
 //! The live events of an identifier.
 ghost use Rattle.std.specs.Prelude.{◌≡◌, ◌<◌, List, length, map, nat_lt, filter, IfOk, All, AllPairs};
-ghost use Rattle.event_body.specs.Events as said;
-ghost use Rattle.journal.specs.declared.body.Body.{Body};
-ghost use Rattle.journal.specs.Journals.{chosen};
-ghost use Rattle.journal.specs.Logs as logs;
-ghost use Rattle.journal_views.specs.Rises.{sn_at};
+ghost use Rattle.event_body.specs.EventBody.Events as said;
+ghost use Rattle.journal.specs.declared.journal.body.Body.{Body};
+ghost use Rattle.journal.specs.Journal.Journals.{chosen};
+ghost use Rattle.journal.specs.Journal.Logs as logs;
+ghost use Rattle.journal_views.specs.JournalViews.Rises.{sn_at};
 ghost use Rattle.key_state.specs.Same.{same_prefix};
 
 use cesr_codes::Prefix;

@@ -2,21 +2,21 @@
 ghost use Rattle.std.specs.Prelude.{◌≡◌, Some, map, slice_get, IfOk};
 ghost use Rattle.std.specs.Cmp.Lexicographic.{slice_cmp};
 ghost use Rattle.cesr_codes.specs.Spelling.{prefix_text};
-ghost use Rattle.event_body.specs.Events as said;
-ghost use Rattle.journal.specs.Conflicts as conflicts;
-ghost use Rattle.journal.specs.Conflicts.{text_cmp, prior_text};
-ghost use Rattle.journal_views.specs.Rankings.{event_cmp, listed, log_cmp, number_place, of_event, spelled_cmp};
+ghost use Rattle.event_body.specs.EventBody.Events as said;
+ghost use Rattle.journal.specs.Journal.Conflicts as conflicts;
+ghost use Rattle.journal.specs.Journal.Conflicts.{text_cmp, prior_text};
+ghost use Rattle.journal_views.specs.JournalViews.Rankings.{event_cmp, listed, log_cmp, number_place, of_event, spelled_cmp};
 
 use cesr_codes::{Digest, Prefix};
 use event_body::{Event, prefix_of, sn_of};
-use event_rules::prior_of;
+use journal::prior_of;
 use json_tree::Text;
 use std::alloc::{AllocError, Global};
 use std::cmp::Ordering;
 
 /// How the bodies of two numbers are ordered, by the texts of the events' identifiers; the numbers of one body by themselves, and
 /// those of none first.
-#[tactic(auto, unfolding(crate::specs::Rankings::spelled_cmp))]
+#[tactic(auto, unfolding(crate::specs::JournalViews::Rankings::spelled_cmp))]
 pub(crate) fn number_order(
     texts: &[[u8; 44]],
     bodies: &[Text],
@@ -107,7 +107,7 @@ fn bytes_order(bodies: &[Text], first: u32, second: u32) -> Ordering
 
 // How places are ordered: by the text of the identifier, the number, the text of the digest of the event before
 // (none first), and establishment events before interactions.
-#[tactic(auto, unfolding(journal::specs::Conflicts::place_cmp))]
+#[tactic(auto, unfolding(journal::specs::Journal::Conflicts::place_cmp))]
 fn place_order(first: &Event, second: &Event) -> Ordering
     ensures { result ≡ event_cmp first.now second.now }
 {

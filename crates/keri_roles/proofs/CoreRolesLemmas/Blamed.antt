@@ -2,13 +2,13 @@
 use Rattle.std.proofs.Common.{◌≢◌, ℕ, Bool, [], ◌∷◌, Option, Some, None}
 use Rattle.std.specs.Prelude.{IfSome, Vec, option_map}
 use Rattle.std.proofs.lemmas.List.Elements.{All-nil, All-push}
-use Rattle.blame_core.proofs.Alike.{blames_alike}
-use Rattle.reader_threads.specs.declared.last_round.LastRound.{LastRound}
-use Rattle.run_status.specs.declared.close.Close.TheVariants.{OutOfMemory}
-use Rattle.run_status.specs.Readers.{Reader}
-use Rattle.validator_core.specs.View.{CoreView}
-use Rattle.core_roles.specs.Blamed.{HadRoom, IsBlamesText}
-use Rattle.core_roles.specs.CoreTold.{HadMemory, plain}
+use Rattle.blame_core.proofs.BlameCoreLemmas.Alike.{blames_alike}
+use Rattle.reader_hub.specs.declared.reader_threads.last_round.LastRound.{LastRound}
+use Rattle.run_status.specs.declared.run_status.close.Close.TheVariants.{OutOfMemory}
+use Rattle.run_status.specs.RunStatus.Readers.{Reader}
+use Rattle.validator_core.specs.ValidatorCore.View.{CoreView}
+use Rattle.keri_roles.specs.CoreRoles.Blamed.{HadRoom, IsBlamesText}
+use Rattle.keri_roles.specs.CoreRoles.CoreTold.{HadMemory, plain}
 
 -- the one reader of a core found memory
 had_memory : (reader : Reader) (rest : LastRound) → HadRoom reader.close rest → HadMemory rest (reader ∷ [])

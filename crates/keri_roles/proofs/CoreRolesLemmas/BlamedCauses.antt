@@ -1,14 +1,14 @@
 -- Why a reader of `blame` closed by a fault, and that none closes by a fault of writing or signing.
 use Rattle.std.proofs.Common.{◌≡◌, ◌⊎◌, ℕ, inl, inr, Bool, true, false, ◌||◌, List, [], ◌∷◌, refl, sym, ◌∙◌, ap}
 use Rattle.std.specs.Prelude.{Option, is_none}
-use Rattle.journal.specs.declared.journal.Journal.{Journal}
-use Rattle.run_status.specs.Readers.{Reader}
-use Rattle.core_roles.specs.Blamed.{IsBlamed}
-use Rattle.core_roles.specs.CoreTold.{fails_last}
-use Rattle.run_record.specs.Run.{AreCaused, VerifierRose}
-use Rattle.core_roles.specs.Work.{Work}
-use Rattle.core_roles.proofs.Causes.{each_caused, failed_last, names_unfailed, regroup, some_rose}
-use Rattle.core_roles.proofs.Never.{each_serves, is_serving, some_serves}
+use Rattle.journal.specs.declared.journal.journal.Journal.{Journal}
+use Rattle.run_status.specs.RunStatus.Readers.{Reader}
+use Rattle.keri_roles.specs.CoreRoles.Blamed.{IsBlamed}
+use Rattle.keri_roles.specs.CoreRoles.CoreTold.{fails_last}
+use Rattle.run_status.specs.RunRecord.Run.{AreCaused, VerifierRose}
+use Rattle.keri_roles.specs.CoreRoles.Work.{Work}
+use Rattle.keri_roles.proofs.CoreRolesLemmas.Causes.{each_caused, failed_last, names_unfailed, regroup, some_rose}
+use Rattle.keri_roles.proofs.CoreRolesLemmas.Never.{each_serves, is_serving, some_serves}
 
 -- a test of the first of two files is passed, and one of the second
 of_first : (a b c d : Bool) → (a || (b || false)) ≡ true → (a || (b || (c || (d || false)))) ≡ true

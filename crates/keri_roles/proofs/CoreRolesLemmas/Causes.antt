@@ -5,25 +5,25 @@ use Rattle.std.specs.List.{list_any}
 use Rattle.std.proofs.lemmas.Option.{IfSome_then}
 use Rattle.std.specs.List.{All}
 use Rattle.std.proofs.lemmas.List.Elements.{All-head, All-tail}
-use Rattle.keri_specs.specs.Causes.{Rose}
+use Rattle.lists.specs.KeriSpecs.Causes.{Rose}
 use Rattle.cesr_stream.specs.declared.message.Message.{Message}
 use Rattle.keri_outside.specs.declared.limits.Limits.{Limits}
-use Rattle.journal.specs.declared.mode.Mode.{Mode}
-use Rattle.journal.specs.Feeds.{FeedEach}
-use Rattle.journal.specs.History.{Told as ToldEntry}
-use Rattle.run_status.specs.declared.close.Close.TheVariants.{ReadFault, VerifierFault, OutOfMemory}
-use Rattle.run_outside.specs.Makings.{some_failed}
-use Rattle.run_outside.specs.Told.{Told}
-use Rattle.run_status.specs.Readers.{Reader, SourceTold, VerifierTold}
-use Rattle.reader_threads.specs.Fed.{ReadEach, ReadsBy, ends_of}
-use Rattle.reader_threads.specs.Given.{Given}
-use Rattle.reader_threads.specs.Told.{HasFailed, SomeFailed}
-use Rattle.reader_threads.specs.declared.last_round.LastRound.{LastRound}
-use Rattle.reader_threads.specs.declared.last_round.LastRound.TheVariants.{NoneFailed, VerifierFailed, OutOfMemory as NoMemory}
-use Rattle.core_roles.specs.CoreTold.{AreGiven, AreProvided, ReadsToCore, fails_last, makings_of}
-use Rattle.core_roles.specs.LinksTold.{AreLinked, AreLinksGiven, AreTakenBy, verifiers_of}
-use Rattle.run_record.specs.Run.{DoorTold, AreCaused, VerifierRose}
-use Rattle.core_roles.specs.Work.{LinksTold, Work}
+use Rattle.journal.specs.declared.journal.mode.Mode.{Mode}
+use Rattle.journal.specs.Journal.Feeds.{FeedEach}
+use Rattle.journal.specs.Journal.History.{Told as ToldEntry}
+use Rattle.run_status.specs.declared.run_status.close.Close.TheVariants.{ReadFault, VerifierFault, OutOfMemory}
+use Rattle.run_status.specs.RunOutside.Makings.{some_failed}
+use Rattle.run_status.specs.RunOutside.Told.{Told}
+use Rattle.run_status.specs.RunStatus.Readers.{Reader, SourceTold, VerifierTold}
+use Rattle.reader_hub.specs.ReaderThreads.Fed.{ReadEach, ReadsBy, ends_of}
+use Rattle.reader_hub.specs.ReaderThreads.Given.{Given}
+use Rattle.reader_hub.specs.ReaderThreads.Told.{HasFailed, SomeFailed}
+use Rattle.reader_hub.specs.declared.reader_threads.last_round.LastRound.{LastRound}
+use Rattle.reader_hub.specs.declared.reader_threads.last_round.LastRound.TheVariants.{NoneFailed, VerifierFailed, OutOfMemory as NoMemory}
+use Rattle.keri_roles.specs.CoreRoles.CoreTold.{AreGiven, AreProvided, ReadsToCore, fails_last, makings_of}
+use Rattle.keri_roles.specs.CoreRoles.LinksTold.{AreLinked, AreLinksGiven, AreTakenBy, verifiers_of}
+use Rattle.run_status.specs.RunRecord.Run.{DoorTold, AreCaused, VerifierRose}
+use Rattle.keri_roles.specs.CoreRoles.Work.{LinksTold, Work}
 
 -- where it may be that the source and the verifier couldn't be made, the count of the outside rose
 module _ (rose : Type 0) (limits : Limits) (told : List ToldEntry) (most number : ℕ) (rest : LastRound) (reader : Reader) (bytes : List ℕ)

@@ -6,23 +6,23 @@ use Rattle.cesr_stream.specs.declared.message.Message.{Message}
 use Rattle.cesr_stream.specs.Items.{Placed}
 use Rattle.cesr_stream.specs.Reading.{Reading}
 use Rattle.keri_outside.specs.declared.limits.Limits.{Limits}
-use Rattle.journal.specs.declared.mode.Mode.{Mode}
-use Rattle.journal.specs.Feeds.{Fed, FeedEach, reader_of}
-use Rattle.journal.specs.History.{Told as ToldEntry, bodies}
-use Rattle.journal.specs.Questions.{questions, raised}
+use Rattle.journal.specs.declared.journal.mode.Mode.{Mode}
+use Rattle.journal.specs.Journal.Feeds.{Fed, FeedEach, reader_of}
+use Rattle.journal.specs.Journal.History.{Told as ToldEntry, bodies}
+use Rattle.journal.specs.Journal.Questions.{questions, raised}
 use Rattle.key_state.specs.Same.{distinct}
-use Rattle.run_status.specs.declared.close.Close.{Close}
-use Rattle.run_status.specs.declared.close.Close.TheVariants.{End, Bad, ReadFault, VerifierFault, SignerFault, DiskFault, WriteFault, Malformed, Full, OutOfMemory}
-use Rattle.run_status.specs.Readers.{Reader, SourceTold, VerifierTold}
-use Rattle.validator_core.specs.View.{CoreView, told_of}
-use Rattle.reader_threads.specs.declared.last_round.LastRound.{LastRound}
-use Rattle.reader_threads.specs.declared.last_round.LastRound.TheVariants.{NoneFailed, VerifierFailed, OutOfMemory as NoMemory}
-use Rattle.reader_threads.specs.Fed.{ClosesReader, ReadEach, ReadsBy, ends_of}
-use Rattle.reader_threads.specs.Given.{Given}
-use Rattle.reader_threads.specs.Told.{AllTold, EachFailed, FailedIfThere, HasFailed, SomeFailed}
-use Rattle.core_roles.specs.Through.{is_through}
-use Rattle.core_roles.specs.CoreTold.{HasBoth, IsComplete, MetNoFault}
-use Rattle.core_roles.proofs.WholeStreams.{fed_by_all}
+use Rattle.run_status.specs.declared.run_status.close.Close.{Close}
+use Rattle.run_status.specs.declared.run_status.close.Close.TheVariants.{End, Bad, ReadFault, VerifierFault, SignerFault, DiskFault, WriteFault, Malformed, Full, OutOfMemory}
+use Rattle.run_status.specs.RunStatus.Readers.{Reader, SourceTold, VerifierTold}
+use Rattle.validator_core.specs.ValidatorCore.View.{CoreView, told_of}
+use Rattle.reader_hub.specs.declared.reader_threads.last_round.LastRound.{LastRound}
+use Rattle.reader_hub.specs.declared.reader_threads.last_round.LastRound.TheVariants.{NoneFailed, VerifierFailed, OutOfMemory as NoMemory}
+use Rattle.reader_hub.specs.ReaderThreads.Fed.{ClosesReader, ReadEach, ReadsBy, ends_of}
+use Rattle.reader_hub.specs.ReaderThreads.Given.{Given}
+use Rattle.reader_hub.specs.ReaderThreads.Told.{AllTold, EachFailed, FailedIfThere, HasFailed, SomeFailed}
+use Rattle.keri_roles.specs.CoreRoles.Through.{is_through}
+use Rattle.keri_roles.specs.CoreRoles.CoreTold.{HasBoth, IsComplete, MetNoFault}
+use Rattle.keri_roles.proofs.CoreRolesLemmas.WholeStreams.{fed_by_all}
 
 -- what is there isn't lacking
 lost : {A : Type 0} (o : Option A) → IsSome o → o ≡ None → ⊥

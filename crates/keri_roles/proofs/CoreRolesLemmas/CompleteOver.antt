@@ -2,27 +2,27 @@
 use Rattle.std.proofs.Common.{◌≡◌, ℕ, ◌+◌, Bool, true, false, ◌||◌, List, [], ◌∷◌, Option, Some, None, refl, ◌∙◌}
 use Rattle.std.specs.Prelude.{All, is_none}
 use Rattle.std.proofs.lemmas.List.Elements.{All-append, All-cons, All-nil}
-use Rattle.keri_specs.specs.Causes.{Rose}
+use Rattle.lists.specs.KeriSpecs.Causes.{Rose}
 use Rattle.cesr_stream.specs.declared.message.Message.{Message}
 use Rattle.keri_outside.specs.declared.limits.Limits.{Limits}
-use Rattle.journal.specs.declared.journal.Journal.{Journal}
-use Rattle.journal.specs.declared.mode.Mode.{Mode}
-use Rattle.journal.specs.declared.mode.Mode.TheVariants.{Full}
-use Rattle.journal.specs.Feeds.{FeedEach}
-use Rattle.journal.specs.History.{Told as ToldEntry}
-use Rattle.journal.specs.Journals.{told_by}
-use Rattle.run_outside.specs.Told.{Told}
-use Rattle.run_status.specs.declared.besides.Besides.{Besides}
-use Rattle.run_status.specs.Readers.{Reader, SourceTold, VerifierTold}
-use Rattle.validator_core.specs.View.{CoreView}
-use Rattle.reader_threads.specs.declared.last_round.LastRound.{LastRound}
-use Rattle.reader_threads.specs.Fed.{ReadEach, ReadsBy, ends_of}
-use Rattle.reader_threads.specs.Given.{Given}
-use Rattle.core_roles.specs.CoreTold.{AreProvided, AreThrough, HadMemory, HasBoth, IsOverCore, IsToldBy, MetNoFault, OwesText, ReadsToCore, core_of}
-use Rattle.core_roles.specs.LinksTold.{AreLinked}
-use Rattle.core_roles.specs.Work.{LinksTold, Work}
-use Rattle.core_roles.proofs.Causes.{files_rose, lacks, linked_rose, names_lack}
-use Rattle.core_roles.proofs.OverCore.{none_parts}
+use Rattle.journal.specs.declared.journal.journal.Journal.{Journal}
+use Rattle.journal.specs.declared.journal.mode.Mode.{Mode}
+use Rattle.journal.specs.declared.journal.mode.Mode.TheVariants.{Full}
+use Rattle.journal.specs.Journal.Feeds.{FeedEach}
+use Rattle.journal.specs.Journal.History.{Told as ToldEntry}
+use Rattle.journal.specs.Journal.Journals.{told_by}
+use Rattle.run_status.specs.RunOutside.Told.{Told}
+use Rattle.run_status.specs.declared.run_status.besides.Besides.{Besides}
+use Rattle.run_status.specs.RunStatus.Readers.{Reader, SourceTold, VerifierTold}
+use Rattle.validator_core.specs.ValidatorCore.View.{CoreView}
+use Rattle.reader_hub.specs.declared.reader_threads.last_round.LastRound.{LastRound}
+use Rattle.reader_hub.specs.ReaderThreads.Fed.{ReadEach, ReadsBy, ends_of}
+use Rattle.reader_hub.specs.ReaderThreads.Given.{Given}
+use Rattle.keri_roles.specs.CoreRoles.CoreTold.{AreProvided, AreThrough, HadMemory, HasBoth, IsOverCore, IsToldBy, MetNoFault, OwesText, ReadsToCore, core_of}
+use Rattle.keri_roles.specs.CoreRoles.LinksTold.{AreLinked}
+use Rattle.keri_roles.specs.CoreRoles.Work.{LinksTold, Work}
+use Rattle.keri_roles.proofs.CoreRolesLemmas.Causes.{files_rose, lacks, linked_rose, names_lack}
+use Rattle.keri_roles.proofs.CoreRolesLemmas.OverCore.{none_parts}
 
 module _ (limits : Limits) (told : List ToldEntry) (most : ℕ) (rest : LastRound) where
   -- a reader hands back what it was given

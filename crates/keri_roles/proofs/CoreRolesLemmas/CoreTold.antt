@@ -2,28 +2,28 @@
 use Rattle.std.proofs.Common.{◌≡◌, ◌≢◌, ℕ, Bool, false, List, [], Option, Some, None, refl, sym, subst, arith}
 use Rattle.std.specs.Prelude.{All, map, option_map, is_none}
 use Rattle.std.proofs.lemmas.List.Elements.{All-weaker}
-use Rattle.event_body.specs.Judging.{SpellsEvent}
+use Rattle.event_body.specs.EventBody.Judging.{SpellsEvent}
 use Rattle.keri_outside.specs.declared.limits.Limits.{Limits}
-use Rattle.journal.specs.declared.journal.Journal.{Journal}
-use Rattle.journal.specs.declared.mode.Mode.{Mode}
-use Rattle.journal.specs.Accepted.{accepted}
-use Rattle.journal.specs.Journals.{InOrder, told_by}
-use Rattle.journal.specs.Questions.{IsRegular}
-use Rattle.journal.specs.Readiness.{is_ready}
-use Rattle.journal.specs.Replies.{IsWithin}
-use Rattle.acceptance.specs.Standing.{IsHeld}
-use Rattle.validator_core.specs.View.{CoreView, Stands, told_of}
-use Rattle.validator_core.proofs.OpenQuestions.{no_bodies}
-use Rattle.run_status.specs.declared.besides.Besides.{Besides}
-use Rattle.run_status.specs.declared.close.Close.{Close}
-use Rattle.run_status.specs.declared.close.Close.TheVariants.{OutOfMemory}
-use Rattle.run_status.specs.Readers.{Reader}
-use Rattle.reader_threads.specs.declared.last_round.LastRound.{LastRound}
-use Rattle.reader_threads.specs.Given.{Given}
-use Rattle.reader_threads.specs.Told.{AllTold}
-use Rattle.core_roles.specs.CoreTold.{AreSettled, IsJournalOf, IsToldBy, OwesText, core_of, plain}
-use Rattle.core_roles.specs.Work.{Owes}
-use Rattle.core_roles.proofs.Complete.{is_complete}
+use Rattle.journal.specs.declared.journal.journal.Journal.{Journal}
+use Rattle.journal.specs.declared.journal.mode.Mode.{Mode}
+use Rattle.journal.specs.Journal.Accepted.{accepted}
+use Rattle.journal.specs.Journal.Journals.{InOrder, told_by}
+use Rattle.journal.specs.Journal.Questions.{IsRegular}
+use Rattle.journal.specs.Journal.Readiness.{is_ready}
+use Rattle.journal.specs.Journal.Replies.{IsWithin}
+use Rattle.validator_core.specs.Acceptance.Standing.{IsHeld}
+use Rattle.validator_core.specs.ValidatorCore.View.{CoreView, Stands, told_of}
+use Rattle.validator_core.proofs.ValidatorCoreLemmas.OpenQuestions.{no_bodies}
+use Rattle.run_status.specs.declared.run_status.besides.Besides.{Besides}
+use Rattle.run_status.specs.declared.run_status.close.Close.{Close}
+use Rattle.run_status.specs.declared.run_status.close.Close.TheVariants.{OutOfMemory}
+use Rattle.run_status.specs.RunStatus.Readers.{Reader}
+use Rattle.reader_hub.specs.declared.reader_threads.last_round.LastRound.{LastRound}
+use Rattle.reader_hub.specs.ReaderThreads.Given.{Given}
+use Rattle.reader_hub.specs.ReaderThreads.Told.{AllTold}
+use Rattle.keri_roles.specs.CoreRoles.CoreTold.{AreSettled, IsJournalOf, IsToldBy, OwesText, core_of, plain}
+use Rattle.keri_roles.specs.CoreRoles.Work.{Owes}
+use Rattle.keri_roles.proofs.CoreRolesLemmas.Complete.{is_complete}
 
 -- a core without entries was told nothing
 pub untold : (core : CoreView) → core.entries ≡ [] → told_of core ≡ []

@@ -3,23 +3,23 @@ use Rattle.std.proofs.Common.{◌≡◌, ℕ, Bool, true, false, List, [], ◌�
 use Rattle.std.specs.Prelude.{IfSome, is_err, is_none}
 use Rattle.std.proofs.lemmas.List.{map-append}
 use Rattle.std.proofs.lemmas.List.Elements.{All-cons, All-head, All-nil, All-tail}
-use Rattle.keri_specs.specs.Told.{HasNone}
-use Rattle.run_outside.specs.Makings.{AreMakings, Noted}
-use Rattle.run_outside.specs.Told.{Grows, Makes, Told, making}
-use Rattle.run_outside.specs.declared.making.Making.{Making}
-use Rattle.run_outside.specs.declared.making.MakingKind.{MakingKind}
-use Rattle.run_outside.specs.declared.making.MakingKind.TheVariants.{Door as DoorKind, Verifier as VerifierKind}
-use Rattle.run_status.specs.Readers.{SourceTold}
-use Rattle.journal.specs.declared.mode.Mode.{Mode}
+use Rattle.lists.specs.KeriSpecs.Told.{HasNone}
+use Rattle.run_status.specs.RunOutside.Makings.{AreMakings, Noted}
+use Rattle.run_status.specs.RunOutside.Told.{Grows, Makes, Told, making}
+use Rattle.run_status.specs.declared.run_outside.making.Making.{Making}
+use Rattle.run_status.specs.declared.run_outside.making.MakingKind.{MakingKind}
+use Rattle.run_status.specs.declared.run_outside.making.MakingKind.TheVariants.{Door as DoorKind, Verifier as VerifierKind}
+use Rattle.run_status.specs.RunStatus.Readers.{SourceTold}
+use Rattle.journal.specs.declared.journal.mode.Mode.{Mode}
 use Rattle.keri_outside.specs.declared.limits.Limits.{Limits}
-use Rattle.reader_threads.specs.AnySeats.{AreAnyReady, HaveSeats}
-use Rattle.reader_threads.specs.Given.{Given}
-use Rattle.reader_threads.specs.Seats.{AreReady}
-use Rattle.reader_threads.specs.declared.any_seats.AnySeats.{AnySeats}
-use Rattle.reader_threads.specs.declared.any_seats.AnySeats.TheVariants.{Nobody, Readers}
-use Rattle.core_roles.specs.LinksTold.{AreLinked, AreLinksGiven, IsLinkGiven, ProvidesLinks, TakesLinks, verifiers_of}
-use Rattle.core_roles.specs.Work.{LinksTold}
-use Rattle.core_roles.proofs.Provided.{makings_on}
+use Rattle.reader_hub.specs.ReaderThreads.AnySeats.{AreAnyReady, HaveSeats}
+use Rattle.reader_hub.specs.ReaderThreads.Given.{Given}
+use Rattle.reader_hub.specs.ReaderThreads.Seats.{AreReady}
+use Rattle.reader_hub.specs.declared.reader_threads.any_seats.AnySeats.{AnySeats}
+use Rattle.reader_hub.specs.declared.reader_threads.any_seats.AnySeats.TheVariants.{Nobody, Readers}
+use Rattle.keri_roles.specs.CoreRoles.LinksTold.{AreLinked, AreLinksGiven, IsLinkGiven, ProvidesLinks, TakesLinks, verifiers_of}
+use Rattle.keri_roles.specs.CoreRoles.Work.{LinksTold}
+use Rattle.keri_roles.proofs.CoreRolesLemmas.Provided.{makings_on}
 
 -- what is seen of all of a list
 pub length_map : {A B : Type 0} (f : A → B) (xs : List A) → length (map f xs) ≡ length xs

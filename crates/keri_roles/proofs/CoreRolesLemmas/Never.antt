@@ -3,18 +3,18 @@ use Rattle.std.proofs.Common.{◌≡◌, ◌≢◌, ℕ, inl, inr, Bool, true, f
 use Rattle.std.specs.List.{list_any}
 use Rattle.cesr_stream.specs.declared.message.Message.{Message}
 use Rattle.keri_outside.specs.declared.limits.Limits.{Limits}
-use Rattle.journal.specs.declared.mode.Mode.{Mode}
-use Rattle.journal.specs.Feeds.{FeedEach}
-use Rattle.journal.specs.History.{Told as ToldEntry}
-use Rattle.run_status.specs.declared.close.Close.{Close}
-use Rattle.run_status.specs.declared.close.Close.TheVariants.{End, Bad, ReadFault, VerifierFault, SignerFault, DiskFault, WriteFault, Malformed, Full, OutOfMemory}
-use Rattle.run_status.specs.Readers.{HasClose, Reader, SourceTold, VerifierTold, close_found}
-use Rattle.run_outside.specs.Told.{Told}
-use Rattle.reader_threads.specs.Fed.{ClosesStream, ReadEach, ReadsBy, ends_of}
-use Rattle.reader_threads.specs.Given.{Given}
-use Rattle.reader_threads.specs.declared.last_round.LastRound.{LastRound}
-use Rattle.core_roles.specs.CoreTold.{ReadsToCore}
-use Rattle.core_roles.specs.Work.{Work}
+use Rattle.journal.specs.declared.journal.mode.Mode.{Mode}
+use Rattle.journal.specs.Journal.Feeds.{FeedEach}
+use Rattle.journal.specs.Journal.History.{Told as ToldEntry}
+use Rattle.run_status.specs.declared.run_status.close.Close.{Close}
+use Rattle.run_status.specs.declared.run_status.close.Close.TheVariants.{End, Bad, ReadFault, VerifierFault, SignerFault, DiskFault, WriteFault, Malformed, Full, OutOfMemory}
+use Rattle.run_status.specs.RunStatus.Readers.{HasClose, Reader, SourceTold, VerifierTold, close_found}
+use Rattle.run_status.specs.RunOutside.Told.{Told}
+use Rattle.reader_hub.specs.ReaderThreads.Fed.{ClosesStream, ReadEach, ReadsBy, ends_of}
+use Rattle.reader_hub.specs.ReaderThreads.Given.{Given}
+use Rattle.reader_hub.specs.declared.reader_threads.last_round.LastRound.{LastRound}
+use Rattle.keri_roles.specs.CoreRoles.CoreTold.{ReadsToCore}
+use Rattle.keri_roles.specs.CoreRoles.Work.{Work}
 
 -- a reader closes so only where it serves
 abbrev pub is_serving : Close → Bool

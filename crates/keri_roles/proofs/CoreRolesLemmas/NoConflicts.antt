@@ -10,12 +10,12 @@ use Rattle.std.proofs.lemmas.Map.Text.{is_eq-slice_cmp}
 use Rattle.cesr_codes.specs.Spelling.{IsPrefix, prefix_text}
 use Rattle.cesr_codes.specs.declared.prefix.Prefix.{Prefix}
 use Rattle.cesr_codes.proofs.Same as texts
-use Rattle.event_body.specs.Events.{prefix_of, sn_of}
+use Rattle.event_body.specs.EventBody.Events.{prefix_of, sn_of}
 use Rattle.key_state.proofs.Among.{Among, among, contained}
-use Rattle.journal.specs.declared.body.Body.{Body}
-use Rattle.journal.specs.Conflicts.{AreConflicts, are_rivals, place_cmp}
-use Rattle.journal.specs.Logs.{same_body}
-use Rattle.core_roles.proofs.OneOrder.{all_at}
+use Rattle.journal.specs.declared.journal.body.Body.{Body}
+use Rattle.journal.specs.Journal.Conflicts.{AreConflicts, are_rivals, place_cmp}
+use Rattle.journal.specs.Journal.Logs.{same_body}
+use Rattle.keri_roles.proofs.CoreRolesLemmas.OneOrder.{all_at}
 
 -- texts that the order doesn't tell apart are one
 pub one_of_texts : (xs ys : List ℕ) → is_eq (slice_cmp nat_cmp xs ys) ≡ true → xs ≡ ys

@@ -6,9 +6,9 @@ use Rattle.std.specs.Cmp.{IsTotalOrder}
 use Rattle.std.specs.List.Sorted.{IsPermutation}
 use Rattle.std.proofs.lemmas.List.Sorted.{Contains-permutation, IsPermutation-sym}
 use Rattle.key_state.proofs.Among.{Among, among, contained}
-use Rattle.journal_laws.proofs.Permuted.{listed}
+use Rattle.journal_views.proofs.JournalLawsLemmas.Permuted.{listed}
 use Rattle.report_lines.specs.Report.{IsListing}
-use Rattle.core_roles.proofs.OneOrder.{one_sorted}
+use Rattle.keri_roles.proofs.CoreRolesLemmas.OneOrder.{one_sorted}
 
 -- what is listed is a member
 listed_in : {X : Type 0} (xs ordered : List X) → IsPermutation xs ordered → (x : X) → Among x ordered → Among x xs

@@ -9,34 +9,34 @@ use Rattle.std.proofs.lemmas.Bool.{and_parts, not-true}
 use Rattle.std.proofs.lemmas.Cmp.{nat_list_cmp_total, on_total}
 use Rattle.cesr_codes.specs.Spelling.{IsPrefix, prefix_text}
 use Rattle.cesr_codes.specs.declared.prefix.Prefix.{Prefix}
-use Rattle.event_body.specs.declared.event.Event.{Event}
-use Rattle.event_body.specs.declared.event.Event.TheVariants.{Icp, Rot, Ixn, Dip, Drt, Rct}
-use Rattle.event_body.specs.Events.{is_receipt, prefix_of, sn_of}
-use Rattle.event_body.specs.Judging.{SpellsEvent}
-use Rattle.event_body.specs.Ranges.{AreInRange}
+use Rattle.event_body.specs.declared.event_body.event.Event.{Event}
+use Rattle.event_body.specs.declared.event_body.event.Event.TheVariants.{Icp, Rot, Ixn, Dip, Drt, Rct}
+use Rattle.event_body.specs.EventBody.Events.{is_receipt, prefix_of, sn_of}
+use Rattle.event_body.specs.EventBody.Judging.{SpellsEvent}
+use Rattle.event_body.specs.EventBody.Ranges.{AreInRange}
 use Rattle.key_state.specs.Same.{same_prefix}
 use Rattle.key_state.proofs.Among.{Among, contained, distinct_among, left_among, map_among}
 use Rattle.keri_outside.specs.declared.limits.Limits.{Limits}
-use Rattle.journal.specs.declared.body.Body.{Body}
-use Rattle.journal.specs.declared.entry.Entry.{Entry}
-use Rattle.journal.specs.declared.mode.Mode.TheVariants.{Full}
-use Rattle.journal.specs.declared.why.Why.{Why}
-use Rattle.journal.specs.Accepted.{accepted}
-use Rattle.journal.specs.Conflicts.{IsConflictList, counted, counts}
-use Rattle.journal.specs.History.{Told, bodies}
-use Rattle.journal.specs.Journals.{InOrder, told_by}
-use Rattle.journal.specs.Logs.{stands}
-use Rattle.journal_laws.specs.Alike.{AreAlike, AreSame, identifiers_of}
-use Rattle.journal_laws.proofs.Came.{accepted_came, bodies_differ, same_bytes}
-use Rattle.journal_laws.proofs.Same.{confluence}
+use Rattle.journal.specs.declared.journal.body.Body.{Body}
+use Rattle.journal.specs.declared.journal.entry.Entry.{Entry}
+use Rattle.journal.specs.declared.journal.mode.Mode.TheVariants.{Full}
+use Rattle.journal.specs.declared.journal.why.Why.{Why}
+use Rattle.journal.specs.Journal.Accepted.{accepted}
+use Rattle.journal.specs.Journal.Conflicts.{IsConflictList, counted, counts}
+use Rattle.journal.specs.Journal.History.{Told, bodies}
+use Rattle.journal.specs.Journal.Journals.{InOrder, told_by}
+use Rattle.journal.specs.Journal.Logs.{stands}
+use Rattle.journal_views.specs.JournalLaws.Alike.{AreAlike, AreSame, identifiers_of}
+use Rattle.journal_views.proofs.JournalLawsLemmas.Came.{accepted_came, bodies_differ, same_bytes}
+use Rattle.journal_views.proofs.JournalLawsLemmas.Same.{confluence}
 use Rattle.report_lines.specs.Report.{AreConflictLines, IsListing, behind_cmp, body_cmp, conflict_lines, events_lines, log_lines, prefix_cmp, prefixes_of, reason_of, state_lines, waiting_of, waits_lines}
 use Rattle.report_lines.proofs.Ordered.{body_cmp_total}
-use Rattle.validator_core.specs.View.{CoreView, accepted_by}
-use Rattle.core_roles.specs.Confluence.{HaveOneText}
-use Rattle.core_roles.specs.CoreTold.{core_of}
-use Rattle.core_roles.proofs.NoConflicts.{both_tied, no_conflicts, one_of_prefixes, one_of_texts}
-use Rattle.core_roles.proofs.OneListing.{one_listing}
-use Rattle.core_roles.proofs.OneOrder.{all_at}
+use Rattle.validator_core.specs.ValidatorCore.View.{CoreView, accepted_by}
+use Rattle.keri_roles.specs.CoreRoles.Confluence.{HaveOneText}
+use Rattle.keri_roles.specs.CoreRoles.CoreTold.{core_of}
+use Rattle.keri_roles.proofs.CoreRolesLemmas.NoConflicts.{both_tied, no_conflicts, one_of_prefixes, one_of_texts}
+use Rattle.keri_roles.proofs.CoreRolesLemmas.OneListing.{one_listing}
+use Rattle.keri_roles.proofs.CoreRolesLemmas.OneOrder.{all_at}
 
 -- the prefix of an event in its ranges has its bytes
 has_prefix : (e : Event) → AreInRange e → IsPrefix (prefix_of e)

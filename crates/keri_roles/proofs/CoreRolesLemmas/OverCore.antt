@@ -6,11 +6,11 @@ use Rattle.std.proofs.lemmas.List.Elements.{All-cons, All-nil}
 use Rattle.cesr_codes.specs.declared.key.Key.{Key}
 use Rattle.cesr_codes.specs.declared.sig.Sig.{Sig}
 use Rattle.keri_outside.specs.declared.inquiry.Inquiry.{Inquiry}
-use Rattle.run_status.specs.Readers.{reader_seen}
-use Rattle.run_status.specs.declared.close.Close.{Close}
-use Rattle.run_status.specs.declared.close.Close.TheVariants.{OutOfMemory}
-use Rattle.run_status.specs.declared.reader_end.ReaderEnd.{ReaderEnd}
-use Rattle.run_record.specs.Run.{is_out}
+use Rattle.run_status.specs.RunStatus.Readers.{reader_seen}
+use Rattle.run_status.specs.declared.run_status.close.Close.{Close}
+use Rattle.run_status.specs.declared.run_status.close.Close.TheVariants.{OutOfMemory}
+use Rattle.run_status.specs.declared.run_status.reader_end.ReaderEnd.{ReaderEnd}
+use Rattle.run_status.specs.RunRecord.Run.{is_out}
 
 -- a text that was made is owed, and says whether there is a conflict
 pub owes_so : {A E g : Type 0} (bytes : A → Vec ℕ g) (conflicts : A → Bool) (is_text : List ℕ → Bool → Type 0) (text : Result A E) (owed : Option (Vec ℕ g)) (has : Bool)

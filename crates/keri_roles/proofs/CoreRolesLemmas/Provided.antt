@@ -4,19 +4,19 @@ use Rattle.std.specs.Prelude.{IfSome, is_none, option_map}
 use Rattle.std.proofs.Math.Seq.{take-suc}
 use Rattle.std.proofs.lemmas.List.{map-append}
 use Rattle.std.proofs.lemmas.List.Folds.{list_any-append}
-use Rattle.keri_specs.specs.Causes.{Rose}
-use Rattle.keri_specs.specs.Told.{HasNone}
+use Rattle.lists.specs.KeriSpecs.Causes.{Rose}
+use Rattle.lists.specs.KeriSpecs.Told.{HasNone}
 use Rattle.cesr_codes.specs.declared.key.Key.{Key}
 use Rattle.cesr_codes.specs.declared.sig.Sig.{Sig}
 use Rattle.keri_outside.specs.declared.inquiry.Inquiry.{Inquiry}
-use Rattle.run_outside.specs.Makings.{AreMakings, Noted, some_failed}
-use Rattle.run_outside.specs.Told.{Told, making}
-use Rattle.run_outside.specs.declared.making.Making.{Making}
-use Rattle.run_outside.specs.declared.making.MakingKind.TheVariants.{Source as SourceKind, Verifier as VerifierKind}
-use Rattle.run_status.specs.Readers.{source_seen, verifier_seen}
-use Rattle.reader_threads.specs.Given.{Given, given_by}
-use Rattle.reader_threads.specs.declared.providers.Providers.{Providers}
-use Rattle.core_roles.specs.CoreTold.{AreGiven, AreProvided, IsGiven, SameNames, makings_of}
+use Rattle.run_status.specs.RunOutside.Makings.{AreMakings, Noted, some_failed}
+use Rattle.run_status.specs.RunOutside.Told.{Told, making}
+use Rattle.run_status.specs.declared.run_outside.making.Making.{Making}
+use Rattle.run_status.specs.declared.run_outside.making.MakingKind.TheVariants.{Source as SourceKind, Verifier as VerifierKind}
+use Rattle.run_status.specs.RunStatus.Readers.{source_seen, verifier_seen}
+use Rattle.reader_hub.specs.ReaderThreads.Given.{Given, given_by}
+use Rattle.reader_hub.specs.declared.reader_threads.providers.Providers.{Providers}
+use Rattle.keri_roles.specs.CoreRoles.CoreTold.{AreGiven, AreProvided, IsGiven, SameNames, makings_of}
 
 -- makings behind others
 noted_on : (old mid new : Option (List Making)) (a b : List Making) → Noted old mid a → Noted mid new b → Noted old new (a ++ b)

@@ -3,7 +3,7 @@ use Rattle.std.proofs.Common.{◌≡◌, ◌≢◌, ℕ, zero, suc, ◌+◌, ◌
 use Rattle.std.specs.Prelude.{All, IfSome, drop, map}
 use Rattle.std.proofs.lemmas.List.{drop-append-le}
 use Rattle.std.proofs.lemmas.List.Elements.{All-head, All-tail}
-use Rattle.keri_specs.specs.Told.{IsAtEnd}
+use Rattle.lists.specs.KeriSpecs.Told.{IsAtEnd}
 use Rattle.cesr_stream.specs.declared.bad.Bad.{Bad as BadItem}
 use Rattle.cesr_stream.specs.declared.message.Message.{Message}
 use Rattle.cesr_stream.specs.Front.{front}
@@ -13,20 +13,20 @@ use Rattle.cesr_stream.specs.Reading.{Reading}
 use Rattle.cesr_stream.proofs.Fronts.{stays-front}
 use Rattle.cesr_stream.proofs.Items.{place_within, stand_more}
 use Rattle.keri_outside.specs.declared.limits.Limits.{Limits}
-use Rattle.journal.specs.Feeds as feeds
-use Rattle.journal.specs.Feeds.{AreFirst, AreMessages, Fed, FeedEach, Feeds, FeedsOne, reader_of}
-use Rattle.journal.specs.History.{Told as ToldEntry}
-use Rattle.message_feed.specs.Closing.{Gave}
-use Rattle.message_feed.specs.Feeds.{Stream}
-use Rattle.message_feed.specs.Serving.{IsRefused}
-use Rattle.run_status.specs.declared.close.Close.{Close}
-use Rattle.run_status.specs.declared.close.Close.TheVariants.{End, Bad, ReadFault, VerifierFault, SignerFault, DiskFault, WriteFault, Malformed, Full, OutOfMemory}
-use Rattle.run_status.specs.Readers.{Reader, SourceTold, VerifierTold}
-use Rattle.reader_threads.specs.declared.last_round.LastRound.{LastRound}
-use Rattle.reader_threads.specs.Fed.{ClosesReader, ReadEach, ReadsBy, ends_of}
-use Rattle.reader_threads.specs.Given.{Given, end_of, said_by}
-use Rattle.core_roles.specs.Through.{is_through}
-use Rattle.core_roles.specs.CoreTold.{held_by, whole_ends}
+use Rattle.journal.specs.Journal.Feeds as feeds
+use Rattle.journal.specs.Journal.Feeds.{AreFirst, AreMessages, Fed, FeedEach, Feeds, FeedsOne, reader_of}
+use Rattle.journal.specs.Journal.History.{Told as ToldEntry}
+use Rattle.run_status.specs.MessageFeed.Closing.{Gave}
+use Rattle.run_status.specs.MessageFeed.Feeds.{Stream}
+use Rattle.run_status.specs.MessageFeed.Serving.{IsRefused}
+use Rattle.run_status.specs.declared.run_status.close.Close.{Close}
+use Rattle.run_status.specs.declared.run_status.close.Close.TheVariants.{End, Bad, ReadFault, VerifierFault, SignerFault, DiskFault, WriteFault, Malformed, Full, OutOfMemory}
+use Rattle.run_status.specs.RunStatus.Readers.{Reader, SourceTold, VerifierTold}
+use Rattle.reader_hub.specs.declared.reader_threads.last_round.LastRound.{LastRound}
+use Rattle.reader_hub.specs.ReaderThreads.Fed.{ClosesReader, ReadEach, ReadsBy, ends_of}
+use Rattle.reader_hub.specs.ReaderThreads.Given.{Given, end_of, said_by}
+use Rattle.keri_roles.specs.CoreRoles.Through.{is_through}
+use Rattle.keri_roles.specs.CoreRoles.CoreTold.{held_by, whole_ends}
 
 -- so many items stand from a place, and this is behind them
 Walk : ℕ → List ℕ → Bool → ℕ → ℕ → Part → Type 0

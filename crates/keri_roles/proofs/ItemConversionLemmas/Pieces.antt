@@ -1,9 +1,9 @@
 -- What one more piece makes of what stands, and how reading closes.
 use Rattle.std.proofs.Common.{◌≡◌, ◌≢◌, ℕ, ◌≤◌, ◌+◌, ◌-◌, List, [], ◌∷◌, ◌++◌, length, map, flat_map, take, drop, All, Bool, false, Option, Some}
 use Rattle.std.proofs.Common.{None, refl, sym, ◌∙◌, ap, subst, arith, append-nil, append_assoc, length-append, inl, inr}
-use Rattle.keri_specs.specs.Causes.{Rose}
-use Rattle.keri_specs.proofs.Putting.{after-nil}
-use Rattle.keri_specs.specs.Told.{before, IsAtEnd}
+use Rattle.lists.specs.KeriSpecs.Causes.{Rose}
+use Rattle.lists.proofs.KeriSpecsLemmas.Putting.{after-nil}
+use Rattle.lists.specs.KeriSpecs.Told.{before, IsAtEnd}
 use Rattle.std.proofs.lemmas.List.Elements.{All-nil}
 use Rattle.cesr_stream.specs.Written.{item_text, IsItem, IsWritable}
 use Rattle.cesr_stream.specs.Items.{IsEnd, Placed, Stand}
@@ -18,14 +18,14 @@ use Rattle.cesr_binary.specs.Wire.{ReadsBack}
 use Rattle.cesr_binary.proofs.ItemTexts.{stand_text}
 use Rattle.cesr_binary.proofs.MixedFronts.{stand_more}
 use Rattle.cesr_binary.proofs.StandingItems.{stand_again}
-use Rattle.run_status.specs.declared.close.Close.{Close}
-use Rattle.run_status.specs.declared.close.Close.TheVariants.{End, Bad, ReadFault, VerifierFault, SignerFault, DiskFault, WriteFault, Malformed, Full}
-use Rattle.run_status.specs.declared.close.Close.TheVariants.{OutOfMemory}
-use Rattle.run_status.specs.Readers.{SourceTold, SinkTold}
-use Rattle.item_conversion.specs.Closes.{Bounds, ClosesBy, Gave, Taken, rest_judged}
-use Rattle.item_conversion.specs.Progress.{GoesOn, HasPut, IsIdle, IsRefused, progress, text_in}
-use Rattle.item_conversion.specs.Converts.{ConvertsWithin, EndsTold, conversion}
-use Rattle.item_conversion.specs.Pieces.{EndsSo, FeedsNone, FeedsPiece, PassesEnd}
+use Rattle.run_status.specs.declared.run_status.close.Close.{Close}
+use Rattle.run_status.specs.declared.run_status.close.Close.TheVariants.{End, Bad, ReadFault, VerifierFault, SignerFault, DiskFault, WriteFault, Malformed, Full}
+use Rattle.run_status.specs.declared.run_status.close.Close.TheVariants.{OutOfMemory}
+use Rattle.run_status.specs.RunStatus.Readers.{SourceTold, SinkTold}
+use Rattle.keri_roles.specs.ItemConversion.Closes.{Bounds, ClosesBy, Gave, Taken, rest_judged}
+use Rattle.keri_roles.specs.ItemConversion.Progress.{GoesOn, HasPut, IsIdle, IsRefused, progress, text_in}
+use Rattle.keri_roles.specs.ItemConversion.Converts.{ConvertsWithin, EndsTold, conversion}
+use Rattle.keri_roles.specs.ItemConversion.Pieces.{EndsSo, FeedsNone, FeedsPiece, PassesEnd}
 
 -- pieces one after the other are one piece
 gave_told : (first middle last : Option (List ℕ)) (bytes piece : List ℕ) → first ≡ before bytes middle → middle ≡ before piece last

@@ -1,9 +1,9 @@
 -- What one more item makes of what stands.
 use Rattle.std.proofs.Common.{◌≡◌, ℕ, List, [], ◌∷◌, ◌++◌, Bool, true, false, Option, None, Result, Ok, Err, arith, refl, sym, ◌∙◌, ap, subst}
 use Rattle.std.specs.Result.{is_err}
-use Rattle.keri_specs.specs.Causes.{HasCause}
-use Rattle.keri_specs.specs.Told.{Puts as Added}
-use Rattle.keri_specs.proofs.Putting.{front_stands, puts-behind}
+use Rattle.lists.specs.KeriSpecs.Causes.{HasCause}
+use Rattle.lists.specs.KeriSpecs.Told.{Puts as Added}
+use Rattle.lists.proofs.KeriSpecsLemmas.Putting.{front_stands, puts-behind}
 use Rattle.cesr_stream.specs.declared.item.Item.{Item}
 use Rattle.cesr_stream.specs.declared.bad.Bad.{Bad}
 use Rattle.cesr_stream.specs.Items.{placed}
@@ -15,9 +15,9 @@ use Rattle.cesr_binary.specs.MixedAnswers.{AnswersItem}
 use Rattle.cesr_binary.specs.Wire.{item_in}
 use Rattle.cesr_binary.proofs.ItemTexts.{flat_map-push}
 use Rattle.cesr_binary.proofs.MixedFed.{fed_answered, stand_on}
-use Rattle.run_status.specs.Readers.{SinkTold}
-use Rattle.run_status.specs.Settling.{Puts}
-use Rattle.item_conversion.specs.Progress.{GoesOn, Progress, progress, text_in}
+use Rattle.run_status.specs.RunStatus.Readers.{SinkTold}
+use Rattle.run_status.specs.RunStatus.Settling.{Puts}
+use Rattle.keri_roles.specs.ItemConversion.Progress.{GoesOn, Progress, progress, text_in}
 
 -- one text more was put, or the sink failed at it
 pub put_on : {T E : Type 0} (result : Result T E) (first old new : SinkTold) (text more : List ℕ) → Puts text false first old

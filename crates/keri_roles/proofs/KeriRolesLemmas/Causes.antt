@@ -1,24 +1,24 @@
 -- Why a reader of `check`, `make`, `gen` or `rehearse` closed by a fault.
 use Rattle.std.proofs.Common.{◌≡◌, ℕ, inr, true, false, List, [], ◌∷◌, Option, Some, None, refl, sym, ◌∙◌, ap}
 use Rattle.std.specs.Prelude.{codes, is_none, MatchOption}
-use Rattle.keri_specs.specs.Causes.{Rose}
+use Rattle.lists.specs.KeriSpecs.Causes.{Rose}
 use Rattle.cesr_codes.specs.declared.digest.Digest.{Digest}
 use Rattle.keri_outside.specs.declared.limits.Limits.{Limits}
-use Rattle.journal.specs.declared.refusal.Refusal.{Refusal}
+use Rattle.journal.specs.declared.journal.refusal.Refusal.{Refusal}
 use Rattle.verifier_link.specs.declared.served.Served.{Served}
 use Rattle.verifier_link.specs.declared.served.Served.TheVariants as serving
-use Rattle.run_status.specs.declared.close.Close.{Close}
-use Rattle.run_status.specs.declared.close.Close.TheVariants.{ReadFault, VerifierFault, OutOfMemory}
-use Rattle.keri_roles.specs.Check.{IsChecked, OwesChecks}
-use Rattle.keri_roles.specs.Commands.{IsGenerated}
-use Rattle.run_status.specs.Readers.{SinkTold, SourceTold, VerifierTold}
-use Rattle.core_roles.specs.CoreTold.{last_close}
-use Rattle.keri_roles.specs.Made.{IsMade, IsMadeAlone, IsMadeBehind, given_alone, given_behind}
-use Rattle.keri_roles.specs.Rehearsed.{IsRehearsed, Serves, serving_close}
-use Rattle.run_record.specs.Run.{Run, AreCaused, VerifierRose}
-use Rattle.core_roles.specs.Work.{Work}
-use Rattle.keri_roles.proofs.Made.{due_finds, due_signer, fourth_of, middle, second, text_asked, text_read}
-use Rattle.core_roles.proofs.Causes.{each_caused, failed_last, names_unfailed, regroup, some_rose}
+use Rattle.run_status.specs.declared.run_status.close.Close.{Close}
+use Rattle.run_status.specs.declared.run_status.close.Close.TheVariants.{ReadFault, VerifierFault, OutOfMemory}
+use Rattle.keri_roles.specs.KeriRoles.Check.{IsChecked, OwesChecks}
+use Rattle.keri_roles.specs.KeriRoles.Commands.{IsGenerated}
+use Rattle.run_status.specs.RunStatus.Readers.{SinkTold, SourceTold, VerifierTold}
+use Rattle.keri_roles.specs.CoreRoles.CoreTold.{last_close}
+use Rattle.keri_roles.specs.KeriRoles.Made.{IsMade, IsMadeAlone, IsMadeBehind, given_alone, given_behind}
+use Rattle.keri_roles.specs.KeriRoles.Rehearsed.{IsRehearsed, Serves, serving_close}
+use Rattle.run_status.specs.RunRecord.Run.{Run, AreCaused, VerifierRose}
+use Rattle.keri_roles.specs.CoreRoles.Work.{Work}
+use Rattle.keri_roles.proofs.KeriRolesLemmas.Made.{due_finds, due_signer, fourth_of, middle, second, text_asked, text_read}
+use Rattle.keri_roles.proofs.CoreRolesLemmas.Causes.{each_caused, failed_last, names_unfailed, regroup, some_rose}
 
 -- where it may be that the source and the verifier couldn't be made, the count of the outside rose
 module _ (rose : Type 0) where

@@ -1,25 +1,25 @@
 -- Each fault that `convert` answers has its cause.
 use Rattle.std.proofs.Common.{◌≡◌, ◌≢◌, ◌⊎◌, inl, inr, ⊎_elim, ℕ, Bool, true, false, List, [], ◌∷◌, Option, Some, None, refl, sym, ◌∙◌, ap, subst, if◌then◌else◌}
 use Rattle.std.specs.Prelude.{MatchOption, is_none}
-use Rattle.keri_specs.specs.Causes.{Rose}
-use Rattle.keri_specs.proofs.Putting.{after-nil}
+use Rattle.lists.specs.KeriSpecs.Causes.{Rose}
+use Rattle.lists.proofs.KeriSpecsLemmas.Putting.{after-nil}
 use Rattle.cesr_binary.specs.declared.domain.Domain.{Domain}
 use Rattle.command_words.specs.Words.{convert}
-use Rattle.item_conversion.specs.Closes.{ClosesBy}
-use Rattle.item_conversion.specs.Progress.{text_in}
-use Rattle.item_conversion.specs.Converts.{bounds}
-use Rattle.item_conversion.specs.declared.conversion.Conversion.{Conversion}
+use Rattle.keri_roles.specs.ItemConversion.Closes.{ClosesBy}
+use Rattle.keri_roles.specs.ItemConversion.Progress.{text_in}
+use Rattle.keri_roles.specs.ItemConversion.Converts.{bounds}
+use Rattle.keri_roles.specs.declared.item_conversion.conversion.Conversion.{Conversion}
 use Rattle.keri_outside.specs.declared.limits.Limits.{Limits}
-use Rattle.run_outside.specs.Told.{Told}
-use Rattle.run_status.specs.declared.close.Close.{Close}
-use Rattle.run_status.specs.declared.close.Close.TheVariants.{End, Bad, ReadFault, VerifierFault, SignerFault, DiskFault, WriteFault, Malformed, Full, OutOfMemory}
-use Rattle.run_status.specs.Readers.{HasClose, Reader, SinkTold, SourceTold}
-use Rattle.run_status.specs.Settling.{FaultsHaveCauses, Puts, SettlesBy, found}
-use Rattle.run_status.specs.Status.{nothing_besides, status_of}
-use Rattle.run_status.proofs.Causes.{faults_have_causes, words_refused}
-use Rattle.keri_roles.specs.Converted.{ConvertsFrom, IsConverted, unless_no_memory}
-use Rattle.keri_roles.specs.Rehearsed.{Serving}
-use Rattle.run_record.specs.Run.{HasCauses, Run}
+use Rattle.run_status.specs.RunOutside.Told.{Told}
+use Rattle.run_status.specs.declared.run_status.close.Close.{Close}
+use Rattle.run_status.specs.declared.run_status.close.Close.TheVariants.{End, Bad, ReadFault, VerifierFault, SignerFault, DiskFault, WriteFault, Malformed, Full, OutOfMemory}
+use Rattle.run_status.specs.RunStatus.Readers.{HasClose, Reader, SinkTold, SourceTold}
+use Rattle.run_status.specs.RunStatus.Settling.{FaultsHaveCauses, Puts, SettlesBy, found}
+use Rattle.run_status.specs.RunStatus.Status.{nothing_besides, status_of}
+use Rattle.run_status.proofs.RunStatusLemmas.Causes.{faults_have_causes, words_refused}
+use Rattle.keri_roles.specs.KeriRoles.Converted.{ConvertsFrom, IsConverted, unless_no_memory}
+use Rattle.keri_roles.specs.KeriRoles.Rehearsed.{Serving}
+use Rattle.run_status.specs.RunRecord.Run.{HasCauses, Run}
 
 not_true : false ≡ true → ⊥
 not_true e = cc

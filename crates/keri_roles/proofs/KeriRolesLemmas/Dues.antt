@@ -1,14 +1,14 @@
 -- What is owed to an answer.
 use Rattle.std.proofs.Common.{◌≡◌, ◌⊎◌, inl, inr, ℕ, false, true, List, Option, Some, None, Result, Ok, Err, subst}
 use Rattle.std.specs.Prelude.{IfOk, OnErr}
-use Rattle.keri_specs.specs.Told.{HasNone}
+use Rattle.lists.specs.KeriSpecs.Told.{HasNone}
 use Rattle.keri_outside.specs.declared.signing.Signing.{Signing}
-use Rattle.plan_answer.specs.declared.answer.PlanAnswer.{PlanAnswer}
-use Rattle.plan_answer.specs.Answers.{CountsFaults, IsAnswer, SignsNoMore, signer_asked}
-use Rattle.run_status.specs.declared.besides.Besides.{Besides}
-use Rattle.run_status.specs.Status.{nothing_besides}
-use Rattle.keri_roles.specs.Made.{MadeFrom, OwesAnswer, OwesNone, found_in, written}
-use Rattle.run_record.specs.Run.{SignerTold}
+use Rattle.keri_roles.specs.declared.plan_answer.answer.PlanAnswer.{PlanAnswer}
+use Rattle.keri_roles.specs.PlanAnswer.Answers.{CountsFaults, IsAnswer, SignsNoMore, signer_asked}
+use Rattle.run_status.specs.declared.run_status.besides.Besides.{Besides}
+use Rattle.run_status.specs.RunStatus.Status.{nothing_besides}
+use Rattle.keri_roles.specs.KeriRoles.Made.{MadeFrom, OwesAnswer, OwesNone, found_in, written}
+use Rattle.run_status.specs.RunRecord.Run.{SignerTold}
 
 module _ (given : MadeFrom) (signer : SignerTold) (before : Option (List Signing)) (none_before : HasNone before) (owed : Option (List ℕ)) (besides : Besides) where
   -- the text of an answer is owed

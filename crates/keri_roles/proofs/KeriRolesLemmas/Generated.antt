@@ -5,29 +5,29 @@ use Rattle.std.proofs.lemmas.List.Elements.{All-head, All-nil, All-push, All-tai
 use Rattle.cesr_codes.specs.declared.key.Key.{Key}
 use Rattle.cesr_codes.specs.declared.sig.Sig.{Sig}
 use Rattle.keri_outside.specs.declared.limits.Limits.{Limits}
-use Rattle.journal.specs.declared.body.Body.{Body}
-use Rattle.journal.specs.declared.mode.Mode.{Mode}
-use Rattle.journal.specs.declared.mode.Mode.TheVariants.{Full as FullMode}
-use Rattle.journal.specs.Accepted.{accepted}
-use Rattle.journal.specs.Feeds.{Fed, FeedEach}
-use Rattle.journal.specs.History.{Told as ToldEntry}
-use Rattle.journal.specs.Journals.{chosen}
-use Rattle.journal.proofs.Places.{some_at}
-use Rattle.validator_core.specs.View.{CoreView, accepted_by, told_of}
-use Rattle.validator_core.proofs.OpenQuestions.{no_bodies}
-use Rattle.run_status.specs.declared.close.Close.{Close}
-use Rattle.run_status.specs.declared.close.Close.TheVariants.{End, Bad, ReadFault, VerifierFault, SignerFault, DiskFault, WriteFault, Malformed, Full, OutOfMemory}
-use Rattle.run_status.specs.Readers.{Reader, VerifierTold}
-use Rattle.reader_threads.specs.Fed.{AllRead, ReadEach, ends_of, most_turns}
-use Rattle.reader_threads.specs.Given.{Given}
-use Rattle.reader_threads.specs.Told.{AllTold, SomeFailed}
-use Rattle.reader_threads.specs.declared.last_round.LastRound.{LastRound}
-use Rattle.reader_threads.specs.declared.last_round.LastRound.TheVariants.{VerifierFailed}
+use Rattle.journal.specs.declared.journal.body.Body.{Body}
+use Rattle.journal.specs.declared.journal.mode.Mode.{Mode}
+use Rattle.journal.specs.declared.journal.mode.Mode.TheVariants.{Full as FullMode}
+use Rattle.journal.specs.Journal.Accepted.{accepted}
+use Rattle.journal.specs.Journal.Feeds.{Fed, FeedEach}
+use Rattle.journal.specs.Journal.History.{Told as ToldEntry}
+use Rattle.journal.specs.Journal.Journals.{chosen}
+use Rattle.journal.proofs.JournalLemmas.Places.{some_at}
+use Rattle.validator_core.specs.ValidatorCore.View.{CoreView, accepted_by, told_of}
+use Rattle.validator_core.proofs.ValidatorCoreLemmas.OpenQuestions.{no_bodies}
+use Rattle.run_status.specs.declared.run_status.close.Close.{Close}
+use Rattle.run_status.specs.declared.run_status.close.Close.TheVariants.{End, Bad, ReadFault, VerifierFault, SignerFault, DiskFault, WriteFault, Malformed, Full, OutOfMemory}
+use Rattle.run_status.specs.RunStatus.Readers.{Reader, VerifierTold}
+use Rattle.reader_hub.specs.ReaderThreads.Fed.{AllRead, ReadEach, ends_of, most_turns}
+use Rattle.reader_hub.specs.ReaderThreads.Given.{Given}
+use Rattle.reader_hub.specs.ReaderThreads.Told.{AllTold, SomeFailed}
+use Rattle.reader_hub.specs.declared.reader_threads.last_round.LastRound.{LastRound}
+use Rattle.reader_hub.specs.declared.reader_threads.last_round.LastRound.TheVariants.{VerifierFailed}
 use Rattle.report_lines.specs.Lines.{stream_text}
-use Rattle.core_roles.specs.CoreTold.{HadMemory}
-use Rattle.keri_roles.specs.Generated.{counts_of, made_of}
-use Rattle.keri_roles.specs.Planned.{HasCounts, made_close}
-use Rattle.keri_roles.specs.declared.generate.StreamPlan.{StreamPlan}
+use Rattle.keri_roles.specs.CoreRoles.CoreTold.{HadMemory}
+use Rattle.keri_roles.specs.KeriRoles.Generated.{counts_of, made_of}
+use Rattle.keri_roles.specs.KeriRoles.Planned.{HasCounts, made_close}
+use Rattle.keri_roles.specs.declared.keri_roles.generate.StreamPlan.{StreamPlan}
 
 -- the reader closes so
 abbrev pub closing : Reader → Close → Reader

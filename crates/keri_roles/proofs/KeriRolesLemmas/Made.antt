@@ -3,34 +3,34 @@ use Rattle.std.proofs.Common.{◌≡◌, ℕ, inl, inr, Bool, true, false, ◌||
 use Rattle.std.specs.Prelude.{is_none, IfSome, MatchOption}
 use Rattle.std.specs.List.{list_any, list_all}
 use Rattle.std.proofs.lemmas.List.Elements.{All-head}
-use Rattle.keri_specs.specs.Causes.{Rose}
+use Rattle.lists.specs.KeriSpecs.Causes.{Rose}
 use Rattle.cesr_codes.specs.declared.key.Key.{Key}
 use Rattle.cesr_codes.specs.declared.sig.Sig.{Sig}
 use Rattle.keri_outside.specs.declared.limits.Limits.{Limits}
 use Rattle.keri_outside.specs.declared.signing.Signing.{Signing}
-use Rattle.journal.specs.declared.journal.Journal.{Journal}
-use Rattle.journal.specs.declared.mode.Mode.TheVariants.{Local}
-use Rattle.run_outside.specs.Makings.{AreMakings}
-use Rattle.run_outside.specs.Told.{Told}
-use Rattle.message_feed.specs.declared.text_close.TextClose.{TextClose}
-use Rattle.message_feed.specs.declared.text_close.TextClose.TheVariants as text
-use Rattle.plan_answer.specs.declared.answer.PlanAnswer.{PlanAnswer}
-use Rattle.plan_answer.specs.declared.answer.PlanAnswer.TheVariants.{Message, Refused, SignerFault}
-use Rattle.plan_answer.specs.Answers.{CountsFaults}
-use Rattle.run_status.specs.declared.besides.Besides.{Besides}
-use Rattle.run_status.specs.declared.close.Close.{Close}
-use Rattle.run_status.specs.declared.close.Close.TheVariants.{ReadFault, VerifierFault}
-use Rattle.run_status.specs.Readers.{Reader, SourceTold}
-use Rattle.run_status.specs.Status.{nothing_besides}
-use Rattle.reader_threads.specs.declared.last_round.LastRound.{LastRound}
-use Rattle.reader_threads.specs.Given.{Given}
-use Rattle.core_roles.specs.CoreTold.{HasBoth, IsToldBy}
-use Rattle.core_roles.specs.Through.{is_through}
-use Rattle.core_roles.proofs.Causes.{lacks, regroup}
-use Rattle.core_roles.proofs.CompleteOver.{not_so, told_one}
-use Rattle.keri_roles.specs.Made.{MadeFrom, IsDue, IsDueBy, WasRead, close_of, found_in, makings_behind}
-use Rattle.run_record.specs.Run.{SignerTold, is_out}
-use Rattle.run_record.specs.Seen.{signer_seen}
+use Rattle.journal.specs.declared.journal.journal.Journal.{Journal}
+use Rattle.journal.specs.declared.journal.mode.Mode.TheVariants.{Local}
+use Rattle.run_status.specs.RunOutside.Makings.{AreMakings}
+use Rattle.run_status.specs.RunOutside.Told.{Told}
+use Rattle.run_status.specs.declared.message_feed.text_close.TextClose.{TextClose}
+use Rattle.run_status.specs.declared.message_feed.text_close.TextClose.TheVariants as text
+use Rattle.keri_roles.specs.declared.plan_answer.answer.PlanAnswer.{PlanAnswer}
+use Rattle.keri_roles.specs.declared.plan_answer.answer.PlanAnswer.TheVariants.{Message, Refused, SignerFault}
+use Rattle.keri_roles.specs.PlanAnswer.Answers.{CountsFaults}
+use Rattle.run_status.specs.declared.run_status.besides.Besides.{Besides}
+use Rattle.run_status.specs.declared.run_status.close.Close.{Close}
+use Rattle.run_status.specs.declared.run_status.close.Close.TheVariants.{ReadFault, VerifierFault}
+use Rattle.run_status.specs.RunStatus.Readers.{Reader, SourceTold}
+use Rattle.run_status.specs.RunStatus.Status.{nothing_besides}
+use Rattle.reader_hub.specs.declared.reader_threads.last_round.LastRound.{LastRound}
+use Rattle.reader_hub.specs.ReaderThreads.Given.{Given}
+use Rattle.keri_roles.specs.CoreRoles.CoreTold.{HasBoth, IsToldBy}
+use Rattle.keri_roles.specs.CoreRoles.Through.{is_through}
+use Rattle.keri_roles.proofs.CoreRolesLemmas.Causes.{lacks, regroup}
+use Rattle.keri_roles.proofs.CoreRolesLemmas.CompleteOver.{not_so, told_one}
+use Rattle.keri_roles.specs.KeriRoles.Made.{MadeFrom, IsDue, IsDueBy, WasRead, close_of, found_in, makings_behind}
+use Rattle.run_status.specs.RunRecord.Run.{SignerTold, is_out}
+use Rattle.run_status.specs.RunRecord.Seen.{signer_seen}
 
 -- the reader of a text closes so by its source alone
 by_read : (closed : TextClose) → close_of closed ≡ ReadFault → closed ≡ text.ReadFault

@@ -2,18 +2,18 @@
 use Rattle.std.proofs.Common.{◌≡◌, ◌≢◌, ℕ, false, ◌||◌, List, [], ◌∷◌, Option, Some, None, refl, ◌∙◌, ap}
 use Rattle.cesr_codes.specs.declared.digest.Digest.{Digest}
 use Rattle.keri_outside.specs.declared.limits.Limits.{Limits}
-use Rattle.journal.specs.declared.refusal.Refusal.{Refusal}
-use Rattle.message_feed.specs.declared.text_close.TextClose.{TextClose}
-use Rattle.message_feed.specs.declared.text_close.TextClose.TheVariants as text
-use Rattle.run_status.specs.declared.close.Close.{Close}
-use Rattle.run_status.specs.declared.close.Close.TheVariants.{End, ReadFault, SignerFault, DiskFault, WriteFault, Full, OutOfMemory}
-use Rattle.run_status.specs.Readers.{Reader, SourceTold, VerifierTold}
-use Rattle.keri_roles.specs.Check.{IsChecked, OwesChecks}
-use Rattle.keri_roles.specs.Commands.{IsGenerated}
-use Rattle.keri_roles.specs.Generated.{made_of}
-use Rattle.keri_roles.specs.Made.{IsMade, WasRead, close_of}
-use Rattle.core_roles.specs.Work.{Work}
-use Rattle.core_roles.proofs.Never.{each_serves, is_serving, or_false, reads_only, some_serves}
+use Rattle.journal.specs.declared.journal.refusal.Refusal.{Refusal}
+use Rattle.run_status.specs.declared.message_feed.text_close.TextClose.{TextClose}
+use Rattle.run_status.specs.declared.message_feed.text_close.TextClose.TheVariants as text
+use Rattle.run_status.specs.declared.run_status.close.Close.{Close}
+use Rattle.run_status.specs.declared.run_status.close.Close.TheVariants.{End, ReadFault, SignerFault, DiskFault, WriteFault, Full, OutOfMemory}
+use Rattle.run_status.specs.RunStatus.Readers.{Reader, SourceTold, VerifierTold}
+use Rattle.keri_roles.specs.KeriRoles.Check.{IsChecked, OwesChecks}
+use Rattle.keri_roles.specs.KeriRoles.Commands.{IsGenerated}
+use Rattle.keri_roles.specs.KeriRoles.Generated.{made_of}
+use Rattle.keri_roles.specs.KeriRoles.Made.{IsMade, WasRead, close_of}
+use Rattle.keri_roles.specs.CoreRoles.Work.{Work}
+use Rattle.keri_roles.proofs.CoreRolesLemmas.Never.{each_serves, is_serving, or_false, reads_only, some_serves}
 
 module _ (limits : Limits) (held : Option (List ℕ)) (verifier : Option VerifierTold) (refused : List Refusal) (seen : List Digest) where
   abbrev closing_so : Option SourceTold → Close → Reader

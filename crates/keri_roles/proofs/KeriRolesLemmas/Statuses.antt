@@ -1,34 +1,34 @@
 -- Each fault that a run answers has its cause.
 use Rattle.std.proofs.Common.{◌≡◌, ◌≢◌, inl, inr, ⊎_elim, ℕ, Bool, true, false, ◌||◌, List, [], ◌∷◌, Option, Some, None, refl, sym, ◌∙◌, ap, subst}
 use Rattle.std.specs.Prelude.{IsNone, MatchOption, codes}
-use Rattle.keri_specs.specs.Causes.{Rose}
+use Rattle.lists.specs.KeriSpecs.Causes.{Rose}
 use Rattle.command_words.specs.Inputs.{links, named}
 use Rattle.command_words.specs.Words.{Asked, blame, check, convert, export, generate, make, rehearse, validate, watch, witness}
-use Rattle.keri_disk.specs.Images.{DiskTold}
+use Rattle.shelf_log.specs.KeriDisk.Images.{DiskTold}
 use Rattle.verifier_link.specs.declared.served.Served.{Served}
 use Rattle.verifier_link.specs.declared.served.Served.TheVariants.{End, Malformed, ReadFault, WriteFault, Full, OutOfMemory}
-use Rattle.run_status.specs.declared.besides.Besides.{Besides}
-use Rattle.run_status.specs.declared.close.Close.{Close}
-use Rattle.run_status.specs.declared.close.Close.TheVariants as closing
-use Rattle.run_status.specs.Readers.{HasClose, Reader, SinkTold, SourceTold}
-use Rattle.run_status.specs.Status.{nothing_besides}
-use Rattle.run_status.proofs.Causes.{faults_have_causes, words_refused}
-use Rattle.keri_roles.specs.Commands.{IsRunOf, IsUnbegun, CarriesOut}
-use Rattle.core_roles.specs.CoreTold.{fails_last, last_close}
-use Rattle.keri_roles.specs.Made.{IsMade, given_alone, given_behind}
-use Rattle.keri_roles.specs.Rehearsed.{IsRehearsed, Serves, serving_close, serving_status}
-use Rattle.run_record.specs.Run.{AreCausedBy, DoorFails, DoorRose, Settles, Run, HasCauses, SignerFails, VerifierRose}
-use Rattle.core_roles.specs.Work.{LinksTold, Work, work_in}
-use Rattle.core_roles.specs.LinksTold.{AreUnseated}
-use Rattle.run_record.specs.Seen.{disk_seen}
-use Rattle.witness_role.proofs.WitnessedCauses.{witnessed_causes}
-use Rattle.keri_roles.proofs.ConvertedCauses.{converted_causes}
-use Rattle.core_roles.proofs.Causes.{door_rose, files_caused, files_unfailed, linked_caused, linked_door, linked_unfailed, told_rose}
-use Rattle.keri_roles.proofs.Causes.{check_caused, generated_caused, made_caused, made_rose, made_signer, rehearsed_caused}
-use Rattle.core_roles.proofs.BlamedCauses.{blamed_caused, blamed_rose, blamed_serves}
-use Rattle.keri_roles.proofs.Made.{due_finds}
-use Rattle.core_roles.proofs.Never.{has_none, some_serves, told_serves}
-use Rattle.keri_roles.proofs.Never.{check_serves, generated_serves, made_serves}
+use Rattle.run_status.specs.declared.run_status.besides.Besides.{Besides}
+use Rattle.run_status.specs.declared.run_status.close.Close.{Close}
+use Rattle.run_status.specs.declared.run_status.close.Close.TheVariants as closing
+use Rattle.run_status.specs.RunStatus.Readers.{HasClose, Reader, SinkTold, SourceTold}
+use Rattle.run_status.specs.RunStatus.Status.{nothing_besides}
+use Rattle.run_status.proofs.RunStatusLemmas.Causes.{faults_have_causes, words_refused}
+use Rattle.keri_roles.specs.KeriRoles.Commands.{IsRunOf, IsUnbegun, CarriesOut}
+use Rattle.keri_roles.specs.CoreRoles.CoreTold.{fails_last, last_close}
+use Rattle.keri_roles.specs.KeriRoles.Made.{IsMade, given_alone, given_behind}
+use Rattle.keri_roles.specs.KeriRoles.Rehearsed.{IsRehearsed, Serves, serving_close, serving_status}
+use Rattle.run_status.specs.RunRecord.Run.{AreCausedBy, DoorFails, DoorRose, Settles, Run, HasCauses, SignerFails, VerifierRose}
+use Rattle.keri_roles.specs.CoreRoles.Work.{LinksTold, Work, work_in}
+use Rattle.keri_roles.specs.CoreRoles.LinksTold.{AreUnseated}
+use Rattle.run_status.specs.RunRecord.Seen.{disk_seen}
+use Rattle.witness_core.proofs.WitnessRoleLemmas.WitnessedCauses.{witnessed_causes}
+use Rattle.keri_roles.proofs.KeriRolesLemmas.ConvertedCauses.{converted_causes}
+use Rattle.keri_roles.proofs.CoreRolesLemmas.Causes.{door_rose, files_caused, files_unfailed, linked_caused, linked_door, linked_unfailed, told_rose}
+use Rattle.keri_roles.proofs.KeriRolesLemmas.Causes.{check_caused, generated_caused, made_caused, made_rose, made_signer, rehearsed_caused}
+use Rattle.keri_roles.proofs.CoreRolesLemmas.BlamedCauses.{blamed_caused, blamed_rose, blamed_serves}
+use Rattle.keri_roles.proofs.KeriRolesLemmas.Made.{due_finds}
+use Rattle.keri_roles.proofs.CoreRolesLemmas.Never.{has_none, some_serves, told_serves}
+use Rattle.keri_roles.proofs.KeriRolesLemmas.Never.{check_serves, generated_serves, made_serves}
 
 -- what a command finds that reads to a core: whether there is a conflict, whether an identifier isn't known, whether a verifier failed
 -- in the last round, whether its door failed, and nothing else

@@ -6,35 +6,35 @@ use Rattle.std.proofs.lemmas.Bool.{and_parts, leb-true}
 use Rattle.std.proofs.lemmas.List.Elements.{All-nil, All-push}
 use Rattle.std.proofs.lemmas.Slice.Zip.{AllZip-long}
 use Rattle.std.proofs.lemmas.List.{take_all}
-use Rattle.keri_specs.specs.Told.{after}
-use Rattle.keri_specs.proofs.Putting.{after-nil}
+use Rattle.lists.specs.KeriSpecs.Told.{after}
+use Rattle.lists.proofs.KeriSpecsLemmas.Putting.{after-nil}
 use Rattle.keri_outside.specs.declared.signing.Signing.{Signing}
 use Rattle.cesr_codes.specs.declared.key.Key.{Key}
 use Rattle.cesr_codes.specs.declared.sig.Sig.{Sig}
 use Rattle.cesr_stream.specs.declared.group.Group.TheVariants.{Held}
 use Rattle.cesr_stream.specs.declared.message.Message.{Message}
 use Rattle.cesr_stream.specs.Written.{IsCounted}
-use Rattle.event_body.specs.declared.event.Event.{Event}
-use Rattle.event_rules.specs.Parts.{has_signed}
+use Rattle.event_body.specs.declared.event_body.event.Event.{Event}
+use Rattle.journal.specs.EventRules.Parts.{has_signed}
 use Rattle.key_state.specs.Exposure.{own_rules}
 use Rattle.key_state.specs.States.{State}
 use Rattle.report_lines.specs.declared.plan_refusal.PlanRefusal.TheVariants as why
-use Rattle.controller_core.specs.declared.plan_fault.PlanFault.{PlanFault}
-use Rattle.controller_core.specs.declared.plan_fault.PlanFault.TheVariants as fault
-use Rattle.controller_core.specs.declared.slot.Slot.{Slot}
-use Rattle.controller_core.specs.LastNumbers.{IsLastAnswer}
-use Rattle.controller_core.specs.Messages.{IsInSlot, IsMessageOf, event_text}
-use Rattle.controller_core.specs.Refusals as made
-use Rattle.controller_core.specs.Refusals.{IsRefusal}
-use Rattle.controller_core.specs.Signing.{IsSignedByYes}
-use Rattle.controller_core.specs.Signings.{AsksFor, AsksFront, signings_of}
-use Rattle.controller_core.specs.Slots.{are_enough, is_in_range, slots_have}
-use Rattle.plan_text.specs.declared.event_plan.EventPlan.{EventPlan}
-use Rattle.plan_text.specs.Plans.{IsPlanText}
-use Rattle.plan_answer.specs.declared.answer.PlanAnswer.{PlanAnswer}
-use Rattle.plan_answer.specs.declared.answer.PlanAnswer.TheVariants.{Message as MessageAnswer, Refused, SignerFault}
-use Rattle.plan_answer.specs.Answers.{AsksFew, CountsFaults, IsEventAnswer, IsUnasked, SignerAsked, SignsNoMore, answer_to, message_text}
-use Rattle.plan_answer.specs.Asked.{Asked, HasNumber, IsPastLast, LogTold, asked}
+use Rattle.controller_core.specs.declared.controller_core.plan_fault.PlanFault.{PlanFault}
+use Rattle.controller_core.specs.declared.controller_core.plan_fault.PlanFault.TheVariants as fault
+use Rattle.controller_core.specs.declared.controller_core.slot.Slot.{Slot}
+use Rattle.controller_core.specs.ControllerCore.LastNumbers.{IsLastAnswer}
+use Rattle.controller_core.specs.ControllerCore.Messages.{IsInSlot, IsMessageOf, event_text}
+use Rattle.controller_core.specs.ControllerCore.Refusals as made
+use Rattle.controller_core.specs.ControllerCore.Refusals.{IsRefusal}
+use Rattle.controller_core.specs.ControllerCore.Signing.{IsSignedByYes}
+use Rattle.controller_core.specs.ControllerCore.Signings.{AsksFor, AsksFront, signings_of}
+use Rattle.controller_core.specs.ControllerCore.Slots.{are_enough, is_in_range, slots_have}
+use Rattle.controller_core.specs.declared.plan_text.event_plan.EventPlan.{EventPlan}
+use Rattle.controller_core.specs.PlanText.Plans.{IsPlanText}
+use Rattle.keri_roles.specs.declared.plan_answer.answer.PlanAnswer.{PlanAnswer}
+use Rattle.keri_roles.specs.declared.plan_answer.answer.PlanAnswer.TheVariants.{Message as MessageAnswer, Refused, SignerFault}
+use Rattle.keri_roles.specs.PlanAnswer.Answers.{AsksFew, CountsFaults, IsEventAnswer, IsUnasked, SignerAsked, SignsNoMore, answer_to, message_text}
+use Rattle.keri_roles.specs.PlanAnswer.Asked.{Asked, HasNumber, IsPastLast, LogTold, asked}
 
 module _ (gives : Key → List ℕ → Option Sig) (s : Option State) (e : Event) (slots : List Slot) where
   few_slots : are_enough s e slots ≡ true → length slots ≤ 4095

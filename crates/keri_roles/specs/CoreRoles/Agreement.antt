@@ -1,10 +1,10 @@
 -- What a validator accepts, against what any other accepts (KERI paper: witness agreement).
 use Rattle.std.specs.Prelude.{List, []}
 use Rattle.cesr_codes.specs.declared.key.Key.{Key}
-use Rattle.journal.specs.declared.body.Body.{Body}
-use Rattle.journal.specs.declared.mode.Mode.TheVariants.{Full}
-use Rattle.journal.specs.Accepted.{accepted}
-use Rattle.journal.specs.History.{Told}
+use Rattle.journal.specs.declared.journal.body.Body.{Body}
+use Rattle.journal.specs.declared.journal.mode.Mode.TheVariants.{Full}
+use Rattle.journal.specs.Journal.Accepted.{accepted}
+use Rattle.journal.specs.Journal.History.{Told}
 use Rattle.quorum_laws.specs.Agreement.{Agree, NoClash}
 use Rattle.quorum_laws.specs.Backing.{IsBacked, IsHonest}
 use Rattle.quorum_laws.specs.Histories.{Signing, IsLawful}

@@ -1,22 +1,22 @@
 -- Who signed twice, over two files.
 use Rattle.std.specs.Prelude.{All, ◌≡◌, ◌≢◌, ◌==◌, ◌||◌, Bool, not, ℕ, List, [], ◌∷◌, length, IfSome, Option, Some}
-use Rattle.keri_specs.specs.Causes.{Rose}
-use Rattle.blame_core.specs.Blames.{AreBlames}
-use Rattle.blame_core.specs.Lines.{blames_text}
-use Rattle.blame_core.specs.declared.blames.Blame.{Blame}
-use Rattle.journal.specs.declared.journal.Journal.{Journal}
-use Rattle.journal.specs.declared.mode.Mode.TheVariants.{Full}
-use Rattle.reader_threads.specs.Given.{Given}
-use Rattle.reader_threads.specs.declared.last_round.LastRound.{LastRound}
-use Rattle.reader_threads.specs.declared.last_round.LastRound.TheVariants.{OutOfMemory as NoMemory}
-use Rattle.run_status.specs.declared.close.Close.{Close}
-use Rattle.run_status.specs.declared.close.Close.TheVariants.{OutOfMemory}
-use Rattle.run_status.specs.Readers.{Reader}
-use Rattle.run_status.specs.Status.{nothing_besides}
-use Rattle.validator_core.specs.View.{CoreView}
-use Rattle.core_roles.specs.CoreTold.{AreProvided, HadMemory, HasBoth, IsToldBy, core_of, fails_last}
-use Rattle.core_roles.specs.Work.{Work}
-use Rattle.core_roles.specs.declared.blame.BlameWords.{BlameWords}
+use Rattle.lists.specs.KeriSpecs.Causes.{Rose}
+use Rattle.blame_core.specs.BlameCore.Blames.{AreBlames}
+use Rattle.blame_core.specs.BlameCore.Lines.{blames_text}
+use Rattle.blame_core.specs.declared.blame_core.blames.Blame.{Blame}
+use Rattle.journal.specs.declared.journal.journal.Journal.{Journal}
+use Rattle.journal.specs.declared.journal.mode.Mode.TheVariants.{Full}
+use Rattle.reader_hub.specs.ReaderThreads.Given.{Given}
+use Rattle.reader_hub.specs.declared.reader_threads.last_round.LastRound.{LastRound}
+use Rattle.reader_hub.specs.declared.reader_threads.last_round.LastRound.TheVariants.{OutOfMemory as NoMemory}
+use Rattle.run_status.specs.declared.run_status.close.Close.{Close}
+use Rattle.run_status.specs.declared.run_status.close.Close.TheVariants.{OutOfMemory}
+use Rattle.run_status.specs.RunStatus.Readers.{Reader}
+use Rattle.run_status.specs.RunStatus.Status.{nothing_besides}
+use Rattle.validator_core.specs.ValidatorCore.View.{CoreView}
+use Rattle.keri_roles.specs.CoreRoles.CoreTold.{AreProvided, HadMemory, HasBoth, IsToldBy, core_of, fails_last}
+use Rattle.keri_roles.specs.CoreRoles.Work.{Work}
+use Rattle.keri_roles.specs.declared.core_roles.blame.BlameWords.{BlameWords}
 
 -- the text is the lines of the blames of two cores, and it is said whether there are any
 pub record IsBlamesText (first second : CoreView) (text : List ℕ) (is_found : Bool) : Type 0 where

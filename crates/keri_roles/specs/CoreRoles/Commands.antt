@@ -1,20 +1,20 @@
 -- What each command does that reads files or links to a core.
 use Rattle.std.specs.Prelude.{ℕ, ◌⊎◌, false, Bool, List}
 use Rattle.cesr_codes.specs.declared.prefix.Prefix.{Prefix}
-use Rattle.run_outside.specs.Told.{Told}
-use Rattle.reader_threads.specs.Given.{Given}
-use Rattle.journal.specs.declared.mode.Mode.TheVariants.{Full, Local}
-use Rattle.journal.specs.Journals.{told_by}
-use Rattle.validator_core.specs.View.{CoreView}
+use Rattle.run_status.specs.RunOutside.Told.{Told}
+use Rattle.reader_hub.specs.ReaderThreads.Given.{Given}
+use Rattle.journal.specs.declared.journal.mode.Mode.TheVariants.{Full, Local}
+use Rattle.journal.specs.Journal.Journals.{told_by}
+use Rattle.validator_core.specs.ValidatorCore.View.{CoreView}
 use Rattle.watcher_core.specs.Evidence.{IsEvidenceText, ReadsAsEvidence}
-use Rattle.core_roles.specs.Agreement.{IsAgreed}
-use Rattle.core_roles.specs.Confluence.{ComesToTheSame, IsConfluent}
-use Rattle.core_roles.specs.CoreTold.{AreProvided, IsOverCore, finds_conflict, finds_unknown}
-use Rattle.core_roles.specs.LinksTold.{AreLinked, AreUnseated}
-use Rattle.core_roles.specs.Exports.{ExportsTo}
-use Rattle.core_roles.specs.Reports.{Reports}
-use Rattle.run_status.specs.Readers.{Reader}
-use Rattle.core_roles.specs.Work.{LinksTold, Work}
+use Rattle.keri_roles.specs.CoreRoles.Agreement.{IsAgreed}
+use Rattle.keri_roles.specs.CoreRoles.Confluence.{ComesToTheSame, IsConfluent}
+use Rattle.keri_roles.specs.CoreRoles.CoreTold.{AreProvided, IsOverCore, finds_conflict, finds_unknown}
+use Rattle.keri_roles.specs.CoreRoles.LinksTold.{AreLinked, AreUnseated}
+use Rattle.keri_roles.specs.CoreRoles.Exports.{ExportsTo}
+use Rattle.keri_roles.specs.CoreRoles.Reports.{Reports}
+use Rattle.run_status.specs.RunStatus.Readers.{Reader}
+use Rattle.keri_roles.specs.CoreRoles.Work.{LinksTold, Work}
 
 -- A core that wants receipts and seals is told what its readers read, and the text is its report. What it accepts agrees with what any
 -- other validator accepts; and what it accepts and reports any other does that was told the same.

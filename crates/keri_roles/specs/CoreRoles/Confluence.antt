@@ -1,15 +1,15 @@
 -- What a validator reports, against what any other reports that was told the same.
 use Rattle.std.specs.Prelude.{◌≡◌, ℕ, Bool, List}
 use Rattle.keri_outside.specs.declared.limits.Limits.{Limits}
-use Rattle.journal.specs.declared.body.Body.{Body}
-use Rattle.journal.specs.declared.entry.Entry.{Entry}
-use Rattle.journal.specs.declared.mode.Mode.{Mode}
-use Rattle.journal.specs.declared.mode.Mode.TheVariants.{Full}
-use Rattle.journal.specs.History.{Told}
-use Rattle.journal.specs.Journals.{InOrder, told_by}
-use Rattle.journal_laws.specs.Alike.{AreAlike, AreSame}
+use Rattle.journal.specs.declared.journal.body.Body.{Body}
+use Rattle.journal.specs.declared.journal.entry.Entry.{Entry}
+use Rattle.journal.specs.declared.journal.mode.Mode.{Mode}
+use Rattle.journal.specs.declared.journal.mode.Mode.TheVariants.{Full}
+use Rattle.journal.specs.Journal.History.{Told}
+use Rattle.journal.specs.Journal.Journals.{InOrder, told_by}
+use Rattle.journal_views.specs.JournalLaws.Alike.{AreAlike, AreSame}
 use Rattle.report_lines.specs.Report.{IsStandingText}
-use Rattle.core_roles.specs.CoreTold.{core_of}
+use Rattle.keri_roles.specs.CoreRoles.CoreTold.{core_of}
 
 -- what was told comes to the same as all that was told alike
 abbrev pub ComesToTheSame : Mode → List Told → Type 0

@@ -1,37 +1,37 @@
 -- What a core was told by the readers of files.
 use Rattle.std.specs.Prelude.{◌≡◌, ◌≢◌, ℕ, ◌⊎◌, Bool, true, false, List, [], ◌∷◌, length, map, All, IfSome, IsSome, Option, None, Some, is_none}
-use Rattle.keri_specs.specs.Causes.{Rose}
-use Rattle.keri_specs.specs.Told.{HasNone}
+use Rattle.lists.specs.KeriSpecs.Causes.{Rose}
+use Rattle.lists.specs.KeriSpecs.Told.{HasNone}
 use Rattle.keri_outside.specs.declared.limits.Limits.{Limits}
-use Rattle.journal.specs.declared.body.Body.{Body}
-use Rattle.journal.specs.declared.entry.Entry.{Entry}
-use Rattle.journal.specs.declared.journal.Journal.{Journal}
-use Rattle.journal.specs.declared.mode.Mode.{Mode}
-use Rattle.journal.specs.Accepted.{accepted}
-use Rattle.journal.specs.Feeds.{End, Fed, IsFed}
-use Rattle.journal.specs.History.{Told as ToldEntry}
-use Rattle.journal.specs.Journals.{told_by}
-use Rattle.journal.specs.Questions.{questions, IsInStep, IsRegular}
-use Rattle.journal.specs.Readiness.{is_ready}
-use Rattle.journal.specs.Replies.{IsWithin}
-use Rattle.validator_core.specs.View.{CoreView, Stands}
-use Rattle.run_outside.specs.Makings.{AreMakings}
-use Rattle.run_outside.specs.Told.{Told, making}
-use Rattle.run_outside.specs.declared.making.Making.{Making}
-use Rattle.run_outside.specs.declared.making.MakingKind.TheVariants.{Source as SourceKind, Verifier as VerifierKind}
-use Rattle.run_status.specs.declared.besides.Besides.{Besides}
-use Rattle.run_status.specs.declared.close.Close.{Close}
-use Rattle.run_status.specs.declared.close.Close.TheVariants as close
-use Rattle.run_status.specs.Readers.{Reader, SourceTold}
-use Rattle.run_status.specs.Status.{nothing_besides}
-use Rattle.reader_threads.specs.declared.last_round.LastRound.{LastRound}
-use Rattle.reader_threads.specs.declared.last_round.LastRound.TheVariants.{NoneFailed, VerifierFailed, OutOfMemory}
-use Rattle.reader_threads.specs.Asked.{EachAsksOnly}
-use Rattle.reader_threads.specs.Fed.{ReadEach, ends_of, most_turns}
-use Rattle.reader_threads.specs.Given.{Given, said_by}
-use Rattle.reader_threads.specs.Told.{EachFailed, SomeFailed}
-use Rattle.core_roles.specs.Through.{is_through}
-use Rattle.core_roles.specs.Work.{Work}
+use Rattle.journal.specs.declared.journal.body.Body.{Body}
+use Rattle.journal.specs.declared.journal.entry.Entry.{Entry}
+use Rattle.journal.specs.declared.journal.journal.Journal.{Journal}
+use Rattle.journal.specs.declared.journal.mode.Mode.{Mode}
+use Rattle.journal.specs.Journal.Accepted.{accepted}
+use Rattle.journal.specs.Journal.Feeds.{End, Fed, IsFed}
+use Rattle.journal.specs.Journal.History.{Told as ToldEntry}
+use Rattle.journal.specs.Journal.Journals.{told_by}
+use Rattle.journal.specs.Journal.Questions.{questions, IsInStep, IsRegular}
+use Rattle.journal.specs.Journal.Readiness.{is_ready}
+use Rattle.journal.specs.Journal.Replies.{IsWithin}
+use Rattle.validator_core.specs.ValidatorCore.View.{CoreView, Stands}
+use Rattle.run_status.specs.RunOutside.Makings.{AreMakings}
+use Rattle.run_status.specs.RunOutside.Told.{Told, making}
+use Rattle.run_status.specs.declared.run_outside.making.Making.{Making}
+use Rattle.run_status.specs.declared.run_outside.making.MakingKind.TheVariants.{Source as SourceKind, Verifier as VerifierKind}
+use Rattle.run_status.specs.declared.run_status.besides.Besides.{Besides}
+use Rattle.run_status.specs.declared.run_status.close.Close.{Close}
+use Rattle.run_status.specs.declared.run_status.close.Close.TheVariants as close
+use Rattle.run_status.specs.RunStatus.Readers.{Reader, SourceTold}
+use Rattle.run_status.specs.RunStatus.Status.{nothing_besides}
+use Rattle.reader_hub.specs.declared.reader_threads.last_round.LastRound.{LastRound}
+use Rattle.reader_hub.specs.declared.reader_threads.last_round.LastRound.TheVariants.{NoneFailed, VerifierFailed, OutOfMemory}
+use Rattle.reader_hub.specs.ReaderThreads.Asked.{EachAsksOnly}
+use Rattle.reader_hub.specs.ReaderThreads.Fed.{ReadEach, ends_of, most_turns}
+use Rattle.reader_hub.specs.ReaderThreads.Given.{Given, said_by}
+use Rattle.reader_hub.specs.ReaderThreads.Told.{EachFailed, SomeFailed}
+use Rattle.keri_roles.specs.CoreRoles.Through.{is_through}
+use Rattle.keri_roles.specs.CoreRoles.Work.{Work}
 
 -- what the reader of a name is given, with the verifier of a helper, as far as both could be made: nothing was read, asked or failed yet
 pub record IsGiven (before : Told) (helper name : List ℕ) (given : Given) : Type 0 where

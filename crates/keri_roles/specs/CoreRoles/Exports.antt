@@ -2,10 +2,10 @@
 use Rattle.std.specs.Prelude.{◌≡◌, ℕ, Bool, true, false, List, codes}
 use Rattle.std.specs.List.{list_any}
 use Rattle.cesr_codes.specs.declared.prefix.Prefix.{Prefix}
-use Rattle.export_core.specs.Export.{IsExport}
-use Rattle.journal.specs.Logs.{is_of}
-use Rattle.run_status.specs.Readers.{Reader}
-use Rattle.validator_core.specs.View.{CoreView, accepted_by}
+use Rattle.export_core.specs.ExportCore.Export.{IsExport}
+use Rattle.journal.specs.Journal.Logs.{is_of}
+use Rattle.run_status.specs.RunStatus.Readers.{Reader}
+use Rattle.validator_core.specs.ValidatorCore.View.{CoreView, accepted_by}
 
 -- the line of an identifier of which no event is accepted
 abbrev pub unknown_text : List ℕ

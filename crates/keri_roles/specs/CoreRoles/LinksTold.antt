@@ -1,21 +1,21 @@
 -- What is taken at a door, for readers of one core.
 use Rattle.std.specs.Prelude.{◌≡◌, ℕ, ◌⊎◌, ◌≤◌, Bool, true, List, [], ◌∷◌, length, map, All, IfSome, Option, Some, None, is_none}
-use Rattle.keri_specs.specs.Told.{HasNone}
-use Rattle.door_links.specs.Taken.{AreTaken, IsCaused, IsEnough}
-use Rattle.journal.specs.declared.mode.Mode.{Mode}
-use Rattle.run_outside.specs.Makings.{AreMakings}
-use Rattle.run_outside.specs.Told.{Told, making}
-use Rattle.run_outside.specs.declared.making.Making.{Making}
-use Rattle.run_outside.specs.declared.making.MakingKind.TheVariants.{Door as DoorKind, Verifier as VerifierKind}
-use Rattle.run_status.specs.declared.besides.Besides.{Besides}
-use Rattle.run_status.specs.Readers.{Reader, SourceTold}
-use Rattle.run_status.specs.Status.{nothing_besides}
-use Rattle.reader_threads.specs.Given.{Given}
-use Rattle.validator_core.specs.View.{CoreView}
-use Rattle.core_roles.specs.CoreTold.{IsOverCore}
-use Rattle.run_record.specs.NoJournal.{no_journal}
-use Rattle.run_record.specs.Run.{DoorTold}
-use Rattle.core_roles.specs.Work.{LinksTold, Work}
+use Rattle.lists.specs.KeriSpecs.Told.{HasNone}
+use Rattle.run_status.specs.DoorLinks.Taken.{AreTaken, IsCaused, IsEnough}
+use Rattle.journal.specs.declared.journal.mode.Mode.{Mode}
+use Rattle.run_status.specs.RunOutside.Makings.{AreMakings}
+use Rattle.run_status.specs.RunOutside.Told.{Told, making}
+use Rattle.run_status.specs.declared.run_outside.making.Making.{Making}
+use Rattle.run_status.specs.declared.run_outside.making.MakingKind.TheVariants.{Door as DoorKind, Verifier as VerifierKind}
+use Rattle.run_status.specs.declared.run_status.besides.Besides.{Besides}
+use Rattle.run_status.specs.RunStatus.Readers.{Reader, SourceTold}
+use Rattle.run_status.specs.RunStatus.Status.{nothing_besides}
+use Rattle.reader_hub.specs.ReaderThreads.Given.{Given}
+use Rattle.validator_core.specs.ValidatorCore.View.{CoreView}
+use Rattle.keri_roles.specs.CoreRoles.CoreTold.{IsOverCore}
+use Rattle.run_status.specs.RunRecord.NoJournal.{no_journal}
+use Rattle.run_status.specs.RunRecord.Run.{DoorTold}
+use Rattle.keri_roles.specs.CoreRoles.Work.{LinksTold, Work}
 
 -- So many links at most came, with these bytes left: fewer than were wanted only where the door failed, or had no more or doesn't tell.
 -- It failed only where its count rose.

@@ -2,9 +2,9 @@
 use Rattle.std.specs.Prelude.{◌≡◌, ◌<◌, []}
 use Rattle.std.specs.Vec.{vec_capacity}
 use Rattle.keri_outside.specs.declared.limits.Limits.{Limits}
-use Rattle.journal.specs.declared.mode.Mode.{Mode}
-use Rattle.reader_threads.specs.Seats.{AreReady, HasSeats}
-use Rattle.core_roles.specs.declared.one_seat.OneSeat.{OneSeat}
+use Rattle.journal.specs.declared.journal.mode.Mode.{Mode}
+use Rattle.reader_hub.specs.ReaderThreads.Seats.{AreReady, HasSeats}
+use Rattle.keri_roles.specs.declared.core_roles.one_seat.OneSeat.{OneSeat}
 
 -- there is one seat, and room for what its reader is given
 pub record IsReady {S V : Type 0} (seat : OneSeat S V) : Type 0 where

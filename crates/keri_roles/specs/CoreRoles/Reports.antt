@@ -1,12 +1,12 @@
 -- The report of a journal and its readers.
 use Rattle.std.specs.Prelude.{◌≡◌, ℕ, ◌+◌, Bool, List, [], ◌∷◌, ◌++◌, flat_map}
-use Rattle.journal.specs.declared.refusal.Refusal.{Refusal}
+use Rattle.journal.specs.declared.journal.refusal.Refusal.{Refusal}
 use Rattle.report_lines.specs.Lines.{refused_text, malformed_text, read_fault_text, verifier_fault_text, full_text, memory_text}
-use Rattle.validator_core.specs.View.{CoreView}
+use Rattle.validator_core.specs.ValidatorCore.View.{CoreView}
 use Rattle.report_lines.specs.Report.{IsStandingText}
-use Rattle.run_status.specs.declared.close.Close.{Close}
-use Rattle.run_status.specs.Readers.{Reader}
-use Rattle.run_status.specs.declared.close.Close.TheVariants.{End, Bad, ReadFault, VerifierFault, SignerFault, DiskFault, WriteFault, Malformed, Full, OutOfMemory}
+use Rattle.run_status.specs.declared.run_status.close.Close.{Close}
+use Rattle.run_status.specs.RunStatus.Readers.{Reader}
+use Rattle.run_status.specs.declared.run_status.close.Close.TheVariants.{End, Bad, ReadFault, VerifierFault, SignerFault, DiskFault, WriteFault, Malformed, Full, OutOfMemory}
 
 -- the lines of the messages that a reader refused
 abbrev pub refused_lines : ℕ → List Refusal → List ℕ

@@ -1,7 +1,7 @@
 -- Which readers came through their streams.
 use Rattle.std.specs.Prelude.{Bool, true, false}
-use Rattle.run_status.specs.declared.close.Close.{Close}
-use Rattle.run_status.specs.declared.close.Close.TheVariants.{End, Bad, ReadFault, VerifierFault, SignerFault, DiskFault, WriteFault, Malformed, Full, OutOfMemory}
+use Rattle.run_status.specs.declared.run_status.close.Close.{Close}
+use Rattle.run_status.specs.declared.run_status.close.Close.TheVariants.{End, Bad, ReadFault, VerifierFault, SignerFault, DiskFault, WriteFault, Malformed, Full, OutOfMemory}
 
 -- the reader came to the end of its stream, or to what is refused of it
 abbrev pub is_through : Close → Bool

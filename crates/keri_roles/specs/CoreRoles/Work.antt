@@ -6,19 +6,19 @@ use Rattle.cesr_codes.specs.declared.key.Key.{Key}
 use Rattle.cesr_codes.specs.declared.sig.Sig.{Sig}
 use Rattle.keri_outside.specs.declared.inquiry.Inquiry.{Inquiry}
 use Rattle.keri_outside.specs.declared.signing.Signing.{Signing}
-use Rattle.run_outside.specs.Makings.{AreMakings}
-use Rattle.run_outside.specs.Told.{Told, making}
-use Rattle.run_outside.specs.declared.making.MakingKind.TheVariants.{Source as SourceKind, Verifier as VerifierKind}
-use Rattle.journal.specs.declared.journal.Journal.{Journal}
-use Rattle.run_status.specs.declared.besides.Besides.{Besides}
-use Rattle.run_status.specs.declared.close.Close.{Close}
-use Rattle.run_status.specs.declared.close.Close.TheVariants.{OutOfMemory}
-use Rattle.run_status.specs.Readers.{Reader, SinkTold, reader_seen}
-use Rattle.run_record.specs.Run.{DoorTold, Run, Settles, SignerTold}
-use Rattle.run_record.specs.Seen.{door_seen, signer_seen, sinks_seen}
-use Rattle.core_roles.specs.declared.outcome.LinkedOutcome.{LinkedOutcome}
-use Rattle.core_roles.specs.declared.outcome.Outcome.{Outcome}
-use Rattle.core_roles.specs.declared.outcome.SignedOutcome.{SignedOutcome}
+use Rattle.run_status.specs.RunOutside.Makings.{AreMakings}
+use Rattle.run_status.specs.RunOutside.Told.{Told, making}
+use Rattle.run_status.specs.declared.run_outside.making.MakingKind.TheVariants.{Source as SourceKind, Verifier as VerifierKind}
+use Rattle.journal.specs.declared.journal.journal.Journal.{Journal}
+use Rattle.run_status.specs.declared.run_status.besides.Besides.{Besides}
+use Rattle.run_status.specs.declared.run_status.close.Close.{Close}
+use Rattle.run_status.specs.declared.run_status.close.Close.TheVariants.{OutOfMemory}
+use Rattle.run_status.specs.RunStatus.Readers.{Reader, SinkTold, reader_seen}
+use Rattle.run_status.specs.RunRecord.Run.{DoorTold, Run, Settles, SignerTold}
+use Rattle.run_status.specs.RunRecord.Seen.{door_seen, signer_seen, sinks_seen}
+use Rattle.keri_roles.specs.declared.core_roles.outcome.LinkedOutcome.{LinkedOutcome}
+use Rattle.keri_roles.specs.declared.core_roles.outcome.Outcome.{Outcome}
+use Rattle.keri_roles.specs.declared.core_roles.outcome.SignedOutcome.{SignedOutcome}
 
 -- what links tell that were taken at a door: the door, where it was made, the sinks of the links in order, and whether the door failed
 pub record LinksTold : Type 0 where

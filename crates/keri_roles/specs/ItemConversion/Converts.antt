@@ -8,13 +8,13 @@ use Rattle.cesr_binary.specs.declared.domain.Domain.{Domain}
 use Rattle.cesr_binary.specs.declared.domain.Domain.TheVariants.{Text}
 use Rattle.cesr_binary.specs.Wire.{ReadsBack}
 use Rattle.cesr_binary.specs.Mixed.{StandMixed, MixedItems}
-use Rattle.run_status.specs.declared.close.Close.{Close}
-use Rattle.run_status.specs.declared.close.Close.TheVariants.{OutOfMemory}
-use Rattle.run_status.specs.Readers.{SourceTold, SinkTold}
-use Rattle.run_status.specs.Settling.{Puts}
-use Rattle.item_conversion.specs.declared.conversion.Conversion.{Conversion}
-use Rattle.item_conversion.specs.Closes.{Bounds, Taken, ClosesBy, rest_judged}
-use Rattle.item_conversion.specs.Progress.{text_in}
+use Rattle.run_status.specs.declared.run_status.close.Close.{Close}
+use Rattle.run_status.specs.declared.run_status.close.Close.TheVariants.{OutOfMemory}
+use Rattle.run_status.specs.RunStatus.Readers.{SourceTold, SinkTold}
+use Rattle.run_status.specs.RunStatus.Settling.{Puts}
+use Rattle.keri_roles.specs.declared.item_conversion.conversion.Conversion.{Conversion}
+use Rattle.keri_roles.specs.ItemConversion.Closes.{Bounds, Taken, ClosesBy, rest_judged}
+use Rattle.keri_roles.specs.ItemConversion.Progress.{text_in}
 
 -- what a source and a sink tell
 pub record EndsTold : Type 0 where

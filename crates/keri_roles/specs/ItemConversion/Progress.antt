@@ -11,9 +11,9 @@ use Rattle.cesr_binary.specs.declared.domain.Domain.{Domain}
 use Rattle.cesr_binary.specs.Mixed.{StandMixed}
 use Rattle.cesr_binary.specs.MixedAnswers.{judged}
 use Rattle.cesr_binary.specs.Wire.{item_in}
-use Rattle.item_conversion.specs.declared.converter.Converter.{Converter}
-use Rattle.run_status.specs.Readers.{SinkTold, sink_seen}
-use Rattle.run_status.specs.Settling.{Puts}
+use Rattle.keri_roles.specs.declared.item_conversion.converter.Converter.{Converter}
+use Rattle.run_status.specs.RunStatus.Readers.{SinkTold, sink_seen}
+use Rattle.run_status.specs.RunStatus.Settling.{Puts}
 
 -- the text of the items in a domain, one after the other
 abbrev pub text_in : Domain → List Placed → List ℕ

@@ -2,19 +2,19 @@
 use Rattle.std.specs.Prelude.{◌≡◌, ◌≢◌, ℕ, List, [], ◌∷◌, ◌++◌, MatchOption}
 use Rattle.std.specs.declared.option.Option.{Option}
 use Rattle.std.specs.declared.option.Option.TheVariants.{None}
-use Rattle.run_outside.specs.Told.{Told}
+use Rattle.run_status.specs.RunOutside.Told.{Told}
 use Rattle.keri_outside.specs.declared.limits.Limits.{Limits}
 use Rattle.cesr_stream.specs.Items.{Placed}
 use Rattle.cesr_stream.specs.Messages.{messages}
 use Rattle.cesr_stream.specs.Reading.{Reading}
-use Rattle.message_feed.specs.Feeds.{Stream}
-use Rattle.run_status.specs.declared.close.Close.TheVariants.{OutOfMemory, ReadFault}
-use Rattle.keri_roles.specs.MessageLines.{AreLinesOf}
-use Rattle.keri_roles.specs.Closes.{Closes, ending_text}
-use Rattle.run_record.specs.NoJournal.{no_journal}
-use Rattle.run_status.specs.Readers.{Reader, SourceTold}
-use Rattle.core_roles.specs.Work.{Work, MakesSource, Owes}
-use Rattle.run_status.specs.Status.{nothing_besides}
+use Rattle.run_status.specs.MessageFeed.Feeds.{Stream}
+use Rattle.run_status.specs.declared.run_status.close.Close.TheVariants.{OutOfMemory, ReadFault}
+use Rattle.keri_roles.specs.KeriRoles.MessageLines.{AreLinesOf}
+use Rattle.keri_roles.specs.KeriRoles.Closes.{Closes, ending_text}
+use Rattle.run_status.specs.RunRecord.NoJournal.{no_journal}
+use Rattle.run_status.specs.RunStatus.Readers.{Reader, SourceTold}
+use Rattle.keri_roles.specs.CoreRoles.Work.{Work, MakesSource, Owes}
+use Rattle.run_status.specs.RunStatus.Status.{nothing_besides}
 
 -- A stream was read: the text has the lines of its messages, and then how reading closed.
 pub record ChecksStream (limits : Limits) (held : Option (List ℕ)) (source : SourceTold) (reader : Reader) (text : List ℕ) : Type 0 where

@@ -4,13 +4,13 @@ use Rattle.std.specs.declared.option.Option.{Option}
 use Rattle.std.specs.declared.alloc.AllocError.{AllocError}
 use Rattle.cesr_stream.specs.declared.message.Message.{Message}
 use Rattle.cesr_stream.specs.Assembly.{all_of}
-use Rattle.message_feed.specs.declared.feed_close.FeedClose.{FeedClose}
-use Rattle.message_feed.specs.declared.feed_close.FeedClose.TheVariants as feed
-use Rattle.keri_roles.specs.declared.checker.Checker.{Checker}
-use Rattle.run_status.specs.declared.close.Close.{Close}
-use Rattle.run_status.specs.declared.close.Close.TheVariants.{End, Bad, ReadFault, Full}
-use Rattle.keri_roles.specs.MessageLines.{AreLinesOf}
-use Rattle.keri_roles.specs.Closes.{ending_text}
+use Rattle.run_status.specs.declared.message_feed.feed_close.FeedClose.{FeedClose}
+use Rattle.run_status.specs.declared.message_feed.feed_close.FeedClose.TheVariants as feed
+use Rattle.keri_roles.specs.declared.keri_roles.checker.Checker.{Checker}
+use Rattle.run_status.specs.declared.run_status.close.Close.{Close}
+use Rattle.run_status.specs.declared.run_status.close.Close.TheVariants.{End, Bad, ReadFault, Full}
+use Rattle.keri_roles.specs.KeriRoles.MessageLines.{AreLinesOf}
+use Rattle.keri_roles.specs.KeriRoles.Closes.{ending_text}
 
 -- the lines of these messages have been added
 abbrev pub HasLinesOf : Checker → List Message → Type 0

@@ -2,12 +2,12 @@
 use Rattle.std.specs.Prelude.{ℕ, List, []}
 use Rattle.std.specs.declared.option.Option.{Option}
 use Rattle.cesr_stream.specs.Reading.{Reading}
-use Rattle.message_feed.specs.declared.feed_close.FeedClose.TheVariants.{End as FeedEnd, Bad as FeedBad, ReadFault as FeedReadFault, Full as FeedFull}
-use Rattle.message_feed.specs.Closing.{ClosesBy}
+use Rattle.run_status.specs.declared.message_feed.feed_close.FeedClose.TheVariants.{End as FeedEnd, Bad as FeedBad, ReadFault as FeedReadFault, Full as FeedFull}
+use Rattle.run_status.specs.MessageFeed.Closing.{ClosesBy}
 use Rattle.report_lines.specs.Lines.{malformed_text, read_fault_text, full_text}
-use Rattle.run_status.specs.Readers.{SourceTold}
-use Rattle.run_status.specs.declared.close.Close.{Close}
-use Rattle.run_status.specs.declared.close.Close.TheVariants.{End, Bad, ReadFault, VerifierFault, SignerFault, DiskFault, WriteFault, Malformed, Full, OutOfMemory}
+use Rattle.run_status.specs.RunStatus.Readers.{SourceTold}
+use Rattle.run_status.specs.declared.run_status.close.Close.{Close}
+use Rattle.run_status.specs.declared.run_status.close.Close.TheVariants.{End, Bad, ReadFault, VerifierFault, SignerFault, DiskFault, WriteFault, Malformed, Full, OutOfMemory}
 
 -- The source, which had failed not yet and held this, closed the reading by its cause.
 abbrev pub Closes : ℕ → Option (List ℕ) → SourceTold → List ℕ → Reading → Close → Type 0

@@ -4,29 +4,29 @@ use Rattle.std.specs.declared.option.Option.{Option}
 use Rattle.std.specs.declared.option.Option.TheVariants.{None, Some}
 use Rattle.command_words.specs.Inputs.{links, named}
 use Rattle.command_words.specs.Words.{Asked, blame, check, convert, export, generate, make, rehearse, validate, watch, witness}
-use Rattle.journal.specs.declared.mode.Mode.TheVariants.{Full}
-use Rattle.journal.specs.Accepted.{accepted}
-use Rattle.journal.specs.Journals.{told_by}
+use Rattle.journal.specs.declared.journal.mode.Mode.TheVariants.{Full}
+use Rattle.journal.specs.Journal.Accepted.{accepted}
+use Rattle.journal.specs.Journal.Journals.{told_by}
 use Rattle.report_lines.specs.Lines.{stream_text}
-use Rattle.run_status.specs.declared.close.Close.TheVariants.{ReadFault, VerifierFault}
-use Rattle.run_status.specs.declared.besides.Besides.{Besides}
-use Rattle.keri_roles.specs.Check.{IsChecked}
-use Rattle.keri_roles.specs.Converted.{IsConverted}
-use Rattle.reader_threads.specs.declared.last_round.LastRound.{LastRound}
-use Rattle.reader_threads.specs.declared.last_round.LastRound.TheVariants.{VerifierFailed}
-use Rattle.core_roles.specs.CoreTold.{HadMemory, IsToldBy}
-use Rattle.core_roles.specs.Blamed.{IsBlamed}
-use Rattle.core_roles.specs.Commands.{AreLinksValidated, AreLinksWatched, IsExported, IsValidated, IsWatched}
-use Rattle.keri_roles.specs.Generated.{counts_of, made_of}
-use Rattle.keri_roles.specs.Made.{IsMade}
-use Rattle.run_record.specs.NoJournal.{no_journal}
-use Rattle.keri_roles.specs.Rehearsed.{IsRehearsed}
-use Rattle.run_status.specs.Readers.{Reader}
-use Rattle.run_record.specs.Run.{HasNoLinks, Run, Settles}
-use Rattle.core_roles.specs.Work.{LinksTold, Work, work_in}
-use Rattle.run_status.specs.Status.{nothing_besides}
-use Rattle.keri_disk.specs.Images.{DiskTold}
-use Rattle.witness_role.specs.Witnessed.{IsWitnessed}
+use Rattle.run_status.specs.declared.run_status.close.Close.TheVariants.{ReadFault, VerifierFault}
+use Rattle.run_status.specs.declared.run_status.besides.Besides.{Besides}
+use Rattle.keri_roles.specs.KeriRoles.Check.{IsChecked}
+use Rattle.keri_roles.specs.KeriRoles.Converted.{IsConverted}
+use Rattle.reader_hub.specs.declared.reader_threads.last_round.LastRound.{LastRound}
+use Rattle.reader_hub.specs.declared.reader_threads.last_round.LastRound.TheVariants.{VerifierFailed}
+use Rattle.keri_roles.specs.CoreRoles.CoreTold.{HadMemory, IsToldBy}
+use Rattle.keri_roles.specs.CoreRoles.Blamed.{IsBlamed}
+use Rattle.keri_roles.specs.CoreRoles.Commands.{AreLinksValidated, AreLinksWatched, IsExported, IsValidated, IsWatched}
+use Rattle.keri_roles.specs.KeriRoles.Generated.{counts_of, made_of}
+use Rattle.keri_roles.specs.KeriRoles.Made.{IsMade}
+use Rattle.run_status.specs.RunRecord.NoJournal.{no_journal}
+use Rattle.keri_roles.specs.KeriRoles.Rehearsed.{IsRehearsed}
+use Rattle.run_status.specs.RunStatus.Readers.{Reader}
+use Rattle.run_status.specs.RunRecord.Run.{HasNoLinks, Run, Settles}
+use Rattle.keri_roles.specs.CoreRoles.Work.{LinksTold, Work, work_in}
+use Rattle.run_status.specs.RunStatus.Status.{nothing_besides}
+use Rattle.shelf_log.specs.KeriDisk.Images.{DiskTold}
+use Rattle.witness_core.specs.WitnessRole.Witnessed.{IsWitnessed}
 
 -- `gen --seed SEED --logs LOGS --events EVENTS`: a core that wants receipts and seals is told the stream that is made of the
 -- seed, with the verdicts of the rehearsal. Nothing is made of the outside, and no fault of a source or a verifier is answered.

@@ -3,18 +3,18 @@ use Rattle.std.specs.Prelude.{◌≡◌, ℕ, List, [], ◌∷◌, false, if◌t
 use Rattle.std.specs.declared.option.Option.{Option}
 use Rattle.std.specs.declared.option.Option.TheVariants.{None}
 use Rattle.cesr_binary.specs.declared.domain.Domain.{Domain}
-use Rattle.item_conversion.specs.Converts.{Converts, EndsTold, conversion}
-use Rattle.item_conversion.specs.declared.conversion.Conversion.{Conversion}
+use Rattle.keri_roles.specs.ItemConversion.Converts.{Converts, EndsTold, conversion}
+use Rattle.keri_roles.specs.declared.item_conversion.conversion.Conversion.{Conversion}
 use Rattle.keri_outside.specs.declared.limits.Limits.{Limits}
-use Rattle.run_status.specs.declared.close.Close.{Close}
-use Rattle.run_status.specs.declared.close.Close.TheVariants.{End, Bad, ReadFault, VerifierFault, SignerFault, DiskFault, WriteFault, Malformed, Full, OutOfMemory}
-use Rattle.run_status.specs.Readers.{Reader, SourceTold, SinkTold}
-use Rattle.run_status.specs.Settling.{found}
-use Rattle.run_status.specs.Status.{nothing_besides, status_of}
-use Rattle.run_record.specs.NoJournal.{no_journal}
-use Rattle.keri_roles.specs.Rehearsed.{Serving}
-use Rattle.run_record.specs.Run.{HasNoLinks, Run}
-use Rattle.core_roles.specs.Work.{MakesSource}
+use Rattle.run_status.specs.declared.run_status.close.Close.{Close}
+use Rattle.run_status.specs.declared.run_status.close.Close.TheVariants.{End, Bad, ReadFault, VerifierFault, SignerFault, DiskFault, WriteFault, Malformed, Full, OutOfMemory}
+use Rattle.run_status.specs.RunStatus.Readers.{Reader, SourceTold, SinkTold}
+use Rattle.run_status.specs.RunStatus.Settling.{found}
+use Rattle.run_status.specs.RunStatus.Status.{nothing_besides, status_of}
+use Rattle.run_status.specs.RunRecord.NoJournal.{no_journal}
+use Rattle.keri_roles.specs.KeriRoles.Rehearsed.{Serving}
+use Rattle.run_status.specs.RunRecord.Run.{HasNoLinks, Run}
+use Rattle.keri_roles.specs.CoreRoles.Work.{MakesSource}
 
 -- what a source and a sink tell
 abbrev pub ends_of : SourceTold → SinkTold → EndsTold

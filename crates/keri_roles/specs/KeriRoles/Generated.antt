@@ -1,11 +1,11 @@
 -- A stream that is made of a seed.
 use Rattle.std.specs.Prelude.{ℕ, ◌*◌, List, length}
 use Rattle.std.specs.declared.option.Option.TheVariants.{None, Some}
-use Rattle.journal.specs.declared.body.Body.{Body}
+use Rattle.journal.specs.declared.journal.body.Body.{Body}
 use Rattle.keri_outside.specs.Rehearsal.{rehearsal_says}
-use Rattle.log_maker.specs.Streams.{stream_rotations, stream_text}
+use Rattle.controller_core.specs.LogMaker.Streams.{stream_rotations, stream_text}
 use Rattle.report_lines.specs.declared.stream_counts.StreamCounts.{StreamCounts}
-use Rattle.reader_threads.specs.Given.{Given}
+use Rattle.reader_hub.specs.ReaderThreads.Given.{Given}
 
 -- what the one reader is given: the stream, and a verifier that never fails, and doesn't tell what it is asked
 abbrev pub made_of : ℕ → ℕ → ℕ → Given

@@ -3,40 +3,40 @@ use Rattle.std.specs.Prelude.{◌≡◌, ℕ, ◌⊎◌, Bool, true, false, List
 use Rattle.std.specs.List.{list_any, list_all}
 use Rattle.std.specs.declared.option.Option.{Option}
 use Rattle.std.specs.declared.option.Option.TheVariants.{None, Some}
-use Rattle.keri_specs.specs.Causes.{Rose}
-use Rattle.keri_specs.specs.Told.{HasNone}
+use Rattle.lists.specs.KeriSpecs.Causes.{Rose}
+use Rattle.lists.specs.KeriSpecs.Told.{HasNone}
 use Rattle.cesr_codes.specs.declared.key.Key.{Key}
 use Rattle.cesr_codes.specs.declared.sig.Sig.{Sig}
 use Rattle.keri_outside.specs.declared.signing.Signing.{Signing}
-use Rattle.run_outside.specs.Told.{Told, making}
-use Rattle.run_outside.specs.declared.making.Making.{Making}
-use Rattle.run_outside.specs.declared.making.MakingKind.TheVariants.{Source as SourceKind, Verifier as VerifierKind, Signer as SignerKind}
-use Rattle.journal.specs.declared.body.Body.{Body}
-use Rattle.journal.specs.declared.mode.Mode.TheVariants.{Local}
-use Rattle.message_feed.specs.declared.text_close.TextClose.{TextClose}
-use Rattle.message_feed.specs.declared.text_close.TextClose.TheVariants as text
-use Rattle.message_feed.specs.Texts.{ReadsText}
-use Rattle.plan_answer.specs.declared.answer.PlanAnswer.{PlanAnswer}
-use Rattle.plan_answer.specs.declared.answer.PlanAnswer.TheVariants.{Message, Refused, SignerFault}
-use Rattle.plan_answer.specs.Answers.{IsAnswer, SignsNoMore, CountsFaults, signer_asked}
-use Rattle.plan_answer.specs.Asked.{LogTold}
+use Rattle.run_status.specs.RunOutside.Told.{Told, making}
+use Rattle.run_status.specs.declared.run_outside.making.Making.{Making}
+use Rattle.run_status.specs.declared.run_outside.making.MakingKind.TheVariants.{Source as SourceKind, Verifier as VerifierKind, Signer as SignerKind}
+use Rattle.journal.specs.declared.journal.body.Body.{Body}
+use Rattle.journal.specs.declared.journal.mode.Mode.TheVariants.{Local}
+use Rattle.run_status.specs.declared.message_feed.text_close.TextClose.{TextClose}
+use Rattle.run_status.specs.declared.message_feed.text_close.TextClose.TheVariants as text
+use Rattle.run_status.specs.MessageFeed.Texts.{ReadsText}
+use Rattle.keri_roles.specs.declared.plan_answer.answer.PlanAnswer.{PlanAnswer}
+use Rattle.keri_roles.specs.declared.plan_answer.answer.PlanAnswer.TheVariants.{Message, Refused, SignerFault}
+use Rattle.keri_roles.specs.PlanAnswer.Answers.{IsAnswer, SignsNoMore, CountsFaults, signer_asked}
+use Rattle.keri_roles.specs.PlanAnswer.Asked.{LogTold}
 use Rattle.report_lines.specs.Lines.{plan_text}
-use Rattle.run_status.specs.declared.besides.Besides.{Besides}
-use Rattle.run_status.specs.declared.close.Close.{Close}
-use Rattle.run_status.specs.declared.close.Close.TheVariants.{End, ReadFault, Full, OutOfMemory}
-use Rattle.run_status.specs.Readers.{Reader, SourceTold}
-use Rattle.run_status.specs.Settling.{refuses}
-use Rattle.run_status.specs.Status.{nothing_besides}
-use Rattle.reader_threads.specs.Given.{Given}
-use Rattle.reader_threads.specs.declared.last_round.LastRound.{LastRound}
-use Rattle.reader_threads.specs.declared.providers.Providers.{Providers}
-use Rattle.core_roles.specs.Through.{is_through}
-use Rattle.core_roles.specs.CoreTold.{HasBoth, IsGiven, IsToldBy, core_of, fails_last, last_close}
-use Rattle.run_record.specs.NoJournal.{no_journal}
-use Rattle.run_outside.specs.Makings.{AreMakings}
-use Rattle.run_record.specs.Run.{SignerTold, is_out}
-use Rattle.core_roles.specs.Work.{Work}
-use Rattle.keri_roles.specs.declared.make.MakeWords.{MakeWords}
+use Rattle.run_status.specs.declared.run_status.besides.Besides.{Besides}
+use Rattle.run_status.specs.declared.run_status.close.Close.{Close}
+use Rattle.run_status.specs.declared.run_status.close.Close.TheVariants.{End, ReadFault, Full, OutOfMemory}
+use Rattle.run_status.specs.RunStatus.Readers.{Reader, SourceTold}
+use Rattle.run_status.specs.RunStatus.Settling.{refuses}
+use Rattle.run_status.specs.RunStatus.Status.{nothing_besides}
+use Rattle.reader_hub.specs.ReaderThreads.Given.{Given}
+use Rattle.reader_hub.specs.declared.reader_threads.last_round.LastRound.{LastRound}
+use Rattle.reader_hub.specs.declared.reader_threads.providers.Providers.{Providers}
+use Rattle.keri_roles.specs.CoreRoles.Through.{is_through}
+use Rattle.keri_roles.specs.CoreRoles.CoreTold.{HasBoth, IsGiven, IsToldBy, core_of, fails_last, last_close}
+use Rattle.run_status.specs.RunRecord.NoJournal.{no_journal}
+use Rattle.run_status.specs.RunOutside.Makings.{AreMakings}
+use Rattle.run_status.specs.RunRecord.Run.{SignerTold, is_out}
+use Rattle.keri_roles.specs.CoreRoles.Work.{Work}
+use Rattle.keri_roles.specs.declared.keri_roles.make.MakeWords.{MakeWords}
 
 -- how the reader of a text closes
 abbrev pub close_of : TextClose → Close

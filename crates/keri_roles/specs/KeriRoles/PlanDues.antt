@@ -4,13 +4,13 @@ use Rattle.std.specs.declared.option.Option.{Option}
 use Rattle.std.specs.declared.option.Option.TheVariants.{Some}
 use Rattle.cesr_codes.specs.declared.key.Key.{Key}
 use Rattle.cesr_codes.specs.declared.sig.Sig.{Sig}
-use Rattle.plan_answer.specs.declared.answer.PlanAnswer.{PlanAnswer}
-use Rattle.plan_answer.specs.declared.read_log.ReadLog.{ReadLog}
-use Rattle.plan_answer.specs.Asked.{log_told}
-use Rattle.run_status.specs.declared.close.Close.{Close}
-use Rattle.keri_roles.specs.Made.{MadeFrom, IsDue, OwesAnswer, OwesNone, found_in, written}
-use Rattle.run_record.specs.Run.{SignerTold}
-use Rattle.keri_roles.specs.declared.message_due.MessageDue.{MessageDue}
+use Rattle.keri_roles.specs.declared.plan_answer.answer.PlanAnswer.{PlanAnswer}
+use Rattle.keri_roles.specs.declared.plan_answer.read_log.ReadLog.{ReadLog}
+use Rattle.keri_roles.specs.PlanAnswer.Asked.{log_told}
+use Rattle.run_status.specs.declared.run_status.close.Close.{Close}
+use Rattle.keri_roles.specs.KeriRoles.Made.{MadeFrom, IsDue, OwesAnswer, OwesNone, found_in, written}
+use Rattle.run_status.specs.RunRecord.Run.{SignerTold}
+use Rattle.keri_roles.specs.declared.keri_roles.message_due.MessageDue.{MessageDue}
 
 -- what a message is made from, by the log that was read
 abbrev pub made_from : (Key → List ℕ → Option Sig) → Option ReadLog → List ℕ → MadeFrom

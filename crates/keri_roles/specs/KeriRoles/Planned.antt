@@ -1,18 +1,18 @@
 -- A stream by its plan.
 use Rattle.std.specs.Prelude.{◌≡◌, ◌≢◌, ℕ, List, [], ◌∷◌, Vec}
 use Rattle.keri_outside.specs.declared.limits.Limits.{Limits}
-use Rattle.journal.specs.declared.body.Body.{Body}
-use Rattle.journal.specs.declared.mode.Mode.TheVariants.{Full}
+use Rattle.journal.specs.declared.journal.body.Body.{Body}
+use Rattle.journal.specs.declared.journal.mode.Mode.TheVariants.{Full}
 use Rattle.report_lines.specs.Lines.{stream_text}
-use Rattle.run_status.specs.declared.close.Close.{Close}
-use Rattle.run_status.specs.declared.close.Close.TheVariants.{End, Bad, ReadFault, VerifierFault, SignerFault, DiskFault, WriteFault, Malformed, Full as FullClose, OutOfMemory}
-use Rattle.run_status.specs.Readers.{Reader}
-use Rattle.validator_core.specs.View.{CoreView}
-use Rattle.reader_threads.specs.declared.last_round.LastRound.{LastRound}
-use Rattle.reader_threads.specs.declared.last_round.LastRound.TheVariants.{OutOfMemory as NoMemory}
-use Rattle.reader_threads.specs.Told.{AllTold}
-use Rattle.keri_roles.specs.Generated.{counts_of, made_of}
-use Rattle.keri_roles.specs.declared.generate.StreamPlan.{StreamPlan}
+use Rattle.run_status.specs.declared.run_status.close.Close.{Close}
+use Rattle.run_status.specs.declared.run_status.close.Close.TheVariants.{End, Bad, ReadFault, VerifierFault, SignerFault, DiskFault, WriteFault, Malformed, Full as FullClose, OutOfMemory}
+use Rattle.run_status.specs.RunStatus.Readers.{Reader}
+use Rattle.validator_core.specs.ValidatorCore.View.{CoreView}
+use Rattle.reader_hub.specs.declared.reader_threads.last_round.LastRound.{LastRound}
+use Rattle.reader_hub.specs.declared.reader_threads.last_round.LastRound.TheVariants.{OutOfMemory as NoMemory}
+use Rattle.reader_hub.specs.ReaderThreads.Told.{AllTold}
+use Rattle.keri_roles.specs.KeriRoles.Generated.{counts_of, made_of}
+use Rattle.keri_roles.specs.declared.keri_roles.generate.StreamPlan.{StreamPlan}
 
 -- a core that wants receipts and seals was told the stream by its one reader, with the verdicts of the rehearsal
 abbrev pub TellsMade : StreamPlan → Limits → Reader → LastRound → CoreView → Type 0

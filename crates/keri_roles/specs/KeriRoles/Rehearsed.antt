@@ -2,19 +2,19 @@
 use Rattle.std.specs.Prelude.{◌≡◌, ℕ, List, [], ◌∷◌, codes, option_map}
 use Rattle.std.specs.declared.option.Option.{Option}
 use Rattle.std.specs.declared.option.Option.TheVariants.{None, Some}
-use Rattle.item_conversion.specs.Converts.{EndsTold, ends_told}
+use Rattle.keri_roles.specs.ItemConversion.Converts.{EndsTold, ends_told}
 use Rattle.keri_outside.specs.declared.limits.Limits.{Limits}
-use Rattle.run_outside.specs.Told.{Told}
+use Rattle.run_status.specs.RunOutside.Told.{Told}
 use Rattle.verifier_link.specs.declared.served.Served.{Served}
 use Rattle.verifier_link.specs.declared.served.Served.TheVariants.{End, Malformed, ReadFault, WriteFault, Full, OutOfMemory}
 use Rattle.verifier_link.specs.Serving.{IsServed, SidesTold, sides_told}
 use Rattle.verifier_link.specs.Sides.{sink_told, source_told}
-use Rattle.run_status.specs.declared.close.Close.{Close}
-use Rattle.run_status.specs.declared.close.Close.TheVariants.{End as EndClose, Malformed as MalformedClose, ReadFault as ReadFaultClose, WriteFault as WriteFaultClose, Full as FullClose, OutOfMemory as OutOfMemoryClose}
-use Rattle.run_status.specs.Readers.{Reader, SourceTold, SinkTold, sink_seen}
-use Rattle.run_record.specs.NoJournal.{no_journal}
-use Rattle.run_record.specs.Run.{HasNoLinks, Run}
-use Rattle.core_roles.specs.Work.{MakesSource}
+use Rattle.run_status.specs.declared.run_status.close.Close.{Close}
+use Rattle.run_status.specs.declared.run_status.close.Close.TheVariants.{End as EndClose, Malformed as MalformedClose, ReadFault as ReadFaultClose, WriteFault as WriteFaultClose, Full as FullClose, OutOfMemory as OutOfMemoryClose}
+use Rattle.run_status.specs.RunStatus.Readers.{Reader, SourceTold, SinkTold, sink_seen}
+use Rattle.run_status.specs.RunRecord.NoJournal.{no_journal}
+use Rattle.run_status.specs.RunRecord.Run.{HasNoLinks, Run}
+use Rattle.keri_roles.specs.CoreRoles.Work.{MakesSource}
 
 -- the end of serving as a reader's close
 abbrev pub serving_close : Served → Close

@@ -1,26 +1,26 @@
 -- What is answered to a plan's text.
 use Rattle.std.specs.Prelude.{◌≡◌, ◌⊎◌, ℕ, List, ◌++◌, flat_map, Option, Some, None, Result, Ok, Err}
-use Rattle.keri_specs.specs.Causes.{Rose}
+use Rattle.lists.specs.KeriSpecs.Causes.{Rose}
 use Rattle.cesr_codes.specs.declared.key.Key.{Key}
 use Rattle.cesr_codes.specs.declared.sig.Sig.{Sig}
 use Rattle.keri_outside.specs.declared.signing.Signing.{Signing}
 use Rattle.cesr_stream.specs.declared.message.Message.{Message}
 use Rattle.cesr_stream.specs.Texts.{group_text}
 use Rattle.report_lines.specs.declared.plan_refusal.PlanRefusal.TheVariants.{Line, Log, Body, Misfit, Unsigned}
-use Rattle.controller_core.specs.declared.plan_fault.PlanFault.{PlanFault}
-use Rattle.controller_core.specs.declared.plan_fault.PlanFault.TheVariants as fault
-use Rattle.controller_core.specs.declared.slot.Slot.{Slot}
-use Rattle.controller_core.specs.LastNumbers.{IsLastRefusal}
-use Rattle.controller_core.specs.Messages.{IsMessageOf, event_text}
-use Rattle.controller_core.specs.Refusals.{IsRefusal}
-use Rattle.controller_core.specs.Signing.{IsSignedByYes}
-use Rattle.controller_core.specs.Signings.{AsksFor, AsksFront, signings_of}
-use Rattle.plan_text.specs.declared.event_plan.EventPlan.{EventPlan}
-use Rattle.plan_text.specs.Plans.{IsPlanText}
-use Rattle.plan_text.specs.Reading.{IsRefusedAt}
-use Rattle.plan_answer.specs.declared.answer.PlanAnswer.{PlanAnswer}
-use Rattle.plan_answer.specs.declared.answer.PlanAnswer.TheVariants.{Message as MessageAnswer, Refused, SignerFault}
-use Rattle.plan_answer.specs.Asked.{LogTold, Asked, asked, HasNumber, IsPastLast}
+use Rattle.controller_core.specs.declared.controller_core.plan_fault.PlanFault.{PlanFault}
+use Rattle.controller_core.specs.declared.controller_core.plan_fault.PlanFault.TheVariants as fault
+use Rattle.controller_core.specs.declared.controller_core.slot.Slot.{Slot}
+use Rattle.controller_core.specs.ControllerCore.LastNumbers.{IsLastRefusal}
+use Rattle.controller_core.specs.ControllerCore.Messages.{IsMessageOf, event_text}
+use Rattle.controller_core.specs.ControllerCore.Refusals.{IsRefusal}
+use Rattle.controller_core.specs.ControllerCore.Signing.{IsSignedByYes}
+use Rattle.controller_core.specs.ControllerCore.Signings.{AsksFor, AsksFront, signings_of}
+use Rattle.controller_core.specs.declared.plan_text.event_plan.EventPlan.{EventPlan}
+use Rattle.controller_core.specs.PlanText.Plans.{IsPlanText}
+use Rattle.controller_core.specs.PlanText.Reading.{IsRefusedAt}
+use Rattle.keri_roles.specs.declared.plan_answer.answer.PlanAnswer.{PlanAnswer}
+use Rattle.keri_roles.specs.declared.plan_answer.answer.PlanAnswer.TheVariants.{Message as MessageAnswer, Refused, SignerFault}
+use Rattle.keri_roles.specs.PlanAnswer.Asked.{LogTold, Asked, asked, HasNumber, IsPastLast}
 
 -- the body of a message, and its groups behind it
 abbrev pub message_text : Message → List ℕ

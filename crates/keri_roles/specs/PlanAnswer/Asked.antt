@@ -2,15 +2,15 @@
 use Rattle.std.specs.Prelude.{◌≡◌, ◌+◌, ◌-◌, ◌^◌, ◌<◌, Bool, false, [], ⊤, Option, Some, None, if◌then◌else◌}
 use Rattle.std.specs.Option.{option_map}
 use Rattle.cesr_codes.specs.declared.prefix.Prefix.{Prefix}
-use Rattle.event_body.specs.declared.event.Event.{Event}
+use Rattle.event_body.specs.declared.event_body.event.Event.{Event}
 use Rattle.key_state.specs.Heads.{head_sn}
 use Rattle.key_state.specs.States.{State}
-use Rattle.validator_core.specs.View.{CoreView, state_of}
-use Rattle.controller_core.specs.Plans.{sealed_inception, sealed_interaction, sealed_rotation}
-use Rattle.plan_text.specs.declared.event_plan.EventPlan.{EventPlan}
-use Rattle.plan_text.specs.declared.event_plan.PlannedEvent.{PlannedEvent}
-use Rattle.plan_text.specs.declared.event_plan.PlannedEvent.TheVariants.{Inception, Rotation, Interaction}
-use Rattle.plan_answer.specs.declared.read_log.ReadLog.{ReadLog}
+use Rattle.validator_core.specs.ValidatorCore.View.{CoreView, state_of}
+use Rattle.controller_core.specs.ControllerCore.Plans.{sealed_inception, sealed_interaction, sealed_rotation}
+use Rattle.controller_core.specs.declared.plan_text.event_plan.EventPlan.{EventPlan}
+use Rattle.controller_core.specs.declared.plan_text.event_plan.PlannedEvent.{PlannedEvent}
+use Rattle.controller_core.specs.declared.plan_text.event_plan.PlannedEvent.TheVariants.{Inception, Rotation, Interaction}
+use Rattle.keri_roles.specs.declared.plan_answer.read_log.ReadLog.{ReadLog}
 
 -- what a core was told of a log, by which alone its states are known, and whether a message of it or its stream was refused
 pub record LogTold : Type 0 where

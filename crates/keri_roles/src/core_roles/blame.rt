@@ -1,22 +1,21 @@
 //! `blame --helper HELPER FILE FILE`: says which witnesses signed two different events of one number.
 ghost use Rattle.std.specs.Prelude.{◌≡◌, ◌<◌, ◌∷◌, ◌||◌, [], None, Some, false, IfOk, IfSome, OnErr};
 ghost use Rattle.std.specs.Vec.{vec_capacity};
-ghost use Rattle.journal.specs.declared.mode.Mode.TheVariants.{Full};
-ghost use Rattle.core_roles.specs.Blamed.{HadRoom, IsBlamedBy, IsBlamesText};
-ghost use Rattle.core_roles.specs.CoreTold.{AreProvided, fails_last};
+ghost use Rattle.journal.specs.declared.journal.mode.Mode.TheVariants.{Full};
+ghost use Rattle.keri_roles.specs.CoreRoles.Blamed.{HadRoom, IsBlamedBy, IsBlamesText};
+ghost use Rattle.keri_roles.specs.CoreRoles.CoreTold.{AreProvided, fails_last};
 
-use crate::last_round::verifier_failed_last;
-use crate::one_seat::{OneSeat, ReadAlone};
-use crate::outcome::{Outcome, RivalOutcome};
-use crate::providers::provide;
-use crate::works::Works;
-use crate::{Close, ReaderEnd};
+use crate::core_roles::last_round::verifier_failed_last;
+use crate::core_roles::one_seat::{OneSeat, ReadAlone};
+use crate::core_roles::outcome::{Outcome, RivalOutcome};
+use crate::core_roles::providers::provide;
+use crate::core_roles::works::Works;
+use crate::core_roles::{Close, ReaderEnd};
 use blame_core::{blame, blame_lines};
 use journal::Mode;
 use keri_outside::{Source, Verifier};
-use reader_threads::{LastRound, Providers};
-use run_outside::Outside;
-use run_status::Besides;
+use reader_hub::{LastRound, Providers};
+use run_status::{Besides, Outside};
 use std::alloc::{AllocError, Global};
 use std::sync::Wait;
 use std::thread::Threads;

@@ -1,14 +1,14 @@
 //! What a command writes of its core.
 ghost use Rattle.std.specs.Prelude.{◌≡◌, ℕ, ◌≤◌, Bool, List, IfOk, length, map};
-ghost use Rattle.journal.specs.declared.mode.Mode.{Mode};
-ghost use Rattle.run_status.specs.declared.besides.Besides.{Besides as Found};
-ghost use Rattle.run_status.specs.Readers.{Reader, reader_seen};
-ghost use Rattle.core_roles.specs.CommandTexts.{HasText};
-ghost use Rattle.validator_core.specs.View.{CoreView};
+ghost use Rattle.journal.specs.declared.journal.mode.Mode.{Mode};
+ghost use Rattle.run_status.specs.declared.run_status.besides.Besides.{Besides as Found};
+ghost use Rattle.run_status.specs.RunStatus.Readers.{Reader, reader_seen};
+ghost use Rattle.keri_roles.specs.CoreRoles.CommandTexts.{HasText};
+ghost use Rattle.validator_core.specs.ValidatorCore.View.{CoreView};
 
-use crate::ReaderEnd;
+use crate::core_roles::ReaderEnd;
 use keri_outside::{Source, Verifier};
-use reader_threads::LastRound;
+use reader_hub::LastRound;
 use run_status::Besides;
 use std::alloc::{AllocError, Global};
 use validator_core::Core;

@@ -1,21 +1,20 @@
 //! `export --helper HELPER --prefix PREFIX FILE..`: writes the log of an identifier and of its delegators, for a fresh validator.
 ghost use Rattle.std.specs.Prelude.{◌≡◌, ◌<◌, ◌≤◌, false, true, IfOk, OnErr, length, map};
-ghost use Rattle.core_roles.specs.Commands.{IsExported};
-ghost use Rattle.core_roles.specs.Exports.{unknown_text};
+ghost use Rattle.keri_roles.specs.CoreRoles.Commands.{IsExported};
+ghost use Rattle.keri_roles.specs.CoreRoles.Exports.{unknown_text};
 
-use crate::ReaderEnd;
-use crate::core_text::{CommandText, CoreText};
-use crate::outcome::Outcome;
-use crate::over_core::{FileWords, over_core};
-use crate::watch::some_found_no_memory;
-use crate::works::Works;
+use crate::core_roles::ReaderEnd;
+use crate::core_roles::core_text::{CommandText, CoreText};
+use crate::core_roles::outcome::Outcome;
+use crate::core_roles::over_core::{FileWords, over_core};
+use crate::core_roles::watch::some_found_no_memory;
+use crate::core_roles::works::Works;
 use cesr_codes::Prefix;
 use export_core::{Exported, export};
 use journal::Mode;
 use keri_outside::{Source, Verifier};
-use reader_threads::LastRound;
-use run_outside::Outside;
-use run_status::Besides;
+use reader_hub::LastRound;
+use run_status::{Besides, Outside};
 use std::alloc::{AllocError, Global};
 use std::sync::Wait;
 use std::thread::Threads;
@@ -31,9 +30,9 @@ pub(crate) struct Export {
 }
 
 impl CoreText for Export {
-    ghost use Rattle.journal.specs.declared.mode.Mode.TheVariants.{Full};
-    ghost use Rattle.core_roles.specs.CoreTold.{finds_unknown};
-    ghost use Rattle.core_roles.specs.Exports.{ExportsTo};
+    ghost use Rattle.journal.specs.declared.journal.mode.Mode.TheVariants.{Full};
+    ghost use Rattle.keri_roles.specs.CoreRoles.CoreTold.{finds_unknown};
+    ghost use Rattle.keri_roles.specs.CoreRoles.Exports.{ExportsTo};
 
     ghost wants = { Full };
 

@@ -1,9 +1,9 @@
 //! What the last round comes to for a command.
 ghost use Rattle.std.specs.Prelude.{◌≡◌};
-ghost use Rattle.core_roles.specs.CoreTold.{fails_last, last_close};
+ghost use Rattle.keri_roles.specs.CoreRoles.CoreTold.{fails_last, last_close};
 
-use crate::Close;
-use reader_threads::LastRound;
+use crate::core_roles::Close;
+use reader_hub::LastRound;
 
 /// Whether a verifier failed in the last round.
 pub fn verifier_failed_last(rest: LastRound) -> bool

@@ -1,16 +1,16 @@
 //! One reader alone at a new core.
 ghost use Rattle.std.specs.Prelude.{◌≡◌, [], ◌∷◌, IfOk};
-ghost use Rattle.run_status.specs.Readers.{reader_seen};
-ghost use Rattle.reader_threads.specs.Given.{given_by};
-ghost use Rattle.reader_threads.specs.Told.{AllTold};
+ghost use Rattle.run_status.specs.RunStatus.Readers.{reader_seen};
+ghost use Rattle.reader_hub.specs.ReaderThreads.Given.{given_by};
+ghost use Rattle.reader_hub.specs.ReaderThreads.Told.{AllTold};
 ghost use Rattle.keri_outside.specs.declared.limits.Limits.{Limits as LimitsValue};
-ghost use Rattle.journal.specs.declared.mode.Mode.{Mode as ModeValue};
-ghost use Rattle.core_roles.specs.OneSeats.{IsOneSeat, IsReady};
+ghost use Rattle.journal.specs.declared.journal.mode.Mode.{Mode as ModeValue};
+ghost use Rattle.keri_roles.specs.CoreRoles.OneSeats.{IsOneSeat, IsReady};
 
-use crate::ReaderEnd;
+use crate::core_roles::ReaderEnd;
 use journal::Mode;
 use keri_outside::{Gate, Limits, Source, Verifier};
-use reader_threads::{LastRound, Providers, Ran, ReaderSeats};
+use reader_hub::{LastRound, Providers, Ran, ReaderSeats};
 use std::alloc::{AllocError, Global};
 use std::sync::Wait;
 use std::thread::Threads;

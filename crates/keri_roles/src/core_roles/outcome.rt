@@ -1,6 +1,6 @@
 //! What a command came to.
 
-use crate::ReaderEnd;
+use crate::core_roles::ReaderEnd;
 use journal::Journal;
 use run_status::Besides;
 

@@ -1,18 +1,17 @@
 //! The commands that read files to a core, and write of it.
 ghost use Rattle.std.specs.Prelude.{◌≡◌, ◌<◌, ◌≤◌, None, Some, false, IfOk, OnErr, length, map, option_map};
-ghost use Rattle.run_status.specs.Readers.{reader_seen};
-ghost use Rattle.core_roles.specs.CoreTold.{AreProvided, IsJournalOf, IsOverCore, OwesText, plain};
+ghost use Rattle.run_status.specs.RunStatus.Readers.{reader_seen};
+ghost use Rattle.keri_roles.specs.CoreRoles.CoreTold.{AreProvided, IsJournalOf, IsOverCore, OwesText, plain};
 
-use crate::core_text::{CommandText, CoreText};
-use crate::last_round::verifier_failed_last;
-use crate::outcome::Outcome;
-use crate::providers::providers_for;
-use crate::works::Works;
+use crate::core_roles::core_text::{CommandText, CoreText};
+use crate::core_roles::last_round::verifier_failed_last;
+use crate::core_roles::outcome::Outcome;
+use crate::core_roles::providers::providers_for;
+use crate::core_roles::works::Works;
 use journal::Mode;
 use keri_outside::{Source, Verifier};
-use reader_threads::{Ran, ReaderSeats};
-use run_outside::Outside;
-use run_status::Besides;
+use reader_hub::{Ran, ReaderSeats};
+use run_status::{Besides, Outside};
 use std::alloc::{AllocError, Global};
 use std::sync::Wait;
 use std::thread::Threads;

@@ -1,13 +1,13 @@
 //! What the readers of a command over a core are given by the outside.
 ghost use Rattle.std.specs.Prelude.{◌≡◌, ◌≤◌, [], length, map, IfSome};
 ghost use Rattle.std.specs.Vec.{vec_capacity};
-ghost use Rattle.keri_specs.specs.Told.{HasNone};
-ghost use Rattle.core_roles.specs.CoreTold.{AreProvided, SameNames};
-ghost use Rattle.core_roles.specs.Work.{MakesProviders};
+ghost use Rattle.lists.specs.KeriSpecs.Told.{HasNone};
+ghost use Rattle.keri_roles.specs.CoreRoles.CoreTold.{AreProvided, SameNames};
+ghost use Rattle.keri_roles.specs.CoreRoles.Work.{MakesProviders};
 
-use crate::works::Works;
-use reader_threads::Providers;
-use run_outside::Outside;
+use crate::core_roles::works::Works;
+use reader_hub::Providers;
+use run_status::Outside;
 
 /// Makes for each name the source, and then the verifier of the helper. There is room for as many.
 pub(crate) fn providers_for<O: Outside>(

@@ -1,15 +1,15 @@
 //! The report of `validate`.
 ghost use Rattle.std.specs.Prelude.{◌≡◌, ◌≢◌, ◌+◌, ◌++◌, ◌≤◌, IfOk, OnOk, length, map, string_bytes};
 ghost use Rattle.std.specs.List.{All};
-ghost use Rattle.run_status.specs.Readers.{reader_seen};
-ghost use Rattle.core_roles.specs.CommandTexts.{HasText};
-ghost use Rattle.core_roles.specs.Reports.{Reports, malformed_line, refusal_lines, refused_lines, stopped_line, stopped_lines};
+ghost use Rattle.run_status.specs.RunStatus.Readers.{reader_seen};
+ghost use Rattle.keri_roles.specs.CoreRoles.CommandTexts.{HasText};
+ghost use Rattle.keri_roles.specs.CoreRoles.Reports.{Reports, malformed_line, refusal_lines, refused_lines, stopped_line, stopped_lines};
 
-use crate::core_text::CommandText;
-use crate::{Close, ReaderEnd};
+use crate::core_roles::core_text::CommandText;
+use crate::core_roles::{Close, ReaderEnd};
 use journal::Refusal;
 use keri_outside::{Source, Verifier};
-use reader_threads::LastRound;
+use reader_hub::LastRound;
 use report_lines::{
     CoreStanding, full_line, malformed_line, read_fault_line, refused_line, standing_of,
     verifier_fault_line,

@@ -1,20 +1,19 @@
 //! `validate --helper HELPER FILE..`, or with `--listen ADDRESS --links LINKS` in the place of files: says what is accepted, what
 //! waits, and what conflicts.
 ghost use Rattle.std.specs.Prelude.{◌≡◌, ◌<◌, ◌≤◌, IfOk, OnErr, length, map};
-ghost use Rattle.core_roles.specs.Commands.{AreLinksValidated, IsValidated};
+ghost use Rattle.keri_roles.specs.CoreRoles.Commands.{AreLinksValidated, IsValidated};
 
-use crate::ReaderEnd;
-use crate::core_text::{CommandText, CoreText};
-use crate::outcome::{LinkedOutcome, Outcome};
-use crate::over_core::{FileWords, over_core};
-use crate::over_links::{LinkWords, over_links};
-use crate::report::report_of;
-use crate::works::Works;
+use crate::core_roles::ReaderEnd;
+use crate::core_roles::core_text::{CommandText, CoreText};
+use crate::core_roles::outcome::{LinkedOutcome, Outcome};
+use crate::core_roles::over_core::{FileWords, over_core};
+use crate::core_roles::over_links::{LinkWords, over_links};
+use crate::core_roles::report::report_of;
+use crate::core_roles::works::Works;
 use journal::Mode;
 use keri_outside::{Door, Source, Verifier};
-use reader_threads::LastRound;
-use run_outside::Outside;
-use run_status::Besides;
+use reader_hub::LastRound;
+use run_status::{Besides, Outside};
 use std::alloc::{AllocError, Global};
 use std::sync::Wait;
 use std::thread::Threads;
@@ -24,9 +23,9 @@ use validator_core::Core;
 struct Report;
 
 impl CoreText for Report {
-    ghost use Rattle.journal.specs.declared.mode.Mode.TheVariants.{Full};
-    ghost use Rattle.core_roles.specs.CoreTold.{finds_conflict};
-    ghost use Rattle.core_roles.specs.Reports.{Reports};
+    ghost use Rattle.journal.specs.declared.journal.mode.Mode.TheVariants.{Full};
+    ghost use Rattle.keri_roles.specs.CoreRoles.CoreTold.{finds_conflict};
+    ghost use Rattle.keri_roles.specs.CoreRoles.Reports.{Reports};
 
     ghost wants = { Full };
 

@@ -1,20 +1,19 @@
 //! `watch --helper HELPER FILE..`, or with `--listen ADDRESS --links LINKS` in the place of files: writes the evidence of conflicts.
 ghost use Rattle.std.specs.Prelude.{◌≡◌, ◌<◌, ◌≤◌, IfOk, OnErr, length, map};
 ghost use Rattle.std.specs.List.{list_any};
-ghost use Rattle.core_roles.specs.Commands.{AreLinksWatched, IsWatched};
-ghost use Rattle.run_record.specs.Run.{is_out};
+ghost use Rattle.keri_roles.specs.CoreRoles.Commands.{AreLinksWatched, IsWatched};
+ghost use Rattle.run_status.specs.RunRecord.Run.{is_out};
 
-use crate::core_text::{CommandText, CoreText};
-use crate::outcome::{LinkedOutcome, Outcome};
-use crate::over_core::{FileWords, over_core};
-use crate::over_links::{LinkWords, over_links};
-use crate::works::Works;
-use crate::{Close, ReaderEnd};
+use crate::core_roles::core_text::{CommandText, CoreText};
+use crate::core_roles::outcome::{LinkedOutcome, Outcome};
+use crate::core_roles::over_core::{FileWords, over_core};
+use crate::core_roles::over_links::{LinkWords, over_links};
+use crate::core_roles::works::Works;
+use crate::core_roles::{Close, ReaderEnd};
 use journal::Mode;
 use keri_outside::{Door, Source, Verifier};
-use reader_threads::LastRound;
-use run_outside::Outside;
-use run_status::Besides;
+use reader_hub::LastRound;
+use run_status::{Besides, Outside};
 use std::alloc::{AllocError, Global};
 use std::sync::Wait;
 use std::thread::Threads;
@@ -25,9 +24,9 @@ use watcher_core::{Evidence as CoreEvidence, evidence_of};
 struct Evidence;
 
 impl CoreText for Evidence {
-    ghost use Rattle.journal.specs.declared.mode.Mode.TheVariants.{Local};
-    ghost use Rattle.core_roles.specs.Commands.{IsEvidence};
-    ghost use Rattle.core_roles.specs.CoreTold.{finds_conflict};
+    ghost use Rattle.journal.specs.declared.journal.mode.Mode.TheVariants.{Local};
+    ghost use Rattle.keri_roles.specs.CoreRoles.Commands.{IsEvidence};
+    ghost use Rattle.keri_roles.specs.CoreRoles.CoreTold.{finds_conflict};
 
     ghost wants = { Local };
 

@@ -1,18 +1,18 @@
 //! What is seen of a command's work.
 
-use run_outside::Outside;
+use run_status::Outside;
 
 /// Gives what is seen of a command's work as one value. Each outside has it, by the impl below.
 pub trait Works: Outside {
     ghost use Rattle.std.specs.Prelude.{◌≡◌};
-    ghost use Rattle.run_status.specs.Readers.{Reader, reader_seen};
-    ghost use Rattle.run_status.specs.declared.reader_end.ReaderEnd.{ReaderEnd as End};
-    ghost use Rattle.core_roles.specs.Work.{LinksTold, Work, links_over, signed_over, work_over};
-    ghost use Rattle.reader_threads.specs.Given.{Given, given_by};
-    ghost use Rattle.reader_threads.specs.declared.providers.Providers.{Providers as Gave};
-    ghost use Rattle.core_roles.specs.declared.outcome.LinkedOutcome.{LinkedOutcome as CameLinked};
-    ghost use Rattle.core_roles.specs.declared.outcome.Outcome.{Outcome as Came};
-    ghost use Rattle.core_roles.specs.declared.outcome.SignedOutcome.{SignedOutcome as CameSigned};
+    ghost use Rattle.run_status.specs.RunStatus.Readers.{Reader, reader_seen};
+    ghost use Rattle.run_status.specs.declared.run_status.reader_end.ReaderEnd.{ReaderEnd as End};
+    ghost use Rattle.keri_roles.specs.CoreRoles.Work.{LinksTold, Work, links_over, signed_over, work_over};
+    ghost use Rattle.reader_hub.specs.ReaderThreads.Given.{Given, given_by};
+    ghost use Rattle.reader_hub.specs.declared.reader_threads.providers.Providers.{Providers as Gave};
+    ghost use Rattle.keri_roles.specs.declared.core_roles.outcome.LinkedOutcome.{LinkedOutcome as CameLinked};
+    ghost use Rattle.keri_roles.specs.declared.core_roles.outcome.Outcome.{Outcome as Came};
+    ghost use Rattle.keri_roles.specs.declared.core_roles.outcome.SignedOutcome.{SignedOutcome as CameSigned};
 
     /// Of a reader.
     ghost reader: { End Self.Source Self.Verifier → Reader };
@@ -49,9 +49,9 @@ pub trait Works: Outside {
 
 impl<O: Outside> Works for O {
     ghost use Rattle.std.specs.Prelude.{refl};
-    ghost use Rattle.reader_threads.specs.Given.{given_by};
-    ghost use Rattle.run_status.specs.Readers.{reader_seen};
-    ghost use Rattle.core_roles.specs.Work.{links_over, signed_over, work_over};
+    ghost use Rattle.reader_hub.specs.ReaderThreads.Given.{given_by};
+    ghost use Rattle.run_status.specs.RunStatus.Readers.{reader_seen};
+    ghost use Rattle.keri_roles.specs.CoreRoles.Work.{links_over, signed_over, work_over};
 
     ghost reader = { reader_seen O.Source.left O.Source.faults
         O.Verifier.says O.Verifier.inquiries O.Verifier.faults };

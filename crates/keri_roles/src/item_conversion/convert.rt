@@ -1,11 +1,11 @@
 //! Reading a source and writing its items.
 ghost use Rattle.std.specs.Prelude.{◌≡◌, [], false};
-ghost use Rattle.run_status.specs.Readers.{sink_seen};
-ghost use Rattle.item_conversion.specs.Progress.{IsIdle, HasPut, progress_of};
-ghost use Rattle.item_conversion.specs.Converts.{Converts, ConvertsWithin, bounds, conversion, ends_told};
+ghost use Rattle.run_status.specs.RunStatus.Readers.{sink_seen};
+ghost use Rattle.keri_roles.specs.ItemConversion.Progress.{IsIdle, HasPut, progress_of};
+ghost use Rattle.keri_roles.specs.ItemConversion.Converts.{Converts, ConvertsWithin, bounds, conversion, ends_told};
 
-use crate::Conversion;
-use crate::converter::Converter;
+use crate::item_conversion::Conversion;
+use crate::item_conversion::converter::Converter;
 use cesr_binary::{Domain, MixedReader};
 use keri_outside::{Limits, Sink, Source};
 use run_status::Close;

@@ -1,11 +1,11 @@
 //! Items between a source and a sink.
 ghost use Rattle.std.specs.Prelude.{◌≡◌, ◌+◌, ◌<◌, ◌^◌, ◌++◌, List, ℕ, None, IfOk, IfErr, length};
-ghost use Rattle.run_status.specs.Readers.{SinkTold, sink_seen};
-ghost use Rattle.run_status.specs.Settling.{Puts};
+ghost use Rattle.run_status.specs.RunStatus.Readers.{SinkTold, sink_seen};
+ghost use Rattle.run_status.specs.RunStatus.Settling.{Puts};
 ghost use Rattle.cesr_stream.specs.Written.{IsWritable};
 ghost use Rattle.cesr_binary.specs.Wire.{item_in};
-ghost use Rattle.item_conversion.specs.Progress.{GoesOn, IsIdle, StandsAt, progress_of};
-ghost use Rattle.item_conversion.specs.Pieces.{EndsSo, FeedsNone, FeedsPiece, PassesEnd, intake};
+ghost use Rattle.keri_roles.specs.ItemConversion.Progress.{GoesOn, IsIdle, StandsAt, progress_of};
+ghost use Rattle.keri_roles.specs.ItemConversion.Pieces.{EndsSo, FeedsNone, FeedsPiece, PassesEnd, intake};
 
 use cesr_binary::{Domain, MixedReader, write_in};
 use cesr_stream::{Bad, Item, Step};

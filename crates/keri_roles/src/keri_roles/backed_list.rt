@@ -1,8 +1,8 @@
 //! What a validator's core accepts, against what any other accepts.
 ghost use Rattle.std.specs.Prelude.{◌≡◌};
-ghost use Rattle.core_roles.specs.Agreement.{IsAgreed};
-ghost use Rattle.validator_core.specs.View.{accepted_by, told_of};
-ghost use Rattle.journal.specs.Journals.{chosen};
+ghost use Rattle.keri_roles.specs.CoreRoles.Agreement.{IsAgreed};
+ghost use Rattle.validator_core.specs.ValidatorCore.View.{accepted_by, told_of};
+ghost use Rattle.journal.specs.Journal.Journals.{chosen};
 
 use journal::Mode;
 use validator_core::Core;

@@ -1,20 +1,17 @@
 //! `check FILE`: reads the stream of a file, and says of each message what it is.
 ghost use Rattle.std.specs.Prelude.{◌≡◌, ◌<◌, [], None, IsSome, option_map, string_bytes};
 ghost use Rattle.std.specs.Vec.{vec_capacity};
-ghost use Rattle.keri_roles.specs.Check.{ChecksAny, ChecksFile, ChecksHeld, IsChecked};
-ghost use Rattle.core_roles.specs.Work.{MakesSource, Owes};
+ghost use Rattle.keri_roles.specs.KeriRoles.Check.{ChecksAny, ChecksFile, ChecksHeld, IsChecked};
+ghost use Rattle.keri_roles.specs.CoreRoles.Work.{MakesSource, Owes};
 
-use crate::checker::Checker;
-use crate::reads::Reads;
-use crate::{Close, ReaderEnd};
-use core_roles::{Outcome, Works};
+use crate::core_roles::{Outcome, Works};
+use crate::keri_roles::checker::Checker;
+use crate::keri_roles::reads::Reads;
+use crate::keri_roles::{Close, ReaderEnd};
 use keri_outside::{Failed, Limits, Source, Verifier};
 use lists::Items;
-use message_feed::feed_messages;
 use report_lines::read_fault_line;
-use run_outside::Outside;
-use run_record::nothing_told;
-use run_status::Besides;
+use run_status::{Besides, Outside, feed_messages, nothing_told};
 use std::alloc::{AllocError, Global};
 
 /// Reads the stream of the file. The readers have room for the one that there is.

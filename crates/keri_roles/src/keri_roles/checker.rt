@@ -1,14 +1,14 @@
 //! The messages that `check` reads.
 ghost use Rattle.std.specs.Prelude.{◌≡◌, ◌++◌, [], IfOk, OnOk, string_bytes};
-ghost use Rattle.journal.specs.Feeds.{noted_at};
-ghost use Rattle.keri_roles.specs.Closes.{ending_text};
+ghost use Rattle.journal.specs.Journal.Feeds.{noted_at};
+ghost use Rattle.keri_roles.specs.KeriRoles.Closes.{ending_text};
 
-use crate::Close;
-use crate::message_line::line_of_message;
+use crate::keri_roles::Close;
+use crate::keri_roles::message_line::line_of_message;
 use cesr_stream::Message;
 use journal::{Reason, Refusal};
-use message_feed::{FeedClose, Taker};
 use report_lines::{full_line, malformed_line, read_fault_line};
+use run_status::{FeedClose, Taker};
 use std::alloc::{AllocError, Global};
 
 /// The lines of the messages so far, and the refusals among them.
@@ -20,7 +20,7 @@ pub(crate) struct Checker {
 }
 
 impl Taker for Checker {
-    ghost use Rattle.keri_roles.specs.Checker.{HasLinesOf};
+    ghost use Rattle.keri_roles.specs.KeriRoles.Checker.{HasLinesOf};
 
     type Stop = AllocError;
 
@@ -34,7 +34,7 @@ impl Taker for Checker {
 }
 
 impl Checker {
-    ghost use Rattle.keri_roles.specs.Checker.{AddsLine, Finishes, IsClose};
+    ghost use Rattle.keri_roles.specs.KeriRoles.Checker.{AddsLine, Finishes, IsClose};
 
     /// No line yet.
     pub(crate) fn new(alloc: Global) -> Checker

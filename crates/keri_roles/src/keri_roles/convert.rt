@@ -1,21 +1,19 @@
 //! `convert --to DOMAIN FILE`: writes the items of a file in that domain.
 ghost use Rattle.std.specs.Prelude.{◌≡◌, ◌<◌, [], map};
 ghost use Rattle.std.specs.Vec.{vec_capacity};
-ghost use Rattle.run_status.specs.Readers.{reader_seen};
-ghost use Rattle.item_conversion.specs.Converts.{Converts};
-ghost use Rattle.keri_roles.specs.Converted.{ConvertsFile, IsConverted};
-ghost use Rattle.keri_roles.specs.Converted as specs;
-ghost use Rattle.core_roles.specs.Work.{MakesSource};
+ghost use Rattle.run_status.specs.RunStatus.Readers.{reader_seen};
+ghost use Rattle.keri_roles.specs.ItemConversion.Converts.{Converts};
+ghost use Rattle.keri_roles.specs.KeriRoles.Converted.{ConvertsFile, IsConverted};
+ghost use Rattle.keri_roles.specs.KeriRoles.Converted as specs;
+ghost use Rattle.keri_roles.specs.CoreRoles.Work.{MakesSource};
 
-use crate::serves::Serves;
-use crate::{Close, Done, ReaderEnd, Runs};
+use crate::item_conversion::{Conversion, convert_items};
+use crate::keri_roles::serves::Serves;
+use crate::keri_roles::{Close, Done, ReaderEnd, Runs};
 use cesr_binary::Domain;
-use item_conversion::{Conversion, convert_items};
 use keri_outside::{Failed, Limits};
 use lists::Items;
-use run_outside::Outside;
-use run_record::{NO_MEMORY, nothing_told};
-use run_status::{Besides, status_by};
+use run_status::{Besides, NO_MEMORY, Outside, nothing_told, status_by};
 use std::alloc::Global;
 
 // The status where the sink failed.

@@ -1,20 +1,18 @@
 //! `make --helper HELPER --plan PLAN --log LOG`: writes the message of the event that a plan asks for.
 ghost use Rattle.std.specs.Prelude.{◌≡◌, ◌<◌, [], IfOk, OnErr};
 ghost use Rattle.std.specs.Vec.{vec_capacity};
-ghost use Rattle.keri_roles.specs.Made.{IsMadeAlone, IsMadeBehind, IsMadeBy};
+ghost use Rattle.keri_roles.specs.KeriRoles.Made.{IsMadeAlone, IsMadeBehind, IsMadeBy};
 
-use crate::ReaderEnd;
-use crate::make_parts::{MakeBehindParts, MakeParts, make_alone, make_behind};
-use crate::message_due::{MessageDue, message_due};
-use crate::text_reader::{TextReader, read_whole};
-use core_roles::{
+use crate::core_roles::{
     OneSeat, Outcome, ReadAlone, SignedOutcome, Works, last_close_of, verifier_failed_last,
 };
+use crate::keri_roles::ReaderEnd;
+use crate::keri_roles::make_parts::{MakeBehindParts, MakeParts, make_alone, make_behind};
+use crate::keri_roles::message_due::{MessageDue, message_due};
+use crate::keri_roles::text_reader::{TextReader, read_whole};
+use crate::plan_answer::ReadLog;
 use journal::Mode;
-use plan_answer::ReadLog;
-use run_outside::Outside;
-use run_record::nothing_told;
-use run_status::Besides;
+use run_status::{Besides, Outside, nothing_told};
 use std::alloc::{AllocError, Global};
 use std::sync::Wait;
 use std::thread::Threads;

@@ -1,10 +1,10 @@
 //! What `make` is given by the outside.
 ghost use Rattle.std.specs.Prelude.{◌≡◌, IfSome};
-ghost use Rattle.keri_specs.specs.Told.{HasNone};
-ghost use Rattle.keri_roles.specs.Made.{MakesAlone, MakesBehind};
+ghost use Rattle.lists.specs.KeriSpecs.Told.{HasNone};
+ghost use Rattle.keri_roles.specs.KeriRoles.Made.{MakesAlone, MakesBehind};
 
-use reader_threads::Providers;
-use run_outside::Outside;
+use reader_hub::Providers;
+use run_status::Outside;
 
 /// The source of a plan and the signer of a helper, as far as they could be made.
 #[derive(Drop)]

@@ -1,15 +1,15 @@
 //! What is due to a plan.
 ghost use Rattle.std.specs.Prelude.{◌≡◌, IfSome, IfOk, OnErr, IsErr, is_none};
 ghost use Rattle.std.specs.List.{list_any, list_all};
-ghost use Rattle.keri_specs.specs.Told.{HasNone};
-ghost use Rattle.core_roles.specs.Through.{is_through};
-ghost use Rattle.run_record.specs.Run.{is_out};
-ghost use Rattle.keri_roles.specs.PlanDues.{GivesTheSame, HasAnswer, IsAnswered, IsDueTo};
+ghost use Rattle.lists.specs.KeriSpecs.Told.{HasNone};
+ghost use Rattle.keri_roles.specs.CoreRoles.Through.{is_through};
+ghost use Rattle.run_status.specs.RunRecord.Run.{is_out};
+ghost use Rattle.keri_roles.specs.KeriRoles.PlanDues.{GivesTheSame, HasAnswer, IsAnswered, IsDueTo};
 
-use crate::Close;
-use crate::signs::Signs;
+use crate::keri_roles::Close;
+use crate::keri_roles::signs::Signs;
+use crate::plan_answer::{PlanAnswer, ReadLog, answer_plan};
 use keri_outside::Signer;
-use plan_answer::{PlanAnswer, ReadLog, answer_plan};
 use report_lines::plan_line;
 use run_status::Besides;
 use std::alloc::{AllocError, Global};

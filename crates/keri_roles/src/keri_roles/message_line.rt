@@ -1,11 +1,11 @@
 //! The line of a message.
 ghost use Rattle.std.specs.Prelude.{◌≡◌, Some, Ok, Err, IfOk, string_bytes};
-ghost use Rattle.event_body.specs.Judging.{Judges};
-ghost use Rattle.event_body.specs.declared.body_fault.ReadBody.TheVariants.{Fault};
+ghost use Rattle.event_body.specs.EventBody.Judging.{Judges};
+ghost use Rattle.event_body.specs.declared.event_body.body_fault.ReadBody.TheVariants.{Fault};
 ghost use Rattle.report_lines.specs.Lines.{refused_text};
-ghost use Rattle.keri_roles.specs.MessageLines.{IsLineOf};
+ghost use Rattle.keri_roles.specs.KeriRoles.MessageLines.{IsLineOf};
 
-use crate::sizes::sizes_of;
+use crate::keri_roles::sizes::sizes_of;
 use cesr_stream::Message;
 use event_body::{BodyFault, Event, ReadBody, read_body};
 use journal::Reason;

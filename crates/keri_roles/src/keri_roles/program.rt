@@ -4,31 +4,29 @@ ghost use Rattle.std.specs.Vec.{vec_capacity};
 ghost use Rattle.command_words.specs.Inputs.{AreFew, AreInForm, inputs_by};
 ghost use Rattle.command_words.specs.Words as asks_for;
 ghost use Rattle.command_words.specs.Words.{IsInForm, asked_by};
-ghost use Rattle.keri_roles.specs.Commands.{CarriesOut, IsRunOf, IsWritten, RefusesWords};
-ghost use Rattle.run_record.specs.Run.{HasCauses, HasNoSecond, asked_in};
-ghost use Rattle.core_roles.specs.Work.{IsSettled};
-ghost use Rattle.run_record.specs.NoJournal.{no_journal};
+ghost use Rattle.keri_roles.specs.KeriRoles.Commands.{CarriesOut, IsRunOf, IsWritten, RefusesWords};
+ghost use Rattle.run_status.specs.RunRecord.Run.{HasCauses, HasNoSecond, asked_in};
+ghost use Rattle.keri_roles.specs.CoreRoles.Work.{IsSettled};
+ghost use Rattle.run_status.specs.RunRecord.NoJournal.{no_journal};
 
-use crate::check::check;
-use crate::convert::convert;
-use crate::generate::{StreamPlan, generate};
-use crate::make::{MakeWords, make};
-use crate::rehearse::rehearse;
-use crate::{Done, ReaderEnd, Runs};
-use command_words::{Command, Inputs, Links, command_of};
-use core_roles::{
+use crate::core_roles::{
     BlameWords, FileWords, LinkWords, LinkedOutcome, Outcome, RivalOutcome, SignedOutcome,
     blame_files, export_files, validate_files, validate_links, watch_files, watch_links,
 };
+use crate::keri_roles::check::check;
+use crate::keri_roles::convert::convert;
+use crate::keri_roles::generate::{StreamPlan, generate};
+use crate::keri_roles::make::{MakeWords, make};
+use crate::keri_roles::rehearse::rehearse;
+use crate::keri_roles::{Done, ReaderEnd, Runs};
+use command_words::{Command, Inputs, Links, command_of};
 use keri_outside::Door;
 use report_lines::WORDS;
-use run_outside::Outside;
-use run_record::{NO_MEMORY, nothing_told};
-use run_status::{Besides, settle};
+use run_status::{Besides, NO_MEMORY, Outside, nothing_told, settle};
 use std::alloc::{AllocError, Global};
 use std::sync::Wait;
 use std::thread::Threads;
-use witness_role::{WitnessWords, witness};
+use witness_core::{WitnessWords, witness};
 
 // `make` reads a plan and a log, and `blame` two files; `validate`, `watch`, `export` and links have room of their own, and every
 // other command reads one stream.

@@ -2,16 +2,15 @@
 ghost use Rattle.std.specs.Prelude.{◌≡◌, ◌<◌, [], codes};
 ghost use Rattle.std.specs.Vec.{vec_capacity};
 ghost use Rattle.verifier_link.specs.Serving.{IsServed};
-ghost use Rattle.keri_roles.specs.Rehearsed.{IsRehearsed, ServesInput};
-ghost use Rattle.keri_roles.specs.Rehearsed as specs;
-ghost use Rattle.core_roles.specs.Work.{MakesSource};
+ghost use Rattle.keri_roles.specs.KeriRoles.Rehearsed.{IsRehearsed, ServesInput};
+ghost use Rattle.keri_roles.specs.KeriRoles.Rehearsed as specs;
+ghost use Rattle.keri_roles.specs.CoreRoles.Work.{MakesSource};
 
-use crate::serves::Serves;
-use crate::{Close, Done, ReaderEnd, Runs};
+use crate::keri_roles::serves::Serves;
+use crate::keri_roles::{Close, Done, ReaderEnd, Runs};
 use keri_outside::{Failed, Limits};
 use lists::Items;
-use run_outside::Outside;
-use run_record::nothing_told;
+use run_status::{Outside, nothing_told};
 use std::alloc::Global;
 use verifier_link::{Served, serve_rehearsal};
 

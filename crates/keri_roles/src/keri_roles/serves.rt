@@ -1,15 +1,15 @@
 //! What is seen of a command that writes as it reads.
 
-use run_outside::Outside;
+use run_status::Outside;
 
 /// Gives what is seen of a command that writes as it reads as one value. Each outside has it, by the
 /// impl below.
 pub(crate) trait Serves: Outside {
     ghost use Rattle.std.specs.Prelude.{◌≡◌};
     ghost use Rattle.std.specs.declared.option.Option.{Option};
-    ghost use Rattle.item_conversion.specs.Converts.{EndsTold};
+    ghost use Rattle.keri_roles.specs.ItemConversion.Converts.{EndsTold};
     ghost use Rattle.verifier_link.specs.Serving.{SidesTold};
-    ghost use Rattle.keri_roles.specs.Rehearsed.{Serving, ends_over, serving_over, sides_over};
+    ghost use Rattle.keri_roles.specs.KeriRoles.Rehearsed.{Serving, ends_over, serving_over, sides_over};
 
     /// Of a source, and of the sink of the outside.
     ghost sides: { Self.Source → Self → SidesTold };
@@ -33,7 +33,7 @@ pub(crate) trait Serves: Outside {
 
 impl<O: Outside> Serves for O {
     ghost use Rattle.std.specs.Prelude.{refl};
-    ghost use Rattle.keri_roles.specs.Rehearsed.{ends_over, serving_over, sides_over};
+    ghost use Rattle.keri_roles.specs.KeriRoles.Rehearsed.{ends_over, serving_over, sides_over};
 
     ghost sides = { sides_over O.Source.left O.Source.faults O.Sink.written O.Sink.faults O.sink };
 

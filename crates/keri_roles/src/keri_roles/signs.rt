@@ -6,8 +6,8 @@ use keri_outside::Signer;
 pub(crate) trait Signs: Signer {
     ghost use Rattle.std.specs.Prelude.{◌≡◌};
     ghost use Rattle.std.specs.declared.option.Option.{Option};
-    ghost use Rattle.run_record.specs.Run.{SignerTold};
-    ghost use Rattle.run_record.specs.Seen.{signer_seen, signer_told};
+    ghost use Rattle.run_status.specs.RunRecord.Run.{SignerTold};
+    ghost use Rattle.run_status.specs.RunRecord.Seen.{signer_seen, signer_told};
 
     ghost told: { Self → SignerTold };
 
@@ -22,7 +22,7 @@ pub(crate) trait Signs: Signer {
 
 impl<G: Signer> Signs for G {
     ghost use Rattle.std.specs.Prelude.{refl};
-    ghost use Rattle.run_record.specs.Seen.{signer_seen, signer_told};
+    ghost use Rattle.run_status.specs.RunRecord.Seen.{signer_seen, signer_told};
 
     ghost told = { signer_told G.gives G.signings G.faults };
 

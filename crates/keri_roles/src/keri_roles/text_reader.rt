@@ -1,12 +1,12 @@
 //! Reading the whole text of a source.
 ghost use Rattle.std.specs.Prelude.{◌≡◌, IfSome, is_none, true, false};
-ghost use Rattle.keri_roles.specs.Made.{ReadsHeld, ReadsNothing, ReadsWhole, close_of as close_for};
+ghost use Rattle.keri_roles.specs.KeriRoles.Made.{ReadsHeld, ReadsNothing, ReadsWhole, close_of as close_for};
 
-use crate::reads::Reads;
-use crate::{Close, ReaderEnd};
+use crate::keri_roles::reads::Reads;
+use crate::keri_roles::{Close, ReaderEnd};
 use keri_outside::{Source, Verifier};
 use lists::Items;
-use message_feed::{SourceText, TextClose, read_text};
+use run_status::{SourceText, TextClose, read_text};
 use std::alloc::Global;
 
 /// A reader's end, and the text that it read.

@@ -1,27 +1,29 @@
 //! Answers to plans.
 ghost use Rattle.std.specs.Prelude.{◌≡◌, ◌≢◌, Some, None, Err, All, IfOk, OnErr, is_some};
-ghost use Rattle.controller_core.specs.declared.plan_fault.PlanFault.TheVariants.{SignerFault};
+ghost use Rattle.controller_core.specs.declared.controller_core.plan_fault.PlanFault.TheVariants.{SignerFault};
 ghost use Rattle.std.specs.List.{AllByRecursion};
 ghost use Rattle.std.specs.Option.{option_map};
 ghost use Rattle.json_tree.specs.Spelling.{IsJson};
 ghost use Rattle.json_tree.specs.Strings.{IsString};
 ghost use Rattle.cesr_stream.specs.Written.{IsCounted};
-ghost use Rattle.plan_text.specs.Makeable.{IsMakeable};
-ghost use Rattle.plan_answer.specs.Answers.{AsksFew, CountsFaults, IsAnswer, IsEventAnswer, IsPlanAnswer, SignsNoMore, answer_to, signer_asked};
-ghost use Rattle.plan_answer.specs.Asked as specs;
-ghost use Rattle.plan_answer.specs.Asked.{asked, behind, log_told};
-ghost use Rattle.controller_core.specs.Plans.{sealed_inception, sealed_interaction, sealed_rotation};
-ghost use Rattle.controller_core.specs.Signings.{AsksFront, signings_of};
+ghost use Rattle.controller_core.specs.PlanText.Makeable.{IsMakeable};
+ghost use Rattle.keri_roles.specs.PlanAnswer.Answers.{AsksFew, CountsFaults, IsAnswer, IsEventAnswer, IsPlanAnswer, SignsNoMore, answer_to, signer_asked};
+ghost use Rattle.keri_roles.specs.PlanAnswer.Asked as specs;
+ghost use Rattle.keri_roles.specs.PlanAnswer.Asked.{asked, behind, log_told};
+ghost use Rattle.controller_core.specs.ControllerCore.Plans.{sealed_inception, sealed_interaction, sealed_rotation};
+ghost use Rattle.controller_core.specs.ControllerCore.Signings.{AsksFront, signings_of};
 
-use crate::ReadLog;
-use crate::message_text::message_text;
+use crate::plan_answer::ReadLog;
+use crate::plan_answer::message_text::message_text;
 use cesr_codes::Prefix;
 use cesr_stream::Message;
-use controller_core::{Plan, PlanFault, incept, interact, rotate};
+use controller_core::{
+    EventPlan, Plan, PlanFault, PlanTextFault, PlannedEvent, incept, interact, read_plan, rotate,
+    spelled_is_makeable,
+};
 use keri_outside::Signer;
 use key_state::KeyState;
 use lists::Items;
-use plan_text::{EventPlan, PlanTextFault, PlannedEvent, read_plan, spelled_is_makeable};
 use report_lines::PlanRefusal;
 use std::alloc::{AllocError, Global};
 
@@ -38,7 +40,7 @@ pub enum PlanAnswer {
 
 /// Reads a plan, and makes the message of the event that it asks for: an inception, or an event behind the log's state of the
 /// plan's identifier. The log is what a core was told that wants neither receipts nor seals.
-#[tactic(auto, using(crate::proofs::Made::no_more, crate::proofs::Made::nothing_signed))]
+#[tactic(auto, using(crate::proofs::PlanAnswerLemmas::Made::no_more, crate::proofs::PlanAnswerLemmas::Made::nothing_signed))]
 pub fn answer_plan<S: Signer>(
     alloc: Global,
     plan: &[u8],

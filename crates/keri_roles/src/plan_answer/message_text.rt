@@ -2,7 +2,7 @@
 ghost use Rattle.std.specs.Prelude.{◌≡◌, ◌++◌, All, IfOk, OnOk, flat_map};
 ghost use Rattle.cesr_stream.specs.Texts.{group_text};
 ghost use Rattle.cesr_stream.specs.Written.{IsCounted};
-ghost use Rattle.plan_answer.specs.Answers as specs;
+ghost use Rattle.keri_roles.specs.PlanAnswer.Answers as specs;
 
 use cesr_stream::{Group, Item, Message, write_item};
 use keri_outside::MemSink;

@@ -4,7 +4,7 @@ use Rattle.std.proofs.lemmas.List.{drop_all, drop-append-le}
 use Rattle.std.proofs.Math.Nat.{add-suc, pow-suc, pow-zero, mul-add-div_right, mul-add-mod_self_right, div-lt_iff_lt-mul, mul_assoc, mod-eq_of_lt}
 use Rattle.std.proofs.lemmas.Int.Digits.{number_push, number_lt}
 use Rattle.std.specs.Int.Digits.{number_from_digits, number_from_digits_after, AllBelowBase}
-use Rattle.keri_specs.specs.Base64.{digits_in}
+use Rattle.lists.specs.KeriSpecs.Base64.{digits_in}
 
 -- a number's digits are those of its upper part and those of its lower part
 pub digits_in-split : (b i k h l : ℕ) → 0 < b → l < b ^ k → digits_in b (i + k) (h * b ^ k + l) ≡ digits_in b i h ++ digits_in b k l

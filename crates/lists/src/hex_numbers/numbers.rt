@@ -1,7 +1,7 @@
 //! Digits, and the numbers that they spell.
 ghost use Rattle.std.specs.Prelude.{◌≡◌, ◌↔◌, ◌≤◌, ◌<◌, ◌-◌, ◌^◌, min, length, true};
 ghost use Rattle.std.specs.List.{list_all};
-ghost use Rattle.keri_specs.specs.Hex.{is_hex, hex_digit, IsHexNumber, hex_value as value_of};
+ghost use Rattle.lists.specs.KeriSpecs.Hex.{is_hex, hex_digit, IsHexNumber, hex_value as value_of};
 
 /// Whether it is a lower-case hexadecimal digit.
 fn is_hex_digit(c: u8) -> bool

@@ -1,7 +1,7 @@
 //! Copies of lists of plain values.
 ghost use Rattle.std.specs.Prelude.{◌≡◌, IfOk};
 
-use crate::Items;
+use crate::lists::Items;
 use std::alloc::{AllocError, Global};
 
 /// An equal list.

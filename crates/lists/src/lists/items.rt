@@ -1,7 +1,7 @@
 //! The list itself.
 ghost use Rattle.std.specs.Prelude.{◌≡◌, ◌↔◌, ◌<◌, ◌+◌, ◌++◌, ◌∷◌, [], List, length, take, IsTrue, IfOk, IfErr, OnOk, OnErr, slice_index_or};
 
-use crate::CopyValue;
+use crate::lists::CopyValue;
 use std::alloc::{AllocError, AllocFailed, Global};
 use std::cmp::Ordering;
 use std::fmt;

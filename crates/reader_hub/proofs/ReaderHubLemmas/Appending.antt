@@ -2,18 +2,18 @@
 use Rattle.std.proofs.Common.{◌≡◌, ℕ, [], ◌∷◌, ◌++◌, List, Result, Ok, Err, refl, sym, ◌∙◌, arith, append-nil}
 use Rattle.std.specs.Prelude.{IfOk, OnErr}
 use Rattle.cesr_stream.specs.declared.message.Message.{Message}
-use Rattle.event_body.specs.declared.event.Event.{Event}
-use Rattle.event_body.specs.declared.body_fault.BodyFault.{BodyFault}
-use Rattle.journal.specs.declared.reply.Reply.{Reply}
-use Rattle.journal.specs.declared.reply.Reply.TheVariants.{Taken, Again, Refused, Full}
-use Rattle.journal.specs.CoreCalls.{Takes}
-use Rattle.journal.specs.Feeds.{reader_of}
-use Rattle.journal.specs.History.{Told, took}
-use Rattle.journal.specs.Replies.{claims_of}
+use Rattle.event_body.specs.declared.event_body.event.Event.{Event}
+use Rattle.event_body.specs.declared.event_body.body_fault.BodyFault.{BodyFault}
+use Rattle.journal.specs.declared.journal.reply.Reply.{Reply}
+use Rattle.journal.specs.declared.journal.reply.Reply.TheVariants.{Taken, Again, Refused, Full}
+use Rattle.journal.specs.Journal.CoreCalls.{Takes}
+use Rattle.journal.specs.Journal.Feeds.{reader_of}
+use Rattle.journal.specs.Journal.History.{Told, took}
+use Rattle.journal.specs.Journal.Replies.{claims_of}
 use Rattle.turn_lock.specs.Passes.{Appends}
-use Rattle.validator_core.specs.View.{told_of}
-use Rattle.reader_hub.specs.Hubs.{TakesOver, head_of}
-use Rattle.reader_hub.specs.declared.shared_core.SharedCore.{SharedCore}
+use Rattle.validator_core.specs.ValidatorCore.View.{told_of}
+use Rattle.reader_hub.specs.ReaderHub.Hubs.{TakesOver, head_of}
+use Rattle.reader_hub.specs.declared.reader_hub.shared_core.SharedCore.{SharedCore}
 
 module _ (x y : SharedCore) (reader : ℕ) (head : head_of y.core ≡ head_of x.core) where
   abbrev AppendsOne : Type 0

@@ -5,13 +5,13 @@ use denote.Param.SendFields.{declared_send, declared_sync}
 use Rattle.turn_lock.proofs.pass.Pass.TheSendSync as pass
 use Rattle.turn_lock.proofs.turn.Turn.TheSendSync as turn
 use Rattle.turn_lock.specs.contracts.pass.Pass as passes
-use Rattle.validator_core.proofs.Crosses.{core_send}
-use Rattle.reader_hub.specs.contracts.core_head.CoreHead as head
-use Rattle.reader_hub.specs.contracts.hub.Hub as hub
-use Rattle.reader_hub.specs.contracts.shared_core.SharedCore as shared
-use Rattle.reader_hub.proofs.handed_out.HandedOut.TheSendSync as handed
-use Rattle.reader_hub.specs.contracts.shared_core.SharedCoreReplayed.TheImpl as replayed
-use Rattle.reader_hub.specs.contracts.telling.Telling as telling
+use Rattle.validator_core.proofs.ValidatorCoreLemmas.Crosses.{core_send}
+use Rattle.reader_hub.specs.contracts.reader_hub.core_head.CoreHead as head
+use Rattle.reader_hub.specs.contracts.reader_hub.hub.Hub as hub
+use Rattle.reader_hub.specs.contracts.reader_hub.shared_core.SharedCore as shared
+use Rattle.reader_hub.proofs.reader_hub.handed_out.HandedOut.TheSendSync as handed
+use Rattle.reader_hub.specs.contracts.reader_hub.shared_core.SharedCoreReplayed.TheImpl as replayed
+use Rattle.reader_hub.specs.contracts.reader_hub.telling.Telling as telling
 
 shared_send : IsSend shared.the_row
 shared_send = declared_send shared.the_type (core_send, (handed.the_send, tt))

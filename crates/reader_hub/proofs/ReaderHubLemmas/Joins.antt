@@ -6,7 +6,7 @@ use Rattle.turn_lock.specs.Histories.{HasShare, has_share}
 use Rattle.turn_lock.specs.Known.{Known, IsJoined, IsWhole}
 use Rattle.turn_lock.specs.Passes.{Closes}
 use Rattle.turn_lock.proofs.Histories.{AllByRecursion-imp, prefix_trans}
-use Rattle.reader_hub.specs.Closing.{AreAll, AreJoined, ClosesAll, all_own, most_splits, all_turns}
+use Rattle.reader_hub.specs.ReaderHub.Closing.{AreAll, AreJoined, ClosesAll, all_own, most_splits, all_turns}
 
 module _ {E H : Type 0} (p0 : Known E H) (ps0 : List (Known E H)) where
   -- one more was joined

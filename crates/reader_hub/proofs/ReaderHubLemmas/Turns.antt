@@ -3,13 +3,13 @@ use Rattle.std.proofs.Common.{◌≡◌, ℕ, [], ap, sym, ◌∙◌, append-nil
 use Rattle.std.proofs.lemmas.List.{append_cancel_left}
 use Rattle.std.specs.Fn.{Once}
 use denote.Ref.{MutBor}
-use Rattle.journal.specs.Feeds.{reader_of}
-use Rattle.validator_core.specs.View.{told_of}
+use Rattle.journal.specs.Journal.Feeds.{reader_of}
+use Rattle.validator_core.specs.ValidatorCore.View.{told_of}
 use Rattle.turn_lock.specs.Known.{after_turn}
 use Rattle.turn_lock.specs.Passes.{Turned}
-use Rattle.reader_hub.specs.Hubs.{HubPass, Meets, Stops, TookTurn, head_of}
-use Rattle.reader_hub.specs.declared.hub_fault.HubFault.TheVariants.{OutOfMemory}
-use Rattle.reader_hub.specs.declared.shared_core.SharedCore.{SharedCore}
+use Rattle.reader_hub.specs.ReaderHub.Hubs.{HubPass, Meets, Stops, TookTurn, head_of}
+use Rattle.reader_hub.specs.declared.reader_hub.hub_fault.HubFault.TheVariants.{OutOfMemory}
+use Rattle.reader_hub.specs.declared.reader_hub.shared_core.SharedCore.{SharedCore}
 
 module _ {F R : Type 0} {g : Once F (MutBor SharedCore × Unit {0}) (R × (MutBor SharedCore × Unit {0}))} {f : F} {limit : ℕ} {p : HubPass} {r : R} {q : HubPass}
     (t : Turned (λ (s : SharedCore). told_of s.core) (λ (s : SharedCore). head_of s.core) reader_of g f limit p r q) where

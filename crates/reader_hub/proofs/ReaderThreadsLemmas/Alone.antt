@@ -2,18 +2,18 @@
 use Rattle.std.proofs.Common.{◌≡◌, ◌≤◌, List, [], ◌∷◌, ◌++◌, Some, length, sym, ◌∙◌, ap, subst, arith, inl, refl}
 use Rattle.std.specs.Prelude.{All}
 use Rattle.std.proofs.lemmas.List.Elements.{All-weaker, recursion_from_All}
-use Rattle.journal.specs.Feeds.{reader_of}
-use Rattle.journal.specs.History.{Told}
-use Rattle.journal.specs.Questions.{IsInStep}
+use Rattle.journal.specs.Journal.Feeds.{reader_of}
+use Rattle.journal.specs.Journal.History.{Told}
+use Rattle.journal.specs.Journal.Questions.{IsInStep}
 use Rattle.turn_lock.specs.Histories.{HasShare, share_of}
 use Rattle.turn_lock.specs.Known.{OwnsAlone}
 use Rattle.turn_lock.proofs.Histories.{share_of-all}
-use Rattle.validator_core.specs.View.{CoreView, told_of}
-use Rattle.reader_hub.specs.Closing.{ClosesAll, most_splits}
-use Rattle.reader_hub.specs.Hubs.{HubPass, head_of}
-use Rattle.reader_hub.specs.declared.core_head.CoreHead.{CoreHead}
-use Rattle.shared_reader.specs.Steps.{StepsAlone}
-use Rattle.shared_reader.proofs.Steps.{whole_prefix}
+use Rattle.validator_core.specs.ValidatorCore.View.{CoreView, told_of}
+use Rattle.reader_hub.specs.ReaderHub.Closing.{ClosesAll, most_splits}
+use Rattle.reader_hub.specs.ReaderHub.Hubs.{HubPass, head_of}
+use Rattle.reader_hub.specs.declared.reader_hub.core_head.CoreHead.{CoreHead}
+use Rattle.reader_hub.specs.SharedReader.Steps.{StepsAlone}
+use Rattle.reader_hub.proofs.SharedReaderLemmas.Steps.{whole_prefix}
 
 -- what the core was told is in step where the one pass was
 pub told_in_step : (head : CoreHead) (q : HubPass) (share : List Told) (core : CoreView) → OwnsAlone q share → q.number ≡ 0 → q.splits ≡ 0 → q.head ≡ Some head → StepsAlone q share

@@ -2,30 +2,30 @@
 use Rattle.std.proofs.Common.{◌≡◌, ℕ, ◌≤◌, Bool, true, false, List, [], ◌++◌, Option, Some, None, Result, Ok, Err, refl, sym, ◌∙◌, ap, subst, arith, inl, inr, if◌then◌else◌}
 use Rattle.std.proofs.lemmas.Bool.{cases_Bool}
 use mathlib.Core.List.{IsPrefix}
-use Rattle.keri_specs.specs.Causes.{Rose}
-use Rattle.event_body.specs.declared.event.Event.{Event}
-use Rattle.event_body.specs.declared.body_fault.BodyFault.{BodyFault}
+use Rattle.lists.specs.KeriSpecs.Causes.{Rose}
+use Rattle.event_body.specs.declared.event_body.event.Event.{Event}
+use Rattle.event_body.specs.declared.event_body.body_fault.BodyFault.{BodyFault}
 use Rattle.cesr_stream.specs.declared.message.Message.{Message}
 use Rattle.cesr_stream.specs.Items.{Placed}
 use Rattle.cesr_stream.specs.Reading.{Reading}
-use Rattle.core_laws.proofs.FullStays.{full_stays}
+use Rattle.claim_table.proofs.CoreLawsLemmas.FullStays.{full_stays}
 use Rattle.keri_outside.specs.declared.limits.Limits.{Limits}
-use Rattle.journal.specs.declared.body.Body.{Body}
-use Rattle.journal.specs.declared.claim.Claim.{Claim}
-use Rattle.journal.specs.declared.reply.Reason.{Reason}
-use Rattle.journal.specs.declared.reply.Reply.TheVariants.{Taken, Again, Refused, Full as FullReply}
-use Rattle.journal.specs.CoreCalls.{Takes, reply_unless}
-use Rattle.journal.specs.History.{Told}
-use Rattle.journal.specs.Replies.{IsWithin, claims_of, is_again, is_full, refusal, reply_to}
-use Rattle.run_status.specs.Readers.{SourceTold, VerifierTold}
-use Rattle.run_status.specs.declared.close.Close.{Close}
-use Rattle.run_status.specs.declared.close.Close.TheVariants.{End, Bad, ReadFault, VerifierFault, SignerFault, DiskFault, WriteFault, Malformed, Full, OutOfMemory}
-use Rattle.reader_hub.specs.Hubs.{TakesOver}
-use Rattle.reader_hub.specs.declared.core_head.CoreHead.{CoreHead}
-use Rattle.shared_reader.specs.Offers.{IsTurnedAway}
-use Rattle.shared_reader.specs.ReadsOne as one
-use Rattle.shared_reader.specs.Taken.{Standing}
-use Rattle.reader_threads.specs.Fed.{ClosesReader, ClosesStream, NextFindsNoRoom}
+use Rattle.journal.specs.declared.journal.body.Body.{Body}
+use Rattle.journal.specs.declared.journal.claim.Claim.{Claim}
+use Rattle.journal.specs.declared.journal.reply.Reason.{Reason}
+use Rattle.journal.specs.declared.journal.reply.Reply.TheVariants.{Taken, Again, Refused, Full as FullReply}
+use Rattle.journal.specs.Journal.CoreCalls.{Takes, reply_unless}
+use Rattle.journal.specs.Journal.History.{Told}
+use Rattle.journal.specs.Journal.Replies.{IsWithin, claims_of, is_again, is_full, refusal, reply_to}
+use Rattle.run_status.specs.RunStatus.Readers.{SourceTold, VerifierTold}
+use Rattle.run_status.specs.declared.run_status.close.Close.{Close}
+use Rattle.run_status.specs.declared.run_status.close.Close.TheVariants.{End, Bad, ReadFault, VerifierFault, SignerFault, DiskFault, WriteFault, Malformed, Full, OutOfMemory}
+use Rattle.reader_hub.specs.ReaderHub.Hubs.{TakesOver}
+use Rattle.reader_hub.specs.declared.reader_hub.core_head.CoreHead.{CoreHead}
+use Rattle.reader_hub.specs.SharedReader.Offers.{IsTurnedAway}
+use Rattle.reader_hub.specs.SharedReader.ReadsOne as one
+use Rattle.reader_hub.specs.SharedReader.Taken.{Standing}
+use Rattle.reader_hub.specs.ReaderThreads.Fed.{ClosesReader, ClosesStream, NextFindsNoRoom}
 
 module _ (limits : Limits) (seen more : List Told) (b : Body) (within : IsWithin limits [] (seen ++ more)) where
   -- where there was no room for a body, there is none

@@ -1,12 +1,12 @@
 -- The core that is given back is within its limits.
 use Rattle.std.proofs.Common.{◌≡◌, ◌≤◌, List, [], Some, ◌∙◌, sym, subst, arith}
 use Rattle.keri_outside.specs.declared.limits.Limits.{Limits}
-use Rattle.journal.specs.declared.body.Body.{Body}
-use Rattle.journal.specs.Replies.{IsWithin}
-use Rattle.validator_core.specs.View.{CoreView, Stands, bytes_of, told_of}
-use Rattle.validator_core.proofs.OpenQuestions.{no_bodies}
-use Rattle.reader_hub.specs.Hubs.{head_of}
-use Rattle.reader_hub.specs.declared.core_head.CoreHead.{CoreHead}
+use Rattle.journal.specs.declared.journal.body.Body.{Body}
+use Rattle.journal.specs.Journal.Replies.{IsWithin}
+use Rattle.validator_core.specs.ValidatorCore.View.{CoreView, Stands, bytes_of, told_of}
+use Rattle.validator_core.proofs.ValidatorCoreLemmas.OpenQuestions.{no_bodies}
+use Rattle.reader_hub.specs.ReaderHub.Hubs.{head_of}
+use Rattle.reader_hub.specs.declared.reader_hub.core_head.CoreHead.{CoreHead}
 
 pub within_by : (core : CoreView) (limits : Limits) → core.base ≡ 0 → core.limits ≡ limits → Stands core → IsWithin limits [] (told_of core)
 within_by core limits base same stands =

@@ -2,10 +2,10 @@
 use Rattle.std.proofs.Common.{◌≡◌, ℕ, suc, ◌+◌, ◌≤◌, ◌<◌, ◌==◌, List, [], ◌∷◌, length, refl, inl, inr, arith, eqb-true}
 use Rattle.std.specs.Prelude.{filter, flat_map}
 use Rattle.std.proofs.lemmas.Bool.{cases_Bool}
-use Rattle.journal.specs.Feeds.{is_taken_by}
-use Rattle.journal.specs.History.{Told, took, heard, taken}
-use Rattle.journal.specs.declared.body.Body.{Body}
-use Rattle.journal.specs.declared.claim.Claim.{Claim}
+use Rattle.journal.specs.Journal.Feeds.{is_taken_by}
+use Rattle.journal.specs.Journal.History.{Told, took, heard, taken}
+use Rattle.journal.specs.declared.journal.body.Body.{Body}
+use Rattle.journal.specs.declared.journal.claim.Claim.{Claim}
 
 module _ {A : Type 0} where
   -- so many messages of what is told these readers took, the first of them having this number

@@ -10,13 +10,13 @@ use Rattle.std.proofs.alloc.Global.TheSendSync as allocators
 use Rattle.std.specs.contracts.alloc.Global as global
 use Rattle.keri_outside.proofs.limits.Limits.TheSendSync as bounds
 use Rattle.keri_outside.specs.contracts.limits.Limits as limits
-use Rattle.run_status.proofs.reader_end.ReaderEnd.TheSendSync as readers
-use Rattle.reader_hub.proofs.Crosses.{hub_sync, pass_send}
-use Rattle.reader_hub.proofs.extent.Extent.TheSendSync as extents
-use Rattle.reader_hub.specs.contracts.hub.Hub as hubs
-use Rattle.reader_threads.specs.contracts.job.Job as jobs
-use Rattle.reader_threads.specs.contracts.job.JobEnd as ends
-use Rattle.reader_threads.proofs.providers.Providers.TheSendSync as providers
+use Rattle.run_status.proofs.run_status.reader_end.ReaderEnd.TheSendSync as readers
+use Rattle.reader_hub.proofs.ReaderHubLemmas.Crosses.{hub_sync, pass_send}
+use Rattle.reader_hub.proofs.reader_hub.extent.Extent.TheSendSync as extents
+use Rattle.reader_hub.specs.contracts.reader_hub.hub.Hub as hubs
+use Rattle.reader_hub.specs.contracts.reader_threads.job.Job as jobs
+use Rattle.reader_hub.specs.contracts.reader_threads.job.JobEnd as ends
+use Rattle.reader_hub.proofs.reader_threads.providers.Providers.TheSendSync as providers
 
 pub job_send : (S V : RattleType) → IsSend S → IsSend V → IsSend (jobs.the_row S V)
 job_send S V s v = declared_send (jobs.the_type S V) (pass_send, (extents.the_send, (providers.the_send S V s v, tt)))

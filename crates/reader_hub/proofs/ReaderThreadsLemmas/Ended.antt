@@ -4,36 +4,36 @@ use Rattle.std.specs.List.{AllByRecursion}
 use Rattle.std.proofs.lemmas.List.{length-map, take-append-le, take_all}
 use Rattle.cesr_codes.specs.declared.key.Key.{Key}
 use Rattle.cesr_codes.specs.declared.sig.Sig.{Sig}
-use Rattle.journal.specs.Feeds.{FeedEach, reader_of}
-use Rattle.journal.specs.History.{Told}
-use Rattle.journal.specs.Questions.{IsInStep}
+use Rattle.journal.specs.Journal.Feeds.{FeedEach, reader_of}
+use Rattle.journal.specs.Journal.History.{Told}
+use Rattle.journal.specs.Journal.Questions.{IsInStep}
 use Rattle.keri_outside.specs.declared.inquiry.Inquiry.{Inquiry}
 use Rattle.keri_outside.specs.declared.limits.Limits.{Limits}
-use Rattle.run_status.specs.Readers.{Reader, reader_seen}
+use Rattle.run_status.specs.RunStatus.Readers.{Reader, reader_seen}
 use Rattle.turn_lock.specs.Locks.{LockId, known, limit_of, lock, lock_of}
-use Rattle.validator_core.specs.View.{CoreView, Stands, told_of}
-use Rattle.reader_hub.specs.Closing.{AreAll, ClosesAll}
-use Rattle.reader_hub.specs.Hubs.{head_of}
-use Rattle.reader_hub.specs.declared.core_head.CoreHead.{CoreHead}
-use Rattle.reader_hub.specs.declared.extent.Extent.TheVariants.{First}
-use Rattle.reader_hub.specs.declared.hub.Hub.{Hub}
-use Rattle.reader_threads.specs.Fed.{AllRead, ReadEach, ends_of}
-use Rattle.reader_threads.specs.Given.{Given, given_by}
-use Rattle.reader_threads.specs.Jobs.{pass_seen, passes_seen}
-use Rattle.reader_threads.specs.Seats.{AreSeats, IsSeat}
-use Rattle.reader_threads.specs.Starts.{EachPair, RunsAll}
-use Rattle.reader_threads.specs.declared.job.Job.{Job}
-use Rattle.reader_threads.specs.declared.job.JobEnd.{JobEnd}
-use Rattle.reader_threads.specs.declared.last_round.LastRound.{LastRound}
-use Rattle.reader_threads.specs.declared.last_round.LastRound.TheVariants.{NoneFailed}
-use Rattle.reader_threads.specs.declared.providers.Providers.{Providers}
-use Rattle.reader_threads.specs.declared.ran.AllEnds.{AllEnds}
-use Rattle.reader_threads.specs.Asked.{EachAsksOnly}
-use Rattle.reader_threads.proofs.Alone.{told_in_step}
-use Rattle.reader_threads.proofs.Closed.{same_head, within_by}
-use Rattle.reader_threads.proofs.Kept.{kept}
-use Rattle.reader_threads.proofs.Only.{one_only, others_only}
-use Rattle.reader_threads.proofs.Readers.{Ran, RanEach, all_read, are_all as all_of, leaves, passes, passes_fit as each_fits, ran_each}
+use Rattle.validator_core.specs.ValidatorCore.View.{CoreView, Stands, told_of}
+use Rattle.reader_hub.specs.ReaderHub.Closing.{AreAll, ClosesAll}
+use Rattle.reader_hub.specs.ReaderHub.Hubs.{head_of}
+use Rattle.reader_hub.specs.declared.reader_hub.core_head.CoreHead.{CoreHead}
+use Rattle.reader_hub.specs.declared.reader_hub.extent.Extent.TheVariants.{First}
+use Rattle.reader_hub.specs.declared.reader_hub.hub.Hub.{Hub}
+use Rattle.reader_hub.specs.ReaderThreads.Fed.{AllRead, ReadEach, ends_of}
+use Rattle.reader_hub.specs.ReaderThreads.Given.{Given, given_by}
+use Rattle.reader_hub.specs.ReaderThreads.Jobs.{pass_seen, passes_seen}
+use Rattle.reader_hub.specs.ReaderThreads.Seats.{AreSeats, IsSeat}
+use Rattle.reader_hub.specs.ReaderThreads.Starts.{EachPair, RunsAll}
+use Rattle.reader_hub.specs.declared.reader_threads.job.Job.{Job}
+use Rattle.reader_hub.specs.declared.reader_threads.job.JobEnd.{JobEnd}
+use Rattle.reader_hub.specs.declared.reader_threads.last_round.LastRound.{LastRound}
+use Rattle.reader_hub.specs.declared.reader_threads.last_round.LastRound.TheVariants.{NoneFailed}
+use Rattle.reader_hub.specs.declared.reader_threads.providers.Providers.{Providers}
+use Rattle.reader_hub.specs.declared.reader_threads.ran.AllEnds.{AllEnds}
+use Rattle.reader_hub.specs.ReaderThreads.Asked.{EachAsksOnly}
+use Rattle.reader_hub.proofs.ReaderThreadsLemmas.Alone.{told_in_step}
+use Rattle.reader_hub.proofs.ReaderThreadsLemmas.Closed.{same_head, within_by}
+use Rattle.reader_hub.proofs.ReaderThreadsLemmas.Kept.{kept}
+use Rattle.reader_hub.proofs.ReaderThreadsLemmas.Only.{one_only, others_only}
+use Rattle.reader_hub.proofs.ReaderThreadsLemmas.Readers.{Ran, RanEach, all_read, are_all as all_of, leaves, passes, passes_fit as each_fits, ran_each}
 
 -- there are as many readers as were given something
 pub as_many : (limits : Limits) (told : List Told) (most : ℕ) (rest : LastRound) (k : ℕ) (read : List (List ℕ)) (given : List Given)

@@ -1,17 +1,17 @@
 -- What a reader leaves of its pass, whether it read or not.
 use Rattle.std.proofs.Common.{◌≡◌, ℕ, ◌+◌, ◌*◌, ◌≤◌, List, [], Option, Some, None, length, ap, sym, subst, arith}
 use Rattle.std.specs.Prelude.{filter}
-use Rattle.journal.specs.Feeds.{is_taken_by}
-use Rattle.journal.specs.History.{Told}
+use Rattle.journal.specs.Journal.Feeds.{is_taken_by}
+use Rattle.journal.specs.Journal.History.{Told}
 use Rattle.keri_outside.specs.declared.limits.Limits.{Limits}
-use Rattle.run_status.specs.Readers.{Reader, SourceTold, VerifierTold}
+use Rattle.run_status.specs.RunStatus.Readers.{Reader, SourceTold, VerifierTold}
 use Rattle.turn_lock.specs.Known.{OwnsAlone}
-use Rattle.reader_hub.specs.declared.extent.Extent.{Extent}
-use Rattle.reader_hub.specs.declared.extent.Extent.TheVariants.{First}
-use Rattle.shared_reader.specs.Asks.{Stays, verdict_count}
-use Rattle.shared_reader.specs.Steps.{StepsAlone}
-use Rattle.shared_reader.proofs.Steps.{alone_first}
-use Rattle.reader_threads.specs.Runs.{PassSeen, RunsBy}
+use Rattle.reader_hub.specs.declared.reader_hub.extent.Extent.{Extent}
+use Rattle.reader_hub.specs.declared.reader_hub.extent.Extent.TheVariants.{First}
+use Rattle.reader_hub.specs.SharedReader.Asks.{Stays, verdict_count}
+use Rattle.reader_hub.specs.SharedReader.Steps.{StepsAlone}
+use Rattle.reader_hub.proofs.SharedReaderLemmas.Steps.{alone_first}
+use Rattle.reader_hub.specs.ReaderThreads.Runs.{PassSeen, RunsBy}
 
 pub record Kept (extent : Extent) (old : PassSeen) (reader : Reader) (new : PassSeen) : Type 0 where
   pub lock : new.lock ≡ old.lock

@@ -7,29 +7,29 @@ use Rattle.cesr_stream.specs.Front.{front}
 use Rattle.cesr_stream.specs.Items.{none as no_item}
 use Rattle.cesr_stream.specs.Parts.{unfinished}
 use Rattle.keri_outside.specs.declared.limits.Limits.{Limits}
-use Rattle.journal.specs.Feeds.{AreMessages, FeedsOne, entry_of, is_taken_by, reader_of}
-use Rattle.journal.specs.History.{Told}
-use Rattle.journal.specs.Replies.{IsWithin}
-use Rattle.run_status.specs.Readers.{Reader, SourceTold, VerifierTold}
-use Rattle.run_status.specs.declared.close.Close.{Close}
-use Rattle.run_status.specs.declared.close.Close.TheVariants.{ReadFault, VerifierFault}
+use Rattle.journal.specs.Journal.Feeds.{AreMessages, FeedsOne, entry_of, is_taken_by, reader_of}
+use Rattle.journal.specs.Journal.History.{Told}
+use Rattle.journal.specs.Journal.Replies.{IsWithin}
+use Rattle.run_status.specs.RunStatus.Readers.{Reader, SourceTold, VerifierTold}
+use Rattle.run_status.specs.declared.run_status.close.Close.{Close}
+use Rattle.run_status.specs.declared.run_status.close.Close.TheVariants.{ReadFault, VerifierFault}
 use Rattle.turn_lock.specs.Histories.{share_of}
-use Rattle.validator_core.specs.Verdicts.{inquiries_in}
+use Rattle.validator_core.specs.ValidatorCore.Verdicts.{inquiries_in}
 use Rattle.turn_lock.specs.Known.{OwnsAlone}
-use Rattle.reader_hub.specs.declared.core_head.CoreHead.{CoreHead}
-use Rattle.reader_hub.specs.declared.extent.Extent.{Extent}
-use Rattle.shared_reader.specs.Asks.{AsksFor, verdict_count}
-use Rattle.shared_reader.specs.Offers.{IsEntryOf}
-use Rattle.shared_reader.specs.Taken.{standing}
-use Rattle.shared_reader.proofs.Inquiries.{at_most, none_asked}
-use Rattle.shared_reader.proofs.Streams.{first_none}
-use Rattle.shared_reader.proofs.Verdicts.{verdict_count_grows}
-use Rattle.reader_threads.specs.Fed.{HasNoSource, ReadsBy}
-use Rattle.reader_threads.specs.Given.{end_of, said_by, unread}
-use Rattle.reader_threads.specs.Runs.{PassSeen, ReadsStream, RunsBy}
-use Rattle.reader_threads.specs.declared.last_round.LastRound.TheVariants.{NoneFailed}
-use Rattle.reader_threads.proofs.Carried.{closes_stream}
-use Rattle.reader_threads.proofs.Shares.{filter-share, heard_all}
+use Rattle.reader_hub.specs.declared.reader_hub.core_head.CoreHead.{CoreHead}
+use Rattle.reader_hub.specs.declared.reader_hub.extent.Extent.{Extent}
+use Rattle.reader_hub.specs.SharedReader.Asks.{AsksFor, verdict_count}
+use Rattle.reader_hub.specs.SharedReader.Offers.{IsEntryOf}
+use Rattle.reader_hub.specs.SharedReader.Taken.{standing}
+use Rattle.reader_hub.proofs.SharedReaderLemmas.Inquiries.{at_most, none_asked}
+use Rattle.reader_hub.proofs.SharedReaderLemmas.Streams.{first_none}
+use Rattle.reader_hub.proofs.SharedReaderLemmas.Verdicts.{verdict_count_grows}
+use Rattle.reader_hub.specs.ReaderThreads.Fed.{HasNoSource, ReadsBy}
+use Rattle.reader_hub.specs.ReaderThreads.Given.{end_of, said_by, unread}
+use Rattle.reader_hub.specs.ReaderThreads.Runs.{PassSeen, ReadsStream, RunsBy}
+use Rattle.reader_hub.specs.declared.reader_threads.last_round.LastRound.TheVariants.{NoneFailed}
+use Rattle.reader_hub.proofs.ReaderThreadsLemmas.Carried.{closes_stream}
+use Rattle.reader_hub.proofs.ReaderThreadsLemmas.Shares.{filter-share, heard_all}
 
 -- no messages are among no bytes
 nothing_among : (limits : Limits) → AreMessages limits [] []

@@ -6,20 +6,20 @@ use Rattle.cesr_codes.specs.declared.key.Key.{Key}
 use Rattle.cesr_codes.specs.declared.sig.Sig.{Sig}
 use Rattle.keri_outside.specs.declared.inquiry.Inquiry.{Inquiry}
 use Rattle.keri_outside.specs.declared.limits.Limits.{Limits}
-use Rattle.journal.specs.declared.mode.Mode.{Mode}
-use Rattle.journal.specs.History.{Told}
-use Rattle.run_status.specs.Readers.{Reader, SourceTold, VerifierTold, reader_seen}
+use Rattle.journal.specs.declared.journal.mode.Mode.{Mode}
+use Rattle.journal.specs.Journal.History.{Told}
+use Rattle.run_status.specs.RunStatus.Readers.{Reader, SourceTold, VerifierTold, reader_seen}
 use Rattle.turn_lock.specs.Locks.{LockId}
-use Rattle.reader_hub.specs.declared.core_head.CoreHead.{CoreHead}
-use Rattle.reader_hub.specs.declared.extent.Extent.{Extent}
-use Rattle.shared_reader.proofs.Known.{only_later, only_none, only_on}
-use Rattle.reader_threads.specs.Asked.{AsksOnlyIfThere, EachAsksOnly, EachGoesOn}
-use Rattle.reader_threads.specs.Given.{Given, given_by}
-use Rattle.reader_threads.specs.Jobs.{pass_seen}
-use Rattle.reader_threads.specs.Runs.{PassSeen, RunsBy}
-use Rattle.reader_threads.specs.declared.job.JobEnd.{JobEnd}
-use Rattle.reader_threads.specs.declared.providers.Providers.{Providers}
-use Rattle.reader_threads.proofs.Readers.{Ran, RanEach, leaves, passes, readers}
+use Rattle.reader_hub.specs.declared.reader_hub.core_head.CoreHead.{CoreHead}
+use Rattle.reader_hub.specs.declared.reader_hub.extent.Extent.{Extent}
+use Rattle.reader_hub.proofs.SharedReaderLemmas.Known.{only_later, only_none, only_on}
+use Rattle.reader_hub.specs.ReaderThreads.Asked.{AsksOnlyIfThere, EachAsksOnly, EachGoesOn}
+use Rattle.reader_hub.specs.ReaderThreads.Given.{Given, given_by}
+use Rattle.reader_hub.specs.ReaderThreads.Jobs.{pass_seen}
+use Rattle.reader_hub.specs.ReaderThreads.Runs.{PassSeen, RunsBy}
+use Rattle.reader_hub.specs.declared.reader_threads.job.JobEnd.{JobEnd}
+use Rattle.reader_hub.specs.declared.reader_threads.providers.Providers.{Providers}
+use Rattle.reader_hub.proofs.ReaderThreadsLemmas.Readers.{Ran, RanEach, leaves, passes, readers}
 
 module _ (mode : Mode) where
   -- a verifier that wasn't asked

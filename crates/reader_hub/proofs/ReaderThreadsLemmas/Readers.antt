@@ -11,34 +11,34 @@ use Rattle.cesr_codes.specs.declared.key.Key.{Key}
 use Rattle.cesr_codes.specs.declared.sig.Sig.{Sig}
 use Rattle.keri_outside.specs.declared.inquiry.Inquiry.{Inquiry}
 use Rattle.keri_outside.specs.declared.limits.Limits.{Limits}
-use Rattle.journal.specs.Feeds.{is_taken_by, reader_of, FeedEach}
-use Rattle.journal.specs.History.{Told, taken}
-use Rattle.journal.specs.Replies.{IsWithin}
-use Rattle.run_status.specs.Readers.{Reader, reader_seen}
+use Rattle.journal.specs.Journal.Feeds.{is_taken_by, reader_of, FeedEach}
+use Rattle.journal.specs.Journal.History.{Told, taken}
+use Rattle.journal.specs.Journal.Replies.{IsWithin}
+use Rattle.run_status.specs.RunStatus.Readers.{Reader, reader_seen}
 use Rattle.turn_lock.specs.Histories.{has_share, HasShare, share_of}
 use Rattle.turn_lock.specs.Locks.{LockId, known, lock_of}
 use Rattle.turn_lock.proofs.Histories.{AllByRecursion-imp}
-use Rattle.validator_core.specs.View.{CoreView, told_of}
-use Rattle.reader_hub.specs.Closing.{AreAll, all_own, most_splits, all_turns, ClosesAll}
-use Rattle.reader_hub.specs.Hubs.{HubPass, head_of}
-use Rattle.reader_hub.specs.declared.core_head.CoreHead.{CoreHead}
-use Rattle.reader_hub.specs.declared.extent.Extent.{Extent}
-use Rattle.shared_reader.specs.Asks.{verdict_count}
-use Rattle.shared_reader.proofs.Verdicts.{verdict_count_grows}
-use Rattle.reader_threads.specs.Given.{Given, given_by}
-use Rattle.reader_threads.specs.Jobs.{HasRun, pass_seen, passes_seen}
-use Rattle.reader_threads.specs.Runs.{PassSeen, RunsBy}
-use Rattle.reader_threads.specs.Seats.{AreSeats, IsSeat}
-use Rattle.reader_threads.specs.Starts.{EachPair}
-use Rattle.reader_threads.specs.declared.job.Job.{Job}
-use Rattle.reader_threads.specs.declared.job.JobEnd.{JobEnd}
-use Rattle.reader_threads.specs.declared.last_round.LastRound.TheVariants.{NoneFailed}
-use Rattle.reader_threads.specs.declared.providers.Providers.{Providers}
-use Rattle.reader_threads.specs.Fed.{most_turns, AllRead, ReadEach, ends_of}
-use Rattle.reader_threads.proofs.Kept.{kept}
-use Rattle.reader_threads.proofs.Counts.{no_more_taken, taken_by_each}
-use Rattle.reader_threads.proofs.Shares.{filter-share}
-use Rattle.reader_threads.proofs.OneFed.{ReadIn, reads_in}
+use Rattle.validator_core.specs.ValidatorCore.View.{CoreView, told_of}
+use Rattle.reader_hub.specs.ReaderHub.Closing.{AreAll, all_own, most_splits, all_turns, ClosesAll}
+use Rattle.reader_hub.specs.ReaderHub.Hubs.{HubPass, head_of}
+use Rattle.reader_hub.specs.declared.reader_hub.core_head.CoreHead.{CoreHead}
+use Rattle.reader_hub.specs.declared.reader_hub.extent.Extent.{Extent}
+use Rattle.reader_hub.specs.SharedReader.Asks.{verdict_count}
+use Rattle.reader_hub.proofs.SharedReaderLemmas.Verdicts.{verdict_count_grows}
+use Rattle.reader_hub.specs.ReaderThreads.Given.{Given, given_by}
+use Rattle.reader_hub.specs.ReaderThreads.Jobs.{HasRun, pass_seen, passes_seen}
+use Rattle.reader_hub.specs.ReaderThreads.Runs.{PassSeen, RunsBy}
+use Rattle.reader_hub.specs.ReaderThreads.Seats.{AreSeats, IsSeat}
+use Rattle.reader_hub.specs.ReaderThreads.Starts.{EachPair}
+use Rattle.reader_hub.specs.declared.reader_threads.job.Job.{Job}
+use Rattle.reader_hub.specs.declared.reader_threads.job.JobEnd.{JobEnd}
+use Rattle.reader_hub.specs.declared.reader_threads.last_round.LastRound.TheVariants.{NoneFailed}
+use Rattle.reader_hub.specs.declared.reader_threads.providers.Providers.{Providers}
+use Rattle.reader_hub.specs.ReaderThreads.Fed.{most_turns, AllRead, ReadEach, ends_of}
+use Rattle.reader_hub.proofs.ReaderThreadsLemmas.Kept.{kept}
+use Rattle.reader_hub.proofs.ReaderThreadsLemmas.Counts.{no_more_taken, taken_by_each}
+use Rattle.reader_hub.proofs.ReaderThreadsLemmas.Shares.{filter-share}
+use Rattle.reader_hub.proofs.ReaderThreadsLemmas.OneFed.{ReadIn, reads_in}
 
 or_right_true : (a b : Bool) → b ≡ true → (a || b) ≡ true
 or_right_true true b h = refl

@@ -6,38 +6,38 @@ use Rattle.std.proofs.lemmas.Bool.{cases_Bool}
 use Rattle.std.proofs.lemmas.Grind.{flat_map-append}
 use Rattle.std.proofs.lemmas.List.Elements.{All-append, All-weaker, filter-append, recursion_from_All}
 use Rattle.std.specs.List.{AllByRecursion}
-use Rattle.keri_specs.specs.Causes.{Rose}
+use Rattle.lists.specs.KeriSpecs.Causes.{Rose}
 use Rattle.cesr_stream.specs.declared.message.Message.{Message}
 use Rattle.cesr_stream.specs.Items.{Placed}
 use Rattle.cesr_stream.specs.Reading.{Reading}
 use Rattle.keri_outside.specs.declared.limits.Limits.{Limits}
-use Rattle.journal.specs.declared.mode.Mode.{Mode}
-use Rattle.journal.specs.Feeds.{FeedEach, FeedsOne, IsHeardFrom, is_taken_by, reader_of}
-use Rattle.journal.specs.History.{Told, took, heard, taken}
-use Rattle.journal.specs.Questions.{IsInStep, questions}
-use Rattle.journal.specs.Replies.{IsWithin}
-use Rattle.run_status.specs.Readers.{Reader, SourceTold, VerifierTold, close_found}
-use Rattle.run_status.specs.declared.close.Close.{Close}
-use Rattle.run_status.specs.declared.close.Close.TheVariants.{End, Bad, ReadFault, VerifierFault, SignerFault, DiskFault, WriteFault, Malformed, Full, OutOfMemory as NoMemory}
+use Rattle.journal.specs.declared.journal.mode.Mode.{Mode}
+use Rattle.journal.specs.Journal.Feeds.{FeedEach, FeedsOne, IsHeardFrom, is_taken_by, reader_of}
+use Rattle.journal.specs.Journal.History.{Told, took, heard, taken}
+use Rattle.journal.specs.Journal.Questions.{IsInStep, questions}
+use Rattle.journal.specs.Journal.Replies.{IsWithin}
+use Rattle.run_status.specs.RunStatus.Readers.{Reader, SourceTold, VerifierTold, close_found}
+use Rattle.run_status.specs.declared.run_status.close.Close.{Close}
+use Rattle.run_status.specs.declared.run_status.close.Close.TheVariants.{End, Bad, ReadFault, VerifierFault, SignerFault, DiskFault, WriteFault, Malformed, Full, OutOfMemory as NoMemory}
 use Rattle.turn_lock.specs.Histories.{share_of}
 use Rattle.turn_lock.proofs.Histories.{share_of-append}
-use Rattle.validator_core.specs.View.{CoreView, Stands, open_of, told_of}
-use Rattle.validator_core.proofs.OpenQuestions.{no_bodies}
-use Rattle.shared_reader.specs.Asks.{AsksFor, Says, verdict_count}
-use Rattle.shared_reader.specs.ReadsOne.{is_stopped}
-use Rattle.shared_reader.proofs.Inquiries.{asked_on}
-use Rattle.shared_reader.proofs.Verdicts.{verdict_count-append}
-use Rattle.reader_threads.specs.Asked.{EachAsksOnly, EachGoesOn}
-use Rattle.reader_threads.specs.Fed.{AllRead, ClosesReader, ClosesStream, HasNoSource, NextFindsNoRoom, ReadEach, ReadsBy, ReadsFrom, ends_of, most_turns}
-use Rattle.reader_threads.specs.Given.{Given, end_of, said_by, unread}
-use Rattle.reader_threads.specs.LastRound.{AllGiveUp, AsksEach, AsksOne, AsksRest, FailsNow, GivesUp, IsAsked, IsAskedIfThere, IsHeardOf, OneFails, unheard_by}
-use Rattle.reader_threads.specs.Told.{AllTold, EachFailed, FailedIfThere, HasFailed, SomeFailed}
-use Rattle.reader_threads.specs.declared.last_round.LastRound.{LastRound}
-use Rattle.reader_threads.specs.declared.last_round.LastRound.TheVariants.{NoneFailed}
-use Rattle.reader_threads.proofs.Carried.{stays_away}
-use Rattle.reader_threads.proofs.Closed.{within_by}
-use Rattle.reader_threads.proofs.Only.{each_only_on}
-use Rattle.reader_threads.proofs.Rounds.{failed_then, fails_at, gives_up_at, no_body, none_took, not_then, one_unheard, same_reader, unsaid}
+use Rattle.validator_core.specs.ValidatorCore.View.{CoreView, Stands, open_of, told_of}
+use Rattle.validator_core.proofs.ValidatorCoreLemmas.OpenQuestions.{no_bodies}
+use Rattle.reader_hub.specs.SharedReader.Asks.{AsksFor, Says, verdict_count}
+use Rattle.reader_hub.specs.SharedReader.ReadsOne.{is_stopped}
+use Rattle.reader_hub.proofs.SharedReaderLemmas.Inquiries.{asked_on}
+use Rattle.reader_hub.proofs.SharedReaderLemmas.Verdicts.{verdict_count-append}
+use Rattle.reader_hub.specs.ReaderThreads.Asked.{EachAsksOnly, EachGoesOn}
+use Rattle.reader_hub.specs.ReaderThreads.Fed.{AllRead, ClosesReader, ClosesStream, HasNoSource, NextFindsNoRoom, ReadEach, ReadsBy, ReadsFrom, ends_of, most_turns}
+use Rattle.reader_hub.specs.ReaderThreads.Given.{Given, end_of, said_by, unread}
+use Rattle.reader_hub.specs.ReaderThreads.LastRound.{AllGiveUp, AsksEach, AsksOne, AsksRest, FailsNow, GivesUp, IsAsked, IsAskedIfThere, IsHeardOf, OneFails, unheard_by}
+use Rattle.reader_hub.specs.ReaderThreads.Told.{AllTold, EachFailed, FailedIfThere, HasFailed, SomeFailed}
+use Rattle.reader_hub.specs.declared.reader_threads.last_round.LastRound.{LastRound}
+use Rattle.reader_hub.specs.declared.reader_threads.last_round.LastRound.TheVariants.{NoneFailed}
+use Rattle.reader_hub.proofs.ReaderThreadsLemmas.Carried.{stays_away}
+use Rattle.reader_hub.proofs.ReaderThreadsLemmas.Closed.{within_by}
+use Rattle.reader_hub.proofs.ReaderThreadsLemmas.Only.{each_only_on}
+use Rattle.reader_hub.proofs.ReaderThreadsLemmas.Rounds.{failed_then, fails_at, gives_up_at, no_body, none_took, not_then, one_unheard, same_reader, unsaid}
 
 -- No message was told in the last round: `more` came behind what was told, all of it verdicts.
 module _ (limits : Limits) (told more : List Told) (count : ℕ) (verdicts : All (IsHeardOf 0 count) more) (within : IsWithin limits [] (told ++ more)) (rest : LastRound) where

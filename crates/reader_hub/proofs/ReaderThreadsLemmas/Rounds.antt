@@ -2,26 +2,26 @@
 use Rattle.std.proofs.Common.{◌≡◌, ◌≢◌, ℕ, ◌+◌, ◌<◌, ◌≤◌, ◌⊎◌, inl, inr, Bool, true, false, List, [], ◌∷◌, ◌++◌, Option, Some, None, length, refl, sym, ◌∙◌, ap, subst, arith, append-nil, append_assoc}
 use Rattle.std.specs.Prelude.{All}
 use Rattle.std.proofs.lemmas.List.Elements.{All-append, All-nil, All-weaker, recursion_from_All}
-use Rattle.keri_specs.specs.Causes.{Rose}
-use Rattle.journal.specs.declared.mode.Mode.{Mode}
-use Rattle.journal.specs.Feeds.{IsHeardFrom, is_taken_by, reader_of}
-use Rattle.journal.specs.History.{Told, took, heard, taken}
-use Rattle.journal.specs.Questions.{IsInStep}
-use Rattle.run_status.specs.Readers.{Reader, VerifierTold, close_found}
-use Rattle.run_status.specs.declared.close.Close.{Close}
-use Rattle.run_status.specs.declared.close.Close.TheVariants.{End, Bad, ReadFault, VerifierFault, SignerFault, DiskFault, WriteFault, Malformed, Full, OutOfMemory as NoMemory}
+use Rattle.lists.specs.KeriSpecs.Causes.{Rose}
+use Rattle.journal.specs.declared.journal.mode.Mode.{Mode}
+use Rattle.journal.specs.Journal.Feeds.{IsHeardFrom, is_taken_by, reader_of}
+use Rattle.journal.specs.Journal.History.{Told, took, heard, taken}
+use Rattle.journal.specs.Journal.Questions.{IsInStep}
+use Rattle.run_status.specs.RunStatus.Readers.{Reader, VerifierTold, close_found}
+use Rattle.run_status.specs.declared.run_status.close.Close.{Close}
+use Rattle.run_status.specs.declared.run_status.close.Close.TheVariants.{End, Bad, ReadFault, VerifierFault, SignerFault, DiskFault, WriteFault, Malformed, Full, OutOfMemory as NoMemory}
 use Rattle.turn_lock.specs.Histories.{share_of}
 use Rattle.turn_lock.proofs.Histories.{share_of-all, share_of-append, share_of-none}
-use Rattle.validator_core.specs.View.{CoreView, open_of, told_of}
-use Rattle.validator_core.proofs.OpenQuestions.{follows_itself, follows_on}
-use Rattle.shared_reader.specs.Asks.{AsksFor, IsVerdict, Says, verdict_count}
-use Rattle.shared_reader.proofs.Inquiries.{at_most, none_asked}
-use Rattle.shared_reader.proofs.Verdicts.{verdict_count-append}
-use Rattle.reader_threads.specs.Asked.{EachGoesOn}
-use Rattle.reader_threads.specs.LastRound.{AllGiveUp, AsksEach, AsksOne, AsksRest, CountsFault, FailsNow, GivesUp, Hears, IsAsked, IsAskedIfThere, IsHeardOf, OneFails, joined, unheard_by}
-use Rattle.reader_threads.specs.declared.last_round.LastRound.{LastRound}
-use Rattle.reader_threads.specs.declared.last_round.LastRound.TheVariants.{NoneFailed, VerifierFailed, OutOfMemory}
-use Rattle.reader_threads.proofs.Only.{still_each, there_later}
+use Rattle.validator_core.specs.ValidatorCore.View.{CoreView, open_of, told_of}
+use Rattle.validator_core.proofs.ValidatorCoreLemmas.OpenQuestions.{follows_itself, follows_on}
+use Rattle.reader_hub.specs.SharedReader.Asks.{AsksFor, IsVerdict, Says, verdict_count}
+use Rattle.reader_hub.proofs.SharedReaderLemmas.Inquiries.{at_most, none_asked}
+use Rattle.reader_hub.proofs.SharedReaderLemmas.Verdicts.{verdict_count-append}
+use Rattle.reader_hub.specs.ReaderThreads.Asked.{EachGoesOn}
+use Rattle.reader_hub.specs.ReaderThreads.LastRound.{AllGiveUp, AsksEach, AsksOne, AsksRest, CountsFault, FailsNow, GivesUp, Hears, IsAsked, IsAskedIfThere, IsHeardOf, OneFails, joined, unheard_by}
+use Rattle.reader_hub.specs.declared.reader_threads.last_round.LastRound.{LastRound}
+use Rattle.reader_hub.specs.declared.reader_threads.last_round.LastRound.TheVariants.{NoneFailed, VerifierFailed, OutOfMemory}
+use Rattle.reader_hub.proofs.ReaderThreadsLemmas.Only.{still_each, there_later}
 
 -- what became of two parts of the round, by that of both
 both_answered : (here later : LastRound) → joined here later ≡ NoneFailed → (here ≡ NoneFailed) × (later ≡ NoneFailed)

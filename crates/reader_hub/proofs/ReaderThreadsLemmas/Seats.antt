@@ -2,16 +2,16 @@
 use Rattle.std.proofs.Common.{◌≡◌, ℕ, ◌+◌, ◌<◌, List, [], ◌∷◌, ◌++◌, length, get_or, take, drop, map, ap, sym, ◌∙◌, append_assoc, append-nil, arith, subst, Vec, Global, vec_len}
 use Rattle.std.specs.List.{AllByRecursion}
 use Rattle.std.proofs.lemmas.List.{length-map, map-append}
-use Rattle.journal.specs.History.{Told}
+use Rattle.journal.specs.Journal.History.{Told}
 use Rattle.turn_lock.specs.Locks.{LockId, lock}
 use Rattle.turn_lock.specs.declared.pass.Pass.{Pass}
-use Rattle.reader_hub.specs.Hubs.{head_of}
-use Rattle.reader_hub.specs.declared.core_head.CoreHead.{CoreHead}
-use Rattle.reader_hub.specs.declared.hub.Hub.{Hub}
-use Rattle.reader_threads.specs.Jobs.{IsFit, pass_seen, passes_seen}
-use Rattle.reader_threads.specs.Seats.{AreReady, AreSeats, IsSeat}
-use Rattle.reader_threads.specs.declared.job.Job.{Job}
-use Rattle.reader_threads.specs.declared.reader_seats.ReaderSeats.{ReaderSeats}
+use Rattle.reader_hub.specs.ReaderHub.Hubs.{head_of}
+use Rattle.reader_hub.specs.declared.reader_hub.core_head.CoreHead.{CoreHead}
+use Rattle.reader_hub.specs.declared.reader_hub.hub.Hub.{Hub}
+use Rattle.reader_hub.specs.ReaderThreads.Jobs.{IsFit, pass_seen, passes_seen}
+use Rattle.reader_hub.specs.ReaderThreads.Seats.{AreReady, AreSeats, IsSeat}
+use Rattle.reader_hub.specs.declared.reader_threads.job.Job.{Job}
+use Rattle.reader_hub.specs.declared.reader_threads.reader_seats.ReaderSeats.{ReaderSeats}
 
 module _ {C : Type 0} where
   module _ {g : _} where

@@ -4,11 +4,11 @@ use Rattle.std.specs.Prelude.{filter, All}
 use Rattle.std.specs.List.{AllByRecursion}
 use Rattle.std.proofs.lemmas.Bool.{cases_Bool}
 use Rattle.std.proofs.lemmas.List.Elements.{All-from_recursion, recursion_from_All}
-use Rattle.journal.specs.Feeds.{IsHeardFrom, is_taken_by, reader_of}
-use Rattle.journal.specs.History.{Told, took, heard}
+use Rattle.journal.specs.Journal.Feeds.{IsHeardFrom, is_taken_by, reader_of}
+use Rattle.journal.specs.Journal.History.{Told, took, heard}
 use Rattle.turn_lock.specs.Histories.{share_of}
-use Rattle.shared_reader.specs.Asks.{Says}
-use Rattle.shared_reader.specs.Offers.{IsEntryOf}
+use Rattle.reader_hub.specs.SharedReader.Asks.{Says}
+use Rattle.reader_hub.specs.SharedReader.Offers.{IsEntryOf}
 
 -- what a reader took is in its share
 pub filter-share : (k : ℕ) (told : List Told) → filter (is_taken_by k) told ≡ filter (is_taken_by k) (share_of reader_of k told)

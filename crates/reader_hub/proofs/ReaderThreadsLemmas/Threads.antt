@@ -4,11 +4,11 @@ use Rattle.cesr_codes.specs.declared.key.Key.{Key}
 use Rattle.cesr_codes.specs.declared.sig.Sig.{Sig}
 use Rattle.keri_outside.specs.declared.inquiry.Inquiry.{Inquiry}
 use Rattle.keri_outside.specs.declared.limits.Limits.{Limits}
-use Rattle.reader_threads.specs.Jobs.{HasRun}
-use Rattle.reader_threads.specs.Starts.{EachPair, Finished, IsStarted}
-use Rattle.reader_threads.specs.declared.job.Job.{Job}
-use Rattle.reader_threads.specs.declared.job.JobEnd.{JobEnd}
-use Rattle.reader_threads.specs.declared.started.Started.{Started}
+use Rattle.reader_hub.specs.ReaderThreads.Jobs.{HasRun}
+use Rattle.reader_hub.specs.ReaderThreads.Starts.{EachPair, Finished, IsStarted}
+use Rattle.reader_hub.specs.declared.reader_threads.job.Job.{Job}
+use Rattle.reader_hub.specs.declared.reader_threads.job.JobEnd.{JobEnd}
+use Rattle.reader_hub.specs.declared.reader_threads.started.Started.{Started}
 
 pub each_behind : {A B : Type 0} (R : A → B → Type 0) (xs : List A) (ys : List B) (x : A) (y : B) → EachPair R xs ys → R x y
     → EachPair R (xs ++ x ∷ []) (ys ++ y ∷ [])

@@ -3,26 +3,26 @@ use Rattle.std.proofs.Common.{◌≡◌, ℕ, ◌+◌, Bool, List, [], ◌∷◌
 use Rattle.std.specs.Prelude.{slice_get}
 use Rattle.std.proofs.lemmas.List.Elements.{All-append, All-cons, All-nil}
 use mathlib.Core.List.Sublist.{refl as sublist-refl}
-use Rattle.keri_specs.specs.Told.{after}
+use Rattle.lists.specs.KeriSpecs.Told.{after}
 use Rattle.keri_outside.specs.Asked.{inquiry}
 use Rattle.keri_outside.specs.declared.failed.Failed.{Failed}
 use Rattle.keri_outside.specs.declared.inquiry.Inquiry.{Inquiry}
-use Rattle.journal.specs.declared.question.Question.{Question}
-use Rattle.journal.specs.declared.body.Body.{Body}
-use Rattle.journal.specs.declared.mode.Mode.{Mode}
-use Rattle.journal.specs.History.{Told, heard}
-use Rattle.journal.specs.Journals.{Names}
-use Rattle.journal.specs.Questions.{IsInStep, next_question, questions}
+use Rattle.journal.specs.declared.journal.question.Question.{Question}
+use Rattle.journal.specs.declared.journal.body.Body.{Body}
+use Rattle.journal.specs.declared.journal.mode.Mode.{Mode}
+use Rattle.journal.specs.Journal.History.{Told, heard}
+use Rattle.journal.specs.Journal.Journals.{Names}
+use Rattle.journal.specs.Journal.Questions.{IsInStep, next_question, questions}
 use Rattle.turn_lock.proofs.Histories.{prefix_refl}
-use Rattle.validator_core.specs.Verdicts.{AsksAbout, IsOpen, IsSaid}
-use Rattle.validator_core.specs.View.{CoreView, base_of, told_of}
-use Rattle.validator_core.proofs.OpenQuestions.{follows_itself, follows_on, named_on, no_bodies, open_question}
-use Rattle.shared_reader.specs.Asks.{AsksFor, AsksOnly, IsVerdict, Says, verdict_count}
-use Rattle.shared_reader.proofs.Inquiries.{asked_on, none_asked, unheard_asked}
-use Rattle.shared_reader.proofs.Known.{only_later, only_none, only_on, only_one, open_known}
-use Rattle.shared_reader.proofs.Steps.{in_step_more}
-use Rattle.shared_reader.proofs.Verdicts.{first_named, verdict_count-append}
-use Rattle.reader_threads.specs.LastRound.{AsksUnheard, Hears, NotesAs}
+use Rattle.validator_core.specs.ValidatorCore.Verdicts.{AsksAbout, IsOpen, IsSaid}
+use Rattle.validator_core.specs.ValidatorCore.View.{CoreView, base_of, told_of}
+use Rattle.validator_core.proofs.ValidatorCoreLemmas.OpenQuestions.{follows_itself, follows_on, named_on, no_bodies, open_question}
+use Rattle.reader_hub.specs.SharedReader.Asks.{AsksFor, AsksOnly, IsVerdict, Says, verdict_count}
+use Rattle.reader_hub.proofs.SharedReaderLemmas.Inquiries.{asked_on, none_asked, unheard_asked}
+use Rattle.reader_hub.proofs.SharedReaderLemmas.Known.{only_later, only_none, only_on, only_one, open_known}
+use Rattle.reader_hub.proofs.SharedReaderLemmas.Steps.{in_step_more}
+use Rattle.reader_hub.proofs.SharedReaderLemmas.Verdicts.{first_named, verdict_count-append}
+use Rattle.reader_hub.specs.ReaderThreads.LastRound.{AsksUnheard, Hears, NotesAs}
 
 -- the question that is named is the first that is open, where the core began with nothing
 first_of : (core : CoreView) (q : Question) (b : Body) → IsOpen core q → slice_get core.held q.body ≡ Some b → core.base ≡ 0

@@ -6,34 +6,34 @@ use Rattle.std.proofs.lemmas.List.{append_cancel_left}
 use Rattle.std.proofs.lemmas.List.Elements.{All-append, All-cons, All-nil}
 use mathlib.Core.List.{IsPrefix, Sublist, nil-sublist}
 use mathlib.Core.List.Sublist.{refl as sublist-refl}
-use Rattle.keri_specs.specs.Told.{after}
+use Rattle.lists.specs.KeriSpecs.Told.{after}
 use Rattle.keri_outside.specs.Asked.{inquiry}
 use Rattle.keri_outside.specs.declared.inquiry.Inquiry.{Inquiry}
-use Rattle.journal.specs.declared.body.Body.{Body}
-use Rattle.journal.specs.declared.mode.Mode.{Mode}
-use Rattle.journal.specs.declared.question.Noted.{Noted}
-use Rattle.journal.specs.declared.question.Noted.TheVariants.{New, Known}
-use Rattle.journal.specs.CoreCalls.{Answers, told_with}
-use Rattle.journal.specs.History.{Told, Triple, heard, bodies, has_verdict, same_triple}
-use Rattle.journal.specs.Journals.{AnswersOn, Names}
-use Rattle.journal.specs.Questions.{IsInStep, ComesNext, next_question, noted, questions, raised}
-use Rattle.core_laws.proofs.RaisedStays.{bodies_stay, raised_stays}
-use Rattle.validator_core.specs.Verdicts.{inquiries_in}
-use Rattle.validator_core.proofs.OpenQuestions.{named_on}
+use Rattle.journal.specs.declared.journal.body.Body.{Body}
+use Rattle.journal.specs.declared.journal.mode.Mode.{Mode}
+use Rattle.journal.specs.declared.journal.question.Noted.{Noted}
+use Rattle.journal.specs.declared.journal.question.Noted.TheVariants.{New, Known}
+use Rattle.journal.specs.Journal.CoreCalls.{Answers, told_with}
+use Rattle.journal.specs.Journal.History.{Told, Triple, heard, bodies, has_verdict, same_triple}
+use Rattle.journal.specs.Journal.Journals.{AnswersOn, Names}
+use Rattle.journal.specs.Journal.Questions.{IsInStep, ComesNext, next_question, noted, questions, raised}
+use Rattle.claim_table.proofs.CoreLawsLemmas.RaisedStays.{bodies_stay, raised_stays}
+use Rattle.validator_core.specs.ValidatorCore.Verdicts.{inquiries_in}
+use Rattle.validator_core.proofs.ValidatorCoreLemmas.OpenQuestions.{named_on}
 use Rattle.turn_lock.specs.Histories.{longer_share}
 use Rattle.turn_lock.proofs.Histories.{longer_share-none, prefix_refl, prefix_trans}
-use Rattle.reader_hub.specs.Hubs.{HubPass, AnswersAt, AsksAt}
-use Rattle.reader_hub.specs.declared.asked.Asked.{Asked}
-use Rattle.reader_hub.specs.declared.core_head.CoreHead.{CoreHead}
-use Rattle.shared_reader.specs.Asks.{Asks, AsksFor, AsksOnly, AsksOnlySeen, IsToldOrOpen, IsVerdict, LeavesNone, Says, TellsNothing, verdict_count}
-use Rattle.shared_reader.specs.Steps.{StepsAlone}
-use Rattle.reader_hub.specs.declared.extent.Extent.{Extent}
-use Rattle.reader_hub.specs.declared.extent.Extent.TheVariants.{First, Free, All as Every}
-use Rattle.shared_reader.proofs.Verdicts.{first_named, verdict_count-append, verdict_count_grows, named_open, new_heard, none_open}
-use Rattle.shared_reader.proofs.Inquiries.{asked_on, at_most, none_asked}
-use Rattle.shared_reader.proofs.Known.{only_none, only_on, only_one, raised_known}
-use Rattle.shared_reader.proofs.Steps.{in_step_more, one_head, steps_still, steps_turn}
-use Rattle.shared_reader.proofs.Turns.{idle_turn, seen_then, stays_on, turn_begins, turn_stays}
+use Rattle.reader_hub.specs.ReaderHub.Hubs.{HubPass, AnswersAt, AsksAt}
+use Rattle.reader_hub.specs.declared.reader_hub.asked.Asked.{Asked}
+use Rattle.reader_hub.specs.declared.reader_hub.core_head.CoreHead.{CoreHead}
+use Rattle.reader_hub.specs.SharedReader.Asks.{Asks, AsksFor, AsksOnly, AsksOnlySeen, IsToldOrOpen, IsVerdict, LeavesNone, Says, TellsNothing, verdict_count}
+use Rattle.reader_hub.specs.SharedReader.Steps.{StepsAlone}
+use Rattle.reader_hub.specs.declared.reader_hub.extent.Extent.{Extent}
+use Rattle.reader_hub.specs.declared.reader_hub.extent.Extent.TheVariants.{First, Free, All as Every}
+use Rattle.reader_hub.proofs.SharedReaderLemmas.Verdicts.{first_named, verdict_count-append, verdict_count_grows, named_open, new_heard, none_open}
+use Rattle.reader_hub.proofs.SharedReaderLemmas.Inquiries.{asked_on, at_most, none_asked}
+use Rattle.reader_hub.proofs.SharedReaderLemmas.Known.{only_none, only_on, only_one, raised_known}
+use Rattle.reader_hub.proofs.SharedReaderLemmas.Steps.{in_step_more, one_head, steps_still, steps_turn}
+use Rattle.reader_hub.proofs.SharedReaderLemmas.Turns.{idle_turn, seen_then, stays_on, turn_begins, turn_stays}
 
 pub longer_share-twice : {E : Type 0} (k : ℕ) (xs ys : List E) (own : List (ℕ × List E)) → longer_share k ys (longer_share k xs own) ≡ longer_share k (xs ++ ys) own
 longer_share-twice k xs ys [] = refl

@@ -6,25 +6,25 @@ use Rattle.cesr_stream.specs.Assembly.{all_of}
 use Rattle.cesr_stream.specs.Items.{Placed, IsEnd}
 use Rattle.cesr_stream.specs.Messages.{messages}
 use Rattle.cesr_stream.specs.Reading.{Reading, judged}
-use Rattle.event_body.specs.declared.event.Event.{Event}
-use Rattle.event_body.specs.declared.body_fault.BodyFault.{BodyFault}
+use Rattle.event_body.specs.declared.event_body.event.Event.{Event}
+use Rattle.event_body.specs.declared.event_body.body_fault.BodyFault.{BodyFault}
 use Rattle.keri_outside.specs.declared.limits.Limits.{Limits}
-use Rattle.journal.specs.declared.reply.Reason.{Reason}
-use Rattle.journal.specs.Feeds.{AreFirst, AreMessages, Judged, entry_of, entry_unless, noted_at, refusal_of}
-use Rattle.journal.specs.Replies.{refusal}
-use Rattle.message_feed.specs.Closing.{Gave}
-use Rattle.message_feed.specs.Feeds.{Feeds, Stream}
-use Rattle.message_feed.specs.declared.feed_close.FeedClose.{FeedClose}
-use Rattle.message_feed.specs.declared.feed_close.FeedClose.TheVariants as feed
-use Rattle.run_status.specs.Readers.{SourceTold}
-use Rattle.run_status.specs.declared.close.Close.{Close}
-use Rattle.run_status.specs.declared.close.Close.TheVariants.{End, Bad, ReadFault, VerifierFault, SignerFault, DiskFault, WriteFault, Malformed, Full, OutOfMemory}
-use Rattle.shared_reader.specs.Offers.{Offers}
-use Rattle.shared_reader.specs.ReadsOne.{ClosesReader, ClosesStream, ReadsOne, is_stopped}
-use Rattle.shared_reader.specs.Taken.{AreAsked, Finishes, HasStopped, HasTaken, IsSame, IsStopped, Standing}
-use Rattle.shared_reader.proofs.Inquiries.{at_most}
-use Rattle.shared_reader.proofs.Offered.{offers_besides}
-use Rattle.shared_reader.proofs.Streams.{all_from, at_bad, at_end, first_none, first_of, some_open}
+use Rattle.journal.specs.declared.journal.reply.Reason.{Reason}
+use Rattle.journal.specs.Journal.Feeds.{AreFirst, AreMessages, Judged, entry_of, entry_unless, noted_at, refusal_of}
+use Rattle.journal.specs.Journal.Replies.{refusal}
+use Rattle.run_status.specs.MessageFeed.Closing.{Gave}
+use Rattle.run_status.specs.MessageFeed.Feeds.{Feeds, Stream}
+use Rattle.run_status.specs.declared.message_feed.feed_close.FeedClose.{FeedClose}
+use Rattle.run_status.specs.declared.message_feed.feed_close.FeedClose.TheVariants as feed
+use Rattle.run_status.specs.RunStatus.Readers.{SourceTold}
+use Rattle.run_status.specs.declared.run_status.close.Close.{Close}
+use Rattle.run_status.specs.declared.run_status.close.Close.TheVariants.{End, Bad, ReadFault, VerifierFault, SignerFault, DiskFault, WriteFault, Malformed, Full, OutOfMemory}
+use Rattle.reader_hub.specs.SharedReader.Offers.{Offers}
+use Rattle.reader_hub.specs.SharedReader.ReadsOne.{ClosesReader, ClosesStream, ReadsOne, is_stopped}
+use Rattle.reader_hub.specs.SharedReader.Taken.{AreAsked, Finishes, HasStopped, HasTaken, IsSame, IsStopped, Standing}
+use Rattle.reader_hub.proofs.SharedReaderLemmas.Inquiries.{at_most}
+use Rattle.reader_hub.proofs.SharedReaderLemmas.Offered.{offers_besides}
+use Rattle.reader_hub.proofs.SharedReaderLemmas.Streams.{all_from, at_bad, at_end, first_none, first_of, some_open}
 
 -- each message that was offered has its entry, or is noted
 one_of : (n : ℕ) (m : Message) (gives : Result Event BodyFault) → length (entry_unless (refusal m gives) n m gives) + length (noted_at m.place (refusal m gives)) ≡ 1

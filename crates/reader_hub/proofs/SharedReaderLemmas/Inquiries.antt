@@ -3,12 +3,12 @@ use Rattle.std.proofs.Common.{◌≡◌, ℕ, ◌+◌, ◌≤◌, List, [], ◌�
 use Rattle.std.proofs.lemmas.Grind.{flat_map-append}
 use mathlib.Core.List.{Sublist, nil-sublist}
 use mathlib.Core.List.Sublist.{append as sublist-append, refl as sublist-refl}
-use Rattle.keri_specs.specs.Told.{after}
-use Rattle.keri_specs.proofs.Putting.{after-append, after-nil}
+use Rattle.lists.specs.KeriSpecs.Told.{after}
+use Rattle.lists.proofs.KeriSpecsLemmas.Putting.{after-append, after-nil}
 use Rattle.keri_outside.specs.declared.inquiry.Inquiry.{Inquiry}
-use Rattle.journal.specs.History.{Told}
-use Rattle.validator_core.specs.Verdicts.{inquiries_in, inquiry_in}
-use Rattle.shared_reader.specs.Asks.{AsksFor}
+use Rattle.journal.specs.Journal.History.{Told}
+use Rattle.validator_core.specs.ValidatorCore.Verdicts.{inquiries_in, inquiry_in}
+use Rattle.reader_hub.specs.SharedReader.Asks.{AsksFor}
 
 -- nothing was asked for entries that are no verdicts
 pub none_asked : (told : Option (List Inquiry)) (entries : List Told) → inquiries_in entries ≡ [] → AsksFor told told entries 0

@@ -6,18 +6,18 @@ use Rattle.std.proofs.lemmas.Bool.{and_parts, cases_Bool, or_cases}
 use Rattle.std.proofs.lemmas.Grind.{flat_map-append}
 use Rattle.std.proofs.lemmas.List.Elements.{All-append, All-cons, All-nil, All-take, All-weaker, Contains-append_cases, Contains-append_left, Contains-append_right}
 use mathlib.Core.List.{IsPrefix}
-use Rattle.keri_specs.specs.Told.{after}
-use Rattle.keri_specs.proofs.Putting.{after-append, after-nil}
+use Rattle.lists.specs.KeriSpecs.Told.{after}
+use Rattle.lists.proofs.KeriSpecsLemmas.Putting.{after-append, after-nil}
 use Rattle.keri_outside.specs.declared.inquiry.Inquiry.{Inquiry}
-use Rattle.journal.specs.declared.mode.Mode.{Mode}
-use Rattle.journal.specs.History.{Told, Triple, took, heard, has_verdict, heard_in, same_triple}
-use Rattle.journal.specs.Questions.{questions, raised}
-use Rattle.journal.proofs.Places.{any_at, found_at}
-use Rattle.journal.proofs.Same.{same_triple_is, same_triple_itself}
-use Rattle.core_laws.proofs.RaisedStays.{raised_stays}
-use Rattle.validator_core.specs.Verdicts.{inquiries_in, inquiry_in, inquiry_on}
-use Rattle.shared_reader.specs.Asks.{AsksOnly, IsToldOrOpen}
-use Rattle.shared_reader.proofs.Verdicts.{open_in}
+use Rattle.journal.specs.declared.journal.mode.Mode.{Mode}
+use Rattle.journal.specs.Journal.History.{Told, Triple, took, heard, has_verdict, heard_in, same_triple}
+use Rattle.journal.specs.Journal.Questions.{questions, raised}
+use Rattle.journal.proofs.JournalLemmas.Places.{any_at, found_at}
+use Rattle.journal.proofs.JournalLemmas.Same.{same_triple_is, same_triple_itself}
+use Rattle.claim_table.proofs.CoreLawsLemmas.RaisedStays.{raised_stays}
+use Rattle.validator_core.specs.ValidatorCore.Verdicts.{inquiries_in, inquiry_in, inquiry_on}
+use Rattle.reader_hub.specs.SharedReader.Asks.{AsksOnly, IsToldOrOpen}
+use Rattle.reader_hub.proofs.SharedReaderLemmas.Verdicts.{open_in}
 
 -- an element of a list, as one of what is made of it
 contains_at : {X Y : Type 0} (f : X → Y) (xs : List X) (n : ℕ) (x : X) → slice_get xs n ≡ Some x → Contains (map f xs) (f x)

@@ -6,35 +6,35 @@ use Rattle.std.proofs.lemmas.Grind.{flat_map-append}
 use Rattle.std.proofs.lemmas.List.{append_cancel_left, map-append}
 use Rattle.std.proofs.lemmas.List.Elements.{All-append, All-cons, All-head, All-nil, All-push, All-tail, All-weaker, filter-append}
 use Rattle.cesr_stream.specs.declared.message.Message.{Message}
-use Rattle.event_body.specs.declared.event.Event.{Event}
-use Rattle.event_body.specs.declared.body_fault.BodyFault.{BodyFault}
+use Rattle.event_body.specs.declared.event_body.event.Event.{Event}
+use Rattle.event_body.specs.declared.event_body.body_fault.BodyFault.{BodyFault}
 use Rattle.keri_outside.specs.declared.limits.Limits.{Limits}
 use Rattle.keri_outside.specs.declared.inquiry.Inquiry.{Inquiry}
-use Rattle.journal.specs.declared.body.Body.{Body}
-use Rattle.journal.specs.declared.claim.Claim.{Claim}
-use Rattle.journal.specs.declared.refusal.Refusal.{Refusal}
-use Rattle.journal.specs.declared.reply.Reason.{Reason}
-use Rattle.journal.specs.declared.reply.Reply.{Reply}
-use Rattle.journal.specs.declared.reply.Reply.TheVariants.{Taken, Again, Refused, Full}
-use Rattle.journal.specs.CoreCalls.{Takes}
-use Rattle.journal.specs.Feeds.{GivesBody, entry_of, entry_unless, is_taken_by, noted_at, refusal_of}
-use Rattle.journal.specs.History.{Told, took, heard}
-use Rattle.journal.specs.Questions.{IsInStep, questions}
-use Rattle.journal.specs.Replies.{claims_of, is_again, is_full, refusal, reply_to}
-use Rattle.validator_core.specs.Verdicts.{inquiries_in}
+use Rattle.journal.specs.declared.journal.body.Body.{Body}
+use Rattle.journal.specs.declared.journal.claim.Claim.{Claim}
+use Rattle.journal.specs.declared.journal.refusal.Refusal.{Refusal}
+use Rattle.journal.specs.declared.journal.reply.Reason.{Reason}
+use Rattle.journal.specs.declared.journal.reply.Reply.{Reply}
+use Rattle.journal.specs.declared.journal.reply.Reply.TheVariants.{Taken, Again, Refused, Full}
+use Rattle.journal.specs.Journal.CoreCalls.{Takes}
+use Rattle.journal.specs.Journal.Feeds.{GivesBody, entry_of, entry_unless, is_taken_by, noted_at, refusal_of}
+use Rattle.journal.specs.Journal.History.{Told, took, heard}
+use Rattle.journal.specs.Journal.Questions.{IsInStep, questions}
+use Rattle.journal.specs.Journal.Replies.{claims_of, is_again, is_full, refusal, reply_to}
+use Rattle.validator_core.specs.ValidatorCore.Verdicts.{inquiries_in}
 use Rattle.turn_lock.specs.Histories.{longer_share}
 use Rattle.turn_lock.specs.Known.{OwnsAlone}
 use Rattle.turn_lock.proofs.Histories.{longer_share-alone, prefix_trans}
-use Rattle.reader_hub.specs.Hubs.{HubPass, TakesAt, TakesOver, TookTurn}
-use Rattle.reader_hub.specs.declared.extent.Extent.{Extent}
-use Rattle.reader_hub.specs.declared.extent.Extent.TheVariants.{First}
-use Rattle.shared_reader.specs.Asks.{Asks, AsksFor, IsVerdict, Says, TellsNothing, verdict_count}
-use Rattle.shared_reader.specs.Offers.{IsEntryOf, IsTurnedAway, Offers, OffersOne}
-use Rattle.shared_reader.specs.Steps.{SawNoneOpen, StepsAlone}
-use Rattle.shared_reader.proofs.Inquiries.{asked_on, at_most, none_asked}
-use Rattle.shared_reader.proofs.Known.{only_later, only_on}
-use Rattle.shared_reader.proofs.Steps.{in_step_offered, steps_still, steps_turn}
-use Rattle.shared_reader.proofs.Turns.{idle_turn, seen_then, stays_on, turn_begins, turn_grows, turn_stays}
+use Rattle.reader_hub.specs.ReaderHub.Hubs.{HubPass, TakesAt, TakesOver, TookTurn}
+use Rattle.reader_hub.specs.declared.reader_hub.extent.Extent.{Extent}
+use Rattle.reader_hub.specs.declared.reader_hub.extent.Extent.TheVariants.{First}
+use Rattle.reader_hub.specs.SharedReader.Asks.{Asks, AsksFor, IsVerdict, Says, TellsNothing, verdict_count}
+use Rattle.reader_hub.specs.SharedReader.Offers.{IsEntryOf, IsTurnedAway, Offers, OffersOne}
+use Rattle.reader_hub.specs.SharedReader.Steps.{SawNoneOpen, StepsAlone}
+use Rattle.reader_hub.proofs.SharedReaderLemmas.Inquiries.{asked_on, at_most, none_asked}
+use Rattle.reader_hub.proofs.SharedReaderLemmas.Known.{only_later, only_on}
+use Rattle.reader_hub.proofs.SharedReaderLemmas.Steps.{in_step_offered, steps_still, steps_turn}
+use Rattle.reader_hub.proofs.SharedReaderLemmas.Turns.{idle_turn, seen_then, stays_on, turn_begins, turn_grows, turn_stays}
 
 -- what is noted of a message by the reply to it
 abbrev pub refused_as : ℕ → Reply → List Refusal

@@ -3,22 +3,22 @@ use Rattle.std.proofs.Common.{◌≡◌, ℕ, ◌≤◌, List, [], ◌∷◌, �
 use Rattle.std.proofs.lemmas.List.{nil_from_length}
 use mathlib.Core.List.{IsPrefix}
 use Rattle.cesr_stream.specs.declared.message.Message.{Message}
-use Rattle.event_body.specs.declared.event.Event.{Event}
-use Rattle.event_body.specs.declared.body_fault.BodyFault.{BodyFault}
+use Rattle.event_body.specs.declared.event_body.event.Event.{Event}
+use Rattle.event_body.specs.declared.event_body.body_fault.BodyFault.{BodyFault}
 use Rattle.key_state.specs.Same.{distinct}
-use Rattle.journal.specs.declared.mode.Mode.{Mode}
-use Rattle.journal.specs.declared.reply.Reason.{Reason}
-use Rattle.journal.specs.Feeds.{entry_unless}
-use Rattle.journal.specs.History.{Told, bodies}
-use Rattle.journal.specs.Questions.{IsInStep, ComesNext, questions, raised}
-use Rattle.journal.proofs.Keeping.{split_push}
-use Rattle.reader_hub.specs.Hubs.{HubPass, TookTurn}
-use Rattle.reader_hub.specs.declared.core_head.CoreHead.{CoreHead}
-use Rattle.reader_hub.specs.declared.extent.Extent.{Extent}
-use Rattle.reader_hub.specs.declared.extent.Extent.TheVariants.{First, Free, All as Every}
-use Rattle.shared_reader.specs.Asks.{LeavesNone, TellsNothing}
-use Rattle.shared_reader.specs.Steps.{SawNoneOpen, StepsAlone}
-use Rattle.shared_reader.proofs.Turns.{seen_then}
+use Rattle.journal.specs.declared.journal.mode.Mode.{Mode}
+use Rattle.journal.specs.declared.journal.reply.Reason.{Reason}
+use Rattle.journal.specs.Journal.Feeds.{entry_unless}
+use Rattle.journal.specs.Journal.History.{Told, bodies}
+use Rattle.journal.specs.Journal.Questions.{IsInStep, ComesNext, questions, raised}
+use Rattle.journal.proofs.JournalLemmas.Keeping.{split_push}
+use Rattle.reader_hub.specs.ReaderHub.Hubs.{HubPass, TookTurn}
+use Rattle.reader_hub.specs.declared.reader_hub.core_head.CoreHead.{CoreHead}
+use Rattle.reader_hub.specs.declared.reader_hub.extent.Extent.{Extent}
+use Rattle.reader_hub.specs.declared.reader_hub.extent.Extent.TheVariants.{First, Free, All as Every}
+use Rattle.reader_hub.specs.SharedReader.Asks.{LeavesNone, TellsNothing}
+use Rattle.reader_hub.specs.SharedReader.Steps.{SawNoneOpen, StepsAlone}
+use Rattle.reader_hub.proofs.SharedReaderLemmas.Turns.{seen_then}
 
 -- nothing is told, and nothing open
 pub nothing_in_step : (mode : Mode) → IsInStep mode []

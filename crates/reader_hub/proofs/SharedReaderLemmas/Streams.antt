@@ -8,11 +8,11 @@ use Rattle.cesr_stream.specs.Front.{front}
 use Rattle.cesr_stream.specs.Items.{Placed, IsEnd, none as no_item}
 use Rattle.cesr_stream.specs.Messages.{messages}
 use Rattle.cesr_stream.specs.Reading.{Reading, judged}
-use Rattle.journal.specs.Feeds.{AreFirst, AreMessages}
+use Rattle.journal.specs.Journal.Feeds.{AreFirst, AreMessages}
 use Rattle.keri_outside.specs.declared.limits.Limits.{Limits}
-use Rattle.message_feed.specs.Closing.{IsCutShort}
-use Rattle.message_feed.specs.Serving.{IsRefused}
-use Rattle.message_feed.specs.Feeds.{Stream}
+use Rattle.run_status.specs.MessageFeed.Closing.{IsCutShort}
+use Rattle.run_status.specs.MessageFeed.Serving.{IsRefused}
+use Rattle.run_status.specs.MessageFeed.Feeds.{Stream}
 
 module _ (limits : Limits) (bytes : List ℕ) (reading : Reading) (items : List Placed) (stream : Stream limits bytes reading items) where
   behind : front limits.body reading.begun (drop reading.place bytes) ≡ judged reading

@@ -2,20 +2,20 @@
 use Rattle.std.proofs.Common.{◌≡◌, ◌≢◌, inl, inr, List, [], ◌∷◌, ◌++◌, Result, Ok, Err, refl, sym, ◌∙◌, subst, arith, append-nil}
 use Rattle.std.specs.Prelude.{OnErr, OnOk, IfErr}
 use Rattle.std.proofs.lemmas.List.Elements.{All-nil}
-use Rattle.keri_specs.specs.Causes.{Rose}
+use Rattle.lists.specs.KeriSpecs.Causes.{Rose}
 use Rattle.cesr_stream.specs.declared.message.Message.{Message}
 use Rattle.turn_lock.specs.Known.{OwnsAlone}
-use Rattle.reader_hub.specs.Hubs.{HubPass}
-use Rattle.run_status.specs.declared.close.Close.{Close}
-use Rattle.run_status.specs.declared.close.Close.TheVariants.{End, Bad, ReadFault, VerifierFault, SignerFault, DiskFault, WriteFault, Malformed, Full, OutOfMemory}
-use Rattle.shared_reader.specs.Asks.{Asks, LeavesNone, StopsAsking, TellsNothing}
-use Rattle.reader_hub.specs.declared.extent.Extent.{Extent}
-use Rattle.shared_reader.specs.Offers.{IsKeptOut, OffersOne}
-use Rattle.shared_reader.specs.Taken.{HasTaken, IsSame, IsStopped, Standing, StopsAt, TakesOne}
-use Rattle.shared_reader.proofs.Asked.{none_asked_seen}
-use Rattle.shared_reader.proofs.Inquiries.{at_most, none_asked}
-use Rattle.shared_reader.proofs.Offered.{offers_more, offers_still}
-use Rattle.shared_reader.proofs.Steps.{alone_first, none_left, none_open_first}
+use Rattle.reader_hub.specs.ReaderHub.Hubs.{HubPass}
+use Rattle.run_status.specs.declared.run_status.close.Close.{Close}
+use Rattle.run_status.specs.declared.run_status.close.Close.TheVariants.{End, Bad, ReadFault, VerifierFault, SignerFault, DiskFault, WriteFault, Malformed, Full, OutOfMemory}
+use Rattle.reader_hub.specs.SharedReader.Asks.{Asks, LeavesNone, StopsAsking, TellsNothing}
+use Rattle.reader_hub.specs.declared.reader_hub.extent.Extent.{Extent}
+use Rattle.reader_hub.specs.SharedReader.Offers.{IsKeptOut, OffersOne}
+use Rattle.reader_hub.specs.SharedReader.Taken.{HasTaken, IsSame, IsStopped, Standing, StopsAt, TakesOne}
+use Rattle.reader_hub.proofs.SharedReaderLemmas.Asked.{none_asked_seen}
+use Rattle.reader_hub.proofs.SharedReaderLemmas.Inquiries.{at_most, none_asked}
+use Rattle.reader_hub.proofs.SharedReaderLemmas.Offered.{offers_more, offers_still}
+use Rattle.reader_hub.proofs.SharedReaderLemmas.Steps.{alone_first, none_left, none_open_first}
 
 pub if_ok : {A E : Type 0} (r : Result A E) (P Q : Type 0) → (P → Q) → OnOk r P → OnOk r Q
 if_ok (Ok x) P Q f p = f p

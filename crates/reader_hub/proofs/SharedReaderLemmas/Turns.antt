@@ -1,13 +1,13 @@
 -- What a turn does to what a pass knows.
 use Rattle.std.proofs.Common.{◌≡◌, ℕ, ◌≤◌, List, [], ◌++◌, sym, ◌∙◌, ap, subst, arith, inl, inr}
 use mathlib.Core.List.{IsPrefix}
-use Rattle.journal.specs.History.{Told}
+use Rattle.journal.specs.Journal.History.{Told}
 use Rattle.turn_lock.proofs.Histories.{longer_share-none, prefix_append, prefix_refl}
-use Rattle.reader_hub.specs.Hubs.{HubPass, Stops, TookTurn}
-use Rattle.reader_hub.specs.declared.hub_fault.HubFault.{HubFault}
-use Rattle.reader_hub.specs.declared.hub_fault.HubFault.TheVariants.{Spent, OutOfMemory}
-use Rattle.shared_reader.specs.Asks.{Stays, TellsNothing, verdict_count}
-use Rattle.shared_reader.proofs.Verdicts.{verdict_count_grows}
+use Rattle.reader_hub.specs.ReaderHub.Hubs.{HubPass, Stops, TookTurn}
+use Rattle.reader_hub.specs.declared.reader_hub.hub_fault.HubFault.{HubFault}
+use Rattle.reader_hub.specs.declared.reader_hub.hub_fault.HubFault.TheVariants.{Spent, OutOfMemory}
+use Rattle.reader_hub.specs.SharedReader.Asks.{Stays, TellsNothing, verdict_count}
+use Rattle.reader_hub.proofs.SharedReaderLemmas.Verdicts.{verdict_count_grows}
 
 pub stays_on : (p q r : HubPass) → Stays p q → Stays q r → Stays p r
 stays_on p q r a b = record { number = b.number ∙ a.number; splits = b.splits ∙ a.splits; head = b.head ∙ a.head }

@@ -7,16 +7,16 @@ use Rattle.std.proofs.lemmas.Grind.{flat_map-append}
 use Rattle.std.proofs.lemmas.List.Folds.{list_any-append}
 use Rattle.std.proofs.lemmas.Map.Views.{any-filter_same}
 use mathlib.Core.List.{IsPrefix}
-use Rattle.journal.specs.declared.body.Body.{Body}
-use Rattle.journal.specs.declared.mode.Mode.{Mode}
-use Rattle.journal.specs.declared.question.Question.{Question}
-use Rattle.journal.specs.History.{Told, Triple, bodies, has_verdict, heard_in, same_triple}
-use Rattle.journal.specs.Journals.{Names, asked}
-use Rattle.journal.specs.Questions.{next_question, questions, raised}
-use Rattle.journal.proofs.Places.{any_at, some_at}
-use Rattle.journal.proofs.Same.{same_triple_is, same_triple_itself}
-use Rattle.validator_core.proofs.OpenQuestions.{named_on}
-use Rattle.shared_reader.specs.Asks.{verdict_count}
+use Rattle.journal.specs.declared.journal.body.Body.{Body}
+use Rattle.journal.specs.declared.journal.mode.Mode.{Mode}
+use Rattle.journal.specs.declared.journal.question.Question.{Question}
+use Rattle.journal.specs.Journal.History.{Told, Triple, bodies, has_verdict, heard_in, same_triple}
+use Rattle.journal.specs.Journal.Journals.{Names, asked}
+use Rattle.journal.specs.Journal.Questions.{next_question, questions, raised}
+use Rattle.journal.proofs.JournalLemmas.Places.{any_at, some_at}
+use Rattle.journal.proofs.JournalLemmas.Same.{same_triple_is, same_triple_itself}
+use Rattle.validator_core.proofs.ValidatorCoreLemmas.OpenQuestions.{named_on}
+use Rattle.reader_hub.specs.SharedReader.Asks.{verdict_count}
 
 pub verdict_count-append : (xs ys : List Told) → verdict_count (xs ++ ys) ≡ verdict_count xs + verdict_count ys
 verdict_count-append xs ys = ap length (flat_map-append heard_in xs ys) ∙ length-append (flat_map heard_in xs) (flat_map heard_in ys)

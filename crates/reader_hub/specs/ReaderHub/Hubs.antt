@@ -3,30 +3,30 @@ use Rattle.std.specs.Prelude.{◌≡◌, ℕ, ◌<◌, ◌≤◌, ◌⊎◌, Boo
 use mathlib.Core.List.{IsPrefix}
 use Rattle.cesr_codes.specs.declared.prefix.Prefix.{Prefix}
 use Rattle.cesr_stream.specs.declared.message.Message.{Message}
-use Rattle.event_body.specs.declared.event.Event.{Event}
-use Rattle.event_body.specs.declared.body_fault.BodyFault.{BodyFault}
+use Rattle.event_body.specs.declared.event_body.event.Event.{Event}
+use Rattle.event_body.specs.declared.event_body.body_fault.BodyFault.{BodyFault}
 use Rattle.keri_outside.specs.declared.limits.Limits.{Limits}
 use Rattle.key_state.specs.States.{State}
-use Rattle.journal.specs.declared.body.Body.{Body}
-use Rattle.journal.specs.declared.mode.Mode.{Mode}
-use Rattle.journal.specs.declared.question.Noted.{Noted}
-use Rattle.journal.specs.declared.question.Question.{Question}
-use Rattle.journal.specs.declared.reply.Reply.{Reply}
-use Rattle.journal.specs.Accepted.{accepted}
-use Rattle.journal.specs.CoreCalls.{Takes}
-use Rattle.journal.specs.Feeds.{GivesBody}
-use Rattle.journal.specs.History.{Told, bodies}
-use Rattle.journal.specs.Journals.{AnswersOn, Names}
-use Rattle.journal.specs.Logs.{state}
-use Rattle.journal.specs.Questions.{next_question}
-use Rattle.validator_core.specs.View.{CoreView}
+use Rattle.journal.specs.declared.journal.body.Body.{Body}
+use Rattle.journal.specs.declared.journal.mode.Mode.{Mode}
+use Rattle.journal.specs.declared.journal.question.Noted.{Noted}
+use Rattle.journal.specs.declared.journal.question.Question.{Question}
+use Rattle.journal.specs.declared.journal.reply.Reply.{Reply}
+use Rattle.journal.specs.Journal.Accepted.{accepted}
+use Rattle.journal.specs.Journal.CoreCalls.{Takes}
+use Rattle.journal.specs.Journal.Feeds.{GivesBody}
+use Rattle.journal.specs.Journal.History.{Told, bodies}
+use Rattle.journal.specs.Journal.Journals.{AnswersOn, Names}
+use Rattle.journal.specs.Journal.Logs.{state}
+use Rattle.journal.specs.Journal.Questions.{next_question}
+use Rattle.validator_core.specs.ValidatorCore.View.{CoreView}
 use Rattle.turn_lock.specs.Known.{Known, after_spent, after_turn}
-use Rattle.reader_hub.specs.declared.asked.Asked.{Asked}
-use Rattle.reader_hub.specs.declared.core_head.CoreHead.{CoreHead}
-use Rattle.reader_hub.specs.declared.extent.Extent.{Extent}
-use Rattle.reader_hub.specs.declared.extent.Extent.TheVariants.{First, Free, All as Every}
-use Rattle.reader_hub.specs.declared.hub_fault.HubFault.{HubFault}
-use Rattle.reader_hub.specs.declared.hub_fault.HubFault.TheVariants.{Spent, OutOfMemory}
+use Rattle.reader_hub.specs.declared.reader_hub.asked.Asked.{Asked}
+use Rattle.reader_hub.specs.declared.reader_hub.core_head.CoreHead.{CoreHead}
+use Rattle.reader_hub.specs.declared.reader_hub.extent.Extent.{Extent}
+use Rattle.reader_hub.specs.declared.reader_hub.extent.Extent.TheVariants.{First, Free, All as Every}
+use Rattle.reader_hub.specs.declared.reader_hub.hub_fault.HubFault.{HubFault}
+use Rattle.reader_hub.specs.declared.reader_hub.hub_fault.HubFault.TheVariants.{Spent, OutOfMemory}
 
 -- what a pass of a hub knows
 abbrev pub HubPass : Type 0

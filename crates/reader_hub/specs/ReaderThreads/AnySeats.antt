@@ -1,11 +1,11 @@
 -- Seats for readers, of which there may be none.
 use Rattle.std.specs.Prelude.{◌≡◌, ℕ, []}
-use Rattle.journal.specs.declared.mode.Mode.{Mode}
+use Rattle.journal.specs.declared.journal.mode.Mode.{Mode}
 use Rattle.keri_outside.specs.declared.limits.Limits.{Limits}
-use Rattle.validator_core.specs.View.{CoreView, told_of}
-use Rattle.reader_threads.specs.Seats.{AreReady, HasSeats}
-use Rattle.reader_threads.specs.declared.any_seats.AnySeats.{AnySeats}
-use Rattle.reader_threads.specs.declared.any_seats.AnySeats.TheVariants.{Nobody, Readers}
+use Rattle.validator_core.specs.ValidatorCore.View.{CoreView, told_of}
+use Rattle.reader_hub.specs.ReaderThreads.Seats.{AreReady, HasSeats}
+use Rattle.reader_hub.specs.declared.reader_threads.any_seats.AnySeats.{AnySeats}
+use Rattle.reader_hub.specs.declared.reader_threads.any_seats.AnySeats.TheVariants.{Nobody, Readers}
 
 -- the core was told nothing, and began with nothing
 pub record IsNew (core : CoreView) : Type 0 where

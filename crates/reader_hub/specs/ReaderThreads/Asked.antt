@@ -1,11 +1,11 @@
 -- What the verifiers of readers were asked.
 use Rattle.std.specs.Prelude.{List, Option, Some, None}
-use Rattle.journal.specs.declared.mode.Mode.{Mode}
-use Rattle.journal.specs.History.{Told}
-use Rattle.run_status.specs.Readers.{Reader, VerifierTold}
-use Rattle.shared_reader.specs.Asks.{AsksOnly}
-use Rattle.reader_threads.specs.Given.{Given}
-use Rattle.reader_threads.specs.Starts.{EachPair}
+use Rattle.journal.specs.declared.journal.mode.Mode.{Mode}
+use Rattle.journal.specs.Journal.History.{Told}
+use Rattle.run_status.specs.RunStatus.Readers.{Reader, VerifierTold}
+use Rattle.reader_hub.specs.SharedReader.Asks.{AsksOnly}
+use Rattle.reader_hub.specs.ReaderThreads.Given.{Given}
+use Rattle.reader_hub.specs.ReaderThreads.Starts.{EachPair}
 
 -- where there is a verifier, it is there still, and was asked only for verdicts that are told, and on questions that are open
 abbrev pub AsksOnlyIfThere : Mode → List Told → Option VerifierTold → Option VerifierTold → Type 0

@@ -1,28 +1,28 @@
 -- What readers fed a journal, and why they closed.
 use Rattle.std.specs.Prelude.{◌≡◌, ◌≢◌, ℕ, ◌+◌, ◌*◌, ◌≤◌, ◌⊎◌, List, [], ◌∷◌, ◌++◌, length, map, flat_map, Option, Some, None}
-use Rattle.keri_specs.specs.Causes.{Rose}
+use Rattle.lists.specs.KeriSpecs.Causes.{Rose}
 use Rattle.cesr_stream.specs.declared.message.Message.{Message}
 use Rattle.cesr_stream.specs.Items.{Placed}
 use Rattle.cesr_stream.specs.Reading.{Reading}
 use Rattle.keri_outside.specs.declared.limits.Limits.{Limits}
-use Rattle.journal.specs.declared.reply.Reply.TheVariants.{Full as FullReply}
-use Rattle.journal.specs.Feeds as feeds
-use Rattle.journal.specs.Feeds.{AreFirst, Fed, FeedEach, reader_of}
-use Rattle.journal.specs.History.{Told, taken}
-use Rattle.message_feed.specs.Closing.{ClosesBy, Gave}
-use Rattle.message_feed.specs.Feeds.{Stream}
-use Rattle.message_feed.specs.declared.feed_close.FeedClose.{FeedClose}
-use Rattle.message_feed.specs.declared.feed_close.FeedClose.TheVariants as feed
-use Rattle.run_status.specs.Readers.{Reader, SourceTold, VerifierTold}
-use Rattle.run_status.specs.declared.close.Close.{Close}
-use Rattle.run_status.specs.declared.close.Close.TheVariants.{End, Bad, ReadFault, VerifierFault, SignerFault, DiskFault, WriteFault, Malformed, Full, OutOfMemory}
+use Rattle.journal.specs.declared.journal.reply.Reply.TheVariants.{Full as FullReply}
+use Rattle.journal.specs.Journal.Feeds as feeds
+use Rattle.journal.specs.Journal.Feeds.{AreFirst, Fed, FeedEach, reader_of}
+use Rattle.journal.specs.Journal.History.{Told, taken}
+use Rattle.run_status.specs.MessageFeed.Closing.{ClosesBy, Gave}
+use Rattle.run_status.specs.MessageFeed.Feeds.{Stream}
+use Rattle.run_status.specs.declared.message_feed.feed_close.FeedClose.{FeedClose}
+use Rattle.run_status.specs.declared.message_feed.feed_close.FeedClose.TheVariants as feed
+use Rattle.run_status.specs.RunStatus.Readers.{Reader, SourceTold, VerifierTold}
+use Rattle.run_status.specs.declared.run_status.close.Close.{Close}
+use Rattle.run_status.specs.declared.run_status.close.Close.TheVariants.{End, Bad, ReadFault, VerifierFault, SignerFault, DiskFault, WriteFault, Malformed, Full, OutOfMemory}
 use Rattle.turn_lock.specs.Histories.{share_of}
-use Rattle.reader_hub.specs.Hubs.{TakesOver}
-use Rattle.shared_reader.specs.Asks.{AsksFor, verdict_count}
-use Rattle.shared_reader.specs.ReadsOne.{LacksOnlyOpen}
-use Rattle.reader_threads.specs.Given.{Given, end_of, unread}
-use Rattle.reader_threads.specs.declared.last_round.LastRound.{LastRound}
-use Rattle.reader_threads.specs.declared.last_round.LastRound.TheVariants.{NoneFailed}
+use Rattle.reader_hub.specs.ReaderHub.Hubs.{TakesOver}
+use Rattle.reader_hub.specs.SharedReader.Asks.{AsksFor, verdict_count}
+use Rattle.reader_hub.specs.SharedReader.ReadsOne.{LacksOnlyOpen}
+use Rattle.reader_hub.specs.ReaderThreads.Given.{Given, end_of, unread}
+use Rattle.reader_hub.specs.declared.reader_threads.last_round.LastRound.{LastRound}
+use Rattle.reader_hub.specs.declared.reader_threads.last_round.LastRound.TheVariants.{NoneFailed}
 
 -- So many turns these readers take to tell this, at most: two for each message that one of them took or refused, and for each
 -- reader two for each verdict of all, and four besides.

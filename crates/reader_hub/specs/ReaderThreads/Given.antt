@@ -2,13 +2,13 @@
 use Rattle.std.specs.Prelude.{ℕ, Bool, List, [], Option, Some, None, option_map}
 use Rattle.cesr_codes.specs.declared.key.Key.{Key}
 use Rattle.cesr_codes.specs.declared.sig.Sig.{Sig}
-use Rattle.journal.specs.Feeds as feeds
+use Rattle.journal.specs.Journal.Feeds as feeds
 use Rattle.keri_outside.specs.declared.inquiry.Inquiry.{Inquiry}
-use Rattle.run_status.specs.Readers.{Reader, SourceTold, VerifierTold, source_seen, verifier_seen}
-use Rattle.run_status.specs.declared.close.Close.{Close}
-use Rattle.shared_reader.specs.Asks.{Says}
-use Rattle.shared_reader.specs.ReadsOne.{is_stopped}
-use Rattle.reader_threads.specs.declared.providers.Providers.{Providers}
+use Rattle.run_status.specs.RunStatus.Readers.{Reader, SourceTold, VerifierTold, source_seen, verifier_seen}
+use Rattle.run_status.specs.declared.run_status.close.Close.{Close}
+use Rattle.reader_hub.specs.SharedReader.Asks.{Says}
+use Rattle.reader_hub.specs.SharedReader.ReadsOne.{is_stopped}
+use Rattle.reader_hub.specs.declared.reader_threads.providers.Providers.{Providers}
 
 -- the source and the verifier, as far as they could be made
 pub record Given : Type 0 where

@@ -2,19 +2,19 @@
 use Rattle.std.specs.Prelude.{ℕ, Bool, List, [], map, Option}
 use Rattle.cesr_codes.specs.declared.key.Key.{Key}
 use Rattle.cesr_codes.specs.declared.sig.Sig.{Sig}
-use Rattle.journal.specs.History.{Told}
+use Rattle.journal.specs.Journal.History.{Told}
 use Rattle.keri_outside.specs.declared.inquiry.Inquiry.{Inquiry}
 use Rattle.keri_outside.specs.declared.limits.Limits.{Limits}
-use Rattle.run_status.specs.Readers.{reader_seen}
+use Rattle.run_status.specs.RunStatus.Readers.{reader_seen}
 use Rattle.turn_lock.specs.Known.{OwnsAlone}
 use Rattle.turn_lock.specs.Locks.{IsPassOf, known, lock_of}
 use Rattle.turn_lock.specs.declared.pass.Pass.{Pass}
-use Rattle.reader_hub.specs.declared.core_head.CoreHead.{CoreHead}
-use Rattle.reader_hub.specs.declared.hub.Hub.{Hub}
-use Rattle.reader_threads.specs.Given.{given_by}
-use Rattle.reader_threads.specs.Runs.{PassSeen, RunsBy}
-use Rattle.reader_threads.specs.declared.job.Job.{Job}
-use Rattle.reader_threads.specs.declared.job.JobEnd.{JobEnd}
+use Rattle.reader_hub.specs.declared.reader_hub.core_head.CoreHead.{CoreHead}
+use Rattle.reader_hub.specs.declared.reader_hub.hub.Hub.{Hub}
+use Rattle.reader_hub.specs.ReaderThreads.Given.{given_by}
+use Rattle.reader_hub.specs.ReaderThreads.Runs.{PassSeen, RunsBy}
+use Rattle.reader_hub.specs.declared.reader_threads.job.Job.{Job}
+use Rattle.reader_hub.specs.declared.reader_threads.job.JobEnd.{JobEnd}
 
 module _ {C : Type 0} where
   module _ {g : _} where

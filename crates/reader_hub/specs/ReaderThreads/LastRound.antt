@@ -1,19 +1,19 @@
 -- What is asked once all readers have ended.
 use Rattle.std.specs.Prelude.{◌≡◌, ◌≢◌, ℕ, ◌+◌, ◌<◌, ◌≤◌, ◌⊎◌, Bool, true, List, [], ◌∷◌, ◌++◌, length, Option, Some, None, All, slice_get}
-use Rattle.keri_specs.specs.Causes.{Rose}
+use Rattle.lists.specs.KeriSpecs.Causes.{Rose}
 use Rattle.keri_outside.specs.declared.inquiry.Inquiry.{Inquiry}
-use Rattle.journal.specs.declared.body.Body.{Body}
-use Rattle.journal.specs.declared.question.Question.{Question}
-use Rattle.journal.specs.Feeds.{IsHeardFrom, reader_of}
-use Rattle.journal.specs.History.{Told, took, heard}
-use Rattle.journal.specs.Questions.{IsInStep}
-use Rattle.run_status.specs.Readers.{Reader, VerifierTold, close_found}
+use Rattle.journal.specs.declared.journal.body.Body.{Body}
+use Rattle.journal.specs.declared.journal.question.Question.{Question}
+use Rattle.journal.specs.Journal.Feeds.{IsHeardFrom, reader_of}
+use Rattle.journal.specs.Journal.History.{Told, took, heard}
+use Rattle.journal.specs.Journal.Questions.{IsInStep}
+use Rattle.run_status.specs.RunStatus.Readers.{Reader, VerifierTold, close_found}
 use Rattle.turn_lock.specs.Histories.{share_of}
-use Rattle.validator_core.specs.View.{CoreView, Follows, open_of, told_of}
-use Rattle.shared_reader.specs.Asks.{AsksFor, AsksOnly, IsVerdict, Says, verdict_count}
-use Rattle.reader_threads.specs.Asked.{EachGoesOn}
-use Rattle.reader_threads.specs.declared.last_round.LastRound.{LastRound}
-use Rattle.reader_threads.specs.declared.last_round.LastRound.TheVariants.{NoneFailed, VerifierFailed, OutOfMemory}
+use Rattle.validator_core.specs.ValidatorCore.View.{CoreView, Follows, open_of, told_of}
+use Rattle.reader_hub.specs.SharedReader.Asks.{AsksFor, AsksOnly, IsVerdict, Says, verdict_count}
+use Rattle.reader_hub.specs.ReaderThreads.Asked.{EachGoesOn}
+use Rattle.reader_hub.specs.declared.reader_threads.last_round.LastRound.{LastRound}
+use Rattle.reader_hub.specs.declared.reader_threads.last_round.LastRound.TheVariants.{NoneFailed, VerifierFailed, OutOfMemory}
 
 -- the verdict of the reader of this number on the question came behind what was told
 pub record NotesAs (number : ℕ) (old : CoreView) (q : Question) (verdict : Bool) (new : CoreView) : Type 0 where

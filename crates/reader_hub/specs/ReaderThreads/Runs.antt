@@ -1,14 +1,14 @@
 -- What one reader does with its pass.
 use Rattle.std.specs.Prelude.{◌≡◌, ℕ, [], Option, Some, None}
 use Rattle.keri_outside.specs.declared.limits.Limits.{Limits}
-use Rattle.run_status.specs.Readers.{Reader, SourceTold, VerifierTold}
-use Rattle.run_status.specs.declared.close.Close.TheVariants.{ReadFault, VerifierFault}
+use Rattle.run_status.specs.RunStatus.Readers.{Reader, SourceTold, VerifierTold}
+use Rattle.run_status.specs.declared.run_status.close.Close.TheVariants.{ReadFault, VerifierFault}
 use Rattle.turn_lock.specs.Locks.{LockId}
-use Rattle.reader_hub.specs.Hubs.{HubPass}
-use Rattle.reader_hub.specs.declared.extent.Extent.{Extent}
-use Rattle.shared_reader.specs.ReadsOne.{ReadsOne}
-use Rattle.shared_reader.specs.Taken.{standing}
-use Rattle.reader_threads.specs.Given.{unread}
+use Rattle.reader_hub.specs.ReaderHub.Hubs.{HubPass}
+use Rattle.reader_hub.specs.declared.reader_hub.extent.Extent.{Extent}
+use Rattle.reader_hub.specs.SharedReader.ReadsOne.{ReadsOne}
+use Rattle.reader_hub.specs.SharedReader.Taken.{standing}
+use Rattle.reader_hub.specs.ReaderThreads.Given.{unread}
 
 -- what is seen of a pass: of which lock it is, and what it knows
 pub record PassSeen : Type 0 where

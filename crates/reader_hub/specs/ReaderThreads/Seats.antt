@@ -1,15 +1,15 @@
 -- Seats of readers: passes that were never used, and room for what their readers hand back.
 use Rattle.std.specs.Prelude.{◌≡◌, ℕ, suc, ◌+◌, ◌≤◌, List, [], ◌∷◌, length, Some}
-use Rattle.journal.specs.declared.mode.Mode.{Mode}
+use Rattle.journal.specs.declared.journal.mode.Mode.{Mode}
 use Rattle.keri_outside.specs.declared.limits.Limits.{Limits}
 use Rattle.turn_lock.specs.Known.{OwnsAlone}
 use Rattle.turn_lock.specs.Locks.{LockId, limit_of, lock}
-use Rattle.reader_hub.specs.Hubs.{head_of}
-use Rattle.reader_hub.specs.declared.core_head.CoreHead.{CoreHead}
-use Rattle.reader_threads.specs.Jobs.{pass_seen, passes_seen}
-use Rattle.reader_threads.specs.Rooms.{IsFree}
-use Rattle.reader_threads.specs.Runs.{PassSeen}
-use Rattle.reader_threads.specs.declared.reader_seats.ReaderSeats.{ReaderSeats}
+use Rattle.reader_hub.specs.ReaderHub.Hubs.{head_of}
+use Rattle.reader_hub.specs.declared.reader_hub.core_head.CoreHead.{CoreHead}
+use Rattle.reader_hub.specs.ReaderThreads.Jobs.{pass_seen, passes_seen}
+use Rattle.reader_hub.specs.ReaderThreads.Rooms.{IsFree}
+use Rattle.reader_hub.specs.ReaderThreads.Runs.{PassSeen}
+use Rattle.reader_hub.specs.declared.reader_threads.reader_seats.ReaderSeats.{ReaderSeats}
 
 -- a pass of the lock over a core with this head, with this number and an empty share, which was split so often and took no turn
 pub record IsSeat (id : LockId) (head : CoreHead) (number splits : ℕ) (seen : PassSeen) : Type 0 where

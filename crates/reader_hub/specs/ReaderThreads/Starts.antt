@@ -4,15 +4,15 @@ use Rattle.cesr_codes.specs.declared.key.Key.{Key}
 use Rattle.cesr_codes.specs.declared.sig.Sig.{Sig}
 use Rattle.keri_outside.specs.declared.inquiry.Inquiry.{Inquiry}
 use Rattle.keri_outside.specs.declared.limits.Limits.{Limits}
-use Rattle.run_status.specs.declared.reader_end.ReaderEnd.{ReaderEnd}
+use Rattle.run_status.specs.declared.run_status.reader_end.ReaderEnd.{ReaderEnd}
 use Rattle.turn_lock.specs.Locks.{limit_of}
-use Rattle.reader_threads.specs.Jobs.{HasRun}
-use Rattle.reader_threads.specs.declared.job.Job.{Job}
-use Rattle.reader_threads.specs.declared.job.JobEnd.{JobEnd}
-use Rattle.reader_threads.specs.declared.ran.AllEnds.{AllEnds}
-use Rattle.reader_threads.specs.declared.started.Ends.{Ends}
-use Rattle.reader_threads.specs.declared.started.Started.{Started}
-use Rattle.reader_threads.specs.declared.started.Started.TheVariants.{Running, Ended}
+use Rattle.reader_hub.specs.ReaderThreads.Jobs.{HasRun}
+use Rattle.reader_hub.specs.declared.reader_threads.job.Job.{Job}
+use Rattle.reader_hub.specs.declared.reader_threads.job.JobEnd.{JobEnd}
+use Rattle.reader_hub.specs.declared.reader_threads.ran.AllEnds.{AllEnds}
+use Rattle.reader_hub.specs.declared.reader_threads.started.Ends.{Ends}
+use Rattle.reader_hub.specs.declared.reader_threads.started.Started.{Started}
+use Rattle.reader_hub.specs.declared.reader_threads.started.Started.TheVariants.{Running, Ended}
 
 -- R holds of each two in turn
 abbrev pub EachPair : {A B : Type 0} → (A → B → Type 0) → List A → List B → Type 0

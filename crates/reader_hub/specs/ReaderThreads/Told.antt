@@ -1,16 +1,16 @@
 -- What all readers told a core, with the last round.
 use Rattle.std.specs.Prelude.{◌≡◌, ◌≢◌, ◌⊎◌, List, [], ◌∷◌, length, Option, Some, None}
-use Rattle.keri_specs.specs.Causes.{Rose}
+use Rattle.lists.specs.KeriSpecs.Causes.{Rose}
 use Rattle.keri_outside.specs.declared.limits.Limits.{Limits}
-use Rattle.journal.specs.declared.mode.Mode.{Mode}
-use Rattle.journal.specs.Questions.{IsInStep, questions}
-use Rattle.run_status.specs.Readers.{Reader, VerifierTold}
-use Rattle.validator_core.specs.View.{CoreView, Stands, told_of}
-use Rattle.reader_threads.specs.Asked.{EachAsksOnly}
-use Rattle.reader_threads.specs.Fed.{AllRead}
-use Rattle.reader_threads.specs.Given.{Given}
-use Rattle.reader_threads.specs.declared.last_round.LastRound.{LastRound}
-use Rattle.reader_threads.specs.declared.last_round.LastRound.TheVariants.{VerifierFailed, OutOfMemory}
+use Rattle.journal.specs.declared.journal.mode.Mode.{Mode}
+use Rattle.journal.specs.Journal.Questions.{IsInStep, questions}
+use Rattle.run_status.specs.RunStatus.Readers.{Reader, VerifierTold}
+use Rattle.validator_core.specs.ValidatorCore.View.{CoreView, Stands, told_of}
+use Rattle.reader_hub.specs.ReaderThreads.Asked.{EachAsksOnly}
+use Rattle.reader_hub.specs.ReaderThreads.Fed.{AllRead}
+use Rattle.reader_hub.specs.ReaderThreads.Given.{Given}
+use Rattle.reader_hub.specs.declared.reader_threads.last_round.LastRound.{LastRound}
+use Rattle.reader_hub.specs.declared.reader_threads.last_round.LastRound.TheVariants.{VerifierFailed, OutOfMemory}
 
 -- the verifier that was given failed since; where none was given, or none came back, there is nothing to fail
 abbrev pub FailedIfThere : Option VerifierTold → Option VerifierTold → Type 0

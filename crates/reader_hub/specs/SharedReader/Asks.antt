@@ -1,25 +1,25 @@
 -- What asking does to what a pass knows.
 use Rattle.std.specs.Prelude.{◌≡◌, ℕ, ◌+◌, ◌-◌, ◌*◌, ◌≤◌, Bool, List, [], ◌++◌, length, map, flat_map, Option, Some, IfSome, All, Contains}
 use mathlib.Core.List.{IsPrefix, Sublist}
-use Rattle.keri_specs.specs.Causes.{Rose}
-use Rattle.keri_specs.specs.Told.{after}
+use Rattle.lists.specs.KeriSpecs.Causes.{Rose}
+use Rattle.lists.specs.KeriSpecs.Told.{after}
 use Rattle.keri_outside.specs.declared.inquiry.Inquiry.{Inquiry}
 use Rattle.cesr_codes.specs.declared.key.Key.{Key}
 use Rattle.cesr_codes.specs.declared.sig.Sig.{Sig}
-use Rattle.journal.specs.declared.mode.Mode.{Mode}
-use Rattle.journal.specs.History.{Told, took, heard, heard_in}
-use Rattle.journal.specs.Questions.{questions}
-use Rattle.validator_core.specs.Verdicts.{inquiries_in, inquiry_on}
+use Rattle.journal.specs.declared.journal.mode.Mode.{Mode}
+use Rattle.journal.specs.Journal.History.{Told, took, heard, heard_in}
+use Rattle.journal.specs.Journal.Questions.{questions}
+use Rattle.validator_core.specs.ValidatorCore.Verdicts.{inquiries_in, inquiry_on}
 use Rattle.turn_lock.specs.Histories.{longer_share}
-use Rattle.reader_hub.specs.Hubs.{HubPass}
-use Rattle.reader_hub.specs.declared.core_head.CoreHead.{CoreHead}
-use Rattle.reader_hub.specs.declared.hub_fault.HubFault.{HubFault}
-use Rattle.reader_hub.specs.declared.hub_fault.HubFault.TheVariants.{Spent, OutOfMemory as NoMemory}
-use Rattle.reader_hub.specs.declared.extent.Extent.{Extent}
-use Rattle.reader_hub.specs.declared.extent.Extent.TheVariants.{First, Free, All as Every}
-use Rattle.run_status.specs.declared.close.Close.{Close}
-use Rattle.run_status.specs.declared.close.Close.TheVariants.{End, Bad, ReadFault, VerifierFault, SignerFault, DiskFault, WriteFault, Malformed, Full, OutOfMemory}
-use Rattle.shared_reader.specs.Steps.{StepsAlone}
+use Rattle.reader_hub.specs.ReaderHub.Hubs.{HubPass}
+use Rattle.reader_hub.specs.declared.reader_hub.core_head.CoreHead.{CoreHead}
+use Rattle.reader_hub.specs.declared.reader_hub.hub_fault.HubFault.{HubFault}
+use Rattle.reader_hub.specs.declared.reader_hub.hub_fault.HubFault.TheVariants.{Spent, OutOfMemory as NoMemory}
+use Rattle.reader_hub.specs.declared.reader_hub.extent.Extent.{Extent}
+use Rattle.reader_hub.specs.declared.reader_hub.extent.Extent.TheVariants.{First, Free, All as Every}
+use Rattle.run_status.specs.declared.run_status.close.Close.{Close}
+use Rattle.run_status.specs.declared.run_status.close.Close.TheVariants.{End, Bad, ReadFault, VerifierFault, SignerFault, DiskFault, WriteFault, Malformed, Full, OutOfMemory}
+use Rattle.reader_hub.specs.SharedReader.Steps.{StepsAlone}
 
 -- what a verifier says of a key, a body and a signature, where it tells
 abbrev pub Says : Type 0

@@ -3,20 +3,20 @@ use Rattle.std.specs.Prelude.{◌≡◌, ℕ, suc, ◌+◌, ◌*◌, ◌≤◌, 
 use mathlib.Core.List.{IsPrefix}
 use Rattle.cesr_stream.specs.declared.message.Message.{Message}
 use Rattle.keri_outside.specs.declared.inquiry.Inquiry.{Inquiry}
-use Rattle.journal.specs.declared.refusal.Refusal.{Refusal}
-use Rattle.journal.specs.declared.reply.Reply.TheVariants.{Full as FullReply}
-use Rattle.journal.specs.Feeds.{GivesBody, Judged, entry_of, refusal_of, is_taken_by}
-use Rattle.journal.specs.History.{Told, took, heard}
+use Rattle.journal.specs.declared.journal.refusal.Refusal.{Refusal}
+use Rattle.journal.specs.declared.journal.reply.Reply.TheVariants.{Full as FullReply}
+use Rattle.journal.specs.Journal.Feeds.{GivesBody, Judged, entry_of, refusal_of, is_taken_by}
+use Rattle.journal.specs.Journal.History.{Told, took, heard}
 use Rattle.turn_lock.specs.Histories.{longer_share}
 use Rattle.turn_lock.specs.Known.{OwnsAlone}
-use Rattle.reader_hub.specs.Hubs.{HubPass, TakesOver}
-use Rattle.reader_hub.specs.declared.core_head.CoreHead.{CoreHead}
-use Rattle.reader_hub.specs.declared.extent.Extent.{Extent}
-use Rattle.reader_hub.specs.declared.extent.Extent.TheVariants.{First}
-use Rattle.run_status.specs.declared.close.Close.{Close}
-use Rattle.run_status.specs.declared.close.Close.TheVariants.{End, Bad, ReadFault, VerifierFault, SignerFault, DiskFault, WriteFault, Malformed, Full, OutOfMemory}
-use Rattle.shared_reader.specs.Asks.{AsksFor, AsksOnlySeen, Says, Stays, verdict_count}
-use Rattle.shared_reader.specs.Steps.{SawNoneOpen, StepsAlone}
+use Rattle.reader_hub.specs.ReaderHub.Hubs.{HubPass, TakesOver}
+use Rattle.reader_hub.specs.declared.reader_hub.core_head.CoreHead.{CoreHead}
+use Rattle.reader_hub.specs.declared.reader_hub.extent.Extent.{Extent}
+use Rattle.reader_hub.specs.declared.reader_hub.extent.Extent.TheVariants.{First}
+use Rattle.run_status.specs.declared.run_status.close.Close.{Close}
+use Rattle.run_status.specs.declared.run_status.close.Close.TheVariants.{End, Bad, ReadFault, VerifierFault, SignerFault, DiskFault, WriteFault, Malformed, Full, OutOfMemory}
+use Rattle.reader_hub.specs.SharedReader.Asks.{AsksFor, AsksOnlySeen, Says, Stays, verdict_count}
+use Rattle.reader_hub.specs.SharedReader.Steps.{SawNoneOpen, StepsAlone}
 
 -- a core that was told what the pass has seen would have no room for the message
 pub record IsTurnedAway (q : HubPass) (m : Message) : Type 0 where

@@ -2,30 +2,30 @@
 use Rattle.std.specs.Prelude.{◌≡◌, ◌≢◌, ℕ, suc, ◌+◌, ◌*◌, ◌≤◌, ◌⊎◌, Bool, true, false, List, [], ◌∷◌, ◌++◌, length, map, filter, All}
 use Rattle.std.specs.declared.option.Option.{Option}
 use Rattle.std.specs.declared.option.Option.TheVariants.{Some}
-use Rattle.keri_specs.specs.Causes.{Rose}
+use Rattle.lists.specs.KeriSpecs.Causes.{Rose}
 use Rattle.cesr_stream.specs.declared.message.Message.{Message}
 use Rattle.cesr_stream.specs.Assembly.{all_of}
 use Rattle.cesr_stream.specs.Items.{Placed}
 use Rattle.cesr_stream.specs.Messages.{messages}
 use Rattle.cesr_stream.specs.Reading.{Reading}
 use Rattle.keri_outside.specs.declared.limits.Limits.{Limits}
-use Rattle.journal.specs.Feeds as feeds
-use Rattle.journal.specs.Feeds.{AreFirst, Feeds, is_taken_by}
-use Rattle.journal.specs.History.{Told}
-use Rattle.message_feed.specs.Closing.{ClosesBy, Gave}
-use Rattle.message_feed.specs.Feeds.{Stream}
-use Rattle.message_feed.specs.declared.feed_close.FeedClose.{FeedClose}
-use Rattle.message_feed.specs.declared.feed_close.FeedClose.TheVariants as feed
+use Rattle.journal.specs.Journal.Feeds as feeds
+use Rattle.journal.specs.Journal.Feeds.{AreFirst, Feeds, is_taken_by}
+use Rattle.journal.specs.Journal.History.{Told}
+use Rattle.run_status.specs.MessageFeed.Closing.{ClosesBy, Gave}
+use Rattle.run_status.specs.MessageFeed.Feeds.{Stream}
+use Rattle.run_status.specs.declared.message_feed.feed_close.FeedClose.{FeedClose}
+use Rattle.run_status.specs.declared.message_feed.feed_close.FeedClose.TheVariants as feed
 use Rattle.turn_lock.specs.Known.{OwnsAlone}
-use Rattle.reader_hub.specs.Hubs.{HubPass}
-use Rattle.reader_hub.specs.declared.extent.Extent.TheVariants.{First}
-use Rattle.run_status.specs.Readers.{SourceTold}
-use Rattle.run_status.specs.declared.close.Close.{Close}
-use Rattle.run_status.specs.declared.close.Close.TheVariants.{End, Bad, ReadFault, VerifierFault, SignerFault, DiskFault, WriteFault, Malformed, Full, OutOfMemory}
-use Rattle.shared_reader.specs.Asks.{AsksFor, AsksOnlySeen, Stays, verdict_count}
-use Rattle.shared_reader.specs.Offers.{IsEntryOf, IsTurnedAway}
-use Rattle.shared_reader.specs.Steps.{StepsAlone}
-use Rattle.shared_reader.specs.Taken.{AreAsked, IsSame, Standing}
+use Rattle.reader_hub.specs.ReaderHub.Hubs.{HubPass}
+use Rattle.reader_hub.specs.declared.reader_hub.extent.Extent.TheVariants.{First}
+use Rattle.run_status.specs.RunStatus.Readers.{SourceTold}
+use Rattle.run_status.specs.declared.run_status.close.Close.{Close}
+use Rattle.run_status.specs.declared.run_status.close.Close.TheVariants.{End, Bad, ReadFault, VerifierFault, SignerFault, DiskFault, WriteFault, Malformed, Full, OutOfMemory}
+use Rattle.reader_hub.specs.SharedReader.Asks.{AsksFor, AsksOnlySeen, Stays, verdict_count}
+use Rattle.reader_hub.specs.SharedReader.Offers.{IsEntryOf, IsTurnedAway}
+use Rattle.reader_hub.specs.SharedReader.Steps.{StepsAlone}
+use Rattle.reader_hub.specs.SharedReader.Taken.{AreAsked, IsSame, Standing}
 
 abbrev pub source_told : Option (List ℕ) → ℕ → SourceTold
 source_told left faults = record { left = left; faults = faults }

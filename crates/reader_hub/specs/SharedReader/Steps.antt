@@ -1,9 +1,9 @@
 -- What comes next where one reader alone tells a core.
 use Rattle.std.specs.Prelude.{◌≡◌, ◌≤◌, List, [], length, Some}
-use Rattle.journal.specs.History.{Told}
-use Rattle.journal.specs.Questions.{IsInStep, questions}
-use Rattle.reader_hub.specs.Hubs.{HubPass}
-use Rattle.reader_hub.specs.declared.core_head.CoreHead.{CoreHead}
+use Rattle.journal.specs.Journal.History.{Told}
+use Rattle.journal.specs.Journal.Questions.{IsInStep, questions}
+use Rattle.reader_hub.specs.ReaderHub.Hubs.{HubPass}
+use Rattle.reader_hub.specs.declared.reader_hub.core_head.CoreHead.{CoreHead}
 
 -- of what the pass has seen each entry was the next one
 abbrev pub SawInStep : HubPass → Type 0

@@ -1,21 +1,21 @@
 -- What a reader has done since it began.
 use Rattle.std.specs.Prelude.{◌≡◌, ◌≢◌, ℕ, ◌≤◌, ◌⊎◌, List, [], ◌∷◌, ◌++◌, length, Option, None}
-use Rattle.keri_specs.specs.Causes.{Rose}
+use Rattle.lists.specs.KeriSpecs.Causes.{Rose}
 use Rattle.cesr_stream.specs.declared.message.Message.{Message}
 use Rattle.cesr_stream.specs.Assembly.{all_of}
 use Rattle.keri_outside.specs.declared.inquiry.Inquiry.{Inquiry}
-use Rattle.journal.specs.declared.refusal.Refusal.{Refusal}
-use Rattle.message_feed.specs.declared.feed_close.FeedClose.{FeedClose}
-use Rattle.message_feed.specs.declared.feed_close.FeedClose.TheVariants as feed
+use Rattle.journal.specs.declared.journal.refusal.Refusal.{Refusal}
+use Rattle.run_status.specs.declared.message_feed.feed_close.FeedClose.{FeedClose}
+use Rattle.run_status.specs.declared.message_feed.feed_close.FeedClose.TheVariants as feed
 use Rattle.turn_lock.specs.Locks.{LockId}
-use Rattle.reader_hub.specs.Hubs.{HubPass}
-use Rattle.run_status.specs.declared.close.Close.{Close}
-use Rattle.run_status.specs.declared.close.Close.TheVariants.{End, Bad, ReadFault, VerifierFault, SignerFault, DiskFault, WriteFault, Malformed, Full, OutOfMemory}
-use Rattle.reader_hub.specs.declared.extent.Extent.{Extent}
-use Rattle.reader_hub.specs.declared.extent.Extent.TheVariants.{First}
-use Rattle.shared_reader.specs.Asks.{HasNoneOpen, LeavesNone, Says}
-use Rattle.shared_reader.specs.Offers.{IsTurnedAway, Offers}
-use Rattle.shared_reader.specs.Steps.{SawNoneOpen}
+use Rattle.reader_hub.specs.ReaderHub.Hubs.{HubPass}
+use Rattle.run_status.specs.declared.run_status.close.Close.{Close}
+use Rattle.run_status.specs.declared.run_status.close.Close.TheVariants.{End, Bad, ReadFault, VerifierFault, SignerFault, DiskFault, WriteFault, Malformed, Full, OutOfMemory}
+use Rattle.reader_hub.specs.declared.reader_hub.extent.Extent.{Extent}
+use Rattle.reader_hub.specs.declared.reader_hub.extent.Extent.TheVariants.{First}
+use Rattle.reader_hub.specs.SharedReader.Asks.{HasNoneOpen, LeavesNone, Says}
+use Rattle.reader_hub.specs.SharedReader.Offers.{IsTurnedAway, Offers}
+use Rattle.reader_hub.specs.SharedReader.Steps.{SawNoneOpen}
 
 -- what is seen of a reader at one time: which questions it asks between messages, the limit of its lock and which lock it is, what its
 -- pass knows, what its verifier says, what that was asked and how often it has failed, and what it refused

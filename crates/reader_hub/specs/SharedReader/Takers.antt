@@ -2,9 +2,9 @@
 use Rattle.std.specs.Prelude.{ℕ, List, Option}
 use Rattle.keri_outside.specs.declared.inquiry.Inquiry.{Inquiry}
 use Rattle.turn_lock.specs.Locks.{known, limit_of, lock_of}
-use Rattle.shared_reader.specs.Asks.{Says}
-use Rattle.shared_reader.specs.Taken.{Standing, standing}
-use Rattle.shared_reader.specs.declared.hub_taker.HubTaker.{HubTaker}
+use Rattle.reader_hub.specs.SharedReader.Asks.{Says}
+use Rattle.reader_hub.specs.SharedReader.Taken.{Standing, standing}
+use Rattle.reader_hub.specs.declared.shared_reader.hub_taker.HubTaker.{HubTaker}
 
 abbrev pub standing_of : {V G W : Type 0} → (V → Says) → (V → Option (List Inquiry)) → (V → ℕ) → HubTaker V G W → Standing
 standing_of says inquiries faults taker =

@@ -1,14 +1,14 @@
 //! The hub: a core under a lock.
 ghost use Rattle.std.specs.Prelude.{◌≡◌, ◌<◌, ◌≤◌, ◌^◌, [], ◌∷◌, map, IfOk, IfErr, IsOk};
 ghost use Rattle.std.specs.List.{AllByRecursion};
-ghost use Rattle.journal.specs.Feeds.{reader_of};
+ghost use Rattle.journal.specs.Journal.Feeds.{reader_of};
 ghost use Rattle.turn_lock.specs.Known.{first_pass, after_split, split_from};
-ghost use Rattle.validator_core.specs.View.{told_of};
-ghost use Rattle.reader_hub.specs.Hubs.{TakesAt, AsksAt, AnswersAt, StateAt, Stops, head_of};
-ghost use Rattle.reader_hub.specs.Closing.{AreAll, ClosesAll};
+ghost use Rattle.validator_core.specs.ValidatorCore.View.{told_of};
+ghost use Rattle.reader_hub.specs.ReaderHub.Hubs.{TakesAt, AsksAt, AnswersAt, StateAt, Stops, head_of};
+ghost use Rattle.reader_hub.specs.ReaderHub.Closing.{AreAll, ClosesAll};
 
-use crate::handed_out::HandedOut;
-use crate::{Asked, Extent, HubFault, Pass, SharedCore};
+use crate::reader_hub::handed_out::HandedOut;
+use crate::reader_hub::{Asked, Extent, HubFault, Pass, SharedCore};
 use cesr_codes::Prefix;
 use cesr_stream::Message;
 use journal::{Noted, Question, Reply};

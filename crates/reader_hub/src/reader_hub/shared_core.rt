@@ -1,17 +1,17 @@
 //! The core under the lock: it stands for what it was told.
 ghost use Rattle.std.specs.Prelude.{◌≡◌, [], IfOk, IsSome, OnErr, Some, option_map, slice_get};
-ghost use Rattle.journal.specs.Accepted.{accepted};
-ghost use Rattle.journal.specs.History.{bodies};
-ghost use Rattle.journal.specs.Journals.{AnswersOn, Names};
-ghost use Rattle.journal.specs.Logs.{state};
-ghost use Rattle.journal.specs.Questions.{next_question};
-ghost use Rattle.validator_core.specs.Messages.{JudgesMessage};
-ghost use Rattle.validator_core.specs.View.{told_of};
-ghost use Rattle.reader_hub.specs.declared.extent.Extent.TheVariants.{First, All as Every};
-ghost use Rattle.reader_hub.specs.Hubs.{HasBytes, IsAsked, TakesOver};
+ghost use Rattle.journal.specs.Journal.Accepted.{accepted};
+ghost use Rattle.journal.specs.Journal.History.{bodies};
+ghost use Rattle.journal.specs.Journal.Journals.{AnswersOn, Names};
+ghost use Rattle.journal.specs.Journal.Logs.{state};
+ghost use Rattle.journal.specs.Journal.Questions.{next_question};
+ghost use Rattle.validator_core.specs.ValidatorCore.Messages.{JudgesMessage};
+ghost use Rattle.validator_core.specs.ValidatorCore.View.{told_of};
+ghost use Rattle.reader_hub.specs.declared.reader_hub.extent.Extent.TheVariants.{First, All as Every};
+ghost use Rattle.reader_hub.specs.ReaderHub.Hubs.{HasBytes, IsAsked, TakesOver};
 
-use crate::handed_out::HandedOut;
-use crate::{Asked, CoreHead, Extent, Telling};
+use crate::reader_hub::handed_out::HandedOut;
+use crate::reader_hub::{Asked, CoreHead, Extent, Telling};
 use cesr_codes::Prefix;
 use cesr_stream::Message;
 use event_body::Event;
@@ -32,9 +32,9 @@ pub struct SharedCore {
 }
 
 impl Replayed for SharedCore {
-    ghost use Rattle.journal.specs.Feeds.{reader_of};
-    ghost use Rattle.validator_core.specs.View.{told_of};
-    ghost use Rattle.reader_hub.specs.Hubs.{head_of};
+    ghost use Rattle.journal.specs.Journal.Feeds.{reader_of};
+    ghost use Rattle.validator_core.specs.ValidatorCore.View.{told_of};
+    ghost use Rattle.reader_hub.specs.ReaderHub.Hubs.{head_of};
 
     type Entry = Telling;
 
@@ -52,7 +52,7 @@ impl Replayed for SharedCore {
 }
 
 impl SharedCore {
-    ghost use Rattle.reader_hub.specs.Hubs.{head_of};
+    ghost use Rattle.reader_hub.specs.ReaderHub.Hubs.{head_of};
 
     /// Takes a message that was judged so: where it is refused, nothing is told.
     pub(crate) fn take(

@@ -11,7 +11,7 @@ pub struct Telling {
 }
 
 impl Model for Telling {
-    ghost use Rattle.journal.specs.History.{Told, took};
+    ghost use Rattle.journal.specs.Journal.History.{Told, took};
     ghost use Rattle.json_tree.specs.contracts.tree.Tree as tree;
     ghost use Rattle.std.specs.Coded.{codes};
 

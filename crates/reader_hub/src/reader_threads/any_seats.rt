@@ -1,14 +1,14 @@
 //! Seats for the readers of one core, of which there may be none.
 ghost use Rattle.std.specs.Prelude.{◌≡◌, [], ℕ, length, map, vec_len, IfOk};
-ghost use Rattle.run_status.specs.Readers.{reader_seen};
-ghost use Rattle.validator_core.specs.View.{told_of};
-ghost use Rattle.reader_threads.specs.AnySeats.{AreAnyReady, HaveSeats};
-ghost use Rattle.reader_threads.specs.Given.{given_by};
-ghost use Rattle.reader_threads.specs.Told.{AllTold};
-ghost use Rattle.journal.specs.declared.mode.Mode.{Mode as ModeValue};
+ghost use Rattle.run_status.specs.RunStatus.Readers.{reader_seen};
+ghost use Rattle.validator_core.specs.ValidatorCore.View.{told_of};
+ghost use Rattle.reader_hub.specs.ReaderThreads.AnySeats.{AreAnyReady, HaveSeats};
+ghost use Rattle.reader_hub.specs.ReaderThreads.Given.{given_by};
+ghost use Rattle.reader_hub.specs.ReaderThreads.Told.{AllTold};
+ghost use Rattle.journal.specs.declared.journal.mode.Mode.{Mode as ModeValue};
 ghost use Rattle.keri_outside.specs.declared.limits.Limits.{Limits as LimitsValue};
 
-use crate::{LastRound, Providers, Ran, ReaderSeats};
+use crate::reader_threads::{LastRound, Providers, Ran, ReaderSeats};
 use keri_outside::{Gate, Limits, Source, Verifier};
 use std::alloc::{AllocError, Global};
 use std::sync::Wait;

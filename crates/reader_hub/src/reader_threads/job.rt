@@ -2,17 +2,17 @@
 ghost use Rattle.std.specs.Prelude.{◌≡◌, [], map, vec_len};
 ghost use Rattle.turn_lock.specs.Known.{OwnsAlone};
 ghost use Rattle.turn_lock.specs.Locks.{limit_of, known, IsPassOf};
-ghost use Rattle.run_status.specs.Readers.{reader_seen, source_seen, verifier_seen};
-ghost use Rattle.reader_threads.specs.Jobs.{HasRun, pass_seen};
-ghost use Rattle.reader_threads.specs.Rooms.{IsFree};
-ghost use Rattle.reader_threads.specs.Runs.{ReadsStream};
+ghost use Rattle.run_status.specs.RunStatus.Readers.{reader_seen, source_seen, verifier_seen};
+ghost use Rattle.reader_hub.specs.ReaderThreads.Jobs.{HasRun, pass_seen};
+ghost use Rattle.reader_hub.specs.ReaderThreads.Rooms.{IsFree};
+ghost use Rattle.reader_hub.specs.ReaderThreads.Runs.{ReadsStream};
 
-use crate::Providers;
+use crate::reader_hub::{Extent, Hub, Pass};
+use crate::reader_threads::Providers;
+use crate::shared_reader::{ReadOne, read_one};
 use keri_outside::{Gate, Limits, Source, Verifier};
 use lists::Items;
-use reader_hub::{Extent, Hub, Pass};
 use run_status::{Close, ReaderEnd};
-use shared_reader::{ReadOne, read_one};
 use std::alloc::Global;
 use std::sync::Wait;
 

@@ -1,10 +1,10 @@
 //! The last round: what is open once all readers have ended.
 ghost use Rattle.std.specs.Prelude.{◌≡◌, ◌+◌, ◌<◌, ◌≤◌, [], ◌∷◌, map, length, IfErr, IfOk, OnErr, OnOk};
-ghost use Rattle.keri_specs.specs.Causes.{Rose};
-ghost use Rattle.run_status.specs.Readers.{reader_seen};
-ghost use Rattle.validator_core.specs.Verdicts.{AsksAbout, IsFaultOf, IsOpen, IsSaid};
-ghost use Rattle.validator_core.specs.View.{open_of, unheard_of};
-ghost use Rattle.reader_threads.specs.LastRound.{AsksRest, AsksUnheard, Hears, NotesAs, joined};
+ghost use Rattle.lists.specs.KeriSpecs.Causes.{Rose};
+ghost use Rattle.run_status.specs.RunStatus.Readers.{reader_seen};
+ghost use Rattle.validator_core.specs.ValidatorCore.Verdicts.{AsksAbout, IsFaultOf, IsOpen, IsSaid};
+ghost use Rattle.validator_core.specs.ValidatorCore.View.{open_of, unheard_of};
+ghost use Rattle.reader_hub.specs.ReaderThreads.LastRound.{AsksRest, AsksUnheard, Hears, NotesAs, joined};
 
 use journal::Question;
 use keri_outside::{Failed, Source, Steps, Verifier};

@@ -1,11 +1,11 @@
 //! Passes that are split off for readers.
 ghost use Rattle.std.specs.Prelude.{◌≡◌, ◌<◌, length, IfOk, Some};
 ghost use Rattle.turn_lock.specs.Locks.{known, lock, IsPassOf};
-ghost use Rattle.reader_hub.specs.declared.core_head.CoreHead.{CoreHead};
-ghost use Rattle.reader_threads.specs.Jobs.{passes_seen};
-ghost use Rattle.reader_threads.specs.Seats.{AreSeats};
+ghost use Rattle.reader_hub.specs.declared.reader_hub.core_head.CoreHead.{CoreHead};
+ghost use Rattle.reader_hub.specs.ReaderThreads.Jobs.{passes_seen};
+ghost use Rattle.reader_hub.specs.ReaderThreads.Seats.{AreSeats};
 
-use reader_hub::{Hub, Pass};
+use crate::reader_hub::{Hub, Pass};
 use std::alloc::{AllocError, Global};
 
 /// So many passes, split off the first one: their numbers are 1, 2 and so on.

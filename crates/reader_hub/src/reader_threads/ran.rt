@@ -2,15 +2,15 @@
 ghost use Rattle.std.specs.Prelude.{◌+◌, vec_len, IfOk};
 ghost use Rattle.std.specs.List.{AllByRecursion};
 ghost use Rattle.turn_lock.specs.Locks.{limit_of};
-ghost use Rattle.reader_threads.specs.Jobs.{IsFit};
-ghost use Rattle.reader_threads.specs.Rooms.{IsFree};
-ghost use Rattle.reader_threads.specs.Starts.{RunsAll};
+ghost use Rattle.reader_hub.specs.ReaderThreads.Jobs.{IsFit};
+ghost use Rattle.reader_hub.specs.ReaderThreads.Rooms.{IsFree};
+ghost use Rattle.reader_hub.specs.ReaderThreads.Starts.{RunsAll};
 
-use crate::LastRound;
-use crate::job::{Job, JobEnd, run_job};
-use crate::started::{Ends, Started, end_all, start};
+use crate::reader_hub::{Hub, Pass};
+use crate::reader_threads::LastRound;
+use crate::reader_threads::job::{Job, JobEnd, run_job};
+use crate::reader_threads::started::{Ends, Started, end_all, start};
 use keri_outside::{Gate, Limits, Source, Verifier};
-use reader_hub::{Hub, Pass};
 use run_status::ReaderEnd;
 use std::alloc::{AllocError, Global};
 use std::sync::Wait;

@@ -1,22 +1,22 @@
 //! Seats for the readers of one core.
 ghost use Rattle.std.specs.Prelude.{◌≡◌, ◌<◌, [], length, map, vec_len, IfOk};
-ghost use Rattle.run_status.specs.Readers.{reader_seen};
-ghost use Rattle.validator_core.specs.View.{Stands, told_of};
-ghost use Rattle.reader_threads.specs.Asked.{EachAsksOnly};
-ghost use Rattle.reader_threads.specs.Fed.{AllRead};
-ghost use Rattle.reader_threads.specs.Given.{given_by};
-ghost use Rattle.reader_threads.specs.Seats.{AreReady, HasSeats, mode_of};
-ghost use Rattle.reader_threads.specs.Told.{AllTold};
-ghost use Rattle.journal.specs.Questions.{IsInStep};
+ghost use Rattle.run_status.specs.RunStatus.Readers.{reader_seen};
+ghost use Rattle.validator_core.specs.ValidatorCore.View.{Stands, told_of};
+ghost use Rattle.reader_hub.specs.ReaderThreads.Asked.{EachAsksOnly};
+ghost use Rattle.reader_hub.specs.ReaderThreads.Fed.{AllRead};
+ghost use Rattle.reader_hub.specs.ReaderThreads.Given.{given_by};
+ghost use Rattle.reader_hub.specs.ReaderThreads.Seats.{AreReady, HasSeats, mode_of};
+ghost use Rattle.reader_hub.specs.ReaderThreads.Told.{AllTold};
+ghost use Rattle.journal.specs.Journal.Questions.{IsInStep};
 
-use crate::job::{Job, jobs_for};
-use crate::last_round::ask_rest;
-use crate::passes::split_off;
-use crate::ran::{AllEnds, Ran, Room, reserve, run_all};
-use crate::started::Ends;
-use crate::{LastRound, Providers};
+use crate::reader_hub::{Extent, Hub, Pass};
+use crate::reader_threads::job::{Job, jobs_for};
+use crate::reader_threads::last_round::ask_rest;
+use crate::reader_threads::passes::split_off;
+use crate::reader_threads::ran::{AllEnds, Ran, Room, reserve, run_all};
+use crate::reader_threads::started::Ends;
+use crate::reader_threads::{LastRound, Providers};
 use keri_outside::{Gate, Limits, Source, Verifier};
-use reader_hub::{Extent, Hub, Pass};
 use run_status::ReaderEnd;
 use std::alloc::{AllocError, Global};
 use std::snapshot::Snapshot;

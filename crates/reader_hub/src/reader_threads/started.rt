@@ -2,14 +2,14 @@
 ghost use Rattle.std.specs.Prelude.{◌≡◌, [], ◌∷◌, ◌++◌, ◌+◌, ◌≤◌, List, IfSome, IfNone, vec_len, vec_capacity};
 ghost use Rattle.std.specs.List.{AllByRecursion};
 ghost use Rattle.turn_lock.specs.Locks.{limit_of};
-ghost use Rattle.reader_threads.specs.Jobs.{HasRun, IsFit};
-ghost use Rattle.reader_threads.specs.Rooms.{IsFree};
-ghost use Rattle.reader_threads.specs.Starts.{AreStarted, EndsAll, IsStarted};
-ghost use Rattle.reader_threads.specs.declared.job.Job.{Job as JobValue};
+ghost use Rattle.reader_hub.specs.ReaderThreads.Jobs.{HasRun, IsFit};
+ghost use Rattle.reader_hub.specs.ReaderThreads.Rooms.{IsFree};
+ghost use Rattle.reader_hub.specs.ReaderThreads.Starts.{AreStarted, EndsAll, IsStarted};
+ghost use Rattle.reader_hub.specs.declared.reader_threads.job.Job.{Job as JobValue};
 
-use crate::job::{Job, JobEnd, run_job};
+use crate::reader_hub::{Hub, Pass};
+use crate::reader_threads::job::{Job, JobEnd, run_job};
 use keri_outside::{Gate, Limits, Source, Verifier};
-use reader_hub::{Hub, Pass};
 use run_status::ReaderEnd;
 use std::alloc::Global;
 use std::snapshot::Snapshot;
@@ -26,7 +26,7 @@ pub(crate) struct Promised<S, V> {
 
 impl<S: Source, V: Verifier> Promise<JobEnd<S, V>> for Promised<S, V> {
     ghost use Rattle.turn_lock.specs.Locks.{limit_of};
-    ghost use Rattle.reader_threads.specs.Jobs.{HasRun};
+    ghost use Rattle.reader_hub.specs.ReaderThreads.Jobs.{HasRun};
 
     ghost kept_by = { λ p r. HasRun S.left S.faults V.says V.inquiries V.faults p.limits
         (limit_of p.hub.value.turn) p.job.value r };

@@ -1,8 +1,8 @@
 //! How a reader closes where the hub gives no answer.
 ghost use Rattle.std.specs.Prelude.{◌≡◌};
-ghost use Rattle.shared_reader.specs.Asks.{closed_by};
+ghost use Rattle.reader_hub.specs.SharedReader.Asks.{closed_by};
 
-use reader_hub::HubFault;
+use crate::reader_hub::HubFault;
 use run_status::Close;
 
 /// The close by a fault of the hub: that all turns were taken is a limit that was reached.

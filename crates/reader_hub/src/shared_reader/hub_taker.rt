@@ -1,15 +1,14 @@
 //! What takes the messages of a reader.
 ghost use Rattle.std.specs.Prelude.{◌≡◌};
 ghost use Rattle.turn_lock.specs.Locks.{lock_of};
-ghost use Rattle.shared_reader.specs.Asks.{at_last};
+ghost use Rattle.reader_hub.specs.SharedReader.Asks.{at_last};
 
-use crate::offers::offer;
+use crate::reader_hub::{Extent, Hub, Pass};
+use crate::shared_reader::offers::offer;
 use cesr_stream::Message;
 use journal::Refusal;
 use keri_outside::{Gate, Verifier};
-use message_feed::{FeedClose, Taker};
-use reader_hub::{Extent, Hub, Pass};
-use run_status::Close;
+use run_status::{Close, FeedClose, Taker};
 use std::alloc::Global;
 use std::sync::Wait;
 
@@ -31,8 +30,8 @@ pub(crate) struct HubTaker<'a, V, G, W> {
 }
 
 impl<'a, V: Verifier + Drop, G: Gate, W: Wait> Taker for HubTaker<'a, V, G, W> {
-    ghost use Rattle.shared_reader.specs.Taken.{HasStopped, HasTaken};
-    ghost use Rattle.shared_reader.specs.Takers.{standing_of};
+    ghost use Rattle.reader_hub.specs.SharedReader.Taken.{HasStopped, HasTaken};
+    ghost use Rattle.reader_hub.specs.SharedReader.Takers.{standing_of};
 
     type Stop = Close;
 
@@ -49,8 +48,8 @@ impl<'a, V: Verifier + Drop, G: Gate, W: Wait> Taker for HubTaker<'a, V, G, W> {
 
 impl<'a, V: Verifier + Drop, G: Gate, W: Wait> HubTaker<'a, V, G, W> {
     ghost use Rattle.std.specs.Prelude.{OnOk, IfErr};
-    ghost use Rattle.shared_reader.specs.Taken.{Finishes, StopsAt, TakesLast, TakesOne};
-    ghost use Rattle.shared_reader.specs.Takers.{standing_of};
+    ghost use Rattle.reader_hub.specs.SharedReader.Taken.{Finishes, StopsAt, TakesLast, TakesOne};
+    ghost use Rattle.reader_hub.specs.SharedReader.Takers.{standing_of};
 
     // Offers a message between the two calls of the gate.
     fn take_message(&mut self, message: &Message, extent: Extent) -> Result<(), Close>

@@ -1,17 +1,17 @@
 //! Messages that are offered to the hub.
 ghost use Rattle.std.specs.Prelude.{◌≡◌, ◌∷◌, ◌++◌, [], OnOk, OnErr, IfErr};
 ghost use Rattle.turn_lock.specs.Locks.{limit_of, known, lock_of, IsPassOf};
-ghost use Rattle.shared_reader.specs.Asks.{TellsNothing};
-ghost use Rattle.shared_reader.specs.Offers.{IsKeptOut, OffersOne};
-ghost use Rattle.shared_reader.specs.Taken.{StopsAt, TakesOne, standing};
-ghost use Rattle.reader_hub.specs.declared.extent.Extent.{Extent as ExtentValue};
+ghost use Rattle.reader_hub.specs.SharedReader.Asks.{TellsNothing};
+ghost use Rattle.reader_hub.specs.SharedReader.Offers.{IsKeptOut, OffersOne};
+ghost use Rattle.reader_hub.specs.SharedReader.Taken.{StopsAt, TakesOne, standing};
+ghost use Rattle.reader_hub.specs.declared.reader_hub.extent.Extent.{Extent as ExtentValue};
 
-use crate::closes::close_of;
-use crate::questions::ask_open;
+use crate::reader_hub::{Extent, Hub, Pass};
+use crate::shared_reader::closes::close_of;
+use crate::shared_reader::questions::ask_open;
 use cesr_stream::Message;
 use journal::{Reason, Refusal, Reply};
 use keri_outside::Verifier;
-use reader_hub::{Extent, Hub, Pass};
 use run_status::Close;
 use std::alloc::Global;
 use std::sync::Wait;

@@ -1,11 +1,11 @@
 //! The open questions, which the verifier is asked between two turns.
 ghost use Rattle.std.specs.Prelude.{◌≡◌, false, OnOk, IfOk, IfErr, if◌then◌else◌};
 ghost use Rattle.turn_lock.specs.Locks.{limit_of, known, IsPassOf};
-ghost use Rattle.shared_reader.specs.Asks.{Asks, LeavesNone, StopsAsking};
+ghost use Rattle.reader_hub.specs.SharedReader.Asks.{Asks, LeavesNone, StopsAsking};
 
-use crate::closes::close_of;
+use crate::reader_hub::{Asked, Extent, Hub, Pass};
+use crate::shared_reader::closes::close_of;
 use keri_outside::{Failed, Verifier};
-use reader_hub::{Asked, Extent, Hub, Pass};
 use run_status::Close;
 use std::alloc::Global;
 use std::sync::Wait;

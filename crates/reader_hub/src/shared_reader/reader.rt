@@ -2,15 +2,14 @@
 ghost use Rattle.std.specs.Prelude.{[]};
 ghost use Rattle.turn_lock.specs.Known.{OwnsAlone};
 ghost use Rattle.turn_lock.specs.Locks.{limit_of, lock_of, known, IsPassOf};
-ghost use Rattle.shared_reader.specs.ReadsOne.{ReadsOne, source_told};
-ghost use Rattle.shared_reader.specs.Taken.{standing};
+ghost use Rattle.reader_hub.specs.SharedReader.ReadsOne.{ReadsOne, source_told};
+ghost use Rattle.reader_hub.specs.SharedReader.Taken.{standing};
 
-use crate::hub_taker::HubTaker;
+use crate::reader_hub::{Extent, Hub, Pass};
+use crate::shared_reader::hub_taker::HubTaker;
 use journal::Refusal;
 use keri_outside::{Gate, Limits, Source, Verifier};
-use message_feed::feed_messages;
-use reader_hub::{Extent, Hub, Pass};
-use run_status::Close;
+use run_status::{Close, feed_messages};
 use std::alloc::Global;
 use std::sync::Wait;
 

@@ -3,7 +3,7 @@ use Rattle.std.proofs.Common.{◌≡◌, ℕ, List, [], ◌∷◌, ◌++◌, map
 use Rattle.std.proofs.lemmas.List.{map-append}
 use Rattle.std.proofs.lemmas.List.Elements.{All-append, All-cons, All-nil}
 use Rattle.keri_outside.specs.Doors.{Comes}
-use Rattle.door_links.specs.Taken.{AreTaken}
+use Rattle.run_status.specs.DoorLinks.Taken.{AreTaken}
 
 -- the next link comes behind those that were taken
 pub taken_more : {C S : Type 0} (E : Type 0) (source : C → S) (left : S → Option (List ℕ)) (old mid new : Option (List (List ℕ))) (sources : List S) (link : C)

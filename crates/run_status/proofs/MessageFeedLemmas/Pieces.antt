@@ -1,18 +1,18 @@
 -- What one more piece makes of what stands, and how reading closes.
 use Rattle.std.proofs.Common.{◌≡◌, ℕ, ◌≤◌, ◌+◌, ◌-◌, List, [], ◌∷◌, ◌++◌, length, Option, Some, None, refl, sym, ◌∙◌, ap, subst, arith, append-nil, append_assoc, length-append, inr}
-use Rattle.keri_specs.specs.Causes.{Rose}
-use Rattle.keri_specs.specs.Told.{before, IsAtEnd}
+use Rattle.lists.specs.KeriSpecs.Causes.{Rose}
+use Rattle.lists.specs.KeriSpecs.Told.{before, IsAtEnd}
 use Rattle.cesr_stream.specs.declared.message.Message.{Message}
 use Rattle.cesr_stream.specs.Reading.{Reading, fed_with}
 use Rattle.cesr_stream.specs.Assembly.{Assembly}
 use Rattle.cesr_stream.proofs.Fed.{fed_on}
 use Rattle.cesr_stream.proofs.Items.{stand_more}
-use Rattle.message_feed.specs.declared.feed_close.FeedClose.{FeedClose}
-use Rattle.message_feed.specs.declared.feed_close.FeedClose.TheVariants.{End, Bad, ReadFault, Full, OutOfMemory, Stopped}
-use Rattle.message_feed.specs.Serving.{Serves, IsIdle}
-use Rattle.message_feed.specs.Closing.{Gave, ClosesBy}
-use Rattle.message_feed.specs.Pieces.{EndsSo, PassesEnd}
-use Rattle.message_feed.specs.Feeds.{Runs, TakesBy}
+use Rattle.run_status.specs.declared.message_feed.feed_close.FeedClose.{FeedClose}
+use Rattle.run_status.specs.declared.message_feed.feed_close.FeedClose.TheVariants.{End, Bad, ReadFault, Full, OutOfMemory, Stopped}
+use Rattle.run_status.specs.MessageFeed.Serving.{Serves, IsIdle}
+use Rattle.run_status.specs.MessageFeed.Closing.{Gave, ClosesBy}
+use Rattle.run_status.specs.MessageFeed.Pieces.{EndsSo, PassesEnd}
+use Rattle.run_status.specs.MessageFeed.Feeds.{Runs, TakesBy}
 
 -- pieces one after the other are one piece
 pub gave_more : (first middle last : Option (List ℕ)) (bytes piece : List ℕ) → Gave first middle bytes → Gave middle last piece → Gave first last (bytes ++ piece)

@@ -8,9 +8,9 @@ use Rattle.cesr_stream.specs.Reading.{Reading, AnswersItem}
 use Rattle.cesr_stream.specs.Assembly.{Assembly, IsAssembled}
 use Rattle.cesr_stream.proofs.Fed.{fed_answered, stand_on}
 use Rattle.std.specs.declared.result.Result.TheVariants.{Ok, Err}
-use Rattle.message_feed.specs.declared.halt.Halt.{Halt}
-use Rattle.message_feed.specs.declared.halt.Halt.TheVariants.{OutOfMemory, Stopped}
-use Rattle.message_feed.specs.Serving.{Serves, HandsOn, Halts, SameLimits}
+use Rattle.run_status.specs.declared.message_feed.halt.Halt.{Halt}
+use Rattle.run_status.specs.declared.message_feed.halt.Halt.TheVariants.{OutOfMemory, Stopped}
+use Rattle.run_status.specs.MessageFeed.Serving.{Serves, HandsOn, Halts, SameLimits}
 
 -- what is refused, and whether no item is there, changes nothing of what was taken
 pub serves_still : {T : Type 0} (has_taken : T → List Message → Type 0) (fed : List ℕ) (first old : Reading) (assembler_first assembler : Assembly) (taker : T) (bad : Option Bad) (drained : Bool)

@@ -1,10 +1,10 @@
 -- What one more piece makes of what was read.
 use Rattle.std.proofs.Common.{◌≡◌, ℕ, ◌+◌, List, [], ◌∷◌, ◌++◌, length, Option, Some, None, ◌∙◌, ap, sym, subst, arith, append_assoc, length-append}
-use Rattle.keri_specs.specs.Causes.{Rose}
-use Rattle.keri_specs.specs.Told.{before}
-use Rattle.message_feed.specs.declared.text_close.TextClose.{TextClose}
-use Rattle.message_feed.specs.declared.text_close.TextClose.TheVariants.{End, ReadFault, Full, OutOfMemory}
-use Rattle.message_feed.specs.Texts.{Gave, ReadsText, IsPiece, StopsSo, StopsFull}
+use Rattle.lists.specs.KeriSpecs.Causes.{Rose}
+use Rattle.lists.specs.KeriSpecs.Told.{before}
+use Rattle.run_status.specs.declared.message_feed.text_close.TextClose.{TextClose}
+use Rattle.run_status.specs.declared.message_feed.text_close.TextClose.TheVariants.{End, ReadFault, Full, OutOfMemory}
+use Rattle.run_status.specs.MessageFeed.Texts.{Gave, ReadsText, IsPiece, StopsSo, StopsFull}
 
 -- pieces one after the other are one piece
 pub gave_more : (first middle last : Option (List ℕ)) (bytes piece : List ℕ) → Gave first middle bytes → Gave middle last piece → Gave first last (bytes ++ piece)

@@ -1,13 +1,13 @@
 -- Why a run answers its status.
 use Rattle.std.proofs.Common.{◌≡◌, ◌≢◌, ℕ, ◌⊎◌, inl, inr, Bool, true, false, ◌||◌, List, [], ◌∷◌, Option, Some, None, refl, sym, ◌∙◌, ap, if◌then◌else◌}
 use Rattle.std.specs.List.{list_any}
-use Rattle.keri_specs.specs.Causes.{Rose}
-use Rattle.run_status.specs.declared.besides.Besides.{Besides}
-use Rattle.run_status.specs.declared.close.Close.{Close}
-use Rattle.run_status.specs.declared.close.Close.TheVariants.{End, Bad, ReadFault, VerifierFault, SignerFault, DiskFault, WriteFault, Malformed, Full, OutOfMemory}
-use Rattle.run_status.specs.Readers.{Reader, SinkTold, HasClose, close_found}
-use Rattle.run_status.specs.Settling.{found, SettlesBy, Puts, FaultsHaveCauses}
-use Rattle.run_status.specs.Status.{status_of}
+use Rattle.lists.specs.KeriSpecs.Causes.{Rose}
+use Rattle.run_status.specs.declared.run_status.besides.Besides.{Besides}
+use Rattle.run_status.specs.declared.run_status.close.Close.{Close}
+use Rattle.run_status.specs.declared.run_status.close.Close.TheVariants.{End, Bad, ReadFault, VerifierFault, SignerFault, DiskFault, WriteFault, Malformed, Full, OutOfMemory}
+use Rattle.run_status.specs.RunStatus.Readers.{Reader, SinkTold, HasClose, close_found}
+use Rattle.run_status.specs.RunStatus.Settling.{found, SettlesBy, Puts, FaultsHaveCauses}
+use Rattle.run_status.specs.RunStatus.Status.{status_of}
 
 -- a status is that of the first cause
 skip : (b : Bool) (x y n : ℕ) → x ≢ n → (if b then x else y) ≡ n → y ≡ n

@@ -1,15 +1,15 @@
 -- What was read of a source, and why no more is read.
 use Rattle.std.specs.Prelude.{◌≡◌, ◌≢◌, ℕ, ◌⊎◌, List, [], ◌∷◌, ◌++◌, length}
 use Rattle.std.specs.declared.option.Option.{Option}
-use Rattle.keri_specs.specs.Causes.{Rose}
-use Rattle.keri_specs.specs.Told.{before, IsAtEnd}
+use Rattle.lists.specs.KeriSpecs.Causes.{Rose}
+use Rattle.lists.specs.KeriSpecs.Told.{before, IsAtEnd}
 use Rattle.cesr_stream.specs.declared.bad.Bad.{Bad}
 use Rattle.cesr_stream.specs.declared.bad.BadReason.TheVariants.{Truncated}
 use Rattle.cesr_stream.specs.Parts.{unfinished}
 use Rattle.cesr_stream.specs.Reading.{Reading, judged, bad_at}
-use Rattle.message_feed.specs.Serving.{IsRefused}
-use Rattle.message_feed.specs.declared.feed_close.FeedClose.{FeedClose}
-use Rattle.message_feed.specs.declared.feed_close.FeedClose.TheVariants.{End, Bad as BadClose, ReadFault, Full, OutOfMemory, Stopped}
+use Rattle.run_status.specs.MessageFeed.Serving.{IsRefused}
+use Rattle.run_status.specs.declared.message_feed.feed_close.FeedClose.{FeedClose}
+use Rattle.run_status.specs.declared.message_feed.feed_close.FeedClose.TheVariants.{End, Bad as BadClose, ReadFault, Full, OutOfMemory, Stopped}
 
 -- the source gave these bytes, where it tells
 abbrev pub Gave : Option (List ℕ) → Option (List ℕ) → List ℕ → Type 0

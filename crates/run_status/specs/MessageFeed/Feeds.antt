@@ -8,9 +8,9 @@ use Rattle.cesr_stream.specs.Items.{Placed, Stand}
 use Rattle.cesr_stream.specs.Messages.{messages}
 use Rattle.cesr_stream.specs.Reading.{Reading, HasFed}
 use Rattle.cesr_stream.specs.Assembly.{Assembly, IsAssembled, all_of}
-use Rattle.message_feed.specs.declared.feed_close.FeedClose.{FeedClose}
-use Rattle.message_feed.specs.declared.feed_close.FeedClose.TheVariants.{End, Bad, ReadFault, Full, OutOfMemory, Stopped}
-use Rattle.message_feed.specs.Closing.{ClosesBy}
+use Rattle.run_status.specs.declared.message_feed.feed_close.FeedClose.{FeedClose}
+use Rattle.run_status.specs.declared.message_feed.feed_close.FeedClose.TheVariants.{End, Bad, ReadFault, Full, OutOfMemory, Stopped}
+use Rattle.run_status.specs.MessageFeed.Closing.{ClosesBy}
 
 -- These items stand from the front of the bytes that were read, at most as many as may be.
 pub record Stream (limits : Limits) (fed : List ℕ) (reading : Reading) (items : List Placed) : Type 0 where

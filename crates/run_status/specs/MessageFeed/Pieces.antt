@@ -2,16 +2,16 @@
 use Rattle.std.specs.Prelude.{◌≡◌, ◌≢◌, ℕ, ◌≤◌, List, [], ◌∷◌, length}
 use Rattle.std.specs.declared.option.Option.{Option}
 use Rattle.std.specs.declared.option.Option.TheVariants.{None}
-use Rattle.keri_specs.specs.Causes.{Rose}
-use Rattle.keri_specs.specs.Told.{IsAtEnd}
+use Rattle.lists.specs.KeriSpecs.Causes.{Rose}
+use Rattle.lists.specs.KeriSpecs.Told.{IsAtEnd}
 use Rattle.keri_outside.specs.declared.failed.Failed.{Failed}
 use Rattle.cesr_stream.specs.declared.bad.BadReason.TheVariants.{Truncated}
 use Rattle.cesr_stream.specs.Reading.{Reading, bad_at, fed_with, refused_by}
-use Rattle.message_feed.specs.declared.feed_close.FeedClose.{FeedClose}
-use Rattle.message_feed.specs.declared.feed_close.FeedClose.TheVariants.{End, Bad, ReadFault, Full, OutOfMemory, Stopped}
-use Rattle.message_feed.specs.declared.halt.Halt.{Halt}
-use Rattle.message_feed.specs.declared.halt.Halt.TheVariants.{OutOfMemory as NoMemory, Stopped as Halted}
-use Rattle.message_feed.specs.Closing.{Gave}
+use Rattle.run_status.specs.declared.message_feed.feed_close.FeedClose.{FeedClose}
+use Rattle.run_status.specs.declared.message_feed.feed_close.FeedClose.TheVariants.{End, Bad, ReadFault, Full, OutOfMemory, Stopped}
+use Rattle.run_status.specs.declared.message_feed.halt.Halt.{Halt}
+use Rattle.run_status.specs.declared.message_feed.halt.Halt.TheVariants.{OutOfMemory as NoMemory, Stopped as Halted}
+use Rattle.run_status.specs.MessageFeed.Closing.{Gave}
 
 -- a piece of so many bytes was fed, or none at the end of input
 pub record FeedsPiece (left_old left_new : Option (List ℕ)) (faults_old faults_new : ℕ) (room : ℕ) (old new : Reading) (count : ℕ) : Type 0 where

@@ -11,8 +11,8 @@ use Rattle.cesr_stream.specs.Parts.{refused, unfinished}
 use Rattle.cesr_stream.specs.Items.{Placed, placed, Stand}
 use Rattle.cesr_stream.specs.Reading.{Reading, HasFed, judged}
 use Rattle.cesr_stream.specs.Assembly.{Assembly, IsAssembled}
-use Rattle.message_feed.specs.declared.halt.Halt.{Halt}
-use Rattle.message_feed.specs.declared.halt.Halt.TheVariants.{OutOfMemory, Stopped}
+use Rattle.run_status.specs.declared.message_feed.halt.Halt.{Halt}
+use Rattle.run_status.specs.declared.message_feed.halt.Halt.TheVariants.{OutOfMemory, Stopped}
 
 -- the limits are the same
 pub record SameLimits (old new : Reading) (assembler_old assembler_new : Assembly) : Type 0 where

@@ -1,10 +1,10 @@
 -- What was read of a source, and why no more is read.
 use Rattle.std.specs.Prelude.{◌≡◌, ℕ, ◌≤◌, List, [], ◌∷◌, ◌++◌, length}
 use Rattle.std.specs.declared.option.Option.{Option}
-use Rattle.keri_specs.specs.Causes.{Rose}
-use Rattle.keri_specs.specs.Told.{before, IsAtEnd}
-use Rattle.message_feed.specs.declared.text_close.TextClose.{TextClose}
-use Rattle.message_feed.specs.declared.text_close.TextClose.TheVariants.{End, ReadFault, Full, OutOfMemory}
+use Rattle.lists.specs.KeriSpecs.Causes.{Rose}
+use Rattle.lists.specs.KeriSpecs.Told.{before, IsAtEnd}
+use Rattle.run_status.specs.declared.message_feed.text_close.TextClose.{TextClose}
+use Rattle.run_status.specs.declared.message_feed.text_close.TextClose.TheVariants.{End, ReadFault, Full, OutOfMemory}
 
 -- the source gave these bytes, where it tells
 abbrev pub Gave : Option (List ℕ) → Option (List ℕ) → List ℕ → Type 0

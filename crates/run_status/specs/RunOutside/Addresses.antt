@@ -4,7 +4,7 @@ use Rattle.std.specs.List.{find}
 use Rattle.std.specs.Option.{option_map}
 use Rattle.std.specs.Str.{bytes_eq}
 use Rattle.std.specs.declared.option.Option.{Option}
-use Rattle.run_outside.specs.declared.mem_address.MemAddress.{MemAddress}
+use Rattle.run_status.specs.declared.run_outside.mem_address.MemAddress.{MemAddress}
 
 -- the first address of the name
 abbrev pub address_named : List MemAddress → List ℕ → Option MemAddress

@@ -4,7 +4,7 @@ use Rattle.std.specs.List.{find}
 use Rattle.std.specs.Option.{option_map}
 use Rattle.std.specs.Str.{bytes_eq}
 use Rattle.std.specs.declared.option.Option.{Option}
-use Rattle.run_outside.specs.declared.mem_disk_file.MemDiskFile.{MemDiskFile}
+use Rattle.run_status.specs.declared.run_outside.mem_disk_file.MemDiskFile.{MemDiskFile}
 
 -- the first file of the name
 abbrev pub disk_file_named : List MemDiskFile → List ℕ → Option MemDiskFile

@@ -4,7 +4,7 @@ use Rattle.std.specs.List.{find}
 use Rattle.std.specs.Option.{option_map}
 use Rattle.std.specs.Str.{bytes_eq}
 use Rattle.std.specs.declared.option.Option.{Option}
-use Rattle.run_outside.specs.declared.mem_file.MemFile.{MemFile}
+use Rattle.run_status.specs.declared.run_outside.mem_file.MemFile.{MemFile}
 
 -- the first file of the name
 abbrev pub file_named : List MemFile → List ℕ → Option MemFile

@@ -8,7 +8,7 @@ use Rattle.cesr_codes.specs.declared.key.Key.{Key}
 use Rattle.cesr_codes.specs.declared.sig.Sig.{Sig}
 use Rattle.keri_outside.specs.Rehearsal.{rehearsal_gives}
 use Rattle.keri_outside.specs.Verdicts.{told_verdict}
-use Rattle.run_outside.specs.declared.mem_helper.MemHelper.{MemHelper}
+use Rattle.run_status.specs.declared.run_outside.mem_helper.MemHelper.{MemHelper}
 
 -- the first helper of the name
 abbrev pub helper_named : List MemHelper → List ℕ → Option MemHelper

@@ -3,9 +3,9 @@ use Rattle.std.specs.Prelude.{◌≡◌, Bool, true, false, List, ◌++◌}
 use Rattle.std.specs.List.{list_any}
 use Rattle.std.specs.declared.option.Option.{Option}
 use Rattle.std.specs.declared.option.Option.TheVariants.{None, Some}
-use Rattle.keri_specs.specs.Causes.{Rose}
-use Rattle.run_outside.specs.Told.{Told}
-use Rattle.run_outside.specs.declared.making.Making.{Making}
+use Rattle.lists.specs.KeriSpecs.Causes.{Rose}
+use Rattle.run_status.specs.RunOutside.Told.{Told}
+use Rattle.run_status.specs.declared.run_outside.making.Making.{Making}
 
 -- these makings came behind those of before, where they are told
 abbrev pub Noted : Option (List Making) → Option (List Making) → List Making → Type 0

@@ -2,12 +2,12 @@
 use Rattle.std.specs.Prelude.{if◌then◌else◌}
 use Rattle.std.specs.declared.option.Option.TheVariants.{None, Some}
 use Rattle.keri_outside.specs.declared.mem_sink.MemSink.{MemSink}
-use Rattle.run_outside.specs.Addresses.{links_under}
-use Rattle.run_outside.specs.Disks.{stored_under}
-use Rattle.run_outside.specs.Files.{held_under}
-use Rattle.run_outside.specs.Helpers.{says_under, gives_under}
-use Rattle.run_outside.specs.Told.{Told}
-use Rattle.run_outside.specs.declared.mem_outside.MemOutside.{MemOutside}
+use Rattle.run_status.specs.RunOutside.Addresses.{links_under}
+use Rattle.run_status.specs.RunOutside.Disks.{stored_under}
+use Rattle.run_status.specs.RunOutside.Files.{held_under}
+use Rattle.run_status.specs.RunOutside.Helpers.{says_under, gives_under}
+use Rattle.run_status.specs.RunOutside.Told.{Told}
+use Rattle.run_status.specs.declared.run_outside.mem_outside.MemOutside.{MemOutside}
 
 abbrev pub outside_sink : MemOutside → MemSink
 outside_sink outside = outside.sink

@@ -3,14 +3,14 @@ use Rattle.std.specs.Prelude.{◌≡◌, ℕ, Bool, List, [], ◌∷◌, ◌++�
 use Rattle.std.specs.declared.option.Option.{Option}
 use Rattle.std.specs.declared.option.Option.TheVariants.{None, Some}
 use Rattle.std.specs.declared.result.Result.{Result}
-use Rattle.keri_specs.specs.Causes.{HasCause}
+use Rattle.lists.specs.KeriSpecs.Causes.{HasCause}
 use Rattle.cesr_codes.specs.declared.key.Key.{Key}
 use Rattle.cesr_codes.specs.declared.sig.Sig.{Sig}
-use Rattle.run_outside.specs.Files.{held_under}
+use Rattle.run_status.specs.RunOutside.Files.{held_under}
 use Rattle.keri_outside.specs.declared.limits.Limits.{Limits}
-use Rattle.run_outside.specs.declared.making.Making.{Making}
-use Rattle.run_outside.specs.declared.making.MakingKind.{MakingKind}
-use Rattle.run_outside.specs.declared.mem_file.MemFile.{MemFile}
+use Rattle.run_status.specs.declared.run_outside.making.Making.{Making}
+use Rattle.run_status.specs.declared.run_outside.making.MakingKind.{MakingKind}
+use Rattle.run_status.specs.declared.run_outside.mem_file.MemFile.{MemFile}
 
 -- How often a making failed, what a source of each name holds, what a verifier of each name says of a key, a body and
 -- a signature, the signature that a signer of each name gives of a key on a body, the bytes of the file that a disk of each

@@ -2,19 +2,19 @@
 use Rattle.std.specs.Prelude.{◌≡◌, ℕ, ◌⊎◌, Bool, true, false, List, [], ◌∷◌, map, IsNone, IsSomeAnd, MatchOption, String, string_bytes}
 use Rattle.std.specs.declared.option.Option.{Option}
 use Rattle.std.specs.declared.option.Option.TheVariants.{None, Some}
-use Rattle.keri_specs.specs.Causes.{Rose}
+use Rattle.lists.specs.KeriSpecs.Causes.{Rose}
 use Rattle.command_words.specs.Inputs.{Inputs, links, named}
 use Rattle.command_words.specs.Words.{Asked, asks, blame, check, convert, export, generate, make, rehearse, validate, watch, witness}
 use Rattle.cesr_codes.specs.declared.key.Key.{Key}
 use Rattle.cesr_codes.specs.declared.sig.Sig.{Sig}
 use Rattle.keri_outside.specs.declared.signing.Signing.{Signing}
-use Rattle.run_outside.specs.Told.{Told}
-use Rattle.journal.specs.declared.journal.Journal.{Journal}
-use Rattle.run_status.specs.declared.close.Close.{Close}
-use Rattle.run_status.specs.declared.close.Close.TheVariants.{End, Bad, ReadFault, VerifierFault, SignerFault, DiskFault, WriteFault, Malformed, Full, OutOfMemory}
-use Rattle.run_status.specs.declared.besides.Besides.{Besides}
-use Rattle.run_status.specs.Readers.{HasClose, Reader, SinkTold, VerifierTold}
-use Rattle.run_status.specs.Settling.{FaultsHaveCauses, SettlesBy}
+use Rattle.run_status.specs.RunOutside.Told.{Told}
+use Rattle.journal.specs.declared.journal.journal.Journal.{Journal}
+use Rattle.run_status.specs.declared.run_status.close.Close.{Close}
+use Rattle.run_status.specs.declared.run_status.close.Close.TheVariants.{End, Bad, ReadFault, VerifierFault, SignerFault, DiskFault, WriteFault, Malformed, Full, OutOfMemory}
+use Rattle.run_status.specs.declared.run_status.besides.Besides.{Besides}
+use Rattle.run_status.specs.RunStatus.Readers.{HasClose, Reader, SinkTold, VerifierTold}
+use Rattle.run_status.specs.RunStatus.Settling.{FaultsHaveCauses, SettlesBy}
 
 -- what a signer tells: the signatures that it gives, what it was asked, and how often it has failed
 pub record SignerTold : Type 0 where

@@ -3,13 +3,13 @@ use Rattle.std.specs.Prelude.{ℕ, Bool, List, map, option_map}
 use Rattle.std.specs.declared.option.Option.{Option}
 use Rattle.cesr_codes.specs.declared.key.Key.{Key}
 use Rattle.cesr_codes.specs.declared.sig.Sig.{Sig}
-use Rattle.keri_disk.specs.Images.{DiskTold}
+use Rattle.shelf_log.specs.KeriDisk.Images.{DiskTold}
 use Rattle.keri_outside.specs.declared.inquiry.Inquiry.{Inquiry}
 use Rattle.keri_outside.specs.declared.signing.Signing.{Signing}
-use Rattle.run_outside.specs.Told.{Told}
-use Rattle.run_status.specs.Readers.{SinkTold, reader_seen, sink_seen}
-use Rattle.run_record.specs.Run.{DiskSeen, DoorTold, Run, SignerTold}
-use Rattle.run_record.specs.declared.done.Done.{Done}
+use Rattle.run_status.specs.RunOutside.Told.{Told}
+use Rattle.run_status.specs.RunStatus.Readers.{SinkTold, reader_seen, sink_seen}
+use Rattle.run_status.specs.RunRecord.Run.{DiskSeen, DoorTold, Run, SignerTold}
+use Rattle.run_status.specs.declared.run_record.done.Done.{Done}
 
 -- what is seen of a signer, and of one where it was made
 module _ {G : Type 0} (gives : G → Key → List ℕ → Option Sig) (signings : G → Option (List Signing)) (signer_faults : G → ℕ) where

@@ -5,12 +5,12 @@ use Rattle.cesr_codes.specs.declared.digest.Digest.{Digest}
 use Rattle.cesr_codes.specs.declared.key.Key.{Key}
 use Rattle.cesr_codes.specs.declared.sig.Sig.{Sig}
 use Rattle.keri_outside.specs.declared.inquiry.Inquiry.{Inquiry}
-use Rattle.journal.specs.declared.refusal.Refusal.{Refusal}
-use Rattle.run_status.specs.declared.close.Close.{Close}
-use Rattle.run_status.specs.declared.close.Close.TheVariants.{End, Bad, ReadFault, VerifierFault, SignerFault, DiskFault, WriteFault, Malformed, Full, OutOfMemory}
-use Rattle.run_status.specs.declared.findings.Findings.{Findings}
-use Rattle.run_status.specs.declared.reader_end.ReaderEnd.{ReaderEnd}
-use Rattle.run_status.specs.Status.{nothing}
+use Rattle.journal.specs.declared.journal.refusal.Refusal.{Refusal}
+use Rattle.run_status.specs.declared.run_status.close.Close.{Close}
+use Rattle.run_status.specs.declared.run_status.close.Close.TheVariants.{End, Bad, ReadFault, VerifierFault, SignerFault, DiskFault, WriteFault, Malformed, Full, OutOfMemory}
+use Rattle.run_status.specs.declared.run_status.findings.Findings.{Findings}
+use Rattle.run_status.specs.declared.run_status.reader_end.ReaderEnd.{ReaderEnd}
+use Rattle.run_status.specs.RunStatus.Status.{nothing}
 
 -- what objects of the outside tell: what a source has left, what a verifier says and what it was asked, what was written;
 -- and how often each has failed

@@ -3,16 +3,16 @@ use Rattle.std.specs.Prelude.{◌≡◌, ◌≢◌, ℕ, ◌⊎◌, ◌||◌, no
 use Rattle.std.specs.List.{list_any}
 use Rattle.std.specs.declared.option.Option.{Option}
 use Rattle.std.specs.declared.option.Option.TheVariants.{None, Some}
-use Rattle.keri_specs.specs.Causes.{Rose}
-use Rattle.keri_specs.specs.Told.{after}
+use Rattle.lists.specs.KeriSpecs.Causes.{Rose}
+use Rattle.lists.specs.KeriSpecs.Told.{after}
 use Rattle.cesr_codes.specs.declared.digest.Digest.{Digest}
-use Rattle.journal.specs.declared.refusal.Refusal.{Refusal}
-use Rattle.run_status.specs.declared.besides.Besides.{Besides}
-use Rattle.run_status.specs.declared.close.Close.{Close}
-use Rattle.run_status.specs.declared.close.Close.TheVariants.{ReadFault, VerifierFault, SignerFault, DiskFault, WriteFault, Full}
-use Rattle.run_status.specs.declared.findings.Findings.{Findings}
-use Rattle.run_status.specs.Readers.{Reader, SinkTold, HasClose, close_found}
-use Rattle.run_status.specs.Status.{status_of}
+use Rattle.journal.specs.declared.journal.refusal.Refusal.{Refusal}
+use Rattle.run_status.specs.declared.run_status.besides.Besides.{Besides}
+use Rattle.run_status.specs.declared.run_status.close.Close.{Close}
+use Rattle.run_status.specs.declared.run_status.close.Close.TheVariants.{ReadFault, VerifierFault, SignerFault, DiskFault, WriteFault, Full}
+use Rattle.run_status.specs.declared.run_status.findings.Findings.{Findings}
+use Rattle.run_status.specs.RunStatus.Readers.{Reader, SinkTold, HasClose, close_found}
+use Rattle.run_status.specs.RunStatus.Status.{status_of}
 
 -- a reader that closed so and refused these messages refused its stream or a message
 abbrev pub refuses : Close → List Refusal → Bool

@@ -1,8 +1,8 @@
 //! Links that were taken.
 ghost use Rattle.std.specs.Prelude.{◌≡◌, ◌≤◌, [], length, map, All};
 ghost use Rattle.std.specs.Vec.{vec_capacity};
-ghost use Rattle.keri_specs.specs.Told.{HasNone};
-ghost use Rattle.door_links.specs.Taken.{AreTaken, IsCaused, IsEnough};
+ghost use Rattle.lists.specs.KeriSpecs.Told.{HasNone};
+ghost use Rattle.run_status.specs.DoorLinks.Taken.{AreTaken, IsCaused, IsEnough};
 
 use keri_outside::{Caller, Door};
 

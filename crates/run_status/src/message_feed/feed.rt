@@ -1,12 +1,12 @@
 //! Reading a source to the end of its stream.
 ghost use Rattle.std.specs.Prelude.{◌≡◌, ◌≤◌, ◌<◌, ◌+◌, ◌^◌, [], None, IfOk, IfErr, length};
-ghost use Rattle.message_feed.specs.Serving.{Serves, IsIdle};
-ghost use Rattle.message_feed.specs.Feeds.{Feeds, Runs};
-ghost use Rattle.message_feed.specs.Pieces.{FeedsPiece, FeedsNone, EndsSo, PassesEnd};
+ghost use Rattle.run_status.specs.MessageFeed.Serving.{Serves, IsIdle};
+ghost use Rattle.run_status.specs.MessageFeed.Feeds.{Feeds, Runs};
+ghost use Rattle.run_status.specs.MessageFeed.Pieces.{FeedsPiece, FeedsNone, EndsSo, PassesEnd};
 
-use crate::halt::Halt;
-use crate::items::take_items;
-use crate::{FeedClose, Taker};
+use crate::message_feed::halt::Halt;
+use crate::message_feed::items::take_items;
+use crate::message_feed::{FeedClose, Taker};
 use cesr_stream::{Assembler, Message, Reader};
 use keri_outside::{Failed, Limits, Source};
 use std::alloc::Global;

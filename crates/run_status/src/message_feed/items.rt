@@ -1,9 +1,9 @@
 //! Taking the items that are whole.
 ghost use Rattle.std.specs.Prelude.{◌≡◌, None, IfOk, IfErr, OnOk};
-ghost use Rattle.message_feed.specs.Serving.{GoesOn, GoesUntil, HandsOn, StandsAt, feeding};
+ghost use Rattle.run_status.specs.MessageFeed.Serving.{GoesOn, GoesUntil, HandsOn, StandsAt, feeding};
 
-use crate::Taker;
-use crate::halt::Halt;
+use crate::message_feed::Taker;
+use crate::message_feed::halt::Halt;
 use cesr_stream::{Assembler, Bad, Item, Reader, Step};
 
 /// Takes the messages of all items that are whole, and answers why the stream is refused, where it is.

@@ -1,8 +1,8 @@
 //! The text of a source.
 ghost use Rattle.std.specs.Prelude.{◌≡◌, ◌<◌, [], IfOk, IfErr};
-ghost use Rattle.message_feed.specs.Texts.{IsPiece, ReadsText, StopsFull, StopsSo};
+ghost use Rattle.run_status.specs.MessageFeed.Texts.{IsPiece, ReadsText, StopsFull, StopsSo};
 
-use crate::TextClose;
+use crate::message_feed::TextClose;
 use keri_outside::{Failed, Source};
 use std::alloc::{AllocError, Global};
 

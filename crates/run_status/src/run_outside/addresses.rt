@@ -2,9 +2,9 @@
 ghost use Rattle.std.specs.Prelude.{◌≡◌, map, IfOk, IfSome};
 ghost use Rattle.std.specs.Option.{option_map};
 ghost use Rattle.keri_outside.specs.Doors.{door_left, door_faults};
-ghost use Rattle.run_outside.specs.Addresses.{address_named, links_under};
+ghost use Rattle.run_status.specs.RunOutside.Addresses.{address_named, links_under};
 
-use crate::{MemAddress, MemPeer};
+use crate::run_outside::{MemAddress, MemPeer};
 use keri_outside::{MemDoor, MemLink};
 use lists::{CopyValue, Items};
 use std::alloc::{AllocError, Global};

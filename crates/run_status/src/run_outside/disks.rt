@@ -1,12 +1,12 @@
 //! What the disks of an outside in memory hold.
 ghost use Rattle.std.specs.Prelude.{◌≡◌, IfSome};
 ghost use Rattle.std.specs.Option.{option_map};
-ghost use Rattle.keri_disk.specs.Memory.{mem_told};
-ghost use Rattle.run_outside.specs.Disks.{disk_file_named, stored_under};
+ghost use Rattle.shelf_log.specs.KeriDisk.Memory.{mem_told};
+ghost use Rattle.run_status.specs.RunOutside.Disks.{disk_file_named, stored_under};
 
-use crate::MemDiskFile;
-use keri_disk::MemDisk;
+use crate::run_outside::MemDiskFile;
 use lists::CopyValue;
+use shelf_log::MemDisk;
 use std::alloc::Global;
 
 // The first file of a name.

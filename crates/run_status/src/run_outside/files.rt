@@ -1,10 +1,10 @@
 //! What the files of an outside in memory hold.
 ghost use Rattle.std.specs.Prelude.{◌≡◌, IfSome};
 ghost use Rattle.std.specs.Option.{option_map};
-ghost use Rattle.run_outside.specs.Files.{file_named, held_under};
+ghost use Rattle.run_status.specs.RunOutside.Files.{file_named, held_under};
 ghost use Rattle.keri_outside.specs.Memory.{source_left, source_faults};
 
-use crate::MemFile;
+use crate::run_outside::MemFile;
 use keri_outside::MemSource;
 use lists::CopyValue;
 use std::alloc::Global;

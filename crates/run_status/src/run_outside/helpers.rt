@@ -1,10 +1,10 @@
 //! What the helpers of an outside in memory say.
 ghost use Rattle.std.specs.Prelude.{◌≡◌, [], Some, IfSome};
 ghost use Rattle.std.specs.Option.{option_map};
-ghost use Rattle.run_outside.specs.Helpers.{helper_named, says_under, gives_under};
+ghost use Rattle.run_status.specs.RunOutside.Helpers.{helper_named, says_under, gives_under};
 ghost use Rattle.keri_outside.specs.Memory.{verifier_says, verifier_faults, verifier_inquiries, signer_gives, signer_faults, signer_signings};
 
-use crate::MemHelper;
+use crate::run_outside::MemHelper;
 use keri_outside::{MemSigner, MemVerifier};
 use lists::CopyValue;
 use std::alloc::Global;

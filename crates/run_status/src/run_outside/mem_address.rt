@@ -1,6 +1,6 @@
 //! Addresses of an outside in memory.
 
-use crate::MemPeer;
+use crate::run_outside::MemPeer;
 use lists::Items;
 
 /// A name, the peers that come at a door of it, in order, and which calls of such a door, counted from 0,

@@ -1,14 +1,16 @@
 //! The outside in memory.
 ghost use Rattle.std.specs.Prelude.{◌≡◌, [], Some};
 
-use crate::addresses::door_of;
-use crate::disks::disk_of;
-use crate::files::source_of;
-use crate::helpers::{signer_of, verifier_of};
-use crate::{Making, MakingKind, MemAddress, MemDiskFile, MemFile, MemHelper, Outside};
-use keri_disk::MemDisk;
+use crate::run_outside::addresses::door_of;
+use crate::run_outside::disks::disk_of;
+use crate::run_outside::files::source_of;
+use crate::run_outside::helpers::{signer_of, verifier_of};
+use crate::run_outside::{
+    Making, MakingKind, MemAddress, MemDiskFile, MemFile, MemHelper, Outside,
+};
 use keri_outside::{Failed, Limits, MemDoor, MemGate, MemSigner, MemSink, MemSource, MemVerifier};
 use lists::Items;
+use shelf_log::MemDisk;
 use std::alloc::{AllocError, Global};
 
 /// An outside in memory, which tells all.
@@ -31,13 +33,13 @@ pub struct MemOutside {
 
 impl MemOutside {
     ghost use Rattle.std.specs.Prelude.{◌≡◌, ◌≤◌, ◌++◌, ◌∷◌, [], true, Some, IfOk, IfSome, OnOk, OnErr};
-    ghost use Rattle.keri_disk.specs.Memory.{mem_told};
-    ghost use Rattle.keri_specs.specs.Causes.{Rose};
-    ghost use Rattle.run_outside.specs.Memory.{outside_told, outside_sink};
-    ghost use Rattle.run_outside.specs.Told.{Grows, Makes, first_told, making};
-    ghost use Rattle.run_outside.specs.Helpers.{says_under, gives_under};
-    ghost use Rattle.run_outside.specs.Disks.{stored_under};
-    ghost use Rattle.run_outside.specs.Addresses.{links_under};
+    ghost use Rattle.shelf_log.specs.KeriDisk.Memory.{mem_told};
+    ghost use Rattle.lists.specs.KeriSpecs.Causes.{Rose};
+    ghost use Rattle.run_status.specs.RunOutside.Memory.{outside_told, outside_sink};
+    ghost use Rattle.run_status.specs.RunOutside.Told.{Grows, Makes, first_told, making};
+    ghost use Rattle.run_status.specs.RunOutside.Helpers.{says_under, gives_under};
+    ghost use Rattle.run_status.specs.RunOutside.Disks.{stored_under};
+    ghost use Rattle.run_status.specs.RunOutside.Addresses.{links_under};
 
     /// An outside with these files, this sink, no helpers, no disks and no doors. Its makings of the numbers in `failing`, counted from 0, fail.
     pub fn new(
@@ -169,7 +171,7 @@ impl MemOutside {
 
 impl Outside for MemOutside {
     ghost use Rattle.std.proofs.Common.{refl};
-    ghost use Rattle.run_outside.specs.Memory.{outside_told, outside_sink};
+    ghost use Rattle.run_status.specs.RunOutside.Memory.{outside_told, outside_sink};
 
     type Source = MemSource;
 

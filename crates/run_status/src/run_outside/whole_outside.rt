@@ -1,14 +1,14 @@
 //! All that a program reaches.
 ghost use Rattle.std.specs.Prelude.{◌≡◌, IfOk};
 ghost use Rattle.std.specs.Borrow.{Lends, sem};
-ghost use Rattle.keri_specs.specs.Told.{HasNone};
-ghost use Rattle.run_outside.specs.Told.{Told, Makes};
-ghost use Rattle.run_outside.specs.declared.making.MakingKind.TheVariants.{Source as SourceKind, Verifier as VerifierKind};
-ghost use Rattle.run_outside.specs.declared.making.MakingKind.TheVariants.{Signer as SignerKind, Disk as DiskKind, OldDisk as OldDiskKind};
-ghost use Rattle.run_outside.specs.declared.making.MakingKind.TheVariants.{Door as DoorKind};
+ghost use Rattle.lists.specs.KeriSpecs.Told.{HasNone};
+ghost use Rattle.run_status.specs.RunOutside.Told.{Told, Makes};
+ghost use Rattle.run_status.specs.declared.run_outside.making.MakingKind.TheVariants.{Source as SourceKind, Verifier as VerifierKind};
+ghost use Rattle.run_status.specs.declared.run_outside.making.MakingKind.TheVariants.{Signer as SignerKind, Disk as DiskKind, OldDisk as OldDiskKind};
+ghost use Rattle.run_status.specs.declared.run_outside.making.MakingKind.TheVariants.{Door as DoorKind};
 
-use keri_disk::Disk;
 use keri_outside::{Door, Failed, Gate, Limits, Signer, Sink, Source, Verifier};
+use shelf_log::Disk;
 
 /// The objects that a program is given. What it gives out wasn't asked yet, and starts with a count of no faults. A source and a
 /// verifier may go to the thread of a reader, and all readers pass the one gate.

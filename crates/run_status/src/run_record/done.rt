@@ -1,9 +1,9 @@
 //! What a run hands back.
 
+use crate::run_outside::Outside;
+use crate::run_status::ReaderEnd;
 use journal::Journal;
 use keri_outside::Door;
-use run_outside::Outside;
-use run_status::ReaderEnd;
 
 /// The status where there was no memory.
 pub const NO_MEMORY: u8 = 10;

@@ -1,6 +1,6 @@
 //! The journal of a run in which nothing is told.
 ghost use Rattle.std.specs.Prelude.{◌≡◌};
-ghost use Rattle.run_record.specs.NoJournal.{no_journal};
+ghost use Rattle.run_status.specs.RunRecord.NoJournal.{no_journal};
 
 use journal::Journal;
 use lists::Items;

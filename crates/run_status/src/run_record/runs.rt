@@ -1,13 +1,13 @@
 //! What is seen of a run.
 
-use run_outside::Outside;
+use crate::run_outside::Outside;
 
 /// Gives what is seen of a run as one value. Each outside has it, by the impl below.
 pub trait Runs: Outside {
     ghost use Rattle.std.specs.Prelude.{◌≡◌};
-    ghost use Rattle.run_record.specs.Run.{Run};
-    ghost use Rattle.run_record.specs.Seen.{run_over};
-    ghost use Rattle.run_record.specs.declared.done.Done.{Done as Back};
+    ghost use Rattle.run_status.specs.RunRecord.Run.{Run};
+    ghost use Rattle.run_status.specs.RunRecord.Seen.{run_over};
+    ghost use Rattle.run_status.specs.declared.run_record.done.Done.{Done as Back};
 
     /// Of the outside before and after it, and of what it hands back.
     ghost run: { Self → Self → Back Self Self.Source Self.Verifier Self.Signer Self.Disk Self.Door Self.Sink Self.Gate Self.Door.Sink → Run };
@@ -22,7 +22,7 @@ pub trait Runs: Outside {
 
 impl<O: Outside> Runs for O {
     ghost use Rattle.std.specs.Prelude.{refl};
-    ghost use Rattle.run_record.specs.Seen.{run_over};
+    ghost use Rattle.run_status.specs.RunRecord.Seen.{run_over};
 
     ghost run = { run_over O.Source.left O.Source.faults
         O.Verifier.says O.Verifier.inquiries O.Verifier.faults

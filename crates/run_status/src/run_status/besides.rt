@@ -27,7 +27,7 @@ pub struct Besides {
 }
 
 impl Besides {
-    ghost use Rattle.run_status.specs.Status.{nothing_besides};
+    ghost use Rattle.run_status.specs.RunStatus.Status.{nothing_besides};
 
     /// That nothing was found.
     pub fn nothing() -> Besides

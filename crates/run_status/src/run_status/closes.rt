@@ -1,10 +1,10 @@
 //! How the readers of a run ended.
 ghost use Rattle.std.specs.Prelude.{◌≡◌};
 ghost use Rattle.std.specs.List.{list_any};
-ghost use Rattle.run_status.specs.Readers.{close_found};
-ghost use Rattle.run_status.specs.Settling.{refuses, saw_another};
+ghost use Rattle.run_status.specs.RunStatus.Readers.{close_found};
+ghost use Rattle.run_status.specs.RunStatus.Settling.{refuses, saw_another};
 
-use crate::{Close, ReaderEnd};
+use crate::run_status::{Close, ReaderEnd};
 
 /// Whether some reader closed by a fault of its source.
 pub(crate) fn some_read_fault<S, V>(readers: &[ReaderEnd<S, V>]) -> bool

@@ -1,6 +1,6 @@
 //! What the status of a run depends on.
 ghost use Rattle.std.specs.Prelude.{◌≡◌};
-ghost use Rattle.run_status.specs.Status.{status_of};
+ghost use Rattle.run_status.specs.RunStatus.Status.{status_of};
 
 /// What a run found.
 #[derive(Clone, Copy, PartialEq, Eq, Debug)]
@@ -28,7 +28,7 @@ pub(crate) struct Findings {
 }
 
 impl Findings {
-    ghost use Rattle.run_status.specs.Status.{nothing};
+    ghost use Rattle.run_status.specs.RunStatus.Status.{nothing};
     ghost use Rattle.std.specs.Prelude.{true};
 
     /// That nothing was found.

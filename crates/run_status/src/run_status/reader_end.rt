@@ -1,7 +1,7 @@
 //! What a run hands back of a reader.
 ghost use Rattle.std.specs.Prelude.{◌≡◌};
 
-use crate::Close;
+use crate::run_status::Close;
 use cesr_codes::Digest;
 use journal::Refusal;
 use lists::Items;
@@ -19,7 +19,7 @@ pub struct ReaderEnd<S, V> {
 }
 
 impl<S, V> ReaderEnd<S, V> {
-    ghost use Rattle.run_status.specs.Settling.{refuses, saw_another};
+    ghost use Rattle.run_status.specs.RunStatus.Settling.{refuses, saw_another};
 
     /// Whether it refused its stream or a message.
     pub fn is_refused(&self) -> bool

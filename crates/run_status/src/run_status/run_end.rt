@@ -1,18 +1,18 @@
 //! The end of a run: what is owed is written, and the status is found.
 ghost use Rattle.std.specs.Prelude.{◌≡◌, false, map, option_map};
-ghost use Rattle.run_status.specs.Readers.{reader_seen, sink_seen};
-ghost use Rattle.run_status.specs.Settling.{Puts, SettlesBy};
-ghost use Rattle.run_status.specs.Settling as settling;
-ghost use Rattle.run_status.specs.Status.{status_of};
+ghost use Rattle.run_status.specs.RunStatus.Readers.{reader_seen, sink_seen};
+ghost use Rattle.run_status.specs.RunStatus.Settling.{Puts, SettlesBy};
+ghost use Rattle.run_status.specs.RunStatus.Settling as settling;
+ghost use Rattle.run_status.specs.RunStatus.Status.{status_of};
 
-use crate::closes::{
+use crate::run_outside::Outside;
+use crate::run_status::closes::{
     some_disk_fault, some_full, some_read_fault, some_refused, some_saw_another, some_signer_fault,
     some_verifier_fault, some_write_fault,
 };
-use crate::findings::Findings;
-use crate::{Besides, ReaderEnd};
+use crate::run_status::findings::Findings;
+use crate::run_status::{Besides, ReaderEnd};
 use keri_outside::{Sink, Source, Verifier};
-use run_outside::Outside;
 
 /// Writes the text, unless there was no memory for it, and answers the status: by that, by the readers' ends, and by what was
 /// found besides.

@@ -1,7 +1,7 @@
 -- How a run of calls of a disk goes on.
 use Rattle.std.proofs.Common.{inl, inr, ⊎_elim, ℕ, List, refl, ◌∙◌, arith}
-use Rattle.keri_disk.specs.Images.{DiskTold, IsDurable, LeavesOnly}
-use Rattle.keri_disk.specs.Calls.{Elapses, Keeps}
+use Rattle.shelf_log.specs.KeriDisk.Images.{DiskTold, IsDurable, LeavesOnly}
+use Rattle.shelf_log.specs.KeriDisk.Calls.{Elapses, Keeps}
 
 -- no image is there that isn't told of this moment
 abbrev pub KnowsNow : DiskTold → Type 0

@@ -1,11 +1,11 @@
 -- Calls in a row, and what they leave.
 use Rattle.std.proofs.Common.{◌≡◌, ℕ, ◌+◌, ◌-◌, ◌≤◌, List, [], ◌∷◌, ◌++◌, drop, refl, sym, ◌∙◌, ap, subst, arith, Result, Ok, Err, OnOk, OnErr}
 use Rattle.std.proofs.lemmas.List.{drop-drop}
-use Rattle.keri_disk.specs.Images.{Torn}
-use Rattle.keri_disk.specs.Replay.{file_after, file_of, IsLeftBy, IsLeftByAll}
-use Rattle.keri_disk.specs.Shapes.{image_after, image_of}
-use Rattle.keri_disk.specs.declared.shape.Shape.{Shape}
-use Rattle.keri_disk.specs.declared.disk_call.DiskCall.{DiskCall}
+use Rattle.shelf_log.specs.KeriDisk.Images.{Torn}
+use Rattle.shelf_log.specs.KeriDisk.Replay.{file_after, file_of, IsLeftBy, IsLeftByAll}
+use Rattle.shelf_log.specs.KeriDisk.Shapes.{image_after, image_of}
+use Rattle.shelf_log.specs.declared.keri_disk.shape.Shape.{Shape}
+use Rattle.shelf_log.specs.declared.keri_disk.disk_call.DiskCall.{DiskCall}
 
 pub file_of-push : (file : List ℕ) (calls : List DiskCall) (call : DiskCall) → file_of file (calls ++ call ∷ []) ≡ file_after call (file_of file calls)
 file_of-push file [] call = refl

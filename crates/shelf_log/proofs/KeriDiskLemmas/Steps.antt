@@ -2,15 +2,15 @@
 use Rattle.std.proofs.Common.{◌≡◌, ℕ, ◌+◌, ◌≤◌, List, [], ◌∷◌, length, take, refl, sym, ◌∙◌, ap, subst, arith, inl, inr, ⊎_elim, Some, Ok, Err}
 use Rattle.std.proofs.lemmas.Bool.{cases_lt}
 use Rattle.std.proofs.lemmas.List.{append-nil, take_all, take-append-le, length_push}
-use Rattle.keri_disk.specs.Images.{Torn}
-use Rattle.keri_disk.specs.Calls.{Elapses, Keeps, Syncs, Changes}
-use Rattle.keri_disk.specs.Replay.{file_after, file_of, IsLeftBy, IsLeftByAll}
-use Rattle.keri_disk.specs.Memory.{images_at, mem_told, Did}
-use Rattle.keri_disk.specs.Laws.{Torn-overwritten, reads_an_image, counts_now}
-use Rattle.keri_disk.specs.declared.disk_call.DiskCall.{DiskCall}
-use Rattle.keri_disk.specs.declared.disk_call.DiskCall.TheVariants.{Kept, Synced, Wrote}
-use Rattle.keri_disk.specs.declared.mem_disk.MemDisk.{MemDisk}
-use Rattle.keri_disk.proofs.Replays.{file_of-push, IsLeftByAll-pop, Torn-more}
+use Rattle.shelf_log.specs.KeriDisk.Images.{Torn}
+use Rattle.shelf_log.specs.KeriDisk.Calls.{Elapses, Keeps, Syncs, Changes}
+use Rattle.shelf_log.specs.KeriDisk.Replay.{file_after, file_of, IsLeftBy, IsLeftByAll}
+use Rattle.shelf_log.specs.KeriDisk.Memory.{images_at, mem_told, Did}
+use Rattle.shelf_log.specs.KeriDisk.Laws.{Torn-overwritten, reads_an_image, counts_now}
+use Rattle.shelf_log.specs.declared.keri_disk.disk_call.DiskCall.{DiskCall}
+use Rattle.shelf_log.specs.declared.keri_disk.disk_call.DiskCall.TheVariants.{Kept, Synced, Wrote}
+use Rattle.shelf_log.specs.declared.keri_disk.mem_disk.MemDisk.{MemDisk}
+use Rattle.shelf_log.proofs.KeriDiskLemmas.Replays.{file_of-push, IsLeftByAll-pop, Torn-more}
 
 -- a count of a fault changes no more
 pub Did-then : (more : List DiskCall) (old mid new : MemDisk) → Did more old mid → Did [] mid new → Did more old new

@@ -1,11 +1,11 @@
 -- A file that is written from behind its first byte.
 use Rattle.std.proofs.Common.{◌≡◌, ℕ, ◌+◌, ◌≤◌, min, List, [], ◌∷◌, ◌++◌, length, take, drop, get_or, Option, Some, None, IfSome, Result, OnOk, IsErr, Ok, Err, option_map, refl, sym, ◌∙◌, ap, arith, append-nil, append_assoc, take_all, take-take}
 use Rattle.std.proofs.lemmas.List.{drop_all}
-use Rattle.keri_disk.specs.Images.{DiskTold, overwritten, Torn}
-use Rattle.keri_disk.specs.Calls.{Changes}
-use Rattle.shelf_log.specs.Blank.{IsBlank, AllBlank, Extends}
-use Rattle.shelf_log.proofs.Changes.{none_of_err}
-use Rattle.keri_disk.proofs.Moments.{KnowsNow, one_call, and_then}
+use Rattle.shelf_log.specs.KeriDisk.Images.{DiskTold, overwritten, Torn}
+use Rattle.shelf_log.specs.KeriDisk.Calls.{Changes}
+use Rattle.shelf_log.specs.ShelfLog.Blank.{IsBlank, AllBlank, Extends}
+use Rattle.shelf_log.proofs.ShelfLogLemmas.Changes.{none_of_err}
+use Rattle.shelf_log.proofs.KeriDiskLemmas.Moments.{KnowsNow, one_call, and_then}
 
 blank_same : (d c : List ℕ) → take 1 c ≡ take 1 d → IsBlank d → IsBlank c
 blank_same [] c same blank = absurd blank

@@ -1,10 +1,10 @@
 -- A change with a sync behind it.
 use Rattle.std.proofs.Common.{◌≡◌, inl, inr, ℕ, min, List, length, take, Result, Ok, Err, IsErr, OnOk, option_map, refl, sym, ◌∙◌, ap, arith, take_all}
 use Rattle.std.proofs.lemmas.Bool.{cases_lt}
-use Rattle.keri_disk.specs.Images.{DiskTold, Torn, CutShort, LeavesOnly}
-use Rattle.keri_disk.specs.Calls.{Elapses, Syncs}
-use Rattle.shelf_log.specs.Durable.{ChangesDurably}
-use Rattle.keri_disk.proofs.Moments.{KnowsNow, one_call, and_then, elapses_of}
+use Rattle.shelf_log.specs.KeriDisk.Images.{DiskTold, Torn, CutShort, LeavesOnly}
+use Rattle.shelf_log.specs.KeriDisk.Calls.{Elapses, Syncs}
+use Rattle.shelf_log.specs.ShelfLog.Durable.{ChangesDurably}
+use Rattle.shelf_log.proofs.KeriDiskLemmas.Moments.{KnowsNow, one_call, and_then, elapses_of}
 
 -- nothing may be left of a write
 pub torn_none : (place n : ℕ) (c : List ℕ) → Torn place n c c

@@ -4,11 +4,11 @@ use Rattle.std.proofs.lemmas.List.{drop_more}
 use Rattle.std.proofs.lemmas.List.Elements.{All-push}
 use Rattle.std.proofs.lemmas.Bool.{cases_eq}
 use Rattle.std.specs.Int.{w32, to_be_bytes}
-use Rattle.keri_disk.specs.Images.{overwritten, Torn}
-use Rattle.shelf_log.specs.Format.{Holds, IsSized, record_bytes, shelf_front}
-use Rattle.shelf_log.specs.Settled.{HoldsEither}
-use Rattle.shelf_log.specs.declared.version.Version.TheVariants.{Two}
-use Rattle.shelf_log.proofs.Files.{Parts, parts_of, holds_of, front-push}
+use Rattle.shelf_log.specs.KeriDisk.Images.{overwritten, Torn}
+use Rattle.shelf_log.specs.ShelfLog.Format.{Holds, IsSized, record_bytes, shelf_front}
+use Rattle.shelf_log.specs.ShelfLog.Settled.{HoldsEither}
+use Rattle.shelf_log.specs.declared.shelf_log.version.Version.TheVariants.{Two}
+use Rattle.shelf_log.proofs.ShelfLogLemmas.Files.{Parts, parts_of, holds_of, front-push}
 
 min_long : (k n : ℕ) → k ≤ n → min k n ≡ k
 min_long k n le = omega (arith, le)

@@ -3,11 +3,11 @@ use Rattle.std.proofs.Common.{◌≡◌, ◌≢◌, ◌⊎◌, inl, inr, ⊎_eli
 use Rattle.std.proofs.lemmas.Bool.{cases_Bool, cases_eq, false≢true}
 use Rattle.std.proofs.lemmas.Slice.Eq.{bytes_eq-Decides}
 use Rattle.std.specs.Str.{bytes_eq}
-use Rattle.keri_disk.specs.Images.{Torn}
-use Rattle.shelf_log.specs.Format.{mark, IsSized}
-use Rattle.shelf_log.specs.Settled.{IsUnfinished}
-use Rattle.shelf_log.specs.declared.version.Version.TheVariants.{Two}
-use Rattle.shelf_log.proofs.Files.{holds_of}
+use Rattle.shelf_log.specs.KeriDisk.Images.{Torn}
+use Rattle.shelf_log.specs.ShelfLog.Format.{mark, IsSized}
+use Rattle.shelf_log.specs.ShelfLog.Settled.{IsUnfinished}
+use Rattle.shelf_log.specs.declared.shelf_log.version.Version.TheVariants.{Two}
+use Rattle.shelf_log.proofs.ShelfLogLemmas.Files.{holds_of}
 
 -- two lists are the same or not
 same_list : (xs ys : List ℕ) → (xs ≡ ys) ⊎ (xs ≢ ys)

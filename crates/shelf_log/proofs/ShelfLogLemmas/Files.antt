@@ -1,8 +1,8 @@
 -- What files of records stand for.
 use Rattle.std.proofs.Common.{◌≡◌, ◌≢◌, ℕ, zero, suc, ◌+◌, List, [], ◌∷◌, ◌++◌, length, take, slice_get, Option, Some, None, IfSome, IsSomeAnd, All, refl, sym, ◌∙◌, ap, arith, append_assoc, append-nil, length-append, take_at}
 use Rattle.std.specs.Int.{w32, to_be_bytes}
-use Rattle.shelf_log.specs.Format.{mark, Holds, IsSized, record_bytes, records, shelf_front}
-use Rattle.shelf_log.specs.declared.version.Version.{Version}
+use Rattle.shelf_log.specs.ShelfLog.Format.{mark, Holds, IsSized, record_bytes, records, shelf_front}
+use Rattle.shelf_log.specs.declared.shelf_log.version.Version.{Version}
 
 -- a fact about what is there follows where it follows from each value
 pub if_some : {T : Type 0} (P : T → Type 0) (o : Option T) → ((x : T) → o ≡ Some x → P x) → IfSome o P

@@ -2,16 +2,16 @@
 use Rattle.std.proofs.Common.{◌≡◌, ◌≢◌, ◌⊎◌, inl, inr, ℕ, ◌≤◌, List, [], ◌∷◌, ◌++◌, length, take, drop, get_or, Some, IfSome, Result, All, option_map, refl, sym, ◌∙◌, ap, subst, arith, append_assoc, length-append, length-take, take-append-drop, take-take}
 use Rattle.std.proofs.lemmas.Bool.{cases_eq}
 use Rattle.std.proofs.lemmas.List.{drop_more}
-use Rattle.keri_disk.specs.Images.{DiskTold, IsDurable, overwritten, Torn, CutShort, LeavesOnly}
-use Rattle.shelf_log.specs.Blank.{IsBlank, AllBlank, blank_file}
-use Rattle.shelf_log.specs.Durable.{ChangesDurably}
-use Rattle.shelf_log.specs.Format.{mark, Holds, IsSized, IsNoShelf, IsUnmarked, records, shelf_front}
-use Rattle.shelf_log.specs.Settled.{IsSettled}
-use Rattle.shelf_log.specs.declared.version.Version.TheVariants.{One, Two}
-use Rattle.shelf_log.proofs.Files.{if_some, parts_of, holds_of}
-use Rattle.keri_disk.proofs.Moments.{weaker, and_then}
-use Rattle.shelf_log.proofs.Stored.{mapped}
-use Rattle.shelf_log.proofs.Windows.{of_some}
+use Rattle.shelf_log.specs.KeriDisk.Images.{DiskTold, IsDurable, overwritten, Torn, CutShort, LeavesOnly}
+use Rattle.shelf_log.specs.ShelfLog.Blank.{IsBlank, AllBlank, blank_file}
+use Rattle.shelf_log.specs.ShelfLog.Durable.{ChangesDurably}
+use Rattle.shelf_log.specs.ShelfLog.Format.{mark, Holds, IsSized, IsNoShelf, IsUnmarked, records, shelf_front}
+use Rattle.shelf_log.specs.ShelfLog.Settled.{IsSettled}
+use Rattle.shelf_log.specs.declared.shelf_log.version.Version.TheVariants.{One, Two}
+use Rattle.shelf_log.proofs.ShelfLogLemmas.Files.{if_some, parts_of, holds_of}
+use Rattle.shelf_log.proofs.KeriDiskLemmas.Moments.{weaker, and_then}
+use Rattle.shelf_log.proofs.ShelfLogLemmas.Stored.{mapped}
+use Rattle.shelf_log.proofs.ShelfLogLemmas.Windows.{of_some}
 
 -- What isn't begun yet: so is each front of such a file, one of at most one byte, and one that begins with another byte than
 -- a mark.

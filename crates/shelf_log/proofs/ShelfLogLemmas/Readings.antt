@@ -2,10 +2,10 @@
 use Rattle.std.proofs.Common.{◌≡◌, ◌≢◌, ◌⊎◌, inl, inr, ℕ, suc, get_or, ◌<◌, ◌^◌, List, [], ◌∷◌, ◌++◌, length, take, drop, All, refl, sym, ◌∙◌, ap, subst, arith, append_assoc, length-append, take_at, drop_at}
 use Rattle.std.specs.Int.{w32, to_be_bytes, from_be_bytes}
 use Rattle.std.proofs.lemmas.Nat.{from_be_bytes-to_be_bytes_4}
-use Rattle.shelf_log.specs.Format.{mark, IsInRange, IsSized, IsNoShelf, record_bytes, records, EndsIn, IsOutOfRange, FailsAt}
-use Rattle.shelf_log.specs.declared.version.Version.{Version}
-use Rattle.shelf_log.specs.declared.version.Version.TheVariants.{One, Two}
-use Rattle.shelf_log.proofs.Files.{parts_of}
+use Rattle.shelf_log.specs.ShelfLog.Format.{mark, IsInRange, IsSized, IsNoShelf, record_bytes, records, EndsIn, IsOutOfRange, FailsAt}
+use Rattle.shelf_log.specs.declared.shelf_log.version.Version.{Version}
+use Rattle.shelf_log.specs.declared.shelf_log.version.Version.TheVariants.{One, Two}
+use Rattle.shelf_log.proofs.ShelfLogLemmas.Files.{parts_of}
 
 -- a length is read as it is written
 pub same_length : (n m : ℕ) (xs ys : List ℕ) → n < 2 ^ 32 → m < 2 ^ 32 → to_be_bytes w32 n ++ xs ≡ to_be_bytes w32 m ++ ys → (n ≡ m) × (xs ≡ ys)

@@ -1,14 +1,14 @@
 -- What a scan that failed says of the file.
 use Rattle.std.proofs.Common.{◌≡◌, List, ℕ, Result, Ok, Err, IsErrAnd, MatchResult, sym, subst}
 use Rattle.keri_outside.specs.declared.limits.Limits.{Limits}
-use Rattle.shelf_log.specs.Answers.{Reads}
-use Rattle.shelf_log.specs.Format.{FailsAt}
-use Rattle.shelf_log.specs.Scans.{Scans}
-use Rattle.shelf_log.specs.declared.fault.ShelfFault.{ShelfFault}
-use Rattle.shelf_log.specs.declared.fault.ShelfFault.TheVariants.{DiskFault, NotAShelf, Full, Broken, OutOfMemory}
-use Rattle.shelf_log.specs.declared.scan.Scan.{Scan}
-use Rattle.shelf_log.specs.declared.version.Version.{Version}
-use Rattle.shelf_log.proofs.Readings.{fails_no_shelf}
+use Rattle.shelf_log.specs.ShelfLog.Answers.{Reads}
+use Rattle.shelf_log.specs.ShelfLog.Format.{FailsAt}
+use Rattle.shelf_log.specs.ShelfLog.Scans.{Scans}
+use Rattle.shelf_log.specs.declared.shelf_log.fault.ShelfFault.{ShelfFault}
+use Rattle.shelf_log.specs.declared.shelf_log.fault.ShelfFault.TheVariants.{DiskFault, NotAShelf, Full, Broken, OutOfMemory}
+use Rattle.shelf_log.specs.declared.shelf_log.scan.Scan.{Scan}
+use Rattle.shelf_log.specs.declared.shelf_log.version.Version.{Version}
+use Rattle.shelf_log.proofs.ShelfLogLemmas.Readings.{fails_no_shelf}
 
 pub match_err : {T E : Type 0} (r : Result T E) (e : E) (P : T → Type 0) (Q : E → Type 0) → IsErrAnd r (λ y. y ≡ e) → Q e → MatchResult r P Q
 match_err (Ok x) e P Q given holds = absurd given

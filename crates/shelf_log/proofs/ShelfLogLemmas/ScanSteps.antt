@@ -4,12 +4,12 @@ use Rattle.std.proofs.lemmas.Bool.{cases_Bool, false≢true}
 use Rattle.std.proofs.lemmas.Bool.Decides.{nat_tests}
 use Rattle.std.proofs.lemmas.List.Elements.{All-push}
 use Rattle.keri_outside.specs.declared.limits.Limits.{Limits}
-use Rattle.shelf_log.specs.Answers.{IsOver}
-use Rattle.shelf_log.specs.Format.{IsSized, record_bytes, records, shelf_front}
-use Rattle.shelf_log.specs.Scans.{HasRead, GoesThrough}
-use Rattle.shelf_log.specs.declared.scan.Scan.{Scan}
-use Rattle.shelf_log.specs.declared.version.Version.{Version}
-use Rattle.shelf_log.proofs.Files.{length-front-push, length-record, records-append}
+use Rattle.shelf_log.specs.ShelfLog.Answers.{IsOver}
+use Rattle.shelf_log.specs.ShelfLog.Format.{IsSized, record_bytes, records, shelf_front}
+use Rattle.shelf_log.specs.ShelfLog.Scans.{HasRead, GoesThrough}
+use Rattle.shelf_log.specs.declared.shelf_log.scan.Scan.{Scan}
+use Rattle.shelf_log.specs.declared.shelf_log.version.Version.{Version}
+use Rattle.shelf_log.proofs.ShelfLogLemmas.Files.{length-front-push, length-record, records-append}
 
 module _ (old new : Scan) (payloads : List (List ℕ)) (payload : List ℕ) (read : HasRead old payloads) (fits : IsSized old.version payload)
     (of : (new.version ≡ old.version) × (new.limits ≡ old.limits)) (goes : new.place ≡ old.place + (5 + length payload)) where

@@ -3,10 +3,10 @@ use Rattle.std.proofs.Common.{◌≡◌, ℕ, ◌+◌, ◌<◌, ◌≤◌, inl, 
 use Rattle.std.proofs.lemmas.Bool.{cases_lt}
 use Rattle.std.proofs.lemmas.List.{take_more}
 use Rattle.keri_outside.specs.declared.limits.Limits.{Limits}
-use Rattle.shelf_log.specs.Answers.{IsOver}
-use Rattle.shelf_log.specs.Format.{record_bytes, records, shelf_front}
-use Rattle.shelf_log.specs.declared.version.Version.{Version}
-use Rattle.shelf_log.proofs.Files.{front-append, length-front-push, records-append}
+use Rattle.shelf_log.specs.ShelfLog.Answers.{IsOver}
+use Rattle.shelf_log.specs.ShelfLog.Format.{record_bytes, records, shelf_front}
+use Rattle.shelf_log.specs.declared.shelf_log.version.Version.{Version}
+use Rattle.shelf_log.proofs.ShelfLogLemmas.Files.{front-append, length-front-push, records-append}
 
 module _ (version : Version) (list : List (List ℕ)) (i : ℕ) where
   pub taken : (item : List ℕ) → i < length list → item ≡ get_or list i item → take (i + 1) list ≡ take i list ++ item ∷ []

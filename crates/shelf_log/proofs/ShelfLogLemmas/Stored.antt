@@ -4,15 +4,15 @@ use Rattle.std.specs.Int.{w32, to_be_bytes}
 use Rattle.std.proofs.lemmas.Option.{same_Some, none-some}
 use Rattle.std.proofs.lemmas.List.Elements.{All-push}
 use Rattle.std.proofs.lemmas.Bool.{false≢true}
-use Rattle.keri_disk.specs.Images.{DiskTold, IsDurable, overwritten, Torn, LeavesOnly}
-use Rattle.shelf_log.specs.Durable.{ChangesDurably}
-use Rattle.shelf_log.specs.Format.{Holds, IsSized, shelf_front}
-use Rattle.shelf_log.specs.Settled.{IsSettled, HoldsEither, Stores}
-use Rattle.shelf_log.specs.declared.version.Version.TheVariants.{Two}
-use Rattle.shelf_log.proofs.Crash.{staged, staged_holds, staged_file, torn_behind, torn_gate, opened, opened_file}
-use Rattle.shelf_log.proofs.Changes.{none_of_err}
-use Rattle.shelf_log.proofs.Files.{if_some, holds_of}
-use Rattle.keri_disk.proofs.Moments.{weaker, and_then}
+use Rattle.shelf_log.specs.KeriDisk.Images.{DiskTold, IsDurable, overwritten, Torn, LeavesOnly}
+use Rattle.shelf_log.specs.ShelfLog.Durable.{ChangesDurably}
+use Rattle.shelf_log.specs.ShelfLog.Format.{Holds, IsSized, shelf_front}
+use Rattle.shelf_log.specs.ShelfLog.Settled.{IsSettled, HoldsEither, Stores}
+use Rattle.shelf_log.specs.declared.shelf_log.version.Version.TheVariants.{Two}
+use Rattle.shelf_log.proofs.ShelfLogLemmas.Crash.{staged, staged_holds, staged_file, torn_behind, torn_gate, opened, opened_file}
+use Rattle.shelf_log.proofs.ShelfLogLemmas.Changes.{none_of_err}
+use Rattle.shelf_log.proofs.ShelfLogLemmas.Files.{if_some, holds_of}
+use Rattle.shelf_log.proofs.KeriDiskLemmas.Moments.{weaker, and_then}
 
 -- what is there comes of what was there
 pub mapped : {T : Type 0} (f : T → T) (o : Option T) (y : T) → option_map f o ≡ Some y → (x : T) × (o ≡ Some x) × (y ≡ f x)

@@ -1,15 +1,15 @@
 -- What a scan of one more window of a file has read.
 use Rattle.std.proofs.Common.{◌≡◌, ◌≢◌, inl, inr, ℕ, ◌+◌, ◌<◌, ◌≤◌, List, [], ◌++◌, length, take, drop, slice_get, IsSomeAnd, IfSome, Option, Some, refl, sym, ◌∙◌, ap, subst, arith, append_assoc, append-nil, take-append-drop, drop_at, length-drop}
 use Rattle.std.proofs.lemmas.List.{drop_all}
-use Rattle.shelf_log.specs.Format.{greatest, Holds, FailsAt, EndsIn, IsOutOfRange, records, shelf_front}
-use Rattle.keri_disk.specs.Calls.{AreBytesAt}
-use Rattle.shelf_log.specs.Scans.{HasRead, GoesThrough, GoesOn, IsEnd, ReadsOn}
-use Rattle.shelf_log.specs.declared.piece.End.{End}
-use Rattle.shelf_log.specs.declared.piece.End.TheVariants.{Closed, Part, OutOfRange}
-use Rattle.shelf_log.specs.declared.scan.Scan.{Scan}
-use Rattle.shelf_log.specs.declared.version.Version.{Version}
-use Rattle.shelf_log.specs.declared.version.Version.TheVariants.{One, Two}
-use Rattle.shelf_log.proofs.Files.{if_some, split_at, holds_of, front-append}
+use Rattle.shelf_log.specs.ShelfLog.Format.{greatest, Holds, FailsAt, EndsIn, IsOutOfRange, records, shelf_front}
+use Rattle.shelf_log.specs.KeriDisk.Calls.{AreBytesAt}
+use Rattle.shelf_log.specs.ShelfLog.Scans.{HasRead, GoesThrough, GoesOn, IsEnd, ReadsOn}
+use Rattle.shelf_log.specs.declared.shelf_log.piece.End.{End}
+use Rattle.shelf_log.specs.declared.shelf_log.piece.End.TheVariants.{Closed, Part, OutOfRange}
+use Rattle.shelf_log.specs.declared.shelf_log.scan.Scan.{Scan}
+use Rattle.shelf_log.specs.declared.shelf_log.version.Version.{Version}
+use Rattle.shelf_log.specs.declared.shelf_log.version.Version.TheVariants.{One, Two}
+use Rattle.shelf_log.proofs.ShelfLogLemmas.Files.{if_some, split_at, holds_of, front-append}
 
 module _ (file : List ℕ) (old new : Scan) (payloads : List (List ℕ)) (window rest : List ℕ) (read : HasRead old payloads)
     (front : file ≡ shelf_front old.version payloads ++ drop old.place file) (are : window ≡ take (length window) (drop old.place file)) (through : GoesThrough window rest old new) where

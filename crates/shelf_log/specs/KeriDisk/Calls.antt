@@ -3,7 +3,7 @@ use Rattle.std.specs.Prelude.{◌≡◌, ◌⊎◌, ℕ, ◌+◌, ◌≤◌, Lis
 use Rattle.std.specs.Option.{option_map}
 use Rattle.std.specs.declared.option.Option.{Option}
 use Rattle.std.specs.declared.option.Option.TheVariants.{None, Some}
-use Rattle.keri_disk.specs.Images.{DiskTold, IsDurable}
+use Rattle.shelf_log.specs.KeriDisk.Images.{DiskTold, IsDurable}
 
 -- a range of n bytes from a place on lies in the file, where it is told
 abbrev pub IsInFile : ℕ → ℕ → Option (List ℕ) → Type 0

@@ -5,12 +5,12 @@ use Rattle.std.proofs.lemmas.Bool.{cases_lt}
 use Rattle.std.proofs.lemmas.List.{take_all, take_at, take_min, drop_at, drop_all}
 use Rattle.std.proofs.lemmas.Option.{same_Some}
 use Rattle.std.specs.declared.option.Option.TheVariants.{Some}
-use Rattle.keri_disk.specs.Images.{overwritten, Torn, CutShort}
-use Rattle.keri_disk.specs.Replay.{file_after, file_of, IsLeftBy, IsLeftByAll}
-use Rattle.keri_disk.specs.Memory.{images_at, mem_told}
-use Rattle.keri_disk.specs.declared.disk_call.DiskCall.{DiskCall}
-use Rattle.keri_disk.specs.declared.disk_call.DiskCall.TheVariants.{Kept, Synced, Wrote, CutTo}
-use Rattle.keri_disk.specs.declared.mem_disk.MemDisk.{MemDisk}
+use Rattle.shelf_log.specs.KeriDisk.Images.{overwritten, Torn, CutShort}
+use Rattle.shelf_log.specs.KeriDisk.Replay.{file_after, file_of, IsLeftBy, IsLeftByAll}
+use Rattle.shelf_log.specs.KeriDisk.Memory.{images_at, mem_told}
+use Rattle.shelf_log.specs.declared.keri_disk.disk_call.DiskCall.{DiskCall}
+use Rattle.shelf_log.specs.declared.keri_disk.disk_call.DiskCall.TheVariants.{Kept, Synced, Wrote, CutTo}
+use Rattle.shelf_log.specs.declared.keri_disk.mem_disk.MemDisk.{MemDisk}
 
 -- past the range all is as before
 drop_overwritten : (file : List ℕ) (place : ℕ) (bytes : List ℕ) → drop (place + length bytes) (overwritten file place bytes) ≡ drop (place + length bytes) file

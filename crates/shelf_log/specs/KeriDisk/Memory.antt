@@ -1,12 +1,12 @@
 -- What a disk in memory tells: it keeps what its file held first, and what each of its calls did.
 use Rattle.std.specs.Prelude.{◌≡◌, ℕ, ◌≤◌, List, ◌++◌, length, take}
 use Rattle.std.specs.declared.option.Option.TheVariants.{Some}
-use Rattle.keri_disk.specs.Images.{DiskTold}
-use Rattle.keri_disk.specs.Replay.{file_of, IsLeftByAll}
-use Rattle.keri_disk.specs.Shapes.{image_of}
-use Rattle.keri_disk.specs.declared.disk_call.DiskCall.{DiskCall}
-use Rattle.keri_disk.specs.declared.mem_disk.MemDisk.{MemDisk}
-use Rattle.keri_disk.specs.declared.shape.Shape.{Shape}
+use Rattle.shelf_log.specs.KeriDisk.Images.{DiskTold}
+use Rattle.shelf_log.specs.KeriDisk.Replay.{file_of, IsLeftByAll}
+use Rattle.shelf_log.specs.KeriDisk.Shapes.{image_of}
+use Rattle.shelf_log.specs.declared.keri_disk.disk_call.DiskCall.{DiskCall}
+use Rattle.shelf_log.specs.declared.keri_disk.mem_disk.MemDisk.{MemDisk}
+use Rattle.shelf_log.specs.declared.keri_disk.shape.Shape.{Shape}
 
 -- the file just after its first n calls, and its images then
 abbrev pub file_at : MemDisk → ℕ → List ℕ

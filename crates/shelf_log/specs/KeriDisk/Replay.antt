@@ -1,8 +1,8 @@
 -- What calls of a disk in memory do to its file, and what a crash may leave of it.
 use Rattle.std.specs.Prelude.{◌≡◌, ℕ, List, [], ◌∷◌, length, take}
-use Rattle.keri_disk.specs.Images.{overwritten, Torn, CutShort}
-use Rattle.keri_disk.specs.declared.disk_call.DiskCall.{DiskCall}
-use Rattle.keri_disk.specs.declared.disk_call.DiskCall.TheVariants.{Kept, Synced, Wrote, CutTo}
+use Rattle.shelf_log.specs.KeriDisk.Images.{overwritten, Torn, CutShort}
+use Rattle.shelf_log.specs.declared.keri_disk.disk_call.DiskCall.{DiskCall}
+use Rattle.shelf_log.specs.declared.keri_disk.disk_call.DiskCall.TheVariants.{Kept, Synced, Wrote, CutTo}
 
 -- the file after a call
 abbrev pub file_after : DiskCall → List ℕ → List ℕ

@@ -1,11 +1,11 @@
 -- The images of the three shapes.
 use Rattle.std.specs.Prelude.{ℕ, List, [], ◌∷◌, length, take, replicate}
-use Rattle.keri_disk.specs.Images.{overwritten}
-use Rattle.keri_disk.specs.Replay.{file_after}
-use Rattle.keri_disk.specs.declared.disk_call.DiskCall.{DiskCall}
-use Rattle.keri_disk.specs.declared.disk_call.DiskCall.TheVariants.{Kept, Synced, Wrote, CutTo}
-use Rattle.keri_disk.specs.declared.shape.Shape.{Shape}
-use Rattle.keri_disk.specs.declared.shape.Shape.TheVariants.{Whole, Lost, Ones}
+use Rattle.shelf_log.specs.KeriDisk.Images.{overwritten}
+use Rattle.shelf_log.specs.KeriDisk.Replay.{file_after}
+use Rattle.shelf_log.specs.declared.keri_disk.disk_call.DiskCall.{DiskCall}
+use Rattle.shelf_log.specs.declared.keri_disk.disk_call.DiskCall.TheVariants.{Kept, Synced, Wrote, CutTo}
+use Rattle.shelf_log.specs.declared.keri_disk.shape.Shape.{Shape}
+use Rattle.shelf_log.specs.declared.keri_disk.shape.Shape.TheVariants.{Whole, Lost, Ones}
 
 -- an image after a write at a place, which is done, or isn't, or leaves bytes 1
 abbrev pub left_of_write : Shape → List ℕ → ℕ → List ℕ → List ℕ

@@ -3,14 +3,14 @@ use Rattle.std.specs.Prelude.{◌≡◌, ◌≢◌, ◌⊎◌, ◌<◌, ◌+◌,
 use Rattle.std.specs.declared.option.Option.{Option}
 use Rattle.std.specs.declared.option.Option.TheVariants.{None, Some}
 use Rattle.std.specs.declared.result.Result.TheVariants.{Ok, Err}
-use Rattle.keri_specs.specs.Causes.{Rose}
+use Rattle.lists.specs.KeriSpecs.Causes.{Rose}
 use Rattle.keri_outside.specs.declared.limits.Limits.{Limits}
-use Rattle.keri_disk.specs.Images.{DiskTold}
-use Rattle.shelf_log.specs.Format.{Holds, FailsAt, IsNoShelf, shelf_size}
-use Rattle.shelf_log.specs.declared.version.Version.{Version}
-use Rattle.shelf_log.specs.declared.version.Version.TheVariants.{Two}
-use Rattle.shelf_log.specs.declared.fault.ShelfFault.{ShelfFault}
-use Rattle.shelf_log.specs.declared.fault.ShelfFault.TheVariants.{DiskFault, NotAShelf, Full, Broken, OutOfMemory}
+use Rattle.shelf_log.specs.KeriDisk.Images.{DiskTold}
+use Rattle.shelf_log.specs.ShelfLog.Format.{Holds, FailsAt, IsNoShelf, shelf_size}
+use Rattle.shelf_log.specs.declared.shelf_log.version.Version.{Version}
+use Rattle.shelf_log.specs.declared.shelf_log.version.Version.TheVariants.{Two}
+use Rattle.shelf_log.specs.declared.shelf_log.fault.ShelfFault.{ShelfFault}
+use Rattle.shelf_log.specs.declared.shelf_log.fault.ShelfFault.TheVariants.{DiskFault, NotAShelf, Full, Broken, OutOfMemory}
 
 -- the list has more records or more bytes than a shelf may have
 abbrev pub IsOver : Version → Limits → List (List ℕ) → Type 0

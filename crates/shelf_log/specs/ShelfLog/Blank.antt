@@ -1,9 +1,9 @@
 -- A file that is written from behind its first byte.
 use Rattle.std.specs.Prelude.{◌≡◌, ◌++◌, ◌∷◌, [], List, ℕ, slice_get, IsSomeAnd, IfSome, OnOk, Result, drop}
 use Rattle.std.specs.Option.{option_map}
-use Rattle.keri_disk.specs.Images.{DiskTold, IsDurable, LeavesOnly}
-use Rattle.shelf_log.specs.Format.{mark, records}
-use Rattle.shelf_log.specs.declared.version.Version.TheVariants.{Two}
+use Rattle.shelf_log.specs.KeriDisk.Images.{DiskTold, IsDurable, LeavesOnly}
+use Rattle.shelf_log.specs.ShelfLog.Format.{mark, records}
+use Rattle.shelf_log.specs.declared.shelf_log.version.Version.TheVariants.{Two}
 
 -- its first byte is 0, so it is no shelf
 abbrev pub IsBlank : List ℕ → Type 0

@@ -1,7 +1,7 @@
 -- A change of a file with a sync behind it.
 use Rattle.std.specs.Prelude.{◌≡◌, List, ℕ, Result, OnOk}
 use Rattle.std.specs.Option.{option_map}
-use Rattle.keri_disk.specs.Images.{DiskTold, IsDurable, LeavesOnly}
+use Rattle.shelf_log.specs.KeriDisk.Images.{DiskTold, IsDurable, LeavesOnly}
 
 -- After Ok the whole change is done, and each image is the file as it reads. At any moment a crash leaves an image of
 -- before, of which any part of the change was done.

@@ -2,8 +2,8 @@
 use Rattle.std.specs.Prelude.{◌≡◌, ◌≢◌, ◌⊎◌, ◌<◌, ◌≤◌, ◌+◌, ◌^◌, ℕ, List, [], ◌∷◌, ◌++◌, length, take, slice_get, IsSomeAnd}
 use Rattle.std.specs.List.{All}
 use Rattle.std.specs.Int.{w32, to_be_bytes}
-use Rattle.shelf_log.specs.declared.version.Version.{Version}
-use Rattle.shelf_log.specs.declared.version.Version.TheVariants.{One, Two}
+use Rattle.shelf_log.specs.declared.shelf_log.version.Version.{Version}
+use Rattle.shelf_log.specs.declared.shelf_log.version.Version.TheVariants.{One, Two}
 
 -- `KSHELF01` and `KSHELF02`
 abbrev pub mark : Version → List ℕ

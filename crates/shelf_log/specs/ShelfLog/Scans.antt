@@ -2,16 +2,16 @@
 use Rattle.std.specs.Prelude.{◌≡◌, ◌≢◌, ◌+◌, ℕ, true, false, List, ◌++◌, length, drop, slice_get, IsSomeAnd, IfSome, Result}
 use Rattle.std.specs.List.{All}
 use Rattle.keri_outside.specs.declared.limits.Limits.{Limits}
-use Rattle.shelf_log.specs.Answers.{IsOver}
-use Rattle.shelf_log.specs.Format.{IsSized, record_bytes, records, shelf_front, Holds, EndsIn, IsOutOfRange, FailsAt}
-use Rattle.shelf_log.specs.declared.version.Version.{Version}
-use Rattle.shelf_log.specs.declared.piece.Piece.{Piece}
-use Rattle.shelf_log.specs.declared.piece.Piece.TheVariants.{Record, End as EndsHere}
-use Rattle.shelf_log.specs.declared.piece.End.{End}
-use Rattle.shelf_log.specs.declared.piece.End.TheVariants.{Closed, Part, OutOfRange}
-use Rattle.shelf_log.specs.declared.scan.Scan.{Scan}
-use Rattle.shelf_log.specs.declared.fault.ShelfFault.{ShelfFault}
-use Rattle.shelf_log.specs.declared.fault.ShelfFault.TheVariants.{DiskFault, NotAShelf, Full, Broken, OutOfMemory}
+use Rattle.shelf_log.specs.ShelfLog.Answers.{IsOver}
+use Rattle.shelf_log.specs.ShelfLog.Format.{IsSized, record_bytes, records, shelf_front, Holds, EndsIn, IsOutOfRange, FailsAt}
+use Rattle.shelf_log.specs.declared.shelf_log.version.Version.{Version}
+use Rattle.shelf_log.specs.declared.shelf_log.piece.Piece.{Piece}
+use Rattle.shelf_log.specs.declared.shelf_log.piece.Piece.TheVariants.{Record, End as EndsHere}
+use Rattle.shelf_log.specs.declared.shelf_log.piece.End.{End}
+use Rattle.shelf_log.specs.declared.shelf_log.piece.End.TheVariants.{Closed, Part, OutOfRange}
+use Rattle.shelf_log.specs.declared.shelf_log.scan.Scan.{Scan}
+use Rattle.shelf_log.specs.declared.shelf_log.fault.ShelfFault.{ShelfFault}
+use Rattle.shelf_log.specs.declared.shelf_log.fault.ShelfFault.TheVariants.{DiskFault, NotAShelf, Full, Broken, OutOfMemory}
 use Rattle.std.specs.declared.option.Option.{Option}
 use Rattle.std.specs.declared.result.Result.TheVariants.{Ok, Err}
 

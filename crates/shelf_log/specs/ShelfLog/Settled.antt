@@ -1,8 +1,8 @@
 -- What stands on the disk of a shelf.
 use Rattle.std.specs.Prelude.{◌≡◌, ◌⊎◌, ◌++◌, [], ◌∷◌, List, ℕ, IfSome, OnOk, Result}
-use Rattle.keri_disk.specs.Images.{DiskTold, IsDurable, LeavesOnly}
-use Rattle.shelf_log.specs.Format.{Holds, IsNoShelf, IsUnmarked, FailsAt}
-use Rattle.shelf_log.specs.declared.version.Version.TheVariants.{Two}
+use Rattle.shelf_log.specs.KeriDisk.Images.{DiskTold, IsDurable, LeavesOnly}
+use Rattle.shelf_log.specs.ShelfLog.Format.{Holds, IsNoShelf, IsUnmarked, FailsAt}
+use Rattle.shelf_log.specs.declared.shelf_log.version.Version.TheVariants.{Two}
 
 -- each image is the file as it reads, and that stands for the list
 abbrev pub IsSettled : DiskTold → List (List ℕ) → Type 0

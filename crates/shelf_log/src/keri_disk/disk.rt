@@ -1,8 +1,8 @@
 //! A file on a disk.
 ghost use Rattle.std.specs.Prelude.{◌≡◌, ◌≤◌, List, ℕ, length, take, Some, IfOk, OnOk};
-ghost use Rattle.keri_specs.specs.Causes.{HasCause};
-ghost use Rattle.keri_disk.specs.Images.{DiskTold, overwritten, Torn, CutShort};
-ghost use Rattle.keri_disk.specs.Calls.{IsInFile, IsSizeOf, AreBytesAt, Keeps, Syncs, Changes};
+ghost use Rattle.lists.specs.KeriSpecs.Causes.{HasCause};
+ghost use Rattle.shelf_log.specs.KeriDisk.Images.{DiskTold, overwritten, Torn, CutShort};
+ghost use Rattle.shelf_log.specs.KeriDisk.Calls.{IsInFile, IsSizeOf, AreBytesAt, Keeps, Syncs, Changes};
 
 use keri_outside::Failed;
 

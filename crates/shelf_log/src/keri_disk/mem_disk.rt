@@ -1,12 +1,12 @@
 //! Disks in memory.
 ghost use Rattle.std.specs.Prelude.{◌≡◌, ◌++◌, ◌∷◌, [], OnOk, OnErr};
-ghost use Rattle.keri_specs.specs.Causes.{HasCause};
-ghost use Rattle.keri_disk.specs.Replay.{file_of};
+ghost use Rattle.lists.specs.KeriSpecs.Causes.{HasCause};
+ghost use Rattle.shelf_log.specs.KeriDisk.Replay.{file_of};
 
-use crate::disk_call::DiskCall;
-use crate::overwrite::overwrite;
-use crate::replay::Replay;
-use crate::{Disk, Shape};
+use crate::keri_disk::disk_call::DiskCall;
+use crate::keri_disk::overwrite::overwrite;
+use crate::keri_disk::replay::Replay;
+use crate::keri_disk::{Disk, Shape};
 use keri_outside::Failed;
 use lists::Items;
 use std::alloc::{AllocError, Global};
@@ -25,12 +25,12 @@ pub struct MemDisk {
 
 impl MemDisk {
     ghost use Rattle.std.specs.Prelude.{◌≤◌, ℕ, List, length, Some, IfOk};
-    ghost use Rattle.keri_disk.specs.Replay.{file_after};
-    ghost use Rattle.keri_specs.specs.Causes.{Rose};
-    ghost use Rattle.keri_disk.specs.Images.{IsDurable};
-    ghost use Rattle.keri_disk.specs.Calls.{Keeps};
-    ghost use Rattle.keri_disk.specs.Memory.{mem_told, file_at, images_at, image_at, Did};
-    ghost use Rattle.keri_disk.specs.declared.disk_call.DiskCall.TheVariants.{Wrote, CutTo};
+    ghost use Rattle.shelf_log.specs.KeriDisk.Replay.{file_after};
+    ghost use Rattle.lists.specs.KeriSpecs.Causes.{Rose};
+    ghost use Rattle.shelf_log.specs.KeriDisk.Images.{IsDurable};
+    ghost use Rattle.shelf_log.specs.KeriDisk.Calls.{Keeps};
+    ghost use Rattle.shelf_log.specs.KeriDisk.Memory.{mem_told, file_at, images_at, image_at, Did};
+    ghost use Rattle.shelf_log.specs.declared.keri_disk.disk_call.DiskCall.TheVariants.{Wrote, CutTo};
 
     /// A disk whose file holds these bytes, all of them synced. Its calls of the numbers in `failing`, counted from 0, fail:
     /// a write does the first half of its bytes, and any other call nothing.
@@ -167,8 +167,8 @@ impl MemDisk {
 }
 
 impl Disk for MemDisk {
-    ghost use Rattle.keri_disk.specs.Memory.{mem_told};
-    ghost use Rattle.keri_disk.specs.Laws.{reads_an_image as reads, counts_now as counts, only_now as only};
+    ghost use Rattle.shelf_log.specs.KeriDisk.Memory.{mem_told};
+    ghost use Rattle.shelf_log.specs.KeriDisk.Laws.{reads_an_image as reads, counts_now as counts, only_now as only};
 
     ghost told = { mem_told };
 

@@ -1,6 +1,6 @@
 //! Bytes written over others, in a vector of their own.
 ghost use Rattle.std.specs.Prelude.{◌≡◌, IfOk};
-ghost use Rattle.keri_disk.specs.Images.{overwritten};
+ghost use Rattle.shelf_log.specs.KeriDisk.Images.{overwritten};
 
 use std::alloc::{AllocError, Global};
 

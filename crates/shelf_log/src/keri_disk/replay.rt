@@ -1,12 +1,12 @@
 //! Calls of a disk in memory, done again.
 ghost use Rattle.std.specs.Prelude.{◌≡◌, length, take, IfOk, OnOk};
-ghost use Rattle.keri_disk.specs.Images.{overwritten, Torn, CutShort};
-ghost use Rattle.keri_disk.specs.Replay.{file_after, file_of, IsLeftBy, IsLeftByAll};
-ghost use Rattle.keri_disk.specs.Shapes.{left_of_write, left_of_cut, image_after, image_of};
+ghost use Rattle.shelf_log.specs.KeriDisk.Images.{overwritten, Torn, CutShort};
+ghost use Rattle.shelf_log.specs.KeriDisk.Replay.{file_after, file_of, IsLeftBy, IsLeftByAll};
+ghost use Rattle.shelf_log.specs.KeriDisk.Shapes.{left_of_write, left_of_cut, image_after, image_of};
 
-use crate::Shape;
-use crate::disk_call::DiskCall;
-use crate::overwrite::overwrite;
+use crate::keri_disk::Shape;
+use crate::keri_disk::disk_call::DiskCall;
+use crate::keri_disk::overwrite::overwrite;
 use std::alloc::{AllocError, Global};
 
 /// The file after calls, and one of its images.

@@ -1,14 +1,14 @@
 //! What stands behind the first byte of a file that isn't a shelf yet.
 ghost use Rattle.std.specs.Prelude.{◌≡◌, ◌≤◌, ◌∷◌, [], length, IfOk, IfSome};
 ghost use Rattle.std.specs.List.{All};
-ghost use Rattle.keri_specs.specs.Causes.{HasCause};
-ghost use Rattle.shelf_log.specs.Blank.{Extends, WritesBehind};
-ghost use Rattle.shelf_log.specs.Format.{IsSized, record_bytes, records, shelf_front, shelf_size};
-ghost use Rattle.shelf_log.specs.declared.version.Version.TheVariants.{One, Two};
+ghost use Rattle.lists.specs.KeriSpecs.Causes.{HasCause};
+ghost use Rattle.shelf_log.specs.ShelfLog.Blank.{Extends, WritesBehind};
+ghost use Rattle.shelf_log.specs.ShelfLog.Format.{IsSized, record_bytes, records, shelf_front, shelf_size};
+ghost use Rattle.shelf_log.specs.declared.shelf_log.version.Version.TheVariants.{One, Two};
 
-use crate::Version;
-use crate::record::{HEAD, head_of};
-use keri_disk::Disk;
+use crate::keri_disk::Disk;
+use crate::shelf_log::Version;
+use crate::shelf_log::record::{HEAD, head_of};
 use keri_outside::Failed;
 use lists::Items;
 

@@ -1,11 +1,11 @@
 //! Changes of a file with a sync behind them.
 ghost use Rattle.std.specs.Prelude.{take, length};
-ghost use Rattle.keri_specs.specs.Causes.{HasCause};
-ghost use Rattle.keri_disk.specs.Images.{overwritten, Torn, CutShort};
-ghost use Rattle.keri_disk.specs.Calls.{IsInFile};
-ghost use Rattle.shelf_log.specs.Durable.{ChangesDurably};
+ghost use Rattle.lists.specs.KeriSpecs.Causes.{HasCause};
+ghost use Rattle.shelf_log.specs.KeriDisk.Images.{overwritten, Torn, CutShort};
+ghost use Rattle.shelf_log.specs.KeriDisk.Calls.{IsInFile};
+ghost use Rattle.shelf_log.specs.ShelfLog.Durable.{ChangesDurably};
 
-use keri_disk::Disk;
+use crate::keri_disk::Disk;
 use keri_outside::Failed;
 
 // Writes the bytes and syncs.

@@ -1,6 +1,6 @@
 //! What a call of a shelf refuses.
 ghost use Rattle.std.specs.Prelude.{◌≡◌};
-ghost use Rattle.shelf_log.specs.declared.fault.ShelfFault.TheVariants.{DiskFault, OutOfMemory};
+ghost use Rattle.shelf_log.specs.declared.shelf_log.fault.ShelfFault.TheVariants.{DiskFault, OutOfMemory};
 
 use keri_outside::Failed;
 use std::alloc::{AllocError, AllocFailed};

@@ -1,17 +1,17 @@
 //! A file of records, read from its mark to its closed gate.
 ghost use Rattle.std.specs.Prelude.{◌≡◌, ◌≢◌, ◌≤◌, ◌⊎◌, ◌↔◌, ◌-◌, [], List, ℕ, OnOk, IfOk, IfErr, IfSome, MatchResult, Ok, Err, IsTrue, length, take};
-ghost use Rattle.keri_specs.specs.Causes.{HasCause};
-ghost use Rattle.keri_disk.specs.Images.{IsDurable};
-ghost use Rattle.keri_disk.specs.Calls.{IsSizeOf, Keeps};
-ghost use Rattle.shelf_log.specs.declared.fault.ShelfFault.TheVariants.{Broken, DiskFault};
-ghost use Rattle.shelf_log.specs.Answers.{HasDiskCause, Reads};
-ghost use Rattle.shelf_log.specs.Format.{mark};
-ghost use Rattle.shelf_log.specs.Scans.{HasRead, IsWithin, Scans};
+ghost use Rattle.lists.specs.KeriSpecs.Causes.{HasCause};
+ghost use Rattle.shelf_log.specs.KeriDisk.Images.{IsDurable};
+ghost use Rattle.shelf_log.specs.KeriDisk.Calls.{IsSizeOf, Keeps};
+ghost use Rattle.shelf_log.specs.declared.shelf_log.fault.ShelfFault.TheVariants.{Broken, DiskFault};
+ghost use Rattle.shelf_log.specs.ShelfLog.Answers.{HasDiskCause, Reads};
+ghost use Rattle.shelf_log.specs.ShelfLog.Format.{mark};
+ghost use Rattle.shelf_log.specs.ShelfLog.Scans.{HasRead, IsWithin, Scans};
 
-use crate::piece::End;
-use crate::scan::Scan;
-use crate::{ShelfFault, Version};
-use keri_disk::Disk;
+use crate::keri_disk::Disk;
+use crate::shelf_log::piece::End;
+use crate::shelf_log::scan::Scan;
+use crate::shelf_log::{ShelfFault, Version};
 use keri_outside::{Failed, Limits};
 use std::alloc::Global;
 
@@ -19,7 +19,7 @@ use std::alloc::Global;
 const WINDOW: u64 = 1 << 21;
 
 /// Reads the list of a file. It syncs first, and writes nothing.
-#[tactic(auto, using(keri_disk::proofs::Moments::keeps_both, keri_disk::proofs::Moments::durable_kept))]
+#[tactic(auto, using(crate::proofs::KeriDiskLemmas::Moments::keeps_both, crate::proofs::KeriDiskLemmas::Moments::durable_kept))]
 pub(crate) fn read_list<D: Disk>(
     alloc: Global,
     disk: &mut D,
@@ -52,7 +52,7 @@ pub(crate) fn read_list<D: Disk>(
 }
 
 /// Whether the file begins with the version's mark. Nothing is written.
-#[tactic(auto, using(keri_disk::proofs::Moments::keeps_both))]
+#[tactic(auto, using(crate::proofs::KeriDiskLemmas::Moments::keeps_both))]
 pub fn begins_with_mark<D: Disk>(disk: &mut D, version: Version) -> Result<bool, Failed>
     ensures mark { IfOk result (λ begins. IfSome (D.told disk.old).file
         (λ file. IsTrue begins ↔ (take 8 file ≡ mark version))) }
@@ -81,7 +81,7 @@ fn has_mark<D: Disk>(disk: &mut D, size: u64, version: Version) -> Result<bool, 
 }
 
 // Reads the records behind the mark, up to the closed gate.
-#[tactic(auto, using(keri_disk::proofs::Moments::keeps_both))]
+#[tactic(auto, using(crate::proofs::KeriDiskLemmas::Moments::keeps_both))]
 fn read_records<D: Disk>(
     disk: &mut D,
     size: u64,

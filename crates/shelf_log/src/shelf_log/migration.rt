@@ -1,19 +1,19 @@
 //! A list that is brought over to a new file.
 ghost use Rattle.std.specs.Prelude.{◌≡◌, ◌≢◌, ◌⊎◌, ◌≤◌, ◌↔◌, List, ℕ, false, length, IfOk, IfErr, OnOk, IsTrue, MatchResult};
 ghost use Rattle.std.specs.List.{All};
-ghost use Rattle.keri_specs.specs.Causes.{HasCause};
-ghost use Rattle.keri_disk.specs.Images.{LeavesOnly};
-ghost use Rattle.shelf_log.specs.Answers.{IsOver, HasDiskCause, MigrationRefuses};
-ghost use Rattle.shelf_log.specs.Format.{IsSized, IsNoShelf, IsUnmarked, shelf_front, shelf_size};
-ghost use Rattle.shelf_log.specs.Settled.{AllHold, BringsOver, IsBroughtOver, IsFilledOrUnmarked};
-ghost use Rattle.shelf_log.specs.declared.version.Version.TheVariants.{One, Two};
-ghost use Rattle.shelf_log.specs.declared.fault.ShelfFault.TheVariants.{DiskFault};
+ghost use Rattle.lists.specs.KeriSpecs.Causes.{HasCause};
+ghost use Rattle.shelf_log.specs.KeriDisk.Images.{LeavesOnly};
+ghost use Rattle.shelf_log.specs.ShelfLog.Answers.{IsOver, HasDiskCause, MigrationRefuses};
+ghost use Rattle.shelf_log.specs.ShelfLog.Format.{IsSized, IsNoShelf, IsUnmarked, shelf_front, shelf_size};
+ghost use Rattle.shelf_log.specs.ShelfLog.Settled.{AllHold, BringsOver, IsBroughtOver, IsFilledOrUnmarked};
+ghost use Rattle.shelf_log.specs.declared.shelf_log.version.Version.TheVariants.{One, Two};
+ghost use Rattle.shelf_log.specs.declared.shelf_log.fault.ShelfFault.TheVariants.{DiskFault};
 
-use crate::behind::write_behind;
-use crate::durable::{cut_durably, put_durably};
-use crate::record::HEAD;
-use crate::{Returned, Shelf, ShelfFault, Version};
-use keri_disk::Disk;
+use crate::keri_disk::Disk;
+use crate::shelf_log::behind::write_behind;
+use crate::shelf_log::durable::{cut_durably, put_durably};
+use crate::shelf_log::record::HEAD;
+use crate::shelf_log::{Returned, Shelf, ShelfFault, Version};
 use keri_outside::{Failed, Limits};
 use lists::{CopyValue, Items};
 use std::alloc::{AllocError, Global};
@@ -23,7 +23,7 @@ impl<D: Disk + Drop> Shelf<D> {
     /// is lost.
     ///
     /// A stop at any moment leaves no shelf of version 2, or the whole list.
-    #[tactic(auto, using(crate::proofs::Sizes::counted))]
+    #[tactic(auto, using(crate::proofs::ShelfLogLemmas::Sizes::counted))]
     pub fn migrate(
         alloc: Global,
         list: &[Items<u8>],

@@ -1,9 +1,9 @@
 //! Files of version 1.
 
-use crate::list_file::read_list;
-use crate::scan::Scan;
-use crate::{Returned, Shelf, Version};
-use keri_disk::Disk;
+use crate::keri_disk::Disk;
+use crate::shelf_log::list_file::read_list;
+use crate::shelf_log::scan::Scan;
+use crate::shelf_log::{Returned, Shelf, Version};
 use keri_outside::Limits;
 use lists::Items;
 use std::alloc::Global;
@@ -18,12 +18,12 @@ pub struct OldShelf<D> {
 impl<D: Disk + Drop> Shelf<D> {
     ghost use Rattle.std.specs.Prelude.{◌≡◌, ◌≢◌, IfOk, IfErr, IfSome, MatchResult, Ok, Err};
     ghost use Rattle.std.specs.List.{All};
-    ghost use Rattle.keri_disk.specs.Images.{IsDurable};
-    ghost use Rattle.keri_disk.specs.Calls.{Keeps};
-    ghost use Rattle.shelf_log.specs.Answers.{HasDiskCause, Reads};
-    ghost use Rattle.shelf_log.specs.Format.{IsSized};
-    ghost use Rattle.shelf_log.specs.declared.version.Version.TheVariants.{One};
-    ghost use Rattle.shelf_log.specs.declared.fault.ShelfFault.TheVariants.{Broken, DiskFault};
+    ghost use Rattle.shelf_log.specs.KeriDisk.Images.{IsDurable};
+    ghost use Rattle.shelf_log.specs.KeriDisk.Calls.{Keeps};
+    ghost use Rattle.shelf_log.specs.ShelfLog.Answers.{HasDiskCause, Reads};
+    ghost use Rattle.shelf_log.specs.ShelfLog.Format.{IsSized};
+    ghost use Rattle.shelf_log.specs.declared.shelf_log.version.Version.TheVariants.{One};
+    ghost use Rattle.shelf_log.specs.declared.shelf_log.fault.ShelfFault.TheVariants.{Broken, DiskFault};
 
     /// Reads a file of version 1, whose payloads have 1 to 65,535 bytes. It syncs first, and writes and cuts nothing,
     /// whatever it answers.

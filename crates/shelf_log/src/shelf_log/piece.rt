@@ -1,8 +1,8 @@
 //! What stands at a gate's place.
 ghost use Rattle.std.specs.Prelude.{◌∷◌};
-ghost use Rattle.shelf_log.specs.Scans.{IsPiece};
+ghost use Rattle.shelf_log.specs.ShelfLog.Scans.{IsPiece};
 
-use crate::Version;
+use crate::shelf_log::Version;
 
 /// What the bytes from a gate's place on begin with.
 #[derive(Clone, Copy)]

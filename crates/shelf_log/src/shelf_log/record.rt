@@ -1,8 +1,8 @@
 //! Records as they are written.
 ghost use Rattle.std.specs.Prelude.{◌≡◌, ◌++◌, [], ◌∷◌, ◌≤◌, IfOk, length};
 ghost use Rattle.std.specs.Int.{w32, to_be_bytes};
-ghost use Rattle.shelf_log.specs.Format.{IsSized};
-ghost use Rattle.shelf_log.specs.declared.version.Version.TheVariants.{Two};
+ghost use Rattle.shelf_log.specs.ShelfLog.Format.{IsSized};
+ghost use Rattle.shelf_log.specs.declared.shelf_log.version.Version.TheVariants.{Two};
 
 use std::alloc::{AllocError, Global};
 

@@ -1,6 +1,6 @@
 //! A refusal that hands the disk back.
 
-use crate::ShelfFault;
+use crate::shelf_log::ShelfFault;
 
 /// Why a shelf wasn't opened or made, with its disk.
 #[derive(Drop)]

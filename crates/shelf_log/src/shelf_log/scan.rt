@@ -1,11 +1,11 @@
 //! A file of records as it is read.
 ghost use Rattle.std.specs.Prelude.{◌≡◌, ◌<◌, ◌+◌, ◌^◌, ◌||◌, ◌++◌, ◌∷◌, [], List, ℕ, OnOk, IfOk, length, nat_le};
-ghost use Rattle.shelf_log.specs.Format.{records, IsSized};
-ghost use Rattle.shelf_log.specs.Scans.{GoesOn, HasRead};
+ghost use Rattle.shelf_log.specs.ShelfLog.Format.{records, IsSized};
+ghost use Rattle.shelf_log.specs.ShelfLog.Scans.{GoesOn, HasRead};
 
-use crate::Version;
-use crate::piece::{End, Piece, piece_of};
-use crate::record::HEAD;
+use crate::shelf_log::Version;
+use crate::shelf_log::piece::{End, Piece, piece_of};
+use crate::shelf_log::record::HEAD;
 use keri_outside::Limits;
 use lists::Items;
 use std::alloc::{AllocError, Global};

@@ -1,17 +1,17 @@
 //! The shelf itself.
 ghost use Rattle.std.specs.Prelude.{◌≡◌, ◌<◌, ◌≤◌, ◌||◌, false, length, nat_le, nat_lt};
 ghost use Rattle.std.proofs.Props.{props};
-ghost use Rattle.shelf_log.specs.Format.{shelf_front};
-ghost use Rattle.shelf_log.specs.Settled.{IsSettled};
-ghost use Rattle.shelf_log.specs.declared.version.Version.TheVariants.{Two};
+ghost use Rattle.shelf_log.specs.ShelfLog.Format.{shelf_front};
+ghost use Rattle.shelf_log.specs.ShelfLog.Settled.{IsSettled};
+ghost use Rattle.shelf_log.specs.declared.shelf_log.version.Version.TheVariants.{Two};
 
-use crate::durable::put_durably;
-use crate::list_file::read_list;
-use crate::record::HEAD;
-use crate::scan::Scan;
-use crate::store::add;
-use crate::{Returned, ShelfFault, Version};
-use keri_disk::Disk;
+use crate::keri_disk::Disk;
+use crate::shelf_log::durable::put_durably;
+use crate::shelf_log::list_file::read_list;
+use crate::shelf_log::record::HEAD;
+use crate::shelf_log::scan::Scan;
+use crate::shelf_log::store::add;
+use crate::shelf_log::{Returned, ShelfFault, Version};
 use keri_outside::{Failed, Limits};
 use lists::Items;
 use std::alloc::Global;
@@ -35,12 +35,12 @@ pub struct Shelf<D: Disk> {
 
 impl<D: Disk + Drop> Shelf<D> {
     ghost use Rattle.std.specs.Prelude.{◌≢◌, ◌⊎◌, ◌+◌, ◌++◌, ◌∷◌, [], List, ℕ, Some, IfOk, IfErr, IfSome, OnOk, OnErr, MatchResult, true};
-    ghost use Rattle.keri_disk.specs.Images.{IsDurable, LeavesOnly};
-    ghost use Rattle.keri_disk.specs.Calls.{Keeps};
-    ghost use Rattle.shelf_log.specs.Answers.{Answers, refusal, HasDiskCause, Reads};
-    ghost use Rattle.shelf_log.specs.Format.{IsSized, shelf_size};
-    ghost use Rattle.shelf_log.specs.Settled.{AllHold, HoldsEither, IsUnfinished};
-    ghost use Rattle.shelf_log.specs.declared.fault.ShelfFault.TheVariants.{Broken, DiskFault};
+    ghost use Rattle.shelf_log.specs.KeriDisk.Images.{IsDurable, LeavesOnly};
+    ghost use Rattle.shelf_log.specs.KeriDisk.Calls.{Keeps};
+    ghost use Rattle.shelf_log.specs.ShelfLog.Answers.{Answers, refusal, HasDiskCause, Reads};
+    ghost use Rattle.shelf_log.specs.ShelfLog.Format.{IsSized, shelf_size};
+    ghost use Rattle.shelf_log.specs.ShelfLog.Settled.{AllHold, HoldsEither, IsUnfinished};
+    ghost use Rattle.shelf_log.specs.declared.shelf_log.fault.ShelfFault.TheVariants.{Broken, DiskFault};
 
     /// A new shelf on a disk whose file is empty: a mark and a closed gate, 9 bytes.
     ///
@@ -66,7 +66,7 @@ impl<D: Disk + Drop> Shelf<D> {
     }
 
     /// Reads a shelf. It syncs first, and writes and cuts nothing, whatever it answers.
-    #[tactic(auto, using(crate::proofs::Sizes::counted))]
+    #[tactic(auto, using(crate::proofs::ShelfLogLemmas::Sizes::counted))]
     pub fn read_back(alloc: Global, disk: D, limits: Limits) -> Result<Shelf<D>, Returned<D>>
         ensures made { IfOk result (λ shelf. (shelf.limits ≡ limits) × (shelf.broken ≡ false)
             × AllHold (D.told shelf.disk) shelf.list) }

@@ -1,18 +1,18 @@
 //! One payload more on a disk.
 ghost use Rattle.std.specs.Prelude.{◌≡◌, ◌+◌, ◌<◌, ◌++◌, [], ◌∷◌, ◌⊎◌, List, ℕ, OnOk, OnErr, IfErr, MatchResult, length};
 ghost use Rattle.std.specs.Int.{w32, to_be_bytes};
-ghost use Rattle.keri_specs.specs.Causes.{HasCause};
-ghost use Rattle.keri_disk.specs.Calls.{IsInFile};
-ghost use Rattle.shelf_log.specs.Answers.{HasDiskCause};
-ghost use Rattle.shelf_log.specs.Format.{shelf_front, IsSized};
-ghost use Rattle.shelf_log.specs.Settled.{IsSettled, Stores};
-ghost use Rattle.shelf_log.specs.declared.version.Version.TheVariants.{Two};
-ghost use Rattle.shelf_log.specs.declared.fault.ShelfFault.TheVariants.{DiskFault, OutOfMemory};
+ghost use Rattle.lists.specs.KeriSpecs.Causes.{HasCause};
+ghost use Rattle.shelf_log.specs.KeriDisk.Calls.{IsInFile};
+ghost use Rattle.shelf_log.specs.ShelfLog.Answers.{HasDiskCause};
+ghost use Rattle.shelf_log.specs.ShelfLog.Format.{shelf_front, IsSized};
+ghost use Rattle.shelf_log.specs.ShelfLog.Settled.{IsSettled, Stores};
+ghost use Rattle.shelf_log.specs.declared.shelf_log.version.Version.TheVariants.{Two};
+ghost use Rattle.shelf_log.specs.declared.shelf_log.fault.ShelfFault.TheVariants.{DiskFault, OutOfMemory};
 
-use crate::ShelfFault;
-use crate::durable::put_durably;
-use crate::record::staged_record;
-use keri_disk::Disk;
+use crate::keri_disk::Disk;
+use crate::shelf_log::ShelfFault;
+use crate::shelf_log::durable::put_durably;
+use crate::shelf_log::record::staged_record;
 use keri_outside::Failed;
 use lists::Items;
 use std::alloc::Global;

@@ -11,7 +11,7 @@ pub enum Version {
 
 impl Version {
     ghost use Rattle.std.specs.Prelude.{◌≡◌, ◌++◌, ◌∷◌, []};
-    ghost use Rattle.shelf_log.specs.Format.{mark, greatest};
+    ghost use Rattle.shelf_log.specs.ShelfLog.Format.{mark, greatest};
 
     /// The eight bytes at the front of a file.
     pub(crate) fn mark(self) -> [u8; 8]

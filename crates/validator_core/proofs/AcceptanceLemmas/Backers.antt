@@ -1,8 +1,8 @@
 -- How many numbers below a bound pass a test.
 use Rattle.std.proofs.Common.{◌≡◌, ℕ, zero, suc, ◌+◌, Bool, sym, ◌∙◌, ap, arith, length}
 use Rattle.std.specs.Prelude.{filter}
-use Rattle.claim_table.specs.Parts.{count_below}
-use Rattle.event_rules.proofs.Filters.{passing_more}
+use Rattle.claim_table.specs.ClaimTable.Parts.{count_below}
+use Rattle.journal.proofs.EventRulesLemmas.Filters.{passing_more}
 use Rattle.key_state.specs.Exposure.{numbers_below}
 use Rattle.key_state.proofs.Numbers.{none_below}
 

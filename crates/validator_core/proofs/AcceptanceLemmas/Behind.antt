@@ -1,24 +1,24 @@
 -- What an event stands on: the state just behind its predecessor.
 use Rattle.std.proofs.Common.{◌≡◌, ℕ, false, List, [], ◌∷◌, Some, None, refl, sym, ◌∙◌, ap}
 use Rattle.std.specs.Prelude.{slice_get, is_none}
-use Rattle.event_body.specs.Events.{sn_of, is_inception}
-use Rattle.event_body.specs.declared.event.Event.{Event}
-use Rattle.event_body.specs.declared.event.Event.TheVariants.{Icp, Rot, Ixn, Dip, Drt, Rct}
+use Rattle.event_body.specs.EventBody.Events.{sn_of, is_inception}
+use Rattle.event_body.specs.declared.event_body.event.Event.{Event}
+use Rattle.event_body.specs.declared.event_body.event.Event.TheVariants.{Icp, Rot, Ixn, Dip, Drt, Rct}
 use Rattle.key_state.specs.Exposure.{own_rules}
 use Rattle.key_state.specs.KeyStates.{misfit}
 use Rattle.key_state.specs.Same.{are_witnesses}
 use Rattle.key_state.specs.States.{State}
-use Rattle.journal.specs.declared.body.Body.{Body}
-use Rattle.journal.specs.Logs.{predecessor, stands}
-use Rattle.journal.specs.Grown.{IsGrown}
-use Rattle.journal.specs.Questions.{state_before}
-use Rattle.event_rules.specs.Parts.{Part, index, reveal, backer, Row as Found, brings_all}
-use Rattle.accepted_log.specs.declared.place.Place.{Place}
-use Rattle.accepted_log.specs.Values.{Log}
-use Rattle.accepted_log.specs.Cuts.{cut, IsLog}
-use Rattle.accepted_log.proofs.Behind.{StateOf, state_of, state_followed}
-use Rattle.claim_table.specs.declared.claimed.Claimed.{Claimed}
-use Rattle.core_laws.specs.ClaimRows.{AreFound, part_of}
+use Rattle.journal.specs.declared.journal.body.Body.{Body}
+use Rattle.journal.specs.Journal.Logs.{predecessor, stands}
+use Rattle.journal.specs.Journal.Grown.{IsGrown}
+use Rattle.journal.specs.Journal.Questions.{state_before}
+use Rattle.journal.specs.EventRules.Parts.{Part, index, reveal, backer, Row as Found, brings_all}
+use Rattle.core_tables.specs.declared.accepted_log.place.Place.{Place}
+use Rattle.core_tables.specs.AcceptedLog.Values.{Log}
+use Rattle.core_tables.specs.AcceptedLog.Cuts.{cut, IsLog}
+use Rattle.core_tables.proofs.AcceptedLogLemmas.Behind.{StateOf, state_of, state_followed}
+use Rattle.claim_table.specs.declared.claim_table.claimed.Claimed.{Claimed}
+use Rattle.claim_table.specs.CoreLaws.ClaimRows.{AreFound, part_of}
 
 -- a state with other live events asks the same of an event's signatures
 pub rules_cut : (k : ℕ) (s : State) (e : Event) → own_rules (Some (cut k s)) e ≡ own_rules (Some s) e

@@ -3,21 +3,21 @@ use Rattle.std.proofs.Common.{◌≡◌, ℕ, suc, ◌<◌, ◌==◌, ◌||◌, 
 use Rattle.std.specs.Prelude.{slice_get, IfSome}
 use Rattle.std.specs.List.{cons_option, list_any}
 use Rattle.std.proofs.lemmas.Bool.{cases_Bool}
-use Rattle.event_body.specs.declared.event.Event.{Event}
-use Rattle.event_body.specs.Events.{is_receipt}
-use Rattle.event_body.specs.Judging.{SpellsEvent}
+use Rattle.event_body.specs.declared.event_body.event.Event.{Event}
+use Rattle.event_body.specs.EventBody.Events.{is_receipt}
+use Rattle.event_body.specs.EventBody.Judging.{SpellsEvent}
 use Rattle.key_state.specs.Kept.{IsKept}
 use Rattle.key_state.proofs.Same.{numbers, number_itself}
-use Rattle.journal.specs.declared.body.Body.{Body}
-use Rattle.journal.specs.Journals.{chosen}
-use Rattle.journal.specs.Logs.{is_in, same_body}
-use Rattle.journal.proofs.Accepting.{same_body-refl}
-use Rattle.journal.proofs.Different.{Differ}
-use Rattle.journal.proofs.Places.{others_differ, some_at}
-use Rattle.core_laws.specs.Waking.{is_waiting}
-use Rattle.core_tables.specs.View.{View, body_of, log_of}
-use Rattle.acceptance.specs.Standing.{IsStanding}
-use Rattle.acceptance.proofs.NewBody.{low_at}
+use Rattle.journal.specs.declared.journal.body.Body.{Body}
+use Rattle.journal.specs.Journal.Journals.{chosen}
+use Rattle.journal.specs.Journal.Logs.{is_in, same_body}
+use Rattle.journal.proofs.JournalLemmas.Accepting.{same_body-refl}
+use Rattle.journal.proofs.JournalLemmas.Different.{Differ}
+use Rattle.journal.proofs.JournalLemmas.Places.{others_differ, some_at}
+use Rattle.claim_table.specs.CoreLaws.Waking.{is_waiting}
+use Rattle.core_tables.specs.CoreTables.View.{View, body_of, log_of}
+use Rattle.validator_core.specs.Acceptance.Standing.{IsStanding}
+use Rattle.validator_core.proofs.AcceptanceLemmas.NewBody.{low_at}
 
 -- EVENT: the body of a number whose event is given is that event's
 module _ (held : List Body) (n : ℕ) (e : Event) (event : Some e ≡ option_map (λ c. c.event) (slice_get held n)) (b : Body) (at : slice_get held n ≡ Some b) where

@@ -5,19 +5,19 @@ use Rattle.std.specs.List.{list_any}
 use Rattle.std.specs.List.Sorted.{IsStrictlyIncreasing}
 use Rattle.std.proofs.lemmas.List.Folds.{list_any-append}
 use Rattle.key_state.specs.States.{State}
-use Rattle.journal.specs.declared.body.Body.{Body}
-use Rattle.journal.specs.declared.claim.Claim.{Claim}
-use Rattle.journal.specs.declared.entry.Entry.TheVariants.{Took}
-use Rattle.journal.specs.History.{claims_on}
-use Rattle.event_rules.specs.Parts.{Part, parts_by, supports}
-use Rattle.event_rules.proofs.Supported.{claims_are}
-use Rattle.claim_table.specs.Rows.{has_yes_by}
-use Rattle.core_tables.specs.Names.{name_of}
-use Rattle.core_tables.specs.View.{View, log_of}
-use Rattle.core_tables.proofs.ToldClaims.{told_claims}
-use Rattle.acceptance.specs.Standing.{IsStanding, told_of}
-use Rattle.acceptance.specs.Entries.{claims_of, claims_there, says_in}
-use Rattle.acceptance.proofs.Verdicts.{backed_is, said_is}
+use Rattle.journal.specs.declared.journal.body.Body.{Body}
+use Rattle.journal.specs.declared.journal.claim.Claim.{Claim}
+use Rattle.journal.specs.declared.journal.entry.Entry.TheVariants.{Took}
+use Rattle.journal.specs.Journal.History.{claims_on}
+use Rattle.journal.specs.EventRules.Parts.{Part, parts_by, supports}
+use Rattle.journal.proofs.EventRulesLemmas.Supported.{claims_are}
+use Rattle.claim_table.specs.ClaimTable.Rows.{has_yes_by}
+use Rattle.core_tables.specs.CoreTables.Names.{name_of}
+use Rattle.core_tables.specs.CoreTables.View.{View, log_of}
+use Rattle.core_tables.proofs.CoreTablesLemmas.ToldClaims.{told_claims}
+use Rattle.validator_core.specs.Acceptance.Standing.{IsStanding, told_of}
+use Rattle.validator_core.specs.Acceptance.Entries.{claims_of, claims_there, says_in}
+use Rattle.validator_core.proofs.AcceptanceLemmas.Verdicts.{backed_is, said_is}
 
 -- a list of lists passes a test where one of these does
 pub any_flat : {X Y : Type 0} (test : Y → Bool) (f : X → List Y) (xs : List X) → list_any test (flat_map f xs) ≡ list_any (λ x. list_any test (f x)) xs

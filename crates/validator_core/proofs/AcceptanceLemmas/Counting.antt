@@ -3,32 +3,32 @@ use Rattle.std.proofs.Common.{◌≡◌, ℕ, ◌+◌, ◌-◌, Bool, true, fals
 use Rattle.std.proofs.lemmas.Bool.{cases_Bool}
 use Rattle.std.proofs.lemmas.List.{length-take}
 use Rattle.std.specs.Prelude.{slice_get, IfSome}
-use Rattle.event_body.specs.Events.{is_inception, is_receipt, is_rotation}
+use Rattle.event_body.specs.EventBody.Events.{is_inception, is_receipt, is_rotation}
 use Rattle.key_state.specs.Exposure.{own_rules}
 use Rattle.key_state.specs.Kept.{IsKept}
 use Rattle.key_state.specs.Same.{are_witnesses}
 use Rattle.key_state.specs.States.{State, IsState}
-use Rattle.journal.specs.declared.body.Body.{Body}
-use Rattle.journal.specs.Conflicts.{counts}
-use Rattle.journal.specs.Logs.{stands, state_behind, takes}
-use Rattle.journal.specs.Questions.{state_before}
-use Rattle.journal.specs.Readiness.{signed}
-use Rattle.event_rules.specs.Parts.{Part, has_next, has_own, has_signed, supports}
-use Rattle.core_laws.specs.Support.{AreSound}
-use Rattle.core_laws.proofs.Enough.{enough}
-use Rattle.core_laws.proofs.Sound.{sound}
-use Rattle.accepted_log.specs.Cuts.{cut}
-use Rattle.core_laws.proofs.Supported.{supported}
-use Rattle.core_tables.specs.View.{View, log_of}
-use Rattle.acceptance.specs.Footing.{IsFooting}
-use Rattle.acceptance.specs.Parts.{has_in, table_part}
-use Rattle.acceptance.specs.Standing.{IsStanding, told_of}
-use Rattle.acceptance.specs.declared.footing.Footing.{Footing}
-use Rattle.acceptance.specs.declared.footing.Footing.TheVariants.{Inception, Behind}
-use Rattle.acceptance.proofs.Behind.{rules_cut}
-use Rattle.acceptance.proofs.FoundClaims.{first_has_none}
-use Rattle.acceptance.proofs.ReadyRows.{part_is}
-use Rattle.acceptance.specs.Current.{state_on}
+use Rattle.journal.specs.declared.journal.body.Body.{Body}
+use Rattle.journal.specs.Journal.Conflicts.{counts}
+use Rattle.journal.specs.Journal.Logs.{stands, state_behind, takes}
+use Rattle.journal.specs.Journal.Questions.{state_before}
+use Rattle.journal.specs.Journal.Readiness.{signed}
+use Rattle.journal.specs.EventRules.Parts.{Part, has_next, has_own, has_signed, supports}
+use Rattle.claim_table.specs.CoreLaws.Support.{AreSound}
+use Rattle.claim_table.proofs.CoreLawsLemmas.Enough.{enough}
+use Rattle.claim_table.proofs.CoreLawsLemmas.Sound.{sound}
+use Rattle.core_tables.specs.AcceptedLog.Cuts.{cut}
+use Rattle.claim_table.proofs.CoreLawsLemmas.Supported.{supported}
+use Rattle.core_tables.specs.CoreTables.View.{View, log_of}
+use Rattle.validator_core.specs.Acceptance.Footing.{IsFooting}
+use Rattle.validator_core.specs.Acceptance.Parts.{has_in, table_part}
+use Rattle.validator_core.specs.Acceptance.Standing.{IsStanding, told_of}
+use Rattle.validator_core.specs.declared.acceptance.footing.Footing.{Footing}
+use Rattle.validator_core.specs.declared.acceptance.footing.Footing.TheVariants.{Inception, Behind}
+use Rattle.validator_core.proofs.AcceptanceLemmas.Behind.{rules_cut}
+use Rattle.validator_core.proofs.AcceptanceLemmas.FoundClaims.{first_has_none}
+use Rattle.validator_core.proofs.AcceptanceLemmas.ReadyRows.{part_is}
+use Rattle.validator_core.specs.Acceptance.Current.{state_on}
 
 -- a cut state is one that events make
 is_cut : (n : ℕ) (s : State) → IsState s → IsState (cut n s)

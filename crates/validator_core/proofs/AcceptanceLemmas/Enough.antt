@@ -2,23 +2,23 @@
 use Rattle.std.proofs.Common.{◌≡◌, Bool, true, false, not, ◌&&◌, ◌||◌, List, [], ◌∷◌, Option, is_none, refl, sym, ◌∙◌, ap, inl, inr}
 use Rattle.std.proofs.Math.Bool.{and-false, and-true}
 use Rattle.std.proofs.lemmas.Bool.{cases_Bool}
-use Rattle.event_body.specs.Events.{prefix_of, is_rotation}
+use Rattle.event_body.specs.EventBody.Events.{prefix_of, is_rotation}
 use Rattle.key_state.specs.Exposure.{own_rules}
 use Rattle.key_state.specs.KeyStates.{first_true}
 use Rattle.key_state.specs.States.{State}
-use Rattle.journal.specs.declared.body.Body.{Body}
-use Rattle.journal.specs.declared.mode.Mode.{Mode}
-use Rattle.journal.specs.declared.why.Why.TheVariants.{Signatures, Next, Receipts, Seal}
-use Rattle.journal.specs.Logs.{state, takes}
-use Rattle.journal.specs.Seals.{anchored}
-use Rattle.journal.specs.History.{Told}
-use Rattle.journal.specs.Readiness.{is_backed, is_local, is_ready, meets_before, meets_own, signed}
-use Rattle.event_rules.specs.Parts.{Part, supports, has_own, has_next}
-use Rattle.core_laws.specs.Support.{AreSound}
-use Rattle.core_laws.specs.Waking.{is_waiting}
-use Rattle.core_laws.proofs.Enough.{enough, next_is, own_is}
-use Rattle.acceptance.proofs.ReadyRows.{untaken}
-use Rattle.acceptance.specs.Wants.{wants, wants_by}
+use Rattle.journal.specs.declared.journal.body.Body.{Body}
+use Rattle.journal.specs.declared.journal.mode.Mode.{Mode}
+use Rattle.journal.specs.declared.journal.why.Why.TheVariants.{Signatures, Next, Receipts, Seal}
+use Rattle.journal.specs.Journal.Logs.{state, takes}
+use Rattle.journal.specs.Journal.Seals.{anchored}
+use Rattle.journal.specs.Journal.History.{Told}
+use Rattle.journal.specs.Journal.Readiness.{is_backed, is_local, is_ready, meets_before, meets_own, signed}
+use Rattle.journal.specs.EventRules.Parts.{Part, supports, has_own, has_next}
+use Rattle.claim_table.specs.CoreLaws.Support.{AreSound}
+use Rattle.claim_table.specs.CoreLaws.Waking.{is_waiting}
+use Rattle.claim_table.proofs.CoreLawsLemmas.Enough.{enough, next_is, own_is}
+use Rattle.validator_core.proofs.AcceptanceLemmas.ReadyRows.{untaken}
+use Rattle.validator_core.specs.Acceptance.Wants.{wants, wants_by}
 
 -- WANTS
 module _ (mode : Mode) (told : List Told) (log : List Body) (b : Body) where

@@ -5,17 +5,17 @@ use Rattle.std.specs.List.{cons_option, list_any}
 use Rattle.std.proofs.lemmas.Bool.{or_parts}
 use Rattle.cesr_codes.specs.declared.key.Key.{Key}
 use Rattle.cesr_codes.specs.declared.sig.Sig.{Sig}
-use Rattle.journal.specs.declared.body.Body.{Body}
-use Rattle.journal.specs.declared.claim.Claim.{Claim}
-use Rattle.journal.specs.declared.entry.Entry.{Entry}
-use Rattle.journal.specs.declared.entry.Entry.TheVariants.{Took, Heard}
-use Rattle.journal.specs.Logs.{is_in, same_body}
-use Rattle.journal.specs.History.{Told, took, heard, same_triple, has_verdict, heard_in}
-use Rattle.journal.specs.Journals.{told_by, whole}
-use Rattle.journal.proofs.Locality.{bytes_differ}
-use Rattle.journal.proofs.Places.{slice_get_front, some_at}
-use Rattle.core_laws.specs.ClaimRows.{triple_on}
-use Rattle.core_tables.specs.View.{number_of}
+use Rattle.journal.specs.declared.journal.body.Body.{Body}
+use Rattle.journal.specs.declared.journal.claim.Claim.{Claim}
+use Rattle.journal.specs.declared.journal.entry.Entry.{Entry}
+use Rattle.journal.specs.declared.journal.entry.Entry.TheVariants.{Took, Heard}
+use Rattle.journal.specs.Journal.Logs.{is_in, same_body}
+use Rattle.journal.specs.Journal.History.{Told, took, heard, same_triple, has_verdict, heard_in}
+use Rattle.journal.specs.Journal.Journals.{told_by, whole}
+use Rattle.journal.proofs.JournalLemmas.Locality.{bytes_differ}
+use Rattle.journal.proofs.JournalLemmas.Places.{slice_get_front, some_at}
+use Rattle.claim_table.specs.CoreLaws.ClaimRows.{triple_on}
+use Rattle.core_tables.specs.CoreTables.View.{number_of}
 
 -- an entry of a body that is held tells the same when more bodies are
 whole_front : (held more : List Body) (e : Entry) → number_of e < length held → whole (held ++ more) e ≡ whole held e

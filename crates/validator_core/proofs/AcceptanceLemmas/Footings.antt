@@ -2,23 +2,23 @@
 use Rattle.std.proofs.Common.{◌≡◌, ℕ, false, true, List, Option, Some, None, is_some, refl, sym, ◌∙◌, ap, subst, inl, inr}
 use Rattle.std.proofs.lemmas.Bool.{cases_Bool}
 use Rattle.std.specs.Prelude.{IfNone, IfSome}
-use Rattle.event_body.specs.declared.event.Event.{Event}
-use Rattle.event_body.specs.declared.event.Event.TheVariants.{Icp, Rot, Ixn, Dip, Drt, Rct}
-use Rattle.event_body.specs.Events.{is_inception, is_receipt, prefix_of}
+use Rattle.event_body.specs.declared.event_body.event.Event.{Event}
+use Rattle.event_body.specs.declared.event_body.event.Event.TheVariants.{Icp, Rot, Ixn, Dip, Drt, Rct}
+use Rattle.event_body.specs.EventBody.Events.{is_inception, is_receipt, prefix_of}
 use Rattle.key_state.specs.KeyStates.{misfit}
 use Rattle.key_state.specs.States.{State}
-use Rattle.journal.specs.Grown.{IsGrown}
-use Rattle.journal.specs.declared.body.Body.{Body}
-use Rattle.journal.specs.Logs.{stands, state, takes}
-use Rattle.journal.specs.Questions.{state_before}
-use Rattle.core_laws.specs.Standing.{AreAlikeIf, HasNoClash}
-use Rattle.core_laws.proofs.Standing.{current, current_stands}
-use Rattle.accepted_log.specs.Cuts.{IsLog, cut}
-use Rattle.accepted_log.specs.Values.{Log, last_place, state_there}
-use Rattle.acceptance.specs.Footing.{IsFooting}
-use Rattle.acceptance.specs.declared.footing.Footing.{Footing}
-use Rattle.acceptance.specs.declared.footing.Footing.TheVariants.{Inception, Behind}
-use Rattle.acceptance.specs.Current.{IsOnCurrent}
+use Rattle.journal.specs.Journal.Grown.{IsGrown}
+use Rattle.journal.specs.declared.journal.body.Body.{Body}
+use Rattle.journal.specs.Journal.Logs.{stands, state, takes}
+use Rattle.journal.specs.Journal.Questions.{state_before}
+use Rattle.claim_table.specs.CoreLaws.Standing.{AreAlikeIf, HasNoClash}
+use Rattle.claim_table.proofs.CoreLawsLemmas.Standing.{current, current_stands}
+use Rattle.core_tables.specs.AcceptedLog.Cuts.{IsLog, cut}
+use Rattle.core_tables.specs.AcceptedLog.Values.{Log, last_place, state_there}
+use Rattle.validator_core.specs.Acceptance.Footing.{IsFooting}
+use Rattle.validator_core.specs.declared.acceptance.footing.Footing.{Footing}
+use Rattle.validator_core.specs.declared.acceptance.footing.Footing.TheVariants.{Inception, Behind}
+use Rattle.validator_core.specs.Acceptance.Current.{IsOnCurrent}
 
 module _ (log : List Body) (v : Log) (b : Body) where
   pub stands_if : (o : Option Footing) → IfNone o (stands log b ≡ false) → IfSome o (λ on. IsFooting log v b on) → is_some o ≡ stands log b

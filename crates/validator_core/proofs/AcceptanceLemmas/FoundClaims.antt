@@ -2,21 +2,21 @@
 use Rattle.std.proofs.Common.{◌≡◌, ℕ, ◌+◌, ◌==◌, ◌&&◌, true, false, List, [], ◌∷◌, ◌++◌, Option, Some, None, refl, sym, ◌∙◌, ap, inl, inr, append-nil, subst}
 use Rattle.std.proofs.lemmas.Bool.{cases_Bool}
 use Rattle.std.proofs.Math.Bool.{and-false}
-use Rattle.event_body.specs.Events.{prefix_of, sn_of, said_of, prior_of, is_inception}
+use Rattle.event_body.specs.EventBody.Events.{prefix_of, sn_of, said_of, prior_of, is_inception}
 use Rattle.key_state.specs.KeyStates.{are_same}
-use Rattle.event_body.specs.declared.event.Event.{Event}
-use Rattle.event_body.specs.declared.event.Event.TheVariants.{Icp, Rot, Ixn, Dip, Drt, Rct}
-use Rattle.journal.specs.declared.body.Body.{Body}
-use Rattle.journal.specs.Logs.{is_of, precedes, predecessor, stands}
-use Rattle.journal.specs.History.{Told, claims_in}
-use Rattle.journal.specs.Questions.{state_before}
-use Rattle.core_laws.proofs.Predecessors.{state_before-kept, state_before-none}
-use Rattle.claim_table.specs.declared.claimed.Claimed.{Claimed}
-use Rattle.claim_table.specs.declared.row.Row.{Row}
-use Rattle.core_laws.specs.ClaimRows.{AreFound, AreClaims, HasClaims, found_on, verdict_in}
-use Rattle.core_laws.proofs.Accepted.{claimed-kept, claimed-none}
-use Rattle.core_laws.proofs.Steps.{found_none, found_push, has_same}
-use Rattle.acceptance.proofs.Behind.{stands_not}
+use Rattle.event_body.specs.declared.event_body.event.Event.{Event}
+use Rattle.event_body.specs.declared.event_body.event.Event.TheVariants.{Icp, Rot, Ixn, Dip, Drt, Rct}
+use Rattle.journal.specs.declared.journal.body.Body.{Body}
+use Rattle.journal.specs.Journal.Logs.{is_of, precedes, predecessor, stands}
+use Rattle.journal.specs.Journal.History.{Told, claims_in}
+use Rattle.journal.specs.Journal.Questions.{state_before}
+use Rattle.claim_table.proofs.CoreLawsLemmas.Predecessors.{state_before-kept, state_before-none}
+use Rattle.claim_table.specs.declared.claim_table.claimed.Claimed.{Claimed}
+use Rattle.claim_table.specs.declared.claim_table.row.Row.{Row}
+use Rattle.claim_table.specs.CoreLaws.ClaimRows.{AreFound, AreClaims, HasClaims, found_on, verdict_in}
+use Rattle.claim_table.proofs.CoreLawsLemmas.Accepted.{claimed-kept, claimed-none}
+use Rattle.claim_table.proofs.CoreLawsLemmas.Steps.{found_none, found_push, has_same}
+use Rattle.validator_core.proofs.AcceptanceLemmas.Behind.{stands_not}
 
 -- an inception names no event before it
 prior_none : (e : Event) → is_inception e ≡ true → prior_of e ≡ None

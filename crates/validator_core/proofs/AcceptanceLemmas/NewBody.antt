@@ -6,34 +6,34 @@ use Rattle.cesr_codes.specs.declared.sig.Sig.{Sig}
 use Rattle.std.specs.List.{cons_option}
 use Rattle.std.proofs.lemmas.Bool.{cases_Bool, and_from, or_parts, not_from_false}
 use Rattle.std.proofs.lemmas.List.Folds.{list_all-append}
-use Rattle.event_body.specs.Events.{is_receipt}
+use Rattle.event_body.specs.EventBody.Events.{is_receipt}
 use Rattle.key_state.proofs.Same.{numbers, number_itself}
-use Rattle.journal.specs.declared.body.Body.{Body}
-use Rattle.journal.specs.declared.claim.Claim.{Claim}
-use Rattle.journal.specs.declared.entry.Entry.{Entry}
-use Rattle.journal.specs.declared.entry.Entry.TheVariants.{Took}
-use Rattle.journal.specs.Logs.{is_in, same_body}
-use Rattle.journal.specs.Grown.{IsGrown}
-use Rattle.journal.specs.History.{Told, took}
-use Rattle.journal.specs.Journals.{chosen}
-use Rattle.journal.specs.Questions.{state_before}
-use Rattle.journal.proofs.Different.{Differ}
-use Rattle.journal.proofs.Held.{told_push}
-use Rattle.journal.proofs.Locality.{bytes_differ}
-use Rattle.journal.proofs.Places.{slice_get_last, slice_get_before, slice_get_front, some_at}
-use Rattle.event_rules.specs.Parts.{Row as Found}
-use Rattle.accepted_log.specs.Cuts.{IsLog}
-use Rattle.claim_table.specs.declared.claimed.Claimed.{Claimed}
-use Rattle.claim_table.specs.Rows.{raised_all}
-use Rattle.core_laws.specs.ClaimRows.{AreFound, AreClaims, HasClaims, found_on, triple_on, verdict_in}
-use Rattle.core_laws.proofs.Steps.{has_new, has_raised, has_same}
-use Rattle.core_laws.proofs.Told.{verdict_took, verdict_there}
-use Rattle.core_tables.specs.View.{View, log_of, number_of, with_rows}
-use Rattle.acceptance.specs.Standing.{IsHeld, IsStanding, told_of}
-use Rattle.acceptance.specs.Taken.{with_entry}
-use Rattle.acceptance.proofs.Taken.{took_off}
-use Rattle.acceptance.proofs.Entries.{told_front, unheard_outside}
-use Rattle.acceptance.proofs.FoundClaims.{found_unnamed}
+use Rattle.journal.specs.declared.journal.body.Body.{Body}
+use Rattle.journal.specs.declared.journal.claim.Claim.{Claim}
+use Rattle.journal.specs.declared.journal.entry.Entry.{Entry}
+use Rattle.journal.specs.declared.journal.entry.Entry.TheVariants.{Took}
+use Rattle.journal.specs.Journal.Logs.{is_in, same_body}
+use Rattle.journal.specs.Journal.Grown.{IsGrown}
+use Rattle.journal.specs.Journal.History.{Told, took}
+use Rattle.journal.specs.Journal.Journals.{chosen}
+use Rattle.journal.specs.Journal.Questions.{state_before}
+use Rattle.journal.proofs.JournalLemmas.Different.{Differ}
+use Rattle.journal.proofs.JournalLemmas.Held.{told_push}
+use Rattle.journal.proofs.JournalLemmas.Locality.{bytes_differ}
+use Rattle.journal.proofs.JournalLemmas.Places.{slice_get_last, slice_get_before, slice_get_front, some_at}
+use Rattle.journal.specs.EventRules.Parts.{Row as Found}
+use Rattle.core_tables.specs.AcceptedLog.Cuts.{IsLog}
+use Rattle.claim_table.specs.declared.claim_table.claimed.Claimed.{Claimed}
+use Rattle.claim_table.specs.ClaimTable.Rows.{raised_all}
+use Rattle.claim_table.specs.CoreLaws.ClaimRows.{AreFound, AreClaims, HasClaims, found_on, triple_on, verdict_in}
+use Rattle.claim_table.proofs.CoreLawsLemmas.Steps.{has_new, has_raised, has_same}
+use Rattle.claim_table.proofs.CoreLawsLemmas.Told.{verdict_took, verdict_there}
+use Rattle.core_tables.specs.CoreTables.View.{View, log_of, number_of, with_rows}
+use Rattle.validator_core.specs.Acceptance.Standing.{IsHeld, IsStanding, told_of}
+use Rattle.validator_core.specs.Acceptance.Taken.{with_entry}
+use Rattle.validator_core.proofs.AcceptanceLemmas.Taken.{took_off}
+use Rattle.validator_core.proofs.AcceptanceLemmas.Entries.{told_front, unheard_outside}
+use Rattle.validator_core.proofs.AcceptanceLemmas.FoundClaims.{found_unnamed}
 
 -- a number of the list is below its length
 pub low_at : (hs : List Body) (m : ℕ) (c : Body) → slice_get hs m ≡ Some c → m < length hs

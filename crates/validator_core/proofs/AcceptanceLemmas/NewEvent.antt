@@ -4,37 +4,37 @@ use Rattle.std.specs.Prelude.{◌↔◌, Contains, filter_map, slice_get, take}
 use Rattle.std.specs.List.{cons_option, list_any}
 use Rattle.std.proofs.lemmas.Bool.{and_from, and_parts, cases_Bool, not-false, not-true, or_parts}
 use Rattle.std.proofs.lemmas.List.Folds.{list_any-append}
-use Rattle.event_body.specs.Events.{prefix_of, sn_of, said_of, prior_of, is_inception, is_receipt}
-use Rattle.event_body.specs.declared.event.Event.{Event}
-use Rattle.event_body.specs.declared.event.Event.TheVariants.{Icp, Rot, Ixn, Dip, Drt, Rct}
+use Rattle.event_body.specs.EventBody.Events.{prefix_of, sn_of, said_of, prior_of, is_inception, is_receipt}
+use Rattle.event_body.specs.declared.event_body.event.Event.{Event}
+use Rattle.event_body.specs.declared.event_body.event.Event.TheVariants.{Icp, Rot, Ixn, Dip, Drt, Rct}
 use Rattle.key_state.specs.KeyStates.{are_same, digest_at}
 use Rattle.key_state.specs.Same.{same_digest}
 use Rattle.key_state.specs.States.{State}
 use Rattle.key_state.proofs.Same.{number_itself, numbers, same_prefix_itself}
 use Rattle.cesr_codes.specs.declared.prefix.Prefix.TheVariants.{Said}
-use Rattle.journal.specs.declared.body.Body.{Body}
-use Rattle.journal.specs.Grown.{IsGrown, fits}
-use Rattle.journal.specs.Journals.{chosen}
-use Rattle.journal.specs.Logs.{precedes, predecessor, state, takes}
-use Rattle.journal.specs.Questions.{state_before}
-use Rattle.journal.proofs.Held.{chosen_push}
-use Rattle.journal.proofs.Keeping.{IsGrown-push}
-use Rattle.event_rules.specs.Parts.{Row as Found}
-use Rattle.escrow.specs.Escrow.{Escrow, Waits, held as held_by}
-use Rattle.core_laws.proofs.Members.{find_some, member_any}
-use Rattle.core_laws.proofs.NextEvents.{rules_of_taken}
-use Rattle.core_laws.proofs.States.{StandIf, all_stand, are_same-some, inside_of, sn_positive}
-use Rattle.accepted_log.specs.Cuts.{IsLog}
-use Rattle.accepted_log.specs.Values.{Log}
-use Rattle.claim_table.specs.declared.row.Row.{Row}
-use Rattle.core_laws.specs.ClaimRows.{AreClaims, HasClaims, found_on, verdict_in}
-use Rattle.core_tables.specs.Hints.{IsEscrow}
-use Rattle.core_tables.specs.View.{View, log_of, waiter_at, waiter_of, with_log, with_rows}
-use Rattle.acceptance.specs.Standing.{IsStanding, told_of}
-use Rattle.acceptance.specs.Turned.{turned}
-use Rattle.acceptance.proofs.NewBody.{low_at}
-use Rattle.acceptance.proofs.Turned.{turned_begins, turned_ends}
-use Rattle.acceptance.proofs.FoundClaims.{claims_move, found_stays}
+use Rattle.journal.specs.declared.journal.body.Body.{Body}
+use Rattle.journal.specs.Journal.Grown.{IsGrown, fits}
+use Rattle.journal.specs.Journal.Journals.{chosen}
+use Rattle.journal.specs.Journal.Logs.{precedes, predecessor, state, takes}
+use Rattle.journal.specs.Journal.Questions.{state_before}
+use Rattle.journal.proofs.JournalLemmas.Held.{chosen_push}
+use Rattle.journal.proofs.JournalLemmas.Keeping.{IsGrown-push}
+use Rattle.journal.specs.EventRules.Parts.{Row as Found}
+use Rattle.escrow.specs.Escrow.Escrow.{Escrow, Waits, held as held_by}
+use Rattle.claim_table.proofs.CoreLawsLemmas.Members.{find_some, member_any}
+use Rattle.claim_table.proofs.CoreLawsLemmas.NextEvents.{rules_of_taken}
+use Rattle.claim_table.proofs.CoreLawsLemmas.States.{StandIf, all_stand, are_same-some, inside_of, sn_positive}
+use Rattle.core_tables.specs.AcceptedLog.Cuts.{IsLog}
+use Rattle.core_tables.specs.AcceptedLog.Values.{Log}
+use Rattle.claim_table.specs.declared.claim_table.row.Row.{Row}
+use Rattle.claim_table.specs.CoreLaws.ClaimRows.{AreClaims, HasClaims, found_on, verdict_in}
+use Rattle.core_tables.specs.CoreTables.Hints.{IsEscrow}
+use Rattle.core_tables.specs.CoreTables.View.{View, log_of, waiter_at, waiter_of, with_log, with_rows}
+use Rattle.validator_core.specs.Acceptance.Standing.{IsStanding, told_of}
+use Rattle.validator_core.specs.Acceptance.Turned.{turned}
+use Rattle.validator_core.proofs.AcceptanceLemmas.NewBody.{low_at}
+use Rattle.validator_core.proofs.AcceptanceLemmas.Turned.{turned_begins, turned_ends}
+use Rattle.validator_core.proofs.AcceptanceLemmas.FoundClaims.{claims_move, found_stays}
 
 slice_get_push : (xs : List ℕ) (x y n : ℕ) → slice_get (xs ++ x ∷ []) n ≡ Some y → (slice_get xs n ≡ Some y) ⊎ (x ≡ y)
 slice_get_push [] x y zero e = inr (let same : Some x ≡ Some y = e in cc)

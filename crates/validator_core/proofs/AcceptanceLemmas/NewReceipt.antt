@@ -1,23 +1,23 @@
 -- The tables stand when the body of a receipt comes, before its entry does.
 use Rattle.std.proofs.Common.{◌≡◌, true, false, List, [], ◌∷◌, ◌++◌, refl, sym, ◌∙◌, ap, arith, subst, inl, inr, if◌then◌else◌}
 use Rattle.std.proofs.lemmas.Bool.{cases_Bool}
-use Rattle.event_body.specs.Events.{is_receipt}
+use Rattle.event_body.specs.EventBody.Events.{is_receipt}
 use Rattle.key_state.specs.Exposure.{own_rules}
-use Rattle.journal.specs.declared.body.Body.{Body}
-use Rattle.journal.specs.Grown.{IsGrown}
-use Rattle.journal.specs.History.{claims_on}
-use Rattle.journal.specs.Journals.{told_by}
-use Rattle.journal.specs.Logs.{is_in, stands}
-use Rattle.journal.specs.Questions.{state_before}
-use Rattle.core_laws.specs.Claimed.{rows_of}
-use Rattle.accepted_log.specs.Cuts.{IsLog}
-use Rattle.core_laws.specs.ClaimRows.{AreClaims, found_on, verdict_in}
-use Rattle.core_laws.proofs.Steps.{has_new}
-use Rattle.core_tables.specs.View.{View, log_of}
-use Rattle.acceptance.specs.Standing.{IsHeld, IsStanding, told_of}
-use Rattle.acceptance.proofs.NewBody.{chosen_more, differ_push, last_or, length_more, unsaid_outside}
-use Rattle.acceptance.proofs.Receipt.{receipt_stands}
-use Rattle.acceptance.proofs.Entries.{told_front}
+use Rattle.journal.specs.declared.journal.body.Body.{Body}
+use Rattle.journal.specs.Journal.Grown.{IsGrown}
+use Rattle.journal.specs.Journal.History.{claims_on}
+use Rattle.journal.specs.Journal.Journals.{told_by}
+use Rattle.journal.specs.Journal.Logs.{is_in, stands}
+use Rattle.journal.specs.Journal.Questions.{state_before}
+use Rattle.claim_table.specs.CoreLaws.Claimed.{rows_of}
+use Rattle.core_tables.specs.AcceptedLog.Cuts.{IsLog}
+use Rattle.claim_table.specs.CoreLaws.ClaimRows.{AreClaims, found_on, verdict_in}
+use Rattle.claim_table.proofs.CoreLawsLemmas.Steps.{has_new}
+use Rattle.core_tables.specs.CoreTables.View.{View, log_of}
+use Rattle.validator_core.specs.Acceptance.Standing.{IsHeld, IsStanding, told_of}
+use Rattle.validator_core.proofs.AcceptanceLemmas.NewBody.{chosen_more, differ_push, last_or, length_more, unsaid_outside}
+use Rattle.validator_core.proofs.AcceptanceLemmas.Receipt.{receipt_stands}
+use Rattle.validator_core.proofs.AcceptanceLemmas.Entries.{told_front}
 
 -- of a receipt nothing is found
 pub receipt_found : (v : View) (b : Body) → is_receipt b.event ≡ true → found_on (told_of v) (log_of v) b ≡ []

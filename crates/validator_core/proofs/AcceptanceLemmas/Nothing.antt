@@ -1,9 +1,9 @@
 -- Tables that hold nothing stand.
-use Rattle.accepted_log.proofs.Behind.{nothing_is_log}
-use Rattle.journal.proofs.Premises.{nothing_grown}
-use Rattle.journal.specs.Journals.{chosen}
-use Rattle.core_tables.specs.View.{nothing}
-use Rattle.acceptance.specs.Standing.{IsStanding}
+use Rattle.core_tables.proofs.AcceptedLogLemmas.Behind.{nothing_is_log}
+use Rattle.journal.proofs.JournalLemmas.Premises.{nothing_grown}
+use Rattle.journal.specs.Journal.Journals.{chosen}
+use Rattle.core_tables.specs.CoreTables.View.{nothing}
+use Rattle.validator_core.specs.Acceptance.Standing.{IsStanding}
 
 pub nothing_stands : IsStanding nothing
 unfolding chosen

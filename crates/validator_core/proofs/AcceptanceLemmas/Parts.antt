@@ -1,28 +1,28 @@
 -- What the rows of a table add up to of an event that stands on the current state, or is an inception.
 use Rattle.std.proofs.Common.{◌≡◌, ℕ, true, Bool, List, Option, Some, None, ◌∙◌, ap, inl, inr}
 use Rattle.std.specs.Prelude.{slice_get, IfSome}
-use Rattle.event_body.specs.Events.{prefix_of}
-use Rattle.event_body.specs.declared.event.Event.{Event}
+use Rattle.event_body.specs.EventBody.Events.{prefix_of}
+use Rattle.event_body.specs.declared.event_body.event.Event.{Event}
 use Rattle.key_state.specs.Exposure.{own_rules}
 use Rattle.key_state.specs.Kept.{IsKept}
 use Rattle.key_state.specs.Same.{are_witnesses}
 use Rattle.key_state.specs.States.{State, IsState}
-use Rattle.journal.specs.declared.body.Body.{Body}
-use Rattle.journal.specs.Logs.{state, takes}
-use Rattle.journal.specs.History.{Told}
-use Rattle.journal.specs.Questions.{state_before}
-use Rattle.event_rules.specs.Parts.{Part, supports}
-use Rattle.core_laws.specs.Standing.{AreAlikeIf}
-use Rattle.core_laws.specs.Support.{AreSound}
-use Rattle.core_laws.proofs.Adding.{alike_same, inception_same}
-use Rattle.core_laws.proofs.Alike.{own_rules-alike}
-use Rattle.core_laws.proofs.Sound.{sound}
-use Rattle.core_laws.proofs.Supported.{supported}
-use Rattle.core_tables.specs.View.{View, log_of}
-use Rattle.acceptance.specs.Parts.{has_in, table_part}
-use Rattle.acceptance.specs.Standing.{IsStanding, told_of}
-use Rattle.acceptance.proofs.ReadyRows.{first_once, part_is}
-use Rattle.acceptance.specs.Current.{IsOnCurrent}
+use Rattle.journal.specs.declared.journal.body.Body.{Body}
+use Rattle.journal.specs.Journal.Logs.{state, takes}
+use Rattle.journal.specs.Journal.History.{Told}
+use Rattle.journal.specs.Journal.Questions.{state_before}
+use Rattle.journal.specs.EventRules.Parts.{Part, supports}
+use Rattle.claim_table.specs.CoreLaws.Standing.{AreAlikeIf}
+use Rattle.claim_table.specs.CoreLaws.Support.{AreSound}
+use Rattle.claim_table.proofs.CoreLawsLemmas.Adding.{alike_same, inception_same}
+use Rattle.claim_table.proofs.CoreLawsLemmas.Alike.{own_rules-alike}
+use Rattle.claim_table.proofs.CoreLawsLemmas.Sound.{sound}
+use Rattle.claim_table.proofs.CoreLawsLemmas.Supported.{supported}
+use Rattle.core_tables.specs.CoreTables.View.{View, log_of}
+use Rattle.validator_core.specs.Acceptance.Parts.{has_in, table_part}
+use Rattle.validator_core.specs.Acceptance.Standing.{IsStanding, told_of}
+use Rattle.validator_core.proofs.AcceptanceLemmas.ReadyRows.{first_once, part_is}
+use Rattle.validator_core.specs.Acceptance.Current.{IsOnCurrent}
 
 -- states that are alike ask the same, and give the same parts
 rules_alike : (o p : Option State) → AreAlikeIf o p → (e : Event) → own_rules o e ≡ own_rules p e

@@ -1,17 +1,17 @@
 -- Where the predecessor of an event stands in an accepted log there are its place and a state.
 use Rattle.std.proofs.Common.{◌≡◌, ◌<◌, ◌≤◌, ◌-◌, ℕ, suc, zero, false, is_none, subst, List, [], ◌∷◌, length, Some, None, sym, ◌∙◌, arith}
 use Rattle.std.specs.Prelude.{position, slice_get}
-use Rattle.event_body.specs.Events.{is_inception, sn_of}
+use Rattle.event_body.specs.EventBody.Events.{is_inception, sn_of}
 use Rattle.key_state.specs.KeyStates.{misfit, state_behind}
 use Rattle.key_state.specs.States.{State}
-use Rattle.journal.specs.declared.body.Body.{Body}
-use Rattle.journal.specs.Logs.{precedes, stands}
-use Rattle.journal.specs.Grown.{IsGrown}
-use Rattle.accepted_log.specs.declared.place.Place.{Place}
-use Rattle.accepted_log.specs.Cuts.{IsLog}
-use Rattle.accepted_log.specs.Values.{Log}
-use Rattle.acceptance.specs.Footing.{IsBehind}
-use Rattle.acceptance.proofs.Predecessor.{IsFollowed, followed, predecessor_at}
+use Rattle.journal.specs.declared.journal.body.Body.{Body}
+use Rattle.journal.specs.Journal.Logs.{precedes, stands}
+use Rattle.journal.specs.Journal.Grown.{IsGrown}
+use Rattle.core_tables.specs.declared.accepted_log.place.Place.{Place}
+use Rattle.core_tables.specs.AcceptedLog.Cuts.{IsLog}
+use Rattle.core_tables.specs.AcceptedLog.Values.{Log}
+use Rattle.validator_core.specs.Acceptance.Footing.{IsBehind}
+use Rattle.validator_core.proofs.AcceptanceLemmas.Predecessor.{IsFollowed, followed, predecessor_at}
 
 no_gap : {X Y : Type 0} (xs : List X) (ys : List Y) (i : ℕ) (x : X) → length ys ≡ length xs → slice_get xs i ≡ Some x → slice_get ys i ≡ None → ⊥
 no_gap [] ys i x e at none = cc

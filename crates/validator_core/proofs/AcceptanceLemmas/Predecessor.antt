@@ -5,20 +5,20 @@ use Rattle.std.specs.List.{position_or_len}
 use Rattle.std.proofs.lemmas.List.Folds.{find_at}
 use Rattle.std.proofs.lemmas.Bool.{ltb-false, ltb-true}
 use Rattle.std.proofs.lemmas.Option.{slice_get_past}
-use Rattle.journal.proofs.Places.{some_at}
-use Rattle.event_body.specs.Events.{sn_of, is_inception}
+use Rattle.journal.proofs.JournalLemmas.Places.{some_at}
+use Rattle.event_body.specs.EventBody.Events.{sn_of, is_inception}
 use Rattle.key_state.specs.KeyStates.{misfit, state_behind}
 use Rattle.key_state.specs.States.{State}
-use Rattle.journal.specs.declared.body.Body.{Body}
-use Rattle.journal.specs.Logs.{precedes, predecessor, stands}
-use Rattle.journal.specs.Grown.{IsGrown}
-use Rattle.journal.specs.Questions.{state_before}
-use Rattle.journal.proofs.Settling.{find-true}
-use Rattle.core_laws.proofs.Woken.{parts_of}
-use Rattle.accepted_log.specs.declared.place.Place.{Place}
-use Rattle.accepted_log.specs.Values.{Log}
-use Rattle.accepted_log.specs.Cuts.{cut, IsLog}
-use Rattle.acceptance.proofs.Behind.{of_x, stands_behind, state_there_is}
+use Rattle.journal.specs.declared.journal.body.Body.{Body}
+use Rattle.journal.specs.Journal.Logs.{precedes, predecessor, stands}
+use Rattle.journal.specs.Journal.Grown.{IsGrown}
+use Rattle.journal.specs.Journal.Questions.{state_before}
+use Rattle.journal.proofs.JournalLemmas.Settling.{find-true}
+use Rattle.claim_table.proofs.CoreLawsLemmas.Woken.{parts_of}
+use Rattle.core_tables.specs.declared.accepted_log.place.Place.{Place}
+use Rattle.core_tables.specs.AcceptedLog.Values.{Log}
+use Rattle.core_tables.specs.AcceptedLog.Cuts.{cut, IsLog}
+use Rattle.validator_core.proofs.AcceptanceLemmas.Behind.{of_x, stands_behind, state_there_is}
 use Rattle.std.specs.Prelude.{is_none}
 
 -- what stands at the first place that passes is what is found

@@ -2,30 +2,30 @@
 use Rattle.std.proofs.Common.{◌≡◌, ℕ, true, false, ◌&&◌, not, List, Option, Some, refl, sym, ◌∙◌, ap, subst}
 use Rattle.std.specs.Prelude.{slice_get, IfSome}
 use Rattle.std.proofs.Math.Bool.{and-false}
-use Rattle.event_body.specs.Events.{prefix_of, is_inception, is_receipt}
-use Rattle.event_body.specs.declared.event.Event.{Event}
-use Rattle.event_body.specs.declared.event.Event.TheVariants.{Icp, Rot, Ixn, Dip, Drt, Rct}
+use Rattle.event_body.specs.EventBody.Events.{prefix_of, is_inception, is_receipt}
+use Rattle.event_body.specs.declared.event_body.event.Event.{Event}
+use Rattle.event_body.specs.declared.event_body.event.Event.TheVariants.{Icp, Rot, Ixn, Dip, Drt, Rct}
 use Rattle.key_state.specs.Exposure.{own_rules}
 use Rattle.key_state.specs.Kept.{IsKept}
 use Rattle.key_state.specs.Same.{are_witnesses}
 use Rattle.key_state.specs.States.{State, IsState}
-use Rattle.journal.specs.declared.body.Body.{Body}
-use Rattle.journal.specs.declared.mode.Mode.{Mode}
-use Rattle.journal.specs.Logs.{is_in, stands, state, takes}
-use Rattle.journal.specs.History.{Told}
-use Rattle.journal.specs.Questions.{state_before}
-use Rattle.journal.specs.Readiness.{is_ready}
-use Rattle.event_rules.specs.Parts.{Part, index, reveal, backer, supports}
-use Rattle.core_laws.specs.Standing.{AreAlikeIf}
-use Rattle.core_laws.specs.Support.{ready_by}
-use Rattle.core_laws.proofs.Sound.{sound}
-use Rattle.core_laws.proofs.Standing.{inception_ready, standing_ready}
-use Rattle.accepted_log.specs.Cuts.{cut}
-use Rattle.claim_table.specs.declared.row.Row.{Row}
-use Rattle.core_laws.specs.ClaimRows.{AreClaims, part_of}
-use Rattle.core_laws.proofs.Supported.{supported}
-use Rattle.acceptance.specs.Parts.{has_in, table_part}
-use Rattle.acceptance.proofs.Behind.{rules_cut}
+use Rattle.journal.specs.declared.journal.body.Body.{Body}
+use Rattle.journal.specs.declared.journal.mode.Mode.{Mode}
+use Rattle.journal.specs.Journal.Logs.{is_in, stands, state, takes}
+use Rattle.journal.specs.Journal.History.{Told}
+use Rattle.journal.specs.Journal.Questions.{state_before}
+use Rattle.journal.specs.Journal.Readiness.{is_ready}
+use Rattle.journal.specs.EventRules.Parts.{Part, index, reveal, backer, supports}
+use Rattle.claim_table.specs.CoreLaws.Standing.{AreAlikeIf}
+use Rattle.claim_table.specs.CoreLaws.Support.{ready_by}
+use Rattle.claim_table.proofs.CoreLawsLemmas.Sound.{sound}
+use Rattle.claim_table.proofs.CoreLawsLemmas.Standing.{inception_ready, standing_ready}
+use Rattle.core_tables.specs.AcceptedLog.Cuts.{cut}
+use Rattle.claim_table.specs.declared.claim_table.row.Row.{Row}
+use Rattle.claim_table.specs.CoreLaws.ClaimRows.{AreClaims, part_of}
+use Rattle.claim_table.proofs.CoreLawsLemmas.Supported.{supported}
+use Rattle.validator_core.specs.Acceptance.Parts.{has_in, table_part}
+use Rattle.validator_core.proofs.AcceptanceLemmas.Behind.{rules_cut}
 
 pub part_is : (p : Part) → part_of (table_part p) ≡ p
 part_is (index n) = refl

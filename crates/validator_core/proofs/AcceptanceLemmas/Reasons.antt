@@ -2,17 +2,17 @@
 use Rattle.std.proofs.Common.{◌≡◌, ℕ, Bool, true, false, not, ◌&&◌, ◌||◌, List, Option, Some, None, is_some, is_none, refl, sym, ◌∙◌, ap, inl, inr}
 use Rattle.std.specs.Prelude.{position}
 use Rattle.std.proofs.lemmas.Bool.{or_parts, or_cases, not-false}
-use Rattle.event_body.specs.Events.{prefix_of, is_inception, is_receipt}
+use Rattle.event_body.specs.EventBody.Events.{prefix_of, is_inception, is_receipt}
 use Rattle.key_state.specs.States.{State}
-use Rattle.journal.specs.declared.body.Body.{Body}
-use Rattle.journal.specs.declared.mode.Mode.{Mode}
-use Rattle.journal.specs.declared.why.Why.TheVariants.{Never, Predecessor}
-use Rattle.journal.specs.Logs.{is_in, state, takes, precedes, predecessor, stands}
-use Rattle.journal.specs.History.{Told}
-use Rattle.journal.specs.Waiting.{is_lost, reason_under, why_waits}
-use Rattle.core_laws.specs.Waking.{is_there, is_waiting}
-use Rattle.acceptance.proofs.Predecessor.{no_predecessor, predecessor_at}
-use Rattle.acceptance.specs.Wants.{wants}
+use Rattle.journal.specs.declared.journal.body.Body.{Body}
+use Rattle.journal.specs.declared.journal.mode.Mode.{Mode}
+use Rattle.journal.specs.declared.journal.why.Why.TheVariants.{Never, Predecessor}
+use Rattle.journal.specs.Journal.Logs.{is_in, state, takes, precedes, predecessor, stands}
+use Rattle.journal.specs.Journal.History.{Told}
+use Rattle.journal.specs.Journal.Waiting.{is_lost, reason_under, why_waits}
+use Rattle.claim_table.specs.CoreLaws.Waking.{is_there, is_waiting}
+use Rattle.validator_core.proofs.AcceptanceLemmas.Predecessor.{no_predecessor, predecessor_at}
+use Rattle.validator_core.specs.Acceptance.Wants.{wants}
 
 -- PREDECESSOR: there is one where it has a place
 pub has_predecessor : (log : List Body) (b : Body) (o : Option ℕ) → o ≡ position (precedes b) log → is_some o ≡ is_some (predecessor log b)

@@ -5,32 +5,32 @@ use Rattle.std.specs.List.{list_any}
 use Rattle.std.proofs.lemmas.Bool.{cases_Bool}
 use Rattle.std.proofs.Math.Bool.{and-false}
 use Rattle.std.specs.Cmp.Lexicographic.{bytes_decides}
-use Rattle.event_body.specs.declared.event.Event.{Event}
-use Rattle.event_body.specs.declared.event.Event.TheVariants.{Icp, Rot, Ixn, Dip, Drt, Rct}
-use Rattle.event_body.specs.Events.{is_inception, is_receipt, prefix_of, prior_of, said_of, sn_of}
+use Rattle.event_body.specs.declared.event_body.event.Event.{Event}
+use Rattle.event_body.specs.declared.event_body.event.Event.TheVariants.{Icp, Rot, Ixn, Dip, Drt, Rct}
+use Rattle.event_body.specs.EventBody.Events.{is_inception, is_receipt, prefix_of, prior_of, said_of, sn_of}
 use Rattle.key_state.specs.KeyStates.{are_same}
 use Rattle.key_state.specs.Exposure.{own_rules}
-use Rattle.journal.specs.declared.body.Body.{Body}
-use Rattle.journal.specs.declared.claim.Claim.{Claim}
-use Rattle.journal.specs.declared.entry.Entry.TheVariants.{Took}
-use Rattle.journal.specs.History.{Told, took, claims_in, is_receipt_for}
-use Rattle.journal.specs.Logs.{is_of, precedes, predecessor, same_body, stands}
-use Rattle.journal.specs.Questions.{state_before}
-use Rattle.journal.proofs.Places.{one_body}
-use Rattle.event_rules.specs.Parts.{Row as Found}
-use Rattle.core_laws.specs.Claimed.{rows_of}
-use Rattle.claim_table.specs.declared.row.Row.{Row}
-use Rattle.core_laws.specs.ClaimRows.{AreClaims, HasClaims, found_on, triple_on, verdict_in}
-use Rattle.core_laws.proofs.Steps.{found_push, has_same}
-use Rattle.core_laws.proofs.Told.{verdict_took}
-use Rattle.core_tables.specs.View.{View, log_of, with_rows}
-use Rattle.acceptance.specs.Standing.{IsStanding, told_of}
-use Rattle.acceptance.specs.Turned.{turned}
-use Rattle.acceptance.proofs.Behind.{stands_not}
-use Rattle.acceptance.specs.Taken.{found_by, with_entry}
-use Rattle.acceptance.proofs.Taken.{held_entry, told_took}
-use Rattle.acceptance.proofs.Turned.{turned_begins, turned_ends}
-use Rattle.acceptance.proofs.FoundClaims.{found_unnamed}
+use Rattle.journal.specs.declared.journal.body.Body.{Body}
+use Rattle.journal.specs.declared.journal.claim.Claim.{Claim}
+use Rattle.journal.specs.declared.journal.entry.Entry.TheVariants.{Took}
+use Rattle.journal.specs.Journal.History.{Told, took, claims_in, is_receipt_for}
+use Rattle.journal.specs.Journal.Logs.{is_of, precedes, predecessor, same_body, stands}
+use Rattle.journal.specs.Journal.Questions.{state_before}
+use Rattle.journal.proofs.JournalLemmas.Places.{one_body}
+use Rattle.journal.specs.EventRules.Parts.{Row as Found}
+use Rattle.claim_table.specs.CoreLaws.Claimed.{rows_of}
+use Rattle.claim_table.specs.declared.claim_table.row.Row.{Row}
+use Rattle.claim_table.specs.CoreLaws.ClaimRows.{AreClaims, HasClaims, found_on, triple_on, verdict_in}
+use Rattle.claim_table.proofs.CoreLawsLemmas.Steps.{found_push, has_same}
+use Rattle.claim_table.proofs.CoreLawsLemmas.Told.{verdict_took}
+use Rattle.core_tables.specs.CoreTables.View.{View, log_of, with_rows}
+use Rattle.validator_core.specs.Acceptance.Standing.{IsStanding, told_of}
+use Rattle.validator_core.specs.Acceptance.Turned.{turned}
+use Rattle.validator_core.proofs.AcceptanceLemmas.Behind.{stands_not}
+use Rattle.validator_core.specs.Acceptance.Taken.{found_by, with_entry}
+use Rattle.validator_core.proofs.AcceptanceLemmas.Taken.{held_entry, told_took}
+use Rattle.validator_core.proofs.AcceptanceLemmas.Turned.{turned_begins, turned_ends}
+use Rattle.validator_core.proofs.AcceptanceLemmas.FoundClaims.{found_unnamed}
 
 -- a receipt names no event before it, and is no inception
 receipt_kind : (e : Event) → is_receipt e ≡ true → (prior_of e ≡ None) × (is_inception e ≡ false)

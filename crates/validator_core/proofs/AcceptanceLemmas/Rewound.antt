@@ -2,17 +2,17 @@
 use Rattle.std.proofs.Common.{◌≡◌, ◌<◌, ◌≤◌, List, [], ◌∷◌, ◌++◌, length, refl, sym, ◌∙◌, ap, subst}
 use Rattle.std.proofs.Math.Seq.{take-append_seam, take-length}
 use Rattle.std.specs.Prelude.{All, take}
-use Rattle.journal.specs.declared.body.Body.{Body}
-use Rattle.journal.specs.declared.entry.Entry.{Entry}
-use Rattle.core_laws.proofs.Entries.{all_from}
-use Rattle.accepted_log.proofs.Extensions.{extends_refl, extends_trans}
-use Rattle.claim_table.specs.declared.claimed.Claimed.{Claimed}
-use Rattle.claim_table.specs.declared.row.Row.{Row}
-use Rattle.claim_table.specs.Rows.{raised, raised_all}
-use Rattle.claim_table.specs.Table.{KeepsPending}
-use Rattle.core_tables.specs.View.{View, IsCut, mark_of, number_of, rewound, with_rows}
-use Rattle.acceptance.specs.Standing.{Extends, IsStanding}
-use Rattle.acceptance.specs.Taken.{with_entry}
+use Rattle.journal.specs.declared.journal.body.Body.{Body}
+use Rattle.journal.specs.declared.journal.entry.Entry.{Entry}
+use Rattle.claim_table.proofs.CoreLawsLemmas.Entries.{all_from}
+use Rattle.core_tables.proofs.AcceptedLogLemmas.Extensions.{extends_refl, extends_trans}
+use Rattle.claim_table.specs.declared.claim_table.claimed.Claimed.{Claimed}
+use Rattle.claim_table.specs.declared.claim_table.row.Row.{Row}
+use Rattle.claim_table.specs.ClaimTable.Rows.{raised, raised_all}
+use Rattle.claim_table.specs.ClaimTable.Table.{KeepsPending}
+use Rattle.core_tables.specs.CoreTables.View.{View, IsCut, mark_of, number_of, rewound, with_rows}
+use Rattle.validator_core.specs.Acceptance.Standing.{Extends, IsStanding}
+use Rattle.validator_core.specs.Acceptance.Taken.{with_entry}
 
 -- the front of a front is a front
 take_front : {X : Type 0} (xs ys zs : List X) → take (length xs) ys ≡ xs → take (length ys) zs ≡ ys → take (length xs) zs ≡ xs

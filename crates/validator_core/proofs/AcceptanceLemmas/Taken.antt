@@ -2,30 +2,30 @@
 use Rattle.std.proofs.Common.{◌≡◌, ℕ, ◌<◌, true, false, ◌==◌, List, [], ◌∷◌, ◌++◌, length, Some, option_map, refl, sym, ◌∙◌, ap, inl, inr, subst, if◌then◌else◌}
 use Rattle.std.specs.Prelude.{slice_get}
 use Rattle.std.proofs.lemmas.Bool.{cases_Bool}
-use Rattle.event_body.specs.Events.{is_receipt}
+use Rattle.event_body.specs.EventBody.Events.{is_receipt}
 use Rattle.key_state.specs.Exposure.{own_rules}
 use Rattle.key_state.proofs.Same.{numbers, number_itself}
-use Rattle.journal.specs.declared.body.Body.{Body}
-use Rattle.journal.specs.declared.claim.Claim.{Claim}
-use Rattle.journal.specs.declared.entry.Entry.{Entry}
-use Rattle.journal.specs.declared.entry.Entry.TheVariants.{Took}
-use Rattle.journal.specs.Logs.{same_body, stands}
-use Rattle.journal.specs.History.{Told, took, claims_in}
-use Rattle.journal.specs.Questions.{state_before}
-use Rattle.journal.proofs.Accepting.{same_body-refl}
-use Rattle.journal.proofs.Held.{told_push}
-use Rattle.journal.proofs.Places.{others_differ, slice_get_last, slice_get_before}
-use Rattle.event_rules.specs.Parts.{Row as Found}
-use Rattle.core_laws.specs.Claimed.{rows_of}
-use Rattle.claim_table.specs.declared.claimed.Claimed.{Claimed}
-use Rattle.claim_table.specs.Rows.{raised_all}
-use Rattle.core_laws.specs.ClaimRows.{AreFound, AreClaims, HasClaims, found_on, triple_on, verdict_in}
-use Rattle.core_laws.proofs.Steps.{found_push, has_raised, has_same}
-use Rattle.core_laws.proofs.Told.{verdict_took}
-use Rattle.core_tables.specs.View.{View, log_of, number_of, with_rows}
-use Rattle.acceptance.specs.Standing.{IsStanding, told_of}
-use Rattle.acceptance.specs.Taken.{found_by, with_entry}
-use Rattle.acceptance.proofs.FoundClaims.{found_unnamed}
+use Rattle.journal.specs.declared.journal.body.Body.{Body}
+use Rattle.journal.specs.declared.journal.claim.Claim.{Claim}
+use Rattle.journal.specs.declared.journal.entry.Entry.{Entry}
+use Rattle.journal.specs.declared.journal.entry.Entry.TheVariants.{Took}
+use Rattle.journal.specs.Journal.Logs.{same_body, stands}
+use Rattle.journal.specs.Journal.History.{Told, took, claims_in}
+use Rattle.journal.specs.Journal.Questions.{state_before}
+use Rattle.journal.proofs.JournalLemmas.Accepting.{same_body-refl}
+use Rattle.journal.proofs.JournalLemmas.Held.{told_push}
+use Rattle.journal.proofs.JournalLemmas.Places.{others_differ, slice_get_last, slice_get_before}
+use Rattle.journal.specs.EventRules.Parts.{Row as Found}
+use Rattle.claim_table.specs.CoreLaws.Claimed.{rows_of}
+use Rattle.claim_table.specs.declared.claim_table.claimed.Claimed.{Claimed}
+use Rattle.claim_table.specs.ClaimTable.Rows.{raised_all}
+use Rattle.claim_table.specs.CoreLaws.ClaimRows.{AreFound, AreClaims, HasClaims, found_on, triple_on, verdict_in}
+use Rattle.claim_table.proofs.CoreLawsLemmas.Steps.{found_push, has_raised, has_same}
+use Rattle.claim_table.proofs.CoreLawsLemmas.Told.{verdict_took}
+use Rattle.core_tables.specs.CoreTables.View.{View, log_of, number_of, with_rows}
+use Rattle.validator_core.specs.Acceptance.Standing.{IsStanding, told_of}
+use Rattle.validator_core.specs.Acceptance.Taken.{found_by, with_entry}
+use Rattle.validator_core.proofs.AcceptanceLemmas.FoundClaims.{found_unnamed}
 
 -- the claims that come with an event stand on it, and on no other body
 pub took_on : (reader : ℕ) (b : Body) (claims : List Claim) → claims_in b (took reader b claims) ≡ claims

@@ -7,15 +7,15 @@ use Rattle.std.proofs.lemmas.List.Folds.{list_any-append}
 use Rattle.std.proofs.Math.Bool.{or-false}
 use Rattle.key_state.specs.States.{State}
 use Rattle.key_state.proofs.Same.{numbers, number_itself}
-use Rattle.journal.specs.declared.body.Body.{Body}
-use Rattle.journal.specs.History.{Triple}
-use Rattle.event_rules.specs.Parts.{Row as Found}
-use Rattle.claim_table.specs.declared.claimed.Claimed.{Claimed}
-use Rattle.claim_table.specs.declared.row.Row.{Row}
-use Rattle.claim_table.specs.Rows.{raised_all}
-use Rattle.core_laws.specs.ClaimRows.{AreFound, HasClaims}
-use Rattle.core_laws.proofs.Steps.{has_raised, has_same}
-use Rattle.acceptance.specs.Turned.{turned}
+use Rattle.journal.specs.declared.journal.body.Body.{Body}
+use Rattle.journal.specs.Journal.History.{Triple}
+use Rattle.journal.specs.EventRules.Parts.{Row as Found}
+use Rattle.claim_table.specs.declared.claim_table.claimed.Claimed.{Claimed}
+use Rattle.claim_table.specs.declared.claim_table.row.Row.{Row}
+use Rattle.claim_table.specs.ClaimTable.Rows.{raised_all}
+use Rattle.claim_table.specs.CoreLaws.ClaimRows.{AreFound, HasClaims}
+use Rattle.claim_table.proofs.CoreLawsLemmas.Steps.{has_raised, has_same}
+use Rattle.validator_core.specs.Acceptance.Turned.{turned}
 
 module _ (was now : ℕ → Body → List Found) where
   -- one number more is done

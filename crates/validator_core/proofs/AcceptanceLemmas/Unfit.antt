@@ -1,10 +1,10 @@
 -- The first body that doesn't fit a log: with none the bodies are a grown list, and those before it always are.
 use Rattle.std.proofs.Common.{◌≡◌, ℕ, ◌+◌, false, List, [], ◌∷◌, ◌++◌, length, Some, None, refl, sym, ◌∙◌, ap, inl, inr, arith, append-nil, append_assoc, subst}
 use Rattle.std.proofs.lemmas.Bool.{cases_Bool}
-use Rattle.journal.specs.declared.body.Body.{Body}
-use Rattle.journal.specs.Grown.{IsGrown, fits}
-use Rattle.journal.specs.Journals.{first_unfit}
-use Rattle.journal.proofs.Keeping.{IsGrown-push}
+use Rattle.journal.specs.declared.journal.body.Body.{Body}
+use Rattle.journal.specs.Journal.Grown.{IsGrown, fits}
+use Rattle.journal.specs.Journal.Journals.{first_unfit}
+use Rattle.journal.proofs.JournalLemmas.Keeping.{IsGrown-push}
 
 -- GROWN: bodies of which none is unfit, behind a grown list
 pub all_fit : (place : ℕ) (before bodies : List Body) → first_unfit place before bodies ≡ None → IsGrown before → IsGrown (before ++ bodies)

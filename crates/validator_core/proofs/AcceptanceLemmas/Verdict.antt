@@ -3,21 +3,21 @@ use Rattle.std.proofs.Common.{◌≡◌, ℕ, ◌<◌, Bool, true, false, not, L
 use Rattle.std.specs.Prelude.{is_none, slice_get}
 use Rattle.cesr_codes.specs.declared.key.Key.{Key}
 use Rattle.cesr_codes.specs.declared.sig.Sig.{Sig}
-use Rattle.journal.specs.declared.body.Body.{Body}
-use Rattle.journal.specs.declared.entry.Entry.TheVariants.{Heard}
-use Rattle.journal.specs.History.{Told, heard, has_verdict}
-use Rattle.journal.specs.Questions.{state_before}
-use Rattle.journal.proofs.Held.{told_push}
-use Rattle.claim_table.specs.declared.row.Row.{Row}
-use Rattle.claim_table.specs.Rows.{heard as rows_heard, is_raised, verdict_of}
-use Rattle.core_laws.specs.ClaimRows.{AreClaims, AreFound, HasClaims, found_on, triple_on, verdict_in}
-use Rattle.core_laws.proofs.Steps.{has_heard, has_same}
-use Rattle.core_laws.proofs.Told.{verdict_heard, verdict_there}
-use Rattle.core_tables.specs.View.{View, log_of, with_rows}
-use Rattle.acceptance.specs.Standing.{IsStanding, told_of}
-use Rattle.acceptance.specs.Taken.{with_entry}
-use Rattle.acceptance.proofs.Taken.{held_entry}
-use Rattle.acceptance.proofs.FoundClaims.{found_unnamed}
+use Rattle.journal.specs.declared.journal.body.Body.{Body}
+use Rattle.journal.specs.declared.journal.entry.Entry.TheVariants.{Heard}
+use Rattle.journal.specs.Journal.History.{Told, heard, has_verdict}
+use Rattle.journal.specs.Journal.Questions.{state_before}
+use Rattle.journal.proofs.JournalLemmas.Held.{told_push}
+use Rattle.claim_table.specs.declared.claim_table.row.Row.{Row}
+use Rattle.claim_table.specs.ClaimTable.Rows.{heard as rows_heard, is_raised, verdict_of}
+use Rattle.claim_table.specs.CoreLaws.ClaimRows.{AreClaims, AreFound, HasClaims, found_on, triple_on, verdict_in}
+use Rattle.claim_table.proofs.CoreLawsLemmas.Steps.{has_heard, has_same}
+use Rattle.claim_table.proofs.CoreLawsLemmas.Told.{verdict_heard, verdict_there}
+use Rattle.core_tables.specs.CoreTables.View.{View, log_of, with_rows}
+use Rattle.validator_core.specs.Acceptance.Standing.{IsStanding, told_of}
+use Rattle.validator_core.specs.Acceptance.Taken.{with_entry}
+use Rattle.validator_core.proofs.AcceptanceLemmas.Taken.{held_entry}
+use Rattle.validator_core.proofs.AcceptanceLemmas.FoundClaims.{found_unnamed}
 
 module _ (v : View) (is : IsStanding v) (reader n : ℕ) (b : Body) (at : slice_get v.held n ≡ Some b) (low : n < length v.held) (key : Key) (sig : Sig) (verdict : Bool) where
   told_after : told_of (with_entry (Heard reader n key sig verdict) v) ≡ told_of v ++ heard reader b key sig verdict ∷ []

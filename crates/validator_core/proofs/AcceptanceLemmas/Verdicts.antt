@@ -8,18 +8,18 @@ use Rattle.cesr_codes.specs.declared.key.Key.{Key}
 use Rattle.cesr_codes.specs.declared.sig.Sig.{Sig}
 use Rattle.key_state.specs.Same.{same_key}
 use Rattle.key_state.proofs.Same.{numbers, same_key_is}
-use Rattle.journal.specs.declared.body.Body.{Body}
-use Rattle.journal.specs.History.{Told, said_yes, same_triple, yes_in}
-use Rattle.journal.specs.Readiness.{backs}
-use Rattle.journal.proofs.Places.{any_at, found_at}
-use Rattle.journal.proofs.Same.{same_triple_is, same_triple_itself}
-use Rattle.event_rules.specs.Parts.{says_of}
-use Rattle.claim_table.specs.declared.row.Row.{Row}
-use Rattle.claim_table.specs.declared.signature.Signature.{Signature}
-use Rattle.claim_table.specs.Rows.{has_yes_by, is_of, is_raised, is_yes, verdict_of}
-use Rattle.core_laws.proofs.Supported.{both_ways, verdict_raised, yes_there}
-use Rattle.core_laws.specs.ClaimRows.{AreClaims, triple_on}
-use Rattle.acceptance.specs.Entries.{says_in, yes_of}
+use Rattle.journal.specs.declared.journal.body.Body.{Body}
+use Rattle.journal.specs.Journal.History.{Told, said_yes, same_triple, yes_in}
+use Rattle.journal.specs.Journal.Readiness.{backs}
+use Rattle.journal.proofs.JournalLemmas.Places.{any_at, found_at}
+use Rattle.journal.proofs.JournalLemmas.Same.{same_triple_is, same_triple_itself}
+use Rattle.journal.specs.EventRules.Parts.{says_of}
+use Rattle.claim_table.specs.declared.claim_table.row.Row.{Row}
+use Rattle.claim_table.specs.declared.claim_table.signature.Signature.{Signature}
+use Rattle.claim_table.specs.ClaimTable.Rows.{has_yes_by, is_of, is_raised, is_yes, verdict_of}
+use Rattle.claim_table.proofs.CoreLawsLemmas.Supported.{both_ways, verdict_raised, yes_there}
+use Rattle.claim_table.specs.CoreLaws.ClaimRows.{AreClaims, triple_on}
+use Rattle.validator_core.specs.Acceptance.Entries.{says_in, yes_of}
 
 -- where a signature is raised the table's answer is the verdict, and else there is none
 pub answered : (rows : List Row) (s : Signature) (o : Option (Option Bool)) → o ≡ (if is_raised rows s then Some (verdict_of rows s) else None) → yes_of o ≡ is_yes (verdict_of rows s)

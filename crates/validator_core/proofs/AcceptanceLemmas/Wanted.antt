@@ -2,28 +2,28 @@
 use Rattle.std.proofs.Common.{◌≡◌, ℕ, true, List, Option, Some, sym, subst}
 use Rattle.std.specs.Prelude.{Contains, slice_get, IfSome}
 use Rattle.std.specs.List.Sorted.{IsStrictlyIncreasing}
-use Rattle.event_body.specs.Events.{prefix_of}
+use Rattle.event_body.specs.EventBody.Events.{prefix_of}
 use Rattle.key_state.specs.Kept.{IsKept}
 use Rattle.key_state.specs.States.{State, IsState}
-use Rattle.journal.specs.declared.body.Body.{Body}
-use Rattle.journal.specs.declared.claim.Claim.{Claim}
-use Rattle.journal.specs.declared.entry.Entry.TheVariants.{Took}
-use Rattle.journal.specs.declared.mode.Mode.{Mode}
-use Rattle.journal.specs.Logs.{state, takes}
-use Rattle.journal.specs.Seals.{anchored}
-use Rattle.event_rules.specs.Parts.{Part, parts_by, supports}
-use Rattle.core_laws.proofs.Sound.{sound}
-use Rattle.claim_table.specs.Rows.{has_yes_by}
-use Rattle.core_tables.specs.Names.{name_of}
-use Rattle.core_tables.specs.View.{View, log_of}
-use Rattle.acceptance.specs.Parts.{has_in}
-use Rattle.acceptance.specs.Standing.{IsStanding, told_of}
-use Rattle.acceptance.specs.Current.{IsOnCurrent}
-use Rattle.acceptance.specs.Entries.{claims_of, says_in}
-use Rattle.acceptance.specs.Wants.{wants, wants_by}
-use Rattle.acceptance.proofs.Claims.{entries_support}
-use Rattle.acceptance.proofs.Enough.{wants_are}
-use Rattle.acceptance.proofs.Parts.{rows_support}
+use Rattle.journal.specs.declared.journal.body.Body.{Body}
+use Rattle.journal.specs.declared.journal.claim.Claim.{Claim}
+use Rattle.journal.specs.declared.journal.entry.Entry.TheVariants.{Took}
+use Rattle.journal.specs.declared.journal.mode.Mode.{Mode}
+use Rattle.journal.specs.Journal.Logs.{state, takes}
+use Rattle.journal.specs.Journal.Seals.{anchored}
+use Rattle.journal.specs.EventRules.Parts.{Part, parts_by, supports}
+use Rattle.claim_table.proofs.CoreLawsLemmas.Sound.{sound}
+use Rattle.claim_table.specs.ClaimTable.Rows.{has_yes_by}
+use Rattle.core_tables.specs.CoreTables.Names.{name_of}
+use Rattle.core_tables.specs.CoreTables.View.{View, log_of}
+use Rattle.validator_core.specs.Acceptance.Parts.{has_in}
+use Rattle.validator_core.specs.Acceptance.Standing.{IsStanding, told_of}
+use Rattle.validator_core.specs.Acceptance.Current.{IsOnCurrent}
+use Rattle.validator_core.specs.Acceptance.Entries.{claims_of, says_in}
+use Rattle.validator_core.specs.Acceptance.Wants.{wants, wants_by}
+use Rattle.validator_core.proofs.AcceptanceLemmas.Claims.{entries_support}
+use Rattle.validator_core.proofs.AcceptanceLemmas.Enough.{wants_are}
+use Rattle.validator_core.proofs.AcceptanceLemmas.Parts.{rows_support}
 
 module _ (v : View) (is : IsStanding v) (mode : Mode) (n : ℕ) (b : Body) (at : slice_get v.held n ≡ Some b) (kept : IsKept b.event) (s : Option State) (state_is : IfSome s IsState)
     (current : s ≡ state (log_of v) (prefix_of b.event)) (taken : takes s b.event ≡ true) where

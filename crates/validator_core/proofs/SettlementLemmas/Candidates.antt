@@ -1,15 +1,15 @@
 -- Runs over candidates, made step by step.
 use Rattle.std.proofs.Common.{◌≡◌, ℕ, suc, zero, ◌+◌, ◌-◌, ◌<◌, ◌≤◌, ◌^◌, min, true, false, List, [], ◌∷◌, ◌++◌, Some, refl, ◌∙◌, ap, arith}
 use Rattle.std.specs.Prelude.{count_by, length, slice_get, All}
-use Rattle.journal.specs.declared.body.Body.{Body}
-use Rattle.journal.specs.declared.mode.Mode.{Mode}
-use Rattle.journal.specs.History.{Told}
-use Rattle.journal.specs.Readiness.{is_ready}
-use Rattle.core_laws.specs.Candidates.{Widens, appends, ends, passes}
-use Rattle.core_laws.specs.Looks.{IsFrugal, looks}
-use Rattle.core_laws.specs.Waking.{wakes}
-use Rattle.acceptance.specs.Settled.{RunsOver, TakesFew, counted_on, looks_in}
-use Rattle.settlement.specs.Settled.{LeadsTo}
+use Rattle.journal.specs.declared.journal.body.Body.{Body}
+use Rattle.journal.specs.declared.journal.mode.Mode.{Mode}
+use Rattle.journal.specs.Journal.History.{Told}
+use Rattle.journal.specs.Journal.Readiness.{is_ready}
+use Rattle.claim_table.specs.CoreLaws.Candidates.{Widens, appends, ends, passes}
+use Rattle.claim_table.specs.CoreLaws.Looks.{IsFrugal, looks}
+use Rattle.claim_table.specs.CoreLaws.Waking.{wakes}
+use Rattle.validator_core.specs.Acceptance.Settled.{RunsOver, TakesFew, counted_on, looks_in}
+use Rattle.validator_core.specs.Settlement.Settled.{LeadsTo}
 
 module _ (mode : Mode) (told : List Told) (held : List Body) where
   pub leads_itself : (due : List ℕ) (log : List Body) → LeadsTo mode told held due log due log 0

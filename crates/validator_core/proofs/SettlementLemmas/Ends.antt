@@ -4,24 +4,24 @@ use Rattle.std.specs.Prelude.{bytes_eq, count_by, slice_get}
 use Rattle.std.specs.List.{list_any}
 use Rattle.std.specs.Cmp.Lexicographic.{bytes_decides}
 use Rattle.std.proofs.lemmas.Bool.{and_parts, not_from_false, not_from_true, not-true}
-use Rattle.event_body.specs.Events.{is_receipt}
-use Rattle.journal.specs.declared.body.Body.{Body}
-use Rattle.journal.specs.declared.mode.Mode.{Mode}
-use Rattle.journal.specs.History.{Told}
-use Rattle.journal.specs.Journals.{told_by}
-use Rattle.journal.specs.Logs.{is_in, same_body}
-use Rattle.journal.specs.Readiness.{is_ready}
-use Rattle.journal.proofs.Accepting.{same_body-refl}
-use Rattle.journal.proofs.Places.{any_at}
-use Rattle.journal.proofs.Settling.{count-falls, ends_in, find-true, outside}
-use Rattle.core_laws.proofs.Entries.{ready_waits}
-use Rattle.core_laws.proofs.Members.{find_some}
-use Rattle.core_tables.specs.View.{View, log_of}
-use Rattle.acceptance.specs.Settled.{IsSettled, KeepsTold, counted_on}
-use Rattle.acceptance.specs.Standing.{Extends, IsStanding, told_of}
-use Rattle.acceptance.proofs.Rewound.{extends_then}
-use Rattle.settlement.specs.Settled.{AcceptsNext, IsNext, IsOver, LeadsTo}
-use Rattle.settlement.proofs.Candidates.{both_counted, leads_append, leads_few, leads_looks, leads_run, leads_then}
+use Rattle.event_body.specs.EventBody.Events.{is_receipt}
+use Rattle.journal.specs.declared.journal.body.Body.{Body}
+use Rattle.journal.specs.declared.journal.mode.Mode.{Mode}
+use Rattle.journal.specs.Journal.History.{Told}
+use Rattle.journal.specs.Journal.Journals.{told_by}
+use Rattle.journal.specs.Journal.Logs.{is_in, same_body}
+use Rattle.journal.specs.Journal.Readiness.{is_ready}
+use Rattle.journal.proofs.JournalLemmas.Accepting.{same_body-refl}
+use Rattle.journal.proofs.JournalLemmas.Places.{any_at}
+use Rattle.journal.proofs.JournalLemmas.Settling.{count-falls, ends_in, find-true, outside}
+use Rattle.claim_table.proofs.CoreLawsLemmas.Entries.{ready_waits}
+use Rattle.claim_table.proofs.CoreLawsLemmas.Members.{find_some}
+use Rattle.core_tables.specs.CoreTables.View.{View, log_of}
+use Rattle.validator_core.specs.Acceptance.Settled.{IsSettled, KeepsTold, counted_on}
+use Rattle.validator_core.specs.Acceptance.Standing.{Extends, IsStanding, told_of}
+use Rattle.validator_core.proofs.AcceptanceLemmas.Rewound.{extends_then}
+use Rattle.validator_core.specs.Settlement.Settled.{AcceptsNext, IsNext, IsOver, LeadsTo}
+use Rattle.validator_core.proofs.SettlementLemmas.Candidates.{both_counted, leads_append, leads_few, leads_looks, leads_run, leads_then}
 
 -- FEWER: one more of the bodies is in the list
 pub fewer_left : (held log : List Body) (n : ℕ) (b : Body) → slice_get held n ≡ Some b → is_in log b ≡ false

@@ -2,25 +2,25 @@
 use Rattle.std.proofs.Common.{◌≡◌, ℕ, true, false, List, [], ◌∷◌, ◌++◌, length, Some, None, refl, sym, ◌∙◌, ap, inl, inr, subst, if◌then◌else◌}
 use Rattle.std.proofs.lemmas.Bool.{cases_Bool}
 use Rattle.std.specs.Prelude.{slice_get}
-use Rattle.acceptance.specs.Standing.{Comes, IsHeld, IsStanding, told_of}
-use Rattle.acceptance.proofs.NewBody.{log_body, standing_new, told_body, with_body}
-use Rattle.acceptance.specs.Taken.{found_by, with_entry}
-use Rattle.acceptance.proofs.Taken.{standing_again, took_on}
-use Rattle.core_laws.specs.ClaimRows.{AreFound, found_on}
-use Rattle.core_tables.specs.declared.name.Name.{Name}
-use Rattle.core_tables.specs.Names.{name_of}
-use Rattle.core_tables.specs.Raised.{claims_at}
-use Rattle.core_tables.specs.View.{View, log_of}
-use Rattle.event_body.specs.declared.event.Event.{Event}
-use Rattle.event_body.specs.Events.{is_receipt}
-use Rattle.journal.specs.declared.body.Body.{Body}
-use Rattle.journal.specs.declared.claim.Claim.{Claim}
-use Rattle.journal.specs.declared.entry.Entry.TheVariants.{Took}
-use Rattle.journal.specs.History.{claims_on, took}
-use Rattle.journal.specs.Logs.{is_in}
-use Rattle.journal.specs.Questions.{state_before}
-use Rattle.settlement.specs.Entries.{IsTold, RaisesFound}
-use Rattle.settlement.proofs.ReceiptClaims.{claims_there}
+use Rattle.validator_core.specs.Acceptance.Standing.{Comes, IsHeld, IsStanding, told_of}
+use Rattle.validator_core.proofs.AcceptanceLemmas.NewBody.{log_body, standing_new, told_body, with_body}
+use Rattle.validator_core.specs.Acceptance.Taken.{found_by, with_entry}
+use Rattle.validator_core.proofs.AcceptanceLemmas.Taken.{standing_again, took_on}
+use Rattle.claim_table.specs.CoreLaws.ClaimRows.{AreFound, found_on}
+use Rattle.core_tables.specs.declared.core_tables.name.Name.{Name}
+use Rattle.core_tables.specs.CoreTables.Names.{name_of}
+use Rattle.core_tables.specs.CoreTables.Raised.{claims_at}
+use Rattle.core_tables.specs.CoreTables.View.{View, log_of}
+use Rattle.event_body.specs.declared.event_body.event.Event.{Event}
+use Rattle.event_body.specs.EventBody.Events.{is_receipt}
+use Rattle.journal.specs.declared.journal.body.Body.{Body}
+use Rattle.journal.specs.declared.journal.claim.Claim.{Claim}
+use Rattle.journal.specs.declared.journal.entry.Entry.TheVariants.{Took}
+use Rattle.journal.specs.Journal.History.{claims_on, took}
+use Rattle.journal.specs.Journal.Logs.{is_in}
+use Rattle.journal.specs.Journal.Questions.{state_before}
+use Rattle.validator_core.specs.Settlement.Entries.{IsTold, RaisesFound}
+use Rattle.validator_core.proofs.SettlementLemmas.ReceiptClaims.{claims_there}
 
 -- the tables stand once the claims of the last entry are raised on its event
 pub stands_again : (w u : View) (number entry : ℕ) (is : IsTold number entry w) (b : Body) → slice_get w.held number ≡ Some b → is_receipt b.event ≡ false

@@ -2,24 +2,24 @@
 use Rattle.std.proofs.Common.{◌≡◌, ℕ, false, List, [], ◌∷◌, ◌++◌, Option, Some, None, refl, sym, ◌∙◌, ap, subst}
 use Rattle.std.proofs.Math.Seq.{take-length}
 use Rattle.std.specs.Prelude.{slice_get, Result, Ok, Err, OnOk, OnErr}
-use Rattle.accepted_log.specs.Cuts.{IsLog}
-use Rattle.accepted_log.proofs.Extensions.{extends_refl}
-use Rattle.acceptance.specs.Standing.{Extends, IsHeld, IsStanding}
-use Rattle.acceptance.proofs.NewBody.{chosen_more, differ_push, last_or}
-use Rattle.acceptance.proofs.Rewound.{extends_claimed, extends_held, extends_told}
-use Rattle.acceptance.specs.Taken.{with_entry}
-use Rattle.claim_table.specs.declared.claimed.Claimed.{Claimed}
-use Rattle.claim_table.specs.declared.row.Row.{Row}
-use Rattle.claim_table.specs.Rows.{raised_all}
-use Rattle.core_tables.specs.Raised.{RaisesSome}
-use Rattle.core_tables.specs.View.{View, with_rows}
-use Rattle.journal.specs.declared.body.Body.{Body}
-use Rattle.journal.specs.declared.claim.Claim.{Claim}
-use Rattle.journal.specs.declared.entry.Entry.{Entry}
-use Rattle.journal.specs.declared.entry.Entry.TheVariants.{Took}
-use Rattle.journal.specs.Grown.{IsGrown}
-use Rattle.journal.specs.Logs.{is_in}
-use Rattle.settlement.specs.Entries.{IsLogged, IsTold, RaisesFound}
+use Rattle.core_tables.specs.AcceptedLog.Cuts.{IsLog}
+use Rattle.core_tables.proofs.AcceptedLogLemmas.Extensions.{extends_refl}
+use Rattle.validator_core.specs.Acceptance.Standing.{Extends, IsHeld, IsStanding}
+use Rattle.validator_core.proofs.AcceptanceLemmas.NewBody.{chosen_more, differ_push, last_or}
+use Rattle.validator_core.proofs.AcceptanceLemmas.Rewound.{extends_claimed, extends_held, extends_told}
+use Rattle.validator_core.specs.Acceptance.Taken.{with_entry}
+use Rattle.claim_table.specs.declared.claim_table.claimed.Claimed.{Claimed}
+use Rattle.claim_table.specs.declared.claim_table.row.Row.{Row}
+use Rattle.claim_table.specs.ClaimTable.Rows.{raised_all}
+use Rattle.core_tables.specs.CoreTables.Raised.{RaisesSome}
+use Rattle.core_tables.specs.CoreTables.View.{View, with_rows}
+use Rattle.journal.specs.declared.journal.body.Body.{Body}
+use Rattle.journal.specs.declared.journal.claim.Claim.{Claim}
+use Rattle.journal.specs.declared.journal.entry.Entry.{Entry}
+use Rattle.journal.specs.declared.journal.entry.Entry.TheVariants.{Took}
+use Rattle.journal.specs.Journal.Grown.{IsGrown}
+use Rattle.journal.specs.Journal.Logs.{is_in}
+use Rattle.validator_core.specs.Settlement.Entries.{IsLogged, IsTold, RaisesFound}
 
 -- with one entry more
 pub logged_entry : (v : View) (e : Entry) → IsStanding v → IsLogged (with_entry e v)

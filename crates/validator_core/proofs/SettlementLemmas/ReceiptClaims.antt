@@ -3,31 +3,31 @@ use Rattle.std.proofs.Common.{◌≡◌, ℕ, Bool, true, false, ◌&&◌, ◌==
 use Rattle.std.specs.Prelude.{slice_get}
 use Rattle.std.specs.List.{list_any}
 use Rattle.std.proofs.lemmas.Bool.{cases_Bool, and_from, and_parts}
-use Rattle.acceptance.specs.Standing.{IsStanding, told_of}
-use Rattle.acceptance.specs.Turned.{turned}
-use Rattle.acceptance.proofs.NewBody.{low_at}
-use Rattle.acceptance.proofs.Receipt.{AreReceipted, found_before, found_then, receipt_begins, standing_receipt, told_receipt}
-use Rattle.acceptance.specs.Taken.{found_by}
-use Rattle.acceptance.proofs.Turned.{turned_raised, turned_there}
-use Rattle.core_laws.proofs.Members.{member_any}
-use Rattle.core_laws.specs.ClaimRows.{AreFound, verdict_in}
-use Rattle.core_laws.proofs.Steps.{found_push, has_same}
-use Rattle.claim_table.specs.declared.row.Row.{Row}
-use Rattle.core_tables.specs.declared.name.Name.{Name}
-use Rattle.core_tables.specs.Names.{name_of}
-use Rattle.core_tables.specs.Raised.{claims_at, claims_of}
-use Rattle.core_tables.specs.View.{View, log_of, with_rows}
-use Rattle.core_tables.proofs.NamedRows.{same_name_is}
-use Rattle.event_body.specs.Events.{is_receipt, prefix_of, said_of, sn_of}
-use Rattle.event_rules.specs.Parts.{Row as Found}
-use Rattle.journal.specs.declared.body.Body.{Body}
-use Rattle.journal.specs.declared.entry.Entry.TheVariants.{Took}
-use Rattle.journal.specs.History.{Told, Triple, took, claims_in, is_receipt_for}
-use Rattle.journal.specs.Questions.{state_before}
-use Rattle.journal.proofs.Places.{slice_get_last}
+use Rattle.validator_core.specs.Acceptance.Standing.{IsStanding, told_of}
+use Rattle.validator_core.specs.Acceptance.Turned.{turned}
+use Rattle.validator_core.proofs.AcceptanceLemmas.NewBody.{low_at}
+use Rattle.validator_core.proofs.AcceptanceLemmas.Receipt.{AreReceipted, found_before, found_then, receipt_begins, standing_receipt, told_receipt}
+use Rattle.validator_core.specs.Acceptance.Taken.{found_by}
+use Rattle.validator_core.proofs.AcceptanceLemmas.Turned.{turned_raised, turned_there}
+use Rattle.claim_table.proofs.CoreLawsLemmas.Members.{member_any}
+use Rattle.claim_table.specs.CoreLaws.ClaimRows.{AreFound, verdict_in}
+use Rattle.claim_table.proofs.CoreLawsLemmas.Steps.{found_push, has_same}
+use Rattle.claim_table.specs.declared.claim_table.row.Row.{Row}
+use Rattle.core_tables.specs.declared.core_tables.name.Name.{Name}
+use Rattle.core_tables.specs.CoreTables.Names.{name_of}
+use Rattle.core_tables.specs.CoreTables.Raised.{claims_at, claims_of}
+use Rattle.core_tables.specs.CoreTables.View.{View, log_of, with_rows}
+use Rattle.core_tables.proofs.CoreTablesLemmas.NamedRows.{same_name_is}
+use Rattle.event_body.specs.EventBody.Events.{is_receipt, prefix_of, said_of, sn_of}
+use Rattle.journal.specs.EventRules.Parts.{Row as Found}
+use Rattle.journal.specs.declared.journal.body.Body.{Body}
+use Rattle.journal.specs.declared.journal.entry.Entry.TheVariants.{Took}
+use Rattle.journal.specs.Journal.History.{Told, Triple, took, claims_in, is_receipt_for}
+use Rattle.journal.specs.Journal.Questions.{state_before}
+use Rattle.journal.proofs.JournalLemmas.Places.{slice_get_last}
 use Rattle.key_state.specs.Same.{same_digest, same_prefix}
 use Rattle.key_state.proofs.Same.{number_itself, numbers}
-use Rattle.settlement.specs.Entries.{IsReceipted, IsTold, RaisesFound}
+use Rattle.validator_core.specs.Settlement.Entries.{IsReceipted, IsTold, RaisesFound}
 
 -- what a receipt speaks of has its name
 pub names_it : (r c : Body) → is_receipt_for r c ≡ true → name_of c.event ≡ name_of r.event

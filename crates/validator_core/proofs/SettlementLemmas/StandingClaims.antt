@@ -1,25 +1,25 @@
 -- The claims on an event are found behind what it stands on.
 use Rattle.std.proofs.Common.{◌≡◌, ℕ, true, false, List, [], Option, Some, None, option_map, sym, ◌∙◌, ap, subst, if◌then◌else◌}
 use Rattle.std.specs.Prelude.{IfSome}
-use Rattle.acceptance.specs.declared.footing.Footing.{Footing}
-use Rattle.acceptance.specs.declared.footing.Footing.TheVariants.{Inception, Behind}
-use Rattle.acceptance.specs.Footing.{IsFooting}
-use Rattle.acceptance.proofs.Behind.{found_cut, rules_cut}
-use Rattle.acceptance.proofs.FoundClaims.{first_has_none}
-use Rattle.accepted_log.specs.Cuts.{cut}
-use Rattle.core_laws.specs.Claimed.{rows_of}
-use Rattle.core_laws.specs.ClaimRows.{AreFound}
-use Rattle.claim_table.specs.declared.claimed.Claimed.{Claimed}
-use Rattle.core_tables.specs.Raised.{Raises, state_there}
-use Rattle.core_tables.specs.View.{View, body_of, log_of}
-use Rattle.event_body.specs.declared.event.Event.{Event}
-use Rattle.journal.specs.declared.body.Body.{Body}
-use Rattle.journal.specs.declared.claim.Claim.{Claim}
-use Rattle.journal.specs.Logs.{stands, state_behind}
-use Rattle.journal.specs.Questions.{state_before}
+use Rattle.validator_core.specs.declared.acceptance.footing.Footing.{Footing}
+use Rattle.validator_core.specs.declared.acceptance.footing.Footing.TheVariants.{Inception, Behind}
+use Rattle.validator_core.specs.Acceptance.Footing.{IsFooting}
+use Rattle.validator_core.proofs.AcceptanceLemmas.Behind.{found_cut, rules_cut}
+use Rattle.validator_core.proofs.AcceptanceLemmas.FoundClaims.{first_has_none}
+use Rattle.core_tables.specs.AcceptedLog.Cuts.{cut}
+use Rattle.claim_table.specs.CoreLaws.Claimed.{rows_of}
+use Rattle.claim_table.specs.CoreLaws.ClaimRows.{AreFound}
+use Rattle.claim_table.specs.declared.claim_table.claimed.Claimed.{Claimed}
+use Rattle.core_tables.specs.CoreTables.Raised.{Raises, state_there}
+use Rattle.core_tables.specs.CoreTables.View.{View, body_of, log_of}
+use Rattle.event_body.specs.declared.event_body.event.Event.{Event}
+use Rattle.journal.specs.declared.journal.body.Body.{Body}
+use Rattle.journal.specs.declared.journal.claim.Claim.{Claim}
+use Rattle.journal.specs.Journal.Logs.{stands, state_behind}
+use Rattle.journal.specs.Journal.Questions.{state_before}
 use Rattle.key_state.specs.Exposure.{own_rules}
 use Rattle.key_state.specs.States.{State}
-use Rattle.settlement.specs.Entries.{RaisesFound, place_in}
+use Rattle.validator_core.specs.Settlement.Entries.{RaisesFound, place_in}
 
 -- what is found of an event with any bytes is found of the body that it is of
 pub of_body : (P : Body → Footing → Type 0) (e : Event) (there : Option Body) → Some e ≡ option_map (λ b. b.event) there → (o : Option Footing) → ((bytes : List ℕ) → IfSome o (λ on. P (body_of bytes e) on))

@@ -2,29 +2,29 @@
 use Rattle.std.proofs.Common.{◌≡◌, ℕ, ◌+◌, ◌<◌, ◌^◌, true, false, List, [], ◌∷◌, ◌++◌, Option, Some, None, Ok, Err, refl, sym, ◌∙◌, ap, subst, arith, is_none, if◌then◌else◌}
 use Rattle.std.specs.Prelude.{slice_get, IsTrue, IfSome}
 use Rattle.std.proofs.Math.Seq.{take-length}
-use Rattle.event_body.specs.declared.event.Event.{Event}
-use Rattle.event_body.specs.declared.event.Event.TheVariants.{Icp, Rot, Ixn, Dip, Drt, Rct}
-use Rattle.event_body.specs.Events.{is_interaction, prefix_of, said_of, sn_of}
+use Rattle.event_body.specs.declared.event_body.event.Event.{Event}
+use Rattle.event_body.specs.declared.event_body.event.Event.TheVariants.{Icp, Rot, Ixn, Dip, Drt, Rct}
+use Rattle.event_body.specs.EventBody.Events.{is_interaction, prefix_of, said_of, sn_of}
 use Rattle.key_state.specs.Heads.{head_sn}
 use Rattle.key_state.specs.Kept.{IsKept}
 use Rattle.key_state.specs.States.{State}
-use Rattle.journal.specs.declared.body.Body.{Body}
-use Rattle.journal.specs.Grown.{IsGrown, fits}
-use Rattle.journal.specs.Logs.{state, stepped, takes}
-use Rattle.accepted_log.specs.Cuts.{GrowsByInteraction, GrowsByState, IsLog}
-use Rattle.accepted_log.specs.Values.{Log, established, gone_onto, interacted, last_of, last_place, state_there, Extends as LogExtends}
-use Rattle.accepted_log.proofs.StateSteps.{GoesOnto, fits_parts, goes_onto}
-use Rattle.claim_table.specs.declared.row.Row.{Row}
-use Rattle.core_tables.specs.View.{View, log_of, with_log, with_rows}
-use Rattle.acceptance.specs.Standing.{Extends, IsStanding}
-use Rattle.acceptance.proofs.NewEvent.{log_then}
-use Rattle.settlement.specs.Entries.{IsLogged}
-use Rattle.journal.proofs.Keeping.{IsGrown-push}
+use Rattle.journal.specs.declared.journal.body.Body.{Body}
+use Rattle.journal.specs.Journal.Grown.{IsGrown, fits}
+use Rattle.journal.specs.Journal.Logs.{state, stepped, takes}
+use Rattle.core_tables.specs.AcceptedLog.Cuts.{GrowsByInteraction, GrowsByState, IsLog}
+use Rattle.core_tables.specs.AcceptedLog.Values.{Log, established, gone_onto, interacted, last_of, last_place, state_there, Extends as LogExtends}
+use Rattle.core_tables.proofs.AcceptedLogLemmas.StateSteps.{GoesOnto, fits_parts, goes_onto}
+use Rattle.claim_table.specs.declared.claim_table.row.Row.{Row}
+use Rattle.core_tables.specs.CoreTables.View.{View, log_of, with_log, with_rows}
+use Rattle.validator_core.specs.Acceptance.Standing.{Extends, IsStanding}
+use Rattle.validator_core.proofs.AcceptanceLemmas.NewEvent.{log_then}
+use Rattle.validator_core.specs.Settlement.Entries.{IsLogged}
+use Rattle.journal.proofs.JournalLemmas.Keeping.{IsGrown-push}
 use Rattle.key_state.specs.KeyStates.{IsCauseIn, after, misfit, moved, ok_unless}
 use Rattle.key_state.specs.declared.state_fault.Misfit.{Misfit}
 use Rattle.key_state.specs.declared.state_fault.StateFault.{StateFault}
 use Rattle.key_state.specs.declared.state_fault.StateFault.TheVariants.{Misfit as IsMisfit, OutOfMemory}
-use Rattle.settlement.specs.Turning.{IsAppended, MakesState}
+use Rattle.validator_core.specs.Settlement.Turning.{IsAppended, MakesState}
 
 -- a kept interaction's number is within bounds
 kept_sn : (e : Event) → is_interaction e ≡ true → IsKept e → sn_of e < 2 ^ 64

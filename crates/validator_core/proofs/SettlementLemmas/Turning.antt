@@ -3,25 +3,25 @@ use Rattle.std.proofs.Common.{◌≡◌, ℕ, ◌+◌, true, false, List, [], �
 use Rattle.std.specs.Prelude.{◌==◌, find, position, slice_get, IsTrue}
 use Rattle.std.specs.List.{list_any}
 use Rattle.std.proofs.lemmas.Bool.{cases_Bool}
-use Rattle.journal.specs.declared.body.Body.{Body}
-use Rattle.journal.specs.Grown.{fits}
-use Rattle.journal.specs.History.{Told, claims_on}
-use Rattle.journal.specs.Logs.{precedes, predecessor, stands}
-use Rattle.journal.specs.Questions.{state_before}
-use Rattle.event_rules.specs.Parts.{Row as Found}
-use Rattle.claim_table.specs.Rows.{raised_all}
-use Rattle.core_laws.specs.ClaimRows.{AreFound, HasClaims, found_on, verdict_in}
-use Rattle.core_tables.specs.View.{View, log_of, with_log, with_rows}
-use Rattle.acceptance.specs.Standing.{Accepts, IsStanding, told_of}
-use Rattle.acceptance.specs.Turned.{turned}
-use Rattle.acceptance.proofs.Behind.{stands_not}
-use Rattle.acceptance.proofs.NewBody.{low_at}
-use Rattle.acceptance.proofs.NewEvent.{log_then, precedes_some, standing_accepted, turning_begins, turning_stays}
-use Rattle.acceptance.specs.Taken.{found_by}
-use Rattle.acceptance.proofs.Turned.{turned_raised, turned_same}
-use Rattle.settlement.specs.Turning.{IsAppended, IsBehindLast, IsTurning}
-use Rattle.settlement.proofs.Lasts.{first_is_last, last_is_first}
-use Rattle.settlement.specs.Entries.{RaisesFound}
+use Rattle.journal.specs.declared.journal.body.Body.{Body}
+use Rattle.journal.specs.Journal.Grown.{fits}
+use Rattle.journal.specs.Journal.History.{Told, claims_on}
+use Rattle.journal.specs.Journal.Logs.{precedes, predecessor, stands}
+use Rattle.journal.specs.Journal.Questions.{state_before}
+use Rattle.journal.specs.EventRules.Parts.{Row as Found}
+use Rattle.claim_table.specs.ClaimTable.Rows.{raised_all}
+use Rattle.claim_table.specs.CoreLaws.ClaimRows.{AreFound, HasClaims, found_on, verdict_in}
+use Rattle.core_tables.specs.CoreTables.View.{View, log_of, with_log, with_rows}
+use Rattle.validator_core.specs.Acceptance.Standing.{Accepts, IsStanding, told_of}
+use Rattle.validator_core.specs.Acceptance.Turned.{turned}
+use Rattle.validator_core.proofs.AcceptanceLemmas.Behind.{stands_not}
+use Rattle.validator_core.proofs.AcceptanceLemmas.NewBody.{low_at}
+use Rattle.validator_core.proofs.AcceptanceLemmas.NewEvent.{log_then, precedes_some, standing_accepted, turning_begins, turning_stays}
+use Rattle.validator_core.specs.Acceptance.Taken.{found_by}
+use Rattle.validator_core.proofs.AcceptanceLemmas.Turned.{turned_raised, turned_same}
+use Rattle.validator_core.specs.Settlement.Turning.{IsAppended, IsBehindLast, IsTurning}
+use Rattle.validator_core.proofs.SettlementLemmas.Lasts.{first_is_last, last_is_first}
+use Rattle.validator_core.specs.Settlement.Entries.{RaisesFound}
 
 -- the predecessor is the first that precedes
 first_before : (log : List Body) (b : Body) → predecessor log b ≡ find (precedes b) log

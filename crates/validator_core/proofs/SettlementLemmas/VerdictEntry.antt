@@ -1,15 +1,15 @@
 -- A verdict comes, or is taken back.
 use Rattle.std.proofs.Common.{◌≡◌, ℕ, ◌<◌, Bool, true, [], ◌∷◌, ◌++◌, length, Some, None, sym, ◌∙◌, ap, subst}
-use Rattle.acceptance.specs.Standing.{Hears, IsStanding}
-use Rattle.acceptance.specs.Taken.{with_entry}
-use Rattle.acceptance.proofs.Verdict.{standing_heard}
-use Rattle.claim_table.specs.Table.{Table}
-use Rattle.claim_table.specs.Rows.{heard, is_raised, unheard, verdict_of}
-use Rattle.core_tables.specs.View.{View, with_claims, with_rows}
-use Rattle.journal.specs.declared.entry.Entry.TheVariants.{Heard}
-use Rattle.journal.specs.declared.question.Question.{Question}
-use Rattle.journal.proofs.Places.{some_at}
-use Rattle.settlement.specs.Entries.{signature_asked}
+use Rattle.validator_core.specs.Acceptance.Standing.{Hears, IsStanding}
+use Rattle.validator_core.specs.Acceptance.Taken.{with_entry}
+use Rattle.validator_core.proofs.AcceptanceLemmas.Verdict.{standing_heard}
+use Rattle.claim_table.specs.ClaimTable.Table.{Table}
+use Rattle.claim_table.specs.ClaimTable.Rows.{heard, is_raised, unheard, verdict_of}
+use Rattle.core_tables.specs.CoreTables.View.{View, with_claims, with_rows}
+use Rattle.journal.specs.declared.journal.entry.Entry.TheVariants.{Heard}
+use Rattle.journal.specs.declared.journal.question.Question.{Question}
+use Rattle.journal.proofs.JournalLemmas.Places.{some_at}
+use Rattle.validator_core.specs.Settlement.Entries.{signature_asked}
 
 -- whatever signature is pending, the tables stand
 stands_pending : (v : View) (claims : Table) → IsStanding (with_rows claims.rows v) → IsStanding (with_claims claims v)

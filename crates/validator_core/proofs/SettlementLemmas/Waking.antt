@@ -4,30 +4,30 @@ use Rattle.std.specs.Prelude.{slice_get, take, filter_map, IsTrue}
 use Rattle.std.specs.List.{list_any, cons_option}
 use Rattle.std.proofs.lemmas.Bool.{and_from, and_parts, cases_Bool, not-true, or_cases, or_parts}
 use Rattle.cesr_codes.specs.declared.prefix.Prefix.{Prefix}
-use Rattle.event_body.specs.Events.{is_receipt, prefix_of, prior_of, said_of, sn_of}
-use Rattle.event_body.specs.Judging.{SpellsEvent}
-use Rattle.event_body.specs.declared.event.Event.{Event}
-use Rattle.event_body.specs.declared.event.Event.TheVariants.{Icp, Rot, Ixn, Dip, Drt, Rct}
+use Rattle.event_body.specs.EventBody.Events.{is_receipt, prefix_of, prior_of, said_of, sn_of}
+use Rattle.event_body.specs.EventBody.Judging.{SpellsEvent}
+use Rattle.event_body.specs.declared.event_body.event.Event.{Event}
+use Rattle.event_body.specs.declared.event_body.event.Event.TheVariants.{Icp, Rot, Ixn, Dip, Drt, Rct}
 use Rattle.event_backing.specs.EventSeals.{IsEventSeal}
-use Rattle.escrow.specs.Escrow.{Escrow, held as held_by}
-use Rattle.journal.specs.declared.body.Body.{Body}
-use Rattle.journal.specs.declared.mode.Mode.{Mode}
-use Rattle.journal.specs.Grown.{fits}
-use Rattle.journal.specs.History.{Told}
-use Rattle.journal.specs.Journals.{chosen}
-use Rattle.journal.specs.Logs.{is_in, precedes, same_body, state, takes}
-use Rattle.journal.specs.Readiness.{is_local, is_ready}
-use Rattle.journal.specs.Seals.{delegator_of, is_delegated, seals}
-use Rattle.journal.proofs.Accepting.{same_body-refl}
-use Rattle.journal.proofs.Settling.{outside}
+use Rattle.escrow.specs.Escrow.Escrow.{Escrow, held as held_by}
+use Rattle.journal.specs.declared.journal.body.Body.{Body}
+use Rattle.journal.specs.declared.journal.mode.Mode.{Mode}
+use Rattle.journal.specs.Journal.Grown.{fits}
+use Rattle.journal.specs.Journal.History.{Told}
+use Rattle.journal.specs.Journal.Journals.{chosen}
+use Rattle.journal.specs.Journal.Logs.{is_in, precedes, same_body, state, takes}
+use Rattle.journal.specs.Journal.Readiness.{is_local, is_ready}
+use Rattle.journal.specs.Journal.Seals.{delegator_of, is_delegated, seals}
+use Rattle.journal.proofs.JournalLemmas.Accepting.{same_body-refl}
+use Rattle.journal.proofs.JournalLemmas.Settling.{outside}
 use Rattle.key_state.proofs.Same.{numbers}
-use Rattle.core_laws.specs.Waking.{holds_first_seal, is_anchored, is_there, is_waiting, may_wake, seals_first, wakes}
-use Rattle.acceptance.specs.Standing.{IsStanding}
-use Rattle.acceptance.proofs.NewEvent.{precedes_some}
-use Rattle.core_tables.specs.Hints.{IsEscrow}
-use Rattle.core_tables.specs.View.{View, body_of, log_of, waiter_at, waiter_of}
-use Rattle.acceptance.proofs.Bodies.{waits_is}
-use Rattle.settlement.specs.Awaited.{IsNextAt, is_awaited, is_awaited_there}
+use Rattle.claim_table.specs.CoreLaws.Waking.{holds_first_seal, is_anchored, is_there, is_waiting, may_wake, seals_first, wakes}
+use Rattle.validator_core.specs.Acceptance.Standing.{IsStanding}
+use Rattle.validator_core.proofs.AcceptanceLemmas.NewEvent.{precedes_some}
+use Rattle.core_tables.specs.CoreTables.Hints.{IsEscrow}
+use Rattle.core_tables.specs.CoreTables.View.{View, body_of, log_of, waiter_at, waiter_of}
+use Rattle.validator_core.proofs.AcceptanceLemmas.Bodies.{waits_is}
+use Rattle.validator_core.specs.Settlement.Awaited.{IsNextAt, is_awaited, is_awaited_there}
 
 -- a number that is chosen has its body among the chosen
 pub chosen_number : (held : List Body) (ns : List ℕ) (n : ℕ) (b : Body) → slice_get held n ≡ Some b → list_any (λ m. m == n) ns ≡ true → is_in (chosen held ns) b ≡ true

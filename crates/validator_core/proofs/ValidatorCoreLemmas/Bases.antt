@@ -6,39 +6,39 @@ use Rattle.std.proofs.lemmas.Bool.{and_parts, cases_Bool, not-true}
 use Rattle.std.proofs.lemmas.List.{length-map, map-append}
 use Rattle.std.proofs.lemmas.List.Elements.{All-push}
 use Rattle.std.proofs.lemmas.List.Sums.{sum_by-cons, sum_by-le}
-use Rattle.accepted_log.specs.Values.{last_of}
+use Rattle.core_tables.specs.AcceptedLog.Values.{last_of}
 use Rattle.cesr_codes.specs.declared.prefix.Prefix.{Prefix}
-use Rattle.event_body.specs.declared.event.Event.{Event}
-use Rattle.event_body.specs.Events.{is_receipt, prefix_of}
+use Rattle.event_body.specs.declared.event_body.event.Event.{Event}
+use Rattle.event_body.specs.EventBody.Events.{is_receipt, prefix_of}
 use Rattle.keri_outside.specs.declared.limits.Limits.{Limits}
 use Rattle.key_state.specs.Same.{distinct}
 use Rattle.key_state.specs.States.{State}
-use Rattle.acceptance.specs.Standing.{Accepts, IsHeld, IsStanding, told_of}
-use Rattle.acceptance.proofs.NewBody.{chosen_more}
-use Rattle.acceptance.proofs.NewReceipt.{standing_unfound, untold_found}
-use Rattle.acceptance.proofs.Nothing.{nothing_stands}
-use Rattle.core_tables.specs.View.{View, log_of, nothing}
-use Rattle.journal.specs.declared.body.Body.{Body}
-use Rattle.journal.specs.declared.mode.Mode.{Mode}
-use Rattle.journal.specs.declared.resume_fault.ResumeFault.{ResumeFault}
-use Rattle.journal.specs.declared.resume_fault.ResumeFault.TheVariants.{NotALog, OutOfMemory}
-use Rattle.journal.specs.Accepted.{accepted}
-use Rattle.journal.specs.Acceptance.{grown_by}
-use Rattle.journal.specs.Grown.{fits}
-use Rattle.journal.specs.History.{bodies}
-use Rattle.journal.specs.Journals.{chosen, first_unfit, told_by}
-use Rattle.journal.specs.Logs.{is_in, same_body, state, takes}
-use Rattle.journal.specs.Questions.{IsRegular}
-use Rattle.journal.specs.Replies.{IsWithin}
-use Rattle.journal.proofs.Apart.{filter-all}
-use Rattle.journal.proofs.Different.{Differ}
-use Rattle.journal.proofs.Accepting.{same_body-refl}
-use Rattle.journal.proofs.Places.{any_at, slice_get_last}
-use Rattle.validator_core.specs.Base.{AcceptsText, AreAccepted, AreLog, AreRefused, EndsAt, IsBase, IsRead, IsRefused}
-use Rattle.validator_core.specs.declared.tally.Tally.{Tally}
-use Rattle.validator_core.specs.Tables.{IsCore, base_in}
-use Rattle.validator_core.specs.Tally.{IsTally}
-use Rattle.validator_core.specs.View.{bytes_of}
+use Rattle.validator_core.specs.Acceptance.Standing.{Accepts, IsHeld, IsStanding, told_of}
+use Rattle.validator_core.proofs.AcceptanceLemmas.NewBody.{chosen_more}
+use Rattle.validator_core.proofs.AcceptanceLemmas.NewReceipt.{standing_unfound, untold_found}
+use Rattle.validator_core.proofs.AcceptanceLemmas.Nothing.{nothing_stands}
+use Rattle.core_tables.specs.CoreTables.View.{View, log_of, nothing}
+use Rattle.journal.specs.declared.journal.body.Body.{Body}
+use Rattle.journal.specs.declared.journal.mode.Mode.{Mode}
+use Rattle.journal.specs.declared.journal.resume_fault.ResumeFault.{ResumeFault}
+use Rattle.journal.specs.declared.journal.resume_fault.ResumeFault.TheVariants.{NotALog, OutOfMemory}
+use Rattle.journal.specs.Journal.Accepted.{accepted}
+use Rattle.journal.specs.Journal.Acceptance.{grown_by}
+use Rattle.journal.specs.Journal.Grown.{fits}
+use Rattle.journal.specs.Journal.History.{bodies}
+use Rattle.journal.specs.Journal.Journals.{chosen, first_unfit, told_by}
+use Rattle.journal.specs.Journal.Logs.{is_in, same_body, state, takes}
+use Rattle.journal.specs.Journal.Questions.{IsRegular}
+use Rattle.journal.specs.Journal.Replies.{IsWithin}
+use Rattle.journal.proofs.JournalLemmas.Apart.{filter-all}
+use Rattle.journal.proofs.JournalLemmas.Different.{Differ}
+use Rattle.journal.proofs.JournalLemmas.Accepting.{same_body-refl}
+use Rattle.journal.proofs.JournalLemmas.Places.{any_at, slice_get_last}
+use Rattle.validator_core.specs.ValidatorCore.Base.{AcceptsText, AreAccepted, AreLog, AreRefused, EndsAt, IsBase, IsRead, IsRefused}
+use Rattle.validator_core.specs.declared.validator_core.tally.Tally.{Tally}
+use Rattle.validator_core.specs.ValidatorCore.Tables.{IsCore, base_in}
+use Rattle.validator_core.specs.ValidatorCore.Tally.{IsTally}
+use Rattle.validator_core.specs.ValidatorCore.View.{bytes_of}
 
 -- one more that fits
 fit_more : (place : ℕ) (before bs : List Body) (b : Body) → first_unfit place before bs ≡ None → fits (before ++ bs) b ≡ true → first_unfit place before (bs ++ b ∷ []) ≡ None

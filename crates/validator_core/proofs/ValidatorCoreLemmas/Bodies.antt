@@ -5,12 +5,12 @@ use Rattle.std.specs.List.{list_any}
 use Rattle.cesr_codes.specs.declared.key.Key.{Key}
 use Rattle.cesr_codes.specs.declared.sig.Sig.{Sig}
 use Rattle.key_state.specs.Same.{distinct}
-use Rattle.journal.specs.declared.body.Body.{Body}
-use Rattle.journal.specs.declared.claim.Claim.{Claim}
-use Rattle.journal.specs.History.{Told, took, heard, taken, bodies}
-use Rattle.journal.specs.Logs.{same_body, is_in}
-use Rattle.journal.proofs.Distinct.{any-distinct, distinct-push_new, distinct-push_old, same_body-moves}
-use Rattle.journal.proofs.Locality.{flat_map-push}
+use Rattle.journal.specs.declared.journal.body.Body.{Body}
+use Rattle.journal.specs.declared.journal.claim.Claim.{Claim}
+use Rattle.journal.specs.Journal.History.{Told, took, heard, taken, bodies}
+use Rattle.journal.specs.Journal.Logs.{same_body, is_in}
+use Rattle.journal.proofs.JournalLemmas.Distinct.{any-distinct, distinct-push_new, distinct-push_old, same_body-moves}
+use Rattle.journal.proofs.JournalLemmas.Locality.{flat_map-push}
 
 module _ (base : List Body) (told : List Told) where
   -- all that came, repetitions included

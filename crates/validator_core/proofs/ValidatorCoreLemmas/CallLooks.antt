@@ -2,31 +2,31 @@
 use Rattle.std.proofs.Common.{◌≡◌, ℕ, ◌+◌, ◌≤◌, Bool, true, false, List, [], ◌∷◌, ◌++◌, length, Some, sym, ◌∙◌, ap, subst, append-nil, refl}
 use Rattle.std.specs.Prelude.{slice_get}
 use Rattle.std.specs.List.{list_any}
-use Rattle.acceptance.specs.Standing.{told_of}
-use Rattle.core_laws.specs.Standing.{HasNoClash}
-use Rattle.core_laws.specs.ClaimRows.{triple_on}
-use Rattle.claim_table.specs.declared.signature.Signature.{Signature}
-use Rattle.core_tables.specs.View.{View, log_of}
-use Rattle.event_body.specs.Events.{said_of}
-use Rattle.journal.specs.declared.body.Body.{Body}
-use Rattle.journal.specs.declared.claim.Claim.{Claim}
-use Rattle.journal.specs.declared.entry.Entry.TheVariants.{Took}
-use Rattle.journal.specs.declared.mode.Mode.{Mode}
-use Rattle.journal.specs.Accepted.{accepted}
-use Rattle.journal.specs.History.{Told, bodies, heard, same_triple, took}
-use Rattle.journal.specs.Journals.{whole}
-use Rattle.journal.specs.Logs.{is_in, same_body}
-use Rattle.journal.specs.Questions.{questions}
-use Rattle.journal.proofs.Accepting.{same_body-refl}
-use Rattle.journal.proofs.Places.{any_at, slice_get_last}
+use Rattle.validator_core.specs.Acceptance.Standing.{told_of}
+use Rattle.claim_table.specs.CoreLaws.Standing.{HasNoClash}
+use Rattle.claim_table.specs.CoreLaws.ClaimRows.{triple_on}
+use Rattle.claim_table.specs.declared.claim_table.signature.Signature.{Signature}
+use Rattle.core_tables.specs.CoreTables.View.{View, log_of}
+use Rattle.event_body.specs.EventBody.Events.{said_of}
+use Rattle.journal.specs.declared.journal.body.Body.{Body}
+use Rattle.journal.specs.declared.journal.claim.Claim.{Claim}
+use Rattle.journal.specs.declared.journal.entry.Entry.TheVariants.{Took}
+use Rattle.journal.specs.declared.journal.mode.Mode.{Mode}
+use Rattle.journal.specs.Journal.Accepted.{accepted}
+use Rattle.journal.specs.Journal.History.{Told, bodies, heard, same_triple, took}
+use Rattle.journal.specs.Journal.Journals.{whole}
+use Rattle.journal.specs.Journal.Logs.{is_in, same_body}
+use Rattle.journal.specs.Journal.Questions.{questions}
+use Rattle.journal.proofs.JournalLemmas.Accepting.{same_body-refl}
+use Rattle.journal.proofs.JournalLemmas.Places.{any_at, slice_get_last}
 use Rattle.keri_outside.specs.declared.limits.Limits.{Limits}
-use Rattle.validator_core.specs.declared.tally.Tally.{Tally}
-use Rattle.validator_core.specs.Looks.{LooksAtFew, most_looks}
-use Rattle.validator_core.specs.Tables.{AddsEntry, AddsVerdict, IsCore, SettlesFrom, base_in}
-use Rattle.validator_core.proofs.Bodies.{bodies_heard, bodies_new, bodies_old}
-use Rattle.validator_core.proofs.Cores.{seen, v_held, v_log_of, v_told}
-use Rattle.validator_core.proofs.Entries.{log_then, told_then}
-use Rattle.validator_core.proofs.Looks.{looked, settles_few}
+use Rattle.validator_core.specs.declared.validator_core.tally.Tally.{Tally}
+use Rattle.validator_core.specs.ValidatorCore.Looks.{LooksAtFew, most_looks}
+use Rattle.validator_core.specs.ValidatorCore.Tables.{AddsEntry, AddsVerdict, IsCore, SettlesFrom, base_in}
+use Rattle.validator_core.proofs.ValidatorCoreLemmas.Bodies.{bodies_heard, bodies_new, bodies_old}
+use Rattle.validator_core.proofs.ValidatorCoreLemmas.Cores.{seen, v_held, v_log_of, v_told}
+use Rattle.validator_core.proofs.ValidatorCoreLemmas.Entries.{log_then, told_then}
+use Rattle.validator_core.proofs.ValidatorCoreLemmas.Looks.{looked, settles_few}
 
 module _ (mode : Mode) (limits : Limits) (base : ℕ) (old : View) (tally : Tally) (core : IsCore mode limits base old tally) where
   abbrev bs : List Body

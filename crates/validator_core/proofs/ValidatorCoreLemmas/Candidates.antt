@@ -9,23 +9,23 @@ use Rattle.std.specs.Ordering.{nat_cmp}
 use Rattle.std.specs.Cmp.Lexicographic.{bytes_decides}
 use Rattle.std.proofs.lemmas.Bool.{and_from, and_parts, cases_Bool, or_cases, or_parts}
 use Rattle.cesr_codes.specs.declared.digest.Digest.{Digest}
-use Rattle.escrow.specs.Escrow.{Escrow, Waits}
-use Rattle.escrow.specs.declared.waiter.Waiter.{Waiter}
-use Rattle.event_body.specs.Events.{is_receipt, prefix_of, said_of, sn_of}
+use Rattle.escrow.specs.Escrow.Escrow.{Escrow, Waits}
+use Rattle.escrow.specs.declared.escrow.waiter.Waiter.{Waiter}
+use Rattle.event_body.specs.EventBody.Events.{is_receipt, prefix_of, said_of, sn_of}
 use Rattle.key_state.specs.Same.{same_digest, same_prefix}
-use Rattle.acceptance.specs.Standing.{IsStanding}
-use Rattle.core_laws.proofs.States.{same_digest_is, same_itself}
-use Rattle.core_laws.specs.Waking.{is_waiting}
-use Rattle.core_tables.specs.Hints.{IsEscrow}
-use Rattle.core_tables.specs.View.{View, log_of, waiter_at, waiter_of}
-use Rattle.core_tables.proofs.Rows.{not_some, some_is}
-use Rattle.journal.specs.declared.body.Body.{Body}
-use Rattle.journal.specs.History.{is_receipt_for}
-use Rattle.journal.specs.Logs.{same_body}
-use Rattle.journal.proofs.Places.{one_body}
-use Rattle.acceptance.proofs.Bodies.{waits_is}
-use Rattle.settlement.proofs.Waking.{waits_there}
-use Rattle.validator_core.specs.Tables.{HaveNoOthers, HaveNumbers}
+use Rattle.validator_core.specs.Acceptance.Standing.{IsStanding}
+use Rattle.claim_table.proofs.CoreLawsLemmas.States.{same_digest_is, same_itself}
+use Rattle.claim_table.specs.CoreLaws.Waking.{is_waiting}
+use Rattle.core_tables.specs.CoreTables.Hints.{IsEscrow}
+use Rattle.core_tables.specs.CoreTables.View.{View, log_of, waiter_at, waiter_of}
+use Rattle.core_tables.proofs.CoreTablesLemmas.Rows.{not_some, some_is}
+use Rattle.journal.specs.declared.journal.body.Body.{Body}
+use Rattle.journal.specs.Journal.History.{is_receipt_for}
+use Rattle.journal.specs.Journal.Logs.{same_body}
+use Rattle.journal.proofs.JournalLemmas.Places.{one_body}
+use Rattle.validator_core.proofs.AcceptanceLemmas.Bodies.{waits_is}
+use Rattle.validator_core.proofs.SettlementLemmas.Waking.{waits_there}
+use Rattle.validator_core.specs.ValidatorCore.Tables.{HaveNoOthers, HaveNumbers}
 
 -- a receipt has the digest of what it is for
 said_same : (r b : Body) → is_receipt_for r b ≡ true → said_of r.event ≡ said_of b.event

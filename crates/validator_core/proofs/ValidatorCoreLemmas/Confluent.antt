@@ -3,12 +3,12 @@ use Rattle.std.proofs.Common.{◌≡◌, List, [], ◌∙◌, ap, take}
 use Rattle.cesr_codes.specs.declared.prefix.Prefix.{Prefix}
 use Rattle.key_state.specs.States.{State}
 use Rattle.std.specs.Prelude.{Option}
-use Rattle.journal.specs.declared.body.Body.{Body}
-use Rattle.journal.specs.Accepted.{accepted}
-use Rattle.journal.specs.Logs.{live, state}
-use Rattle.journal_laws.proofs.Same.{confluence}
-use Rattle.validator_core.specs.Confluent.{IsSoInAlike}
-use Rattle.validator_core.specs.View.{CoreView, accepted_by, told_of}
+use Rattle.journal.specs.declared.journal.body.Body.{Body}
+use Rattle.journal.specs.Journal.Accepted.{accepted}
+use Rattle.journal.specs.Journal.Logs.{live, state}
+use Rattle.journal_views.proofs.JournalLawsLemmas.Same.{confluence}
+use Rattle.validator_core.specs.ValidatorCore.Confluent.{IsSoInAlike}
+use Rattle.validator_core.specs.ValidatorCore.View.{CoreView, accepted_by, told_of}
 
 -- a core that began with nothing has no base
 nothing_before : {T : Type 0} (core : CoreView) (given : List Body → T) → core.base ≡ 0

@@ -2,41 +2,41 @@
 use Rattle.std.proofs.Common.{◌≡◌, ℕ, ◌+◌, ◌<◌, ◌≤◌, Bool, true, false, suc, List, [], ◌∷◌, ◌++◌, length, Option, Some, None, refl, sym, ◌∙◌, ap, subst, arith, append-nil, length-append}
 use Rattle.std.specs.Prelude.{slice_get, take}
 use Rattle.std.proofs.lemmas.List.Sums.{sum_by-append}
-use Rattle.acceptance.specs.Settled.{KeepsTold}
-use Rattle.acceptance.specs.Standing.{IsHeld, IsStanding, told_of}
-use Rattle.acceptance.proofs.Nothing.{nothing_stands}
-use Rattle.core_laws.proofs.Entries.{all_from, none_ready}
-use Rattle.core_laws.specs.ClaimRows.{triple_on}
-use Rattle.claim_table.specs.declared.signature.Signature.{Signature}
-use Rattle.core_tables.specs.View.{View, log_of, number_of, with_claims, nothing}
-use Rattle.journal.specs.declared.body.Body.{Body}
-use Rattle.journal.specs.declared.claim.Claim.{Claim}
-use Rattle.journal.specs.declared.entry.Entry.{Entry}
-use Rattle.journal.specs.declared.entry.Entry.TheVariants.{Took, Heard}
-use Rattle.journal.specs.declared.mode.Mode.{Mode}
-use Rattle.journal.specs.Acceptance.{grown_by}
-use Rattle.journal.specs.Accepted.{accepted}
-use Rattle.journal.specs.History.{Told, took, heard, bodies, same_triple}
-use Rattle.journal.specs.Journals.{chosen, told_by, whole}
-use Rattle.journal.specs.Logs.{is_in, same_body}
-use Rattle.journal.specs.Questions.{IsRegular, questions}
-use Rattle.journal.specs.Readiness.{is_ready}
-use Rattle.journal.specs.Replies.{IsWithin}
-use Rattle.journal.proofs.Accepting.{same_body-refl}
-use Rattle.journal.proofs.Held.{told_push}
-use Rattle.journal.proofs.Places.{any_at, slice_get_last, some_at}
-use Rattle.journal.proofs.Premises.{regular_nothing}
+use Rattle.validator_core.specs.Acceptance.Settled.{KeepsTold}
+use Rattle.validator_core.specs.Acceptance.Standing.{IsHeld, IsStanding, told_of}
+use Rattle.validator_core.proofs.AcceptanceLemmas.Nothing.{nothing_stands}
+use Rattle.claim_table.proofs.CoreLawsLemmas.Entries.{all_from, none_ready}
+use Rattle.claim_table.specs.CoreLaws.ClaimRows.{triple_on}
+use Rattle.claim_table.specs.declared.claim_table.signature.Signature.{Signature}
+use Rattle.core_tables.specs.CoreTables.View.{View, log_of, number_of, with_claims, nothing}
+use Rattle.journal.specs.declared.journal.body.Body.{Body}
+use Rattle.journal.specs.declared.journal.claim.Claim.{Claim}
+use Rattle.journal.specs.declared.journal.entry.Entry.{Entry}
+use Rattle.journal.specs.declared.journal.entry.Entry.TheVariants.{Took, Heard}
+use Rattle.journal.specs.declared.journal.mode.Mode.{Mode}
+use Rattle.journal.specs.Journal.Acceptance.{grown_by}
+use Rattle.journal.specs.Journal.Accepted.{accepted}
+use Rattle.journal.specs.Journal.History.{Told, took, heard, bodies, same_triple}
+use Rattle.journal.specs.Journal.Journals.{chosen, told_by, whole}
+use Rattle.journal.specs.Journal.Logs.{is_in, same_body}
+use Rattle.journal.specs.Journal.Questions.{IsRegular, questions}
+use Rattle.journal.specs.Journal.Readiness.{is_ready}
+use Rattle.journal.specs.Journal.Replies.{IsWithin}
+use Rattle.journal.proofs.JournalLemmas.Accepting.{same_body-refl}
+use Rattle.journal.proofs.JournalLemmas.Held.{told_push}
+use Rattle.journal.proofs.JournalLemmas.Places.{any_at, slice_get_last, some_at}
+use Rattle.journal.proofs.JournalLemmas.Premises.{regular_nothing}
 use Rattle.key_state.specs.Same.{distinct}
 use Rattle.keri_outside.specs.declared.limits.Limits.{Limits}
 use Rattle.std.specs.List.{list_any}
-use Rattle.validator_core.specs.declared.tally.Tally.{Tally}
-use Rattle.validator_core.specs.Tables.{AddsEntry, AddsVerdict, IsCore, base_in}
-use Rattle.validator_core.specs.Tally.{IsTally, tally_with}
-use Rattle.validator_core.specs.View.{CoreView, Stands, bytes_of}
-use Rattle.validator_core.proofs.Bodies.{bodies_heard, bodies_new, bodies_old}
-use Rattle.validator_core.proofs.Counts.{HasRoom, tally_heard, tally_took, within_heard, within_took}
-use Rattle.validator_core.proofs.Entries.{accepted_heard, accepted_took, base_then, log_then, told_then}
-use Rattle.validator_core.proofs.Verdicts.{regular_heard, regular_took}
+use Rattle.validator_core.specs.declared.validator_core.tally.Tally.{Tally}
+use Rattle.validator_core.specs.ValidatorCore.Tables.{AddsEntry, AddsVerdict, IsCore, base_in}
+use Rattle.validator_core.specs.ValidatorCore.Tally.{IsTally, tally_with}
+use Rattle.validator_core.specs.ValidatorCore.View.{CoreView, Stands, bytes_of}
+use Rattle.validator_core.proofs.ValidatorCoreLemmas.Bodies.{bodies_heard, bodies_new, bodies_old}
+use Rattle.validator_core.proofs.ValidatorCoreLemmas.Counts.{HasRoom, tally_heard, tally_took, within_heard, within_took}
+use Rattle.validator_core.proofs.ValidatorCoreLemmas.Entries.{accepted_heard, accepted_took, base_then, log_then, told_then}
+use Rattle.validator_core.proofs.ValidatorCoreLemmas.Verdicts.{regular_heard, regular_took}
 
 -- each entry's body is held
 told_count : (held : List Body) (entries : List Entry) → ((i : ℕ) (e : Entry) → slice_get entries i ≡ Some e → number_of e < length held) → length (told_by held entries) ≡ length entries

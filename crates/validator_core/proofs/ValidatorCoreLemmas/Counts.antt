@@ -5,14 +5,14 @@ use Rattle.std.proofs.lemmas.Bool.{leb-false, ltb-false, or_parts}
 use Rattle.cesr_codes.specs.declared.key.Key.{Key}
 use Rattle.cesr_codes.specs.declared.sig.Sig.{Sig}
 use Rattle.keri_outside.specs.declared.limits.Limits.{Limits}
-use Rattle.journal.specs.declared.body.Body.{Body}
-use Rattle.journal.specs.declared.claim.Claim.{Claim}
-use Rattle.journal.specs.History.{Told, took, heard, taken, bodies}
-use Rattle.journal.specs.Replies.{all_claims, IsWithin}
-use Rattle.journal.proofs.Locality.{flat_map-push}
-use Rattle.validator_core.specs.declared.tally.Tally.{Tally}
-use Rattle.validator_core.specs.Tally.{IsTally, is_crowded, is_spent, tally_with}
-use Rattle.validator_core.specs.View.{bytes_of}
+use Rattle.journal.specs.declared.journal.body.Body.{Body}
+use Rattle.journal.specs.declared.journal.claim.Claim.{Claim}
+use Rattle.journal.specs.Journal.History.{Told, took, heard, taken, bodies}
+use Rattle.journal.specs.Journal.Replies.{all_claims, IsWithin}
+use Rattle.journal.proofs.JournalLemmas.Locality.{flat_map-push}
+use Rattle.validator_core.specs.declared.validator_core.tally.Tally.{Tally}
+use Rattle.validator_core.specs.ValidatorCore.Tally.{IsTally, is_crowded, is_spent, tally_with}
+use Rattle.validator_core.specs.ValidatorCore.View.{bytes_of}
 
 -- what is left of the limits, where a tally isn't spent
 pub record HasRoom (limits : Limits) (tally : Tally) (claims : ℕ) : Type 0 where

@@ -3,11 +3,11 @@ use denote.Param.Send.{IsSend, sendable}
 use denote.Param.SendFields.{declared_send}
 use Rattle.std.specs.contracts.alloc.Global as global
 use Rattle.keri_outside.proofs.limits.Limits.TheSendSync as limits
-use Rattle.journal.proofs.mode.Mode.TheSendSync as mode
-use Rattle.core_tables.proofs.Crosses.{tables_send}
-use Rattle.validator_core.proofs.tally.Tally.TheSendSync as tally
-use Rattle.validator_core.specs.contracts.validator.Core as row
-use Rattle.validator_core.specs.contracts.validator.Core.TheInside as inside
+use Rattle.journal.proofs.journal.mode.Mode.TheSendSync as mode
+use Rattle.core_tables.proofs.CoreTablesLemmas.Crosses.{tables_send}
+use Rattle.validator_core.proofs.validator_core.tally.Tally.TheSendSync as tally
+use Rattle.validator_core.specs.contracts.validator_core.validator.Core as row
+use Rattle.validator_core.specs.contracts.validator_core.validator.Core.TheInside as inside
 
 global_send : IsSend global.the_row
 global_send = search sendable depth 20

@@ -4,14 +4,14 @@ use Rattle.std.proofs.Math.Seq.{take-append_seam, take-length}
 use Rattle.std.proofs.lemmas.List.{length-map}
 use Rattle.std.specs.Prelude.{All}
 use Rattle.std.specs.List.{list_any}
-use Rattle.acceptance.specs.Standing.{Extends, Hears, IsStanding}
-use Rattle.acceptance.proofs.Rewound.{extends_itself, extends_then, is_cut, rewound_is}
-use Rattle.core_laws.proofs.Entries.{all_from}
-use Rattle.claim_table.specs.declared.row.Row.{Row}
-use Rattle.claim_table.specs.declared.signature.Signature.{Signature}
-use Rattle.claim_table.specs.Rows.{heard, is_of, is_raised, same_signature, signature_of, unheard, with_verdict}
-use Rattle.claim_table.specs.Table.{KeepsPending}
-use Rattle.core_tables.specs.View.{View, IsCut, mark_of, number_of, rewound, with_claims}
+use Rattle.validator_core.specs.Acceptance.Standing.{Extends, Hears, IsStanding}
+use Rattle.validator_core.proofs.AcceptanceLemmas.Rewound.{extends_itself, extends_then, is_cut, rewound_is}
+use Rattle.claim_table.proofs.CoreLawsLemmas.Entries.{all_from}
+use Rattle.claim_table.specs.declared.claim_table.row.Row.{Row}
+use Rattle.claim_table.specs.declared.claim_table.signature.Signature.{Signature}
+use Rattle.claim_table.specs.ClaimTable.Rows.{heard, is_of, is_raised, same_signature, signature_of, unheard, with_verdict}
+use Rattle.claim_table.specs.ClaimTable.Table.{KeepsPending}
+use Rattle.core_tables.specs.CoreTables.View.{View, IsCut, mark_of, number_of, rewound, with_claims}
 
 -- TOOK: with no verdict pending
 module _ (old new : View) (stands : IsStanding old) (idle : old.claims.pending ≡ None) (left : old.settled ≡ length old.log.numbers) (more : Extends old new) where

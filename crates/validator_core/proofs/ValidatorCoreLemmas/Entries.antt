@@ -3,23 +3,23 @@ use Rattle.std.proofs.Common.{◌≡◌, ℕ, ◌<◌, ◌≤◌, Bool, List, []
 use Rattle.std.specs.Prelude.{slice_get, take}
 use Rattle.std.proofs.lemmas.Bool.{or_left}
 use Rattle.std.proofs.lemmas.List.{take-append-le}
-use Rattle.acceptance.specs.Settled.{RunsOver}
-use Rattle.acceptance.specs.Standing.{Comes, IsStanding, told_of}
-use Rattle.acceptance.proofs.Entries.{told_front}
-use Rattle.core_laws.specs.Entries.{HaveNamed}
-use Rattle.core_laws.proofs.Entries.{all_from, entry_settles}
+use Rattle.validator_core.specs.Acceptance.Settled.{RunsOver}
+use Rattle.validator_core.specs.Acceptance.Standing.{Comes, IsStanding, told_of}
+use Rattle.validator_core.proofs.AcceptanceLemmas.Entries.{told_front}
+use Rattle.claim_table.specs.CoreLaws.Entries.{HaveNamed}
+use Rattle.claim_table.proofs.CoreLawsLemmas.Entries.{all_from, entry_settles}
 use Rattle.cesr_codes.specs.declared.key.Key.{Key}
 use Rattle.cesr_codes.specs.declared.sig.Sig.{Sig}
-use Rattle.core_tables.specs.View.{View, log_of}
-use Rattle.journal.specs.declared.body.Body.{Body}
-use Rattle.journal.specs.declared.claim.Claim.{Claim}
-use Rattle.journal.specs.declared.entry.Entry.{Entry}
-use Rattle.journal.specs.declared.mode.Mode.{Mode}
-use Rattle.journal.specs.Accepted.{accepted}
-use Rattle.journal.specs.History.{Told, took, heard, bodies}
-use Rattle.journal.specs.Journals.{chosen, told_by, whole}
-use Rattle.journal.proofs.Held.{chosen_front, told_push}
-use Rattle.validator_core.specs.Tables.{HaveNumbers, SettlesFrom}
+use Rattle.core_tables.specs.CoreTables.View.{View, log_of}
+use Rattle.journal.specs.declared.journal.body.Body.{Body}
+use Rattle.journal.specs.declared.journal.claim.Claim.{Claim}
+use Rattle.journal.specs.declared.journal.entry.Entry.{Entry}
+use Rattle.journal.specs.declared.journal.mode.Mode.{Mode}
+use Rattle.journal.specs.Journal.Accepted.{accepted}
+use Rattle.journal.specs.Journal.History.{Told, took, heard, bodies}
+use Rattle.journal.specs.Journal.Journals.{chosen, told_by, whole}
+use Rattle.journal.proofs.JournalLemmas.Held.{chosen_front, told_push}
+use Rattle.validator_core.specs.ValidatorCore.Tables.{HaveNumbers, SettlesFrom}
 
 -- SETTLED: what is accepted at the end of a run is that of the definition
 settles_to : (mode : Mode) (base : List Body) (told : List Told) (t : Told) (ts : List Told) (held log end : List Body) (due : List ℕ)

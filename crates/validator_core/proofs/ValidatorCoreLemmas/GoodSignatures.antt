@@ -6,33 +6,33 @@ use Rattle.std.specs.List.Sorted.{IsStrictlyIncreasing}
 use Rattle.std.proofs.lemmas.Bool.{cases_Bool}
 use Rattle.std.proofs.lemmas.List.{take_more}
 use Rattle.std.proofs.lemmas.List.Elements.{filter_map-append}
-use Rattle.journal.proofs.Locality.{flat_map-push}
+use Rattle.journal.proofs.JournalLemmas.Locality.{flat_map-push}
 use Rattle.cesr_codes.specs.declared.key.Key.{Key}
 use Rattle.cesr_codes.specs.declared.sig.Sig.{Sig}
 use Rattle.key_state.specs.Exposure.{Rules, own_rules}
 use Rattle.key_state.specs.States.{State}
-use Rattle.journal.specs.declared.body.Body.{Body}
-use Rattle.journal.specs.declared.claim.Claim.{Claim}
-use Rattle.journal.specs.declared.entry.Entry.TheVariants.{Took}
-use Rattle.journal.specs.History.{Told, claimed_key, claimed_sig, claims_on, triple_of}
-use Rattle.journal.specs.Logs.{stands, state_behind}
-use Rattle.journal.specs.Questions.{state_before}
-use Rattle.journal.specs.Readiness.{good_sigs, held_sig, yes_to}
-use Rattle.event_rules.specs.Claims.{is_good, is_yes}
-use Rattle.event_rules.specs.Parts.{says_of}
-use Rattle.accepted_log.specs.Cuts.{cut}
-use Rattle.core_tables.specs.Names.{name_of}
-use Rattle.core_tables.specs.Raised.{claims_at}
-use Rattle.core_tables.specs.View.{View, log_of}
-use Rattle.core_tables.proofs.ToldClaims.{told_claims}
-use Rattle.acceptance.specs.Footing.{IsFooting}
-use Rattle.acceptance.specs.Standing.{IsStanding, told_of}
-use Rattle.acceptance.specs.declared.footing.Footing.TheVariants.{Inception, Behind}
-use Rattle.acceptance.proofs.Behind.{rules_cut}
-use Rattle.acceptance.proofs.FoundClaims.{first_has_none}
-use Rattle.acceptance.specs.Entries.{says_in}
-use Rattle.acceptance.proofs.Verdicts.{said_is}
-use Rattle.validator_core.specs.Signatures.{good_claim, good_in}
+use Rattle.journal.specs.declared.journal.body.Body.{Body}
+use Rattle.journal.specs.declared.journal.claim.Claim.{Claim}
+use Rattle.journal.specs.declared.journal.entry.Entry.TheVariants.{Took}
+use Rattle.journal.specs.Journal.History.{Told, claimed_key, claimed_sig, claims_on, triple_of}
+use Rattle.journal.specs.Journal.Logs.{stands, state_behind}
+use Rattle.journal.specs.Journal.Questions.{state_before}
+use Rattle.journal.specs.Journal.Readiness.{good_sigs, held_sig, yes_to}
+use Rattle.journal.specs.EventRules.Claims.{is_good, is_yes}
+use Rattle.journal.specs.EventRules.Parts.{says_of}
+use Rattle.core_tables.specs.AcceptedLog.Cuts.{cut}
+use Rattle.core_tables.specs.CoreTables.Names.{name_of}
+use Rattle.core_tables.specs.CoreTables.Raised.{claims_at}
+use Rattle.core_tables.specs.CoreTables.View.{View, log_of}
+use Rattle.core_tables.proofs.CoreTablesLemmas.ToldClaims.{told_claims}
+use Rattle.validator_core.specs.Acceptance.Footing.{IsFooting}
+use Rattle.validator_core.specs.Acceptance.Standing.{IsStanding, told_of}
+use Rattle.validator_core.specs.declared.acceptance.footing.Footing.TheVariants.{Inception, Behind}
+use Rattle.validator_core.proofs.AcceptanceLemmas.Behind.{rules_cut}
+use Rattle.validator_core.proofs.AcceptanceLemmas.FoundClaims.{first_has_none}
+use Rattle.validator_core.specs.Acceptance.Entries.{says_in}
+use Rattle.validator_core.proofs.AcceptanceLemmas.Verdicts.{said_is}
+use Rattle.validator_core.specs.ValidatorCore.Signatures.{good_claim, good_in}
 
 -- what is chosen of lists is chosen of them all
 filter_map-flat_map : {X Y Z : Type 0} (g : Y → Option Z) (f : X → List Y) (xs : List X) → flat_map (λ x. filter_map g (f x)) xs ≡ filter_map g (flat_map f xs)

@@ -7,15 +7,15 @@ use Rattle.std.proofs.lemmas.List.Folds.{list_any-append, list_all-append}
 use Rattle.cesr_codes.specs.declared.indexed_sig.IndexedSig.{IndexedSig}
 use Rattle.cesr_stream.specs.declared.couple.Couple.{Couple}
 use Rattle.cesr_stream.specs.declared.group.Group.{Group}
-use Rattle.journal.specs.declared.claim.Claim.TheVariants.{Held, Witness, Couple as CoupleClaim}
-use Rattle.event_body.specs.declared.event.Event.{Event}
-use Rattle.event_body.specs.Events.{is_receipt}
+use Rattle.journal.specs.declared.journal.claim.Claim.TheVariants.{Held, Witness, Couple as CoupleClaim}
+use Rattle.event_body.specs.declared.event_body.event.Event.{Event}
+use Rattle.event_body.specs.EventBody.Events.{is_receipt}
 use Rattle.cesr_stream.specs.declared.message.Message.{Message}
 use Rattle.key_state.specs.KeyStates.{first_true}
-use Rattle.journal.specs.declared.reply.Reason.{Reason}
-use Rattle.journal.specs.declared.reply.Reason.TheVariants.{TooManySigs, WrongGroup, DigestOnly, Unsigned}
-use Rattle.journal.specs.Replies.{is_held, is_held_group, claims_of_group, refusal}
-use Rattle.validator_core.specs.Messages.{first_refusal}
+use Rattle.journal.specs.declared.journal.reply.Reason.{Reason}
+use Rattle.journal.specs.declared.journal.reply.Reason.TheVariants.{TooManySigs, WrongGroup, DigestOnly, Unsigned}
+use Rattle.journal.specs.Journal.Replies.{is_held, is_held_group, claims_of_group, refusal}
+use Rattle.validator_core.specs.ValidatorCore.Messages.{first_refusal}
 
 -- r says that the list is empty
 abbrev pub SaysEmpty : {X : Type 0} → Bool → List X → Type 0

@@ -5,26 +5,26 @@ use Rattle.std.specs.List.{list_any}
 use Rattle.std.proofs.lemmas.Bool.{and_from, and_parts, cases_Bool, or_cases, or_left, or_right}
 use Rattle.std.proofs.lemmas.List.{drop_at}
 use Rattle.std.proofs.lemmas.List.Sums.{sum_by-le-sum_by}
-use Rattle.acceptance.specs.Settled.{RunsOver, TakesFew, counted_on, looks_in}
-use Rattle.acceptance.specs.Standing.{told_of}
-use Rattle.core_laws.proofs.Looks.{bound_once, ends_with}
-use Rattle.core_laws.specs.Looks.{IsClear, appended_in, is_counted}
-use Rattle.core_laws.specs.Standing.{HasNoClash}
-use Rattle.core_laws.specs.Waking.{holds_first_seal, is_anchored, is_there, is_waiting, may_wake, seals_first, wakes}
+use Rattle.validator_core.specs.Acceptance.Settled.{RunsOver, TakesFew, counted_on, looks_in}
+use Rattle.validator_core.specs.Acceptance.Standing.{told_of}
+use Rattle.claim_table.proofs.CoreLawsLemmas.Looks.{bound_once, ends_with}
+use Rattle.claim_table.specs.CoreLaws.Looks.{IsClear, appended_in, is_counted}
+use Rattle.claim_table.specs.CoreLaws.Standing.{HasNoClash}
+use Rattle.claim_table.specs.CoreLaws.Waking.{holds_first_seal, is_anchored, is_there, is_waiting, may_wake, seals_first, wakes}
 use Rattle.cesr_codes.specs.declared.prefix.Prefix.{Prefix}
-use Rattle.core_tables.specs.View.{View, log_of}
-use Rattle.event_body.specs.Events.{prefix_of, said_of}
-use Rattle.journal.specs.declared.body.Body.{Body}
-use Rattle.journal.specs.declared.mode.Mode.{Mode}
-use Rattle.journal.specs.Accepted.{accepted}
-use Rattle.journal.specs.History.{Told, bodies}
-use Rattle.journal.specs.Logs.{precedes, state}
-use Rattle.journal.specs.Readiness.{is_local, is_ready}
-use Rattle.journal.specs.Seals.{delegator_of, is_delegated, seals}
-use Rattle.settlement.proofs.Few.{few}
-use Rattle.settlement.proofs.Waking.{waited}
-use Rattle.validator_core.specs.Looks.{most_looks, waits_behind, waits_with}
-use Rattle.validator_core.specs.Tables.{HaveNoOthers, SettlesFrom}
+use Rattle.core_tables.specs.CoreTables.View.{View, log_of}
+use Rattle.event_body.specs.EventBody.Events.{prefix_of, said_of}
+use Rattle.journal.specs.declared.journal.body.Body.{Body}
+use Rattle.journal.specs.declared.journal.mode.Mode.{Mode}
+use Rattle.journal.specs.Journal.Accepted.{accepted}
+use Rattle.journal.specs.Journal.History.{Told, bodies}
+use Rattle.journal.specs.Journal.Logs.{precedes, state}
+use Rattle.journal.specs.Journal.Readiness.{is_local, is_ready}
+use Rattle.journal.specs.Journal.Seals.{delegator_of, is_delegated, seals}
+use Rattle.validator_core.proofs.SettlementLemmas.Few.{few}
+use Rattle.validator_core.proofs.SettlementLemmas.Waking.{waited}
+use Rattle.validator_core.specs.ValidatorCore.Looks.{most_looks, waits_behind, waits_with}
+use Rattle.validator_core.specs.ValidatorCore.Tables.{HaveNoOthers, SettlesFrom}
 
 -- what passes one test passes another
 count_more : {X : Type 0} (p q : X → Bool) (xs : List X) → ((x : X) → p x ≡ true → q x ≡ true) → count_by p xs ≤ count_by q xs

@@ -2,18 +2,18 @@
 use Rattle.std.proofs.Common.{◌≡◌, ℕ, List, Result, Ok, Err, refl, ◌∙◌}
 use Rattle.std.specs.Prelude.{IfOk}
 use Rattle.cesr_stream.specs.declared.message.Message.{Message}
-use Rattle.event_body.specs.declared.event.Event.{Event}
-use Rattle.core_tables.specs.View.{body_of}
-use Rattle.journal.specs.declared.reply.Reply.{Reply}
-use Rattle.journal.specs.declared.reply.Reply.TheVariants.{Taken, Again, Refused, Full}
-use Rattle.journal.specs.CoreCalls.{told_after}
-use Rattle.journal.specs.History.{Told}
-use Rattle.journal.specs.Replies.{claims_of}
-use Rattle.validator_core.specs.Calls.{TakesBody, told_then}
-use Rattle.validator_core.specs.View.{CoreView}
-use Rattle.validator_core.specs.Messages.{JudgesMessage}
-use Rattle.validator_core.specs.Looks.{LooksByReply}
-use Rattle.validator_core.specs.MessageCalls.{LooksByMessage, TakesMessage}
+use Rattle.event_body.specs.declared.event_body.event.Event.{Event}
+use Rattle.core_tables.specs.CoreTables.View.{body_of}
+use Rattle.journal.specs.declared.journal.reply.Reply.{Reply}
+use Rattle.journal.specs.declared.journal.reply.Reply.TheVariants.{Taken, Again, Refused, Full}
+use Rattle.journal.specs.Journal.CoreCalls.{told_after}
+use Rattle.journal.specs.Journal.History.{Told}
+use Rattle.journal.specs.Journal.Replies.{claims_of}
+use Rattle.validator_core.specs.ValidatorCore.Calls.{TakesBody, told_then}
+use Rattle.validator_core.specs.ValidatorCore.View.{CoreView}
+use Rattle.validator_core.specs.ValidatorCore.Messages.{JudgesMessage}
+use Rattle.validator_core.specs.ValidatorCore.Looks.{LooksByReply}
+use Rattle.validator_core.specs.ValidatorCore.MessageCalls.{LooksByMessage, TakesMessage}
 
 told_same : (old : List Told) (reader : ℕ) (m : Message) (e : Event) (reply : Reply)
     → told_then old reader (body_of m.body e) (claims_of m) reply ≡ told_after old reader (body_of m.body e) m reply

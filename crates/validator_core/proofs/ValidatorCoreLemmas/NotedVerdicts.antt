@@ -2,34 +2,34 @@
 use Rattle.std.proofs.Common.{◌≡◌, ℕ, ◌<◌, Bool, true, false, not, ◌==◌, List, [], ◌∷◌, ◌++◌, length, Option, Some, None, is_none, refl, sym, ◌∙◌, ap, subst, arith, if◌then◌else◌}
 use Rattle.std.specs.Prelude.{slice_get, sum_by}
 use Rattle.std.proofs.lemmas.Bool.{and_parts}
-use Rattle.acceptance.specs.Standing.{told_of}
-use Rattle.core_laws.proofs.Noted.{noted_is, raised_is}
-use Rattle.core_laws.proofs.Told.{verdict_there}
-use Rattle.core_laws.specs.ClaimRows.{triple_on}
-use Rattle.claim_table.specs.declared.signature.Signature.{Signature}
-use Rattle.claim_table.specs.Rows.{is_of, is_raised, verdict_of}
-use Rattle.core_tables.specs.View.{View, log_of}
-use Rattle.journal.specs.declared.body.Body.{Body}
-use Rattle.journal.specs.declared.mode.Mode.{Mode}
-use Rattle.journal.specs.declared.question.Noted.TheVariants.{New, Known, Unasked}
-use Rattle.journal.specs.declared.question.Question.{Question}
-use Rattle.journal.specs.History.{Told, has_verdict, heard}
-use Rattle.journal.specs.Journals.{AnswersOn, chosen}
-use Rattle.journal.specs.Logs.{stands}
-use Rattle.journal.specs.Questions.{noted, state_before}
-use Rattle.journal.proofs.Places.{found_at, some_at}
+use Rattle.validator_core.specs.Acceptance.Standing.{told_of}
+use Rattle.claim_table.proofs.CoreLawsLemmas.Noted.{noted_is, raised_is}
+use Rattle.claim_table.proofs.CoreLawsLemmas.Told.{verdict_there}
+use Rattle.claim_table.specs.CoreLaws.ClaimRows.{triple_on}
+use Rattle.claim_table.specs.declared.claim_table.signature.Signature.{Signature}
+use Rattle.claim_table.specs.ClaimTable.Rows.{is_of, is_raised, verdict_of}
+use Rattle.core_tables.specs.CoreTables.View.{View, log_of}
+use Rattle.journal.specs.declared.journal.body.Body.{Body}
+use Rattle.journal.specs.declared.journal.mode.Mode.{Mode}
+use Rattle.journal.specs.declared.journal.question.Noted.TheVariants.{New, Known, Unasked}
+use Rattle.journal.specs.declared.journal.question.Question.{Question}
+use Rattle.journal.specs.Journal.History.{Told, has_verdict, heard}
+use Rattle.journal.specs.Journal.Journals.{AnswersOn, chosen}
+use Rattle.journal.specs.Journal.Logs.{stands}
+use Rattle.journal.specs.Journal.Questions.{noted, state_before}
+use Rattle.journal.proofs.JournalLemmas.Places.{found_at, some_at}
 use Rattle.key_state.proofs.Same.{numbers}
 use Rattle.keri_outside.specs.declared.limits.Limits.{Limits}
-use Rattle.settlement.specs.Entries.{signature_asked}
-use Rattle.validator_core.specs.declared.tally.Tally.{Tally}
-use Rattle.validator_core.specs.Calls.{TakesVerdict}
-use Rattle.validator_core.specs.Looks.{LooksByVerdict}
-use Rattle.validator_core.specs.Tables.{AddsVerdict, IsCore, base_in}
-use Rattle.validator_core.specs.View.{unheard_of, unheard_on}
-use Rattle.validator_core.proofs.CallLooks.{looks_verdict}
-use Rattle.validator_core.proofs.Cores.{base_verdict, core_verdict, seen, told_verdict}
-use Rattle.validator_core.proofs.Unheard.{fewer_unheard, raised_stands, stays}
-use Rattle.validator_core.proofs.Verdicts.{new_is_open}
+use Rattle.validator_core.specs.Settlement.Entries.{signature_asked}
+use Rattle.validator_core.specs.declared.validator_core.tally.Tally.{Tally}
+use Rattle.validator_core.specs.ValidatorCore.Calls.{TakesVerdict}
+use Rattle.validator_core.specs.ValidatorCore.Looks.{LooksByVerdict}
+use Rattle.validator_core.specs.ValidatorCore.Tables.{AddsVerdict, IsCore, base_in}
+use Rattle.validator_core.specs.ValidatorCore.View.{unheard_of, unheard_on}
+use Rattle.validator_core.proofs.ValidatorCoreLemmas.CallLooks.{looks_verdict}
+use Rattle.validator_core.proofs.ValidatorCoreLemmas.Cores.{base_verdict, core_verdict, seen, told_verdict}
+use Rattle.validator_core.proofs.ValidatorCoreLemmas.Unheard.{fewer_unheard, raised_stands, stays}
+use Rattle.validator_core.proofs.ValidatorCoreLemmas.Verdicts.{new_is_open}
 
 -- what is found of a signature
 pub found_none : (p : Bool) (w : Option Bool) → None ≡ (if p then Some w else None) → p ≡ false

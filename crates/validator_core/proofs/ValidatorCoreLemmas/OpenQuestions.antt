@@ -6,23 +6,23 @@ use Rattle.std.proofs.lemmas.Bool.{cases_Bool, not-true, or_right}
 use Rattle.std.proofs.Math.Seq.{take-nil}
 use Rattle.std.proofs.lemmas.Grind.{flat_map-append}
 use Rattle.std.proofs.lemmas.List.Elements.{All-push, All-nil}
-use Rattle.keri_specs.specs.Told.{HasNone, Puts, after}
-use Rattle.keri_specs.proofs.Putting.{after-nil, after-append}
+use Rattle.lists.specs.KeriSpecs.Told.{HasNone, Puts, after}
+use Rattle.lists.proofs.KeriSpecsLemmas.Putting.{after-nil, after-append}
 use Rattle.keri_outside.specs.Asked.{inquiry}
 use Rattle.keri_outside.specs.declared.failed.Failed.{Failed}
 use Rattle.keri_outside.specs.declared.inquiry.Inquiry.{Inquiry}
 use Rattle.cesr_codes.specs.declared.key.Key.{Key}
 use Rattle.cesr_codes.specs.declared.sig.Sig.{Sig}
-use Rattle.journal.specs.declared.mode.Mode.{Mode}
-use Rattle.journal.specs.declared.question.Noted.TheVariants.{New}
-use Rattle.journal.specs.declared.question.Question.{Question}
-use Rattle.journal.specs.declared.body.Body.{Body}
-use Rattle.journal.specs.History.{Told, heard, Triple, same_triple, has_verdict}
-use Rattle.journal.specs.Journals.{Names, asked}
-use Rattle.journal.specs.Questions.{raised, questions, next_question, noted}
-use Rattle.journal.proofs.Same.{same_triple_itself}
-use Rattle.validator_core.specs.View.{CoreView, Follows, base_of, open_of, told_of}
-use Rattle.validator_core.specs.Verdicts.{Asks, AsksAbout, AsksOpen, IsHeardAndOpen, IsSaid, IsVerdict, Notes, inquiries_in, inquiry_in, inquiry_on}
+use Rattle.journal.specs.declared.journal.mode.Mode.{Mode}
+use Rattle.journal.specs.declared.journal.question.Noted.TheVariants.{New}
+use Rattle.journal.specs.declared.journal.question.Question.{Question}
+use Rattle.journal.specs.declared.journal.body.Body.{Body}
+use Rattle.journal.specs.Journal.History.{Told, heard, Triple, same_triple, has_verdict}
+use Rattle.journal.specs.Journal.Journals.{Names, asked}
+use Rattle.journal.specs.Journal.Questions.{raised, questions, next_question, noted}
+use Rattle.journal.proofs.JournalLemmas.Same.{same_triple_itself}
+use Rattle.validator_core.specs.ValidatorCore.View.{CoreView, Follows, base_of, open_of, told_of}
+use Rattle.validator_core.specs.ValidatorCore.Verdicts.{Asks, AsksAbout, AsksOpen, IsHeardAndOpen, IsSaid, IsVerdict, Notes, inquiries_in, inquiry_in, inquiry_on}
 
 module _ {X : Type 0} (p q : X → Bool) where
   first_is : (y : X) (xs : List X) (x : X) → q x ≡ true → p y ≡ true → y ≡ x → (p x ≡ true) × (list_any q (y ∷ xs) ≡ true)

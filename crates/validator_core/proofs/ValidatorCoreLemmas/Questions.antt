@@ -2,22 +2,22 @@
 use Rattle.std.proofs.Common.{◌≡◌, ℕ, zero, suc, ◌%◌, List, [], ◌∷◌, length, map, Option, Some, None, sym, ◌∙◌, ap, subst, arith, option_map}
 use Rattle.std.specs.Prelude.{flat_map, slice_get}
 use Rattle.std.proofs.lemmas.List.{length-map}
-use Rattle.acceptance.specs.Standing.{told_of}
-use Rattle.core_laws.proofs.Open.{open_rows_are}
-use Rattle.core_laws.proofs.RaisedQuestions.{open_on, questions_are}
-use Rattle.claim_table.specs.declared.row.Row.{Row}
-use Rattle.claim_table.specs.Rows.{open_rows}
-use Rattle.core_tables.specs.View.{View, log_of}
-use Rattle.journal.specs.declared.body.Body.{Body}
-use Rattle.journal.specs.declared.mode.Mode.{Mode}
-use Rattle.journal.specs.declared.question.Question.{Question}
-use Rattle.journal.specs.History.{Triple}
-use Rattle.journal.specs.Journals.{Names, asked}
-use Rattle.journal.specs.Questions.{next_question, questions}
+use Rattle.validator_core.specs.Acceptance.Standing.{told_of}
+use Rattle.claim_table.proofs.CoreLawsLemmas.Open.{open_rows_are}
+use Rattle.claim_table.proofs.CoreLawsLemmas.RaisedQuestions.{open_on, questions_are}
+use Rattle.claim_table.specs.declared.claim_table.row.Row.{Row}
+use Rattle.claim_table.specs.ClaimTable.Rows.{open_rows}
+use Rattle.core_tables.specs.CoreTables.View.{View, log_of}
+use Rattle.journal.specs.declared.journal.body.Body.{Body}
+use Rattle.journal.specs.declared.journal.mode.Mode.{Mode}
+use Rattle.journal.specs.declared.journal.question.Question.{Question}
+use Rattle.journal.specs.Journal.History.{Triple}
+use Rattle.journal.specs.Journal.Journals.{Names, asked}
+use Rattle.journal.specs.Journal.Questions.{next_question, questions}
 use Rattle.keri_outside.specs.declared.limits.Limits.{Limits}
-use Rattle.validator_core.specs.declared.tally.Tally.{Tally}
-use Rattle.validator_core.specs.Calls.{question_of}
-use Rattle.validator_core.specs.Tables.{IsCore, base_in}
+use Rattle.validator_core.specs.declared.validator_core.tally.Tally.{Tally}
+use Rattle.validator_core.specs.ValidatorCore.Calls.{question_of}
+use Rattle.validator_core.specs.ValidatorCore.Tables.{IsCore, base_in}
 
 -- two lists whose elements name each other: each question names the triple at its place
 names_at : (held : List Body) (ask : Row → Question) (rs : List Row) (ts : List Triple) → map (λ r. asked held (ask r)) rs ≡ map (λ t. Some t) ts → (k : ℕ) → Names held (option_map ask (slice_get rs k)) (slice_get ts k)

@@ -5,23 +5,23 @@ use Rattle.std.specs.List.{cons_option, list_all, list_any}
 use Rattle.std.proofs.lemmas.Bool.{cases_Bool}
 use Rattle.key_state.proofs.Same.{numbers, number_itself}
 use Rattle.keri_outside.specs.declared.limits.Limits.{Limits}
-use Rattle.core_tables.specs.View.{came_by, came_with as came_with_number}
-use Rattle.journal.specs.declared.body.Body.{Body}
-use Rattle.journal.specs.declared.claim.Claim.{Claim}
-use Rattle.journal.specs.declared.entry.Entry.{Entry}
-use Rattle.journal.specs.declared.entry.Entry.TheVariants.{Took, Heard}
-use Rattle.journal.specs.declared.reply.Reply.TheVariants.{Taken, Again, Full}
-use Rattle.journal.specs.History.{Told, took, heard, taken, bodies}
-use Rattle.journal.specs.Journals.{told_by, whole}
-use Rattle.journal.specs.Logs.{is_in, same_body}
-use Rattle.journal.specs.Replies.{all_claims, came_with, is_again, is_full, reply_to, same_claim}
-use Rattle.journal.proofs.Accepting.{same_body-refl}
-use Rattle.journal.proofs.Different.{Differ}
-use Rattle.journal.proofs.Locality.{bytes_differ}
-use Rattle.journal.proofs.Places.{others_differ}
-use Rattle.validator_core.specs.declared.tally.Tally.{Tally}
-use Rattle.validator_core.specs.Tally.{IsTally, is_crowded, is_spent}
-use Rattle.validator_core.specs.View.{bytes_of}
+use Rattle.core_tables.specs.CoreTables.View.{came_by, came_with as came_with_number}
+use Rattle.journal.specs.declared.journal.body.Body.{Body}
+use Rattle.journal.specs.declared.journal.claim.Claim.{Claim}
+use Rattle.journal.specs.declared.journal.entry.Entry.{Entry}
+use Rattle.journal.specs.declared.journal.entry.Entry.TheVariants.{Took, Heard}
+use Rattle.journal.specs.declared.journal.reply.Reply.TheVariants.{Taken, Again, Full}
+use Rattle.journal.specs.Journal.History.{Told, took, heard, taken, bodies}
+use Rattle.journal.specs.Journal.Journals.{told_by, whole}
+use Rattle.journal.specs.Journal.Logs.{is_in, same_body}
+use Rattle.journal.specs.Journal.Replies.{all_claims, came_with, is_again, is_full, reply_to, same_claim}
+use Rattle.journal.proofs.JournalLemmas.Accepting.{same_body-refl}
+use Rattle.journal.proofs.JournalLemmas.Different.{Differ}
+use Rattle.journal.proofs.JournalLemmas.Locality.{bytes_differ}
+use Rattle.journal.proofs.JournalLemmas.Places.{others_differ}
+use Rattle.validator_core.specs.declared.validator_core.tally.Tally.{Tally}
+use Rattle.validator_core.specs.ValidatorCore.Tally.{IsTally, is_crowded, is_spent}
+use Rattle.validator_core.specs.ValidatorCore.View.{bytes_of}
 
 or_moved : (p q r : Bool) → (p || q || r) ≡ (p || r || q)
 or_moved true q r = refl

@@ -14,23 +14,23 @@ use Rattle.std.proofs.lemmas.Simd.{map-map}
 use Rattle.cesr_codes.specs.declared.prefix.Prefix.{Prefix}
 use Rattle.cesr_codes.specs.Spelling.{prefix_text}
 use Rattle.cesr_codes.proofs.Same.{same_prefix}
-use Rattle.event_body.specs.declared.event.Event.{Event}
-use Rattle.event_body.specs.Events.{prefix_of, sn_of}
+use Rattle.event_body.specs.declared.event_body.event.Event.{Event}
+use Rattle.event_body.specs.EventBody.Events.{prefix_of, sn_of}
 use Rattle.keri_outside.specs.declared.limits.Limits.{Limits}
-use Rattle.acceptance.specs.Standing.{IsHeld, IsStanding, told_of}
-use Rattle.core_tables.specs.View.{View, log_of}
-use Rattle.journal.specs.declared.body.Body.{Body}
-use Rattle.journal.specs.declared.conflict.Conflict.{Conflict}
-use Rattle.journal.specs.declared.mode.Mode.{Mode}
-use Rattle.journal.specs.Conflicts.{AreConflicts, are_rivals, counted, counts, place_cmp, text_cmp}
-use Rattle.journal.specs.Journals.{NameConflicts, chosen}
-use Rattle.journal.specs.Logs.{same_body}
-use Rattle.journal.proofs.Held.{chosen_push}
-use Rattle.journal.proofs.Places.{some_at}
-use Rattle.settlement.proofs.Waking.{own_seal}
-use Rattle.validator_core.specs.declared.tally.Tally.{Tally}
-use Rattle.validator_core.specs.Tables.{IsCore, base_in}
-use Rattle.validator_core.specs.Views.{IsPlaced}
+use Rattle.validator_core.specs.Acceptance.Standing.{IsHeld, IsStanding, told_of}
+use Rattle.core_tables.specs.CoreTables.View.{View, log_of}
+use Rattle.journal.specs.declared.journal.body.Body.{Body}
+use Rattle.journal.specs.declared.journal.conflict.Conflict.{Conflict}
+use Rattle.journal.specs.declared.journal.mode.Mode.{Mode}
+use Rattle.journal.specs.Journal.Conflicts.{AreConflicts, are_rivals, counted, counts, place_cmp, text_cmp}
+use Rattle.journal.specs.Journal.Journals.{NameConflicts, chosen}
+use Rattle.journal.specs.Journal.Logs.{same_body}
+use Rattle.journal.proofs.JournalLemmas.Held.{chosen_push}
+use Rattle.journal.proofs.JournalLemmas.Places.{some_at}
+use Rattle.validator_core.proofs.SettlementLemmas.Waking.{own_seal}
+use Rattle.validator_core.specs.declared.validator_core.tally.Tally.{Tally}
+use Rattle.validator_core.specs.ValidatorCore.Tables.{IsCore, base_in}
+use Rattle.validator_core.specs.ValidatorCore.Views.{IsPlaced}
 
 both : (o p : Ordering) → is_eq (ordering_then o p) ≡ true → (is_eq o ≡ true) × (is_eq p ≡ true)
 both Less p h = cc

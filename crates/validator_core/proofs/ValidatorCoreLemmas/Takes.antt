@@ -3,30 +3,30 @@ use Rattle.std.proofs.Common.{◌≡◌, ℕ, Bool, true, false, ◌||◌, List,
 use Rattle.std.specs.Prelude.{slice_get}
 use Rattle.std.specs.List.{list_all, list_any}
 use Rattle.std.proofs.lemmas.Bool.{or_parts}
-use Rattle.acceptance.specs.Standing.{told_of}
-use Rattle.core_tables.specs.View.{View, came_with}
-use Rattle.event_body.specs.Events.{said_of}
-use Rattle.journal.specs.declared.body.Body.{Body}
-use Rattle.journal.specs.declared.claim.Claim.{Claim}
-use Rattle.journal.specs.declared.entry.Entry.TheVariants.{Took}
-use Rattle.journal.specs.declared.mode.Mode.{Mode}
-use Rattle.journal.specs.declared.reply.Reply.TheVariants.{Taken, Again, Full}
-use Rattle.journal.specs.History.{Told, took, bodies}
-use Rattle.journal.specs.Logs.{is_in, same_body}
-use Rattle.journal.specs.Replies.{is_again, is_full, reply_to, same_claim}
-use Rattle.journal.proofs.Accepting.{same_body-refl}
-use Rattle.journal.proofs.Places.{any_at}
+use Rattle.validator_core.specs.Acceptance.Standing.{told_of}
+use Rattle.core_tables.specs.CoreTables.View.{View, came_with}
+use Rattle.event_body.specs.EventBody.Events.{said_of}
+use Rattle.journal.specs.declared.journal.body.Body.{Body}
+use Rattle.journal.specs.declared.journal.claim.Claim.{Claim}
+use Rattle.journal.specs.declared.journal.entry.Entry.TheVariants.{Took}
+use Rattle.journal.specs.declared.journal.mode.Mode.{Mode}
+use Rattle.journal.specs.declared.journal.reply.Reply.TheVariants.{Taken, Again, Full}
+use Rattle.journal.specs.Journal.History.{Told, took, bodies}
+use Rattle.journal.specs.Journal.Logs.{is_in, same_body}
+use Rattle.journal.specs.Journal.Replies.{is_again, is_full, reply_to, same_claim}
+use Rattle.journal.proofs.JournalLemmas.Accepting.{same_body-refl}
+use Rattle.journal.proofs.JournalLemmas.Places.{any_at}
 use Rattle.keri_outside.specs.declared.limits.Limits.{Limits}
-use Rattle.validator_core.specs.declared.tally.Tally.{Tally}
-use Rattle.validator_core.specs.Calls.{TakesBody, told_then}
-use Rattle.validator_core.specs.Looks.{LooksAtFew, LooksByReply}
-use Rattle.validator_core.specs.Tables.{AddsEntry, IsCore, base_in}
-use Rattle.validator_core.specs.Tally.{is_crowded, is_spent, tally_with}
-use Rattle.validator_core.specs.View.{CoreView}
-use Rattle.validator_core.proofs.CallLooks.{looks_again, looks_new}
-use Rattle.validator_core.proofs.Cores.{base_again, base_new, core_again, core_new, seen, told_again, told_then_new}
-use Rattle.validator_core.proofs.Counts.{not_crowded, not_spent}
-use Rattle.validator_core.proofs.Replies.{again_is, again_new, full_again, full_new, reply_full, reply_taken}
+use Rattle.validator_core.specs.declared.validator_core.tally.Tally.{Tally}
+use Rattle.validator_core.specs.ValidatorCore.Calls.{TakesBody, told_then}
+use Rattle.validator_core.specs.ValidatorCore.Looks.{LooksAtFew, LooksByReply}
+use Rattle.validator_core.specs.ValidatorCore.Tables.{AddsEntry, IsCore, base_in}
+use Rattle.validator_core.specs.ValidatorCore.Tally.{is_crowded, is_spent, tally_with}
+use Rattle.validator_core.specs.ValidatorCore.View.{CoreView}
+use Rattle.validator_core.proofs.ValidatorCoreLemmas.CallLooks.{looks_again, looks_new}
+use Rattle.validator_core.proofs.ValidatorCoreLemmas.Cores.{base_again, base_new, core_again, core_new, seen, told_again, told_then_new}
+use Rattle.validator_core.proofs.ValidatorCoreLemmas.Counts.{not_crowded, not_spent}
+use Rattle.validator_core.proofs.ValidatorCoreLemmas.Replies.{again_is, again_new, full_again, full_new, reply_full, reply_taken}
 
 -- the reply to a body that is held and for which there is room
 reply_then : (limits : Limits) (base : List Body) (told : List Told) (b : Body) (claims : List Claim) (p : Bool) → is_full limits base told b claims ≡ false → p ≡ is_again base told b claims

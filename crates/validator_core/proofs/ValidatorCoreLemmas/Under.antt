@@ -4,17 +4,17 @@ use Rattle.std.specs.Prelude.{filter, filter_map, slice_get}
 use Rattle.key_state.specs.Exposure.{own_rules}
 use Rattle.key_state.specs.States.{State}
 use Rattle.cesr_codes.specs.declared.indexed_sig.IndexedSig.{IndexedSig}
-use Rattle.event_body.specs.declared.event.Event.{Event}
-use Rattle.event_rules.specs.Parts.{opens_at}
-use Rattle.journal.specs.declared.body.Body.{Body}
-use Rattle.journal.specs.History.{Told, claims_on, triple_of}
-use Rattle.journal.specs.Readiness.{good_sigs, held_sig, yes_to}
-use Rattle.core_laws.proofs.Adding.{opens-alike}
-use Rattle.core_laws.proofs.Alike.{own_rules-alike}
-use Rattle.accepted_log.specs.Cuts.{AreBothAlike}
-use Rattle.core_tables.proofs.NamedRows.{body_there, chosen_at}
-use Rattle.core_tables.specs.View.{View, log_of}
-use Rattle.acceptance.specs.Standing.{IsStanding}
+use Rattle.event_body.specs.declared.event_body.event.Event.{Event}
+use Rattle.journal.specs.EventRules.Parts.{opens_at}
+use Rattle.journal.specs.declared.journal.body.Body.{Body}
+use Rattle.journal.specs.Journal.History.{Told, claims_on, triple_of}
+use Rattle.journal.specs.Journal.Readiness.{good_sigs, held_sig, yes_to}
+use Rattle.claim_table.proofs.CoreLawsLemmas.Adding.{opens-alike}
+use Rattle.claim_table.proofs.CoreLawsLemmas.Alike.{own_rules-alike}
+use Rattle.core_tables.specs.AcceptedLog.Cuts.{AreBothAlike}
+use Rattle.core_tables.proofs.CoreTablesLemmas.NamedRows.{body_there, chosen_at}
+use Rattle.core_tables.specs.CoreTables.View.{View, log_of}
+use Rattle.validator_core.specs.Acceptance.Standing.{IsStanding}
 
 -- RULES: alike states ask the same, and none asks what none does
 pub rules_both : (o p : Option State) → AreBothAlike o p → (e : Event) → own_rules o e ≡ own_rules p e

@@ -6,23 +6,23 @@ use Rattle.std.proofs.lemmas.Bool.{cases_Bool, or_cases, or_left, or_right}
 use Rattle.std.proofs.lemmas.List.Sums.{sum_by-append, sum_by-le-sum_by}
 use Rattle.cesr_codes.specs.declared.key.Key.{Key}
 use Rattle.cesr_codes.specs.declared.sig.Sig.{Sig}
-use Rattle.event_body.specs.declared.event.Event.{Event}
-use Rattle.event_body.specs.declared.event.Event.TheVariants.{Icp, Rot, Ixn, Dip, Drt, Rct}
-use Rattle.event_body.specs.Events.{is_inception, prior_of}
+use Rattle.event_body.specs.declared.event_body.event.Event.{Event}
+use Rattle.event_body.specs.declared.event_body.event.Event.TheVariants.{Icp, Rot, Ixn, Dip, Drt, Rct}
+use Rattle.event_body.specs.EventBody.Events.{is_inception, prior_of}
 use Rattle.key_state.specs.Exposure.{own_rules}
 use Rattle.std.proofs.Math.Bool.{and-false}
-use Rattle.acceptance.specs.Settled.{RunsOver}
-use Rattle.core_laws.specs.Candidates.{ends, passes, appends}
-use Rattle.core_laws.proofs.Predecessors.{predecessor-kept, predecessor-next, state_before-kept, state_before-none}
-use Rattle.core_laws.proofs.Told.{claims_heard, has_push}
-use Rattle.core_laws.specs.ClaimRows.{triple_on}
-use Rattle.journal.specs.declared.body.Body.{Body}
-use Rattle.journal.specs.declared.mode.Mode.{Mode}
-use Rattle.journal.specs.Logs.{precedes, predecessor, stands}
-use Rattle.journal.specs.History.{Told, Triple, claims_on, has_verdict, heard, same_triple, triple_of}
-use Rattle.journal.specs.Questions.{raised_by, state_before}
-use Rattle.journal.proofs.Same.{same_triple_is, same_triple_itself}
-use Rattle.validator_core.specs.View.{unheard_on}
+use Rattle.validator_core.specs.Acceptance.Settled.{RunsOver}
+use Rattle.claim_table.specs.CoreLaws.Candidates.{ends, passes, appends}
+use Rattle.claim_table.proofs.CoreLawsLemmas.Predecessors.{predecessor-kept, predecessor-next, state_before-kept, state_before-none}
+use Rattle.claim_table.proofs.CoreLawsLemmas.Told.{claims_heard, has_push}
+use Rattle.claim_table.specs.CoreLaws.ClaimRows.{triple_on}
+use Rattle.journal.specs.declared.journal.body.Body.{Body}
+use Rattle.journal.specs.declared.journal.mode.Mode.{Mode}
+use Rattle.journal.specs.Journal.Logs.{precedes, predecessor, stands}
+use Rattle.journal.specs.Journal.History.{Told, Triple, claims_on, has_verdict, heard, same_triple, triple_of}
+use Rattle.journal.specs.Journal.Questions.{raised_by, state_before}
+use Rattle.journal.proofs.JournalLemmas.Same.{same_triple_is, same_triple_itself}
+use Rattle.validator_core.specs.ValidatorCore.View.{unheard_on}
 
 sum_first : (f : Body → ℕ) (x : Body) (xs : List Body) → sum_by f (x ∷ xs) ≡ f x + sum_by f xs
 sum_first f x xs = let none : 0 + f x ≡ f x = omega arith in sum_by-append f (x ∷ []) xs ∙ ap (λ n. n + sum_by f xs) none

@@ -4,17 +4,17 @@ use Rattle.std.specs.List.{list_any}
 use Rattle.std.proofs.lemmas.Bool.{and_from, cases_Bool}
 use Rattle.cesr_codes.specs.declared.key.Key.{Key}
 use Rattle.cesr_codes.specs.declared.sig.Sig.{Sig}
-use Rattle.journal.specs.declared.body.Body.{Body}
-use Rattle.journal.specs.declared.claim.Claim.{Claim}
-use Rattle.journal.specs.declared.mode.Mode.{Mode}
-use Rattle.journal.specs.declared.question.Noted.TheVariants.{New, Known, Unasked}
-use Rattle.journal.specs.History.{Told, took, heard, Triple, same_triple, has_verdict}
-use Rattle.journal.specs.Questions.{IsRegular, noted, questions, raised}
-use Rattle.journal.proofs.Keeping.{split_push}
-use Rattle.journal.proofs.Places.{any_at, found_at}
-use Rattle.journal.proofs.Same.{same_triple_is}
-use Rattle.core_laws.proofs.Noted.{any-when}
-use Rattle.core_laws.specs.ClaimRows.{triple_on}
+use Rattle.journal.specs.declared.journal.body.Body.{Body}
+use Rattle.journal.specs.declared.journal.claim.Claim.{Claim}
+use Rattle.journal.specs.declared.journal.mode.Mode.{Mode}
+use Rattle.journal.specs.declared.journal.question.Noted.TheVariants.{New, Known, Unasked}
+use Rattle.journal.specs.Journal.History.{Told, took, heard, Triple, same_triple, has_verdict}
+use Rattle.journal.specs.Journal.Questions.{IsRegular, noted, questions, raised}
+use Rattle.journal.proofs.JournalLemmas.Keeping.{split_push}
+use Rattle.journal.proofs.JournalLemmas.Places.{any_at, found_at}
+use Rattle.journal.proofs.JournalLemmas.Same.{same_triple_is}
+use Rattle.claim_table.proofs.CoreLawsLemmas.Noted.{any-when}
+use Rattle.claim_table.specs.CoreLaws.ClaimRows.{triple_on}
 
 module _ (mode : Mode) (base : List Body) (told : List Told) where
   -- one that is raised and has no verdict is an open question

@@ -1,13 +1,13 @@
 -- The state that an event stands on, and the current one.
 use Rattle.std.specs.Prelude.{◌≡◌, ◌⊎◌, true, List, slice_get, Option, None}
-use Rattle.event_body.specs.Events.{prefix_of, is_inception}
+use Rattle.event_body.specs.EventBody.Events.{prefix_of, is_inception}
 use Rattle.key_state.specs.States.{State}
-use Rattle.journal.specs.declared.body.Body.{Body}
-use Rattle.journal.specs.Logs.{stands, state}
-use Rattle.journal.specs.Questions.{state_before}
-use Rattle.acceptance.specs.declared.footing.Footing.{Footing}
-use Rattle.acceptance.specs.declared.footing.Footing.TheVariants.{Inception, Behind}
-use Rattle.core_laws.specs.Standing.{AreAlikeIf}
+use Rattle.journal.specs.declared.journal.body.Body.{Body}
+use Rattle.journal.specs.Journal.Logs.{stands, state}
+use Rattle.journal.specs.Journal.Questions.{state_before}
+use Rattle.validator_core.specs.declared.acceptance.footing.Footing.{Footing}
+use Rattle.validator_core.specs.declared.acceptance.footing.Footing.TheVariants.{Inception, Behind}
+use Rattle.claim_table.specs.CoreLaws.Standing.{AreAlikeIf}
 
 -- the body stands, and is an inception, or follows a state that differs from the current one in its live events alone
 pub record IsOnCurrent (log : List Body) (b : Body) : Type 0 where

@@ -2,17 +2,17 @@
 use Rattle.std.specs.Prelude.{ℕ, Bool, false, ◌==◌, List, [], flat_map, slice_get, Option, Some, None}
 use Rattle.cesr_codes.specs.declared.key.Key.{Key}
 use Rattle.cesr_codes.specs.declared.sig.Sig.{Sig}
-use Rattle.event_body.specs.declared.event.Event.{Event}
-use Rattle.event_rules.specs.Claims.{is_held_so}
-use Rattle.event_rules.specs.Parts.{opens_at}
+use Rattle.event_body.specs.declared.event_body.event.Event.{Event}
+use Rattle.journal.specs.EventRules.Claims.{is_held_so}
+use Rattle.journal.specs.EventRules.Parts.{opens_at}
 use Rattle.key_state.specs.Exposure.{own_rules}
 use Rattle.key_state.specs.States.{State}
-use Rattle.claim_table.specs.declared.row.Row.{Row}
-use Rattle.claim_table.specs.Rows.{is_yes, verdict_of}
-use Rattle.core_tables.specs.Raised.{claims_at}
-use Rattle.core_tables.specs.View.{View}
-use Rattle.journal.specs.declared.body.Body.{Body}
-use Rattle.journal.specs.declared.claim.Claim.{Claim}
+use Rattle.claim_table.specs.declared.claim_table.row.Row.{Row}
+use Rattle.claim_table.specs.ClaimTable.Rows.{is_yes, verdict_of}
+use Rattle.core_tables.specs.CoreTables.Raised.{claims_at}
+use Rattle.core_tables.specs.CoreTables.View.{View}
+use Rattle.journal.specs.declared.journal.body.Body.{Body}
+use Rattle.journal.specs.declared.journal.claim.Claim.{Claim}
 
 -- the verdict on a signature on the body of a number is yes
 abbrev pub says_in : List Row → ℕ → Key → Sig → Bool

@@ -2,9 +2,9 @@
 use Rattle.std.specs.Prelude.{ℕ, Bool, List, slice_get}
 use Rattle.std.specs.List.{list_any}
 use Rattle.std.specs.Option.{option_copied}
-use Rattle.journal.specs.declared.claim.Claim.{Claim}
-use Rattle.acceptance.specs.declared.entry_support.EntrySupport.{EntrySupport}
-use Rattle.acceptance.specs.Entries.{claims_there, is_opened_at, is_signed_at}
+use Rattle.journal.specs.declared.journal.claim.Claim.{Claim}
+use Rattle.validator_core.specs.declared.acceptance.entry_support.EntrySupport.{EntrySupport}
+use Rattle.validator_core.specs.Acceptance.Entries.{claims_there, is_opened_at, is_signed_at}
 
 -- the claims on the event that came by an entry
 abbrev pub claims_in : EntrySupport → ℕ → List Claim

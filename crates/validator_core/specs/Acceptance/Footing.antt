@@ -1,14 +1,14 @@
 -- What an event stands on: an inception on nothing, any other on the state of its predecessor, among whose live events that is.
 use Rattle.std.specs.Prelude.{◌≡◌, ℕ, true, List, slice_get, Some}
-use Rattle.event_body.specs.Events.{is_inception}
+use Rattle.event_body.specs.EventBody.Events.{is_inception}
 use Rattle.key_state.specs.States.{State}
-use Rattle.journal.specs.declared.body.Body.{Body}
-use Rattle.journal.specs.Logs.{stands}
-use Rattle.journal.specs.Questions.{state_before}
-use Rattle.accepted_log.specs.Cuts.{cut}
-use Rattle.accepted_log.specs.Values.{Log}
-use Rattle.acceptance.specs.declared.footing.Footing.{Footing}
-use Rattle.acceptance.specs.declared.footing.Footing.TheVariants.{Inception, Behind}
+use Rattle.journal.specs.declared.journal.body.Body.{Body}
+use Rattle.journal.specs.Journal.Logs.{stands}
+use Rattle.journal.specs.Journal.Questions.{state_before}
+use Rattle.core_tables.specs.AcceptedLog.Cuts.{cut}
+use Rattle.core_tables.specs.AcceptedLog.Values.{Log}
+use Rattle.validator_core.specs.declared.acceptance.footing.Footing.{Footing}
+use Rattle.validator_core.specs.declared.acceptance.footing.Footing.TheVariants.{Inception, Behind}
 
 -- the state at a place, cut at a live event, is the one that the body follows
 pub record IsBehind (log : List Body) (v : Log) (b : Body) (place : ℕ) : Type 0 where

@@ -1,10 +1,10 @@
 -- The parts of a body by the rows of a table of claims.
 use Rattle.std.specs.Prelude.{ℕ, Bool, List}
-use Rattle.event_rules.specs.Parts.{Part, index, reveal, backer}
-use Rattle.claim_table.specs.declared.part.Part.{Part as TablePart}
-use Rattle.claim_table.specs.declared.part.Part.TheVariants.{Indexed, Revealed, Backed}
-use Rattle.claim_table.specs.declared.row.Row.{Row}
-use Rattle.claim_table.specs.Parts.{has_part}
+use Rattle.journal.specs.EventRules.Parts.{Part, index, reveal, backer}
+use Rattle.claim_table.specs.declared.claim_table.part.Part.{Part as TablePart}
+use Rattle.claim_table.specs.declared.claim_table.part.Part.TheVariants.{Indexed, Revealed, Backed}
+use Rattle.claim_table.specs.declared.claim_table.row.Row.{Row}
+use Rattle.claim_table.specs.ClaimTable.Parts.{has_part}
 
 -- a part as the table names it
 abbrev pub table_part : Part → TablePart

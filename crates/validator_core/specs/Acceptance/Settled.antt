@@ -1,14 +1,14 @@
 -- What settling makes of the tables: a run over candidates, from the accepted events that were to those that are.
 use Rattle.std.specs.Prelude.{◌≡◌, ℕ, zero, suc, ◌+◌, ◌-◌, ◌^◌, min, List}
-use Rattle.journal.specs.declared.body.Body.{Body}
-use Rattle.journal.specs.declared.mode.Mode.{Mode}
-use Rattle.journal.specs.History.{Told}
-use Rattle.journal.specs.Readiness.{is_ready}
-use Rattle.core_laws.specs.Candidates.{Runs}
-use Rattle.core_laws.specs.Looks.{IsFrugal, looks}
-use Rattle.core_laws.specs.Waking.{wakes}
-use Rattle.core_tables.specs.View.{View, log_of}
-use Rattle.acceptance.specs.Standing.{IsStanding, told_of}
+use Rattle.journal.specs.declared.journal.body.Body.{Body}
+use Rattle.journal.specs.declared.journal.mode.Mode.{Mode}
+use Rattle.journal.specs.Journal.History.{Told}
+use Rattle.journal.specs.Journal.Readiness.{is_ready}
+use Rattle.claim_table.specs.CoreLaws.Candidates.{Runs}
+use Rattle.claim_table.specs.CoreLaws.Looks.{IsFrugal, looks}
+use Rattle.claim_table.specs.CoreLaws.Waking.{wakes}
+use Rattle.core_tables.specs.CoreTables.View.{View, log_of}
+use Rattle.validator_core.specs.Acceptance.Standing.{IsStanding, told_of}
 
 -- a run over candidates by the rules of what was told
 abbrev pub RunsOver : Mode → List Told → List Body → List ℕ → List Body → List Body → Type 0

@@ -1,20 +1,20 @@
 -- What is true of the tables of a core at every moment: they stand for a grown log, with its states and its claims.
 use Rattle.std.specs.Prelude.{◌≡◌, ℕ, ◌<◌, ◌≤◌, Bool, List, [], ◌∷◌, ◌++◌, length, take, slice_get, Some}
-use Rattle.event_body.specs.Judging.{SpellsEvent}
-use Rattle.journal.specs.declared.body.Body.{Body}
-use Rattle.journal.specs.declared.entry.Entry.{Entry}
-use Rattle.journal.specs.declared.entry.Entry.TheVariants.{Heard}
-use Rattle.journal.specs.Grown.{IsGrown}
-use Rattle.journal.specs.History.{Told}
-use Rattle.journal.specs.Journals.{told_by}
-use Rattle.journal.specs.Logs.{same_body}
-use Rattle.journal.proofs.Different.{Differ}
-use Rattle.accepted_log.specs.Cuts.{IsLog}
-use Rattle.accepted_log.specs.Values.{Extends as LogExtends}
-use Rattle.core_laws.specs.ClaimRows.{AreClaims}
-use Rattle.claim_table.specs.declared.signature.Signature.{Signature}
-use Rattle.claim_table.specs.Rows.{heard, unheard}
-use Rattle.core_tables.specs.View.{View, log_of, number_of, with_claims}
+use Rattle.event_body.specs.EventBody.Judging.{SpellsEvent}
+use Rattle.journal.specs.declared.journal.body.Body.{Body}
+use Rattle.journal.specs.declared.journal.entry.Entry.{Entry}
+use Rattle.journal.specs.declared.journal.entry.Entry.TheVariants.{Heard}
+use Rattle.journal.specs.Journal.Grown.{IsGrown}
+use Rattle.journal.specs.Journal.History.{Told}
+use Rattle.journal.specs.Journal.Journals.{told_by}
+use Rattle.journal.specs.Journal.Logs.{same_body}
+use Rattle.journal.proofs.JournalLemmas.Different.{Differ}
+use Rattle.core_tables.specs.AcceptedLog.Cuts.{IsLog}
+use Rattle.core_tables.specs.AcceptedLog.Values.{Extends as LogExtends}
+use Rattle.claim_table.specs.CoreLaws.ClaimRows.{AreClaims}
+use Rattle.claim_table.specs.declared.claim_table.signature.Signature.{Signature}
+use Rattle.claim_table.specs.ClaimTable.Rows.{heard, unheard}
+use Rattle.core_tables.specs.CoreTables.View.{View, log_of, number_of, with_claims}
 
 -- what the entries tell
 abbrev pub told_of : View → List Told

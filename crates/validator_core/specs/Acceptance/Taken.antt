@@ -1,14 +1,14 @@
 -- What the entry of an event that came adds to the tables: an entry, and the rows of its claims.
 use Rattle.std.specs.Prelude.{◌++◌, ◌∷◌, [], List, if◌then◌else◌}
 use Rattle.key_state.specs.Exposure.{own_rules}
-use Rattle.journal.specs.declared.body.Body.{Body}
-use Rattle.journal.specs.declared.claim.Claim.{Claim}
-use Rattle.journal.specs.declared.entry.Entry.{Entry}
-use Rattle.journal.specs.Logs.{stands}
-use Rattle.journal.specs.Questions.{state_before}
-use Rattle.event_rules.specs.Parts.{Row as Found}
-use Rattle.core_laws.specs.Claimed.{rows_of}
-use Rattle.core_tables.specs.View.{View}
+use Rattle.journal.specs.declared.journal.body.Body.{Body}
+use Rattle.journal.specs.declared.journal.claim.Claim.{Claim}
+use Rattle.journal.specs.declared.journal.entry.Entry.{Entry}
+use Rattle.journal.specs.Journal.Logs.{stands}
+use Rattle.journal.specs.Journal.Questions.{state_before}
+use Rattle.journal.specs.EventRules.Parts.{Row as Found}
+use Rattle.claim_table.specs.CoreLaws.Claimed.{rows_of}
+use Rattle.core_tables.specs.CoreTables.View.{View}
 
 -- the view with one entry more
 abbrev pub with_entry : Entry → View → View

@@ -1,18 +1,18 @@
 -- What is wanting in an event that the current state of its identifier takes: the reasons to wait that are left of it.
 use Rattle.std.specs.Prelude.{Bool, ◌&&◌, ◌||◌, not, List, [], ◌∷◌, Option}
-use Rattle.event_body.specs.declared.event.Event.{Event}
-use Rattle.event_body.specs.Events.{is_rotation}
-use Rattle.event_rules.specs.Parts.{Part, has_own, has_next, has_backed}
+use Rattle.event_body.specs.declared.event_body.event.Event.{Event}
+use Rattle.event_body.specs.EventBody.Events.{is_rotation}
+use Rattle.journal.specs.EventRules.Parts.{Part, has_own, has_next, has_backed}
 use Rattle.key_state.specs.Exposure.{own_rules}
 use Rattle.key_state.specs.KeyStates.{first_true}
 use Rattle.key_state.specs.States.{State}
-use Rattle.journal.specs.declared.body.Body.{Body}
-use Rattle.journal.specs.declared.mode.Mode.{Mode}
-use Rattle.journal.specs.declared.why.Why.{Why}
-use Rattle.journal.specs.declared.why.Why.TheVariants.{Signatures, Next, Receipts, Seal}
-use Rattle.journal.specs.Seals.{anchored}
-use Rattle.journal.specs.History.{Told}
-use Rattle.journal.specs.Readiness.{meets_own, meets_before, is_backed, is_local}
+use Rattle.journal.specs.declared.journal.body.Body.{Body}
+use Rattle.journal.specs.declared.journal.mode.Mode.{Mode}
+use Rattle.journal.specs.declared.journal.why.Why.{Why}
+use Rattle.journal.specs.declared.journal.why.Why.TheVariants.{Signatures, Next, Receipts, Seal}
+use Rattle.journal.specs.Journal.Seals.{anchored}
+use Rattle.journal.specs.Journal.History.{Told}
+use Rattle.journal.specs.Journal.Readiness.{meets_own, meets_before, is_backed, is_local}
 
 -- by its parts, and whether it is sealed
 abbrev pub wants_by : Mode → (Part → Bool) → Option State → Event → Bool → Option Why

@@ -1,12 +1,12 @@
 -- What an event that waits may wait for: the event right before it, and the first seal of its delegator.
 use Rattle.std.specs.Prelude.{◌≡◌, ◌==◌, ℕ, Bool, true, false, ◌&&◌, ◌||◌, not, List, Option, Some, None, slice_get}
 use Rattle.std.specs.List.{list_any}
-use Rattle.journal.specs.declared.body.Body.{Body}
-use Rattle.journal.specs.declared.mode.Mode.{Mode}
-use Rattle.journal.specs.Logs.{precedes}
-use Rattle.journal.specs.Readiness.{is_local}
-use Rattle.core_laws.specs.Waking.{is_anchored, is_there, seals_first}
-use Rattle.core_tables.specs.View.{View, log_of}
+use Rattle.journal.specs.declared.journal.body.Body.{Body}
+use Rattle.journal.specs.declared.journal.mode.Mode.{Mode}
+use Rattle.journal.specs.Journal.Logs.{precedes}
+use Rattle.journal.specs.Journal.Readiness.{is_local}
+use Rattle.claim_table.specs.CoreLaws.Waking.{is_anchored, is_there, seals_first}
+use Rattle.core_tables.specs.CoreTables.View.{View, log_of}
 
 -- the event behind the list is right before the body or, where seals are waited for, holds its first seal
 abbrev pub is_awaited : Mode → List Body → Body → Body → Bool

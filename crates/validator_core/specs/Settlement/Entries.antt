@@ -1,26 +1,26 @@
 -- What came by the last entry of the tables of a core, and what raising its claims makes of them.
 use Rattle.std.specs.Prelude.{◌≡◌, ℕ, ◌<◌, true, List, length, slice_get, Option, Some, None}
-use Rattle.event_body.specs.Events.{is_receipt}
-use Rattle.acceptance.specs.declared.footing.Footing.{Footing}
-use Rattle.acceptance.specs.declared.footing.Footing.TheVariants.{Inception, Behind}
-use Rattle.acceptance.specs.Standing.{IsHeld, IsStanding}
-use Rattle.acceptance.specs.Taken.{found_by, with_entry}
-use Rattle.accepted_log.specs.Cuts.{IsLog}
-use Rattle.core_laws.specs.ClaimRows.{AreFound}
-use Rattle.claim_table.specs.declared.claimed.Claimed.{Claimed}
-use Rattle.claim_table.specs.declared.signature.Signature.{Signature}
-use Rattle.claim_table.specs.Rows.{raised_all}
-use Rattle.core_tables.specs.declared.name.Name.{Name}
-use Rattle.core_tables.specs.Names.{name_of}
-use Rattle.core_tables.specs.View.{View, log_of, with_rows}
-use Rattle.journal.specs.declared.body.Body.{Body}
-use Rattle.journal.specs.declared.claim.Claim.{Claim}
-use Rattle.journal.specs.declared.entry.Entry.TheVariants.{Took}
-use Rattle.journal.specs.declared.question.Question.{Question}
-use Rattle.journal.specs.Grown.{IsGrown}
-use Rattle.journal.specs.Logs.{same_body}
-use Rattle.journal.specs.Questions.{state_before}
-use Rattle.journal.proofs.Different.{Differ}
+use Rattle.event_body.specs.EventBody.Events.{is_receipt}
+use Rattle.validator_core.specs.declared.acceptance.footing.Footing.{Footing}
+use Rattle.validator_core.specs.declared.acceptance.footing.Footing.TheVariants.{Inception, Behind}
+use Rattle.validator_core.specs.Acceptance.Standing.{IsHeld, IsStanding}
+use Rattle.validator_core.specs.Acceptance.Taken.{found_by, with_entry}
+use Rattle.core_tables.specs.AcceptedLog.Cuts.{IsLog}
+use Rattle.claim_table.specs.CoreLaws.ClaimRows.{AreFound}
+use Rattle.claim_table.specs.declared.claim_table.claimed.Claimed.{Claimed}
+use Rattle.claim_table.specs.declared.claim_table.signature.Signature.{Signature}
+use Rattle.claim_table.specs.ClaimTable.Rows.{raised_all}
+use Rattle.core_tables.specs.declared.core_tables.name.Name.{Name}
+use Rattle.core_tables.specs.CoreTables.Names.{name_of}
+use Rattle.core_tables.specs.CoreTables.View.{View, log_of, with_rows}
+use Rattle.journal.specs.declared.journal.body.Body.{Body}
+use Rattle.journal.specs.declared.journal.claim.Claim.{Claim}
+use Rattle.journal.specs.declared.journal.entry.Entry.TheVariants.{Took}
+use Rattle.journal.specs.declared.journal.question.Question.{Question}
+use Rattle.journal.specs.Journal.Grown.{IsGrown}
+use Rattle.journal.specs.Journal.Logs.{same_body}
+use Rattle.journal.specs.Journal.Questions.{state_before}
+use Rattle.journal.proofs.JournalLemmas.Different.{Differ}
 
 -- the signature that a question names
 abbrev pub signature_asked : Question → Signature

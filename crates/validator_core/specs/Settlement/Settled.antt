@@ -2,15 +2,15 @@
 use Rattle.std.specs.Prelude.{◌≡◌, ℕ, ◌+◌, ◌<◌, ◌≤◌, true, List, [], ◌∷◌, ◌++◌, count_by, length, slice_get, Some, All}
 use Rattle.std.specs.List.Sorted.{IsStrictlySortedBy}
 use Rattle.std.specs.Ordering.{nat_cmp}
-use Rattle.journal.specs.declared.body.Body.{Body}
-use Rattle.journal.specs.declared.mode.Mode.{Mode}
-use Rattle.journal.specs.History.{Told}
-use Rattle.journal.specs.Readiness.{is_ready}
-use Rattle.core_laws.specs.Candidates.{Widens}
-use Rattle.core_laws.specs.Waking.{wakes}
-use Rattle.core_tables.specs.View.{View, log_of}
-use Rattle.acceptance.specs.Settled.{KeepsTold, RunsOver, TakesFew, counted_on, looks_in}
-use Rattle.acceptance.specs.Standing.{IsStanding, told_of}
+use Rattle.journal.specs.declared.journal.body.Body.{Body}
+use Rattle.journal.specs.declared.journal.mode.Mode.{Mode}
+use Rattle.journal.specs.Journal.History.{Told}
+use Rattle.journal.specs.Journal.Readiness.{is_ready}
+use Rattle.claim_table.specs.CoreLaws.Candidates.{Widens}
+use Rattle.claim_table.specs.CoreLaws.Waking.{wakes}
+use Rattle.core_tables.specs.CoreTables.View.{View, log_of}
+use Rattle.validator_core.specs.Acceptance.Settled.{KeepsTold, RunsOver, TakesFew, counted_on, looks_in}
+use Rattle.validator_core.specs.Acceptance.Standing.{IsStanding, told_of}
 
 -- from the one candidates and list each run goes on from the other, with so many looks more; a frugal one is frugal still
 pub record LeadsTo (mode : Mode) (told : List Told) (held : List Body) (due : List ℕ) (log : List Body) (left : List ℕ) (now : List Body) (taken : ℕ) : Type 0 where

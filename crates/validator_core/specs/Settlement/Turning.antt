@@ -1,18 +1,18 @@
 -- Between the acceptance of an event and that of the next: the log has the event, and the claims on the events behind it are
 -- raised one event after the other.
 use Rattle.std.specs.Prelude.{◌≡◌, ℕ, ◌+◌, false, List, [], ◌∷◌, ◌++◌, length, position, slice_get, Some, IsTrue}
-use Rattle.event_body.specs.Events.{is_interaction, prefix_of}
+use Rattle.event_body.specs.EventBody.Events.{is_interaction, prefix_of}
 use Rattle.key_state.specs.States.{State}
-use Rattle.journal.specs.declared.body.Body.{Body}
-use Rattle.journal.specs.Grown.{fits}
-use Rattle.journal.specs.Logs.{precedes, state}
-use Rattle.journal.specs.Questions.{state_before}
-use Rattle.accepted_log.specs.Cuts.{IsLog}
-use Rattle.accepted_log.specs.Values.{Log}
-use Rattle.core_laws.specs.ClaimRows.{HasClaims, found_on, verdict_in}
-use Rattle.core_tables.specs.View.{View, log_of, with_log, with_rows}
-use Rattle.acceptance.specs.Standing.{IsStanding, told_of}
-use Rattle.acceptance.specs.Turned.{turned}
+use Rattle.journal.specs.declared.journal.body.Body.{Body}
+use Rattle.journal.specs.Journal.Grown.{fits}
+use Rattle.journal.specs.Journal.Logs.{precedes, state}
+use Rattle.journal.specs.Journal.Questions.{state_before}
+use Rattle.core_tables.specs.AcceptedLog.Cuts.{IsLog}
+use Rattle.core_tables.specs.AcceptedLog.Values.{Log}
+use Rattle.claim_table.specs.CoreLaws.ClaimRows.{HasClaims, found_on, verdict_in}
+use Rattle.core_tables.specs.CoreTables.View.{View, log_of, with_log, with_rows}
+use Rattle.validator_core.specs.Acceptance.Standing.{IsStanding, told_of}
+use Rattle.validator_core.specs.Acceptance.Turned.{turned}
 
 -- the last event of the log is the first that stands right before the body
 pub record IsBehindLast (log : List Body) (b : Body) : Type 0 where

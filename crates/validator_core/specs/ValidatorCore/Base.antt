@@ -1,17 +1,17 @@
 -- Cores that begin with a list of texts.
 use Rattle.std.specs.Prelude.{◌≡◌, ℕ, ◌≤◌, false, true, List, [], ◌∷◌, ◌++◌, length, map, None}
-use Rattle.event_body.specs.declared.event.Event.{Event}
-use Rattle.event_body.specs.Judging.{SpellsEvent}
+use Rattle.event_body.specs.declared.event_body.event.Event.{Event}
+use Rattle.event_body.specs.EventBody.Judging.{SpellsEvent}
 use Rattle.keri_outside.specs.declared.limits.Limits.{Limits}
-use Rattle.acceptance.specs.Standing.{IsHeld, IsStanding}
-use Rattle.core_tables.specs.View.{View, log_of}
-use Rattle.journal.specs.declared.body.Body.{Body}
-use Rattle.journal.specs.declared.mode.Mode.{Mode}
-use Rattle.journal.specs.declared.resume_fault.ResumeFault.{ResumeFault}
-use Rattle.journal.specs.declared.resume_fault.ResumeFault.TheVariants.{NotALog, OutOfMemory}
-use Rattle.journal.specs.Grown.{fits}
-use Rattle.journal.specs.Journals.{IsReading, first_unfit}
-use Rattle.validator_core.specs.View.{CoreView}
+use Rattle.validator_core.specs.Acceptance.Standing.{IsHeld, IsStanding}
+use Rattle.core_tables.specs.CoreTables.View.{View, log_of}
+use Rattle.journal.specs.declared.journal.body.Body.{Body}
+use Rattle.journal.specs.declared.journal.mode.Mode.{Mode}
+use Rattle.journal.specs.declared.journal.resume_fault.ResumeFault.{ResumeFault}
+use Rattle.journal.specs.declared.journal.resume_fault.ResumeFault.TheVariants.{NotALog, OutOfMemory}
+use Rattle.journal.specs.Journal.Grown.{fits}
+use Rattle.journal.specs.Journal.Journals.{IsReading, first_unfit}
+use Rattle.validator_core.specs.ValidatorCore.View.{CoreView}
 
 -- the bytes spell the event, and aren't too many for a body
 abbrev pub IsRead : Event → List ℕ → Type 0

@@ -1,16 +1,16 @@
 -- What the calls of a core do to it, as its callers see it.
 use Rattle.std.specs.Prelude.{◌≡◌, ℕ, Bool, List, [], ◌∷◌, ◌++◌, slice_get}
-use Rattle.claim_table.specs.declared.row.Row.{Row}
-use Rattle.journal.specs.declared.body.Body.{Body}
-use Rattle.journal.specs.declared.claim.Claim.{Claim}
-use Rattle.journal.specs.declared.question.Noted.{Noted}
-use Rattle.journal.specs.declared.question.Question.{Question}
-use Rattle.journal.specs.declared.reply.Reply.{Reply}
-use Rattle.journal.specs.declared.reply.Reply.TheVariants.{Taken, Again, Refused, Full}
-use Rattle.journal.specs.History.{Told, took}
-use Rattle.journal.specs.Journals.{AnswersOn}
-use Rattle.journal.specs.Replies.{reply_to}
-use Rattle.validator_core.specs.View.{CoreView, base_of, told_of, Follows}
+use Rattle.claim_table.specs.declared.claim_table.row.Row.{Row}
+use Rattle.journal.specs.declared.journal.body.Body.{Body}
+use Rattle.journal.specs.declared.journal.claim.Claim.{Claim}
+use Rattle.journal.specs.declared.journal.question.Noted.{Noted}
+use Rattle.journal.specs.declared.journal.question.Question.{Question}
+use Rattle.journal.specs.declared.journal.reply.Reply.{Reply}
+use Rattle.journal.specs.declared.journal.reply.Reply.TheVariants.{Taken, Again, Refused, Full}
+use Rattle.journal.specs.Journal.History.{Told, took}
+use Rattle.journal.specs.Journal.Journals.{AnswersOn}
+use Rattle.journal.specs.Journal.Replies.{reply_to}
+use Rattle.validator_core.specs.ValidatorCore.View.{CoreView, base_of, told_of, Follows}
 
 -- what is told after this reply to a body
 abbrev pub told_then : List Told → ℕ → Body → List Claim → Reply → List Told

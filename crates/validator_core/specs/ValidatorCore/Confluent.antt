@@ -1,10 +1,10 @@
 -- What is found in a core is so in every journal that is alike.
 use Rattle.std.specs.Prelude.{◌≡◌, List, []}
-use Rattle.journal.specs.declared.body.Body.{Body}
-use Rattle.journal.specs.Accepted.{accepted}
-use Rattle.journal.specs.History.{Told}
-use Rattle.journal_laws.specs.Alike.{AreAlike}
-use Rattle.validator_core.specs.View.{CoreView, told_of}
+use Rattle.journal.specs.declared.journal.body.Body.{Body}
+use Rattle.journal.specs.Journal.Accepted.{accepted}
+use Rattle.journal.specs.Journal.History.{Told}
+use Rattle.journal_views.specs.JournalLaws.Alike.{AreAlike}
+use Rattle.validator_core.specs.ValidatorCore.View.{CoreView, told_of}
 
 -- What is found in a core that rests on no list is what the accepted events give, of every journal that is alike: in whatever order
 -- and however often the same came, and whoever told it.

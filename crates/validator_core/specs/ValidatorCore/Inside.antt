@@ -1,7 +1,7 @@
 -- What the fields of a core stand for.
-use Rattle.validator_core.specs.declared.validator.Core.TheInside.{Inside}
-use Rattle.validator_core.specs.Tables.{IsCore}
-use Rattle.validator_core.specs.View.{CoreView}
+use Rattle.validator_core.specs.declared.validator_core.validator.Core.TheInside.{Inside}
+use Rattle.validator_core.specs.ValidatorCore.Tables.{IsCore}
+use Rattle.validator_core.specs.ValidatorCore.View.{CoreView}
 
 abbrev pub core_of : Inside → CoreView
 core_of c = record {

@@ -1,21 +1,21 @@
 -- How many events that wait a call looks at: those with the digest that is named, and those behind what the call accepts.
 use Rattle.std.specs.Prelude.{◌≡◌, ℕ, ◌+◌, ◌≤◌, Bool, ◌&&◌, ◌||◌, List, length, drop, count_by, slice_get, Some}
 use Rattle.std.specs.List.{list_any}
-use Rattle.acceptance.specs.Settled.{counted_on}
-use Rattle.core_laws.specs.Standing.{HasNoClash}
-use Rattle.core_laws.specs.Waking.{is_waiting}
+use Rattle.validator_core.specs.Acceptance.Settled.{counted_on}
+use Rattle.claim_table.specs.CoreLaws.Standing.{HasNoClash}
+use Rattle.claim_table.specs.CoreLaws.Waking.{is_waiting}
 use Rattle.cesr_codes.specs.declared.digest.Digest.{Digest}
-use Rattle.event_body.specs.Events.{said_of}
-use Rattle.journal.specs.declared.body.Body.{Body}
-use Rattle.journal.specs.declared.question.Noted.{Noted}
-use Rattle.journal.specs.declared.question.Noted.TheVariants.{New, Known, Unasked}
-use Rattle.journal.specs.declared.question.Question.{Question}
-use Rattle.journal.specs.declared.reply.Reply.{Reply}
-use Rattle.journal.specs.declared.reply.Reply.TheVariants.{Taken, Again, Refused, Full}
-use Rattle.journal.specs.Logs.{precedes}
-use Rattle.journal.specs.Seals.{seals}
+use Rattle.event_body.specs.EventBody.Events.{said_of}
+use Rattle.journal.specs.declared.journal.body.Body.{Body}
+use Rattle.journal.specs.declared.journal.question.Noted.{Noted}
+use Rattle.journal.specs.declared.journal.question.Noted.TheVariants.{New, Known, Unasked}
+use Rattle.journal.specs.declared.journal.question.Question.{Question}
+use Rattle.journal.specs.declared.journal.reply.Reply.{Reply}
+use Rattle.journal.specs.declared.journal.reply.Reply.TheVariants.{Taken, Again, Refused, Full}
+use Rattle.journal.specs.Journal.Logs.{precedes}
+use Rattle.journal.specs.Journal.Seals.{seals}
 use Rattle.key_state.specs.Same.{same_digest}
-use Rattle.validator_core.specs.View.{CoreView, accepted_by}
+use Rattle.validator_core.specs.ValidatorCore.View.{CoreView, accepted_by}
 
 -- the body is an event that isn't in the list, and has the digest (KERI, the field d)
 abbrev pub waits_with : List Body → Digest → Body → Bool

@@ -1,15 +1,15 @@
 -- What callers see of a validator's core, and what becomes of messages and verdicts.
 use Rattle.std.specs.Prelude.{◌≡◌, ℕ, Result, Ok}
 use Rattle.cesr_stream.specs.declared.message.Message.{Message}
-use Rattle.event_body.specs.declared.event.Event.{Event}
-use Rattle.event_body.specs.declared.body_fault.BodyFault.{BodyFault}
-use Rattle.core_tables.specs.View.{body_of}
-use Rattle.validator_core.specs.Looks.{LooksByReply}
-use Rattle.validator_core.specs.View.{CoreView, Follows, base_of, told_of}
-use Rattle.journal.specs.declared.reply.Reply.{Reply}
-use Rattle.journal.specs.declared.reply.Reply.TheVariants.{Taken, Again, Refused, Full}
-use Rattle.journal.specs.CoreCalls.{Takes}
-use Rattle.journal.specs.Feeds.{GivesBody}
+use Rattle.event_body.specs.declared.event_body.event.Event.{Event}
+use Rattle.event_body.specs.declared.event_body.body_fault.BodyFault.{BodyFault}
+use Rattle.core_tables.specs.CoreTables.View.{body_of}
+use Rattle.validator_core.specs.ValidatorCore.Looks.{LooksByReply}
+use Rattle.validator_core.specs.ValidatorCore.View.{CoreView, Follows, base_of, told_of}
+use Rattle.journal.specs.declared.journal.reply.Reply.{Reply}
+use Rattle.journal.specs.declared.journal.reply.Reply.TheVariants.{Taken, Again, Refused, Full}
+use Rattle.journal.specs.Journal.CoreCalls.{Takes}
+use Rattle.journal.specs.Journal.Feeds.{GivesBody}
 
 -- a message got this reply
 pub record TakesMessage (old : CoreView) (reader : ℕ) (m : Message) (reply : Reply) (new : CoreView) : Type 0 where

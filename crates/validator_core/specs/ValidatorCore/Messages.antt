@@ -2,13 +2,13 @@
 use Rattle.std.specs.Prelude.{◌≡◌, Bool, true, false, not, List, Option, Some, None, Result, Ok, Err, if◌then◌else◌}
 use Rattle.std.specs.List.{list_any, list_all}
 use Rattle.cesr_stream.specs.declared.message.Message.{Message}
-use Rattle.event_body.specs.declared.event.Event.{Event}
-use Rattle.event_body.specs.declared.body_fault.BodyFault.{BodyFault}
+use Rattle.event_body.specs.declared.event_body.event.Event.{Event}
+use Rattle.event_body.specs.declared.event_body.body_fault.BodyFault.{BodyFault}
 use Rattle.cesr_stream.specs.declared.group.Group.{Group}
-use Rattle.journal.specs.declared.reply.Reason.{Reason}
-use Rattle.journal.specs.declared.reply.Reason.TheVariants.{TooManySigs, WrongGroup, DigestOnly, Unsigned}
-use Rattle.journal.specs.Feeds.{GivesBody}
-use Rattle.journal.specs.Replies.{refusal, is_held, is_held_group, claims_of_group}
+use Rattle.journal.specs.declared.journal.reply.Reason.{Reason}
+use Rattle.journal.specs.declared.journal.reply.Reason.TheVariants.{TooManySigs, WrongGroup, DigestOnly, Unsigned}
+use Rattle.journal.specs.Journal.Feeds.{GivesBody}
+use Rattle.journal.specs.Journal.Replies.{refusal, is_held, is_held_group, claims_of_group}
 
 -- the event that its body spells, where it isn't refused, or why it is refused
 abbrev pub JudgesMessage : Message → Result Event Reason → Type 0

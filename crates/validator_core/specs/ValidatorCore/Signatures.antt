@@ -3,16 +3,16 @@ use Rattle.std.specs.Prelude.{ℕ, Bool, List, [], Option, None, if◌then◌els
 use Rattle.cesr_codes.specs.declared.indexed_sig.IndexedSig.{IndexedSig}
 use Rattle.cesr_codes.specs.declared.key.Key.{Key}
 use Rattle.cesr_codes.specs.declared.sig.Sig.{Sig}
-use Rattle.validator_core.specs.View.{CoreView, told_of, accepted_by}
-use Rattle.event_rules.specs.Claims.{is_good}
-use Rattle.event_rules.specs.Parts.{opens_at}
-use Rattle.journal.specs.History.{Told}
-use Rattle.event_payload.specs.Kept.{state_under}
-use Rattle.journal.specs.Logs.{stands}
-use Rattle.journal.specs.Questions.{state_before}
-use Rattle.journal.specs.Readiness.{good_sigs, held_sig}
-use Rattle.journal.specs.declared.body.Body.{Body}
-use Rattle.journal.specs.declared.claim.Claim.{Claim}
+use Rattle.validator_core.specs.ValidatorCore.View.{CoreView, told_of, accepted_by}
+use Rattle.journal.specs.EventRules.Claims.{is_good}
+use Rattle.journal.specs.EventRules.Parts.{opens_at}
+use Rattle.journal.specs.Journal.History.{Told}
+use Rattle.journal_views.specs.EventPayload.Kept.{state_under}
+use Rattle.journal.specs.Journal.Logs.{stands}
+use Rattle.journal.specs.Journal.Questions.{state_before}
+use Rattle.journal.specs.Journal.Readiness.{good_sigs, held_sig}
+use Rattle.journal.specs.declared.journal.body.Body.{Body}
+use Rattle.journal.specs.declared.journal.claim.Claim.{Claim}
 use Rattle.key_state.specs.Exposure.{Rules, own_rules}
 use Rattle.key_state.specs.Same.{has_key}
 

@@ -3,25 +3,25 @@ use Rattle.std.specs.Prelude.{◌≡◌, ℕ, ◌≤◌, Bool, true, ◌||◌, L
 use Rattle.std.specs.List.Sorted.{IsStrictlySortedBy}
 use Rattle.std.specs.Ordering.{nat_cmp}
 use Rattle.keri_outside.specs.declared.limits.Limits.{Limits}
-use Rattle.acceptance.specs.Settled.{IsSettled}
-use Rattle.acceptance.specs.Standing.{Comes, Hears, IsStanding, told_of}
-use Rattle.core_laws.specs.Waking.{is_waiting}
-use Rattle.claim_table.specs.declared.signature.Signature.{Signature}
-use Rattle.core_tables.specs.View.{View, log_of, with_claims}
-use Rattle.event_body.specs.Events.{said_of}
-use Rattle.journal.specs.declared.body.Body.{Body}
-use Rattle.journal.specs.declared.entry.Entry.{Entry}
-use Rattle.journal.specs.declared.mode.Mode.{Mode}
-use Rattle.journal.specs.Accepted.{accepted}
-use Rattle.journal.specs.History.{is_receipt_for}
-use Rattle.journal.specs.Journals.{InOrder}
-use Rattle.journal.specs.Logs.{same_body}
-use Rattle.journal.specs.Questions.{IsRegular}
-use Rattle.journal.specs.Replies.{IsWithin}
-use Rattle.validator_core.specs.declared.tally.Tally.{Tally}
-use Rattle.validator_core.specs.Looks.{waits_with}
-use Rattle.validator_core.specs.Tally.{IsTally}
-use Rattle.validator_core.specs.View.{bytes_of}
+use Rattle.validator_core.specs.Acceptance.Settled.{IsSettled}
+use Rattle.validator_core.specs.Acceptance.Standing.{Comes, Hears, IsStanding, told_of}
+use Rattle.claim_table.specs.CoreLaws.Waking.{is_waiting}
+use Rattle.claim_table.specs.declared.claim_table.signature.Signature.{Signature}
+use Rattle.core_tables.specs.CoreTables.View.{View, log_of, with_claims}
+use Rattle.event_body.specs.EventBody.Events.{said_of}
+use Rattle.journal.specs.declared.journal.body.Body.{Body}
+use Rattle.journal.specs.declared.journal.entry.Entry.{Entry}
+use Rattle.journal.specs.declared.journal.mode.Mode.{Mode}
+use Rattle.journal.specs.Journal.Accepted.{accepted}
+use Rattle.journal.specs.Journal.History.{is_receipt_for}
+use Rattle.journal.specs.Journal.Journals.{InOrder}
+use Rattle.journal.specs.Journal.Logs.{same_body}
+use Rattle.journal.specs.Journal.Questions.{IsRegular}
+use Rattle.journal.specs.Journal.Replies.{IsWithin}
+use Rattle.validator_core.specs.declared.validator_core.tally.Tally.{Tally}
+use Rattle.validator_core.specs.ValidatorCore.Looks.{waits_with}
+use Rattle.validator_core.specs.ValidatorCore.Tally.{IsTally}
+use Rattle.validator_core.specs.ValidatorCore.View.{bytes_of}
 
 -- the bodies that were there from the start
 abbrev pub base_in : ℕ → View → List Body

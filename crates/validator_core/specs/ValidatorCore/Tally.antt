@@ -1,11 +1,11 @@
 -- How much was taken, and whether there is room for more.
 use Rattle.std.specs.Prelude.{◌≡◌, ℕ, ◌+◌, Bool, ◌||◌, nat_le, nat_lt, List, length, flat_map}
 use Rattle.keri_outside.specs.declared.limits.Limits.{Limits}
-use Rattle.journal.specs.declared.body.Body.{Body}
-use Rattle.journal.specs.History.{Told, taken, bodies}
-use Rattle.journal.specs.Replies.{all_claims}
-use Rattle.validator_core.specs.declared.tally.Tally.{Tally}
-use Rattle.validator_core.specs.View.{bytes_of}
+use Rattle.journal.specs.declared.journal.body.Body.{Body}
+use Rattle.journal.specs.Journal.History.{Told, taken, bodies}
+use Rattle.journal.specs.Journal.Replies.{all_claims}
+use Rattle.validator_core.specs.declared.validator_core.tally.Tally.{Tally}
+use Rattle.validator_core.specs.ValidatorCore.View.{bytes_of}
 
 -- the tally counts what was taken
 pub record IsTally (tally : Tally) (base : List Body) (told : List Told) : Type 0 where

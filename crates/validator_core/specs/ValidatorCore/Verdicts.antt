@@ -1,19 +1,19 @@
 -- What asking a verifier the open questions does.
 use Rattle.std.specs.Prelude.{◌≡◌, ℕ, ◌≤◌, Bool, List, [], ◌∷◌, ◌++◌, map, flat_map, take, Option, Some, IfSome, All, Result, slice_get}
-use Rattle.keri_specs.specs.Told.{Puts, after}
+use Rattle.lists.specs.KeriSpecs.Told.{Puts, after}
 use Rattle.keri_outside.specs.Asked.{inquiry}
 use Rattle.keri_outside.specs.declared.inquiry.Inquiry.{Inquiry}
 use Rattle.cesr_codes.specs.declared.key.Key.{Key}
 use Rattle.cesr_codes.specs.declared.sig.Sig.{Sig}
-use Rattle.journal.specs.declared.question.Question.{Question}
-use Rattle.journal.specs.History.{Told, Triple, took, heard}
-use Rattle.journal.specs.Journals.{Names}
-use Rattle.journal.specs.declared.body.Body.{Body}
-use Rattle.journal.specs.Questions.{next_question}
-use Rattle.validator_core.specs.View.{CoreView, Follows, base_of, told_of}
-use Rattle.validator_core.specs.declared.asked_verdicts.VerdictFault.{VerdictFault}
-use Rattle.validator_core.specs.declared.asked_verdicts.VerdictFault.TheVariants.{VerifierFault, OutOfMemory}
-use Rattle.keri_specs.specs.Causes.{Rose}
+use Rattle.journal.specs.declared.journal.question.Question.{Question}
+use Rattle.journal.specs.Journal.History.{Told, Triple, took, heard}
+use Rattle.journal.specs.Journal.Journals.{Names}
+use Rattle.journal.specs.declared.journal.body.Body.{Body}
+use Rattle.journal.specs.Journal.Questions.{next_question}
+use Rattle.validator_core.specs.ValidatorCore.View.{CoreView, Follows, base_of, told_of}
+use Rattle.validator_core.specs.declared.validator_core.asked_verdicts.VerdictFault.{VerdictFault}
+use Rattle.validator_core.specs.declared.validator_core.asked_verdicts.VerdictFault.TheVariants.{VerifierFault, OutOfMemory}
+use Rattle.lists.specs.KeriSpecs.Causes.{Rose}
 
 -- the question is open
 abbrev pub IsOpen : CoreView → Question → Type 0

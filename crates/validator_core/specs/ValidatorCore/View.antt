@@ -3,19 +3,19 @@ use Rattle.std.specs.Prelude.{◌≡◌, ℕ, ◌-◌, ◌≤◌, false, List, f
 use Rattle.cesr_codes.specs.declared.prefix.Prefix.{Prefix}
 use Rattle.keri_outside.specs.declared.limits.Limits.{Limits}
 use Rattle.key_state.specs.States.{State}
-use Rattle.acceptance.specs.Standing.{IsHeld}
-use Rattle.journal.specs.declared.body.Body.{Body}
-use Rattle.journal.specs.declared.entry.Entry.{Entry}
-use Rattle.journal.specs.declared.mode.Mode.{Mode}
-use Rattle.journal.specs.declared.why.Why.{Why}
-use Rattle.journal.specs.Accepted.{accepted}
-use Rattle.journal.specs.History.{Told, Triple, claims_on, has_verdict}
-use Rattle.journal.specs.Journals.{told_by, InOrder}
-use Rattle.journal.specs.Logs.{state}
-use Rattle.journal.specs.Questions.{questions, raised_by, IsRegular}
-use Rattle.journal.specs.Readiness.{is_ready}
-use Rattle.journal.specs.Replies.{IsWithin}
-use Rattle.journal.specs.Waiting.{why_waits}
+use Rattle.validator_core.specs.Acceptance.Standing.{IsHeld}
+use Rattle.journal.specs.declared.journal.body.Body.{Body}
+use Rattle.journal.specs.declared.journal.entry.Entry.{Entry}
+use Rattle.journal.specs.declared.journal.mode.Mode.{Mode}
+use Rattle.journal.specs.declared.journal.why.Why.{Why}
+use Rattle.journal.specs.Journal.Accepted.{accepted}
+use Rattle.journal.specs.Journal.History.{Told, Triple, claims_on, has_verdict}
+use Rattle.journal.specs.Journal.Journals.{told_by, InOrder}
+use Rattle.journal.specs.Journal.Logs.{state}
+use Rattle.journal.specs.Journal.Questions.{questions, raised_by, IsRegular}
+use Rattle.journal.specs.Journal.Readiness.{is_ready}
+use Rattle.journal.specs.Journal.Replies.{IsWithin}
+use Rattle.journal.specs.Journal.Waiting.{why_waits}
 
 -- the bodies, each once, with their events; how many were there from the start, counted as accepted; the entries, in order; and
 -- the numbers of the accepted bodies

@@ -1,18 +1,18 @@
 //! Whether an event stands, and on which state.
 ghost use Rattle.std.specs.Prelude.{◌≡◌, ℕ, List, true, Some, is_some, slice_get};
 ghost use Rattle.std.specs.Option.{option_copied};
-ghost use Rattle.acceptance.specs.Standing.{IsStanding};
-ghost use Rattle.accepted_log.specs.Values.{last_place};
-ghost use Rattle.core_tables.specs.View.{body_of, log_of};
-ghost use Rattle.core_laws.specs.Waking as waking;
-ghost use Rattle.event_body.specs.Events as events;
-ghost use Rattle.journal.specs.Logs as logs;
-ghost use Rattle.acceptance.specs.Current.{IsOnCurrent, state_on};
+ghost use Rattle.validator_core.specs.Acceptance.Standing.{IsStanding};
+ghost use Rattle.core_tables.specs.AcceptedLog.Values.{last_place};
+ghost use Rattle.core_tables.specs.CoreTables.View.{body_of, log_of};
+ghost use Rattle.claim_table.specs.CoreLaws.Waking as waking;
+ghost use Rattle.event_body.specs.EventBody.Events as events;
+ghost use Rattle.journal.specs.Journal.Logs as logs;
+ghost use Rattle.validator_core.specs.Acceptance.Current.{IsOnCurrent, state_on};
 
-use crate::{Footing, footing_of};
+use crate::acceptance::{Footing, footing_of};
 use core_tables::Tables;
 use event_body::{Event, is_receipt};
-use event_rules::is_inception;
+use journal::is_inception;
 use key_state::KeyState;
 
 /// Whether the event stands.

@@ -1,11 +1,11 @@
 //! An event of the tables, and the current state of its identifier.
 ghost use Rattle.std.specs.Prelude.{◌≡◌, slice_get, IfSome};
 ghost use Rattle.std.specs.Option.{option_copied, option_map};
-ghost use Rattle.acceptance.specs.Standing.{IsStanding};
-ghost use Rattle.accepted_log.specs.Values.{last_place, state_there};
-ghost use Rattle.core_tables.specs.View.{log_of};
-ghost use Rattle.event_body.specs.Events as events;
-ghost use Rattle.journal.specs.Logs as logs;
+ghost use Rattle.validator_core.specs.Acceptance.Standing.{IsStanding};
+ghost use Rattle.core_tables.specs.AcceptedLog.Values.{last_place, state_there};
+ghost use Rattle.core_tables.specs.CoreTables.View.{log_of};
+ghost use Rattle.event_body.specs.EventBody.Events as events;
+ghost use Rattle.journal.specs.Journal.Logs as logs;
 ghost use Rattle.key_state.specs.Kept.{IsKept};
 ghost use Rattle.key_state.specs.States.{IsState};
 

@@ -1,17 +1,17 @@
 //! The support of an event by the claims on it.
 ghost use Rattle.std.specs.Prelude.{◌<◌, length};
 ghost use Rattle.std.specs.Option.{option_copied};
-ghost use Rattle.claim_table.specs.Rows.{has_yes_by};
-ghost use Rattle.event_rules.specs.Parts.{parts_by};
-ghost use Rattle.journal.specs.Logs.{same_body};
-ghost use Rattle.journal.proofs.Different.{Differ};
-ghost use Rattle.acceptance.specs.Differences.{Differ-prop};
-ghost use Rattle.acceptance.specs.Entries.{claims_of, says_in};
+ghost use Rattle.claim_table.specs.ClaimTable.Rows.{has_yes_by};
+ghost use Rattle.journal.specs.EventRules.Parts.{parts_by};
+ghost use Rattle.journal.specs.Journal.Logs.{same_body};
+ghost use Rattle.journal.proofs.JournalLemmas.Different.{Differ};
+ghost use Rattle.validator_core.specs.Acceptance.Differences.{Differ-prop};
+ghost use Rattle.validator_core.specs.Acceptance.Entries.{claims_of, says_in};
 
-use crate::signed_entries::{is_opened, is_signed};
+use crate::acceptance::signed_entries::{is_opened, is_signed};
 use core_tables::Tables;
 use event_body::Event;
-use event_rules::{Support, witness, witness_count};
+use journal::{Support, witness, witness_count};
 use key_state::KeyState;
 
 /// What the claims on the event of a number add up to behind a state, found by going over the entries by which they came.

@@ -1,16 +1,16 @@
 //! What an event stands on.
 ghost use Rattle.std.specs.Prelude.{◌≡◌, ◌≤◌, ◌<◌, ◌-◌, ℕ, List, false, is_none, length, IfNone, IfSome};
-ghost use Rattle.event_body.specs.Events as events;
+ghost use Rattle.event_body.specs.EventBody.Events as events;
 ghost use Rattle.key_state.specs.KeyStates.{misfit, state_behind};
-ghost use Rattle.journal.specs.Grown.{IsGrown};
-ghost use Rattle.journal.specs.Logs.{stands};
-ghost use Rattle.accepted_log.specs.Cuts.{IsLog};
-ghost use Rattle.acceptance.specs.Footing.{IsFooting};
-ghost use Rattle.core_tables.specs.View.{body_of, log_of};
+ghost use Rattle.journal.specs.Journal.Grown.{IsGrown};
+ghost use Rattle.journal.specs.Journal.Logs.{stands};
+ghost use Rattle.core_tables.specs.AcceptedLog.Cuts.{IsLog};
+ghost use Rattle.validator_core.specs.Acceptance.Footing.{IsFooting};
+ghost use Rattle.core_tables.specs.CoreTables.View.{body_of, log_of};
 
 use core_tables::Tables;
 use event_body::{Event, sn_of};
-use event_rules::is_inception;
+use journal::is_inception;
 use key_state::KeyState;
 
 /// What an event stands on in the log of accepted events.

@@ -1,8 +1,8 @@
 //! The support of an event by the table of claims.
-ghost use Rattle.acceptance.specs.Parts.{has_in};
+ghost use Rattle.validator_core.specs.Acceptance.Parts.{has_in};
 
 use claim_table::ClaimTable;
-use event_rules::Support;
+use journal::Support;
 
 /// What the rows of a table add up to of the event of a number.
 #[derive(Drop)]

@@ -1,19 +1,18 @@
 //! Whether a delegated event is sealed by a delegator that allows it.
 ghost use Rattle.std.specs.Prelude.{◌≡◌, ◌||◌, codes};
 ghost use Rattle.std.specs.Option.{option_copied};
-ghost use Rattle.acceptance.specs.Standing.{IsStanding};
-ghost use Rattle.core_tables.specs.View.{log_of};
-ghost use Rattle.journal.specs.Readiness as readiness;
-ghost use Rattle.journal.specs.Seals as seals;
-ghost use Rattle.journal.specs.Waiting as waiting;
+ghost use Rattle.validator_core.specs.Acceptance.Standing.{IsStanding};
+ghost use Rattle.core_tables.specs.CoreTables.View.{log_of};
+ghost use Rattle.journal.specs.Journal.Readiness as readiness;
+ghost use Rattle.journal.specs.Journal.Seals as seals;
+ghost use Rattle.journal.specs.Journal.Waiting as waiting;
 ghost use Rattle.key_state.specs.Same.{has_text};
 
-use crate::current::current;
+use crate::acceptance::current::current;
 use cesr_codes::Prefix;
 use core_tables::Tables;
 use event_body::Event;
-use event_rules::{delegator_of, is_delegated};
-use journal::Mode;
+use journal::{Mode, delegator_of, is_delegated};
 use json_tree::Text;
 use key_state::KeyState;
 

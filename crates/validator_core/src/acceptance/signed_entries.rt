@@ -1,14 +1,14 @@
 //! Which index or commitment the claims of some entries bring.
 ghost use Rattle.std.specs.Prelude.{◌≡◌};
 ghost use Rattle.std.specs.List.{list_any};
-ghost use Rattle.claim_table.specs.Rows.{has_yes_by};
-ghost use Rattle.acceptance.specs.Entries.{says_in, yes_of};
-ghost use Rattle.acceptance.specs.EntrySupports.{is_opened_in, is_signed_in};
+ghost use Rattle.claim_table.specs.ClaimTable.Rows.{has_yes_by};
+ghost use Rattle.validator_core.specs.Acceptance.Entries.{says_in, yes_of};
+ghost use Rattle.validator_core.specs.Acceptance.EntrySupports.{is_opened_in, is_signed_in};
 
-use crate::entry_support::EntrySupport;
+use crate::acceptance::entry_support::EntrySupport;
 use cesr_codes::{Key, Sig};
 use claim_table::{ClaimTable, Signature};
-use event_rules::{ClaimSupport, Support, Verdicts};
+use journal::{ClaimSupport, Support, Verdicts};
 
 /// Whether a good signature among the claims of some entry has the index.
 pub(crate) fn is_signed(support: &EntrySupport, index: u16) -> bool

@@ -1,13 +1,13 @@
 //! Whether what an event waits for in the log is there.
 ghost use Rattle.std.specs.Prelude.{◌≡◌, ◌&&◌, Some, slice_get};
-ghost use Rattle.acceptance.specs.Standing.{IsStanding};
-ghost use Rattle.core_laws.specs.Waking as waking;
-ghost use Rattle.core_tables.specs.View.{log_of};
-ghost use Rattle.journal.specs.declared.body.Body.{Body};
+ghost use Rattle.validator_core.specs.Acceptance.Standing.{IsStanding};
+ghost use Rattle.claim_table.specs.CoreLaws.Waking as waking;
+ghost use Rattle.core_tables.specs.CoreTables.View.{log_of};
+ghost use Rattle.journal.specs.declared.journal.body.Body.{Body};
 
-use crate::base_state::is_behind_some;
-use crate::current::{event_of, state_of};
-use crate::seals::is_seal_there;
+use crate::acceptance::base_state::is_behind_some;
+use crate::acceptance::current::{event_of, state_of};
+use crate::acceptance::seals::is_seal_there;
 use core_tables::Tables;
 use journal::Mode;
 

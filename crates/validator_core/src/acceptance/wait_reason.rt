@@ -1,21 +1,20 @@
 //! Why an event waits.
 ghost use Rattle.std.specs.Prelude.{◌≡◌, ◌&&◌, ◌||◌, ℕ, List, None, Some, not, is_some, slice_get};
 ghost use Rattle.std.specs.Option.{option_copied};
-ghost use Rattle.acceptance.specs.Standing.{IsStanding, told_of};
-ghost use Rattle.core_tables.specs.View.{body_of, log_of};
-ghost use Rattle.event_body.specs.Events as events;
-ghost use Rattle.journal.specs.Logs as logs;
-ghost use Rattle.journal.specs.Waiting as waiting;
-ghost use Rattle.journal.specs.declared.body.Body.{Body};
+ghost use Rattle.validator_core.specs.Acceptance.Standing.{IsStanding, told_of};
+ghost use Rattle.core_tables.specs.CoreTables.View.{body_of, log_of};
+ghost use Rattle.event_body.specs.EventBody.Events as events;
+ghost use Rattle.journal.specs.Journal.Logs as logs;
+ghost use Rattle.journal.specs.Journal.Waiting as waiting;
+ghost use Rattle.journal.specs.declared.journal.body.Body.{Body};
 
-use crate::base_state::{follows_some, is_behind_some, is_waiting, stands};
-use crate::current::{current_of, event_of};
-use crate::seals::{is_forbidden, is_local};
-use crate::wants::wanting;
+use crate::acceptance::base_state::{follows_some, is_behind_some, is_waiting, stands};
+use crate::acceptance::current::{current_of, event_of};
+use crate::acceptance::seals::{is_forbidden, is_local};
+use crate::acceptance::wants::wanting;
 use core_tables::Tables;
 use event_body::Event;
-use event_rules::{is_inception, takes};
-use journal::{Mode, Why};
+use journal::{Mode, Why, is_inception, takes};
 use key_state::KeyState;
 
 /// Why the event of a number waits: the first reason that applies, and none for a receipt or an accepted event. It takes no

@@ -1,24 +1,23 @@
 //! What is wanting in an event that the current state of its identifier takes.
 ghost use Rattle.std.specs.Prelude.{◌≡◌, ◌<◌, ℕ, List, true, length, slice_get, Some};
 ghost use Rattle.std.specs.Option.{option_copied};
-ghost use Rattle.acceptance.specs.Standing.{IsStanding, told_of};
-ghost use Rattle.accepted_log.specs.Values.{last_place};
-ghost use Rattle.core_tables.specs.View.{body_of, log_of};
-ghost use Rattle.event_body.specs.Events as events;
-ghost use Rattle.journal.specs.Logs as logs;
-ghost use Rattle.journal.specs.Seals as seals;
+ghost use Rattle.validator_core.specs.Acceptance.Standing.{IsStanding, told_of};
+ghost use Rattle.core_tables.specs.AcceptedLog.Values.{last_place};
+ghost use Rattle.core_tables.specs.CoreTables.View.{body_of, log_of};
+ghost use Rattle.event_body.specs.EventBody.Events as events;
+ghost use Rattle.journal.specs.Journal.Logs as logs;
+ghost use Rattle.journal.specs.Journal.Seals as seals;
 ghost use Rattle.key_state.specs.Kept.{IsKept};
-ghost use Rattle.acceptance.specs.Wants as specs;
+ghost use Rattle.validator_core.specs.Acceptance.Wants as specs;
 
-use crate::base_state::is_on_current;
-use crate::current::{CurrentState, is_state};
-use crate::entry_support::EntrySupport;
-use crate::row_support::RowSupport;
-use crate::seals::{is_anchored, is_local};
+use crate::acceptance::base_state::is_on_current;
+use crate::acceptance::current::{CurrentState, is_state};
+use crate::acceptance::entry_support::EntrySupport;
+use crate::acceptance::row_support::RowSupport;
+use crate::acceptance::seals::{is_anchored, is_local};
 use core_tables::{Tables, name_of};
 use event_body::Event;
-use event_rules::{Support, is_backed, meets_before, meets_own};
-use journal::{Mode, Why};
+use journal::{Mode, Support, Why, is_backed, meets_before, meets_own};
 use key_state::KeyState;
 
 /// The first that is wanting in the event of a number, which the current state of its identifier takes. Mostly the event

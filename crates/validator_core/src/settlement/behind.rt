@@ -2,14 +2,14 @@
 ghost use Rattle.std.specs.Prelude.{◌≡◌, ◌==◌, ◌<◌, ◌+◌, ◌++◌, ◌∷◌, [], ℕ, List, Some, None, Contains, IfOk, OnOk, false, length, position, slice_get, true};
 ghost use Rattle.std.specs.List.{list_any};
 ghost use Rattle.std.specs.List.Sorted.{IsStrictlyIncreasing};
-ghost use Rattle.journal.specs.declared.body.Body.{Body};
-ghost use Rattle.journal.specs.Logs.{precedes, predecessor};
-ghost use Rattle.core_tables.specs.View.{View, log_of, with_rows};
-ghost use Rattle.acceptance.specs.Standing.{Extends, IsStanding};
-ghost use Rattle.settlement.specs.Turning.{IsBehindLast, IsTurning};
-ghost use Rattle.settlement.specs.Entries.{IsLogged};
+ghost use Rattle.journal.specs.declared.journal.body.Body.{Body};
+ghost use Rattle.journal.specs.Journal.Logs.{precedes, predecessor};
+ghost use Rattle.core_tables.specs.CoreTables.View.{View, log_of, with_rows};
+ghost use Rattle.validator_core.specs.Acceptance.Standing.{Extends, IsStanding};
+ghost use Rattle.validator_core.specs.Settlement.Turning.{IsBehindLast, IsTurning};
+ghost use Rattle.validator_core.specs.Settlement.Entries.{IsLogged};
 
-use crate::standing_claims::raise_if_standing;
+use crate::settlement::standing_claims::raise_if_standing;
 use core_tables::Tables;
 use event_body::said_of_event;
 use std::alloc::{AllocError, Global};

@@ -1,15 +1,17 @@
 //! Bodies that are taken, each by an entry, with its claims.
 ghost use Rattle.std.specs.Prelude.{◌≡◌, ◌<◌, ◌∷◌, [], ℕ, true, false, length, slice_get, IfOk, None, OnOk, Some, if◌then◌else◌};
-ghost use Rattle.acceptance.specs.Standing.{Comes, Extends, IsHeld, IsStanding};
-ghost use Rattle.core_tables.specs.Names.{name_of as name_of_event};
-ghost use Rattle.core_tables.specs.View.{body_of, with_rows};
-ghost use Rattle.event_body.specs.Events as events;
-ghost use Rattle.journal.specs.declared.body.Body.{Body};
-ghost use Rattle.journal.specs.declared.entry.Entry.TheVariants.{Took};
-ghost use Rattle.journal.specs.Logs.{is_in};
-ghost use Rattle.settlement.specs.Entries.{IsTold};
+ghost use Rattle.validator_core.specs.Acceptance.Standing.{Comes, Extends, IsHeld, IsStanding};
+ghost use Rattle.core_tables.specs.CoreTables.Names.{name_of as name_of_event};
+ghost use Rattle.core_tables.specs.CoreTables.View.{body_of, with_rows};
+ghost use Rattle.event_body.specs.EventBody.Events as events;
+ghost use Rattle.journal.specs.declared.journal.body.Body.{Body};
+ghost use Rattle.journal.specs.declared.journal.entry.Entry.TheVariants.{Took};
+ghost use Rattle.journal.specs.Journal.Logs.{is_in};
+ghost use Rattle.validator_core.specs.Settlement.Entries.{IsTold};
 
-use crate::standing_claims::{raise_entry_if_standing, raise_if_standing, raise_receipt};
+use crate::settlement::standing_claims::{
+    raise_entry_if_standing, raise_if_standing, raise_receipt,
+};
 use core_tables::{Name, Tables, name_of};
 use event_body::{Event, is_receipt};
 use journal::Claim;

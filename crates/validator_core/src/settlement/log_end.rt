@@ -1,20 +1,19 @@
 //! One more accepted event.
 ghost use Rattle.std.specs.Prelude.{◌≡◌, ◌<◌, Some, IfErr, IfNone, IfOk, IfSome, IsTrue, OnOk, false, length, slice_get, true};
 ghost use Rattle.std.specs.Option.{option_copied};
-ghost use Rattle.event_body.specs.Events.{is_interaction, prefix_of as event_prefix};
+ghost use Rattle.event_body.specs.EventBody.Events.{is_interaction, prefix_of as event_prefix};
 ghost use Rattle.key_state.specs.Kept.{IsKept};
 ghost use Rattle.key_state.specs.declared.state_fault.StateFault.TheVariants.{OutOfMemory};
-ghost use Rattle.journal.specs.declared.body.Body.{Body};
-ghost use Rattle.journal.specs.Grown.{fits};
-ghost use Rattle.journal.specs.Logs.{stepped, takes};
-ghost use Rattle.accepted_log.specs.Values.{last_of};
-ghost use Rattle.core_tables.specs.View.{log_of};
-ghost use Rattle.acceptance.specs.Standing.{Accepts, Extends, IsStanding};
-ghost use Rattle.settlement.specs.Turning.{IsAppended, MakesState};
+ghost use Rattle.journal.specs.declared.journal.body.Body.{Body};
+ghost use Rattle.journal.specs.Journal.Grown.{fits};
+ghost use Rattle.journal.specs.Journal.Logs.{stepped, takes};
+ghost use Rattle.core_tables.specs.AcceptedLog.Values.{last_of};
+ghost use Rattle.core_tables.specs.CoreTables.View.{log_of};
+ghost use Rattle.validator_core.specs.Acceptance.Standing.{Accepts, Extends, IsStanding};
+ghost use Rattle.validator_core.specs.Settlement.Turning.{IsAppended, MakesState};
 
-use crate::behind::{numbers_behind, raise_behind};
-use accepted_log::AcceptedLog;
-use core_tables::Tables;
+use crate::settlement::behind::{numbers_behind, raise_behind};
+use core_tables::{AcceptedLog, Tables};
 use event_body::{Event, prefix_of};
 use key_state::{KeyState, StateFault, first, spelled_is_kept};
 use std::alloc::{AllocError, Global};

@@ -2,16 +2,16 @@
 ghost use Rattle.std.specs.Prelude.{◌≡◌, ◌+◌, ◌-◌, ◌<◌, ◌^◌, min, Some, IfNone, IfSome, OnOk, false, length, slice_get, true};
 ghost use Rattle.std.specs.List.Sorted.{IsStrictlySortedBy};
 ghost use Rattle.std.specs.Ordering.{nat_cmp};
-ghost use Rattle.journal.specs.declared.body.Body.{Body};
-ghost use Rattle.journal.specs.Readiness as ready;
-ghost use Rattle.core_tables.specs.View.{log_of};
-ghost use Rattle.acceptance.specs.Standing.{Extends, IsStanding, told_of};
-ghost use Rattle.acceptance.specs.Settled.{IsSettled};
-ghost use Rattle.settlement.specs.Settled.{AcceptsNext, IsNext, IsOver, IsReadyAt};
+ghost use Rattle.journal.specs.declared.journal.body.Body.{Body};
+ghost use Rattle.journal.specs.Journal.Readiness as ready;
+ghost use Rattle.core_tables.specs.CoreTables.View.{log_of};
+ghost use Rattle.validator_core.specs.Acceptance.Standing.{Extends, IsStanding, told_of};
+ghost use Rattle.validator_core.specs.Acceptance.Settled.{IsSettled};
+ghost use Rattle.validator_core.specs.Settlement.Settled.{AcceptsNext, IsNext, IsOver, IsReadyAt};
 
-use crate::log_end::accept;
-use crate::woken::{add_due, numbers_woken};
-use acceptance::is_ready;
+use crate::acceptance::is_ready;
+use crate::settlement::log_end::accept;
+use crate::settlement::woken::{add_due, numbers_woken};
 use core_tables::Tables;
 use journal::Mode;
 use keri_outside::Steps;

@@ -1,8 +1,8 @@
 //! Verdicts that are heard.
 ghost use Rattle.std.specs.Prelude.{◌≡◌, ◌<◌, true, None, OnOk, OnErr, length};
-ghost use Rattle.acceptance.specs.Standing.{Hears, IsStanding};
-ghost use Rattle.claim_table.specs.Rows.{is_raised, verdict_of};
-ghost use Rattle.settlement.specs.Entries.{signature_asked};
+ghost use Rattle.validator_core.specs.Acceptance.Standing.{Hears, IsStanding};
+ghost use Rattle.claim_table.specs.ClaimTable.Rows.{is_raised, verdict_of};
+ghost use Rattle.validator_core.specs.Settlement.Entries.{signature_asked};
 
 use claim_table::Signature;
 use core_tables::Tables;

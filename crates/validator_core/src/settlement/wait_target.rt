@@ -1,21 +1,20 @@
 //! Whether an event is one that another may wait for.
 ghost use Rattle.std.specs.Prelude.{◌≡◌, ◌&&◌, ℕ, List, not, slice_get};
-ghost use Rattle.core_tables.specs.View.{body_of, log_of};
-ghost use Rattle.acceptance.specs.Standing.{IsStanding};
-ghost use Rattle.core_laws.specs.Waking as waking;
-ghost use Rattle.event_body.specs.Events as events;
-ghost use Rattle.journal.specs.Logs as logs;
-ghost use Rattle.journal.specs.Readiness as readiness;
-ghost use Rattle.journal.specs.Seals as seals;
+ghost use Rattle.core_tables.specs.CoreTables.View.{body_of, log_of};
+ghost use Rattle.validator_core.specs.Acceptance.Standing.{IsStanding};
+ghost use Rattle.claim_table.specs.CoreLaws.Waking as waking;
+ghost use Rattle.event_body.specs.EventBody.Events as events;
+ghost use Rattle.journal.specs.Journal.Logs as logs;
+ghost use Rattle.journal.specs.Journal.Readiness as readiness;
+ghost use Rattle.journal.specs.Journal.Seals as seals;
 ghost use Rattle.key_state.specs.Kept.{IsKept};
-ghost use Rattle.settlement.specs.Awaited as awaited;
+ghost use Rattle.validator_core.specs.Settlement.Awaited as awaited;
 
 use cesr_codes::Prefix;
 use core_tables::Tables;
 use event_backing::{anchors, sealed_by_parts};
 use event_body::{Event, prefix_of, said_of_event, sn_of};
-use event_rules::{delegator_of, is_behind, is_delegated};
-use journal::Mode;
+use journal::{Mode, delegator_of, is_behind, is_delegated};
 use key_state::spelled_is_kept;
 
 /// Whether the event of the second number may wait for that of the first, which comes next: this is right before it or, in

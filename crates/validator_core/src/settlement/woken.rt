@@ -3,18 +3,18 @@ ghost use Rattle.std.specs.Prelude.{◌≡◌, ◌==◌, ◌&&◌, ◌⊎◌, �
 ghost use Rattle.std.specs.List.{list_any};
 ghost use Rattle.std.specs.List.Sorted.{IsStrictlySortedBy};
 ghost use Rattle.std.specs.Ordering.{nat_cmp};
-ghost use Rattle.core_laws.specs.Waking.{is_anchored, is_there as is_all_there, is_waiting, may_wake};
+ghost use Rattle.claim_table.specs.CoreLaws.Waking.{is_anchored, is_there as is_all_there, is_waiting, may_wake};
 ghost use Rattle.event_backing.specs.EventSeals.{IsEventSeal, holds_seal};
 ghost use Rattle.event_backing.specs.declared.event_seal.EventSeal.{EventSeal as EventSealValue};
-ghost use Rattle.escrow.specs.Escrow.{Waits};
-ghost use Rattle.journal.specs.declared.body.Body.{Body};
-ghost use Rattle.core_tables.specs.View.{log_of};
-ghost use Rattle.acceptance.specs.Standing.{IsStanding};
-ghost use Rattle.settlement.specs.Awaited.{IsNextAt, is_awaited_there};
+ghost use Rattle.escrow.specs.Escrow.Escrow.{Waits};
+ghost use Rattle.journal.specs.declared.journal.body.Body.{Body};
+ghost use Rattle.core_tables.specs.CoreTables.View.{log_of};
+ghost use Rattle.validator_core.specs.Acceptance.Standing.{IsStanding};
+ghost use Rattle.validator_core.specs.Settlement.Awaited.{IsNextAt, is_awaited_there};
 
-use crate::behind::copied;
-use crate::wait_target::is_awaited_at;
-use acceptance::is_there;
+use crate::acceptance::is_there;
+use crate::settlement::behind::copied;
+use crate::settlement::wait_target::is_awaited_at;
 use core_tables::Tables;
 use escrow::Waiting;
 use event_backing::{EventSeal, sealed_by_parts, seals};

@@ -1,20 +1,20 @@
 //! Accepted events, by their places, and the numbers of bodies.
 ghost use Rattle.std.specs.Prelude.{◌≡◌, ◌==◌, IfNone, IfSome, Some, ℕ, false, position, slice_get};
-ghost use Rattle.acceptance.specs.Standing.{IsStanding};
-ghost use Rattle.core_tables.specs.View.{body_of, log_of};
-ghost use Rattle.event_body.specs.Judging.{SpellsEvent};
-ghost use Rattle.event_rules.specs.Additions.{is_number};
-ghost use Rattle.validator_core.specs.Signatures.{is_witness_under, opens_under};
-ghost use Rattle.validator_core.specs.View.{accepted_by};
-ghost use Rattle.journal.specs.Logs.{is_in};
-ghost use Rattle.journal.specs.declared.body.Body.{Body};
+ghost use Rattle.validator_core.specs.Acceptance.Standing.{IsStanding};
+ghost use Rattle.core_tables.specs.CoreTables.View.{body_of, log_of};
+ghost use Rattle.event_body.specs.EventBody.Judging.{SpellsEvent};
+ghost use Rattle.journal.specs.EventRules.Additions.{is_number};
+ghost use Rattle.validator_core.specs.ValidatorCore.Signatures.{is_witness_under, opens_under};
+ghost use Rattle.validator_core.specs.ValidatorCore.View.{accepted_by};
+ghost use Rattle.journal.specs.Journal.Logs.{is_in};
+ghost use Rattle.journal.specs.declared.journal.body.Body.{Body};
 
-use crate::Core;
-use crate::signatures::number_at;
+use crate::validator_core::Core;
+use crate::validator_core::signatures::number_at;
 use cesr_codes::{IndexedSig, Key};
 use core_tables::Tables;
 use event_body::Event;
-use event_rules::{has_witness, reveal_of};
+use journal::{has_witness, reveal_of};
 
 impl Core {
     /// The number of the body with these bytes, which spell the event; none where it isn't held. It takes no memory.

@@ -1,10 +1,10 @@
 //! Verdicts that are asked for and noted.
 ghost use Rattle.std.specs.Prelude.{◌≡◌, ◌<◌, IfErr, IfOk, OnErr, OnOk};
-ghost use Rattle.keri_specs.specs.Causes.{Rose};
-ghost use Rattle.validator_core.specs.Verdicts.{AsksAbout, IsFaultOf, IsOpen, IsSaid, Notes};
-ghost use Rattle.validator_core.specs.View.{unheard_of};
+ghost use Rattle.lists.specs.KeriSpecs.Causes.{Rose};
+ghost use Rattle.validator_core.specs.ValidatorCore.Verdicts.{AsksAbout, IsFaultOf, IsOpen, IsSaid, Notes};
+ghost use Rattle.validator_core.specs.ValidatorCore.View.{unheard_of};
 
-use crate::Core;
+use crate::validator_core::Core;
 use journal::Question;
 use keri_outside::{Failed, Steps, Verifier};
 use std::alloc::AllocError;

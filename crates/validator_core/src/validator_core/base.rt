@@ -1,21 +1,20 @@
 //! Cores that begin with a list of texts.
 ghost use Rattle.std.specs.Prelude.{◌≡◌, ◌≤◌, ◌<◌, [], All, IfErr, IfOk, OnOk, length, true};
-ghost use Rattle.acceptance.specs.Standing.{IsHeld};
-ghost use Rattle.core_tables.specs.View.{body_of};
-ghost use Rattle.journal.specs.declared.resume_fault.ResumeFault.TheVariants.{NotALog};
-ghost use Rattle.journal.specs.Grown.{fits};
-ghost use Rattle.validator_core.specs.Base.{AcceptsText, AreAccepted, AreRefused, IsBase, IsRefused, IsResumed};
-ghost use Rattle.validator_core.specs.View.{bytes_of};
+ghost use Rattle.validator_core.specs.Acceptance.Standing.{IsHeld};
+ghost use Rattle.core_tables.specs.CoreTables.View.{body_of};
+ghost use Rattle.journal.specs.declared.journal.resume_fault.ResumeFault.TheVariants.{NotALog};
+ghost use Rattle.journal.specs.Journal.Grown.{fits};
+ghost use Rattle.validator_core.specs.ValidatorCore.Base.{AcceptsText, AreAccepted, AreRefused, IsBase, IsRefused, IsResumed};
+ghost use Rattle.validator_core.specs.ValidatorCore.View.{bytes_of};
 
-use crate::Core;
-use crate::tally::Tally;
+use crate::settlement::accept;
+use crate::validator_core::Core;
+use crate::validator_core::tally::Tally;
 use core_tables::Tables;
 use event_body::{Event, ReadBody, is_receipt, one_event, prefix_of, read_body};
-use event_rules::takes;
-use journal::{Mode, ResumeFault};
+use journal::{Mode, ResumeFault, takes};
 use json_tree::Text;
 use keri_outside::Limits;
-use settlement::accept;
 use std::alloc::{AllocError, Global};
 
 impl Core {

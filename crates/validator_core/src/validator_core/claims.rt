@@ -1,7 +1,7 @@
 //! The claims of messages.
 ghost use Rattle.std.specs.Prelude.{◌≡◌, ◌++◌, map, IfOk, OnOk};
-ghost use Rattle.journal.specs.declared.claim.Claim.TheVariants.{Held, Witness, Couple as CoupleClaim};
-ghost use Rattle.journal.specs.Replies as replies;
+ghost use Rattle.journal.specs.declared.journal.claim.Claim.TheVariants.{Held, Witness, Couple as CoupleClaim};
+ghost use Rattle.journal.specs.Journal.Replies as replies;
 
 use cesr_codes::IndexedSig;
 use cesr_stream::{Couple, Group, Message};

@@ -1,8 +1,8 @@
 //! Why messages are refused.
 ghost use Rattle.std.specs.Prelude.{◌≡◌, true, false, not, IfOk};
-ghost use Rattle.event_body.specs.Events as events;
-ghost use Rattle.validator_core.specs.Messages.{JudgesMessage, first_refusal};
-ghost use Rattle.journal.specs.Replies as replies;
+ghost use Rattle.event_body.specs.EventBody.Events as events;
+ghost use Rattle.validator_core.specs.ValidatorCore.Messages.{JudgesMessage, first_refusal};
+ghost use Rattle.journal.specs.Journal.Replies as replies;
 ghost use Rattle.std.specs.List.{list_any, list_all};
 
 use cesr_stream::{Group, Message};

@@ -1,11 +1,11 @@
 //! Messages that are judged and taken.
 ghost use Rattle.std.specs.Prelude.{◌≡◌, IfOk, Ok, OnErr};
-ghost use Rattle.validator_core.specs.MessageCalls.{LooksByMessage, TakesMessage};
-ghost use Rattle.validator_core.specs.Messages.{JudgesMessage};
+ghost use Rattle.validator_core.specs.ValidatorCore.MessageCalls.{LooksByMessage, TakesMessage};
+ghost use Rattle.validator_core.specs.ValidatorCore.Messages.{JudgesMessage};
 
-use crate::Core;
-use crate::claims::claims_of;
-use crate::judgement::judge_message;
+use crate::validator_core::Core;
+use crate::validator_core::claims::claims_of;
+use crate::validator_core::judgement::judge_message;
 use cesr_stream::Message;
 use event_body::Event;
 use journal::Reply;

@@ -1,18 +1,18 @@
 //! Questions, and the verdicts that are noted.
 ghost use Rattle.std.specs.Prelude.{◌≡◌, ◌<◌, ℕ, None, Some, IfOk, OnErr, if◌then◌else◌, slice_get};
 ghost use Rattle.std.specs.Option.{option_map};
-ghost use Rattle.claim_table.specs.Rows.{is_raised, open_rows, verdict_of};
-ghost use Rattle.claim_table.specs.Table.{AreBelow};
-ghost use Rattle.journal.specs.declared.question.Noted.TheVariants.{New};
-ghost use Rattle.journal.specs.Journals.{Names};
-ghost use Rattle.journal.specs.Questions.{next_question};
-ghost use Rattle.settlement.specs.Entries.{signature_asked};
-ghost use Rattle.validator_core.specs.Calls.{TakesVerdict, question_of};
-ghost use Rattle.validator_core.specs.Looks.{LooksByVerdict};
-ghost use Rattle.validator_core.specs.View.{base_of, told_of, unheard_of};
+ghost use Rattle.claim_table.specs.ClaimTable.Rows.{is_raised, open_rows, verdict_of};
+ghost use Rattle.claim_table.specs.ClaimTable.Table.{AreBelow};
+ghost use Rattle.journal.specs.declared.journal.question.Noted.TheVariants.{New};
+ghost use Rattle.journal.specs.Journal.Journals.{Names};
+ghost use Rattle.journal.specs.Journal.Questions.{next_question};
+ghost use Rattle.validator_core.specs.Settlement.Entries.{signature_asked};
+ghost use Rattle.validator_core.specs.ValidatorCore.Calls.{TakesVerdict, question_of};
+ghost use Rattle.validator_core.specs.ValidatorCore.Looks.{LooksByVerdict};
+ghost use Rattle.validator_core.specs.ValidatorCore.View.{base_of, told_of, unheard_of};
 
-use crate::Core;
-use crate::whole_entries::add_verdict;
+use crate::validator_core::Core;
+use crate::validator_core::whole_entries::add_verdict;
 use claim_table::{ClaimTable, Signature};
 use core_tables::Tables;
 use journal::{Noted, Question};

@@ -1,24 +1,23 @@
 //! The good signatures on bodies.
 ghost use Rattle.std.specs.Prelude.{◌≡◌, ◌++◌, ℕ, List, IfOk, OnOk, Some, filter_map, slice_get};
 ghost use Rattle.std.specs.Option.{option_copied};
-ghost use Rattle.acceptance.specs.Standing as standing;
-ghost use Rattle.acceptance.specs.Standing.{IsStanding};
-ghost use Rattle.core_tables.specs.View.{body_of, log_of};
-ghost use Rattle.validator_core.specs.Signatures.{good_claim, good_in, good_on, good_under};
-ghost use Rattle.validator_core.specs.View.{accepted_by, told_of};
-ghost use Rattle.journal.specs.Readiness.{good_sigs};
-ghost use Rattle.journal.specs.declared.body.Body.{Body};
+ghost use Rattle.validator_core.specs.Acceptance.Standing as standing;
+ghost use Rattle.validator_core.specs.Acceptance.Standing.{IsStanding};
+ghost use Rattle.core_tables.specs.CoreTables.View.{body_of, log_of};
+ghost use Rattle.validator_core.specs.ValidatorCore.Signatures.{good_claim, good_in, good_on, good_under};
+ghost use Rattle.validator_core.specs.ValidatorCore.View.{accepted_by, told_of};
+ghost use Rattle.journal.specs.Journal.Readiness.{good_sigs};
+ghost use Rattle.journal.specs.declared.journal.body.Body.{Body};
 ghost use Rattle.key_state.specs.Exposure.{own_rules};
-ghost use Rattle.acceptance.specs.Entries.{says_in, yes_of};
+ghost use Rattle.validator_core.specs.Acceptance.Entries.{says_in, yes_of};
 
-use crate::Core;
-use acceptance::{Footing, footing_of};
+use crate::acceptance::{Footing, footing_of};
+use crate::validator_core::Core;
 use cesr_codes::{IndexedSig, Key, Sig};
 use claim_table::Signature;
 use core_tables::{Tables, name_of};
 use event_body::Event;
-use event_rules::claimed_key;
-use journal::Claim;
+use journal::{Claim, claimed_key};
 use key_state::KeyState;
 use std::alloc::{AllocError, Global};
 

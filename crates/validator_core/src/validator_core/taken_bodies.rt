@@ -1,17 +1,17 @@
 //! Bodies that are taken.
 ghost use Rattle.std.specs.Prelude.{◌≡◌, ◌<◌, false, length, slice_get, IfOk, OnErr, Some, if◌then◌else◌};
 ghost use Rattle.std.specs.List.{list_all, list_any};
-ghost use Rattle.acceptance.specs.Standing.{IsHeld};
-ghost use Rattle.core_tables.specs.View.{body_of, came_with};
-ghost use Rattle.journal.specs.declared.body.Body.{Body};
-ghost use Rattle.journal.specs.declared.reply.Reply.TheVariants.{Again, Taken};
-ghost use Rattle.journal.specs.Logs.{is_in};
-ghost use Rattle.journal.specs.Replies.{same_claim};
-ghost use Rattle.validator_core.specs.Calls.{TakesBody};
-ghost use Rattle.validator_core.specs.Looks.{LooksByReply};
+ghost use Rattle.validator_core.specs.Acceptance.Standing.{IsHeld};
+ghost use Rattle.core_tables.specs.CoreTables.View.{body_of, came_with};
+ghost use Rattle.journal.specs.declared.journal.body.Body.{Body};
+ghost use Rattle.journal.specs.declared.journal.reply.Reply.TheVariants.{Again, Taken};
+ghost use Rattle.journal.specs.Journal.Logs.{is_in};
+ghost use Rattle.journal.specs.Journal.Replies.{same_claim};
+ghost use Rattle.validator_core.specs.ValidatorCore.Calls.{TakesBody};
+ghost use Rattle.validator_core.specs.ValidatorCore.Looks.{LooksByReply};
 
-use crate::Core;
-use crate::whole_entries::{add_body, add_claims};
+use crate::validator_core::Core;
+use crate::validator_core::whole_entries::{add_body, add_claims};
 use core_tables::Tables;
 use event_body::Event;
 use journal::{Claim, Reply};

@@ -1,6 +1,6 @@
 //! How much was taken.
 ghost use Rattle.std.specs.Prelude.{◌≡◌, ◌+◌, ◌<◌, ◌^◌, ◌||◌};
-ghost use Rattle.validator_core.specs.Tally as tallies;
+ghost use Rattle.validator_core.specs.ValidatorCore.Tally as tallies;
 
 use keri_outside::Limits;
 

@@ -1,14 +1,14 @@
 //! The core: its tables, and how much it took.
 ghost use Rattle.std.specs.Prelude.{◌≡◌, ◌≤◌, ◌<◌, [], All, IfSome, map, length, slice_get};
 ghost use Rattle.std.specs.Option.{option_map};
-ghost use Rattle.core_tables.specs.Hints.{IsEscrow};
-ghost use Rattle.journal.specs.Journals.{chosen};
-ghost use Rattle.journal.specs.Logs as logs;
-ghost use Rattle.validator_core.specs.Confluent.{IsSoInAlike};
-ghost use Rattle.validator_core.specs.View.{Stands, accepted_by, state_of, waits_for};
+ghost use Rattle.core_tables.specs.CoreTables.Hints.{IsEscrow};
+ghost use Rattle.journal.specs.Journal.Journals.{chosen};
+ghost use Rattle.journal.specs.Journal.Logs as logs;
+ghost use Rattle.validator_core.specs.ValidatorCore.Confluent.{IsSoInAlike};
+ghost use Rattle.validator_core.specs.ValidatorCore.View.{Stands, accepted_by, state_of, waits_for};
 
-use crate::tally::Tally;
-use acceptance::why_waits;
+use crate::acceptance::why_waits;
+use crate::validator_core::tally::Tally;
 use cesr_codes::Prefix;
 use core_tables::Tables;
 use escrow::Waiting;
@@ -32,8 +32,8 @@ pub struct Core {
 }
 
 impl Model for Core {
-    ghost use Rattle.validator_core.specs.View.{CoreView};
-    ghost use Rattle.validator_core.specs.Inside.{core_of, is_core};
+    ghost use Rattle.validator_core.specs.ValidatorCore.View.{CoreView};
+    ghost use Rattle.validator_core.specs.ValidatorCore.Inside.{core_of, is_core};
     ghost use Rattle.json_tree.specs.contracts.tree.Tree as tree;
     ghost use Rattle.std.specs.Coded.{codes};
 

@@ -1,19 +1,19 @@
 //! What the accepted events and the bodies show.
 ghost use Rattle.std.specs.Prelude.{◌≡◌, ◌<◌, ◌≤◌, List, length, map, filter, All, IfOk};
-ghost use Rattle.acceptance.specs.Standing as standing;
-ghost use Rattle.acceptance.specs.Standing.{IsStanding};
-ghost use Rattle.core_tables.specs.View.{log_of};
-ghost use Rattle.journal.specs.declared.body.Body.{Body};
-ghost use Rattle.journal.specs.Conflicts as conflicts;
-ghost use Rattle.journal.specs.Conflicts.{IsConflictList};
-ghost use Rattle.journal.specs.Journals.{NameConflicts, chosen};
-ghost use Rattle.journal.specs.Logs as logs;
-ghost use Rattle.validator_core.specs.Confluent.{IsSoInAlike};
-ghost use Rattle.validator_core.specs.View.{accepted_by, base_of, told_of};
-ghost use Rattle.validator_core.specs.Views.{IsPlaced};
+ghost use Rattle.validator_core.specs.Acceptance.Standing as standing;
+ghost use Rattle.validator_core.specs.Acceptance.Standing.{IsStanding};
+ghost use Rattle.core_tables.specs.CoreTables.View.{log_of};
+ghost use Rattle.journal.specs.declared.journal.body.Body.{Body};
+ghost use Rattle.journal.specs.Journal.Conflicts as conflicts;
+ghost use Rattle.journal.specs.Journal.Conflicts.{IsConflictList};
+ghost use Rattle.journal.specs.Journal.Journals.{NameConflicts, chosen};
+ghost use Rattle.journal.specs.Journal.Logs as logs;
+ghost use Rattle.validator_core.specs.ValidatorCore.Confluent.{IsSoInAlike};
+ghost use Rattle.validator_core.specs.ValidatorCore.View.{accepted_by, base_of, told_of};
+ghost use Rattle.validator_core.specs.ValidatorCore.Views.{IsPlaced};
 
-use crate::Core;
-use acceptance::counts;
+use crate::acceptance::counts;
+use crate::validator_core::Core;
 use cesr_codes::Prefix;
 use core_tables::Tables;
 use event_body::{Event, prefix_of, sn_of};

@@ -2,21 +2,21 @@
 ghost use Rattle.std.specs.Prelude.{◌≡◌, ◌<◌, ◌∷◌, ◌⊎◌, ◌↔◌, [], ℕ, false, true, None, Contains, IfOk, OnOk, OnErr, length};
 ghost use Rattle.std.specs.List.Sorted.{IsStrictlySortedBy};
 ghost use Rattle.std.specs.Ordering.{nat_cmp};
-ghost use Rattle.acceptance.specs.Standing.{Comes, Extends, Hears, IsHeld, IsStanding};
-ghost use Rattle.claim_table.specs.Rows.{is_raised, verdict_of};
-ghost use Rattle.core_tables.specs.View.{IsCut, body_of, rewound};
-ghost use Rattle.journal.specs.declared.entry.Entry.TheVariants.{Took};
-ghost use Rattle.journal.specs.Logs.{is_in};
-ghost use Rattle.settlement.specs.Entries.{signature_asked};
-ghost use Rattle.validator_core.specs.Tables.{AddsEntry, AddsVerdict, BringsEntry, HaveNoOthers, HaveNumbers, SettlesFrom};
+ghost use Rattle.validator_core.specs.Acceptance.Standing.{Comes, Extends, Hears, IsHeld, IsStanding};
+ghost use Rattle.claim_table.specs.ClaimTable.Rows.{is_raised, verdict_of};
+ghost use Rattle.core_tables.specs.CoreTables.View.{IsCut, body_of, rewound};
+ghost use Rattle.journal.specs.declared.journal.entry.Entry.TheVariants.{Took};
+ghost use Rattle.journal.specs.Journal.Logs.{is_in};
+ghost use Rattle.validator_core.specs.Settlement.Entries.{signature_asked};
+ghost use Rattle.validator_core.specs.ValidatorCore.Tables.{AddsEntry, AddsVerdict, BringsEntry, HaveNoOthers, HaveNumbers, SettlesFrom};
 
+use crate::settlement::{enter_body, enter_claims, enter_verdict, settle};
 use core_tables::{Mark, Tables};
 use event_body::{Event, said_of_event};
 use journal::{Claim, Mode, Question};
 use json_tree::Text;
 use keri_outside::Steps;
 use lists::{Items, length_u32};
-use settlement::{enter_body, enter_claims, enter_verdict, settle};
 use std::alloc::{AllocError, Global};
 use std::collections::BTreeSet;
 

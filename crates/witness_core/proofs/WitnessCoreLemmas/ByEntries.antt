@@ -3,18 +3,18 @@ use Rattle.std.proofs.Common.{◌≡◌, true, false, List, [], ◌∷◌, ◌++
 use Rattle.std.proofs.lemmas.List.Sums.{count_by-le-length}
 use Rattle.std.proofs.lemmas.List.Folds.{list_any-append}
 use Rattle.std.proofs.lemmas.Bool.{cases_Bool, and_parts, or_left, or_right}
-use Rattle.event_body.specs.Events.{prefix_of}
-use Rattle.journal.specs.declared.mode.Mode.{Mode}
-use Rattle.journal.specs.declared.body.Body.{Body}
-use Rattle.journal.specs.Logs.{before, is_in, same_body, state}
-use Rattle.journal.specs.History.{Told, bodies}
-use Rattle.journal.specs.Readiness.{is_ready, signed}
-use Rattle.journal.specs.Acceptance.{settled_over}
-use Rattle.journal.specs.Accepted.{accepted}
-use Rattle.journal.proofs.Settling.{settled_ends, left}
-use Rattle.journal.proofs.Accepting.{accepted-push, ready_is_new, same_body-refl}
-use Rattle.journal.proofs.Keeping.{Settles-keeps, split_push}
-use Rattle.witness_core.specs.Laws.{EntryLaw, StaysLaw}
+use Rattle.event_body.specs.EventBody.Events.{prefix_of}
+use Rattle.journal.specs.declared.journal.mode.Mode.{Mode}
+use Rattle.journal.specs.declared.journal.body.Body.{Body}
+use Rattle.journal.specs.Journal.Logs.{before, is_in, same_body, state}
+use Rattle.journal.specs.Journal.History.{Told, bodies}
+use Rattle.journal.specs.Journal.Readiness.{is_ready, signed}
+use Rattle.journal.specs.Journal.Acceptance.{settled_over}
+use Rattle.journal.specs.Journal.Accepted.{accepted}
+use Rattle.journal.proofs.JournalLemmas.Settling.{settled_ends, left}
+use Rattle.journal.proofs.JournalLemmas.Accepting.{accepted-push, ready_is_new, same_body-refl}
+use Rattle.journal.proofs.JournalLemmas.Keeping.{Settles-keeps, split_push}
+use Rattle.witness_core.specs.WitnessCore.Laws.{EntryLaw, StaysLaw}
 
 -- the list is the first one and more, and each of that was ready behind what is before it
 record IsBehind (mode : Mode) (told : List Told) (log end : List Body) : Type 0 where

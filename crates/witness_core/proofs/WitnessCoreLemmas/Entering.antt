@@ -5,28 +5,28 @@ use Rattle.std.specs.List.{list_any}
 use Rattle.std.proofs.lemmas.Bool.{cases_Bool}
 use Rattle.std.proofs.lemmas.List.{length-map}
 use Rattle.std.proofs.lemmas.Option.{slice_get_within}
-use Rattle.core_tables.specs.View.{waiter_at}
-use Rattle.core_laws.specs.Waking.{is_waiting}
-use Rattle.escrow.specs.declared.waiter.Waiter.{Waiter}
-use Rattle.event_body.specs.Events.{is_receipt}
-use Rattle.journal.specs.declared.body.Body.{Body}
-use Rattle.journal.specs.declared.claim.Claim.{Claim}
-use Rattle.journal.specs.History.{took}
-use Rattle.journal.specs.Logs.{is_in, same_body}
-use Rattle.journal.proofs.Accepting.{same_body-refl}
-use Rattle.journal.proofs.Places.{any_at, found_at}
-use Rattle.validator_core.specs.View.{CoreView, accepted_by}
-use Rattle.validator_core.proofs.Bodies.{bodies_new, bodies_old}
-use Rattle.witness_store.specs.Histories.{bodies_in, history_of, log_in}
-use Rattle.witness_store.specs.Room.{IsKnown, IsRoom, signatures_in, signatures_on}
-use Rattle.witness_core.specs.Telling.{Came, Fails, IsUntold, full, untold}
-use Rattle.witness_store.specs.declared.room.Room.{Room}
-use Rattle.witness_store.specs.declared.witness_fault.WitnessFault.{WitnessFault}
-use Rattle.witness_store.specs.declared.witness_fault.WitnessFault.TheVariants.{Full, OutOfMemory}
-use Rattle.validator_core.proofs.OpenQuestions.{follows_itself}
-use Rattle.witness_store.proofs.Entries.{history_follows}
-use Rattle.witness_store.proofs.RoomSteps.{among, held_differ, held_is, room_again, room_first}
-use Rattle.witness_store.proofs.Waits.{number_listed, waiter_there}
+use Rattle.core_tables.specs.CoreTables.View.{waiter_at}
+use Rattle.claim_table.specs.CoreLaws.Waking.{is_waiting}
+use Rattle.escrow.specs.declared.escrow.waiter.Waiter.{Waiter}
+use Rattle.event_body.specs.EventBody.Events.{is_receipt}
+use Rattle.journal.specs.declared.journal.body.Body.{Body}
+use Rattle.journal.specs.declared.journal.claim.Claim.{Claim}
+use Rattle.journal.specs.Journal.History.{took}
+use Rattle.journal.specs.Journal.Logs.{is_in, same_body}
+use Rattle.journal.proofs.JournalLemmas.Accepting.{same_body-refl}
+use Rattle.journal.proofs.JournalLemmas.Places.{any_at, found_at}
+use Rattle.validator_core.specs.ValidatorCore.View.{CoreView, accepted_by}
+use Rattle.validator_core.proofs.ValidatorCoreLemmas.Bodies.{bodies_new, bodies_old}
+use Rattle.witness_core.specs.WitnessStore.Histories.{bodies_in, history_of, log_in}
+use Rattle.witness_core.specs.WitnessStore.Room.{IsKnown, IsRoom, signatures_in, signatures_on}
+use Rattle.witness_core.specs.WitnessCore.Telling.{Came, Fails, IsUntold, full, untold}
+use Rattle.witness_core.specs.declared.witness_store.room.Room.{Room}
+use Rattle.witness_core.specs.declared.witness_store.witness_fault.WitnessFault.{WitnessFault}
+use Rattle.witness_core.specs.declared.witness_store.witness_fault.WitnessFault.TheVariants.{Full, OutOfMemory}
+use Rattle.validator_core.proofs.ValidatorCoreLemmas.OpenQuestions.{follows_itself}
+use Rattle.witness_core.proofs.WitnessStoreLemmas.Entries.{history_follows}
+use Rattle.witness_core.proofs.WitnessStoreLemmas.RoomSteps.{among, held_differ, held_is, room_again, room_first}
+use Rattle.witness_core.proofs.WitnessStoreLemmas.Waits.{number_listed, waiter_there}
 
 -- nothing was told
 pub untold_itself : (core : CoreView) → IsUntold core core

@@ -3,15 +3,15 @@ use Rattle.std.proofs.Common.{ℕ, Bool, List, [], ◌∷◌, ◌++◌, Option, 
 use Rattle.std.proofs.lemmas.List.Elements.{All-nil}
 use Rattle.cesr_codes.specs.declared.key.Key.{Key}
 use Rattle.cesr_codes.specs.declared.sig.Sig.{Sig}
-use Rattle.journal.specs.declared.body.Body.{Body}
-use Rattle.journal.specs.declared.claim.Claim.{Claim}
-use Rattle.journal.specs.History.{Triple, took}
+use Rattle.journal.specs.declared.journal.body.Body.{Body}
+use Rattle.journal.specs.declared.journal.claim.Claim.{Claim}
+use Rattle.journal.specs.Journal.History.{Triple, took}
 use Rattle.keri_outside.specs.declared.inquiry.Inquiry.{Inquiry}
-use Rattle.keri_specs.proofs.Putting.{after-nil}
-use Rattle.validator_core.specs.Verdicts.{Asks}
-use Rattle.validator_core.specs.View.{CoreView, open_of, told_of}
-use Rattle.validator_core.proofs.OpenQuestions.{follows_itself, none_besides}
-use Rattle.witness_core.specs.Telling.{AsksVerdicts, Came, Hears, IsUntold}
+use Rattle.lists.proofs.KeriSpecsLemmas.Putting.{after-nil}
+use Rattle.validator_core.specs.ValidatorCore.Verdicts.{Asks}
+use Rattle.validator_core.specs.ValidatorCore.View.{CoreView, open_of, told_of}
+use Rattle.validator_core.proofs.ValidatorCoreLemmas.OpenQuestions.{follows_itself, none_besides}
+use Rattle.witness_core.specs.WitnessCore.Telling.{AsksVerdicts, Came, Hears, IsUntold}
 
 module _ (says : Key → List ℕ → Sig → Option Bool) where
   -- none was heard yet

@@ -3,33 +3,33 @@ use Rattle.std.proofs.Common.{◌≡◌, ℕ, true, false, List, length, slice_g
 use Rattle.std.specs.Prelude.{IfNone, IfSome}
 use Rattle.std.proofs.lemmas.Bool.{or_right}
 use Rattle.cesr_stream.specs.declared.message.Message.{Message}
-use Rattle.core_tables.specs.View.{body_of}
-use Rattle.event_body.specs.Events.{is_receipt}
-use Rattle.event_body.specs.declared.body_fault.BodyFault.{BodyFault}
-use Rattle.event_body.specs.declared.event.Event.{Event}
-use Rattle.event_body.proofs.Whole.{no_fault, one_event}
-use Rattle.journal.specs.declared.body.Body.{Body}
-use Rattle.journal.specs.declared.claim.Claim.{Claim}
-use Rattle.journal.specs.declared.reply.Reason.{Reason}
-use Rattle.journal.specs.Feeds.{GivesBody}
-use Rattle.journal.specs.History.{took}
-use Rattle.journal.specs.Logs.{is_in}
-use Rattle.journal.specs.Replies.{claims_of, is_full, refusal}
+use Rattle.core_tables.specs.CoreTables.View.{body_of}
+use Rattle.event_body.specs.EventBody.Events.{is_receipt}
+use Rattle.event_body.specs.declared.event_body.body_fault.BodyFault.{BodyFault}
+use Rattle.event_body.specs.declared.event_body.event.Event.{Event}
+use Rattle.event_body.proofs.EventBodyLemmas.Whole.{no_fault, one_event}
+use Rattle.journal.specs.declared.journal.body.Body.{Body}
+use Rattle.journal.specs.declared.journal.claim.Claim.{Claim}
+use Rattle.journal.specs.declared.journal.reply.Reason.{Reason}
+use Rattle.journal.specs.Journal.Feeds.{GivesBody}
+use Rattle.journal.specs.Journal.History.{took}
+use Rattle.journal.specs.Journal.Logs.{is_in}
+use Rattle.journal.specs.Journal.Replies.{claims_of, is_full, refusal}
 use Rattle.keri_outside.specs.declared.limits.Limits.{Limits}
-use Rattle.validator_core.specs.Messages.{JudgesMessage}
-use Rattle.validator_core.specs.View.{CoreView, base_of, told_of}
-use Rattle.witness_core.specs.Faults.{FullBy}
-use Rattle.witness_store.specs.Histories.{history_of, log_in}
-use Rattle.witness_store.specs.Room.{HasRoom, IsComing, IsKnown, IsRoom, lacks_room, signatures_in}
-use Rattle.witness_store.specs.declared.room.Coming.{Coming}
-use Rattle.witness_core.specs.Telling.{Came, Fails, FailsMessage, IsReady, IsTurnedAway, full, has_no_room, told, untold}
-use Rattle.witness_store.specs.declared.room.Room.{Room}
-use Rattle.witness_store.specs.declared.witness_fault.WitnessFault.{WitnessFault}
-use Rattle.witness_store.specs.declared.witness_fault.WitnessFault.TheVariants.{DiskFault, SignerFault, VerifierFault, Full, Broken, OutOfMemory}
-use Rattle.witness_core.proofs.Entering.{there_in, unlogged}
-use Rattle.witness_store.proofs.Entries.{history_follows}
-use Rattle.witness_core.proofs.Making.{IsThere, has_room_took}
-use Rattle.witness_store.proofs.RoomSteps.{held_is}
+use Rattle.validator_core.specs.ValidatorCore.Messages.{JudgesMessage}
+use Rattle.validator_core.specs.ValidatorCore.View.{CoreView, base_of, told_of}
+use Rattle.witness_core.specs.WitnessCore.Faults.{FullBy}
+use Rattle.witness_core.specs.WitnessStore.Histories.{history_of, log_in}
+use Rattle.witness_core.specs.WitnessStore.Room.{HasRoom, IsComing, IsKnown, IsRoom, lacks_room, signatures_in}
+use Rattle.witness_core.specs.declared.witness_store.room.Coming.{Coming}
+use Rattle.witness_core.specs.WitnessCore.Telling.{Came, Fails, FailsMessage, IsReady, IsTurnedAway, full, has_no_room, told, untold}
+use Rattle.witness_core.specs.declared.witness_store.room.Room.{Room}
+use Rattle.witness_core.specs.declared.witness_store.witness_fault.WitnessFault.{WitnessFault}
+use Rattle.witness_core.specs.declared.witness_store.witness_fault.WitnessFault.TheVariants.{DiskFault, SignerFault, VerifierFault, Full, Broken, OutOfMemory}
+use Rattle.witness_core.proofs.WitnessCoreLemmas.Entering.{there_in, unlogged}
+use Rattle.witness_core.proofs.WitnessStoreLemmas.Entries.{history_follows}
+use Rattle.witness_core.proofs.WitnessCoreLemmas.Making.{IsThere, has_room_took}
+use Rattle.witness_core.proofs.WitnessStoreLemmas.RoomSteps.{held_is}
 
 -- ONE: a message is judged in one way
 pub one_judged : (m : Message) (e f : Event) → JudgesMessage m (Ok e) → JudgesMessage m (Ok f) → e ≡ f

@@ -2,22 +2,22 @@
 use Rattle.std.proofs.Common.{◌≡◌, ℕ, true, List, [], ◌∷◌, ◌++◌, All, length, take, drop, map, refl, sym, ◌∙◌, ap, subst, append_assoc, append-nil, take-append-drop}
 use Rattle.std.proofs.lemmas.List.{length-map, length-take-le}
 use Rattle.std.proofs.lemmas.List.Elements.{All-cons, All-head, All-nil, All-tail}
-use Rattle.event_payload.specs.Kept.{kept, signed_by, state_under}
-use Rattle.event_payload.specs.Payloads.{text_in}
-use Rattle.event_payload.proofs.Enough.{kept_is_enough}
-use Rattle.journal.specs.declared.body.Body.{Body}
-use Rattle.journal.specs.declared.mode.Mode.{Mode}
-use Rattle.journal.specs.Acceptance.{grown_by}
-use Rattle.journal.specs.Accepted.{accepted}
-use Rattle.journal.specs.History.{Told}
-use Rattle.journal.proofs.Accepting.{accepted_extends}
+use Rattle.journal_views.specs.EventPayload.Kept.{kept, signed_by, state_under}
+use Rattle.journal_views.specs.EventPayload.Payloads.{text_in}
+use Rattle.journal_views.proofs.EventPayloadLemmas.Enough.{kept_is_enough}
+use Rattle.journal.specs.declared.journal.body.Body.{Body}
+use Rattle.journal.specs.declared.journal.mode.Mode.{Mode}
+use Rattle.journal.specs.Journal.Acceptance.{grown_by}
+use Rattle.journal.specs.Journal.Accepted.{accepted}
+use Rattle.journal.specs.Journal.History.{Told}
+use Rattle.journal.proofs.JournalLemmas.Accepting.{accepted_extends}
 use Rattle.key_state.specs.Kept.{IsKept}
-use Rattle.validator_core.specs.View.{CoreView, accepted_by, base_of, told_of}
-use Rattle.witness_store.specs.Histories.{history_of}
-use Rattle.witness_store.specs.Payloads.{AreListed, IsAcceptedAt, IsPayload, Pointwise, payload_now}
-use Rattle.witness_store.specs.Storing.{IsOnWay, by_entries, newly, payloads, missing}
-use Rattle.witness_core.proofs.ByEntries.{entry_law, stays_law}
-use Rattle.witness_store.proofs.States.{kept_under}
+use Rattle.validator_core.specs.ValidatorCore.View.{CoreView, accepted_by, base_of, told_of}
+use Rattle.witness_core.specs.WitnessStore.Histories.{history_of}
+use Rattle.witness_core.specs.WitnessStore.Payloads.{AreListed, IsAcceptedAt, IsPayload, Pointwise, payload_now}
+use Rattle.witness_core.specs.WitnessStore.Storing.{IsOnWay, by_entries, newly, payloads, missing}
+use Rattle.witness_core.proofs.WitnessCoreLemmas.ByEntries.{entry_law, stays_law}
+use Rattle.witness_core.proofs.WitnessStoreLemmas.States.{kept_under}
 
 module _ {A B : Type 0} (P : A → B → Type 0) where
   both_more : (xs us : List A) (ys vs : List B) → Pointwise P xs ys → Pointwise P us vs → Pointwise P (xs ++ us) (ys ++ vs)

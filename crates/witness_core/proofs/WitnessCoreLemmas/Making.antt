@@ -3,23 +3,23 @@ use Rattle.std.proofs.Common.{◌≡◌, ◌≤◌, ◌+◌, ◌*◌, ◌⊎◌,
 use Rattle.std.proofs.lemmas.Bool.{cases_Bool, or_parts}
 use Rattle.std.proofs.lemmas.Bool.Decides.{nat_tests}
 use Rattle.std.proofs.lemmas.List.Sums.{sum_by_push}
-use Rattle.core_laws.specs.Waking.{is_waiting}
-use Rattle.event_body.specs.Events.{is_receipt}
-use Rattle.journal.specs.declared.body.Body.{Body}
-use Rattle.journal.specs.declared.claim.Claim.{Claim}
-use Rattle.journal.specs.History.{Told, took}
-use Rattle.journal.specs.Logs.{is_in, same_body}
-use Rattle.journal.proofs.Accepting.{same_body-refl}
-use Rattle.journal.proofs.Places.{any_at}
+use Rattle.claim_table.specs.CoreLaws.Waking.{is_waiting}
+use Rattle.event_body.specs.EventBody.Events.{is_receipt}
+use Rattle.journal.specs.declared.journal.body.Body.{Body}
+use Rattle.journal.specs.declared.journal.claim.Claim.{Claim}
+use Rattle.journal.specs.Journal.History.{Told, took}
+use Rattle.journal.specs.Journal.Logs.{is_in, same_body}
+use Rattle.journal.proofs.JournalLemmas.Accepting.{same_body-refl}
+use Rattle.journal.proofs.JournalLemmas.Places.{any_at}
 use Rattle.keri_outside.specs.declared.limits.Limits.{Limits}
-use Rattle.shelf_log.specs.Format.{shelf_size}
-use Rattle.shelf_log.specs.declared.version.Version.TheVariants.{Two}
-use Rattle.validator_core.proofs.Bodies.{bodies_new, bodies_old}
-use Rattle.witness_store.specs.Histories.{History, bodies_in, log_in, told_more}
-use Rattle.witness_store.specs.Room.{HasRoom, IsRoom, count_waiting as count_in, if_waiting, lacks_room, reserve, signatures_in, weight}
-use Rattle.witness_store.specs.declared.room.Room.{Room}
-use Rattle.witness_store.proofs.RoomSteps.{log_before}
-use Rattle.witness_store.proofs.Rooms.{bodies_differ, reserve_again, reserve_first, signatures_fresh, weight_own}
+use Rattle.shelf_log.specs.ShelfLog.Format.{shelf_size}
+use Rattle.shelf_log.specs.declared.shelf_log.version.Version.TheVariants.{Two}
+use Rattle.validator_core.proofs.ValidatorCoreLemmas.Bodies.{bodies_new, bodies_old}
+use Rattle.witness_core.specs.WitnessStore.Histories.{History, bodies_in, log_in, told_more}
+use Rattle.witness_core.specs.WitnessStore.Room.{HasRoom, IsRoom, count_waiting as count_in, if_waiting, lacks_room, reserve, signatures_in, weight}
+use Rattle.witness_core.specs.declared.witness_store.room.Room.{Room}
+use Rattle.witness_core.proofs.WitnessStoreLemmas.RoomSteps.{log_before}
+use Rattle.witness_core.proofs.WitnessStoreLemmas.Rooms.{bodies_differ, reserve_again, reserve_first, signatures_fresh, weight_own}
 
 -- the body is one of them, or a new one
 abbrev pub IsThere : History → Body → Type 0

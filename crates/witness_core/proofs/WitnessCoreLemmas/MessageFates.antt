@@ -4,23 +4,23 @@ use Rattle.std.specs.Prelude.{IfSome}
 use Rattle.std.specs.Option.{option_map}
 use Rattle.cesr_codes.specs.declared.key.Key.{Key}
 use Rattle.cesr_stream.specs.declared.message.Message.{Message}
-use Rattle.core_tables.specs.View.{body_of}
-use Rattle.event_body.specs.Events.{is_receipt, prefix_of, sn_of}
-use Rattle.event_body.specs.declared.body_fault.BodyFault.{BodyFault}
-use Rattle.event_body.specs.declared.event.Event.{Event}
-use Rattle.journal.specs.declared.body.Body.{Body}
-use Rattle.journal.specs.declared.reply.Reason.{Reason}
-use Rattle.journal.specs.declared.why.Why.{Why}
-use Rattle.journal.specs.Logs.{is_in, takes}
-use Rattle.journal.specs.Replies.{refusal}
-use Rattle.journal.specs.Waiting.{why_waits}
-use Rattle.validator_core.specs.Messages.{JudgesMessage}
-use Rattle.validator_core.specs.Signatures.{is_witness_under}
-use Rattle.validator_core.specs.View.{CoreView, accepted_by, state_of, told_of}
-use Rattle.witness_receipts.specs.Fates.{IsFate, event_fate, fate_of, first_some, live_there, signing_reason, waiting_fate, when}
-use Rattle.witness_core.specs.Telling.{IsOfReceipt}
-use Rattle.witness_receipts.specs.declared.fate.Fate.{Fate}
-use Rattle.witness_receipts.specs.declared.fate.Fate.TheVariants.{Stored, Waits, Seen, NotAnEvent, Refused}
+use Rattle.core_tables.specs.CoreTables.View.{body_of}
+use Rattle.event_body.specs.EventBody.Events.{is_receipt, prefix_of, sn_of}
+use Rattle.event_body.specs.declared.event_body.body_fault.BodyFault.{BodyFault}
+use Rattle.event_body.specs.declared.event_body.event.Event.{Event}
+use Rattle.journal.specs.declared.journal.body.Body.{Body}
+use Rattle.journal.specs.declared.journal.reply.Reason.{Reason}
+use Rattle.journal.specs.declared.journal.why.Why.{Why}
+use Rattle.journal.specs.Journal.Logs.{is_in, takes}
+use Rattle.journal.specs.Journal.Replies.{refusal}
+use Rattle.journal.specs.Journal.Waiting.{why_waits}
+use Rattle.validator_core.specs.ValidatorCore.Messages.{JudgesMessage}
+use Rattle.validator_core.specs.ValidatorCore.Signatures.{is_witness_under}
+use Rattle.validator_core.specs.ValidatorCore.View.{CoreView, accepted_by, state_of, told_of}
+use Rattle.witness_core.specs.WitnessReceipts.Fates.{IsFate, event_fate, fate_of, first_some, live_there, signing_reason, waiting_fate, when}
+use Rattle.witness_core.specs.WitnessCore.Telling.{IsOfReceipt}
+use Rattle.witness_core.specs.declared.witness_receipts.fate.Fate.{Fate}
+use Rattle.witness_core.specs.declared.witness_receipts.fate.Fate.TheVariants.{Stored, Waits, Seen, NotAnEvent, Refused}
 
 -- it is the fate of an event that the core was told of
 abbrev pub IsOfEvent : Fate → Type 0

@@ -3,32 +3,32 @@ use Rattle.std.proofs.Common.{◌≡◌, ℕ, Bool, false, List, ◌++◌, Optio
 use Rattle.cesr_codes.specs.declared.key.Key.{Key}
 use Rattle.cesr_codes.specs.declared.sig.Sig.{Sig}
 use Rattle.cesr_stream.specs.declared.message.Message.{Message}
-use Rattle.core_tables.specs.View.{body_of}
-use Rattle.event_body.specs.Events.{is_receipt}
-use Rattle.event_body.specs.declared.event.Event.{Event}
-use Rattle.journal.specs.declared.body.Body.{Body}
-use Rattle.journal.specs.declared.claim.Claim.{Claim}
-use Rattle.journal.specs.Grown.{IsGrown}
-use Rattle.journal.specs.History.{took}
-use Rattle.journal.specs.Replies.{claims_of}
-use Rattle.keri_disk.specs.Images.{DiskTold}
-use Rattle.keri_disk.proofs.Moments.{KnowsNow}
+use Rattle.core_tables.specs.CoreTables.View.{body_of}
+use Rattle.event_body.specs.EventBody.Events.{is_receipt}
+use Rattle.event_body.specs.declared.event_body.event.Event.{Event}
+use Rattle.journal.specs.declared.journal.body.Body.{Body}
+use Rattle.journal.specs.declared.journal.claim.Claim.{Claim}
+use Rattle.journal.specs.Journal.Grown.{IsGrown}
+use Rattle.journal.specs.Journal.History.{took}
+use Rattle.journal.specs.Journal.Replies.{claims_of}
+use Rattle.shelf_log.specs.KeriDisk.Images.{DiskTold}
+use Rattle.shelf_log.proofs.KeriDiskLemmas.Moments.{KnowsNow}
 use Rattle.keri_outside.specs.declared.inquiry.Inquiry.{Inquiry}
 use Rattle.keri_outside.specs.declared.limits.Limits.{Limits}
-use Rattle.validator_core.specs.Messages.{JudgesMessage}
-use Rattle.validator_core.specs.View.{CoreView, Follows}
-use Rattle.witness_core.specs.Faults.{TakeFault}
-use Rattle.witness_store.specs.Faults.{StoresStill}
-use Rattle.witness_store.specs.Histories.{history_of}
-use Rattle.witness_store.specs.Storing.{AreStored, GoesOn, IsOnWay}
-use Rattle.witness_core.specs.Telling.{AsksVerdicts, Came, Fails, FailsMessage, Hears, IsUntold, TellsEvent, TellsFault, full, untold, told}
-use Rattle.witness_store.specs.declared.room.Room.{Room}
-use Rattle.witness_store.specs.declared.witness_fault.WitnessFault.{WitnessFault}
-use Rattle.witness_store.specs.declared.witness_fault.WitnessFault.TheVariants.{DiskFault, SignerFault, VerifierFault, Full, Broken, OutOfMemory}
-use Rattle.validator_core.proofs.OpenQuestions.{follows_on}
-use Rattle.witness_core.proofs.Heard.{came_asks, hears_none, untold_asks}
-use Rattle.witness_store.proofs.Entries.{history_follows, history_same, on_way_more}
-use Rattle.witness_store.proofs.Stored.{goes_none}
+use Rattle.validator_core.specs.ValidatorCore.Messages.{JudgesMessage}
+use Rattle.validator_core.specs.ValidatorCore.View.{CoreView, Follows}
+use Rattle.witness_core.specs.WitnessCore.Faults.{TakeFault}
+use Rattle.witness_core.specs.WitnessStore.Faults.{StoresStill}
+use Rattle.witness_core.specs.WitnessStore.Histories.{history_of}
+use Rattle.witness_core.specs.WitnessStore.Storing.{AreStored, GoesOn, IsOnWay}
+use Rattle.witness_core.specs.WitnessCore.Telling.{AsksVerdicts, Came, Fails, FailsMessage, Hears, IsUntold, TellsEvent, TellsFault, full, untold, told}
+use Rattle.witness_core.specs.declared.witness_store.room.Room.{Room}
+use Rattle.witness_core.specs.declared.witness_store.witness_fault.WitnessFault.{WitnessFault}
+use Rattle.witness_core.specs.declared.witness_store.witness_fault.WitnessFault.TheVariants.{DiskFault, SignerFault, VerifierFault, Full, Broken, OutOfMemory}
+use Rattle.validator_core.proofs.ValidatorCoreLemmas.OpenQuestions.{follows_on}
+use Rattle.witness_core.proofs.WitnessCoreLemmas.Heard.{came_asks, hears_none, untold_asks}
+use Rattle.witness_core.proofs.WitnessStoreLemmas.Entries.{history_follows, history_same, on_way_more}
+use Rattle.witness_core.proofs.WitnessStoreLemmas.Stored.{goes_none}
 
 module _ (says : Key → List ℕ → Sig → Option Bool) (m : Message) (event : Event) (judged : JudgesMessage m (Ok event)) (no_receipt : is_receipt event ≡ false) where
   -- its entry, and then verdicts

@@ -9,34 +9,34 @@ use Rattle.std.proofs.lemmas.Option.{slice_get_within}
 use Rattle.cesr_codes.specs.declared.key.Key.{Key}
 use Rattle.cesr_codes.specs.declared.sig.Sig.{Sig}
 use Rattle.cesr_stream.specs.declared.message.Message.{Message}
-use Rattle.core_tables.specs.View.{body_of}
-use Rattle.event_body.specs.Events.{is_receipt}
-use Rattle.event_body.specs.declared.event.Event.{Event}
+use Rattle.core_tables.specs.CoreTables.View.{body_of}
+use Rattle.event_body.specs.EventBody.Events.{is_receipt}
+use Rattle.event_body.specs.declared.event_body.event.Event.{Event}
 use Rattle.keri_outside.specs.declared.signing.Signing.{Signing}
-use Rattle.keri_specs.specs.Told.{Puts, after}
-use Rattle.keri_specs.proofs.Putting.{after-nil}
-use Rattle.journal.specs.declared.body.Body.{Body}
-use Rattle.journal.specs.Accepted.{accepted}
-use Rattle.journal.specs.History.{Told, took}
-use Rattle.journal.specs.Replies.{claims_of}
-use Rattle.journal.proofs.Accepting.{accepted_extends}
-use Rattle.validator_core.specs.Messages.{JudgesMessage}
-use Rattle.validator_core.specs.Signatures.{is_witness_under}
-use Rattle.validator_core.specs.View.{CoreView, Follows, accepted_by, base_of, open_of, told_of}
-use Rattle.witness_core.specs.Faults.{CausedBy, FullBy, SignFault, TakeFault}
-use Rattle.witness_store.specs.Faults.{StoresStill}
-use Rattle.witness_receipts.specs.Fates.{IsFate}
-use Rattle.witness_core.specs.Outcomes.{AreReceipts, AsksSigner, IsOfStored, IsOutcomeOf, KeepsList, TellsFate, due_by}
-use Rattle.witness_receipts.specs.Receipts.{IsReceiptOf, again, due, signings_of}
-use Rattle.witness_core.specs.Telling.{TellsEvent, TellsFault}
-use Rattle.witness_receipts.specs.declared.fate.Fate.{Fate}
-use Rattle.witness_receipts.specs.declared.fate.Fate.TheVariants.{Stored, Waits, Seen, NotAnEvent, Refused}
-use Rattle.witness_core.specs.declared.outcome.Outcome.{Outcome}
-use Rattle.witness_receipts.specs.declared.receipt.Receipt.{Receipt}
-use Rattle.witness_store.specs.declared.witness_fault.WitnessFault.{WitnessFault}
-use Rattle.witness_store.specs.declared.witness_fault.WitnessFault.TheVariants.{DiskFault, SignerFault, VerifierFault, Full, Broken, OutOfMemory}
-use Rattle.witness_store.proofs.Lists.{take_front}
-use Rattle.witness_core.proofs.MessageFates.{IsOfEvent, fate_judged, of_event}
+use Rattle.lists.specs.KeriSpecs.Told.{Puts, after}
+use Rattle.lists.proofs.KeriSpecsLemmas.Putting.{after-nil}
+use Rattle.journal.specs.declared.journal.body.Body.{Body}
+use Rattle.journal.specs.Journal.Accepted.{accepted}
+use Rattle.journal.specs.Journal.History.{Told, took}
+use Rattle.journal.specs.Journal.Replies.{claims_of}
+use Rattle.journal.proofs.JournalLemmas.Accepting.{accepted_extends}
+use Rattle.validator_core.specs.ValidatorCore.Messages.{JudgesMessage}
+use Rattle.validator_core.specs.ValidatorCore.Signatures.{is_witness_under}
+use Rattle.validator_core.specs.ValidatorCore.View.{CoreView, Follows, accepted_by, base_of, open_of, told_of}
+use Rattle.witness_core.specs.WitnessCore.Faults.{CausedBy, FullBy, SignFault, TakeFault}
+use Rattle.witness_core.specs.WitnessStore.Faults.{StoresStill}
+use Rattle.witness_core.specs.WitnessReceipts.Fates.{IsFate}
+use Rattle.witness_core.specs.WitnessCore.Outcomes.{AreReceipts, AsksSigner, IsOfStored, IsOutcomeOf, KeepsList, TellsFate, due_by}
+use Rattle.witness_core.specs.WitnessReceipts.Receipts.{IsReceiptOf, again, due, signings_of}
+use Rattle.witness_core.specs.WitnessCore.Telling.{TellsEvent, TellsFault}
+use Rattle.witness_core.specs.declared.witness_receipts.fate.Fate.{Fate}
+use Rattle.witness_core.specs.declared.witness_receipts.fate.Fate.TheVariants.{Stored, Waits, Seen, NotAnEvent, Refused}
+use Rattle.witness_core.specs.declared.witness_core.outcome.Outcome.{Outcome}
+use Rattle.witness_core.specs.declared.witness_receipts.receipt.Receipt.{Receipt}
+use Rattle.witness_core.specs.declared.witness_store.witness_fault.WitnessFault.{WitnessFault}
+use Rattle.witness_core.specs.declared.witness_store.witness_fault.WitnessFault.TheVariants.{DiskFault, SignerFault, VerifierFault, Full, Broken, OutOfMemory}
+use Rattle.witness_core.proofs.WitnessStoreLemmas.Lists.{take_front}
+use Rattle.witness_core.proofs.WitnessCoreLemmas.MessageFates.{IsOfEvent, fate_judged, of_event}
 
 -- DUE: each event of which a receipt is due is accepted
 module _ (P : Body → Type 0) where

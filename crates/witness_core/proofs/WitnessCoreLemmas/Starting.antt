@@ -6,29 +6,29 @@ use Rattle.std.proofs.lemmas.Bool.{and_from, and_parts, cases_Bool}
 use Rattle.std.proofs.lemmas.List.{drop_all, length-map, take_all}
 use Rattle.std.proofs.Math.Seq.{take-length}
 use Rattle.std.proofs.lemmas.List.Sums.{sum_by-cons}
-use Rattle.event_payload.specs.Payloads.{text_in}
-use Rattle.journal.specs.declared.body.Body.{Body}
-use Rattle.journal.specs.declared.mode.Mode.{Mode}
-use Rattle.journal.specs.Acceptance.{grown_by}
-use Rattle.journal.specs.Accepted.{accepted}
-use Rattle.journal.specs.Grown.{IsGrown, fits}
-use Rattle.journal.specs.History.{bodies, claims_on}
-use Rattle.journal.specs.Journals.{InOrder, first_unfit, told_by}
-use Rattle.journal.specs.Logs.{is_in, same_body}
-use Rattle.journal.proofs.Accepting.{same_body-refl}
-use Rattle.journal.proofs.Keeping.{IsGrown-push}
-use Rattle.journal.proofs.Places.{any_at}
-use Rattle.journal.proofs.Premises.{nothing_grown}
-use Rattle.event_body.specs.Events.{is_receipt}
-use Rattle.keri_disk.specs.Images.{DiskTold}
+use Rattle.journal_views.specs.EventPayload.Payloads.{text_in}
+use Rattle.journal.specs.declared.journal.body.Body.{Body}
+use Rattle.journal.specs.declared.journal.mode.Mode.{Mode}
+use Rattle.journal.specs.Journal.Acceptance.{grown_by}
+use Rattle.journal.specs.Journal.Accepted.{accepted}
+use Rattle.journal.specs.Journal.Grown.{IsGrown, fits}
+use Rattle.journal.specs.Journal.History.{bodies, claims_on}
+use Rattle.journal.specs.Journal.Journals.{InOrder, first_unfit, told_by}
+use Rattle.journal.specs.Journal.Logs.{is_in, same_body}
+use Rattle.journal.proofs.JournalLemmas.Accepting.{same_body-refl}
+use Rattle.journal.proofs.JournalLemmas.Keeping.{IsGrown-push}
+use Rattle.journal.proofs.JournalLemmas.Places.{any_at}
+use Rattle.journal.proofs.JournalLemmas.Premises.{nothing_grown}
+use Rattle.event_body.specs.EventBody.Events.{is_receipt}
+use Rattle.shelf_log.specs.KeriDisk.Images.{DiskTold}
 use Rattle.keri_outside.specs.declared.limits.Limits.{Limits}
-use Rattle.shelf_log.specs.Settled.{AllHold}
-use Rattle.validator_core.specs.View.{CoreView, told_of}
-use Rattle.witness_store.specs.Histories.{History, bodies_in, history_of, log_in}
-use Rattle.witness_store.specs.Room.{if_waiting, is_event, signatures_on, weight}
-use Rattle.witness_store.specs.Storing.{AreStored, missing}
-use Rattle.witness_store.specs.declared.room.Room.{Room}
-use Rattle.witness_store.proofs.Stored.{missing_none}
+use Rattle.shelf_log.specs.ShelfLog.Settled.{AllHold}
+use Rattle.validator_core.specs.ValidatorCore.View.{CoreView, told_of}
+use Rattle.witness_core.specs.WitnessStore.Histories.{History, bodies_in, history_of, log_in}
+use Rattle.witness_core.specs.WitnessStore.Room.{if_waiting, is_event, signatures_on, weight}
+use Rattle.witness_core.specs.WitnessStore.Storing.{AreStored, missing}
+use Rattle.witness_core.specs.declared.witness_store.room.Room.{Room}
+use Rattle.witness_core.proofs.WitnessStoreLemmas.Stored.{missing_none}
 
 -- what fits is no receipt
 fits_event : (before : List Body) (b : Body) → fits before b ≡ true → is_event b ≡ true

@@ -5,28 +5,28 @@ use Rattle.std.proofs.lemmas.List.Elements.{All-head, All-tail}
 use Rattle.cesr_codes.specs.declared.key.Key.{Key}
 use Rattle.cesr_codes.specs.declared.sig.Sig.{Sig}
 use Rattle.cesr_stream.specs.declared.message.Message.{Message}
-use Rattle.core_tables.specs.View.{body_of}
-use Rattle.journal.specs.declared.body.Body.{Body}
-use Rattle.journal.specs.History.{Told, bodies, heard, took}
-use Rattle.keri_disk.specs.Images.{DiskTold}
-use Rattle.keri_disk.proofs.Moments.{KnowsNow}
+use Rattle.core_tables.specs.CoreTables.View.{body_of}
+use Rattle.journal.specs.declared.journal.body.Body.{Body}
+use Rattle.journal.specs.Journal.History.{Told, bodies, heard, took}
+use Rattle.shelf_log.specs.KeriDisk.Images.{DiskTold}
+use Rattle.shelf_log.proofs.KeriDiskLemmas.Moments.{KnowsNow}
 use Rattle.keri_outside.specs.declared.limits.Limits.{Limits}
-use Rattle.validator_core.specs.View.{CoreView, Stands, base_of, told_of}
-use Rattle.validator_core.specs.Verdicts.{IsVerdict}
-use Rattle.validator_core.proofs.Bodies.{bodies_heard}
-use Rattle.witness_store.specs.Faults.{AskFault, StoreFault}
-use Rattle.witness_store.specs.Histories.{history_of, log_in}
-use Rattle.witness_store.specs.Room.{IsKnown}
-use Rattle.witness_store.specs.Storing.{Appends, AreStored, GoesOn}
-use Rattle.witness_core.specs.Telling.{Hears, IsReady, IsTakenAs, IsUntold, TellsEvent, TellsFault}
-use Rattle.witness_store.specs.declared.room.Room.{Room}
-use Rattle.witness_core.specs.declared.taken.Taken.TheVariants.{Event as EventTaken}
-use Rattle.witness_store.specs.declared.witness_fault.WitnessFault.{WitnessFault}
-use Rattle.witness_store.specs.declared.witness_fault.WitnessFault.TheVariants.{DiskFault, SignerFault, VerifierFault, Full, Broken, OutOfMemory}
-use Rattle.witness_core.proofs.Entering.{untold_itself}
-use Rattle.witness_core.proofs.Judging.{one_judged}
-use Rattle.witness_store.proofs.RoomSteps.{held_is}
-use Rattle.witness_store.proofs.Stored.{goes_more, goes_none, goes_of}
+use Rattle.validator_core.specs.ValidatorCore.View.{CoreView, Stands, base_of, told_of}
+use Rattle.validator_core.specs.ValidatorCore.Verdicts.{IsVerdict}
+use Rattle.validator_core.proofs.ValidatorCoreLemmas.Bodies.{bodies_heard}
+use Rattle.witness_core.specs.WitnessStore.Faults.{AskFault, StoreFault}
+use Rattle.witness_core.specs.WitnessStore.Histories.{history_of, log_in}
+use Rattle.witness_core.specs.WitnessStore.Room.{IsKnown}
+use Rattle.witness_core.specs.WitnessStore.Storing.{Appends, AreStored, GoesOn}
+use Rattle.witness_core.specs.WitnessCore.Telling.{Hears, IsReady, IsTakenAs, IsUntold, TellsEvent, TellsFault}
+use Rattle.witness_core.specs.declared.witness_store.room.Room.{Room}
+use Rattle.witness_core.specs.declared.witness_core.taken.Taken.TheVariants.{Event as EventTaken}
+use Rattle.witness_core.specs.declared.witness_store.witness_fault.WitnessFault.{WitnessFault}
+use Rattle.witness_core.specs.declared.witness_store.witness_fault.WitnessFault.TheVariants.{DiskFault, SignerFault, VerifierFault, Full, Broken, OutOfMemory}
+use Rattle.witness_core.proofs.WitnessCoreLemmas.Entering.{untold_itself}
+use Rattle.witness_core.proofs.WitnessCoreLemmas.Judging.{one_judged}
+use Rattle.witness_core.proofs.WitnessStoreLemmas.RoomSteps.{held_is}
+use Rattle.witness_core.proofs.WitnessStoreLemmas.Stored.{goes_more, goes_none, goes_of}
 
 -- SAME: where the core and the room are as they were
 pub same_untold : (old new : CoreView) → new ≡ old → IsUntold old new

@@ -3,17 +3,17 @@ use Rattle.std.proofs.Common.{◌≡◌, ◌≤◌, ◌+◌, Bool, true, false, 
 use Rattle.std.specs.Prelude.{flat_map, sum_by, if◌then◌else◌}
 use Rattle.std.proofs.lemmas.Bool.{cases_Bool, or_parts}
 use Rattle.std.proofs.lemmas.Bool.Decides.{nat_tests}
-use Rattle.journal.specs.declared.body.Body.{Body}
-use Rattle.journal.specs.declared.claim.Claim.{Claim}
-use Rattle.journal.specs.declared.reply.Reason.{Reason}
-use Rattle.journal.specs.declared.reply.Reply.{Reply}
-use Rattle.journal.specs.declared.reply.Reply.TheVariants.{Taken, Again, Refused, Full}
-use Rattle.journal.specs.History.{bodies, taken, took}
-use Rattle.journal.specs.Logs.{is_in}
-use Rattle.journal.specs.Replies.{all_claims, is_again, is_full, reply_to}
-use Rattle.validator_core.specs.Calls.{TakesBody, told_then as told_by_reply}
-use Rattle.validator_core.specs.View.{CoreView, base_of, told_of}
-use Rattle.witness_core.specs.Telling.{Came, IsUntold}
+use Rattle.journal.specs.declared.journal.body.Body.{Body}
+use Rattle.journal.specs.declared.journal.claim.Claim.{Claim}
+use Rattle.journal.specs.declared.journal.reply.Reason.{Reason}
+use Rattle.journal.specs.declared.journal.reply.Reply.{Reply}
+use Rattle.journal.specs.declared.journal.reply.Reply.TheVariants.{Taken, Again, Refused, Full}
+use Rattle.journal.specs.Journal.History.{bodies, taken, took}
+use Rattle.journal.specs.Journal.Logs.{is_in}
+use Rattle.journal.specs.Journal.Replies.{all_claims, is_again, is_full, reply_to}
+use Rattle.validator_core.specs.ValidatorCore.Calls.{TakesBody, told_then as told_by_reply}
+use Rattle.validator_core.specs.ValidatorCore.View.{CoreView, base_of, told_of}
+use Rattle.witness_core.specs.WitnessCore.Telling.{Came, IsUntold}
 
 -- the event was told
 abbrev pub is_told : Reply → Bool

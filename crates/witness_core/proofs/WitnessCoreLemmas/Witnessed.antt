@@ -3,31 +3,31 @@ use Rattle.std.proofs.Common.{◌≡◌, ◌≤◌, ℕ, Bool, false, List, All,
 use Rattle.std.specs.Prelude.{IfSome}
 use Rattle.std.proofs.lemmas.Bool.{true≢false}
 use Rattle.std.proofs.lemmas.List.{length-map, take_all}
-use Rattle.event_payload.specs.Payloads.{text_in}
+use Rattle.journal_views.specs.EventPayload.Payloads.{text_in}
 use Rattle.cesr_codes.specs.declared.key.Key.{Key}
 use Rattle.cesr_codes.specs.declared.sig.Sig.{Sig}
 use Rattle.cesr_stream.specs.declared.message.Message.{Message}
 use Rattle.key_state.specs.Kept.{IsKept}
-use Rattle.keri_disk.specs.Images.{DiskTold}
+use Rattle.shelf_log.specs.KeriDisk.Images.{DiskTold}
 use Rattle.keri_outside.specs.declared.limits.Limits.{Limits}
-use Rattle.shelf_log.specs.Format.{Holds}
-use Rattle.shelf_log.specs.Settled.{AllHold, IsSettled}
-use Rattle.shelf_log.specs.declared.version.Version.TheVariants.{Two}
-use Rattle.journal.specs.declared.body.Body.{Body}
-use Rattle.validator_core.specs.View.{CoreView, accepted_by}
-use Rattle.witness_core.specs.Faults.{Goes}
-use Rattle.witness_store.specs.Faults.{StoresStill, breaks}
-use Rattle.witness_store.specs.Histories.{history_of}
-use Rattle.witness_store.specs.Payloads.{AreListed}
-use Rattle.witness_store.specs.Starts.{IsFirstRoom, IsStarted, ReadsAgain}
-use Rattle.witness_store.specs.Storing.{AreStored, GoesOn, StoresOn, missing, payloads}
-use Rattle.witness_core.specs.Telling.{IsUntold, TellsFault}
-use Rattle.witness_store.specs.declared.room.Room.{Room}
-use Rattle.witness_store.specs.declared.witness_fault.WitnessFault.{WitnessFault}
-use Rattle.witness_store.specs.declared.witness_fault.WitnessFault.TheVariants.{DiskFault, SignerFault, VerifierFault, Full, Broken, OutOfMemory}
-use Rattle.witness_core.proofs.Listed.{listed}
-use Rattle.witness_core.proofs.Starting.{started}
-use Rattle.witness_store.proofs.Stored.{payloads_all}
+use Rattle.shelf_log.specs.ShelfLog.Format.{Holds}
+use Rattle.shelf_log.specs.ShelfLog.Settled.{AllHold, IsSettled}
+use Rattle.shelf_log.specs.declared.shelf_log.version.Version.TheVariants.{Two}
+use Rattle.journal.specs.declared.journal.body.Body.{Body}
+use Rattle.validator_core.specs.ValidatorCore.View.{CoreView, accepted_by}
+use Rattle.witness_core.specs.WitnessCore.Faults.{Goes}
+use Rattle.witness_core.specs.WitnessStore.Faults.{StoresStill, breaks}
+use Rattle.witness_core.specs.WitnessStore.Histories.{history_of}
+use Rattle.witness_core.specs.WitnessStore.Payloads.{AreListed}
+use Rattle.witness_core.specs.WitnessStore.Starts.{IsFirstRoom, IsStarted, ReadsAgain}
+use Rattle.witness_core.specs.WitnessStore.Storing.{AreStored, GoesOn, StoresOn, missing, payloads}
+use Rattle.witness_core.specs.WitnessCore.Telling.{IsUntold, TellsFault}
+use Rattle.witness_core.specs.declared.witness_store.room.Room.{Room}
+use Rattle.witness_core.specs.declared.witness_store.witness_fault.WitnessFault.{WitnessFault}
+use Rattle.witness_core.specs.declared.witness_store.witness_fault.WitnessFault.TheVariants.{DiskFault, SignerFault, VerifierFault, Full, Broken, OutOfMemory}
+use Rattle.witness_core.proofs.WitnessCoreLemmas.Listed.{listed}
+use Rattle.witness_core.proofs.WitnessCoreLemmas.Starting.{started}
+use Rattle.witness_core.proofs.WitnessStoreLemmas.Stored.{payloads_all}
 
 -- STORED: what is stored is listed
 pub are_listed : (core : CoreView) (list : List (List ℕ)) (limits : Limits) (broken : Bool) (told : DiskTold) (room : Room) → All (λ b. IsKept b.event) (accepted_by core)

@@ -5,31 +5,31 @@ use Rattle.std.proofs.lemmas.Grind.{flat_map-append}
 use Rattle.cesr_codes.specs.declared.key.Key.{Key}
 use Rattle.cesr_codes.specs.declared.sig.Sig.{Sig}
 use Rattle.cesr_stream.specs.declared.message.Message.{Message}
-use Rattle.journal.specs.declared.body.Body.{Body}
-use Rattle.journal.specs.declared.mode.Mode.{Mode}
-use Rattle.journal.specs.Accepted.{accepted}
-use Rattle.journal.specs.History.{Triple, bodies, claims_on, has_verdict, same_triple}
-use Rattle.journal.specs.Journals.{told_by}
-use Rattle.journal.specs.Logs.{stands}
-use Rattle.journal.specs.Questions.{questions, raised, raised_by}
+use Rattle.journal.specs.declared.journal.body.Body.{Body}
+use Rattle.journal.specs.declared.journal.mode.Mode.{Mode}
+use Rattle.journal.specs.Journal.Accepted.{accepted}
+use Rattle.journal.specs.Journal.History.{Triple, bodies, claims_on, has_verdict, same_triple}
+use Rattle.journal.specs.Journal.Journals.{told_by}
+use Rattle.journal.specs.Journal.Logs.{stands}
+use Rattle.journal.specs.Journal.Questions.{questions, raised, raised_by}
 use Rattle.keri_outside.specs.declared.inquiry.Inquiry.{Inquiry}
 use Rattle.keri_outside.specs.declared.limits.Limits.{Limits}
-use Rattle.keri_specs.specs.Told.{after}
-use Rattle.keri_specs.proofs.Putting.{after-append}
+use Rattle.lists.specs.KeriSpecs.Told.{after}
+use Rattle.lists.proofs.KeriSpecsLemmas.Putting.{after-append}
 use Rattle.key_state.specs.Same.{distinct}
-use Rattle.validator_core.specs.Verdicts.{inquiries_in, inquiry_in, inquiry_on}
-use Rattle.validator_core.specs.View.{CoreView, base_of, open_of, told_of}
-use Rattle.validator_core.proofs.OpenQuestions.{all_heard}
-use Rattle.witness_core.specs.Outcomes.{TellsFate, due_by}
-use Rattle.witness_receipts.specs.Receipts.{signings_of}
-use Rattle.witness_store.specs.Starts.{IsStarted}
-use Rattle.witness_core.specs.Telling.{AsksVerdicts, IsUntold}
-use Rattle.witness_receipts.specs.declared.fate.Fate.{Fate}
-use Rattle.witness_receipts.specs.declared.fate.Fate.TheVariants.{Stored, Waits, Seen, NotAnEvent, Refused}
-use Rattle.witness_core.proofs.Entering.{untold_itself}
-use Rattle.witness_core.proofs.Heard.{untold_asks}
-use Rattle.witness_link.specs.Calls.{AreCalls, Call, signings_in}
-use Rattle.witness_link.specs.Links.{Standing, Terms}
+use Rattle.validator_core.specs.ValidatorCore.Verdicts.{inquiries_in, inquiry_in, inquiry_on}
+use Rattle.validator_core.specs.ValidatorCore.View.{CoreView, base_of, open_of, told_of}
+use Rattle.validator_core.proofs.ValidatorCoreLemmas.OpenQuestions.{all_heard}
+use Rattle.witness_core.specs.WitnessCore.Outcomes.{TellsFate, due_by}
+use Rattle.witness_core.specs.WitnessReceipts.Receipts.{signings_of}
+use Rattle.witness_core.specs.WitnessStore.Starts.{IsStarted}
+use Rattle.witness_core.specs.WitnessCore.Telling.{AsksVerdicts, IsUntold}
+use Rattle.witness_core.specs.declared.witness_receipts.fate.Fate.{Fate}
+use Rattle.witness_core.specs.declared.witness_receipts.fate.Fate.TheVariants.{Stored, Waits, Seen, NotAnEvent, Refused}
+use Rattle.witness_core.proofs.WitnessCoreLemmas.Entering.{untold_itself}
+use Rattle.witness_core.proofs.WitnessCoreLemmas.Heard.{untold_asks}
+use Rattle.witness_core.specs.WitnessLink.Calls.{AreCalls, Call, signings_in}
+use Rattle.witness_core.specs.WitnessLink.Links.{Standing, Terms}
 
 -- no question is open where nothing was told
 none_either : {A : Type 0} (so : Bool) (xs : List A) → xs ≡ [] → (if so then xs else []) ≡ []

@@ -6,25 +6,25 @@ use Rattle.std.proofs.lemmas.List.{map-append}
 use Rattle.std.proofs.lemmas.List.Elements.{All-append, All-nil, All-weaker}
 use Rattle.cesr_codes.specs.declared.key.Key.{Key}
 use Rattle.cesr_stream.specs.declared.message.Message.{Message}
-use Rattle.keri_disk.proofs.Moments.{KnowsNow}
-use Rattle.keri_specs.specs.Causes.{Rose}
-use Rattle.keri_specs.specs.Told.{after}
-use Rattle.keri_specs.proofs.Putting.{after-append, after-nil}
-use Rattle.run_status.specs.declared.close.Close.{Close}
-use Rattle.run_status.specs.declared.close.Close.TheVariants.{End, Bad, ReadFault, VerifierFault, SignerFault, DiskFault, WriteFault, Malformed, Full, OutOfMemory}
-use Rattle.validator_core.specs.View.{open_of}
-use Rattle.witness_core.specs.Outcomes.{AsksSigner}
-use Rattle.witness_store.specs.Storing.{AllStand, Grown}
-use Rattle.witness_receipts.specs.declared.receipt.Receipt.{Receipt}
-use Rattle.witness_store.specs.declared.witness_fault.WitnessFault.{WitnessFault}
-use Rattle.witness_store.specs.declared.witness_fault.WitnessFault.TheVariants as fault
-use Rattle.witness_link.specs.Calls.{AreCalls, Call, digests_in, messages_in, receipts_in, refusals_in, refused_as, seen_in, signings_in, text_of}
-use Rattle.witness_link.specs.Links.{LinkTold, Standing, Terms, counts_of, standing_of, terms_of}
-use Rattle.witness_link.specs.Serving.{FailsToPut, FailsToTake, GoesOn, HasEnded, HasServed, Serves, StopsBy, StopsTaking, Wrote, signed_for}
-use Rattle.witness_link.specs.Stored.{IsLawfulList, IsOfListed}
-use Rattle.witness_link.specs.Taking.{Counted, FailsAt, IsWhole}
-use Rattle.witness_link.proofs.Asked.{asks_on, calls_close, signings_more, untold_asked}
-use Rattle.witness_link.proofs.Storing.{front_of, of_longer, stores_more, stores_none}
+use Rattle.shelf_log.proofs.KeriDiskLemmas.Moments.{KnowsNow}
+use Rattle.lists.specs.KeriSpecs.Causes.{Rose}
+use Rattle.lists.specs.KeriSpecs.Told.{after}
+use Rattle.lists.proofs.KeriSpecsLemmas.Putting.{after-append, after-nil}
+use Rattle.run_status.specs.declared.run_status.close.Close.{Close}
+use Rattle.run_status.specs.declared.run_status.close.Close.TheVariants.{End, Bad, ReadFault, VerifierFault, SignerFault, DiskFault, WriteFault, Malformed, Full, OutOfMemory}
+use Rattle.validator_core.specs.ValidatorCore.View.{open_of}
+use Rattle.witness_core.specs.WitnessCore.Outcomes.{AsksSigner}
+use Rattle.witness_core.specs.WitnessStore.Storing.{AllStand, Grown}
+use Rattle.witness_core.specs.declared.witness_receipts.receipt.Receipt.{Receipt}
+use Rattle.witness_core.specs.declared.witness_store.witness_fault.WitnessFault.{WitnessFault}
+use Rattle.witness_core.specs.declared.witness_store.witness_fault.WitnessFault.TheVariants as fault
+use Rattle.witness_core.specs.WitnessLink.Calls.{AreCalls, Call, digests_in, messages_in, receipts_in, refusals_in, refused_as, seen_in, signings_in, text_of}
+use Rattle.witness_core.specs.WitnessLink.Links.{LinkTold, Standing, Terms, counts_of, standing_of, terms_of}
+use Rattle.witness_core.specs.WitnessLink.Serving.{FailsToPut, FailsToTake, GoesOn, HasEnded, HasServed, Serves, StopsBy, StopsTaking, Wrote, signed_for}
+use Rattle.witness_core.specs.WitnessLink.Stored.{IsLawfulList, IsOfListed}
+use Rattle.witness_core.specs.WitnessLink.Taking.{Counted, FailsAt, IsWhole}
+use Rattle.witness_core.proofs.WitnessLinkLemmas.Asked.{asks_on, calls_close, signings_more, untold_asked}
+use Rattle.witness_core.proofs.WitnessLinkLemmas.Storing.{front_of, of_longer, stores_more, stores_none}
 
 -- calls, and then others
 calls_more : (terms : Terms) (old : Standing) (calls : List Call) (mid : Standing) (more : List Call) (new : Standing) → AreCalls terms old calls mid → AreCalls terms mid more new → AreCalls terms old (calls ++ more) new

@@ -10,28 +10,28 @@ use Rattle.cesr_stream.specs.Assembly.{all_of}
 use Rattle.cesr_stream.specs.Items.{Placed, IsEnd}
 use Rattle.cesr_stream.specs.Messages.{messages}
 use Rattle.cesr_stream.specs.Reading.{Reading, judged}
-use Rattle.journal.specs.Feeds.{AreFirst}
-use Rattle.journal.specs.declared.refusal.Refusal.{Refusal}
+use Rattle.journal.specs.Journal.Feeds.{AreFirst}
+use Rattle.journal.specs.declared.journal.refusal.Refusal.{Refusal}
 use Rattle.keri_outside.specs.declared.inquiry.Inquiry.{Inquiry}
 use Rattle.keri_outside.specs.declared.limits.Limits.{Limits}
 use Rattle.keri_outside.specs.declared.signing.Signing.{Signing}
-use Rattle.message_feed.specs.Closing.{ClosesBy, Gave}
-use Rattle.message_feed.specs.Feeds.{Feeds, Stream}
-use Rattle.message_feed.specs.declared.feed_close.FeedClose.{FeedClose}
-use Rattle.message_feed.specs.declared.feed_close.FeedClose.TheVariants as feed
-use Rattle.run_status.specs.Readers.{SourceTold}
-use Rattle.run_status.specs.declared.close.Close.{Close}
-use Rattle.run_status.specs.declared.close.Close.TheVariants.{End, Bad, ReadFault, VerifierFault, SignerFault, DiskFault, WriteFault, Malformed, Full, OutOfMemory}
-use Rattle.witness_store.specs.declared.witness_fault.WitnessFault.{WitnessFault}
-use Rattle.witness_store.specs.declared.witness_fault.WitnessFault.TheVariants as fault
-use Rattle.witness_link.specs.Calls.{Call, messages_in, receipts_in}
-use Rattle.witness_link.specs.Links.{LinkTold, WitnessTold, terms_of, told_of_link}
-use Rattle.witness_link.specs.Offered.{Finishes, HasStopped, HasTaken, LendsSame, link_told}
-use Rattle.witness_link.specs.Served.{ClosesLink, ReadsAll, ServesLink, StopsAtNext}
-use Rattle.witness_link.specs.Serving.{GoesOn, HasEnded, HasServed, Serves, StopsTaking}
-use Rattle.witness_link.specs.declared.link.Link.{Link}
-use Rattle.witness_link.proofs.Storing.{held_each}
-use Rattle.witness_link.proofs.Streams.{all_from, at_bad, at_end, first_none, first_of, some_open}
+use Rattle.run_status.specs.MessageFeed.Closing.{ClosesBy, Gave}
+use Rattle.run_status.specs.MessageFeed.Feeds.{Feeds, Stream}
+use Rattle.run_status.specs.declared.message_feed.feed_close.FeedClose.{FeedClose}
+use Rattle.run_status.specs.declared.message_feed.feed_close.FeedClose.TheVariants as feed
+use Rattle.run_status.specs.RunStatus.Readers.{SourceTold}
+use Rattle.run_status.specs.declared.run_status.close.Close.{Close}
+use Rattle.run_status.specs.declared.run_status.close.Close.TheVariants.{End, Bad, ReadFault, VerifierFault, SignerFault, DiskFault, WriteFault, Malformed, Full, OutOfMemory}
+use Rattle.witness_core.specs.declared.witness_store.witness_fault.WitnessFault.{WitnessFault}
+use Rattle.witness_core.specs.declared.witness_store.witness_fault.WitnessFault.TheVariants as fault
+use Rattle.witness_core.specs.WitnessLink.Calls.{Call, messages_in, receipts_in}
+use Rattle.witness_core.specs.WitnessLink.Links.{LinkTold, WitnessTold, terms_of, told_of_link}
+use Rattle.witness_core.specs.WitnessLink.Offered.{Finishes, HasStopped, HasTaken, LendsSame, link_told}
+use Rattle.witness_core.specs.WitnessLink.Served.{ClosesLink, ReadsAll, ServesLink, StopsAtNext}
+use Rattle.witness_core.specs.WitnessLink.Serving.{GoesOn, HasEnded, HasServed, Serves, StopsTaking}
+use Rattle.witness_core.specs.declared.witness_link.link.Link.{Link}
+use Rattle.witness_core.proofs.WitnessLinkLemmas.Storing.{held_each}
+use Rattle.witness_core.proofs.WitnessLinkLemmas.Streams.{all_from, at_bad, at_end, first_none, first_of, some_open}
 
 module _ (limits : Limits) (source_old source_new : SourceTold) (old new : LinkTold) where
   -- these bytes were read, and maybe more

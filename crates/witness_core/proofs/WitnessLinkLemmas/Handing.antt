@@ -4,18 +4,18 @@ use Rattle.std.specs.Prelude.{Bool, IfErr, OnOk, false}
 use Rattle.cesr_codes.specs.declared.key.Key.{Key}
 use Rattle.cesr_codes.specs.declared.sig.Sig.{Sig}
 use Rattle.cesr_stream.specs.declared.message.Message.{Message}
-use Rattle.keri_disk.proofs.Moments.{KnowsNow}
+use Rattle.shelf_log.proofs.KeriDiskLemmas.Moments.{KnowsNow}
 use Rattle.keri_outside.specs.declared.inquiry.Inquiry.{Inquiry}
 use Rattle.keri_outside.specs.declared.signing.Signing.{Signing}
-use Rattle.run_status.specs.declared.close.Close.{Close}
-use Rattle.witness_store.specs.Storing.{AllStand}
-use Rattle.witness_link.specs.Links.{LinkTold, WitnessTold}
-use Rattle.witness_link.specs.Offered.{HasStopped, HasTaken, LendsSame, link_told}
-use Rattle.witness_link.specs.Serving.{ServesOne}
-use Rattle.witness_link.specs.Stored.{IsLawfulList}
-use Rattle.witness_link.specs.Taking.{IsWhole}
-use Rattle.witness_link.specs.declared.link.Link.{Link}
-use Rattle.witness_link.proofs.Chains.{ended_more, served_more, served_none}
+use Rattle.run_status.specs.declared.run_status.close.Close.{Close}
+use Rattle.witness_core.specs.WitnessStore.Storing.{AllStand}
+use Rattle.witness_core.specs.WitnessLink.Links.{LinkTold, WitnessTold}
+use Rattle.witness_core.specs.WitnessLink.Offered.{HasStopped, HasTaken, LendsSame, link_told}
+use Rattle.witness_core.specs.WitnessLink.Serving.{ServesOne}
+use Rattle.witness_core.specs.WitnessLink.Stored.{IsLawfulList}
+use Rattle.witness_core.specs.WitnessLink.Taking.{IsWhole}
+use Rattle.witness_core.specs.declared.witness_link.link.Link.{Link}
+use Rattle.witness_core.proofs.WitnessLinkLemmas.Chains.{ended_more, served_more, served_none}
 
 module _ {W K V G : Type 0} (witness_seen : W → WitnessTold) (written : K → Option (List ℕ)) (sink_faults : K → ℕ) (says : V → Key → List ℕ → Sig → Option Bool)
     (inquiries : V → Option (List Inquiry)) (verifier_faults : V → ℕ) (gives : G → Key → List ℕ → Option Sig) (signings : G → Option (List Signing)) (signer_faults : G → ℕ) where

@@ -5,43 +5,43 @@ use Rattle.std.specs.List.{AllZip, cons_option}
 use Rattle.std.proofs.Math.Seq.{drop-append_seam}
 use Rattle.std.proofs.lemmas.Bool.{cases_Bool}
 use Rattle.std.proofs.lemmas.List.Elements.{All-append, All-cons, All-drop, All-filter, All-head, All-nil, All-tail, All-take, All-weaker, Contains-append_left, Contains-append_right, Contains-push}
-use Rattle.acceptance.specs.Standing.{IsHeld}
+use Rattle.validator_core.specs.Acceptance.Standing.{IsHeld}
 use Rattle.cesr_codes.specs.declared.key.Key.{Key}
 use Rattle.cesr_stream.specs.Front.{front}
 use Rattle.cesr_stream.specs.Parts.{Part, whole, refused, unfinished}
 use Rattle.cesr_stream.specs.declared.message.Message.{Message}
-use Rattle.core_tables.specs.View.{body_of}
-use Rattle.event_body.specs.Judging.{SpellsEvent}
-use Rattle.event_body.specs.declared.event.Event.{Event}
-use Rattle.event_payload.specs.Kept.{kept}
-use Rattle.event_payload.specs.Payloads.{are_groups, front_with, groups_text, parts_of, text_in}
-use Rattle.journal.specs.declared.body.Body.{Body}
-use Rattle.journal.specs.declared.mode.Mode.{Mode}
-use Rattle.journal.specs.Accepted.{accepted}
-use Rattle.journal.specs.History.{Told, took}
-use Rattle.journal.specs.Replies.{claims_of}
-use Rattle.journal.proofs.Accepting.{accepted_extends}
+use Rattle.core_tables.specs.CoreTables.View.{body_of}
+use Rattle.event_body.specs.EventBody.Judging.{SpellsEvent}
+use Rattle.event_body.specs.declared.event_body.event.Event.{Event}
+use Rattle.journal_views.specs.EventPayload.Kept.{kept}
+use Rattle.journal_views.specs.EventPayload.Payloads.{are_groups, front_with, groups_text, parts_of, text_in}
+use Rattle.journal.specs.declared.journal.body.Body.{Body}
+use Rattle.journal.specs.declared.journal.mode.Mode.{Mode}
+use Rattle.journal.specs.Journal.Accepted.{accepted}
+use Rattle.journal.specs.Journal.History.{Told, took}
+use Rattle.journal.specs.Journal.Replies.{claims_of}
+use Rattle.journal.proofs.JournalLemmas.Accepting.{accepted_extends}
 use Rattle.key_state.specs.Kept.{IsKept}
-use Rattle.keri_disk.specs.Images.{DiskTold}
+use Rattle.shelf_log.specs.KeriDisk.Images.{DiskTold}
 use Rattle.keri_outside.specs.declared.limits.Limits.{Limits}
-use Rattle.validator_core.specs.Signatures.{is_witness_under}
+use Rattle.validator_core.specs.ValidatorCore.Signatures.{is_witness_under}
 use Rattle.quorum_laws.proofs.Inside.{accepted_inside}
-use Rattle.validator_core.specs.View.{CoreView, Follows, Stands, accepted_by, base_of, told_of}
-use Rattle.witness_store.specs.Histories.{History, history_of}
-use Rattle.witness_store.specs.Payloads.{AreListed, IsPayload, Pointwise}
-use Rattle.witness_core.specs.Outcomes.{TellsFate, due_by}
-use Rattle.witness_receipts.specs.Receipts.{AreReceiptsOf, IsReceiptOf, again, due}
-use Rattle.witness_store.specs.Storing.{AllStand, AreStored, HoldsFirst, by_entries}
-use Rattle.witness_core.specs.Telling.{TellsEvent}
-use Rattle.witness_receipts.specs.declared.fate.Fate.{Fate}
-use Rattle.witness_receipts.specs.declared.fate.Fate.TheVariants.{Stored, Waits, Seen, NotAnEvent, Refused}
-use Rattle.witness_receipts.specs.declared.receipt.Receipt.{Receipt}
-use Rattle.witness_store.specs.declared.room.Room.{Room}
-use Rattle.witness_core.proofs.Listed.{are_so, listed}
-use Rattle.witness_store.proofs.Lists.{take_front}
-use Rattle.witness_store.proofs.Stored.{first_held, missing_none, payloads_all}
-use Rattle.witness_link.specs.Links.{Terms}
-use Rattle.witness_link.specs.Stored.{HasEvent, HoldsAccepted, IsOfListed}
+use Rattle.validator_core.specs.ValidatorCore.View.{CoreView, Follows, Stands, accepted_by, base_of, told_of}
+use Rattle.witness_core.specs.WitnessStore.Histories.{History, history_of}
+use Rattle.witness_core.specs.WitnessStore.Payloads.{AreListed, IsPayload, Pointwise}
+use Rattle.witness_core.specs.WitnessCore.Outcomes.{TellsFate, due_by}
+use Rattle.witness_core.specs.WitnessReceipts.Receipts.{AreReceiptsOf, IsReceiptOf, again, due}
+use Rattle.witness_core.specs.WitnessStore.Storing.{AllStand, AreStored, HoldsFirst, by_entries}
+use Rattle.witness_core.specs.WitnessCore.Telling.{TellsEvent}
+use Rattle.witness_core.specs.declared.witness_receipts.fate.Fate.{Fate}
+use Rattle.witness_core.specs.declared.witness_receipts.fate.Fate.TheVariants.{Stored, Waits, Seen, NotAnEvent, Refused}
+use Rattle.witness_core.specs.declared.witness_receipts.receipt.Receipt.{Receipt}
+use Rattle.witness_core.specs.declared.witness_store.room.Room.{Room}
+use Rattle.witness_core.proofs.WitnessCoreLemmas.Listed.{are_so, listed}
+use Rattle.witness_core.proofs.WitnessStoreLemmas.Lists.{take_front}
+use Rattle.witness_core.proofs.WitnessStoreLemmas.Stored.{first_held, missing_none, payloads_all}
+use Rattle.witness_core.specs.WitnessLink.Links.{Terms}
+use Rattle.witness_core.specs.WitnessLink.Stored.{HasEvent, HoldsAccepted, IsOfListed}
 
 -- each image stands for the list
 pub stored_stand : (h : History) (list : List (List ℕ)) (limits : Limits) (broken : Bool) (told : DiskTold) (room : Room) → AreStored h list limits broken told room → AllStand told list list

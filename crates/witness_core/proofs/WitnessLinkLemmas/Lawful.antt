@@ -3,7 +3,7 @@ use Rattle.std.proofs.Common.{◌≡◌, ◌+◌, ℕ, Bool, false, List, [], �
 use Rattle.std.specs.Prelude.{All, MatchResult}
 use Rattle.std.proofs.lemmas.List.{take_at}
 use Rattle.std.proofs.lemmas.List.Elements.{All-append, All-contains, All-contains_itself, All-cons, All-drop, All-head, All-nil, All-tail, All-weaker, Contains-append_left}
-use Rattle.acceptance.specs.Standing.{IsHeld}
+use Rattle.validator_core.specs.Acceptance.Standing.{IsHeld}
 use Rattle.cesr_codes.specs.declared.key.Key.{Key}
 use Rattle.cesr_codes.specs.declared.sig.Sig.{Sig}
 use Rattle.cesr_stream.specs.Front.{front}
@@ -11,41 +11,41 @@ use Rattle.cesr_stream.specs.Parts.{whole}
 use Rattle.cesr_stream.specs.declared.item.Item.TheVariants.{Body as BodyItem}
 use Rattle.cesr_stream.specs.declared.message.Message.{Message}
 use Rattle.cesr_stream.proofs.WrittenItems.{written_front}
-use Rattle.event_body.specs.Judging.{SpellsEvent}
-use Rattle.event_body.specs.declared.event.Event.{Event}
-use Rattle.event_body.proofs.Whole.{one_event}
-use Rattle.event_payload.specs.Kept.{kept}
-use Rattle.event_payload.specs.Payloads.{groups_text, parts_of, text_in}
-use Rattle.event_payload.proofs.Written.{event_writable}
-use Rattle.journal.specs.Accepted.{accepted}
-use Rattle.journal.specs.Grown.{IsGrown}
-use Rattle.journal.specs.History.{Told}
-use Rattle.journal.specs.declared.body.Body.{Body}
-use Rattle.journal.specs.declared.mode.Mode.{Mode}
-use Rattle.journal.proofs.Keeping.{accepted_grown}
+use Rattle.event_body.specs.EventBody.Judging.{SpellsEvent}
+use Rattle.event_body.specs.declared.event_body.event.Event.{Event}
+use Rattle.event_body.proofs.EventBodyLemmas.Whole.{one_event}
+use Rattle.journal_views.specs.EventPayload.Kept.{kept}
+use Rattle.journal_views.specs.EventPayload.Payloads.{groups_text, parts_of, text_in}
+use Rattle.journal_views.proofs.EventPayloadLemmas.Written.{event_writable}
+use Rattle.journal.specs.Journal.Accepted.{accepted}
+use Rattle.journal.specs.Journal.Grown.{IsGrown}
+use Rattle.journal.specs.Journal.History.{Told}
+use Rattle.journal.specs.declared.journal.body.Body.{Body}
+use Rattle.journal.specs.declared.journal.mode.Mode.{Mode}
+use Rattle.journal.proofs.JournalLemmas.Keeping.{accepted_grown}
 use Rattle.key_state.specs.Kept.{IsKept}
-use Rattle.keri_disk.specs.Images.{DiskTold}
+use Rattle.shelf_log.specs.KeriDisk.Images.{DiskTold}
 use Rattle.keri_outside.specs.declared.limits.Limits.{Limits}
 use Rattle.quorum_laws.specs.Histories.{AreLevel}
-use Rattle.validator_core.specs.View.{CoreView, Follows, Stands, accepted_by, base_of, told_of}
-use Rattle.witness_store.specs.Histories.{history_of}
-use Rattle.witness_core.specs.Outcomes.{TellsFate}
-use Rattle.witness_store.specs.Payloads.{AreListed, IsPayload, Pointwise}
-use Rattle.witness_store.specs.Storing.{AreStored}
-use Rattle.witness_core.specs.Telling.{TellsFault}
-use Rattle.witness_receipts.specs.declared.fate.Fate.{Fate}
-use Rattle.witness_receipts.specs.declared.fate.Fate.TheVariants.{Stored, Waits, Seen, NotAnEvent, Refused}
-use Rattle.witness_core.specs.declared.outcome.Outcome.{Outcome}
-use Rattle.witness_store.specs.declared.room.Room.{Room}
-use Rattle.witness_store.specs.declared.witness_fault.WitnessFault.{WitnessFault}
-use Rattle.witness_store.specs.declared.witness_fault.WitnessFault.TheVariants as fault
-use Rattle.witness_core.proofs.Listed.{are_so}
-use Rattle.witness_core.proofs.Witnessed.{reads_again}
-use Rattle.witness_link.specs.Stored.{IsLawfulList}
-use Rattle.witness_link.specs.Taking.{IsSound}
-use Rattle.witness_link.proofs.Holding.{all_held, stored_accepted, stored_listed, stored_stand, text_front}
-use Rattle.witness_link.proofs.OnePlace.{one_level}
-use Rattle.witness_link.proofs.Restart.{starts_again}
+use Rattle.validator_core.specs.ValidatorCore.View.{CoreView, Follows, Stands, accepted_by, base_of, told_of}
+use Rattle.witness_core.specs.WitnessStore.Histories.{history_of}
+use Rattle.witness_core.specs.WitnessCore.Outcomes.{TellsFate}
+use Rattle.witness_core.specs.WitnessStore.Payloads.{AreListed, IsPayload, Pointwise}
+use Rattle.witness_core.specs.WitnessStore.Storing.{AreStored}
+use Rattle.witness_core.specs.WitnessCore.Telling.{TellsFault}
+use Rattle.witness_core.specs.declared.witness_receipts.fate.Fate.{Fate}
+use Rattle.witness_core.specs.declared.witness_receipts.fate.Fate.TheVariants.{Stored, Waits, Seen, NotAnEvent, Refused}
+use Rattle.witness_core.specs.declared.witness_core.outcome.Outcome.{Outcome}
+use Rattle.witness_core.specs.declared.witness_store.room.Room.{Room}
+use Rattle.witness_core.specs.declared.witness_store.witness_fault.WitnessFault.{WitnessFault}
+use Rattle.witness_core.specs.declared.witness_store.witness_fault.WitnessFault.TheVariants as fault
+use Rattle.witness_core.proofs.WitnessCoreLemmas.Listed.{are_so}
+use Rattle.witness_core.proofs.WitnessCoreLemmas.Witnessed.{reads_again}
+use Rattle.witness_core.specs.WitnessLink.Stored.{IsLawfulList}
+use Rattle.witness_core.specs.WitnessLink.Taking.{IsSound}
+use Rattle.witness_core.proofs.WitnessLinkLemmas.Holding.{all_held, stored_accepted, stored_listed, stored_stand, text_front}
+use Rattle.witness_core.proofs.WitnessLinkLemmas.OnePlace.{one_level}
+use Rattle.witness_core.proofs.WitnessLinkLemmas.Restart.{starts_again}
 
 -- events' bodies at the front of the same bytes are the same, since each says its own size
 same_front : (e f : Event) (x y rest more : List ℕ) → SpellsEvent e x → SpellsEvent f y → x ++ rest ≡ y ++ more → x ≡ y

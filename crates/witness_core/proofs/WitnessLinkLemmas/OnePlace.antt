@@ -2,15 +2,15 @@
 use Rattle.std.proofs.Common.{◌≡◌, ◌≤◌, ◌<◌, ◌+◌, ◌||◌, true, false, List, [], ◌∷◌, ◌++◌, Option, Some, None, is_none, refl, sym, ◌∙◌, ap, subst, append_assoc, append-nil, arith, inl, inr, Contains}
 use Rattle.std.proofs.lemmas.Bool.{cases_Bool, leb-false, eqb-true, not-false, or_parts}
 use Rattle.std.proofs.lemmas.List.Elements.{Contains-append_cases, Contains-append_left, Contains-append_right, Contains-push, Contains-push_cases}
-use Rattle.accepted_log.proofs.StateSteps.{Fits, IsNew, fits_parts, goes_onto, new_of}
+use Rattle.core_tables.proofs.AcceptedLogLemmas.StateSteps.{Fits, IsNew, fits_parts, goes_onto, new_of}
 use Rattle.cesr_codes.specs.declared.prefix.Prefix.{Prefix}
-use Rattle.event_body.specs.Events.{is_establishment, is_inception, is_interaction, is_receipt, is_rotation, prefix_of, sn_of}
-use Rattle.event_body.specs.declared.event.Event.{Event}
-use Rattle.event_body.specs.declared.event.Event.TheVariants.{Icp, Rot, Ixn, Dip, Drt, Rct}
-use Rattle.journal.specs.declared.body.Body.{Body}
-use Rattle.journal.specs.Grown.{IsGrown}
-use Rattle.journal.specs.Logs.{is_of, state, stepped, takes}
-use Rattle.journal.proofs.StateSteps.{state-other}
+use Rattle.event_body.specs.EventBody.Events.{is_establishment, is_inception, is_interaction, is_receipt, is_rotation, prefix_of, sn_of}
+use Rattle.event_body.specs.declared.event_body.event.Event.{Event}
+use Rattle.event_body.specs.declared.event_body.event.Event.TheVariants.{Icp, Rot, Ixn, Dip, Drt, Rct}
+use Rattle.journal.specs.declared.journal.body.Body.{Body}
+use Rattle.journal.specs.Journal.Grown.{IsGrown}
+use Rattle.journal.specs.Journal.Logs.{is_of, state, stepped, takes}
+use Rattle.journal.proofs.JournalLemmas.StateSteps.{state-other}
 use Rattle.key_state.specs.Heads.{head_sn}
 use Rattle.key_state.specs.KeyStates.{misfit}
 use Rattle.key_state.specs.Same.{same_prefix}

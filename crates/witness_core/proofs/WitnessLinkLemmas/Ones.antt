@@ -3,27 +3,27 @@ use Rattle.std.proofs.Common.{◌≡◌, ◌⊎◌, ℕ, List, [], ◌∷◌, �
 use Rattle.std.specs.Prelude.{All, take}
 use Rattle.std.proofs.lemmas.List.Elements.{All-nil}
 use Rattle.cesr_stream.specs.declared.message.Message.{Message}
-use Rattle.keri_specs.specs.Causes.{Rose}
-use Rattle.keri_specs.specs.Told.{after}
-use Rattle.keri_specs.proofs.Putting.{after-nil}
-use Rattle.run_status.specs.declared.close.Close.{Close}
-use Rattle.run_status.specs.declared.close.Close.TheVariants.{WriteFault}
-use Rattle.witness_core.specs.Outcomes.{AsksSigner, due_by}
-use Rattle.witness_receipts.specs.Receipts.{signings_of}
-use Rattle.witness_store.specs.Payloads.{AreListed}
-use Rattle.witness_store.specs.Storing.{StoresOn}
-use Rattle.witness_core.specs.Telling.{AsksVerdicts}
-use Rattle.witness_receipts.specs.declared.fate.Fate.{Fate}
-use Rattle.witness_receipts.specs.declared.receipt.Receipt.{Receipt}
-use Rattle.witness_store.specs.declared.witness_fault.WitnessFault.{WitnessFault}
-use Rattle.witness_store.specs.declared.witness_fault.WitnessFault.TheVariants as fault
-use Rattle.witness_link.specs.Calls.{Call, IsCall, refused_as, seen_in, text_of}
-use Rattle.witness_link.specs.Closes.{close_by}
-use Rattle.witness_link.specs.Links.{LinkTold, counts_of, standing_of, terms_of}
-use Rattle.witness_link.specs.Serving.{FailsToTake, HasEnded, HasServed, Serves, StopsBy, signed_for}
-use Rattle.witness_link.specs.Stored.{HoldsAccepted, IsLawfulList, IsOfListed}
-use Rattle.witness_link.specs.Taking.{Counted, FailsAt, IsWhole}
-use Rattle.witness_link.proofs.Holding.{of_fate}
+use Rattle.lists.specs.KeriSpecs.Causes.{Rose}
+use Rattle.lists.specs.KeriSpecs.Told.{after}
+use Rattle.lists.proofs.KeriSpecsLemmas.Putting.{after-nil}
+use Rattle.run_status.specs.declared.run_status.close.Close.{Close}
+use Rattle.run_status.specs.declared.run_status.close.Close.TheVariants.{WriteFault}
+use Rattle.witness_core.specs.WitnessCore.Outcomes.{AsksSigner, due_by}
+use Rattle.witness_core.specs.WitnessReceipts.Receipts.{signings_of}
+use Rattle.witness_core.specs.WitnessStore.Payloads.{AreListed}
+use Rattle.witness_core.specs.WitnessStore.Storing.{StoresOn}
+use Rattle.witness_core.specs.WitnessCore.Telling.{AsksVerdicts}
+use Rattle.witness_core.specs.declared.witness_receipts.fate.Fate.{Fate}
+use Rattle.witness_core.specs.declared.witness_receipts.receipt.Receipt.{Receipt}
+use Rattle.witness_core.specs.declared.witness_store.witness_fault.WitnessFault.{WitnessFault}
+use Rattle.witness_core.specs.declared.witness_store.witness_fault.WitnessFault.TheVariants as fault
+use Rattle.witness_core.specs.WitnessLink.Calls.{Call, IsCall, refused_as, seen_in, text_of}
+use Rattle.witness_core.specs.WitnessLink.Closes.{close_by}
+use Rattle.witness_core.specs.WitnessLink.Links.{LinkTold, counts_of, standing_of, terms_of}
+use Rattle.witness_core.specs.WitnessLink.Serving.{FailsToTake, HasEnded, HasServed, Serves, StopsBy, signed_for}
+use Rattle.witness_core.specs.WitnessLink.Stored.{HoldsAccepted, IsLawfulList, IsOfListed}
+use Rattle.witness_core.specs.WitnessLink.Taking.{Counted, FailsAt, IsWhole}
+use Rattle.witness_core.proofs.WitnessLinkLemmas.Holding.{of_fate}
 
 module _ (old new : LinkTold) (m : Message) (stores : StoresOn old.witness.list old.witness.disk new.witness.core new.witness.list new.witness.disk) (lawful : IsLawfulList stores.accepted) (same : terms_of new ≡ terms_of old)
     (asked : AsksVerdicts old.inquiries new.inquiries old.witness.core new.witness.core) where

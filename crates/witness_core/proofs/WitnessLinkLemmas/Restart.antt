@@ -2,17 +2,17 @@
 use Rattle.std.proofs.Common.{◌≡◌, ℕ, true, false, List, [], ◌∷◌, ◌++◌, map, refl, sym, ◌∙◌, ap, subst}
 use Rattle.std.specs.Prelude.{All}
 use Rattle.std.proofs.lemmas.List.Elements.{All-head, All-tail}
-use Rattle.acceptance.specs.Standing.{IsHeld}
-use Rattle.event_body.proofs.Whole.{one_event}
-use Rattle.journal.specs.Grown.{IsGrown, fits}
-use Rattle.journal.specs.declared.body.Body.{Body}
-use Rattle.journal.specs.declared.resume_fault.ResumeFault.TheVariants.{NotALog, OutOfMemory}
-use Rattle.journal.proofs.Keeping.{accepted_grown}
+use Rattle.validator_core.specs.Acceptance.Standing.{IsHeld}
+use Rattle.event_body.proofs.EventBodyLemmas.Whole.{one_event}
+use Rattle.journal.specs.Journal.Grown.{IsGrown, fits}
+use Rattle.journal.specs.declared.journal.body.Body.{Body}
+use Rattle.journal.specs.declared.journal.resume_fault.ResumeFault.TheVariants.{NotALog, OutOfMemory}
+use Rattle.journal.proofs.JournalLemmas.Keeping.{accepted_grown}
 use Rattle.quorum_laws.proofs.Inside.{All-front}
-use Rattle.validator_core.specs.Base.{EndsAt, IsRead}
-use Rattle.validator_core.specs.View.{CoreView, Stands, accepted_by, base_of, told_of}
-use Rattle.witness_store.specs.Starts.{ReadsAgain, StartsAgain, texts_in}
-use Rattle.witness_link.proofs.Holding.{all_held}
+use Rattle.validator_core.specs.ValidatorCore.Base.{EndsAt, IsRead}
+use Rattle.validator_core.specs.ValidatorCore.View.{CoreView, Stands, accepted_by, base_of, told_of}
+use Rattle.witness_core.specs.WitnessStore.Starts.{ReadsAgain, StartsAgain, texts_in}
+use Rattle.witness_core.proofs.WitnessLinkLemmas.Holding.{all_held}
 
 -- a list whose texts are parted at one of them
 record Parts (log : List Body) (before : List (List ℕ)) (text : List ℕ) : Type 0 where

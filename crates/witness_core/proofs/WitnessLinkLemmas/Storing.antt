@@ -3,18 +3,18 @@ use Rattle.std.proofs.Common.{◌≡◌, ◌≤◌, ◌+◌, ℕ, List, [], ◌�
 use Rattle.std.specs.Prelude.{All, drop}
 use Rattle.std.proofs.lemmas.List.{length-map, length-take-le}
 use Rattle.std.proofs.lemmas.List.Elements.{All-weaker}
-use Rattle.event_payload.specs.Payloads.{text_in}
-use Rattle.journal.specs.declared.body.Body.{Body}
-use Rattle.keri_disk.specs.Images.{DiskTold}
-use Rattle.keri_disk.proofs.Moments.{KnowsNow, and_then, none_yet, weaker}
-use Rattle.validator_core.specs.View.{CoreView, accepted_by, base_of}
-use Rattle.witness_store.specs.Payloads.{AreListed, Pointwise}
-use Rattle.witness_store.specs.Storing.{AllStand, Grown, HoldsFirst, StoresOn}
-use Rattle.witness_receipts.specs.declared.receipt.Receipt.{Receipt}
-use Rattle.witness_store.proofs.Stored.{first_wider}
-use Rattle.witness_link.specs.Links.{Terms}
-use Rattle.witness_link.specs.Stored.{HoldsEach, IsLawfulList, IsOfListed}
-use Rattle.witness_link.proofs.Holding.{has_more}
+use Rattle.journal_views.specs.EventPayload.Payloads.{text_in}
+use Rattle.journal.specs.declared.journal.body.Body.{Body}
+use Rattle.shelf_log.specs.KeriDisk.Images.{DiskTold}
+use Rattle.shelf_log.proofs.KeriDiskLemmas.Moments.{KnowsNow, and_then, none_yet, weaker}
+use Rattle.validator_core.specs.ValidatorCore.View.{CoreView, accepted_by, base_of}
+use Rattle.witness_core.specs.WitnessStore.Payloads.{AreListed, Pointwise}
+use Rattle.witness_core.specs.WitnessStore.Storing.{AllStand, Grown, HoldsFirst, StoresOn}
+use Rattle.witness_core.specs.declared.witness_receipts.receipt.Receipt.{Receipt}
+use Rattle.witness_core.proofs.WitnessStoreLemmas.Stored.{first_wider}
+use Rattle.witness_core.specs.WitnessLink.Links.{Terms}
+use Rattle.witness_core.specs.WitnessLink.Stored.{HoldsEach, IsLawfulList, IsOfListed}
+use Rattle.witness_core.proofs.WitnessLinkLemmas.Holding.{has_more}
 
 -- of two fronts of one list the shorter is a front of the longer
 fronts : (xs ys us vs : List (List ℕ)) → xs ++ us ≡ ys ++ vs → length xs ≤ length ys → Grown xs ys

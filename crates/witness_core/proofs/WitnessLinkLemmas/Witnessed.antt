@@ -4,22 +4,22 @@ use Rattle.std.specs.Prelude.{IfErr, IfOk, MatchResult, OnOk}
 use Rattle.cesr_codes.specs.declared.key.Key.{Key}
 use Rattle.cesr_codes.specs.declared.sig.Sig.{Sig}
 use Rattle.cesr_stream.specs.declared.message.Message.{Message}
-use Rattle.core_tables.specs.View.{body_of}
-use Rattle.journal.specs.Replies.{claims_of, is_full}
+use Rattle.core_tables.specs.CoreTables.View.{body_of}
+use Rattle.journal.specs.Journal.Replies.{claims_of, is_full}
 use Rattle.keri_outside.specs.declared.limits.Limits.{Limits}
-use Rattle.validator_core.specs.View.{CoreView}
-use Rattle.witness_receipts.specs.Fates.{IsFate}
-use Rattle.witness_core.specs.Faults.{CausedBy, FullBy, Goes}
-use Rattle.witness_store.specs.Histories.{history_of}
-use Rattle.witness_core.specs.Outcomes.{AreReceipts, KeepsList, TellsFate}
-use Rattle.witness_store.specs.Room.{lacks_room}
-use Rattle.witness_core.specs.Telling.{IsTurnedAway, IsUntold, TellsFault, has_no_room}
-use Rattle.witness_core.specs.declared.outcome.Outcome.{Outcome}
-use Rattle.witness_store.specs.declared.witness_fault.WitnessFault.{WitnessFault}
-use Rattle.witness_store.specs.declared.witness_fault.WitnessFault.TheVariants.{DiskFault, SignerFault, VerifierFault, Full, Broken, OutOfMemory}
-use Rattle.witness_store.proofs.Entries.{history_same}
-use Rattle.witness_link.specs.Links.{WitnessTold, counts, terms_with}
-use Rattle.witness_link.specs.Taking.{IsWhole, TakesMessage}
+use Rattle.validator_core.specs.ValidatorCore.View.{CoreView}
+use Rattle.witness_core.specs.WitnessReceipts.Fates.{IsFate}
+use Rattle.witness_core.specs.WitnessCore.Faults.{CausedBy, FullBy, Goes}
+use Rattle.witness_core.specs.WitnessStore.Histories.{history_of}
+use Rattle.witness_core.specs.WitnessCore.Outcomes.{AreReceipts, KeepsList, TellsFate}
+use Rattle.witness_core.specs.WitnessStore.Room.{lacks_room}
+use Rattle.witness_core.specs.WitnessCore.Telling.{IsTurnedAway, IsUntold, TellsFault, has_no_room}
+use Rattle.witness_core.specs.declared.witness_core.outcome.Outcome.{Outcome}
+use Rattle.witness_core.specs.declared.witness_store.witness_fault.WitnessFault.{WitnessFault}
+use Rattle.witness_core.specs.declared.witness_store.witness_fault.WitnessFault.TheVariants.{DiskFault, SignerFault, VerifierFault, Full, Broken, OutOfMemory}
+use Rattle.witness_core.proofs.WitnessStoreLemmas.Entries.{history_same}
+use Rattle.witness_core.specs.WitnessLink.Links.{WitnessTold, counts, terms_with}
+use Rattle.witness_core.specs.WitnessLink.Taking.{IsWhole, TakesMessage}
 
 -- a message that is turned away still is where nothing more was told and stored
 turned_then : (limits : Limits) (old new : CoreView) (list list_then : List (List ℕ)) (m : Message) → IsTurnedAway limits old list m → IsUntold old new → list_then ≡ list → IsTurnedAway limits new list_then m

@@ -1,10 +1,10 @@
 -- One making after another.
 use Rattle.std.proofs.Common.{ℕ, true, false, Bool, List, [], ◌∷◌, ◌++◌, Option, Some, None, Ok, refl, sym, ◌∙◌, ap, append_assoc}
 use Rattle.std.proofs.lemmas.Option.{none-some, same_Some}
-use Rattle.run_outside.specs.Makings.{AreMakings, Noted}
-use Rattle.run_outside.specs.Told.{Grows, Makes, Told, making}
-use Rattle.run_outside.specs.declared.making.Making.{Making}
-use Rattle.run_outside.specs.declared.making.MakingKind.{MakingKind}
+use Rattle.run_status.specs.RunOutside.Makings.{AreMakings, Noted}
+use Rattle.run_status.specs.RunOutside.Told.{Grows, Makes, Told, making}
+use Rattle.run_status.specs.declared.run_outside.making.Making.{Making}
+use Rattle.run_status.specs.declared.run_outside.making.MakingKind.{MakingKind}
 
 noted_one : (kind : MakingKind) (name : List ℕ) (failed : Bool) (old new : Option (List Making)) → Grows old new kind name failed
     → Noted old new (making kind name failed ∷ [])

@@ -1,23 +1,23 @@
 -- From what was done with a disk that was made to what opening comes to.
 use Rattle.std.proofs.Common.{◌≡◌, ◌≢◌, ◌⊎◌, inl, inr, List, ℕ, [], ◌∷◌, false, is_none, Option, Some, None, IfSome, Err, refl, sym, ◌∙◌, subst}
-use Rattle.keri_specs.specs.Causes.{Rose}
-use Rattle.keri_disk.specs.Calls.{Keeps}
-use Rattle.keri_disk.specs.Images.{DiskTold, IsDurable}
-use Rattle.keri_disk.proofs.Moments.{keeps_both}
+use Rattle.lists.specs.KeriSpecs.Causes.{Rose}
+use Rattle.shelf_log.specs.KeriDisk.Calls.{Keeps}
+use Rattle.shelf_log.specs.KeriDisk.Images.{DiskTold, IsDurable}
+use Rattle.shelf_log.proofs.KeriDiskLemmas.Moments.{keeps_both}
 use Rattle.keri_outside.specs.declared.limits.Limits.{Limits}
-use Rattle.run_outside.specs.Makings.{AreMakings}
-use Rattle.run_outside.specs.Told.{Told, making}
-use Rattle.run_outside.specs.declared.making.MakingKind.TheVariants.{Disk, OldDisk}
-use Rattle.shelf_log.specs.Format.{IsUnmarked}
-use Rattle.shelf_log.specs.declared.version.Version.TheVariants.{One, Two}
-use Rattle.witness_opening.specs.Answers.{Answer, Answers, AnswersBeside, AnswersRead}
-use Rattle.witness_opening.specs.Disks.{Becomes, BecomesBeside, HasCause, IsMade, OnlyRead}
-use Rattle.witness_opening.specs.Opening.{IsOpening}
-use Rattle.witness_opening.specs.Ways.{FillsIt, HandsBack, IsFilledOrStays, ReadsIt}
-use Rattle.witness_opening.specs.declared.fault.OpeningFault.{OpeningFault}
-use Rattle.witness_opening.specs.declared.fault.OpeningFault.TheVariants.{DiskFault}
-use Rattle.witness_opening.proofs.Facts.{if_both, if_map}
-use Rattle.witness_opening.proofs.Makings.{two_made}
+use Rattle.run_status.specs.RunOutside.Makings.{AreMakings}
+use Rattle.run_status.specs.RunOutside.Told.{Told, making}
+use Rattle.run_status.specs.declared.run_outside.making.MakingKind.TheVariants.{Disk, OldDisk}
+use Rattle.shelf_log.specs.ShelfLog.Format.{IsUnmarked}
+use Rattle.shelf_log.specs.declared.shelf_log.version.Version.TheVariants.{One, Two}
+use Rattle.witness_core.specs.WitnessOpening.Answers.{Answer, Answers, AnswersBeside, AnswersRead}
+use Rattle.witness_core.specs.WitnessOpening.Disks.{Becomes, BecomesBeside, HasCause, IsMade, OnlyRead}
+use Rattle.witness_core.specs.WitnessOpening.Opening.{IsOpening}
+use Rattle.witness_core.specs.WitnessOpening.Ways.{FillsIt, HandsBack, IsFilledOrStays, ReadsIt}
+use Rattle.witness_core.specs.declared.witness_opening.fault.OpeningFault.{OpeningFault}
+use Rattle.witness_core.specs.declared.witness_opening.fault.OpeningFault.TheVariants.{DiskFault}
+use Rattle.witness_core.proofs.WitnessOpeningLemmas.Facts.{if_both, if_map}
+use Rattle.witness_core.proofs.WitnessOpeningLemmas.Makings.{two_made}
 
 rose_on : {P : Type 0} (old mid new : ℕ) → mid ≡ old → Rose mid new ⊎ P → Rose old new ⊎ P
 rose_on old mid new same (inl rose) = inl (subst (λ (n : ℕ). Rose n new) same rose)

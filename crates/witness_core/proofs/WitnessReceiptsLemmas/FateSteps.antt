@@ -4,21 +4,21 @@ use Rattle.std.specs.Prelude.{All, slice_get}
 use Rattle.std.proofs.lemmas.List.{take_more}
 use Rattle.std.proofs.lemmas.Option.{get_or_from_slice_get, slice_get-get_or, slice_get_within}
 use Rattle.cesr_codes.specs.declared.key.Key.{Key}
-use Rattle.event_body.specs.declared.event.Event.{Event}
-use Rattle.event_body.specs.Events.{is_receipt}
-use Rattle.journal.specs.Readiness.{is_ready}
-use Rattle.journal.specs.declared.body.Body.{Body}
-use Rattle.journal.specs.Logs.{is_in}
-use Rattle.journal.specs.Waiting.{why_waits}
-use Rattle.journal.specs.Journals.{chosen}
-use Rattle.journal.proofs.Places.{all_at, some_at}
-use Rattle.validator_core.specs.Signatures.{is_witness_under}
-use Rattle.validator_core.specs.View.{CoreView, Stands, accepted_by, told_of, waits_for}
-use Rattle.witness_receipts.specs.declared.fate.Fate.{Fate}
-use Rattle.witness_receipts.specs.declared.fate.Fate.TheVariants.{Stored}
-use Rattle.witness_receipts.specs.Fates.{event_fate, waiting_fate}
-use Rattle.witness_receipts.proofs.Numbers.{chosen_there}
-use Rattle.witness_receipts.proofs.Reasons.{no_reason}
+use Rattle.event_body.specs.declared.event_body.event.Event.{Event}
+use Rattle.event_body.specs.EventBody.Events.{is_receipt}
+use Rattle.journal.specs.Journal.Readiness.{is_ready}
+use Rattle.journal.specs.declared.journal.body.Body.{Body}
+use Rattle.journal.specs.Journal.Logs.{is_in}
+use Rattle.journal.specs.Journal.Waiting.{why_waits}
+use Rattle.journal.specs.Journal.Journals.{chosen}
+use Rattle.journal.proofs.JournalLemmas.Places.{all_at, some_at}
+use Rattle.validator_core.specs.ValidatorCore.Signatures.{is_witness_under}
+use Rattle.validator_core.specs.ValidatorCore.View.{CoreView, Stands, accepted_by, told_of, waits_for}
+use Rattle.witness_core.specs.declared.witness_receipts.fate.Fate.{Fate}
+use Rattle.witness_core.specs.declared.witness_receipts.fate.Fate.TheVariants.{Stored}
+use Rattle.witness_core.specs.WitnessReceipts.Fates.{event_fate, waiting_fate}
+use Rattle.witness_core.proofs.WitnessReceiptsLemmas.Numbers.{chosen_there}
+use Rattle.witness_core.proofs.WitnessReceiptsLemmas.Reasons.{no_reason}
 
 module _ (core : CoreView) (n : ℕ) (b : Body) (at : slice_get core.held n ≡ Some b) where
   waits_is : waits_for core n ≡ why_waits core.mode (told_of core) (accepted_by core) b

@@ -7,22 +7,22 @@ use Rattle.std.proofs.lemmas.List.{append_assoc}
 use Rattle.std.proofs.lemmas.Option.{slice_get_past}
 use Rattle.cesr_codes.specs.declared.digest.Digest.{Digest}
 use Rattle.cesr_codes.specs.declared.prefix.Prefix.{Prefix}
-use Rattle.event_body.specs.declared.event.Event.{Event}
-use Rattle.event_body.specs.declared.event.Event.TheVariants.{Icp, Rot, Ixn, Dip, Drt, Rct}
-use Rattle.event_body.specs.Events.{is_interaction, prefix_of, said_of, sn_of}
-use Rattle.journal.specs.declared.body.Body.{Body}
-use Rattle.journal.specs.Grown.{IsGrown}
-use Rattle.journal.specs.Logs.{is_of, live, state, stepped, takes}
-use Rattle.journal.proofs.StateSteps.{state-other}
+use Rattle.event_body.specs.declared.event_body.event.Event.{Event}
+use Rattle.event_body.specs.declared.event_body.event.Event.TheVariants.{Icp, Rot, Ixn, Dip, Drt, Rct}
+use Rattle.event_body.specs.EventBody.Events.{is_interaction, prefix_of, said_of, sn_of}
+use Rattle.journal.specs.declared.journal.body.Body.{Body}
+use Rattle.journal.specs.Journal.Grown.{IsGrown}
+use Rattle.journal.specs.Journal.Logs.{is_of, live, state, stepped, takes}
+use Rattle.journal.proofs.JournalLemmas.StateSteps.{state-other}
 use Rattle.key_state.specs.Heads.{head_sn}
 use Rattle.key_state.specs.KeyStates.{digest_at, misfit, moved}
 use Rattle.key_state.specs.States.{State}
 use Rattle.key_state.proofs.Same.{same_prefix_is, same_prefix_itself}
-use Rattle.lists.proofs.Places.{at_end, not_at_end}
-use Rattle.accepted_log.specs.Values.{with_since}
-use Rattle.accepted_log.proofs.StateSteps.{Fits, IsNew, fits_parts, goes_onto, new_of, own_state}
-use Rattle.witness_receipts.specs.Fates.{live_there, said_at}
-use Rattle.witness_receipts.proofs.Living.{live_before, live_last, live_other}
+use Rattle.lists.proofs.ListsLemmas.Places.{at_end, not_at_end}
+use Rattle.core_tables.specs.AcceptedLog.Values.{with_since}
+use Rattle.core_tables.proofs.AcceptedLogLemmas.StateSteps.{Fits, IsNew, fits_parts, goes_onto, new_of, own_state}
+use Rattle.witness_core.specs.WitnessReceipts.Fates.{live_there, said_at}
+use Rattle.witness_core.proofs.WitnessReceiptsLemmas.Living.{live_before, live_last, live_other}
 
 -- without a state nothing is live, and a state has the digests of the live events from its last establishment event on
 abbrev Says : Prefix → List Body → Option State → Type 0

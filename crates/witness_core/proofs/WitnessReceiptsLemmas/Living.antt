@@ -7,10 +7,10 @@ use Rattle.std.proofs.lemmas.List.Elements.{filter-append}
 use Rattle.std.proofs.lemmas.List.Sums.{fold-append}
 use Rattle.cesr_codes.specs.declared.digest.Digest.{Digest}
 use Rattle.cesr_codes.specs.declared.prefix.Prefix.{Prefix}
-use Rattle.event_body.specs.Events.{said_of, sn_of}
-use Rattle.journal.specs.declared.body.Body.{Body}
-use Rattle.journal.specs.Logs.{is_of, live, live_with}
-use Rattle.witness_receipts.specs.Fates.{is_within, live_there, said_at}
+use Rattle.event_body.specs.EventBody.Events.{said_of, sn_of}
+use Rattle.journal.specs.declared.journal.body.Body.{Body}
+use Rattle.journal.specs.Journal.Logs.{is_of, live, live_with}
+use Rattle.witness_core.specs.WitnessReceipts.Fates.{is_within, live_there, said_at}
 
 -- a further event of the identifier, and one of another
 live_more : (bodies : List Body) (prefix : Prefix) (b : Body) → is_of prefix b ≡ true → live (bodies ++ b ∷ []) prefix ≡ live_with (live bodies prefix) b

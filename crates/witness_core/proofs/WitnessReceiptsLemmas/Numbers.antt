@@ -8,16 +8,16 @@ use Rattle.std.proofs.lemmas.List.Folds.{find_at}
 use Rattle.std.proofs.lemmas.List.Quantifiers.{position-Some}
 use Rattle.std.proofs.lemmas.List.Elements.{All-head, All-tail}
 use Rattle.std.proofs.lemmas.Option.{get_or_from_slice_get, slice_get_past, slice_get_within}
-use Rattle.core_tables.proofs.NamedRows.{body_there, chosen_at}
-use Rattle.journal.specs.declared.body.Body.{Body}
-use Rattle.journal.specs.History.{bodies, taken}
-use Rattle.journal.specs.Journals.{chosen}
-use Rattle.journal.specs.Logs.{is_in, same_body}
-use Rattle.journal.proofs.Different.{Differ, differ-distinct}
-use Rattle.journal.proofs.Places.{all_at, any_at, found_at, some_at}
-use Rattle.acceptance.proofs.Bodies.{among}
+use Rattle.core_tables.proofs.CoreTablesLemmas.NamedRows.{body_there, chosen_at}
+use Rattle.journal.specs.declared.journal.body.Body.{Body}
+use Rattle.journal.specs.Journal.History.{bodies, taken}
+use Rattle.journal.specs.Journal.Journals.{chosen}
+use Rattle.journal.specs.Journal.Logs.{is_in, same_body}
+use Rattle.journal.proofs.JournalLemmas.Different.{Differ, differ-distinct}
+use Rattle.journal.proofs.JournalLemmas.Places.{all_at, any_at, found_at, some_at}
+use Rattle.validator_core.proofs.AcceptanceLemmas.Bodies.{among}
 use Rattle.key_state.proofs.Same.{number_itself, numbers}
-use Rattle.validator_core.specs.View.{CoreView, Stands, accepted_by, base_of, told_of}
+use Rattle.validator_core.specs.ValidatorCore.View.{CoreView, Stands, accepted_by, base_of, told_of}
 
 -- no two bodies of a core are the same
 pub apart : (core : CoreView) → Stands core → Differ same_body core.held

@@ -7,15 +7,15 @@ use Rattle.std.proofs.lemmas.List.Elements.{All-head, All-tail, filter-append, f
 use Rattle.std.proofs.lemmas.List.{length-take-le}
 use Rattle.cesr_codes.specs.declared.key.Key.{Key}
 use Rattle.key_state.proofs.Same.{numbers, number_itself}
-use Rattle.journal.specs.declared.body.Body.{Body}
-use Rattle.journal.specs.Journals.{chosen}
-use Rattle.journal.specs.Logs.{same_body}
-use Rattle.journal.proofs.Accepting.{same_body-refl}
-use Rattle.journal.proofs.Different.{Differ}
-use Rattle.journal.proofs.Places.{others_differ, some_at}
-use Rattle.validator_core.specs.Signatures.{is_witness_under}
-use Rattle.witness_receipts.specs.Receipts.{again, due, listed}
-use Rattle.witness_receipts.proofs.Numbers.{take-chosen}
+use Rattle.journal.specs.declared.journal.body.Body.{Body}
+use Rattle.journal.specs.Journal.Journals.{chosen}
+use Rattle.journal.specs.Journal.Logs.{same_body}
+use Rattle.journal.proofs.JournalLemmas.Accepting.{same_body-refl}
+use Rattle.journal.proofs.JournalLemmas.Different.{Differ}
+use Rattle.journal.proofs.JournalLemmas.Places.{others_differ, some_at}
+use Rattle.validator_core.specs.ValidatorCore.Signatures.{is_witness_under}
+use Rattle.witness_core.specs.WitnessReceipts.Receipts.{again, due, listed}
+use Rattle.witness_core.proofs.WitnessReceiptsLemmas.Numbers.{take-chosen}
 
 module _ (held : List Body) (differ : Differ same_body held) (n : ℕ) (b : Body) (at : slice_get held n ≡ Some b) where
   same_at : (m : ℕ) (c : Body) → slice_get held m ≡ Some c → same_body c b ≡ (m == n)

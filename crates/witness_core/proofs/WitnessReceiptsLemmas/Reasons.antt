@@ -1,18 +1,18 @@
 -- An event that isn't accepted waits for a reason.
 use Rattle.std.proofs.Common.{◌≡◌, Bool, true, false, not, ◌&&◌, ◌||◌, List, [], ◌∷◌, Option, Some, None, is_none, is_some, refl}
 use Rattle.std.proofs.lemmas.Bool.{not-false}
-use Rattle.event_body.specs.Events.{is_inception, is_receipt, prefix_of}
+use Rattle.event_body.specs.EventBody.Events.{is_inception, is_receipt, prefix_of}
 use Rattle.key_state.specs.KeyStates.{first_true}
-use Rattle.journal.specs.declared.why.Why.{Why}
-use Rattle.journal.specs.declared.body.Body.{Body}
-use Rattle.journal.specs.declared.mode.Mode.{Mode}
-use Rattle.journal.specs.declared.why.Why.TheVariants.{Never, Next, Predecessor, Receipts, Seal, Signatures}
-use Rattle.journal.specs.History.{Told}
-use Rattle.journal.specs.Logs.{is_in, predecessor, state, takes}
-use Rattle.journal.specs.Readiness.{is_backed, is_local, is_ready, meets_before, meets_own, signed}
-use Rattle.journal.specs.Seals.{anchored}
-use Rattle.journal.specs.Waiting.{is_lost, reason_under, why_waits}
-use Rattle.acceptance.proofs.Reasons.{there_taken}
+use Rattle.journal.specs.declared.journal.why.Why.{Why}
+use Rattle.journal.specs.declared.journal.body.Body.{Body}
+use Rattle.journal.specs.declared.journal.mode.Mode.{Mode}
+use Rattle.journal.specs.declared.journal.why.Why.TheVariants.{Never, Next, Predecessor, Receipts, Seal, Signatures}
+use Rattle.journal.specs.Journal.History.{Told}
+use Rattle.journal.specs.Journal.Logs.{is_in, predecessor, state, takes}
+use Rattle.journal.specs.Journal.Readiness.{is_backed, is_local, is_ready, meets_before, meets_own, signed}
+use Rattle.journal.specs.Journal.Seals.{anchored}
+use Rattle.journal.specs.Journal.Waiting.{is_lost, reason_under, why_waits}
+use Rattle.validator_core.proofs.AcceptanceLemmas.Reasons.{there_taken}
 
 -- one that is an inception, or has a predecessor, is there
 there : {X : Type 0} (first : Bool) (o : Option X) → (not first && is_none o) ≡ false → (first || is_some o) ≡ true

@@ -11,19 +11,19 @@ use Rattle.json_tree.specs.declared.tree.Tree.TheVariants.{Str}
 use Rattle.json_tree.specs.Spelling.{spelling}
 use Rattle.sith.proofs.Numerals.{hex_is}
 use Rattle.sith.proofs.OneThreshold.{text_injective}
-use Rattle.body_fields.specs.declared.field.Field.{Field}
-use Rattle.body_fields.specs.declared.field.Field.TheVariants as fields
-use Rattle.body_fields.specs.declared.kind.Kind.TheVariants as kinds
-use Rattle.body_fields.specs.Bodies.{kind_text, name_text, member_text, members_text}
-use Rattle.body_fields.specs.Forms.{digest_value, prefix_value, number_value}
-use Rattle.body_fields.specs.Maps.{fields_of}
-use Rattle.body_fields.proofs.Texts.{text_long}
+use Rattle.event_body.specs.declared.body_fields.field.Field.{Field}
+use Rattle.event_body.specs.declared.body_fields.field.Field.TheVariants as fields
+use Rattle.event_body.specs.declared.body_fields.kind.Kind.TheVariants as kinds
+use Rattle.event_body.specs.BodyFields.Bodies.{kind_text, name_text, member_text, members_text}
+use Rattle.event_body.specs.BodyFields.Forms.{digest_value, prefix_value, number_value}
+use Rattle.event_body.specs.BodyFields.Maps.{fields_of}
+use Rattle.event_body.proofs.BodyFieldsLemmas.Texts.{text_long}
 use Rattle.event_backing.proofs.Hex.{few_digits}
-use Rattle.event_body.specs.declared.event.Event.TheVariants.{Rct}
-use Rattle.event_body.specs.declared.receipt_body.ReceiptBody.{ReceiptBody}
-use Rattle.event_body.specs.Held.{IsHeldReceipt}
-use Rattle.event_body.specs.Judging.{HasEvent, SpellsEvent}
-use Rattle.event_body.specs.Spelling.{text_of, values_of}
+use Rattle.event_body.specs.declared.event_body.event.Event.TheVariants.{Rct}
+use Rattle.event_body.specs.declared.event_body.receipt_body.ReceiptBody.{ReceiptBody}
+use Rattle.event_body.specs.EventBody.Held.{IsHeldReceipt}
+use Rattle.event_body.specs.EventBody.Judging.{HasEvent, SpellsEvent}
+use Rattle.event_body.specs.EventBody.Spelling.{text_of, values_of}
 
 -- a string under a name
 string_long : (field : Field) (text : List ℕ) → length (member_text field (Str text)) ≡ length (name_text field) + (length text + 2)

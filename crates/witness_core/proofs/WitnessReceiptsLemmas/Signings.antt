@@ -5,10 +5,10 @@ use Rattle.std.specs.List.{AllZip}
 use Rattle.std.proofs.lemmas.List.{take_more}
 use Rattle.cesr_codes.specs.declared.key.Key.{Key}
 use Rattle.keri_outside.specs.declared.signing.Signing.{Signing}
-use Rattle.journal.specs.declared.body.Body.{Body}
-use Rattle.journal.specs.Journals.{chosen}
-use Rattle.journal.proofs.Held.{chosen_push}
-use Rattle.witness_receipts.specs.Receipts.{signings_of}
+use Rattle.journal.specs.declared.journal.body.Body.{Body}
+use Rattle.journal.specs.Journal.Journals.{chosen}
+use Rattle.journal.proofs.JournalLemmas.Held.{chosen_push}
+use Rattle.witness_core.specs.WitnessReceipts.Receipts.{signings_of}
 
 -- what is asked for the body of a number
 abbrev pub signing_at : Key → List Body → ℕ → List Signing

@@ -5,20 +5,20 @@ use Rattle.std.specs.List.{list_all}
 use Rattle.std.proofs.lemmas.List.{map-append, length-map}
 use Rattle.cesr_codes.specs.declared.key.Key.{Key}
 use Rattle.cesr_codes.specs.declared.sig.Sig.{Sig}
-use Rattle.door_links.specs.Taken.{AreTaken, IsCaused, IsEnough}
-use Rattle.keri_disk.specs.Images.{DiskTold}
+use Rattle.run_status.specs.DoorLinks.Taken.{AreTaken, IsCaused, IsEnough}
+use Rattle.shelf_log.specs.KeriDisk.Images.{DiskTold}
 use Rattle.keri_outside.specs.Doors.{Comes}
 use Rattle.keri_outside.specs.declared.limits.Limits.{Limits}
-use Rattle.run_status.specs.declared.close.Close.{Close}
-use Rattle.run_status.specs.declared.close.Close.TheVariants.{End, Bad, ReadFault, VerifierFault, SignerFault, DiskFault, WriteFault, Malformed, Full, OutOfMemory}
-use Rattle.run_status.specs.Readers.{Reader, SinkTold, SourceTold}
-use Rattle.witness_link.specs.Links.{LinkTold, Terms}
-use Rattle.witness_link.specs.Served.{ClosesLink}
-use Rattle.witness_link.specs.Serving.{Serves}
-use Rattle.run_record.specs.Run.{DoorTold}
-use Rattle.witness_role.proofs.ThroughLinks.{asked_through, stops_leave}
-use Rattle.witness_link.specs.Closes.{asks_next}
-use Rattle.witness_role.specs.ServedLinks.{Between, IsServed, ServedLink, ServesComing, ServesEach, ServesOne, reader_of}
+use Rattle.run_status.specs.declared.run_status.close.Close.{Close}
+use Rattle.run_status.specs.declared.run_status.close.Close.TheVariants.{End, Bad, ReadFault, VerifierFault, SignerFault, DiskFault, WriteFault, Malformed, Full, OutOfMemory}
+use Rattle.run_status.specs.RunStatus.Readers.{Reader, SinkTold, SourceTold}
+use Rattle.witness_core.specs.WitnessLink.Links.{LinkTold, Terms}
+use Rattle.witness_core.specs.WitnessLink.Served.{ClosesLink}
+use Rattle.witness_core.specs.WitnessLink.Serving.{Serves}
+use Rattle.run_status.specs.RunRecord.Run.{DoorTold}
+use Rattle.witness_core.proofs.WitnessRoleLemmas.ThroughLinks.{asked_through, stops_leave}
+use Rattle.witness_core.specs.WitnessLink.Closes.{asks_next}
+use Rattle.witness_core.specs.WitnessRole.ServedLinks.{Between, IsServed, ServedLink, ServesComing, ServesEach, ServesOne, reader_of}
 
 -- each of these links closed so that the next one is asked for
 abbrev all_ask_next : List ServedLink → Bool

@@ -1,22 +1,22 @@
 -- Why a run of `witness` that served links ended as it did.
 use Rattle.std.proofs.Common.{◌≡◌, ◌≢◌, inl, inr, ℕ, Bool, true, false, List, [], ◌∷◌, map, Option, Some, None, refl, sym, ◌∙◌, ap, subst}
 use Rattle.std.specs.Prelude.{MatchOption}
-use Rattle.keri_specs.specs.Causes.{Rose}
+use Rattle.lists.specs.KeriSpecs.Causes.{Rose}
 use Rattle.cesr_codes.specs.declared.key.Key.{Key}
 use Rattle.cesr_codes.specs.declared.sig.Sig.{Sig}
-use Rattle.keri_disk.specs.Images.{DiskTold}
+use Rattle.shelf_log.specs.KeriDisk.Images.{DiskTold}
 use Rattle.keri_outside.specs.declared.limits.Limits.{Limits}
-use Rattle.run_outside.specs.declared.making.MakingKind.TheVariants.{Door as DoorKind}
-use Rattle.run_status.specs.declared.close.Close.{Close}
-use Rattle.run_status.specs.declared.close.Close.TheVariants.{End, Bad, ReadFault, VerifierFault, SignerFault, DiskFault, WriteFault, Malformed, Full, OutOfMemory}
-use Rattle.run_status.specs.Readers.{HasClose, Reader, SourceTold, VerifierTold}
-use Rattle.witness_link.specs.Links.{Counts, LinkTold, counts, counts_of}
-use Rattle.witness_link.specs.Served.{ClosesLink}
-use Rattle.witness_link.specs.Serving.{Serves}
-use Rattle.run_record.specs.Run.{DoorTold, ReadFaultsRose, Run, SignerTold, SinkRose, shared_verifier}
-use Rattle.witness_role.specs.ServedFile.{Left, MakesServing}
-use Rattle.witness_link.specs.Closes.{asks_next}
-use Rattle.witness_role.specs.ServedLinks.{Between, ServedLink, ServesEach, ServesLinksBy, ServesOne, idle_reader, reader_of, readers_with}
+use Rattle.run_status.specs.declared.run_outside.making.MakingKind.TheVariants.{Door as DoorKind}
+use Rattle.run_status.specs.declared.run_status.close.Close.{Close}
+use Rattle.run_status.specs.declared.run_status.close.Close.TheVariants.{End, Bad, ReadFault, VerifierFault, SignerFault, DiskFault, WriteFault, Malformed, Full, OutOfMemory}
+use Rattle.run_status.specs.RunStatus.Readers.{HasClose, Reader, SourceTold, VerifierTold}
+use Rattle.witness_core.specs.WitnessLink.Links.{Counts, LinkTold, counts, counts_of}
+use Rattle.witness_core.specs.WitnessLink.Served.{ClosesLink}
+use Rattle.witness_core.specs.WitnessLink.Serving.{Serves}
+use Rattle.run_status.specs.RunRecord.Run.{DoorTold, ReadFaultsRose, Run, SignerTold, SinkRose, shared_verifier}
+use Rattle.witness_core.specs.WitnessRole.ServedFile.{Left, MakesServing}
+use Rattle.witness_core.specs.WitnessLink.Closes.{asks_next}
+use Rattle.witness_core.specs.WitnessRole.ServedLinks.{Between, ServedLink, ServesEach, ServesLinksBy, ServesOne, idle_reader, reader_of, readers_with}
 
 -- behind a link after which the next one is asked for no count but those of its source and its sink has risen
 counts_kept : (limits : Limits) (source_old source_new : SourceTold) (bytes : List ℕ) (old new : LinkTold) (serves : Serves old new) (close : Close)

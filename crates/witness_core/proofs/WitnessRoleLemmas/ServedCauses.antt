@@ -1,19 +1,19 @@
 -- Why a run of `witness` that served its file ended as it did.
 use Rattle.std.proofs.Common.{◌≡◌, ◌≢◌, inl, inr, ℕ, List, Option, Some, None, refl, sym, ◌∙◌, ap}
 use Rattle.std.specs.Prelude.{MatchOption}
-use Rattle.keri_specs.specs.Causes.{Rose}
+use Rattle.lists.specs.KeriSpecs.Causes.{Rose}
 use Rattle.cesr_codes.specs.declared.key.Key.{Key}
-use Rattle.keri_disk.specs.Images.{DiskTold}
+use Rattle.shelf_log.specs.KeriDisk.Images.{DiskTold}
 use Rattle.keri_outside.specs.declared.limits.Limits.{Limits}
-use Rattle.run_outside.specs.declared.making.MakingKind.TheVariants.{Source as SourceKind}
-use Rattle.run_status.specs.declared.close.Close.{Close}
-use Rattle.run_status.specs.declared.close.Close.TheVariants.{End, Bad, ReadFault, VerifierFault, SignerFault, DiskFault, WriteFault, Malformed, Full, OutOfMemory}
-use Rattle.run_status.specs.Readers.{Reader, SourceTold, VerifierTold}
-use Rattle.witness_link.specs.Links.{LinkTold}
-use Rattle.witness_link.specs.Served.{ClosesLink}
-use Rattle.witness_link.specs.Serving.{Serves}
-use Rattle.run_record.specs.Run.{Run, SignerTold}
-use Rattle.witness_role.specs.ServedFile.{Left, MakesServing, ServesBy}
+use Rattle.run_status.specs.declared.run_outside.making.MakingKind.TheVariants.{Source as SourceKind}
+use Rattle.run_status.specs.declared.run_status.close.Close.{Close}
+use Rattle.run_status.specs.declared.run_status.close.Close.TheVariants.{End, Bad, ReadFault, VerifierFault, SignerFault, DiskFault, WriteFault, Malformed, Full, OutOfMemory}
+use Rattle.run_status.specs.RunStatus.Readers.{Reader, SourceTold, VerifierTold}
+use Rattle.witness_core.specs.WitnessLink.Links.{LinkTold}
+use Rattle.witness_core.specs.WitnessLink.Served.{ClosesLink}
+use Rattle.witness_core.specs.WitnessLink.Serving.{Serves}
+use Rattle.run_status.specs.RunRecord.Run.{Run, SignerTold}
+use Rattle.witness_core.specs.WitnessRole.ServedFile.{Left, MakesServing, ServesBy}
 
 -- the sink failed in the link only where that closed so
 sink_kept : (limits : Limits) (source_old source_new : SourceTold) (bytes : List ℕ) (old new : LinkTold) (serves : Serves old new) (close : Close)

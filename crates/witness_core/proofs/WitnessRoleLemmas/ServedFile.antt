@@ -2,18 +2,18 @@
 use Rattle.std.proofs.Common.{◌≡◌, ℕ, false, List, [], ◌∷◌, Option, Some, None, refl}
 use Rattle.std.specs.Prelude.{IfSome}
 use Rattle.cesr_codes.specs.declared.key.Key.{Key}
-use Rattle.keri_disk.specs.Images.{DiskTold}
+use Rattle.shelf_log.specs.KeriDisk.Images.{DiskTold}
 use Rattle.keri_outside.specs.declared.inquiry.Inquiry.{Inquiry}
 use Rattle.keri_outside.specs.declared.limits.Limits.{Limits}
 use Rattle.keri_outside.specs.declared.signing.Signing.{Signing}
-use Rattle.keri_specs.specs.Told.{HasNone}
-use Rattle.run_outside.specs.Makings.{AreMakings}
-use Rattle.run_outside.specs.Told.{Told, making}
-use Rattle.run_outside.specs.declared.making.MakingKind.TheVariants.{Source, Verifier, Signer}
-use Rattle.run_status.specs.Readers.{SinkTold, SourceTold, VerifierTold}
-use Rattle.witness_link.specs.Links.{source_told}
-use Rattle.run_record.specs.Run.{Run, SignerTold}
-use Rattle.witness_role.specs.ServedFile.{IsServing, Left, ServesAll, signer_of, verifier_of}
+use Rattle.lists.specs.KeriSpecs.Told.{HasNone}
+use Rattle.run_status.specs.RunOutside.Makings.{AreMakings}
+use Rattle.run_status.specs.RunOutside.Told.{Told, making}
+use Rattle.run_status.specs.declared.run_outside.making.MakingKind.TheVariants.{Source, Verifier, Signer}
+use Rattle.run_status.specs.RunStatus.Readers.{SinkTold, SourceTold, VerifierTold}
+use Rattle.witness_core.specs.WitnessLink.Links.{source_told}
+use Rattle.run_status.specs.RunRecord.Run.{Run, SignerTold}
+use Rattle.witness_core.specs.WitnessRole.ServedFile.{IsServing, Left, ServesAll, signer_of, verifier_of}
 
 -- all three were made of the name and of the helper, over an outside that told this before and with this sink
 pub serving_all : {D : Type 0} {told : D → DiskTold} {key : Key} {limits : Limits} {source_old : SourceTold} {verifier_old : VerifierTold} {signer_old : SignerTold}

@@ -2,17 +2,17 @@
 use Rattle.std.proofs.Common.{◌≡◌, ℕ, Bool, false, List, [], ◌∷◌, Option, Some, refl, ◌∙◌}
 use Rattle.cesr_codes.specs.declared.key.Key.{Key}
 use Rattle.cesr_codes.specs.declared.sig.Sig.{Sig}
-use Rattle.keri_disk.specs.Images.{DiskTold}
+use Rattle.shelf_log.specs.KeriDisk.Images.{DiskTold}
 use Rattle.keri_outside.specs.declared.inquiry.Inquiry.{Inquiry}
 use Rattle.keri_outside.specs.declared.limits.Limits.{Limits}
 use Rattle.keri_outside.specs.declared.signing.Signing.{Signing}
-use Rattle.keri_specs.specs.Told.{HasNone}
-use Rattle.run_outside.specs.Makings.{AreMakings}
-use Rattle.run_outside.specs.Told.{making}
-use Rattle.run_outside.specs.declared.making.MakingKind.TheVariants.{Door, Verifier, Signer}
-use Rattle.run_record.specs.Run.{DoorTold, Run}
-use Rattle.witness_role.specs.ServedFile.{Left}
-use Rattle.witness_role.specs.ServedLinks.{Between, IsServingLinks, ServesAllLinks, at_first, readers_with}
+use Rattle.lists.specs.KeriSpecs.Told.{HasNone}
+use Rattle.run_status.specs.RunOutside.Makings.{AreMakings}
+use Rattle.run_status.specs.RunOutside.Told.{making}
+use Rattle.run_status.specs.declared.run_outside.making.MakingKind.TheVariants.{Door, Verifier, Signer}
+use Rattle.run_status.specs.RunRecord.Run.{DoorTold, Run}
+use Rattle.witness_core.specs.WitnessRole.ServedFile.{Left}
+use Rattle.witness_core.specs.WitnessRole.ServedLinks.{Between, IsServingLinks, ServesAllLinks, at_first, readers_with}
 
 -- all three were made of the address and of the helper, and had never failed
 pub serving_links : {D : Type 0} {told : D → DiskTold} {key : Key} {limits run_limits : Limits} {says : Key → List ℕ → Sig → Option Bool} {gives : Key → List ℕ → Option Sig}

@@ -3,26 +3,26 @@ use Rattle.std.proofs.Common.{◌≡◌, ℕ, Bool, true, false, List, [], ◌�
 use Rattle.std.proofs.lemmas.List.Elements.{All-append, All-weaker}
 use Rattle.cesr_codes.specs.declared.key.Key.{Key}
 use Rattle.cesr_codes.specs.declared.sig.Sig.{Sig}
-use Rattle.keri_disk.specs.Images.{DiskTold}
+use Rattle.shelf_log.specs.KeriDisk.Images.{DiskTold}
 use Rattle.keri_outside.specs.declared.limits.Limits.{Limits}
-use Rattle.run_status.specs.declared.close.Close.{Close}
-use Rattle.run_status.specs.declared.close.Close.TheVariants.{End, Bad, ReadFault, VerifierFault, SignerFault, DiskFault, WriteFault, Malformed, Full, OutOfMemory}
-use Rattle.run_status.specs.Readers.{SourceTold}
-use Rattle.validator_core.specs.View.{open_of}
-use Rattle.witness_store.specs.Payloads.{AreListed}
-use Rattle.witness_store.specs.Storing.{Grown}
-use Rattle.witness_core.specs.Telling.{AsksVerdicts}
-use Rattle.witness_receipts.specs.declared.receipt.Receipt.{Receipt}
-use Rattle.witness_link.specs.Calls.{receipts_in}
-use Rattle.witness_link.specs.Links.{LinkTold, Standing, standing_of, terms_of}
-use Rattle.witness_link.specs.Served.{ClosesLink}
-use Rattle.witness_link.specs.Serving.{Serves}
-use Rattle.witness_link.specs.Stored.{IsOfListed}
-use Rattle.witness_link.proofs.Asked.{asks_on, calls_close, untold_asked}
-use Rattle.witness_link.proofs.Storing.{front_of, held_each, of_longer, stores_more}
-use Rattle.witness_role.specs.ServedFile.{Left}
-use Rattle.witness_link.specs.Closes.{asks_next}
-use Rattle.witness_role.specs.ServedLinks.{Between, ServedLink, ServesEach, ServesOne, StopsLeave, StoresThrough, link_terms, receipts_due}
+use Rattle.run_status.specs.declared.run_status.close.Close.{Close}
+use Rattle.run_status.specs.declared.run_status.close.Close.TheVariants.{End, Bad, ReadFault, VerifierFault, SignerFault, DiskFault, WriteFault, Malformed, Full, OutOfMemory}
+use Rattle.run_status.specs.RunStatus.Readers.{SourceTold}
+use Rattle.validator_core.specs.ValidatorCore.View.{open_of}
+use Rattle.witness_core.specs.WitnessStore.Payloads.{AreListed}
+use Rattle.witness_core.specs.WitnessStore.Storing.{Grown}
+use Rattle.witness_core.specs.WitnessCore.Telling.{AsksVerdicts}
+use Rattle.witness_core.specs.declared.witness_receipts.receipt.Receipt.{Receipt}
+use Rattle.witness_core.specs.WitnessLink.Calls.{receipts_in}
+use Rattle.witness_core.specs.WitnessLink.Links.{LinkTold, Standing, standing_of, terms_of}
+use Rattle.witness_core.specs.WitnessLink.Served.{ClosesLink}
+use Rattle.witness_core.specs.WitnessLink.Serving.{Serves}
+use Rattle.witness_core.specs.WitnessLink.Stored.{IsOfListed}
+use Rattle.witness_core.proofs.WitnessLinkLemmas.Asked.{asks_on, calls_close, untold_asked}
+use Rattle.witness_core.proofs.WitnessLinkLemmas.Storing.{front_of, held_each, of_longer, stores_more}
+use Rattle.witness_core.specs.WitnessRole.ServedFile.{Left}
+use Rattle.witness_core.specs.WitnessLink.Closes.{asks_next}
+use Rattle.witness_core.specs.WitnessRole.ServedLinks.{Between, ServedLink, ServesEach, ServesOne, StopsLeave, StoresThrough, link_terms, receipts_due}
 
 -- behind a link after which the next one is asked for all that is accepted is stored
 stored_behind : (limits : Limits) (source_old source_new : SourceTold) (bytes : List ℕ) (old new : LinkTold) (serves : Serves old new) (close : Close)

@@ -2,32 +2,32 @@
 use Rattle.std.proofs.Common.{◌≡◌, ◌⊎◌, inl, inr, ⊎_elim, ℕ, Bool, true, false, List, [], ◌∷◌, Option, Some, None, Err, refl, sym, ◌∙◌, ap, append-nil, subst}
 use Rattle.std.specs.Prelude.{IsSomeAnd, if◌then◌else◌}
 use Rattle.std.specs.List.{list_any}
-use Rattle.keri_specs.specs.Causes.{Rose}
-use Rattle.keri_specs.specs.Told.{after}
+use Rattle.lists.specs.KeriSpecs.Causes.{Rose}
+use Rattle.lists.specs.KeriSpecs.Told.{after}
 use Rattle.cesr_codes.specs.declared.key.Key.{Key}
 use Rattle.command_words.specs.Inputs.{Inputs, links, named}
 use Rattle.command_words.specs.Words.{witness}
-use Rattle.journal.specs.declared.resume_fault.ResumeFault.{ResumeFault}
-use Rattle.journal.specs.declared.resume_fault.ResumeFault.TheVariants.{NotALog, OutOfMemory as NoMemory}
-use Rattle.keri_disk.specs.Images.{DiskTold}
-use Rattle.run_outside.specs.Told.{Told}
-use Rattle.run_status.specs.declared.besides.Besides.{Besides}
-use Rattle.run_status.specs.declared.close.Close.{Close}
-use Rattle.run_status.specs.declared.close.Close.TheVariants as closing
-use Rattle.run_status.specs.Readers.{HasClose, Reader, SinkTold}
-use Rattle.run_status.specs.Settling.{SettlesBy, found}
-use Rattle.run_status.specs.Status.{nothing_besides, status_of}
-use Rattle.run_status.proofs.Causes.{faults_have_causes, six_closed, words_refused}
-use Rattle.witness_opening.specs.Found.{found_by}
-use Rattle.witness_opening.specs.declared.fault.OpeningFault.{OpeningFault}
-use Rattle.witness_opening.specs.declared.fault.OpeningFault.TheVariants.{NotAShelf, NotAnOldShelf, DiskFault, Full, OutOfMemory}
-use Rattle.run_record.specs.Run.{AreCausedBy, DiskRose, HasCauses, Run, is_out}
-use Rattle.run_record.specs.Seen.{disk_seen}
-use Rattle.witness_role.specs.ServedFile.{IsServing, Left, status_closing}
-use Rattle.witness_role.specs.ServedLinks.{IsServingLinks}
-use Rattle.witness_role.specs.Witnessed.{IsUnread, IsUnstarted, IsWitnessed, OpensNone, ServesInput, start_found, start_text}
-use Rattle.witness_role.proofs.LinksCauses.{links_asked, links_failed, links_read, links_signed, links_stored, links_wrote}
-use Rattle.witness_role.proofs.ServedCauses.{serving_asked, serving_kept, serving_read, serving_signed, serving_stored, serving_wrote}
+use Rattle.journal.specs.declared.journal.resume_fault.ResumeFault.{ResumeFault}
+use Rattle.journal.specs.declared.journal.resume_fault.ResumeFault.TheVariants.{NotALog, OutOfMemory as NoMemory}
+use Rattle.shelf_log.specs.KeriDisk.Images.{DiskTold}
+use Rattle.run_status.specs.RunOutside.Told.{Told}
+use Rattle.run_status.specs.declared.run_status.besides.Besides.{Besides}
+use Rattle.run_status.specs.declared.run_status.close.Close.{Close}
+use Rattle.run_status.specs.declared.run_status.close.Close.TheVariants as closing
+use Rattle.run_status.specs.RunStatus.Readers.{HasClose, Reader, SinkTold}
+use Rattle.run_status.specs.RunStatus.Settling.{SettlesBy, found}
+use Rattle.run_status.specs.RunStatus.Status.{nothing_besides, status_of}
+use Rattle.run_status.proofs.RunStatusLemmas.Causes.{faults_have_causes, six_closed, words_refused}
+use Rattle.witness_core.specs.WitnessOpening.Found.{found_by}
+use Rattle.witness_core.specs.declared.witness_opening.fault.OpeningFault.{OpeningFault}
+use Rattle.witness_core.specs.declared.witness_opening.fault.OpeningFault.TheVariants.{NotAShelf, NotAnOldShelf, DiskFault, Full, OutOfMemory}
+use Rattle.run_status.specs.RunRecord.Run.{AreCausedBy, DiskRose, HasCauses, Run, is_out}
+use Rattle.run_status.specs.RunRecord.Seen.{disk_seen}
+use Rattle.witness_core.specs.WitnessRole.ServedFile.{IsServing, Left, status_closing}
+use Rattle.witness_core.specs.WitnessRole.ServedLinks.{IsServingLinks}
+use Rattle.witness_core.specs.WitnessRole.Witnessed.{IsUnread, IsUnstarted, IsWitnessed, OpensNone, ServesInput, start_found, start_text}
+use Rattle.witness_core.proofs.WitnessRoleLemmas.LinksCauses.{links_asked, links_failed, links_read, links_signed, links_stored, links_wrote}
+use Rattle.witness_core.proofs.WitnessRoleLemmas.ServedCauses.{serving_asked, serving_kept, serving_read, serving_signed, serving_stored, serving_wrote}
 
 -- no reader closed by a fault
 none_caused : (helper : List ℕ) (key : Key) (shelf : List ℕ) (from : Option (List ℕ)) (input : Inputs (List ℕ)) (run : Run) → run.readers ≡ []

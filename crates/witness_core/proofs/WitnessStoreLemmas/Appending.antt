@@ -1,25 +1,25 @@
 -- One payload more is appended.
 use Rattle.std.proofs.Common.{◌≡◌, ◌≤◌, ◌<◌, ◌+◌, ℕ, Bool, true, false, Err, List, [], ◌∷◌, ◌++◌, length, take, slice_get, Some, refl, sym, ◌∙◌, ap, subst, arith, length-append}
-use Rattle.event_payload.specs.Payloads.{text_in}
-use Rattle.journal.specs.declared.body.Body.{Body}
-use Rattle.journal.specs.Grown.{IsGrown}
-use Rattle.journal.proofs.Places.{some_at}
-use Rattle.keri_disk.specs.Images.{DiskTold, LeavesOnly}
-use Rattle.keri_disk.proofs.Moments.{weaker}
+use Rattle.journal_views.specs.EventPayload.Payloads.{text_in}
+use Rattle.journal.specs.declared.journal.body.Body.{Body}
+use Rattle.journal.specs.Journal.Grown.{IsGrown}
+use Rattle.journal.proofs.JournalLemmas.Places.{some_at}
+use Rattle.shelf_log.specs.KeriDisk.Images.{DiskTold, LeavesOnly}
+use Rattle.shelf_log.proofs.KeriDiskLemmas.Moments.{weaker}
 use Rattle.keri_outside.specs.declared.limits.Limits.{Limits}
-use Rattle.shelf_log.specs.Answers.{Answers, refusal}
-use Rattle.shelf_log.specs.Format.{shelf_size}
-use Rattle.shelf_log.specs.Settled.{AllHold, HoldsEither}
-use Rattle.shelf_log.specs.declared.fault.ShelfFault.{ShelfFault}
-use Rattle.shelf_log.specs.declared.version.Version.TheVariants.{Two}
-use Rattle.validator_core.specs.View.{CoreView, accepted_by, told_of}
-use Rattle.witness_store.specs.Histories.{bodies_in, history_of}
-use Rattle.witness_store.specs.Payloads.{payload_now}
-use Rattle.witness_store.specs.Room.{HasRoom, IsKnown, IsRoom, count_waiting as count_in, reserve, weight}
-use Rattle.witness_store.specs.Storing.{Appends, HoldsFirst, IsOnWay, missing, payloads}
-use Rattle.witness_store.specs.declared.room.Room.{Room}
-use Rattle.witness_store.proofs.RoomSteps.{released}
-use Rattle.witness_store.proofs.Stored.{first_either, first_held, is_other, on_way_next, only_those, payloads_next, size_push}
+use Rattle.shelf_log.specs.ShelfLog.Answers.{Answers, refusal}
+use Rattle.shelf_log.specs.ShelfLog.Format.{shelf_size}
+use Rattle.shelf_log.specs.ShelfLog.Settled.{AllHold, HoldsEither}
+use Rattle.shelf_log.specs.declared.shelf_log.fault.ShelfFault.{ShelfFault}
+use Rattle.shelf_log.specs.declared.shelf_log.version.Version.TheVariants.{Two}
+use Rattle.validator_core.specs.ValidatorCore.View.{CoreView, accepted_by, told_of}
+use Rattle.witness_core.specs.WitnessStore.Histories.{bodies_in, history_of}
+use Rattle.witness_core.specs.WitnessStore.Payloads.{payload_now}
+use Rattle.witness_core.specs.WitnessStore.Room.{HasRoom, IsKnown, IsRoom, count_waiting as count_in, reserve, weight}
+use Rattle.witness_core.specs.WitnessStore.Storing.{Appends, HoldsFirst, IsOnWay, missing, payloads}
+use Rattle.witness_core.specs.declared.witness_store.room.Room.{Room}
+use Rattle.witness_core.proofs.WitnessStoreLemmas.RoomSteps.{released}
+use Rattle.witness_core.proofs.WitnessStoreLemmas.Stored.{first_either, first_held, is_other, on_way_next, only_those, payloads_next, size_push}
 
 module _ (core : CoreView) (list : List (List ℕ)) (place : ℕ) (place_is : place ≡ length list) (lacking : length list < length (accepted_by core)) (items p : List ℕ) (p_is : p ≡ items)
     (of : (b : Body) → slice_get (accepted_by core) place ≡ Some b → items ≡ payload_now (told_of core) (accepted_by core) b) where

@@ -1,18 +1,18 @@
 -- What a verdict leaves of what is stored.
 use Rattle.std.proofs.Common.{◌≡◌, Bool, List, ℕ, sym, subst}
-use Rattle.journal.specs.declared.question.Question.{Question}
-use Rattle.journal.specs.Grown.{IsGrown}
-use Rattle.journal.specs.History.{Told, heard}
-use Rattle.keri_disk.specs.Images.{DiskTold}
+use Rattle.journal.specs.declared.journal.question.Question.{Question}
+use Rattle.journal.specs.Journal.Grown.{IsGrown}
+use Rattle.journal.specs.Journal.History.{Told, heard}
+use Rattle.shelf_log.specs.KeriDisk.Images.{DiskTold}
 use Rattle.keri_outside.specs.declared.limits.Limits.{Limits}
-use Rattle.validator_core.specs.View.{CoreView}
-use Rattle.witness_store.specs.Histories.{history_of, told_more}
-use Rattle.witness_store.specs.Room.{HasRoom}
-use Rattle.witness_store.specs.Storing.{AreStored, IsOnWay}
-use Rattle.validator_core.specs.Verdicts.{Notes}
-use Rattle.witness_store.specs.declared.room.Room.{Room}
-use Rattle.witness_store.proofs.Entries.{history_follows, on_way_more}
-use Rattle.witness_store.proofs.RoomSteps.{has_room_heard}
+use Rattle.validator_core.specs.ValidatorCore.View.{CoreView}
+use Rattle.witness_core.specs.WitnessStore.Histories.{history_of, told_more}
+use Rattle.witness_core.specs.WitnessStore.Room.{HasRoom}
+use Rattle.witness_core.specs.WitnessStore.Storing.{AreStored, IsOnWay}
+use Rattle.validator_core.specs.ValidatorCore.Verdicts.{Notes}
+use Rattle.witness_core.specs.declared.witness_store.room.Room.{Room}
+use Rattle.witness_core.proofs.WitnessStoreLemmas.Entries.{history_follows, on_way_more}
+use Rattle.witness_core.proofs.WitnessStoreLemmas.RoomSteps.{has_room_heard}
 
 module _ (old new : CoreView) (q : Question) (verdict : Bool) (notes : Notes old q verdict new) (list : List (List ℕ)) (limits : Limits) (broken : Bool) (told : DiskTold) (room : Room)
     (stored : AreStored (history_of old) list limits broken told room) where

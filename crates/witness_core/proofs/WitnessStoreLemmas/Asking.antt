@@ -5,15 +5,15 @@ use Rattle.std.proofs.lemmas.Grind.{flat_map-append}
 use Rattle.std.proofs.lemmas.List.Elements.{All-append}
 use Rattle.cesr_codes.specs.declared.key.Key.{Key}
 use Rattle.cesr_codes.specs.declared.sig.Sig.{Sig}
-use Rattle.journal.specs.declared.question.Question.{Question}
-use Rattle.journal.specs.History.{Triple}
+use Rattle.journal.specs.declared.journal.question.Question.{Question}
+use Rattle.journal.specs.Journal.History.{Triple}
 use Rattle.keri_outside.specs.declared.failed.Failed.{Failed}
 use Rattle.keri_outside.specs.declared.inquiry.Inquiry.{Inquiry}
-use Rattle.keri_specs.specs.Told.{after}
-use Rattle.keri_specs.proofs.Putting.{after-append}
-use Rattle.validator_core.specs.Verdicts.{Asks, AsksAbout, IsOpen, IsSaid, IsVerdict, Notes, inquiries_in, inquiry_in, inquiry_on}
-use Rattle.validator_core.specs.View.{CoreView, open_of, told_of}
-use Rattle.validator_core.proofs.OpenQuestions.{all_heard, asks_more, asks_nothing, asks_unheard, follows_on}
+use Rattle.lists.specs.KeriSpecs.Told.{after}
+use Rattle.lists.proofs.KeriSpecsLemmas.Putting.{after-append}
+use Rattle.validator_core.specs.ValidatorCore.Verdicts.{Asks, AsksAbout, IsOpen, IsSaid, IsVerdict, Notes, inquiries_in, inquiry_in, inquiry_on}
+use Rattle.validator_core.specs.ValidatorCore.View.{CoreView, open_of, told_of}
+use Rattle.validator_core.proofs.ValidatorCoreLemmas.OpenQuestions.{all_heard, asks_more, asks_nothing, asks_unheard, follows_on}
 
 -- it was asked, and then further
 pub asks_then : (says : Key → List ℕ → Sig → Option Bool) (before mid now : Option (List Inquiry)) (old middle new : CoreView) (unheard : List Triple)

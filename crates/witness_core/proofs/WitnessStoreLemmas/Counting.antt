@@ -4,10 +4,10 @@ use Rattle.std.specs.Prelude.{filter_map}
 use Rattle.std.proofs.lemmas.List.{take_more}
 use Rattle.std.proofs.lemmas.List.Elements.{filter_map-append}
 use Rattle.cesr_codes.specs.declared.indexed_sig.IndexedSig.{IndexedSig}
-use Rattle.journal.specs.declared.claim.Claim.{Claim}
-use Rattle.journal.specs.declared.claim.Claim.TheVariants.{Held, Witness, Couple}
-use Rattle.journal.specs.Readiness.{held_sig}
-use Rattle.witness_store.specs.Room.{signatures_in}
+use Rattle.journal.specs.declared.journal.claim.Claim.{Claim}
+use Rattle.journal.specs.declared.journal.claim.Claim.TheVariants.{Held, Witness, Couple}
+use Rattle.journal.specs.Journal.Readiness.{held_sig}
+use Rattle.witness_core.specs.WitnessStore.Room.{signatures_in}
 
 -- one claim more
 pub counted_more : (claims : List Claim) (i : ℕ) (c : Claim) → i < length claims → c ≡ get_or claims i c → signatures_in (take (i + 1) claims) ≡ signatures_in (take i claims) + signatures_in (c ∷ [])

@@ -1,15 +1,15 @@
 -- What one more entry makes of what is stored.
 use Rattle.std.proofs.Common.{◌≡◌, ◌≤◌, ℕ, List, [], ◌∷◌, ◌++◌, length, take, drop, map, sym, ◌∙◌, ap, arith, length-append, append_assoc, append-nil}
-use Rattle.journal.specs.declared.body.Body.{Body}
-use Rattle.journal.specs.declared.mode.Mode.{Mode}
-use Rattle.journal.specs.History.{Told}
-use Rattle.journal.proofs.Accepting.{accepted_extends}
-use Rattle.validator_core.specs.View.{CoreView, Follows, told_of}
-use Rattle.witness_store.specs.Histories.{History, history_of, log_in, told_more}
-use Rattle.witness_store.specs.Payloads.{payload_now}
-use Rattle.witness_store.specs.Storing.{IsOnWay, by_entries, missing, newly}
-use Rattle.witness_store.proofs.Lists.{take_within}
-use Rattle.witness_store.proofs.Stored.{missing_none}
+use Rattle.journal.specs.declared.journal.body.Body.{Body}
+use Rattle.journal.specs.declared.journal.mode.Mode.{Mode}
+use Rattle.journal.specs.Journal.History.{Told}
+use Rattle.journal.proofs.JournalLemmas.Accepting.{accepted_extends}
+use Rattle.validator_core.specs.ValidatorCore.View.{CoreView, Follows, told_of}
+use Rattle.witness_core.specs.WitnessStore.Histories.{History, history_of, log_in, told_more}
+use Rattle.witness_core.specs.WitnessStore.Payloads.{payload_now}
+use Rattle.witness_core.specs.WitnessStore.Storing.{IsOnWay, by_entries, missing, newly}
+use Rattle.witness_core.proofs.WitnessStoreLemmas.Lists.{take_within}
+use Rattle.witness_core.proofs.WitnessStoreLemmas.Stored.{missing_none}
 
 -- a core that follows another goes by what that went by, and what was told since
 pub history_follows : (old new : CoreView) (t : Told) → Follows old new → told_of new ≡ told_of old ++ t ∷ [] → history_of new ≡ told_more (history_of old) t

@@ -2,18 +2,18 @@
 use Rattle.std.proofs.Common.{◌≡◌, ◌<◌, ℕ, List, All, length, map, slice_get, Some, get_or, sym, ◌∙◌, ap, subst, arith}
 use Rattle.std.proofs.lemmas.List.{length-map}
 use Rattle.std.proofs.lemmas.Option.{get_or_from_slice_get, slice_get_within}
-use Rattle.acceptance.specs.Standing.{IsHeld}
+use Rattle.validator_core.specs.Acceptance.Standing.{IsHeld}
 use Rattle.cesr_codes.specs.declared.indexed_sig.IndexedSig.{IndexedSig}
-use Rattle.event_payload.specs.Kept.{kept}
-use Rattle.event_payload.specs.Payloads.{payload_of}
-use Rattle.journal.specs.declared.body.Body.{Body}
-use Rattle.journal.specs.Journals.{chosen}
-use Rattle.journal.proofs.Places.{all_at, some_at}
-use Rattle.validator_core.specs.View.{CoreView, Stands, accepted_by, told_of}
-use Rattle.witness_store.specs.Payloads.{payload_now}
-use Rattle.witness_store.specs.Room.{IsKnown}
-use Rattle.witness_store.proofs.Lists.{map_at}
-use Rattle.witness_store.proofs.Waits.{chosen_at, chosen_length}
+use Rattle.journal_views.specs.EventPayload.Kept.{kept}
+use Rattle.journal_views.specs.EventPayload.Payloads.{payload_of}
+use Rattle.journal.specs.declared.journal.body.Body.{Body}
+use Rattle.journal.specs.Journal.Journals.{chosen}
+use Rattle.journal.proofs.JournalLemmas.Places.{all_at, some_at}
+use Rattle.validator_core.specs.ValidatorCore.View.{CoreView, Stands, accepted_by, told_of}
+use Rattle.witness_core.specs.WitnessStore.Payloads.{payload_now}
+use Rattle.witness_core.specs.WitnessStore.Room.{IsKnown}
+use Rattle.witness_core.proofs.WitnessStoreLemmas.Lists.{map_at}
+use Rattle.witness_core.proofs.WitnessStoreLemmas.Waits.{chosen_at, chosen_length}
 
 module _ (core : CoreView) (numbers : List ℕ) (below : All (λ n. n < length core.held) numbers) (names : chosen core.held numbers ≡ accepted_by core) where
   pub known_by : numbers ≡ core.accepted → Stands core → IsKnown core

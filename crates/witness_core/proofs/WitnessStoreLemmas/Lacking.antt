@@ -4,23 +4,23 @@ use Rattle.std.specs.Prelude.{IfNone, IfSome, filter_map}
 use Rattle.std.proofs.lemmas.Bool.{le-ltb}
 use Rattle.std.proofs.lemmas.List.{take_all}
 use Rattle.std.proofs.lemmas.List.Elements.{filter_map-append}
-use Rattle.core_laws.proofs.Told.{claims_push}
-use Rattle.journal.specs.declared.body.Body.{Body}
-use Rattle.journal.specs.declared.claim.Claim.{Claim}
-use Rattle.journal.specs.History.{claims_in, claims_on, is_receipt_for, took}
-use Rattle.journal.specs.Logs.{is_in}
-use Rattle.journal.specs.Readiness.{held_sig}
-use Rattle.journal.proofs.Accepting.{same_body-refl}
+use Rattle.claim_table.proofs.CoreLawsLemmas.Told.{claims_push}
+use Rattle.journal.specs.declared.journal.body.Body.{Body}
+use Rattle.journal.specs.declared.journal.claim.Claim.{Claim}
+use Rattle.journal.specs.Journal.History.{claims_in, claims_on, is_receipt_for, took}
+use Rattle.journal.specs.Journal.Logs.{is_in}
+use Rattle.journal.specs.Journal.Readiness.{held_sig}
+use Rattle.journal.proofs.JournalLemmas.Accepting.{same_body-refl}
 use Rattle.keri_outside.specs.declared.limits.Limits.{Limits}
-use Rattle.shelf_log.specs.Format.{shelf_size}
-use Rattle.shelf_log.specs.declared.version.Version.TheVariants.{Two}
-use Rattle.validator_core.specs.View.{CoreView, accepted_by, told_of}
-use Rattle.witness_store.specs.Histories.{bodies_in, history_of}
-use Rattle.witness_store.specs.Room.{IsComing, IsKnown, IsRoom, count_waiting as count_in, lacks_room, reserve, signatures_in, signatures_on, weight}
-use Rattle.witness_store.specs.declared.room.Coming.{Coming}
-use Rattle.witness_store.specs.declared.room.Room.{Room}
-use Rattle.witness_store.proofs.RoomSteps.{held_is, signatures_at}
-use Rattle.witness_store.proofs.Rooms.{signatures_fresh}
+use Rattle.shelf_log.specs.ShelfLog.Format.{shelf_size}
+use Rattle.shelf_log.specs.declared.shelf_log.version.Version.TheVariants.{Two}
+use Rattle.validator_core.specs.ValidatorCore.View.{CoreView, accepted_by, told_of}
+use Rattle.witness_core.specs.WitnessStore.Histories.{bodies_in, history_of}
+use Rattle.witness_core.specs.WitnessStore.Room.{IsComing, IsKnown, IsRoom, count_waiting as count_in, lacks_room, reserve, signatures_in, signatures_on, weight}
+use Rattle.witness_core.specs.declared.witness_store.room.Coming.{Coming}
+use Rattle.witness_core.specs.declared.witness_store.room.Room.{Room}
+use Rattle.witness_core.proofs.WitnessStoreLemmas.RoomSteps.{held_is, signatures_at}
+use Rattle.witness_core.proofs.WitnessStoreLemmas.Rooms.{signatures_fresh}
 
 module _ (core : CoreView) (known : IsKnown core) (list : List (List ℕ)) (all : length list ≡ length (accepted_by core)) (room : Room) (is : IsRoom (history_of core) (length list) room)
     (b : Body) (claims : List Claim) (coming : Coming) (comes : IsComing core b claims coming) where

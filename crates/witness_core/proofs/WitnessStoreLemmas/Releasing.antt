@@ -1,13 +1,13 @@
 -- The room when an event is stored: it needs no more what the event needed.
 use Rattle.std.proofs.Common.{◌≡◌, ◌≤◌, ◌+◌, ◌-◌, ◌*◌, ℕ, length, take, slice_get, Some, get_or, sym, ◌∙◌, ap, arith}
 use Rattle.std.proofs.lemmas.List.{length-map}
-use Rattle.journal.specs.declared.body.Body.{Body}
-use Rattle.journal.specs.Grown.{IsGrown}
-use Rattle.validator_core.specs.View.{CoreView, accepted_by, told_of}
-use Rattle.witness_store.specs.Histories.{bodies_in, history_of}
-use Rattle.witness_store.specs.Room.{IsKnown, IsRoom, reserve, signatures_on, weight}
-use Rattle.witness_store.specs.declared.room.Room.{Room}
-use Rattle.witness_store.proofs.RoomSteps.{held_is, released, signatures_at}
+use Rattle.journal.specs.declared.journal.body.Body.{Body}
+use Rattle.journal.specs.Journal.Grown.{IsGrown}
+use Rattle.validator_core.specs.ValidatorCore.View.{CoreView, accepted_by, told_of}
+use Rattle.witness_core.specs.WitnessStore.Histories.{bodies_in, history_of}
+use Rattle.witness_core.specs.WitnessStore.Room.{IsKnown, IsRoom, reserve, signatures_on, weight}
+use Rattle.witness_core.specs.declared.witness_store.room.Room.{Room}
+use Rattle.witness_core.proofs.WitnessStoreLemmas.RoomSteps.{held_is, released, signatures_at}
 
 module _ (core : CoreView) (known : IsKnown core) (stored : ℕ) (room : Room) (is : IsRoom (history_of core) stored room) where
   -- each body's signatures are counted

@@ -7,27 +7,27 @@ use Rattle.std.proofs.lemmas.List.{take_all}
 use Rattle.std.proofs.lemmas.Option.{get_or_from_slice_get}
 use Rattle.cesr_codes.specs.declared.key.Key.{Key}
 use Rattle.cesr_codes.specs.declared.sig.Sig.{Sig}
-use Rattle.core_laws.specs.Waking.{is_waiting}
-use Rattle.event_body.specs.Events.{is_receipt}
-use Rattle.journal.specs.declared.body.Body.{Body}
-use Rattle.journal.specs.declared.claim.Claim.{Claim}
-use Rattle.journal.specs.Grown.{IsGrown}
-use Rattle.journal.specs.History.{Told, heard, taken, took}
-use Rattle.journal.specs.Logs.{is_in, same_body}
-use Rattle.journal.proofs.Accepting.{same_body-refl}
-use Rattle.journal.proofs.Different.{Differ}
-use Rattle.journal.proofs.Keeping.{accepted_grown}
-use Rattle.journal.proofs.Places.{any_at}
+use Rattle.claim_table.specs.CoreLaws.Waking.{is_waiting}
+use Rattle.event_body.specs.EventBody.Events.{is_receipt}
+use Rattle.journal.specs.declared.journal.body.Body.{Body}
+use Rattle.journal.specs.declared.journal.claim.Claim.{Claim}
+use Rattle.journal.specs.Journal.Grown.{IsGrown}
+use Rattle.journal.specs.Journal.History.{Told, heard, taken, took}
+use Rattle.journal.specs.Journal.Logs.{is_in, same_body}
+use Rattle.journal.proofs.JournalLemmas.Accepting.{same_body-refl}
+use Rattle.journal.proofs.JournalLemmas.Different.{Differ}
+use Rattle.journal.proofs.JournalLemmas.Keeping.{accepted_grown}
+use Rattle.journal.proofs.JournalLemmas.Places.{any_at}
 use Rattle.keri_outside.specs.declared.limits.Limits.{Limits}
-use Rattle.validator_core.specs.View.{CoreView, accepted_by}
-use Rattle.validator_core.proofs.Bodies.{bodies_heard, bodies_new, bodies_old}
-use Rattle.witness_store.specs.Histories.{History, bodies_in, history_of, log_in, told_more}
-use Rattle.witness_store.specs.Room.{HasRoom, IsKnown, IsRoom, count_waiting as count_in, if_waiting, is_event, reserve, signatures_in, signatures_on}
-use Rattle.witness_store.specs.declared.room.Room.{Room}
-use Rattle.witness_store.proofs.Entries.{log_more}
-use Rattle.witness_store.proofs.Lists.{map_at, take_front, take_place}
-use Rattle.witness_store.proofs.Rooms.{bodies_differ, bodies_events, all_heard, events_heard, events_took, reserve_again, reserve_first, reserve_heard, signatures_again, signatures_first, signatures_fresh}
-use Rattle.witness_store.proofs.Waits.{AreAmong, accepted_less, chosen_at, chosen_length, counted, waited}
+use Rattle.validator_core.specs.ValidatorCore.View.{CoreView, accepted_by}
+use Rattle.validator_core.proofs.ValidatorCoreLemmas.Bodies.{bodies_heard, bodies_new, bodies_old}
+use Rattle.witness_core.specs.WitnessStore.Histories.{History, bodies_in, history_of, log_in, told_more}
+use Rattle.witness_core.specs.WitnessStore.Room.{HasRoom, IsKnown, IsRoom, count_waiting as count_in, if_waiting, is_event, reserve, signatures_in, signatures_on}
+use Rattle.witness_core.specs.declared.witness_store.room.Room.{Room}
+use Rattle.witness_core.proofs.WitnessStoreLemmas.Entries.{log_more}
+use Rattle.witness_core.proofs.WitnessStoreLemmas.Lists.{map_at, take_front, take_place}
+use Rattle.witness_core.proofs.WitnessStoreLemmas.Rooms.{bodies_differ, bodies_events, all_heard, events_heard, events_took, reserve_again, reserve_first, reserve_heard, signatures_again, signatures_first, signatures_fresh}
+use Rattle.witness_core.proofs.WitnessStoreLemmas.Waits.{AreAmong, accepted_less, chosen_at, chosen_length, counted, waited}
 
 -- the bodies that are held are those that came
 pub held_is : (core : CoreView) → IsKnown core → core.held ≡ bodies_in (history_of core)

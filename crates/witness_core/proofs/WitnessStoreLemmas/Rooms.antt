@@ -10,25 +10,25 @@ use Rattle.std.proofs.lemmas.List.Elements.{filter_map-append}
 use Rattle.std.proofs.lemmas.List.Sums.{sum_by_push}
 use Rattle.cesr_codes.specs.declared.key.Key.{Key}
 use Rattle.cesr_codes.specs.declared.sig.Sig.{Sig}
-use Rattle.core_laws.specs.Waking.{is_waiting}
-use Rattle.core_laws.proofs.Told.{claims_heard, claims_push}
-use Rattle.event_body.specs.Events.{is_receipt}
-use Rattle.journal.specs.declared.body.Body.{Body}
-use Rattle.journal.specs.declared.claim.Claim.{Claim}
-use Rattle.journal.specs.declared.claim.Claim.TheVariants.{Held, Witness, Couple}
-use Rattle.journal.specs.History.{Told, bodies, claims_in, claims_on, heard, is_receipt_for, taken, took}
-use Rattle.journal.specs.Logs.{is_in, same_body}
-use Rattle.journal.specs.Readiness.{held_sig}
-use Rattle.journal.specs.Replies.{all_claims}
-use Rattle.journal.proofs.Accepting.{same_body-refl}
-use Rattle.journal.proofs.Different.{Differ, differ-distinct}
-use Rattle.journal.proofs.Distinct.{any-distinct, same_body-moves}
-use Rattle.journal.proofs.Keeping.{list_all-distinct}
-use Rattle.journal.proofs.Locality.{flat_map-push}
-use Rattle.journal.proofs.Places.{any_at, others_differ}
-use Rattle.witness_store.specs.Room.{if_waiting, is_event, reserve, signatures_in, signatures_on, weight}
-use Rattle.witness_store.proofs.Lists.{map_change, map_same}
-use Rattle.witness_store.proofs.Sums.{sum_change, sum_same}
+use Rattle.claim_table.specs.CoreLaws.Waking.{is_waiting}
+use Rattle.claim_table.proofs.CoreLawsLemmas.Told.{claims_heard, claims_push}
+use Rattle.event_body.specs.EventBody.Events.{is_receipt}
+use Rattle.journal.specs.declared.journal.body.Body.{Body}
+use Rattle.journal.specs.declared.journal.claim.Claim.{Claim}
+use Rattle.journal.specs.declared.journal.claim.Claim.TheVariants.{Held, Witness, Couple}
+use Rattle.journal.specs.Journal.History.{Told, bodies, claims_in, claims_on, heard, is_receipt_for, taken, took}
+use Rattle.journal.specs.Journal.Logs.{is_in, same_body}
+use Rattle.journal.specs.Journal.Readiness.{held_sig}
+use Rattle.journal.specs.Journal.Replies.{all_claims}
+use Rattle.journal.proofs.JournalLemmas.Accepting.{same_body-refl}
+use Rattle.journal.proofs.JournalLemmas.Different.{Differ, differ-distinct}
+use Rattle.journal.proofs.JournalLemmas.Distinct.{any-distinct, same_body-moves}
+use Rattle.journal.proofs.JournalLemmas.Keeping.{list_all-distinct}
+use Rattle.journal.proofs.JournalLemmas.Locality.{flat_map-push}
+use Rattle.journal.proofs.JournalLemmas.Places.{any_at, others_differ}
+use Rattle.witness_core.specs.WitnessStore.Room.{if_waiting, is_event, reserve, signatures_in, signatures_on, weight}
+use Rattle.witness_core.proofs.WitnessStoreLemmas.Lists.{map_change, map_same}
+use Rattle.witness_core.proofs.WitnessStoreLemmas.Sums.{sum_change, sum_same}
 
 -- the bodies differ from each other
 pub bodies_differ : (base : List Body) (told : List Told) → Differ same_body (bodies base told)

@@ -2,25 +2,25 @@
 use Rattle.std.proofs.Common.{◌≡◌, ◌≤◌, ◌+◌, ℕ, List, length, slice_get, Some, ◌∙◌, ap, arith, inl, inr, length-append}
 use Rattle.std.proofs.lemmas.Bool.{cases_lt}
 use Rattle.std.proofs.lemmas.List.{nil_from_length}
-use Rattle.acceptance.specs.Standing.{IsHeld}
+use Rattle.validator_core.specs.Acceptance.Standing.{IsHeld}
 use Rattle.cesr_codes.specs.declared.indexed_sig.IndexedSig.{IndexedSig}
-use Rattle.event_body.specs.Judging.{SpellsEvent}
-use Rattle.event_body.specs.declared.event.Event.{Event}
-use Rattle.event_payload.specs.Kept.{kept}
-use Rattle.event_payload.specs.Payloads.{groups_text, parts_of}
-use Rattle.event_payload.proofs.Few.{kept_few, kept_no_more}
-use Rattle.event_payload.proofs.Sizes.{payload_long, payload_sized}
-use Rattle.event_payload.proofs.Written.{some_bytes}
-use Rattle.journal.specs.declared.body.Body.{Body}
-use Rattle.journal.proofs.Places.{all_at}
+use Rattle.event_body.specs.EventBody.Judging.{SpellsEvent}
+use Rattle.event_body.specs.declared.event_body.event.Event.{Event}
+use Rattle.journal_views.specs.EventPayload.Kept.{kept}
+use Rattle.journal_views.specs.EventPayload.Payloads.{groups_text, parts_of}
+use Rattle.journal_views.proofs.EventPayloadLemmas.Few.{kept_few, kept_no_more}
+use Rattle.journal_views.proofs.EventPayloadLemmas.Sizes.{payload_long, payload_sized}
+use Rattle.journal_views.proofs.EventPayloadLemmas.Written.{some_bytes}
+use Rattle.journal.specs.declared.journal.body.Body.{Body}
+use Rattle.journal.proofs.JournalLemmas.Places.{all_at}
 use Rattle.key_state.specs.Kept.{IsKept}
-use Rattle.shelf_log.specs.Format.{IsSized}
-use Rattle.shelf_log.specs.declared.version.Version.TheVariants.{Two}
-use Rattle.validator_core.specs.View.{CoreView, accepted_by, told_of}
-use Rattle.witness_store.specs.Payloads.{payload_now}
-use Rattle.witness_store.specs.Room.{IsKnown, weight}
-use Rattle.witness_store.proofs.States.{under_is}
-use Rattle.witness_store.proofs.Waits.{chosen_at}
+use Rattle.shelf_log.specs.ShelfLog.Format.{IsSized}
+use Rattle.shelf_log.specs.declared.shelf_log.version.Version.TheVariants.{Two}
+use Rattle.validator_core.specs.ValidatorCore.View.{CoreView, accepted_by, told_of}
+use Rattle.witness_core.specs.WitnessStore.Payloads.{payload_now}
+use Rattle.witness_core.specs.WitnessStore.Room.{IsKnown, weight}
+use Rattle.witness_core.proofs.WitnessStoreLemmas.States.{under_is}
+use Rattle.witness_core.proofs.WitnessStoreLemmas.Waits.{chosen_at}
 
 module _ (core : CoreView) (known : IsKnown core) (spelled : (event : Event) (bytes : List ℕ) → SpellsEvent event bytes → IsKept event) (place : ℕ) (b : Body) (at : slice_get (accepted_by core) place ≡ Some b) where
   pub held : IsHeld b

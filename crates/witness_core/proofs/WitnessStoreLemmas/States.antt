@@ -4,26 +4,26 @@ use Rattle.std.specs.Prelude.{fold, filter, IfSome}
 use Rattle.std.specs.Result.{result_ok}
 use Rattle.std.proofs.lemmas.Bool.{cases_Bool}
 use Rattle.std.proofs.lemmas.List.Elements.{All-cons, All-head, All-nil, All-tail}
-use Rattle.acceptance.specs.Standing.{IsHeld}
+use Rattle.validator_core.specs.Acceptance.Standing.{IsHeld}
 use Rattle.cesr_codes.specs.declared.prefix.Prefix.{Prefix}
-use Rattle.core_laws.proofs.Entries.{all_from}
-use Rattle.event_body.specs.Judging.{SpellsEvent}
-use Rattle.event_body.specs.declared.event.Event.{Event}
-use Rattle.event_body.specs.declared.event.Event.TheVariants.{Icp, Rot, Ixn, Dip, Drt, Rct}
-use Rattle.event_body.specs.declared.rotation.Rotation.{Rotation}
-use Rattle.event_payload.specs.Kept.{state_under}
-use Rattle.journal.specs.declared.body.Body.{Body}
-use Rattle.journal.specs.Journals.{chosen}
-use Rattle.journal.specs.Logs.{before, is_of, same_body, state, stepped}
-use Rattle.journal.proofs.Places.{all_at}
+use Rattle.claim_table.proofs.CoreLawsLemmas.Entries.{all_from}
+use Rattle.event_body.specs.EventBody.Judging.{SpellsEvent}
+use Rattle.event_body.specs.declared.event_body.event.Event.{Event}
+use Rattle.event_body.specs.declared.event_body.event.Event.TheVariants.{Icp, Rot, Ixn, Dip, Drt, Rct}
+use Rattle.event_body.specs.declared.event_body.rotation.Rotation.{Rotation}
+use Rattle.journal_views.specs.EventPayload.Kept.{state_under}
+use Rattle.journal.specs.declared.journal.body.Body.{Body}
+use Rattle.journal.specs.Journal.Journals.{chosen}
+use Rattle.journal.specs.Journal.Logs.{before, is_of, same_body, state, stepped}
+use Rattle.journal.proofs.JournalLemmas.Places.{all_at}
 use Rattle.key_state.specs.Kept.{IsKept}
 use Rattle.key_state.specs.KeyStates.{begun, first, is_bad_change, misfit, moved, rotated}
 use Rattle.key_state.specs.States.{State, IsState}
 use Rattle.key_state.proofs.NoMisfit.{few_since, fits_list}
 use Rattle.key_state.proofs.WitnessLists.{are_changed, few_changed}
-use Rattle.validator_core.specs.View.{CoreView, Stands, accepted_by}
-use Rattle.witness_store.specs.Room.{IsKnown}
-use Rattle.witness_store.proofs.Waits.{chosen_at}
+use Rattle.validator_core.specs.ValidatorCore.View.{CoreView, Stands, accepted_by}
+use Rattle.witness_core.specs.WitnessStore.Room.{IsKnown}
+use Rattle.witness_core.proofs.WitnessStoreLemmas.Waits.{chosen_at}
 
 -- an inception makes a state
 first_is : (e : Event) → IsKept e → (s : State) → result_ok (first e) ≡ Some s → IsState s

@@ -2,24 +2,24 @@
 use Rattle.std.proofs.Common.{◌≡◌, ◌≤◌, ◌<◌, ◌+◌, ℕ, List, [], ◌∷◌, ◌++◌, length, take, drop, map, slice_get, Some, None, refl, sym, ◌∙◌, ap, ⊎_elim, arith, length-append, append_assoc, append-nil, Bool, true, false, subst, Err}
 use Rattle.std.proofs.lemmas.Bool.Decides.{nat_tests}
 use Rattle.std.proofs.lemmas.List.{drop_all, map-append}
-use Rattle.event_payload.specs.Payloads.{text_in}
-use Rattle.journal.specs.declared.body.Body.{Body}
-use Rattle.keri_disk.specs.Images.{DiskTold}
-use Rattle.keri_disk.proofs.Moments.{KnowsNow, and_then, none_yet, weaker}
+use Rattle.journal_views.specs.EventPayload.Payloads.{text_in}
+use Rattle.journal.specs.declared.journal.body.Body.{Body}
+use Rattle.shelf_log.specs.KeriDisk.Images.{DiskTold}
+use Rattle.shelf_log.proofs.KeriDiskLemmas.Moments.{KnowsNow, and_then, none_yet, weaker}
 use Rattle.keri_outside.specs.declared.limits.Limits.{Limits}
-use Rattle.shelf_log.specs.Answers.{Answers, refusal}
-use Rattle.shelf_log.specs.Format.{Holds, shelf_size}
-use Rattle.shelf_log.specs.Settled.{AllHold, HoldsEither}
-use Rattle.shelf_log.specs.declared.fault.ShelfFault.{ShelfFault}
-use Rattle.shelf_log.specs.declared.fault.ShelfFault.TheVariants.{DiskFault, NotAShelf, Full, Broken, OutOfMemory}
-use Rattle.shelf_log.specs.declared.version.Version.TheVariants.{Two}
-use Rattle.shelf_log.proofs.Files.{length-front-push}
-use Rattle.witness_store.specs.Histories.{History, log_in}
-use Rattle.witness_store.specs.Payloads.{payload_now}
-use Rattle.witness_store.specs.Room.{HasRoom}
-use Rattle.witness_store.specs.declared.room.Room.{Room}
-use Rattle.witness_store.specs.Storing.{Appends, GoesOn, HoldsFirst, IsOnWay, missing, payloads}
-use Rattle.witness_store.proofs.Lists.{drop_place, drop_within, take_front, take_place, take_within}
+use Rattle.shelf_log.specs.ShelfLog.Answers.{Answers, refusal}
+use Rattle.shelf_log.specs.ShelfLog.Format.{Holds, shelf_size}
+use Rattle.shelf_log.specs.ShelfLog.Settled.{AllHold, HoldsEither}
+use Rattle.shelf_log.specs.declared.shelf_log.fault.ShelfFault.{ShelfFault}
+use Rattle.shelf_log.specs.declared.shelf_log.fault.ShelfFault.TheVariants.{DiskFault, NotAShelf, Full, Broken, OutOfMemory}
+use Rattle.shelf_log.specs.declared.shelf_log.version.Version.TheVariants.{Two}
+use Rattle.shelf_log.proofs.ShelfLogLemmas.Files.{length-front-push}
+use Rattle.witness_core.specs.WitnessStore.Histories.{History, log_in}
+use Rattle.witness_core.specs.WitnessStore.Payloads.{payload_now}
+use Rattle.witness_core.specs.WitnessStore.Room.{HasRoom}
+use Rattle.witness_core.specs.declared.witness_store.room.Room.{Room}
+use Rattle.witness_core.specs.WitnessStore.Storing.{Appends, GoesOn, HoldsFirst, IsOnWay, missing, payloads}
+use Rattle.witness_core.proofs.WitnessStoreLemmas.Lists.{drop_place, drop_within, take_front, take_place, take_within}
 
 -- one payload more
 pub size_push : (list : List (List ℕ)) (payload : List ℕ) → shelf_size Two (list ++ payload ∷ []) ≡ shelf_size Two list + 5 + length payload

@@ -7,21 +7,21 @@ use Rattle.std.proofs.Math.Bool.{or-false}
 use Rattle.std.proofs.lemmas.List.Elements.{All-head, All-tail}
 use Rattle.std.proofs.lemmas.List.Folds.{list_any-append}
 use Rattle.std.proofs.lemmas.List.Sums.{sum_by-cons}
-use Rattle.core_laws.specs.Waking.{is_waiting}
-use Rattle.core_tables.specs.View.{waiter_at}
-use Rattle.escrow.specs.declared.waiter.Waiter.{Waiter}
-use Rattle.event_body.specs.Events.{is_receipt}
-use Rattle.journal.specs.declared.body.Body.{Body}
-use Rattle.journal.specs.Grown.{IsGrown, fits}
-use Rattle.journal.specs.Journals.{chosen}
-use Rattle.journal.specs.Logs.{is_in, same_body}
-use Rattle.journal.proofs.Accepting.{same_body-refl}
-use Rattle.journal.proofs.Different.{Differ}
-use Rattle.journal.proofs.Places.{others_differ, some_at}
+use Rattle.claim_table.specs.CoreLaws.Waking.{is_waiting}
+use Rattle.core_tables.specs.CoreTables.View.{waiter_at}
+use Rattle.escrow.specs.declared.escrow.waiter.Waiter.{Waiter}
+use Rattle.event_body.specs.EventBody.Events.{is_receipt}
+use Rattle.journal.specs.declared.journal.body.Body.{Body}
+use Rattle.journal.specs.Journal.Grown.{IsGrown, fits}
+use Rattle.journal.specs.Journal.Journals.{chosen}
+use Rattle.journal.specs.Journal.Logs.{is_in, same_body}
+use Rattle.journal.proofs.JournalLemmas.Accepting.{same_body-refl}
+use Rattle.journal.proofs.JournalLemmas.Different.{Differ}
+use Rattle.journal.proofs.JournalLemmas.Places.{others_differ, some_at}
 use Rattle.key_state.proofs.Same.{number_itself, numbers}
-use Rattle.witness_store.specs.Room.{count_waiting, if_waiting, is_event}
-use Rattle.witness_store.proofs.Lists.{parted_at, take_place}
-use Rattle.witness_store.proofs.Sums.{sum_change}
+use Rattle.witness_core.specs.WitnessStore.Room.{count_waiting, if_waiting, is_event}
+use Rattle.witness_core.proofs.WitnessStoreLemmas.Lists.{parted_at, take_place}
+use Rattle.witness_core.proofs.WitnessStoreLemmas.Sums.{sum_change}
 
 module _ (log : List Body) (c : Body) where
   is_in_push : (x : Body) → is_in (log ++ c ∷ []) x ≡ (is_in log x || same_body c x)

@@ -1,12 +1,12 @@
 -- Laws of when an event was accepted.
 use Rattle.std.specs.Prelude.{◌≡◌, true, List, [], ◌∷◌, ◌++◌}
-use Rattle.event_payload.specs.Kept.{state_under}
-use Rattle.journal.specs.declared.body.Body.{Body}
-use Rattle.journal.specs.declared.mode.Mode.{Mode}
-use Rattle.journal.specs.Accepted.{accepted}
-use Rattle.journal.specs.History.{Told}
-use Rattle.journal.specs.Readiness.{signed}
-use Rattle.witness_store.specs.Payloads.{IsAcceptedAt}
+use Rattle.journal_views.specs.EventPayload.Kept.{state_under}
+use Rattle.journal.specs.declared.journal.body.Body.{Body}
+use Rattle.journal.specs.declared.journal.mode.Mode.{Mode}
+use Rattle.journal.specs.Journal.Accepted.{accepted}
+use Rattle.journal.specs.Journal.History.{Told}
+use Rattle.journal.specs.Journal.Readiness.{signed}
+use Rattle.witness_core.specs.WitnessStore.Payloads.{IsAcceptedAt}
 
 -- What an entry makes accepted comes behind what was; each of it was accepted by that entry, and is signed by what was told then,
 -- under the state just before it in the log.

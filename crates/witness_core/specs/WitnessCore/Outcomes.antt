@@ -3,21 +3,21 @@ use Rattle.std.specs.Prelude.{◌≡◌, ℕ, Bool, List, [], Contains, Option, 
 use Rattle.cesr_codes.specs.declared.key.Key.{Key}
 use Rattle.cesr_codes.specs.declared.sig.Sig.{Sig}
 use Rattle.cesr_stream.specs.declared.message.Message.{Message}
-use Rattle.event_body.specs.Events.{said_of}
+use Rattle.event_body.specs.EventBody.Events.{said_of}
 use Rattle.keri_outside.specs.declared.signing.Signing.{Signing}
-use Rattle.keri_specs.specs.Told.{after}
-use Rattle.journal.specs.declared.body.Body.{Body}
-use Rattle.validator_core.specs.Messages.{JudgesMessage}
-use Rattle.validator_core.specs.View.{CoreView, accepted_by, open_of}
-use Rattle.witness_receipts.specs.Fates.{event_fate}
-use Rattle.witness_receipts.specs.Receipts.{AreReceiptsOf, due, signings_of}
-use Rattle.witness_core.specs.Telling.{IsOfReceipt, IsUntold, TellsEvent}
-use Rattle.witness_receipts.specs.declared.fate.Fate.{Fate}
-use Rattle.witness_receipts.specs.declared.fate.Fate.TheVariants.{Stored, Waits, Seen, NotAnEvent, Refused}
-use Rattle.witness_core.specs.declared.outcome.Outcome.{Outcome}
-use Rattle.witness_receipts.specs.declared.receipt.Receipt.{Receipt}
-use Rattle.witness_store.specs.declared.witness_fault.WitnessFault.{WitnessFault}
-use Rattle.witness_store.specs.declared.witness_fault.WitnessFault.TheVariants.{DiskFault, SignerFault, VerifierFault, Full, Broken, OutOfMemory}
+use Rattle.lists.specs.KeriSpecs.Told.{after}
+use Rattle.journal.specs.declared.journal.body.Body.{Body}
+use Rattle.validator_core.specs.ValidatorCore.Messages.{JudgesMessage}
+use Rattle.validator_core.specs.ValidatorCore.View.{CoreView, accepted_by, open_of}
+use Rattle.witness_core.specs.WitnessReceipts.Fates.{event_fate}
+use Rattle.witness_core.specs.WitnessReceipts.Receipts.{AreReceiptsOf, due, signings_of}
+use Rattle.witness_core.specs.WitnessCore.Telling.{IsOfReceipt, IsUntold, TellsEvent}
+use Rattle.witness_core.specs.declared.witness_receipts.fate.Fate.{Fate}
+use Rattle.witness_core.specs.declared.witness_receipts.fate.Fate.TheVariants.{Stored, Waits, Seen, NotAnEvent, Refused}
+use Rattle.witness_core.specs.declared.witness_core.outcome.Outcome.{Outcome}
+use Rattle.witness_core.specs.declared.witness_receipts.receipt.Receipt.{Receipt}
+use Rattle.witness_core.specs.declared.witness_store.witness_fault.WitnessFault.{WitnessFault}
+use Rattle.witness_core.specs.declared.witness_store.witness_fault.WitnessFault.TheVariants.{DiskFault, SignerFault, VerifierFault, Full, Broken, OutOfMemory}
 
 -- what the core was told, by the message's fate
 abbrev pub TellsFate : (Key → List ℕ → Sig → Option Bool) → CoreView → Message → Fate → CoreView → Type 0

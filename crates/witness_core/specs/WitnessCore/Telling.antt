@@ -3,25 +3,25 @@ use Rattle.std.specs.Prelude.{◌≡◌, ◌⊎◌, ℕ, ◌+◌, ◌≤◌, ◌
 use Rattle.cesr_codes.specs.declared.key.Key.{Key}
 use Rattle.cesr_codes.specs.declared.sig.Sig.{Sig}
 use Rattle.cesr_stream.specs.declared.message.Message.{Message}
-use Rattle.core_tables.specs.View.{body_of}
-use Rattle.event_body.specs.Events.{is_receipt}
-use Rattle.event_body.specs.declared.event.Event.{Event}
-use Rattle.journal.specs.declared.body.Body.{Body}
-use Rattle.journal.specs.declared.claim.Claim.{Claim}
-use Rattle.journal.specs.History.{Told, took}
-use Rattle.journal.specs.Replies.{all_claims, claims_of, is_full}
+use Rattle.core_tables.specs.CoreTables.View.{body_of}
+use Rattle.event_body.specs.EventBody.Events.{is_receipt}
+use Rattle.event_body.specs.declared.event_body.event.Event.{Event}
+use Rattle.journal.specs.declared.journal.body.Body.{Body}
+use Rattle.journal.specs.declared.journal.claim.Claim.{Claim}
+use Rattle.journal.specs.Journal.History.{Told, took}
+use Rattle.journal.specs.Journal.Replies.{all_claims, claims_of, is_full}
 use Rattle.keri_outside.specs.declared.limits.Limits.{Limits}
 use Rattle.keri_outside.specs.declared.inquiry.Inquiry.{Inquiry}
-use Rattle.validator_core.specs.Messages.{JudgesMessage}
-use Rattle.validator_core.specs.Verdicts.{AsksOpen, IsVerdict}
-use Rattle.validator_core.specs.View.{CoreView, Follows, base_of, told_of, open_of}
-use Rattle.witness_store.specs.Histories.{history_of}
-use Rattle.witness_store.specs.Room.{HasRoom, IsKnown, lacks_room}
-use Rattle.witness_store.specs.declared.room.Room.{Room}
-use Rattle.witness_core.specs.declared.taken.Taken.{Taken}
-use Rattle.witness_core.specs.declared.taken.Taken.TheVariants.{Refused, NotAnEvent, Event as EventTaken}
-use Rattle.witness_store.specs.declared.witness_fault.WitnessFault.{WitnessFault}
-use Rattle.witness_store.specs.declared.witness_fault.WitnessFault.TheVariants.{DiskFault, SignerFault, VerifierFault, Full, Broken, OutOfMemory}
+use Rattle.validator_core.specs.ValidatorCore.Messages.{JudgesMessage}
+use Rattle.validator_core.specs.ValidatorCore.Verdicts.{AsksOpen, IsVerdict}
+use Rattle.validator_core.specs.ValidatorCore.View.{CoreView, Follows, base_of, told_of, open_of}
+use Rattle.witness_core.specs.WitnessStore.Histories.{history_of}
+use Rattle.witness_core.specs.WitnessStore.Room.{HasRoom, IsKnown, lacks_room}
+use Rattle.witness_core.specs.declared.witness_store.room.Room.{Room}
+use Rattle.witness_core.specs.declared.witness_core.taken.Taken.{Taken}
+use Rattle.witness_core.specs.declared.witness_core.taken.Taken.TheVariants.{Refused, NotAnEvent, Event as EventTaken}
+use Rattle.witness_core.specs.declared.witness_store.witness_fault.WitnessFault.{WitnessFault}
+use Rattle.witness_core.specs.declared.witness_store.witness_fault.WitnessFault.TheVariants.{DiskFault, SignerFault, VerifierFault, Full, Broken, OutOfMemory}
 
 -- the core has no room for it, or the shelf
 abbrev pub has_no_room : Limits → CoreView → List (List ℕ) → Body → List Claim → Bool

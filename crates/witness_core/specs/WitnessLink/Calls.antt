@@ -3,18 +3,18 @@ use Rattle.std.specs.Prelude.{◌≡◌, ℕ, List, [], ◌∷◌, ◌++◌, fla
 use Rattle.cesr_codes.specs.declared.digest.Digest.{Digest}
 use Rattle.cesr_codes.specs.declared.key.Key.{Key}
 use Rattle.cesr_stream.specs.declared.message.Message.{Message}
-use Rattle.journal.specs.declared.refusal.Refusal.{Refusal}
+use Rattle.journal.specs.declared.journal.refusal.Refusal.{Refusal}
 use Rattle.keri_outside.specs.declared.signing.Signing.{Signing}
-use Rattle.validator_core.specs.View.{CoreView}
-use Rattle.witness_receipts.specs.Fates.{IsFate}
-use Rattle.witness_store.specs.Payloads.{AreListed}
-use Rattle.witness_core.specs.Outcomes.{KeepsList, TellsFate, due_by}
-use Rattle.witness_receipts.specs.Receipts.{AreReceiptsOf, signings_of}
-use Rattle.witness_core.specs.Telling.{IsTurnedAway}
-use Rattle.witness_receipts.specs.declared.fate.Fate.{Fate}
-use Rattle.witness_receipts.specs.declared.fate.Fate.TheVariants.{Stored, Waits, Seen, NotAnEvent, Refused}
-use Rattle.witness_receipts.specs.declared.receipt.Receipt.{Receipt}
-use Rattle.witness_link.specs.Links.{Standing, Terms}
+use Rattle.validator_core.specs.ValidatorCore.View.{CoreView}
+use Rattle.witness_core.specs.WitnessReceipts.Fates.{IsFate}
+use Rattle.witness_core.specs.WitnessStore.Payloads.{AreListed}
+use Rattle.witness_core.specs.WitnessCore.Outcomes.{KeepsList, TellsFate, due_by}
+use Rattle.witness_core.specs.WitnessReceipts.Receipts.{AreReceiptsOf, signings_of}
+use Rattle.witness_core.specs.WitnessCore.Telling.{IsTurnedAway}
+use Rattle.witness_core.specs.declared.witness_receipts.fate.Fate.{Fate}
+use Rattle.witness_core.specs.declared.witness_receipts.fate.Fate.TheVariants.{Stored, Waits, Seen, NotAnEvent, Refused}
+use Rattle.witness_core.specs.declared.witness_receipts.receipt.Receipt.{Receipt}
+use Rattle.witness_core.specs.WitnessLink.Links.{Standing, Terms}
 
 -- a message that was taken, what became of it, the receipts that were due then, and how the witness stands behind it
 pub record Call : Type 0 where

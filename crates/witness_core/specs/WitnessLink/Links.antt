@@ -3,13 +3,13 @@ use Rattle.std.specs.Prelude.{ℕ, Bool, List, Option}
 use Rattle.cesr_codes.specs.declared.digest.Digest.{Digest}
 use Rattle.cesr_codes.specs.declared.key.Key.{Key}
 use Rattle.cesr_codes.specs.declared.sig.Sig.{Sig}
-use Rattle.journal.specs.declared.refusal.Refusal.{Refusal}
-use Rattle.keri_disk.specs.Images.{DiskTold}
+use Rattle.journal.specs.declared.journal.refusal.Refusal.{Refusal}
+use Rattle.shelf_log.specs.KeriDisk.Images.{DiskTold}
 use Rattle.keri_outside.specs.declared.inquiry.Inquiry.{Inquiry}
 use Rattle.keri_outside.specs.declared.limits.Limits.{Limits}
 use Rattle.keri_outside.specs.declared.signing.Signing.{Signing}
-use Rattle.run_status.specs.Readers.{SourceTold}
-use Rattle.validator_core.specs.View.{CoreView}
+use Rattle.run_status.specs.RunStatus.Readers.{SourceTold}
+use Rattle.validator_core.specs.ValidatorCore.View.{CoreView}
 
 -- a witness's core, and the list of its shelf
 pub record Standing : Type 0 where

@@ -1,7 +1,7 @@
 -- Places for notes.
 use Rattle.std.specs.Prelude.{◌<◌, length}
 use Rattle.std.specs.Vec.{vec_capacity}
-use Rattle.witness_link.specs.declared.notes.Notes.{Notes}
+use Rattle.witness_core.specs.declared.witness_link.notes.Notes.{Notes}
 
 -- one note more of each kind takes no memory
 abbrev pub HasPlace : Notes → Type 0

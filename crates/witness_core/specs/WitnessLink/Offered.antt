@@ -6,13 +6,13 @@ use Rattle.cesr_stream.specs.declared.message.Message.{Message}
 use Rattle.keri_outside.specs.declared.inquiry.Inquiry.{Inquiry}
 use Rattle.keri_outside.specs.declared.signing.Signing.{Signing}
 use Rattle.cesr_stream.specs.Assembly.{all_of}
-use Rattle.message_feed.specs.declared.feed_close.FeedClose.{FeedClose}
-use Rattle.message_feed.specs.declared.feed_close.FeedClose.TheVariants as feed
-use Rattle.run_status.specs.declared.close.Close.{Close}
-use Rattle.run_status.specs.declared.close.Close.TheVariants.{End, Bad, ReadFault, Full, OutOfMemory}
-use Rattle.witness_link.specs.Links.{LinkTold, WitnessTold, told_of_link}
-use Rattle.witness_link.specs.Serving.{HasEnded, HasServed}
-use Rattle.witness_link.specs.declared.link.Link.{Link}
+use Rattle.run_status.specs.declared.message_feed.feed_close.FeedClose.{FeedClose}
+use Rattle.run_status.specs.declared.message_feed.feed_close.FeedClose.TheVariants as feed
+use Rattle.run_status.specs.declared.run_status.close.Close.{Close}
+use Rattle.run_status.specs.declared.run_status.close.Close.TheVariants.{End, Bad, ReadFault, Full, OutOfMemory}
+use Rattle.witness_core.specs.WitnessLink.Links.{LinkTold, WitnessTold, told_of_link}
+use Rattle.witness_core.specs.WitnessLink.Serving.{HasEnded, HasServed}
+use Rattle.witness_core.specs.declared.witness_link.link.Link.{Link}
 
 -- the link lends the same objects
 pub record LendsSame {W K V G : Type 0} (first now : Link W K V G) : Type 0 where

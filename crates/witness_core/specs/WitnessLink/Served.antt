@@ -6,21 +6,21 @@ use Rattle.cesr_stream.specs.Assembly.{all_of}
 use Rattle.cesr_stream.specs.Items.{Placed}
 use Rattle.cesr_stream.specs.Messages.{messages}
 use Rattle.cesr_stream.specs.Reading.{Reading}
-use Rattle.journal.specs.Feeds.{AreFirst, AreMessages}
+use Rattle.journal.specs.Journal.Feeds.{AreFirst, AreMessages}
 use Rattle.keri_outside.specs.declared.limits.Limits.{Limits}
-use Rattle.message_feed.specs.Closing.{ClosesBy, Gave}
-use Rattle.message_feed.specs.Feeds.{Stream}
-use Rattle.message_feed.specs.declared.feed_close.FeedClose.{FeedClose}
-use Rattle.message_feed.specs.declared.feed_close.FeedClose.TheVariants as feed
-use Rattle.run_status.specs.Readers.{SourceTold}
-use Rattle.run_status.specs.declared.close.Close.{Close}
-use Rattle.run_status.specs.declared.close.Close.TheVariants.{End, Bad, ReadFault, VerifierFault, SignerFault, DiskFault, WriteFault, Malformed, Full, OutOfMemory}
-use Rattle.witness_store.specs.declared.witness_fault.WitnessFault.{WitnessFault}
-use Rattle.witness_store.specs.declared.witness_fault.WitnessFault.TheVariants as fault
-use Rattle.witness_link.specs.Calls.{messages_in, receipts_in}
-use Rattle.witness_link.specs.Links.{LinkTold, terms_of}
-use Rattle.witness_link.specs.Serving.{FailsToPut, FailsToTake, GoesOn, Serves}
-use Rattle.witness_link.specs.Stored.{HoldsEach}
+use Rattle.run_status.specs.MessageFeed.Closing.{ClosesBy, Gave}
+use Rattle.run_status.specs.MessageFeed.Feeds.{Stream}
+use Rattle.run_status.specs.declared.message_feed.feed_close.FeedClose.{FeedClose}
+use Rattle.run_status.specs.declared.message_feed.feed_close.FeedClose.TheVariants as feed
+use Rattle.run_status.specs.RunStatus.Readers.{SourceTold}
+use Rattle.run_status.specs.declared.run_status.close.Close.{Close}
+use Rattle.run_status.specs.declared.run_status.close.Close.TheVariants.{End, Bad, ReadFault, VerifierFault, SignerFault, DiskFault, WriteFault, Malformed, Full, OutOfMemory}
+use Rattle.witness_core.specs.declared.witness_store.witness_fault.WitnessFault.{WitnessFault}
+use Rattle.witness_core.specs.declared.witness_store.witness_fault.WitnessFault.TheVariants as fault
+use Rattle.witness_core.specs.WitnessLink.Calls.{messages_in, receipts_in}
+use Rattle.witness_core.specs.WitnessLink.Links.{LinkTold, terms_of}
+use Rattle.witness_core.specs.WitnessLink.Serving.{FailsToPut, FailsToTake, GoesOn, Serves}
+use Rattle.witness_core.specs.WitnessLink.Stored.{HoldsEach}
 
 module _ (limits : Limits) (source_old source_new : SourceTold) (bytes : List ℕ) where
   -- these are all messages of the bytes, and reading the source closed by this cause

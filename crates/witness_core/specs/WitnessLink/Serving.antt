@@ -5,21 +5,21 @@ use Rattle.std.specs.declared.result.Result.{Result}
 use Rattle.std.specs.declared.result.Result.TheVariants.{Ok, Err}
 use Rattle.cesr_stream.specs.declared.message.Message.{Message}
 use Rattle.keri_outside.specs.declared.signing.Signing.{Signing}
-use Rattle.keri_specs.specs.Causes.{Rose}
-use Rattle.keri_specs.specs.Told.{after}
-use Rattle.run_status.specs.declared.close.Close.{Close}
-use Rattle.run_status.specs.declared.close.Close.TheVariants.{End, Bad, ReadFault, VerifierFault, SignerFault, DiskFault, WriteFault, Malformed, Full, OutOfMemory}
-use Rattle.validator_core.specs.View.{open_of}
-use Rattle.witness_core.specs.Outcomes.{AsksSigner}
-use Rattle.witness_store.specs.Payloads.{AreListed}
-use Rattle.witness_store.specs.Storing.{StoresOn}
-use Rattle.witness_core.specs.Telling.{AsksVerdicts}
-use Rattle.witness_store.specs.declared.witness_fault.WitnessFault.{WitnessFault}
-use Rattle.witness_store.specs.declared.witness_fault.WitnessFault.TheVariants as fault
-use Rattle.witness_link.specs.Calls.{AreCalls, Call, digests_in, messages_in, receipts_in, refusals_in, signings_in, text_of}
-use Rattle.witness_link.specs.Links.{LinkTold, Standing, counts_of, standing_of, terms_of}
-use Rattle.witness_link.specs.Stored.{IsLawfulList, IsOfListed}
-use Rattle.witness_link.specs.Taking.{Counted, FailsAt, IsWhole}
+use Rattle.lists.specs.KeriSpecs.Causes.{Rose}
+use Rattle.lists.specs.KeriSpecs.Told.{after}
+use Rattle.run_status.specs.declared.run_status.close.Close.{Close}
+use Rattle.run_status.specs.declared.run_status.close.Close.TheVariants.{End, Bad, ReadFault, VerifierFault, SignerFault, DiskFault, WriteFault, Malformed, Full, OutOfMemory}
+use Rattle.validator_core.specs.ValidatorCore.View.{open_of}
+use Rattle.witness_core.specs.WitnessCore.Outcomes.{AsksSigner}
+use Rattle.witness_core.specs.WitnessStore.Payloads.{AreListed}
+use Rattle.witness_core.specs.WitnessStore.Storing.{StoresOn}
+use Rattle.witness_core.specs.WitnessCore.Telling.{AsksVerdicts}
+use Rattle.witness_core.specs.declared.witness_store.witness_fault.WitnessFault.{WitnessFault}
+use Rattle.witness_core.specs.declared.witness_store.witness_fault.WitnessFault.TheVariants as fault
+use Rattle.witness_core.specs.WitnessLink.Calls.{AreCalls, Call, digests_in, messages_in, receipts_in, refusals_in, signings_in, text_of}
+use Rattle.witness_core.specs.WitnessLink.Links.{LinkTold, Standing, counts_of, standing_of, terms_of}
+use Rattle.witness_core.specs.WitnessLink.Stored.{IsLawfulList, IsOfListed}
+use Rattle.witness_core.specs.WitnessLink.Taking.{Counted, FailsAt, IsWhole}
 
 -- SERVES: Messages were taken, one behind the other, and what became of them is noted. At each moment a stop leaves what was stored
 -- before, and the first few of what was accepted since, which is lawful. Each receipt is of a stored event. Where no question was

@@ -1,15 +1,15 @@
 -- What a list of payloads holds of events, and of receipts.
 use Rattle.std.specs.Prelude.{◌≡◌, ℕ, List, ◌++◌, All}
 use Rattle.std.specs.List.{Contains}
-use Rattle.event_body.specs.Judging.{SpellsEvent}
-use Rattle.journal.specs.declared.body.Body.{Body}
+use Rattle.event_body.specs.EventBody.Judging.{SpellsEvent}
+use Rattle.journal.specs.declared.journal.body.Body.{Body}
 use Rattle.quorum_laws.specs.Histories.{AreLevel}
-use Rattle.shelf_log.specs.Format.{Holds}
-use Rattle.shelf_log.specs.declared.version.Version.TheVariants.{Two}
-use Rattle.validator_core.specs.View.{CoreView, accepted_by}
-use Rattle.witness_receipts.specs.Receipts.{IsReceiptOf}
-use Rattle.witness_receipts.specs.declared.receipt.Receipt.{Receipt}
-use Rattle.witness_link.specs.Links.{Terms}
+use Rattle.shelf_log.specs.ShelfLog.Format.{Holds}
+use Rattle.shelf_log.specs.declared.shelf_log.version.Version.TheVariants.{Two}
+use Rattle.validator_core.specs.ValidatorCore.View.{CoreView, accepted_by}
+use Rattle.witness_core.specs.WitnessReceipts.Receipts.{IsReceiptOf}
+use Rattle.witness_core.specs.declared.witness_receipts.receipt.Receipt.{Receipt}
+use Rattle.witness_core.specs.WitnessLink.Links.{Terms}
 
 -- the list has a payload with the bytes at its front that spell the event
 pub record HasEvent (list : List (List ℕ)) (b : Body) : Type 0 where

@@ -3,18 +3,18 @@ use Rattle.std.specs.Prelude.{◌≡◌, ◌⊎◌, false, []}
 use Rattle.std.specs.declared.result.Result.{Result}
 use Rattle.std.specs.declared.result.Result.TheVariants.{Ok, Err}
 use Rattle.cesr_stream.specs.declared.message.Message.{Message}
-use Rattle.keri_specs.specs.Causes.{Rose}
-use Rattle.validator_core.specs.View.{open_of}
-use Rattle.witness_store.specs.Payloads.{AreListed}
-use Rattle.witness_store.specs.Starts.{ReadsAgain, StartsAgain}
-use Rattle.witness_store.specs.Storing.{AllStand, StoresOn}
-use Rattle.witness_core.specs.Telling.{IsTurnedAway, IsUntold, TellsEvent}
-use Rattle.witness_core.specs.declared.outcome.Outcome.{Outcome}
-use Rattle.witness_store.specs.declared.witness_fault.WitnessFault.{WitnessFault}
-use Rattle.witness_store.specs.declared.witness_fault.WitnessFault.TheVariants.{DiskFault, SignerFault, VerifierFault, Full, Broken, OutOfMemory}
-use Rattle.witness_link.specs.Calls.{IsNotTurnedAway, IsCall}
-use Rattle.witness_link.specs.Stored.{HoldsAccepted, IsLawfulList}
-use Rattle.witness_link.specs.Links.{Counts, Standing, Terms, WitnessTold, standing_of}
+use Rattle.lists.specs.KeriSpecs.Causes.{Rose}
+use Rattle.validator_core.specs.ValidatorCore.View.{open_of}
+use Rattle.witness_core.specs.WitnessStore.Payloads.{AreListed}
+use Rattle.witness_core.specs.WitnessStore.Starts.{ReadsAgain, StartsAgain}
+use Rattle.witness_core.specs.WitnessStore.Storing.{AllStand, StoresOn}
+use Rattle.witness_core.specs.WitnessCore.Telling.{IsTurnedAway, IsUntold, TellsEvent}
+use Rattle.witness_core.specs.declared.witness_core.outcome.Outcome.{Outcome}
+use Rattle.witness_core.specs.declared.witness_store.witness_fault.WitnessFault.{WitnessFault}
+use Rattle.witness_core.specs.declared.witness_store.witness_fault.WitnessFault.TheVariants.{DiskFault, SignerFault, VerifierFault, Full, Broken, OutOfMemory}
+use Rattle.witness_core.specs.WitnessLink.Calls.{IsNotTurnedAway, IsCall}
+use Rattle.witness_core.specs.WitnessLink.Stored.{HoldsAccepted, IsLawfulList}
+use Rattle.witness_core.specs.WitnessLink.Links.{Counts, Standing, Terms, WitnessTold, standing_of}
 
 -- none of them failed but the one whose fault it is
 abbrev pub Counted : Counts → Counts → WitnessFault → Type 0

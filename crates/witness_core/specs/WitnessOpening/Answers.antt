@@ -4,15 +4,15 @@ use Rattle.std.specs.declared.option.Option.{Option}
 use Rattle.std.specs.declared.option.Option.TheVariants.{None, Some}
 use Rattle.std.specs.declared.result.Result.TheVariants.{Ok, Err}
 use Rattle.keri_outside.specs.declared.limits.Limits.{Limits}
-use Rattle.run_outside.specs.Told.{Told}
-use Rattle.shelf_log.specs.Answers.{Reads}
-use Rattle.shelf_log.specs.Format.{IsUnmarked}
-use Rattle.shelf_log.specs.declared.fault.ShelfFault.{ShelfFault}
-use Rattle.shelf_log.specs.declared.fault.ShelfFault.TheVariants as shelf
-use Rattle.shelf_log.specs.declared.version.Version.{Version}
-use Rattle.shelf_log.specs.declared.version.Version.TheVariants.{One, Two}
-use Rattle.witness_opening.specs.declared.fault.OpeningFault.{OpeningFault}
-use Rattle.witness_opening.specs.declared.fault.OpeningFault.TheVariants.{NotAShelf, NotAnOldShelf, DiskFault, Full, OutOfMemory}
+use Rattle.run_status.specs.RunOutside.Told.{Told}
+use Rattle.shelf_log.specs.ShelfLog.Answers.{Reads}
+use Rattle.shelf_log.specs.ShelfLog.Format.{IsUnmarked}
+use Rattle.shelf_log.specs.declared.shelf_log.fault.ShelfFault.{ShelfFault}
+use Rattle.shelf_log.specs.declared.shelf_log.fault.ShelfFault.TheVariants as shelf
+use Rattle.shelf_log.specs.declared.shelf_log.version.Version.{Version}
+use Rattle.shelf_log.specs.declared.shelf_log.version.Version.TheVariants.{One, Two}
+use Rattle.witness_core.specs.declared.witness_opening.fault.OpeningFault.{OpeningFault}
+use Rattle.witness_core.specs.declared.witness_opening.fault.OpeningFault.TheVariants.{NotAShelf, NotAnOldShelf, DiskFault, Full, OutOfMemory}
 
 -- the list of a shelf that is open, or why there is none
 abbrev pub Answer : Type 0

@@ -3,17 +3,17 @@ use Rattle.std.specs.Prelude.{◌≡◌, ◌≢◌, ◌⊎◌, ℕ, true, false,
 use Rattle.std.specs.declared.option.Option.{Option}
 use Rattle.std.specs.declared.option.Option.TheVariants.{None, Some}
 use Rattle.std.specs.declared.result.Result.TheVariants.{Err}
-use Rattle.keri_specs.specs.Causes.{Rose}
-use Rattle.keri_disk.specs.Calls.{Keeps}
-use Rattle.keri_disk.specs.Images.{DiskTold, IsDurable, LeavesOnly}
-use Rattle.run_outside.specs.Makings.{AreMakings}
-use Rattle.run_outside.specs.Told.{Told, making}
-use Rattle.run_outside.specs.declared.making.MakingKind.TheVariants.{Disk, OldDisk}
-use Rattle.shelf_log.specs.Format.{Holds, IsUnmarked}
-use Rattle.shelf_log.specs.Settled.{IsFilledOrUnmarked, IsUnfinished}
-use Rattle.shelf_log.specs.declared.version.Version.TheVariants.{One}
-use Rattle.witness_opening.specs.Answers.{Answer}
-use Rattle.witness_opening.specs.declared.fault.OpeningFault.TheVariants.{DiskFault}
+use Rattle.lists.specs.KeriSpecs.Causes.{Rose}
+use Rattle.shelf_log.specs.KeriDisk.Calls.{Keeps}
+use Rattle.shelf_log.specs.KeriDisk.Images.{DiskTold, IsDurable, LeavesOnly}
+use Rattle.run_status.specs.RunOutside.Makings.{AreMakings}
+use Rattle.run_status.specs.RunOutside.Told.{Told, making}
+use Rattle.run_status.specs.declared.run_outside.making.MakingKind.TheVariants.{Disk, OldDisk}
+use Rattle.shelf_log.specs.ShelfLog.Format.{Holds, IsUnmarked}
+use Rattle.shelf_log.specs.ShelfLog.Settled.{IsFilledOrUnmarked, IsUnfinished}
+use Rattle.shelf_log.specs.declared.shelf_log.version.Version.TheVariants.{One}
+use Rattle.witness_core.specs.WitnessOpening.Answers.{Answer}
+use Rattle.witness_core.specs.declared.witness_opening.fault.OpeningFault.TheVariants.{DiskFault}
 
 -- no disk was made, and that is answered
 pub record MakesNone {D : Type 0} (before after : Told) (name : List ℕ) (old : Option D) (answer : Answer) : Type 0 where

@@ -1,10 +1,10 @@
 -- What a run finds, owes and answers where it has no shelf.
 use Rattle.std.specs.Prelude.{ℕ, true, List, []}
-use Rattle.run_status.specs.declared.besides.Besides.{Besides}
-use Rattle.run_status.specs.Status.{nothing_besides}
-use Rattle.witness_opening.specs.Lines.{old_text, shelf_text}
-use Rattle.witness_opening.specs.declared.fault.OpeningFault.{OpeningFault}
-use Rattle.witness_opening.specs.declared.fault.OpeningFault.TheVariants.{NotAShelf, NotAnOldShelf, DiskFault, Full, OutOfMemory}
+use Rattle.run_status.specs.declared.run_status.besides.Besides.{Besides}
+use Rattle.run_status.specs.RunStatus.Status.{nothing_besides}
+use Rattle.witness_core.specs.WitnessOpening.Lines.{old_text, shelf_text}
+use Rattle.witness_core.specs.declared.witness_opening.fault.OpeningFault.{OpeningFault}
+use Rattle.witness_core.specs.declared.witness_opening.fault.OpeningFault.TheVariants.{NotAShelf, NotAnOldShelf, DiskFault, Full, OutOfMemory}
 
 abbrev pub found_by : OpeningFault → Besides
 found_by (NotAShelf place) = record nothing_besides { shelf_refused = true }

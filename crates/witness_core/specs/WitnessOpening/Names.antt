@@ -1,6 +1,6 @@
 -- What an outside tells of names, which no making changes.
 use Rattle.std.specs.Prelude.{◌≡◌}
-use Rattle.run_outside.specs.Told.{Told}
+use Rattle.run_status.specs.RunOutside.Told.{Told}
 
 -- what the names stand for, and the limits, are the same
 pub record KeepsNames (old new : Told) : Type 0 where

@@ -2,14 +2,14 @@
 use Rattle.std.specs.Prelude.{◌≡◌, ◌≢◌, ℕ, Bool, false, List, IfSome}
 use Rattle.std.specs.declared.option.Option.{Option}
 use Rattle.std.specs.declared.result.Result.TheVariants.{Err}
-use Rattle.keri_disk.specs.Images.{DiskTold}
+use Rattle.shelf_log.specs.KeriDisk.Images.{DiskTold}
 use Rattle.keri_outside.specs.declared.limits.Limits.{Limits}
-use Rattle.run_outside.specs.Told.{Told}
-use Rattle.shelf_log.specs.Settled.{AllHold}
-use Rattle.witness_opening.specs.Answers.{Answer, Answers}
-use Rattle.witness_opening.specs.Disks.{HasCause, IsLeft, Makes, OnlyRead}
-use Rattle.witness_opening.specs.declared.fault.OpeningFault.{OpeningFault}
-use Rattle.witness_opening.specs.declared.fault.OpeningFault.TheVariants.{DiskFault}
+use Rattle.run_status.specs.RunOutside.Told.{Told}
+use Rattle.shelf_log.specs.ShelfLog.Settled.{AllHold}
+use Rattle.witness_core.specs.WitnessOpening.Answers.{Answer, Answers}
+use Rattle.witness_core.specs.WitnessOpening.Disks.{HasCause, IsLeft, Makes, OnlyRead}
+use Rattle.witness_core.specs.declared.witness_opening.fault.OpeningFault.{OpeningFault}
+use Rattle.witness_core.specs.declared.witness_opening.fault.OpeningFault.TheVariants.{DiskFault}
 
 -- The shelf of a name was opened, with an old one where that is named, over an outside that told this before and after it: these
 -- disks are handed back, where they were made, and this is answered. Where it is a fault, but of no disk, the file of the name was only

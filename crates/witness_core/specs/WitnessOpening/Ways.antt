@@ -3,20 +3,20 @@ use Rattle.std.specs.Prelude.{◌≡◌, ◌≢◌, ◌⊎◌, ℕ, List, [], �
 use Rattle.std.specs.declared.option.Option.{Option}
 use Rattle.std.specs.declared.option.Option.TheVariants.{None, Some}
 use Rattle.std.specs.declared.result.Result.TheVariants.{Err}
-use Rattle.keri_specs.specs.Causes.{Rose}
-use Rattle.keri_disk.specs.Calls.{Keeps}
-use Rattle.keri_disk.specs.Images.{DiskTold, LeavesOnly}
+use Rattle.lists.specs.KeriSpecs.Causes.{Rose}
+use Rattle.shelf_log.specs.KeriDisk.Calls.{Keeps}
+use Rattle.shelf_log.specs.KeriDisk.Images.{DiskTold, LeavesOnly}
 use Rattle.keri_outside.specs.declared.limits.Limits.{Limits}
-use Rattle.run_outside.specs.Makings.{AreMakings}
-use Rattle.run_outside.specs.Told.{Told, making}
-use Rattle.run_outside.specs.declared.making.MakingKind.TheVariants.{OldDisk}
-use Rattle.shelf_log.specs.Format.{Holds}
-use Rattle.shelf_log.specs.Settled.{IsFilledOrUnmarked, IsUnfinished}
-use Rattle.shelf_log.specs.declared.version.Version.TheVariants.{One, Two}
-use Rattle.witness_opening.specs.Answers.{Answer, AnswersNew, AnswersRead}
-use Rattle.witness_opening.specs.Disks.{HasCause, OnlyRead}
-use Rattle.witness_opening.specs.declared.fault.OpeningFault.{OpeningFault}
-use Rattle.witness_opening.specs.declared.fault.OpeningFault.TheVariants.{DiskFault}
+use Rattle.run_status.specs.RunOutside.Makings.{AreMakings}
+use Rattle.run_status.specs.RunOutside.Told.{Told, making}
+use Rattle.run_status.specs.declared.run_outside.making.MakingKind.TheVariants.{OldDisk}
+use Rattle.shelf_log.specs.ShelfLog.Format.{Holds}
+use Rattle.shelf_log.specs.ShelfLog.Settled.{IsFilledOrUnmarked, IsUnfinished}
+use Rattle.shelf_log.specs.declared.shelf_log.version.Version.TheVariants.{One, Two}
+use Rattle.witness_core.specs.WitnessOpening.Answers.{Answer, AnswersNew, AnswersRead}
+use Rattle.witness_core.specs.WitnessOpening.Disks.{HasCause, OnlyRead}
+use Rattle.witness_core.specs.declared.witness_opening.fault.OpeningFault.{OpeningFault}
+use Rattle.witness_core.specs.declared.witness_opening.fault.OpeningFault.TheVariants.{DiskFault}
 
 module _ {D : Type 0} (told : D → DiskTold) (first : D) where
   -- The disk alone is handed back. A fault of it is answered only where its count rose, which else is as it was.

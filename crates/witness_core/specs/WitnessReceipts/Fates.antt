@@ -5,21 +5,21 @@ use Rattle.cesr_codes.specs.declared.digest.Digest.{Digest}
 use Rattle.cesr_codes.specs.declared.key.Key.{Key}
 use Rattle.cesr_codes.specs.declared.prefix.Prefix.{Prefix}
 use Rattle.cesr_stream.specs.declared.message.Message.{Message}
-use Rattle.event_body.specs.declared.body_fault.BodyFault.{BodyFault}
-use Rattle.event_body.specs.declared.event.Event.{Event}
-use Rattle.event_body.specs.Events.{is_receipt, prefix_of, said_of, sn_of}
-use Rattle.journal.specs.declared.body.Body.{Body}
-use Rattle.journal.specs.declared.why.Why.{Why}
-use Rattle.journal.specs.declared.why.Why.TheVariants.{Predecessor, Signatures, Next, Receipts, Seal, Never}
-use Rattle.journal.specs.Feeds.{GivesBody}
-use Rattle.journal.specs.Logs.{is_in, live, takes}
-use Rattle.journal.specs.Replies.{refusal}
-use Rattle.journal.specs.Waiting.{why_waits}
+use Rattle.event_body.specs.declared.event_body.body_fault.BodyFault.{BodyFault}
+use Rattle.event_body.specs.declared.event_body.event.Event.{Event}
+use Rattle.event_body.specs.EventBody.Events.{is_receipt, prefix_of, said_of, sn_of}
+use Rattle.journal.specs.declared.journal.body.Body.{Body}
+use Rattle.journal.specs.declared.journal.why.Why.{Why}
+use Rattle.journal.specs.declared.journal.why.Why.TheVariants.{Predecessor, Signatures, Next, Receipts, Seal, Never}
+use Rattle.journal.specs.Journal.Feeds.{GivesBody}
+use Rattle.journal.specs.Journal.Logs.{is_in, live, takes}
+use Rattle.journal.specs.Journal.Replies.{refusal}
+use Rattle.journal.specs.Journal.Waiting.{why_waits}
 use Rattle.key_state.specs.Same.{same_prefix}
-use Rattle.validator_core.specs.Signatures.{is_witness_under}
-use Rattle.validator_core.specs.View.{CoreView, accepted_by, state_of, told_of}
-use Rattle.witness_receipts.specs.declared.fate.Fate.{Fate}
-use Rattle.witness_receipts.specs.declared.fate.Fate.TheVariants.{Stored, Waits, Seen, NotAnEvent, Refused}
+use Rattle.validator_core.specs.ValidatorCore.Signatures.{is_witness_under}
+use Rattle.validator_core.specs.ValidatorCore.View.{CoreView, accepted_by, state_of, told_of}
+use Rattle.witness_core.specs.declared.witness_receipts.fate.Fate.{Fate}
+use Rattle.witness_core.specs.declared.witness_receipts.fate.Fate.TheVariants.{Stored, Waits, Seen, NotAnEvent, Refused}
 
 -- the first of these that there is
 abbrev pub first_some : {X : Type 0} → List (Option X) → Option X

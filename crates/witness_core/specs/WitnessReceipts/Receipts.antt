@@ -7,18 +7,18 @@ use Rattle.cesr_stream.specs.declared.couple.Couple.{Couple}
 use Rattle.cesr_stream.specs.declared.group.Group.TheVariants.{Couples}
 use Rattle.cesr_stream.specs.declared.item.Item.TheVariants.{Body as BodyItem, Group as GroupItem}
 use Rattle.cesr_stream.specs.Written.{item_text}
-use Rattle.event_body.specs.declared.event.Event.{Event}
-use Rattle.event_body.specs.declared.event.Event.TheVariants.{Rct}
-use Rattle.event_body.specs.Events.{prefix_of, said_of, sn_of}
-use Rattle.event_body.specs.Spelling.{text_of}
+use Rattle.event_body.specs.declared.event_body.event.Event.{Event}
+use Rattle.event_body.specs.declared.event_body.event.Event.TheVariants.{Rct}
+use Rattle.event_body.specs.EventBody.Events.{prefix_of, said_of, sn_of}
+use Rattle.event_body.specs.EventBody.Spelling.{text_of}
 use Rattle.keri_outside.specs.Asked.{signing}
 use Rattle.keri_outside.specs.declared.signing.Signing.{Signing}
-use Rattle.keri_specs.specs.Causes.{Rose}
-use Rattle.journal.specs.declared.body.Body.{Body}
-use Rattle.validator_core.specs.Signatures.{is_witness_under}
-use Rattle.witness_receipts.specs.declared.receipt.Receipt.{Receipt}
-use Rattle.witness_receipts.specs.declared.receipt.SigningFault.{SigningFault}
-use Rattle.witness_receipts.specs.declared.receipt.SigningFault.TheVariants.{SignerFault, OutOfMemory}
+use Rattle.lists.specs.KeriSpecs.Causes.{Rose}
+use Rattle.journal.specs.declared.journal.body.Body.{Body}
+use Rattle.validator_core.specs.ValidatorCore.Signatures.{is_witness_under}
+use Rattle.witness_core.specs.declared.witness_receipts.receipt.Receipt.{Receipt}
+use Rattle.witness_core.specs.declared.witness_receipts.receipt.SigningFault.{SigningFault}
+use Rattle.witness_core.specs.declared.witness_receipts.receipt.SigningFault.TheVariants.{SignerFault, OutOfMemory}
 
 -- the receipt of an event as an event of its own: it names the event's digest, identifier and number (KERI, `rct`)
 abbrev pub receipt_event : Event → Event

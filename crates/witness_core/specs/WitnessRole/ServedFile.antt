@@ -5,29 +5,29 @@ use Rattle.std.specs.declared.option.Option.{Option}
 use Rattle.std.specs.declared.option.Option.TheVariants.{None, Some}
 use Rattle.cesr_codes.specs.declared.digest.Digest.{Digest}
 use Rattle.cesr_codes.specs.declared.key.Key.{Key}
-use Rattle.journal.specs.declared.refusal.Refusal.{Refusal}
-use Rattle.keri_disk.specs.Images.{DiskTold}
+use Rattle.journal.specs.declared.journal.refusal.Refusal.{Refusal}
+use Rattle.shelf_log.specs.KeriDisk.Images.{DiskTold}
 use Rattle.keri_outside.specs.declared.inquiry.Inquiry.{Inquiry}
 use Rattle.keri_outside.specs.declared.limits.Limits.{Limits}
 use Rattle.keri_outside.specs.declared.signing.Signing.{Signing}
-use Rattle.keri_specs.specs.Told.{HasNone}
-use Rattle.run_outside.specs.Makings.{AreMakings}
-use Rattle.run_outside.specs.Told.{Told, making}
-use Rattle.run_outside.specs.declared.making.MakingKind.{MakingKind}
-use Rattle.run_outside.specs.declared.making.MakingKind.TheVariants.{Source as SourceKind, Verifier as VerifierKind, Signer as SignerKind}
-use Rattle.run_status.specs.declared.besides.Besides.{Besides}
-use Rattle.run_status.specs.declared.close.Close.{Close}
-use Rattle.run_status.specs.declared.close.Close.TheVariants.{ReadFault, VerifierFault, SignerFault}
-use Rattle.run_status.specs.Readers.{Reader, SinkTold, SourceTold, VerifierTold}
-use Rattle.run_status.specs.Settling.{found}
-use Rattle.run_status.specs.Status.{nothing_besides, status_of}
-use Rattle.shelf_log.specs.Format.{Holds}
-use Rattle.shelf_log.specs.Settled.{AllHold}
-use Rattle.shelf_log.specs.declared.version.Version.TheVariants.{Two}
-use Rattle.validator_core.specs.View.{CoreView}
-use Rattle.witness_link.specs.Links.{LinkTold, WitnessTold, source_told, told_of_link}
-use Rattle.witness_link.specs.Served.{ServesLink}
-use Rattle.run_record.specs.Run.{HasNoLinks, Run, SignerTold, is_out}
+use Rattle.lists.specs.KeriSpecs.Told.{HasNone}
+use Rattle.run_status.specs.RunOutside.Makings.{AreMakings}
+use Rattle.run_status.specs.RunOutside.Told.{Told, making}
+use Rattle.run_status.specs.declared.run_outside.making.MakingKind.{MakingKind}
+use Rattle.run_status.specs.declared.run_outside.making.MakingKind.TheVariants.{Source as SourceKind, Verifier as VerifierKind, Signer as SignerKind}
+use Rattle.run_status.specs.declared.run_status.besides.Besides.{Besides}
+use Rattle.run_status.specs.declared.run_status.close.Close.{Close}
+use Rattle.run_status.specs.declared.run_status.close.Close.TheVariants.{ReadFault, VerifierFault, SignerFault}
+use Rattle.run_status.specs.RunStatus.Readers.{Reader, SinkTold, SourceTold, VerifierTold}
+use Rattle.run_status.specs.RunStatus.Settling.{found}
+use Rattle.run_status.specs.RunStatus.Status.{nothing_besides, status_of}
+use Rattle.shelf_log.specs.ShelfLog.Format.{Holds}
+use Rattle.shelf_log.specs.ShelfLog.Settled.{AllHold}
+use Rattle.shelf_log.specs.declared.shelf_log.version.Version.TheVariants.{Two}
+use Rattle.validator_core.specs.ValidatorCore.View.{CoreView}
+use Rattle.witness_core.specs.WitnessLink.Links.{LinkTold, WitnessTold, source_told, told_of_link}
+use Rattle.witness_core.specs.WitnessLink.Served.{ServesLink}
+use Rattle.run_status.specs.RunRecord.Run.{HasNoLinks, Run, SignerTold, is_out}
 
 -- the status of a run that owes nothing more: by its readers, and by what was found besides
 abbrev pub status_closing : Besides → List Reader → ℕ

@@ -3,32 +3,32 @@ use Rattle.std.specs.Prelude.{◌≡◌, ℕ, ◌≤◌, ◌⊎◌, Bool, false,
 use Rattle.std.specs.List.{list_all}
 use Rattle.std.specs.declared.option.Option.{Option}
 use Rattle.std.specs.declared.option.Option.TheVariants.{None, Some}
-use Rattle.keri_specs.specs.Told.{HasNone}
+use Rattle.lists.specs.KeriSpecs.Told.{HasNone}
 use Rattle.cesr_codes.specs.declared.digest.Digest.{Digest}
 use Rattle.cesr_codes.specs.declared.key.Key.{Key}
 use Rattle.cesr_codes.specs.declared.sig.Sig.{Sig}
-use Rattle.journal.specs.declared.refusal.Refusal.{Refusal}
-use Rattle.keri_disk.specs.Images.{DiskTold}
-use Rattle.door_links.specs.Taken.{AreTaken, IsCaused, IsEnough}
+use Rattle.journal.specs.declared.journal.refusal.Refusal.{Refusal}
+use Rattle.shelf_log.specs.KeriDisk.Images.{DiskTold}
+use Rattle.run_status.specs.DoorLinks.Taken.{AreTaken, IsCaused, IsEnough}
 use Rattle.keri_outside.specs.declared.inquiry.Inquiry.{Inquiry}
 use Rattle.keri_outside.specs.declared.limits.Limits.{Limits}
 use Rattle.keri_outside.specs.declared.signing.Signing.{Signing}
-use Rattle.run_outside.specs.declared.making.MakingKind.TheVariants.{Door as DoorKind}
-use Rattle.run_status.specs.declared.close.Close.{Close}
-use Rattle.run_status.specs.declared.close.Close.TheVariants.{End, VerifierFault, SignerFault}
-use Rattle.run_status.specs.Readers.{Reader, SinkTold, SourceTold, VerifierTold}
-use Rattle.run_status.specs.Status.{nothing_besides}
-use Rattle.validator_core.specs.View.{open_of}
-use Rattle.witness_store.specs.Storing.{StoresOn}
-use Rattle.witness_core.specs.Telling.{AsksVerdicts}
-use Rattle.witness_receipts.specs.declared.receipt.Receipt.{Receipt}
-use Rattle.witness_link.specs.Calls.{receipts_in}
-use Rattle.witness_link.specs.Closes.{asks_next}
-use Rattle.witness_link.specs.Links.{Terms}
-use Rattle.witness_link.specs.Served.{ServesLink}
-use Rattle.witness_link.specs.Stored.{HoldsEach, IsLawfulList, IsOfListed}
-use Rattle.run_record.specs.Run.{DoorTold, Run, SignerTold}
-use Rattle.witness_role.specs.ServedFile.{EndsWith, Left, MakesServing, at_link}
+use Rattle.run_status.specs.declared.run_outside.making.MakingKind.TheVariants.{Door as DoorKind}
+use Rattle.run_status.specs.declared.run_status.close.Close.{Close}
+use Rattle.run_status.specs.declared.run_status.close.Close.TheVariants.{End, VerifierFault, SignerFault}
+use Rattle.run_status.specs.RunStatus.Readers.{Reader, SinkTold, SourceTold, VerifierTold}
+use Rattle.run_status.specs.RunStatus.Status.{nothing_besides}
+use Rattle.validator_core.specs.ValidatorCore.View.{open_of}
+use Rattle.witness_core.specs.WitnessStore.Storing.{StoresOn}
+use Rattle.witness_core.specs.WitnessCore.Telling.{AsksVerdicts}
+use Rattle.witness_core.specs.declared.witness_receipts.receipt.Receipt.{Receipt}
+use Rattle.witness_core.specs.WitnessLink.Calls.{receipts_in}
+use Rattle.witness_core.specs.WitnessLink.Closes.{asks_next}
+use Rattle.witness_core.specs.WitnessLink.Links.{Terms}
+use Rattle.witness_core.specs.WitnessLink.Served.{ServesLink}
+use Rattle.witness_core.specs.WitnessLink.Stored.{HoldsEach, IsLawfulList, IsOfListed}
+use Rattle.run_status.specs.RunRecord.Run.{DoorTold, Run, SignerTold}
+use Rattle.witness_core.specs.WitnessRole.ServedFile.{EndsWith, Left, MakesServing, at_link}
 
 -- a link that was served: what its source and its sink were before and after, what was noted of its messages, and how it closed
 pub record ServedLink : Type 0 where

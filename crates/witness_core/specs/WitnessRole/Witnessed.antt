@@ -7,29 +7,29 @@ use Rattle.cesr_codes.specs.declared.key.Key.{Key}
 use Rattle.command_words.specs.Inputs.{Inputs, inputs_by, links, named}
 use Rattle.command_words.specs.declared.inputs.Inputs.{Inputs as InputWords}
 use Rattle.command_words.specs.declared.inputs.Inputs.TheVariants.{Links, Named}
-use Rattle.journal.specs.declared.resume_fault.ResumeFault.{ResumeFault}
-use Rattle.journal.specs.declared.resume_fault.ResumeFault.TheVariants.{NotALog, OutOfMemory}
-use Rattle.keri_disk.specs.Images.{DiskTold}
+use Rattle.journal.specs.declared.journal.resume_fault.ResumeFault.{ResumeFault}
+use Rattle.journal.specs.declared.journal.resume_fault.ResumeFault.TheVariants.{NotALog, OutOfMemory}
+use Rattle.shelf_log.specs.KeriDisk.Images.{DiskTold}
 use Rattle.keri_outside.specs.declared.limits.Limits.{Limits}
-use Rattle.run_outside.specs.Told.{Told}
-use Rattle.run_status.specs.declared.besides.Besides.{Besides}
-use Rattle.run_status.specs.Status.{nothing_besides}
-use Rattle.shelf_log.specs.Settled.{AllHold}
-use Rattle.validator_core.specs.View.{CoreView, open_of}
-use Rattle.witness_store.specs.Payloads.{AreListed}
-use Rattle.witness_store.specs.Starts.{AreNoStart, IsStarted}
-use Rattle.witness_opening.specs.Found.{found_by, text_of}
-use Rattle.witness_opening.specs.Lines.{log_text}
-use Rattle.witness_opening.specs.Names.{KeepsNames}
-use Rattle.witness_opening.specs.Opening.{IsOpening}
-use Rattle.witness_opening.specs.declared.fault.OpeningFault.{OpeningFault}
-use Rattle.witness_link.specs.Stored.{IsLawfulList}
-use Rattle.witness_opening.specs.declared.fault.OpeningFault.TheVariants.{OutOfMemory as NoMemory}
-use Rattle.run_record.specs.NoJournal.{no_journal}
-use Rattle.run_record.specs.Run.{HasNoLinks, Run, Settles}
-use Rattle.witness_role.specs.ServedFile.{IsServing, Left}
-use Rattle.witness_role.specs.ServedLinks.{IsServingLinks}
-use Rattle.witness_role.specs.declared.role.WitnessWords.{WitnessWords}
+use Rattle.run_status.specs.RunOutside.Told.{Told}
+use Rattle.run_status.specs.declared.run_status.besides.Besides.{Besides}
+use Rattle.run_status.specs.RunStatus.Status.{nothing_besides}
+use Rattle.shelf_log.specs.ShelfLog.Settled.{AllHold}
+use Rattle.validator_core.specs.ValidatorCore.View.{CoreView, open_of}
+use Rattle.witness_core.specs.WitnessStore.Payloads.{AreListed}
+use Rattle.witness_core.specs.WitnessStore.Starts.{AreNoStart, IsStarted}
+use Rattle.witness_core.specs.WitnessOpening.Found.{found_by, text_of}
+use Rattle.witness_core.specs.WitnessOpening.Lines.{log_text}
+use Rattle.witness_core.specs.WitnessOpening.Names.{KeepsNames}
+use Rattle.witness_core.specs.WitnessOpening.Opening.{IsOpening}
+use Rattle.witness_core.specs.declared.witness_opening.fault.OpeningFault.{OpeningFault}
+use Rattle.witness_core.specs.WitnessLink.Stored.{IsLawfulList}
+use Rattle.witness_core.specs.declared.witness_opening.fault.OpeningFault.TheVariants.{OutOfMemory as NoMemory}
+use Rattle.run_status.specs.RunRecord.NoJournal.{no_journal}
+use Rattle.run_status.specs.RunRecord.Run.{HasNoLinks, Run, Settles}
+use Rattle.witness_core.specs.WitnessRole.ServedFile.{IsServing, Left}
+use Rattle.witness_core.specs.WitnessRole.ServedLinks.{IsServingLinks}
+use Rattle.witness_core.specs.declared.witness_role.role.WitnessWords.{WitnessWords}
 
 -- the line of a list with which no witness starts
 abbrev pub start_text : ResumeFault → List ℕ

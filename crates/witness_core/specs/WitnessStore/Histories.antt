@@ -1,10 +1,10 @@
 -- What acceptance goes by.
 use Rattle.std.specs.Prelude.{ℕ, List, [], ◌∷◌, ◌++◌}
-use Rattle.journal.specs.declared.body.Body.{Body}
-use Rattle.journal.specs.declared.mode.Mode.{Mode}
-use Rattle.journal.specs.Accepted.{accepted}
-use Rattle.journal.specs.History.{Told, bodies}
-use Rattle.validator_core.specs.View.{CoreView, base_of, told_of}
+use Rattle.journal.specs.declared.journal.body.Body.{Body}
+use Rattle.journal.specs.declared.journal.mode.Mode.{Mode}
+use Rattle.journal.specs.Journal.Accepted.{accepted}
+use Rattle.journal.specs.Journal.History.{Told, bodies}
+use Rattle.validator_core.specs.ValidatorCore.View.{CoreView, base_of, told_of}
 
 -- how a core waits, how many bodies it began with, which they are, and what it was told
 pub record History : Type 0 where

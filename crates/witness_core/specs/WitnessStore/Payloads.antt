@@ -1,13 +1,13 @@
 -- What is stored of the accepted events.
 use Rattle.std.specs.Prelude.{◌≡◌, ℕ, true, false, List, [], ◌∷◌, ◌++◌, map, drop}
-use Rattle.journal.specs.declared.body.Body.{Body}
-use Rattle.journal.specs.declared.mode.Mode.{Mode}
-use Rattle.journal.specs.Accepted.{accepted}
-use Rattle.journal.specs.History.{Told}
-use Rattle.journal.specs.Logs.{is_in}
-use Rattle.event_payload.specs.Kept.{kept, signed_by, state_under}
-use Rattle.event_payload.specs.Payloads.{payload_of, text_in}
-use Rattle.validator_core.specs.View.{CoreView, accepted_by, base_of, told_of}
+use Rattle.journal.specs.declared.journal.body.Body.{Body}
+use Rattle.journal.specs.declared.journal.mode.Mode.{Mode}
+use Rattle.journal.specs.Journal.Accepted.{accepted}
+use Rattle.journal.specs.Journal.History.{Told}
+use Rattle.journal.specs.Journal.Logs.{is_in}
+use Rattle.journal_views.specs.EventPayload.Kept.{kept, signed_by, state_under}
+use Rattle.journal_views.specs.EventPayload.Payloads.{payload_of, text_in}
+use Rattle.validator_core.specs.ValidatorCore.View.{CoreView, accepted_by, base_of, told_of}
 
 -- the moment ends with the entry that made the body accepted (own)
 pub record IsAcceptedAt (mode : Mode) (base : List Body) (told : List Told) (b : Body) (moment : List Told) : Type 0 where

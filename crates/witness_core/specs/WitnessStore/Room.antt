@@ -1,21 +1,21 @@
 -- How much room of a shelf the events that wait need, and when a body that comes has none (own).
 use Rattle.std.specs.Prelude.{◌≡◌, ℕ, ◌+◌, ◌*◌, ◌<◌, ◌≤◌, All, Bool, true, false, ◌||◌, not, nat_lt, List, [], ◌∷◌, ◌++◌, length, map, take, filter_map, flat_map, sum_by, slice_get, Some, IfSome, IfNone, if◌then◌else◌}
 use Rattle.std.specs.List.{list_all}
-use Rattle.core_laws.specs.Waking.{is_waiting}
-use Rattle.event_body.specs.Events.{is_receipt}
-use Rattle.journal.specs.declared.body.Body.{Body}
-use Rattle.journal.specs.declared.claim.Claim.{Claim}
-use Rattle.journal.specs.History.{Told, claims_on, taken, took}
-use Rattle.journal.specs.Journals.{chosen}
-use Rattle.journal.specs.Logs.{is_in}
-use Rattle.journal.specs.Readiness.{held_sig}
+use Rattle.claim_table.specs.CoreLaws.Waking.{is_waiting}
+use Rattle.event_body.specs.EventBody.Events.{is_receipt}
+use Rattle.journal.specs.declared.journal.body.Body.{Body}
+use Rattle.journal.specs.declared.journal.claim.Claim.{Claim}
+use Rattle.journal.specs.Journal.History.{Told, claims_on, taken, took}
+use Rattle.journal.specs.Journal.Journals.{chosen}
+use Rattle.journal.specs.Journal.Logs.{is_in}
+use Rattle.journal.specs.Journal.Readiness.{held_sig}
 use Rattle.keri_outside.specs.declared.limits.Limits.{Limits}
-use Rattle.shelf_log.specs.Format.{shelf_size}
-use Rattle.shelf_log.specs.declared.version.Version.TheVariants.{Two}
-use Rattle.validator_core.specs.View.{CoreView, Stands, accepted_by}
-use Rattle.witness_store.specs.Histories.{History, bodies_in, log_in}
-use Rattle.witness_store.specs.declared.room.Coming.{Coming}
-use Rattle.witness_store.specs.declared.room.Room.{Room}
+use Rattle.shelf_log.specs.ShelfLog.Format.{shelf_size}
+use Rattle.shelf_log.specs.declared.shelf_log.version.Version.TheVariants.{Two}
+use Rattle.validator_core.specs.ValidatorCore.View.{CoreView, Stands, accepted_by}
+use Rattle.witness_core.specs.WitnessStore.Histories.{History, bodies_in, log_in}
+use Rattle.witness_core.specs.declared.witness_store.room.Coming.{Coming}
+use Rattle.witness_core.specs.declared.witness_store.room.Room.{Room}
 
 -- so many of the claims are signatures of the controller
 abbrev pub signatures_in : List Claim → ℕ

@@ -1,13 +1,13 @@
 -- Cores of the payloads of a shelf (own: what a witness starts from).
 use Rattle.std.specs.Prelude.{◌≡◌, ℕ, List, length, map, replicate}
-use Rattle.event_payload.specs.Payloads.{text_in}
-use Rattle.journal.specs.declared.mode.Mode.TheVariants.{Local}
-use Rattle.journal.specs.declared.resume_fault.ResumeFault.{ResumeFault}
-use Rattle.journal.specs.declared.resume_fault.ResumeFault.TheVariants.{OutOfMemory}
+use Rattle.journal_views.specs.EventPayload.Payloads.{text_in}
+use Rattle.journal.specs.declared.journal.mode.Mode.TheVariants.{Local}
+use Rattle.journal.specs.declared.journal.resume_fault.ResumeFault.{ResumeFault}
+use Rattle.journal.specs.declared.journal.resume_fault.ResumeFault.TheVariants.{OutOfMemory}
 use Rattle.keri_outside.specs.declared.limits.Limits.{Limits}
-use Rattle.validator_core.specs.Base.{AreRefused, IsResumed}
-use Rattle.validator_core.specs.View.{CoreView, Stands, accepted_by}
-use Rattle.witness_store.specs.declared.room.Room.{Room}
+use Rattle.validator_core.specs.ValidatorCore.Base.{AreRefused, IsResumed}
+use Rattle.validator_core.specs.ValidatorCore.View.{CoreView, Stands, accepted_by}
+use Rattle.witness_core.specs.declared.witness_store.room.Room.{Room}
 
 -- the bodies at the front of payloads; none for one that isn't a body with good groups of signatures alone behind it
 abbrev pub texts_in : List (List ℕ) → List (List ℕ)

@@ -1,21 +1,21 @@
 -- What is stored at each moment, and what a stop leaves of it.
 use Rattle.std.specs.Prelude.{◌≡◌, ℕ, ◌≤◌, Bool, false, List, [], ◌∷◌, ◌++◌, length, map, take, drop}
-use Rattle.keri_disk.specs.Images.{DiskTold, LeavesOnly}
+use Rattle.shelf_log.specs.KeriDisk.Images.{DiskTold, LeavesOnly}
 use Rattle.keri_outside.specs.declared.limits.Limits.{Limits}
-use Rattle.journal.specs.declared.body.Body.{Body}
-use Rattle.journal.specs.declared.mode.Mode.{Mode}
-use Rattle.journal.specs.Accepted.{accepted}
-use Rattle.journal.specs.Grown.{IsGrown}
-use Rattle.journal.specs.History.{Told}
-use Rattle.event_payload.specs.Payloads.{text_in}
-use Rattle.shelf_log.specs.Format.{Holds}
-use Rattle.shelf_log.specs.Settled.{AllHold}
-use Rattle.shelf_log.specs.declared.version.Version.TheVariants.{Two}
-use Rattle.validator_core.specs.View.{CoreView}
-use Rattle.witness_store.specs.Histories.{History, log_in}
-use Rattle.witness_store.specs.Payloads.{AreListed, payload_now}
-use Rattle.witness_store.specs.Room.{HasRoom}
-use Rattle.witness_store.specs.declared.room.Room.{Room}
+use Rattle.journal.specs.declared.journal.body.Body.{Body}
+use Rattle.journal.specs.declared.journal.mode.Mode.{Mode}
+use Rattle.journal.specs.Journal.Accepted.{accepted}
+use Rattle.journal.specs.Journal.Grown.{IsGrown}
+use Rattle.journal.specs.Journal.History.{Told}
+use Rattle.journal_views.specs.EventPayload.Payloads.{text_in}
+use Rattle.shelf_log.specs.ShelfLog.Format.{Holds}
+use Rattle.shelf_log.specs.ShelfLog.Settled.{AllHold}
+use Rattle.shelf_log.specs.declared.shelf_log.version.Version.TheVariants.{Two}
+use Rattle.validator_core.specs.ValidatorCore.View.{CoreView}
+use Rattle.witness_core.specs.WitnessStore.Histories.{History, log_in}
+use Rattle.witness_core.specs.WitnessStore.Payloads.{AreListed, payload_now}
+use Rattle.witness_core.specs.WitnessStore.Room.{HasRoom}
+use Rattle.witness_core.specs.declared.witness_store.room.Room.{Room}
 
 -- the file stands for the stored payloads followed by the first few of those that were accepted since, none skipped (own)
 pub record HoldsFirst (stored accepted : List (List ℕ)) (file : List ℕ) : Type 0 where

@@ -1,33 +1,32 @@
 //! What becomes of a message, and the receipts that are due once it is taken.
 ghost use Rattle.std.specs.Prelude.{◌≡◌, ◌⊎◌, ◌<◌, ◌≤◌, false, length, take, slice_get, All, Some, IfErr, IfOk, MatchResult, OnOk};
 ghost use Rattle.cesr_codes.specs.declared.key.KeyCode.TheVariants.{Fixed};
-ghost use Rattle.event_body.specs.Events as events;
-ghost use Rattle.journal.specs.Grown.{IsGrown};
-ghost use Rattle.journal.specs.declared.body.Body.{Body};
-ghost use Rattle.keri_specs.specs.Told.{Puts};
-ghost use Rattle.validator_core.specs.View.{Follows, accepted_by, base_of};
-ghost use Rattle.witness_receipts.specs.Fates.{IsFate};
-ghost use Rattle.witness_receipts.specs.Receipts.{due, signings_of};
-ghost use Rattle.witness_store.specs.Faults.{StoresStill};
-ghost use Rattle.witness_store.specs.Histories.{history_of};
-ghost use Rattle.witness_store.specs.Storing.{AreStored, GoesOn};
-ghost use Rattle.witness_store.specs.declared.witness_fault.WitnessFault.TheVariants.{Full as NoRoom};
-ghost use Rattle.witness_core.specs.Faults.{CausedBy, FullBy, SignFault};
-ghost use Rattle.witness_core.specs.Outcomes.{AreReceipts, AsksSigner, IsOfStored, IsOutcomeOf, KeepsList, TellsFate};
-ghost use Rattle.witness_core.specs.Telling.{AsksVerdicts, IsTurnedAway, TellsFault};
+ghost use Rattle.event_body.specs.EventBody.Events as events;
+ghost use Rattle.journal.specs.Journal.Grown.{IsGrown};
+ghost use Rattle.journal.specs.declared.journal.body.Body.{Body};
+ghost use Rattle.lists.specs.KeriSpecs.Told.{Puts};
+ghost use Rattle.validator_core.specs.ValidatorCore.View.{Follows, accepted_by, base_of};
+ghost use Rattle.witness_core.specs.WitnessReceipts.Fates.{IsFate};
+ghost use Rattle.witness_core.specs.WitnessReceipts.Receipts.{due, signings_of};
+ghost use Rattle.witness_core.specs.WitnessStore.Faults.{StoresStill};
+ghost use Rattle.witness_core.specs.WitnessStore.Histories.{history_of};
+ghost use Rattle.witness_core.specs.WitnessStore.Storing.{AreStored, GoesOn};
+ghost use Rattle.witness_core.specs.declared.witness_store.witness_fault.WitnessFault.TheVariants.{Full as NoRoom};
+ghost use Rattle.witness_core.specs.WitnessCore.Faults.{CausedBy, FullBy, SignFault};
+ghost use Rattle.witness_core.specs.WitnessCore.Outcomes.{AreReceipts, AsksSigner, IsOfStored, IsOutcomeOf, KeepsList, TellsFate};
+ghost use Rattle.witness_core.specs.WitnessCore.Telling.{AsksVerdicts, IsTurnedAway, TellsFault};
 
-use crate::WitnessFault;
-use crate::take::take_whole;
-use crate::taken::Taken;
+use crate::witness_core::WitnessFault;
+use crate::witness_core::take::take_whole;
+use crate::witness_core::taken::Taken;
+use crate::witness_receipts::{Fate, Receipt, SigningFault, event_fate, receipts_of};
+use crate::witness_store::Room;
 use cesr_codes::Key;
 use cesr_stream::Message;
-use keri_disk::Disk;
 use keri_outside::{Limits, Signer, Steps, Verifier};
-use shelf_log::Shelf;
+use shelf_log::{Disk, Shelf};
 use std::alloc::Global;
 use validator_core::Core;
-use witness_receipts::{Fate, Receipt, SigningFault, event_fate, receipts_of};
-use witness_store::Room;
 
 /// The fate of a message, and the receipts that are due once it is taken.
 #[derive(Drop)]

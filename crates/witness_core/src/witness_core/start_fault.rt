@@ -1,8 +1,7 @@
 //! Why a witness doesn't start.
 
 use journal::ResumeFault;
-use keri_disk::Disk;
-use shelf_log::Shelf;
+use shelf_log::{Disk, Shelf};
 
 /// A shelf with which no witness starts, as it was, and why.
 #[derive(Drop)]

@@ -2,35 +2,34 @@
 //!
 //! An event that isn't taken is let go by `drop`: where that happens of itself at a function's end, its proof takes longer.
 ghost use Rattle.std.specs.Prelude.{◌≡◌, ◌⊎◌, ◌≤◌, true, false, length, IfOk, IfErr, OnOk, OnErr, MatchResult, Ok, Some, slice_get};
-ghost use Rattle.acceptance.specs.Standing.{IsHeld};
-ghost use Rattle.core_tables.specs.View.{body_of};
-ghost use Rattle.event_body.specs.Events as events;
-ghost use Rattle.journal.specs.Logs.{is_in};
-ghost use Rattle.journal.specs.Replies as replies;
-ghost use Rattle.journal.specs.Replies.{is_full};
-ghost use Rattle.validator_core.specs.Messages.{JudgesMessage};
-ghost use Rattle.validator_core.specs.View.{Follows, base_of, told_of};
-ghost use Rattle.witness_store.specs.Faults.{StoresStill};
-ghost use Rattle.witness_store.specs.Histories.{history_of, log_in};
-ghost use Rattle.witness_store.specs.Room.{IsKnown, IsRoom};
-ghost use Rattle.witness_store.specs.Storing.{AreStored, GoesOn};
-ghost use Rattle.witness_store.specs.declared.witness_fault.WitnessFault.TheVariants.{Full as NoRoom, OutOfMemory as NoMemory};
-ghost use Rattle.witness_core.specs.Faults.{FullBy, TakeFault};
-ghost use Rattle.witness_core.specs.Telling.{AsksVerdicts, Came, Fails, FailsMessage, IsReady, IsTakenAs, IsTurnedAway, IsUntold, TakesIn, TellsFault, TellsTaken, has_no_room};
+ghost use Rattle.validator_core.specs.Acceptance.Standing.{IsHeld};
+ghost use Rattle.core_tables.specs.CoreTables.View.{body_of};
+ghost use Rattle.event_body.specs.EventBody.Events as events;
+ghost use Rattle.journal.specs.Journal.Logs.{is_in};
+ghost use Rattle.journal.specs.Journal.Replies as replies;
+ghost use Rattle.journal.specs.Journal.Replies.{is_full};
+ghost use Rattle.validator_core.specs.ValidatorCore.Messages.{JudgesMessage};
+ghost use Rattle.validator_core.specs.ValidatorCore.View.{Follows, base_of, told_of};
+ghost use Rattle.witness_core.specs.WitnessStore.Faults.{StoresStill};
+ghost use Rattle.witness_core.specs.WitnessStore.Histories.{history_of, log_in};
+ghost use Rattle.witness_core.specs.WitnessStore.Room.{IsKnown, IsRoom};
+ghost use Rattle.witness_core.specs.WitnessStore.Storing.{AreStored, GoesOn};
+ghost use Rattle.witness_core.specs.declared.witness_store.witness_fault.WitnessFault.TheVariants.{Full as NoRoom, OutOfMemory as NoMemory};
+ghost use Rattle.witness_core.specs.WitnessCore.Faults.{FullBy, TakeFault};
+ghost use Rattle.witness_core.specs.WitnessCore.Telling.{AsksVerdicts, Came, Fails, FailsMessage, IsReady, IsTakenAs, IsTurnedAway, IsUntold, TakesIn, TellsFault, TellsTaken, has_no_room};
 
-use crate::WitnessFault;
-use crate::taken::Taken;
+use crate::witness_core::WitnessFault;
+use crate::witness_core::taken::Taken;
+use crate::witness_store::{Coming, Room, ask_open, count_signatures, lacks_room, store};
 use cesr_stream::Message;
 use event_body::{Event, is_receipt};
 use journal::{Claim, Reply};
 use json_tree::Text;
-use keri_disk::Disk;
 use keri_outside::{Limits, Steps, Verifier};
 use lists::{Items, length_u32};
-use shelf_log::Shelf;
+use shelf_log::{Disk, Shelf};
 use std::alloc::Global;
 use validator_core::{Core, claims_of, judge_message};
-use witness_store::{Coming, Room, ask_open, count_signatures, lacks_room, store};
 
 /// Takes a message, asks each open question, and after each entry stores what it makes accepted.
 pub(crate) fn take_whole<D: Disk + Drop, V: Verifier>(

@@ -2,23 +2,22 @@
 ghost use Rattle.std.specs.Prelude.{◌≡◌, false};
 ghost use Rattle.std.proofs.Props.{props};
 ghost use Rattle.cesr_codes.specs.declared.key.KeyCode.TheVariants.{Fixed};
-ghost use Rattle.journal.specs.declared.mode.Mode.TheVariants.{Local};
-ghost use Rattle.witness_store.specs.Histories.{history_of};
-ghost use Rattle.witness_store.specs.Storing.{AreStored};
+ghost use Rattle.journal.specs.declared.journal.mode.Mode.TheVariants.{Local};
+ghost use Rattle.witness_core.specs.WitnessStore.Histories.{history_of};
+ghost use Rattle.witness_core.specs.WitnessStore.Storing.{AreStored};
 
-use crate::outcome::take_message;
-use crate::{Outcome, StartFault, WitnessFault};
+use crate::witness_core::outcome::take_message;
+use crate::witness_core::{Outcome, StartFault, WitnessFault};
+use crate::witness_store::{Begun, Room, begin, breaks};
 use cesr_codes::Key;
 use cesr_stream::Message;
 use journal::Journal;
-use keri_disk::Disk;
 use keri_outside::{Limits, Signer, Steps, Verifier};
 use key_state::spelled_is_kept;
 use lists::Items;
-use shelf_log::Shelf;
+use shelf_log::{Disk, Shelf};
 use std::alloc::Global;
 use validator_core::Core;
-use witness_store::{Begun, Room, begin, breaks};
 
 /// A witness: a core that waits for neither receipts nor seals, and a shelf with the payload of each event that it
 /// accepts.
@@ -43,16 +42,16 @@ pub struct Witness<D: Disk> {
 
 impl<D: Disk + Drop> Witness<D> {
     ghost use Rattle.std.specs.Prelude.{◌≡◌, ◌⊎◌, true, map, All, Err, IfErr, IfOk, MatchResult, OnOk};
-    ghost use Rattle.shelf_log.specs.Settled.{AllHold};
-    ghost use Rattle.validator_core.specs.View.{Stands};
-    ghost use Rattle.witness_receipts.specs.Fates.{IsFate};
-    ghost use Rattle.witness_store.specs.Payloads.{AreListed};
-    ghost use Rattle.witness_store.specs.Starts.{AreNoStart, IsStarted, ReadsAgain};
-    ghost use Rattle.witness_store.specs.Storing.{StoresOn};
-    ghost use Rattle.witness_store.specs.declared.witness_fault.WitnessFault.TheVariants.{Full as NoRoom};
-    ghost use Rattle.witness_core.specs.Faults.{CausedBy, FullBy, Goes};
-    ghost use Rattle.witness_core.specs.Outcomes.{AreReceipts, AsksSigner, IsOfStored, KeepsList, TellsFate};
-    ghost use Rattle.witness_core.specs.Telling.{AsksVerdicts, IsTurnedAway, IsUntold, TellsFault};
+    ghost use Rattle.shelf_log.specs.ShelfLog.Settled.{AllHold};
+    ghost use Rattle.validator_core.specs.ValidatorCore.View.{Stands};
+    ghost use Rattle.witness_core.specs.WitnessReceipts.Fates.{IsFate};
+    ghost use Rattle.witness_core.specs.WitnessStore.Payloads.{AreListed};
+    ghost use Rattle.witness_core.specs.WitnessStore.Starts.{AreNoStart, IsStarted, ReadsAgain};
+    ghost use Rattle.witness_core.specs.WitnessStore.Storing.{StoresOn};
+    ghost use Rattle.witness_core.specs.declared.witness_store.witness_fault.WitnessFault.TheVariants.{Full as NoRoom};
+    ghost use Rattle.witness_core.specs.WitnessCore.Faults.{CausedBy, FullBy, Goes};
+    ghost use Rattle.witness_core.specs.WitnessCore.Outcomes.{AreReceipts, AsksSigner, IsOfStored, KeepsList, TellsFate};
+    ghost use Rattle.witness_core.specs.WitnessCore.Telling.{AsksVerdicts, IsTurnedAway, IsUntold, TellsFault};
 
     /// A witness that starts from a shelf: the events of its payloads count as accepted, in their order. Its key can't be
     /// rotated.

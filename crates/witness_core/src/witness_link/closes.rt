@@ -1,9 +1,9 @@
 //! How a link closes by a fault of its witness, and whether the next one is asked for.
 ghost use Rattle.std.specs.Prelude.{◌≡◌};
-ghost use Rattle.witness_link.specs.Closes.{close_by, asks_next as asks_next_by};
+ghost use Rattle.witness_core.specs.WitnessLink.Closes.{close_by, asks_next as asks_next_by};
 
+use crate::witness_core::WitnessFault;
 use run_status::Close;
-use witness_core::WitnessFault;
 
 /// The close by a fault of a witness. One that was broken before takes nothing: its disk had failed, or memory.
 pub(crate) fn close_of(fault: WitnessFault) -> Close

@@ -1,16 +1,15 @@
 //! A link whose messages a witness takes.
 ghost use Rattle.std.specs.Prelude.{◌≡◌, false};
-ghost use Rattle.witness_link.specs.Links.{told_of_link};
-ghost use Rattle.witness_link.specs.Serving.{ServesOne};
+ghost use Rattle.witness_core.specs.WitnessLink.Links.{told_of_link};
+ghost use Rattle.witness_core.specs.WitnessLink.Serving.{ServesOne};
 
-use crate::Witnessing;
-use crate::closes::close_of;
-use crate::notes::Notes;
-use crate::receipts::put_receipts;
+use crate::witness_link::Witnessing;
+use crate::witness_link::closes::close_of;
+use crate::witness_link::notes::Notes;
+use crate::witness_link::receipts::put_receipts;
 use cesr_stream::Message;
 use keri_outside::{Failed, Signer, Sink, Verifier};
-use message_feed::Taker;
-use run_status::Close;
+use run_status::{Close, Taker};
 use std::alloc::AllocError;
 
 /// What serves a link, and what notes its messages, lent by the caller.
@@ -25,7 +24,7 @@ pub(crate) struct Link<'w, 'k, 'v, 'g, 'n, W, K, V, G> {
 
 impl<'w, 'k, 'v, 'g, 'n, W: Witnessing, K: Sink, V: Verifier, G: Signer> Taker
     for Link<'w, 'k, 'v, 'g, 'n, W, K, V, G> {
-    ghost use Rattle.witness_link.specs.Offered.{HasTaken, HasStopped};
+    ghost use Rattle.witness_core.specs.WitnessLink.Offered.{HasTaken, HasStopped};
 
     type Stop = Close;
 

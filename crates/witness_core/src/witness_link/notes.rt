@@ -1,12 +1,12 @@
 //! What is noted of messages.
 ghost use Rattle.std.specs.Prelude.{◌≡◌, ◌++◌, [], OnOk};
-ghost use Rattle.witness_link.specs.Calls.{refused_as, seen_in};
-ghost use Rattle.witness_link.specs.Noting.{HasPlace};
+ghost use Rattle.witness_core.specs.WitnessLink.Calls.{refused_as, seen_in};
+ghost use Rattle.witness_core.specs.WitnessLink.Noting.{HasPlace};
 
+use crate::witness_receipts::Fate;
 use cesr_codes::Digest;
 use journal::Refusal;
 use std::alloc::{AllocError, Global};
-use witness_receipts::Fate;
 
 /// The messages that were refused, and the digests of the events that were seen in place of others, in order.
 #[derive(Drop)]

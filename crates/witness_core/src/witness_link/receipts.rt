@@ -1,10 +1,10 @@
 //! Receipts that are put on a sink.
-ghost use Rattle.keri_specs.specs.Causes.{HasCause};
-ghost use Rattle.keri_specs.specs.Told.{Puts};
-ghost use Rattle.witness_link.specs.Calls.{text_of};
+ghost use Rattle.lists.specs.KeriSpecs.Causes.{HasCause};
+ghost use Rattle.lists.specs.KeriSpecs.Told.{Puts};
+ghost use Rattle.witness_core.specs.WitnessLink.Calls.{text_of};
 
+use crate::witness_receipts::Receipt;
 use keri_outside::{Failed, Sink};
-use witness_receipts::Receipt;
 
 /// Puts the receipts, one after the other, each whole.
 pub(crate) fn put_receipts<K: Sink>(sink: &mut K, receipts: &[Receipt]) -> Result<(), Failed>

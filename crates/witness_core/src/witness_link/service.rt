@@ -1,19 +1,18 @@
 //! The call that serves a link.
 ghost use Rattle.std.specs.Prelude.{◌≡◌, false, []};
-ghost use Rattle.witness_link.specs.Links.{source_told, told_of_link};
-ghost use Rattle.witness_link.specs.Offered.{Finishes, LendsSame, TakesLast, link_told};
-ghost use Rattle.witness_link.specs.Served.{ServesLink};
+ghost use Rattle.witness_core.specs.WitnessLink.Links.{source_told, told_of_link};
+ghost use Rattle.witness_core.specs.WitnessLink.Offered.{Finishes, LendsSame, TakesLast, link_told};
+ghost use Rattle.witness_core.specs.WitnessLink.Served.{ServesLink};
 
-use crate::link::Link;
-use crate::notes::Notes;
-use crate::{LinkEnd, Witnessing};
+use crate::witness_core::Witness;
+use crate::witness_link::link::Link;
+use crate::witness_link::notes::Notes;
+use crate::witness_link::{LinkEnd, Witnessing};
 use cesr_stream::Message;
-use keri_disk::Disk;
 use keri_outside::{Limits, Signer, Sink, Source, Verifier};
-use message_feed::{FeedClose, Taker, feed_messages};
-use run_status::Close;
+use run_status::{Close, FeedClose, Taker, feed_messages};
+use shelf_log::Disk;
 use std::alloc::Global;
-use witness_core::Witness;
 
 /// Serves a link: a witness takes the messages that the source gives, in order, and puts the receipts of these on the
 /// sink, in order.

@@ -1,16 +1,16 @@
 //! What serving a link needs of a witness.
 ghost use Rattle.std.specs.Prelude.{◌≡◌, ◌⊎◌, false, List, ℕ};
-ghost use Rattle.witness_core.specs.Outcomes.{AsksSigner};
-ghost use Rattle.witness_store.specs.Payloads.{AreListed};
-ghost use Rattle.witness_core.specs.Telling.{AsksVerdicts};
-ghost use Rattle.witness_link.specs.Links.{WitnessTold, counts, terms_with};
-ghost use Rattle.witness_link.specs.Taking.{IsSound, KeepsSame, TakesMessage};
+ghost use Rattle.witness_core.specs.WitnessCore.Outcomes.{AsksSigner};
+ghost use Rattle.witness_core.specs.WitnessStore.Payloads.{AreListed};
+ghost use Rattle.witness_core.specs.WitnessCore.Telling.{AsksVerdicts};
+ghost use Rattle.witness_core.specs.WitnessLink.Links.{WitnessTold, counts, terms_with};
+ghost use Rattle.witness_core.specs.WitnessLink.Taking.{IsSound, KeepsSame, TakesMessage};
 
+use crate::witness_core::{Outcome, Witness, WitnessFault};
 use cesr_stream::Message;
-use keri_disk::Disk;
 use keri_outside::{Signer, Verifier};
 use key_state::spelled_is_kept;
-use witness_core::{Outcome, Witness, WitnessFault};
+use shelf_log::Disk;
 
 /// A witness, as far as a link needs it.
 pub trait Witnessing {

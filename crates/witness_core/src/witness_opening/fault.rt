@@ -1,7 +1,7 @@
 //! Why there is no shelf, and what a run makes of that.
 ghost use Rattle.std.specs.Prelude.{◌≡◌, ◌≢◌};
 
-use crate::lines::{old_line, shelf_line};
+use crate::witness_opening::lines::{old_line, shelf_line};
 use run_status::Besides;
 use shelf_log::{ShelfFault, Version};
 use std::alloc::{AllocError, Global};
@@ -23,12 +23,12 @@ pub enum OpeningFault {
 
 impl OpeningFault {
     ghost use Rattle.std.specs.Prelude.{[], false, IfOk, string_bytes};
-    ghost use Rattle.shelf_log.specs.declared.fault.ShelfFault.TheVariants.{Broken};
-    ghost use Rattle.run_status.specs.Settling.{found as all_found};
-    ghost use Rattle.run_status.specs.Status.{status_of};
-    ghost use Rattle.witness_opening.specs.Answers.{not_a_shelf, refusal};
-    ghost use Rattle.witness_opening.specs.Found.{found_by, status_by, text_of};
-    ghost use Rattle.witness_opening.specs.declared.fault.OpeningFault.TheVariants.{OutOfMemory as NoMemory};
+    ghost use Rattle.shelf_log.specs.declared.shelf_log.fault.ShelfFault.TheVariants.{Broken};
+    ghost use Rattle.run_status.specs.RunStatus.Settling.{found as all_found};
+    ghost use Rattle.run_status.specs.RunStatus.Status.{status_of};
+    ghost use Rattle.witness_core.specs.WitnessOpening.Answers.{not_a_shelf, refusal};
+    ghost use Rattle.witness_core.specs.WitnessOpening.Found.{found_by, status_by, text_of};
+    ghost use Rattle.witness_core.specs.declared.witness_opening.fault.OpeningFault.TheVariants.{OutOfMemory as NoMemory};
 
     /// Why a file of the version isn't read or written. No append came before, so none failed.
     pub(crate) fn of(version: Version, fault: ShelfFault) -> OpeningFault

@@ -1,16 +1,15 @@
 //! What the file of a shelf is, before it is opened.
 ghost use Rattle.std.specs.Prelude.{◌≡◌, ◌↔◌, [], IsTrue, IfOk, IfSome, OnOk};
-ghost use Rattle.keri_specs.specs.Causes.{HasCause};
-ghost use Rattle.keri_disk.specs.Calls.{Keeps};
-ghost use Rattle.keri_disk.specs.Images.{IsDurable};
-ghost use Rattle.shelf_log.specs.Format.{IsUnmarked};
+ghost use Rattle.lists.specs.KeriSpecs.Causes.{HasCause};
+ghost use Rattle.shelf_log.specs.KeriDisk.Calls.{Keeps};
+ghost use Rattle.shelf_log.specs.KeriDisk.Images.{IsDurable};
+ghost use Rattle.shelf_log.specs.ShelfLog.Format.{IsUnmarked};
 
-use keri_disk::Disk;
 use keri_outside::Failed;
-use shelf_log::{Version, begins_with_mark};
+use shelf_log::{Disk, Version, begins_with_mark};
 
 /// Whether the file is empty. It syncs first, and writes nothing.
-#[tactic(auto, using(keri_disk::proofs::Moments::keeps_both, keri_disk::proofs::Moments::durable_kept))]
+#[tactic(auto, using(shelf_log::proofs::KeriDiskLemmas::Moments::keeps_both, shelf_log::proofs::KeriDiskLemmas::Moments::durable_kept))]
 pub(crate) fn is_empty<D: Disk>(disk: &mut D) -> Result<bool, Failed>
     ensures empty { IfOk result (λ is_empty. IfSome (D.told disk.old).file
         (λ file. IsTrue is_empty ↔ (file ≡ []))) }
@@ -23,7 +22,7 @@ pub(crate) fn is_empty<D: Disk>(disk: &mut D) -> Result<bool, Failed>
 }
 
 /// Whether the file begins with the mark of no version. It syncs first, and writes nothing.
-#[tactic(auto, using(keri_disk::proofs::Moments::keeps_both, keri_disk::proofs::Moments::durable_kept))]
+#[tactic(auto, using(shelf_log::proofs::KeriDiskLemmas::Moments::keeps_both, shelf_log::proofs::KeriDiskLemmas::Moments::durable_kept))]
 pub(crate) fn is_unmarked<D: Disk>(disk: &mut D) -> Result<bool, Failed>
     ensures unmarked { IfOk result (λ is_unmarked. IfSome (D.told disk.old).file
         (λ file. IsTrue is_unmarked ↔ IsUnmarked file)) }

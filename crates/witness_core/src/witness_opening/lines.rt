@@ -1,6 +1,6 @@
 //! The lines that say why there is no shelf, or no witness, each with its line feed.
 ghost use Rattle.std.specs.Prelude.{◌≡◌, IfOk, string_bytes};
-ghost use Rattle.witness_opening.specs.Lines.{log_text, old_text, shelf_text};
+ghost use Rattle.witness_core.specs.WitnessOpening.Lines.{log_text, old_text, shelf_text};
 
 use std::alloc::{AllocError, Global};
 

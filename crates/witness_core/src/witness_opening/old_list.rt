@@ -1,14 +1,14 @@
 //! A file that is filled with the list of an old shelf.
 ghost use Rattle.std.specs.Prelude.{◌≡◌, Some, IfOk, IfSome, MatchResult, Ok, Err};
-ghost use Rattle.keri_disk.specs.Images.{IsDurable};
-ghost use Rattle.shelf_log.specs.Format.{IsUnmarked};
-ghost use Rattle.witness_opening.specs.Names.{KeepsNames};
-ghost use Rattle.witness_opening.specs.Opening.{IsOpen};
-ghost use Rattle.witness_opening.specs.Ways.{FillsIt};
+ghost use Rattle.shelf_log.specs.KeriDisk.Images.{IsDurable};
+ghost use Rattle.shelf_log.specs.ShelfLog.Format.{IsUnmarked};
+ghost use Rattle.witness_core.specs.WitnessOpening.Names.{KeepsNames};
+ghost use Rattle.witness_core.specs.WitnessOpening.Opening.{IsOpen};
+ghost use Rattle.witness_core.specs.WitnessOpening.Ways.{FillsIt};
 
-use crate::{NotOpened, Opened, OpeningFault};
+use crate::witness_opening::{NotOpened, Opened, OpeningFault};
 use keri_outside::Limits;
-use run_outside::Outside;
+use run_status::Outside;
 use shelf_log::{OldShelf, Returned, Shelf, Version};
 use std::alloc::Global;
 

@@ -1,9 +1,8 @@
 //! What opening a shelf comes to.
 ghost use Rattle.std.specs.Prelude.{◌≡◌, ◌≢◌};
 
-use crate::OpeningFault;
-use keri_disk::Disk;
-use shelf_log::{Returned, Shelf, Version};
+use crate::witness_opening::OpeningFault;
+use shelf_log::{Disk, Returned, Shelf, Version};
 
 /// A shelf that is open, and the disk of the old one, where its list was brought over.
 #[derive(Drop)]
@@ -22,10 +21,10 @@ pub struct NotOpened<D> {
 
 impl<D: Drop> NotOpened<D> {
     ghost use Rattle.std.specs.Prelude.{None, Some};
-    ghost use Rattle.shelf_log.specs.declared.fault.ShelfFault.TheVariants.{Broken};
-    ghost use Rattle.shelf_log.specs.declared.version.Version.TheVariants.{Two};
-    ghost use Rattle.witness_opening.specs.Answers.{refusal};
-    ghost use Rattle.witness_opening.specs.declared.fault.OpeningFault.TheVariants.{DiskFault};
+    ghost use Rattle.shelf_log.specs.declared.shelf_log.fault.ShelfFault.TheVariants.{Broken};
+    ghost use Rattle.shelf_log.specs.declared.shelf_log.version.Version.TheVariants.{Two};
+    ghost use Rattle.witness_core.specs.WitnessOpening.Answers.{refusal};
+    ghost use Rattle.witness_core.specs.declared.witness_opening.fault.OpeningFault.TheVariants.{DiskFault};
 
     /// A disk failed, or couldn't be made.
     pub(crate) fn failed(disk: Option<D>) -> NotOpened<D>

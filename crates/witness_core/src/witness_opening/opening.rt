@@ -1,15 +1,15 @@
 //! Opening a shelf over the outside.
 ghost use Rattle.std.specs.Prelude.{◌≡◌, None, Some, IfOk, MatchResult, Ok, Err};
 ghost use Rattle.std.specs.Option.{option_map};
-ghost use Rattle.witness_opening.specs.Names.{KeepsNames};
-ghost use Rattle.witness_opening.specs.Opening.{IsOpen, IsOpening};
+ghost use Rattle.witness_core.specs.WitnessOpening.Names.{KeepsNames};
+ghost use Rattle.witness_core.specs.WitnessOpening.Opening.{IsOpen, IsOpening};
 
-use crate::file_kind::{is_empty, is_unmarked};
-use crate::old_list::fill;
-use crate::ways::{begin, read};
-use crate::{NotOpened, Opened};
+use crate::witness_opening::file_kind::{is_empty, is_unmarked};
+use crate::witness_opening::old_list::fill;
+use crate::witness_opening::ways::{begin, read};
+use crate::witness_opening::{NotOpened, Opened};
 use keri_outside::{Failed, Limits};
-use run_outside::Outside;
+use run_status::Outside;
 use std::alloc::Global;
 
 /// Opens the shelf of a name. An empty file is made one. Where an old shelf is named, a file that begins with the mark of no

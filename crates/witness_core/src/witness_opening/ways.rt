@@ -1,12 +1,11 @@
 //! A shelf on a disk that was synced.
 ghost use Rattle.std.specs.Prelude.{◌≡◌, [], List, ℕ, Some, IfOk, MatchResult, Ok, Err};
-ghost use Rattle.witness_opening.specs.Opening.{IsOpen};
-ghost use Rattle.witness_opening.specs.Ways.{BeginsIt, ReadsIt};
+ghost use Rattle.witness_core.specs.WitnessOpening.Opening.{IsOpen};
+ghost use Rattle.witness_core.specs.WitnessOpening.Ways.{BeginsIt, ReadsIt};
 
-use crate::{NotOpened, Opened};
-use keri_disk::Disk;
+use crate::witness_opening::{NotOpened, Opened};
 use keri_outside::Limits;
-use shelf_log::Shelf;
+use shelf_log::{Disk, Shelf};
 use std::alloc::Global;
 
 /// Makes an empty file a shelf.

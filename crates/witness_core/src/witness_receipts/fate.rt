@@ -1,17 +1,16 @@
 //! What becomes of an event.
 ghost use Rattle.std.specs.Prelude.{◌≡◌, ◌<◌, ◌≤◌, ◌-◌, ◌&&◌, Some, false, length, slice_get};
-ghost use Rattle.event_body.specs.Events as events;
-ghost use Rattle.journal.specs.Grown.{IsGrown};
-ghost use Rattle.journal.specs.Logs.{is_in, takes as takes_next};
-ghost use Rattle.journal.specs.declared.body.Body.{Body};
-ghost use Rattle.validator_core.specs.View.{accepted_by, base_of, state_of};
-ghost use Rattle.witness_receipts.specs.Fates as fates;
-ghost use Rattle.witness_receipts.specs.Fates.{live_there, waiting_fate};
+ghost use Rattle.event_body.specs.EventBody.Events as events;
+ghost use Rattle.journal.specs.Journal.Grown.{IsGrown};
+ghost use Rattle.journal.specs.Journal.Logs.{is_in, takes as takes_next};
+ghost use Rattle.journal.specs.declared.journal.body.Body.{Body};
+ghost use Rattle.validator_core.specs.ValidatorCore.View.{accepted_by, base_of, state_of};
+ghost use Rattle.witness_core.specs.WitnessReceipts.Fates as fates;
+ghost use Rattle.witness_core.specs.WitnessReceipts.Fates.{live_there, waiting_fate};
 
 use cesr_codes::{Digest, Key, Prefix};
 use event_body::{Event, prefix_of, said_of_event, sn_of};
-use event_rules::takes;
-use journal::{Reason, Why};
+use journal::{Reason, Why, takes};
 use key_state::KeyState;
 use validator_core::Core;
 

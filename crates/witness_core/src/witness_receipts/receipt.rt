@@ -1,22 +1,21 @@
 //! Receipts.
 ghost use Rattle.std.specs.Prelude.{◌≡◌, ◌≤◌, ◌<◌, ◌^◌, ◌∷◌, ◌++◌, [], ℕ, List, length, IfErr, IfOk};
 ghost use Rattle.cesr_codes.specs.declared.key.KeyCode.TheVariants.{Fixed};
-ghost use Rattle.core_tables.specs.View.{body_of};
-ghost use Rattle.event_body.specs.Held.{IsHeldReceipt};
-ghost use Rattle.event_body.specs.Judging.{SpellsEvent};
-ghost use Rattle.event_body.specs.Spelling.{text_of};
-ghost use Rattle.event_body.specs.declared.body_fault.ReadBody.TheVariants.{OutOfMemory as NoMemory};
-ghost use Rattle.event_body.specs.declared.event.Event.TheVariants.{Rct};
+ghost use Rattle.core_tables.specs.CoreTables.View.{body_of};
+ghost use Rattle.event_body.specs.EventBody.Held.{IsHeldReceipt};
+ghost use Rattle.event_body.specs.EventBody.Judging.{SpellsEvent};
+ghost use Rattle.event_body.specs.EventBody.Spelling.{text_of};
+ghost use Rattle.event_body.specs.declared.event_body.body_fault.ReadBody.TheVariants.{OutOfMemory as NoMemory};
+ghost use Rattle.event_body.specs.declared.event_body.event.Event.TheVariants.{Rct};
 ghost use Rattle.keri_outside.specs.Asked.{signing};
-ghost use Rattle.keri_specs.specs.Told.{Puts};
-ghost use Rattle.witness_receipts.specs.Receipts.{CountsFaults, IsReceiptOf, couples_text, receipt_event};
-ghost use Rattle.witness_receipts.specs.declared.receipt.SigningFault.TheVariants.{OutOfMemory, SignerFault};
+ghost use Rattle.lists.specs.KeriSpecs.Told.{Puts};
+ghost use Rattle.witness_core.specs.WitnessReceipts.Receipts.{CountsFaults, IsReceiptOf, couples_text, receipt_event};
+ghost use Rattle.witness_core.specs.declared.witness_receipts.receipt.SigningFault.TheVariants.{OutOfMemory, SignerFault};
 
 use cesr_codes::{Digest, Key, Spelled};
 use cesr_stream::{Couple, Group, Item};
-use event_body::{Event, ReadBody, ReceiptBody, prefix_of, said_of_event, sn_of};
-use event_payload::StreamText;
-use event_writing::write_body;
+use event_body::{Event, ReadBody, ReceiptBody, prefix_of, said_of_event, sn_of, write_body};
+use journal_views::StreamText;
 use keri_outside::{Failed, Signer};
 use lists::Items;
 use std::alloc::{AllocError, AllocFailed, Global};

@@ -2,14 +2,14 @@
 ghost use Rattle.std.specs.Prelude.{◌≡◌, ◌==◌, ◌≤◌, ◌<◌, ◌∷◌, ◌++◌, [], All, IfOk, Some, drop, length, position, slice_get, take};
 ghost use Rattle.std.specs.List.{cons_option};
 ghost use Rattle.cesr_codes.specs.declared.key.KeyCode.TheVariants.{Fixed};
-ghost use Rattle.keri_specs.specs.Told.{Puts};
-ghost use Rattle.journal.specs.Journals.{chosen};
-ghost use Rattle.journal.specs.declared.body.Body.{Body};
-ghost use Rattle.validator_core.specs.View.{accepted_by};
-ghost use Rattle.witness_receipts.specs.Receipts.{AreReceiptsOf, CountsFaults, IsReceiptOf, again, due, listed, signings_of};
+ghost use Rattle.lists.specs.KeriSpecs.Told.{Puts};
+ghost use Rattle.journal.specs.Journal.Journals.{chosen};
+ghost use Rattle.journal.specs.declared.journal.body.Body.{Body};
+ghost use Rattle.validator_core.specs.ValidatorCore.View.{accepted_by};
+ghost use Rattle.witness_core.specs.WitnessReceipts.Receipts.{AreReceiptsOf, CountsFaults, IsReceiptOf, again, due, listed, signings_of};
 
-use crate::Receipt;
-use crate::receipt::{SigningFault, receipt_of};
+use crate::witness_receipts::Receipt;
+use crate::witness_receipts::receipt::{SigningFault, receipt_of};
 use cesr_codes::Key;
 use keri_outside::Signer;
 use std::alloc::{AllocError, Global};

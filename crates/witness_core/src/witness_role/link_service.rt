@@ -1,20 +1,20 @@
 //! Links that a witness serves, one after another.
 ghost use Rattle.std.specs.Prelude.{◌≡◌, ◌≤◌, [], false, true, map};
 ghost use Rattle.std.specs.Vec.{vec_capacity};
-ghost use Rattle.keri_specs.specs.Told.{HasNone};
-ghost use Rattle.run_status.specs.Readers.{reader_seen, sink_seen};
-ghost use Rattle.run_record.specs.Seen.{door_told};
-ghost use Rattle.witness_role.specs.ServedLinks.{IsServed, ServesComing};
-ghost use Rattle.witness_link.specs.Closes.{asks_next as asks_next_by};
+ghost use Rattle.lists.specs.KeriSpecs.Told.{HasNone};
+ghost use Rattle.run_status.specs.RunStatus.Readers.{reader_seen, sink_seen};
+ghost use Rattle.run_status.specs.RunRecord.Seen.{door_told};
+ghost use Rattle.witness_core.specs.WitnessRole.ServedLinks.{IsServed, ServesComing};
+ghost use Rattle.witness_core.specs.WitnessLink.Closes.{asks_next as asks_next_by};
 
-use crate::links_kept::LinksKept;
-use keri_disk::Disk;
+use crate::witness_core::Witness;
+use crate::witness_link::{LinkEnd, asks_next, serve_link};
+use crate::witness_role::links_kept::LinksKept;
 use keri_outside::{Caller, Door, Failed, Limits, Signer, Sink, Source, Verifier};
 use lists::Items;
 use run_status::ReaderEnd;
+use shelf_log::Disk;
 use std::alloc::Global;
-use witness_core::Witness;
-use witness_link::{LinkEnd, asks_next, serve_link};
 
 /// Serves each link that comes at the door, until so many came, none comes any more, the door fails, or a link closes so that the
 /// run ends. There is room for them. Answers whether the door failed.

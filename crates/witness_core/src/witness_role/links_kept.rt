@@ -1,8 +1,8 @@
 //! What is kept of links that are served.
 ghost use Rattle.std.specs.Prelude.{◌≡◌, ◌≤◌, ◌<◌, [], None, Some, map, IfOk};
 ghost use Rattle.std.specs.Vec.{vec_capacity};
-ghost use Rattle.run_status.specs.Readers.{reader_seen, verifier_seen};
-ghost use Rattle.witness_role.specs.ServedLinks.{readers_with};
+ghost use Rattle.run_status.specs.RunStatus.Readers.{reader_seen, verifier_seen};
+ghost use Rattle.witness_core.specs.WitnessRole.ServedLinks.{readers_with};
 
 use keri_outside::{Source, Verifier};
 use lists::Items;

@@ -4,24 +4,22 @@ ghost use Rattle.std.specs.Prelude.{◌≡◌, ◌≢◌, ◌<◌, ◌≤◌, []
 ghost use Rattle.std.specs.Vec.{vec_capacity};
 ghost use Rattle.command_words.specs.Inputs.{inputs_by};
 ghost use Rattle.cesr_codes.specs.declared.key.KeyCode.TheVariants.{Fixed};
-ghost use Rattle.journal.specs.declared.resume_fault.ResumeFault.TheVariants.{OutOfMemory};
-ghost use Rattle.witness_role.specs.Witnessed.{IsUnopened, IsUnread, IsWitnessedBy, ServesInput, StartsOver, count_in, start_found, start_text};
+ghost use Rattle.journal.specs.declared.journal.resume_fault.ResumeFault.TheVariants.{OutOfMemory};
+ghost use Rattle.witness_core.specs.WitnessRole.Witnessed.{IsUnopened, IsUnread, IsWitnessedBy, ServesInput, StartsOver, count_in, start_found, start_text};
 
-use crate::links_kept::{LinksKept, room_for};
-use crate::unread::unread;
-use crate::witness_file::serve_file;
-use crate::witness_links::serve_links;
+use crate::witness_core::{StartFault, Witness};
+use crate::witness_link::Witnessing;
+use crate::witness_opening::{NotOpened, Opened, log_line, open_shelf};
+use crate::witness_role::links_kept::{LinksKept, room_for};
+use crate::witness_role::unread::unread;
+use crate::witness_role::witness_file::serve_file;
+use crate::witness_role::witness_links::serve_links;
 use cesr_codes::Key;
 use command_words::Inputs;
 use journal::ResumeFault;
 use keri_outside::{Door, Limits};
-use run_outside::Outside;
-use run_record::{Done, Runs};
-use run_status::{Besides, ReaderEnd};
+use run_status::{Besides, Done, Outside, ReaderEnd, Runs};
 use std::alloc::{AllocError, Global};
-use witness_core::{StartFault, Witness};
-use witness_link::Witnessing;
-use witness_opening::{NotOpened, Opened, log_line, open_shelf};
 
 /// The words of `witness`: its helper, its key, the names of its shelf and of an old one to bring over, and what it serves.
 #[derive(Drop)]

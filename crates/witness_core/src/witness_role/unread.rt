@@ -1,11 +1,9 @@
 //! A run that reads nothing, since there is no shelf, or no witness that starts from it.
 ghost use Rattle.std.specs.Prelude.{◌≡◌, [], None, option_map, string_bytes};
-ghost use Rattle.run_record.specs.NoJournal.{no_journal};
-ghost use Rattle.run_record.specs.Run.{Settles};
+ghost use Rattle.run_status.specs.RunRecord.NoJournal.{no_journal};
+ghost use Rattle.run_status.specs.RunRecord.Run.{Settles};
 
-use run_outside::Outside;
-use run_record::{Done, Runs, nothing_told};
-use run_status::{Besides, ReaderEnd, settle};
+use run_status::{Besides, Done, Outside, ReaderEnd, Runs, nothing_told, settle};
 use std::alloc::Global;
 
 /// Writes the line of why nothing is read, unless there was no memory for it, and hands back the disks.

@@ -2,17 +2,15 @@
 ghost use Rattle.std.specs.Prelude.{◌≡◌, ◌<◌, [], ◌∷◌, map};
 ghost use Rattle.std.specs.Vec.{vec_capacity};
 ghost use Rattle.std.specs.List.{list_any};
-ghost use Rattle.run_status.specs.Readers.{reader_seen};
-ghost use Rattle.run_status.specs.Status.{nothing_besides};
-ghost use Rattle.run_record.specs.Run.{is_out};
-ghost use Rattle.witness_role.specs.ServedFile as specs;
+ghost use Rattle.run_status.specs.RunStatus.Readers.{reader_seen};
+ghost use Rattle.run_status.specs.RunStatus.Status.{nothing_besides};
+ghost use Rattle.run_status.specs.RunRecord.Run.{is_out};
+ghost use Rattle.witness_core.specs.WitnessRole.ServedFile as specs;
 
-use crate::door_end::DoorEnd;
+use crate::witness_core::Witness;
+use crate::witness_role::door_end::DoorEnd;
 use keri_outside::Door;
-use run_outside::Outside;
-use run_record::{Done, NO_MEMORY, Runs};
-use run_status::{Besides, Close, ReaderEnd, status_by};
-use witness_core::Witness;
+use run_status::{Besides, Close, Done, NO_MEMORY, Outside, ReaderEnd, Runs, status_by};
 
 /// Ends the run, which has these readers.
 pub(crate) fn end<O: Outside>(

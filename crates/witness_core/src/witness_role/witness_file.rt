@@ -1,22 +1,20 @@
 //! A file that is served to a witness.
 ghost use Rattle.std.specs.Prelude.{◌≡◌, ◌<◌, [], false};
 ghost use Rattle.std.specs.Vec.{vec_capacity};
-ghost use Rattle.witness_link.specs.Links.{source_told, told_of_link};
-ghost use Rattle.witness_link.specs.Served.{ServesLink};
-ghost use Rattle.run_status.specs.Readers.{verifier_seen};
-ghost use Rattle.run_record.specs.Seen.{signer_told};
-ghost use Rattle.witness_role.specs.ServedFile.{IsServing, ServesAll};
+ghost use Rattle.witness_core.specs.WitnessLink.Links.{source_told, told_of_link};
+ghost use Rattle.witness_core.specs.WitnessLink.Served.{ServesLink};
+ghost use Rattle.run_status.specs.RunStatus.Readers.{verifier_seen};
+ghost use Rattle.run_status.specs.RunRecord.Seen.{signer_told};
+ghost use Rattle.witness_core.specs.WitnessRole.ServedFile.{IsServing, ServesAll};
 
-use crate::door_end::DoorEnd;
-use crate::links_kept::unserved;
-use crate::witness_end::end_one;
+use crate::witness_core::Witness;
+use crate::witness_link::{LinkEnd, Witnessing, serve_link};
+use crate::witness_role::door_end::DoorEnd;
+use crate::witness_role::links_kept::unserved;
+use crate::witness_role::witness_end::end_one;
 use lists::Items;
-use run_outside::Outside;
-use run_record::{Done, Runs};
-use run_status::{Close, ReaderEnd};
+use run_status::{Close, Done, Outside, ReaderEnd, Runs};
 use std::alloc::Global;
-use witness_core::Witness;
-use witness_link::{LinkEnd, Witnessing, serve_link};
 
 /// Makes the source of the file, and the verifier and the signer of the helper, and serves the witness by them, where all three
 /// could be made. The readers have room for the one that there is.

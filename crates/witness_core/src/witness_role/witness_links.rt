@@ -1,20 +1,18 @@
 //! Links that come at a door, and are served to a witness.
 ghost use Rattle.std.specs.Prelude.{◌≡◌, ◌≤◌, ◌<◌, [], false, is_none};
 ghost use Rattle.std.specs.Vec.{vec_capacity};
-ghost use Rattle.run_record.specs.Seen.{door_told};
-ghost use Rattle.witness_role.specs.ServedLinks.{IsServingLinks, ServesAllLinks};
+ghost use Rattle.run_status.specs.RunRecord.Seen.{door_told};
+ghost use Rattle.witness_core.specs.WitnessRole.ServedLinks.{IsServingLinks, ServesAllLinks};
 
-use crate::door_end::DoorEnd;
-use crate::link_service::serve_coming;
-use crate::links_kept::{LinksKept, unserved, with_verifier};
-use crate::witness_end::{end, end_one};
+use crate::witness_core::Witness;
+use crate::witness_role::door_end::DoorEnd;
+use crate::witness_role::link_service::serve_coming;
+use crate::witness_role::links_kept::{LinksKept, unserved, with_verifier};
+use crate::witness_role::witness_end::{end, end_one};
 use command_words::Links;
 use keri_outside::{Door, Limits};
-use run_outside::Outside;
-use run_record::{Done, Runs};
-use run_status::Close;
+use run_status::{Close, Done, Outside, Runs};
 use std::alloc::Global;
-use witness_core::Witness;
 
 /// Makes the door of the address, and the verifier and the signer of the helper, and serves the witness the links that come, where
 /// all three could be made. There is room for the links.

@@ -1,18 +1,17 @@
 //! Storing what is accepted.
 ghost use Rattle.std.specs.Prelude.{◌≡◌, ◌<◌, false, length, IfErr, OnOk};
-ghost use Rattle.journal.specs.Grown.{IsGrown};
-ghost use Rattle.shelf_log.specs.Settled.{AllHold};
-ghost use Rattle.validator_core.specs.View.{accepted_by, base_of};
-ghost use Rattle.witness_store.specs.Faults.{StoreFault};
-ghost use Rattle.witness_store.specs.Histories.{history_of};
-ghost use Rattle.witness_store.specs.Room.{HasRoom};
-ghost use Rattle.witness_store.specs.Storing.{Appends, AreStored, IsOnWay};
+ghost use Rattle.journal.specs.Journal.Grown.{IsGrown};
+ghost use Rattle.shelf_log.specs.ShelfLog.Settled.{AllHold};
+ghost use Rattle.validator_core.specs.ValidatorCore.View.{accepted_by, base_of};
+ghost use Rattle.witness_core.specs.WitnessStore.Faults.{StoreFault};
+ghost use Rattle.witness_core.specs.WitnessStore.Histories.{history_of};
+ghost use Rattle.witness_core.specs.WitnessStore.Room.{HasRoom};
+ghost use Rattle.witness_core.specs.WitnessStore.Storing.{Appends, AreStored, IsOnWay};
 
-use crate::WitnessFault;
-use crate::payload::payload_at;
-use crate::room::Room;
-use keri_disk::Disk;
-use shelf_log::{Shelf, ShelfFault};
+use crate::witness_store::WitnessFault;
+use crate::witness_store::payload::payload_at;
+use crate::witness_store::room::Room;
+use shelf_log::{Disk, Shelf, ShelfFault};
 use std::alloc::Global;
 use validator_core::Core;
 

@@ -1,11 +1,11 @@
 //! The core that a witness starts with.
 ghost use Rattle.std.specs.Prelude.{◌≡◌, ◌≤◌, IfErr, IfOk, length};
-ghost use Rattle.event_payload.specs.Payloads.{text_in as text_in_of};
-ghost use Rattle.witness_store.specs.Starts.{AreNoStart, IsFirstRoom, IsStarted, texts_in};
+ghost use Rattle.journal_views.specs.EventPayload.Payloads.{text_in as text_in_of};
+ghost use Rattle.witness_core.specs.WitnessStore.Starts.{AreNoStart, IsFirstRoom, IsStarted, texts_in};
 
-use crate::room::Room;
-use event_payload::text_in;
+use crate::witness_store::room::Room;
 use journal::{Mode, ResumeFault};
+use journal_views::text_in;
 use json_tree::Text;
 use keri_outside::Limits;
 use lists::Items;

@@ -1,18 +1,17 @@
 //! The open questions, which the verifier is asked.
 ghost use Rattle.std.specs.Prelude.{◌≡◌, ◌<◌, [], IfErr, OnOk};
-ghost use Rattle.validator_core.specs.Verdicts.{Asks, IsOpen};
-ghost use Rattle.validator_core.specs.View.{open_of, unheard_of};
-ghost use Rattle.witness_store.specs.Faults.{AskFault, StoresStill};
-ghost use Rattle.witness_store.specs.Histories.{history_of};
-ghost use Rattle.witness_store.specs.Storing.{AreStored, GoesOn};
+ghost use Rattle.validator_core.specs.ValidatorCore.Verdicts.{Asks, IsOpen};
+ghost use Rattle.validator_core.specs.ValidatorCore.View.{open_of, unheard_of};
+ghost use Rattle.witness_core.specs.WitnessStore.Faults.{AskFault, StoresStill};
+ghost use Rattle.witness_core.specs.WitnessStore.Histories.{history_of};
+ghost use Rattle.witness_core.specs.WitnessStore.Storing.{AreStored, GoesOn};
 
-use crate::WitnessFault;
-use crate::appends::store;
-use crate::room::Room;
+use crate::witness_store::WitnessFault;
+use crate::witness_store::appends::store;
+use crate::witness_store::room::Room;
 use journal::Question;
-use keri_disk::Disk;
 use keri_outside::{Steps, Verifier};
-use shelf_log::Shelf;
+use shelf_log::{Disk, Shelf};
 use std::alloc::Global;
 use validator_core::{Core, VerdictFault};
 

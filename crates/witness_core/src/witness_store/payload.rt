@@ -1,18 +1,18 @@
 //! The payloads of accepted events.
 ghost use Rattle.std.specs.Prelude.{◌≡◌, ◌<◌, ◌≤◌, ◌+◌, [], All, IfOk, OnOk, Some, length, slice_get};
 ghost use Rattle.cesr_codes.specs.Indexed.{IsIndexed};
-ghost use Rattle.event_payload.specs.Holding.{HasKept};
-ghost use Rattle.event_payload.specs.Kept.{kept as kept_on, state_under};
-ghost use Rattle.event_payload.specs.Payloads.{text_in};
-ghost use Rattle.journal.specs.declared.body.Body.{Body};
-ghost use Rattle.shelf_log.specs.Format.{IsSized};
-ghost use Rattle.shelf_log.specs.declared.version.Version.TheVariants.{Two};
-ghost use Rattle.validator_core.specs.View.{accepted_by, told_of};
-ghost use Rattle.witness_store.specs.Payloads.{payload_now};
-ghost use Rattle.witness_store.specs.Room.{IsKnown, weight};
+ghost use Rattle.journal_views.specs.EventPayload.Holding.{HasKept};
+ghost use Rattle.journal_views.specs.EventPayload.Kept.{kept as kept_on, state_under};
+ghost use Rattle.journal_views.specs.EventPayload.Payloads.{text_in};
+ghost use Rattle.journal.specs.declared.journal.body.Body.{Body};
+ghost use Rattle.shelf_log.specs.ShelfLog.Format.{IsSized};
+ghost use Rattle.shelf_log.specs.declared.shelf_log.version.Version.TheVariants.{Two};
+ghost use Rattle.validator_core.specs.ValidatorCore.View.{accepted_by, told_of};
+ghost use Rattle.witness_core.specs.WitnessStore.Payloads.{payload_now};
+ghost use Rattle.witness_core.specs.WitnessStore.Room.{IsKnown, weight};
 
 use cesr_codes::IndexedSig;
-use event_payload::{Kept, payload};
+use journal_views::{Kept, payload};
 use key_state::spelled_is_kept;
 use std::alloc::{AllocError, Global};
 use validator_core::Core;

@@ -1,19 +1,18 @@
 //! How much room of a shelf the events that wait need.
 ghost use Rattle.std.specs.Prelude.{◌≡◌, ◌<◌, ◌≤◌, ◌+◌, ◌*◌, ◌++◌, List, IfSome, IfNone, OnOk, flat_map, length, true};
-ghost use Rattle.journal.specs.declared.body.Body.{Body};
-ghost use Rattle.journal.specs.declared.claim.Claim.{Claim as ClaimOf};
-ghost use Rattle.journal.specs.Grown.{IsGrown};
+ghost use Rattle.journal.specs.declared.journal.body.Body.{Body};
+ghost use Rattle.journal.specs.declared.journal.claim.Claim.{Claim as ClaimOf};
+ghost use Rattle.journal.specs.Journal.Grown.{IsGrown};
 ghost use Rattle.std.specs.List.{list_all};
-ghost use Rattle.journal.specs.History.{taken};
-ghost use Rattle.validator_core.specs.View.{accepted_by, base_of, told_of};
-ghost use Rattle.witness_store.specs.Histories.{bodies_in, history_of};
-ghost use Rattle.witness_store.specs.Room.{IsComing, IsKnown, IsRoom, count_waiting as count_waiting_in, is_event, lacks_room as lacks_room_for, signatures_in};
-ghost use Rattle.witness_store.specs.Storing.{AreStored};
+ghost use Rattle.journal.specs.Journal.History.{taken};
+ghost use Rattle.validator_core.specs.ValidatorCore.View.{accepted_by, base_of, told_of};
+ghost use Rattle.witness_core.specs.WitnessStore.Histories.{bodies_in, history_of};
+ghost use Rattle.witness_core.specs.WitnessStore.Room.{IsComing, IsKnown, IsRoom, count_waiting as count_waiting_in, is_event, lacks_room as lacks_room_for, signatures_in};
+ghost use Rattle.witness_core.specs.WitnessStore.Storing.{AreStored};
 
 use journal::Claim;
-use keri_disk::Disk;
 use keri_outside::Limits;
-use shelf_log::Shelf;
+use shelf_log::{Disk, Shelf};
 use std::alloc::AllocError;
 use validator_core::Core;
 

@@ -1,7 +1,7 @@
 //! Why a witness doesn't take a message to its end.
 ghost use Rattle.std.specs.Prelude.{◌≡◌};
-ghost use Rattle.witness_store.specs.Faults.{breaks as breaks_by};
-ghost use Rattle.witness_store.specs.declared.witness_fault.WitnessFault.TheVariants.{OutOfMemory as NoMemory};
+ghost use Rattle.witness_core.specs.WitnessStore.Faults.{breaks as breaks_by};
+ghost use Rattle.witness_core.specs.declared.witness_store.witness_fault.WitnessFault.TheVariants.{OutOfMemory as NoMemory};
 
 use std::alloc::{AllocError, AllocFailed};
 use thiserror::Error;

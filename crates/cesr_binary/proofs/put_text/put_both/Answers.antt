@@ -1,6 +1,6 @@
 use Rattle.std.proofs.Common.{◌/◌, length, sym, arith, subst}
-use Rattle.keri_specs.specs.Told.{Puts}
-use Rattle.keri_specs.proofs.Putting.{front_stands, puts-behind}
+use Rattle.lists.specs.KeriSpecs.Told.{Puts}
+use Rattle.lists.proofs.KeriSpecsLemmas.Putting.{front_stands, puts-behind}
 use Rattle.cesr_binary.specs.BinaryForm.{binary_of}
 use Rattle.cesr_binary.proofs.BinaryForms.{binary_of-append}
 use Rattle.cesr_binary.proofs.put_text.put_both.Goals as goal

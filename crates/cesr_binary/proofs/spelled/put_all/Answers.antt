@@ -1,7 +1,7 @@
 use Rattle.std.proofs.Common.{flat_map, refl, ap, ◌∙◌, arith}
 use Rattle.std.proofs.lemmas.List.{take_all}
-use Rattle.keri_specs.specs.Told.{after}
-use Rattle.keri_specs.proofs.Putting.{after-nil, put_front, put_more}
+use Rattle.lists.specs.KeriSpecs.Told.{after}
+use Rattle.lists.proofs.KeriSpecsLemmas.Putting.{after-nil, put_front, put_more}
 use Rattle.cesr_binary.specs.BinaryForm.{binary_of}
 use Rattle.cesr_binary.proofs.spelled.put_all.Goals as goal
 

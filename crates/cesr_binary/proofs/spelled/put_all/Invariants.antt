@@ -1,5 +1,5 @@
 use Rattle.std.proofs.Common.{◌≡◌, take, flat_map}
-use Rattle.keri_specs.specs.Told.{after}
+use Rattle.lists.specs.KeriSpecs.Told.{after}
 use Rattle.cesr_binary.specs.BinaryForm.{binary_of}
 use Rattle.cesr_binary.proofs.spelled.put_all.Given as goal
 

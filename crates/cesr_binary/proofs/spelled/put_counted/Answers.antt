@@ -1,7 +1,7 @@
 use Rattle.std.proofs.Common.{◌∷◌, ◌++◌, flat_map, sym, ap, ◌∙◌, subst}
-use Rattle.keri_specs.specs.Base64.{base64_text}
-use Rattle.keri_specs.specs.Told.{Puts, after}
-use Rattle.keri_specs.proofs.Putting.{front_stands, puts-behind}
+use Rattle.lists.specs.KeriSpecs.Base64.{base64_text}
+use Rattle.lists.specs.KeriSpecs.Told.{Puts, after}
+use Rattle.lists.proofs.KeriSpecsLemmas.Putting.{front_stands, puts-behind}
 use Rattle.cesr_binary.specs.BinaryForm.{IsTurnable, binary_of}
 use Rattle.cesr_binary.proofs.Characters.{turnable_counter}
 use Rattle.cesr_binary.proofs.spelled.put_counted.Goals as goal

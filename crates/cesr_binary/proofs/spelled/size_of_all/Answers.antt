@@ -1,6 +1,6 @@
 use Rattle.std.proofs.Common.{◌+◌, ◌++◌, take, drop, length, flat_map, refl, ap, ◌∙◌, arith, length-append}
 use Rattle.std.proofs.lemmas.List.{take_all}
-use Rattle.keri_specs.proofs.Putting.{texts_at, texts_more}
+use Rattle.lists.proofs.KeriSpecsLemmas.Putting.{texts_at, texts_more}
 use Rattle.cesr_binary.proofs.spelled.size_of_all.Goals as goal
 
 pub loop-one-init : goal.loop-one-init

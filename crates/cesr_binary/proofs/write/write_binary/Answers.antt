@@ -1,5 +1,5 @@
 use Rattle.std.proofs.Common.{◌/◌, length, flat_map, subst}
-use Rattle.keri_specs.specs.Told.{Puts}
+use Rattle.lists.specs.KeriSpecs.Told.{Puts}
 use Rattle.cesr_stream.specs.Texts.{group_text}
 use Rattle.cesr_binary.proofs.Characters.{turnable_group}
 use Rattle.cesr_binary.proofs.CountedTexts.{binary_of-counted}

@@ -1,5 +1,5 @@
 use Rattle.std.proofs.Common.{sym, ◌∙◌}
-use Rattle.keri_specs.specs.Base64.{is_character}
+use Rattle.lists.specs.KeriSpecs.Base64.{is_character}
 use Rattle.cesr_codes.proofs.Numbers.{none_fails}
 use Rattle.cesr_codes.proofs.primitive.bad_place.Goals as goal
 

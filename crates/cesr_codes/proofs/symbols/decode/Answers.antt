@@ -1,6 +1,6 @@
 use Rattle.std.proofs.Common.{◌==◌, ◌+◌, ◌-◌, ◌*◌, ◌/◌, length, sym, ap, ◌∙◌, arith}
 use Rattle.std.specs.List.{list_all}
-use Rattle.keri_specs.specs.Base64.{is_character}
+use Rattle.lists.specs.KeriSpecs.Base64.{is_character}
 use Rattle.cesr_codes.proofs.Decoded.{characters-zeros, last_symbols, is_held, is_large}
 use Rattle.cesr_codes.proofs.symbols.decode.Goals as goal
 

@@ -1,7 +1,7 @@
 use Rattle.std.proofs.Common.{◌+◌, ◌++◌, take, drop, flat_map, refl, sym, ap, ◌∙◌, arith, subst}
 use Rattle.std.proofs.lemmas.List.{take_all}
-use Rattle.keri_specs.specs.Told.{Puts, after}
-use Rattle.keri_specs.proofs.Putting.{after-nil, front_stands, puts-behind, texts_at, put_more}
+use Rattle.lists.specs.KeriSpecs.Told.{Puts, after}
+use Rattle.lists.proofs.KeriSpecsLemmas.Putting.{after-nil, front_stands, puts-behind, texts_at, put_more}
 use Rattle.cesr_stream.proofs.spellings.put_all.Goals as goal
 
 pub loop-one-init : goal.loop-one-init

@@ -1,4 +1,4 @@
-use Rattle.keri_specs.proofs.Putting.{front_stands, puts-behind}
+use Rattle.lists.proofs.KeriSpecsLemmas.Putting.{front_stands, puts-behind}
 use Rattle.cesr_stream.proofs.spellings.put_both.Goals as goal
 
 pub returns-in_err-put-clause-written : goal.returns-in_err-put-clause-written

@@ -1,6 +1,6 @@
 use Rattle.std.proofs.Common.{◌∙◌, ap}
 use Rattle.std.specs.List.{list_any}
-use Rattle.journal.specs.Seals.{seals}
+use Rattle.journal.specs.Journal.Seals.{seals}
 use Rattle.event_backing.specs.EventSeals.{is_seal}
 use Rattle.event_backing.proofs.seal_search.anchors.Goals as goal
 

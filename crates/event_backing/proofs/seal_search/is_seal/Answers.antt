@@ -1,5 +1,5 @@
 use Rattle.std.proofs.Common.{sym}
-use Rattle.journal.specs.Seals.{members_of}
+use Rattle.journal.specs.Journal.Seals.{members_of}
 use Rattle.event_backing.specs.EventSeals.{named}
 use Rattle.event_backing.proofs.SealMembers.{are_seal-other}
 use Rattle.event_backing.proofs.seal_search.is_seal.Goals as goal

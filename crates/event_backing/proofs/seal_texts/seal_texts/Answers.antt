@@ -1,5 +1,5 @@
 use Rattle.std.proofs.Common.{◌≡◌, map, sym, ap, ◌∙◌}
-use Rattle.journal.specs.Seals.{members_of}
+use Rattle.journal.specs.Journal.Seals.{members_of}
 use Rattle.event_backing.specs.Texts.{named_value}
 use Rattle.event_backing.proofs.SealMembers.{members_of-object}
 use Rattle.event_backing.proofs.seal_texts.seal_texts.Goals as goal

@@ -1,7 +1,7 @@
 use Rattle.std.proofs.Common.{rules, length, sym, ◌∙◌, ap}
 use Rattle.std.specs.Prelude.{flat_map}
 use Rattle.std.proofs.lemmas.List.{length-map}
-use Rattle.journal.specs.Journals.{chosen}
+use Rattle.journal.specs.Journal.Journals.{chosen}
 use Rattle.report_lines.specs.Conflicts.{named_line}
 use Rattle.report_lines.proofs.ConflictLines.{lines_of_sets}
 use Rattle.report_lines.proofs.conflicts.conflict_lines.Goals as goal

@@ -1,6 +1,6 @@
 use Rattle.std.proofs.Common.{◌∷◌, [], ◌++◌, sym, ◌∙◌, ap, arith}
 use Rattle.std.proofs.lemmas.List.{take_all}
-use Rattle.journal.specs.Journals.{chosen}
+use Rattle.journal.specs.Journal.Journals.{chosen}
 use Rattle.report_lines.specs.Report.{saids_of}
 use Rattle.report_lines.proofs.Chosen.{said_more, said_same}
 use Rattle.report_lines.proofs.conflicts.saids_of_numbers.Goals as goal

@@ -1,7 +1,7 @@
 use Rattle.std.proofs.Common.{◌++◌, sym, ◌∙◌, ap, subst, append_assoc, append-nil, string_bytes}
 use Rattle.std.specs.Prelude.{All, flat_map}
 use Rattle.std.proofs.lemmas.List.Elements.{All-head, All-tail}
-use Rattle.validator_core.specs.View.{accepted_by}
+use Rattle.validator_core.specs.ValidatorCore.View.{accepted_by}
 use Rattle.report_lines.specs.Report.{IsListing, log_lines, prefix_cmp, prefixes_of}
 use Rattle.report_lines.proofs.LogLines.{IsOwn, each_own, listed, value_lines}
 use Rattle.report_lines.proofs.log_lines.accepted_lines.Goals as goal

@@ -1,6 +1,6 @@
 use Rattle.std.proofs.Common.{◌≡◌, ◌++◌, string_bytes}
 use Rattle.std.specs.Prelude.{All, flat_map}
-use Rattle.validator_core.specs.View.{accepted_by}
+use Rattle.validator_core.specs.ValidatorCore.View.{accepted_by}
 use Rattle.report_lines.proofs.LogLines.{IsOwn, value_lines}
 use Rattle.report_lines.proofs.log_lines.accepted_lines.Given as goal
 

@@ -1,6 +1,6 @@
 use Rattle.std.proofs.Common.{◌++◌, sym, ◌∙◌, ap, arith, string_bytes}
 use Rattle.std.proofs.lemmas.List.{take_all}
-use Rattle.journal.specs.Journals.{chosen}
+use Rattle.journal.specs.Journal.Journals.{chosen}
 use Rattle.report_lines.specs.Lines.{accepted_text}
 use Rattle.report_lines.specs.Report.{events_lines}
 use Rattle.report_lines.proofs.Chosen.{line_more, line_same}

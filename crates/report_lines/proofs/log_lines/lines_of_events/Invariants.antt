@@ -1,6 +1,6 @@
 use Rattle.std.proofs.Common.{◌≡◌, List, take, string_bytes}
-use Rattle.journal.specs.declared.body.Body.{Body}
-use Rattle.journal.specs.Journals.{chosen}
+use Rattle.journal.specs.declared.journal.body.Body.{Body}
+use Rattle.journal.specs.Journal.Journals.{chosen}
 use Rattle.report_lines.specs.Logs.{Marks}
 use Rattle.report_lines.specs.Report.{events_lines}
 use Rattle.report_lines.proofs.log_lines.lines_of_events.Given as goal

@@ -1,8 +1,8 @@
 use Rattle.std.proofs.Common.{◌<◌, length, sym, ◌∙◌, ap, subst}
 use Rattle.std.specs.Prelude.{All}
 use Rattle.std.proofs.lemmas.List.{length-map}
-use Rattle.journal.specs.Logs.{live}
-use Rattle.validator_core.specs.View.{accepted_by}
+use Rattle.journal.specs.Journal.Logs.{live}
+use Rattle.validator_core.specs.ValidatorCore.View.{accepted_by}
 use Rattle.report_lines.proofs.LiveNumbers.{live-own, marked}
 use Rattle.report_lines.proofs.log_lines.live_numbers.Goals as goal
 

@@ -1,8 +1,8 @@
 use Rattle.std.proofs.Common.{sym, ◌∙◌, ap, subst, get_or, take, arith}
 use Rattle.std.specs.Prelude.{slice_get}
 use Rattle.std.proofs.lemmas.List.{take_all}
-use Rattle.event_body.specs.Events.{prefix_of}
-use Rattle.journal.specs.Journals.{chosen}
+use Rattle.event_body.specs.EventBody.Events.{prefix_of}
+use Rattle.journal.specs.Journal.Journals.{chosen}
 use Rattle.report_lines.specs.Logs.{AreLogs}
 use Rattle.report_lines.proofs.Chosen.{with_event, with_none, with_one, without_event}
 use Rattle.report_lines.proofs.LogGrowth.{no_logs}

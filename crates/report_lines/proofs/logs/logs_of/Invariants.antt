@@ -1,5 +1,5 @@
 use Rattle.std.proofs.Common.{take}
-use Rattle.journal.specs.Journals.{chosen}
+use Rattle.journal.specs.Journal.Journals.{chosen}
 use Rattle.report_lines.specs.Logs.{AreLogs}
 use Rattle.report_lines.proofs.logs.logs_of.Given as goal
 

@@ -1,6 +1,6 @@
 use Rattle.std.proofs.Common.{◌≡◌, [], ap, refl}
-use Rattle.journal.specs.Journals.{told_by}
-use Rattle.validator_core.specs.View.{CoreView, told_of}
+use Rattle.journal.specs.Journal.Journals.{told_by}
+use Rattle.validator_core.specs.ValidatorCore.View.{CoreView, told_of}
 use Rattle.rows_core.proofs.hubs.untold.Goals as goal
 
 -- a core without entries was told nothing

@@ -2,7 +2,7 @@ use Rattle.std.proofs.Common.{◌≡◌, ◌≢◌, ◌∙◌, ℕ, ◌<◌, ◌
 use Rattle.std.specs.List.{list_all}
 use Rattle.std.specs.Result.{OkIff, result_ok}
 use Rattle.std.proofs.lemmas.Bool.{false≢true}
-use Rattle.keri_specs.specs.Hex.{is_hex, hex_value}
+use Rattle.lists.specs.KeriSpecs.Hex.{is_hex, hex_value}
 use Rattle.verifier_link.specs.Questions.{length_text}
 use Rattle.verifier_link.proofs.Lengths.{length_text-value, all_hex-length_text, value-length_text}
 use Rattle.verifier_link.proofs.length_digits.read_length.Goals as goal

@@ -1,7 +1,7 @@
 use Rattle.std.proofs.Common.{◌++◌, length, append_assoc, subst}
-use Rattle.keri_specs.specs.Told.{Puts}
+use Rattle.lists.specs.KeriSpecs.Told.{Puts}
 use Rattle.verifier_link.specs.Questions.{length_text, wanted_text}
-use Rattle.keri_specs.proofs.Putting.{front_stands, puts-behind}
+use Rattle.lists.proofs.KeriSpecsLemmas.Putting.{front_stands, puts-behind}
 use Rattle.verifier_link.proofs.question.put_question.Goals as goal
 
 pub returns-in_err-put_head-clause-written : goal.returns-in_err-put_head-clause-written

@@ -2,7 +2,7 @@ use Rattle.std.proofs.Common.{get_or, take, sym, subst}
 use Rattle.std.specs.List.{cons_option}
 use Rattle.std.specs.Prelude.{[], slice_get}
 use Rattle.std.proofs.lemmas.List.{take_all}
-use Rattle.journal.specs.Journals.{chosen}
+use Rattle.journal.specs.Journal.Journals.{chosen}
 use Rattle.watcher_core.specs.Named.{PutsBodies}
 use Rattle.watcher_core.proofs.Texts.{chosen_more, puts_at, puts_more, puts_none}
 use Rattle.watcher_core.proofs.bodies.put_bodies.Goals as goal

@@ -1,5 +1,5 @@
 use Rattle.std.proofs.Common.{take}
-use Rattle.journal.specs.Journals.{chosen}
+use Rattle.journal.specs.Journal.Journals.{chosen}
 use Rattle.watcher_core.specs.Named.{PutsBodies}
 use Rattle.watcher_core.proofs.bodies.put_bodies.Given as goal
 

@@ -1,7 +1,7 @@
 use Rattle.std.proofs.Common.{◌∙◌, ap}
 use Rattle.std.specs.Prelude.{Err, Ok, OnOk, Result, ◌++◌, flat_map}
 use Rattle.cesr_stream.specs.Written.{item_text}
-use Rattle.journal.specs.Replies.{same_indexed}
+use Rattle.journal.specs.Journal.Replies.{same_indexed}
 use Rattle.key_state.specs.Same.{distinct}
 use Rattle.watcher_core.specs.Evidence.{items_with}
 use Rattle.watcher_core.proofs.Texts.{puts_body}

@@ -1,9 +1,9 @@
 use Rattle.std.proofs.Common.{List, take, sym, subst}
 use Rattle.std.specs.Prelude.{flat_map}
 use Rattle.std.proofs.lemmas.List.{take_all}
-use Rattle.journal.specs.Journals.{chosen}
-use Rattle.journal.specs.declared.body.Body.{Body}
-use Rattle.journal.specs.declared.conflict.Conflict.{Conflict}
+use Rattle.journal.specs.Journal.Journals.{chosen}
+use Rattle.journal.specs.declared.journal.body.Body.{Body}
+use Rattle.journal.specs.declared.journal.conflict.Conflict.{Conflict}
 use Rattle.watcher_core.specs.Named.{PutsBodies}
 use Rattle.watcher_core.proofs.Texts.{flat_map-more, puts_more, puts_none}
 use Rattle.watcher_core.proofs.bodies.put_sets.Goals as goal

@@ -1,6 +1,6 @@
 use Rattle.std.proofs.Common.{take}
 use Rattle.std.specs.Prelude.{flat_map}
-use Rattle.journal.specs.Journals.{chosen}
+use Rattle.journal.specs.Journal.Journals.{chosen}
 use Rattle.watcher_core.specs.Named.{PutsBodies}
 use Rattle.watcher_core.proofs.bodies.put_sets.Given as goal
 

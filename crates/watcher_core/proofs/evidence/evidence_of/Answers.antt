@@ -3,7 +3,7 @@ use Rattle.std.specs.Prelude.{flat_map}
 use Rattle.std.proofs.lemmas.List.{length-map}
 use Rattle.cesr_stream.specs.Items.{Items}
 use Rattle.cesr_stream.specs.Parts.{unfinished}
-use Rattle.journal.specs.Journals.{chosen}
+use Rattle.journal.specs.Journal.Journals.{chosen}
 use Rattle.watcher_core.specs.Evidence.{items_of_sets, placed_from}
 use Rattle.watcher_core.specs.Named.{text_on}
 use Rattle.watcher_core.proofs.Counted.{puts_sets, sets_read, text_of_sets}

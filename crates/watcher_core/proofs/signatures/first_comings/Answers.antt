@@ -5,10 +5,10 @@ use Rattle.std.specs.List.{list_any}
 use Rattle.std.proofs.lemmas.List.{take_more}
 use Rattle.std.proofs.lemmas.List.Elements.{All-nil, All-push}
 use Rattle.cesr_codes.specs.Indexed.{IsIndexed}
-use Rattle.journal.specs.Replies.{same_indexed}
-use Rattle.journal.proofs.Distinct.{distinct-push_new, distinct-push_old}
+use Rattle.journal.specs.Journal.Replies.{same_indexed}
+use Rattle.journal.proofs.JournalLemmas.Distinct.{distinct-push_new, distinct-push_old}
 use Rattle.key_state.specs.Same.{distinct}
-use Rattle.event_payload.proofs.Adding.{seen_more}
+use Rattle.journal_views.proofs.EventPayloadLemmas.Adding.{seen_more}
 use Rattle.watcher_core.proofs.Orders.{at_is, sig_cmp}
 use Rattle.watcher_core.proofs.signatures.first_comings.Goals as goal
 use Rattle.watcher_core.proofs.signatures.first_comings.Goals.{then-branch+in_ok-push, else-branch}

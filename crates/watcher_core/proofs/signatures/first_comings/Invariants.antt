@@ -4,7 +4,7 @@ use Rattle.std.specs.BTreeSet.{contains}
 use Rattle.std.specs.Prelude.{All}
 use Rattle.cesr_codes.specs.Indexed.{IsIndexed}
 use Rattle.cesr_codes.specs.declared.indexed_sig.IndexedSig.{IndexedSig}
-use Rattle.journal.specs.Replies.{same_indexed}
+use Rattle.journal.specs.Journal.Replies.{same_indexed}
 use Rattle.key_state.specs.Same.{distinct}
 use Rattle.watcher_core.proofs.Orders.{sig_cmp}
 use Rattle.watcher_core.proofs.signatures.first_comings.Given as goal

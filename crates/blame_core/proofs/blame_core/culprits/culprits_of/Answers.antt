@@ -4,13 +4,13 @@ use Rattle.std.proofs.lemmas.List.{take_more}
 use Rattle.cesr_codes.specs.declared.key.Key.{Key}
 use Rattle.cesr_codes.specs.declared.key.KeyCode.TheVariants.{Fixed}
 use Rattle.key_state.specs.Same.{distinct}
-use Rattle.blame_core.specs.Culprits.{HasKeys, culprit_of}
-use Rattle.blame_core.specs.FirstSignatures.{key_cmp}
-use Rattle.blame_core.specs.Signatures.{signature_by}
-use Rattle.blame_core.proofs.BothSigned.{new_member, old_member}
-use Rattle.blame_core.proofs.KeyPlaces.{set_more}
-use Rattle.blame_core.proofs.culprits.culprits_of.Goals as goal
-use Rattle.blame_core.proofs.culprits.culprits_of.Goals.{then-branch+in_ok-add_culprit, else-branch}
+use Rattle.blame_core.specs.BlameCore.Culprits.{HasKeys, culprit_of}
+use Rattle.blame_core.specs.BlameCore.FirstSignatures.{key_cmp}
+use Rattle.blame_core.specs.BlameCore.Signatures.{signature_by}
+use Rattle.blame_core.proofs.BlameCoreLemmas.BothSigned.{new_member, old_member}
+use Rattle.blame_core.proofs.BlameCoreLemmas.KeyPlaces.{set_more}
+use Rattle.blame_core.proofs.blame_core.culprits.culprits_of.Goals as goal
+use Rattle.blame_core.proofs.blame_core.culprits.culprits_of.Goals.{then-branch+in_ok-add_culprit, else-branch}
 
 not_true : (b : Bool) → not b ≡ true → b ≡ false
 not_true true h = cc

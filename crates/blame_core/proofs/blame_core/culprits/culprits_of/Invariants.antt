@@ -1,9 +1,9 @@
 use Rattle.std.proofs.Common.{◌≡◌, take}
 use Rattle.std.specs.Prelude.{filter_map}
 use Rattle.key_state.specs.Same.{distinct, same_key}
-use Rattle.blame_core.specs.Culprits.{HasKeys, culprit_of}
-use Rattle.blame_core.specs.Signatures.{signature_by}
-use Rattle.blame_core.proofs.culprits.culprits_of.Given as goal
+use Rattle.blame_core.specs.BlameCore.Culprits.{HasKeys, culprit_of}
+use Rattle.blame_core.specs.BlameCore.Signatures.{signature_by}
+use Rattle.blame_core.proofs.blame_core.culprits.culprits_of.Given as goal
 
 -- the culprits among the members so far, each at its first coming, and which these members are
 abbrev pub invariant-loop-key : goal.invariant-loop-key

@@ -2,9 +2,9 @@ use Rattle.std.proofs.Common.{[], get_or, take, sym, subst}
 use Rattle.std.proofs.lemmas.List.{take_more}
 use Rattle.cesr_codes.specs.declared.key.Key.{Key}
 use Rattle.cesr_codes.specs.declared.key.KeyCode.TheVariants.{Fixed}
-use Rattle.blame_core.specs.Culprits.{HasKeys}
-use Rattle.blame_core.proofs.KeyPlaces.{set_more}
-use Rattle.blame_core.proofs.culprits.set_of.Goals as goal
+use Rattle.blame_core.specs.BlameCore.Culprits.{HasKeys}
+use Rattle.blame_core.proofs.BlameCoreLemmas.KeyPlaces.{set_more}
+use Rattle.blame_core.proofs.blame_core.culprits.set_of.Goals as goal
 
 pub loop-key-preserved : goal.loop-key-preserved
 loop-key-preserved c =

@@ -3,13 +3,13 @@ use Rattle.std.specs.BTreeMap.{is_at}
 use Rattle.std.specs.Cmp.Lexicographic.{slice_cmp}
 use Rattle.std.specs.Map.{lookup}
 use Rattle.std.specs.Ordering.{nat_cmp}
-use Rattle.event_body.specs.Events.{is_establishment}
-use Rattle.journal.specs.declared.body.Body.{Body}
-use Rattle.blame_core.specs.Establishments.{IsFollowedBy, IsWalked, event_at, place_cmp}
-use Rattle.blame_core.specs.OwnLists.{list_after, list_of}
-use Rattle.blame_core.specs.declared.establishments.Establishment.{Establishment}
-use Rattle.blame_core.proofs.Walks.{walk_on, walk_past}
-use Rattle.blame_core.proofs.establishments.add_event.Goals as goal
+use Rattle.event_body.specs.EventBody.Events.{is_establishment}
+use Rattle.journal.specs.declared.journal.body.Body.{Body}
+use Rattle.blame_core.specs.BlameCore.Establishments.{IsFollowedBy, IsWalked, event_at, place_cmp}
+use Rattle.blame_core.specs.BlameCore.OwnLists.{list_after, list_of}
+use Rattle.blame_core.specs.declared.blame_core.establishments.Establishment.{Establishment}
+use Rattle.blame_core.proofs.BlameCoreLemmas.Walks.{walk_on, walk_past}
+use Rattle.blame_core.proofs.blame_core.establishments.add_event.Goals as goal
 
 pub returns-then-not-is_establishment : goal.returns-then-not-is_establishment
 returns-then-not-is_establishment c = λ held log seen b at of next walked.

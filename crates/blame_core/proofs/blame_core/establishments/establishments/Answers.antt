@@ -1,13 +1,13 @@
 use Rattle.std.proofs.Common.{◌∙◌, ap, subst, get_or, take}
 use Rattle.std.specs.Prelude.{slice_get}
 use Rattle.std.proofs.lemmas.List.{take_all}
-use Rattle.validator_core.specs.View.{accepted_by}
-use Rattle.journal.specs.Journals.{chosen}
-use Rattle.blame_core.specs.Establishments.{ArePlaced}
-use Rattle.blame_core.proofs.Chosen.{followed, with_event, with_none, with_one, without_event}
-use Rattle.blame_core.proofs.Walks.{walk_none}
-use Rattle.blame_core.proofs.establishments.establishments.Goals as goal
-use Rattle.blame_core.proofs.establishments.establishments.Goals.{in-Some+in_ok-add_event, in_default}
+use Rattle.validator_core.specs.ValidatorCore.View.{accepted_by}
+use Rattle.journal.specs.Journal.Journals.{chosen}
+use Rattle.blame_core.specs.BlameCore.Establishments.{ArePlaced}
+use Rattle.blame_core.proofs.BlameCoreLemmas.Chosen.{followed, with_event, with_none, with_one, without_event}
+use Rattle.blame_core.proofs.BlameCoreLemmas.Walks.{walk_none}
+use Rattle.blame_core.proofs.blame_core.establishments.establishments.Goals as goal
+use Rattle.blame_core.proofs.blame_core.establishments.establishments.Goals.{in-Some+in_ok-add_event, in_default}
 
 pub loop-number-init : goal.loop-number-init
 unfolding chosen

@@ -1,8 +1,8 @@
 use Rattle.std.proofs.Common.{take}
-use Rattle.journal.specs.Journals.{chosen}
-use Rattle.validator_core.specs.View.{accepted_by}
-use Rattle.blame_core.specs.Establishments.{IsWalked}
-use Rattle.blame_core.proofs.establishments.establishments.Given as goal
+use Rattle.journal.specs.Journal.Journals.{chosen}
+use Rattle.validator_core.specs.ValidatorCore.View.{accepted_by}
+use Rattle.blame_core.specs.BlameCore.Establishments.{IsWalked}
+use Rattle.blame_core.proofs.blame_core.establishments.establishments.Given as goal
 
 -- the events so far are walked over
 abbrev pub invariant-loop-number : goal.invariant-loop-number

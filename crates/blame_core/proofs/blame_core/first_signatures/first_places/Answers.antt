@@ -3,11 +3,11 @@ use Rattle.std.specs.Prelude.{position}
 use Rattle.std.specs.List.{list_any}
 use Rattle.std.proofs.lemmas.List.{take_more}
 use Rattle.cesr_codes.specs.declared.key.KeyCode.TheVariants.{Fixed}
-use Rattle.blame_core.specs.FirstSignatures.{is_signed}
-use Rattle.blame_core.specs.declared.signed.Signed.{Signed}
-use Rattle.blame_core.proofs.FirstPlaces.{position_never}
-use Rattle.blame_core.proofs.KeyPlaces.{key_more}
-use Rattle.blame_core.proofs.first_signatures.first_places.Goals as goal
+use Rattle.blame_core.specs.BlameCore.FirstSignatures.{is_signed}
+use Rattle.blame_core.specs.declared.blame_core.signed.Signed.{Signed}
+use Rattle.blame_core.proofs.BlameCoreLemmas.FirstPlaces.{position_never}
+use Rattle.blame_core.proofs.BlameCoreLemmas.KeyPlaces.{key_more}
+use Rattle.blame_core.proofs.blame_core.first_signatures.first_places.Goals as goal
 
 pub loop-signed-init : goal.loop-signed-init
 loop-signed-init c = λ key. rw c.new-firsts.ensures.empty (sym (position_never c.args.came.now))

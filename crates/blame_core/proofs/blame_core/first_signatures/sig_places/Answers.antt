@@ -2,8 +2,8 @@ use Rattle.std.proofs.Common.{take, sym, ◌∙◌, ap, arith}
 use Rattle.std.specs.Prelude.{position}
 use Rattle.std.proofs.lemmas.List.{length-take-le, take_more}
 use Rattle.key_state.specs.Same.{same_sig}
-use Rattle.blame_core.proofs.KeyPlaces.{sig_more}
-use Rattle.blame_core.proofs.first_signatures.sig_places.Goals as goal
+use Rattle.blame_core.proofs.BlameCoreLemmas.KeyPlaces.{sig_more}
+use Rattle.blame_core.proofs.blame_core.first_signatures.sig_places.Goals as goal
 
 pub loop-place-preserved : goal.loop-place-preserved
 loop-place-preserved c = λ s.

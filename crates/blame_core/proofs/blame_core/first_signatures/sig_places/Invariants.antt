@@ -3,8 +3,8 @@ use Rattle.std.specs.Prelude.{position}
 use Rattle.std.specs.BTreeMap.{get}
 use Rattle.cesr_codes.specs.declared.sig.Sig.{Sig}
 use Rattle.key_state.specs.Same.{same_sig}
-use Rattle.blame_core.specs.FirstSignatures.{sig_cmp}
-use Rattle.blame_core.proofs.first_signatures.sig_places.Given as goal
+use Rattle.blame_core.specs.BlameCore.FirstSignatures.{sig_cmp}
+use Rattle.blame_core.proofs.blame_core.first_signatures.sig_places.Given as goal
 
 -- those that came so far have their places
 abbrev pub invariant-loop-place : goal.invariant-loop-place

@@ -1,7 +1,7 @@
 use Rattle.std.proofs.Common.{◌≡◌, take}
 use Rattle.std.specs.Prelude.{flat_map, string_bytes}
-use Rattle.blame_core.specs.Lines.{culprit_text}
-use Rattle.blame_core.proofs.lines.culprit_lines.Given as goal
+use Rattle.blame_core.specs.BlameCore.Lines.{culprit_text}
+use Rattle.blame_core.proofs.blame_core.lines.culprit_lines.Given as goal
 
 -- the text has the lines of the culprits so far
 abbrev pub invariant-loop-culprit : goal.invariant-loop-culprit

@@ -1,10 +1,10 @@
 use Rattle.std.proofs.Common.{◌+◌, get_or, sym, ◌∙◌, ap, subst}
 use Rattle.std.proofs.lemmas.Option.{get_or_from_slice_get}
-use Rattle.event_index.specs.Keys.{numbers_at}
-use Rattle.blame_core.specs.NamedEntries.{AreNamed, name_cmp}
-use Rattle.blame_core.proofs.EntryNames.{named_next, named_past}
-use Rattle.blame_core.proofs.named_entries.named_entries.Goals as goal
-use Rattle.blame_core.proofs.named_entries.named_entries.Goals.{in-Some+in_ok-length_u32+in_ok-add, in_default}
+use Rattle.escrow.specs.EventIndex.Keys.{numbers_at}
+use Rattle.blame_core.specs.BlameCore.NamedEntries.{AreNamed, name_cmp}
+use Rattle.blame_core.proofs.BlameCoreLemmas.EntryNames.{named_next, named_past}
+use Rattle.blame_core.proofs.blame_core.named_entries.named_entries.Goals as goal
+use Rattle.blame_core.proofs.blame_core.named_entries.named_entries.Goals.{in-Some+in_ok-length_u32+in_ok-add, in_default}
 
 pub loop-i-preserved : goal.loop-i-preserved
 loop-i-preserved c =

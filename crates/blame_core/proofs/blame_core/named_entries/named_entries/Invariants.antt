@@ -1,6 +1,6 @@
-use Rattle.event_index.specs.Keys.{numbers_at}
-use Rattle.blame_core.specs.NamedEntries.{AreNamed, name_cmp}
-use Rattle.blame_core.proofs.named_entries.named_entries.Given as goal
+use Rattle.escrow.specs.EventIndex.Keys.{numbers_at}
+use Rattle.blame_core.specs.BlameCore.NamedEntries.{AreNamed, name_cmp}
+use Rattle.blame_core.proofs.blame_core.named_entries.named_entries.Given as goal
 
 -- the entries so far are named
 abbrev pub invariant-loop-i : goal.invariant-loop-i

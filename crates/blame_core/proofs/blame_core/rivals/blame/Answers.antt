@@ -1,11 +1,11 @@
 use Rattle.std.proofs.Common.{Option, refl, sym, ◌∙◌, subst}
-use Rattle.blame_core.specs.Blames.{AreBlames}
-use Rattle.blame_core.specs.Rivals.{Judges}
-use Rattle.blame_core.specs.declared.establishments.Establishment.{Establishment}
-use Rattle.blame_core.specs.declared.blames.Blame.{Blame}
-use Rattle.blame_core.proofs.Judged.{AllJudged, AreWalked, begun, ended, further}
-use Rattle.blame_core.proofs.Pairs.{blames_are, whole_core}
-use Rattle.blame_core.proofs.rivals.blame.Goals as goal
+use Rattle.blame_core.specs.BlameCore.Blames.{AreBlames}
+use Rattle.blame_core.specs.BlameCore.Rivals.{Judges}
+use Rattle.blame_core.specs.declared.blame_core.establishments.Establishment.{Establishment}
+use Rattle.blame_core.specs.declared.blame_core.blames.Blame.{Blame}
+use Rattle.blame_core.proofs.BlameCoreLemmas.Judged.{AllJudged, AreWalked, begun, ended, further}
+use Rattle.blame_core.proofs.BlameCoreLemmas.Pairs.{blames_are, whole_core}
+use Rattle.blame_core.proofs.blame_core.rivals.blame.Goals as goal
 
 pub loop-one-init : goal.loop-one-init
 loop-one-init c = begun (λ v o. Judges c.args.first.now c.args.second.now v c.in_ok-others.others.entries o) c.into_iter-one-iterator.result

@@ -1,6 +1,6 @@
-use Rattle.blame_core.specs.Rivals.{Judges}
-use Rattle.blame_core.proofs.Judged.{AreWalked}
-use Rattle.blame_core.proofs.rivals.blame.Given as goal
+use Rattle.blame_core.specs.BlameCore.Rivals.{Judges}
+use Rattle.blame_core.proofs.BlameCoreLemmas.Judged.{AreWalked}
+use Rattle.blame_core.proofs.blame_core.rivals.blame.Given as goal
 
 -- the events so far are judged, and the pairs among them given
 abbrev pub invariant-loop-one : goal.invariant-loop-one

@@ -1,11 +1,11 @@
 use Rattle.std.proofs.Common.{refl, sym, ◌∙◌, ap}
 use Rattle.std.specs.Prelude.{filter_map, slice_get}
 use Rattle.std.specs.Cmp.Lexicographic.{bytes_decides}
-use Rattle.event_body.specs.Events.{prefix_of, sn_of}
+use Rattle.event_body.specs.EventBody.Events.{prefix_of, sn_of}
 use Rattle.key_state.specs.Same.{distinct, same_key}
-use Rattle.blame_core.specs.Culprits.{culprit_of}
-use Rattle.blame_core.proofs.Chosen.{bytes_are, event_is}
-use Rattle.blame_core.proofs.rivals.compare.Goals as goal
+use Rattle.blame_core.specs.BlameCore.Culprits.{culprit_of}
+use Rattle.blame_core.proofs.BlameCoreLemmas.Chosen.{bytes_are, event_is}
+use Rattle.blame_core.proofs.blame_core.rivals.compare.Goals as goal
 
 pub returns : goal.returns
 returns c = λ b d at there.

@@ -1,7 +1,7 @@
 use Rattle.std.proofs.Common.{sym}
 use Rattle.std.proofs.lemmas.Result.{IfOk-weaker}
-use Rattle.blame_core.specs.Rivals.{Answers, Judges, beside}
-use Rattle.blame_core.proofs.rivals.judge.Goals as goal
+use Rattle.blame_core.specs.BlameCore.Rivals.{Answers, Judges, beside}
+use Rattle.blame_core.proofs.blame_core.rivals.judge.Goals as goal
 
 pub returns-in-Some : goal.returns-in-Some
 returns-in-Some c =

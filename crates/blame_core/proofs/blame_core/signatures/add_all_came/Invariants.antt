@@ -1,8 +1,8 @@
 use Rattle.std.proofs.Common.{◌≡◌, ◌++◌, take}
 use Rattle.std.specs.Prelude.{flat_map, slice_get}
-use Rattle.core_tables.specs.View.{body_of}
-use Rattle.blame_core.specs.Signatures.{came_at}
-use Rattle.blame_core.proofs.signatures.add_all_came.Given as goal
+use Rattle.core_tables.specs.CoreTables.View.{body_of}
+use Rattle.blame_core.specs.BlameCore.Signatures.{came_at}
+use Rattle.blame_core.proofs.blame_core.signatures.add_all_came.Given as goal
 
 -- the signatures of the entries so far are added
 abbrev pub invariant-loop-number : goal.invariant-loop-number

@@ -1,7 +1,7 @@
 use Rattle.std.proofs.Common.{◌≡◌, ◌++◌, take}
 use Rattle.std.specs.Prelude.{flat_map, slice_get}
-use Rattle.blame_core.specs.Signatures.{good_at}
-use Rattle.blame_core.proofs.signatures.add_all_good.Given as goal
+use Rattle.blame_core.specs.BlameCore.Signatures.{good_at}
+use Rattle.blame_core.proofs.blame_core.signatures.add_all_good.Given as goal
 
 -- the signatures of the entries so far are added
 abbrev pub invariant-loop-number : goal.invariant-loop-number

@@ -1,7 +1,7 @@
 use Rattle.std.proofs.Common.{sym, ◌∙◌}
-use Rattle.core_tables.specs.View.{body_of}
-use Rattle.blame_core.proofs.EntrySignatures.{none_came}
-use Rattle.blame_core.proofs.signatures.add_came.Goals as goal
+use Rattle.core_tables.specs.CoreTables.View.{body_of}
+use Rattle.blame_core.proofs.BlameCoreLemmas.EntrySignatures.{none_came}
+use Rattle.blame_core.proofs.blame_core.signatures.add_came.Goals as goal
 
 pub returns-else-stands_on : goal.returns-else-stands_on
 returns-else-stands_on c =

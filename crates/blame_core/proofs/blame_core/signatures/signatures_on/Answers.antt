@@ -3,21 +3,21 @@ use Rattle.std.specs.Prelude.{flat_map, position, slice_get}
 use Rattle.std.specs.BTreeMap.{get}
 use Rattle.std.specs.List.{list_any}
 use Rattle.std.specs.List.Sorted.{IsStrictlyIncreasing}
-use Rattle.core_tables.specs.Names.{name_of}
-use Rattle.core_tables.specs.View.{body_of}
-use Rattle.event_index.specs.Keys.{numbers_at}
+use Rattle.core_tables.specs.CoreTables.Names.{name_of}
+use Rattle.core_tables.specs.CoreTables.View.{body_of}
+use Rattle.escrow.specs.EventIndex.Keys.{numbers_at}
 use Rattle.cesr_codes.specs.declared.key.Key.{Key}
 use Rattle.cesr_codes.specs.declared.sig.Sig.{Sig}
-use Rattle.journal.specs.History.{said_yes}
-use Rattle.blame_laws.specs.Signatures.{triple_on}
-use Rattle.validator_core.specs.View.{told_of}
-use Rattle.blame_core.specs.NamedEntries.{name_cmp}
-use Rattle.blame_core.specs.FirstSignatures.{is_signed, key_cmp}
-use Rattle.blame_core.specs.Signatures.{AreSignatures, came_at, good_at}
-use Rattle.blame_core.proofs.Chosen.{is_body_of}
-use Rattle.blame_core.proofs.EntryNames.{came_named, good_named, held_differ}
-use Rattle.blame_core.proofs.EntrySignatures.{signature_same}
-use Rattle.blame_core.proofs.signatures.signatures_on.Goals as goal
+use Rattle.journal.specs.Journal.History.{said_yes}
+use Rattle.blame_core.specs.BlameLaws.Signatures.{triple_on}
+use Rattle.validator_core.specs.ValidatorCore.View.{told_of}
+use Rattle.blame_core.specs.BlameCore.NamedEntries.{name_cmp}
+use Rattle.blame_core.specs.BlameCore.FirstSignatures.{is_signed, key_cmp}
+use Rattle.blame_core.specs.BlameCore.Signatures.{AreSignatures, came_at, good_at}
+use Rattle.blame_core.proofs.BlameCoreLemmas.Chosen.{is_body_of}
+use Rattle.blame_core.proofs.BlameCoreLemmas.EntryNames.{came_named, good_named, held_differ}
+use Rattle.blame_core.proofs.BlameCoreLemmas.EntrySignatures.{signature_same}
+use Rattle.blame_core.proofs.blame_core.signatures.signatures_on.Goals as goal
 
 pub returns : goal.returns
 returns c = λ b at.

@@ -1,5 +1,5 @@
 use Rattle.std.proofs.Common.{length, subst}
-use Rattle.keri_specs.specs.Told.{Puts}
+use Rattle.lists.specs.KeriSpecs.Told.{Puts}
 use Rattle.cesr_codes.specs.Indexed.{indexed_text}
 use Rattle.cesr_stream.specs.Texts.{couple_text, seen_text, anchor_text}
 use Rattle.cesr_binary.proofs.Characters.{turnable_indexed, turnable_couple, turnable_seen, turnable_anchor}

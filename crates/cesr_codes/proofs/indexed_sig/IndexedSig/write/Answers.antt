@@ -1,5 +1,5 @@
 use Rattle.std.proofs.Common.{◌≡◌, ◌-◌, ◌++◌, length, ap, ◌∙◌, arith}
-use Rattle.keri_specs.specs.Base64.{base64_text, whole_number}
+use Rattle.lists.specs.KeriSpecs.Base64.{base64_text, whole_number}
 use Rattle.cesr_codes.proofs.Indexed.{written_big}
 use Rattle.cesr_codes.proofs.indexed_sig.IndexedSig.write.Goals as goal
 

@@ -1,6 +1,6 @@
 use Rattle.std.proofs.Common.{◌≡◌, ◌-◌, ◌^◌, ◌<◌, ◌∷◌, length, ap, ◌∙◌, arith}
 use Rattle.std.proofs.Math.Nat.{mod-eq_of_lt}
-use Rattle.keri_specs.specs.Base64.{base64_text, whole_number}
+use Rattle.lists.specs.KeriSpecs.Base64.{base64_text, whole_number}
 use Rattle.cesr_codes.proofs.Figures.{number-high}
 use Rattle.cesr_codes.proofs.number.Number.write.Goals as goal
 

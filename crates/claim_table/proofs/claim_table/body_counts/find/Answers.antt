@@ -1,7 +1,7 @@
 use Rattle.std.proofs.Common.{Some, sym, ◌∙◌, ap}
 use Rattle.std.proofs.lemmas.Option.{get_or_from_slice_get}
-use Rattle.claim_table.proofs.Entries.{absent}
-use Rattle.claim_table.proofs.body_counts.find.Goals as goal
+use Rattle.claim_table.proofs.ClaimTableLemmas.Entries.{absent}
+use Rattle.claim_table.proofs.claim_table.body_counts.find.Goals as goal
 
 pub returns-in-Ok-clause-found : goal.returns-in-Ok-clause-found
 returns-in-Ok-clause-found c =

@@ -1,7 +1,7 @@
 use Rattle.std.proofs.Common.{rules}
 use Rattle.std.proofs.lemmas.List.Sorted.{answers_always}
-use Rattle.claim_table.proofs.Entries.{searched}
-use Rattle.claim_table.proofs.body_counts.place_of.Goals as goal
+use Rattle.claim_table.proofs.ClaimTableLemmas.Entries.{searched}
+use Rattle.claim_table.proofs.claim_table.body_counts.place_of.Goals as goal
 
 -- the closure gives an entry's part
 pub returns : goal.returns

@@ -1,8 +1,8 @@
 use Rattle.std.proofs.Common.{◌≡◌, arith, ◌∙◌, ap}
-use Rattle.claim_table.specs.Entries.{backs, bit}
-use Rattle.claim_table.proofs.Entries.{backers_set, read_is, sorted_set}
-use Rattle.claim_table.proofs.body_counts.set_count.Goals as goal
-use Rattle.claim_table.proofs.body_counts.set_count.Goals.{After-backer_of}
+use Rattle.claim_table.specs.ClaimTable.Entries.{backs, bit}
+use Rattle.claim_table.proofs.ClaimTableLemmas.Entries.{backers_set, read_is, sorted_set}
+use Rattle.claim_table.proofs.claim_table.body_counts.set_count.Goals as goal
+use Rattle.claim_table.proofs.claim_table.body_counts.set_count.Goals.{After-backer_of}
 
 -- the old entry
 was : (c : After-backer_of) → c.backer_of-old.result ≡ bit (backs (c.args.entry.0, c.requires.at.0))

@@ -1,10 +1,10 @@
 use Rattle.std.proofs.Common.{◌≡◌, ◌≤◌, true, false, length, refl, sym, ap, subst}
 use Rattle.std.specs.Prelude.{Contains, IfOk}
 use Rattle.std.proofs.lemmas.Option.{slice_get_read}
-use Rattle.event_index.specs.Keys.{numbers_in}
-use Rattle.claim_table.proofs.Hinted.{few_changed}
-use Rattle.claim_table.proofs.Places.{set_here}
-use Rattle.claim_table.proofs.body_numbers.add_few.Goals as goal
+use Rattle.escrow.specs.EventIndex.Keys.{numbers_in}
+use Rattle.claim_table.proofs.ClaimTableLemmas.Hinted.{few_changed}
+use Rattle.claim_table.proofs.ClaimTableLemmas.Places.{set_here}
+use Rattle.claim_table.proofs.claim_table.body_numbers.add_few.Goals as goal
 
 pub returns-clause-added : goal.returns-clause-added
 returns-clause-added c =

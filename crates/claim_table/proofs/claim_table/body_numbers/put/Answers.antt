@@ -1,6 +1,6 @@
 use Rattle.std.proofs.Common.{refl, sym, subst, inl, inr}
 use Rattle.std.specs.Prelude.{Contains}
-use Rattle.claim_table.proofs.body_numbers.put.Goals as goal
+use Rattle.claim_table.proofs.claim_table.body_numbers.put.Goals as goal
 
 pub returns-clause-added : goal.returns-clause-added
 returns-clause-added c = λ is. (c.insert.ensures c.args.number).1 (inl refl)

@@ -1,6 +1,6 @@
 use Rattle.std.proofs.Common.{◌≡◌, ◌≤◌, ℕ, length}
-use Rattle.claim_table.specs.Hinted.{few_in}
-use Rattle.claim_table.proofs.body_numbers.reach.Given as goal
+use Rattle.claim_table.specs.ClaimTable.Hinted.{few_in}
+use Rattle.claim_table.proofs.claim_table.body_numbers.reach.Given as goal
 
 -- the bodies so far have a place, and the numbers are those that there were
 abbrev pub invariant-loop-place : goal.invariant-loop-place

@@ -1,7 +1,7 @@
 use Rattle.std.proofs.Common.{ℕ, Bool, ◌++◌, sym, subst, slice_get}
-use Rattle.claim_table.specs.Keeping.{IsLeast, is_of_at}
-use Rattle.claim_table.proofs.Hints.{least_of_both}
-use Rattle.claim_table.proofs.claim_rows.first_hinted.Goals as goal
+use Rattle.claim_table.specs.ClaimTable.Keeping.{IsLeast, is_of_at}
+use Rattle.claim_table.proofs.ClaimTableLemmas.Hints.{least_of_both}
+use Rattle.claim_table.proofs.claim_table.claim_rows.first_hinted.Goals as goal
 
 pub returns : goal.returns
 returns c =

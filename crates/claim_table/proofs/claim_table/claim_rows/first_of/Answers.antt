@@ -1,7 +1,7 @@
 use Rattle.std.proofs.Common.{slice_get, sym, ◌∙◌}
-use Rattle.claim_table.specs.Keeping.{is_of_at}
-use Rattle.claim_table.proofs.Hints.{least}
-use Rattle.claim_table.proofs.claim_rows.first_of.Goals as goal
+use Rattle.claim_table.specs.ClaimTable.Keeping.{is_of_at}
+use Rattle.claim_table.proofs.ClaimTableLemmas.Hints.{least}
+use Rattle.claim_table.proofs.claim_table.claim_rows.first_of.Goals as goal
 
 pub returns-then-is_row_of : goal.returns-then-is_row_of
 returns-then-is_row_of c = (

@@ -1,11 +1,11 @@
 use Rattle.std.proofs.Common.{◌≡◌, Some, arith, length, slice_get, sym, subst, ◌∙◌, ap, true, set}
-use Rattle.claim_table.specs.Counts.{amount}
-use Rattle.claim_table.specs.Keeping.{AreCounted, at_place, is_of_at}
-use Rattle.claim_table.specs.Rows.{is_of, with_verdict}
-use Rattle.claim_table.proofs.Lists.{set_at_place}
-use Rattle.claim_table.proofs.Rows.{set_there}
-use Rattle.claim_table.proofs.Setting.{can_count, counted_set, found_there, read_there, set_nothing}
-use Rattle.claim_table.proofs.claim_rows.set_verdict.Goals as goal
+use Rattle.claim_table.specs.ClaimTable.Counts.{amount}
+use Rattle.claim_table.specs.ClaimTable.Keeping.{AreCounted, at_place, is_of_at}
+use Rattle.claim_table.specs.ClaimTable.Rows.{is_of, with_verdict}
+use Rattle.claim_table.proofs.ClaimTableLemmas.Lists.{set_at_place}
+use Rattle.claim_table.proofs.ClaimTableLemmas.Rows.{set_there}
+use Rattle.claim_table.proofs.ClaimTableLemmas.Setting.{can_count, counted_set, found_there, read_there, set_nothing}
+use Rattle.claim_table.proofs.claim_table.claim_rows.set_verdict.Goals as goal
 
 pub returns-then-not-is_row_of-clause-rows : goal.returns-then-not-is_row_of-clause-rows
 returns-then-not-is_row_of-clause-rows c = set_nothing c.args.signature.now c.args.verdict c.args.rows.now.items c.args.place

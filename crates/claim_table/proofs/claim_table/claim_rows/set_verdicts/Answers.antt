@@ -1,11 +1,11 @@
 use Rattle.std.proofs.Common.{ap, subst, sym, ◌∙◌, arith, ◌≡◌, ◌<◌, ◌+◌, ◌++◌, length, length-append, ℕ, Some, slice_get}
 use Rattle.std.specs.Prelude.{slice_index_or}
-use Rattle.claim_table.specs.Counts.{is_entered}
-use Rattle.claim_table.specs.Keeping.{at_place}
-use Rattle.claim_table.specs.declared.row.Row.{Row}
-use Rattle.claim_table.specs.Rows.{with_verdict, with_verdicts}
-use Rattle.claim_table.proofs.Setting.{all_set, done_more, entries_now, rest_more}
-use Rattle.claim_table.proofs.claim_rows.set_verdicts.Goals as goal
+use Rattle.claim_table.specs.ClaimTable.Counts.{is_entered}
+use Rattle.claim_table.specs.ClaimTable.Keeping.{at_place}
+use Rattle.claim_table.specs.declared.claim_table.row.Row.{Row}
+use Rattle.claim_table.specs.ClaimTable.Rows.{with_verdict, with_verdicts}
+use Rattle.claim_table.proofs.ClaimTableLemmas.Setting.{all_set, done_more, entries_now, rest_more}
+use Rattle.claim_table.proofs.claim_table.claim_rows.set_verdicts.Goals as goal
 
 pub set_verdict-requires-clause-entries : goal.set_verdict-requires-clause-entries
 set_verdict-requires-clause-entries c =

@@ -1,11 +1,11 @@
 use Rattle.std.proofs.Common.{◌≡◌, ◌<◌, ◌++◌, ℕ, Some, slice_get}
 use Rattle.std.specs.Prelude.{slice_index_or}
-use Rattle.claim_table.specs.BodyParts.{BodyPart}
-use Rattle.claim_table.specs.declared.row.Row.{Row}
-use Rattle.claim_table.specs.Counts.{amount, is_entered}
-use Rattle.claim_table.specs.Keeping.{AreCounted}
-use Rattle.claim_table.specs.Rows.{with_verdict, with_verdicts}
-use Rattle.claim_table.proofs.claim_rows.set_verdicts.Given as goal
+use Rattle.claim_table.specs.ClaimTable.BodyParts.{BodyPart}
+use Rattle.claim_table.specs.declared.claim_table.row.Row.{Row}
+use Rattle.claim_table.specs.ClaimTable.Counts.{amount, is_entered}
+use Rattle.claim_table.specs.ClaimTable.Keeping.{AreCounted}
+use Rattle.claim_table.specs.ClaimTable.Rows.{with_verdict, with_verdicts}
+use Rattle.claim_table.proofs.claim_table.claim_rows.set_verdicts.Given as goal
 
 -- the rows at the places so far have the verdict, and setting it everywhere still gives the same
 abbrev pub invariant-loop-k : goal.invariant-loop-k

@@ -1,8 +1,8 @@
 use Rattle.std.proofs.Common.{◌∙◌, ap, subst}
-use Rattle.controller_core.specs.Plans.{interaction}
-use Rattle.controller_core.proofs.Behind.{IsAnswerBehind}
-use Rattle.controller_core.proofs.Seals.{holds_seal}
-use Rattle.controller_core.proofs.delegation.delegate.Goals as goal
+use Rattle.controller_core.specs.ControllerCore.Plans.{interaction}
+use Rattle.controller_core.proofs.ControllerCoreLemmas.Behind.{IsAnswerBehind}
+use Rattle.controller_core.proofs.ControllerCoreLemmas.Seals.{holds_seal}
+use Rattle.controller_core.proofs.controller_core.delegation.delegate.Goals as goal
 
 pub returns : goal.returns
 returns g c =

@@ -1,11 +1,11 @@
 use Rattle.std.proofs.Common.{None, subst}
 use Rattle.std.specs.Prelude.{IfOk, IfErr}
-use Rattle.controller_core.specs.Messages.{IsMessageOf}
-use Rattle.controller_core.specs.Plans.{sealed, sealed_inception}
-use Rattle.controller_core.specs.Refusals.{IsRefusal}
-use Rattle.controller_core.specs.Signings.{AsksFor, signings_of}
-use Rattle.controller_core.proofs.Signing.{signed_where_ok}
-use Rattle.controller_core.proofs.inception.incept.Goals as goal
+use Rattle.controller_core.specs.ControllerCore.Messages.{IsMessageOf}
+use Rattle.controller_core.specs.ControllerCore.Plans.{sealed, sealed_inception}
+use Rattle.controller_core.specs.ControllerCore.Refusals.{IsRefusal}
+use Rattle.controller_core.specs.ControllerCore.Signings.{AsksFor, signings_of}
+use Rattle.controller_core.proofs.ControllerCoreLemmas.Signing.{signed_where_ok}
+use Rattle.controller_core.proofs.controller_core.inception.incept.Goals as goal
 
 pub returns : goal.returns
 returns g c =

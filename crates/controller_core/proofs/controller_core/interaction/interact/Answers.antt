@@ -1,7 +1,7 @@
 use Rattle.std.proofs.Common.{◌∙◌, ap, subst}
-use Rattle.controller_core.specs.Plans.{interaction}
-use Rattle.controller_core.proofs.Behind.{IsAnswerBehind}
-use Rattle.controller_core.proofs.interaction.interact.Goals as goal
+use Rattle.controller_core.specs.ControllerCore.Plans.{interaction}
+use Rattle.controller_core.proofs.ControllerCoreLemmas.Behind.{IsAnswerBehind}
+use Rattle.controller_core.proofs.controller_core.interaction.interact.Goals as goal
 
 pub returns : goal.returns
 returns g c =

@@ -1,8 +1,8 @@
 use Rattle.std.proofs.Common.{◌∙◌, subst}
-use Rattle.controller_core.specs.LastNumbers.{IsLastRefusal}
-use Rattle.controller_core.specs.Messages.{event_text}
-use Rattle.controller_core.specs.Plans.{sealed}
-use Rattle.controller_core.proofs.last_number.last_fault.Goals as goal
+use Rattle.controller_core.specs.ControllerCore.LastNumbers.{IsLastRefusal}
+use Rattle.controller_core.specs.ControllerCore.Messages.{event_text}
+use Rattle.controller_core.specs.ControllerCore.Plans.{sealed}
+use Rattle.controller_core.proofs.controller_core.last_number.last_fault.Goals as goal
 
 pub returns-in-Ok : goal.returns-in-Ok
 unfolding sealed event_text

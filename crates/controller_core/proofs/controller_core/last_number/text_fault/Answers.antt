@@ -1,8 +1,8 @@
 use Rattle.std.proofs.Common.{Err, sym, subst}
-use Rattle.event_body.specs.Judging.{Judges}
-use Rattle.controller_core.specs.LastNumbers.{IsLastFault}
-use Rattle.controller_core.proofs.LastNumbers.{few_spelled, last_of}
-use Rattle.controller_core.proofs.last_number.text_fault.Goals as goal
+use Rattle.event_body.specs.EventBody.Judging.{Judges}
+use Rattle.controller_core.specs.ControllerCore.LastNumbers.{IsLastFault}
+use Rattle.controller_core.proofs.ControllerCoreLemmas.LastNumbers.{few_spelled, last_of}
+use Rattle.controller_core.proofs.controller_core.last_number.text_fault.Goals as goal
 
 pub returns-in-Err-Fault : goal.returns-in-Err-Fault
 returns-in-Err-Fault c =

@@ -1,18 +1,18 @@
 use Rattle.std.proofs.Common.{◌≡◌, ◌∙◌, sym, ap, subst, true, length}
 use Rattle.std.specs.List.{AllZip, list_all}
 use Rattle.std.specs.Option.{option_copied}
-use Rattle.keri_specs.specs.Told.{after}
+use Rattle.lists.specs.KeriSpecs.Told.{after}
 use Rattle.cesr_stream.specs.declared.message.Message.{Message}
 use Rattle.key_state.specs.Exposure.{own_rules}
-use Rattle.controller_core.specs.declared.plan_fault.PlanFault.TheVariants.{OutOfMemory}
-use Rattle.controller_core.specs.Messages.{IsInSlot, event_text}
-use Rattle.controller_core.specs.Plans.{sealed}
-use Rattle.controller_core.specs.Signings.{AsksFront, signings_of}
-use Rattle.controller_core.specs.Slots.{is_in_range}
-use Rattle.controller_core.proofs.Asking.{asks_all, asks_front, asks_handed_on, asks_nothing, same_signings}
-use Rattle.controller_core.proofs.Enough.{in_range}
-use Rattle.controller_core.proofs.Keys.{has_sigs, same_keys}
-use Rattle.controller_core.proofs.made.made.Goals as goal
+use Rattle.controller_core.specs.declared.controller_core.plan_fault.PlanFault.TheVariants.{OutOfMemory}
+use Rattle.controller_core.specs.ControllerCore.Messages.{IsInSlot, event_text}
+use Rattle.controller_core.specs.ControllerCore.Plans.{sealed}
+use Rattle.controller_core.specs.ControllerCore.Signings.{AsksFront, signings_of}
+use Rattle.controller_core.specs.ControllerCore.Slots.{is_in_range}
+use Rattle.controller_core.proofs.ControllerCoreLemmas.Asking.{asks_all, asks_front, asks_handed_on, asks_nothing, same_signings}
+use Rattle.controller_core.proofs.ControllerCoreLemmas.Enough.{in_range}
+use Rattle.controller_core.proofs.ControllerCoreLemmas.Keys.{has_sigs, same_keys}
+use Rattle.controller_core.proofs.controller_core.made.made.Goals as goal
 
 pub signatures-requires-clause-slots : goal.signatures-requires-clause-slots
 signatures-requires-clause-slots g c =

@@ -1,7 +1,7 @@
 use Rattle.std.proofs.Common.{Some}
-use Rattle.controller_core.specs.Plans.{sealed}
-use Rattle.controller_core.proofs.Signing.{signed_where_ok}
-use Rattle.controller_core.proofs.made.made_behind.Goals as goal
+use Rattle.controller_core.specs.ControllerCore.Plans.{sealed}
+use Rattle.controller_core.proofs.ControllerCoreLemmas.Signing.{signed_where_ok}
+use Rattle.controller_core.proofs.controller_core.made.made_behind.Goals as goal
 
 pub returns-clause-signed : goal.returns-clause-signed
 returns-clause-signed g c =

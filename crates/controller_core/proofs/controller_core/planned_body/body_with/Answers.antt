@@ -1,7 +1,7 @@
 use Rattle.std.proofs.Common.{◌≤◌, length, refl, subst}
-use Rattle.event_body.specs.Judging.{SpellsEvent}
-use Rattle.controller_core.specs.Messages.{event_text}
-use Rattle.controller_core.proofs.planned_body.body_with.Goals as goal
+use Rattle.event_body.specs.EventBody.Judging.{SpellsEvent}
+use Rattle.controller_core.specs.ControllerCore.Messages.{event_text}
+use Rattle.controller_core.proofs.controller_core.planned_body.body_with.Goals as goal
 
 pub write_body-requires : goal.write_body-requires
 write_body-requires c = c.requires

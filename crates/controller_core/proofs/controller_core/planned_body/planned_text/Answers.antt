@@ -1,12 +1,12 @@
 use Rattle.std.proofs.Common.{◌≡◌, ◌≢◌, ◌∙◌, ap, sym, subst}
 use Rattle.std.specs.Prelude.{IfOk, IfErr, OnOk}
 use Rattle.std.specs.Option.{option_copied}
-use Rattle.event_writing.specs.Faults.{IsFaultOf}
-use Rattle.controller_core.specs.declared.plan_fault.PlanFault.TheVariants.{SignerFault}
-use Rattle.controller_core.specs.Messages.{IsSignable, IsWhole, event_text}
-use Rattle.controller_core.specs.Plans.{sealed}
-use Rattle.controller_core.specs.Refusals.{IsRefusal}
-use Rattle.controller_core.proofs.planned_body.planned_text.Goals as goal
+use Rattle.event_body.specs.EventWriting.Faults.{IsFaultOf}
+use Rattle.controller_core.specs.declared.controller_core.plan_fault.PlanFault.TheVariants.{SignerFault}
+use Rattle.controller_core.specs.ControllerCore.Messages.{IsSignable, IsWhole, event_text}
+use Rattle.controller_core.specs.ControllerCore.Plans.{sealed}
+use Rattle.controller_core.specs.ControllerCore.Refusals.{IsRefusal}
+use Rattle.controller_core.proofs.controller_core.planned_body.planned_text.Goals as goal
 
 pub signable_text-requires : goal.signable_text-requires
 signable_text-requires c =

@@ -1,6 +1,6 @@
 use Rattle.std.proofs.Common.{subst}
-use Rattle.controller_core.proofs.Behind.{IsAnswerBehind}
-use Rattle.controller_core.proofs.rotation.rotate.Goals as goal
+use Rattle.controller_core.proofs.ControllerCoreLemmas.Behind.{IsAnswerBehind}
+use Rattle.controller_core.proofs.controller_core.rotation.rotate.Goals as goal
 
 pub returns : goal.returns
 returns g c =

@@ -1,12 +1,12 @@
 use Rattle.std.proofs.Common.{◌∙◌, None, length, get_or, refl, sym, ap, subst, arith}
 use Rattle.std.proofs.lemmas.List.{get_or_default, take_all}
-use Rattle.keri_specs.specs.Told.{after}
-use Rattle.keri_specs.proofs.Putting.{after-nil, put_front, put_more}
-use Rattle.controller_core.specs.Messages.{IsInSlot}
-use Rattle.controller_core.specs.Signings.{signing_at, signings_in}
-use Rattle.controller_core.specs.declared.slot.Slot.{Slot}
-use Rattle.controller_core.proofs.Zipped.{zipped_more}
-use Rattle.controller_core.proofs.signature.signatures.Goals as goal
+use Rattle.lists.specs.KeriSpecs.Told.{after}
+use Rattle.lists.proofs.KeriSpecsLemmas.Putting.{after-nil, put_front, put_more}
+use Rattle.controller_core.specs.ControllerCore.Messages.{IsInSlot}
+use Rattle.controller_core.specs.ControllerCore.Signings.{signing_at, signings_in}
+use Rattle.controller_core.specs.declared.controller_core.slot.Slot.{Slot}
+use Rattle.controller_core.proofs.ControllerCoreLemmas.Zipped.{zipped_more}
+use Rattle.controller_core.proofs.controller_core.signature.signatures.Goals as goal
 
 abbrev none : Slot
 none = record { index = 0; ondex = None }

@@ -1,9 +1,9 @@
 use Rattle.std.proofs.Common.{◌≡◌, take}
 use Rattle.std.specs.List.{AllZip}
-use Rattle.keri_specs.specs.Told.{after}
-use Rattle.controller_core.specs.Messages.{IsInSlot}
-use Rattle.controller_core.specs.Signings.{signings_in}
-use Rattle.controller_core.proofs.signature.signatures.Given as goal
+use Rattle.lists.specs.KeriSpecs.Told.{after}
+use Rattle.controller_core.specs.ControllerCore.Messages.{IsInSlot}
+use Rattle.controller_core.specs.ControllerCore.Signings.{signings_in}
+use Rattle.controller_core.proofs.controller_core.signature.signatures.Given as goal
 
 -- each slot so far has its signature, for which alone the signer was asked, and no signing failed
 pub record Invariant (zipped gives asked faults : Type 0) : Type 0 where

@@ -1,7 +1,7 @@
 use Rattle.std.proofs.Common.{length, ap, arith}
-use Rattle.log_maker.specs.Plans.{event_text}
-use Rattle.log_maker.proofs.Lengths.{few_bytes}
-use Rattle.log_maker.proofs.message.next_body.Goals as goal
+use Rattle.controller_core.specs.LogMaker.Plans.{event_text}
+use Rattle.controller_core.proofs.LogMakerLemmas.Lengths.{few_bytes}
+use Rattle.controller_core.proofs.log_maker.message.next_body.Goals as goal
 
 pub sealed_body-requires-clause-short : goal.sealed_body-requires-clause-short
 sealed_body-requires-clause-short c =

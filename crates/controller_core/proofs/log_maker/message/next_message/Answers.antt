@@ -1,8 +1,8 @@
 use Rattle.std.proofs.Common.{◌≡◌, ap, ◌∙◌}
-use Rattle.log_maker.specs.Draws.{key_number}
-use Rattle.log_maker.specs.Messages.{message_text, signed_text}
-use Rattle.log_maker.specs.Names.{log_key}
-use Rattle.log_maker.proofs.message.next_message.Goals as goal
+use Rattle.controller_core.specs.LogMaker.Draws.{key_number}
+use Rattle.controller_core.specs.LogMaker.Messages.{message_text, signed_text}
+use Rattle.controller_core.specs.LogMaker.Names.{log_key}
+use Rattle.controller_core.proofs.log_maker.message.next_message.Goals as goal
 
 pub returns-clause-text : goal.returns-clause-text
 unfolding message_text

@@ -1,8 +1,8 @@
 use Rattle.std.proofs.Common.{◌≡◌, sym, ap, ◌∙◌}
 use Rattle.keri_outside.specs.Rehearsal as rehearsal
-use Rattle.log_maker.specs.Names.{log_witness}
-use Rattle.log_maker.proofs.Texts.{signed_parts, same_sigs}
-use Rattle.log_maker.proofs.message.signed.Goals as goal
+use Rattle.controller_core.specs.LogMaker.Names.{log_witness}
+use Rattle.controller_core.proofs.LogMakerLemmas.Texts.{signed_parts, same_sigs}
+use Rattle.controller_core.proofs.log_maker.message.signed.Goals as goal
 
 pub returns : goal.returns
 returns c =

@@ -1,8 +1,8 @@
 use Rattle.std.proofs.Common.{◌+◌, false, length, sym, ap, ◌∙◌, arith}
 use Rattle.std.proofs.lemmas.Fmt.{hex_one_digit}
-use Rattle.log_maker.proofs.Hexadecimals.{one_more}
-use Rattle.log_maker.proofs.Lengths.{digits_few}
-use Rattle.log_maker.proofs.totals.+hex_length.Goals as goal
+use Rattle.controller_core.proofs.LogMakerLemmas.Hexadecimals.{one_more}
+use Rattle.controller_core.proofs.LogMakerLemmas.Lengths.{digits_few}
+use Rattle.controller_core.proofs.log_maker.totals.+hex_length.Goals as goal
 
 pub returns-then-number-lt16-clause-digits : goal.returns-then-number-lt16-clause-digits
 returns-then-number-lt16-clause-digits t c = sym (ap length (hex_one_digit false c.args.number c.if-number-lt16.true))

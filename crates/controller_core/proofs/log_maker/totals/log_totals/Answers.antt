@@ -1,8 +1,8 @@
 use Rattle.std.proofs.Common.{◌≡◌, ◌+◌, ◌-◌, length, ap, ◌∙◌, arith}
-use Rattle.log_maker.specs.Messages.{message_text}
-use Rattle.log_maker.specs.Streams.{messages_from}
-use Rattle.log_maker.proofs.Counts.{one_counted, all_counted}
-use Rattle.log_maker.proofs.totals.log_totals.Goals as goal
+use Rattle.controller_core.specs.LogMaker.Messages.{message_text}
+use Rattle.controller_core.specs.LogMaker.Streams.{messages_from}
+use Rattle.controller_core.proofs.LogMakerLemmas.Counts.{one_counted, all_counted}
+use Rattle.controller_core.proofs.log_maker.totals.log_totals.Goals as goal
 
 pub events-preserved : goal.events-preserved
 events-preserved c =

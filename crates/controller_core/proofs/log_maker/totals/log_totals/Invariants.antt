@@ -1,6 +1,6 @@
 use Rattle.std.proofs.Common.{◌≡◌, ◌+◌, ◌-◌, ◌≤◌, length}
-use Rattle.log_maker.specs.Streams.{messages_from}
-use Rattle.log_maker.proofs.totals.log_totals.Given as goal
+use Rattle.controller_core.specs.LogMaker.Streams.{messages_from}
+use Rattle.controller_core.proofs.log_maker.totals.log_totals.Given as goal
 
 abbrev pub invariant-events : goal.invariant-events
 invariant-events l = record {

@@ -1,7 +1,7 @@
 use Rattle.std.proofs.Common.{◌<◌, arith, sym, ◌∙◌}
-use Rattle.log_maker.proofs.Counts.{first_bytes, rotation_bytes, interaction_bytes}
-use Rattle.log_maker.proofs.totals.message_size.Goals as goal
-use Rattle.log_maker.proofs.totals.message_size.Goals.{then-event-eq0, else-event-eq0+then-is_rotation, else-event-eq0+else-is_rotation}
+use Rattle.controller_core.proofs.LogMakerLemmas.Counts.{first_bytes, rotation_bytes, interaction_bytes}
+use Rattle.controller_core.proofs.log_maker.totals.message_size.Goals as goal
+use Rattle.controller_core.proofs.log_maker.totals.message_size.Goals.{then-event-eq0, else-event-eq0+then-is_rotation, else-event-eq0+else-is_rotation}
 
 pub returns-clause-size : goal.returns-clause-size
 returns-clause-size c =

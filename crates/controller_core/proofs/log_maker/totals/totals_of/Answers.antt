@@ -1,7 +1,7 @@
 use Rattle.std.proofs.Common.{length, arith}
-use Rattle.log_maker.specs.Streams.{logs_from, rotations_from}
-use Rattle.log_maker.proofs.Counts.{log_counted, logs_counted, rotations_counted, all_rotations, logs_few}
-use Rattle.log_maker.proofs.totals.totals_of.Goals as goal
+use Rattle.controller_core.specs.LogMaker.Streams.{logs_from, rotations_from}
+use Rattle.controller_core.proofs.LogMakerLemmas.Counts.{log_counted, logs_counted, rotations_counted, all_rotations, logs_few}
+use Rattle.controller_core.proofs.log_maker.totals.totals_of.Goals as goal
 
 pub loop-log-preserved : goal.loop-log-preserved
 loop-log-preserved c =

@@ -1,6 +1,6 @@
 use Rattle.std.proofs.Common.{◌≡◌, ◌+◌, ◌-◌, ◌≤◌, length}
-use Rattle.log_maker.specs.Streams.{logs_from, rotations_from}
-use Rattle.log_maker.proofs.totals.totals_of.Given as goal
+use Rattle.controller_core.specs.LogMaker.Streams.{logs_from, rotations_from}
+use Rattle.controller_core.proofs.log_maker.totals.totals_of.Given as goal
 
 abbrev pub invariant-loop-log : goal.invariant-loop-log
 invariant-loop-log l = record {

@@ -4,7 +4,7 @@ use Rattle.std.proofs.lemmas.Grind.{common_steps}
 use Rattle.std.proofs.lemmas.Fmt.{IsAscii-decimal, decimal_injective}
 use Rattle.std.proofs.lemmas.Str.{IsUtf8-from_ascii}
 use Rattle.sith.proofs.Decimals.{IsDecimalOf, decimal_is, one_decimal}
-use Rattle.plan_text.proofs.number.read_index.Goals as goal
+use Rattle.controller_core.proofs.plan_text.number.read_index.Goals as goal
 
 pub returns-then-matches-clause-only : goal.returns-then-matches-clause-only
 returns-then-matches-clause-only c = λ n few is.

@@ -1,9 +1,9 @@
 use Rattle.std.proofs.Common.{◌≡◌, ◌≢◌, [], subst, arith}
 use Rattle.std.proofs.lemmas.Grind.{common_steps}
-use Rattle.plan_text.specs.Drafts.{sheet}
-use Rattle.plan_text.proofs.Sheets.{once_in}
-use Rattle.plan_text.proofs.SoFar.{IsSoFar, start, step, fewer_left, bad_line, none_then, read_of, sheet_is}
-use Rattle.plan_text.proofs.plan_reader.read_lines.Goals as goal
+use Rattle.controller_core.specs.PlanText.Drafts.{sheet}
+use Rattle.controller_core.proofs.PlanTextLemmas.Sheets.{once_in}
+use Rattle.controller_core.proofs.PlanTextLemmas.SoFar.{IsSoFar, start, step, fewer_left, bad_line, none_then, read_of, sheet_is}
+use Rattle.controller_core.proofs.plan_text.plan_reader.read_lines.Goals as goal
 
 pub loop-rest-init : goal.loop-rest-init
 loop-rest-init c = start c.args.kind c.args.text.now (sheet c.new-draft.result) c.new-draft.ensures

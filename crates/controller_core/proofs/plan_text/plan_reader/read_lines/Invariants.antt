@@ -1,7 +1,7 @@
 use Rattle.std.proofs.Common.{length}
-use Rattle.plan_text.specs.Drafts.{sheet}
-use Rattle.plan_text.proofs.SoFar.{IsSoFar}
-use Rattle.plan_text.proofs.plan_reader.read_lines.Given as goal
+use Rattle.controller_core.specs.PlanText.Drafts.{sheet}
+use Rattle.controller_core.proofs.PlanTextLemmas.SoFar.{IsSoFar}
+use Rattle.controller_core.proofs.plan_text.plan_reader.read_lines.Given as goal
 
 abbrev pub invariant-loop-rest : goal.invariant-loop-rest
 invariant-loop-rest l = IsSoFar l.fn.kind l.fn.text l.rest (sheet l.draft) l.number

@@ -1,7 +1,7 @@
 use Rattle.std.proofs.Common.{◌≡◌, Ok, Err, ap, inl, inr}
-use Rattle.plan_text.specs.Drafts.{sheet}
-use Rattle.plan_text.proofs.PlanTexts.{cause_of, lines_in, plan_in, no_plan_in}
-use Rattle.plan_text.proofs.plan_reader.read_plan.Goals as goal
+use Rattle.controller_core.specs.PlanText.Drafts.{sheet}
+use Rattle.controller_core.proofs.PlanTextLemmas.PlanTexts.{cause_of, lines_in, plan_in, no_plan_in}
+use Rattle.controller_core.proofs.plan_text.plan_reader.read_plan.Goals as goal
 
 pub returns-in-Err-clause-fault : goal.returns-in-Err-clause-fault
 returns-in-Err-clause-fault c = cause_of c.args.bytes.now c.in-Some.kind c.in-Some.lines.now c.in-Some.ensures.some c.in-Err.fault c.in-Err.ensures.fault

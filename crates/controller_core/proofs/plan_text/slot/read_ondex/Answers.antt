@@ -1,8 +1,8 @@
 use Rattle.std.proofs.Common.{◌≡◌, ℕ, Option, Some, None, refl, sym, ◌∙◌, codes}
 use Rattle.std.proofs.lemmas.Slice.Eq.{bytes_eq-Decides}
-use Rattle.plan_text.specs.Entries.{IsOndex, ondex_text}
-use Rattle.plan_text.proofs.Numerals.{no_hyphen}
-use Rattle.plan_text.proofs.slot.read_ondex.Goals as goal
+use Rattle.controller_core.specs.PlanText.Entries.{IsOndex, ondex_text}
+use Rattle.controller_core.proofs.PlanTextLemmas.Numerals.{no_hyphen}
+use Rattle.controller_core.proofs.plan_text.slot.read_ondex.Goals as goal
 
 none_is : (ondex : Option ℕ) → IsOndex ondex → codes "-" ≡ ondex_text ondex → None ≡ ondex
 none_is None is e = refl

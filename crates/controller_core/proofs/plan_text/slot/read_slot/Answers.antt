@@ -1,8 +1,8 @@
 use Rattle.std.proofs.Common.{◌≡◌, Ok, ap, arith, ◌∙◌, ◌++◌, ◌∷◌}
 use Rattle.std.specs.Fmt.{decimal}
-use Rattle.plan_text.proofs.Parts.{whole}
-use Rattle.plan_text.proofs.Numerals.{slot_parts, slot_has_space}
-use Rattle.plan_text.proofs.slot.read_slot.Goals as goal
+use Rattle.controller_core.proofs.PlanTextLemmas.Parts.{whole}
+use Rattle.controller_core.proofs.PlanTextLemmas.Numerals.{slot_parts, slot_has_space}
+use Rattle.controller_core.proofs.plan_text.slot.read_slot.Goals as goal
 
 pub returns-in_default-clause-only : goal.returns-in_default-clause-only
 returns-in_default-clause-only c = λ slot is e. absurd (omega (arith, slot_has_space slot c.args.value.now is e, c.in_default.ensures.none))

@@ -1,6 +1,6 @@
 use Rattle.std.proofs.Common.{sym, ◌∙◌}
-use Rattle.plan_text.proofs.Parts.{found, not_found}
-use Rattle.plan_text.proofs.split.split.Goals as goal
+use Rattle.controller_core.proofs.PlanTextLemmas.Parts.{found, not_found}
+use Rattle.controller_core.proofs.plan_text.split.split.Goals as goal
 
 pub returns-in_default-clause-none : goal.returns-in_default-clause-none
 returns-in_default-clause-none c = not_found c.args.separator c.args.bytes.now (sym c.place_of.ensures ∙ c.in_default.is)

@@ -2,9 +2,9 @@ use Rattle.std.proofs.Common.{◌≡◌, ◌-◌, ◌<◌, ◌≤◌, ℕ, lengt
 use Rattle.std.specs.Prelude.{slice_get, slice_index_or}
 use Rattle.std.proofs.lemmas.Bool.{cases_eq, cases_lt}
 use Rattle.std.proofs.lemmas.Option.{slice_get-get_or}
-use Rattle.accepted_log.specs.Hints.{is_state_of}
-use Rattle.accepted_log.proofs.Hinted.{contained_at, found_greatest}
-use Rattle.accepted_log.proofs.hints.last_at.Goals as goal
+use Rattle.core_tables.specs.AcceptedLog.Hints.{is_state_of}
+use Rattle.core_tables.proofs.AcceptedLogLemmas.Hinted.{contained_at, found_greatest}
+use Rattle.core_tables.proofs.accepted_log.hints.last_at.Goals as goal
 
 pub returns-then-is_state_at : goal.returns-then-is_state_at
 returns-then-is_state_at c =

@@ -1,6 +1,6 @@
 use Rattle.std.proofs.Common.{◌≡◌, ◌≤◌, ℕ, false, Some, slice_get}
-use Rattle.accepted_log.specs.Hints.{is_state_of}
-use Rattle.accepted_log.proofs.hints.last_at.Given as goal
+use Rattle.core_tables.specs.AcceptedLog.Hints.{is_state_of}
+use Rattle.core_tables.proofs.accepted_log.hints.last_at.Given as goal
 
 -- those behind are of no state of the identifier
 abbrev pub invariant-loop-i : goal.invariant-loop-i

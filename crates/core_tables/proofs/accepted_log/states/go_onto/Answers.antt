@@ -1,9 +1,9 @@
 use Rattle.std.proofs.Common.{length, refl, sym}
 use Rattle.std.proofs.lemmas.Option.{slice_get_read}
-use Rattle.accepted_log.specs.Values.{with_since}
-use Rattle.accepted_log.proofs.Lists.{set_at_place}
-use Rattle.accepted_log.proofs.Readings.{under_ok}
-use Rattle.accepted_log.proofs.states.go_onto.Goals as goal
+use Rattle.core_tables.specs.AcceptedLog.Values.{with_since}
+use Rattle.core_tables.proofs.AcceptedLogLemmas.Lists.{set_at_place}
+use Rattle.core_tables.proofs.AcceptedLogLemmas.Readings.{under_ok}
+use Rattle.core_tables.proofs.accepted_log.states.go_onto.Goals as goal
 
 pub returns-clause-ok : goal.returns-clause-ok
 returns-clause-ok c =

@@ -1,10 +1,10 @@
 use Rattle.std.proofs.Common.{◌≡◌, true, length, refl, sym, ◌∙◌}
 use Rattle.std.specs.Prelude.{slice_get}
 use Rattle.std.proofs.lemmas.Option.{slice_get_read}
-use Rattle.accepted_log.specs.Values.{has_more, without_last}
-use Rattle.accepted_log.proofs.Lists.{set_at_place}
-use Rattle.accepted_log.proofs.Readings.{more_there}
-use Rattle.accepted_log.proofs.states.undo.Goals as goal
+use Rattle.core_tables.specs.AcceptedLog.Values.{has_more, without_last}
+use Rattle.core_tables.proofs.AcceptedLogLemmas.Lists.{set_at_place}
+use Rattle.core_tables.proofs.AcceptedLogLemmas.Readings.{more_there}
+use Rattle.core_tables.proofs.accepted_log.states.undo.Goals as goal
 
 pub returns-then-has_more : goal.returns-then-has_more
 returns-then-has_more c =

@@ -1,8 +1,8 @@
 use Rattle.std.proofs.Common.{◌≡◌, ◌≤◌, ◌++◌, ◌∷◌, [], length, take, drop, sym, ◌∙◌, ap, arith, length-append}
 use Rattle.std.proofs.lemmas.List.{drop-append-le, take-append-le}
-use Rattle.accepted_log.specs.Values.{undone_all}
-use Rattle.accepted_log.proofs.Extensions.{undone_all-append}
-use Rattle.accepted_log.proofs.states.undo_from.Goals as goal
+use Rattle.core_tables.specs.AcceptedLog.Values.{undone_all}
+use Rattle.core_tables.proofs.AcceptedLogLemmas.Extensions.{undone_all-append}
+use Rattle.core_tables.proofs.accepted_log.states.undo_from.Goals as goal
 
 pub loop-places-preserved-in-Some : goal.loop-places-preserved-in-Some
 loop-places-preserved-in-Some c =

@@ -1,6 +1,6 @@
 use Rattle.std.proofs.Common.{◌≡◌, take, drop, length}
-use Rattle.accepted_log.specs.Values.{undone_all}
-use Rattle.accepted_log.proofs.states.undo_from.Given as goal
+use Rattle.core_tables.specs.AcceptedLog.Values.{undone_all}
+use Rattle.core_tables.proofs.accepted_log.states.undo_from.Given as goal
 
 -- what is left gives the same
 abbrev pub invariant-loop-places : goal.invariant-loop-places

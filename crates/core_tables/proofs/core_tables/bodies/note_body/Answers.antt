@@ -1,9 +1,9 @@
 use Rattle.std.proofs.Common.{◌∙◌, subst}
 use Rattle.std.specs.Prelude.{Contains}
-use Rattle.event_index.specs.Keys.{numbers_at}
-use Rattle.core_tables.specs.Hints.{KeepsBelow}
-use Rattle.core_tables.proofs.Orders.{name_cmp}
-use Rattle.core_tables.proofs.bodies.note_body.Goals as goal
+use Rattle.escrow.specs.EventIndex.Keys.{numbers_at}
+use Rattle.core_tables.specs.CoreTables.Hints.{KeepsBelow}
+use Rattle.core_tables.proofs.CoreTablesLemmas.Orders.{name_cmp}
+use Rattle.core_tables.proofs.core_tables.bodies.note_body.Goals as goal
 
 pub returns-in_err-add-clause-kept : goal.returns-in_err-add-clause-kept
 returns-in_err-add-clause-kept c =

@@ -1,11 +1,11 @@
 use Rattle.std.proofs.Common.{subst, sym}
 use Rattle.std.specs.Prelude.{Contains}
 use Rattle.std.proofs.lemmas.List.{take_all}
-use Rattle.event_index.specs.Keys.{numbers_at}
-use Rattle.core_tables.specs.Names.{claim_key}
-use Rattle.core_tables.proofs.AddedNumbers.{added_more, keeps_more}
-use Rattle.core_tables.proofs.Orders.{claim_cmp}
-use Rattle.core_tables.proofs.claim_entries.add_claims.Goals as goal
+use Rattle.escrow.specs.EventIndex.Keys.{numbers_at}
+use Rattle.core_tables.specs.CoreTables.Names.{claim_key}
+use Rattle.core_tables.proofs.CoreTablesLemmas.AddedNumbers.{added_more, keeps_more}
+use Rattle.core_tables.proofs.CoreTablesLemmas.Orders.{claim_cmp}
+use Rattle.core_tables.proofs.core_tables.claim_entries.add_claims.Goals as goal
 
 pub returns-in_err-add-clause-kept : goal.returns-in_err-add-clause-kept
 returns-in_err-add-clause-kept c = keeps_more c.args.number (numbers_at claim_cmp c.args.many.now) (numbers_at claim_cmp c.loop-claim.many) (numbers_at claim_cmp c.add.new.self) c.loop-claim.invariant.kept c.add.ensures.kept

@@ -1,11 +1,11 @@
 use Rattle.std.proofs.Common.{take}
 use Rattle.std.specs.Prelude.{Contains}
-use Rattle.event_index.specs.Keys.{numbers_at}
-use Rattle.journal.specs.declared.claim.Claim.{Claim}
-use Rattle.core_tables.specs.Hints.{KeepsBelow}
-use Rattle.core_tables.specs.Names.{claim_key}
-use Rattle.core_tables.proofs.Orders.{claim_cmp}
-use Rattle.core_tables.proofs.claim_entries.add_claims.Given as goal
+use Rattle.escrow.specs.EventIndex.Keys.{numbers_at}
+use Rattle.journal.specs.declared.journal.claim.Claim.{Claim}
+use Rattle.core_tables.specs.CoreTables.Hints.{KeepsBelow}
+use Rattle.core_tables.specs.CoreTables.Names.{claim_key}
+use Rattle.core_tables.proofs.CoreTablesLemmas.Orders.{claim_cmp}
+use Rattle.core_tables.proofs.core_tables.claim_entries.add_claims.Given as goal
 
 abbrev pub invariant-loop-claim : goal.invariant-loop-claim
 invariant-loop-claim l = record {

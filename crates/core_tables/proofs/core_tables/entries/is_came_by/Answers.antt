@@ -1,14 +1,14 @@
 use Rattle.std.proofs.Common.{◌≡◌, ℕ, Bool, List, Some, refl, ◌∙◌, ap, sym, rules, tests}
 use Rattle.std.specs.List.{list_any}
-use Rattle.journal.specs.contracts.claim.ClaimPartialEq.TheImpl as claims_test
-use Rattle.journal.specs.declared.claim.Claim.{Claim}
-use Rattle.journal.specs.declared.entry.Entry.{Entry}
-use Rattle.journal.specs.declared.entry.Entry.TheVariants.{Took}
-use Rattle.journal.specs.Replies.{same_claim}
-use Rattle.journal.proofs.Same.{any_turned, same_claim_is, same_claim_itself}
+use Rattle.journal.specs.contracts.journal.claim.ClaimPartialEq.TheImpl as claims_test
+use Rattle.journal.specs.declared.journal.claim.Claim.{Claim}
+use Rattle.journal.specs.declared.journal.entry.Entry.{Entry}
+use Rattle.journal.specs.declared.journal.entry.Entry.TheVariants.{Took}
+use Rattle.journal.specs.Journal.Replies.{same_claim}
+use Rattle.journal.proofs.JournalLemmas.Same.{any_turned, same_claim_is, same_claim_itself}
 use Rattle.key_state.proofs.Same.{number_itself}
-use Rattle.core_tables.specs.Rows.{has_claim}
-use Rattle.core_tables.proofs.entries.is_came_by.Goals as goal
+use Rattle.core_tables.specs.CoreTables.Rows.{has_claim}
+use Rattle.core_tables.proofs.core_tables.entries.is_came_by.Goals as goal
 
 alike : (x y : Claim) → (claims_test.ghosts).eq x y ≡ same_claim x y
 alike x y = search (rules, tests)

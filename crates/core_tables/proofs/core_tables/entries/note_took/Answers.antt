@@ -1,14 +1,14 @@
 use Rattle.std.proofs.Common.{subst}
 use Rattle.std.specs.Prelude.{Contains}
 use Rattle.std.specs.Result.{OnOk}
-use Rattle.event_index.specs.Keys.{numbers_at}
-use Rattle.journal.specs.declared.claim.Claim.{Claim}
-use Rattle.core_tables.specs.ClaimEntries.{came_at}
-use Rattle.core_tables.specs.Hints.{KeepsBelow}
-use Rattle.core_tables.specs.Names.{claim_key}
-use Rattle.core_tables.proofs.AddedNumbers.{on_ok}
-use Rattle.core_tables.proofs.Orders.{name_cmp}
-use Rattle.core_tables.proofs.entries.note_took.Goals as goal
+use Rattle.escrow.specs.EventIndex.Keys.{numbers_at}
+use Rattle.journal.specs.declared.journal.claim.Claim.{Claim}
+use Rattle.core_tables.specs.CoreTables.ClaimEntries.{came_at}
+use Rattle.core_tables.specs.CoreTables.Hints.{KeepsBelow}
+use Rattle.core_tables.specs.CoreTables.Names.{claim_key}
+use Rattle.core_tables.proofs.CoreTablesLemmas.AddedNumbers.{on_ok}
+use Rattle.core_tables.proofs.CoreTablesLemmas.Orders.{name_cmp}
+use Rattle.core_tables.proofs.core_tables.entries.note_took.Goals as goal
 
 pub returns-in_err-add-clause-kept_told : goal.returns-in_err-add-clause-kept_told
 returns-in_err-add-clause-kept_told c = subst (λ k. KeepsBelow k (numbers_at name_cmp c.args.told.now) (numbers_at name_cmp c.add.new.self)) c.in_ok-number.ensures.ok c.add.ensures.kept

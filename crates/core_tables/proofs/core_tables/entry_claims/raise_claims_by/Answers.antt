@@ -2,10 +2,10 @@ use Rattle.std.proofs.Common.{length, refl, subst}
 use Rattle.std.specs.Option.{option_copied}
 use Rattle.std.proofs.lemmas.Option.{slice_get_read}
 use Rattle.std.proofs.lemmas.Result.{on_ok_weaker}
-use Rattle.event_body.specs.declared.event.Event.{Event}
-use Rattle.core_tables.specs.RaisedRows.{RaisesRows}
-use Rattle.core_tables.proofs.Places.{one_there}
-use Rattle.core_tables.proofs.entry_claims.raise_claims_by.Goals as goal
+use Rattle.event_body.specs.declared.event_body.event.Event.{Event}
+use Rattle.core_tables.specs.CoreTables.RaisedRows.{RaisesRows}
+use Rattle.core_tables.proofs.CoreTablesLemmas.Places.{one_there}
+use Rattle.core_tables.proofs.core_tables.entry_claims.raise_claims_by.Goals as goal
 
 pub raise_claims-requires : goal.raise_claims-requires
 raise_claims-requires c = record {

@@ -2,12 +2,12 @@ use Rattle.std.proofs.Common.{◌≡◌, ℕ, List, ap, get_or, subst, sym, take
 use Rattle.std.specs.Prelude.{flat_map, slice_get}
 use Rattle.std.specs.Option.{option_copied}
 use Rattle.std.proofs.lemmas.List.{take_all}
-use Rattle.journal.proofs.Places.{some_at}
-use Rattle.core_tables.specs.EntryClaims.{came_to}
-use Rattle.core_tables.specs.RaisedRows.{RaisesRows}
-use Rattle.core_tables.proofs.Added.{on_err, raises_nothing, raises_more, some_of, some_more}
-use Rattle.core_tables.proofs.Places.{gathered_next, got}
-use Rattle.core_tables.proofs.entry_claims.raise_entries.Goals as goal
+use Rattle.journal.proofs.JournalLemmas.Places.{some_at}
+use Rattle.core_tables.specs.CoreTables.EntryClaims.{came_to}
+use Rattle.core_tables.specs.CoreTables.RaisedRows.{RaisesRows}
+use Rattle.core_tables.proofs.CoreTablesLemmas.Added.{on_err, raises_nothing, raises_more, some_of, some_more}
+use Rattle.core_tables.proofs.CoreTablesLemmas.Places.{gathered_next, got}
+use Rattle.core_tables.proofs.core_tables.entry_claims.raise_entries.Goals as goal
 
 pub loop-entry-init : goal.loop-entry-init
 loop-entry-init c = λ e at. raises_nothing c.args.number (option_copied c.args.state) e c.args.claims.now

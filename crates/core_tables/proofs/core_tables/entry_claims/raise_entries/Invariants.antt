@@ -1,10 +1,10 @@
 use Rattle.std.proofs.Common.{◌≡◌, take}
 use Rattle.std.specs.Option.{option_copied}
 use Rattle.std.specs.Prelude.{Some, flat_map, slice_get}
-use Rattle.event_body.specs.declared.event.Event.{Event}
-use Rattle.core_tables.specs.EntryClaims.{came_to}
-use Rattle.core_tables.specs.RaisedRows.{RaisesRows}
-use Rattle.core_tables.proofs.entry_claims.raise_entries.Given as goal
+use Rattle.event_body.specs.declared.event_body.event.Event.{Event}
+use Rattle.core_tables.specs.CoreTables.EntryClaims.{came_to}
+use Rattle.core_tables.specs.CoreTables.RaisedRows.{RaisesRows}
+use Rattle.core_tables.proofs.core_tables.entry_claims.raise_entries.Given as goal
 
 abbrev pub invariant-loop-entry : goal.invariant-loop-entry
 invariant-loop-entry l = (e : Event) → slice_get l.events l.number ≡ Some e

@@ -1,9 +1,9 @@
 use Rattle.std.proofs.Common.{◌∙◌, ◌||◌, ap, sym}
 use Rattle.std.specs.Prelude.{slice_get}
 use Rattle.std.proofs.lemmas.Bool.{ne_eqb}
-use Rattle.core_tables.specs.EntryClaims.{is_receipt_of}
-use Rattle.core_tables.proofs.Places.{got}
-use Rattle.core_tables.proofs.entry_claims.stands_on.Goals as goal
+use Rattle.core_tables.specs.CoreTables.EntryClaims.{is_receipt_of}
+use Rattle.core_tables.proofs.CoreTablesLemmas.Places.{got}
+use Rattle.core_tables.proofs.core_tables.entry_claims.stands_on.Goals as goal
 
 pub returns-else-came-number : goal.returns-else-came-number
 returns-else-came-number c =

@@ -2,13 +2,13 @@ use Rattle.std.proofs.Common.{subst, sym}
 use Rattle.std.specs.Prelude.{Contains}
 use Rattle.std.proofs.lemmas.Result.{on_ok_weaker}
 use Rattle.event_backing.specs.Listing.{AreSealsOf}
-use Rattle.event_body.specs.Events.{anchors_of}
-use Rattle.event_index.specs.Keys.{numbers_at}
-use Rattle.core_tables.specs.NamedPlaces.{places_at}
-use Rattle.core_tables.proofs.AddedNumbers.{on_ok}
-use Rattle.core_tables.proofs.Orders.{seal_cmp}
-use Rattle.core_tables.proofs.Seals.{sealed_at}
-use Rattle.core_tables.proofs.log.note_accepted.Goals as goal
+use Rattle.event_body.specs.EventBody.Events.{anchors_of}
+use Rattle.escrow.specs.EventIndex.Keys.{numbers_at}
+use Rattle.core_tables.specs.CoreTables.NamedPlaces.{places_at}
+use Rattle.core_tables.proofs.CoreTablesLemmas.AddedNumbers.{on_ok}
+use Rattle.core_tables.proofs.CoreTablesLemmas.Orders.{seal_cmp}
+use Rattle.core_tables.proofs.CoreTablesLemmas.Seals.{sealed_at}
+use Rattle.core_tables.proofs.core_tables.log.note_accepted.Goals as goal
 
 pub returns-clause-named : goal.returns-clause-named
 returns-clause-named c = on_ok c.note_seals.result (subst (λ m. Contains (places_at c.add.new.self m) c.args.place) c.name_of.ensures c.in_ok-add.ensures.added)

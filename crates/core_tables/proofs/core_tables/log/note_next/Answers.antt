@@ -1,12 +1,12 @@
 use Rattle.std.proofs.Common.{subst}
 use Rattle.std.specs.Prelude.{Contains}
-use Rattle.event_index.specs.Keys.{numbers_at}
-use Rattle.core_tables.specs.Hints.{IsSealedAt, KeepsBelow}
-use Rattle.core_tables.specs.Names.{name_of}
-use Rattle.core_tables.specs.NamedPlaces.{places_at}
-use Rattle.core_tables.proofs.AddedNumbers.{on_ok}
-use Rattle.core_tables.proofs.Orders.{seal_cmp}
-use Rattle.core_tables.proofs.log.note_next.Goals as goal
+use Rattle.escrow.specs.EventIndex.Keys.{numbers_at}
+use Rattle.core_tables.specs.CoreTables.Hints.{IsSealedAt, KeepsBelow}
+use Rattle.core_tables.specs.CoreTables.Names.{name_of}
+use Rattle.core_tables.specs.CoreTables.NamedPlaces.{places_at}
+use Rattle.core_tables.proofs.CoreTablesLemmas.AddedNumbers.{on_ok}
+use Rattle.core_tables.proofs.CoreTablesLemmas.Orders.{seal_cmp}
+use Rattle.core_tables.proofs.core_tables.log.note_next.Goals as goal
 
 pub returns-in_err-note_accepted-clause-kept : goal.returns-in_err-note_accepted-clause-kept
 returns-in_err-note_accepted-clause-kept c = subst (λ k. KeepsBelow k (places_at c.args.accepted.now) (places_at c.note_accepted.new.accepted)) c.in_ok-place.ensures.ok c.note_accepted.ensures.kept

@@ -3,13 +3,13 @@ use Rattle.std.specs.Prelude.{Contains}
 use Rattle.std.proofs.lemmas.List.{get_or_default, take_all}
 use Rattle.cesr_codes.specs.declared.prefix.Prefix.{Prefix}
 use Rattle.event_backing.specs.declared.event_seal.EventSeal.{EventSeal}
-use Rattle.core_tables.specs.declared.name.Name.{Name}
-use Rattle.core_tables.specs.declared.name.SealKey.{SealKey}
-use Rattle.event_index.specs.Keys.{numbers_at}
-use Rattle.core_tables.specs.Names.{name_in, seal_key}
-use Rattle.core_tables.proofs.AddedNumbers.{added_more, keeps_more}
-use Rattle.core_tables.proofs.Orders.{seal_cmp}
-use Rattle.core_tables.proofs.log.note_seals.Goals as goal
+use Rattle.core_tables.specs.declared.core_tables.name.Name.{Name}
+use Rattle.core_tables.specs.declared.core_tables.name.SealKey.{SealKey}
+use Rattle.escrow.specs.EventIndex.Keys.{numbers_at}
+use Rattle.core_tables.specs.CoreTables.Names.{name_in, seal_key}
+use Rattle.core_tables.proofs.CoreTablesLemmas.AddedNumbers.{added_more, keeps_more}
+use Rattle.core_tables.proofs.CoreTablesLemmas.Orders.{seal_cmp}
+use Rattle.core_tables.proofs.core_tables.log.note_seals.Goals as goal
 
 pub returns-in_err-add-clause-kept : goal.returns-in_err-add-clause-kept
 returns-in_err-add-clause-kept c = keeps_more c.args.place (numbers_at seal_cmp c.args.sealed.now) (numbers_at seal_cmp c.loop-seal.sealed) (numbers_at seal_cmp c.add.new.self) c.loop-seal.invariant.kept c.add.ensures.kept

@@ -1,11 +1,11 @@
 use Rattle.std.proofs.Common.{take}
 use Rattle.std.specs.Prelude.{Contains}
 use Rattle.event_backing.specs.declared.event_seal.EventSeal.{EventSeal}
-use Rattle.event_index.specs.Keys.{numbers_at}
-use Rattle.core_tables.specs.Hints.{KeepsBelow}
-use Rattle.core_tables.specs.Names.{name_in, seal_key}
-use Rattle.core_tables.proofs.Orders.{seal_cmp}
-use Rattle.core_tables.proofs.log.note_seals.Given as goal
+use Rattle.escrow.specs.EventIndex.Keys.{numbers_at}
+use Rattle.core_tables.specs.CoreTables.Hints.{KeepsBelow}
+use Rattle.core_tables.specs.CoreTables.Names.{name_in, seal_key}
+use Rattle.core_tables.proofs.CoreTablesLemmas.Orders.{seal_cmp}
+use Rattle.core_tables.proofs.core_tables.log.note_seals.Given as goal
 
 abbrev pub invariant-loop-seal : goal.invariant-loop-seal
 invariant-loop-seal l = record {

@@ -1,10 +1,10 @@
 use Rattle.std.proofs.Common.{◌≡◌, ◌<◌, ◌≤◌, ◌+◌, ℕ, ap, ◌∙◌, refl, sym, nat_le, nat_lt, None, Bool, arith, inl, inr, false, Option}
 use Rattle.std.specs.Prelude.{◌&&◌, ◌==◌, if◌then◌else◌}
 use Rattle.std.proofs.lemmas.Bool.{cases_eq, cases_lt, le-leb, le-ltb, lt-leb, lt-ltb}
-use Rattle.escrow.specs.Escrow.{held}
+use Rattle.escrow.specs.Escrow.Escrow.{held}
 use Rattle.key_state.proofs.Same.{number_itself}
-use Rattle.core_tables.proofs.Rows.{differ}
-use Rattle.core_tables.proofs.mark.leave_from.Goals as goal
+use Rattle.core_tables.proofs.CoreTablesLemmas.Rows.{differ}
+use Rattle.core_tables.proofs.core_tables.mark.leave_from.Goals as goal
 
 -- whether a number is one of those that leave
 abbrev within : ℕ → ℕ → ℕ → Bool

@@ -1,7 +1,7 @@
 use Rattle.std.proofs.Common.{◌≡◌, ◌<◌, ℕ, None, nat_le, nat_lt}
 use Rattle.std.specs.Prelude.{◌&&◌, if◌then◌else◌}
-use Rattle.escrow.specs.Escrow.{held}
-use Rattle.core_tables.proofs.mark.leave_from.Given as goal
+use Rattle.escrow.specs.Escrow.Escrow.{held}
+use Rattle.core_tables.proofs.core_tables.mark.leave_from.Given as goal
 
 abbrev pub invariant-loop-number : goal.invariant-loop-number
 invariant-loop-number l = record {

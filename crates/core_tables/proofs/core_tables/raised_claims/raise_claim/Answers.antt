@@ -1,9 +1,9 @@
 use Rattle.std.proofs.Common.{refl, ◌∙◌}
 use Rattle.std.specs.Option.{option_copied}
 use Rattle.std.proofs.lemmas.Result.{on_ok_weaker}
-use Rattle.claim_table.specs.declared.claimed.Claimed.{Claimed}
-use Rattle.core_tables.proofs.Added.{raises_one, parts_are}
-use Rattle.core_tables.proofs.raised_claims.raise_claim.Goals as goal
+use Rattle.claim_table.specs.declared.claim_table.claimed.Claimed.{Claimed}
+use Rattle.core_tables.proofs.CoreTablesLemmas.Added.{raises_one, parts_are}
+use Rattle.core_tables.proofs.core_tables.raised_claims.raise_claim.Goals as goal
 
 pub returns-clause-ok : goal.returns-clause-ok
 returns-clause-ok c =

@@ -1,9 +1,9 @@
 use Rattle.std.proofs.Common.{take, subst, sym}
 use Rattle.std.specs.Option.{option_copied}
 use Rattle.std.proofs.lemmas.List.{take_all}
-use Rattle.core_tables.specs.RaisedRows.{RaisesRows, RaisesSomeRows}
-use Rattle.core_tables.proofs.Added.{on_err, raises_nothing, raises_next, some_of}
-use Rattle.core_tables.proofs.raised_claims.raise_claims.Goals as goal
+use Rattle.core_tables.specs.CoreTables.RaisedRows.{RaisesRows, RaisesSomeRows}
+use Rattle.core_tables.proofs.CoreTablesLemmas.Added.{on_err, raises_nothing, raises_next, some_of}
+use Rattle.core_tables.proofs.core_tables.raised_claims.raise_claims.Goals as goal
 
 pub loop-claim-init : goal.loop-claim-init
 loop-claim-init c = raises_nothing c.args.number (option_copied c.args.state) c.args.event.now c.args.claims.now

@@ -1,6 +1,6 @@
 use Rattle.std.proofs.Common.{sym, subst, inl, inr, arith, refl}
 use Rattle.std.specs.Prelude.{Contains}
-use Rattle.event_index.proofs.index.replace_from.Goals as goal
+use Rattle.escrow.proofs.event_index.index.replace_from.Goals as goal
 
 pub returns-in_err-reserve-clause-kept : goal.returns-in_err-reserve-clause-kept
 returns-in_err-reserve-clause-kept c = λ n low h. subst (λ xs. Contains xs n) (sym c.reserve.ensures.same) ((c.cut.ensures.left n).1 (low, h))

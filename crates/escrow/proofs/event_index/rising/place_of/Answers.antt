@@ -1,8 +1,8 @@
 use Rattle.std.proofs.Common.{arith, rules, nat_lt}
 use Rattle.std.proofs.lemmas.Bool.{ltb-true, ltb-false}
 use Rattle.std.proofs.lemmas.List.Sorted.{IsPartitionPoint-from_clause}
-use Rattle.event_index.proofs.Orders.{parted}
-use Rattle.event_index.proofs.rising.place_of.Goals as goal
+use Rattle.escrow.proofs.EventIndexLemmas.Orders.{parted}
+use Rattle.escrow.proofs.event_index.rising.place_of.Goals as goal
 
 pub returns-clause-below : goal.returns-clause-below
 returns-clause-below c = λ k h.

@@ -1,6 +1,6 @@
 use Rattle.cesr_codes.specs.Spelling.{digest_text, IsDigest}
-use Rattle.body_fields.proofs.Lists.{members_are, held_back}
-use Rattle.body_fields.proofs.field_values.digests_in.Goals as goal
+use Rattle.event_body.proofs.BodyFieldsLemmas.Lists.{members_are, held_back}
+use Rattle.event_body.proofs.body_fields.field_values.digests_in.Goals as goal
 
 pub all-requires : goal.all-requires
 all-requires c = members_are _ _ _ c.members_in.ensures (held_back digest_text IsDigest _ c.requires)

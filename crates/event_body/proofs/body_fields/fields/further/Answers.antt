@@ -1,10 +1,10 @@
 use Rattle.std.proofs.Common.{◌≡◌, ◌+◌, ◌++◌, ℕ, suc, List, take, arith, sym, ap, ◌∙◌, subst, codes}
 use Rattle.std.proofs.lemmas.List.{take_all}
-use Rattle.body_fields.specs.declared.field.Field.{Field}
-use Rattle.body_fields.specs.declared.field.Field.TheVariants.{Said}
-use Rattle.body_fields.specs.Bodies.{Begins, AreOfForms, members_text}
-use Rattle.body_fields.proofs.Members.{one_more, stops, no_next, no_end}
-use Rattle.body_fields.proofs.fields.further.Goals as goal
+use Rattle.event_body.specs.declared.body_fields.field.Field.{Field}
+use Rattle.event_body.specs.declared.body_fields.field.Field.TheVariants.{Said}
+use Rattle.event_body.specs.BodyFields.Bodies.{Begins, AreOfForms, members_text}
+use Rattle.event_body.proofs.BodyFieldsLemmas.Members.{one_more, stops, no_next, no_end}
+use Rattle.event_body.proofs.body_fields.fields.further.Goals as goal
 
 -- how many fields stand, those before these among them
 counted : (fields map : List Field) (i n : ℕ) (bytes : List ℕ) → fields ≡ map → n ≡ i → Begins i fields bytes × ¬ Begins (suc i) fields bytes

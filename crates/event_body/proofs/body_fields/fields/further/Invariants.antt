@@ -1,6 +1,6 @@
 use Rattle.std.proofs.Common.{◌≡◌, ◌++◌, vec_len, take}
-use Rattle.body_fields.specs.Bodies.{AreOfForms, members_text}
-use Rattle.body_fields.proofs.fields.further.Given as goal
+use Rattle.event_body.specs.BodyFields.Bodies.{AreOfForms, members_text}
+use Rattle.event_body.proofs.body_fields.fields.further.Given as goal
 
 -- the fields so far stand with these values, and the rest behind them
 abbrev pub invariant-loop-field : goal.invariant-loop-field

@@ -1,6 +1,6 @@
 use Rattle.std.proofs.Common.{sym, ◌∙◌}
-use Rattle.body_fields.proofs.Heads.{none_stands, one_stands, first_fault}
-use Rattle.body_fields.proofs.fields.read.Goals as goal
+use Rattle.event_body.proofs.BodyFieldsLemmas.Heads.{none_stands, one_stands, first_fault}
+use Rattle.event_body.proofs.body_fields.fields.read.Goals as goal
 
 pub returns-in_default-clause-fault : goal.returns-in_default-clause-fault
 returns-in_default-clause-fault c = none_stands c.args.bytes.now c.in_default.ensures.none

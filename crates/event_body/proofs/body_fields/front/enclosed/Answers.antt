@@ -1,5 +1,5 @@
-use Rattle.body_fields.proofs.Fronts.{behind_opening, behind_text}
-use Rattle.body_fields.proofs.front.enclosed.Goals as goal
+use Rattle.event_body.proofs.BodyFieldsLemmas.Fronts.{behind_opening, behind_text}
+use Rattle.event_body.proofs.body_fields.front.enclosed.Goals as goal
 
 pub returns-in_default-literal-clause-none : goal.returns-in_default-literal-clause-none
 returns-in_default-literal-clause-none c = λ rest e.

@@ -1,8 +1,8 @@
 use Rattle.std.proofs.Common.{◌≢◌, ℕ, ◌<◌, List, [], ◌∷◌, ◌++◌, get_or, arith}
-use Rattle.body_fields.specs.declared.kind.Kind.{Kind}
-use Rattle.body_fields.specs.declared.kind.Kind.TheVariants.{Icp, Rot, Ixn, Dip, Drt, Rct}
-use Rattle.body_fields.specs.Bodies.{kind_text}
-use Rattle.body_fields.proofs.front.kind.Goals as goal
+use Rattle.event_body.specs.declared.body_fields.kind.Kind.{Kind}
+use Rattle.event_body.specs.declared.body_fields.kind.Kind.TheVariants.{Icp, Rot, Ixn, Dip, Drt, Rct}
+use Rattle.event_body.specs.BodyFields.Bodies.{kind_text}
+use Rattle.event_body.proofs.body_fields.front.kind.Goals as goal
 
 kinds : List Kind
 kinds = Icp ∷ Rot ∷ Ixn ∷ Dip ∷ Drt ∷ Rct ∷ []

@@ -1,7 +1,7 @@
 use Rattle.std.proofs.Common.{◌≢◌, ℕ, ◌<◌, List, ◌++◌, get_or}
-use Rattle.body_fields.specs.declared.kind.Kind.TheVariants.{Icp}
-use Rattle.body_fields.specs.Bodies.{kind_text}
-use Rattle.body_fields.proofs.front.kind.Given as goal
+use Rattle.event_body.specs.declared.body_fields.kind.Kind.TheVariants.{Icp}
+use Rattle.event_body.specs.BodyFields.Bodies.{kind_text}
+use Rattle.event_body.proofs.body_fields.front.kind.Given as goal
 
 -- none of the kinds so far stands there
 abbrev pub invariant-loop-kind : goal.invariant-loop-kind

@@ -2,7 +2,7 @@ use Rattle.std.proofs.Common.{◌≡◌, arith, ap, ◌∙◌, sym, ◌++◌, dr
 use Rattle.std.proofs.lemmas.List.{take_all}
 use Rattle.std.proofs.lemmas.Bool.Decides.{Decides-eqb}
 use Rattle.std.proofs.lemmas.Slice.Eq.{starts_is}
-use Rattle.body_fields.proofs.front.literal.Goals as goal
+use Rattle.event_body.proofs.body_fields.front.literal.Goals as goal
 
 pub returns-clause-some : goal.returns-clause-some
 returns-clause-some c =

@@ -1,9 +1,9 @@
 use Rattle.std.proofs.Common.{◌≡◌, ◌∙◌, take, drop, ap, arith, length, length-take, true}
 use Rattle.std.specs.List.{list_all}
 use Rattle.std.proofs.lemmas.List.{take-append-drop}
-use Rattle.keri_specs.specs.Hex.{is_hex}
-use Rattle.body_fields.proofs.Fronts.{same_split}
-use Rattle.body_fields.proofs.front.size_digits.Goals as goal
+use Rattle.lists.specs.KeriSpecs.Hex.{is_hex}
+use Rattle.event_body.proofs.BodyFieldsLemmas.Fronts.{same_split}
+use Rattle.event_body.proofs.body_fields.front.size_digits.Goals as goal
 
 pub returns-then-not-all_hex-clause-none : goal.returns-then-not-all_hex-clause-none
 returns-then-not-all_hex-clause-none c = λ size rest is e.

@@ -1,6 +1,6 @@
 use Rattle.std.proofs.Common.{codes, sym, ◌∙◌, arith}
-use Rattle.body_fields.proofs.Fronts.{between_behind, behind_opening, same_split}
-use Rattle.body_fields.proofs.front.version.Goals as goal
+use Rattle.event_body.proofs.BodyFieldsLemmas.Fronts.{between_behind, behind_opening, same_split}
+use Rattle.event_body.proofs.body_fields.front.version.Goals as goal
 
 pub returns-in_default-clause-none : goal.returns-in_default-clause-none
 returns-in_default-clause-none c = λ size rest is e. c.in_default.ensures.none _ (e ∙ between_behind (codes "{\"v\":\"KERI10JSON") (codes "_\"") size rest)

@@ -1,8 +1,8 @@
 use Rattle.std.proofs.Common.{◌≡◌, sym, ap, subst}
 use Rattle.json_tree.specs.Spelling.{Fits}
-use Rattle.body_fields.specs.Forms.{IsOfForm}
-use Rattle.body_fields.proofs.Depths.{form_fits, form_ends}
-use Rattle.body_fields.proofs.member.value.Goals as goal
+use Rattle.event_body.specs.BodyFields.Forms.{IsOfForm}
+use Rattle.event_body.proofs.BodyFieldsLemmas.Depths.{form_fits, form_ends}
+use Rattle.event_body.proofs.body_fields.member.value.Goals as goal
 
 pub returns-in-Err-clause-none : goal.returns-in-Err-clause-none
 returns-in-Err-clause-none c = λ is value rest of_form e.

@@ -1,7 +1,7 @@
 use Rattle.std.proofs.Common.{◌≡◌, take, map}
 use Rattle.std.specs.List.{AllByRecursion}
 use Rattle.json_tree.specs.declared.tree.Tree.TheVariants.{Str}
-use Rattle.body_fields.proofs.strings.all.Given as goal
+use Rattle.event_body.proofs.body_fields.strings.all.Given as goal
 
 -- the values so far are strings of what was found
 abbrev pub invariant-loop-value : goal.invariant-loop-value

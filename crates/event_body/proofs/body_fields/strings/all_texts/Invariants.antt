@@ -1,6 +1,6 @@
 use Rattle.std.proofs.Common.{◌≡◌, take, map}
 use Rattle.json_tree.specs.declared.tree.Tree.TheVariants.{Str}
-use Rattle.body_fields.proofs.strings.all_texts.Given as goal
+use Rattle.event_body.proofs.body_fields.strings.all_texts.Given as goal
 
 -- the texts of the values so far
 abbrev pub invariant-loop-value : goal.invariant-loop-value

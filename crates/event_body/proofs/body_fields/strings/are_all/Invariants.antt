@@ -1,7 +1,7 @@
 use Rattle.std.proofs.Common.{take}
 use Rattle.std.specs.List.{AllByRecursion}
-use Rattle.body_fields.specs.Strings.{HoldsOne}
-use Rattle.body_fields.proofs.strings.are_all.Given as goal
+use Rattle.event_body.specs.BodyFields.Strings.{HoldsOne}
+use Rattle.event_body.proofs.body_fields.strings.are_all.Given as goal
 
 -- the values so far hold one each
 abbrev pub invariant-loop-value : goal.invariant-loop-value

@@ -1,6 +1,6 @@
 use Rattle.std.proofs.Common.{◌≡◌, take, map}
 use Rattle.json_tree.specs.declared.tree.Tree.TheVariants.{Str}
-use Rattle.body_fields.proofs.trees.strings_tree.Given as goal
+use Rattle.event_body.proofs.body_fields.trees.strings_tree.Given as goal
 
 -- the strings so far
 abbrev pub invariant-loop-text : goal.invariant-loop-text

@@ -1,7 +1,7 @@
 use Rattle.std.proofs.Common.{sym, subst}
-use Rattle.body_fields.specs.Bodies.{IsBody}
-use Rattle.event_body.proofs.Whole.{has_event}
-use Rattle.event_body.proofs.body.judge_fields.Goals as goal
+use Rattle.event_body.specs.BodyFields.Bodies.{IsBody}
+use Rattle.event_body.proofs.EventBodyLemmas.Whole.{has_event}
+use Rattle.event_body.proofs.event_body.body.judge_fields.Goals as goal
 
 pub judge_event-requires-clause-has : goal.judge_event-requires-clause-has
 judge_event-requires-clause-has c =

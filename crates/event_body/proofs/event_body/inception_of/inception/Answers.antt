@@ -1,9 +1,9 @@
 use Rattle.std.proofs.Common.{◌≡◌, ◌∷◌, arith, subst, ◌∙◌}
 use Rattle.sith.specs.Thresholds.{Spells}
-use Rattle.body_fields.specs.Forms.{number_value}
-use Rattle.event_body.specs.Spelling.{delegator_values}
-use Rattle.event_body.proofs.Values.{strings_held, values_held, zero_written}
-use Rattle.event_body.proofs.inception_of.inception.Goals as goal
+use Rattle.event_body.specs.BodyFields.Forms.{number_value}
+use Rattle.event_body.specs.EventBody.Spelling.{delegator_values}
+use Rattle.event_body.proofs.EventBodyLemmas.Values.{strings_held, values_held, zero_written}
+use Rattle.event_body.proofs.event_body.inception_of.inception.Goals as goal
 
 pub returns-clause-ranges : goal.returns-clause-ranges
 returns-clause-ranges c =

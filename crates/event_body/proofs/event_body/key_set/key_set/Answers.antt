@@ -1,9 +1,9 @@
 use Rattle.std.proofs.Common.{ap, length, sym, subst, eq-eqb, ◌∙◌, []}
 use Rattle.sith.specs.Rules.{IsReadFor}
 use Rattle.sith.proofs.Values.{list_injective}
-use Rattle.body_fields.specs.Forms.{key_value, digest_value}
-use Rattle.event_body.proofs.Values.{length_listed}
-use Rattle.event_body.proofs.key_set.key_set.Goals as goal
+use Rattle.event_body.specs.BodyFields.Forms.{key_value, digest_value}
+use Rattle.event_body.proofs.EventBodyLemmas.Values.{length_listed}
+use Rattle.event_body.proofs.event_body.key_set.key_set.Goals as goal
 
 pub returns-clause-values : goal.returns-clause-values
 returns-clause-values c = record {

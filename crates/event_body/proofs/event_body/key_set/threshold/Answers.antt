@@ -1,7 +1,7 @@
 use Rattle.std.proofs.Common.{arith}
 use Rattle.sith.proofs.ThresholdValues.{value_of_read}
-use Rattle.event_body.proofs.Values.{no_threshold}
-use Rattle.event_body.proofs.key_set.threshold.Goals as goal
+use Rattle.event_body.proofs.EventBodyLemmas.Values.{no_threshold}
+use Rattle.event_body.proofs.event_body.key_set.threshold.Goals as goal
 
 pub returns-in-Err-2-clause-fault : goal.returns-in-Err-2-clause-fault
 returns-in-Err-2-clause-fault c =

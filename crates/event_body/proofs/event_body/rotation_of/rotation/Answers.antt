@@ -1,7 +1,7 @@
 use Rattle.std.proofs.Common.{◌∷◌, [], arith, subst}
 use Rattle.sith.specs.Thresholds.{Spells}
-use Rattle.event_body.proofs.Values.{values_held}
-use Rattle.event_body.proofs.rotation_of.rotation.Goals as goal
+use Rattle.event_body.proofs.EventBodyLemmas.Values.{values_held}
+use Rattle.event_body.proofs.event_body.rotation_of.rotation.Goals as goal
 
 pub returns-clause-ranges : goal.returns-clause-ranges
 returns-clause-ranges c =

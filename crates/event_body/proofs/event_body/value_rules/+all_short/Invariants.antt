@@ -1,5 +1,5 @@
 use Rattle.std.proofs.Common.{length}
-use Rattle.event_body.proofs.value_rules.+all_short.Given as goal
+use Rattle.event_body.proofs.event_body.value_rules.+all_short.Given as goal
 
 abbrev pub decreases-all_short : goal.decreases-all_short
 decreases-all_short l = length l.fields.now

@@ -1,5 +1,5 @@
 use Rattle.std.proofs.Common.{length}
-use Rattle.event_body.proofs.witness_rule.+are_distinct.Given as goal
+use Rattle.event_body.proofs.event_body.witness_rule.+are_distinct.Given as goal
 
 abbrev pub decreases-are_distinct : goal.decreases-are_distinct
 decreases-are_distinct l = length l.keys.now

@@ -1,9 +1,9 @@
 use Rattle.std.proofs.Common.{sym, subst, ◌∙◌}
 use Rattle.std.specs.List.{AllByRecursion}
 use Rattle.json_tree.specs.Spelling.{IsJson}
-use Rattle.event_body.specs.Spelling.{values_of}
-use Rattle.event_writing.proofs.JsonValues.{all_json, values_are}
-use Rattle.event_writing.proofs.body.event_text.Goals as goal
+use Rattle.event_body.specs.EventBody.Spelling.{values_of}
+use Rattle.event_body.proofs.EventWritingLemmas.JsonValues.{all_json, values_are}
+use Rattle.event_body.proofs.event_writing.body.event_text.Goals as goal
 
 pub body_text-requires : goal.body_text-requires
 body_text-requires c =

@@ -1,8 +1,8 @@
 use Rattle.std.proofs.Common.{◌∷◌, ap, ◌∙◌}
-use Rattle.body_fields.specs.Forms.{digest_value, prefix_value}
-use Rattle.event_body.specs.Events.{said_of}
-use Rattle.event_body.specs.Spelling.{further_values}
-use Rattle.event_writing.proofs.body.event_values.Goals as goal
+use Rattle.event_body.specs.BodyFields.Forms.{digest_value, prefix_value}
+use Rattle.event_body.specs.EventBody.Events.{said_of}
+use Rattle.event_body.specs.EventBody.Spelling.{further_values}
+use Rattle.event_body.proofs.event_writing.body.event_values.Goals as goal
 
 pub returns : goal.returns
 returns c =

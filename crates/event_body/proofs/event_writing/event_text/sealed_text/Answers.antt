@@ -1,12 +1,12 @@
 use Rattle.std.proofs.Common.{◌≡◌, IfOk, IfErr, ap, subst, ◌∙◌}
 use Rattle.said_digest.specs.Digests.{digest_of}
-use Rattle.event_body.specs.Rules.{digested_text}
-use Rattle.event_body.specs.Spelling.{text_of}
-use Rattle.event_writing.specs.Faults.{IsLengthFault}
-use Rattle.event_writing.specs.Sealed.{digest_in, sealed_event, with_digest}
-use Rattle.event_writing.proofs.Digested.{text_long}
-use Rattle.event_writing.proofs.Read.{as_large}
-use Rattle.event_writing.proofs.event_text.sealed_text.Goals as goal
+use Rattle.event_body.specs.EventBody.Rules.{digested_text}
+use Rattle.event_body.specs.EventBody.Spelling.{text_of}
+use Rattle.event_body.specs.EventWriting.Faults.{IsLengthFault}
+use Rattle.event_body.specs.EventWriting.Sealed.{digest_in, sealed_event, with_digest}
+use Rattle.event_body.proofs.EventWritingLemmas.Digested.{text_long}
+use Rattle.event_body.proofs.EventWritingLemmas.Read.{as_large}
+use Rattle.event_body.proofs.event_writing.event_text.sealed_text.Goals as goal
 
 pub returns-in-Err-clause-large : goal.returns-in-Err-clause-large
 returns-in-Err-clause-large c =

@@ -1,5 +1,5 @@
-use Rattle.event_writing.proofs.Spelled as written
-use Rattle.event_writing.proofs.laws.writable.Goals as goal
+use Rattle.event_body.proofs.EventWritingLemmas.Spelled as written
+use Rattle.event_body.proofs.event_writing.laws.writable.Goals as goal
 
 pub returns : goal.returns
 returns c = written.writable

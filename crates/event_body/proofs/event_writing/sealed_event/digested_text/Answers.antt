@@ -1,9 +1,9 @@
 use Rattle.std.proofs.Common.{sym, subst, ◌∙◌}
 use Rattle.std.specs.List.{AllByRecursion}
 use Rattle.json_tree.specs.Spelling.{IsJson}
-use Rattle.event_body.specs.Rules.{digested_values}
-use Rattle.event_writing.proofs.JsonValues.{all_json, digested_are}
-use Rattle.event_writing.proofs.sealed_event.digested_text.Goals as goal
+use Rattle.event_body.specs.EventBody.Rules.{digested_values}
+use Rattle.event_body.proofs.EventWritingLemmas.JsonValues.{all_json, digested_are}
+use Rattle.event_body.proofs.event_writing.sealed_event.digested_text.Goals as goal
 
 pub body_text-requires : goal.body_text-requires
 body_text-requires c =

@@ -1,8 +1,8 @@
 use Rattle.std.proofs.Common.{◌∷◌, ap, ◌∙◌}
 use Rattle.json_tree.specs.declared.tree.Tree.TheVariants.{Str}
 use Rattle.said_digest.specs.Replaced.{placeholder}
-use Rattle.event_body.specs.Spelling.{further_values}
-use Rattle.event_writing.proofs.sealed_event.digested_values.Goals as goal
+use Rattle.event_body.specs.EventBody.Spelling.{further_values}
+use Rattle.event_body.proofs.event_writing.sealed_event.digested_values.Goals as goal
 
 pub returns : goal.returns
 returns c =

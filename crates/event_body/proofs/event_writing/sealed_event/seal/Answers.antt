@@ -1,15 +1,15 @@
 use Rattle.std.proofs.Common.{◌≡◌, IfOk, IfErr, ap, subst, ◌∙◌}
 use Rattle.cesr_codes.specs.Spelling.{IsDigest}
 use Rattle.said_digest.specs.Digests.{digest_of}
-use Rattle.event_body.specs.declared.body_fault.BodyFault.TheVariants.{Said}
-use Rattle.event_body.specs.declared.body_fault.ReadBody.TheVariants.{Fault}
-use Rattle.event_body.specs.Rules.{digested_text}
-use Rattle.event_writing.specs.Faults.{IsFaultOf}
-use Rattle.event_writing.specs.Sealed.{digest_in, sealed_event, with_digest}
-use Rattle.event_writing.proofs.Digested.{text_long}
-use Rattle.event_writing.proofs.OwnDigest.{large_not_said, not_said}
-use Rattle.event_writing.proofs.Read.{too_large}
-use Rattle.event_writing.proofs.sealed_event.seal.Goals as goal
+use Rattle.event_body.specs.declared.event_body.body_fault.BodyFault.TheVariants.{Said}
+use Rattle.event_body.specs.declared.event_body.body_fault.ReadBody.TheVariants.{Fault}
+use Rattle.event_body.specs.EventBody.Rules.{digested_text}
+use Rattle.event_body.specs.EventWriting.Faults.{IsFaultOf}
+use Rattle.event_body.specs.EventWriting.Sealed.{digest_in, sealed_event, with_digest}
+use Rattle.event_body.proofs.EventWritingLemmas.Digested.{text_long}
+use Rattle.event_body.proofs.EventWritingLemmas.OwnDigest.{large_not_said, not_said}
+use Rattle.event_body.proofs.EventWritingLemmas.Read.{too_large}
+use Rattle.event_body.proofs.event_writing.sealed_event.seal.Goals as goal
 
 pub returns-in-Err-clause-fault : goal.returns-in-Err-clause-fault
 returns-in-Err-clause-fault c =

@@ -1,7 +1,7 @@
 use Rattle.std.proofs.Common.{◌∷◌, ◌++◌, [], ap, ◌∙◌}
 use Rattle.json_tree.specs.declared.tree.Tree.TheVariants.{List as TreeList}
-use Rattle.event_writing.proofs.Pushes.{added}
-use Rattle.event_writing.proofs.values.push_rotation.Goals as goal
+use Rattle.event_body.proofs.EventWritingLemmas.Pushes.{added}
+use Rattle.event_body.proofs.event_writing.values.push_rotation.Goals as goal
 
 pub returns : goal.returns
 returns c =

@@ -1,10 +1,10 @@
 use Rattle.std.proofs.Common.{subst}
 use Rattle.std.specs.Prelude.{Contains}
-use Rattle.event_index.specs.Keys.{numbers_at}
-use Rattle.core_tables.specs.Hints.{KeepsBelow}
-use Rattle.export_core.specs.Came.{name_cmp}
-use Rattle.export_core.proofs.Texts.{on_ok_so}
-use Rattle.export_core.proofs.came.add_name.Goals as goal
+use Rattle.escrow.specs.EventIndex.Keys.{numbers_at}
+use Rattle.core_tables.specs.CoreTables.Hints.{KeepsBelow}
+use Rattle.export_core.specs.ExportCore.Came.{name_cmp}
+use Rattle.export_core.proofs.ExportCoreLemmas.Texts.{on_ok_so}
+use Rattle.export_core.proofs.export_core.came.add_name.Goals as goal
 
 pub returns-clause-added : goal.returns-clause-added
 returns-clause-added c = on_ok_so c.add.result c.add.ensures.added (λ h.

@@ -1,8 +1,8 @@
 use Rattle.std.proofs.Common.{◌≡◌, ◌||◌, Bool, true, false, cond, refl, ◌∙◌, ap}
 use Rattle.std.specs.BTreeSet.{contains}
-use Rattle.export_core.specs.Came.{same_signature, signature_cmp}
-use Rattle.export_core.proofs.Orders.{signature_at}
-use Rattle.export_core.proofs.came.add_signature.Goals as goal
+use Rattle.export_core.specs.ExportCore.Came.{same_signature, signature_cmp}
+use Rattle.export_core.proofs.ExportCoreLemmas.Orders.{signature_at}
+use Rattle.export_core.proofs.export_core.came.add_signature.Goals as goal
 
 either : (here there : Bool) → cond here true there ≡ (there || here)
 either true true = refl

@@ -1,11 +1,11 @@
 use Rattle.std.proofs.Common.{◌≡◌, ◌≤◌, ℕ, zero, suc, List, [], ◌∷◌, None, length, refl, sym, ◌∙◌, ap, subst, arith, inl, inr}
 use Rattle.std.specs.Prelude.{Contains, slice_get}
 use Rattle.std.proofs.lemmas.Bool.{cases_lt}
-use Rattle.core_tables.proofs.Places.{got}
-use Rattle.core_tables.specs.Names.{name_of}
-use Rattle.event_index.specs.Keys.{numbers_at}
-use Rattle.export_core.specs.Came.{event_in, name_cmp}
-use Rattle.export_core.proofs.came.entries_by_name.Goals as goal
+use Rattle.core_tables.proofs.CoreTablesLemmas.Places.{got}
+use Rattle.core_tables.specs.CoreTables.Names.{name_of}
+use Rattle.escrow.specs.EventIndex.Keys.{numbers_at}
+use Rattle.export_core.specs.ExportCore.Came.{event_in, name_cmp}
+use Rattle.export_core.proofs.export_core.came.entries_by_name.Goals as goal
 
 none_past : {X : Type 0} (xs : List X) (i : ℕ) → length xs ≤ i → slice_get xs i ≡ None
 none_past [] i h = refl

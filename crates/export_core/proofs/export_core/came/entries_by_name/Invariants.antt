@@ -1,10 +1,10 @@
 use Rattle.std.proofs.Common.{◌≡◌, ◌<◌, ℕ}
 use Rattle.std.specs.Prelude.{Contains, Some, slice_get}
-use Rattle.core_tables.specs.Names.{name_of}
-use Rattle.event_body.specs.declared.event.Event.{Event}
-use Rattle.event_index.specs.Keys.{numbers_at}
-use Rattle.export_core.specs.Came.{event_in, name_cmp}
-use Rattle.export_core.proofs.came.entries_by_name.Given as goal
+use Rattle.core_tables.specs.CoreTables.Names.{name_of}
+use Rattle.event_body.specs.declared.event_body.event.Event.{Event}
+use Rattle.escrow.specs.EventIndex.Keys.{numbers_at}
+use Rattle.export_core.specs.ExportCore.Came.{event_in, name_cmp}
+use Rattle.export_core.proofs.export_core.came.entries_by_name.Given as goal
 
 -- the numbers of the entries so far are there
 abbrev pub invariant-loop-place : goal.invariant-loop-place

@@ -2,8 +2,8 @@ use Rattle.std.proofs.Common.{◌≡◌, ◌||◌, ◌++◌, ◌∷◌, ◌+◌,
 use Rattle.std.specs.List.{list_any}
 use Rattle.std.proofs.lemmas.List.{take_more}
 use Rattle.std.proofs.lemmas.List.Folds.{list_any-append}
-use Rattle.export_core.specs.Came.{is_signature, yes_of}
-use Rattle.export_core.proofs.came.good_signatures.Goals as goal
+use Rattle.export_core.specs.ExportCore.Came.{is_signature, yes_of}
+use Rattle.export_core.proofs.export_core.came.good_signatures.Goals as goal
 
 or_nothing : (b : Bool) → b ≡ (b || false)
 or_nothing true = refl

@@ -1,13 +1,13 @@
 use Rattle.std.proofs.Common.{◌≡◌, ◌+◌, cond, take, length, refl, sym, ◌∙◌, ap, subst, arith}
-use Rattle.validator_core.specs.View.{accepted_by}
-use Rattle.export_laws.specs.Export.{exported}
-use Rattle.export_core.specs.Exported.{PutsAt, messages_at}
-use Rattle.export_core.specs.Messages.{IsExportText}
-use Rattle.export_core.proofs.Placed.{all_before, body_below, take_one}
-use Rattle.export_core.proofs.Putting.{more_counted, more_put}
-use Rattle.journal.specs.Logs.{state}
-use Rattle.export_core.proofs.exported_events.exported_of.Goals as goal
-use Rattle.export_core.proofs.exported_events.exported_of.Goals.{then-is_put+in_ok-count, else-is_put}
+use Rattle.validator_core.specs.ValidatorCore.View.{accepted_by}
+use Rattle.export_core.specs.ExportLaws.Export.{exported}
+use Rattle.export_core.specs.ExportCore.Exported.{PutsAt, messages_at}
+use Rattle.export_core.specs.ExportCore.Messages.{IsExportText}
+use Rattle.export_core.proofs.ExportCoreLemmas.Placed.{all_before, body_below, take_one}
+use Rattle.export_core.proofs.ExportCoreLemmas.Putting.{more_counted, more_put}
+use Rattle.journal.specs.Journal.Logs.{state}
+use Rattle.export_core.proofs.export_core.exported_events.exported_of.Goals as goal
+use Rattle.export_core.proofs.export_core.exported_events.exported_of.Goals.{then-is_put+in_ok-count, else-is_put}
 
 pub loop-place-init : goal.loop-place-init
 unfolding state

@@ -1,9 +1,9 @@
 use Rattle.std.proofs.Common.{◌≡◌, length, take}
-use Rattle.export_laws.specs.Export.{exported}
-use Rattle.validator_core.specs.View.{accepted_by}
-use Rattle.export_core.specs.Exported.{HasSigners, messages_at}
-use Rattle.export_core.specs.Messages.{IsExportText}
-use Rattle.export_core.proofs.exported_events.exported_of.Given as goal
+use Rattle.export_core.specs.ExportLaws.Export.{exported}
+use Rattle.validator_core.specs.ValidatorCore.View.{accepted_by}
+use Rattle.export_core.specs.ExportCore.Exported.{HasSigners, messages_at}
+use Rattle.export_core.specs.ExportCore.Messages.{IsExportText}
+use Rattle.export_core.proofs.export_core.exported_events.exported_of.Given as goal
 
 -- the events so far are put and counted, and the table has what is behind them
 abbrev pub invariant-loop-place : goal.invariant-loop-place

@@ -3,20 +3,20 @@ use Rattle.std.specs.Prelude.{All, option_map, slice_get}
 use Rattle.std.specs.BTreeMap.{get, is_at}
 use Rattle.std.specs.List.{list_any}
 use Rattle.cesr_codes.specs.declared.prefix.Prefix.{Prefix}
-use Rattle.acceptance.specs.Standing.{IsHeld}
-use Rattle.event_body.specs.Events.{prefix_of}
-use Rattle.journal.proofs.Places.{all_at}
+use Rattle.validator_core.specs.Acceptance.Standing.{IsHeld}
+use Rattle.event_body.specs.EventBody.Events.{prefix_of}
+use Rattle.journal.proofs.JournalLemmas.Places.{all_at}
 use Rattle.key_state.specs.Same.{same_prefix}
 use Rattle.key_state.specs.Kept.{IsKept}
-use Rattle.validator_core.specs.View.{accepted_by, told_of}
-use Rattle.export_core.specs.Messages.{IsFixed}
-use Rattle.export_core.specs.Signers.{own_signers, signers_in}
-use Rattle.export_core.specs.Exported.{prefix_cmp}
-use Rattle.export_core.proofs.Cores.{core_grown}
-use Rattle.export_core.proofs.Fixed.{sent_fixed}
-use Rattle.export_core.proofs.Placed.{body_at, number_there}
-use Rattle.export_core.proofs.Putting.{own_witnesses, passed_over, put_there}
-use Rattle.export_core.proofs.exported_events.put_event.Goals as goal
+use Rattle.validator_core.specs.ValidatorCore.View.{accepted_by, told_of}
+use Rattle.export_core.specs.ExportCore.Messages.{IsFixed}
+use Rattle.export_core.specs.ExportCore.Signers.{own_signers, signers_in}
+use Rattle.export_core.specs.ExportCore.Exported.{prefix_cmp}
+use Rattle.export_core.proofs.ExportCoreLemmas.Cores.{core_grown}
+use Rattle.export_core.proofs.ExportCoreLemmas.Fixed.{sent_fixed}
+use Rattle.export_core.proofs.ExportCoreLemmas.Placed.{body_at, number_there}
+use Rattle.export_core.proofs.ExportCoreLemmas.Putting.{own_witnesses, passed_over, put_there}
+use Rattle.export_core.proofs.export_core.exported_events.put_event.Goals as goal
 
 pub returns-in_default : goal.returns-in_default
 returns-in_default c = λ b at.

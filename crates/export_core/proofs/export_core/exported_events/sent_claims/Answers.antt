@@ -1,19 +1,19 @@
 use Rattle.std.proofs.Common.{◌≡◌, map, sym, ◌∙◌, ap}
 use Rattle.std.specs.Prelude.{Some, filter, flat_map, slice_get}
-use Rattle.core_tables.specs.EntryClaims.{came_to}
-use Rattle.core_tables.specs.Names.{name_of}
-use Rattle.event_index.specs.Keys.{numbers_at}
-use Rattle.journal.specs.declared.body.Body.{Body}
-use Rattle.journal.specs.Replies.{same_claim}
+use Rattle.core_tables.specs.CoreTables.EntryClaims.{came_to}
+use Rattle.core_tables.specs.CoreTables.Names.{name_of}
+use Rattle.escrow.specs.EventIndex.Keys.{numbers_at}
+use Rattle.journal.specs.declared.journal.body.Body.{Body}
+use Rattle.journal.specs.Journal.Replies.{same_claim}
 use Rattle.key_state.specs.Same.{distinct}
-use Rattle.export_laws.specs.Export.{ordered}
-use Rattle.validator_core.specs.View.{told_of}
-use Rattle.export_core.specs.Came.{name_cmp}
-use Rattle.export_core.specs.Exported.{sent_by}
-use Rattle.export_core.specs.GoodClaims.{is_good_by}
-use Rattle.export_core.proofs.Claims.{if_ok_so}
-use Rattle.export_core.proofs.Sent.{sent_there}
-use Rattle.export_core.proofs.exported_events.sent_claims.Goals as goal
+use Rattle.export_core.specs.ExportLaws.Export.{ordered}
+use Rattle.validator_core.specs.ValidatorCore.View.{told_of}
+use Rattle.export_core.specs.ExportCore.Came.{name_cmp}
+use Rattle.export_core.specs.ExportCore.Exported.{sent_by}
+use Rattle.export_core.specs.ExportCore.GoodClaims.{is_good_by}
+use Rattle.export_core.proofs.ExportCoreLemmas.Claims.{if_ok_so}
+use Rattle.export_core.proofs.ExportCoreLemmas.Sent.{sent_there}
+use Rattle.export_core.proofs.export_core.exported_events.sent_claims.Goals as goal
 
 pub returns : goal.returns
 returns c =

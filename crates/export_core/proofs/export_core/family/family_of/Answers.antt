@@ -1,11 +1,11 @@
 use Rattle.std.proofs.Common.{◌≡◌, true, false, Bool, not, refl, sym, ◌∙◌, ap, subst}
 use Rattle.std.specs.BTreeSet.{contains, insert_key}
 use Rattle.std.specs.Bool.{OnFalse}
-use Rattle.validator_core.specs.View.{accepted_by}
-use Rattle.export_laws.specs.Export.{IsFamily}
-use Rattle.export_core.specs.Exported.{prefix_cmp}
-use Rattle.export_core.proofs.Families.{AreFound, first_found, has_among, inserted, one_more, whole_none, whole_there}
-use Rattle.export_core.proofs.family.family_of.Goals as goal
+use Rattle.validator_core.specs.ValidatorCore.View.{accepted_by}
+use Rattle.export_core.specs.ExportLaws.Export.{IsFamily}
+use Rattle.export_core.specs.ExportCore.Exported.{prefix_cmp}
+use Rattle.export_core.proofs.ExportCoreLemmas.Families.{AreFound, first_found, has_among, inserted, one_more, whole_none, whole_there}
+use Rattle.export_core.proofs.export_core.family.family_of.Goals as goal
 
 pub loop-init : goal.loop-init
 loop-init c = subst (AreFound (accepted_by c.args.core.now) c.args.first.now c.args.first.now)

@@ -1,6 +1,6 @@
-use Rattle.validator_core.specs.View.{accepted_by}
-use Rattle.export_core.proofs.Families.{AreFound}
-use Rattle.export_core.proofs.family.family_of.Given as goal
+use Rattle.validator_core.specs.ValidatorCore.View.{accepted_by}
+use Rattle.export_core.proofs.ExportCoreLemmas.Families.{AreFound}
+use Rattle.export_core.proofs.export_core.family.family_of.Given as goal
 
 -- those so far are found
 abbrev pub invariant-loop : goal.invariant-loop

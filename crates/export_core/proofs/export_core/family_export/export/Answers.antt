@@ -1,7 +1,7 @@
 use Rattle.std.proofs.Common.{not, ◌∙◌, ap}
-use Rattle.validator_core.specs.View.{state_of}
-use Rattle.export_core.proofs.Cores.{is_export, known, none_map, some_map, unknown}
-use Rattle.export_core.proofs.family_export.export.Goals as goal
+use Rattle.validator_core.specs.ValidatorCore.View.{state_of}
+use Rattle.export_core.proofs.ExportCoreLemmas.Cores.{is_export, known, none_map, some_map, unknown}
+use Rattle.export_core.proofs.export_core.family_export.export.Goals as goal
 
 pub returns-then-is_none-clause-unknown : goal.returns-then-is_none-clause-unknown
 returns-then-is_none-clause-unknown c = λ none. unknown c.args.core.now c.requires.full c.requires.no_base c.args.prefix.now

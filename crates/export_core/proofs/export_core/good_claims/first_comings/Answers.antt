@@ -3,13 +3,13 @@ use Rattle.std.specs.BTreeMap.{is_at}
 use Rattle.std.specs.BTreeSet.{contains}
 use Rattle.std.specs.List.{list_any}
 use Rattle.std.proofs.lemmas.List.{take_more}
-use Rattle.journal.specs.Replies.{same_claim}
-use Rattle.journal.proofs.Distinct.{distinct-push_new, distinct-push_old}
+use Rattle.journal.specs.Journal.Replies.{same_claim}
+use Rattle.journal.proofs.JournalLemmas.Distinct.{distinct-push_new, distinct-push_old}
 use Rattle.key_state.specs.Same.{distinct}
-use Rattle.event_payload.proofs.Adding.{seen_more}
-use Rattle.export_core.proofs.Orders.{claim_at, claim_cmp}
-use Rattle.export_core.proofs.good_claims.first_comings.Goals as goal
-use Rattle.export_core.proofs.good_claims.first_comings.Goals.{then-branch+in_ok-push, else-branch}
+use Rattle.journal_views.proofs.EventPayloadLemmas.Adding.{seen_more}
+use Rattle.export_core.proofs.ExportCoreLemmas.Orders.{claim_at, claim_cmp}
+use Rattle.export_core.proofs.export_core.good_claims.first_comings.Goals as goal
+use Rattle.export_core.proofs.export_core.good_claims.first_comings.Goals.{then-branch+in_ok-push, else-branch}
 
 not_true : (b : Bool) → not b ≡ true → b ≡ false
 not_true true h = cc

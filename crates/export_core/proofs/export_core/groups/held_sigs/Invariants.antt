@@ -1,9 +1,9 @@
 use Rattle.std.proofs.Common.{◌≡◌, ◌≤◌, length, map, take}
 use Rattle.std.specs.Prelude.{All, filter}
 use Rattle.cesr_codes.specs.Indexed.{IsIndexed}
-use Rattle.journal.specs.declared.claim.Claim.TheVariants.{Held}
-use Rattle.journal.specs.Replies.{is_held}
-use Rattle.export_core.proofs.groups.held_sigs.Given as goal
+use Rattle.journal.specs.declared.journal.claim.Claim.TheVariants.{Held}
+use Rattle.journal.specs.Journal.Replies.{is_held}
+use Rattle.export_core.proofs.export_core.groups.held_sigs.Given as goal
 
 -- those of the claims so far are found
 abbrev pub invariant-loop-claim : goal.invariant-loop-claim

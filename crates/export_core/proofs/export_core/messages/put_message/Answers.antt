@@ -1,6 +1,6 @@
 use Rattle.std.proofs.Common.{arith}
-use Rattle.export_core.proofs.Texts.{on_ok_so, parts_put}
-use Rattle.export_core.proofs.messages.put_message.Goals as goal
+use Rattle.export_core.proofs.ExportCoreLemmas.Texts.{on_ok_so, parts_put}
+use Rattle.export_core.proofs.export_core.messages.put_message.Goals as goal
 
 pub returns : goal.returns
 returns c = on_ok_so c.put_couples.result c.put_couples.ensures (λ put.

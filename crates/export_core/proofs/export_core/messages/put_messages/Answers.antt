@@ -1,8 +1,8 @@
 use Rattle.std.proofs.Common.{sym, subst}
-use Rattle.export_core.specs.Messages.{PutsCut}
-use Rattle.export_core.proofs.Runs.{cut_some}
-use Rattle.export_core.proofs.Texts.{on_ok_so}
-use Rattle.export_core.proofs.messages.put_messages.Goals as goal
+use Rattle.export_core.specs.ExportCore.Messages.{PutsCut}
+use Rattle.export_core.proofs.ExportCoreLemmas.Runs.{cut_some}
+use Rattle.export_core.proofs.ExportCoreLemmas.Texts.{on_ok_so}
+use Rattle.export_core.proofs.export_core.messages.put_messages.Goals as goal
 
 pub returns-in-Some : goal.returns-in-Some
 returns-in-Some c = on_ok_so c.put_runs.result c.put_runs.ensures (λ put.

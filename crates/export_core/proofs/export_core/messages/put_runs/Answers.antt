@@ -1,10 +1,10 @@
 use Rattle.std.proofs.Common.{◌≡◌, ◌+◌, ◌∷◌, drop, length, sym, ◌∙◌, ap, subst, arith}
 use Rattle.std.specs.Prelude.{All}
 use Rattle.std.proofs.lemmas.List.Elements.{All-drop}
-use Rattle.export_core.specs.Messages.{IsFixed, PutsMessage}
-use Rattle.export_core.proofs.Runs.{IsLeft, less_left, none_left}
-use Rattle.export_core.proofs.Texts.{on_ok_so}
-use Rattle.export_core.proofs.messages.put_runs.Goals as goal
+use Rattle.export_core.specs.ExportCore.Messages.{IsFixed, PutsMessage}
+use Rattle.export_core.proofs.ExportCoreLemmas.Runs.{IsLeft, less_left, none_left}
+use Rattle.export_core.proofs.ExportCoreLemmas.Texts.{on_ok_so}
+use Rattle.export_core.proofs.export_core.messages.put_runs.Goals as goal
 
 pub loop-left-preserved : goal.loop-left-preserved
 loop-left-preserved c =

@@ -1,8 +1,8 @@
 use Rattle.std.proofs.Common.{length}
 use Rattle.std.specs.Prelude.{All}
-use Rattle.export_core.specs.Messages.{IsFixed}
-use Rattle.export_core.proofs.Runs.{IsLeft}
-use Rattle.export_core.proofs.messages.put_runs.Given as goal
+use Rattle.export_core.specs.ExportCore.Messages.{IsFixed}
+use Rattle.export_core.proofs.ExportCoreLemmas.Runs.{IsLeft}
+use Rattle.export_core.proofs.export_core.messages.put_runs.Given as goal
 
 -- what is left has keys that can't be rotated, and with its messages those of all are put
 abbrev pub invariant-loop-left : goal.invariant-loop-left

@@ -1,5 +1,5 @@
-use Rattle.export_laws.proofs.FamilyReport.{family_report}
-use Rattle.export_laws.proofs.family_laws.families_report_alone.Goals as goal
+use Rattle.export_core.proofs.ExportLawsLemmas.FamilyReport.{family_report}
+use Rattle.export_core.proofs.export_laws.family_laws.families_report_alone.Goals as goal
 
 pub returns : goal.returns
 returns c = family_report

@@ -1,8 +1,8 @@
 use Rattle.std.proofs.Common.{◌∙◌, sym, ap}
 use Rattle.std.specs.Option.{option_copied}
-use Rattle.event_rules.specs.Claims.{passes}
-use Rattle.event_rules.specs.Parts.{opens_at}
-use Rattle.event_rules.proofs.claim_support.opens_place.Goals as goal
+use Rattle.journal.specs.EventRules.Claims.{passes}
+use Rattle.journal.specs.EventRules.Parts.{opens_at}
+use Rattle.journal.proofs.event_rules.claim_support.opens_place.Goals as goal
 
 pub returns-in-Some : goal.returns-in-Some
 returns-in-Some g c =

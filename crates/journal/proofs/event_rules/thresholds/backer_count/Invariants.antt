@@ -1,8 +1,8 @@
 use Rattle.std.proofs.Common.{◌≡◌, ◌≤◌, length}
 use Rattle.std.specs.Prelude.{filter}
-use Rattle.event_rules.specs.Parts.{backer}
+use Rattle.journal.specs.EventRules.Parts.{backer}
 use Rattle.key_state.specs.Exposure.{numbers_below}
-use Rattle.event_rules.proofs.thresholds.backer_count.Given as goal
+use Rattle.journal.proofs.event_rules.thresholds.backer_count.Given as goal
 
 abbrev pub invariant-loop-place : goal.invariant-loop-place
 invariant-loop-place g l = (l.backers ≡ length (filter (λ n. g.S.Support.has l.support (backer n)) (numbers_below l.place))) × (l.backers ≤ l.place)

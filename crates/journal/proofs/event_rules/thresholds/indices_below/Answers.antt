@@ -1,7 +1,7 @@
 use Rattle.std.proofs.Common.{◌≤◌, ◌+◌, rules, sym, length, subst}
 use Rattle.key_state.proofs.Numbers.{none_below}
-use Rattle.event_rules.proofs.Filters.{more_places, push_few}
-use Rattle.event_rules.proofs.thresholds.indices_below.Goals as goal
+use Rattle.journal.proofs.EventRulesLemmas.Filters.{more_places, push_few}
+use Rattle.journal.proofs.event_rules.thresholds.indices_below.Goals as goal
 
 pub loop-index-init : goal.loop-index-init
 loop-index-init g c = search (rules, c, none_below)

@@ -1,7 +1,7 @@
 use Rattle.std.proofs.Common.{◌≤◌, ◌+◌, rules, sym, length, subst}
 use Rattle.key_state.proofs.Numbers.{none_below}
-use Rattle.event_rules.proofs.Filters.{more_places, push_few}
-use Rattle.event_rules.proofs.thresholds.revealed_below.Goals as goal
+use Rattle.journal.proofs.EventRulesLemmas.Filters.{more_places, push_few}
+use Rattle.journal.proofs.event_rules.thresholds.revealed_below.Goals as goal
 
 pub loop-place-init : goal.loop-place-init
 loop-place-init g c = search (rules, c, none_below)

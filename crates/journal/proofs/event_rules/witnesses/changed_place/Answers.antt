@@ -2,11 +2,11 @@ use Rattle.std.proofs.Common.{◌≡◌, ◌+◌, ◌∙◌, sym, ap, false, tru
 use Rattle.std.specs.Prelude.{filter, not, slice_get, take}
 use Rattle.key_state.specs.KeyStates.{changed_list}
 use Rattle.key_state.specs.Same.{has_key}
-use Rattle.event_rules.specs.Claims.{has_this}
-use Rattle.event_rules.proofs.KeyPlaces.{filter_few}
-use Rattle.event_rules.proofs.ChangedPlaces.{added_at, cut_not_added, left_at, never_there, place_within}
-use Rattle.event_rules.proofs.witnesses.changed_place.Goals.{then-not-has_key+in_default, else-not-has_key}
-use Rattle.event_rules.proofs.witnesses.changed_place.Goals as goal
+use Rattle.journal.specs.EventRules.Claims.{has_this}
+use Rattle.journal.proofs.EventRulesLemmas.KeyPlaces.{filter_few}
+use Rattle.journal.proofs.EventRulesLemmas.ChangedPlaces.{added_at, cut_not_added, left_at, never_there, place_within}
+use Rattle.journal.proofs.event_rules.witnesses.changed_place.Goals.{then-not-has_key+in_default, else-not-has_key}
+use Rattle.journal.proofs.event_rules.witnesses.changed_place.Goals as goal
 
 pub returns-in-Some-clause-found : goal.returns-in-Some-clause-found
 returns-in-Some-clause-found c =

@@ -1,7 +1,7 @@
 use Rattle.std.proofs.Common.{sym, ◌∙◌, arith}
 use Rattle.std.specs.declared.alloc.AllocError.{AllocError}
-use Rattle.event_payload.proofs.Readings.{left_none, next_left, not_groups}
-use Rattle.event_payload.proofs.front.are_groups.Goals as goal
+use Rattle.journal_views.proofs.EventPayloadLemmas.Readings.{left_none, next_left, not_groups}
+use Rattle.journal_views.proofs.event_payload.front.are_groups.Goals as goal
 
 pub returns-then-not-is_group : goal.returns-then-not-is_group
 returns-then-not-is_group c =

@@ -1,6 +1,6 @@
 use Rattle.std.proofs.Common.{length}
-use Rattle.event_payload.proofs.Readings.{Left}
-use Rattle.event_payload.proofs.front.are_groups.Given as goal
+use Rattle.journal_views.proofs.EventPayloadLemmas.Readings.{Left}
+use Rattle.journal_views.proofs.event_payload.front.are_groups.Given as goal
 
 -- what is left is groups just where all was
 abbrev pub invariant-loop-reader : goal.invariant-loop-reader

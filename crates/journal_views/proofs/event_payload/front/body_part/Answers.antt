@@ -1,6 +1,6 @@
 use Rattle.std.proofs.Common.{◌∙◌}
-use Rattle.event_payload.proofs.Openings.{opens}
-use Rattle.event_payload.proofs.front.body_part.Goals as goal
+use Rattle.journal_views.proofs.EventPayloadLemmas.Openings.{opens}
+use Rattle.journal_views.proofs.event_payload.front.body_part.Goals as goal
 
 pub sized_front-requires : goal.sized_front-requires
 sized_front-requires c =

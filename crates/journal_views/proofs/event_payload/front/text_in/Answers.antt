@@ -1,7 +1,7 @@
 use Rattle.std.proofs.Common.{[], take, sym, ◌∙◌, ap, if◌then◌else◌}
 use Rattle.std.specs.declared.alloc.AllocError.{AllocError}
-use Rattle.event_payload.proofs.Readings.{body_there, fed_all, no_body}
-use Rattle.event_payload.proofs.front.text_in.Goals as goal
+use Rattle.journal_views.proofs.EventPayloadLemmas.Readings.{body_there, fed_all, no_body}
+use Rattle.journal_views.proofs.event_payload.front.text_in.Goals as goal
 
 pub returns-in-None : goal.returns-in-None
 returns-in-None c =

@@ -1,9 +1,9 @@
 use Rattle.std.proofs.Common.{rules, ◌≡◌, ◌++◌, ◌∷◌, sym, ◌∙◌, ap, append_assoc}
 use Rattle.std.specs.Slice.Iter.{chunks_rest}
 use Rattle.cesr_stream.specs.Written.{item_text}
-use Rattle.event_payload.specs.Payloads.{group_of, groups_text, parts_of}
-use Rattle.event_payload.proofs.Cuts.{parts_step}
-use Rattle.event_payload.proofs.payload_text.put_groups.Goals as goal
+use Rattle.journal_views.specs.EventPayload.Payloads.{group_of, groups_text, parts_of}
+use Rattle.journal_views.proofs.EventPayloadLemmas.Cuts.{parts_step}
+use Rattle.journal_views.proofs.event_payload.payload_text.put_groups.Goals as goal
 
 pub loop-part-preserved : goal.loop-part-preserved
 loop-part-preserved c =

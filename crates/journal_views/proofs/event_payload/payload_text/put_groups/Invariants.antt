@@ -1,7 +1,7 @@
 use Rattle.std.proofs.Common.{◌≡◌, ◌++◌}
 use Rattle.std.specs.Slice.Iter.{chunks_rest, chunks_size}
-use Rattle.event_payload.specs.Payloads.{groups_text, parts_of}
-use Rattle.event_payload.proofs.payload_text.put_groups.Given as goal
+use Rattle.journal_views.specs.EventPayload.Payloads.{groups_text, parts_of}
+use Rattle.journal_views.proofs.event_payload.payload_text.put_groups.Given as goal
 
 -- the groups so far are put, and with those of the rest these are all
 abbrev pub invariant-loop-part : goal.invariant-loop-part

@@ -3,14 +3,14 @@ use Rattle.std.proofs.lemmas.List.{length-map, get_or-map}
 use Rattle.std.proofs.lemmas.List.Elements.{All-nil}
 use Rattle.std.proofs.lemmas.Result.{IfOk-weaker}
 use Rattle.std.proofs.lemmas.Simd.{map-map}
-use Rattle.journal.specs.Conflicts.{AreConflicts}
-use Rattle.journal.specs.Journals.{chosen}
-use Rattle.journal_views.specs.Groups.{cut}
-use Rattle.journal_views.specs.Rankings.{number_place}
-use Rattle.journal_views.proofs.Bodies.{all-held}
-use Rattle.journal_views.proofs.Cuts.{All-cut}
-use Rattle.journal_views.proofs.Numbers.{conflicts-of}
-use Rattle.journal_views.proofs.conflicts.conflict_sets.Goals as goal
+use Rattle.journal.specs.Journal.Conflicts.{AreConflicts}
+use Rattle.journal.specs.Journal.Journals.{chosen}
+use Rattle.journal_views.specs.JournalViews.Groups.{cut}
+use Rattle.journal_views.specs.JournalViews.Rankings.{number_place}
+use Rattle.journal_views.proofs.JournalViewsLemmas.Bodies.{all-held}
+use Rattle.journal_views.proofs.JournalViewsLemmas.Cuts.{All-cut}
+use Rattle.journal_views.proofs.JournalViewsLemmas.Numbers.{conflicts-of}
+use Rattle.journal_views.proofs.journal_views.conflicts.conflict_sets.Goals as goal
 
 pub returns-clause-conflicts : goal.returns-clause-conflicts
 returns-clause-conflicts c held bytes_are events_are =

@@ -5,10 +5,10 @@ use Rattle.std.proofs.lemmas.Fn.{always_returns_same}
 use Rattle.std.proofs.lemmas.List.Filters.{dedup_is, All-dedup}
 use Rattle.std.proofs.lemmas.List.Kept.{IsStrictlySortedBy-dedup, Contains-dedup_nat, Contains-from_dedup}
 use Rattle.std.proofs.lemmas.List.Sorted.{ranks_by, All-permutation, Contains-permutation, IsPermutation-sym}
-use Rattle.journal_views.specs.Rankings.{number_cmp, spelled_cmp}
-use Rattle.journal_views.proofs.Orders.{number_total, number_ties, spelled_is}
-use Rattle.journal_views.proofs.Numbers.{pairs}
-use Rattle.journal_views.proofs.conflicts.in_order.Goals as goal
+use Rattle.journal_views.specs.JournalViews.Rankings.{number_cmp, spelled_cmp}
+use Rattle.journal_views.proofs.JournalViewsLemmas.Orders.{number_total, number_ties, spelled_is}
+use Rattle.journal_views.proofs.JournalViewsLemmas.Numbers.{pairs}
+use Rattle.journal_views.proofs.journal_views.conflicts.in_order.Goals as goal
 
 pub returns : goal.returns
 returns c =

@@ -1,10 +1,10 @@
 use Rattle.std.proofs.Common.{◌≡◌, ◌+◌, ℕ, Vec, Global, List, get_or, ◌∷◌, ◌++◌, [], ◌∙◌, sym, ap, refl, drop, map, arith}
 use Rattle.std.proofs.lemmas.List.{append_assoc, drop_all, drop_more}
-use Rattle.journal_views.specs.Groups.{as_set, cut, is_apart}
-use Rattle.journal_views.specs.Rankings.{number_place}
-use Rattle.journal_views.proofs.Cuts.{cut-end, cut-apart, cut-here}
-use Rattle.journal_views.proofs.conflicts.sets_of.Goals as goal
-use Rattle.journal_views.proofs.conflicts.sets_of.Goals.{then-is_elsewhere+in_ok-close, else-is_elsewhere}
+use Rattle.journal_views.specs.JournalViews.Groups.{as_set, cut, is_apart}
+use Rattle.journal_views.specs.JournalViews.Rankings.{number_place}
+use Rattle.journal_views.proofs.JournalViewsLemmas.Cuts.{cut-end, cut-apart, cut-here}
+use Rattle.journal_views.proofs.journal_views.conflicts.sets_of.Goals as goal
+use Rattle.journal_views.proofs.journal_views.conflicts.sets_of.Goals.{then-is_elsewhere+in_ok-close, else-is_elsewhere}
 
 pub loop-place-init : goal.loop-place-init
 loop-place-init c = record { ahead = rw (c.new-group.ensures.items, c.new-sets.ensures.items) refl }

@@ -1,7 +1,7 @@
 use Rattle.std.proofs.Common.{◌≡◌, ◌++◌, [], drop, map}
-use Rattle.journal_views.specs.Groups.{cut}
-use Rattle.journal_views.specs.Rankings.{number_place}
-use Rattle.journal_views.proofs.conflicts.sets_of.Given as goal
+use Rattle.journal_views.specs.JournalViews.Groups.{cut}
+use Rattle.journal_views.specs.JournalViews.Rankings.{number_place}
+use Rattle.journal_views.proofs.journal_views.conflicts.sets_of.Given as goal
 
 -- the sets so far are followed by those of the open group and of what is left
 abbrev pub invariant-loop-place : goal.invariant-loop-place

@@ -1,9 +1,9 @@
 use Rattle.std.proofs.Common.{◌∙◌, sym, subst, ap, take, rules, of_calls, arith}
 use Rattle.std.specs.Prelude.{AllPairs, ◌<◌, filter, nat_lt}
 use Rattle.std.proofs.lemmas.Fn.{always_returns_same}
-use Rattle.journal_views.specs.Rises.{sn_at}
-use Rattle.journal_views.proofs.Living.{filter-point, parted}
-use Rattle.journal_views.proofs.live_events.drop_superseded.Goals as goal
+use Rattle.journal_views.specs.JournalViews.Rises.{sn_at}
+use Rattle.journal_views.proofs.JournalViewsLemmas.Living.{filter-point, parted}
+use Rattle.journal_views.proofs.journal_views.live_events.drop_superseded.Goals as goal
 
 pub returns : goal.returns
 returns c =

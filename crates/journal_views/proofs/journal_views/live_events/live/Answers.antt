@@ -1,15 +1,15 @@
 use Rattle.std.proofs.Common.{◌≡◌, ◌<◌, ◌∷◌, ◌++◌, [], ◌∙◌, refl, sym, subst, ap, nat_lt, length, take, true, false, arith, get_or}
 use Rattle.std.specs.Prelude.{AllPairs, filter}
 use Rattle.std.proofs.lemmas.List.Elements.{All-push, All-filter}
-use Rattle.event_body.specs.Events.{prefix_of, sn_of}
-use Rattle.journal.specs.Journals.{chosen}
-use Rattle.journal.specs.Logs.{live}
-use Rattle.journal_views.specs.Rises.{sn_or, sn_at}
-use Rattle.journal_views.proofs.Bodies.{body-at, got}
-use Rattle.journal_views.proofs.Living.{live-other, chosen-next, numbers-more, rising-more}
+use Rattle.event_body.specs.EventBody.Events.{prefix_of, sn_of}
+use Rattle.journal.specs.Journal.Journals.{chosen}
+use Rattle.journal.specs.Journal.Logs.{live}
+use Rattle.journal_views.specs.JournalViews.Rises.{sn_or, sn_at}
+use Rattle.journal_views.proofs.JournalViewsLemmas.Bodies.{body-at, got}
+use Rattle.journal_views.proofs.JournalViewsLemmas.Living.{live-other, chosen-next, numbers-more, rising-more}
 use Rattle.key_state.specs.Same.{same_prefix}
-use Rattle.journal_views.proofs.live_events.live.Goals as goal
-use Rattle.journal_views.proofs.live_events.live.Goals.{then-is_of+in_ok-push, else-is_of}
+use Rattle.journal_views.proofs.journal_views.live_events.live.Goals as goal
+use Rattle.journal_views.proofs.journal_views.live_events.live.Goals.{then-is_of+in_ok-push, else-is_of}
 
 pub loop-place-init : goal.loop-place-init
 unfolding live chosen

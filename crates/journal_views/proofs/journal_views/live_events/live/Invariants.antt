@@ -1,10 +1,10 @@
 use Rattle.std.proofs.Common.{◌≡◌, ◌<◌, List, length, map, take, All}
 use Rattle.std.specs.Prelude.{AllPairs}
-use Rattle.journal.specs.declared.body.Body.{Body}
-use Rattle.journal.specs.Journals.{chosen}
-use Rattle.journal.specs.Logs.{live}
-use Rattle.journal_views.specs.Rises.{sn_at}
-use Rattle.journal_views.proofs.live_events.live.Given as goal
+use Rattle.journal.specs.declared.journal.body.Body.{Body}
+use Rattle.journal.specs.Journal.Journals.{chosen}
+use Rattle.journal.specs.Journal.Logs.{live}
+use Rattle.journal_views.specs.JournalViews.Rises.{sn_at}
+use Rattle.journal_views.proofs.journal_views.live_events.live.Given as goal
 
 -- what is live among those so far
 abbrev pub invariant-loop-place : goal.invariant-loop-place

@@ -1,7 +1,7 @@
 use Rattle.std.proofs.Common.{◌≡◌, true, rules}
 use Rattle.key_state.specs.Same.{same_prefix}
-use Rattle.journal_views.proofs.Orders.{same_text}
-use Rattle.journal_views.proofs.places.prefix_order.Goals as goal
+use Rattle.journal_views.proofs.JournalViewsLemmas.Orders.{same_text}
+use Rattle.journal_views.proofs.journal_views.places.prefix_order.Goals as goal
 
 pub returns-then-eq : goal.returns-then-eq
 returns-then-eq c =

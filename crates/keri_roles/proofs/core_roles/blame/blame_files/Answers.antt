@@ -1,13 +1,13 @@
 use Rattle.std.proofs.Common.{◌∷◌, [], refl}
-use Rattle.journal.specs.declared.mode.Mode.TheVariants.{Full}
-use Rattle.run_status.specs.Readers.{reader_seen}
-use Rattle.reader_threads.specs.Given.{Given, given_by}
-use Rattle.reader_threads.specs.Told.{AllTold}
-use Rattle.core_roles.specs.CoreTold.{IsJournalOf}
-use Rattle.core_roles.proofs.Blamed.{owes_blames}
-use Rattle.core_roles.proofs.CompleteOver.{both_there}
-use Rattle.core_roles.proofs.CoreTold.{is_told_by, journal_of, same_journal}
-use Rattle.core_roles.proofs.blame.blame_files.Goals as goal
+use Rattle.journal.specs.declared.journal.mode.Mode.TheVariants.{Full}
+use Rattle.run_status.specs.RunStatus.Readers.{reader_seen}
+use Rattle.reader_hub.specs.ReaderThreads.Given.{Given, given_by}
+use Rattle.reader_hub.specs.ReaderThreads.Told.{AllTold}
+use Rattle.keri_roles.specs.CoreRoles.CoreTold.{IsJournalOf}
+use Rattle.keri_roles.proofs.CoreRolesLemmas.Blamed.{owes_blames}
+use Rattle.keri_roles.proofs.CoreRolesLemmas.CompleteOver.{both_there}
+use Rattle.keri_roles.proofs.CoreRolesLemmas.CoreTold.{is_told_by, journal_of, same_journal}
+use Rattle.keri_roles.proofs.core_roles.blame.blame_files.Goals as goal
 
 pub text_of-owed-requires-clause-full : goal.text_of-owed-requires-clause-full
 text_of-owed-requires-clause-full g c = (c.read-one.ensures Full c.limits-limits.result c.in_ok-seat.ensures).mode_is

@@ -1,5 +1,5 @@
 use Rattle.std.proofs.Common.{length, ap, arith}
-use Rattle.core_roles.proofs.blame.both_in.Goals as goal
+use Rattle.keri_roles.proofs.core_roles.blame.both_in.Goals as goal
 
 pub unwrap-requires : goal.unwrap-requires
 unwrap-requires g c =

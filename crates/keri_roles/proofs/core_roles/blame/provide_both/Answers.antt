@@ -1,9 +1,9 @@
 use Rattle.std.proofs.Common.{◌∷◌, []}
-use Rattle.run_status.specs.Readers.{source_seen, verifier_seen}
-use Rattle.reader_threads.specs.Given.{given_by}
-use Rattle.core_roles.proofs.CoreTold.{seen_none}
-use Rattle.core_roles.proofs.Provided.{is_given, provided_more}
-use Rattle.core_roles.proofs.blame.provide_both.Goals as goal
+use Rattle.run_status.specs.RunStatus.Readers.{source_seen, verifier_seen}
+use Rattle.reader_hub.specs.ReaderThreads.Given.{given_by}
+use Rattle.keri_roles.proofs.CoreRolesLemmas.CoreTold.{seen_none}
+use Rattle.keri_roles.proofs.CoreRolesLemmas.Provided.{is_given, provided_more}
+use Rattle.keri_roles.proofs.core_roles.blame.provide_both.Goals as goal
 
 pub returns-clause-provided : goal.returns-clause-provided
 returns-clause-provided g c =

@@ -1,8 +1,8 @@
 use Rattle.std.proofs.Common.{refl, map}
-use Rattle.run_status.specs.Readers.{reader_seen}
-use Rattle.core_roles.specs.CoreTold.{HadMemory, plain}
-use Rattle.core_roles.proofs.OverCore.{owes_so}
-use Rattle.core_roles.proofs.over_core.outcome_of.Goals as goal
+use Rattle.run_status.specs.RunStatus.Readers.{reader_seen}
+use Rattle.keri_roles.specs.CoreRoles.CoreTold.{HadMemory, plain}
+use Rattle.keri_roles.proofs.CoreRolesLemmas.OverCore.{owes_so}
+use Rattle.keri_roles.proofs.core_roles.over_core.outcome_of.Goals as goal
 
 pub returns-clause-owes : goal.returns-clause-owes
 returns-clause-owes g c =

@@ -1,11 +1,11 @@
 use Rattle.std.proofs.Common.{◌≡◌, [], false, ◌∙◌, ap, arith, map}
-use Rattle.run_status.specs.Readers.{reader_seen}
-use Rattle.validator_core.specs.View.{told_of}
-use Rattle.reader_threads.specs.Given.{given_by}
-use Rattle.reader_threads.specs.Told.{AllTold}
-use Rattle.core_roles.proofs.CompleteOver.{over_files}
-use Rattle.core_roles.proofs.CoreTold.{is_told_by, owes_plain, same_journal, untold}
-use Rattle.core_roles.proofs.over_core.over_core.Goals as goal
+use Rattle.run_status.specs.RunStatus.Readers.{reader_seen}
+use Rattle.validator_core.specs.ValidatorCore.View.{told_of}
+use Rattle.reader_hub.specs.ReaderThreads.Given.{given_by}
+use Rattle.reader_hub.specs.ReaderThreads.Told.{AllTold}
+use Rattle.keri_roles.proofs.CoreRolesLemmas.CompleteOver.{over_files}
+use Rattle.keri_roles.proofs.CoreRolesLemmas.CoreTold.{is_told_by, owes_plain, same_journal, untold}
+use Rattle.keri_roles.proofs.core_roles.over_core.over_core.Goals as goal
 
 pub new-requires-clause-untold : goal.new-requires-clause-untold
 new-requires-clause-untold g c =

@@ -1,17 +1,17 @@
 use Rattle.std.proofs.Common.{◌≡◌, [], length, inl, inr, refl, sym, ◌∙◌, ap, subst, map, None, option_map, arith}
-use Rattle.run_status.specs.Readers.{reader_seen, source_seen}
-use Rattle.validator_core.specs.View.{told_of}
-use Rattle.reader_threads.specs.Given.{given_by}
-use Rattle.reader_threads.specs.Told.{AllTold}
-use Rattle.core_roles.specs.CoreTold.{IsOverCore, OwesText, core_of, plain}
-use Rattle.core_roles.specs.LinksTold.{AreLinked, TakesLinks}
-use Rattle.core_roles.specs.Work.{LinksTold, Work}
-use Rattle.run_record.specs.Seen.{door_seen, sinks_seen}
-use Rattle.core_roles.proofs.CompleteOver.{over_linked}
-use Rattle.core_roles.proofs.CoreTold.{is_told_by, journal_of, owes_plain, same_journal, untold}
-use Rattle.core_roles.proofs.Linked.{any_ready, are_linked}
-use Rattle.core_roles.proofs.over_links.over_links.Goals as goal
-use Rattle.core_roles.proofs.over_links.over_links.Goals.{in-Ok, in-Err}
+use Rattle.run_status.specs.RunStatus.Readers.{reader_seen, source_seen}
+use Rattle.validator_core.specs.ValidatorCore.View.{told_of}
+use Rattle.reader_hub.specs.ReaderThreads.Given.{given_by}
+use Rattle.reader_hub.specs.ReaderThreads.Told.{AllTold}
+use Rattle.keri_roles.specs.CoreRoles.CoreTold.{IsOverCore, OwesText, core_of, plain}
+use Rattle.keri_roles.specs.CoreRoles.LinksTold.{AreLinked, TakesLinks}
+use Rattle.keri_roles.specs.CoreRoles.Work.{LinksTold, Work}
+use Rattle.run_status.specs.RunRecord.Seen.{door_seen, sinks_seen}
+use Rattle.keri_roles.proofs.CoreRolesLemmas.CompleteOver.{over_linked}
+use Rattle.keri_roles.proofs.CoreRolesLemmas.CoreTold.{is_told_by, journal_of, owes_plain, same_journal, untold}
+use Rattle.keri_roles.proofs.CoreRolesLemmas.Linked.{any_ready, are_linked}
+use Rattle.keri_roles.proofs.core_roles.over_links.over_links.Goals as goal
+use Rattle.keri_roles.proofs.core_roles.over_links.over_links.Goals.{in-Ok, in-Err}
 
 pub new-requires-clause-untold : goal.new-requires-clause-untold
 new-requires-clause-untold g c =

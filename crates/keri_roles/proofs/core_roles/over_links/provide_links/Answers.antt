@@ -2,12 +2,12 @@ use Rattle.std.proofs.Common.{◌≡◌, ◌∷◌, ◌++◌, [], length, map, r
 use Rattle.std.proofs.lemmas.List.{map-append, nil_from_length}
 use Rattle.std.specs.Prelude.{option_map}
 use Rattle.std.specs.Vec.Iter.{into_iter_items}
-use Rattle.run_status.specs.Readers.{source_seen, verifier_seen}
-use Rattle.reader_threads.specs.Given.{given_by}
-use Rattle.core_roles.proofs.CoreTold.{seen_none}
-use Rattle.core_roles.proofs.Linked.{AreGivenSoFar, given_all, given_more, given_none}
-use Rattle.core_roles.proofs.Provided.{verifier_given}
-use Rattle.core_roles.proofs.over_links.provide_links.Goals as goal
+use Rattle.run_status.specs.RunStatus.Readers.{source_seen, verifier_seen}
+use Rattle.reader_hub.specs.ReaderThreads.Given.{given_by}
+use Rattle.keri_roles.proofs.CoreRolesLemmas.CoreTold.{seen_none}
+use Rattle.keri_roles.proofs.CoreRolesLemmas.Linked.{AreGivenSoFar, given_all, given_more, given_none}
+use Rattle.keri_roles.proofs.CoreRolesLemmas.Provided.{verifier_given}
+use Rattle.keri_roles.proofs.core_roles.over_links.provide_links.Goals as goal
 
 pub loop-source-init : goal.loop-source-init
 loop-source-init g c =

@@ -1,9 +1,9 @@
 use Rattle.std.specs.Prelude.{◌≡◌, ◌≤◌, ◌+◌, length, map, vec_len, vec_capacity}
 use Rattle.std.specs.Vec.Iter.{into_iter_items}
-use Rattle.run_status.specs.Readers.{source_seen}
-use Rattle.reader_threads.specs.Given.{given_by}
-use Rattle.core_roles.proofs.Linked.{AreGivenSoFar}
-use Rattle.core_roles.proofs.over_links.provide_links.Given as goal
+use Rattle.run_status.specs.RunStatus.Readers.{source_seen}
+use Rattle.reader_hub.specs.ReaderThreads.Given.{given_by}
+use Rattle.keri_roles.proofs.CoreRolesLemmas.Linked.{AreGivenSoFar}
+use Rattle.keri_roles.proofs.core_roles.over_links.provide_links.Given as goal
 
 -- the links so far have verifiers, the others come, and there is room for them
 abbrev pub invariant-loop-source : goal.invariant-loop-source

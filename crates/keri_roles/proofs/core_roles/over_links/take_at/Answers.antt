@@ -1,11 +1,11 @@
 use Rattle.std.proofs.Common.{◌≡◌, map, sym, subst}
-use Rattle.keri_specs.specs.Told.{HasNone}
-use Rattle.run_outside.specs.declared.making.MakingKind.TheVariants.{Door as DoorKind}
-use Rattle.run_status.specs.Readers.{sink_seen, source_seen}
-use Rattle.core_roles.specs.LinksTold.{AreTakenAt}
-use Rattle.run_record.specs.Seen.{door_told}
-use Rattle.core_roles.proofs.Linked.{all_map, length_map, makings_one, map_map}
-use Rattle.core_roles.proofs.over_links.take_at.Goals as goal
+use Rattle.lists.specs.KeriSpecs.Told.{HasNone}
+use Rattle.run_status.specs.declared.run_outside.making.MakingKind.TheVariants.{Door as DoorKind}
+use Rattle.run_status.specs.RunStatus.Readers.{sink_seen, source_seen}
+use Rattle.keri_roles.specs.CoreRoles.LinksTold.{AreTakenAt}
+use Rattle.run_status.specs.RunRecord.Seen.{door_told}
+use Rattle.keri_roles.proofs.CoreRolesLemmas.Linked.{all_map, length_map, makings_one, map_map}
+use Rattle.keri_roles.proofs.core_roles.over_links.take_at.Goals as goal
 
 pub returns-clause-taken : goal.returns-clause-taken
 returns-clause-taken g c =

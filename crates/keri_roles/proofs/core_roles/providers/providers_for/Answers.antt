@@ -1,11 +1,11 @@
 use Rattle.std.proofs.Common.{◌≡◌, ◌∷◌, ◌++◌, ◌+◌, [], take, ap, ◌∙◌, subst, sym, rules, map}
 use Rattle.std.proofs.lemmas.List.{map-append}
-use Rattle.run_status.specs.Readers.{source_seen, verifier_seen}
-use Rattle.reader_threads.specs.Given.{given_by}
-use Rattle.core_roles.specs.CoreTold.{AreProvided}
-use Rattle.core_roles.proofs.CoreTold.{seen_none}
-use Rattle.core_roles.proofs.Provided.{is_given, provided_at, same_on}
-use Rattle.core_roles.proofs.providers.providers_for.Goals as goal
+use Rattle.run_status.specs.RunStatus.Readers.{source_seen, verifier_seen}
+use Rattle.reader_hub.specs.ReaderThreads.Given.{given_by}
+use Rattle.keri_roles.specs.CoreRoles.CoreTold.{AreProvided}
+use Rattle.keri_roles.proofs.CoreRolesLemmas.CoreTold.{seen_none}
+use Rattle.keri_roles.proofs.CoreRolesLemmas.Provided.{is_given, provided_at, same_on}
+use Rattle.keri_roles.proofs.core_roles.providers.providers_for.Goals as goal
 
 pub loop-name-preserved : goal.loop-name-preserved
 loop-name-preserved g c =

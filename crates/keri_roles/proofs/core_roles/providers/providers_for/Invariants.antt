@@ -1,8 +1,8 @@
 use Rattle.std.specs.Prelude.{◌≡◌, ◌≤◌, length, map, take}
 use Rattle.std.specs.Vec.{vec_capacity}
-use Rattle.reader_threads.specs.Given.{given_by}
-use Rattle.core_roles.specs.CoreTold.{AreProvided, SameNames}
-use Rattle.core_roles.proofs.providers.providers_for.Given as goal
+use Rattle.reader_hub.specs.ReaderThreads.Given.{given_by}
+use Rattle.keri_roles.specs.CoreRoles.CoreTold.{AreProvided, SameNames}
+use Rattle.keri_roles.proofs.core_roles.providers.providers_for.Given as goal
 
 -- for the names so far it was made
 abbrev pub invariant-loop-name : goal.invariant-loop-name

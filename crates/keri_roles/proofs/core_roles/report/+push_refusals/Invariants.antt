@@ -1,5 +1,5 @@
 use Rattle.std.proofs.Common.{length}
-use Rattle.core_roles.proofs.report.+push_refusals.Given as goal
+use Rattle.keri_roles.proofs.core_roles.report.+push_refusals.Given as goal
 
 abbrev pub decreases-push_refusals : goal.decreases-push_refusals
 decreases-push_refusals g l = length l.readers.now

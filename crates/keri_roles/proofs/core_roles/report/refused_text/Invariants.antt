@@ -1,6 +1,6 @@
 use Rattle.std.proofs.Common.{◌≡◌, take, string_bytes}
-use Rattle.core_roles.specs.Reports.{refused_lines}
-use Rattle.core_roles.proofs.report.refused_text.Given as goal
+use Rattle.keri_roles.specs.CoreRoles.Reports.{refused_lines}
+use Rattle.keri_roles.proofs.core_roles.report.refused_text.Given as goal
 
 -- the lines of the messages so far
 abbrev pub invariant-loop-refusal : goal.invariant-loop-refusal

@@ -1,7 +1,7 @@
 use Rattle.std.proofs.Common.{◌≡◌, ◌++◌, map, ◌∙◌, append_assoc, rules, string_bytes}
-use Rattle.run_status.specs.Readers.{reader_seen}
-use Rattle.core_roles.specs.Reports.{refusal_lines, stopped_lines}
-use Rattle.core_roles.proofs.report.report_of.Goals as goal
+use Rattle.run_status.specs.RunStatus.Readers.{reader_seen}
+use Rattle.keri_roles.specs.CoreRoles.Reports.{refusal_lines, stopped_lines}
+use Rattle.keri_roles.proofs.core_roles.report.report_of.Goals as goal
 
 pub returns : goal.returns
 returns g c =

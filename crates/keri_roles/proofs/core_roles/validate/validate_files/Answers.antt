@@ -1,7 +1,7 @@
-use Rattle.core_roles.proofs.Agreed.{is_agreed}
-use Rattle.core_roles.proofs.Confluence.{is_confluent}
-use Rattle.core_roles.proofs.OverCore.{ok_then}
-use Rattle.core_roles.proofs.validate.validate_files.Goals as goal
+use Rattle.keri_roles.proofs.CoreRolesLemmas.Agreed.{is_agreed}
+use Rattle.keri_roles.proofs.CoreRolesLemmas.Confluence.{is_confluent}
+use Rattle.keri_roles.proofs.CoreRolesLemmas.OverCore.{ok_then}
+use Rattle.keri_roles.proofs.core_roles.validate.validate_files.Goals as goal
 
 pub returns-clause-validated : goal.returns-clause-validated
 returns-clause-validated g c = ok_then c.over_core.result c.over_core.ensures.done (λ outcome over. record {

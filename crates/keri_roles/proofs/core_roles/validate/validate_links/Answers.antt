@@ -1,8 +1,8 @@
 use Rattle.std.proofs.Common.{inl, inr}
-use Rattle.core_roles.proofs.Agreed.{is_agreed}
-use Rattle.core_roles.proofs.Confluence.{is_confluent}
-use Rattle.core_roles.proofs.OverCore.{ok_then}
-use Rattle.core_roles.proofs.validate.validate_links.Goals as goal
+use Rattle.keri_roles.proofs.CoreRolesLemmas.Agreed.{is_agreed}
+use Rattle.keri_roles.proofs.CoreRolesLemmas.Confluence.{is_confluent}
+use Rattle.keri_roles.proofs.CoreRolesLemmas.OverCore.{ok_then}
+use Rattle.keri_roles.proofs.core_roles.validate.validate_links.Goals as goal
 
 pub returns-clause-validated : goal.returns-clause-validated
 returns-clause-validated g c = ok_then c.over_links.result c.over_links.ensures.done (λ linked done. elim done [

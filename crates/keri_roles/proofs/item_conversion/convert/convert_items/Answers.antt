@@ -1,8 +1,8 @@
 use Rattle.std.proofs.Common.{[], false, sym, subst}
-use Rattle.run_status.specs.Readers.{sink_seen}
-use Rattle.item_conversion.specs.Progress.{HasPut, progress}
-use Rattle.item_conversion.proofs.Pieces.{put_none}
-use Rattle.item_conversion.proofs.convert.convert_items.Goals as goal
+use Rattle.run_status.specs.RunStatus.Readers.{sink_seen}
+use Rattle.keri_roles.specs.ItemConversion.Progress.{HasPut, progress}
+use Rattle.keri_roles.proofs.ItemConversionLemmas.Pieces.{put_none}
+use Rattle.keri_roles.proofs.item_conversion.convert.convert_items.Goals as goal
 
 pub read_pieces-close-requires-clause-none_put : goal.read_pieces-close-requires-clause-none_put
 read_pieces-close-requires-clause-none_put g c =

@@ -1,8 +1,8 @@
 use Rattle.std.proofs.Common.{◌∙◌, ◌-◌, [], sym, subst, append-nil, arith}
-use Rattle.item_conversion.specs.Closes.{Gave}
-use Rattle.item_conversion.specs.Converts.{bounds, ends_told}
-use Rattle.item_conversion.proofs.Pieces.{HasRead, ends, few_read, gave_none, no_memory, passes, read_on, refuses, stayed, stops}
-use Rattle.item_conversion.proofs.convert.read_pieces.Goals as goal
+use Rattle.keri_roles.specs.ItemConversion.Closes.{Gave}
+use Rattle.keri_roles.specs.ItemConversion.Converts.{bounds, ends_told}
+use Rattle.keri_roles.proofs.ItemConversionLemmas.Pieces.{HasRead, ends, few_read, gave_none, no_memory, passes, read_on, refuses, stayed, stops}
+use Rattle.keri_roles.proofs.item_conversion.convert.read_pieces.Goals as goal
 
 pub returns-in-Ok-eq0 : goal.returns-in-Ok-eq0
 returns-in-Ok-eq0 g c =

@@ -1,8 +1,8 @@
 use Rattle.std.proofs.Common.{◌≡◌}
-use Rattle.item_conversion.specs.Progress.{IsIdle}
-use Rattle.item_conversion.specs.Converts.{bounds, ends_told}
-use Rattle.item_conversion.proofs.Pieces.{HasRead}
-use Rattle.item_conversion.proofs.convert.read_pieces.Given as goal
+use Rattle.keri_roles.specs.ItemConversion.Progress.{IsIdle}
+use Rattle.keri_roles.specs.ItemConversion.Converts.{bounds, ends_told}
+use Rattle.keri_roles.proofs.ItemConversionLemmas.Pieces.{HasRead}
+use Rattle.keri_roles.proofs.item_conversion.convert.read_pieces.Given as goal
 
 -- bytes were read so far, no item is whole in the rest, and there is room for so many more
 abbrev pub invariant-loop-room : goal.invariant-loop-room

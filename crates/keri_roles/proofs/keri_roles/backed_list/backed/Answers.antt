@@ -1,10 +1,10 @@
 use Rattle.std.proofs.Common.{subst}
 use Rattle.std.proofs.lemmas.List.Elements.{All-weaker}
-use Rattle.event_body.specs.Judging.{SpellsEvent}
-use Rattle.acceptance.specs.Standing.{IsHeld}
-use Rattle.journal.specs.Journals.{InOrder}
-use Rattle.core_roles.proofs.Agreed.{is_agreed}
-use Rattle.keri_roles.proofs.backed_list.backed.Goals as goal
+use Rattle.event_body.specs.EventBody.Judging.{SpellsEvent}
+use Rattle.validator_core.specs.Acceptance.Standing.{IsHeld}
+use Rattle.journal.specs.Journal.Journals.{InOrder}
+use Rattle.keri_roles.proofs.CoreRolesLemmas.Agreed.{is_agreed}
+use Rattle.keri_roles.proofs.keri_roles.backed_list.backed.Goals as goal
 
 pub returns-clause-agreed : goal.returns-clause-agreed
 returns-clause-agreed c =

@@ -1,11 +1,11 @@
 use Rattle.std.proofs.Common.{◌≡◌, refl, [], ◌∷◌, rules, is_none, option_map, string_bytes}
-use Rattle.run_outside.specs.Told.{making}
-use Rattle.run_outside.specs.declared.making.MakingKind.TheVariants.{Source}
-use Rattle.keri_roles.specs.Check.{ChecksReader}
-use Rattle.run_status.specs.Readers.{reader_seen, source_seen}
-use Rattle.run_outside.specs.Makings.{AreMakings}
-use Rattle.core_roles.proofs.CoreTold.{owes_it, seen_none}
-use Rattle.keri_roles.proofs.check.check.Goals as goal
+use Rattle.run_status.specs.RunOutside.Told.{making}
+use Rattle.run_status.specs.declared.run_outside.making.MakingKind.TheVariants.{Source}
+use Rattle.keri_roles.specs.KeriRoles.Check.{ChecksReader}
+use Rattle.run_status.specs.RunStatus.Readers.{reader_seen, source_seen}
+use Rattle.run_status.specs.RunOutside.Makings.{AreMakings}
+use Rattle.keri_roles.proofs.CoreRolesLemmas.CoreTold.{owes_it, seen_none}
+use Rattle.keri_roles.proofs.keri_roles.check.check.Goals as goal
 
 pub returns-clause-checked : goal.returns-clause-checked
 returns-clause-checked g c =

@@ -1,10 +1,10 @@
 use Rattle.std.proofs.Common.{◌≡◌, refl, [], ◌∷◌, ◌∙◌, ap, None, map, option_map, rules}
-use Rattle.run_status.specs.declared.close.Close.TheVariants.{End}
-use Rattle.run_status.specs.declared.reader_end.ReaderEnd.{ReaderEnd}
-use Rattle.run_status.specs.Readers.{reader_seen, source_seen}
-use Rattle.keri_roles.specs.Converted.{conversion_status}
-use Rattle.core_roles.proofs.CoreTold.{seen_none}
-use Rattle.keri_roles.proofs.convert.convert.Goals as goal
+use Rattle.run_status.specs.declared.run_status.close.Close.TheVariants.{End}
+use Rattle.run_status.specs.declared.run_status.reader_end.ReaderEnd.{ReaderEnd}
+use Rattle.run_status.specs.RunStatus.Readers.{reader_seen, source_seen}
+use Rattle.keri_roles.specs.KeriRoles.Converted.{conversion_status}
+use Rattle.keri_roles.proofs.CoreRolesLemmas.CoreTold.{seen_none}
+use Rattle.keri_roles.proofs.keri_roles.convert.convert.Goals as goal
 
 pub returns : goal.returns
 returns g c =

@@ -1,7 +1,7 @@
 use Rattle.std.proofs.Common.{refl}
-use Rattle.run_outside.specs.declared.making.MakingKind.TheVariants.{Source}
-use Rattle.run_record.proofs.Makings.{one_failed, one_made}
-use Rattle.keri_roles.proofs.convert.convert_file.Goals as goal
+use Rattle.run_status.specs.declared.run_outside.making.MakingKind.TheVariants.{Source}
+use Rattle.run_status.proofs.RunRecordLemmas.Makings.{one_failed, one_made}
+use Rattle.keri_roles.proofs.keri_roles.convert.convert_file.Goals as goal
 
 pub returns-in-Ok : goal.returns-in-Ok
 returns-in-Ok g c =

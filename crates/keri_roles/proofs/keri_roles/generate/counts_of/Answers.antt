@@ -1,7 +1,7 @@
 use Rattle.std.proofs.Common.{◌≡◌, length, refl, sym, ◌∙◌, ap}
-use Rattle.validator_core.specs.View.{accepted_by}
-use Rattle.keri_roles.proofs.Generated.{chosen_count}
-use Rattle.keri_roles.proofs.generate.counts_of.Goals as goal
+use Rattle.validator_core.specs.ValidatorCore.View.{accepted_by}
+use Rattle.keri_roles.proofs.KeriRolesLemmas.Generated.{chosen_count}
+use Rattle.keri_roles.proofs.keri_roles.generate.counts_of.Goals as goal
 
 pub returns : goal.returns
 returns c =

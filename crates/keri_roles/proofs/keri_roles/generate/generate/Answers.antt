@@ -1,16 +1,16 @@
 use Rattle.std.proofs.Common.{◌≡◌, refl, sym, ap, arith, length, [], ◌∷◌, rules, None}
-use Rattle.journal.specs.declared.mode.Mode.TheVariants.{Full}
-use Rattle.log_maker.specs.Making.{maker_left, maker_faults}
+use Rattle.journal.specs.declared.journal.mode.Mode.TheVariants.{Full}
+use Rattle.controller_core.specs.LogMaker.Making.{maker_left, maker_faults}
 use Rattle.keri_outside.specs.Rehearsal.{rehearsal_says}
-use Rattle.validator_core.specs.View.{accepted_by}
-use Rattle.run_status.specs.Readers.{Reader, reader_seen}
-use Rattle.reader_threads.specs.Told.{AllTold}
-use Rattle.core_roles.specs.CoreTold.{IsJournalOf}
-use Rattle.keri_roles.specs.Generated.{made_of}
-use Rattle.keri_roles.specs.Planned.{made_close}
-use Rattle.core_roles.proofs.CoreTold.{is_told_by, same_journal}
-use Rattle.keri_roles.proofs.Generated.{accepted_of, closing, made_not_asked, made_not_read, never, none_counted, owes_line, tells_closed}
-use Rattle.keri_roles.proofs.generate.generate.Goals as goal
+use Rattle.validator_core.specs.ValidatorCore.View.{accepted_by}
+use Rattle.run_status.specs.RunStatus.Readers.{Reader, reader_seen}
+use Rattle.reader_hub.specs.ReaderThreads.Told.{AllTold}
+use Rattle.keri_roles.specs.CoreRoles.CoreTold.{IsJournalOf}
+use Rattle.keri_roles.specs.KeriRoles.Generated.{made_of}
+use Rattle.keri_roles.specs.KeriRoles.Planned.{made_close}
+use Rattle.keri_roles.proofs.CoreRolesLemmas.CoreTold.{is_told_by, same_journal}
+use Rattle.keri_roles.proofs.KeriRolesLemmas.Generated.{accepted_of, closing, made_not_asked, made_not_read, never, none_counted, owes_line, tells_closed}
+use Rattle.keri_roles.proofs.keri_roles.generate.generate.Goals as goal
 
 pub unwrap-requires : goal.unwrap-requires
 unwrap-requires g c =

@@ -1,12 +1,12 @@
 use Rattle.std.proofs.Common.{◌≡◌, refl, [], ◌∷◌, rules, is_none}
-use Rattle.run_outside.specs.Told.{making}
-use Rattle.run_outside.specs.declared.making.MakingKind.TheVariants.{Source, Signer}
-use Rattle.run_status.specs.Readers.{reader_seen, source_seen}
-use Rattle.run_outside.specs.Makings.{AreMakings}
-use Rattle.run_record.specs.Seen.{signer_seen}
-use Rattle.core_roles.proofs.CoreTold.{seen_none}
-use Rattle.keri_roles.proofs.Made.{gives_seen, signer_none}
-use Rattle.keri_roles.proofs.make.made_alone.Goals as goal
+use Rattle.run_status.specs.RunOutside.Told.{making}
+use Rattle.run_status.specs.declared.run_outside.making.MakingKind.TheVariants.{Source, Signer}
+use Rattle.run_status.specs.RunStatus.Readers.{reader_seen, source_seen}
+use Rattle.run_status.specs.RunOutside.Makings.{AreMakings}
+use Rattle.run_status.specs.RunRecord.Seen.{signer_seen}
+use Rattle.keri_roles.proofs.CoreRolesLemmas.CoreTold.{seen_none}
+use Rattle.keri_roles.proofs.KeriRolesLemmas.Made.{gives_seen, signer_none}
+use Rattle.keri_roles.proofs.keri_roles.make.made_alone.Goals as goal
 
 pub returns-clause-made : goal.returns-clause-made
 returns-clause-made g c =

@@ -1,16 +1,16 @@
 use Rattle.std.proofs.Common.{◌≡◌, refl, [], ◌∷◌, ap, arith, length, rules}
-use Rattle.run_outside.specs.Makings.{AreMakings}
-use Rattle.journal.specs.declared.mode.Mode.TheVariants.{Local}
-use Rattle.run_status.specs.Readers.{reader_seen, source_seen, verifier_seen}
-use Rattle.reader_threads.specs.Given.{Given, given_by}
-use Rattle.reader_threads.specs.Told.{AllTold}
-use Rattle.core_roles.specs.CoreTold.{IsJournalOf}
-use Rattle.keri_roles.specs.Made.{makings_behind}
-use Rattle.run_record.specs.Seen.{signer_seen}
-use Rattle.core_roles.proofs.CoreTold.{is_told_by, same_journal, seen_none}
-use Rattle.keri_roles.proofs.Made.{gives_seen, log_there, signer_none}
-use Rattle.core_roles.proofs.Provided.{is_given}
-use Rattle.keri_roles.proofs.make.made_behind.Goals as goal
+use Rattle.run_status.specs.RunOutside.Makings.{AreMakings}
+use Rattle.journal.specs.declared.journal.mode.Mode.TheVariants.{Local}
+use Rattle.run_status.specs.RunStatus.Readers.{reader_seen, source_seen, verifier_seen}
+use Rattle.reader_hub.specs.ReaderThreads.Given.{Given, given_by}
+use Rattle.reader_hub.specs.ReaderThreads.Told.{AllTold}
+use Rattle.keri_roles.specs.CoreRoles.CoreTold.{IsJournalOf}
+use Rattle.keri_roles.specs.KeriRoles.Made.{makings_behind}
+use Rattle.run_status.specs.RunRecord.Seen.{signer_seen}
+use Rattle.keri_roles.proofs.CoreRolesLemmas.CoreTold.{is_told_by, same_journal, seen_none}
+use Rattle.keri_roles.proofs.KeriRolesLemmas.Made.{gives_seen, log_there, signer_none}
+use Rattle.keri_roles.proofs.CoreRolesLemmas.Provided.{is_given}
+use Rattle.keri_roles.proofs.keri_roles.make.made_behind.Goals as goal
 
 pub unwrap-requires : goal.unwrap-requires
 unwrap-requires g c =

@@ -1,6 +1,6 @@
 use Rattle.std.proofs.Common.{refl}
-use Rattle.keri_roles.proofs.Dues.{owes_answer, owes_none}
-use Rattle.keri_roles.proofs.message_due.answer_due.Goals as goal
+use Rattle.keri_roles.proofs.KeriRolesLemmas.Dues.{owes_answer, owes_none}
+use Rattle.keri_roles.proofs.keri_roles.message_due.answer_due.Goals as goal
 
 pub returns-in-Ok-clause-due : goal.returns-in-Ok-clause-due
 returns-in-Ok-clause-due g c =

@@ -1,5 +1,5 @@
 use Rattle.std.proofs.Common.{option_map, refl}
-use Rattle.keri_roles.proofs.program.carry_out.Goals as goal
+use Rattle.keri_roles.proofs.keri_roles.program.carry_out.Goals as goal
 
 pub returns-in_ok-room-in-Witness-clause-does : goal.returns-in_ok-room-in-Witness-clause-does
 returns-in_ok-room-in-Witness-clause-does g c = rw c.in-Witness.is c.witness.ensures.witnessed

@@ -1,9 +1,9 @@
 use Rattle.std.proofs.Common.{◌≡◌, refl, [], ◌∷◌, None, option_map, rules}
-use Rattle.run_status.specs.declared.close.Close.TheVariants.{End}
-use Rattle.run_status.specs.declared.reader_end.ReaderEnd.{ReaderEnd}
-use Rattle.run_status.specs.Readers.{source_seen}
-use Rattle.core_roles.proofs.CoreTold.{seen_none}
-use Rattle.keri_roles.proofs.rehearse.rehearse.Goals as goal
+use Rattle.run_status.specs.declared.run_status.close.Close.TheVariants.{End}
+use Rattle.run_status.specs.declared.run_status.reader_end.ReaderEnd.{ReaderEnd}
+use Rattle.run_status.specs.RunStatus.Readers.{source_seen}
+use Rattle.keri_roles.proofs.CoreRolesLemmas.CoreTold.{seen_none}
+use Rattle.keri_roles.proofs.keri_roles.rehearse.rehearse.Goals as goal
 
 pub returns : goal.returns
 returns g c =

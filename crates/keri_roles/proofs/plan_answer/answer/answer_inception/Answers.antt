@@ -1,9 +1,9 @@
 use Rattle.std.proofs.Common.{None}
-use Rattle.controller_core.specs.Signings.{signings_of}
-use Rattle.controller_core.specs.Plans.{sealed_inception}
-use Rattle.plan_answer.specs.Answers.{signer_asked}
-use Rattle.plan_answer.proofs.Made.{all_answers, all_counted, all_kept, counts, few}
-use Rattle.plan_answer.proofs.answer.answer_inception.Goals as goal
+use Rattle.controller_core.specs.ControllerCore.Signings.{signings_of}
+use Rattle.controller_core.specs.ControllerCore.Plans.{sealed_inception}
+use Rattle.keri_roles.specs.PlanAnswer.Answers.{signer_asked}
+use Rattle.keri_roles.proofs.PlanAnswerLemmas.Made.{all_answers, all_counted, all_kept, counts, few}
+use Rattle.keri_roles.proofs.plan_answer.answer.answer_inception.Goals as goal
 
 pub answer_made-requires : goal.answer_made-requires
 answer_made-requires g c = all_counted (g.S.Signer.gives c.args.signer.now) None (sealed_inception c.args.plan.now) c.args.plan.now.signers c.incept-made.result c.incept-made.ensures.made

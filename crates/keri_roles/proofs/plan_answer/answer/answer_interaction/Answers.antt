@@ -1,9 +1,9 @@
 use Rattle.std.proofs.Common.{Some}
-use Rattle.controller_core.specs.Signings.{signings_of}
-use Rattle.controller_core.specs.Plans.{sealed_interaction}
-use Rattle.plan_answer.specs.Answers.{signer_asked}
-use Rattle.plan_answer.proofs.Made.{all_answers, all_counted, all_kept, counts, few}
-use Rattle.plan_answer.proofs.answer.answer_interaction.Goals as goal
+use Rattle.controller_core.specs.ControllerCore.Signings.{signings_of}
+use Rattle.controller_core.specs.ControllerCore.Plans.{sealed_interaction}
+use Rattle.keri_roles.specs.PlanAnswer.Answers.{signer_asked}
+use Rattle.keri_roles.proofs.PlanAnswerLemmas.Made.{all_answers, all_counted, all_kept, counts, few}
+use Rattle.keri_roles.proofs.plan_answer.answer.answer_interaction.Goals as goal
 
 pub answer_made-requires : goal.answer_made-requires
 answer_made-requires g c = all_counted (g.S.Signer.gives c.args.signer.now) (Some c.args.state.now) (sealed_interaction c.args.state.now c.args.plan.now) c.args.plan.now.signers c.interact-made.result c.interact-made.ensures.made

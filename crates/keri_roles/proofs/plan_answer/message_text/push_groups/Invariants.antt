@@ -1,6 +1,6 @@
 use Rattle.std.proofs.Common.{◌≡◌, ◌++◌, flat_map, take}
 use Rattle.cesr_stream.specs.Texts.{group_text}
-use Rattle.plan_answer.proofs.message_text.push_groups.Given as goal
+use Rattle.keri_roles.proofs.plan_answer.message_text.push_groups.Given as goal
 
 -- the spellings of the groups before this one stand behind what stood there
 abbrev pub invariant-loop-group : goal.invariant-loop-group

@@ -4,8 +4,8 @@ use Rattle.std.proofs.lemmas.Grind.{pow_more}
 use Rattle.std.proofs.lemmas.List.{take_more, map-append}
 use Rattle.std.proofs.lemmas.Int.Digits.{number_push}
 use Rattle.std.specs.Int.Digits.{number_from_digits}
-use Rattle.keri_specs.specs.Hex.{hex_value, hex_digit}
-use Rattle.hex_numbers.proofs.numbers.hex_value.Goals as goal
+use Rattle.lists.specs.KeriSpecs.Hex.{hex_value, hex_digit}
+use Rattle.lists.proofs.hex_numbers.numbers.hex_value.Goals as goal
 
 -- one digit more
 more_fits : (v i d : ℕ) → v < 16 ^ i → i < 16 → d < 16 → v * 16 + d < 2 ^ 64

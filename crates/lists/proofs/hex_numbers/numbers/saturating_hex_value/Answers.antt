@@ -2,8 +2,8 @@ use Rattle.std.proofs.Common.{◌≡◌, ℕ, ◌+◌, ◌*◌, ◌<◌, List, [
 use Rattle.std.proofs.lemmas.List.{take_more, map-append}
 use Rattle.std.proofs.lemmas.Int.Digits.{number_push}
 use Rattle.std.specs.Int.Digits.{number_from_digits}
-use Rattle.keri_specs.specs.Hex.{hex_value, hex_digit}
-use Rattle.hex_numbers.proofs.numbers.saturating_hex_value.Goals as goal
+use Rattle.lists.specs.KeriSpecs.Hex.{hex_value, hex_digit}
+use Rattle.lists.proofs.hex_numbers.numbers.saturating_hex_value.Goals as goal
 
 -- one digit more
 more_value : (ds : List ℕ) (i : ℕ) → i < length ds → hex_value (take (i + 1) ds) ≡ hex_value (take i ds) * 16 + hex_digit (get_or ds i 0)

@@ -1,6 +1,6 @@
 use Rattle.std.proofs.Common.{◌≡◌, ◌-◌, ◌^◌, take, min}
-use Rattle.keri_specs.specs.Hex.{hex_value}
-use Rattle.hex_numbers.proofs.numbers.saturating_hex_value.Given as goal
+use Rattle.lists.specs.KeriSpecs.Hex.{hex_value}
+use Rattle.lists.proofs.hex_numbers.numbers.saturating_hex_value.Given as goal
 
 -- the number of the digits so far
 abbrev pub invariant-loop-digit : goal.invariant-loop-digit

@@ -13,10 +13,10 @@ use denote.Model.Placed.{view_places}
 use Rattle.std.specs.declared.alloc.Global.{Global}
 use Rattle.std.specs.contracts.alloc.Global as heap
 use Rattle.std.specs.contracts.impls.GlobalAllocator.TheImpl.{ghosts}
-use Rattle.lists.specs.declared.items.Items.TheInside.{Inside}
-use Rattle.lists.specs.declared.items.Items.TheView.{view, invariant}
-use Rattle.lists.specs.contracts.items.Items as C
-use Rattle.lists.specs.contracts.items.Items.TheInside as I
+use Rattle.lists.specs.declared.lists.items.Items.TheInside.{Inside}
+use Rattle.lists.specs.declared.lists.items.Items.TheView.{view, invariant}
+use Rattle.lists.specs.contracts.lists.items.Items as C
+use Rattle.lists.specs.contracts.lists.items.Items.TheInside as I
 use Rattle.std.specs.formers.vec.Vec as vec
 
 abbrev pub the_former : Former {0} → Former {0}

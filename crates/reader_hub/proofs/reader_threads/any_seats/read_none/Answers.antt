@@ -1,6 +1,6 @@
 use Rattle.std.proofs.Common.{[], inr, refl, rules}
 use Rattle.std.proofs.lemmas.List.Elements.{All-nil}
-use Rattle.reader_threads.proofs.any_seats.read_none.Goals as goal
+use Rattle.reader_hub.proofs.reader_threads.any_seats.read_none.Goals as goal
 
 pub returns-clause-told : goal.returns-clause-told
 returns-clause-told g c = record {

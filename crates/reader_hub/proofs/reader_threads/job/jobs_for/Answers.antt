@@ -2,8 +2,8 @@ use Rattle.std.proofs.Common.{rules, ◌≡◌, ◌++◌, ap, ◌∙◌, arith, 
 use Rattle.std.proofs.lemmas.List.{nil_from_length}
 use Rattle.std.specs.Iterator.Adapters.{zip_first, zip_second}
 use Rattle.std.specs.Vec.Iter.{into_iter_items}
-use Rattle.reader_threads.proofs.Seats.{parts_all, parts_more}
-use Rattle.reader_threads.proofs.job.jobs_for.Goals as goal
+use Rattle.reader_hub.proofs.ReaderThreadsLemmas.Seats.{parts_all, parts_more}
+use Rattle.reader_hub.proofs.reader_threads.job.jobs_for.Goals as goal
 
 pub loop-pass-init : goal.loop-pass-init
 loop-pass-init g c =

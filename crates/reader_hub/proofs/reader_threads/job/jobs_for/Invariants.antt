@@ -1,7 +1,7 @@
 use Rattle.std.proofs.Common.{◌≡◌, ◌+◌, ◌≤◌, ◌++◌, length, map, vec_len, vec_capacity}
 use Rattle.std.specs.Iterator.Adapters.{zip_first, zip_second}
 use Rattle.std.specs.Vec.Iter.{into_iter_items}
-use Rattle.reader_threads.proofs.job.jobs_for.Given as goal
+use Rattle.reader_hub.proofs.reader_threads.job.jobs_for.Given as goal
 
 -- those so far have jobs, the others come, and there is room for them
 abbrev pub invariant-loop-pass : goal.invariant-loop-pass

@@ -1,11 +1,11 @@
 use Rattle.std.proofs.Common.{rules, ◌≡◌, List, ◌∷◌, [], map, sym}
 use denote.Enum.Bare.{same_true}
 use Rattle.std.proofs.lemmas.List.{nil_from_length}
-use Rattle.run_status.specs.Readers.{Reader, reader_seen}
-use Rattle.reader_threads.specs.contracts.last_round.LastRound.{the_type}
-use Rattle.reader_threads.specs.declared.last_round.LastRound.TheVariants.{OutOfMemory}
-use Rattle.reader_threads.proofs.Rounds.{rest_none, rest_on, rest_out}
-use Rattle.reader_threads.proofs.last_round.+ask_from.Goals as goal
+use Rattle.run_status.specs.RunStatus.Readers.{Reader, reader_seen}
+use Rattle.reader_hub.specs.contracts.reader_threads.last_round.LastRound.{the_type}
+use Rattle.reader_hub.specs.declared.reader_threads.last_round.LastRound.TheVariants.{OutOfMemory}
+use Rattle.reader_hub.proofs.ReaderThreadsLemmas.Rounds.{rest_none, rest_on, rest_out}
+use Rattle.reader_hub.proofs.reader_threads.last_round.+ask_from.Goals as goal
 
 pub returns-in_default : goal.returns-in_default
 returns-in_default g t c =

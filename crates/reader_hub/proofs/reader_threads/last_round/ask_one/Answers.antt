@@ -1,5 +1,5 @@
-use Rattle.reader_threads.proofs.Verdicts.{asks_at_most, hears_one}
-use Rattle.reader_threads.proofs.last_round.ask_one.Goals as goal
+use Rattle.reader_hub.proofs.ReaderThreadsLemmas.Verdicts.{asks_at_most, hears_one}
+use Rattle.reader_hub.proofs.reader_threads.last_round.ask_one.Goals as goal
 
 pub returns-in-Ok-note-clause-hears : goal.returns-in-Ok-note-clause-hears
 returns-in-Ok-note-clause-hears g c =

@@ -1,9 +1,9 @@
 use Rattle.std.proofs.Common.{◌≡◌, ◌∙◌, [], refl, sym, subst}
-use Rattle.validator_core.specs.View.{CoreView, base_of, open_of, told_of}
-use Rattle.validator_core.proofs.OpenQuestions.{first_open, none_named}
-use Rattle.reader_threads.specs.LastRound.{Hears}
-use Rattle.reader_threads.proofs.Verdicts.{hears_all_but, hears_nothing, hears_on}
-use Rattle.reader_threads.proofs.last_round.ask_open.Goals as goal
+use Rattle.validator_core.specs.ValidatorCore.View.{CoreView, base_of, open_of, told_of}
+use Rattle.validator_core.proofs.ValidatorCoreLemmas.OpenQuestions.{first_open, none_named}
+use Rattle.reader_hub.specs.ReaderThreads.LastRound.{Hears}
+use Rattle.reader_hub.proofs.ReaderThreadsLemmas.Verdicts.{hears_all_but, hears_nothing, hears_on}
+use Rattle.reader_hub.proofs.reader_threads.last_round.ask_open.Goals as goal
 
 pub loop-question-init : goal.loop-question-init
 loop-question-init g c = record {

@@ -1,7 +1,7 @@
 use Rattle.std.proofs.Common.{◌≡◌, []}
-use Rattle.validator_core.specs.View.{open_of, unheard_of}
-use Rattle.reader_threads.specs.LastRound.{Hears}
-use Rattle.reader_threads.proofs.last_round.ask_open.Given as goal
+use Rattle.validator_core.specs.ValidatorCore.View.{open_of, unheard_of}
+use Rattle.reader_hub.specs.ReaderThreads.LastRound.{Hears}
+use Rattle.reader_hub.proofs.reader_threads.last_round.ask_open.Given as goal
 
 -- verdicts alone were noted, for which alone the verifier was asked, and it hasn't failed
 abbrev pub invariant-loop-question : goal.invariant-loop-question

@@ -1,8 +1,8 @@
 use Rattle.std.proofs.Common.{rules, ◌≡◌, true, false, None, Some, option_map, refl, ap, inl, inr}
-use Rattle.run_status.specs.Readers.{Reader, VerifierTold, close_found, reader_seen, verifier_seen}
-use Rattle.reader_threads.specs.declared.last_round.LastRound.TheVariants.{NoneFailed, VerifierFailed, OutOfMemory}
-use Rattle.reader_threads.proofs.Rounds.{rest_asked, rest_unasked}
-use Rattle.reader_threads.proofs.last_round.ask_reader.Goals as goal
+use Rattle.run_status.specs.RunStatus.Readers.{Reader, VerifierTold, close_found, reader_seen, verifier_seen}
+use Rattle.reader_hub.specs.declared.reader_threads.last_round.LastRound.TheVariants.{NoneFailed, VerifierFailed, OutOfMemory}
+use Rattle.reader_hub.proofs.ReaderThreadsLemmas.Rounds.{rest_asked, rest_unasked}
+use Rattle.reader_hub.proofs.reader_threads.last_round.ask_reader.Goals as goal
 
 pub returns-then-eq : goal.returns-then-eq
 returns-then-eq g c =

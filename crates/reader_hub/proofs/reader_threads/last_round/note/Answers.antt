@@ -1,8 +1,8 @@
 use Rattle.std.proofs.Common.{◌≡◌, ◌∙◌}
-use Rattle.journal.specs.declared.question.Noted.TheVariants.{New}
-use Rattle.validator_core.specs.View.{base_of, told_of}
-use Rattle.validator_core.proofs.OpenQuestions.{open_question}
-use Rattle.reader_threads.proofs.last_round.note.Goals as goal
+use Rattle.journal.specs.declared.journal.question.Noted.TheVariants.{New}
+use Rattle.validator_core.specs.ValidatorCore.View.{base_of, told_of}
+use Rattle.validator_core.proofs.ValidatorCoreLemmas.OpenQuestions.{open_question}
+use Rattle.reader_hub.proofs.reader_threads.last_round.note.Goals as goal
 
 pub returns-in-Ok-clause-fewer : goal.returns-in-Ok-clause-fewer
 returns-in-Ok-clause-fewer c =

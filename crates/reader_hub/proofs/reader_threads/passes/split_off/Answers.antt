@@ -1,10 +1,10 @@
 use Rattle.std.proofs.Common.{rules, ◌≡◌, ◌+◌, ◌∷◌, ◌++◌, [], ap, ◌∙◌, sym, subst, arith, length, length-append, suc}
 use Rattle.turn_lock.specs.Known.{after_split, split_from}
 use Rattle.turn_lock.specs.Locks.{known, lock, lock_of}
-use Rattle.reader_threads.specs.Jobs.{passes_seen}
-use Rattle.reader_threads.specs.Seats.{AreSeats}
-use Rattle.reader_threads.proofs.Seats.{seats_behind}
-use Rattle.reader_threads.proofs.passes.split_off.Goals as goal
+use Rattle.reader_hub.specs.ReaderThreads.Jobs.{passes_seen}
+use Rattle.reader_hub.specs.ReaderThreads.Seats.{AreSeats}
+use Rattle.reader_hub.proofs.ReaderThreadsLemmas.Seats.{seats_behind}
+use Rattle.reader_hub.proofs.reader_threads.passes.split_off.Goals as goal
 
 pub loop-init : goal.loop-init
 loop-init c =

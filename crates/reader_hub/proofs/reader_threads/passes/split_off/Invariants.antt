@@ -1,9 +1,9 @@
 use Rattle.std.proofs.Common.{◌≡◌, ◌≤◌, length, Some}
 use Rattle.turn_lock.specs.Locks.{IsPassOf, known, lock}
-use Rattle.reader_hub.specs.declared.core_head.CoreHead.{CoreHead}
-use Rattle.reader_threads.specs.Jobs.{passes_seen}
-use Rattle.reader_threads.specs.Seats.{AreSeats}
-use Rattle.reader_threads.proofs.passes.split_off.Given as goal
+use Rattle.reader_hub.specs.declared.reader_hub.core_head.CoreHead.{CoreHead}
+use Rattle.reader_hub.specs.ReaderThreads.Jobs.{passes_seen}
+use Rattle.reader_hub.specs.ReaderThreads.Seats.{AreSeats}
+use Rattle.reader_hub.proofs.reader_threads.passes.split_off.Given as goal
 
 -- so many were split off
 abbrev pub invariant-loop : goal.invariant-loop

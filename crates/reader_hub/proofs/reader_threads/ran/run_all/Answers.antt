@@ -1,7 +1,7 @@
 use denote.Exit.{no as hidden}
 use denote.Param.{arg, layout, param}
 use denote.Param.Send.{arg_send, param_send}
-use Rattle.reader_threads.proofs.ran.run_all.Goals as goal
+use Rattle.reader_hub.proofs.reader_threads.ran.run_all.Goals as goal
 
 -- the bounds of the closure's type arguments are those of the function's
 pub scoped-requires : goal.scoped-requires

@@ -6,11 +6,11 @@ use denote.Param.Send.{IsSend, IsSync, arg_send, param_send}
 use denote.Ref.{NamedLft}
 use mir.Syntax.{erased, ty_unit}
 use Rattle.turn_lock.specs.Locks.{limit_of}
-use Rattle.reader_threads.proofs.Crosses.{captured_send, end_send}
-use Rattle.reader_threads.specs.Starts.{IsStarted}
-use Rattle.reader_threads.specs.declared.started.Started.TheVariants.{Running, Ended}
-use Rattle.reader_threads.proofs.Threads.{behind}
-use Rattle.reader_threads.proofs.started.+start.Goals as goal
+use Rattle.reader_hub.proofs.ReaderThreadsLemmas.Crosses.{captured_send, end_send}
+use Rattle.reader_hub.specs.ReaderThreads.Starts.{IsStarted}
+use Rattle.reader_hub.specs.declared.reader_threads.started.Started.TheVariants.{Running, Ended}
+use Rattle.reader_hub.proofs.ReaderThreadsLemmas.Threads.{behind}
+use Rattle.reader_hub.proofs.reader_threads.started.+start.Goals as goal
 
 pub returns-in-Ok-clause-started : goal.returns-in-Ok-clause-started
 returns-in-Ok-clause-started g t c =

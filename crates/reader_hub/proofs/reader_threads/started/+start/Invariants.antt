@@ -1,5 +1,5 @@
 use Rattle.std.proofs.Common.{vec_len}
-use Rattle.reader_threads.proofs.started.+start.Given as goal
+use Rattle.reader_hub.proofs.reader_threads.started.+start.Given as goal
 
 -- one job fewer is left
 abbrev pub decreases-start : goal.decreases-start

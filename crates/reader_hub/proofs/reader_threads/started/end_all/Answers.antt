@@ -2,9 +2,9 @@ use Rattle.std.proofs.Common.{rules, ◌≡◌, [], ◌∷◌, ◌++◌, subst, 
 use Rattle.std.proofs.lemmas.List.{map-append, nil_from_length}
 use Rattle.std.specs.Vec.Iter.{into_iter_items}
 use Rattle.turn_lock.specs.Locks.{limit_of}
-use Rattle.reader_threads.specs.Starts.{Finished}
-use Rattle.reader_threads.proofs.Threads.{finished_all, finished_none, finished_on}
-use Rattle.reader_threads.proofs.started.end_all.Goals as goal
+use Rattle.reader_hub.specs.ReaderThreads.Starts.{Finished}
+use Rattle.reader_hub.proofs.ReaderThreadsLemmas.Threads.{finished_all, finished_none, finished_on}
+use Rattle.reader_hub.proofs.reader_threads.started.end_all.Goals as goal
 
 pub loop-one-init : goal.loop-one-init
 loop-one-init g c =

@@ -1,10 +1,10 @@
 use Rattle.std.proofs.Common.{◌≡◌, ◌+◌, ◌≤◌, List, ◌∷◌, length, map, vec_len, vec_capacity}
 use Rattle.std.specs.Vec.Iter.{into_iter_items}
 use Rattle.turn_lock.specs.Locks.{limit_of}
-use Rattle.reader_threads.specs.Starts.{AreStarted, Finished}
-use Rattle.reader_threads.specs.declared.job.Job.{Job}
-use Rattle.reader_threads.specs.declared.job.JobEnd.{JobEnd}
-use Rattle.reader_threads.proofs.started.end_all.Given as goal
+use Rattle.reader_hub.specs.ReaderThreads.Starts.{AreStarted, Finished}
+use Rattle.reader_hub.specs.declared.reader_threads.job.Job.{Job}
+use Rattle.reader_hub.specs.declared.reader_threads.job.JobEnd.{JobEnd}
+use Rattle.reader_hub.proofs.reader_threads.started.end_all.Given as goal
 
 -- those so far have ended, and there is room for the others
 abbrev pub invariant-loop-one : goal.invariant-loop-one

@@ -1,10 +1,10 @@
 use Rattle.std.proofs.Common.{sym, append-nil, inr}
-use Rattle.journal.specs.declared.reply.Reply.TheVariants.{Taken, Again, Refused}
+use Rattle.journal.specs.declared.journal.reply.Reply.TheVariants.{Taken, Again, Refused}
 use Rattle.turn_lock.specs.Locks.{limit_of}
-use Rattle.shared_reader.proofs.Offered.{full_tells, offers_one, refused_tells}
-use Rattle.shared_reader.proofs.Taken.{if_ok, on_err}
-use Rattle.shared_reader.proofs.Turns.{stop_tells}
-use Rattle.shared_reader.proofs.offers.hand_in.Goals as goal
+use Rattle.reader_hub.proofs.SharedReaderLemmas.Offered.{full_tells, offers_one, refused_tells}
+use Rattle.reader_hub.proofs.SharedReaderLemmas.Taken.{if_ok, on_err}
+use Rattle.reader_hub.proofs.SharedReaderLemmas.Turns.{stop_tells}
+use Rattle.reader_hub.proofs.shared_reader.offers.hand_in.Goals as goal
 
 pub returns-in-Ok-Taken-clause-offers : goal.returns-in-Ok-Taken-clause-offers
 returns-in-Ok-Taken-clause-offers g c = offers_one (limit_of c.args.hub.now.turn) _ c.args.message.now _ Taken _ _ (λ e. cc) (sym (append-nil _)) (rw c.in-Ok-Taken.field-0-is at c.in-Ok-Taken.ensures.takes)

@@ -1,8 +1,8 @@
 use Rattle.std.proofs.Common.{refl, sym, ◌∙◌}
 use Rattle.turn_lock.specs.Locks.{known, limit_of, lock_of}
-use Rattle.shared_reader.specs.Taken.{Standing, standing}
-use Rattle.shared_reader.proofs.Taken.{kept_out, stopped_on, taken_on}
-use Rattle.shared_reader.proofs.offers.offer.Goals as goal
+use Rattle.reader_hub.specs.SharedReader.Taken.{Standing, standing}
+use Rattle.reader_hub.proofs.SharedReaderLemmas.Taken.{kept_out, stopped_on, taken_on}
+use Rattle.reader_hub.proofs.shared_reader.offers.offer.Goals as goal
 
 pub returns-in-Ok-clause-ok : goal.returns-in-Ok-clause-ok
 returns-in-Ok-clause-ok g c usual =

@@ -1,13 +1,13 @@
 use Rattle.std.proofs.Common.{rules, ◌≡◌, [], ◌∷◌, None, IfSome, refl, subst, arith, take}
-use Rattle.keri_specs.specs.Told.{after}
+use Rattle.lists.specs.KeriSpecs.Told.{after}
 use Rattle.keri_outside.specs.Asked.{inquiry}
 use Rattle.turn_lock.specs.Locks.{known, limit_of}
 use Rattle.turn_lock.proofs.Histories.{prefix_refl}
-use Rattle.reader_hub.specs.Hubs.{AsksAt}
-use Rattle.shared_reader.proofs.Asked.{asked_none, asks_besides, asks_nothing, asks_on, asks_one, given_only, none_asked_seen}
-use Rattle.shared_reader.proofs.Inquiries.{none_asked, unheard_asked}
-use Rattle.shared_reader.proofs.Turns.{idle_turn, stop_tells}
-use Rattle.shared_reader.proofs.questions.ask_one.Goals as goal
+use Rattle.reader_hub.specs.ReaderHub.Hubs.{AsksAt}
+use Rattle.reader_hub.proofs.SharedReaderLemmas.Asked.{asked_none, asks_besides, asks_nothing, asks_on, asks_one, given_only, none_asked_seen}
+use Rattle.reader_hub.proofs.SharedReaderLemmas.Inquiries.{none_asked, unheard_asked}
+use Rattle.reader_hub.proofs.SharedReaderLemmas.Turns.{idle_turn, stop_tells}
+use Rattle.reader_hub.proofs.shared_reader.questions.ask_one.Goals as goal
 
 pub returns-in-Err-clause-stopped : goal.returns-in-Err-clause-stopped
 returns-in-Err-clause-stopped g c =

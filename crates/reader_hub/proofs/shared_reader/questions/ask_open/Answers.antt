@@ -1,8 +1,8 @@
 use Rattle.std.proofs.Common.{rules, refl, ◌∙◌, subst, if◌then◌else◌}
 use Rattle.turn_lock.specs.Locks.{known}
-use Rattle.shared_reader.specs.Asks.{Asks}
-use Rattle.shared_reader.proofs.Asked.{asks_on, asks_yet}
-use Rattle.shared_reader.proofs.questions.ask_open.Goals as goal
+use Rattle.reader_hub.specs.SharedReader.Asks.{Asks}
+use Rattle.reader_hub.proofs.SharedReaderLemmas.Asked.{asks_on, asks_yet}
+use Rattle.reader_hub.proofs.shared_reader.questions.ask_open.Goals as goal
 
 pub loop-init : goal.loop-init
 loop-init g c = (tt, tt, c.requires.pass, refl, refl, asks_yet c.args.extent (g.V.Verifier.says c.args.verifier.now) (g.V.Verifier.inquiries c.args.verifier.now) (known c.args.pass.now))

@@ -1,7 +1,7 @@
 use Rattle.std.proofs.Common.{◌≡◌}
 use Rattle.turn_lock.specs.Locks.{IsPassOf, known}
-use Rattle.shared_reader.specs.Asks.{Asks}
-use Rattle.shared_reader.proofs.questions.ask_open.Given as goal
+use Rattle.reader_hub.specs.SharedReader.Asks.{Asks}
+use Rattle.reader_hub.proofs.shared_reader.questions.ask_open.Given as goal
 
 -- questions were asked, and the verifier hasn't failed
 abbrev pub invariant-loop : goal.invariant-loop

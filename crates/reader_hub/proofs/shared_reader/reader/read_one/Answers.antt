@@ -1,12 +1,12 @@
 use Rattle.std.proofs.Common.{◌∙◌}
 use Rattle.turn_lock.specs.Locks.{known, limit_of, lock_of}
-use Rattle.run_status.specs.Readers.{SourceTold}
-use Rattle.shared_reader.specs.ReadsOne.{source_told}
-use Rattle.shared_reader.specs.Takers.{standing_of}
-use Rattle.shared_reader.specs.Taken.{Standing, standing}
-use Rattle.shared_reader.proofs.Closed.{reads_at, reads_stream}
-use Rattle.shared_reader.proofs.Taken.{nothing_taken}
-use Rattle.shared_reader.proofs.reader.read_one.Goals as goal
+use Rattle.run_status.specs.RunStatus.Readers.{SourceTold}
+use Rattle.reader_hub.specs.SharedReader.ReadsOne.{source_told}
+use Rattle.reader_hub.specs.SharedReader.Takers.{standing_of}
+use Rattle.reader_hub.specs.SharedReader.Taken.{Standing, standing}
+use Rattle.reader_hub.proofs.SharedReaderLemmas.Closed.{reads_at, reads_stream}
+use Rattle.reader_hub.proofs.SharedReaderLemmas.Taken.{nothing_taken}
+use Rattle.reader_hub.proofs.shared_reader.reader.read_one.Goals as goal
 
 pub feed_messages-close-requires : goal.feed_messages-close-requires
 feed_messages-close-requires g c = record { none_taken = nothing_taken _ c.requires.own c.new.ensures.items }

@@ -1,8 +1,8 @@
 use Rattle.std.proofs.Common.{◌≡◌, ◌++◌, ◌∷◌, [], rules}
-use Rattle.keri_specs.specs.Told.{HasNone}
+use Rattle.lists.specs.KeriSpecs.Told.{HasNone}
 use Rattle.keri_outside.specs.declared.failed.Failed.{Failed}
-use Rattle.door_links.proofs.Coming.{all_more, taken_more}
-use Rattle.door_links.proofs.taken.take_links.Goals as goal
+use Rattle.run_status.proofs.DoorLinksLemmas.Coming.{all_more, taken_more}
+use Rattle.run_status.proofs.door_links.taken.take_links.Goals as goal
 
 pub loop-door-preserved : goal.loop-door-preserved
 loop-door-preserved g c =

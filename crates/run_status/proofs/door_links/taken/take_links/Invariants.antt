@@ -1,8 +1,8 @@
 use Rattle.std.specs.Prelude.{◌≡◌, ◌≤◌, ◌-◌, length, map, All, false}
 use Rattle.std.specs.Vec.{vec_capacity}
-use Rattle.keri_specs.specs.Told.{HasNone}
-use Rattle.door_links.specs.Taken.{AreTaken}
-use Rattle.door_links.proofs.taken.take_links.Given as goal
+use Rattle.lists.specs.KeriSpecs.Told.{HasNone}
+use Rattle.run_status.specs.DoorLinks.Taken.{AreTaken}
+use Rattle.run_status.proofs.door_links.taken.take_links.Given as goal
 
 -- what came so far, of a door that didn't fail yet
 abbrev pub invariant-loop-door : goal.invariant-loop-door

@@ -3,8 +3,8 @@ use Rattle.cesr_stream.specs.Items.{Stand, none}
 use Rattle.cesr_stream.specs.Reading.{HasFed}
 use Rattle.cesr_stream.proofs.Fed.{fed_fresh}
 use Rattle.cesr_stream.specs.Assembly.{IsAssembled}
-use Rattle.message_feed.specs.Serving.{Serves}
-use Rattle.message_feed.proofs.feed.feed_messages.Goals as goal
+use Rattle.run_status.specs.MessageFeed.Serving.{Serves}
+use Rattle.run_status.proofs.message_feed.feed.feed_messages.Goals as goal
 
 pub feed_pieces-close-requires : goal.feed_pieces-close-requires
 feed_pieces-close-requires g c =

@@ -1,9 +1,9 @@
 use Rattle.std.proofs.Common.{◌∙◌, ◌++◌, [], sym, ap, subst, append-nil, arith, inl}
-use Rattle.message_feed.specs.declared.feed_close.FeedClose.TheVariants.{Bad, OutOfMemory}
-use Rattle.message_feed.specs.Closing.{Gave}
-use Rattle.message_feed.specs.Serving.{Serves}
-use Rattle.message_feed.proofs.Pieces.{gave_more, gave_none, serves_fed, runs, ends, passes, counted_on}
-use Rattle.message_feed.proofs.feed.feed_pieces.Goals as goal
+use Rattle.run_status.specs.declared.message_feed.feed_close.FeedClose.TheVariants.{Bad, OutOfMemory}
+use Rattle.run_status.specs.MessageFeed.Closing.{Gave}
+use Rattle.run_status.specs.MessageFeed.Serving.{Serves}
+use Rattle.run_status.proofs.MessageFeedLemmas.Pieces.{gave_more, gave_none, serves_fed, runs, ends, passes, counted_on}
+use Rattle.run_status.proofs.message_feed.feed.feed_pieces.Goals as goal
 
 pub returns-in-Ok-eq0-clause-runs : goal.returns-in-Ok-eq0-clause-runs
 returns-in-Ok-eq0-clause-runs g c =

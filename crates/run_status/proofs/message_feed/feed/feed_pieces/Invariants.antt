@@ -1,6 +1,6 @@
 use Rattle.std.proofs.Common.{◌≡◌}
-use Rattle.message_feed.proofs.Pieces.{IsRead}
-use Rattle.message_feed.proofs.feed.feed_pieces.Given as goal
+use Rattle.run_status.proofs.MessageFeedLemmas.Pieces.{IsRead}
+use Rattle.run_status.proofs.message_feed.feed.feed_pieces.Given as goal
 
 -- bytes were read so far, and there is room for so many more
 abbrev pub invariant-loop-room : goal.invariant-loop-room

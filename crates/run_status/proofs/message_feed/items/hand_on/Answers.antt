@@ -1,5 +1,5 @@
 use Rattle.std.proofs.Common.{[], ◌∷◌, append-nil}
-use Rattle.message_feed.proofs.items.hand_on.Goals as goal
+use Rattle.run_status.proofs.message_feed.items.hand_on.Goals as goal
 
 pub returns-in-None : goal.returns-in-None
 returns-in-None g c limit items answered assembled taken =

@@ -1,7 +1,7 @@
 use Rattle.std.proofs.Common.{◌≡◌, ◌∙◌, ap, inl, inr, Some, true, refl}
 use Rattle.cesr_stream.specs.Reading.{AnswersItem}
-use Rattle.message_feed.proofs.Steps.{serves_more, serves_still, halts_more, same_more, limit_more}
-use Rattle.message_feed.proofs.items.take_items.Goals as goal
+use Rattle.run_status.proofs.MessageFeedLemmas.Steps.{serves_more, serves_still, halts_more, same_more, limit_more}
+use Rattle.run_status.proofs.message_feed.items.take_items.Goals as goal
 
 pub loop-bad-preserved : goal.loop-bad-preserved
 loop-bad-preserved g c =

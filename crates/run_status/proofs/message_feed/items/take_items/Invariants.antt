@@ -1,6 +1,6 @@
 use Rattle.std.proofs.Common.{◌≡◌, ℕ, List, None, length}
-use Rattle.message_feed.specs.Serving.{Serves, SameLimits}
-use Rattle.message_feed.proofs.items.take_items.Given as goal
+use Rattle.run_status.specs.MessageFeed.Serving.{Serves, SameLimits}
+use Rattle.run_status.proofs.message_feed.items.take_items.Given as goal
 
 -- the messages that are ended so far were taken
 abbrev pub invariant-loop-bad : goal.invariant-loop-bad

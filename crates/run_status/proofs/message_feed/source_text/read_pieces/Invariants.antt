@@ -1,5 +1,5 @@
-use Rattle.message_feed.proofs.TextPieces.{IsRead}
-use Rattle.message_feed.proofs.source_text.read_pieces.Given as goal
+use Rattle.run_status.proofs.MessageFeedLemmas.TextPieces.{IsRead}
+use Rattle.run_status.proofs.message_feed.source_text.read_pieces.Given as goal
 
 -- the bytes were read so far, and there is room for so many more
 abbrev pub invariant-loop-room : goal.invariant-loop-room

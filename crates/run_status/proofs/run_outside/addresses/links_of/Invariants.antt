@@ -1,5 +1,5 @@
 use Rattle.std.proofs.Common.{◌≡◌, map, take}
-use Rattle.run_outside.proofs.addresses.links_of.Given as goal
+use Rattle.run_status.proofs.run_outside.addresses.links_of.Given as goal
 
 -- the peers so far have their links
 abbrev pub invariant-loop-peer : goal.invariant-loop-peer

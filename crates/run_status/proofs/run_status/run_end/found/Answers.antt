@@ -1,8 +1,8 @@
 use Rattle.std.proofs.Common.{◌≡◌, Bool, List, [], ◌∷◌, ◌||◌, map, refl, ap}
 use Rattle.std.specs.List.{list_any}
-use Rattle.run_status.specs.Readers.{close_found, reader_seen}
-use Rattle.run_status.specs.Settling.{refuses, saw_another}
-use Rattle.run_status.proofs.run_end.found.Goals as goal
+use Rattle.run_status.specs.RunStatus.Readers.{close_found, reader_seen}
+use Rattle.run_status.specs.RunStatus.Settling.{refuses, saw_another}
+use Rattle.run_status.proofs.run_status.run_end.found.Goals as goal
 
 -- whether a test holds of some value that is seen
 any-map : {A B : Type 0} (test : B → Bool) (seen : A → B) (xs : List A) → list_any test (map seen xs) ≡ list_any (λ x. test (seen x)) xs

@@ -1,5 +1,5 @@
-use Rattle.shelf_log.proofs.Blanks.{extends}
-use Rattle.shelf_log.proofs.behind.extend.Goals as goal
+use Rattle.shelf_log.proofs.ShelfLogLemmas.Blanks.{extends}
+use Rattle.shelf_log.proofs.shelf_log.behind.extend.Goals as goal
 
 pub returns-clause-extends : goal.returns-clause-extends
 returns-clause-extends g c =

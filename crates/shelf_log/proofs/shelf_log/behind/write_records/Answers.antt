@@ -1,9 +1,9 @@
 use Rattle.std.proofs.Common.{ℕ, ◌+◌, List, take, sym, ◌∙◌, subst, arith}
-use Rattle.shelf_log.specs.Format.{record_bytes, records}
-use Rattle.shelf_log.specs.declared.version.Version.TheVariants.{Two}
-use Rattle.shelf_log.proofs.Blanks.{ExtendsSoFar, extends_both, extends_failed}
-use Rattle.shelf_log.proofs.Sizes.{size_more, size_front, records_more}
-use Rattle.shelf_log.proofs.behind.write_records.Goals as goal
+use Rattle.shelf_log.specs.ShelfLog.Format.{record_bytes, records}
+use Rattle.shelf_log.specs.declared.shelf_log.version.Version.TheVariants.{Two}
+use Rattle.shelf_log.proofs.ShelfLogLemmas.Blanks.{ExtendsSoFar, extends_both, extends_failed}
+use Rattle.shelf_log.proofs.ShelfLogLemmas.Sizes.{size_more, size_front, records_more}
+use Rattle.shelf_log.proofs.shelf_log.behind.write_records.Goals as goal
 
 pub write_record-requires-clause-few : goal.write_record-requires-clause-few
 write_record-requires-clause-few g c = (

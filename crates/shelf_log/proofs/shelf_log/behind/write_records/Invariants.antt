@@ -1,8 +1,8 @@
 use Rattle.std.proofs.Common.{◌≡◌, take, length}
-use Rattle.shelf_log.specs.Format.{records, shelf_front}
-use Rattle.shelf_log.specs.declared.version.Version.TheVariants.{Two}
-use Rattle.shelf_log.proofs.Blanks.{ExtendsSoFar}
-use Rattle.shelf_log.proofs.behind.write_records.Given as goal
+use Rattle.shelf_log.specs.ShelfLog.Format.{records, shelf_front}
+use Rattle.shelf_log.specs.declared.shelf_log.version.Version.TheVariants.{Two}
+use Rattle.shelf_log.proofs.ShelfLogLemmas.Blanks.{ExtendsSoFar}
+use Rattle.shelf_log.proofs.shelf_log.behind.write_records.Given as goal
 
 -- the records so far were written
 abbrev pub invariant-loop-payload : goal.invariant-loop-payload

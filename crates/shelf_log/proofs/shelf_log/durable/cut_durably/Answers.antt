@@ -1,7 +1,7 @@
 use Rattle.std.proofs.Common.{take}
-use Rattle.keri_disk.specs.Images.{CutShort}
-use Rattle.shelf_log.proofs.Changes.{cut_none, change_failed, then_synced}
-use Rattle.shelf_log.proofs.durable.cut_durably.Goals as goal
+use Rattle.shelf_log.specs.KeriDisk.Images.{CutShort}
+use Rattle.shelf_log.proofs.ShelfLogLemmas.Changes.{cut_none, change_failed, then_synced}
+use Rattle.shelf_log.proofs.shelf_log.durable.cut_durably.Goals as goal
 
 pub returns-in_err-cut-clause-cuts : goal.returns-in_err-cut-clause-cuts
 returns-in_err-cut-clause-cuts g c =

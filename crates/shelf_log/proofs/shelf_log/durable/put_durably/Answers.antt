@@ -1,7 +1,7 @@
 use Rattle.std.proofs.Common.{length}
-use Rattle.keri_disk.specs.Images.{overwritten, Torn}
-use Rattle.shelf_log.proofs.Changes.{torn_none, change_failed, then_synced}
-use Rattle.shelf_log.proofs.durable.put_durably.Goals as goal
+use Rattle.shelf_log.specs.KeriDisk.Images.{overwritten, Torn}
+use Rattle.shelf_log.proofs.ShelfLogLemmas.Changes.{torn_none, change_failed, then_synced}
+use Rattle.shelf_log.proofs.shelf_log.durable.put_durably.Goals as goal
 
 pub returns-in_err-write_at-clause-puts : goal.returns-in_err-write_at-clause-puts
 returns-in_err-write_at-clause-puts g c =

@@ -1,9 +1,9 @@
 use Rattle.std.proofs.Common.{◌∙◌, Err}
-use Rattle.shelf_log.specs.Scans.{Scans}
-use Rattle.shelf_log.proofs.Files.{if_some}
-use Rattle.shelf_log.proofs.Refusals.{match_err, reads_refused}
-use Rattle.shelf_log.proofs.Windows.{of_some}
-use Rattle.shelf_log.proofs.list_file.read_list.Goals as goal
+use Rattle.shelf_log.specs.ShelfLog.Scans.{Scans}
+use Rattle.shelf_log.proofs.ShelfLogLemmas.Files.{if_some}
+use Rattle.shelf_log.proofs.ShelfLogLemmas.Refusals.{match_err, reads_refused}
+use Rattle.shelf_log.proofs.ShelfLogLemmas.Windows.{of_some}
+use Rattle.shelf_log.proofs.shelf_log.list_file.read_list.Goals as goal
 
 pub returns-in_err-read_records-clause-reads : goal.returns-in_err-read_records-clause-reads
 returns-in_err-read_records-clause-reads g c =

@@ -1,9 +1,9 @@
 use Rattle.std.proofs.Common.{◌≡◌, ℕ, ◌+◌, ◌≤◌, List, Some, ◌∙◌, subst, arith, length, drop, length-take, length-drop, length-append}
-use Rattle.keri_disk.specs.Calls.{IsSizeOf}
-use Rattle.shelf_log.proofs.Files.{if_some}
-use Rattle.keri_disk.proofs.Moments.{keeps_both}
-use Rattle.shelf_log.proofs.Windows.{scan_closed, scan_part, scan_out, scan_on, scan_within}
-use Rattle.shelf_log.proofs.list_file.read_records.Goals as goal
+use Rattle.shelf_log.specs.KeriDisk.Calls.{IsSizeOf}
+use Rattle.shelf_log.proofs.ShelfLogLemmas.Files.{if_some}
+use Rattle.shelf_log.proofs.KeriDiskLemmas.Moments.{keeps_both}
+use Rattle.shelf_log.proofs.ShelfLogLemmas.Windows.{scan_closed, scan_part, scan_out, scan_on, scan_within}
+use Rattle.shelf_log.proofs.shelf_log.list_file.read_records.Goals as goal
 
 pub returns-in-Closed-clause-scans : goal.returns-in-Closed-clause-scans
 returns-in-Closed-clause-scans g c =

@@ -1,7 +1,7 @@
 use Rattle.std.proofs.Common.{◌≡◌, ◌-◌, ◌≤◌, length}
-use Rattle.keri_disk.specs.Calls.{Keeps}
-use Rattle.shelf_log.specs.Scans.{ReadsOn}
-use Rattle.shelf_log.proofs.list_file.read_records.Given as goal
+use Rattle.shelf_log.specs.KeriDisk.Calls.{Keeps}
+use Rattle.shelf_log.specs.ShelfLog.Scans.{ReadsOn}
+use Rattle.shelf_log.proofs.shelf_log.list_file.read_records.Given as goal
 
 abbrev pub invariant-loop-scan : goal.invariant-loop-scan
 invariant-loop-scan g l =

@@ -1,11 +1,11 @@
 use Rattle.std.proofs.Common.{List, ℕ, ◌∷◌, [], slice_index, refl, ap}
-use Rattle.keri_disk.specs.Images.{LeavesOnly}
-use Rattle.shelf_log.specs.Format.{IsNoShelf, IsUnmarked}
-use Rattle.shelf_log.specs.declared.version.Version.TheVariants.{Two}
-use Rattle.shelf_log.proofs.Changes.{none_of_err}
-use Rattle.shelf_log.proofs.Migrated.{IsBegunOr, IsUnbegun, no_shelf_unbegun, unmarked_unbegun, after_cut, after_byte, all_but_first, mark_leaves, mark_settles}
-use Rattle.keri_disk.proofs.Moments.{and_then}
-use Rattle.shelf_log.proofs.migration.write_over.Goals as goal
+use Rattle.shelf_log.specs.KeriDisk.Images.{LeavesOnly}
+use Rattle.shelf_log.specs.ShelfLog.Format.{IsNoShelf, IsUnmarked}
+use Rattle.shelf_log.specs.declared.shelf_log.version.Version.TheVariants.{Two}
+use Rattle.shelf_log.proofs.ShelfLogLemmas.Changes.{none_of_err}
+use Rattle.shelf_log.proofs.ShelfLogLemmas.Migrated.{IsBegunOr, IsUnbegun, no_shelf_unbegun, unmarked_unbegun, after_cut, after_byte, all_but_first, mark_leaves, mark_settles}
+use Rattle.shelf_log.proofs.KeriDiskLemmas.Moments.{and_then}
+use Rattle.shelf_log.proofs.shelf_log.migration.write_over.Goals as goal
 
 pub returns-in_err-cut_durably-clause-brings : goal.returns-in_err-cut_durably-clause-brings
 returns-in_err-cut_durably-clause-brings g c = record {

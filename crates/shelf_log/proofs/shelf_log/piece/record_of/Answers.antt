@@ -1,10 +1,10 @@
 use Rattle.std.proofs.Common.{◌≡◌, ℕ, ◌-◌, List, ◌∷◌, ◌++◌, length, take, drop, refl, sym, ◌∙◌, ap, subst, arith, inr, take-append-drop}
 use Rattle.std.proofs.lemmas.List.{length-take-le}
 use Rattle.std.specs.Int.{w32, to_be_bytes}
-use Rattle.shelf_log.specs.Format.{IsInRange}
-use Rattle.shelf_log.proofs.Pieces.{length_front}
-use Rattle.shelf_log.proofs.piece.record_of.Goals.{then-length-eq0-via-then-length-eq0, then-length-eq0-via-else-length-eq0+then-length-greatest}
-use Rattle.shelf_log.proofs.piece.record_of.Goals as goal
+use Rattle.shelf_log.specs.ShelfLog.Format.{IsInRange}
+use Rattle.shelf_log.proofs.ShelfLogLemmas.Pieces.{length_front}
+use Rattle.shelf_log.proofs.shelf_log.piece.record_of.Goals.{then-length-eq0-via-then-length-eq0, then-length-eq0-via-else-length-eq0+then-length-greatest}
+use Rattle.shelf_log.proofs.shelf_log.piece.record_of.Goals as goal
 
 pub returns-then-length-eq0 : goal.returns-then-length-eq0
 returns-then-length-eq0 c =

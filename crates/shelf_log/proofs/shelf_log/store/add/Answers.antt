@@ -1,6 +1,6 @@
 use Rattle.std.proofs.Common.{◌∙◌, sym}
-use Rattle.shelf_log.proofs.Stored.{ok_of}
-use Rattle.shelf_log.proofs.store.add.Goals as goal
+use Rattle.shelf_log.proofs.ShelfLogLemmas.Stored.{ok_of}
+use Rattle.shelf_log.proofs.shelf_log.store.add.Goals as goal
 
 pub returns-then-is_err-clause-stores : goal.returns-then-is_err-clause-stores
 returns-then-is_err-clause-stores g c settled end_is =

@@ -1,5 +1,5 @@
-use Rattle.shelf_log.proofs.Stored.{first_failed, both_done}
-use Rattle.shelf_log.proofs.store.store.Goals as goal
+use Rattle.shelf_log.proofs.ShelfLogLemmas.Stored.{first_failed, both_done}
+use Rattle.shelf_log.proofs.shelf_log.store.store.Goals as goal
 
 pub returns-in_err-put_durably-clause-stores : goal.returns-in_err-put_durably-clause-stores
 returns-in_err-put_durably-clause-stores g c list payload settled end_is fits bytes_are =

@@ -1,7 +1,7 @@
 use Rattle.std.proofs.Common.{◌∙◌}
-use Rattle.core_tables.specs.View.{body_of, log_of}
-use Rattle.acceptance.proofs.Reasons.{has_predecessor}
-use Rattle.acceptance.proofs.base_state.follows_some.Goals as goal
+use Rattle.core_tables.specs.CoreTables.View.{body_of, log_of}
+use Rattle.validator_core.proofs.AcceptanceLemmas.Reasons.{has_predecessor}
+use Rattle.validator_core.proofs.acceptance.base_state.follows_some.Goals as goal
 
 pub returns : goal.returns
 returns c = λ bytes. c.is_some.ensures ∙ has_predecessor (log_of c.args.tables.now) (body_of bytes c.args.event.now) c.predecessor.result (c.predecessor.ensures bytes)

@@ -1,7 +1,7 @@
 use Rattle.std.proofs.Common.{◌∙◌, sym}
-use Rattle.core_tables.specs.View.{body_of, log_of}
-use Rattle.acceptance.proofs.Footings.{behind_on, first_on, taken_on}
-use Rattle.acceptance.proofs.base_state.is_on_current.Goals as goal
+use Rattle.core_tables.specs.CoreTables.View.{body_of, log_of}
+use Rattle.validator_core.proofs.AcceptanceLemmas.Footings.{behind_on, first_on, taken_on}
+use Rattle.validator_core.proofs.acceptance.base_state.is_on_current.Goals as goal
 
 pub returns-then-not-has_clash : goal.returns-then-not-has_clash
 returns-then-not-has_clash c = λ bytes yes_is taken.

@@ -1,8 +1,8 @@
 use Rattle.std.proofs.Common.{not, ◌&&◌, ◌==◌, ◌∙◌, ap}
 use Rattle.std.specs.List.{list_any}
-use Rattle.core_tables.specs.View.{body_of}
-use Rattle.acceptance.proofs.Bodies.{waits_is}
-use Rattle.acceptance.proofs.base_state.is_waiting.Goals as goal
+use Rattle.core_tables.specs.CoreTables.View.{body_of}
+use Rattle.validator_core.proofs.AcceptanceLemmas.Bodies.{waits_is}
+use Rattle.validator_core.proofs.acceptance.base_state.is_waiting.Goals as goal
 
 pub returns-then-not-is_receipt : goal.returns-then-not-is_receipt
 returns-then-not-is_receipt c = λ bytes at.

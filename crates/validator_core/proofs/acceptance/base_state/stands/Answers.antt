@@ -1,7 +1,7 @@
 use Rattle.std.proofs.Common.{◌∙◌}
-use Rattle.core_tables.specs.View.{body_of, log_of}
-use Rattle.acceptance.proofs.Footings.{stands_if}
-use Rattle.acceptance.proofs.base_state.stands.Goals as goal
+use Rattle.core_tables.specs.CoreTables.View.{body_of, log_of}
+use Rattle.validator_core.proofs.AcceptanceLemmas.Footings.{stands_if}
+use Rattle.validator_core.proofs.acceptance.base_state.stands.Goals as goal
 
 pub returns : goal.returns
 returns c = λ bytes. c.is_some.ensures

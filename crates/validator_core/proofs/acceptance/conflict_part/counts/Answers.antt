@@ -1,16 +1,16 @@
 use Rattle.std.proofs.Common.{◌≡◌, ◌&&◌, ◌||◌, false, not, ◌∙◌, ap, subst, sym}
 use Rattle.std.specs.Prelude.{IfSome}
 use Rattle.std.specs.Option.{option_copied}
-use Rattle.event_body.specs.Events.{is_rotation}
-use Rattle.event_rules.specs.Parts.{has_next, has_signed}
-use Rattle.journal.specs.Conflicts.{counts}
+use Rattle.event_body.specs.EventBody.Events.{is_rotation}
+use Rattle.journal.specs.EventRules.Parts.{has_next, has_signed}
+use Rattle.journal.specs.Journal.Conflicts.{counts}
 use Rattle.key_state.specs.States.{IsState}
-use Rattle.core_tables.specs.View.{body_of, log_of}
-use Rattle.acceptance.specs.Parts.{has_in}
-use Rattle.acceptance.specs.Standing.{told_of}
-use Rattle.acceptance.proofs.Bodies.{at_body}
-use Rattle.acceptance.proofs.Counting.{counted, fallen_counts, receipt_counts}
-use Rattle.acceptance.proofs.conflict_part.counts.Goals as goal
+use Rattle.core_tables.specs.CoreTables.View.{body_of, log_of}
+use Rattle.validator_core.specs.Acceptance.Parts.{has_in}
+use Rattle.validator_core.specs.Acceptance.Standing.{told_of}
+use Rattle.validator_core.proofs.AcceptanceLemmas.Bodies.{at_body}
+use Rattle.validator_core.proofs.AcceptanceLemmas.Counting.{counted, fallen_counts, receipt_counts}
+use Rattle.validator_core.proofs.acceptance.conflict_part.counts.Goals as goal
 
 pub returns-then-is_receipt : goal.returns-then-is_receipt
 returns-then-is_receipt c =

@@ -1,11 +1,11 @@
 use Rattle.std.proofs.Common.{[], sym, ◌∙◌, ap}
 use Rattle.std.specs.Prelude.{slice_get}
-use Rattle.acceptance.proofs.Behind.{stands_not}
-use Rattle.acceptance.proofs.Place.{above, has_place, has_state, is_behind, live, some, stands_on}
-use Rattle.acceptance.proofs.Predecessor.{no_predecessor}
-use Rattle.acceptance.proofs.ReadyRows.{first_stands}
-use Rattle.core_tables.specs.View.{body_of, log_of}
-use Rattle.acceptance.proofs.footing.footing_of.Goals as goal
+use Rattle.validator_core.proofs.AcceptanceLemmas.Behind.{stands_not}
+use Rattle.validator_core.proofs.AcceptanceLemmas.Place.{above, has_place, has_state, is_behind, live, some, stands_on}
+use Rattle.validator_core.proofs.AcceptanceLemmas.Predecessor.{no_predecessor}
+use Rattle.validator_core.proofs.AcceptanceLemmas.ReadyRows.{first_stands}
+use Rattle.core_tables.specs.CoreTables.View.{body_of, log_of}
+use Rattle.validator_core.proofs.acceptance.footing.footing_of.Goals as goal
 
 pub returns-then-is_inception-clause-some : goal.returns-then-is_inception-clause-some
 returns-then-is_inception-clause-some c = λ bytes. record { up = first_stands (log_of c.args.tables.now) (body_of bytes c.args.event.now) (sym c.if-is_inception.ensures); is = sym c.if-is_inception.ensures }

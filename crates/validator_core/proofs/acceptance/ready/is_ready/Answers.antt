@@ -1,12 +1,12 @@
 use Rattle.std.proofs.Common.{◌≡◌, ◌&&◌, Bool, true, false, Option, Some, None, is_none, is_some, refl, ◌∙◌, ap, sym}
 use Rattle.std.specs.Option.{option_copied}
-use Rattle.journal.specs.Readiness.{is_ready}
-use Rattle.core_tables.specs.View.{body_of, log_of}
-use Rattle.acceptance.specs.Standing.{told_of}
-use Rattle.core_laws.specs.Waking as waking
-use Rattle.acceptance.proofs.Bodies.{at_body, is_below}
-use Rattle.acceptance.proofs.Enough.{not_taken, ready_is}
-use Rattle.acceptance.proofs.ready.is_ready.Goals as goal
+use Rattle.journal.specs.Journal.Readiness.{is_ready}
+use Rattle.core_tables.specs.CoreTables.View.{body_of, log_of}
+use Rattle.validator_core.specs.Acceptance.Standing.{told_of}
+use Rattle.claim_table.specs.CoreLaws.Waking as waking
+use Rattle.validator_core.proofs.AcceptanceLemmas.Bodies.{at_body, is_below}
+use Rattle.validator_core.proofs.AcceptanceLemmas.Enough.{not_taken, ready_is}
+use Rattle.validator_core.proofs.acceptance.ready.is_ready.Goals as goal
 
 some_is : {X : Type 0} (o : Option X) (b : Bool) → true ≡ is_some o → false ≡ (is_none o && b)
 some_is None b h = cc

@@ -1,9 +1,9 @@
 use Rattle.std.proofs.Common.{◌∙◌, ap, sym}
 use Rattle.std.specs.Prelude.{codes}
 use Rattle.key_state.specs.Same.{has_text}
-use Rattle.core_tables.specs.View.{log_of}
-use Rattle.acceptance.proofs.Delegators.{forbids_by, forbids_is}
-use Rattle.acceptance.proofs.seals.forbids.Goals as goal
+use Rattle.core_tables.specs.CoreTables.View.{log_of}
+use Rattle.validator_core.proofs.AcceptanceLemmas.Delegators.{forbids_by, forbids_is}
+use Rattle.validator_core.proofs.acceptance.seals.forbids.Goals as goal
 
 pub returns-in-Some : goal.returns-in-Some
 returns-in-Some c = c.has_no_delegation.ensures

@@ -1,9 +1,9 @@
 use Rattle.std.proofs.Common.{not, ◌&&◌, ◌∙◌, ap, sym}
 use Rattle.std.specs.Option.{option_copied}
-use Rattle.journal.specs.Seals.{forbids}
-use Rattle.core_tables.specs.View.{log_of}
-use Rattle.acceptance.proofs.Delegators.{needs_none, no_delegator, sealed_by}
-use Rattle.acceptance.proofs.seals.is_anchored.Goals as goal
+use Rattle.journal.specs.Journal.Seals.{forbids}
+use Rattle.core_tables.specs.CoreTables.View.{log_of}
+use Rattle.validator_core.proofs.AcceptanceLemmas.Delegators.{needs_none, no_delegator, sealed_by}
+use Rattle.validator_core.proofs.acceptance.seals.is_anchored.Goals as goal
 
 pub returns-then-not-is_delegated : goal.returns-then-not-is_delegated
 returns-then-not-is_delegated c = sym (needs_none (log_of c.args.tables.now) (option_copied c.args.state) c.args.event.now (sym c.if-not-is_delegated.ensures))

@@ -1,12 +1,12 @@
 use Rattle.std.proofs.Common.{◌≡◌, ◌∙◌, ap, refl, subst, sym, true}
 use Rattle.std.specs.Option.{option_copied}
-use Rattle.journal.specs.Logs.{takes}
-use Rattle.journal.specs.Seals.{anchored}
-use Rattle.core_tables.specs.View.{body_of, log_of}
-use Rattle.acceptance.specs.Parts.{has_in}
-use Rattle.acceptance.specs.Wants.{wants_by}
-use Rattle.acceptance.proofs.Wanted.{claims_wanting, rows_wanting}
-use Rattle.acceptance.proofs.wants.wanting.Goals as goal
+use Rattle.journal.specs.Journal.Logs.{takes}
+use Rattle.journal.specs.Journal.Seals.{anchored}
+use Rattle.core_tables.specs.CoreTables.View.{body_of, log_of}
+use Rattle.validator_core.specs.Acceptance.Parts.{has_in}
+use Rattle.validator_core.specs.Acceptance.Wants.{wants_by}
+use Rattle.validator_core.proofs.AcceptanceLemmas.Wanted.{claims_wanting, rows_wanting}
+use Rattle.validator_core.proofs.acceptance.wants.wanting.Goals as goal
 
 pub returns-then-is_on_current : goal.returns-then-is_on_current
 returns-then-is_on_current c = λ bytes at current taken.

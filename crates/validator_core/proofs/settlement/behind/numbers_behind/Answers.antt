@@ -1,11 +1,11 @@
 use Rattle.std.proofs.Common.{◌≡◌, Some, sym, ◌∙◌, ap, subst}
 use Rattle.std.specs.Prelude.{◌==◌, ◌↔◌, Contains, option_map}
 use Rattle.std.specs.List.{list_any}
-use Rattle.event_body.specs.Events.{said_of}
-use Rattle.escrow.specs.Escrow.{Waits}
-use Rattle.acceptance.proofs.NewEvent.{all_woken}
-use Rattle.settlement.proofs.Events.{event_is, if_ok_then, waits_held}
-use Rattle.settlement.proofs.behind.numbers_behind.Goals as goal
+use Rattle.event_body.specs.EventBody.Events.{said_of}
+use Rattle.escrow.specs.Escrow.Escrow.{Waits}
+use Rattle.validator_core.proofs.AcceptanceLemmas.NewEvent.{all_woken}
+use Rattle.validator_core.proofs.SettlementLemmas.Events.{event_is, if_ok_then, waits_held}
+use Rattle.validator_core.proofs.settlement.behind.numbers_behind.Goals as goal
 
 pub returns-in-Some-clause-held : goal.returns-in-Some-clause-held
 returns-in-Some-clause-held c = if_ok_then c.copied.result c.copied.ensures (λ copy same n has.

@@ -1,12 +1,12 @@
 use Rattle.std.proofs.Common.{◌<◌, length, refl, sym, subst, take, get_or}
 use Rattle.std.proofs.lemmas.List.{take_all, take_more}
-use Rattle.core_tables.specs.View.{View}
-use Rattle.acceptance.proofs.Rewound.{extends_then}
-use Rattle.settlement.specs.Turning.{IsTurning}
-use Rattle.settlement.proofs.Lasts.{got_contained}
-use Rattle.settlement.proofs.LoggedTables.{extends_logged, logged_rows, rows_then}
-use Rattle.settlement.proofs.EachOnce.{once}
-use Rattle.settlement.proofs.behind.raise_behind.Goals as goal
+use Rattle.core_tables.specs.CoreTables.View.{View}
+use Rattle.validator_core.proofs.AcceptanceLemmas.Rewound.{extends_then}
+use Rattle.validator_core.specs.Settlement.Turning.{IsTurning}
+use Rattle.validator_core.proofs.SettlementLemmas.Lasts.{got_contained}
+use Rattle.validator_core.proofs.SettlementLemmas.LoggedTables.{extends_logged, logged_rows, rows_then}
+use Rattle.validator_core.proofs.SettlementLemmas.EachOnce.{once}
+use Rattle.validator_core.proofs.settlement.behind.raise_behind.Goals as goal
 
 pub loop-number-init : goal.loop-number-init
 loop-number-init c = record { turning = λ v d t. t; rows = refl; extends = extends_logged c.args.tables.now c.requires.logged }

@@ -1,9 +1,9 @@
 use Rattle.std.proofs.Common.{◌≡◌, [], take}
-use Rattle.journal.specs.declared.body.Body.{Body}
-use Rattle.core_tables.specs.View.{View, with_rows}
-use Rattle.acceptance.specs.Standing.{Extends}
-use Rattle.settlement.specs.Turning.{IsTurning}
-use Rattle.settlement.proofs.behind.raise_behind.Given as goal
+use Rattle.journal.specs.declared.journal.body.Body.{Body}
+use Rattle.core_tables.specs.CoreTables.View.{View, with_rows}
+use Rattle.validator_core.specs.Acceptance.Standing.{Extends}
+use Rattle.validator_core.specs.Settlement.Turning.{IsTurning}
+use Rattle.validator_core.proofs.settlement.behind.raise_behind.Given as goal
 
 abbrev pub invariant-loop-number : goal.invariant-loop-number
 invariant-loop-number l = record {

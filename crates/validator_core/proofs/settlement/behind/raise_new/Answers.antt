@@ -1,14 +1,14 @@
 use Rattle.std.proofs.Common.{◌∙◌, sym, ap, subst}
 use Rattle.std.specs.Prelude.{slice_get}
-use Rattle.claim_table.specs.Rows.{raised_all}
-use Rattle.journal.proofs.Places.{some_at}
-use Rattle.acceptance.specs.Standing.{Extends}
-use Rattle.acceptance.proofs.Rewound.{extends_claimed}
-use Rattle.settlement.proofs.Events.{on_ok_then}
-use Rattle.settlement.proofs.Steps.{only_rows}
-use Rattle.settlement.proofs.Turning.{held_is, passed, raised}
-use Rattle.settlement.proofs.LoggedTables.{extends_logged, extends_some, whichever}
-use Rattle.settlement.proofs.behind.raise_new.Goals as goal
+use Rattle.claim_table.specs.ClaimTable.Rows.{raised_all}
+use Rattle.journal.proofs.JournalLemmas.Places.{some_at}
+use Rattle.validator_core.specs.Acceptance.Standing.{Extends}
+use Rattle.validator_core.proofs.AcceptanceLemmas.Rewound.{extends_claimed}
+use Rattle.validator_core.proofs.SettlementLemmas.Events.{on_ok_then}
+use Rattle.validator_core.proofs.SettlementLemmas.Steps.{only_rows}
+use Rattle.validator_core.proofs.SettlementLemmas.Turning.{held_is, passed, raised}
+use Rattle.validator_core.proofs.SettlementLemmas.LoggedTables.{extends_logged, extends_some, whichever}
+use Rattle.validator_core.proofs.settlement.behind.raise_new.Goals as goal
 
 pub returns-then-is_behind_last-clause-ok : goal.returns-then-is_behind_last-clause-ok
 returns-then-is_behind_last-clause-ok c =

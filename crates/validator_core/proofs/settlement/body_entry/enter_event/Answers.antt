@@ -1,16 +1,16 @@
 use Rattle.std.proofs.Common.{◌≡◌, [], ◌∷◌, ◌++◌, length, Some, sym, ◌∙◌, ap, subst}
 use Rattle.std.specs.Prelude.{slice_get}
 use Rattle.std.proofs.lemmas.Result.{on_ok_weaker}
-use Rattle.acceptance.specs.Standing.{Extends, told_of}
-use Rattle.core_tables.specs.View.{View, body_of}
-use Rattle.journal.specs.declared.entry.Entry.TheVariants.{Took}
-use Rattle.journal.specs.History.{claims_on}
-use Rattle.journal.proofs.Places.{slice_get_last}
-use Rattle.acceptance.proofs.Rewound.{extends_claimed}
-use Rattle.settlement.specs.Entries.{IsLogged, RaisesFound}
-use Rattle.settlement.proofs.EnteredClaims.{comes_new, mid_of}
-use Rattle.settlement.proofs.LoggedTables.{extends_body, extends_some, logged_body, whichever}
-use Rattle.settlement.proofs.body_entry.enter_event.Goals as goal
+use Rattle.validator_core.specs.Acceptance.Standing.{Extends, told_of}
+use Rattle.core_tables.specs.CoreTables.View.{View, body_of}
+use Rattle.journal.specs.declared.journal.entry.Entry.TheVariants.{Took}
+use Rattle.journal.specs.Journal.History.{claims_on}
+use Rattle.journal.proofs.JournalLemmas.Places.{slice_get_last}
+use Rattle.validator_core.proofs.AcceptanceLemmas.Rewound.{extends_claimed}
+use Rattle.validator_core.specs.Settlement.Entries.{IsLogged, RaisesFound}
+use Rattle.validator_core.proofs.SettlementLemmas.EnteredClaims.{comes_new, mid_of}
+use Rattle.validator_core.proofs.SettlementLemmas.LoggedTables.{extends_body, extends_some, logged_body, whichever}
+use Rattle.validator_core.proofs.settlement.body_entry.enter_event.Goals as goal
 
 pub raise_if_standing-requires : goal.raise_if_standing-requires
 raise_if_standing-requires c =

@@ -1,9 +1,9 @@
 use Rattle.std.proofs.Common.{sym, subst}
-use Rattle.acceptance.specs.Standing.{Extends, IsStanding}
-use Rattle.acceptance.proofs.NewReceipt.{standing_body}
-use Rattle.acceptance.proofs.Rewound.{extends_held, extends_then}
-use Rattle.core_tables.specs.View.{body_of}
-use Rattle.settlement.proofs.body_entry.enter_receipt.Goals as goal
+use Rattle.validator_core.specs.Acceptance.Standing.{Extends, IsStanding}
+use Rattle.validator_core.proofs.AcceptanceLemmas.NewReceipt.{standing_body}
+use Rattle.validator_core.proofs.AcceptanceLemmas.Rewound.{extends_held, extends_then}
+use Rattle.core_tables.specs.CoreTables.View.{body_of}
+use Rattle.validator_core.proofs.settlement.body_entry.enter_receipt.Goals as goal
 
 pub enter_claims-requires-clause-stands : goal.enter_claims-requires-clause-stands
 enter_claims-requires-clause-stands c = subst IsStanding (sym c.in_ok-push_body.ensures.ok) (standing_body c.args.tables.now c.requires.stands (body_of c.args.text c.args.event) c.requires.held c.requires.outside c.requires.receipt)

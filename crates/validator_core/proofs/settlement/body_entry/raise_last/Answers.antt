@@ -1,14 +1,14 @@
 use Rattle.std.proofs.Common.{◌≡◌, Some, refl, sym, ◌∙◌, ap, subst}
 use Rattle.std.specs.Prelude.{slice_get}
 use Rattle.std.proofs.lemmas.Result.{on_ok_weaker}
-use Rattle.acceptance.specs.Standing.{Extends}
-use Rattle.acceptance.proofs.Rewound.{extends_claimed}
-use Rattle.claim_table.specs.Rows.{raised_all}
-use Rattle.core_tables.specs.View.{View}
-use Rattle.journal.proofs.Places.{some_at}
-use Rattle.settlement.proofs.EnteredClaims.{named_event, named_receipt, stands_again}
-use Rattle.settlement.proofs.LoggedTables.{extends_logged, extends_some, logged_told, rows_then, whichever}
-use Rattle.settlement.proofs.body_entry.raise_last.Goals as goal
+use Rattle.validator_core.specs.Acceptance.Standing.{Extends}
+use Rattle.validator_core.proofs.AcceptanceLemmas.Rewound.{extends_claimed}
+use Rattle.claim_table.specs.ClaimTable.Rows.{raised_all}
+use Rattle.core_tables.specs.CoreTables.View.{View}
+use Rattle.journal.proofs.JournalLemmas.Places.{some_at}
+use Rattle.validator_core.proofs.SettlementLemmas.EnteredClaims.{named_event, named_receipt, stands_again}
+use Rattle.validator_core.proofs.SettlementLemmas.LoggedTables.{extends_logged, extends_some, logged_told, rows_then, whichever}
+use Rattle.validator_core.proofs.settlement.body_entry.raise_last.Goals as goal
 
 pub raise_entry_if_standing-requires : goal.raise_entry_if_standing-requires
 raise_entry_if_standing-requires c = logged_told c.args.number c.args.entry c.args.tables.now c.requires

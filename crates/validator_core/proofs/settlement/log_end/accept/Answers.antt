@@ -2,13 +2,13 @@ use Rattle.std.proofs.Common.{◌<◌, sym, ◌∙◌, ap, subst, length}
 use Rattle.std.specs.Prelude.{◌==◌, Contains}
 use Rattle.std.specs.List.{list_any}
 use Rattle.std.specs.List.Sorted.{IsStrictlyIncreasing}
-use Rattle.core_tables.specs.View.{View}
-use Rattle.settlement.proofs.Events.{on_ok_then}
-use Rattle.journal.proofs.Places.{some_at}
-use Rattle.acceptance.proofs.Rewound.{extends_itself, extends_then}
-use Rattle.settlement.proofs.Steps.{logged_appended}
-use Rattle.settlement.proofs.Turning.{accepted, turning}
-use Rattle.settlement.proofs.log_end.accept.Goals as goal
+use Rattle.core_tables.specs.CoreTables.View.{View}
+use Rattle.validator_core.proofs.SettlementLemmas.Events.{on_ok_then}
+use Rattle.journal.proofs.JournalLemmas.Places.{some_at}
+use Rattle.validator_core.proofs.AcceptanceLemmas.Rewound.{extends_itself, extends_then}
+use Rattle.validator_core.proofs.SettlementLemmas.Steps.{logged_appended}
+use Rattle.validator_core.proofs.SettlementLemmas.Turning.{accepted, turning}
+use Rattle.validator_core.proofs.settlement.log_end.accept.Goals as goal
 
 pub raise_behind-requires-clause-logged : goal.raise_behind-requires-clause-logged
 raise_behind-requires-clause-logged c =

@@ -1,16 +1,16 @@
 use Rattle.std.proofs.Common.{◌≡◌, Some, sym, subst, length}
 use Rattle.std.specs.Prelude.{slice_get}
-use Rattle.accepted_log.proofs.Made.{fitting_made}
-use Rattle.journal.proofs.Places.{some_at}
-use Rattle.acceptance.specs.Standing.{Extends}
-use Rattle.acceptance.proofs.Rewound.{extends_itself}
-use Rattle.core_tables.specs.View.{log_of}
-use Rattle.journal.specs.declared.body.Body.{Body}
-use Rattle.settlement.specs.Turning.{MakesState}
-use Rattle.settlement.proofs.Events.{if_none_at, if_some_at, on_ok_both}
-use Rattle.settlement.proofs.Steps.{appended_interaction, appended_state, extends_log, has_room}
-use Rattle.settlement.proofs.LoggedTables.{whichever}
-use Rattle.settlement.proofs.log_end.append.Goals as goal
+use Rattle.core_tables.proofs.AcceptedLogLemmas.Made.{fitting_made}
+use Rattle.journal.proofs.JournalLemmas.Places.{some_at}
+use Rattle.validator_core.specs.Acceptance.Standing.{Extends}
+use Rattle.validator_core.proofs.AcceptanceLemmas.Rewound.{extends_itself}
+use Rattle.core_tables.specs.CoreTables.View.{log_of}
+use Rattle.journal.specs.declared.journal.body.Body.{Body}
+use Rattle.validator_core.specs.Settlement.Turning.{MakesState}
+use Rattle.validator_core.proofs.SettlementLemmas.Events.{if_none_at, if_some_at, on_ok_both}
+use Rattle.validator_core.proofs.SettlementLemmas.Steps.{appended_interaction, appended_state, extends_log, has_room}
+use Rattle.validator_core.proofs.SettlementLemmas.LoggedTables.{whichever}
+use Rattle.validator_core.proofs.settlement.log_end.append.Goals as goal
 
 pub establish-requires-clause-made : goal.establish-requires-clause-made
 establish-requires-clause-made c =

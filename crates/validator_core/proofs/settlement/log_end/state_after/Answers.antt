@@ -1,9 +1,9 @@
 use Rattle.std.proofs.Common.{sym, ◌∙◌, ap}
 use Rattle.std.specs.Option.{option_copied}
-use Rattle.journal.specs.Logs.{stepped, takes}
-use Rattle.settlement.proofs.Events.{if_err_then, if_ok_then}
-use Rattle.settlement.proofs.Steps.{after_steps, taken_fault}
-use Rattle.settlement.proofs.log_end.state_after.Goals as goal
+use Rattle.journal.specs.Journal.Logs.{stepped, takes}
+use Rattle.validator_core.proofs.SettlementLemmas.Events.{if_err_then, if_ok_then}
+use Rattle.validator_core.proofs.SettlementLemmas.Steps.{after_steps, taken_fault}
+use Rattle.validator_core.proofs.settlement.log_end.state_after.Goals as goal
 
 pub returns-in-Some-clause-state : goal.returns-in-Some-clause-state
 returns-in-Some-clause-state c = if_ok_then c.after.result c.after.ensures.state (λ t is. ap (λ o. stepped (option_copied o) c.args.event.now) c.in-Some.is ∙ after_steps c.in-Some.state.now t c.args.event.now is)

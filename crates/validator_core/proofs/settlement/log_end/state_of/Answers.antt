@@ -1,14 +1,14 @@
 use Rattle.std.proofs.Common.{sym, ◌∙◌, ap, subst}
 use Rattle.std.specs.Prelude.{option_map}
 use Rattle.std.proofs.lemmas.Option.{IfSome_then}
-use Rattle.event_body.specs.Events.{is_interaction, prefix_of}
+use Rattle.event_body.specs.EventBody.Events.{is_interaction, prefix_of}
 use Rattle.key_state.specs.Kept.{IsKept}
-use Rattle.journal.specs.Logs.{stepped, takes}
-use Rattle.accepted_log.specs.Values.{last_of}
-use Rattle.core_tables.specs.View.{log_of}
-use Rattle.settlement.proofs.Events.{body_there, event_is, if_ok_then, no_event}
-use Rattle.settlement.proofs.Steps.{made, taken}
-use Rattle.settlement.proofs.log_end.state_of.Goals as goal
+use Rattle.journal.specs.Journal.Logs.{stepped, takes}
+use Rattle.core_tables.specs.AcceptedLog.Values.{last_of}
+use Rattle.core_tables.specs.CoreTables.View.{log_of}
+use Rattle.validator_core.proofs.SettlementLemmas.Events.{body_there, event_is, if_ok_then, no_event}
+use Rattle.validator_core.proofs.SettlementLemmas.Steps.{made, taken}
+use Rattle.validator_core.proofs.settlement.log_end.state_of.Goals as goal
 
 pub state_made-requires-clause-kept : goal.state_made-requires-clause-kept
 state_made-requires-clause-kept c =

@@ -1,14 +1,14 @@
 use Rattle.std.proofs.Common.{◌≡◌, ◌&&◌, true, [], ◌∷◌, ◌++◌, sym, ◌∙◌, ap, subst, inl, inr}
 use Rattle.std.specs.Prelude.{Contains, slice_get}
 use Rattle.std.proofs.lemmas.Bool.{and_from, and_parts}
-use Rattle.journal.proofs.Places.{some_at}
-use Rattle.acceptance.specs.Standing.{told_of}
-use Rattle.core_laws.specs.Waking.{is_anchored, is_there, is_waiting, may_wake, wakes}
-use Rattle.core_tables.specs.View.{log_of}
-use Rattle.settlement.proofs.Events.{on_ok_both}
-use Rattle.settlement.proofs.Few.{few}
-use Rattle.settlement.proofs.Waking.{ready_fits, woken_next}
-use Rattle.settlement.proofs.settlement.accept_next.Goals as goal
+use Rattle.journal.proofs.JournalLemmas.Places.{some_at}
+use Rattle.validator_core.specs.Acceptance.Standing.{told_of}
+use Rattle.claim_table.specs.CoreLaws.Waking.{is_anchored, is_there, is_waiting, may_wake, wakes}
+use Rattle.core_tables.specs.CoreTables.View.{log_of}
+use Rattle.validator_core.proofs.SettlementLemmas.Events.{on_ok_both}
+use Rattle.validator_core.proofs.SettlementLemmas.Few.{few}
+use Rattle.validator_core.proofs.SettlementLemmas.Waking.{ready_fits, woken_next}
+use Rattle.validator_core.proofs.settlement.settlement.accept_next.Goals as goal
 
 pub accept-requires-clause-fits : goal.accept-requires-clause-fits
 accept-requires-clause-fits c = λ b at. ready_fits c.args.mode (told_of c.args.tables.now) (log_of c.args.tables.now) b (c.requires.ready b at)

@@ -1,14 +1,14 @@
 use Rattle.std.proofs.Common.{sym, ◌∙◌, ap, inl, inr}
 use Rattle.std.specs.Prelude.{option_map}
 use Rattle.std.proofs.lemmas.Bool.{cases_Bool}
-use Rattle.journal.proofs.Places.{some_at}
-use Rattle.journal.specs.Readiness.{is_ready}
-use Rattle.acceptance.specs.Standing.{told_of}
-use Rattle.core_laws.proofs.Entries.{ready_waits}
-use Rattle.core_tables.specs.View.{log_of}
-use Rattle.settlement.proofs.Events.{looked_some, looked_none, waits_held}
-use Rattle.settlement.proofs.Waking.{waits_there}
-use Rattle.settlement.proofs.settlement.is_due.Goals as goal
+use Rattle.journal.proofs.JournalLemmas.Places.{some_at}
+use Rattle.journal.specs.Journal.Readiness.{is_ready}
+use Rattle.validator_core.specs.Acceptance.Standing.{told_of}
+use Rattle.claim_table.proofs.CoreLawsLemmas.Entries.{ready_waits}
+use Rattle.core_tables.specs.CoreTables.View.{log_of}
+use Rattle.validator_core.proofs.SettlementLemmas.Events.{looked_some, looked_none, waits_held}
+use Rattle.validator_core.proofs.SettlementLemmas.Waking.{waits_there}
+use Rattle.validator_core.proofs.settlement.settlement.is_due.Goals as goal
 
 pub returns-then-is_some-clause-ready : goal.returns-then-is_some-clause-ready
 returns-then-is_some-clause-ready c = λ h.

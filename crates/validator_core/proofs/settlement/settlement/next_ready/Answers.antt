@@ -1,10 +1,10 @@
 use Rattle.std.proofs.Common.{◌+◌, ◌-◌, ◌^◌, min, sym, ◌∙◌, ap, subst, get_or}
-use Rattle.acceptance.specs.Standing.{told_of}
-use Rattle.core_tables.specs.View.{log_of}
-use Rattle.settlement.specs.Settled.{LeadsTo}
-use Rattle.settlement.proofs.Candidates.{leads_itself, leads_pass, none_counted, one_more}
-use Rattle.settlement.proofs.DueNumbers.{less_is}
-use Rattle.settlement.proofs.settlement.next_ready.Goals as goal
+use Rattle.validator_core.specs.Acceptance.Standing.{told_of}
+use Rattle.core_tables.specs.CoreTables.View.{log_of}
+use Rattle.validator_core.specs.Settlement.Settled.{LeadsTo}
+use Rattle.validator_core.proofs.SettlementLemmas.Candidates.{leads_itself, leads_pass, none_counted, one_more}
+use Rattle.validator_core.proofs.SettlementLemmas.DueNumbers.{less_is}
+use Rattle.validator_core.proofs.settlement.settlement.next_ready.Goals as goal
 
 pub loop-number-init : goal.loop-number-init
 loop-number-init c = let v = c.args.tables.now in (0, sym (none_counted c.args.steps.now), leads_itself c.args.mode (told_of v) v.held c.args.due.now.keys (log_of v))

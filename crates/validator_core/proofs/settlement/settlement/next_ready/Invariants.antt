@@ -1,9 +1,9 @@
 use Rattle.std.proofs.Common.{◌≡◌, ℕ, length}
-use Rattle.core_tables.specs.View.{log_of}
-use Rattle.acceptance.specs.Standing.{told_of}
-use Rattle.acceptance.specs.Settled.{counted_on}
-use Rattle.settlement.specs.Settled.{LeadsTo}
-use Rattle.settlement.proofs.settlement.next_ready.Given as goal
+use Rattle.core_tables.specs.CoreTables.View.{log_of}
+use Rattle.validator_core.specs.Acceptance.Standing.{told_of}
+use Rattle.validator_core.specs.Acceptance.Settled.{counted_on}
+use Rattle.validator_core.specs.Settlement.Settled.{LeadsTo}
+use Rattle.validator_core.proofs.settlement.settlement.next_ready.Given as goal
 
 abbrev pub invariant-loop-number : goal.invariant-loop-number
 invariant-loop-number l = (passed : ℕ) × (l.steps ≡ counted_on l.initial.steps passed)

@@ -1,13 +1,13 @@
 use Rattle.std.proofs.Common.{◌<◌, not, refl, sym, subst}
 use Rattle.std.specs.Prelude.{count_by}
 use Rattle.std.proofs.lemmas.Option.{slice_get_within}
-use Rattle.acceptance.specs.Standing.{told_of}
-use Rattle.acceptance.proofs.Rewound.{extends_itself, extends_then}
-use Rattle.journal.specs.Logs.{is_in}
-use Rattle.core_tables.specs.View.{log_of}
-use Rattle.settlement.proofs.Candidates.{leads_itself, none_counted}
-use Rattle.settlement.proofs.Ends.{fewer_left, goes_on, is_over, ready_new}
-use Rattle.settlement.proofs.settlement.settle.Goals as goal
+use Rattle.validator_core.specs.Acceptance.Standing.{told_of}
+use Rattle.validator_core.proofs.AcceptanceLemmas.Rewound.{extends_itself, extends_then}
+use Rattle.journal.specs.Journal.Logs.{is_in}
+use Rattle.core_tables.specs.CoreTables.View.{log_of}
+use Rattle.validator_core.proofs.SettlementLemmas.Candidates.{leads_itself, none_counted}
+use Rattle.validator_core.proofs.SettlementLemmas.Ends.{fewer_left, goes_on, is_over, ready_new}
+use Rattle.validator_core.proofs.settlement.settlement.settle.Goals as goal
 
 pub loop-number-init : goal.loop-number-init
 loop-number-init c =

@@ -1,9 +1,9 @@
 use Rattle.std.proofs.Common.{not}
 use Rattle.std.specs.Prelude.{count_by}
-use Rattle.journal.specs.Logs.{is_in}
-use Rattle.core_tables.specs.View.{log_of}
-use Rattle.settlement.proofs.Ends.{IsSettling}
-use Rattle.settlement.proofs.settlement.settle.Given as goal
+use Rattle.journal.specs.Journal.Logs.{is_in}
+use Rattle.core_tables.specs.CoreTables.View.{log_of}
+use Rattle.validator_core.proofs.SettlementLemmas.Ends.{IsSettling}
+use Rattle.validator_core.proofs.settlement.settlement.settle.Given as goal
 
 abbrev pub invariant-loop-number : goal.invariant-loop-number
 invariant-loop-number l = IsSettling l.mode l.initial.tables l.initial.due.keys l.initial.steps l.tables l.due.keys l.steps

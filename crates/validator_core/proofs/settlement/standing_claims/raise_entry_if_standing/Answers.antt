@@ -1,10 +1,10 @@
 use Rattle.std.proofs.Common.{◌≡◌, Some, None, sym, ◌∙◌, subst}
 use Rattle.std.specs.Prelude.{slice_get}
 use Rattle.std.proofs.lemmas.Result.{on_ok_weaker}
-use Rattle.core_tables.specs.Raised.{Raises, claims_at, state_there}
-use Rattle.journal.proofs.Places.{some_at}
-use Rattle.settlement.proofs.StandingClaims.{raises_found}
-use Rattle.settlement.proofs.standing_claims.raise_entry_if_standing.Goals as goal
+use Rattle.core_tables.specs.CoreTables.Raised.{Raises, claims_at, state_there}
+use Rattle.journal.proofs.JournalLemmas.Places.{some_at}
+use Rattle.validator_core.proofs.SettlementLemmas.StandingClaims.{raises_found}
+use Rattle.validator_core.proofs.settlement.standing_claims.raise_entry_if_standing.Goals as goal
 
 pub raise_entry-requires-clause-kept : goal.raise_entry-requires-clause-kept
 raise_entry-requires-clause-kept c = λ b at. c.spelled_is_kept.ensures b.event b.bytes (c.requires.spelled c.args.number b at).spelled

@@ -1,10 +1,10 @@
 use Rattle.std.proofs.Common.{subst}
 use Rattle.std.proofs.lemmas.Result.{on_ok_weaker}
-use Rattle.acceptance.specs.Standing.{told_of}
-use Rattle.journal.specs.History.{claims_on}
-use Rattle.core_tables.specs.Raised.{Raises, state_there}
-use Rattle.settlement.proofs.StandingClaims.{raises_found}
-use Rattle.settlement.proofs.standing_claims.raise_if_standing.Goals as goal
+use Rattle.validator_core.specs.Acceptance.Standing.{told_of}
+use Rattle.journal.specs.Journal.History.{claims_on}
+use Rattle.core_tables.specs.CoreTables.Raised.{Raises, state_there}
+use Rattle.validator_core.proofs.SettlementLemmas.StandingClaims.{raises_found}
+use Rattle.validator_core.proofs.settlement.standing_claims.raise_if_standing.Goals as goal
 
 pub raise_body-requires-clause-kept : goal.raise_body-requires-clause-kept
 raise_body-requires-clause-kept c = λ b at. c.spelled_is_kept.ensures b.event b.bytes (c.requires.spelled c.args.number b at).spelled

@@ -2,14 +2,14 @@ use Rattle.std.proofs.Common.{refl, sym, ◌∙◌, subst, take, get_or}
 use Rattle.std.proofs.lemmas.List.{take_all, take_more}
 use Rattle.std.specs.Prelude.{Contains, slice_get}
 use Rattle.std.specs.List.Sorted.{IsStrictlyIncreasing}
-use Rattle.acceptance.specs.Standing.{Extends}
-use Rattle.acceptance.proofs.Rewound.{extends_claimed}
-use Rattle.claim_table.specs.Rows.{raised_all}
-use Rattle.core_tables.specs.Raised.{claims_at}
-use Rattle.settlement.proofs.LoggedTables.{extends_logged, extends_some, logged_rows, logged_told, rows_then, some_raised}
-use Rattle.settlement.proofs.EachOnce.{once}
-use Rattle.settlement.proofs.ReceiptClaims.{AreDone, done_begins, done_ends, done_more}
-use Rattle.settlement.proofs.standing_claims.raise_receipt.Goals as goal
+use Rattle.validator_core.specs.Acceptance.Standing.{Extends}
+use Rattle.validator_core.proofs.AcceptanceLemmas.Rewound.{extends_claimed}
+use Rattle.claim_table.specs.ClaimTable.Rows.{raised_all}
+use Rattle.core_tables.specs.CoreTables.Raised.{claims_at}
+use Rattle.validator_core.proofs.SettlementLemmas.LoggedTables.{extends_logged, extends_some, logged_rows, logged_told, rows_then, some_raised}
+use Rattle.validator_core.proofs.SettlementLemmas.EachOnce.{once}
+use Rattle.validator_core.proofs.SettlementLemmas.ReceiptClaims.{AreDone, done_begins, done_ends, done_more}
+use Rattle.validator_core.proofs.settlement.standing_claims.raise_receipt.Goals as goal
 
 pub loop-number-init : goal.loop-number-init
 loop-number-init c = record {

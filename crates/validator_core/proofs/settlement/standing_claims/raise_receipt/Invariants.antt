@@ -1,9 +1,9 @@
 use Rattle.std.proofs.Common.{◌≡◌, take}
-use Rattle.acceptance.specs.Standing.{Extends}
-use Rattle.core_tables.specs.View.{with_rows}
-use Rattle.settlement.specs.Entries.{IsReceipted}
-use Rattle.settlement.proofs.ReceiptClaims.{AreDone}
-use Rattle.settlement.proofs.standing_claims.raise_receipt.Given as goal
+use Rattle.validator_core.specs.Acceptance.Standing.{Extends}
+use Rattle.core_tables.specs.CoreTables.View.{with_rows}
+use Rattle.validator_core.specs.Settlement.Entries.{IsReceipted}
+use Rattle.validator_core.proofs.SettlementLemmas.ReceiptClaims.{AreDone}
+use Rattle.validator_core.proofs.settlement.standing_claims.raise_receipt.Given as goal
 
 abbrev pub invariant-loop-number : goal.invariant-loop-number
 invariant-loop-number l = record {

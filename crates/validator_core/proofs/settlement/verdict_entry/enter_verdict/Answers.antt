@@ -1,8 +1,8 @@
 use Rattle.std.proofs.Common.{◌≡◌, Some, subst}
-use Rattle.claim_table.specs.Rows.{heard, unheard}
-use Rattle.core_tables.specs.View.{with_claims}
-use Rattle.settlement.proofs.VerdictEntry.{hears}
-use Rattle.settlement.proofs.verdict_entry.enter_verdict.Goals as goal
+use Rattle.claim_table.specs.ClaimTable.Rows.{heard, unheard}
+use Rattle.core_tables.specs.CoreTables.View.{with_claims}
+use Rattle.validator_core.proofs.SettlementLemmas.VerdictEntry.{hears}
+use Rattle.validator_core.proofs.settlement.verdict_entry.enter_verdict.Goals as goal
 
 pub returns-clause-ok : goal.returns-clause-ok
 returns-clause-ok c = hears c.args.tables.now c.hear.new.self c.args.question.now c.args.yes

@@ -1,10 +1,10 @@
 use Rattle.std.proofs.Common.{◌&&◌, ◌∙◌, ap}
-use Rattle.core_laws.specs.Waking.{holds_first_seal}
-use Rattle.event_body.specs.Events.{prefix_of}
-use Rattle.journal.specs.Logs.{state}
-use Rattle.journal.specs.Seals.{delegator_of}
-use Rattle.core_tables.specs.View.{body_of, log_of}
-use Rattle.settlement.proofs.wait_target.seals_first.Goals as goal
+use Rattle.claim_table.specs.CoreLaws.Waking.{holds_first_seal}
+use Rattle.event_body.specs.EventBody.Events.{prefix_of}
+use Rattle.journal.specs.Journal.Logs.{state}
+use Rattle.journal.specs.Journal.Seals.{delegator_of}
+use Rattle.core_tables.specs.CoreTables.View.{body_of, log_of}
+use Rattle.validator_core.proofs.settlement.wait_target.seals_first.Goals as goal
 
 pub returns-in-Some : goal.returns-in-Some
 returns-in-Some c = λ bs cs.

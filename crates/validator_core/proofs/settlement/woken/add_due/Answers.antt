@@ -1,9 +1,9 @@
 use Rattle.std.proofs.Common.{inl, inr, sym, subst, ap, ◌∙◌}
 use Rattle.std.specs.Prelude.{Contains, slice_get}
 use Rattle.std.proofs.lemmas.List.{take_all}
-use Rattle.settlement.proofs.DueNumbers.{taken_or}
-use Rattle.settlement.proofs.Lasts.{got_contained}
-use Rattle.settlement.proofs.woken.add_due.Goals as goal
+use Rattle.validator_core.proofs.SettlementLemmas.DueNumbers.{taken_or}
+use Rattle.validator_core.proofs.SettlementLemmas.Lasts.{got_contained}
+use Rattle.validator_core.proofs.settlement.woken.add_due.Goals as goal
 
 pub loop-number-preserved : goal.loop-number-preserved
 loop-number-preserved c =

@@ -2,11 +2,11 @@ use Rattle.std.proofs.Common.{◌≡◌, ◌⊎◌, ℕ, true, ◌&&◌, Some, t
 use Rattle.std.specs.Prelude.{Contains, slice_get}
 use Rattle.std.specs.List.Sorted.{IsStrictlySortedBy}
 use Rattle.std.specs.Ordering.{nat_cmp}
-use Rattle.core_laws.specs.Waking.{is_anchored, is_there, is_waiting}
-use Rattle.journal.specs.declared.body.Body.{Body}
-use Rattle.core_tables.specs.View.{log_of}
-use Rattle.settlement.specs.Awaited.{IsNextAt}
-use Rattle.settlement.proofs.woken.add_due.Given as goal
+use Rattle.claim_table.specs.CoreLaws.Waking.{is_anchored, is_there, is_waiting}
+use Rattle.journal.specs.declared.journal.body.Body.{Body}
+use Rattle.core_tables.specs.CoreTables.View.{log_of}
+use Rattle.validator_core.specs.Settlement.Awaited.{IsNextAt}
+use Rattle.validator_core.proofs.settlement.woken.add_due.Given as goal
 
 abbrev pub invariant-loop-number : goal.invariant-loop-number
 invariant-loop-number l = record {

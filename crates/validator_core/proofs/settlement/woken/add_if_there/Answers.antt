@@ -1,11 +1,11 @@
 use Rattle.std.proofs.Common.{◌≡◌, Bool, true, false, sym, ◌∙◌, subst, inl, inr}
 use Rattle.std.specs.Prelude.{Contains}
-use Rattle.core_laws.specs.Waking.{is_anchored, is_there}
-use Rattle.core_tables.specs.View.{log_of}
-use Rattle.settlement.specs.Awaited.{IsNextAt}
-use Rattle.settlement.proofs.Waking.{due_is}
-use Rattle.settlement.proofs.DueNumbers.{inserted_kept, inserted_or, inserted_there}
-use Rattle.settlement.proofs.woken.add_if_there.Goals as goal
+use Rattle.claim_table.specs.CoreLaws.Waking.{is_anchored, is_there}
+use Rattle.core_tables.specs.CoreTables.View.{log_of}
+use Rattle.validator_core.specs.Settlement.Awaited.{IsNextAt}
+use Rattle.validator_core.proofs.SettlementLemmas.Waking.{due_is}
+use Rattle.validator_core.proofs.SettlementLemmas.DueNumbers.{inserted_kept, inserted_or, inserted_there}
+use Rattle.validator_core.proofs.settlement.woken.add_if_there.Goals as goal
 
 pub returns-clause-kept : goal.returns-clause-kept
 returns-clause-kept c = λ n has. subst (λ ks. Contains ks n) (sym c.in_ok-insert.ensures.keys) (inserted_kept c.args.due.now.keys c.args.number n has)

@@ -1,12 +1,12 @@
 use Rattle.std.proofs.Common.{◌≡◌, ℕ, true, sym, ◌∙◌, subst}
 use Rattle.std.specs.Prelude.{Contains, slice_get}
 use Rattle.std.proofs.lemmas.Bool.{and_parts}
-use Rattle.event_index.proofs.Orders.{Contains-filter}
-use Rattle.core_laws.specs.Waking.{is_waiting}
-use Rattle.core_tables.specs.View.{log_of}
-use Rattle.settlement.specs.Awaited.{is_awaited_there}
-use Rattle.settlement.proofs.Events.{if_ok_then}
-use Rattle.settlement.proofs.woken.numbers_woken.Goals as goal
+use Rattle.escrow.proofs.EventIndexLemmas.Orders.{Contains-filter}
+use Rattle.claim_table.specs.CoreLaws.Waking.{is_waiting}
+use Rattle.core_tables.specs.CoreTables.View.{log_of}
+use Rattle.validator_core.specs.Settlement.Awaited.{is_awaited_there}
+use Rattle.validator_core.proofs.SettlementLemmas.Events.{if_ok_then}
+use Rattle.validator_core.proofs.settlement.woken.numbers_woken.Goals as goal
 
 pub returns-clause-all : goal.returns-clause-all
 returns-clause-all c = if_ok_then c.waiters.result c.waiters.ensures (λ those is d b n at_d at wakes.

@@ -2,9 +2,9 @@ use Rattle.std.proofs.Common.{[], ◌∷◌, take, get_or, inl, inr, sym, subst,
 use Rattle.std.specs.Prelude.{Contains}
 use Rattle.std.proofs.lemmas.List.{take_all, take_more}
 use Rattle.std.proofs.lemmas.List.Elements.{Contains-append_cases, Contains-append_left, Contains-append_right}
-use Rattle.event_index.proofs.Orders.{Contains-one}
-use Rattle.settlement.proofs.Lasts.{got_any}
-use Rattle.settlement.proofs.woken.push_named.Goals as goal
+use Rattle.escrow.proofs.EventIndexLemmas.Orders.{Contains-one}
+use Rattle.validator_core.proofs.SettlementLemmas.Lasts.{got_any}
+use Rattle.validator_core.proofs.settlement.woken.push_named.Goals as goal
 
 pub returns-in_err-extend_from_slice-clause-kept : goal.returns-in_err-extend_from_slice-clause-kept
 returns-in_err-extend_from_slice-clause-kept c = λ n has. subst (λ l. Contains l n) (sym c.in_err-extend_from_slice.ensures.items) (c.loop-seal.invariant.kept n has)

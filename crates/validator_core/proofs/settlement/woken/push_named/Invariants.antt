@@ -1,8 +1,8 @@
 use Rattle.std.proofs.Common.{◌≡◌, ℕ, take}
 use Rattle.std.specs.Prelude.{Contains}
-use Rattle.escrow.specs.Escrow.{Waits}
+use Rattle.escrow.specs.Escrow.Escrow.{Waits}
 use Rattle.event_backing.specs.declared.event_seal.EventSeal.{EventSeal}
-use Rattle.settlement.proofs.woken.push_named.Given as goal
+use Rattle.validator_core.proofs.settlement.woken.push_named.Given as goal
 
 abbrev pub invariant-loop-seal : goal.invariant-loop-seal
 invariant-loop-seal l = record {

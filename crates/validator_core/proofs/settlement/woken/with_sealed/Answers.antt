@@ -2,12 +2,12 @@ use Rattle.std.proofs.Common.{sym, ◌∙◌, ap, subst}
 use Rattle.event_backing.specs.EventSeals.{names}
 use Rattle.event_backing.specs.Listing.{AreSealsOf}
 use Rattle.event_backing.proofs.Held.{listed-held}
-use Rattle.event_body.specs.Events.{anchors_of}
-use Rattle.journal.proofs.Places.{found_at}
-use Rattle.core_tables.specs.Names.{name_in}
-use Rattle.core_tables.proofs.NamedRows.{same_name_is}
-use Rattle.core_tables.proofs.Rows.{contained}
-use Rattle.settlement.proofs.woken.with_sealed.Goals as goal
+use Rattle.event_body.specs.EventBody.Events.{anchors_of}
+use Rattle.journal.proofs.JournalLemmas.Places.{found_at}
+use Rattle.core_tables.specs.CoreTables.Names.{name_in}
+use Rattle.core_tables.proofs.CoreTablesLemmas.NamedRows.{same_name_is}
+use Rattle.core_tables.proofs.CoreTablesLemmas.Rows.{contained}
+use Rattle.validator_core.proofs.settlement.woken.with_sealed.Goals as goal
 
 pub returns-clause-sealed : goal.returns-clause-sealed
 returns-clause-sealed c = λ n seal good holds waits.

@@ -1,13 +1,13 @@
 use Rattle.std.proofs.Common.{◌≡◌, refl, sym, ◌∙◌, ap, subst}
 use Rattle.std.specs.Prelude.{Some, slice_get}
-use Rattle.accepted_log.specs.Cuts.{IsLog}
-use Rattle.core_tables.specs.View.{body_of, log_of}
-use Rattle.event_payload.specs.Kept.{state_under}
-use Rattle.validator_core.specs.Signatures.{is_witness_under}
+use Rattle.core_tables.specs.AcceptedLog.Cuts.{IsLog}
+use Rattle.core_tables.specs.CoreTables.View.{body_of, log_of}
+use Rattle.journal_views.specs.EventPayload.Kept.{state_under}
+use Rattle.validator_core.specs.ValidatorCore.Signatures.{is_witness_under}
 use Rattle.key_state.specs.Same.{has_key}
-use Rattle.acceptance.proofs.Bodies.{at_body}
-use Rattle.validator_core.proofs.Under.{accepted_at, rules_both}
-use Rattle.validator_core.proofs.accepted_events.is_witness_in.Goals as goal
+use Rattle.validator_core.proofs.AcceptanceLemmas.Bodies.{at_body}
+use Rattle.validator_core.proofs.ValidatorCoreLemmas.Under.{accepted_at, rules_both}
+use Rattle.validator_core.proofs.validator_core.accepted_events.is_witness_in.Goals as goal
 
 pub returns : goal.returns
 returns c =

@@ -1,13 +1,13 @@
 use Rattle.std.proofs.Common.{◌≡◌, ℕ, refl, sym, ◌∙◌, ap, subst}
 use Rattle.std.specs.Prelude.{Some, slice_get}
-use Rattle.accepted_log.specs.Cuts.{IsLog}
-use Rattle.core_tables.specs.View.{body_of, log_of}
-use Rattle.event_rules.specs.Additions.{is_number}
-use Rattle.event_payload.specs.Kept.{state_under}
-use Rattle.validator_core.specs.Signatures.{opens_under}
-use Rattle.acceptance.proofs.Bodies.{at_body}
-use Rattle.validator_core.proofs.Under.{accepted_at, opens_both}
-use Rattle.validator_core.proofs.accepted_events.reveal_in.Goals as goal
+use Rattle.core_tables.specs.AcceptedLog.Cuts.{IsLog}
+use Rattle.core_tables.specs.CoreTables.View.{body_of, log_of}
+use Rattle.journal.specs.EventRules.Additions.{is_number}
+use Rattle.journal_views.specs.EventPayload.Kept.{state_under}
+use Rattle.validator_core.specs.ValidatorCore.Signatures.{opens_under}
+use Rattle.validator_core.proofs.AcceptanceLemmas.Bodies.{at_body}
+use Rattle.validator_core.proofs.ValidatorCoreLemmas.Under.{accepted_at, opens_both}
+use Rattle.validator_core.proofs.validator_core.accepted_events.reveal_in.Goals as goal
 
 pub returns : goal.returns
 returns c =

@@ -1,13 +1,13 @@
 use Rattle.std.proofs.Common.{◌≡◌, ◌<◌, ◌∷◌, ◌++◌, [], Some, length, length-append, sym, ◌∙◌, ap, subst, arith}
 use Rattle.std.specs.Prelude.{IsTrue, slice_get}
 use Rattle.std.proofs.lemmas.Result.{on_ok_weaker}
-use Rattle.acceptance.specs.Standing.{Accepts, IsStanding}
-use Rattle.core_tables.specs.View.{View, body_of, log_of}
-use Rattle.journal.specs.declared.body.Body.{Body}
-use Rattle.journal.specs.Grown.{fits}
-use Rattle.journal.proofs.Places.{slice_get_last}
-use Rattle.validator_core.proofs.Bases.{accepts_text, fits_pushed, stands_pushed}
-use Rattle.validator_core.proofs.base.add_event.Goals as goal
+use Rattle.validator_core.specs.Acceptance.Standing.{Accepts, IsStanding}
+use Rattle.core_tables.specs.CoreTables.View.{View, body_of, log_of}
+use Rattle.journal.specs.declared.journal.body.Body.{Body}
+use Rattle.journal.specs.Journal.Grown.{fits}
+use Rattle.journal.proofs.JournalLemmas.Places.{slice_get_last}
+use Rattle.validator_core.proofs.ValidatorCoreLemmas.Bases.{accepts_text, fits_pushed, stands_pushed}
+use Rattle.validator_core.proofs.validator_core.base.add_event.Goals as goal
 
 pub accept-requires-clause-stands : goal.accept-requires-clause-stands
 accept-requires-clause-stands c =

@@ -1,8 +1,8 @@
 use Rattle.std.proofs.Common.{◌≡◌, ◌∷◌, [], ◌++◌, List, length, length-append, refl, sym, ap, subst, ◌∙◌, append_assoc, append-nil, arith}
 use Rattle.std.specs.Vec.Iter.{into_iter_items}
-use Rattle.validator_core.specs.Base.{IsBase}
-use Rattle.validator_core.proofs.Bases.{base_length, base_more, refused_of}
-use Rattle.validator_core.proofs.base.add_texts.Goals as goal
+use Rattle.validator_core.specs.ValidatorCore.Base.{IsBase}
+use Rattle.validator_core.proofs.ValidatorCoreLemmas.Bases.{base_length, base_more, refused_of}
+use Rattle.validator_core.proofs.validator_core.base.add_texts.Goals as goal
 
 nothing_left : {X : Type 0} (l : List X) → length l ≡ 0 → l ≡ []
 nothing_left [] h = refl

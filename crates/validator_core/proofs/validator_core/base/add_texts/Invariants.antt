@@ -1,7 +1,7 @@
 use Rattle.std.proofs.Common.{◌≡◌, ◌++◌, length}
 use Rattle.std.specs.Vec.Iter.{into_iter_items, into_iter_len}
-use Rattle.validator_core.specs.Base.{IsBase}
-use Rattle.validator_core.proofs.base.add_texts.Given as goal
+use Rattle.validator_core.specs.ValidatorCore.Base.{IsBase}
+use Rattle.validator_core.proofs.validator_core.base.add_texts.Given as goal
 
 -- the first texts are accepted
 abbrev pub invariant-loop-text : goal.invariant-loop-text

@@ -1,9 +1,9 @@
 use Rattle.std.proofs.Common.{◌≡◌, ℕ, List, length, arith, sym, ◌∙◌, ap, get_or}
 use Rattle.std.specs.Prelude.{sum_by}
 use Rattle.std.proofs.lemmas.List.Sums.{sum_by_more_le}
-use Rattle.validator_core.specs.View.{bytes_of}
-use Rattle.validator_core.proofs.Bases.{bytes_are, few_bytes}
-use Rattle.validator_core.proofs.base.bytes_in.Goals as goal
+use Rattle.validator_core.specs.ValidatorCore.View.{bytes_of}
+use Rattle.validator_core.proofs.ValidatorCoreLemmas.Bases.{bytes_are, few_bytes}
+use Rattle.validator_core.proofs.validator_core.base.bytes_in.Goals as goal
 
 pub overflow_add-bytes : goal.overflow_add-bytes
 overflow_add-bytes c =

@@ -1,6 +1,6 @@
 use Rattle.std.proofs.Common.{◌≡◌, ℕ, List, length, take}
 use Rattle.std.specs.Prelude.{sum_by}
-use Rattle.validator_core.proofs.base.bytes_in.Given as goal
+use Rattle.validator_core.proofs.validator_core.base.bytes_in.Given as goal
 
 -- the bytes of the texts so far
 abbrev pub invariant-loop-text : goal.invariant-loop-text

@@ -1,5 +1,5 @@
 use Rattle.std.proofs.Common.{refl, inl, inr}
-use Rattle.validator_core.proofs.base.event_of.Goals as goal
+use Rattle.validator_core.proofs.validator_core.base.event_of.Goals as goal
 
 pub fitting-requires-clause-held : goal.fitting-requires-clause-held
 fitting-requires-clause-held c = record { spelled = rw (← c.as_slice.ensures) c.in-Ok.ensures.judged.1; few = rw (← c.as_slice.ensures) c.in-Ok.ensures.judged.0 }

@@ -1,8 +1,8 @@
 use Rattle.std.proofs.Common.{◌≡◌, false, refl, sym, ◌∙◌, subst}
-use Rattle.core_tables.specs.View.{body_of}
-use Rattle.event_body.specs.declared.event.Event.{Event}
-use Rattle.journal.specs.Grown.{fits}
-use Rattle.validator_core.proofs.base.fitting.Goals as goal
+use Rattle.core_tables.specs.CoreTables.View.{body_of}
+use Rattle.event_body.specs.declared.event_body.event.Event.{Event}
+use Rattle.journal.specs.Journal.Grown.{fits}
+use Rattle.validator_core.proofs.validator_core.base.fitting.Goals as goal
 
 pub returns-else-is_fit-clause-err : goal.returns-else-is_fit-clause-err
 returns-else-is_fit-clause-err c =

@@ -1,10 +1,10 @@
 use Rattle.std.proofs.Common.{ap, sym, ◌∙◌}
 use Rattle.std.specs.Option.{option_copied}
-use Rattle.core_tables.specs.View.{body_of}
-use Rattle.event_body.specs.Events.{prefix_of}
-use Rattle.journal.specs.Logs.{takes}
-use Rattle.validator_core.proofs.Bases.{fits_new, held_unfit, receipt_unfit, state_held}
-use Rattle.validator_core.proofs.base.is_fit.Goals as goal
+use Rattle.core_tables.specs.CoreTables.View.{body_of}
+use Rattle.event_body.specs.EventBody.Events.{prefix_of}
+use Rattle.journal.specs.Journal.Logs.{takes}
+use Rattle.validator_core.proofs.ValidatorCoreLemmas.Bases.{fits_new, held_unfit, receipt_unfit, state_held}
+use Rattle.validator_core.proofs.validator_core.base.is_fit.Goals as goal
 
 pub number_of-requires-clause-all_spelled : goal.number_of-requires-clause-all_spelled
 number_of-requires-clause-all_spelled c = λ n b at. (c.requires.accepted.stands.spelled n b at).spelled

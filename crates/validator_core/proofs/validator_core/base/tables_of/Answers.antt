@@ -1,7 +1,7 @@
 use Rattle.std.proofs.Common.{[], refl, subst, sym}
-use Rattle.validator_core.specs.Base.{IsBase}
-use Rattle.validator_core.proofs.Bases.{nothing_base, settled_base}
-use Rattle.validator_core.proofs.base.tables_of.Goals as goal
+use Rattle.validator_core.specs.ValidatorCore.Base.{IsBase}
+use Rattle.validator_core.proofs.ValidatorCoreLemmas.Bases.{nothing_base, settled_base}
+use Rattle.validator_core.proofs.validator_core.base.tables_of.Goals as goal
 
 pub add_texts-requires-clause-begun : goal.add_texts-requires-clause-begun
 add_texts-requires-clause-begun c = subst (IsBase []) (sym c.new-tables.ensures) nothing_base

@@ -1,6 +1,6 @@
 use Rattle.std.proofs.Common.{◌≡◌, ◌++◌, map, take}
-use Rattle.journal.specs.declared.claim.Claim.TheVariants.{Witness}
-use Rattle.validator_core.proofs.claims.add_witness.Given as goal
+use Rattle.journal.specs.declared.journal.claim.Claim.TheVariants.{Witness}
+use Rattle.validator_core.proofs.validator_core.claims.add_witness.Given as goal
 
 abbrev pub invariant-loop-sig : goal.invariant-loop-sig
 invariant-loop-sig l = l.claims ≡ l.initial.claims ++ map (λ s. Witness s) (take l.sig-index l.sigs)

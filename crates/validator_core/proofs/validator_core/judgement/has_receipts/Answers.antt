@@ -1,8 +1,8 @@
 use Rattle.std.proofs.Common.{not, ap, ◌∙◌, sym}
 use Rattle.std.specs.List.{list_all}
-use Rattle.journal.specs.Replies.{is_held, claims_of_group}
-use Rattle.validator_core.proofs.Groups.{all_held, witness_some, couple_some}
-use Rattle.validator_core.proofs.judgement.has_receipts.Goals as goal
+use Rattle.journal.specs.Journal.Replies.{is_held, claims_of_group}
+use Rattle.validator_core.proofs.ValidatorCoreLemmas.Groups.{all_held, witness_some, couple_some}
+use Rattle.validator_core.proofs.validator_core.judgement.has_receipts.Goals as goal
 
 pub returns-in-Witness : goal.returns-in-Witness
 returns-in-Witness c = witness_some c.is_empty.result c.in-Witness.sigs c.is_empty.ensures ∙ sym (ap (λ g. not (list_all is_held (claims_of_group g))) c.in-Witness.is)

@@ -1,8 +1,8 @@
 use Rattle.std.proofs.Common.{ap, ◌∙◌, sym}
 use Rattle.std.specs.List.{list_any}
-use Rattle.journal.specs.Replies.{is_held, claims_of_group}
-use Rattle.validator_core.proofs.Groups.{held_some, no_witness_held, no_couple_held}
-use Rattle.validator_core.proofs.judgement.has_signatures.Goals as goal
+use Rattle.journal.specs.Journal.Replies.{is_held, claims_of_group}
+use Rattle.validator_core.proofs.ValidatorCoreLemmas.Groups.{held_some, no_witness_held, no_couple_held}
+use Rattle.validator_core.proofs.validator_core.judgement.has_signatures.Goals as goal
 
 pub returns-in-Held : goal.returns-in-Held
 returns-in-Held c = held_some c.is_empty.result c.in-Held.sigs c.is_empty.ensures ∙ sym (ap (λ g. list_any is_held (claims_of_group g)) c.in-Held.is)

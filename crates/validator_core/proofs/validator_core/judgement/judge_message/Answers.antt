@@ -1,14 +1,14 @@
 use Rattle.std.proofs.Common.{◌≡◌, ℕ, List, true, false, Ok, Err, Some, refl, sym, ◌∙◌}
 use Rattle.cesr_stream.specs.declared.message.Message.{Message}
-use Rattle.event_body.specs.Judging.{Judges}
-use Rattle.event_body.specs.declared.body_fault.BodyFault.{BodyFault}
-use Rattle.event_body.specs.declared.body_fault.ReadBody.{ReadBody}
-use Rattle.event_body.specs.declared.body_fault.ReadBody.TheVariants.{Fault}
-use Rattle.journal.specs.Feeds.{GivesBody}
-use Rattle.journal.specs.declared.reply.Reason.TheVariants.{TooManySigs, Body as BodyReason}
-use Rattle.journal.specs.Replies.{refusal}
-use Rattle.validator_core.proofs.Groups.{refusal_is}
-use Rattle.validator_core.proofs.judgement.judge_message.Goals as goal
+use Rattle.event_body.specs.EventBody.Judging.{Judges}
+use Rattle.event_body.specs.declared.event_body.body_fault.BodyFault.{BodyFault}
+use Rattle.event_body.specs.declared.event_body.body_fault.ReadBody.{ReadBody}
+use Rattle.event_body.specs.declared.event_body.body_fault.ReadBody.TheVariants.{Fault}
+use Rattle.journal.specs.Journal.Feeds.{GivesBody}
+use Rattle.journal.specs.declared.journal.reply.Reason.TheVariants.{TooManySigs, Body as BodyReason}
+use Rattle.journal.specs.Journal.Replies.{refusal}
+use Rattle.validator_core.proofs.ValidatorCoreLemmas.Groups.{refusal_is}
+use Rattle.validator_core.proofs.validator_core.judgement.judge_message.Goals as goal
 
 -- a fault that reading met
 fault_given : (bytes given : List ℕ) (read : ReadBody) (fault : BodyFault) → bytes ≡ given → read ≡ Fault fault

@@ -2,12 +2,12 @@ use Rattle.std.proofs.Common.{◌≡◌, ◌++◌, ◌∷◌, [], take, sym, ◌
 use Rattle.std.specs.Prelude.{filter_map}
 use Rattle.std.specs.List.{cons_option}
 use Rattle.std.specs.Option.{option_copied}
-use Rattle.validator_core.specs.Signatures.{good_claim}
+use Rattle.validator_core.specs.ValidatorCore.Signatures.{good_claim}
 use Rattle.key_state.specs.Exposure.{own_rules}
-use Rattle.acceptance.specs.Entries.{says_in}
-use Rattle.validator_core.proofs.GoodSignatures.{filter_map-more}
-use Rattle.validator_core.proofs.signatures.add_good.Goals as goal
-use Rattle.validator_core.proofs.signatures.add_good.Goals.{in-Some+in_ok-push, in_default}
+use Rattle.validator_core.specs.Acceptance.Entries.{says_in}
+use Rattle.validator_core.proofs.ValidatorCoreLemmas.GoodSignatures.{filter_map-more}
+use Rattle.validator_core.proofs.validator_core.signatures.add_good.Goals as goal
+use Rattle.validator_core.proofs.validator_core.signatures.add_good.Goals.{in-Some+in_ok-push, in_default}
 
 pub loop-claim-preserved : goal.loop-claim-preserved
 loop-claim-preserved c =

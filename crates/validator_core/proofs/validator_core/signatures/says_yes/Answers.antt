@@ -1,8 +1,8 @@
 use Rattle.std.proofs.Common.{◌∙◌, ap}
-use Rattle.claim_table.specs.declared.signature.Signature.{Signature}
-use Rattle.acceptance.proofs.Verdicts.{answered}
-use Rattle.acceptance.specs.Entries.{says_in}
-use Rattle.validator_core.proofs.signatures.says_yes.Goals as goal
+use Rattle.claim_table.specs.declared.claim_table.signature.Signature.{Signature}
+use Rattle.validator_core.proofs.AcceptanceLemmas.Verdicts.{answered}
+use Rattle.validator_core.specs.Acceptance.Entries.{says_in}
+use Rattle.validator_core.proofs.validator_core.signatures.says_yes.Goals as goal
 
 pub returns : goal.returns
 returns c =

@@ -3,13 +3,13 @@ use Rattle.std.specs.Prelude.{filter_map, flat_map, slice_get}
 use Rattle.std.specs.Option.{option_copied}
 use Rattle.std.proofs.lemmas.List.{take_all}
 use Rattle.cesr_codes.specs.declared.indexed_sig.IndexedSig.{IndexedSig}
-use Rattle.core_tables.specs.Raised.{claims_at}
-use Rattle.core_tables.specs.View.{body_of}
-use Rattle.validator_core.specs.Signatures.{good_claim}
+use Rattle.core_tables.specs.CoreTables.Raised.{claims_at}
+use Rattle.core_tables.specs.CoreTables.View.{body_of}
+use Rattle.validator_core.specs.ValidatorCore.Signatures.{good_claim}
 use Rattle.key_state.specs.Exposure.{own_rules}
-use Rattle.acceptance.specs.Entries.{says_in}
-use Rattle.validator_core.proofs.GoodSignatures.{all_good, flat_map-more}
-use Rattle.validator_core.proofs.signatures.signatures_behind.Goals as goal
+use Rattle.validator_core.specs.Acceptance.Entries.{says_in}
+use Rattle.validator_core.proofs.ValidatorCoreLemmas.GoodSignatures.{all_good, flat_map-more}
+use Rattle.validator_core.proofs.validator_core.signatures.signatures_behind.Goals as goal
 
 pub loop-entry-preserved : goal.loop-entry-preserved
 loop-entry-preserved c = λ b at.

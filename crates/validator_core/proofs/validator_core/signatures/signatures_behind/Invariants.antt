@@ -1,12 +1,12 @@
 use Rattle.std.proofs.Common.{◌≡◌, take}
 use Rattle.std.specs.Prelude.{Some, filter_map, flat_map, slice_get}
 use Rattle.std.specs.Option.{option_copied}
-use Rattle.core_tables.specs.Raised.{claims_at}
-use Rattle.validator_core.specs.Signatures.{good_claim}
-use Rattle.journal.specs.declared.body.Body.{Body}
+use Rattle.core_tables.specs.CoreTables.Raised.{claims_at}
+use Rattle.validator_core.specs.ValidatorCore.Signatures.{good_claim}
+use Rattle.journal.specs.declared.journal.body.Body.{Body}
 use Rattle.key_state.specs.Exposure.{own_rules}
-use Rattle.acceptance.specs.Entries.{says_in}
-use Rattle.validator_core.proofs.signatures.signatures_behind.Given as goal
+use Rattle.validator_core.specs.Acceptance.Entries.{says_in}
+use Rattle.validator_core.proofs.validator_core.signatures.signatures_behind.Given as goal
 
 -- those by the entries so far are found
 abbrev pub invariant-loop-entry : goal.invariant-loop-entry

@@ -1,14 +1,14 @@
 use Rattle.std.proofs.Common.{◌≡◌, ◌∙◌, ap, subst}
 use Rattle.std.specs.Prelude.{slice_get}
-use Rattle.acceptance.specs.Footing.{IsFooting}
-use Rattle.acceptance.specs.Standing.{told_of}
-use Rattle.core_tables.specs.View.{body_of, log_of}
-use Rattle.validator_core.specs.Signatures.{good_in}
-use Rattle.journal.specs.Readiness.{good_sigs}
-use Rattle.acceptance.proofs.Bodies.{at_body}
-use Rattle.settlement.proofs.Events.{if_ok_then}
-use Rattle.validator_core.proofs.GoodSignatures.{good_behind, good_down, good_first}
-use Rattle.validator_core.proofs.signatures.signatures_on.Goals as goal
+use Rattle.validator_core.specs.Acceptance.Footing.{IsFooting}
+use Rattle.validator_core.specs.Acceptance.Standing.{told_of}
+use Rattle.core_tables.specs.CoreTables.View.{body_of, log_of}
+use Rattle.validator_core.specs.ValidatorCore.Signatures.{good_in}
+use Rattle.journal.specs.Journal.Readiness.{good_sigs}
+use Rattle.validator_core.proofs.AcceptanceLemmas.Bodies.{at_body}
+use Rattle.validator_core.proofs.SettlementLemmas.Events.{if_ok_then}
+use Rattle.validator_core.proofs.ValidatorCoreLemmas.GoodSignatures.{good_behind, good_down, good_first}
+use Rattle.validator_core.proofs.validator_core.signatures.signatures_on.Goals as goal
 
 pub returns-in-Some-Inception : goal.returns-in-Some-Inception
 returns-in-Some-Inception c =

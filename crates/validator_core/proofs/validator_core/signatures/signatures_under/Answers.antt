@@ -1,14 +1,14 @@
 use Rattle.std.proofs.Common.{◌≡◌, refl, sym, ◌∙◌, ap, subst}
 use Rattle.std.specs.Prelude.{Some, slice_get}
-use Rattle.accepted_log.specs.Cuts.{IsLog}
-use Rattle.acceptance.specs.Standing.{told_of}
-use Rattle.core_tables.specs.View.{body_of, log_of}
-use Rattle.event_payload.specs.Kept.{state_under}
-use Rattle.validator_core.specs.Signatures.{good_under}
-use Rattle.acceptance.proofs.Bodies.{at_body}
-use Rattle.settlement.proofs.Events.{if_ok_then}
-use Rattle.validator_core.proofs.Under.{accepted_at, good_both}
-use Rattle.validator_core.proofs.signatures.signatures_under.Goals as goal
+use Rattle.core_tables.specs.AcceptedLog.Cuts.{IsLog}
+use Rattle.validator_core.specs.Acceptance.Standing.{told_of}
+use Rattle.core_tables.specs.CoreTables.View.{body_of, log_of}
+use Rattle.journal_views.specs.EventPayload.Kept.{state_under}
+use Rattle.validator_core.specs.ValidatorCore.Signatures.{good_under}
+use Rattle.validator_core.proofs.AcceptanceLemmas.Bodies.{at_body}
+use Rattle.validator_core.proofs.SettlementLemmas.Events.{if_ok_then}
+use Rattle.validator_core.proofs.ValidatorCoreLemmas.Under.{accepted_at, good_both}
+use Rattle.validator_core.proofs.validator_core.signatures.signatures_under.Goals as goal
 
 pub returns : goal.returns
 returns c =

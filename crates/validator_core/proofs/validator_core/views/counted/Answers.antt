@@ -1,14 +1,14 @@
 use Rattle.std.proofs.Common.{◌≡◌, ◌<◌, ◌∷◌, ◌++◌, [], length, refl, sym, ◌∙◌, ap, subst, arith}
 use Rattle.std.specs.Prelude.{slice_get}
 use Rattle.std.proofs.lemmas.List.Elements.{All-push}
-use Rattle.acceptance.specs.Standing.{told_of}
-use Rattle.core_tables.specs.View.{log_of}
-use Rattle.journal.specs.Conflicts.{counts}
-use Rattle.journal.specs.Journals.{chosen}
-use Rattle.journal.proofs.Places.{some_at}
-use Rattle.validator_core.proofs.Rivals.{fails_more, passes_more}
-use Rattle.validator_core.proofs.views.counted.Goals as goal
-use Rattle.validator_core.proofs.views.counted.Goals.{then-counts+in_ok-push, else-counts}
+use Rattle.validator_core.specs.Acceptance.Standing.{told_of}
+use Rattle.core_tables.specs.CoreTables.View.{log_of}
+use Rattle.journal.specs.Journal.Conflicts.{counts}
+use Rattle.journal.specs.Journal.Journals.{chosen}
+use Rattle.journal.proofs.JournalLemmas.Places.{some_at}
+use Rattle.validator_core.proofs.ValidatorCoreLemmas.Rivals.{fails_more, passes_more}
+use Rattle.validator_core.proofs.validator_core.views.counted.Goals as goal
+use Rattle.validator_core.proofs.validator_core.views.counted.Goals.{then-counts+in_ok-push, else-counts}
 
 pub loop-place-init : goal.loop-place-init
 unfolding chosen

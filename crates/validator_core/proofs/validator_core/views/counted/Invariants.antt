@@ -1,10 +1,10 @@
 use Rattle.std.proofs.Common.{◌≡◌, ◌<◌, length, take}
 use Rattle.std.specs.Prelude.{All, filter}
-use Rattle.acceptance.specs.Standing.{told_of}
-use Rattle.core_tables.specs.View.{log_of}
-use Rattle.journal.specs.Conflicts.{counts}
-use Rattle.journal.specs.Journals.{chosen}
-use Rattle.validator_core.proofs.views.counted.Given as goal
+use Rattle.validator_core.specs.Acceptance.Standing.{told_of}
+use Rattle.core_tables.specs.CoreTables.View.{log_of}
+use Rattle.journal.specs.Journal.Conflicts.{counts}
+use Rattle.journal.specs.Journal.Journals.{chosen}
+use Rattle.validator_core.proofs.validator_core.views.counted.Given as goal
 
 -- those that count among the first bodies
 abbrev pub invariant-loop-place : goal.invariant-loop-place

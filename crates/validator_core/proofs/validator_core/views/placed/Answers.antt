@@ -1,9 +1,9 @@
 use Rattle.std.proofs.Common.{◌≡◌, ◌+◌, ◌<◌, ◌∷◌, ◌++◌, [], ℕ, Vec, Global, length, map, take, sym, ◌∙◌, ap, arith}
 use Rattle.std.proofs.lemmas.List.{map-append, take_more}
 use Rattle.std.proofs.lemmas.List.Elements.{All-push}
-use Rattle.journal.specs.declared.conflict.Conflict.{Conflict}
-use Rattle.validator_core.specs.Views.{IsPlaced}
-use Rattle.validator_core.proofs.views.placed.Goals as goal
+use Rattle.journal.specs.declared.journal.conflict.Conflict.{Conflict}
+use Rattle.validator_core.specs.ValidatorCore.Views.{IsPlaced}
+use Rattle.validator_core.proofs.validator_core.views.placed.Goals as goal
 
 pub loop-set-preserved : goal.loop-set-preserved
 loop-set-preserved c =

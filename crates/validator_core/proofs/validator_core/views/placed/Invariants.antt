@@ -1,7 +1,7 @@
 use Rattle.std.proofs.Common.{◌≡◌, map, take}
 use Rattle.std.specs.Prelude.{All}
-use Rattle.validator_core.specs.Views.{IsPlaced}
-use Rattle.validator_core.proofs.views.placed.Given as goal
+use Rattle.validator_core.specs.ValidatorCore.Views.{IsPlaced}
+use Rattle.validator_core.proofs.validator_core.views.placed.Given as goal
 
 -- the first sets, each with its place
 abbrev pub invariant-loop-set : goal.invariant-loop-set

@@ -1,9 +1,9 @@
 use Rattle.std.proofs.Common.{[], ◌∷◌, length, sym, subst}
-use Rattle.core_tables.specs.View.{IsCut, body_of}
-use Rattle.journal.specs.declared.entry.Entry.TheVariants.{Took}
-use Rattle.validator_core.proofs.Cuts.{cut_took}
-use Rattle.validator_core.proofs.Outcomes.{adds_entry}
-use Rattle.validator_core.proofs.whole_entries.add_body.Goals as goal
+use Rattle.core_tables.specs.CoreTables.View.{IsCut, body_of}
+use Rattle.journal.specs.declared.journal.entry.Entry.TheVariants.{Took}
+use Rattle.validator_core.proofs.ValidatorCoreLemmas.Cuts.{cut_took}
+use Rattle.validator_core.proofs.ValidatorCoreLemmas.Outcomes.{adds_entry}
+use Rattle.validator_core.proofs.validator_core.whole_entries.add_body.Goals as goal
 
 pub keep_or_cut-requires : goal.keep_or_cut-requires
 keep_or_cut-requires c = subst (λ m. IsCut m c.bring_body-brought.new.tables) (sym c.mark-mark.ensures.mark)

@@ -1,7 +1,7 @@
 use Rattle.std.proofs.Common.{inl, inr, sym, subst}
 use Rattle.std.specs.Prelude.{Contains}
-use Rattle.settlement.proofs.DueNumbers.{inserted_kept, inserted_or, inserted_there}
-use Rattle.validator_core.proofs.whole_entries.add_number.Goals as goal
+use Rattle.validator_core.proofs.SettlementLemmas.DueNumbers.{inserted_kept, inserted_or, inserted_there}
+use Rattle.validator_core.proofs.validator_core.whole_entries.add_number.Goals as goal
 
 pub returns-clause-ok : goal.returns-clause-ok
 returns-clause-ok c = λ n.

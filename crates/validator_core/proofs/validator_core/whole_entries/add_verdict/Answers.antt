@@ -1,11 +1,11 @@
 use Rattle.std.proofs.Common.{None, sym, ◌∙◌, ap, subst}
 use Rattle.std.proofs.lemmas.Result.{IfOk-at_ok}
-use Rattle.claim_table.specs.Rows.{unheard}
-use Rattle.core_tables.specs.View.{View, IsCut, rewound, with_claims}
-use Rattle.settlement.specs.Entries.{signature_asked}
-use Rattle.validator_core.specs.Tables.{SettlesFrom}
-use Rattle.validator_core.proofs.Cuts.{back_heard, cut_heard, undone}
-use Rattle.validator_core.proofs.whole_entries.add_verdict.Goals as goal
+use Rattle.claim_table.specs.ClaimTable.Rows.{unheard}
+use Rattle.core_tables.specs.CoreTables.View.{View, IsCut, rewound, with_claims}
+use Rattle.validator_core.specs.Settlement.Entries.{signature_asked}
+use Rattle.validator_core.specs.ValidatorCore.Tables.{SettlesFrom}
+use Rattle.validator_core.proofs.ValidatorCoreLemmas.Cuts.{back_heard, cut_heard, undone}
+use Rattle.validator_core.proofs.validator_core.whole_entries.add_verdict.Goals as goal
 
 pub keep_or_cut-requires : goal.keep_or_cut-requires
 keep_or_cut-requires c = subst (λ m. IsCut m c.settle_from-settled.new.tables) (sym c.mark-mark.ensures.mark)

@@ -1,5 +1,5 @@
 use Rattle.std.proofs.Common.{length, sym, ◌∙◌, ap}
-use Rattle.validator_core.proofs.whole_entries.bring_claims.Goals as goal
+use Rattle.validator_core.proofs.validator_core.whole_entries.bring_claims.Goals as goal
 
 pub settle_from-requires-clause-left : goal.settle_from-requires-clause-left
 settle_from-requires-clause-left c =

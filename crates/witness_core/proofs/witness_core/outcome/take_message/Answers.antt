@@ -1,11 +1,11 @@
 use Rattle.std.proofs.Common.{ap, arith, inl, inr, length, refl, ◌∙◌}
 use Rattle.std.proofs.lemmas.List.Elements.{All-nil}
-use Rattle.keri_specs.proofs.Putting.{after-nil}
-use Rattle.witness_core.specs.Outcomes.{IsOfStored}
-use Rattle.witness_core.proofs.MessageFates.{fate_receipt, fate_refused}
-use Rattle.witness_core.proofs.Outcomes.{asks_none, outcome_asks, outcome_fate, outcome_list, outcome_receipts, outcome_stored, outcome_tells, own_event, own_held, sign_caused, sign_full, sign_kept, sign_room, sign_tells, take_caused}
-use Rattle.witness_store.proofs.Results.{err_weaker, if_err, match_both, ok_weaker, on_ok}
-use Rattle.witness_core.proofs.outcome.take_message.Goals as goal
+use Rattle.lists.proofs.KeriSpecsLemmas.Putting.{after-nil}
+use Rattle.witness_core.specs.WitnessCore.Outcomes.{IsOfStored}
+use Rattle.witness_core.proofs.WitnessCoreLemmas.MessageFates.{fate_receipt, fate_refused}
+use Rattle.witness_core.proofs.WitnessCoreLemmas.Outcomes.{asks_none, outcome_asks, outcome_fate, outcome_list, outcome_receipts, outcome_stored, outcome_tells, own_event, own_held, sign_caused, sign_full, sign_kept, sign_room, sign_tells, take_caused}
+use Rattle.witness_core.proofs.WitnessStoreLemmas.Results.{err_weaker, if_err, match_both, ok_weaker, on_ok}
+use Rattle.witness_core.proofs.witness_core.outcome.take_message.Goals as goal
 
 pub returns-in_err-taken-clause-asked : goal.returns-in_err-taken-clause-asked
 returns-in_err-taken-clause-asked g c = asks_none c.args.key.now c.args.core.now c.take_whole.new.core c.args.message.now (g.S.Signer.signings c.args.signer.now) c.from_residual.result c.from_residual.ensures.0

@@ -1,7 +1,7 @@
 use Rattle.std.proofs.Common.{ap, sym, ◌∙◌}
-use Rattle.core_tables.specs.View.{body_of}
-use Rattle.witness_core.proofs.Taking.{came, full_is, is_refused_room, is_told, never_refused, told_room}
-use Rattle.witness_core.proofs.take.enter.Goals as goal
+use Rattle.core_tables.specs.CoreTables.View.{body_of}
+use Rattle.witness_core.proofs.WitnessCoreLemmas.Taking.{came, full_is, is_refused_room, is_told, never_refused, told_room}
+use Rattle.witness_core.proofs.witness_core.take.enter.Goals as goal
 
 pub unreachable-requires : goal.unreachable-requires
 unreachable-requires c = never_refused c.args.core.now c.take_event.new.self (body_of c.args.body.now c.args.event) c.args.claims c.in_ok-reply.reply c.in_ok-reply.ensures.takes c.in-Refused.field-0 c.in-Refused.is

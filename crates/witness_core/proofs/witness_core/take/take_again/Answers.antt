@@ -1,13 +1,13 @@
 use Rattle.std.proofs.Common.{ap, arith, ◌∙◌}
-use Rattle.core_tables.specs.View.{body_of}
-use Rattle.validator_core.specs.View.{told_of}
-use Rattle.witness_store.specs.Histories.{history_of}
-use Rattle.witness_store.specs.Room.{signatures_in}
-use Rattle.witness_core.proofs.Entering.{again_number, again_room, fails_by, number_within, there_in, waits_is}
-use Rattle.witness_store.proofs.Results.{if_err}
-use Rattle.witness_store.proofs.Rooms.{signatures_few}
-use Rattle.witness_store.proofs.RoomSteps.{signatures_at}
-use Rattle.witness_core.proofs.take.take_again.Goals as goal
+use Rattle.core_tables.specs.CoreTables.View.{body_of}
+use Rattle.validator_core.specs.ValidatorCore.View.{told_of}
+use Rattle.witness_core.specs.WitnessStore.Histories.{history_of}
+use Rattle.witness_core.specs.WitnessStore.Room.{signatures_in}
+use Rattle.witness_core.proofs.WitnessCoreLemmas.Entering.{again_number, again_room, fails_by, number_within, there_in, waits_is}
+use Rattle.witness_core.proofs.WitnessStoreLemmas.Results.{if_err}
+use Rattle.witness_core.proofs.WitnessStoreLemmas.Rooms.{signatures_few}
+use Rattle.witness_core.proofs.WitnessStoreLemmas.RoomSteps.{signatures_at}
+use Rattle.witness_core.proofs.witness_core.take.take_again.Goals as goal
 
 pub returns-in_err-enter-clause-fault : goal.returns-in_err-enter-clause-fault
 returns-in_err-enter-clause-fault c =

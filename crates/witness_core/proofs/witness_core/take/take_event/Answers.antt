@@ -1,14 +1,14 @@
 use Rattle.std.proofs.Common.{◌≡◌, Some, ap, refl, subst, sym, ◌∙◌, false}
-use Rattle.core_tables.specs.View.{body_of}
-use Rattle.journal.specs.Logs.{is_in}
-use Rattle.journal.specs.Replies.{claims_of}
-use Rattle.witness_store.specs.Histories.{history_of}
-use Rattle.witness_store.specs.Room.{IsRoom, lacks_room, signatures_in}
-use Rattle.witness_core.specs.Telling.{full, untold}
-use Rattle.witness_core.proofs.Entering.{untold_itself}
-use Rattle.witness_core.proofs.Judging.{coming_is, full_lacks, is_new, is_there, tells_ready}
-use Rattle.witness_store.proofs.Results.{some_within}
-use Rattle.witness_core.proofs.take.take_event.Goals as goal
+use Rattle.core_tables.specs.CoreTables.View.{body_of}
+use Rattle.journal.specs.Journal.Logs.{is_in}
+use Rattle.journal.specs.Journal.Replies.{claims_of}
+use Rattle.witness_core.specs.WitnessStore.Histories.{history_of}
+use Rattle.witness_core.specs.WitnessStore.Room.{IsRoom, lacks_room, signatures_in}
+use Rattle.witness_core.specs.WitnessCore.Telling.{full, untold}
+use Rattle.witness_core.proofs.WitnessCoreLemmas.Entering.{untold_itself}
+use Rattle.witness_core.proofs.WitnessCoreLemmas.Judging.{coming_is, full_lacks, is_new, is_there, tells_ready}
+use Rattle.witness_core.proofs.WitnessStoreLemmas.Results.{some_within}
+use Rattle.witness_core.proofs.witness_core.take.take_event.Goals as goal
 
 pub returns-in_default-clause-fault : goal.returns-in_default-clause-fault
 returns-in_default-clause-fault g c = untold (untold_itself c.args.core.now)

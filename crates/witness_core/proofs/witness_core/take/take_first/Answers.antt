@@ -1,13 +1,13 @@
 use Rattle.std.proofs.Common.{◌+◌, ◌*◌, ap, arith, length, ◌∙◌}
 use Rattle.std.proofs.lemmas.List.{length-map}
-use Rattle.core_tables.specs.View.{body_of}
-use Rattle.validator_core.specs.View.{told_of}
-use Rattle.witness_store.specs.Room.{signatures_in}
-use Rattle.witness_core.specs.Telling.{told, untold}
-use Rattle.witness_core.proofs.Entering.{fails_by, first_number, first_room, untold_itself}
-use Rattle.witness_store.proofs.Results.{if_err}
-use Rattle.witness_store.proofs.Rooms.{signatures_few}
-use Rattle.witness_core.proofs.take.take_first.Goals as goal
+use Rattle.core_tables.specs.CoreTables.View.{body_of}
+use Rattle.validator_core.specs.ValidatorCore.View.{told_of}
+use Rattle.witness_core.specs.WitnessStore.Room.{signatures_in}
+use Rattle.witness_core.specs.WitnessCore.Telling.{told, untold}
+use Rattle.witness_core.proofs.WitnessCoreLemmas.Entering.{fails_by, first_number, first_room, untold_itself}
+use Rattle.witness_core.proofs.WitnessStoreLemmas.Results.{if_err}
+use Rattle.witness_core.proofs.WitnessStoreLemmas.Rooms.{signatures_few}
+use Rattle.witness_core.proofs.witness_core.take.take_first.Goals as goal
 
 pub returns-in_default-clause-fault : goal.returns-in_default-clause-fault
 returns-in_default-clause-fault c = untold (untold_itself c.args.core.now)

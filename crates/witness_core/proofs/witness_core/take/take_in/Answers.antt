@@ -1,7 +1,7 @@
 use Rattle.std.proofs.Common.{sym, ◌∙◌}
-use Rattle.witness_core.proofs.Judging.{fails_full, fails_message, refused_stays, room_stays}
-use Rattle.witness_store.proofs.Results.{if_err, match_err}
-use Rattle.witness_core.proofs.take.take_in.Goals as goal
+use Rattle.witness_core.proofs.WitnessCoreLemmas.Judging.{fails_full, fails_message, refused_stays, room_stays}
+use Rattle.witness_core.proofs.WitnessStoreLemmas.Results.{if_err, match_err}
+use Rattle.witness_core.proofs.witness_core.take.take_in.Goals as goal
 
 pub returns-in_err-number-in-Ok-clause-full : goal.returns-in_err-number-in-Ok-clause-full
 returns-in_err-number-in-Ok-clause-full g c =

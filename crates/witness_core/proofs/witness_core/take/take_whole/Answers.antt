@@ -1,13 +1,13 @@
 use Rattle.std.proofs.Common.{sym, subst}
-use Rattle.core_tables.specs.View.{body_of}
-use Rattle.journal.specs.Replies.{claims_of}
-use Rattle.witness_store.specs.Histories.{history_of}
-use Rattle.witness_store.specs.Room.{HasRoom}
-use Rattle.witness_core.proofs.Heard.{asked_then, came_asks, hears_of, untold_asks}
-use Rattle.witness_core.proofs.Messages.{came_grown, came_way, message_asks, message_caused, message_follows, message_goes, message_kept, message_tells, tells, tells_first}
-use Rattle.witness_store.proofs.Results.{if_err, match_err}
-use Rattle.witness_core.proofs.Takes.{ask_tells, goes_asked, same_goes, same_stored, same_untold, store_tells, taken_as}
-use Rattle.witness_core.proofs.take.take_whole.Goals as goal
+use Rattle.core_tables.specs.CoreTables.View.{body_of}
+use Rattle.journal.specs.Journal.Replies.{claims_of}
+use Rattle.witness_core.specs.WitnessStore.Histories.{history_of}
+use Rattle.witness_core.specs.WitnessStore.Room.{HasRoom}
+use Rattle.witness_core.proofs.WitnessCoreLemmas.Heard.{asked_then, came_asks, hears_of, untold_asks}
+use Rattle.witness_core.proofs.WitnessCoreLemmas.Messages.{came_grown, came_way, message_asks, message_caused, message_follows, message_goes, message_kept, message_tells, tells, tells_first}
+use Rattle.witness_core.proofs.WitnessStoreLemmas.Results.{if_err, match_err}
+use Rattle.witness_core.proofs.WitnessCoreLemmas.Takes.{ask_tells, goes_asked, same_goes, same_stored, same_untold, store_tells, taken_as}
+use Rattle.witness_core.proofs.witness_core.take.take_whole.Goals as goal
 
 pub returns-in_err-taken-clause-kept : goal.returns-in_err-taken-clause-kept
 returns-in_err-taken-clause-kept g c =

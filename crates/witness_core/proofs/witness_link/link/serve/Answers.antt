@@ -1,14 +1,14 @@
 use Rattle.std.proofs.Common.{◌∙◌, ◌++◌, ap, inl, refl, take}
-use Rattle.keri_specs.specs.Told.{after}
-use Rattle.keri_specs.proofs.Putting.{after-nil}
-use Rattle.run_status.specs.declared.close.Close.TheVariants.{OutOfMemory}
-use Rattle.witness_store.specs.declared.witness_fault.WitnessFault.TheVariants as fault
-use Rattle.witness_link.specs.Calls.{refused_as, seen_in, text_of}
-use Rattle.witness_core.proofs.Entering.{untold_itself}
-use Rattle.witness_link.proofs.Asked.{untold_asked}
-use Rattle.witness_link.proofs.Ones.{one_failed, one_put, one_unput}
-use Rattle.witness_link.proofs.Storing.{stores_none}
-use Rattle.witness_link.proofs.link.serve.Goals as goal
+use Rattle.lists.specs.KeriSpecs.Told.{after}
+use Rattle.lists.proofs.KeriSpecsLemmas.Putting.{after-nil}
+use Rattle.run_status.specs.declared.run_status.close.Close.TheVariants.{OutOfMemory}
+use Rattle.witness_core.specs.declared.witness_store.witness_fault.WitnessFault.TheVariants as fault
+use Rattle.witness_core.specs.WitnessLink.Calls.{refused_as, seen_in, text_of}
+use Rattle.witness_core.proofs.WitnessCoreLemmas.Entering.{untold_itself}
+use Rattle.witness_core.proofs.WitnessLinkLemmas.Asked.{untold_asked}
+use Rattle.witness_core.proofs.WitnessLinkLemmas.Ones.{one_failed, one_put, one_unput}
+use Rattle.witness_core.proofs.WitnessLinkLemmas.Storing.{stores_none}
+use Rattle.witness_core.proofs.witness_link.link.serve.Goals as goal
 
 pub returns-in-Err : goal.returns-in-Err
 unfolding stores_none

@@ -1,8 +1,8 @@
 use Rattle.std.proofs.Common.{◌∙◌, Err, ap, refl, take}
-use Rattle.keri_specs.specs.Told.{after}
-use Rattle.keri_specs.proofs.Putting.{put_front}
-use Rattle.witness_receipts.specs.declared.receipt.Receipt.{Receipt}
-use Rattle.witness_link.proofs.receipts.put_receipts.Goals as goal
+use Rattle.lists.specs.KeriSpecs.Told.{after}
+use Rattle.lists.proofs.KeriSpecsLemmas.Putting.{put_front}
+use Rattle.witness_core.specs.declared.witness_receipts.receipt.Receipt.{Receipt}
+use Rattle.witness_core.proofs.witness_link.receipts.put_receipts.Goals as goal
 
 pub returns-in-Err-clause-puts : goal.returns-in-Err-clause-puts
 returns-in-Err-clause-puts g c =

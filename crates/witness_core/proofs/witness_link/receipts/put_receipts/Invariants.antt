@@ -1,7 +1,7 @@
 use Rattle.std.proofs.Common.{◌≡◌, take}
-use Rattle.keri_specs.specs.Told.{after}
-use Rattle.witness_link.specs.Calls.{text_of}
-use Rattle.witness_link.proofs.receipts.put_receipts.Given as goal
+use Rattle.lists.specs.KeriSpecs.Told.{after}
+use Rattle.witness_core.specs.WitnessLink.Calls.{text_of}
+use Rattle.witness_core.proofs.witness_link.receipts.put_receipts.Given as goal
 
 -- the receipts so far were put, and no put failed
 abbrev pub invariant-loop-receipt : goal.invariant-loop-receipt

@@ -1,7 +1,7 @@
-use Rattle.witness_link.specs.Links.{source_told}
-use Rattle.witness_link.proofs.Closed.{lent_same, link_closed}
-use Rattle.witness_link.proofs.Handing.{taken_none}
-use Rattle.witness_link.proofs.service.serve_all.Goals as goal
+use Rattle.witness_core.specs.WitnessLink.Links.{source_told}
+use Rattle.witness_core.proofs.WitnessLinkLemmas.Closed.{lent_same, link_closed}
+use Rattle.witness_core.proofs.WitnessLinkLemmas.Handing.{taken_none}
+use Rattle.witness_core.proofs.witness_link.service.serve_all.Goals as goal
 
 pub feed_messages-close-requires : goal.feed_messages-close-requires
 feed_messages-close-requires g c =

@@ -1,4 +1,4 @@
-use Rattle.witness_link.proofs.service.serve_link.Goals as goal
+use Rattle.witness_core.proofs.witness_link.service.serve_link.Goals as goal
 
 pub serve_over-requires : goal.serve_over-requires
 serve_over-requires g c = c.requires

@@ -1,11 +1,11 @@
 use Rattle.std.proofs.Common.{◌≡◌, ◌∙◌, [], ◌∷◌, false, true, sym}
-use Rattle.run_outside.specs.Makings.{AreMakings}
-use Rattle.run_outside.specs.Told.{making}
-use Rattle.run_outside.specs.declared.making.MakingKind.TheVariants.{Disk}
-use Rattle.witness_opening.proofs.Facts.{if_map, match_map}
-use Rattle.witness_opening.proofs.Makings.{one_made}
-use Rattle.witness_opening.proofs.Openings.{beside_read, filled}
-use Rattle.witness_opening.proofs.opening.open_beside.Goals as goal
+use Rattle.run_status.specs.RunOutside.Makings.{AreMakings}
+use Rattle.run_status.specs.RunOutside.Told.{making}
+use Rattle.run_status.specs.declared.run_outside.making.MakingKind.TheVariants.{Disk}
+use Rattle.witness_core.proofs.WitnessOpeningLemmas.Facts.{if_map, match_map}
+use Rattle.witness_core.proofs.WitnessOpeningLemmas.Makings.{one_made}
+use Rattle.witness_core.proofs.WitnessOpeningLemmas.Openings.{beside_read, filled}
+use Rattle.witness_core.proofs.witness_opening.opening.open_beside.Goals as goal
 
 pub returns-in-Ok-true-clause-opens : goal.returns-in-Ok-true-clause-opens
 returns-in-Ok-true-clause-opens g c =

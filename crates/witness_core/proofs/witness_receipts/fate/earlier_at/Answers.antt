@@ -1,11 +1,11 @@
 use Rattle.std.proofs.Common.{◌≡◌, ◌-◌, ◌<◌, length, take, sym, ap, ◌∙◌, arith}
 use Rattle.std.proofs.lemmas.List.{take_all}
-use Rattle.validator_core.specs.View.{accepted_by}
-use Rattle.witness_receipts.specs.Fates.{is_within, live_there, said_at}
-use Rattle.witness_receipts.proofs.FateSteps.{back_step}
-use Rattle.witness_receipts.proofs.Living.{live_before, live_last, live_nothing}
-use Rattle.witness_receipts.proofs.Numbers.{length-chosen}
-use Rattle.witness_receipts.proofs.fate.earlier_at.Goals as goal
+use Rattle.validator_core.specs.ValidatorCore.View.{accepted_by}
+use Rattle.witness_core.specs.WitnessReceipts.Fates.{is_within, live_there, said_at}
+use Rattle.witness_core.proofs.WitnessReceiptsLemmas.FateSteps.{back_step}
+use Rattle.witness_core.proofs.WitnessReceiptsLemmas.Living.{live_before, live_last, live_nothing}
+use Rattle.witness_core.proofs.WitnessReceiptsLemmas.Numbers.{length-chosen}
+use Rattle.witness_core.proofs.witness_receipts.fate.earlier_at.Goals as goal
 
 pub loop-place-init : goal.loop-place-init
 loop-place-init c =

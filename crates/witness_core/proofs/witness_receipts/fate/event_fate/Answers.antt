@@ -1,8 +1,8 @@
 use Rattle.std.proofs.Common.{Some, sym, ap, ◌∙◌}
-use Rattle.witness_receipts.specs.declared.fate.Fate.TheVariants.{Stored}
-use Rattle.witness_receipts.proofs.FateSteps.{fate_not_stored, fate_stored}
-use Rattle.witness_receipts.proofs.Numbers.{not_stored, stands_there, stored}
-use Rattle.witness_receipts.proofs.fate.event_fate.Goals as goal
+use Rattle.witness_core.specs.declared.witness_receipts.fate.Fate.TheVariants.{Stored}
+use Rattle.witness_core.proofs.WitnessReceiptsLemmas.FateSteps.{fate_not_stored, fate_stored}
+use Rattle.witness_core.proofs.WitnessReceiptsLemmas.Numbers.{not_stored, stands_there, stored}
+use Rattle.witness_core.proofs.witness_receipts.fate.event_fate.Goals as goal
 
 pub fate_of_waiting-requires-clause-waits : goal.fate_of_waiting-requires-clause-waits
 fate_of_waiting-requires-clause-waits c =

@@ -1,7 +1,7 @@
 use Rattle.std.proofs.Common.{sym, ◌∙◌}
-use Rattle.journal.proofs.Places.{some_at}
-use Rattle.witness_receipts.proofs.FateSteps.{some_reason}
-use Rattle.witness_receipts.proofs.fate.fate_of_waiting.Goals as goal
+use Rattle.journal.proofs.JournalLemmas.Places.{some_at}
+use Rattle.witness_core.proofs.WitnessReceiptsLemmas.FateSteps.{some_reason}
+use Rattle.witness_core.proofs.witness_receipts.fate.fate_of_waiting.Goals as goal
 
 pub unreachable-requires-in-None : goal.unreachable-requires-in-None
 unreachable-requires-in-None c =

@@ -1,8 +1,8 @@
 use Rattle.std.proofs.Common.{sym, ap, ◌∙◌, arith}
-use Rattle.journal.proofs.Keeping.{accepted_grown}
-use Rattle.validator_core.specs.View.{accepted_by, base_of, told_of}
-use Rattle.witness_receipts.proofs.LiveStates.{live_since, none_live}
-use Rattle.witness_receipts.proofs.fate.live_at.Goals as goal
+use Rattle.journal.proofs.JournalLemmas.Keeping.{accepted_grown}
+use Rattle.validator_core.specs.ValidatorCore.View.{accepted_by, base_of, told_of}
+use Rattle.witness_core.proofs.WitnessReceiptsLemmas.LiveStates.{live_since, none_live}
+use Rattle.witness_core.proofs.witness_receipts.fate.live_at.Goals as goal
 
 pub returns-in_err-state : goal.returns-in_err-state
 returns-in_err-state c =

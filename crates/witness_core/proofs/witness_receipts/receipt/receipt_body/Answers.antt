@@ -1,10 +1,10 @@
 use Rattle.std.proofs.Common.{◌≡◌, arith}
-use Rattle.event_body.specs.declared.body_fault.ReadBody.TheVariants.{OutOfMemory}
-use Rattle.event_body.specs.declared.event.Event.TheVariants.{Rct}
-use Rattle.event_body.specs.declared.receipt_body.ReceiptBody.{ReceiptBody}
-use Rattle.event_body.specs.Spelling.{text_of}
-use Rattle.witness_receipts.proofs.ReceiptTexts.{receipt_few, receipt_spelled}
-use Rattle.witness_receipts.proofs.receipt.receipt_body.Goals as goal
+use Rattle.event_body.specs.declared.event_body.body_fault.ReadBody.TheVariants.{OutOfMemory}
+use Rattle.event_body.specs.declared.event_body.event.Event.TheVariants.{Rct}
+use Rattle.event_body.specs.declared.event_body.receipt_body.ReceiptBody.{ReceiptBody}
+use Rattle.event_body.specs.EventBody.Spelling.{text_of}
+use Rattle.witness_core.proofs.WitnessReceiptsLemmas.ReceiptTexts.{receipt_few, receipt_spelled}
+use Rattle.witness_core.proofs.witness_receipts.receipt.receipt_body.Goals as goal
 
 pub unreachable-requires : goal.unreachable-requires
 unreachable-requires c =

@@ -1,7 +1,7 @@
 use Rattle.std.proofs.Common.{◌∷◌, ◌++◌, [], refl, ap, ◌∙◌}
 use Rattle.cesr_stream.specs.declared.couple.Couple.{Couple}
-use Rattle.witness_receipts.specs.Receipts.{couples_text}
-use Rattle.witness_receipts.proofs.receipt.receipt_of.Goals as goal
+use Rattle.witness_core.specs.WitnessReceipts.Receipts.{couples_text}
+use Rattle.witness_core.proofs.witness_receipts.receipt.receipt_of.Goals as goal
 
 pub returns-clause-receipt : goal.returns-clause-receipt
 returns-clause-receipt g c =

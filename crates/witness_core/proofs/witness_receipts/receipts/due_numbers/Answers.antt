@@ -2,10 +2,10 @@ use Rattle.std.proofs.Common.{◌<◌, [], length, sym, ap, subst, ◌∙◌}
 use Rattle.std.specs.Prelude.{All}
 use Rattle.std.specs.List.{cons_option}
 use Rattle.std.proofs.lemmas.List.Elements.{All-append}
-use Rattle.journal.specs.Journals.{chosen}
-use Rattle.validator_core.specs.View.{accepted_by}
-use Rattle.witness_receipts.proofs.Owns.{due_is, if_ok_then}
-use Rattle.witness_receipts.proofs.receipts.due_numbers.Goals as goal
+use Rattle.journal.specs.Journal.Journals.{chosen}
+use Rattle.validator_core.specs.ValidatorCore.View.{accepted_by}
+use Rattle.witness_core.proofs.WitnessReceiptsLemmas.Owns.{due_is, if_ok_then}
+use Rattle.witness_core.proofs.witness_receipts.receipts.due_numbers.Goals as goal
 
 pub returns-clause-due : goal.returns-clause-due
 returns-clause-due c =

@@ -2,15 +2,15 @@ use Rattle.std.proofs.Common.{◌≡◌, ◌+◌, ◌<◌, ◌∷◌, ◌++◌, 
 use Rattle.std.specs.Prelude.{Some, slice_get}
 use Rattle.std.proofs.lemmas.List.Elements.{All-push}
 use Rattle.std.proofs.lemmas.Option.{slice_get-get_or}
-use Rattle.journal.specs.Journals.{chosen}
-use Rattle.journal.proofs.Held.{chosen_push}
-use Rattle.journal.proofs.Places.{some_at}
-use Rattle.validator_core.specs.Signatures.{is_witness_under}
-use Rattle.validator_core.specs.View.{accepted_by}
-use Rattle.witness_receipts.specs.Receipts.{listed}
-use Rattle.witness_receipts.proofs.Numbers.{chosen_there, drop_none, keeps_one, length-chosen, skips_one}
-use Rattle.witness_receipts.proofs.receipts.listed_since.Goals as goal
-use Rattle.witness_receipts.proofs.receipts.listed_since.Goals.{then-is_witness_at+in_ok-push, else-is_witness_at}
+use Rattle.journal.specs.Journal.Journals.{chosen}
+use Rattle.journal.proofs.JournalLemmas.Held.{chosen_push}
+use Rattle.journal.proofs.JournalLemmas.Places.{some_at}
+use Rattle.validator_core.specs.ValidatorCore.Signatures.{is_witness_under}
+use Rattle.validator_core.specs.ValidatorCore.View.{accepted_by}
+use Rattle.witness_core.specs.WitnessReceipts.Receipts.{listed}
+use Rattle.witness_core.proofs.WitnessReceiptsLemmas.Numbers.{chosen_there, drop_none, keeps_one, length-chosen, skips_one}
+use Rattle.witness_core.proofs.witness_receipts.receipts.listed_since.Goals as goal
+use Rattle.witness_core.proofs.witness_receipts.receipts.listed_since.Goals.{then-is_witness_at+in_ok-push, else-is_witness_at}
 
 pub loop-place-init : goal.loop-place-init
 unfolding chosen

@@ -1,9 +1,9 @@
 use Rattle.std.proofs.Common.{◌≡◌, ◌<◌, ◌++◌, length, drop}
 use Rattle.std.specs.Prelude.{All}
-use Rattle.journal.specs.Journals.{chosen}
-use Rattle.validator_core.specs.View.{accepted_by}
-use Rattle.witness_receipts.specs.Receipts.{listed}
-use Rattle.witness_receipts.proofs.receipts.listed_since.Given as goal
+use Rattle.journal.specs.Journal.Journals.{chosen}
+use Rattle.validator_core.specs.ValidatorCore.View.{accepted_by}
+use Rattle.witness_core.specs.WitnessReceipts.Receipts.{listed}
+use Rattle.witness_core.proofs.witness_receipts.receipts.listed_since.Given as goal
 
 -- those so far, and those that are left
 abbrev pub invariant-loop-place : goal.invariant-loop-place

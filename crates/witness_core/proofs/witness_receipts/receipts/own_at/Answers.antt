@@ -1,9 +1,9 @@
 use Rattle.std.proofs.Common.{◌<◌, ◌==◌, length, sym, ◌∙◌}
 use Rattle.std.proofs.lemmas.List.Elements.{All-take}
-use Rattle.validator_core.specs.View.{accepted_by}
-use Rattle.witness_receipts.proofs.Numbers.{apart, before_late, before_some, number_there, stands_there}
-use Rattle.witness_receipts.proofs.Owns.{chosen_none, chosen_one, own_listed, own_other, own_out}
-use Rattle.witness_receipts.proofs.receipts.own_at.Goals as goal
+use Rattle.validator_core.specs.ValidatorCore.View.{accepted_by}
+use Rattle.witness_core.proofs.WitnessReceiptsLemmas.Numbers.{apart, before_late, before_some, number_there, stands_there}
+use Rattle.witness_core.proofs.WitnessReceiptsLemmas.Owns.{chosen_none, chosen_one, own_listed, own_other, own_out}
+use Rattle.witness_core.proofs.witness_receipts.receipts.own_at.Goals as goal
 
 pub returns-then-place-front-clause-own : goal.returns-then-place-front-clause-own
 returns-then-place-front-clause-own c =

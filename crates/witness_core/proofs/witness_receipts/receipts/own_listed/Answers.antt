@@ -1,9 +1,9 @@
 use Rattle.std.proofs.Common.{◌<◌, ◌==◌, length, sym, ◌∙◌}
 use Rattle.std.proofs.lemmas.List.Elements.{All-take}
-use Rattle.validator_core.specs.View.{accepted_by}
-use Rattle.witness_receipts.proofs.Numbers.{apart, before_none}
-use Rattle.witness_receipts.proofs.Owns.{chosen_none, own_out}
-use Rattle.witness_receipts.proofs.receipts.own_listed.Goals as goal
+use Rattle.validator_core.specs.ValidatorCore.View.{accepted_by}
+use Rattle.witness_core.proofs.WitnessReceiptsLemmas.Numbers.{apart, before_none}
+use Rattle.witness_core.proofs.WitnessReceiptsLemmas.Owns.{chosen_none, own_out}
+use Rattle.witness_core.proofs.witness_receipts.receipts.own_listed.Goals as goal
 
 pub returns-in-None-clause-own : goal.returns-in-None-clause-own
 returns-in-None-clause-own c =

@@ -1,10 +1,10 @@
 use Rattle.std.proofs.Common.{◌≡◌, ◌∷◌, [], Some, option_map, sym, ap, subst, ◌∙◌}
 use Rattle.keri_outside.specs.Asked.{signing}
-use Rattle.keri_specs.specs.Told.{Puts}
-use Rattle.journal.proofs.Places.{some_at}
-use Rattle.witness_receipts.specs.Receipts.{signings_of}
-use Rattle.witness_receipts.proofs.Owns.{chosen_one}
-use Rattle.witness_receipts.proofs.receipts.receipt_at.Goals as goal
+use Rattle.lists.specs.KeriSpecs.Told.{Puts}
+use Rattle.journal.proofs.JournalLemmas.Places.{some_at}
+use Rattle.witness_core.specs.WitnessReceipts.Receipts.{signings_of}
+use Rattle.witness_core.proofs.WitnessReceiptsLemmas.Owns.{chosen_one}
+use Rattle.witness_core.proofs.witness_receipts.receipts.receipt_at.Goals as goal
 
 pub returns-clause-asked : goal.returns-clause-asked
 returns-clause-asked g c =

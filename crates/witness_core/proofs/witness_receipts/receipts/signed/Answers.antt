@@ -2,14 +2,14 @@ use Rattle.std.proofs.Common.{◌∙◌, ◌∷◌, ◌++◌, [], length, take, 
 use Rattle.std.specs.Prelude.{flat_map}
 use Rattle.std.specs.List.{AllZip}
 use Rattle.std.proofs.lemmas.List.{get_or_default, take_all}
-use Rattle.keri_specs.specs.Told.{Puts, after}
-use Rattle.keri_specs.proofs.Putting.{after-nil, put_front, put_more}
-use Rattle.journal.specs.Journals.{chosen}
-use Rattle.journal.proofs.Places.{some_at}
-use Rattle.witness_receipts.specs.Receipts.{IsReceiptOf}
-use Rattle.witness_receipts.proofs.Owns.{chosen_none}
-use Rattle.witness_receipts.proofs.Signings.{chosen_next, signing_at, signings_at, zipped_push}
-use Rattle.witness_receipts.proofs.receipts.signed.Goals as goal
+use Rattle.lists.specs.KeriSpecs.Told.{Puts, after}
+use Rattle.lists.proofs.KeriSpecsLemmas.Putting.{after-nil, put_front, put_more}
+use Rattle.journal.specs.Journal.Journals.{chosen}
+use Rattle.journal.proofs.JournalLemmas.Places.{some_at}
+use Rattle.witness_core.specs.WitnessReceipts.Receipts.{IsReceiptOf}
+use Rattle.witness_core.proofs.WitnessReceiptsLemmas.Owns.{chosen_none}
+use Rattle.witness_core.proofs.WitnessReceiptsLemmas.Signings.{chosen_next, signing_at, signings_at, zipped_push}
+use Rattle.witness_core.proofs.witness_receipts.receipts.signed.Goals as goal
 
 pub loop-number-init : goal.loop-number-init
 loop-number-init g c = record {

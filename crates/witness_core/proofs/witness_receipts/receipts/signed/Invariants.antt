@@ -1,10 +1,10 @@
 use Rattle.std.proofs.Common.{◌≡◌, take}
 use Rattle.std.specs.Prelude.{flat_map}
-use Rattle.keri_specs.specs.Told.{after}
-use Rattle.journal.specs.Journals.{chosen}
-use Rattle.witness_receipts.specs.Receipts.{AreReceiptsOf}
-use Rattle.witness_receipts.proofs.Signings.{signing_at}
-use Rattle.witness_receipts.proofs.receipts.signed.Given as goal
+use Rattle.lists.specs.KeriSpecs.Told.{after}
+use Rattle.journal.specs.Journal.Journals.{chosen}
+use Rattle.witness_core.specs.WitnessReceipts.Receipts.{AreReceiptsOf}
+use Rattle.witness_core.proofs.WitnessReceiptsLemmas.Signings.{signing_at}
+use Rattle.witness_core.proofs.witness_receipts.receipts.signed.Given as goal
 
 -- each number so far has its receipt, for which alone the signer was asked, and no signing failed
 pub record Invariant (receipts gives asked faults : Type 0) : Type 0 where

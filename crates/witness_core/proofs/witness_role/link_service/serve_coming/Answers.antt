@@ -1,11 +1,11 @@
 use Rattle.std.proofs.Common.{◌≡◌, ◌≤◌, ◌∷◌, ◌++◌, [], length, map, ap, sym, refl, subst, ◌∙◌, inl, inr, true, false, arith, rules}
 use Rattle.std.proofs.lemmas.List.{length-map, map-append}
 use Rattle.keri_outside.specs.declared.failed.Failed.{Failed}
-use Rattle.run_status.specs.Readers.{reader_seen, sink_seen}
-use Rattle.run_record.specs.Seen.{door_told}
+use Rattle.run_status.specs.RunStatus.Readers.{reader_seen, sink_seen}
+use Rattle.run_status.specs.RunRecord.Seen.{door_told}
 use Rattle.keri_outside.specs.Doors.{NoneLeft}
-use Rattle.witness_role.proofs.ComingLinks.{comes_last, comes_to, coming_more, coming_none}
-use Rattle.witness_role.proofs.link_service.serve_coming.Goals as goal
+use Rattle.witness_core.proofs.WitnessRoleLemmas.ComingLinks.{comes_last, comes_to, coming_more, coming_none}
+use Rattle.witness_core.proofs.witness_role.link_service.serve_coming.Goals as goal
 
 pub loop-alloc-init : goal.loop-alloc-init
 loop-alloc-init g c = record {

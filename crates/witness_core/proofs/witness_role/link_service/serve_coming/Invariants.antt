@@ -1,8 +1,8 @@
 use Rattle.std.specs.Prelude.{◌≡◌, ◌≤◌, ◌-◌, length, map, false}
 use Rattle.std.specs.Vec.{vec_capacity}
-use Rattle.run_status.specs.Readers.{reader_seen, sink_seen}
-use Rattle.witness_role.proofs.ComingLinks.{IsComing}
-use Rattle.witness_role.proofs.link_service.serve_coming.Given as goal
+use Rattle.run_status.specs.RunStatus.Readers.{reader_seen, sink_seen}
+use Rattle.witness_core.proofs.WitnessRoleLemmas.ComingLinks.{IsComing}
+use Rattle.witness_core.proofs.witness_role.link_service.serve_coming.Given as goal
 
 -- Links came so far, and were served. The witness is whole, and the door didn't fail yet.
 abbrev pub invariant-loop-alloc : goal.invariant-loop-alloc

@@ -1,8 +1,8 @@
 use Rattle.std.proofs.Common.{◌≡◌, refl}
-use Rattle.run_status.specs.Readers.{sink_seen}
-use Rattle.witness_link.specs.Links.{source_told}
-use Rattle.witness_role.proofs.ComingLinks.{same_gives, same_key, same_limits, same_says, whole_kept}
-use Rattle.witness_role.proofs.link_service.serve_one.Goals as goal
+use Rattle.run_status.specs.RunStatus.Readers.{sink_seen}
+use Rattle.witness_core.specs.WitnessLink.Links.{source_told}
+use Rattle.witness_core.proofs.WitnessRoleLemmas.ComingLinks.{same_gives, same_key, same_limits, same_says, whole_kept}
+use Rattle.witness_core.proofs.witness_role.link_service.serve_one.Goals as goal
 
 pub returns : goal.returns
 returns g c =

@@ -1,7 +1,7 @@
 use Rattle.std.proofs.Common.{inl, inr, refl}
-use Rattle.journal.specs.declared.resume_fault.ResumeFault.TheVariants.{OutOfMemory}
-use Rattle.witness_link.proofs.Asked.{started_open}
-use Rattle.witness_role.proofs.role.start.Goals as goal
+use Rattle.journal.specs.declared.journal.resume_fault.ResumeFault.TheVariants.{OutOfMemory}
+use Rattle.witness_core.proofs.WitnessLinkLemmas.Asked.{started_open}
+use Rattle.witness_core.proofs.witness_role.role.start.Goals as goal
 
 pub returns-in_default-clause-starts : goal.returns-in_default-clause-starts
 returns-in_default-clause-starts g c = inl (record {

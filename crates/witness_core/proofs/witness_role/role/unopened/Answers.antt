@@ -1,7 +1,7 @@
 use Rattle.std.proofs.Common.{ℕ, List, Ok, Err, Result, refl}
 use Rattle.std.specs.Prelude.{IfOk, IfSome, option_map, string_bytes}
 use Rattle.std.specs.Result.{result_ok}
-use Rattle.witness_role.proofs.role.unopened.Goals as goal
+use Rattle.witness_core.proofs.witness_role.role.unopened.Goals as goal
 
 -- what is so of the text of a result is so of that of its option
 of_text : {T E : Type 0} (text : T → List ℕ) (Q : List ℕ → Type 0) (r : Result T E) → IfOk r (λ t. Q (text t)) → IfSome (option_map text (result_ok r)) Q

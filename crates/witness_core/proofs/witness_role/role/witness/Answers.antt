@@ -1,5 +1,5 @@
 use Rattle.std.proofs.Common.{inr}
-use Rattle.witness_role.proofs.role.witness.Goals as goal
+use Rattle.witness_core.proofs.witness_role.role.witness.Goals as goal
 
 pub returns-in-Ok : goal.returns-in-Ok
 returns-in-Ok g c =

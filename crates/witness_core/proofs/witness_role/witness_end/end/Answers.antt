@@ -1,6 +1,6 @@
 use Rattle.std.proofs.Common.{refl, rules}
-use Rattle.witness_role.proofs.ServedFile.{as_it_reads}
-use Rattle.witness_role.proofs.witness_end.end.Goals as goal
+use Rattle.witness_core.proofs.WitnessRoleLemmas.ServedFile.{as_it_reads}
+use Rattle.witness_core.proofs.witness_role.witness_end.end.Goals as goal
 
 pub returns-clause-ends : goal.returns-clause-ends
 returns-clause-ends g c = λ before after. record {

@@ -1,8 +1,8 @@
 use Rattle.std.proofs.Common.{◌≡◌, Bool, List, [], ◌∷◌, ◌||◌, map, refl, sym, ◌∙◌, ap}
 use Rattle.std.specs.List.{list_any}
-use Rattle.run_status.specs.Readers.{reader_seen}
-use Rattle.run_record.specs.Run.{is_out}
-use Rattle.witness_role.proofs.witness_end.status_closing.Goals as goal
+use Rattle.run_status.specs.RunStatus.Readers.{reader_seen}
+use Rattle.run_status.specs.RunRecord.Run.{is_out}
+use Rattle.witness_core.proofs.witness_role.witness_end.status_closing.Goals as goal
 
 -- whether a test holds of some value that is seen
 any-map : {A B : Type 0} (test : B → Bool) (seen : A → B) (xs : List A) → list_any test (map seen xs) ≡ list_any (λ x. test (seen x)) xs

@@ -1,12 +1,12 @@
 use Rattle.std.proofs.Common.{◌≡◌, [], ◌∷◌, false, true, Some, None, refl, ◌∙◌, ap}
-use Rattle.run_outside.specs.Makings.{AreMakings}
-use Rattle.run_outside.specs.Told.{making}
-use Rattle.run_outside.specs.declared.making.MakingKind.TheVariants.{Source, Verifier, Signer}
-use Rattle.run_status.specs.declared.close.Close.TheVariants.{ReadFault, VerifierFault, SignerFault}
-use Rattle.run_status.specs.Readers.{sink_seen, source_seen, verifier_seen}
-use Rattle.run_record.proofs.Makings.{one_failed, one_made, then_made}
-use Rattle.witness_role.proofs.ServedFile.{serving_all}
-use Rattle.witness_role.proofs.witness_file.serve_file.Goals as goal
+use Rattle.run_status.specs.RunOutside.Makings.{AreMakings}
+use Rattle.run_status.specs.RunOutside.Told.{making}
+use Rattle.run_status.specs.declared.run_outside.making.MakingKind.TheVariants.{Source, Verifier, Signer}
+use Rattle.run_status.specs.declared.run_status.close.Close.TheVariants.{ReadFault, VerifierFault, SignerFault}
+use Rattle.run_status.specs.RunStatus.Readers.{sink_seen, source_seen, verifier_seen}
+use Rattle.run_status.proofs.RunRecordLemmas.Makings.{one_failed, one_made, then_made}
+use Rattle.witness_core.proofs.WitnessRoleLemmas.ServedFile.{serving_all}
+use Rattle.witness_core.proofs.witness_role.witness_file.serve_file.Goals as goal
 
 pub returns-in_default-clause-serves : goal.returns-in_default-clause-serves
 returns-in_default-clause-serves g c =

@@ -1,8 +1,8 @@
 use Rattle.std.proofs.Common.{◌≡◌, Some, refl, ap}
-use Rattle.run_status.specs.Readers.{source_seen, verifier_seen}
-use Rattle.witness_link.specs.Links.{Terms}
-use Rattle.run_record.specs.Seen.{signer_told}
-use Rattle.witness_role.proofs.witness_file.serve_made.Goals as goal
+use Rattle.run_status.specs.RunStatus.Readers.{source_seen, verifier_seen}
+use Rattle.witness_core.specs.WitnessLink.Links.{Terms}
+use Rattle.run_status.specs.RunRecord.Seen.{signer_told}
+use Rattle.witness_core.proofs.witness_role.witness_file.serve_made.Goals as goal
 
 pub returns-clause-serves : goal.returns-clause-serves
 returns-clause-serves g c =

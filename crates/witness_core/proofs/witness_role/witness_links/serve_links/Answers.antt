@@ -1,13 +1,13 @@
 use Rattle.std.proofs.Common.{[], ◌∷◌, true, false, Some, None, refl, ◌∙◌, ap}
-use Rattle.run_outside.specs.Makings.{AreMakings}
-use Rattle.run_outside.specs.Told.{making}
-use Rattle.run_outside.specs.declared.making.MakingKind.TheVariants.{Door, Verifier, Signer}
-use Rattle.run_status.specs.declared.close.Close.TheVariants.{End, VerifierFault, SignerFault}
-use Rattle.run_status.specs.Readers.{verifier_seen}
-use Rattle.witness_role.specs.ServedLinks.{idle_reader}
-use Rattle.run_record.proofs.Makings.{one_failed, one_made, then_made}
-use Rattle.witness_role.proofs.ServedLinks.{serving_links}
-use Rattle.witness_role.proofs.witness_links.serve_links.Goals as goal
+use Rattle.run_status.specs.RunOutside.Makings.{AreMakings}
+use Rattle.run_status.specs.RunOutside.Told.{making}
+use Rattle.run_status.specs.declared.run_outside.making.MakingKind.TheVariants.{Door, Verifier, Signer}
+use Rattle.run_status.specs.declared.run_status.close.Close.TheVariants.{End, VerifierFault, SignerFault}
+use Rattle.run_status.specs.RunStatus.Readers.{verifier_seen}
+use Rattle.witness_core.specs.WitnessRole.ServedLinks.{idle_reader}
+use Rattle.run_status.proofs.RunRecordLemmas.Makings.{one_failed, one_made, then_made}
+use Rattle.witness_core.proofs.WitnessRoleLemmas.ServedLinks.{serving_links}
+use Rattle.witness_core.proofs.witness_role.witness_links.serve_links.Goals as goal
 
 pub returns-in_default-clause-serves : goal.returns-in_default-clause-serves
 returns-in_default-clause-serves g c =

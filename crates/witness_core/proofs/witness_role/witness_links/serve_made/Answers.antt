@@ -1,7 +1,7 @@
 use Rattle.std.proofs.Common.{map, refl}
-use Rattle.run_status.specs.Readers.{reader_seen, verifier_seen}
-use Rattle.run_record.specs.Seen.{door_told, signer_told}
-use Rattle.witness_role.proofs.witness_links.serve_made.Goals as goal
+use Rattle.run_status.specs.RunStatus.Readers.{reader_seen, verifier_seen}
+use Rattle.run_status.specs.RunRecord.Seen.{door_told, signer_told}
+use Rattle.witness_core.proofs.witness_role.witness_links.serve_made.Goals as goal
 
 pub returns-clause-serves : goal.returns-clause-serves
 returns-clause-serves g c = λ before after.

@@ -1,8 +1,8 @@
 use Rattle.std.proofs.Common.{◌∙◌, ap, arith, length, refl}
-use Rattle.witness_store.specs.Histories.{history_of}
-use Rattle.witness_store.proofs.Known.{as_many}
-use Rattle.witness_store.proofs.Stored.{appends_more, appends_none}
-use Rattle.witness_store.proofs.appends.store.Goals as goal
+use Rattle.witness_core.specs.WitnessStore.Histories.{history_of}
+use Rattle.witness_core.proofs.WitnessStoreLemmas.Known.{as_many}
+use Rattle.witness_core.proofs.WitnessStoreLemmas.Stored.{appends_more, appends_none}
+use Rattle.witness_core.proofs.witness_store.appends.store.Goals as goal
 
 pub loop-alloc-init : goal.loop-alloc-init
 loop-alloc-init g c = record {

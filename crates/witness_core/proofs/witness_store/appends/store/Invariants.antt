@@ -1,8 +1,8 @@
 use Rattle.std.proofs.Common.{◌-◌, length}
-use Rattle.validator_core.specs.View.{accepted_by}
-use Rattle.witness_store.specs.Histories.{history_of}
-use Rattle.witness_store.proofs.Stored.{IsStoring}
-use Rattle.witness_store.proofs.appends.store.Given as goal
+use Rattle.validator_core.specs.ValidatorCore.View.{accepted_by}
+use Rattle.witness_core.specs.WitnessStore.Histories.{history_of}
+use Rattle.witness_core.proofs.WitnessStoreLemmas.Stored.{IsStoring}
+use Rattle.witness_core.proofs.witness_store.appends.store.Given as goal
 
 -- some of the payloads are stored
 abbrev pub invariant-loop-alloc : goal.invariant-loop-alloc

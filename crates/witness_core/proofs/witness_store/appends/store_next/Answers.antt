@@ -1,9 +1,9 @@
 use Rattle.std.proofs.Common.{ap, length, subst, sym}
-use Rattle.witness_store.specs.Histories.{history_of}
-use Rattle.witness_store.specs.Room.{HasRoom}
-use Rattle.witness_store.proofs.Appending.{appended, failed, fits_next, not_refused}
-use Rattle.witness_store.proofs.Stored.{appends_none, is_other}
-use Rattle.witness_store.proofs.appends.store_next.Goals as goal
+use Rattle.witness_core.specs.WitnessStore.Histories.{history_of}
+use Rattle.witness_core.specs.WitnessStore.Room.{HasRoom}
+use Rattle.witness_core.proofs.WitnessStoreLemmas.Appending.{appended, failed, fits_next, not_refused}
+use Rattle.witness_core.proofs.WitnessStoreLemmas.Stored.{appends_none, is_other}
+use Rattle.witness_core.proofs.witness_store.appends.store_next.Goals as goal
 
 pub returns-in_err-payload-clause-appends : goal.returns-in_err-payload-clause-appends
 returns-in_err-payload-clause-appends g c = appends_none (history_of c.args.core.now) c.args.shelf.now.list (g.D.Disk.told c.args.shelf.now.disk) (g.met.D.Disk.only_now c.args.shelf.now.disk) c.requires.on_way c.requires.holds

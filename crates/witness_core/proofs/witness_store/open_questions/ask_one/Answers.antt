@@ -1,14 +1,14 @@
 use Rattle.std.proofs.Common.{sym, subst}
-use Rattle.validator_core.specs.Verdicts.{Asks}
-use Rattle.validator_core.specs.View.{open_of}
-use Rattle.validator_core.proofs.OpenQuestions.{asks_so}
-use Rattle.witness_store.specs.Histories.{history_of}
-use Rattle.witness_store.specs.Storing.{AreStored, GoesOn}
-use Rattle.witness_store.proofs.Asked.{noted_fits, noted_grown, noted_way}
-use Rattle.witness_store.proofs.Asking.{asks_none, asks_one}
-use Rattle.witness_store.proofs.Results.{on_ok}
-use Rattle.witness_store.proofs.Stored.{goes_none, goes_of}
-use Rattle.witness_store.proofs.open_questions.ask_one.Goals as goal
+use Rattle.validator_core.specs.ValidatorCore.Verdicts.{Asks}
+use Rattle.validator_core.specs.ValidatorCore.View.{open_of}
+use Rattle.validator_core.proofs.ValidatorCoreLemmas.OpenQuestions.{asks_so}
+use Rattle.witness_core.specs.WitnessStore.Histories.{history_of}
+use Rattle.witness_core.specs.WitnessStore.Storing.{AreStored, GoesOn}
+use Rattle.witness_core.proofs.WitnessStoreLemmas.Asked.{noted_fits, noted_grown, noted_way}
+use Rattle.witness_core.proofs.WitnessStoreLemmas.Asking.{asks_none, asks_one}
+use Rattle.witness_core.proofs.WitnessStoreLemmas.Results.{on_ok}
+use Rattle.witness_core.proofs.WitnessStoreLemmas.Stored.{goes_none, goes_of}
+use Rattle.witness_core.proofs.witness_store.open_questions.ask_one.Goals as goal
 
 pub store-requires-clause-on_way : goal.store-requires-clause-on_way
 store-requires-clause-on_way g c = noted_way c.args.core.now c.ask.new.self c.args.question.now c.in-Ok.field-0 c.in-Ok.ensures.noted c.args.shelf.now.list c.args.shelf.now.limits c.args.shelf.now.broken (g.D.Disk.told c.args.shelf.now.disk) c.args.room.now c.requires.stored

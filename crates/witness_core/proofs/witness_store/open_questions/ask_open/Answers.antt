@@ -1,11 +1,11 @@
 use Rattle.std.proofs.Common.{◌∙◌, [], refl, subst}
-use Rattle.validator_core.specs.Verdicts.{Asks}
-use Rattle.validator_core.specs.View.{base_of, open_of, told_of}
-use Rattle.validator_core.proofs.OpenQuestions.{asks_nothing, asks_so, none_named}
-use Rattle.witness_store.specs.Histories.{history_of}
-use Rattle.witness_store.proofs.Asking.{asks_then}
-use Rattle.witness_store.proofs.Stored.{goes_more, goes_none}
-use Rattle.witness_store.proofs.open_questions.ask_open.Goals as goal
+use Rattle.validator_core.specs.ValidatorCore.Verdicts.{Asks}
+use Rattle.validator_core.specs.ValidatorCore.View.{base_of, open_of, told_of}
+use Rattle.validator_core.proofs.ValidatorCoreLemmas.OpenQuestions.{asks_nothing, asks_so, none_named}
+use Rattle.witness_core.specs.WitnessStore.Histories.{history_of}
+use Rattle.witness_core.proofs.WitnessStoreLemmas.Asking.{asks_then}
+use Rattle.witness_core.proofs.WitnessStoreLemmas.Stored.{goes_more, goes_none}
+use Rattle.witness_core.proofs.witness_store.open_questions.ask_open.Goals as goal
 
 pub loop-question-init : goal.loop-question-init
 loop-question-init g c = record {

@@ -1,9 +1,9 @@
 use Rattle.std.proofs.Common.{◌≡◌, []}
-use Rattle.validator_core.specs.Verdicts.{Asks}
-use Rattle.validator_core.specs.View.{unheard_of}
-use Rattle.witness_store.specs.Histories.{history_of}
-use Rattle.witness_store.specs.Storing.{AreStored, GoesOn}
-use Rattle.witness_store.proofs.open_questions.ask_open.Given as goal
+use Rattle.validator_core.specs.ValidatorCore.Verdicts.{Asks}
+use Rattle.validator_core.specs.ValidatorCore.View.{unheard_of}
+use Rattle.witness_core.specs.WitnessStore.Histories.{history_of}
+use Rattle.witness_core.specs.WitnessStore.Storing.{AreStored, GoesOn}
+use Rattle.witness_core.proofs.witness_store.open_questions.ask_open.Given as goal
 
 -- all is stored, verdicts alone were heard, and neither the disk nor the verifier has failed
 abbrev pub invariant-loop-question : goal.invariant-loop-question

@@ -1,10 +1,10 @@
 use Rattle.std.proofs.Common.{sym, subst, ap, ◌∙◌, ◌++◌, ◌∷◌, [], take}
 use Rattle.std.proofs.lemmas.List.{take_more}
-use Rattle.event_payload.specs.Holding.{HasKept}
-use Rattle.event_payload.specs.Kept.{state_under}
-use Rattle.event_payload.proofs.Reveals.{reveal_is}
-use Rattle.validator_core.specs.View.{accepted_by}
-use Rattle.witness_store.proofs.payload.add_all.Goals as goal
+use Rattle.journal_views.specs.EventPayload.Holding.{HasKept}
+use Rattle.journal_views.specs.EventPayload.Kept.{state_under}
+use Rattle.journal_views.proofs.EventPayloadLemmas.Reveals.{reveal_is}
+use Rattle.validator_core.specs.ValidatorCore.View.{accepted_by}
+use Rattle.witness_core.proofs.witness_store.payload.add_all.Goals as goal
 
 pub loop-sig-preserved : goal.loop-sig-preserved
 loop-sig-preserved c = λ b at first.

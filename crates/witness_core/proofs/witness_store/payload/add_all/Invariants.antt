@@ -1,9 +1,9 @@
 use Rattle.std.proofs.Common.{◌≡◌, [], take, slice_get, Some}
-use Rattle.event_payload.specs.Holding.{HasKept}
-use Rattle.event_payload.specs.Kept.{state_under}
-use Rattle.journal.specs.declared.body.Body.{Body}
-use Rattle.validator_core.specs.View.{accepted_by}
-use Rattle.witness_store.proofs.payload.add_all.Given as goal
+use Rattle.journal_views.specs.EventPayload.Holding.{HasKept}
+use Rattle.journal_views.specs.EventPayload.Kept.{state_under}
+use Rattle.journal.specs.declared.journal.body.Body.{Body}
+use Rattle.validator_core.specs.ValidatorCore.View.{accepted_by}
+use Rattle.witness_core.proofs.witness_store.payload.add_all.Given as goal
 
 -- the signatures so far were added
 abbrev pub invariant-loop-sig : goal.invariant-loop-sig

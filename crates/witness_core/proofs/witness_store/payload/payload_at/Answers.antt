@@ -1,20 +1,20 @@
 use Rattle.std.proofs.Common.{◌≡◌, ◌∙◌, ◌+◌, ◌≤◌, List, ℕ, All, length, slice_get, Some, ap, sym, subst, rules}
 use Rattle.std.proofs.lemmas.Result.{IfOk-weaker}
 use Rattle.cesr_codes.specs.Indexed.{IsIndexed}
-use Rattle.event_payload.specs.Kept.{kept}
-use Rattle.event_payload.specs.Payloads.{payload_of, text_in}
-use Rattle.event_payload.proofs.Written.{read_again}
-use Rattle.journal.specs.declared.body.Body.{Body}
-use Rattle.journal.proofs.Places.{some_at}
-use Rattle.shelf_log.specs.Format.{IsSized}
-use Rattle.shelf_log.specs.declared.version.Version.TheVariants.{Two}
-use Rattle.validator_core.specs.View.{accepted_by, told_of}
-use Rattle.witness_store.specs.Payloads.{payload_now}
-use Rattle.witness_store.specs.Room.{IsKnown, weight}
-use Rattle.witness_store.proofs.Known.{known_by, payload_there, place_low, text_low}
-use Rattle.witness_store.proofs.Sized.{held, sized, within}
-use Rattle.witness_store.proofs.payload.payload_at.Goals.{After-payload}
-use Rattle.witness_store.proofs.payload.payload_at.Goals as goal
+use Rattle.journal_views.specs.EventPayload.Kept.{kept}
+use Rattle.journal_views.specs.EventPayload.Payloads.{payload_of, text_in}
+use Rattle.journal_views.proofs.EventPayloadLemmas.Written.{read_again}
+use Rattle.journal.specs.declared.journal.body.Body.{Body}
+use Rattle.journal.proofs.JournalLemmas.Places.{some_at}
+use Rattle.shelf_log.specs.ShelfLog.Format.{IsSized}
+use Rattle.shelf_log.specs.declared.shelf_log.version.Version.TheVariants.{Two}
+use Rattle.validator_core.specs.ValidatorCore.View.{accepted_by, told_of}
+use Rattle.witness_core.specs.WitnessStore.Payloads.{payload_now}
+use Rattle.witness_core.specs.WitnessStore.Room.{IsKnown, weight}
+use Rattle.witness_core.proofs.WitnessStoreLemmas.Known.{known_by, payload_there, place_low, text_low}
+use Rattle.witness_core.proofs.WitnessStoreLemmas.Sized.{held, sized, within}
+use Rattle.witness_core.proofs.witness_store.payload.payload_at.Goals.{After-payload}
+use Rattle.witness_core.proofs.witness_store.payload.payload_at.Goals as goal
 
 pub offset_bounds-accepted-place : goal.offset_bounds-accepted-place
 offset_bounds-accepted-place c =

@@ -1,7 +1,7 @@
 use Rattle.std.proofs.Common.{arith}
-use Rattle.witness_store.proofs.Counting.{counted_more, counts_held, counts_no_other}
-use Rattle.witness_store.proofs.room.count_signatures.Goals as goal
-use Rattle.witness_store.proofs.room.count_signatures.Goals.{in-Held, in_default}
+use Rattle.witness_core.proofs.WitnessStoreLemmas.Counting.{counted_more, counts_held, counts_no_other}
+use Rattle.witness_core.proofs.witness_store.room.count_signatures.Goals as goal
+use Rattle.witness_core.proofs.witness_store.room.count_signatures.Goals.{in-Held, in_default}
 
 pub loop-claim-preserved : goal.loop-claim-preserved
 loop-claim-preserved c =

@@ -1,6 +1,6 @@
 use Rattle.std.proofs.Common.{◌≡◌, ◌≤◌, take}
-use Rattle.witness_store.specs.Room.{signatures_in}
-use Rattle.witness_store.proofs.room.count_signatures.Given as goal
+use Rattle.witness_core.specs.WitnessStore.Room.{signatures_in}
+use Rattle.witness_core.proofs.witness_store.room.count_signatures.Given as goal
 
 -- those among the claims so far are counted
 abbrev pub invariant-loop-claim : goal.invariant-loop-claim

@@ -1,9 +1,9 @@
 use Rattle.std.proofs.Common.{ap, arith, length}
 use Rattle.std.proofs.lemmas.List.{length-map}
-use Rattle.journal.specs.declared.body.Body.{Body}
-use Rattle.witness_store.proofs.Known.{known_by}
-use Rattle.witness_store.proofs.RoomSteps.{waiting_counted}
-use Rattle.witness_store.proofs.room.count_waiting.Goals as goal
+use Rattle.journal.specs.declared.journal.body.Body.{Body}
+use Rattle.witness_core.proofs.WitnessStoreLemmas.Known.{known_by}
+use Rattle.witness_core.proofs.WitnessStoreLemmas.RoomSteps.{waiting_counted}
+use Rattle.witness_core.proofs.witness_store.room.count_waiting.Goals as goal
 
 pub overflow_sub-result : goal.overflow_sub-result
 overflow_sub-result c =

@@ -1,9 +1,9 @@
 use Rattle.std.proofs.Common.{◌≤◌, ◌+◌, ◌∙◌, ap, arith, length, nat_lt}
-use Rattle.validator_core.specs.View.{accepted_by}
-use Rattle.witness_store.specs.Histories.{bodies_in, history_of}
-use Rattle.witness_store.specs.Room.{count_waiting as count_waiting_in}
-use Rattle.witness_store.proofs.Lacking.{lacks_bytes}
-use Rattle.witness_store.proofs.room.lacks_room.Goals as goal
+use Rattle.validator_core.specs.ValidatorCore.View.{accepted_by}
+use Rattle.witness_core.specs.WitnessStore.Histories.{bodies_in, history_of}
+use Rattle.witness_core.specs.WitnessStore.Room.{count_waiting as count_waiting_in}
+use Rattle.witness_core.proofs.WitnessStoreLemmas.Lacking.{lacks_bytes}
+use Rattle.witness_core.proofs.witness_store.room.lacks_room.Goals as goal
 
 pub overflow_add-result-else-listed-waiting : goal.overflow_add-result-else-listed-waiting
 overflow_add-result-else-listed-waiting g c = omega (arith, c.needs-needed.ensures.small, c.from-else-listed-waiting.ensures, c.from-else-listed-waiting-2.ensures)

@@ -1,8 +1,8 @@
 use Rattle.std.proofs.Common.{◌≡◌, ◌+◌, false, true, None, Some, sym, subst, ◌∙◌, ap, arith}
 use Rattle.std.specs.Prelude.{is_some, slice_get}
-use Rattle.claim_table.specs.Entries.{bit, or_zero, part_entry, same_part}
-use Rattle.claim_table.proofs.Entries.{counted, found, still_entered}
-use Rattle.claim_table.proofs.body_counts.BodyCounts.count.Goals as goal
+use Rattle.claim_table.specs.ClaimTable.Entries.{bit, or_zero, part_entry, same_part}
+use Rattle.claim_table.proofs.ClaimTableLemmas.Entries.{counted, found, still_entered}
+use Rattle.claim_table.proofs.claim_table.body_counts.BodyCounts.count.Goals as goal
 
 pub overflow_add-count : goal.overflow_add-count
 overflow_add-count c =

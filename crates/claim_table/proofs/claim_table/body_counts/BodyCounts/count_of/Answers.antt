@@ -1,8 +1,8 @@
 use Rattle.std.proofs.Common.{sym, subst, ◌∙◌, ap, ◌≡◌, None, Some}
 use Rattle.std.specs.Prelude.{slice_get}
-use Rattle.claim_table.specs.Entries.{part_entry}
-use Rattle.claim_table.proofs.Entries.{found}
-use Rattle.claim_table.proofs.body_counts.BodyCounts.count_of.Goals as goal
+use Rattle.claim_table.specs.ClaimTable.Entries.{part_entry}
+use Rattle.claim_table.proofs.ClaimTableLemmas.Entries.{found}
+use Rattle.claim_table.proofs.claim_table.body_counts.BodyCounts.count_of.Goals as goal
 
 pub returns-in-Some : goal.returns-in-Some
 returns-in-Some c =

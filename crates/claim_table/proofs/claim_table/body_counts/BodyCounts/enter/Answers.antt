@@ -1,8 +1,8 @@
 use Rattle.std.proofs.Common.{◌≡◌, true, sym, subst, ◌∙◌, ap}
 use Rattle.std.specs.Prelude.{is_some}
-use Rattle.claim_table.specs.Entries.{IsGapFor, IsPlaceOf, or_zero, part_entry}
-use Rattle.claim_table.proofs.Entries.{backers_insert, entered, entry_here, more_entered, same_amounts, sorted_insert}
-use Rattle.claim_table.proofs.body_counts.BodyCounts.enter.Goals as goal
+use Rattle.claim_table.specs.ClaimTable.Entries.{IsGapFor, IsPlaceOf, or_zero, part_entry}
+use Rattle.claim_table.proofs.ClaimTableLemmas.Entries.{backers_insert, entered, entry_here, more_entered, same_amounts, sorted_insert}
+use Rattle.claim_table.proofs.claim_table.body_counts.BodyCounts.enter.Goals as goal
 
 pub invariant_of-self-in-Err : goal.invariant_of-self-in-Err
 invariant_of-self-in-Err c =

@@ -1,6 +1,6 @@
 use Rattle.std.proofs.Common.{refl}
 use Rattle.std.specs.List.Sorted.{IsStrictlySortedBy}
-use Rattle.claim_table.proofs.body_counts.BodyCounts.new.Goals as goal
+use Rattle.claim_table.proofs.claim_table.body_counts.BodyCounts.new.Goals as goal
 
 pub invariant_of-result : goal.invariant_of-result
 unfolding IsStrictlySortedBy

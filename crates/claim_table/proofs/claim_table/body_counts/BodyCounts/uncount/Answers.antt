@@ -1,8 +1,8 @@
 use Rattle.std.proofs.Common.{◌≡◌, ◌-◌, None, Some, subst, ◌∙◌, ap}
 use Rattle.std.specs.Prelude.{is_some, slice_get}
-use Rattle.claim_table.specs.Entries.{bit, or_zero, part_entry, same_part}
-use Rattle.claim_table.proofs.Entries.{none_to_uncount, still_entered, uncounted}
-use Rattle.claim_table.proofs.body_counts.BodyCounts.uncount.Goals as goal
+use Rattle.claim_table.specs.ClaimTable.Entries.{bit, or_zero, part_entry, same_part}
+use Rattle.claim_table.proofs.ClaimTableLemmas.Entries.{none_to_uncount, still_entered, uncounted}
+use Rattle.claim_table.proofs.claim_table.body_counts.BodyCounts.uncount.Goals as goal
 
 pub returns-in-Some-clause-amounts : goal.returns-in-Some-clause-amounts
 returns-in-Some-clause-amounts c = λ p.

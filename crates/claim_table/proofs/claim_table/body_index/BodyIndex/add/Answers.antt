@@ -1,8 +1,8 @@
 use Rattle.std.specs.Prelude.{[]}
-use Rattle.event_index.specs.Keys.{numbers_at}
-use Rattle.claim_table.specs.Hinted.{few_at}
-use Rattle.claim_table.proofs.Hinted.{hinted_many, on_ok, still_hinted}
-use Rattle.claim_table.proofs.body_index.BodyIndex.add.Goals as goal
+use Rattle.escrow.specs.EventIndex.Keys.{numbers_at}
+use Rattle.claim_table.specs.ClaimTable.Hinted.{few_at}
+use Rattle.claim_table.proofs.ClaimTableLemmas.Hinted.{hinted_many, on_ok, still_hinted}
+use Rattle.claim_table.proofs.claim_table.body_index.BodyIndex.add.Goals as goal
 
 pub returns-in_err-add-clause-kept : goal.returns-in_err-add-clause-kept
 returns-in_err-add-clause-kept g c = λ b q n lt h.

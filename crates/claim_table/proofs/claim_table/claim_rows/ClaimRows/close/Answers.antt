@@ -1,9 +1,9 @@
 use Rattle.std.proofs.Common.{sym, subst, ◌∙◌}
 use Rattle.std.specs.BTreeSet.{contains}
-use Rattle.claim_table.specs.Counts.{amount, is_entered}
-use Rattle.claim_table.specs.Keeping.{IsKept, places_of, spot_cmp}
-use Rattle.claim_table.proofs.Kept.{kept_closed}
-use Rattle.claim_table.proofs.claim_rows.ClaimRows.close.Goals as goal
+use Rattle.claim_table.specs.ClaimTable.Counts.{amount, is_entered}
+use Rattle.claim_table.specs.ClaimTable.Keeping.{IsKept, places_of, spot_cmp}
+use Rattle.claim_table.proofs.ClaimTableLemmas.Kept.{kept_closed}
+use Rattle.claim_table.proofs.claim_table.claim_rows.ClaimRows.close.Goals as goal
 
 pub returns-clause-sound : goal.returns-clause-sound
 returns-clause-sound c =

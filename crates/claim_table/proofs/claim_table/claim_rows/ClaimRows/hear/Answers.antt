@@ -1,14 +1,14 @@
 use Rattle.std.proofs.Common.{◌≡◌, ℕ, true, List, Option, Some, None, rules, subst, ◌∙◌, ap}
 use Rattle.std.specs.BTreeSet.{contains}
-use Rattle.claim_table.specs.Counts.{amount, is_entered}
-use Rattle.claim_table.specs.Keeping.{IsFirstOf, IsKept, places_of, spot_cmp}
-use Rattle.claim_table.specs.Rows.{is_raised, unheard}
-use Rattle.claim_table.specs.declared.row.Row.{Row}
-use Rattle.claim_table.specs.declared.signature.Signature.{Signature}
-use Rattle.claim_table.proofs.Hints.{all_hinted, found_first}
-use Rattle.claim_table.proofs.Kept.{kept_heard}
-use Rattle.claim_table.proofs.Rows.{unheard_heard}
-use Rattle.claim_table.proofs.claim_rows.ClaimRows.hear.Goals as goal
+use Rattle.claim_table.specs.ClaimTable.Counts.{amount, is_entered}
+use Rattle.claim_table.specs.ClaimTable.Keeping.{IsFirstOf, IsKept, places_of, spot_cmp}
+use Rattle.claim_table.specs.ClaimTable.Rows.{is_raised, unheard}
+use Rattle.claim_table.specs.declared.claim_table.row.Row.{Row}
+use Rattle.claim_table.specs.declared.claim_table.signature.Signature.{Signature}
+use Rattle.claim_table.proofs.ClaimTableLemmas.Hints.{all_hinted, found_first}
+use Rattle.claim_table.proofs.ClaimTableLemmas.Kept.{kept_heard}
+use Rattle.claim_table.proofs.ClaimTableLemmas.Rows.{unheard_heard}
+use Rattle.claim_table.proofs.claim_table.claim_rows.ClaimRows.hear.Goals as goal
 
 pub set_verdicts-requires-clause-all : goal.set_verdicts-requires-clause-all
 set_verdicts-requires-clause-all c = λ i of.

@@ -2,11 +2,11 @@ use Rattle.std.proofs.Common.{◌≡◌, ◌∷◌, ◌-◌, [], length, false, 
 use Rattle.std.specs.BTreeMap.{is_at}
 use Rattle.std.specs.BTreeSet.{contains}
 use Rattle.std.proofs.lemmas.List.{length-append}
-use Rattle.claim_table.specs.Counts.{amount, is_entered}
-use Rattle.claim_table.specs.declared.spot.Spot.{Spot}
-use Rattle.claim_table.specs.Keeping.{IsKept, IsPendingBelow, places_of, spot_at, spot_cmp}
-use Rattle.claim_table.proofs.Kept.{kept_popped}
-use Rattle.claim_table.proofs.claim_rows.ClaimRows.pop.Goals as goal
+use Rattle.claim_table.specs.ClaimTable.Counts.{amount, is_entered}
+use Rattle.claim_table.specs.declared.claim_table.spot.Spot.{Spot}
+use Rattle.claim_table.specs.ClaimTable.Keeping.{IsKept, IsPendingBelow, places_of, spot_at, spot_cmp}
+use Rattle.claim_table.proofs.ClaimTableLemmas.Kept.{kept_popped}
+use Rattle.claim_table.proofs.claim_table.claim_rows.ClaimRows.pop.Goals as goal
 
 pub returns-clause-sound : goal.returns-clause-sound
 returns-clause-sound c =

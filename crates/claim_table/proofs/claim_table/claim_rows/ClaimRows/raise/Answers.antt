@@ -3,16 +3,16 @@ use Rattle.std.specs.Prelude.{Contains, is_some, not}
 use Rattle.std.specs.BTreeMap.{is_at}
 use Rattle.std.specs.Option.{option_flatten}
 use Rattle.std.specs.BTreeSet.{contains}
-use Rattle.claim_table.specs.Counts.{amount, is_entered}
-use Rattle.claim_table.specs.Entries.{bit}
-use Rattle.claim_table.specs.BodyParts.{BodyPart}
-use Rattle.claim_table.specs.declared.spot.Spot.{Spot}
-use Rattle.claim_table.specs.Parts.{supports}
-use Rattle.claim_table.specs.Rows.{is_raised, raised, signature_of, verdict_of}
-use Rattle.claim_table.specs.Keeping.{places_of, spot_at, spot_cmp}
-use Rattle.claim_table.proofs.Kept.{kept_more, kept_raised, known_new, known_verdict}
-use Rattle.claim_table.proofs.Rows.{verdict_none}
-use Rattle.claim_table.proofs.claim_rows.ClaimRows.raise.Goals as goal
+use Rattle.claim_table.specs.ClaimTable.Counts.{amount, is_entered}
+use Rattle.claim_table.specs.ClaimTable.Entries.{bit}
+use Rattle.claim_table.specs.ClaimTable.BodyParts.{BodyPart}
+use Rattle.claim_table.specs.declared.claim_table.spot.Spot.{Spot}
+use Rattle.claim_table.specs.ClaimTable.Parts.{supports}
+use Rattle.claim_table.specs.ClaimTable.Rows.{is_raised, raised, signature_of, verdict_of}
+use Rattle.claim_table.specs.ClaimTable.Keeping.{places_of, spot_at, spot_cmp}
+use Rattle.claim_table.proofs.ClaimTableLemmas.Kept.{kept_more, kept_raised, known_new, known_verdict}
+use Rattle.claim_table.proofs.ClaimTableLemmas.Rows.{verdict_none}
+use Rattle.claim_table.proofs.claim_table.claim_rows.ClaimRows.raise.Goals as goal
 
 pub returns-in_err-add-clause-sound : goal.returns-in_err-add-clause-sound
 returns-in_err-add-clause-sound c =

@@ -1,6 +1,6 @@
 use Rattle.std.proofs.Common.{◌≡◌, take, length}
-use Rattle.claim_table.specs.Keeping.{IsSound}
-use Rattle.claim_table.proofs.claim_rows.ClaimRows.truncate.Given as goal
+use Rattle.claim_table.specs.ClaimTable.Keeping.{IsSound}
+use Rattle.claim_table.proofs.claim_table.claim_rows.ClaimRows.truncate.Given as goal
 
 abbrev pub invariant-loop-self : goal.invariant-loop-self
 invariant-loop-self l = record {

@@ -1,10 +1,10 @@
 use Rattle.std.proofs.Common.{sym, subst, ◌∙◌}
 use Rattle.std.specs.BTreeSet.{contains}
-use Rattle.claim_table.specs.Counts.{amount, is_entered}
-use Rattle.claim_table.specs.Keeping.{IsKept, places_of, spot_cmp}
-use Rattle.claim_table.proofs.Hints.{all_hinted}
-use Rattle.claim_table.proofs.Kept.{kept_unheard}
-use Rattle.claim_table.proofs.claim_rows.ClaimRows.unhear.Goals as goal
+use Rattle.claim_table.specs.ClaimTable.Counts.{amount, is_entered}
+use Rattle.claim_table.specs.ClaimTable.Keeping.{IsKept, places_of, spot_cmp}
+use Rattle.claim_table.proofs.ClaimTableLemmas.Hints.{all_hinted}
+use Rattle.claim_table.proofs.ClaimTableLemmas.Kept.{kept_unheard}
+use Rattle.claim_table.proofs.claim_table.claim_rows.ClaimRows.unhear.Goals as goal
 
 pub set_verdicts-requires-clause-all : goal.set_verdicts-requires-clause-all
 set_verdicts-requires-clause-all c = λ i of.

@@ -1,9 +1,9 @@
 use Rattle.std.proofs.Common.{Some, ◌∙◌, ap, slice_get}
 use Rattle.std.specs.Option.{option_map}
-use Rattle.claim_table.specs.declared.row.Row.{Row}
-use Rattle.claim_table.specs.Rows.{signature_of, verdict_of}
-use Rattle.claim_table.proofs.Rows.{first_raised, same_is}
-use Rattle.claim_table.proofs.claim_rows.ClaimRows.verdict.Goals as goal
+use Rattle.claim_table.specs.declared.claim_table.row.Row.{Row}
+use Rattle.claim_table.specs.ClaimTable.Rows.{signature_of, verdict_of}
+use Rattle.claim_table.proofs.ClaimTableLemmas.Rows.{first_raised, same_is}
+use Rattle.claim_table.proofs.claim_table.claim_rows.ClaimRows.verdict.Goals as goal
 
 pub returns-in-Some : goal.returns-in-Some
 returns-in-Some c =

@@ -1,11 +1,11 @@
 use Rattle.std.proofs.Common.{ℕ, sym, ◌∙◌, ap, nat_lt}
-use Rattle.claim_table.specs.BodyParts.{BodyPart}
-use Rattle.claim_table.specs.Counts.{amount}
-use Rattle.claim_table.specs.declared.part.Part.TheVariants.{Backed}
-use Rattle.claim_table.specs.Parts.{has_part, supports}
-use Rattle.claim_table.proofs.Backers.{most_below, so_many_alike}
-use Rattle.claim_table.proofs.Lists.{any_count}
-use Rattle.claim_table.proofs.claim_table.ClaimTable.backer_count.Goals as goal
+use Rattle.claim_table.specs.ClaimTable.BodyParts.{BodyPart}
+use Rattle.claim_table.specs.ClaimTable.Counts.{amount}
+use Rattle.claim_table.specs.declared.claim_table.part.Part.TheVariants.{Backed}
+use Rattle.claim_table.specs.ClaimTable.Parts.{has_part, supports}
+use Rattle.claim_table.proofs.ClaimTableLemmas.Backers.{most_below, so_many_alike}
+use Rattle.claim_table.proofs.ClaimTableLemmas.Lists.{any_count}
+use Rattle.claim_table.proofs.claim_table.claim_table.ClaimTable.backer_count.Goals as goal
 
 pub returns-clause-all : goal.returns-clause-all
 returns-clause-all c =

@@ -1,11 +1,11 @@
 use Rattle.std.proofs.Common.{length, subst, sym, ◌∙◌, ap}
 use Rattle.std.specs.BTreeSet.{contains}
-use Rattle.claim_table.specs.Keeping.{AreOpen, spot_cmp}
-use Rattle.claim_table.specs.Rows.{open_rows}
-use Rattle.claim_table.specs.Table.{AreBelow}
-use Rattle.claim_table.proofs.Kept.{none_pending}
-use Rattle.claim_table.proofs.Questions.{count_is}
-use Rattle.claim_table.proofs.claim_table.ClaimTable.open_count.Goals as goal
+use Rattle.claim_table.specs.ClaimTable.Keeping.{AreOpen, spot_cmp}
+use Rattle.claim_table.specs.ClaimTable.Rows.{open_rows}
+use Rattle.claim_table.specs.ClaimTable.Table.{AreBelow}
+use Rattle.claim_table.proofs.ClaimTableLemmas.Kept.{none_pending}
+use Rattle.claim_table.proofs.ClaimTableLemmas.Questions.{count_is}
+use Rattle.claim_table.proofs.claim_table.claim_table.ClaimTable.open_count.Goals as goal
 
 pub returns : goal.returns
 returns c = λ bodies below.

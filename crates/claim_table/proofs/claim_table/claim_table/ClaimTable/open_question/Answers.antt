@@ -1,13 +1,13 @@
 use Rattle.std.proofs.Common.{slice_get, subst, sym, ◌∙◌, ap}
 use Rattle.std.specs.BTreeSet.{contains}
 use Rattle.std.specs.Option.{option_map}
-use Rattle.claim_table.specs.declared.row.Row.{Row}
-use Rattle.claim_table.specs.Keeping.{AreOpen, spot_cmp}
-use Rattle.claim_table.specs.Rows.{open_rows, signature_of}
-use Rattle.claim_table.specs.Table.{AreBelow}
-use Rattle.claim_table.proofs.Kept.{none_pending}
-use Rattle.claim_table.proofs.Questions.{row_at_spot, row_is}
-use Rattle.claim_table.proofs.claim_table.ClaimTable.open_question.Goals as goal
+use Rattle.claim_table.specs.declared.claim_table.row.Row.{Row}
+use Rattle.claim_table.specs.ClaimTable.Keeping.{AreOpen, spot_cmp}
+use Rattle.claim_table.specs.ClaimTable.Rows.{open_rows, signature_of}
+use Rattle.claim_table.specs.ClaimTable.Table.{AreBelow}
+use Rattle.claim_table.proofs.ClaimTableLemmas.Kept.{none_pending}
+use Rattle.claim_table.proofs.ClaimTableLemmas.Questions.{row_at_spot, row_is}
+use Rattle.claim_table.proofs.claim_table.claim_table.ClaimTable.open_question.Goals as goal
 
 pub returns-in-Some : goal.returns-in-Some
 returns-in-Some c = λ bodies below.

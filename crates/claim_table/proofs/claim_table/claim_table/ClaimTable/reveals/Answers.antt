@@ -1,8 +1,8 @@
 use Rattle.std.proofs.Common.{sym, ◌∙◌, ap, nat_lt}
-use Rattle.claim_table.specs.declared.part.Part.TheVariants.{Revealed}
-use Rattle.claim_table.specs.Parts.{has_part, supports}
-use Rattle.claim_table.proofs.Lists.{any_count}
-use Rattle.claim_table.proofs.claim_table.ClaimTable.reveals.Goals as goal
+use Rattle.claim_table.specs.declared.claim_table.part.Part.TheVariants.{Revealed}
+use Rattle.claim_table.specs.ClaimTable.Parts.{has_part, supports}
+use Rattle.claim_table.proofs.ClaimTableLemmas.Lists.{any_count}
+use Rattle.claim_table.proofs.claim_table.claim_table.ClaimTable.reveals.Goals as goal
 
 pub returns : goal.returns
 returns c =

@@ -1,7 +1,7 @@
 use Rattle.std.proofs.Common.{sym, subst}
-use Rattle.claim_table.specs.Table.{KeepsPending}
-use Rattle.claim_table.proofs.Kept.{pending_within}
-use Rattle.claim_table.proofs.claim_table.ClaimTable.truncate.Goals as goal
+use Rattle.claim_table.specs.ClaimTable.Table.{KeepsPending}
+use Rattle.claim_table.proofs.ClaimTableLemmas.Kept.{pending_within}
+use Rattle.claim_table.proofs.claim_table.claim_table.ClaimTable.truncate.Goals as goal
 
 pub truncate-requires-clause-kept : goal.truncate-requires-clause-kept
 truncate-requires-clause-kept c =

@@ -3,12 +3,12 @@ use Rattle.std.specs.Prelude.{nat_lt}
 use Rattle.std.specs.Map.{keys_of}
 use Rattle.std.proofs.lemmas.Map.Keys.{IsDistinct-from_sorted}
 use Rattle.std.proofs.lemmas.Option.{slice_get_past, slice_get_read}
-use Rattle.claim_table.specs.declared.part.Part.TheVariants.{Backed}
-use Rattle.claim_table.specs.Counts.{entry_at}
-use Rattle.claim_table.specs.Entries.{or_zero, part_cmp}
-use Rattle.claim_table.specs.Parts.{AreSoMany}
-use Rattle.claim_table.proofs.Backers.{all_backers, no_backers}
-use Rattle.claim_table.proofs.part_counts.PartCounts.backers.Goals as goal
+use Rattle.claim_table.specs.declared.claim_table.part.Part.TheVariants.{Backed}
+use Rattle.claim_table.specs.ClaimTable.Counts.{entry_at}
+use Rattle.claim_table.specs.ClaimTable.Entries.{or_zero, part_cmp}
+use Rattle.claim_table.specs.ClaimTable.Parts.{AreSoMany}
+use Rattle.claim_table.proofs.ClaimTableLemmas.Backers.{all_backers, no_backers}
+use Rattle.claim_table.proofs.claim_table.part_counts.PartCounts.backers.Goals as goal
 
 pub returns-in-Some : goal.returns-in-Some
 returns-in-Some c =

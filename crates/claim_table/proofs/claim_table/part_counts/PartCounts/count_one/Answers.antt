@@ -2,11 +2,11 @@ use Rattle.std.proofs.Common.{◌≡◌, ◌<◌, ◌≤◌, length, ◌+◌, �
 use Rattle.std.specs.Prelude.{is_some}
 use Rattle.std.proofs.lemmas.Bool.{cases_Bool}
 use Rattle.std.proofs.lemmas.Option.{slice_get_past, slice_get_read}
-use Rattle.claim_table.specs.BodyParts.{BodyPart}
-use Rattle.claim_table.specs.Counts.{amount, entry_at, is_one}
-use Rattle.claim_table.specs.Entries.{bit, or_zero}
-use Rattle.claim_table.proofs.Places.{counted, nothing_there, one_itself, same_entries}
-use Rattle.claim_table.proofs.part_counts.PartCounts.count_one.Goals as goal
+use Rattle.claim_table.specs.ClaimTable.BodyParts.{BodyPart}
+use Rattle.claim_table.specs.ClaimTable.Counts.{amount, entry_at, is_one}
+use Rattle.claim_table.specs.ClaimTable.Entries.{bit, or_zero}
+use Rattle.claim_table.proofs.ClaimTableLemmas.Places.{counted, nothing_there, one_itself, same_entries}
+use Rattle.claim_table.proofs.claim_table.part_counts.PartCounts.count_one.Goals as goal
 
 pub count-requires-clause-entered : goal.count-requires-clause-entered
 count-requires-clause-entered c =

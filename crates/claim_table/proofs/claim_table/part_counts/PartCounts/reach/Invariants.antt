@@ -1,7 +1,7 @@
 use Rattle.std.proofs.Common.{◌≡◌, ◌≤◌, length}
-use Rattle.claim_table.specs.BodyParts.{BodyPart}
-use Rattle.claim_table.specs.Counts.{amount, is_entered}
-use Rattle.claim_table.proofs.part_counts.PartCounts.reach.Given as goal
+use Rattle.claim_table.specs.ClaimTable.BodyParts.{BodyPart}
+use Rattle.claim_table.specs.ClaimTable.Counts.{amount, is_entered}
+use Rattle.claim_table.proofs.claim_table.part_counts.PartCounts.reach.Given as goal
 
 -- the bodies so far have a place, and the entries are those that there were
 abbrev pub invariant-loop-place : goal.invariant-loop-place

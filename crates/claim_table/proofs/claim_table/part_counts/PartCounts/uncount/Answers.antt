@@ -1,10 +1,10 @@
 use Rattle.std.proofs.Common.{◌≡◌, ap, arith, rules}
 use Rattle.std.specs.Option.{option_map}
-use Rattle.claim_table.specs.declared.part.Part.TheVariants.{Indexed, Revealed, Backed}
-use Rattle.claim_table.specs.Counts.{is_one}
-use Rattle.claim_table.specs.Entries.{bit}
-use Rattle.claim_table.proofs.Counting.{bits}
-use Rattle.claim_table.proofs.part_counts.PartCounts.uncount.Goals as goal
+use Rattle.claim_table.specs.declared.claim_table.part.Part.TheVariants.{Indexed, Revealed, Backed}
+use Rattle.claim_table.specs.ClaimTable.Counts.{is_one}
+use Rattle.claim_table.specs.ClaimTable.Entries.{bit}
+use Rattle.claim_table.proofs.ClaimTableLemmas.Counting.{bits}
+use Rattle.claim_table.proofs.claim_table.part_counts.PartCounts.uncount.Goals as goal
 
 pub returns-clause-amounts : goal.returns-clause-amounts
 returns-clause-amounts c = λ q.

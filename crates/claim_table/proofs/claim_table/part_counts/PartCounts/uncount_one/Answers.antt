@@ -1,10 +1,10 @@
 use Rattle.std.proofs.Common.{◌<◌, ◌≤◌, length, ◌-◌, refl, sym, ◌∙◌, ap, inl, inr, arith, rules}
 use Rattle.std.proofs.lemmas.Bool.{cases_Bool}
 use Rattle.std.proofs.lemmas.Option.{slice_get_past, slice_get_read}
-use Rattle.claim_table.specs.Counts.{amount, is_one}
-use Rattle.claim_table.specs.Entries.{bit, or_zero}
-use Rattle.claim_table.proofs.Places.{nothing_there, same_entries, uncounted}
-use Rattle.claim_table.proofs.part_counts.PartCounts.uncount_one.Goals as goal
+use Rattle.claim_table.specs.ClaimTable.Counts.{amount, is_one}
+use Rattle.claim_table.specs.ClaimTable.Entries.{bit, or_zero}
+use Rattle.claim_table.proofs.ClaimTableLemmas.Places.{nothing_there, same_entries, uncounted}
+use Rattle.claim_table.proofs.claim_table.part_counts.PartCounts.uncount_one.Goals as goal
 
 pub returns-in-Some-get_mut-clause-amounts : goal.returns-in-Some-get_mut-clause-amounts
 returns-in-Some-get_mut-clause-amounts c = λ q.

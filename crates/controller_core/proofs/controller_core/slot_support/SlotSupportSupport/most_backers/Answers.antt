@@ -1,7 +1,7 @@
 use Rattle.std.proofs.Common.{false}
-use Rattle.event_rules.proofs.Filters.{few_passing}
-use Rattle.controller_core.specs.Slots.{slots_have}
-use Rattle.controller_core.proofs.slot_support.SlotSupportSupport.most_backers.Goals as goal
+use Rattle.journal.proofs.EventRulesLemmas.Filters.{few_passing}
+use Rattle.controller_core.specs.ControllerCore.Slots.{slots_have}
+use Rattle.controller_core.proofs.controller_core.slot_support.SlotSupportSupport.most_backers.Goals as goal
 
 pub returns : goal.returns
 unfolding slots_have

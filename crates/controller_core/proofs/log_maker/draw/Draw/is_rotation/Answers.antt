@@ -1,7 +1,7 @@
 use Rattle.std.proofs.Common.{◌^◌, sym, ap, ◌∙◌, nat_lt}
 use borrow.Author.Tests.{le-ltb}
-use Rattle.log_maker.proofs.Rotations.{no_first, by_number}
-use Rattle.log_maker.proofs.draw.Draw.is_rotation.Goals as goal
+use Rattle.controller_core.proofs.LogMakerLemmas.Rotations.{no_first, by_number}
+use Rattle.controller_core.proofs.log_maker.draw.Draw.is_rotation.Goals as goal
 
 pub returns-then-self-gt0 : goal.returns-then-self-gt0
 returns-then-self-gt0 c =

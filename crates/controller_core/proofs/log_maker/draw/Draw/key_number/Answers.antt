@@ -1,6 +1,6 @@
 use Rattle.std.proofs.Common.{◌+◌, sym, ap, ◌∙◌, arith}
-use Rattle.log_maker.proofs.Rotations.{rotation-later, key_number-rotation, key_number-other}
-use Rattle.log_maker.proofs.draw.Draw.key_number.Goals as goal
+use Rattle.controller_core.proofs.LogMakerLemmas.Rotations.{rotation-later, key_number-rotation, key_number-other}
+use Rattle.controller_core.proofs.log_maker.draw.Draw.key_number.Goals as goal
 
 pub returns-then-is_rotation-clause-number : goal.returns-then-is_rotation-clause-number
 returns-then-is_rotation-clause-number c =

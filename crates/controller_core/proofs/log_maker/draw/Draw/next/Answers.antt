@@ -1,7 +1,7 @@
 use Rattle.std.proofs.Common.{sym, ap, ◌∙◌, arith}
-use Rattle.log_maker.specs.Draws.{drawn_behind}
-use Rattle.log_maker.proofs.Rotations.{draw_at-more, rotations_before-more}
-use Rattle.log_maker.proofs.draw.Draw.next.Goals as goal
+use Rattle.controller_core.specs.LogMaker.Draws.{drawn_behind}
+use Rattle.controller_core.proofs.LogMakerLemmas.Rotations.{draw_at-more, rotations_before-more}
+use Rattle.controller_core.proofs.log_maker.draw.Draw.next.Goals as goal
 
 pub invariant_of-result : goal.invariant_of-result
 invariant_of-result c =

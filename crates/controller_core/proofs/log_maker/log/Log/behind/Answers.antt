@@ -1,9 +1,9 @@
 use Rattle.std.proofs.Common.{◌≡◌, ◌+◌}
-use Rattle.event_body.specs.Events.{said_of}
-use Rattle.log_maker.specs.Behind.{prior_before}
-use Rattle.log_maker.specs.Plans.{event_at}
-use Rattle.log_maker.proofs.Chain.{prior_before-more}
-use Rattle.log_maker.proofs.log.Log.behind.Goals as goal
+use Rattle.event_body.specs.EventBody.Events.{said_of}
+use Rattle.controller_core.specs.LogMaker.Behind.{prior_before}
+use Rattle.controller_core.specs.LogMaker.Plans.{event_at}
+use Rattle.controller_core.proofs.LogMakerLemmas.Chain.{prior_before-more}
+use Rattle.controller_core.proofs.log_maker.log.Log.behind.Goals as goal
 
 pub invariant_of-result : goal.invariant_of-result
 invariant_of-result c =

@@ -1,8 +1,8 @@
 use Rattle.std.proofs.Common.{◌<◌, arith, sym, ap, ◌∙◌}
-use Rattle.event_body.specs.Events.{said_of}
-use Rattle.log_maker.specs.Plans.{event_at}
-use Rattle.log_maker.proofs.Chain.{first_before-more, first_before-later, event_at-first}
-use Rattle.log_maker.proofs.log.Log.first_with.Goals as goal
+use Rattle.event_body.specs.EventBody.Events.{said_of}
+use Rattle.controller_core.specs.LogMaker.Plans.{event_at}
+use Rattle.controller_core.proofs.LogMakerLemmas.Chain.{first_before-more, first_before-later, event_at-first}
+use Rattle.controller_core.proofs.log_maker.log.Log.first_with.Goals as goal
 
 pub returns-then-self-eq0 : goal.returns-then-self-eq0
 returns-then-self-eq0 c =

@@ -1,7 +1,7 @@
 use Rattle.std.proofs.Common.{◌<◌, arith, sym, ap, ◌∙◌}
-use Rattle.log_maker.specs.Plans.{sealed, inception, rotation, event_at}
-use Rattle.log_maker.proofs.Chain.{event_at-inception, event_at-rotation, event_at-interaction, becomes}
-use Rattle.log_maker.proofs.log.Log.plan.Goals as goal
+use Rattle.controller_core.specs.LogMaker.Plans.{sealed, inception, rotation, event_at}
+use Rattle.controller_core.proofs.LogMakerLemmas.Chain.{event_at-inception, event_at-rotation, event_at-interaction, becomes}
+use Rattle.controller_core.proofs.log_maker.log.Log.plan.Goals as goal
 
 pub returns-then-next-eq0-clause-event : goal.returns-then-next-eq0-clause-event
 returns-then-next-eq0-clause-event c =

@@ -1,8 +1,8 @@
 use Rattle.std.proofs.Common.{◌≡◌, ◌≤◌, Some, [], ◌++◌, length, drop, sym, ap, ◌∙◌, arith, length-drop}
 use Rattle.std.proofs.lemmas.List.{drop_all}
-use Rattle.log_maker.specs.Making.{rest_text}
-use Rattle.log_maker.proofs.Texts.{some_message}
-use Rattle.log_maker.proofs.log_maker.LogMaker.fill.Goals as goal
+use Rattle.controller_core.specs.LogMaker.Making.{rest_text}
+use Rattle.controller_core.proofs.LogMakerLemmas.Texts.{some_message}
+use Rattle.controller_core.proofs.log_maker.log_maker.LogMaker.fill.Goals as goal
 
 pub returns-then-self-len-clause-some : goal.returns-then-self-len-clause-some
 returns-then-self-len-clause-some c = λ empty.

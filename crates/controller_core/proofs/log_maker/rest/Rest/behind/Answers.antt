@@ -1,6 +1,6 @@
-use Rattle.log_maker.specs.Making.{rest_text}
-use Rattle.log_maker.proofs.Left.{next_message}
-use Rattle.log_maker.proofs.rest.Rest.behind.Goals as goal
+use Rattle.controller_core.specs.LogMaker.Making.{rest_text}
+use Rattle.controller_core.proofs.LogMakerLemmas.Left.{next_message}
+use Rattle.controller_core.proofs.log_maker.rest.Rest.behind.Goals as goal
 
 pub returns : goal.returns
 unfolding rest_text

@@ -1,7 +1,7 @@
 use Rattle.std.proofs.Common.{◌<◌, refl, sym, arith, ◌∙◌}
-use Rattle.log_maker.specs.Making.{rest_text}
-use Rattle.log_maker.proofs.Left.{first_log, no_stream, nothing}
-use Rattle.log_maker.proofs.rest.Rest.new.Goals as goal
+use Rattle.controller_core.specs.LogMaker.Making.{rest_text}
+use Rattle.controller_core.proofs.LogMakerLemmas.Left.{first_log, no_stream, nothing}
+use Rattle.controller_core.proofs.log_maker.rest.Rest.new.Goals as goal
 
 pub returns-then-logs-eq0 : goal.returns-then-logs-eq0
 unfolding rest_text

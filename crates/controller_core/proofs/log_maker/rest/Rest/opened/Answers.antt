@@ -1,8 +1,8 @@
 use Rattle.std.proofs.Common.{◌≡◌, ◌<◌, arith}
-use Rattle.log_maker.specs.Making.{rest_text}
-use Rattle.log_maker.proofs.Left.{next_log, nothing}
-use Rattle.log_maker.proofs.rest.Rest.opened.Goals as goal
-use Rattle.log_maker.proofs.rest.Rest.opened.Goals.{then-self-gt0-via-then-self-gt0, then-self-gt0-via-else-self-gt0+then-self-eq0}
+use Rattle.controller_core.specs.LogMaker.Making.{rest_text}
+use Rattle.controller_core.proofs.LogMakerLemmas.Left.{next_log, nothing}
+use Rattle.controller_core.proofs.log_maker.rest.Rest.opened.Goals as goal
+use Rattle.controller_core.proofs.log_maker.rest.Rest.opened.Goals.{then-self-gt0-via-then-self-gt0, then-self-gt0-via-else-self-gt0+then-self-eq0}
 
 pub returns-then-self-gt0-clause-end : goal.returns-then-self-gt0-clause-end
 unfolding rest_text

@@ -1,9 +1,9 @@
 use Rattle.std.proofs.Common.{◌≡◌, sym, subst, ◌∙◌}
-use Rattle.plan_text.specs.Entries.{IsLine}
-use Rattle.plan_text.specs.Sheets.{IsOnce}
-use Rattle.plan_text.specs.Drafts.{push, sheet}
-use Rattle.plan_text.proofs.Given.{same_given, fault_given}
-use Rattle.plan_text.proofs.draft.Draft.take_line.Goals as goal
+use Rattle.controller_core.specs.PlanText.Entries.{IsLine}
+use Rattle.controller_core.specs.PlanText.Sheets.{IsOnce}
+use Rattle.controller_core.specs.PlanText.Drafts.{push, sheet}
+use Rattle.controller_core.proofs.PlanTextLemmas.Given.{same_given, fault_given}
+use Rattle.controller_core.proofs.plan_text.draft.Draft.take_line.Goals as goal
 
 pub returns-in-Err-clause-refused : goal.returns-in-Err-clause-refused
 returns-in-Err-clause-refused c = λ refused is line rest first spells once.

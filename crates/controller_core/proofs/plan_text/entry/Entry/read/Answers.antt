@@ -1,7 +1,7 @@
 use Rattle.std.proofs.Common.{Result, Ok, Err, IfOk}
-use Rattle.plan_text.specs.declared.line_fault.LineFault.{LineFault}
-use Rattle.plan_text.proofs.Names.{line_of, says_of}
-use Rattle.plan_text.proofs.entry.Entry.read.Goals as goal
+use Rattle.controller_core.specs.declared.plan_text.line_fault.LineFault.{LineFault}
+use Rattle.controller_core.proofs.PlanTextLemmas.Names.{line_of, says_of}
+use Rattle.controller_core.proofs.plan_text.entry.Entry.read.Goals as goal
 
 if_ok : {A : Type 0} (P Q : A → Type 0) (r : Result A LineFault) → ((a : A) → P a → Q a) → IfOk r P → IfOk r Q
 if_ok P Q (Ok a) step is = step a is

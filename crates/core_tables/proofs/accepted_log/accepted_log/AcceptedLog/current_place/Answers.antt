@@ -1,9 +1,9 @@
 use Rattle.std.proofs.Common.{ap, ◌∙◌}
-use Rattle.event_index.specs.Keys.{numbers_at}
-use Rattle.accepted_log.specs.Hints.{prefix_cmp}
-use Rattle.accepted_log.specs.Values.{Log, last_place}
-use Rattle.accepted_log.proofs.Hinted.{found_place}
-use Rattle.accepted_log.proofs.accepted_log.AcceptedLog.current_place.Goals as goal
+use Rattle.escrow.specs.EventIndex.Keys.{numbers_at}
+use Rattle.core_tables.specs.AcceptedLog.Hints.{prefix_cmp}
+use Rattle.core_tables.specs.AcceptedLog.Values.{Log, last_place}
+use Rattle.core_tables.proofs.AcceptedLogLemmas.Hinted.{found_place}
+use Rattle.core_tables.proofs.accepted_log.accepted_log.AcceptedLog.current_place.Goals as goal
 
 pub returns : goal.returns
 returns c =

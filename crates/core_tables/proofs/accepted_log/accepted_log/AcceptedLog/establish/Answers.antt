@@ -1,12 +1,12 @@
 use Rattle.std.proofs.Common.{◌≡◌, ◌++◌, ◌∷◌, [], length, sym, ◌∙◌, ap, subst, arith}
 use Rattle.std.specs.Prelude.{Contains}
-use Rattle.event_index.specs.Keys.{numbers_at}
-use Rattle.accepted_log.specs.Hints.{IsSound, prefix_cmp}
-use Rattle.accepted_log.specs.Values.{Extends, Log, established}
-use Rattle.accepted_log.proofs.Growth.{grows_by_state}
-use Rattle.accepted_log.proofs.Hinted.{sound_established, sound_more}
-use Rattle.accepted_log.proofs.Extensions.{extends_established}
-use Rattle.accepted_log.proofs.accepted_log.AcceptedLog.establish.Goals as goal
+use Rattle.escrow.specs.EventIndex.Keys.{numbers_at}
+use Rattle.core_tables.specs.AcceptedLog.Hints.{IsSound, prefix_cmp}
+use Rattle.core_tables.specs.AcceptedLog.Values.{Extends, Log, established}
+use Rattle.core_tables.proofs.AcceptedLogLemmas.Growth.{grows_by_state}
+use Rattle.core_tables.proofs.AcceptedLogLemmas.Hinted.{sound_established, sound_more}
+use Rattle.core_tables.proofs.AcceptedLogLemmas.Extensions.{extends_established}
+use Rattle.core_tables.proofs.accepted_log.accepted_log.AcceptedLog.establish.Goals as goal
 
 module _ (c : goal.After-push_reserved-3) where
   abbrev was : Log

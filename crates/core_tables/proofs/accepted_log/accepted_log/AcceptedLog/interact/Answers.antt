@@ -1,13 +1,13 @@
 use Rattle.std.proofs.Common.{◌≡◌, ◌<◌, ◌++◌, ◌∷◌, [], length, None, Some, sym, ◌∙◌, ap, subst}
 use Rattle.std.specs.Prelude.{slice_get, IfSome}
-use Rattle.event_index.specs.Keys.{numbers_at}
-use Rattle.accepted_log.specs.Hints.{IsSound, prefix_cmp}
-use Rattle.accepted_log.specs.Values.{Extends, Log, gone_onto, last_place}
-use Rattle.accepted_log.proofs.Growth.{grows_by_interaction}
-use Rattle.accepted_log.proofs.Hinted.{sound_gone_onto}
-use Rattle.accepted_log.proofs.Last.{place_within, there}
-use Rattle.accepted_log.proofs.Extensions.{extends_interacted}
-use Rattle.accepted_log.proofs.accepted_log.AcceptedLog.interact.Goals as goal
+use Rattle.escrow.specs.EventIndex.Keys.{numbers_at}
+use Rattle.core_tables.specs.AcceptedLog.Hints.{IsSound, prefix_cmp}
+use Rattle.core_tables.specs.AcceptedLog.Values.{Extends, Log, gone_onto, last_place}
+use Rattle.core_tables.proofs.AcceptedLogLemmas.Growth.{grows_by_interaction}
+use Rattle.core_tables.proofs.AcceptedLogLemmas.Hinted.{sound_gone_onto}
+use Rattle.core_tables.proofs.AcceptedLogLemmas.Last.{place_within, there}
+use Rattle.core_tables.proofs.AcceptedLogLemmas.Extensions.{extends_interacted}
+use Rattle.core_tables.proofs.accepted_log.accepted_log.AcceptedLog.interact.Goals as goal
 
 pub returns-in_default-clause-log : goal.returns-in_default-clause-log
 returns-in_default-clause-log c =

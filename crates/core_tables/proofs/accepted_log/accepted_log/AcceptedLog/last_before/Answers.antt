@@ -1,9 +1,9 @@
 use Rattle.std.proofs.Common.{◌≡◌, take, sym, ◌∙◌, ap}
-use Rattle.event_index.specs.Keys.{numbers_at}
-use Rattle.accepted_log.specs.Hints.{prefix_cmp}
-use Rattle.accepted_log.specs.Values.{Log, last_of, state_there}
-use Rattle.accepted_log.proofs.Hinted.{found_before}
-use Rattle.accepted_log.proofs.accepted_log.AcceptedLog.last_before.Goals as goal
+use Rattle.escrow.specs.EventIndex.Keys.{numbers_at}
+use Rattle.core_tables.specs.AcceptedLog.Hints.{prefix_cmp}
+use Rattle.core_tables.specs.AcceptedLog.Values.{Log, last_of, state_there}
+use Rattle.core_tables.proofs.AcceptedLogLemmas.Hinted.{found_before}
+use Rattle.core_tables.proofs.accepted_log.accepted_log.AcceptedLog.last_before.Goals as goal
 
 pub returns : goal.returns
 returns c =

@@ -1,10 +1,10 @@
 use Rattle.std.proofs.Common.{◌≡◌, ap, sym, ◌∙◌, subst}
 use Rattle.std.specs.Prelude.{slice_get}
-use Rattle.event_body.specs.Events.{prefix_of}
-use Rattle.journal.specs.Logs as logs
-use Rattle.accepted_log.specs.Cuts.{AreBothAlike, under_at}
-use Rattle.accepted_log.proofs.Under.{under_alike_at}
-use Rattle.accepted_log.proofs.accepted_log.AcceptedLog.state_before.Goals as goal
+use Rattle.event_body.specs.EventBody.Events.{prefix_of}
+use Rattle.journal.specs.Journal.Logs as logs
+use Rattle.core_tables.specs.AcceptedLog.Cuts.{AreBothAlike, under_at}
+use Rattle.core_tables.proofs.AcceptedLogLemmas.Under.{under_alike_at}
+use Rattle.core_tables.proofs.accepted_log.accepted_log.AcceptedLog.state_before.Goals as goal
 
 pub returns-clause-alike : goal.returns-clause-alike
 returns-clause-alike c = λ log b is grown at its.

@@ -1,9 +1,9 @@
 use Rattle.std.proofs.Common.{◌≡◌, sym, subst}
-use Rattle.event_index.specs.Keys.{numbers_at}
-use Rattle.accepted_log.specs.Hints.{IsSound, prefix_cmp}
-use Rattle.accepted_log.specs.Values.{Log, rewound}
-use Rattle.accepted_log.proofs.Hinted.{sound_rewound}
-use Rattle.accepted_log.proofs.accepted_log.AcceptedLog.truncate.Goals as goal
+use Rattle.escrow.specs.EventIndex.Keys.{numbers_at}
+use Rattle.core_tables.specs.AcceptedLog.Hints.{IsSound, prefix_cmp}
+use Rattle.core_tables.specs.AcceptedLog.Values.{Log, rewound}
+use Rattle.core_tables.proofs.AcceptedLogLemmas.Hinted.{sound_rewound}
+use Rattle.core_tables.proofs.accepted_log.accepted_log.AcceptedLog.truncate.Goals as goal
 
 pub invariant_of-self : goal.invariant_of-self
 invariant_of-self c =

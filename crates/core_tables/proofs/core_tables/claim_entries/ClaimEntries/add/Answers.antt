@@ -1,10 +1,10 @@
 use Rattle.std.proofs.lemmas.List.Elements.{Contains-append_left, Contains-append_right}
-use Rattle.claim_table.specs.Hinted.{few_at}
-use Rattle.event_index.specs.Keys.{numbers_at}
-use Rattle.core_tables.specs.ClaimEntries.{claim_cmp}
-use Rattle.core_tables.specs.Names.{claim_key}
-use Rattle.core_tables.proofs.AddedNumbers.{hinted_still, under_ok}
-use Rattle.core_tables.proofs.claim_entries.ClaimEntries.add.Goals as goal
+use Rattle.claim_table.specs.ClaimTable.Hinted.{few_at}
+use Rattle.escrow.specs.EventIndex.Keys.{numbers_at}
+use Rattle.core_tables.specs.CoreTables.ClaimEntries.{claim_cmp}
+use Rattle.core_tables.specs.CoreTables.Names.{claim_key}
+use Rattle.core_tables.proofs.CoreTablesLemmas.AddedNumbers.{hinted_still, under_ok}
+use Rattle.core_tables.proofs.core_tables.claim_entries.ClaimEntries.add.Goals as goal
 
 pub returns-in_err-add_few-clause-kept : goal.returns-in_err-add_few-clause-kept
 returns-in_err-add_few-clause-kept c = λ q n lt h.

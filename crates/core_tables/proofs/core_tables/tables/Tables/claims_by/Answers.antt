@@ -1,12 +1,12 @@
 use Rattle.std.proofs.Common.{◌∙◌, ap}
 use Rattle.std.specs.Option.{option_copied}
 use Rattle.std.specs.Prelude.{slice_get}
-use Rattle.core_tables.specs.EntryClaims.{came_to}
-use Rattle.core_tables.proofs.Places.{got}
-use Rattle.core_tables.specs.Inside.{view_of}
-use Rattle.core_tables.proofs.Pairs.{event_at}
-use Rattle.core_tables.proofs.Raised.{came_there}
-use Rattle.core_tables.proofs.tables.Tables.claims_by.Goals as goal
+use Rattle.core_tables.specs.CoreTables.EntryClaims.{came_to}
+use Rattle.core_tables.proofs.CoreTablesLemmas.Places.{got}
+use Rattle.core_tables.specs.CoreTables.Inside.{view_of}
+use Rattle.core_tables.proofs.CoreTablesLemmas.Pairs.{event_at}
+use Rattle.core_tables.proofs.CoreTablesLemmas.Raised.{came_there}
+use Rattle.core_tables.proofs.core_tables.tables.Tables.claims_by.Goals as goal
 
 pub returns : goal.returns
 returns c = λ b at.

@@ -1,9 +1,9 @@
 use Rattle.std.proofs.Common.{◌∙◌, ap, sym}
-use Rattle.core_tables.specs.Inside.{view_of}
-use Rattle.core_tables.specs.View.{View}
-use Rattle.core_tables.proofs.Marks.{table_is, with_new}
-use Rattle.core_tables.proofs.Rows.{not_some}
-use Rattle.core_tables.proofs.tables.Tables.close.Goals as goal
+use Rattle.core_tables.specs.CoreTables.Inside.{view_of}
+use Rattle.core_tables.specs.CoreTables.View.{View}
+use Rattle.core_tables.proofs.CoreTablesLemmas.Marks.{table_is, with_new}
+use Rattle.core_tables.proofs.CoreTablesLemmas.Rows.{not_some}
+use Rattle.core_tables.proofs.core_tables.tables.Tables.close.Goals as goal
 
 pub invariant_of-self : goal.invariant_of-self
 invariant_of-self c = (c.self.invariant.0, λ s is. absurd (not_some s (sym c.close.ensures.pending ∙ is)), c.self.invariant.2)

@@ -1,18 +1,18 @@
 use Rattle.std.proofs.Common.{◌<◌, ◌∙◌, ap, arith, length, refl, subst, sym, ◌≡◌, false}
 use Rattle.std.specs.Result.{OnOk}
 use Rattle.std.proofs.lemmas.Result.{on_err_weaker, on_ok_weaker}
-use Rattle.accepted_log.specs.Cuts.{GrowsByState}
-use Rattle.accepted_log.specs.Values.{Extends, established}
-use Rattle.journal.proofs.Places.{some_at}
-use Rattle.core_tables.specs.Hints.{IsNameNew}
-use Rattle.core_tables.specs.Inside.{held_in, view_of}
-use Rattle.core_tables.specs.NamedPlaces.{places_at}
-use Rattle.core_tables.specs.Names.{name_of}
-use Rattle.core_tables.specs.View.{View}
-use Rattle.core_tables.proofs.LastAccepted.{none_accepted, on_both, one_accepted, view_accepted, view_same}
-use Rattle.core_tables.proofs.Found.{name_is_new}
-use Rattle.core_tables.proofs.Pairs.{event_at, event_is, length-paired}
-use Rattle.core_tables.proofs.tables.Tables.establish.Goals as goal
+use Rattle.core_tables.specs.AcceptedLog.Cuts.{GrowsByState}
+use Rattle.core_tables.specs.AcceptedLog.Values.{Extends, established}
+use Rattle.journal.proofs.JournalLemmas.Places.{some_at}
+use Rattle.core_tables.specs.CoreTables.Hints.{IsNameNew}
+use Rattle.core_tables.specs.CoreTables.Inside.{held_in, view_of}
+use Rattle.core_tables.specs.CoreTables.NamedPlaces.{places_at}
+use Rattle.core_tables.specs.CoreTables.Names.{name_of}
+use Rattle.core_tables.specs.CoreTables.View.{View}
+use Rattle.core_tables.proofs.CoreTablesLemmas.LastAccepted.{none_accepted, on_both, one_accepted, view_accepted, view_same}
+use Rattle.core_tables.proofs.CoreTablesLemmas.Found.{name_is_new}
+use Rattle.core_tables.proofs.CoreTablesLemmas.Pairs.{event_at, event_is, length-paired}
+use Rattle.core_tables.proofs.core_tables.tables.Tables.establish.Goals as goal
 
 pub index-event-requires : goal.index-event-requires
 index-event-requires c =

@@ -1,7 +1,7 @@
 use Rattle.std.proofs.Common.{map, ap, sym, ◌∙◌}
-use Rattle.core_tables.specs.View.{View}
-use Rattle.core_tables.proofs.Pairs.{events_of}
-use Rattle.core_tables.proofs.tables.Tables.events.Goals as goal
+use Rattle.core_tables.specs.CoreTables.View.{View}
+use Rattle.core_tables.proofs.CoreTablesLemmas.Pairs.{events_of}
+use Rattle.core_tables.proofs.core_tables.tables.Tables.events.Goals as goal
 
 pub returns : goal.returns
 returns c =

@@ -1,10 +1,10 @@
 use Rattle.std.proofs.Common.{◌++◌, ◌∙◌, ap}
 use Rattle.std.specs.List.{list_any}
-use Rattle.journal.specs.Replies.{same_claim}
-use Rattle.core_tables.specs.View.{came_with}
-use Rattle.core_tables.proofs.Found.{come_found}
-use Rattle.core_tables.proofs.Pairs.{event_at}
-use Rattle.core_tables.proofs.tables.Tables.has_come.Goals as goal
+use Rattle.journal.specs.Journal.Replies.{same_claim}
+use Rattle.core_tables.specs.CoreTables.View.{came_with}
+use Rattle.core_tables.proofs.CoreTablesLemmas.Found.{come_found}
+use Rattle.core_tables.proofs.CoreTablesLemmas.Pairs.{event_at}
+use Rattle.core_tables.proofs.core_tables.tables.Tables.has_come.Goals as goal
 
 pub returns : goal.returns
 returns c =

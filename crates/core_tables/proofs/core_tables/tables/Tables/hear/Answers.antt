@@ -1,11 +1,11 @@
 use Rattle.std.proofs.Common.{◌≡◌, true, Some, ◌∙◌, ap, subst, sym}
-use Rattle.claim_table.specs.Rows.{heard, is_raised, verdict_of}
-use Rattle.claim_table.proofs.Rows.{raised_set}
-use Rattle.core_tables.specs.Inside.{view_of}
-use Rattle.core_tables.specs.View.{View}
-use Rattle.core_tables.proofs.Marks.{table_is, with_new}
-use Rattle.core_tables.proofs.Rows.{some_is}
-use Rattle.core_tables.proofs.tables.Tables.hear.Goals as goal
+use Rattle.claim_table.specs.ClaimTable.Rows.{heard, is_raised, verdict_of}
+use Rattle.claim_table.proofs.ClaimTableLemmas.Rows.{raised_set}
+use Rattle.core_tables.specs.CoreTables.Inside.{view_of}
+use Rattle.core_tables.specs.CoreTables.View.{View}
+use Rattle.core_tables.proofs.CoreTablesLemmas.Marks.{table_is, with_new}
+use Rattle.core_tables.proofs.CoreTablesLemmas.Rows.{some_is}
+use Rattle.core_tables.proofs.core_tables.tables.Tables.hear.Goals as goal
 
 pub hear-requires-clause-raised : goal.hear-requires-clause-raised
 hear-requires-clause-raised c = ap (λ (v : View). is_raised v.claims.rows c.args.signature.now) c.self.view_is ∙ c.requires.raised

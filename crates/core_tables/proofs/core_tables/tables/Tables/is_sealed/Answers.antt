@@ -1,11 +1,11 @@
 use Rattle.std.proofs.Common.{◌∙◌, ap, subst}
 use Rattle.event_backing.specs.EventSeals.{IsEventSeal}
-use Rattle.core_tables.specs.declared.name.Name.{Name}
-use Rattle.journal.specs.Seals.{is_sealed}
-use Rattle.core_tables.specs.View.{log_of}
-use Rattle.core_tables.proofs.Found.{sealed_found}
-use Rattle.core_tables.proofs.Pairs.{event_at}
-use Rattle.core_tables.proofs.tables.Tables.is_sealed.Goals as goal
+use Rattle.core_tables.specs.declared.core_tables.name.Name.{Name}
+use Rattle.journal.specs.Journal.Seals.{is_sealed}
+use Rattle.core_tables.specs.CoreTables.View.{log_of}
+use Rattle.core_tables.proofs.CoreTablesLemmas.Found.{sealed_found}
+use Rattle.core_tables.proofs.CoreTablesLemmas.Pairs.{event_at}
+use Rattle.core_tables.proofs.core_tables.tables.Tables.is_sealed.Goals as goal
 
 pub returns : goal.returns
 returns c =

@@ -1,9 +1,9 @@
 use Rattle.std.proofs.Common.{◌∙◌, ap, subst, sym}
-use Rattle.core_tables.specs.Inside.{view_of}
-use Rattle.core_tables.specs.View.{IsCut, mark_of}
-use Rattle.core_tables.proofs.Marks.{mark_is, whole_is_cut}
-use Rattle.core_tables.proofs.Pairs.{length-paired}
-use Rattle.core_tables.proofs.tables.Tables.mark.Goals as goal
+use Rattle.core_tables.specs.CoreTables.Inside.{view_of}
+use Rattle.core_tables.specs.CoreTables.View.{IsCut, mark_of}
+use Rattle.core_tables.proofs.CoreTablesLemmas.Marks.{mark_is, whole_is_cut}
+use Rattle.core_tables.proofs.CoreTablesLemmas.Pairs.{length-paired}
+use Rattle.core_tables.proofs.core_tables.tables.Tables.mark.Goals as goal
 
 pub returns-clause-mark : goal.returns-clause-mark
 returns-clause-mark c =

@@ -1,16 +1,16 @@
 use Rattle.std.proofs.Common.{◌≡◌, ℕ, List, Option, Some, None, ◌∙◌, ap, refl, subst, sym}
 use Rattle.std.specs.Prelude.{slice_get, IfNone, IfSome}
 use Rattle.std.specs.List.Sorted.{IsStrictlyIncreasing}
-use Rattle.event_body.specs.declared.event.Event.{Event}
-use Rattle.event_body.specs.Judging.{SpellsEvent}
-use Rattle.event_index.specs.Keys.{numbers_at}
-use Rattle.journal.specs.declared.body.Body.{Body}
-use Rattle.journal.specs.Logs.{is_in}
-use Rattle.core_tables.specs.View.{View, body_of}
-use Rattle.core_tables.proofs.Found.{body_found, no_body_found, texts_found}
-use Rattle.core_tables.proofs.Orders.{name_cmp}
-use Rattle.core_tables.proofs.Pairs.{bytes_at}
-use Rattle.core_tables.proofs.tables.Tables.number_of.Goals as goal
+use Rattle.event_body.specs.declared.event_body.event.Event.{Event}
+use Rattle.event_body.specs.EventBody.Judging.{SpellsEvent}
+use Rattle.escrow.specs.EventIndex.Keys.{numbers_at}
+use Rattle.journal.specs.declared.journal.body.Body.{Body}
+use Rattle.journal.specs.Journal.Logs.{is_in}
+use Rattle.core_tables.specs.CoreTables.View.{View, body_of}
+use Rattle.core_tables.proofs.CoreTablesLemmas.Found.{body_found, no_body_found, texts_found}
+use Rattle.core_tables.proofs.CoreTablesLemmas.Orders.{name_cmp}
+use Rattle.core_tables.proofs.CoreTablesLemmas.Pairs.{bytes_at}
+use Rattle.core_tables.proofs.core_tables.tables.Tables.number_of.Goals as goal
 
 -- what spells the bytes of a body is its event
 spelled_one : (held now : List Body) (bytes : List ℕ) (e : Event) → held ≡ now → ((one other : Event) (bytes : List ℕ) → SpellsEvent one bytes → SpellsEvent other bytes → one ≡ other)

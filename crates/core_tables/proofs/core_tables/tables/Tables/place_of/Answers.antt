@@ -1,8 +1,8 @@
 use Rattle.std.proofs.Common.{◌∙◌, ap}
 use Rattle.std.specs.Prelude.{◌==◌, position, slice_get}
-use Rattle.core_tables.proofs.Found.{no_place, place_found}
-use Rattle.core_tables.proofs.Pairs.{event_at}
-use Rattle.core_tables.proofs.tables.Tables.place_of.Goals as goal
+use Rattle.core_tables.proofs.CoreTablesLemmas.Found.{no_place, place_found}
+use Rattle.core_tables.proofs.CoreTablesLemmas.Pairs.{event_at}
+use Rattle.core_tables.proofs.core_tables.tables.Tables.place_of.Goals as goal
 
 pub returns-in_err-event : goal.returns-in_err-event
 returns-in_err-event c =

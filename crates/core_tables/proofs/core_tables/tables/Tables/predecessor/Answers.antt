@@ -1,10 +1,10 @@
 use Rattle.std.proofs.Common.{◌∙◌, ap, sym}
 use Rattle.std.specs.Prelude.{position}
-use Rattle.journal.specs.Logs.{precedes}
-use Rattle.core_tables.specs.View.{body_of, log_of}
-use Rattle.core_tables.proofs.Found.{first_has_none, predecessor_found, unnamed_has_none}
-use Rattle.core_tables.proofs.Pairs.{event_at}
-use Rattle.core_tables.proofs.tables.Tables.predecessor.Goals as goal
+use Rattle.journal.specs.Journal.Logs.{precedes}
+use Rattle.core_tables.specs.CoreTables.View.{body_of, log_of}
+use Rattle.core_tables.proofs.CoreTablesLemmas.Found.{first_has_none, predecessor_found, unnamed_has_none}
+use Rattle.core_tables.proofs.CoreTablesLemmas.Pairs.{event_at}
+use Rattle.core_tables.proofs.core_tables.tables.Tables.predecessor.Goals as goal
 
 pub returns-in_err-name : goal.returns-in_err-name
 returns-in_err-name c = λ bytes. rw c.from_residual.ensures (sym (unnamed_has_none bytes c.args.event.now (log_of c.args.self.now) (sym c.in_err-name.ensures)))

@@ -1,16 +1,16 @@
 use Rattle.std.proofs.Common.{subst, sym}
-use Rattle.event_index.specs.Keys.{numbers_at}
-use Rattle.core_tables.specs.Hints.{KeepsBelow}
-use Rattle.core_tables.specs.Inside.{held_in, view_of}
-use Rattle.core_tables.specs.View.{body_of}
-use Rattle.core_tables.proofs.LastAccepted.{on_both}
-use Rattle.core_tables.proofs.LastBody.{both_err, both_ok, hinted_pushed, pushed_even, pushed_pairs, view_pushed}
-use Rattle.core_tables.proofs.Hints.{hinted_kept, keeps_itself}
-use Rattle.core_tables.proofs.Orders.{name_cmp}
-use Rattle.core_tables.proofs.Pairs.{length-paired}
-use Rattle.core_tables.proofs.Waiters.{next_free}
+use Rattle.escrow.specs.EventIndex.Keys.{numbers_at}
+use Rattle.core_tables.specs.CoreTables.Hints.{KeepsBelow}
+use Rattle.core_tables.specs.CoreTables.Inside.{held_in, view_of}
+use Rattle.core_tables.specs.CoreTables.View.{body_of}
+use Rattle.core_tables.proofs.CoreTablesLemmas.LastAccepted.{on_both}
+use Rattle.core_tables.proofs.CoreTablesLemmas.LastBody.{both_err, both_ok, hinted_pushed, pushed_even, pushed_pairs, view_pushed}
+use Rattle.core_tables.proofs.CoreTablesLemmas.Hints.{hinted_kept, keeps_itself}
+use Rattle.core_tables.proofs.CoreTablesLemmas.Orders.{name_cmp}
+use Rattle.core_tables.proofs.CoreTablesLemmas.Pairs.{length-paired}
+use Rattle.core_tables.proofs.CoreTablesLemmas.Waiters.{next_free}
 use Rattle.std.proofs.lemmas.Result.{on_err_weaker, on_ok_weaker}
-use Rattle.core_tables.proofs.tables.Tables.push_body.Goals as goal
+use Rattle.core_tables.proofs.core_tables.tables.Tables.push_body.Goals as goal
 
 pub push_both-requires : goal.push_both-requires
 push_both-requires c =

@@ -1,9 +1,9 @@
 use Rattle.std.proofs.Common.{◌<◌, length, subst, sym}
-use Rattle.core_tables.specs.Inside.{view_of}
-use Rattle.core_tables.specs.View.{View}
-use Rattle.core_tables.proofs.LastEntry.{on_err, view_entered, view_kept}
-use Rattle.core_tables.proofs.Hints.{hinted_heard}
-use Rattle.core_tables.proofs.tables.Tables.push_heard.Goals as goal
+use Rattle.core_tables.specs.CoreTables.Inside.{view_of}
+use Rattle.core_tables.specs.CoreTables.View.{View}
+use Rattle.core_tables.proofs.CoreTablesLemmas.LastEntry.{on_err, view_entered, view_kept}
+use Rattle.core_tables.proofs.CoreTablesLemmas.Hints.{hinted_heard}
+use Rattle.core_tables.proofs.core_tables.tables.Tables.push_heard.Goals as goal
 
 pub invariant_of-self : goal.invariant_of-self
 invariant_of-self c = rw c.in_err-push.ensures.err c.self.invariant

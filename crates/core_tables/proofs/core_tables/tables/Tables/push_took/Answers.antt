@@ -1,17 +1,17 @@
 use Rattle.std.proofs.Common.{◌<◌, arith, length, refl, subst, sym}
 use Rattle.std.specs.Prelude.{Contains}
-use Rattle.event_index.specs.Keys.{numbers_at}
-use Rattle.journal.proofs.Places.{some_at}
-use Rattle.core_tables.specs.ClaimEntries.{came_at}
-use Rattle.core_tables.specs.Hints.{KeepsBelow}
-use Rattle.core_tables.specs.Inside.{held_in, view_of}
-use Rattle.core_tables.specs.Names.{claim_key, name_of}
-use Rattle.core_tables.specs.View.{View}
-use Rattle.core_tables.proofs.LastEntry.{on_err, view_entered, view_kept}
-use Rattle.core_tables.proofs.Hints.{hinted_kept, hinted_took, keeps_itself}
-use Rattle.core_tables.proofs.Orders.{name_cmp}
-use Rattle.core_tables.proofs.Pairs.{event_is, length-paired}
-use Rattle.core_tables.proofs.tables.Tables.push_took.Goals as goal
+use Rattle.escrow.specs.EventIndex.Keys.{numbers_at}
+use Rattle.journal.proofs.JournalLemmas.Places.{some_at}
+use Rattle.core_tables.specs.CoreTables.ClaimEntries.{came_at}
+use Rattle.core_tables.specs.CoreTables.Hints.{KeepsBelow}
+use Rattle.core_tables.specs.CoreTables.Inside.{held_in, view_of}
+use Rattle.core_tables.specs.CoreTables.Names.{claim_key, name_of}
+use Rattle.core_tables.specs.CoreTables.View.{View}
+use Rattle.core_tables.proofs.CoreTablesLemmas.LastEntry.{on_err, view_entered, view_kept}
+use Rattle.core_tables.proofs.CoreTablesLemmas.Hints.{hinted_kept, hinted_took, keeps_itself}
+use Rattle.core_tables.proofs.CoreTablesLemmas.Orders.{name_cmp}
+use Rattle.core_tables.proofs.CoreTablesLemmas.Pairs.{event_is, length-paired}
+use Rattle.core_tables.proofs.core_tables.tables.Tables.push_took.Goals as goal
 
 pub index-requires : goal.index-requires
 index-requires c =

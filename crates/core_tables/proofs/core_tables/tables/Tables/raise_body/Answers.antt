@@ -3,14 +3,14 @@ use Rattle.std.specs.Option.{option_copied, option_map}
 use Rattle.std.specs.Prelude.{flat_map, slice_get}
 use Rattle.std.proofs.lemmas.Option.{slice_get_read}
 use Rattle.std.proofs.lemmas.Result.{on_err_weaker, on_ok_weaker}
-use Rattle.core_tables.specs.EntryClaims.{came_to}
-use Rattle.core_tables.specs.RaisedRows.{RaisesSomeRows}
-use Rattle.event_index.specs.Keys.{numbers_at}
-use Rattle.core_tables.specs.Inside.{held_in, view_of}
-use Rattle.core_tables.proofs.Orders.{name_cmp}
-use Rattle.core_tables.proofs.Pairs.{event_at}
-use Rattle.core_tables.proofs.Raised.{event_held, kept_event, pending_stays, raised_body, some_raised, some_view}
-use Rattle.core_tables.proofs.tables.Tables.raise_body.Goals as goal
+use Rattle.core_tables.specs.CoreTables.EntryClaims.{came_to}
+use Rattle.core_tables.specs.CoreTables.RaisedRows.{RaisesSomeRows}
+use Rattle.escrow.specs.EventIndex.Keys.{numbers_at}
+use Rattle.core_tables.specs.CoreTables.Inside.{held_in, view_of}
+use Rattle.core_tables.proofs.CoreTablesLemmas.Orders.{name_cmp}
+use Rattle.core_tables.proofs.CoreTablesLemmas.Pairs.{event_at}
+use Rattle.core_tables.proofs.CoreTablesLemmas.Raised.{event_held, kept_event, pending_stays, raised_body, some_raised, some_view}
+use Rattle.core_tables.proofs.core_tables.tables.Tables.raise_body.Goals as goal
 
 pub index-requires : goal.index-requires
 index-requires c =

@@ -2,13 +2,13 @@ use Rattle.std.proofs.Common.{◌≡◌, ◌∙◌, ℕ, ap}
 use Rattle.std.specs.Option.{option_copied, option_map}
 use Rattle.std.specs.Prelude.{slice_get}
 use Rattle.std.proofs.lemmas.Result.{on_err_weaker, on_ok_weaker}
-use Rattle.core_tables.specs.EntryClaims.{came_to}
-use Rattle.core_tables.specs.RaisedRows.{RaisesSomeRows}
-use Rattle.core_tables.proofs.Places.{got}
-use Rattle.core_tables.specs.Inside.{held_in, view_of}
-use Rattle.core_tables.proofs.Pairs.{event_at}
-use Rattle.core_tables.proofs.Raised.{event_held, kept_event, pending_stays, raised_entry, some_raised, some_view}
-use Rattle.core_tables.proofs.tables.Tables.raise_entry.Goals as goal
+use Rattle.core_tables.specs.CoreTables.EntryClaims.{came_to}
+use Rattle.core_tables.specs.CoreTables.RaisedRows.{RaisesSomeRows}
+use Rattle.core_tables.proofs.CoreTablesLemmas.Places.{got}
+use Rattle.core_tables.specs.CoreTables.Inside.{held_in, view_of}
+use Rattle.core_tables.proofs.CoreTablesLemmas.Pairs.{event_at}
+use Rattle.core_tables.proofs.CoreTablesLemmas.Raised.{event_held, kept_event, pending_stays, raised_entry, some_raised, some_view}
+use Rattle.core_tables.proofs.core_tables.tables.Tables.raise_entry.Goals as goal
 
 same : (c : goal.After-state_at) → (m : ℕ) → slice_get c.as_slice.result.now m ≡ option_map (λ b. b.event) (slice_get (held_in c.self.inside) m)
 same c m = ap (λ es. slice_get es m) c.as_slice.ensures.value ∙ event_at c.self.inside.journal.bodies c.self.inside.events.items c.self.invariant.0 m

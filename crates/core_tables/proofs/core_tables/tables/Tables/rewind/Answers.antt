@@ -1,12 +1,12 @@
 use Rattle.std.proofs.Common.{◌<◌, ◌≤◌, ◌∙◌, ap, arith, subst, sym, take}
 use Rattle.std.specs.Prelude.{slice_get}
-use Rattle.claim_table.specs.Table.{KeepsPending}
-use Rattle.journal.proofs.Places.{all_at}
-use Rattle.core_tables.specs.Inside.{view_of}
-use Rattle.core_tables.specs.View.{View, number_of}
-use Rattle.core_tables.proofs.Rewound.{cut_even, cut_hinted, cut_pairs, cut_pending, view_cut}
-use Rattle.core_tables.proofs.Pairs.{length-paired}
-use Rattle.core_tables.proofs.tables.Tables.rewind.Goals as goal
+use Rattle.claim_table.specs.ClaimTable.Table.{KeepsPending}
+use Rattle.journal.proofs.JournalLemmas.Places.{all_at}
+use Rattle.core_tables.specs.CoreTables.Inside.{view_of}
+use Rattle.core_tables.specs.CoreTables.View.{View, number_of}
+use Rattle.core_tables.proofs.CoreTablesLemmas.Rewound.{cut_even, cut_hinted, cut_pairs, cut_pending, view_cut}
+use Rattle.core_tables.proofs.CoreTablesLemmas.Pairs.{length-paired}
+use Rattle.core_tables.proofs.core_tables.tables.Tables.rewind.Goals as goal
 
 pub truncate-requires : goal.truncate-requires
 truncate-requires c = subst (λ (v : View). KeepsPending c.args.mark.now.claims v.claims.rows v.claims.pending) (sym c.self.view_is) c.requires.cut.pending_held

@@ -1,8 +1,8 @@
 use Rattle.std.proofs.Common.{◌∙◌, ap, subst, sym}
 use Rattle.std.specs.Prelude.{Contains, slice_get}
-use Rattle.event_index.specs.Keys.{numbers_at}
-use Rattle.core_tables.proofs.Orders.{name_cmp}
-use Rattle.core_tables.proofs.tables.Tables.told.Goals as goal
+use Rattle.escrow.specs.EventIndex.Keys.{numbers_at}
+use Rattle.core_tables.proofs.CoreTablesLemmas.Orders.{name_cmp}
+use Rattle.core_tables.proofs.core_tables.tables.Tables.told.Goals as goal
 
 pub returns-clause-all : goal.returns-clause-all
 returns-clause-all c = λ i reader n claims b at there name.

@@ -1,10 +1,10 @@
 use Rattle.std.proofs.Common.{◌∙◌, ap, sym}
-use Rattle.claim_table.specs.Rows.{unheard}
-use Rattle.core_tables.specs.Inside.{view_of}
-use Rattle.core_tables.specs.View.{View}
-use Rattle.core_tables.proofs.Marks.{table_is, with_new}
-use Rattle.core_tables.proofs.Rows.{not_some}
-use Rattle.core_tables.proofs.tables.Tables.unhear.Goals as goal
+use Rattle.claim_table.specs.ClaimTable.Rows.{unheard}
+use Rattle.core_tables.specs.CoreTables.Inside.{view_of}
+use Rattle.core_tables.specs.CoreTables.View.{View}
+use Rattle.core_tables.proofs.CoreTablesLemmas.Marks.{table_is, with_new}
+use Rattle.core_tables.proofs.CoreTablesLemmas.Rows.{not_some}
+use Rattle.core_tables.proofs.core_tables.tables.Tables.unhear.Goals as goal
 
 pub unhear-requires : goal.unhear-requires
 unhear-requires c = λ none. c.requires (ap (λ (v : View). v.claims.pending) (sym c.self.view_is) ∙ none)

@@ -1,8 +1,8 @@
 use Rattle.std.proofs.Common.{sym, rules}
 use Rattle.std.specs.BTreeMap.{get}
-use Rattle.escrow.specs.Tables.{digest_cmp}
-use Rattle.escrow.proofs.Lists.{inserted}
-use Rattle.escrow.proofs.digest_numbers.DigestNumbers.insert.Goals as goal
+use Rattle.escrow.specs.Escrow.Tables.{digest_cmp}
+use Rattle.escrow.proofs.EscrowLemmas.Lists.{inserted}
+use Rattle.escrow.proofs.escrow.digest_numbers.DigestNumbers.insert.Goals as goal
 
 pub returns-in-Some-get_mut : goal.returns-in-Some-get_mut
 returns-in-Some-get_mut c =

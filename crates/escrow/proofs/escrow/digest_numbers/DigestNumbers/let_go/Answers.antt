@@ -1,11 +1,11 @@
 use Rattle.std.proofs.Common.{◌≡◌, ◌≢◌, ℕ, Some, cond, List, [], ◌∷◌, length, refl, sym, ap, subst, ◌∙◌, inl, inr, None, arith, rules, tests}
 use Rattle.std.proofs.lemmas.Bool.{cases_Bool}
 use Rattle.std.specs.BTreeMap.{get}
-use Rattle.event_index.specs.Keys.{numbers_in}
-use Rattle.escrow.specs.Tables.{digest_cmp, digest_eq, numbers_at, room_in}
-use Rattle.escrow.proofs.Digests.{Decides-digest_eq}
-use Rattle.escrow.proofs.Lists.{others_stay}
-use Rattle.escrow.proofs.digest_numbers.DigestNumbers.let_go.Goals as goal
+use Rattle.escrow.specs.EventIndex.Keys.{numbers_in}
+use Rattle.escrow.specs.Escrow.Tables.{digest_cmp, digest_eq, numbers_at, room_in}
+use Rattle.escrow.proofs.EscrowLemmas.Digests.{Decides-digest_eq}
+use Rattle.escrow.proofs.EscrowLemmas.Lists.{others_stay}
+use Rattle.escrow.proofs.escrow.digest_numbers.DigestNumbers.let_go.Goals as goal
 
 none_of : (ks : List ℕ) → length ks ≡ 0 → ks ≡ []
 none_of [] e = refl

@@ -1,8 +1,8 @@
 use Rattle.std.proofs.Common.{sym, rules}
 use Rattle.std.specs.BTreeMap.{get}
-use Rattle.escrow.specs.Tables.{digest_cmp}
-use Rattle.escrow.proofs.Lists.{more_room, removed}
-use Rattle.escrow.proofs.digest_numbers.DigestNumbers.remove.Goals as goal
+use Rattle.escrow.specs.Escrow.Tables.{digest_cmp}
+use Rattle.escrow.proofs.EscrowLemmas.Lists.{more_room, removed}
+use Rattle.escrow.proofs.escrow.digest_numbers.DigestNumbers.remove.Goals as goal
 
 pub returns-in-Some-get_mut-clause-left : goal.returns-in-Some-get_mut-clause-left
 returns-in-Some-get_mut-clause-left c =

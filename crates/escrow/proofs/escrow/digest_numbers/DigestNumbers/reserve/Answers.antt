@@ -1,9 +1,9 @@
 use Rattle.std.proofs.Common.{◌≡◌, None, sym, ap, ◌∙◌, arith, rules}
 use Rattle.std.specs.BTreeMap.{get}
-use Rattle.event_index.specs.Keys.{numbers_in}
-use Rattle.escrow.specs.Tables.{digest_cmp, room_in}
-use Rattle.escrow.proofs.Lists.{more_room, no_less_room, none_more, same_list}
-use Rattle.escrow.proofs.digest_numbers.DigestNumbers.reserve.Goals as goal
+use Rattle.escrow.specs.EventIndex.Keys.{numbers_in}
+use Rattle.escrow.specs.Escrow.Tables.{digest_cmp, room_in}
+use Rattle.escrow.proofs.EscrowLemmas.Lists.{more_room, no_less_room, none_more, same_list}
+use Rattle.escrow.proofs.escrow.digest_numbers.DigestNumbers.reserve.Goals as goal
 
 pub returns-in-Some-get_mut-clause-same : goal.returns-in-Some-get_mut-clause-same
 returns-in-Some-get_mut-clause-same c =

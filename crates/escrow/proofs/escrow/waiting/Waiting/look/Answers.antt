@@ -1,7 +1,7 @@
 use Rattle.std.proofs.Common.{sym, ap, ◌∙◌}
-use Rattle.escrow.specs.Escrow.{held}
-use Rattle.escrow.proofs.Held.{get-entries}
-use Rattle.escrow.proofs.waiting.Waiting.look.Goals as goal
+use Rattle.escrow.specs.Escrow.Escrow.{held}
+use Rattle.escrow.proofs.EscrowLemmas.Held.{get-entries}
+use Rattle.escrow.proofs.escrow.waiting.Waiting.look.Goals as goal
 
 pub returns-clause-found : goal.returns-clause-found
 returns-clause-found c =

@@ -1,8 +1,8 @@
 use Rattle.std.proofs.Common.{◌≡◌, sym, ap, subst, ◌∙◌, nat_eq, Contains, Some}
 use Rattle.indexmap.specs.IndexMap.{get}
-use Rattle.escrow.specs.Escrow.{held}
-use Rattle.escrow.proofs.Held.{get-entries, some_of}
-use Rattle.escrow.proofs.waiting.Waiting.named.Goals as goal
+use Rattle.escrow.specs.Escrow.Escrow.{held}
+use Rattle.escrow.proofs.EscrowLemmas.Held.{get-entries, some_of}
+use Rattle.escrow.proofs.escrow.waiting.Waiting.named.Goals as goal
 
 pub returns-clause-those : goal.returns-clause-those
 returns-clause-those c = λ n.

@@ -2,12 +2,12 @@ use Rattle.std.proofs.Common.{◌≡◌, ℕ, List, [], None, Some, ap, ◌∙�
 use Rattle.std.specs.Prelude.{Contains, Option}
 use Rattle.std.specs.Map.{lookup}
 use Rattle.cesr_codes.specs.declared.digest.Digest.{Digest}
-use Rattle.escrow.specs.declared.waiter.Waiter.{Waiter}
-use Rattle.escrow.specs.Tables.{HasNumbers}
+use Rattle.escrow.specs.declared.escrow.waiter.Waiter.{Waiter}
+use Rattle.escrow.specs.Escrow.Tables.{HasNumbers}
 use Rattle.indexmap.specs.IndexMap as by_number
 use Rattle.std.specs.Ordering.{nat_cmp}
 use Rattle.std.specs.FinMap.{from_entries, get, get-empty}
-use Rattle.escrow.proofs.waiting.Waiting.new.Goals as goal
+use Rattle.escrow.proofs.escrow.waiting.Waiting.new.Goals as goal
 
 -- where no event waits, there are no numbers
 has-none : (key : Waiter → Option Digest) (at : ℕ → Option Waiter) (numbers : Digest → List ℕ) → ((n : ℕ) → at n ≡ None) → ((d : Digest) → numbers d ≡ []) → HasNumbers key at numbers

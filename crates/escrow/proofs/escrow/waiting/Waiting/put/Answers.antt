@@ -1,11 +1,11 @@
 use Rattle.std.proofs.Common.{◌≡◌, ◌<◌, ℕ, cond, sym, ap, subst, ◌∙◌, nat_eq, Some, None}
 use Rattle.std.specs.Prelude.{◌==◌}
 use Rattle.indexmap.specs.IndexMap.{get}
-use Rattle.escrow.specs.Escrow.{held, room_for}
-use Rattle.escrow.specs.Tables.{numbers_at, room_at}
-use Rattle.escrow.proofs.Held.{get-entries, held-changed, some_of}
-use Rattle.escrow.proofs.Tables.{has-with}
-use Rattle.escrow.proofs.waiting.Waiting.put.Goals as goal
+use Rattle.escrow.specs.Escrow.Escrow.{held, room_for}
+use Rattle.escrow.specs.Escrow.Tables.{numbers_at, room_at}
+use Rattle.escrow.proofs.EscrowLemmas.Held.{get-entries, held-changed, some_of}
+use Rattle.escrow.proofs.EscrowLemmas.Tables.{has-with}
+use Rattle.escrow.proofs.escrow.waiting.Waiting.put.Goals as goal
 
 pub insert-requires-clause-room : goal.insert-requires-clause-room
 insert-requires-clause-room c = (c.self.invariant.2 (room_for c.args.waiter) (ap (λ e. e.room) c.self.view_is ∙ c.requires.room)).1

@@ -2,11 +2,11 @@ use Rattle.std.proofs.Common.{◌≡◌, ◌<◌, ℕ, refl, ap, subst, nat_eq, 
 use Rattle.std.specs.Map.{lookup}
 use Rattle.std.specs.Option.{ForSome}
 use Rattle.indexmap.specs.IndexMap.{get, spare}
-use Rattle.escrow.specs.Escrow.{room_for}
-use Rattle.escrow.specs.Tables.{numbers_at, room_at}
-use Rattle.escrow.proofs.Held.{some_of}
-use Rattle.escrow.proofs.Tables.{has-same, room-kept}
-use Rattle.escrow.proofs.waiting.Waiting.reserve.Goals as goal
+use Rattle.escrow.specs.Escrow.Escrow.{room_for}
+use Rattle.escrow.specs.Escrow.Tables.{numbers_at, room_at}
+use Rattle.escrow.proofs.EscrowLemmas.Held.{some_of}
+use Rattle.escrow.proofs.EscrowLemmas.Tables.{has-same, room-kept}
+use Rattle.escrow.proofs.escrow.waiting.Waiting.reserve.Goals as goal
 
 pub invariant_of-self : goal.invariant_of-self
 invariant_of-self c =

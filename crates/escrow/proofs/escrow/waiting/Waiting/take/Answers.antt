@@ -2,11 +2,11 @@ use Rattle.std.proofs.Common.{◌≡◌, ℕ, cond, refl, sym, ap, ◌∙◌, na
 use Rattle.std.specs.Prelude.{◌==◌}
 use Rattle.std.specs.Map.{lookup}
 use Rattle.indexmap.specs.IndexMap.{get, spare}
-use Rattle.escrow.specs.Escrow.{held}
-use Rattle.escrow.specs.Tables.{numbers_at, room_at}
-use Rattle.escrow.proofs.Held.{get-entries, held-changed}
-use Rattle.escrow.proofs.Tables.{has-same, has-without, room-kept}
-use Rattle.escrow.proofs.waiting.Waiting.take.Goals as goal
+use Rattle.escrow.specs.Escrow.Escrow.{held}
+use Rattle.escrow.specs.Escrow.Tables.{numbers_at, room_at}
+use Rattle.escrow.proofs.EscrowLemmas.Held.{get-entries, held-changed}
+use Rattle.escrow.proofs.EscrowLemmas.Tables.{has-same, has-without, room-kept}
+use Rattle.escrow.proofs.escrow.waiting.Waiting.take.Goals as goal
 
 pub invariant_of-self : goal.invariant_of-self
 invariant_of-self c =

@@ -1,8 +1,8 @@
 use Rattle.std.proofs.Common.{◌≡◌, sym, ap, subst, ◌∙◌, nat_eq, Contains}
 use Rattle.indexmap.specs.IndexMap.{get}
-use Rattle.escrow.specs.Escrow.{held}
-use Rattle.escrow.proofs.Held.{get-entries}
-use Rattle.escrow.proofs.waiting.Waiting.woken_by.Goals as goal
+use Rattle.escrow.specs.Escrow.Escrow.{held}
+use Rattle.escrow.proofs.EscrowLemmas.Held.{get-entries}
+use Rattle.escrow.proofs.escrow.waiting.Waiting.woken_by.Goals as goal
 
 pub returns-clause-those : goal.returns-clause-those
 returns-clause-those c = λ n.

@@ -8,10 +8,10 @@ use Rattle.std.specs.Map.{lookup}
 use Rattle.std.proofs.lemmas.Cmp.{eq_by_cmp_equiv}
 use Rattle.std.proofs.lemmas.Result.{on_ok_weaker}
 use Rattle.std.proofs.lemmas.Bool.{cases_Bool}
-use Rattle.event_index.specs.Keys.{numbers_in}
-use Rattle.event_index.specs.Numbers.{Numbers}
-use Rattle.event_index.proofs.Lookups.{alike}
-use Rattle.event_index.proofs.index.Index.add.Goals as goal
+use Rattle.escrow.specs.EventIndex.Keys.{numbers_in}
+use Rattle.escrow.specs.EventIndex.Numbers.{Numbers}
+use Rattle.escrow.proofs.EventIndexLemmas.Lookups.{alike}
+use Rattle.escrow.proofs.event_index.index.Index.add.Goals as goal
 
 -- where a number of an entry stays in what is written there, it stays everywhere
 stays : {K : Type 0} {R : K → K → Ordering} → IsTotalOrder R → (old made new : List (K × Numbers)) (key : K) (written : Numbers) (n : ℕ) → new ≡ made

@@ -1,8 +1,8 @@
 use Rattle.std.proofs.Common.{◌≡◌, arith, ap, sym, subst, rules}
 use Rattle.std.specs.Prelude.{◌↔◌, ◌⊎◌, Contains, insert}
 use Rattle.std.proofs.lemmas.Grind.{elements}
-use Rattle.event_index.proofs.Orders.{Contains-insert}
-use Rattle.event_index.proofs.rising.Rising.insert.Goals as goal
+use Rattle.escrow.proofs.EventIndexLemmas.Orders.{Contains-insert}
+use Rattle.escrow.proofs.event_index.rising.Rising.insert.Goals as goal
 
 pub invariant_of-self : goal.invariant_of-self
 invariant_of-self c =

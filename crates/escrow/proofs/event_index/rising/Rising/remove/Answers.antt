@@ -5,8 +5,8 @@ use Rattle.std.proofs.lemmas.Bool.{cases_Bool}
 use Rattle.std.proofs.lemmas.Bool.Decides.{Decides-eqb}
 use Rattle.arrayvec.proofs.ArrayVecLemmas.{filter-from_retain}
 use Rattle.std.proofs.lemmas.List.Kept.{IsStrictlyIncreasing-filter}
-use Rattle.event_index.proofs.Orders.{Contains-filter}
-use Rattle.event_index.proofs.rising.Rising.remove.Goals as goal
+use Rattle.escrow.proofs.EventIndexLemmas.Orders.{Contains-filter}
+use Rattle.escrow.proofs.event_index.rising.Rising.remove.Goals as goal
 
 pub invariant_of-self : goal.invariant_of-self
 invariant_of-self c =

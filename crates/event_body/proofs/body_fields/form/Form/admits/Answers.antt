@@ -1,7 +1,7 @@
 use Rattle.std.proofs.Common.{refl}
 use Rattle.cesr_codes.specs.Spelling.{digest_text, key_text, IsDigest, IsKey}
-use Rattle.body_fields.proofs.Lists.{through, held_there, held_back, fixed_there, fixed_back, strings_there, strings_back, values_there}
-use Rattle.body_fields.proofs.form.Form.admits.Goals as goal
+use Rattle.event_body.proofs.BodyFieldsLemmas.Lists.{through, held_there, held_back, fixed_there, fixed_back, strings_there, strings_back, values_there}
+use Rattle.event_body.proofs.body_fields.form.Form.admits.Goals as goal
 
 pub returns-in-Keys : goal.returns-in-Keys
 returns-in-Keys c = rw c.in-Keys.is (through _ c.is_list_of.ensures (held_there key_text IsKey _) (held_back key_text IsKey _))

@@ -1,8 +1,8 @@
 use Rattle.std.specs.Option.{option_copied}
 use Rattle.key_state.specs.Exposure.{own_rules}
-use Rattle.event_rules.specs.Parts.{index, reveal, backer}
-use Rattle.event_rules.proofs.Added.{place_is}
-use Rattle.event_rules.proofs.additions.Additions.of.Goals as goal
+use Rattle.journal.specs.EventRules.Parts.{index, reveal, backer}
+use Rattle.journal.proofs.EventRulesLemmas.Added.{place_is}
+use Rattle.journal.proofs.event_rules.additions.Additions.of.Goals as goal
 
 pub returns : goal.returns
 returns c once (index n) = c.index_of.ensures n

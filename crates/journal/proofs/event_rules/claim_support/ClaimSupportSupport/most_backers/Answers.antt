@@ -2,9 +2,9 @@ use Rattle.std.proofs.Common.{◌≤◌, filter, length, sym, subst}
 use Rattle.std.specs.Prelude.{slice_get}
 use Rattle.std.specs.Option.{option_copied}
 use Rattle.key_state.specs.Exposure.{own_rules, numbers_below}
-use Rattle.event_rules.specs.Claims.{is_so}
-use Rattle.event_rules.proofs.Filters.{few_passing, named_within}
-use Rattle.event_rules.proofs.claim_support.ClaimSupportSupport.most_backers.Goals as goal
+use Rattle.journal.specs.EventRules.Claims.{is_so}
+use Rattle.journal.proofs.EventRulesLemmas.Filters.{few_passing, named_within}
+use Rattle.journal.proofs.event_rules.claim_support.ClaimSupportSupport.most_backers.Goals as goal
 
 pub returns : goal.returns
 returns g c =

@@ -2,9 +2,9 @@ use Rattle.std.proofs.Common.{◌++◌, ◌∷◌, [], Option, ℕ, cond, true, 
 use Rattle.std.specs.BTreeMap.{is_at}
 use Rattle.std.specs.BTreeSet.{contains}
 use Rattle.std.proofs.lemmas.Bool.{not-false, not-true}
-use Rattle.event_payload.specs.Holding.{part_cmp}
-use Rattle.event_payload.proofs.Adding.{held_new, held_old, pushed}
-use Rattle.event_payload.proofs.kept.Kept.add.Goals as goal
+use Rattle.journal_views.specs.EventPayload.Holding.{part_cmp}
+use Rattle.journal_views.proofs.EventPayloadLemmas.Adding.{held_new, held_old, pushed}
+use Rattle.journal_views.proofs.event_payload.kept.Kept.add.Goals as goal
 
 pub returns-then-branch-clause-kept : goal.returns-then-branch-clause-kept
 returns-then-branch-clause-kept c = λ s e came is held.

@@ -1,7 +1,7 @@
 use Rattle.std.proofs.Common.{[], sym, ◌∙◌, refl, rules}
-use Rattle.export_core.proofs.Cores.{export_alike}
-use Rattle.core_roles.proofs.OverCore.{none_out, ok_then}
-use Rattle.core_roles.proofs.export.ExportCoreText.text_of.Goals as goal
+use Rattle.export_core.proofs.ExportCoreLemmas.Cores.{export_alike}
+use Rattle.keri_roles.proofs.CoreRolesLemmas.OverCore.{none_out, ok_then}
+use Rattle.keri_roles.proofs.core_roles.export.ExportCoreText.text_of.Goals as goal
 
 pub returns-in-Some : goal.returns-in-Some
 returns-in-Some g c = (

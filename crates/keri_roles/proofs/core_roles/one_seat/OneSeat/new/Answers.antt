@@ -1,7 +1,7 @@
 use Rattle.std.proofs.Common.{◌≡◌, [], ap}
-use Rattle.validator_core.specs.View.{told_of}
-use Rattle.core_roles.proofs.CoreTold.{untold}
-use Rattle.core_roles.proofs.one_seat.OneSeat.new.Goals as goal
+use Rattle.validator_core.specs.ValidatorCore.View.{told_of}
+use Rattle.keri_roles.proofs.CoreRolesLemmas.CoreTold.{untold}
+use Rattle.keri_roles.proofs.core_roles.one_seat.OneSeat.new.Goals as goal
 
 pub new-requires-clause-untold : goal.new-requires-clause-untold
 new-requires-clause-untold g c =

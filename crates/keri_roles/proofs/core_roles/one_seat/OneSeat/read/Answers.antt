@@ -1,6 +1,6 @@
 use Rattle.std.proofs.Common.{◌≡◌, ◌∷◌, [], length, ap, ◌∙◌, arith, rules}
-use Rattle.core_roles.proofs.OverCore.{only_one}
-use Rattle.core_roles.proofs.one_seat.OneSeat.read.Goals as goal
+use Rattle.keri_roles.proofs.CoreRolesLemmas.OverCore.{only_one}
+use Rattle.keri_roles.proofs.core_roles.one_seat.OneSeat.read.Goals as goal
 
 pub remove-reader-requires : goal.remove-reader-requires
 remove-reader-requires g c =

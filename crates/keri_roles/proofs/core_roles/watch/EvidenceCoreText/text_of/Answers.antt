@@ -1,6 +1,6 @@
 use Rattle.std.proofs.Common.{sym, ◌∙◌, rules}
-use Rattle.core_roles.proofs.OverCore.{none_out}
-use Rattle.core_roles.proofs.watch.EvidenceCoreText.text_of.Goals as goal
+use Rattle.keri_roles.proofs.CoreRolesLemmas.OverCore.{none_out}
+use Rattle.keri_roles.proofs.core_roles.watch.EvidenceCoreText.text_of.Goals as goal
 
 pub returns : goal.returns
 returns g c = (

@@ -1,9 +1,9 @@
 use Rattle.std.proofs.Common.{◌++◌, sym, subst}
-use Rattle.run_status.specs.Readers.{sink_seen}
-use Rattle.run_status.specs.Settling.{Puts}
+use Rattle.run_status.specs.RunStatus.Readers.{sink_seen}
+use Rattle.run_status.specs.RunStatus.Settling.{Puts}
 use Rattle.cesr_binary.specs.Wire.{item_in}
-use Rattle.item_conversion.proofs.Steps.{put_on, put_no_more}
-use Rattle.item_conversion.proofs.converter.Converter.write.Goals as goal
+use Rattle.keri_roles.proofs.ItemConversionLemmas.Steps.{put_on, put_no_more}
+use Rattle.keri_roles.proofs.item_conversion.converter.Converter.write.Goals as goal
 
 pub returns-then-not-self-clause-puts : goal.returns-then-not-self-clause-puts
 returns-then-not-self-clause-puts g c = λ first text put.

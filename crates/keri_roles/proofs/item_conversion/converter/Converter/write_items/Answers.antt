@@ -1,10 +1,10 @@
 use Rattle.std.proofs.Common.{ap, arith, length}
-use Rattle.run_status.specs.Readers.{sink_seen}
+use Rattle.run_status.specs.RunStatus.Readers.{sink_seen}
 use Rattle.cesr_binary.specs.MixedAnswers.{AnswersItem}
 use Rattle.cesr_binary.proofs.MixedFed.{fewer_held}
-use Rattle.item_conversion.specs.Progress.{progress}
-use Rattle.item_conversion.proofs.Steps.{goes_further, good_still}
-use Rattle.item_conversion.proofs.converter.Converter.write_items.Goals as goal
+use Rattle.keri_roles.specs.ItemConversion.Progress.{progress}
+use Rattle.keri_roles.proofs.ItemConversionLemmas.Steps.{goes_further, good_still}
+use Rattle.keri_roles.proofs.item_conversion.converter.Converter.write_items.Goals as goal
 
 pub loop-bad-smaller : goal.loop-bad-smaller
 loop-bad-smaller g c =

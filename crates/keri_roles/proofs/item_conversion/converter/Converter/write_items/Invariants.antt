@@ -1,7 +1,7 @@
 use Rattle.std.proofs.Common.{◌≡◌, None, length}
-use Rattle.run_status.specs.Readers.{sink_seen}
-use Rattle.item_conversion.specs.Progress.{GoesOn, progress}
-use Rattle.item_conversion.proofs.converter.Converter.write_items.Given as goal
+use Rattle.run_status.specs.RunStatus.Readers.{sink_seen}
+use Rattle.keri_roles.specs.ItemConversion.Progress.{GoesOn, progress}
+use Rattle.keri_roles.proofs.item_conversion.converter.Converter.write_items.Given as goal
 
 -- the items so far were put
 abbrev pub invariant-loop-bad : goal.invariant-loop-bad

@@ -1,6 +1,6 @@
 use Rattle.std.specs.Prelude.{string_bytes}
-use Rattle.keri_roles.specs.MessageLines.{one}
-use Rattle.keri_roles.proofs.checker.Checker.add_line.Goals as goal
+use Rattle.keri_roles.specs.KeriRoles.MessageLines.{one}
+use Rattle.keri_roles.proofs.keri_roles.checker.Checker.add_line.Goals as goal
 
 pub returns : goal.returns
 returns c before answered = rw (c.in_ok-push_str.ensures.bytes, c.as_str.ensures.value, c.in_ok-note.ensures)

@@ -1,5 +1,5 @@
 use Rattle.std.proofs.Common.{◌≡◌, take}
-use Rattle.lists.proofs.items.ItemsCopyValue.copy.Given as goal
+use Rattle.lists.proofs.lists.items.ItemsCopyValue.copy.Given as goal
 
 -- the values so far are copied
 abbrev pub invariant-loop-item : goal.invariant-loop-item

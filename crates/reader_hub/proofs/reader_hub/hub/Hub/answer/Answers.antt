@@ -1,11 +1,11 @@
 use Rattle.std.proofs.Common.{rules, ◌≡◌, [], subst}
 use Rattle.std.specs.Prelude.{slice_get}
-use Rattle.journal.specs.History.{bodies}
-use Rattle.journal.specs.Journals.{AnswersOn}
-use Rattle.validator_core.specs.View.{told_of}
+use Rattle.journal.specs.Journal.History.{bodies}
+use Rattle.journal.specs.Journal.Journals.{AnswersOn}
+use Rattle.validator_core.specs.ValidatorCore.View.{told_of}
 use Rattle.turn_lock.specs.Locks.{known}
-use Rattle.reader_hub.proofs.Turns.{meets, stops, took_turn}
-use Rattle.reader_hub.proofs.hub.Hub.answer.Goals as goal
+use Rattle.reader_hub.proofs.ReaderHubLemmas.Turns.{meets, stops, took_turn}
+use Rattle.reader_hub.proofs.reader_hub.hub.Hub.answer.Goals as goal
 
 pub returns-in-Ok-Ok-clause-answers : goal.returns-in-Ok-Ok-clause-answers
 returns-in-Ok-Ok-clause-answers g c =

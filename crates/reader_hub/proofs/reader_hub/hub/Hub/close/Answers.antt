@@ -2,14 +2,14 @@ use Rattle.std.proofs.Common.{rules, map, subst, arith}
 use Rattle.std.specs.List.{AllByRecursion}
 use Rattle.std.proofs.lemmas.List.{nil_from_length}
 use Rattle.std.specs.Vec.Iter.{into_iter_items}
-use Rattle.journal.specs.Feeds.{reader_of}
-use Rattle.validator_core.specs.View.{told_of}
+use Rattle.journal.specs.Journal.Feeds.{reader_of}
+use Rattle.validator_core.specs.ValidatorCore.View.{told_of}
 use Rattle.turn_lock.specs.Locks.{IsPassOf, known}
-use Rattle.reader_hub.specs.Closing.{AreJoined}
-use Rattle.reader_hub.specs.Hubs.{head_of}
-use Rattle.reader_hub.specs.declared.shared_core.SharedCore.{SharedCore}
-use Rattle.reader_hub.proofs.Joins.{joined_on, joined_whole, closes_all}
-use Rattle.reader_hub.proofs.hub.Hub.close.Goals as goal
+use Rattle.reader_hub.specs.ReaderHub.Closing.{AreJoined}
+use Rattle.reader_hub.specs.ReaderHub.Hubs.{head_of}
+use Rattle.reader_hub.specs.declared.reader_hub.shared_core.SharedCore.{SharedCore}
+use Rattle.reader_hub.proofs.ReaderHubLemmas.Joins.{joined_on, joined_whole, closes_all}
+use Rattle.reader_hub.proofs.reader_hub.hub.Hub.close.Goals as goal
 
 pub loop-other-preserved : goal.loop-other-preserved
 loop-other-preserved c =

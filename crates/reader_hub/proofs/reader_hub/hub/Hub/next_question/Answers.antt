@@ -1,10 +1,10 @@
 use Rattle.std.proofs.Common.{rules, of_calls, ◌≡◌}
-use Rattle.validator_core.specs.View.{told_of}
+use Rattle.validator_core.specs.ValidatorCore.View.{told_of}
 use Rattle.turn_lock.specs.Locks.{known}
-use Rattle.reader_hub.specs.Hubs.{IsAsked, head_of}
-use Rattle.reader_hub.proofs.Appending.{none}
-use Rattle.reader_hub.proofs.Turns.{meets, stops, took_nothing}
-use Rattle.reader_hub.proofs.hub.Hub.next_question.Goals as goal
+use Rattle.reader_hub.specs.ReaderHub.Hubs.{IsAsked, head_of}
+use Rattle.reader_hub.proofs.ReaderHubLemmas.Appending.{none}
+use Rattle.reader_hub.proofs.ReaderHubLemmas.Turns.{meets, stops, took_nothing}
+use Rattle.reader_hub.proofs.reader_hub.hub.Hub.next_question.Goals as goal
 
 pub with_turn-requires-clause-act : goal.with_turn-requires-clause-act
 with_turn-requires-clause-act g c = λ x meets. (

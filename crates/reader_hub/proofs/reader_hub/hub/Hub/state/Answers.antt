@@ -1,7 +1,7 @@
 use Rattle.std.proofs.Common.{rules, ◌≡◌}
-use Rattle.validator_core.specs.View.{told_of}
-use Rattle.reader_hub.proofs.Turns.{meets, stops, took_nothing}
-use Rattle.reader_hub.proofs.hub.Hub.state.Goals as goal
+use Rattle.validator_core.specs.ValidatorCore.View.{told_of}
+use Rattle.reader_hub.proofs.ReaderHubLemmas.Turns.{meets, stops, took_nothing}
+use Rattle.reader_hub.proofs.reader_hub.hub.Hub.state.Goals as goal
 
 pub returns-in-Ok-Ok-clause-state : goal.returns-in-Ok-Ok-clause-state
 returns-in-Ok-Ok-clause-state g c =

@@ -1,11 +1,11 @@
 use Rattle.std.proofs.Common.{rules, of_calls, ◌≡◌, subst}
 use Rattle.std.specs.Prelude.{IfOk, OnErr}
-use Rattle.validator_core.specs.View.{told_of}
+use Rattle.validator_core.specs.ValidatorCore.View.{told_of}
 use Rattle.turn_lock.specs.Locks.{known}
-use Rattle.reader_hub.specs.Hubs.{TakesOver, head_of}
-use Rattle.reader_hub.proofs.Appending.{take_appends}
-use Rattle.reader_hub.proofs.Turns.{meets, stops, took_turn}
-use Rattle.reader_hub.proofs.hub.Hub.take.Goals as goal
+use Rattle.reader_hub.specs.ReaderHub.Hubs.{TakesOver, head_of}
+use Rattle.reader_hub.proofs.ReaderHubLemmas.Appending.{take_appends}
+use Rattle.reader_hub.proofs.ReaderHubLemmas.Turns.{meets, stops, took_turn}
+use Rattle.reader_hub.proofs.reader_hub.hub.Hub.take.Goals as goal
 
 pub with_turn-requires-clause-act : goal.with_turn-requires-clause-act
 with_turn-requires-clause-act g c = λ x meets. (

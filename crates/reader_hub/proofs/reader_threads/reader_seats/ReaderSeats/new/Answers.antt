@@ -1,6 +1,6 @@
 use Rattle.std.proofs.Common.{◌≡◌, ◌-◌, [], ◌∷◌, length, Some, sym, refl, ap, ◌∙◌, arith}
-use Rattle.reader_hub.specs.Hubs.{HubPass, head_of}
-use Rattle.reader_threads.proofs.reader_seats.ReaderSeats.new.Goals as goal
+use Rattle.reader_hub.specs.ReaderHub.Hubs.{HubPass, head_of}
+use Rattle.reader_hub.proofs.reader_threads.reader_seats.ReaderSeats.new.Goals as goal
 
 pub returns : goal.returns
 returns g c =

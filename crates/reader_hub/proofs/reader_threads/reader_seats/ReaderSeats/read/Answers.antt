@@ -1,15 +1,15 @@
 use Rattle.std.proofs.Common.{◌≡◌, length, map, sym, ap, ◌∙◌, subst, arith}
 use Rattle.std.proofs.lemmas.List.{length-map}
-use Rattle.run_status.specs.Readers.{reader_seen}
-use Rattle.validator_core.specs.View.{told_of}
-use Rattle.journal.specs.Questions.{IsInStep}
-use Rattle.reader_threads.specs.Given.{given_by}
-use Rattle.reader_threads.specs.LastRound.{AsksRest}
-use Rattle.reader_threads.specs.Seats.{mode_of}
-use Rattle.reader_threads.specs.Told.{AllTold}
-use Rattle.reader_threads.proofs.Ended.{same_count, written_back}
-use Rattle.reader_threads.proofs.Rest.{all_told}
-use Rattle.reader_threads.proofs.reader_seats.ReaderSeats.read.Goals as goal
+use Rattle.run_status.specs.RunStatus.Readers.{reader_seen}
+use Rattle.validator_core.specs.ValidatorCore.View.{told_of}
+use Rattle.journal.specs.Journal.Questions.{IsInStep}
+use Rattle.reader_hub.specs.ReaderThreads.Given.{given_by}
+use Rattle.reader_hub.specs.ReaderThreads.LastRound.{AsksRest}
+use Rattle.reader_hub.specs.ReaderThreads.Seats.{mode_of}
+use Rattle.reader_hub.specs.ReaderThreads.Told.{AllTold}
+use Rattle.reader_hub.proofs.ReaderThreadsLemmas.Ended.{same_count, written_back}
+use Rattle.reader_hub.proofs.ReaderThreadsLemmas.Rest.{all_told}
+use Rattle.reader_hub.proofs.reader_threads.reader_seats.ReaderSeats.read.Goals as goal
 
 pub ask_rest-rest-requires : goal.ask_rest-rest-requires
 ask_rest-rest-requires g c =

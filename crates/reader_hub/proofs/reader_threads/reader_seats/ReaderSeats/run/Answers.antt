@@ -1,15 +1,15 @@
 use Rattle.std.proofs.Common.{◌≡◌, ◌<◌, ◌∷◌, length, map, sym, subst, ap, ◌∙◌, arith}
-use Rattle.reader_hub.specs.Hubs.{head_of}
-use Rattle.run_status.specs.Readers.{reader_seen}
-use Rattle.validator_core.specs.View.{told_of}
-use Rattle.reader_threads.specs.Fed.{AllRead}
-use Rattle.reader_threads.specs.Given.{given_by}
-use Rattle.reader_threads.specs.declared.job.Job.{Job}
-use Rattle.reader_threads.specs.declared.last_round.LastRound.TheVariants.{NoneFailed}
-use Rattle.reader_threads.specs.Asked.{EachAsksOnly}
-use Rattle.reader_threads.proofs.Ended.{alone_in_step, are_all, head_stays, pass_fits, passes_fit, what_was_asked, what_was_read}
-use Rattle.reader_threads.proofs.Seats.{ready_count, ready_seats, seats_fit, taken_first}
-use Rattle.reader_threads.proofs.reader_seats.ReaderSeats.run.Goals as goal
+use Rattle.reader_hub.specs.ReaderHub.Hubs.{head_of}
+use Rattle.run_status.specs.RunStatus.Readers.{reader_seen}
+use Rattle.validator_core.specs.ValidatorCore.View.{told_of}
+use Rattle.reader_hub.specs.ReaderThreads.Fed.{AllRead}
+use Rattle.reader_hub.specs.ReaderThreads.Given.{given_by}
+use Rattle.reader_hub.specs.declared.reader_threads.job.Job.{Job}
+use Rattle.reader_hub.specs.declared.reader_threads.last_round.LastRound.TheVariants.{NoneFailed}
+use Rattle.reader_hub.specs.ReaderThreads.Asked.{EachAsksOnly}
+use Rattle.reader_hub.proofs.ReaderThreadsLemmas.Ended.{alone_in_step, are_all, head_stays, pass_fits, passes_fit, what_was_asked, what_was_read}
+use Rattle.reader_hub.proofs.ReaderThreadsLemmas.Seats.{ready_count, ready_seats, seats_fit, taken_first}
+use Rattle.reader_hub.proofs.reader_threads.reader_seats.ReaderSeats.run.Goals as goal
 
 pub remove-requires : goal.remove-requires
 remove-requires g c =

@@ -1,8 +1,8 @@
 use Rattle.std.proofs.Common.{sym, subst}
-use Rattle.shared_reader.specs.Taken.{Finishes, TakesLast}
-use Rattle.shared_reader.specs.Takers.{standing_of}
-use Rattle.shared_reader.proofs.hub_taker.HubTaker.finish.Goals as goal
-use Rattle.shared_reader.proofs.hub_taker.HubTaker.finish.Goals.{in-End, in-Bad, in-ReadFault}
+use Rattle.reader_hub.specs.SharedReader.Taken.{Finishes, TakesLast}
+use Rattle.reader_hub.specs.SharedReader.Takers.{standing_of}
+use Rattle.reader_hub.proofs.shared_reader.hub_taker.HubTaker.finish.Goals as goal
+use Rattle.reader_hub.proofs.shared_reader.hub_taker.HubTaker.finish.Goals.{in-End, in-Bad, in-ReadFault}
 
 pub returns : goal.returns
 returns g c =

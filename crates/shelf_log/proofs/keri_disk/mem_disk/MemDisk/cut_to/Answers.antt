@@ -1,7 +1,7 @@
 use Rattle.std.proofs.Common.{◌∙◌}
-use Rattle.keri_disk.specs.declared.disk_call.DiskCall.TheVariants.{CutTo}
-use Rattle.keri_disk.proofs.Replays.{replayed}
-use Rattle.keri_disk.proofs.mem_disk.MemDisk.cut_to.Goals as goal
+use Rattle.shelf_log.specs.declared.keri_disk.disk_call.DiskCall.TheVariants.{CutTo}
+use Rattle.shelf_log.proofs.KeriDiskLemmas.Replays.{replayed}
+use Rattle.shelf_log.proofs.keri_disk.mem_disk.MemDisk.cut_to.Goals as goal
 
 pub invariant_of-self : goal.invariant_of-self
 invariant_of-self c =

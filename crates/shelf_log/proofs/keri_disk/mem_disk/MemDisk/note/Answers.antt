@@ -1,5 +1,5 @@
-use Rattle.keri_disk.proofs.Replays.{replayed_still}
-use Rattle.keri_disk.proofs.mem_disk.MemDisk.note.Goals as goal
+use Rattle.shelf_log.proofs.KeriDiskLemmas.Replays.{replayed_still}
+use Rattle.shelf_log.proofs.keri_disk.mem_disk.MemDisk.note.Goals as goal
 
 pub invariant_of-self : goal.invariant_of-self
 invariant_of-self c =

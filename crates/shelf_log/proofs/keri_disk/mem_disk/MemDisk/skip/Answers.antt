@@ -1,7 +1,7 @@
 use Rattle.std.proofs.Common.{[], ◌∷◌}
-use Rattle.keri_disk.specs.declared.disk_call.DiskCall.TheVariants.{Kept}
-use Rattle.keri_disk.proofs.Steps.{Did-then, keeps_kept}
-use Rattle.keri_disk.proofs.mem_disk.MemDisk.skip.Goals as goal
+use Rattle.shelf_log.specs.declared.keri_disk.disk_call.DiskCall.TheVariants.{Kept}
+use Rattle.shelf_log.proofs.KeriDiskLemmas.Steps.{Did-then, keeps_kept}
+use Rattle.shelf_log.proofs.keri_disk.mem_disk.MemDisk.skip.Goals as goal
 
 pub returns-in-Ok-clause-keeps : goal.returns-in-Ok-clause-keeps
 returns-in-Ok-clause-keeps c =

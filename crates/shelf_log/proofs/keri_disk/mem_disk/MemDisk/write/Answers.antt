@@ -1,8 +1,8 @@
 use Rattle.std.proofs.Common.{◌≡◌, sym, ◌∙◌}
-use Rattle.keri_disk.specs.Images.{overwritten}
-use Rattle.keri_disk.specs.declared.disk_call.DiskCall.TheVariants.{Wrote}
-use Rattle.keri_disk.proofs.Replays.{replayed}
-use Rattle.keri_disk.proofs.mem_disk.MemDisk.write.Goals as goal
+use Rattle.shelf_log.specs.KeriDisk.Images.{overwritten}
+use Rattle.shelf_log.specs.declared.keri_disk.disk_call.DiskCall.TheVariants.{Wrote}
+use Rattle.shelf_log.proofs.KeriDiskLemmas.Replays.{replayed}
+use Rattle.shelf_log.proofs.keri_disk.mem_disk.MemDisk.write.Goals as goal
 
 pub invariant_of-self : goal.invariant_of-self
 invariant_of-self c =

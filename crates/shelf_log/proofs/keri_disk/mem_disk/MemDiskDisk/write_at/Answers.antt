@@ -1,8 +1,8 @@
 use Rattle.std.proofs.Common.{List, ℕ, ◌/◌, length, arith, length-take}
-use Rattle.keri_disk.specs.Images.{overwritten}
-use Rattle.keri_disk.specs.declared.disk_call.DiskCall.TheVariants.{Wrote}
-use Rattle.keri_disk.proofs.Steps.{Did-then, changes, changes_part}
-use Rattle.keri_disk.proofs.mem_disk.MemDiskDisk.write_at.Goals as goal
+use Rattle.shelf_log.specs.KeriDisk.Images.{overwritten}
+use Rattle.shelf_log.specs.declared.keri_disk.disk_call.DiskCall.TheVariants.{Wrote}
+use Rattle.shelf_log.proofs.KeriDiskLemmas.Steps.{Did-then, changes, changes_part}
+use Rattle.shelf_log.proofs.keri_disk.mem_disk.MemDiskDisk.write_at.Goals as goal
 
 -- the first half
 pub returns-then-next_fails-clause-written : goal.returns-then-next_fails-clause-written

@@ -1,10 +1,10 @@
 use Rattle.std.proofs.Common.{◌≡◌, ℕ, ◌+◌, List, [], ◌∷◌, ◌++◌, take, sym, ◌∙◌, ap, subst, arith}
 use Rattle.std.proofs.lemmas.List.{take_more}
-use Rattle.keri_disk.specs.Replay.{IsLeftBy, IsLeftByAll}
-use Rattle.keri_disk.specs.Shapes.{image_after, image_of}
-use Rattle.keri_disk.specs.declared.disk_call.DiskCall.{DiskCall}
-use Rattle.keri_disk.proofs.Replays.{replayed, image_of-push, IsLeftByAll-push}
-use Rattle.keri_disk.proofs.replay.Replay.of.Goals as goal
+use Rattle.shelf_log.specs.KeriDisk.Replay.{IsLeftBy, IsLeftByAll}
+use Rattle.shelf_log.specs.KeriDisk.Shapes.{image_after, image_of}
+use Rattle.shelf_log.specs.declared.keri_disk.disk_call.DiskCall.{DiskCall}
+use Rattle.shelf_log.proofs.KeriDiskLemmas.Replays.{replayed, image_of-push, IsLeftByAll-push}
+use Rattle.shelf_log.proofs.keri_disk.replay.Replay.of.Goals as goal
 
 pub loop-call-preserved : goal.loop-call-preserved
 loop-call-preserved c =

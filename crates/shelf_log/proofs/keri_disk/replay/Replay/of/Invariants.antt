@@ -1,8 +1,8 @@
 use Rattle.std.proofs.Common.{◌≡◌, take}
-use Rattle.keri_disk.specs.Replay.{file_of, IsLeftByAll}
-use Rattle.keri_disk.specs.Shapes.{image_of}
-use Rattle.keri_disk.specs.declared.shape.Shape.TheVariants.{Whole}
-use Rattle.keri_disk.proofs.replay.Replay.of.Given as goal
+use Rattle.shelf_log.specs.KeriDisk.Replay.{file_of, IsLeftByAll}
+use Rattle.shelf_log.specs.KeriDisk.Shapes.{image_of}
+use Rattle.shelf_log.specs.declared.keri_disk.shape.Shape.TheVariants.{Whole}
+use Rattle.shelf_log.proofs.keri_disk.replay.Replay.of.Given as goal
 
 -- the calls so far are done again
 abbrev pub invariant-loop-call : goal.invariant-loop-call

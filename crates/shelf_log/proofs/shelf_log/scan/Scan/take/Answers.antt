@@ -1,6 +1,6 @@
 use Rattle.std.proofs.Common.{ℕ, List, ◌++◌, ◌∷◌, [], refl, sym, ◌∙◌, ap}
-use Rattle.shelf_log.proofs.ScanSteps.{over_read, kept_read}
-use Rattle.shelf_log.proofs.scan.Scan.take.Goals as goal
+use Rattle.shelf_log.proofs.ShelfLogLemmas.ScanSteps.{over_read, kept_read}
+use Rattle.shelf_log.proofs.shelf_log.scan.Scan.take.Goals as goal
 
 pub returns-then-is_past-clause-read : goal.returns-then-is_past-clause-read
 returns-then-is_past-clause-read c payloads read =

@@ -1,7 +1,7 @@
 use Rattle.std.proofs.Common.{List, ℕ, sym, subst}
-use Rattle.shelf_log.specs.Scans.{GoesThrough}
-use Rattle.shelf_log.proofs.ScanSteps.{behind_record, one_through}
-use Rattle.shelf_log.proofs.scan.Scan.take_window.Goals as goal
+use Rattle.shelf_log.specs.ShelfLog.Scans.{GoesThrough}
+use Rattle.shelf_log.proofs.ShelfLogLemmas.ScanSteps.{behind_record, one_through}
+use Rattle.shelf_log.proofs.shelf_log.scan.Scan.take_window.Goals as goal
 
 pub loop-payload-preserved : goal.loop-payload-preserved
 loop-payload-preserved c =

@@ -1,6 +1,6 @@
 use Rattle.std.proofs.Common.{length}
-use Rattle.shelf_log.specs.Scans.{GoesThrough}
-use Rattle.shelf_log.proofs.scan.Scan.take_window.Given as goal
+use Rattle.shelf_log.specs.ShelfLog.Scans.{GoesThrough}
+use Rattle.shelf_log.proofs.shelf_log.scan.Scan.take_window.Given as goal
 
 abbrev pub invariant-loop-payload : goal.invariant-loop-payload
 invariant-loop-payload l = GoesThrough l.window l.rest l.initial.self l.self

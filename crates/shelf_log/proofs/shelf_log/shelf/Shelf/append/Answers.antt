@@ -1,10 +1,10 @@
 use Rattle.std.proofs.Common.{ℕ, List, [], ◌∷◌, length, length-append, sym, ◌∙◌, ap, subst, arith}
 use Rattle.std.proofs.lemmas.Bool.Decides.{nat_tests}
-use Rattle.shelf_log.specs.Format.{shelf_front}
-use Rattle.shelf_log.specs.Settled.{IsSettled}
-use Rattle.shelf_log.specs.declared.version.Version.TheVariants.{Two}
-use Rattle.shelf_log.proofs.Files.{length-front-push}
-use Rattle.shelf_log.proofs.shelf.Shelf.append.Goals as goal
+use Rattle.shelf_log.specs.ShelfLog.Format.{shelf_front}
+use Rattle.shelf_log.specs.ShelfLog.Settled.{IsSettled}
+use Rattle.shelf_log.specs.declared.shelf_log.version.Version.TheVariants.{Two}
+use Rattle.shelf_log.proofs.ShelfLogLemmas.Files.{length-front-push}
+use Rattle.shelf_log.proofs.shelf_log.shelf.Shelf.append.Goals as goal
 
 pub invariant_of-self : goal.invariant_of-self
 invariant_of-self g c =

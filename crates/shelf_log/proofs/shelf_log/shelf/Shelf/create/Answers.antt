@@ -1,9 +1,9 @@
 use Rattle.std.proofs.Common.{ap, length, sym, subst, arith}
-use Rattle.keri_disk.specs.Images.{LeavesOnly}
-use Rattle.shelf_log.specs.Settled.{IsUnfinished}
-use Rattle.shelf_log.proofs.Emptied.{torn_empty}
-use Rattle.keri_disk.proofs.Moments.{weaker}
-use Rattle.shelf_log.proofs.shelf.Shelf.create.Goals as goal
+use Rattle.shelf_log.specs.KeriDisk.Images.{LeavesOnly}
+use Rattle.shelf_log.specs.ShelfLog.Settled.{IsUnfinished}
+use Rattle.shelf_log.proofs.ShelfLogLemmas.Emptied.{torn_empty}
+use Rattle.shelf_log.proofs.KeriDiskLemmas.Moments.{weaker}
+use Rattle.shelf_log.proofs.shelf_log.shelf.Shelf.create.Goals as goal
 
 pub returns-in-Ok-clause-moments : goal.returns-in-Ok-clause-moments
 returns-in-Ok-clause-moments g c =

@@ -1,9 +1,9 @@
 use Rattle.std.proofs.Common.{◌∙◌, sym}
 use Rattle.std.specs.Prelude.{slice_get}
 use Rattle.std.specs.Option.{option_copied}
-use Rattle.acceptance.specs.Entries.{claims_there, is_signed_at}
-use Rattle.acceptance.proofs.Claims.{any_flat}
-use Rattle.acceptance.proofs.entry_support.EntrySupportSupport.has_index.Goals as goal
+use Rattle.validator_core.specs.Acceptance.Entries.{claims_there, is_signed_at}
+use Rattle.validator_core.proofs.AcceptanceLemmas.Claims.{any_flat}
+use Rattle.validator_core.proofs.acceptance.entry_support.EntrySupportSupport.has_index.Goals as goal
 
 pub returns : goal.returns
 returns c =

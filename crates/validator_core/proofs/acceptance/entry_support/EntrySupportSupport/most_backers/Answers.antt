@@ -1,11 +1,11 @@
 use Rattle.std.proofs.Common.{◌≤◌, filter, length, sym, subst}
 use Rattle.std.specs.Prelude.{slice_get}
 use Rattle.std.specs.Option.{option_copied}
-use Rattle.claim_table.specs.Rows.{has_yes_by}
+use Rattle.claim_table.specs.ClaimTable.Rows.{has_yes_by}
 use Rattle.key_state.specs.Exposure.{own_rules, numbers_below}
-use Rattle.event_rules.specs.Claims.{is_so}
-use Rattle.event_rules.proofs.Filters.{few_passing, named_within}
-use Rattle.acceptance.proofs.entry_support.EntrySupportSupport.most_backers.Goals as goal
+use Rattle.journal.specs.EventRules.Claims.{is_so}
+use Rattle.journal.proofs.EventRulesLemmas.Filters.{few_passing, named_within}
+use Rattle.validator_core.proofs.acceptance.entry_support.EntrySupportSupport.most_backers.Goals as goal
 
 pub returns : goal.returns
 returns c =

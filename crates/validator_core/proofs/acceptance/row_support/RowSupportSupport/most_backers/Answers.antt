@@ -1,8 +1,8 @@
 use Rattle.std.proofs.Common.{arith}
-use Rattle.claim_table.specs.declared.part.Part.TheVariants.{Backed}
-use Rattle.claim_table.specs.Parts.{has_part}
-use Rattle.acceptance.proofs.Backers.{passing_below}
-use Rattle.acceptance.proofs.row_support.RowSupportSupport.most_backers.Goals as goal
+use Rattle.claim_table.specs.declared.claim_table.part.Part.TheVariants.{Backed}
+use Rattle.claim_table.specs.ClaimTable.Parts.{has_part}
+use Rattle.validator_core.proofs.AcceptanceLemmas.Backers.{passing_below}
+use Rattle.validator_core.proofs.acceptance.row_support.RowSupportSupport.most_backers.Goals as goal
 
 pub returns : goal.returns
 returns c = record {

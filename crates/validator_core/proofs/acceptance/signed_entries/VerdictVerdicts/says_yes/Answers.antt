@@ -1,7 +1,7 @@
 use Rattle.std.proofs.Common.{◌∙◌}
-use Rattle.claim_table.specs.declared.signature.Signature.{Signature}
-use Rattle.acceptance.proofs.Verdicts.{answered}
-use Rattle.acceptance.proofs.signed_entries.VerdictVerdicts.says_yes.Goals as goal
+use Rattle.claim_table.specs.declared.claim_table.signature.Signature.{Signature}
+use Rattle.validator_core.proofs.AcceptanceLemmas.Verdicts.{answered}
+use Rattle.validator_core.proofs.acceptance.signed_entries.VerdictVerdicts.says_yes.Goals as goal
 
 pub returns : goal.returns
 returns c =

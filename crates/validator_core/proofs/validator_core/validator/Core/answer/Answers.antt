@@ -1,13 +1,13 @@
 use Rattle.std.proofs.Common.{◌<◌, sym, ◌∙◌, subst}
-use Rattle.claim_table.specs.Rows.{is_raised, verdict_of}
-use Rattle.journal.specs.declared.question.Noted.TheVariants.{New, Known, Unasked}
-use Rattle.settlement.specs.Entries.{signature_asked}
-use Rattle.validator_core.specs.Calls.{TakesVerdict}
-use Rattle.validator_core.specs.Looks.{LooksByVerdict}
-use Rattle.validator_core.proofs.NotedVerdicts.{core_answered, few_new, fewer, found_none, found_some, raised_held, takes_known, takes_new, takes_unasked}
-use Rattle.validator_core.specs.View.{unheard_of}
-use Rattle.validator_core.proofs.Cores.{seen}
-use Rattle.validator_core.proofs.validator.Core.answer.Goals as goal
+use Rattle.claim_table.specs.ClaimTable.Rows.{is_raised, verdict_of}
+use Rattle.journal.specs.declared.journal.question.Noted.TheVariants.{New, Known, Unasked}
+use Rattle.validator_core.specs.Settlement.Entries.{signature_asked}
+use Rattle.validator_core.specs.ValidatorCore.Calls.{TakesVerdict}
+use Rattle.validator_core.specs.ValidatorCore.Looks.{LooksByVerdict}
+use Rattle.validator_core.proofs.ValidatorCoreLemmas.NotedVerdicts.{core_answered, few_new, fewer, found_none, found_some, raised_held, takes_known, takes_new, takes_unasked}
+use Rattle.validator_core.specs.ValidatorCore.View.{unheard_of}
+use Rattle.validator_core.proofs.ValidatorCoreLemmas.Cores.{seen}
+use Rattle.validator_core.proofs.validator_core.validator.Core.answer.Goals as goal
 
 pub add_verdict-requires-clause-held : goal.add_verdict-requires-clause-held
 add_verdict-requires-clause-held c =

@@ -3,16 +3,16 @@ use Rattle.std.specs.Prelude.{All, AllPairs, IfOk, bytes_eq}
 use Rattle.std.proofs.lemmas.List.{get_or-map, length-map}
 use Rattle.std.proofs.lemmas.List.Elements.{All-map}
 use Rattle.std.proofs.lemmas.Simd.{map-map}
-use Rattle.acceptance.specs.Standing as standing
-use Rattle.journal.specs.declared.body.Body.{Body}
-use Rattle.journal.specs.Conflicts.{AreConflicts, IsConflictList}
-use Rattle.journal.specs.Journals.{NameConflicts, chosen}
-use Rattle.journal_views.proofs.Differing.{pairs-from-differ}
-use Rattle.settlement.proofs.Events.{if_ok_both}
-use Rattle.validator_core.specs.Tables.{base_in}
-use Rattle.validator_core.specs.View.{base_of, told_of}
-use Rattle.validator_core.proofs.Rivals.{chosen_few, counted_is, names}
-use Rattle.validator_core.proofs.validator.Core.conflicts.Goals as goal
+use Rattle.validator_core.specs.Acceptance.Standing as standing
+use Rattle.journal.specs.declared.journal.body.Body.{Body}
+use Rattle.journal.specs.Journal.Conflicts.{AreConflicts, IsConflictList}
+use Rattle.journal.specs.Journal.Journals.{NameConflicts, chosen}
+use Rattle.journal_views.proofs.JournalViewsLemmas.Differing.{pairs-from-differ}
+use Rattle.validator_core.proofs.SettlementLemmas.Events.{if_ok_both}
+use Rattle.validator_core.specs.ValidatorCore.Tables.{base_in}
+use Rattle.validator_core.specs.ValidatorCore.View.{base_of, told_of}
+use Rattle.validator_core.proofs.ValidatorCoreLemmas.Rivals.{chosen_few, counted_is, names}
+use Rattle.validator_core.proofs.validator_core.validator.Core.conflicts.Goals as goal
 
 pub conflict_sets-requires-clause-differ : goal.conflict_sets-requires-clause-differ
 conflict_sets-requires-clause-differ c =

@@ -1,9 +1,9 @@
 use Rattle.std.proofs.Common.{◌≡◌, ◌∙◌, ap, subst}
 use Rattle.std.specs.Prelude.{Some, slice_get}
-use Rattle.journal.specs.declared.body.Body.{Body}
-use Rattle.validator_core.specs.Signatures.{is_witness_under}
-use Rattle.validator_core.specs.View.{accepted_by}
-use Rattle.validator_core.proofs.validator.Core.is_witness_at.Goals as goal
+use Rattle.journal.specs.declared.journal.body.Body.{Body}
+use Rattle.validator_core.specs.ValidatorCore.Signatures.{is_witness_under}
+use Rattle.validator_core.specs.ValidatorCore.View.{accepted_by}
+use Rattle.validator_core.proofs.validator_core.validator.Core.is_witness_at.Goals as goal
 
 pub returns : goal.returns
 returns c =

@@ -1,12 +1,12 @@
 use Rattle.std.proofs.Common.{◌∙◌, sym, ap, subst}
 use Rattle.std.specs.Prelude.{IfOk}
-use Rattle.journal.specs.Journals.{chosen}
-use Rattle.journal.specs.Logs.{live}
-use Rattle.settlement.proofs.Events.{if_ok_then}
-use Rattle.validator_core.specs.Confluent.{IsSoInAlike}
-use Rattle.validator_core.specs.Inside.{core_of}
-use Rattle.validator_core.proofs.Confluent.{log_in_alike}
-use Rattle.validator_core.proofs.validator.Core.log.Goals as goal
+use Rattle.journal.specs.Journal.Journals.{chosen}
+use Rattle.journal.specs.Journal.Logs.{live}
+use Rattle.validator_core.proofs.SettlementLemmas.Events.{if_ok_then}
+use Rattle.validator_core.specs.ValidatorCore.Confluent.{IsSoInAlike}
+use Rattle.validator_core.specs.ValidatorCore.Inside.{core_of}
+use Rattle.validator_core.proofs.ValidatorCoreLemmas.Confluent.{log_in_alike}
+use Rattle.validator_core.proofs.validator_core.validator.Core.log.Goals as goal
 
 pub returns-clause-confluent : goal.returns-clause-confluent
 returns-clause-confluent c =

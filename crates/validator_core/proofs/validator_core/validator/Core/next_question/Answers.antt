@@ -1,9 +1,9 @@
 use Rattle.std.proofs.Common.{None, length, sym, ◌∙◌, subst}
-use Rattle.journal.specs.Journals.{Names}
-use Rattle.journal.specs.Questions.{next_question}
-use Rattle.validator_core.specs.View.{base_of, told_of}
-use Rattle.validator_core.proofs.Questions.{next_none, next_some}
-use Rattle.validator_core.proofs.validator.Core.next_question.Goals as goal
+use Rattle.journal.specs.Journal.Journals.{Names}
+use Rattle.journal.specs.Journal.Questions.{next_question}
+use Rattle.validator_core.specs.ValidatorCore.View.{base_of, told_of}
+use Rattle.validator_core.proofs.ValidatorCoreLemmas.Questions.{next_none, next_some}
+use Rattle.validator_core.proofs.validator_core.validator.Core.next_question.Goals as goal
 
 pub returns-then-count-eq0 : goal.returns-then-count-eq0
 returns-then-count-eq0 c =

@@ -1,7 +1,7 @@
 use Rattle.std.proofs.Common.{◌∙◌, length, subst, sym}
-use Rattle.validator_core.specs.Tables.{IsCore}
-use Rattle.validator_core.proofs.Bases.{base_core}
-use Rattle.validator_core.proofs.validator.Core.resume.Goals as goal
+use Rattle.validator_core.specs.ValidatorCore.Tables.{IsCore}
+use Rattle.validator_core.proofs.ValidatorCoreLemmas.Bases.{base_core}
+use Rattle.validator_core.proofs.validator_core.validator.Core.resume.Goals as goal
 
 pub invariant_of-result : goal.invariant_of-result
 invariant_of-result c =

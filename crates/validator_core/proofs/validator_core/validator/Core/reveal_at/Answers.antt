@@ -1,10 +1,10 @@
 use Rattle.std.proofs.Common.{◌≡◌, ℕ, ◌∙◌, ap, subst}
 use Rattle.std.specs.Prelude.{Some, slice_get}
-use Rattle.event_rules.specs.Additions.{is_number}
-use Rattle.journal.specs.declared.body.Body.{Body}
-use Rattle.validator_core.specs.Signatures.{opens_under}
-use Rattle.validator_core.specs.View.{accepted_by}
-use Rattle.validator_core.proofs.validator.Core.reveal_at.Goals as goal
+use Rattle.journal.specs.EventRules.Additions.{is_number}
+use Rattle.journal.specs.declared.journal.body.Body.{Body}
+use Rattle.validator_core.specs.ValidatorCore.Signatures.{opens_under}
+use Rattle.validator_core.specs.ValidatorCore.View.{accepted_by}
+use Rattle.validator_core.proofs.validator_core.validator.Core.reveal_at.Goals as goal
 
 pub returns : goal.returns
 returns c =

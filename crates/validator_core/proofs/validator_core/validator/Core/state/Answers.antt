@@ -1,11 +1,11 @@
 use Rattle.std.proofs.Common.{◌∙◌, ap, subst}
 use Rattle.std.specs.Option.{option_map}
-use Rattle.accepted_log.specs.Values.{last_of}
-use Rattle.journal.specs.Logs.{state}
-use Rattle.validator_core.specs.Confluent.{IsSoInAlike}
-use Rattle.validator_core.specs.Inside.{core_of}
-use Rattle.validator_core.proofs.Confluent.{state_in_alike}
-use Rattle.validator_core.proofs.validator.Core.state.Goals as goal
+use Rattle.core_tables.specs.AcceptedLog.Values.{last_of}
+use Rattle.journal.specs.Journal.Logs.{state}
+use Rattle.validator_core.specs.ValidatorCore.Confluent.{IsSoInAlike}
+use Rattle.validator_core.specs.ValidatorCore.Inside.{core_of}
+use Rattle.validator_core.proofs.ValidatorCoreLemmas.Confluent.{state_in_alike}
+use Rattle.validator_core.proofs.validator_core.validator.Core.state.Goals as goal
 
 pub returns-clause-confluent : goal.returns-clause-confluent
 returns-clause-confluent c =

@@ -1,13 +1,13 @@
 use Rattle.std.proofs.Common.{sym, ◌∙◌, subst}
-use Rattle.core_tables.specs.View.{body_of}
-use Rattle.journal.specs.declared.reply.Reply.TheVariants.{Full, Taken}
-use Rattle.validator_core.specs.Calls.{TakesBody}
-use Rattle.validator_core.specs.Looks.{LooksByReply}
-use Rattle.validator_core.specs.Tables.{IsCore}
-use Rattle.validator_core.specs.Tally.{tally_with}
-use Rattle.validator_core.proofs.Cores.{seen}
-use Rattle.validator_core.proofs.Takes.{core_first, few_first, takes_first, takes_full_new}
-use Rattle.validator_core.proofs.validator.Core.take_body.Goals as goal
+use Rattle.core_tables.specs.CoreTables.View.{body_of}
+use Rattle.journal.specs.declared.journal.reply.Reply.TheVariants.{Full, Taken}
+use Rattle.validator_core.specs.ValidatorCore.Calls.{TakesBody}
+use Rattle.validator_core.specs.ValidatorCore.Looks.{LooksByReply}
+use Rattle.validator_core.specs.ValidatorCore.Tables.{IsCore}
+use Rattle.validator_core.specs.ValidatorCore.Tally.{tally_with}
+use Rattle.validator_core.proofs.ValidatorCoreLemmas.Cores.{seen}
+use Rattle.validator_core.proofs.ValidatorCoreLemmas.Takes.{core_first, few_first, takes_first, takes_full_new}
+use Rattle.validator_core.proofs.validator_core.validator.Core.take_body.Goals as goal
 
 pub returns-then-lacks_room-clause-takes : goal.returns-then-lacks_room-clause-takes
 returns-then-lacks_room-clause-takes c =

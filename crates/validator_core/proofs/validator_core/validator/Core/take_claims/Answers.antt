@@ -1,15 +1,15 @@
 use Rattle.std.proofs.Common.{◌≡◌, Some, sym, ◌∙◌, ap, subst}
 use Rattle.std.specs.Prelude.{slice_get}
-use Rattle.journal.specs.declared.body.Body.{Body}
-use Rattle.journal.specs.declared.reply.Reply.TheVariants.{Full}
-use Rattle.journal.proofs.Places.{some_at}
-use Rattle.validator_core.specs.Calls.{TakesBody}
-use Rattle.validator_core.specs.Looks.{LooksByReply}
-use Rattle.validator_core.specs.Tables.{IsCore}
-use Rattle.validator_core.specs.Tally.{tally_with}
-use Rattle.validator_core.proofs.Cores.{seen}
-use Rattle.validator_core.proofs.Takes.{core_held, few_held, takes_full_again, takes_held}
-use Rattle.validator_core.proofs.validator.Core.take_claims.Goals as goal
+use Rattle.journal.specs.declared.journal.body.Body.{Body}
+use Rattle.journal.specs.declared.journal.reply.Reply.TheVariants.{Full}
+use Rattle.journal.proofs.JournalLemmas.Places.{some_at}
+use Rattle.validator_core.specs.ValidatorCore.Calls.{TakesBody}
+use Rattle.validator_core.specs.ValidatorCore.Looks.{LooksByReply}
+use Rattle.validator_core.specs.ValidatorCore.Tables.{IsCore}
+use Rattle.validator_core.specs.ValidatorCore.Tally.{tally_with}
+use Rattle.validator_core.proofs.ValidatorCoreLemmas.Cores.{seen}
+use Rattle.validator_core.proofs.ValidatorCoreLemmas.Takes.{core_held, few_held, takes_full_again, takes_held}
+use Rattle.validator_core.proofs.validator_core.validator.Core.take_claims.Goals as goal
 
 pub returns-then-is_spent-clause-takes : goal.returns-then-is_spent-clause-takes
 returns-then-is_spent-clause-takes c =

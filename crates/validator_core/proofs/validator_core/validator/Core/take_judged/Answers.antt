@@ -1,5 +1,5 @@
-use Rattle.validator_core.proofs.MessageCalls.{if_ok, looks_message, takes_message}
-use Rattle.validator_core.proofs.validator.Core.take_judged.Goals as goal
+use Rattle.validator_core.proofs.ValidatorCoreLemmas.MessageCalls.{if_ok, looks_message, takes_message}
+use Rattle.validator_core.proofs.validator_core.validator.Core.take_judged.Goals as goal
 
 pub take_event-requires : goal.take_event-requires
 take_event-requires c = record { held = record { spelled = c.requires.judged.0.1; few = c.requires.judged.0.0 } }

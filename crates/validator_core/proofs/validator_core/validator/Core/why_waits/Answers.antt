@@ -1,7 +1,7 @@
 use Rattle.std.proofs.Common.{◌≡◌, subst}
-use Rattle.validator_core.specs.View.{waits_for}
-use Rattle.validator_core.proofs.Waits.{waits_is}
-use Rattle.validator_core.proofs.validator.Core.why_waits.Goals as goal
+use Rattle.validator_core.specs.ValidatorCore.View.{waits_for}
+use Rattle.validator_core.proofs.ValidatorCoreLemmas.Waits.{waits_is}
+use Rattle.validator_core.proofs.validator_core.validator.Core.why_waits.Goals as goal
 
 pub returns : goal.returns
 returns c =

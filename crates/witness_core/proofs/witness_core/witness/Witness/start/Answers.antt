@@ -1,8 +1,8 @@
 use Rattle.std.proofs.Common.{ap, arith, length, subst}
-use Rattle.witness_store.specs.Starts.{IsStarted}
-use Rattle.witness_store.proofs.States.{kept_all}
-use Rattle.witness_core.proofs.Witnessed.{are_listed, settled_holds, started_stored}
-use Rattle.witness_core.proofs.witness.Witness.start.Goals as goal
+use Rattle.witness_core.specs.WitnessStore.Starts.{IsStarted}
+use Rattle.witness_core.proofs.WitnessStoreLemmas.States.{kept_all}
+use Rattle.witness_core.proofs.WitnessCoreLemmas.Witnessed.{are_listed, settled_holds, started_stored}
+use Rattle.witness_core.proofs.witness_core.witness.Witness.start.Goals as goal
 
 pub begin-requires : goal.begin-requires
 begin-requires g c = omega (arith, ap length c.list.ensures, c.args.shelf.counted, c.args.shelf.limits.records_standard)

@@ -1,9 +1,9 @@
 use Rattle.std.proofs.Common.{◌≡◌, ◌∙◌, ⊎_elim, ap, inl, inr, sym}
-use Rattle.witness_store.specs.Faults.{breaks}
-use Rattle.witness_store.specs.declared.witness_fault.WitnessFault.TheVariants.{Full as NoRoom}
-use Rattle.witness_store.proofs.States.{kept_all}
-use Rattle.witness_core.proofs.Witnessed.{are_listed, full_untold, goes_by, reads_again, still_stored, stores_on}
-use Rattle.witness_core.proofs.witness.Witness.take.Goals as goal
+use Rattle.witness_core.specs.WitnessStore.Faults.{breaks}
+use Rattle.witness_core.specs.declared.witness_store.witness_fault.WitnessFault.TheVariants.{Full as NoRoom}
+use Rattle.witness_core.proofs.WitnessStoreLemmas.States.{kept_all}
+use Rattle.witness_core.proofs.WitnessCoreLemmas.Witnessed.{are_listed, full_untold, goes_by, reads_again, still_stored, stores_on}
+use Rattle.witness_core.proofs.witness_core.witness.Witness.take.Goals as goal
 
 pub returns-in-Ok-clause-stored : goal.returns-in-Ok-clause-stored
 returns-in-Ok-clause-stored g c =

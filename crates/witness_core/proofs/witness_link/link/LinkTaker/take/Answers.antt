@@ -1,6 +1,6 @@
 use Rattle.std.proofs.Common.{refl}
-use Rattle.witness_link.proofs.Handing.{takes_err, takes_ok}
-use Rattle.witness_link.proofs.link.LinkTaker.take.Goals as goal
+use Rattle.witness_core.proofs.WitnessLinkLemmas.Handing.{takes_err, takes_ok}
+use Rattle.witness_core.proofs.witness_link.link.LinkTaker.take.Goals as goal
 
 pub returns-clause-ok : goal.returns-clause-ok
 returns-clause-ok g c = takes_ok g.W.Witnessing.seen g.K.Sink.written g.K.Sink.faults g.V.Verifier.says g.V.Verifier.inquiries g.V.Verifier.faults g.G.Signer.gives g.G.Signer.signings g.G.Signer.faults c.args.message c.args.self.now _

@@ -1,10 +1,10 @@
 use Rattle.std.proofs.Common.{ap, subst}
-use Rattle.witness_core.specs.Faults.{Goes}
-use Rattle.witness_link.proofs.Holding.{all_kept}
-use Rattle.witness_link.proofs.Lawful.{lawful_list, still_grown}
-use Rattle.witness_link.proofs.Restart.{starts_again}
-use Rattle.witness_link.proofs.Witnessed.{taken_so}
-use Rattle.witness_link.proofs.witnessing.WitnessWitnessing.take.Goals as goal
+use Rattle.witness_core.specs.WitnessCore.Faults.{Goes}
+use Rattle.witness_core.proofs.WitnessLinkLemmas.Holding.{all_kept}
+use Rattle.witness_core.proofs.WitnessLinkLemmas.Lawful.{lawful_list, still_grown}
+use Rattle.witness_core.proofs.WitnessLinkLemmas.Restart.{starts_again}
+use Rattle.witness_core.proofs.WitnessLinkLemmas.Witnessed.{taken_so}
+use Rattle.witness_core.proofs.witness_link.witnessing.WitnessWitnessing.take.Goals as goal
 
 pub returns-clause-takes : goal.returns-clause-takes
 returns-clause-takes g c = λ whole.

@@ -1,12 +1,12 @@
 use Rattle.std.proofs.Common.{◌≡◌, ◌∙◌, Some, slice_get, ap, arith, length, rules}
-use Rattle.journal.specs.declared.body.Body.{Body}
-use Rattle.journal.proofs.Places.{some_at}
-use Rattle.validator_core.specs.View.{accepted_by, told_of}
-use Rattle.witness_store.specs.Room.{IsKnown, weight}
-use Rattle.witness_store.proofs.Known.{body_there, bytes_there, held_there, known_by, number_low, place_low, text_low}
-use Rattle.witness_store.proofs.Releasing.{counted_all, is_reserved, room_released, signatures_there, weighs}
-use Rattle.witness_store.proofs.room.Room.release.Goals.{After-journal, After-weight}
-use Rattle.witness_store.proofs.room.Room.release.Goals as goal
+use Rattle.journal.specs.declared.journal.body.Body.{Body}
+use Rattle.journal.proofs.JournalLemmas.Places.{some_at}
+use Rattle.validator_core.specs.ValidatorCore.View.{accepted_by, told_of}
+use Rattle.witness_core.specs.WitnessStore.Room.{IsKnown, weight}
+use Rattle.witness_core.proofs.WitnessStoreLemmas.Known.{body_there, bytes_there, held_there, known_by, number_low, place_low, text_low}
+use Rattle.witness_core.proofs.WitnessStoreLemmas.Releasing.{counted_all, is_reserved, room_released, signatures_there, weighs}
+use Rattle.witness_core.proofs.witness_store.room.Room.release.Goals.{After-journal, After-weight}
+use Rattle.witness_core.proofs.witness_store.room.Room.release.Goals as goal
 
 known : (c : After-journal) → IsKnown c.args.core.now
 known c = known_by c.args.core.now c.accepted.result.now c.accepted.ensures.held c.accepted.ensures.accepted c.accepted.ensures.numbers c.journal.ensures.stands

@@ -1,7 +1,7 @@
 use Rattle.std.proofs.Common.{◌≡◌, [], sym, subst}
 use Rattle.turn_lock.specs.Locks.{limit_of}
-use Rattle.reader_threads.specs.Starts.{AreStarted}
-use Rattle.reader_threads.proofs.ran.fn.run_all.scope.Goals as goal
+use Rattle.reader_hub.specs.ReaderThreads.Starts.{AreStarted}
+use Rattle.reader_hub.proofs.reader_threads.ran.fn.run_all.scope.Goals as goal
 
 pub returns : goal.returns
 returns g c =
