@@ -41,7 +41,7 @@ impl MemOutside {
     ghost use Rattle.run_status.specs.RunOutside.Disks.{stored_under};
     ghost use Rattle.run_status.specs.RunOutside.Addresses.{links_under};
 
-    /// An outside with these files, this sink, no helpers, no disks and no doors. Its makings of the numbers in `failing`, counted from 0, fail.
+    /// An outside with these files, this sink, no helpers, no disks, no doors and a gate that holds nobody up. Its makings of the numbers in `failing`, counted from 0, fail.
     pub fn new(
         alloc: Global,
         files: Items<MemFile>,
@@ -63,7 +63,7 @@ impl MemOutside {
             makings: Items::new(alloc),
             telling: true,
             sink,
-            gate: MemGate,
+            gate: MemGate::new(0),
             faults: 0,
             limits,
         }
@@ -92,6 +92,14 @@ impl MemOutside {
         ensures sink { outside_sink result ≡ outside_sink self }
     {
         MemOutside { addresses, ..self }
+    }
+
+    /// It with this gate.
+    pub fn with_gate(self, gate: MemGate) -> MemOutside
+        ensures told { outside_told result ≡ outside_told self }
+        ensures sink { outside_sink result ≡ outside_sink self }
+    {
+        MemOutside { gate, ..self }
     }
 
     /// The sink.
