@@ -7,11 +7,15 @@ use crate::session::{Held, Session};
 use crate::spelling::{list_text, refused};
 use keri_outside::Limits;
 use lists::Items;
-use shelf_log::{MemDisk, Returned, Shape, Shelf, ShelfFault};
+use shelf_log::{MemDisk, Returned, Shape, Shelf, ShelfFault, is_leftover};
 use std::alloc::{AllocError, Global};
 
-// What stands on the disk as a file of version 1.
-fn old_words(alloc: Global, disk: MemDisk) -> Result<String, AllocError> {
+// What stands on the disk, where that doesn't begin as a shelf of version 2 does.
+fn other_words(alloc: Global, disk: MemDisk) -> Result<String, AllocError> {
+    let mut disk = disk;
+    if matches!(is_leftover(&mut disk), Ok(true)) {
+        return String::from_str(alloc, "leftover");
+    }
     match old_of(alloc, disk, Limits::standard()) {
         Ok(old) => list_text(alloc, "old", old.list.as_slice()),
         Err(returned) => refused(alloc, returned.fault),
@@ -27,7 +31,7 @@ fn disk_words(alloc: Global, disk: MemDisk) -> Result<String, AllocError> {
                 disk,
                 fault: ShelfFault::NotAShelf(0),
             },
-        ) => old_words(alloc, disk),
+        ) => other_words(alloc, disk),
         Err(returned) => refused(alloc, returned.fault),
     }
 }
@@ -57,7 +61,8 @@ fn moment_words(
     text.push_str(";")
 }
 
-/// `images`: of each moment what stands on the disk after a crash that leaves all that isn't synced, or nothing of it, or bytes 1.
+/// `images`: of each moment what stands on the disk after a crash that leaves all that isn't synced, or nothing of it, or bytes 1:
+/// a list, or what a stopped migration may leave, or why it is neither.
 pub(crate) fn images(session: &Session) -> Result<String, AllocError> {
     let mut text = String::from_str(session.alloc, "images")?;
     if let Held::Disk(disk) = &session.held {

@@ -3,6 +3,7 @@ pub mod Changes
 pub mod Crash
 pub mod Emptied
 pub mod Files
+pub mod Leftovers
 pub mod Migrated
 pub mod Pieces
 pub mod Readings

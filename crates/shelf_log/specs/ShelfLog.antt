@@ -2,5 +2,6 @@ pub mod Answers
 pub mod Blank
 pub mod Durable
 pub mod Format
+pub mod Leftover
 pub mod Scans
 pub mod Settled

@@ -5,4 +5,4 @@ mod keri_disk;
 mod shelf_log;
 
 pub use keri_disk::{Disk, MemDisk, Shape};
-pub use shelf_log::{OldShelf, Returned, Shelf, ShelfFault, Version, begins_with_mark};
+pub use shelf_log::{OldShelf, Returned, Shelf, ShelfFault, Version, is_leftover};

@@ -2,6 +2,7 @@
 mod behind;
 mod durable;
 mod fault;
+mod leftover;
 mod list_file;
 mod migration;
 mod old_shelf;
@@ -14,7 +15,7 @@ mod store;
 mod version;
 
 pub use fault::ShelfFault;
-pub use list_file::begins_with_mark;
+pub use leftover::is_leftover;
 pub use old_shelf::OldShelf;
 pub use returned::Returned;
 pub use shelf::Shelf;

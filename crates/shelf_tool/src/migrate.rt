@@ -6,7 +6,7 @@ use crate::stop::Stop;
 use disk_file::FileDisk;
 use keri_outside::Limits;
 use lists::Items;
-use shelf_log::{Disk, OldShelf, Returned, Shelf, ShelfFault};
+use shelf_log::{OldShelf, Returned, Shelf, ShelfFault, is_leftover};
 
 /// Makes a file a shelf of the payloads of an old one, to which nothing is written. Where a stop cut that short, the same
 /// words do it again; where it was done, they change nothing.
@@ -37,17 +37,9 @@ fn begun_with(shelf: Shelf<FileDisk>, payloads: &[Items<u8>]) -> Result<Shelf<Fi
     }
 }
 
-// The disk, where it may be written over: it is empty, or it is what a stop may leave of a shelf that was being made, which
-// is one byte, or a first byte of 0, or all of a mark but its first byte.
+// The disk, where it may be written over: its file is empty, or it is what a stopped migration may leave.
 fn target_of(mut disk: FileDisk, fault: ShelfFault) -> Result<FileDisk, Stop> {
-    if fault != ShelfFault::NotAShelf(0) {
-        return Err(Stop::from(fault));
-    }
-    let size = disk.size()?;
-    let mut front = [0; 8];
-    let known = size.min(8) as usize;
-    disk.read(0, &mut front[..known])?;
-    if size < 2 || front[0] == 0 || front.ends_with(b"SHELF02") {
+    if fault == ShelfFault::NotAShelf(0) && is_leftover(&mut disk)? {
         Ok(disk)
     } else {
         Err(Stop::from(fault))

@@ -1,24 +1,27 @@
 -- A list is brought over, step by step.
-use Rattle.std.proofs.Common.{◌≡◌, ◌≢◌, ◌⊎◌, inl, inr, ℕ, ◌≤◌, List, [], ◌∷◌, ◌++◌, length, take, drop, get_or, Some, IfSome, Result, All, option_map, refl, sym, ◌∙◌, ap, subst, arith, append_assoc, length-append, length-take, take-append-drop, take-take}
+use Rattle.std.proofs.Common.{◌≡◌, ◌≢◌, ◌⊎◌, inl, inr, ℕ, ◌≤◌, List, [], ◌∷◌, ◌++◌, length, take, drop, get_or, Some, IfSome, Result, All, option_map, refl, sym, ◌∙◌, ap, subst, arith, append_assoc, length-append, take-append-drop}
 use Rattle.std.proofs.lemmas.Bool.{cases_eq}
 use Rattle.std.proofs.lemmas.List.{drop_more}
 use Rattle.shelf_log.specs.KeriDisk.Images.{DiskTold, IsDurable, overwritten, Torn, CutShort, LeavesOnly}
 use Rattle.shelf_log.specs.ShelfLog.Blank.{IsBlank, AllBlank, blank_file}
 use Rattle.shelf_log.specs.ShelfLog.Durable.{ChangesDurably}
-use Rattle.shelf_log.specs.ShelfLog.Format.{mark, Holds, IsSized, IsNoShelf, IsUnmarked, records, shelf_front}
+use Rattle.shelf_log.specs.ShelfLog.Format.{mark, Holds, IsSized, IsNoShelf, records, shelf_front}
+use Rattle.shelf_log.specs.ShelfLog.Leftover.{rest_of_mark, IsLeftover}
 use Rattle.shelf_log.specs.ShelfLog.Settled.{IsSettled}
 use Rattle.shelf_log.specs.declared.shelf_log.version.Version.TheVariants.{One, Two}
 use Rattle.shelf_log.proofs.ShelfLogLemmas.Files.{if_some, parts_of, holds_of}
+use Rattle.shelf_log.proofs.ShelfLogLemmas.Leftovers.{front_leftover, short_leftover, torn_leftover}
 use Rattle.shelf_log.proofs.KeriDiskLemmas.Moments.{weaker, and_then}
 use Rattle.shelf_log.proofs.ShelfLogLemmas.Stored.{mapped}
 use Rattle.shelf_log.proofs.ShelfLogLemmas.Windows.{of_some}
 
--- What isn't begun yet: so is each front of such a file, one of at most one byte, and one that begins with another byte than
--- a mark.
+-- What isn't begun yet: so is each front of such a file, one of at most one byte, one whose first byte is 0, and one that has
+-- another byte in place of its mark's first.
 pub record IsUnbegun (N : List ℕ → Type 0) : Type 0 where
   pub front : (c d : List ℕ) → take (length c) d ≡ c → N d → N c
   pub short : (c : List ℕ) → length c ≤ 1 → N c
-  pub other : (x : ℕ) (rest : List ℕ) → x ≢ 75 → N (x ∷ rest)
+  pub blank : (rest : List ℕ) → N (0 ∷ rest)
+  pub torn : (x : ℕ) (rest : List ℕ) → x ≢ 75 → N (x ∷ (rest_of_mark ++ rest))
 
 -- a front of what is no shelf is none
 front_no_shelf : (c d : List ℕ) → take (length c) d ≡ c → IsNoShelf Two d → IsNoShelf Two c
@@ -28,32 +31,24 @@ front_no_shelf c d front none list holds =
     sym (take-append-drop (length c) d) ∙ ap (λ (l : List ℕ). l ++ drop (length c) d) (front ∙ p.is) ∙ append_assoc (shelf_front Two list) (p.gate ∷ p.rest) (drop (length c) d) in
     none list (subst (λ f. Holds Two f list) (sym whole) (holds_of Two list p.gate (p.rest ++ drop (length c) d) p.closed holds.2))
 
+other_no_shelf : (x : ℕ) (rest : List ℕ) → x ≢ 75 → IsNoShelf Two (x ∷ rest)
+other_no_shelf x rest other list holds = let p = parts_of Two (x ∷ rest) list holds in other (ap (λ (l : List ℕ). get_or l 0 0) p.is)
+
 pub no_shelf_unbegun : IsUnbegun (IsNoShelf Two)
 no_shelf_unbegun = record {
   front = front_no_shelf;
   short = λ c le list holds. let p = parts_of Two c list holds in absurd (omega (arith, le, ap length p.is, length-append (shelf_front Two list) (p.gate ∷ p.rest)));
-  other = λ x rest other list holds. let p = parts_of Two (x ∷ rest) list holds in other (ap (λ (l : List ℕ). get_or l 0 0) p.is);
+  blank = λ rest. other_no_shelf 0 rest (λ is. absurd (omega (arith, is)));
+  torn = λ x rest other. other_no_shelf x (rest_of_mark ++ rest) other;
 }
 
--- the same of files with no mark
-front_unmarked : (of : List ℕ) (c d : List ℕ) → length of ≡ 8 → take (length c) d ≡ c → take 8 d ≢ of → take 8 c ≢ of
-front_unmarked of c d long front none is =
-    let le : 8 ≤ length c = omega (arith, ap length is, long, length-take 8 c) in
-    none (sym (take-take 8 (length c) d le) ∙ ap (take 8) front ∙ is)
-
-short_unmarked : (of : List ℕ) (c : List ℕ) → length of ≡ 8 → length c ≤ 1 → take 8 c ≢ of
-short_unmarked of c long le is = absurd (omega (arith, ap length is, long, le, length-take 8 c))
-
-pub unmarked_unbegun : IsUnbegun IsUnmarked
-unmarked_unbegun = record {
-  front = λ c d front none. (front_unmarked (mark One) c d refl front none.0, front_unmarked (mark Two) c d refl front none.1);
-  short = λ c le. (short_unmarked (mark One) c refl le, short_unmarked (mark Two) c refl le);
-  other = λ x rest other. (λ is. other (ap (λ (l : List ℕ). get_or l 0 0) is), λ is. other (ap (λ (l : List ℕ). get_or l 0 0) is));
-}
+-- the same of what a stopped migration may leave
+pub leftover_unbegun : IsUnbegun IsLeftover
+leftover_unbegun = record { front = front_leftover; short = short_leftover; blank = λ rest. inr (inl refl); torn = torn_leftover }
 
 pub blank_unbegun : (N : List ℕ → Type 0) → IsUnbegun N → (c : List ℕ) → IsBlank c → N c
 blank_unbegun N unbegun [] blank = absurd blank
-blank_unbegun N unbegun (x ∷ c) blank = unbegun.other x c (λ is. absurd (omega (arith, blank, is)))
+blank_unbegun N unbegun (x ∷ c) blank = subst (λ (y : ℕ). N (y ∷ c)) (sym blank) (unbegun.blank c)
 
 pub sized_two : (list : List (List ℕ)) → All (IsSized One) list → All (IsSized Two) list
 sized_two list sized k d lt = let s = sized k d lt in (s.0, omega (arith, s.1))
@@ -106,7 +101,7 @@ module _ (list : List (List ℕ)) (sized : All (IsSized One) list) (m3 m4 : Disk
     begun : (x : ℕ) → IsBegunOr N list (x ∷ behind)
     begun x = elim (cases_eq x 75) [
       | inl is ↦ inr (subst (λ y. Holds Two (y ∷ behind) list) (sym is) (holds_of Two list 0 [] (omega arith) (sized_two list sized)))
-      | inr other ↦ inl (unbegun.other x behind other)
+      | inr other ↦ inl (unbegun.torn x (records list ++ 0 ∷ []) other)
     ]
 
     pub mark_leaves : {E : Type 0} (bytes : List ℕ) (result : Result (Unit {0}) E) → length bytes ≡ 1 → ChangesDurably (λ file. overwritten file 0 bytes) (Torn 0 (length bytes)) m3 m4 result → LeavesOnly m3 m4 (IsBegunOr N list)

@@ -49,10 +49,6 @@ Holds version file list = (take (length (shelf_front version list)) file ≡ she
 abbrev pub IsNoShelf : Version → List ℕ → Type 0
 IsNoShelf version file = (list : List (List ℕ)) → Holds version file list → ⊥
 
--- the file begins with the mark of no version
-abbrev pub IsUnmarked : List ℕ → Type 0
-IsUnmarked file = (take 8 file ≢ mark One) × (take 8 file ≢ mark Two)
-
 -- The bytes from a gate's place on end too soon, which shows so far behind that place: at the gate, at the length behind
 -- an open gate, or at the payload behind its length.
 abbrev pub EndsIn : Version → List ℕ → ℕ → Type 0

@@ -1,7 +1,8 @@
 -- What stands on the disk of a shelf.
 use Rattle.std.specs.Prelude.{◌≡◌, ◌⊎◌, ◌++◌, [], ◌∷◌, List, ℕ, IfSome, OnOk, Result}
 use Rattle.shelf_log.specs.KeriDisk.Images.{DiskTold, IsDurable, LeavesOnly}
-use Rattle.shelf_log.specs.ShelfLog.Format.{Holds, IsNoShelf, IsUnmarked, FailsAt}
+use Rattle.shelf_log.specs.ShelfLog.Format.{Holds, IsNoShelf, FailsAt}
+use Rattle.shelf_log.specs.ShelfLog.Leftover.{IsLeftover}
 use Rattle.shelf_log.specs.declared.shelf_log.version.Version.TheVariants.{Two}
 
 -- each image is the file as it reads, and that stands for the list
@@ -29,13 +30,13 @@ IsUnfinished file = (file ≡ []) ⊎ Holds Two file [] ⊎ ((place : ℕ) × Fa
 abbrev pub IsBroughtOver : List (List ℕ) → List ℕ → Type 0
 IsBroughtOver list file = IsNoShelf Two file ⊎ Holds Two file list
 
--- the same of a file that had no mark: it has none yet, or it is a shelf of the list
-abbrev pub IsFilledOrUnmarked : List (List ℕ) → List ℕ → Type 0
-IsFilledOrUnmarked list file = IsUnmarked file ⊎ Holds Two file list
+-- the same of a file that a stopped migration may leave: it is such a file again, or it is a shelf of the list
+abbrev pub IsFilledOrLeftover : List (List ℕ) → List ℕ → Type 0
+IsFilledOrLeftover list file = IsLeftover file ⊎ Holds Two file list
 
 -- A list is brought over to a disk that holds no shelf: after Ok each image stands for it, and at any moment is no shelf
--- or stands for it. Where each had no mark, it has none until it stands for the list.
+-- or stands for it. Where each was what a stopped migration may leave, it is that until it stands for the list.
 pub record BringsOver {T E : Type 0} (list : List (List ℕ)) (old new : DiskTold) (result : Result T E) : Type 0 where
   pub settled : OnOk result (IsSettled new list)
   pub moments : ((c : List ℕ) → old.images c → IsNoShelf Two c) → LeavesOnly old new (IsBroughtOver list)
-  pub unmarked : ((c : List ℕ) → old.images c → IsUnmarked c) → LeavesOnly old new (IsFilledOrUnmarked list)
+  pub leftover : ((c : List ℕ) → old.images c → IsLeftover c) → LeavesOnly old new (IsFilledOrLeftover list)

@@ -51,18 +51,6 @@ pub(crate) fn read_list<D: Disk>(
     Ok(scan)
 }
 
-/// Whether the file begins with the version's mark. Nothing is written.
-#[tactic(auto, using(crate::proofs::KeriDiskLemmas::Moments::keeps_both))]
-pub fn begins_with_mark<D: Disk>(disk: &mut D, version: Version) -> Result<bool, Failed>
-    ensures mark { IfOk result (λ begins. IfSome (D.told disk.old).file
-        (λ file. IsTrue begins ↔ (take 8 file ≡ mark version))) }
-    ensures keeps { Keeps (D.told disk.old) (D.told disk.new) }
-    ensures cause { HasCause (D.told disk.old).faults (D.told disk.new).faults result }
-{
-    let size = disk.size()?;
-    has_mark(disk, size, version)
-}
-
 // Whether the file of this size begins with the version's mark.
 fn has_mark<D: Disk>(disk: &mut D, size: u64, version: Version) -> Result<bool, Failed>
     requires size { IsSizeOf (D.told disk.old).file size }

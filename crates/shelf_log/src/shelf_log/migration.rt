@@ -4,8 +4,9 @@ ghost use Rattle.std.specs.List.{All};
 ghost use Rattle.lists.specs.KeriSpecs.Causes.{HasCause};
 ghost use Rattle.shelf_log.specs.KeriDisk.Images.{LeavesOnly};
 ghost use Rattle.shelf_log.specs.ShelfLog.Answers.{IsOver, HasDiskCause, MigrationRefuses};
-ghost use Rattle.shelf_log.specs.ShelfLog.Format.{IsSized, IsNoShelf, IsUnmarked, shelf_front, shelf_size};
-ghost use Rattle.shelf_log.specs.ShelfLog.Settled.{AllHold, BringsOver, IsBroughtOver, IsFilledOrUnmarked};
+ghost use Rattle.shelf_log.specs.ShelfLog.Format.{IsSized, IsNoShelf, shelf_front, shelf_size};
+ghost use Rattle.shelf_log.specs.ShelfLog.Leftover.{IsLeftover};
+ghost use Rattle.shelf_log.specs.ShelfLog.Settled.{AllHold, BringsOver, IsBroughtOver, IsFilledOrLeftover};
 ghost use Rattle.shelf_log.specs.declared.shelf_log.version.Version.TheVariants.{One, Two};
 ghost use Rattle.shelf_log.specs.declared.shelf_log.fault.ShelfFault.TheVariants.{DiskFault};
 
@@ -43,10 +44,11 @@ impl<D: Disk + Drop> Shelf<D> {
             (λ shelf. LeavesOnly (D.told target) (D.told shelf.disk) (IsBroughtOver list.now))
             (λ returned. LeavesOnly (D.told target) (D.told returned.disk) (IsBroughtOver list.now)) }
 
-        // A file that has no mark has none at any moment until it stands for the list, so the same can be done again.
-        ensures unmarked { ((c : List ℕ) → (D.told target).images c → IsUnmarked c) → MatchResult result
-            (λ shelf. LeavesOnly (D.told target) (D.told shelf.disk) (IsFilledOrUnmarked list.now))
-            (λ returned. LeavesOnly (D.told target) (D.told returned.disk) (IsFilledOrUnmarked list.now)) }
+        // What a stopped migration may leave is that again at any moment of this one, until it stands for the list. So the same
+        // can be done again.
+        ensures leftover { ((c : List ℕ) → (D.told target).images c → IsLeftover c) → MatchResult result
+            (λ shelf. LeavesOnly (D.told target) (D.told shelf.disk) (IsFilledOrLeftover list.now))
+            (λ returned. LeavesOnly (D.told target) (D.told returned.disk) (IsFilledOrLeftover list.now)) }
     {
         if is_over(list, limits) {
             return Err(Returned {

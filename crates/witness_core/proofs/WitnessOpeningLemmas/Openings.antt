@@ -8,7 +8,7 @@ use Rattle.keri_outside.specs.declared.limits.Limits.{Limits}
 use Rattle.run_status.specs.RunOutside.Makings.{AreMakings}
 use Rattle.run_status.specs.RunOutside.Told.{Told, making}
 use Rattle.run_status.specs.declared.run_outside.making.MakingKind.TheVariants.{Disk, OldDisk}
-use Rattle.shelf_log.specs.ShelfLog.Format.{IsUnmarked}
+use Rattle.shelf_log.specs.ShelfLog.Leftover.{IsLeftover}
 use Rattle.shelf_log.specs.declared.shelf_log.version.Version.TheVariants.{One, Two}
 use Rattle.witness_core.specs.WitnessOpening.Answers.{Answer, Answers, AnswersBeside, AnswersRead}
 use Rattle.witness_core.specs.WitnessOpening.Disks.{Becomes, BecomesBeside, HasCause, IsMade, OnlyRead}
@@ -56,23 +56,23 @@ module _ {D : Type 0} (told : D → DiskTold) (limits : Limits) (before mid : To
 
   module _ (still : (told synced).faults ≡ (told first).faults) where
     -- its file was read
-    pub beside_read : (old_name : List ℕ) (disk old : Option D) (answer : Answer) → IfSome (told first).file (λ file. IsUnmarked file → ⊥) → ReadsIt told synced limits disk old answer
+    pub beside_read : (old_name : List ℕ) (disk old : Option D) (answer : Answer) → IfSome (told first).file (λ file. IsLeftover file → ⊥) → ReadsIt told synced limits disk old answer
         → IsOpening told limits before mid name (Some old_name) disk old answer
     beside_read old_name disk old answer other reads = handed (Some old_name) reads.last answer
-        (if_both (λ file. IsUnmarked file → ⊥) (λ file. AnswersRead Two limits file answer) (λ file. AnswersBeside limits file (before.stored old_name) answer) (before.stored name)
-        (λ file known read. record { filled = λ unmarked. absurd (known unmarked); read = λ n. read })
-        (subst (λ o. IfSome o (λ file. IsUnmarked file → ⊥)) is_made.holds other) (at_stored _ reads.answers))
+        (if_both (λ file. IsLeftover file → ⊥) (λ file. AnswersRead Two limits file answer) (λ file. AnswersBeside limits file (before.stored old_name) answer) (before.stored name)
+        (λ file known read. record { filled = λ leftover. absurd (known leftover); read = λ n. read })
+        (subst (λ o. IfSome o (λ file. IsLeftover file → ⊥)) is_made.holds other) (at_stored _ reads.answers))
         (inl (keeps_both (told first) (told synced) (told reads.last) keeps reads.keeps)) (λ fault e other. keeps_both (told first) (told synced) (told reads.last) keeps reads.keeps)
         disk old still reads.hands
 
   module _ (durable : IsDurable (told synced)) where
     -- it was filled
-    filled_or_stays : (from : Option (List ℕ)) (last : D) → IfSome (told first).file IsUnmarked → IsFilledOrStays told synced from last → BecomesBeside told from first last
-    filled_or_stays from last unmarked (inl stays) = inl (keeps_both (told first) (told synced) (told last) keeps stays)
-    filled_or_stays from last unmarked (inr f) =
-        inr (record { unmarked = unmarked; list = f.0; of = f.1; leaves = record { synced = synced; keeps = keeps; durable = durable; leaves = f.2 } })
+    filled_or_stays : (from : Option (List ℕ)) (last : D) → IfSome (told first).file IsLeftover → IsFilledOrStays told synced from last → BecomesBeside told from first last
+    filled_or_stays from last leftover (inl stays) = inl (keeps_both (told first) (told synced) (told last) keeps stays)
+    filled_or_stays from last leftover (inr f) =
+        inr (record { leftover = leftover; list = f.0; of = f.1; leaves = record { synced = synced; keeps = keeps; durable = durable; leaves = f.2 } })
 
-    module _ (after : Told) (old_name : List ℕ) (same : mid.stored ≡ before.stored) (unmarked : IfSome (told first).file IsUnmarked) where
+    module _ (after : Told) (old_name : List ℕ) (same : mid.stored ≡ before.stored) (leftover : IfSome (told first).file IsLeftover) where
       from_before : (P : Option (List ℕ) → Type 0) → P (mid.stored old_name) → P (before.stored old_name)
       from_before P holds = subst (λ (s : List ℕ → Option (List ℕ)). P (s old_name)) same holds
 
@@ -85,19 +85,19 @@ module _ {D : Type 0} (told : D → DiskTold) (limits : Limits) (before mid : To
       pub filled : (disk old : Option D) (answer : Answer) → FillsIt told synced limits mid after old_name disk old answer
           → IsOpening told limits before after name (Some old_name) disk old answer
       filled disk old answer fills = subst (λ d. IsOpening told limits before after name (Some old_name) d old answer) (sym fills.disk_is) (record {
-        answers = if_map IsUnmarked (λ file. AnswersBeside limits file (before.stored old_name) answer) (before.stored name)
+        answers = if_map IsLeftover (λ file. AnswersBeside limits file (before.stored old_name) answer) (before.stored name)
             (λ file is. record { filled = λ f. from_before (λ o. IfSome o (λ x. AnswersRead One limits x answer)) fills.answers; read = λ other. absurd (other is) })
-            (subst (λ o. IfSome o IsUnmarked) is_made.holds unmarked);
+            (subst (λ o. IfSome o IsLeftover) is_made.holds leftover);
         makes = inr (record {
           makings = two_made Disk OldDisk name old_name (is_none old) before mid after makings fills.makings;
-          unmarked = subst (λ o. IfSome o IsUnmarked) is_made.holds unmarked;
+          leftover = subst (λ o. IfSome o IsLeftover) is_made.holds leftover;
           answered = fills.answered;
         });
         cause = cause_on (Some fills.last) old answer (subst (λ d. HasCause told mid after d old answer) fills.disk_is fills.cause);
         leaves = record {
           first = first;
           is_made = is_made;
-          becomes = filled_or_stays (before.stored old_name) fills.last unmarked (from_before (λ o. IsFilledOrStays told synced o fills.last) fills.filled);
+          becomes = filled_or_stays (before.stored old_name) fills.last leftover (from_before (λ o. IsFilledOrStays told synced o fills.last) fills.filled);
         };
         kept = λ fault e other. record { first = first; is_made = is_made; keeps = keeps_both (told first) (told synced) (told fills.last) keeps (fills.kept fault e other) };
         old_stays = if_map (OnlyRead told (mid.stored old_name)) (OnlyRead told (before.stored old_name)) old (λ d stays. from_before (λ o. OnlyRead told o d) stays) fills.old_stays;

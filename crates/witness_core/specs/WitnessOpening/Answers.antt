@@ -6,7 +6,7 @@ use Rattle.std.specs.declared.result.Result.TheVariants.{Ok, Err}
 use Rattle.keri_outside.specs.declared.limits.Limits.{Limits}
 use Rattle.run_status.specs.RunOutside.Told.{Told}
 use Rattle.shelf_log.specs.ShelfLog.Answers.{Reads}
-use Rattle.shelf_log.specs.ShelfLog.Format.{IsUnmarked}
+use Rattle.shelf_log.specs.ShelfLog.Leftover.{IsLeftover}
 use Rattle.shelf_log.specs.declared.shelf_log.fault.ShelfFault.{ShelfFault}
 use Rattle.shelf_log.specs.declared.shelf_log.fault.ShelfFault.TheVariants as shelf
 use Rattle.shelf_log.specs.declared.shelf_log.version.Version.{Version}
@@ -46,12 +46,12 @@ pub record AnswersAlone (limits : Limits) (file : List ℕ) (answer : Answer) : 
   pub made : file ≡ [] → AnswersNew answer
   pub read : file ≢ [] → AnswersRead Two limits file answer
 
--- With an old shelf a file that begins with no mark is filled with its list, and any other is read. Without a mark is an empty
--- file, and what a stop leaves of one that was being filled. So a file of the first version is none, and a shelf is used as it
--- is, whatever the old one holds.
+-- With an old shelf a file that is empty, or that a stop left of one that was being filled, is filled with its list, and any other
+-- is read. So a shelf is used as it is, whatever the old one holds; and a file of the first version is no shelf, as any foreign file
+-- is none.
 pub record AnswersBeside (limits : Limits) (file : List ℕ) (old : Option (List ℕ)) (answer : Answer) : Type 0 where
-  pub filled : IsUnmarked file → IfSome old (λ o. AnswersRead One limits o answer)
-  pub read : (IsUnmarked file → ⊥) → AnswersRead Two limits file answer
+  pub filled : IsLeftover file → IfSome old (λ o. AnswersRead One limits o answer)
+  pub read : (IsLeftover file → ⊥) → AnswersRead Two limits file answer
 
 -- what is answered by the names of a shelf and of an old one, if any, where the outside tells what their files hold
 abbrev pub Answers : Limits → Told → List ℕ → Option (List ℕ) → Answer → Type 0

@@ -9,8 +9,9 @@ use Rattle.shelf_log.specs.KeriDisk.Images.{DiskTold, IsDurable, LeavesOnly}
 use Rattle.run_status.specs.RunOutside.Makings.{AreMakings}
 use Rattle.run_status.specs.RunOutside.Told.{Told, making}
 use Rattle.run_status.specs.declared.run_outside.making.MakingKind.TheVariants.{Disk, OldDisk}
-use Rattle.shelf_log.specs.ShelfLog.Format.{Holds, IsUnmarked}
-use Rattle.shelf_log.specs.ShelfLog.Settled.{IsFilledOrUnmarked, IsUnfinished}
+use Rattle.shelf_log.specs.ShelfLog.Format.{Holds}
+use Rattle.shelf_log.specs.ShelfLog.Leftover.{IsLeftover}
+use Rattle.shelf_log.specs.ShelfLog.Settled.{IsFilledOrLeftover, IsUnfinished}
 use Rattle.shelf_log.specs.declared.shelf_log.version.Version.TheVariants.{One}
 use Rattle.witness_core.specs.WitnessOpening.Answers.{Answer}
 use Rattle.witness_core.specs.declared.witness_opening.fault.OpeningFault.TheVariants.{DiskFault}
@@ -29,7 +30,7 @@ pub record MakesOne {D : Type 0} (before after : Told) (name : List ℕ) (old : 
 -- it was, and then the old one's, or that failed, which is answered: the shelf's file was to be filled
 pub record MakesBoth {D : Type 0} (before after : Told) (name named : List ℕ) (old : Option D) (answer : Answer) : Type 0 where
   pub makings : AreMakings (making Disk name false ∷ making OldDisk named (is_none old) ∷ []) before after
-  pub unmarked : IfSome (before.stored name) IsUnmarked
+  pub leftover : IfSome (before.stored name) IsLeftover
   pub answered : old ≡ None → answer ≡ Err DiskFault
 
 -- What is made by these names, in order, and there is nothing else: the disk of the shelf, which there is where that came about;
@@ -68,13 +69,13 @@ module _ {D : Type 0} (told : D → DiskTold) where
     pub empty : IfSome (told first).file (λ file. file ≡ [])
     pub leaves : LeavesSynced first last IsUnfinished
 
-  -- A file that begins with no mark was filled with the list of an old shelf's file. A stop leaves one of the whole list, or a
-  -- file that still begins with no mark, so that the same words fill it again.
+  -- A file that is empty, or that a stopped migration left, was filled with the list of an old shelf's file. A stop leaves one of the
+  -- whole list, or again what a stopped migration leaves, so that the same words fill it.
   pub record IsFilled (from : Option (List ℕ)) (first last : D) : Type 0 where
-    pub unmarked : IfSome (told first).file IsUnmarked
+    pub leftover : IfSome (told first).file IsLeftover
     pub list : List (List ℕ)
     pub of : IfSome from (λ file. Holds One file list)
-    pub leaves : LeavesSynced first last (IsFilledOrUnmarked list)
+    pub leaves : LeavesSynced first last (IsFilledOrLeftover list)
 
   -- what becomes of the disk of a shelf: it is only read, but where its file is made a shelf, or is filled
   abbrev pub BecomesAlone : D → D → Type 0

@@ -11,7 +11,7 @@ use Rattle.run_status.specs.RunOutside.Makings.{AreMakings}
 use Rattle.run_status.specs.RunOutside.Told.{Told, making}
 use Rattle.run_status.specs.declared.run_outside.making.MakingKind.TheVariants.{OldDisk}
 use Rattle.shelf_log.specs.ShelfLog.Format.{Holds}
-use Rattle.shelf_log.specs.ShelfLog.Settled.{IsFilledOrUnmarked, IsUnfinished}
+use Rattle.shelf_log.specs.ShelfLog.Settled.{IsFilledOrLeftover, IsUnfinished}
 use Rattle.shelf_log.specs.declared.shelf_log.version.Version.TheVariants.{One, Two}
 use Rattle.witness_core.specs.WitnessOpening.Answers.{Answer, AnswersNew, AnswersRead}
 use Rattle.witness_core.specs.WitnessOpening.Disks.{HasCause, OnlyRead}
@@ -43,7 +43,7 @@ module _ {D : Type 0} (told : D → DiskTold) (first : D) where
   -- it stays as it was, or is filled with the list of an old file
   abbrev pub IsFilledOrStays : Option (List ℕ) → D → Type 0
   IsFilledOrStays from last = Keeps (told first) (told last)
-      ⊎ ((list : List (List ℕ)) × IfSome from (λ file. Holds One file list) × LeavesOnly (told first) (told last) (IsFilledOrUnmarked list))
+      ⊎ ((list : List (List ℕ)) × IfSome from (λ file. Holds One file list) × LeavesOnly (told first) (told last) (IsFilledOrLeftover list))
 
   -- The old disk of the name is made, and its list is brought over. Where that isn't done for another reason than a fault of a disk,
   -- the file stays as it was.

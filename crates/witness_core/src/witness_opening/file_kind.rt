@@ -3,10 +3,9 @@ ghost use Rattle.std.specs.Prelude.{◌≡◌, ◌↔◌, [], IsTrue, IfOk, IfSo
 ghost use Rattle.lists.specs.KeriSpecs.Causes.{HasCause};
 ghost use Rattle.shelf_log.specs.KeriDisk.Calls.{Keeps};
 ghost use Rattle.shelf_log.specs.KeriDisk.Images.{IsDurable};
-ghost use Rattle.shelf_log.specs.ShelfLog.Format.{IsUnmarked};
 
 use keri_outside::Failed;
-use shelf_log::{Disk, Version, begins_with_mark};
+use shelf_log::Disk;
 
 /// Whether the file is empty. It syncs first, and writes nothing.
 #[tactic(auto, using(shelf_log::proofs::KeriDiskLemmas::Moments::keeps_both, shelf_log::proofs::KeriDiskLemmas::Moments::durable_kept))]
@@ -19,20 +18,4 @@ pub(crate) fn is_empty<D: Disk>(disk: &mut D) -> Result<bool, Failed>
 {
     disk.sync()?;
     Ok(disk.size()? == 0)
-}
-
-/// Whether the file begins with the mark of no version. It syncs first, and writes nothing.
-#[tactic(auto, using(shelf_log::proofs::KeriDiskLemmas::Moments::keeps_both, shelf_log::proofs::KeriDiskLemmas::Moments::durable_kept))]
-pub(crate) fn is_unmarked<D: Disk>(disk: &mut D) -> Result<bool, Failed>
-    ensures unmarked { IfOk result (λ is_unmarked. IfSome (D.told disk.old).file
-        (λ file. IsTrue is_unmarked ↔ IsUnmarked file)) }
-    ensures durable { OnOk result (IsDurable (D.told disk.new)) }
-    ensures keeps { Keeps (D.told disk.old) (D.told disk.new) }
-    ensures cause { HasCause (D.told disk.old).faults (D.told disk.new).faults result }
-{
-    disk.sync()?;
-    if begins_with_mark(disk, Version::Two)? {
-        return Ok(false);
-    }
-    Ok(!begins_with_mark(disk, Version::One)?)
 }

@@ -1,7 +1,7 @@
 //! A file that is filled with the list of an old shelf.
 ghost use Rattle.std.specs.Prelude.{◌≡◌, Some, IfOk, IfSome, MatchResult, Ok, Err};
 ghost use Rattle.shelf_log.specs.KeriDisk.Images.{IsDurable};
-ghost use Rattle.shelf_log.specs.ShelfLog.Format.{IsUnmarked};
+ghost use Rattle.shelf_log.specs.ShelfLog.Leftover.{IsLeftover};
 ghost use Rattle.witness_core.specs.WitnessOpening.Names.{KeepsNames};
 ghost use Rattle.witness_core.specs.WitnessOpening.Opening.{IsOpen};
 ghost use Rattle.witness_core.specs.WitnessOpening.Ways.{FillsIt};
@@ -13,6 +13,7 @@ use shelf_log::{OldShelf, Returned, Shelf, Version};
 use std::alloc::Global;
 
 /// Makes the disk of the old shelf, whose file is only read, reads its list, and brings that over to the file, which is no shelf.
+#[tactic(auto, using(shelf_log::proofs::ShelfLogLemmas::Leftovers::images_no_shelf))]
 pub(crate) fn fill<O: Outside>(
     alloc: Global,
     disk: O::Disk,
@@ -21,7 +22,7 @@ pub(crate) fn fill<O: Outside>(
     outside: &mut O,
 ) -> Result<Opened<O::Disk>, NotOpened<O::Disk>>
     requires durable { IsDurable (O.Disk.told disk) }
-    requires unmarked { IfSome (O.Disk.told disk).file IsUnmarked }
+    requires leftover { IfSome (O.Disk.told disk).file IsLeftover }
     requires none_yet { (O.Disk.told disk).faults ≡ 0 }
     ensures is_open { IfOk result (λ opened. IsOpen (O.Disk.told opened.shelf.disk) limits
         opened.shelf.limits opened.shelf.broken opened.shelf.list) }

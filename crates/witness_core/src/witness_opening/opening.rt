@@ -4,18 +4,19 @@ ghost use Rattle.std.specs.Option.{option_map};
 ghost use Rattle.witness_core.specs.WitnessOpening.Names.{KeepsNames};
 ghost use Rattle.witness_core.specs.WitnessOpening.Opening.{IsOpen, IsOpening};
 
-use crate::witness_opening::file_kind::{is_empty, is_unmarked};
+use crate::witness_opening::file_kind::is_empty;
 use crate::witness_opening::old_list::fill;
 use crate::witness_opening::ways::{begin, read};
 use crate::witness_opening::{NotOpened, Opened};
 use keri_outside::{Failed, Limits};
 use run_status::Outside;
+use shelf_log::is_leftover;
 use std::alloc::Global;
 
-/// Opens the shelf of a name. An empty file is made one. Where an old shelf is named, a file that begins with the mark of no
-/// version is filled with its list instead, and what it held is lost.
+/// Opens the shelf of a name. An empty file is made one. Where an old shelf is named, such a file is filled with its list instead,
+/// and so is what a stopped migration left.
 ///
-/// A file that is a shelf, or begins as one of either version, isn't written, and the old one's never is, nor is it made.
+/// A file that is a shelf isn't written, nor is any other; and the old one's never is, nor is it made.
 pub fn open_shelf<O: Outside>(
     alloc: Global,
     name: &str,
@@ -89,7 +90,7 @@ fn open_beside<O: Outside>(
         return Err(NotOpened::failed(None));
     };
     let mut disk = disk;
-    match is_unmarked(&mut disk) {
+    match is_leftover(&mut disk) {
         Ok(true) => fill(alloc, disk, old, limits, outside),
         Ok(false) => read(alloc, disk, limits),
         Err(Failed) => Err(NotOpened::failed(Some(disk))),

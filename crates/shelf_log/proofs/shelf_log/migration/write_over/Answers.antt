@@ -1,9 +1,10 @@
 use Rattle.std.proofs.Common.{List, ℕ, ◌∷◌, [], slice_index, refl, ap}
 use Rattle.shelf_log.specs.KeriDisk.Images.{LeavesOnly}
-use Rattle.shelf_log.specs.ShelfLog.Format.{IsNoShelf, IsUnmarked}
+use Rattle.shelf_log.specs.ShelfLog.Format.{IsNoShelf}
+use Rattle.shelf_log.specs.ShelfLog.Leftover.{IsLeftover}
 use Rattle.shelf_log.specs.declared.shelf_log.version.Version.TheVariants.{Two}
 use Rattle.shelf_log.proofs.ShelfLogLemmas.Changes.{none_of_err}
-use Rattle.shelf_log.proofs.ShelfLogLemmas.Migrated.{IsBegunOr, IsUnbegun, no_shelf_unbegun, unmarked_unbegun, after_cut, after_byte, all_but_first, mark_leaves, mark_settles}
+use Rattle.shelf_log.proofs.ShelfLogLemmas.Migrated.{IsBegunOr, IsUnbegun, no_shelf_unbegun, leftover_unbegun, after_cut, after_byte, all_but_first, mark_leaves, mark_settles}
 use Rattle.shelf_log.proofs.KeriDiskLemmas.Moments.{and_then}
 use Rattle.shelf_log.proofs.shelf_log.migration.write_over.Goals as goal
 
@@ -11,7 +12,7 @@ pub returns-in_err-cut_durably-clause-brings : goal.returns-in_err-cut_durably-c
 returns-in_err-cut_durably-clause-brings g c = record {
   settled = none_of_err _ c.from_residual.result c.from_residual.ensures.0;
   moments = cut (IsNoShelf Two) no_shelf_unbegun;
-  unmarked = cut IsUnmarked unmarked_unbegun;
+  leftover = cut IsLeftover leftover_unbegun;
 }
   where
     cut : (N : List ℕ → Type 0) → IsUnbegun N → ((f : List ℕ) → (g.D.Disk.told c.args.disk.now).images f → N f)
@@ -22,7 +23,7 @@ pub returns-in_err-put_durably-clause-brings : goal.returns-in_err-put_durably-c
 returns-in_err-put_durably-clause-brings g c = record {
   settled = none_of_err _ c.from_residual-in_err-put_durably.result c.from_residual-in_err-put_durably.ensures.0;
   moments = byte (IsNoShelf Two) no_shelf_unbegun;
-  unmarked = byte IsUnmarked unmarked_unbegun;
+  leftover = byte IsLeftover leftover_unbegun;
 }
   where
     byte : (N : List ℕ → Type 0) → IsUnbegun N → ((f : List ℕ) → (g.D.Disk.told c.args.disk.now).images f → N f)
@@ -39,7 +40,7 @@ pub returns-in_err-end-clause-brings : goal.returns-in_err-end-clause-brings
 returns-in_err-end-clause-brings g c = record {
   settled = none_of_err _ c.from_residual-in_err-end.result c.from_residual-in_err-end.ensures.0;
   moments = behind (IsNoShelf Two) no_shelf_unbegun;
-  unmarked = behind IsUnmarked unmarked_unbegun;
+  leftover = behind IsLeftover leftover_unbegun;
 }
   where
     behind : (N : List ℕ → Type 0) → IsUnbegun N → ((f : List ℕ) → (g.D.Disk.told c.args.disk.now).images f → N f)
@@ -57,7 +58,7 @@ pub returns-in_err-put_durably-2-clause-brings : goal.returns-in_err-put_durably
 returns-in_err-put_durably-2-clause-brings g c = record {
   settled = none_of_err _ c.from_residual-in_err-put_durably-2.result c.from_residual-in_err-put_durably-2.ensures.0;
   moments = all (IsNoShelf Two) no_shelf_unbegun;
-  unmarked = all IsUnmarked unmarked_unbegun;
+  leftover = all IsLeftover leftover_unbegun;
 }
   where
     all : (N : List ℕ → Type 0) → IsUnbegun N → ((f : List ℕ) → (g.D.Disk.told c.args.disk.now).images f → N f)
@@ -84,7 +85,7 @@ returns-clause-brings g c =
     record {
       settled = mark_settles c.args.list.now c.requires.sized m3 m4 writes.durable writes.file (slice_index c.mark.result 0 ∷ []) (ap (λ (l : List ℕ). slice_index l 0 ∷ []) c.mark.ensures) c.in_ok-put_durably-2.ensures.puts.durable c.in_ok-put_durably-2.ensures.puts.file;
       moments = all (IsNoShelf Two) no_shelf_unbegun;
-      unmarked = all IsUnmarked unmarked_unbegun;
+      leftover = all IsLeftover leftover_unbegun;
     }
   where
     all : (N : List ℕ → Type 0) → IsUnbegun N → ((f : List ℕ) → (g.D.Disk.told c.args.disk.now).images f → N f)
