@@ -275,8 +275,8 @@ def receipt_of(text):
 
 
 def witnesses():
-    """A new shelf, one that is taken up, and one that is filled with an old one's list; and disks that fail, or aren't
-    there."""
+    """A new shelf, one that is taken up, and one that is filled with an old one's list; a foreign file, which isn't; and
+    disks that fail, or aren't there."""
     shelf, old = argument(file_of(NEW, payload(OWN, 1))), argument(file_of(OLD, OWN.encode()))
     first, second, both = signed(OWN, 1), signed(OWN_IXN, 1), signed(OWN, 1) + signed(OWN_IXN, 1)
     for words in (WITNESS_WORDS + ",a", FROM_OLD):
@@ -288,6 +288,10 @@ def witnesses():
     yield from run(WITNESS_WORDS + ",a", "", "9 told=0 Full Disk " + WITNESS_MADE, first, shelf=EMPTY, messages=0)
     yield from run(WITNESS_WORDS + ",a", "shelf 0\n", "3 told=0 Disk", first, shelf=old)
     yield from run(FROM_OLD, receipt_of(OWN_IXN), "0 told=2 End Disk OldDisk " + WITNESS_MADE, second, shelf=EMPTY, old=old)
+    for left in (b"x", b"\0SHELF02", b"\1SHEL"):
+        yield from run(FROM_OLD, receipt_of(OWN_IXN), "0 told=2 End Disk OldDisk " + WITNESS_MADE, second, shelf=argument(left), old=old)
+    for foreign in (b"KS", b"foreign\n", file_of(OLD, OWN.encode())):
+        yield from run(FROM_OLD, "shelf 0\n", "3 told=0 Disk", first, shelf=argument(foreign), old=old)
     yield from run(FROM_OLD, "old 0\n", "3 told=0 Disk OldDisk", first, shelf=EMPTY, old=shelf)
     yield from run(FROM_OLD, "", "8 told=0 Disk OldDisk!", first, shelf=EMPTY)
     yield from run(FROM_OLD, "", "8 told=0 Disk OldDisk!", first, shelf=EMPTY, old=old, makings=1)

@@ -62,6 +62,12 @@ def parsed(mark, data):
         place += 5 + length
 
 
+def is_leftover(data):
+    """Whether a migration that was stopped may leave the bytes: at most one, or behind a first byte 0 any, or behind
+    another than the mark's as much of the rest of the mark as there is."""
+    return len(data) < 2 or data[0] == 0 or (data[0] != NEW[0] and data[1:8] == NEW[1:len(data)])
+
+
 class Fault(Exception):
     """A call of the disk failed, or there is a refusal of this word."""
 
@@ -114,6 +120,8 @@ def words_of(image):
         return sized("list", payloads)
     if place:
         return "NotAShelf(%d)" % place
+    if is_leftover(image):
+        return "leftover"
     payloads, place = parsed(OLD, image)
     return sized("old", payloads) if payloads is not None else "NotAShelf(%d)" % place
 
@@ -307,7 +315,8 @@ def migrations():
     """Version 1 brought over, from files that a stop may have left too."""
     yield Session().put_in(file_of(OLD, PLAIN_ICP)).read_old().read_back()
     yield Session().migrate(b"", [PLAIN_ICP]).told().append(b"x").told().file()
-    for data in (b"", b"\0", b"\0SHELF02" + record(b"other") + b"\0", file_of(OLD, b"other"), b"foreign"):
+    left = (b"", b"\0", b"K", b"\0SHELF02" + record(b"other") + b"\0", b"\1SHELF02" + record(b"other") + b"\0", b"\1SHEL")
+    for data in (*left, file_of(OLD, b"other"), b"foreign", b"KSHELF0", b"\1HELF02"):
         yield Session().migrate(data, [b"abc", b"de"]).told().file().images()
     yield Session().migrate(b"", []).told().file().images()
     yield Session().migrate(b"", [b"abc", b"de"], (1, 24)).images()
