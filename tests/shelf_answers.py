@@ -183,12 +183,13 @@ def test_migration(top):
     check("and then again", run("migrate", old, file), (0, b"stored 5\n", b""))
     holds("gone on", file, payloads + [b"f"])
     whole = shelf(payloads)
-    left = [b"", b"\0", b"x", b"\0" + whole[1:], b"\0" + whole[1:100], b"\0" * 30, b"x" + whole[1:]]
+    left = [b"", b"\0", b"x", b"\0" + whole[1:], b"\0" + whole[1:100], b"\0" * 30, b"x" + whole[1:], b"x" + whole[1:8], b"x" + whole[1:4], b"xS", b"K"]
     for number, data in enumerate(left):
         file.write_bytes(data)
         check(f"left over {number}", run("migrate", old, file), answer)
         check(f"left over {number}: its bytes", file.read_bytes() == whole, True)
-    others = {b"some text": b"not a shelf 0\n", shelf([b"abc"], OLD_MARK): b"not a shelf 0\n", whole[:20]: b"not a shelf 17\n",
+    foreign = (b"some text", b"xy", whole[:2], whole[:7], b"x" + OLD_MARK[1:], b"xxSHELF02", shelf([b"abc"], OLD_MARK))
+    others = {**{data: b"not a shelf 0\n" for data in foreign}, whole[:20]: b"not a shelf 17\n",
               shelf([b"abc", b"other"]): b"another shelf\n", shelf([b"abc"]): b"another shelf\n"}
     for data, told in others.items():
         file.write_bytes(data)

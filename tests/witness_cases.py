@@ -11,7 +11,7 @@ import shutil
 from kit import PLAIN_ICP as ICP
 from kit import body, receipts, said, signed
 from log_cases import REALISTIC
-from row_tables.shelf import NEW, OLD, file_of, parsed
+from row_tables.shelf import NEW, OLD, file_of, is_leftover, parsed
 from row_tables.witness import JOINING, LEAVING, OTHERS, OTHER_OWN_ROT, OWN, OWN_IXN, OWN_IXN_2, OWN_ROT, OWN_ROT_IXN, payload
 from row_tables.witness_calls import WITNESS, Session
 from validate_cases import CASES, SAMPLES
@@ -20,8 +20,9 @@ WORDS = ["witness", "--helper", "rehearsal", "--prefix", WITNESS, "--shelf", "sh
 REFUSED, SEEN, DISK_FAULT = 3, 4, 8
 UNSIGNED = OWN_ROT
 NEVER_READ = signed(OWN, 1)
-# What a stop leaves of a migration. Another file without a mark is not handed on by the wrapper.
+# What a stop leaves of a migration, and an old shelf.
 LEFTOVER = b"\0SHELF02\1\0"
+OLD_SHELF = file_of(OLD, OWN.encode())
 
 
 def served(messages, shelf=b""):
@@ -71,12 +72,25 @@ UNOPENED = {
     "shelf_with_bytes_behind_a_body": (file(payload(OWN, 1), payload(OWN_IXN, 1) + b"x"), None, "log 1\n"),
     "old_shelf_that_is_none": (b"", b"KSHELF0", "old 0\n"),
     "old_shelf_of_the_second_version": (b"", file(payload(OWN, 1)), "old 0\n"),
+    "old_shelf_and_a_text": (b"my notes, and no shelf\n", OLD_SHELF, "shelf 0\n"),
+    "old_shelf_and_two_bytes": (b"ab", OLD_SHELF, "shelf 0\n"),
+    "old_shelf_and_seven_bytes_of_the_mark": (NEW[:7], OLD_SHELF, "shelf 0\n"),
+    "old_shelf_and_the_mark_behind_a_byte_too_many": (b"\1\1" + NEW[1:], OLD_SHELF, "shelf 0\n"),
+    "old_shelf_and_the_rest_of_its_own_mark": (b"\1" + OLD_SHELF[1:], OLD_SHELF, "shelf 0\n"),
+    "old_shelf_as_both": (OLD_SHELF, OLD_SHELF, "shelf 0\n"),
+    "old_shelf_and_one_cut_short": (file(payload(OWN, 1))[:-9], OLD_SHELF, "shelf 13\n"),
 }
 
 # The messages, the shelf, and an old one.
 FILLED = {
-    "old_shelf": ([signed(OWN, 1)], b"", file_of(OLD, OWN.encode())),
-    "old_shelf_and_a_leftover": ([signed(OWN_IXN, 1)], LEFTOVER, file_of(OLD, OWN.encode())),
+    "old_shelf": ([signed(OWN, 1)], b"", OLD_SHELF),
+    "old_shelf_and_a_leftover": ([signed(OWN_IXN, 1)], LEFTOVER, OLD_SHELF),
+    "old_shelf_and_one_byte": ([signed(OWN, 1)], b"x", OLD_SHELF),
+    "old_shelf_and_one_byte_of_the_mark": ([signed(OWN, 1)], NEW[:1], OLD_SHELF),
+    "old_shelf_and_a_byte_0": ([signed(OWN, 1)], b"\0", OLD_SHELF),
+    "old_shelf_and_a_text_behind_a_byte_0": ([signed(OWN, 1)], b"\0my notes, and no shelf\n", OLD_SHELF),
+    "old_shelf_and_the_mark_from_its_second_byte": ([signed(OWN, 1)], b"\1" + file(OWN.encode())[1:], OLD_SHELF),
+    "old_shelf_and_seven_bytes_of_a_leftover": ([signed(OWN, 1)], b"\1" + NEW[1:7], OLD_SHELF),
     "old_shelf_and_a_second_rotation": ([signed(OTHER_OWN_ROT, 2)], b"", file_of(OLD, OWN.encode(), OWN_ROT.encode())),
     "old_shelf_of_313_bytes": ([], b"", file_of(OLD, ICP.encode())),
 }
@@ -137,12 +151,13 @@ def main():
         files = {"a": "".join(messages).encode(), **({"shelf": shelf} if shelf else {})}
         write(name, [*WORDS, "a"], files, text, status, {"shelf": after})
     for name, (shelf, old, line) in UNOPENED.items():
-        if old is None:
+        if old is None or not is_leftover(shelf):
             said = Session().put_in(shelf).start().rows[-1][1]
             assert line == said.replace("NotAShelf(", "shelf ").replace("NotALog(", "log ").replace(")", "\n"), (line, said)
         files = {"a": NEVER_READ.encode(), **({"shelf": shelf} if shelf else {}), **({"old": old} if old is not None else {})}
         write(name, [*WORDS, *(["--from", "old"] if old is not None else []), "a"], files, line, REFUSED, files)
     for name, (messages, shelf, old) in FILLED.items():
+        assert is_leftover(shelf), name
         bodies = file_of(NEW, *parsed(OLD, old)[0])
         text, status, after = served(messages, bodies)
         files = {"a": "".join(messages).encode(), "old": old, **({"shelf": shelf} if shelf else {})}
