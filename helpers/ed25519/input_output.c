@@ -30,6 +30,22 @@ ssize_t read_whole(int file, void *bytes, size_t length)
     return (ssize_t)done;
 }
 
+ssize_t read_whole_at(int file, void *bytes, size_t length, off_t at)
+{
+    size_t done = 0;
+
+    while (done < length) {
+        ssize_t count = pread(file, (char *)bytes + done, length - done, at + (off_t)done);
+        if (count > 0)
+            done += (size_t)count;
+        else if (count == 0)
+            break;
+        else if (errno != EINTR)
+            return -1;
+    }
+    return (ssize_t)done;
+}
+
 bool write_whole(int file, const void *bytes, size_t length)
 {
     size_t done = 0;

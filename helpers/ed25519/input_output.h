@@ -22,6 +22,9 @@ _Noreturn void fail(enum status status, const char *subject, const char *fault);
 /* Reads so many bytes, or fewer only where the input ends. Answers how many, or -1 where reading failed. */
 ssize_t read_whole(int file, void *bytes, size_t length);
 
+/* The same from a place of a file on, whose own place stays. */
+ssize_t read_whole_at(int file, void *bytes, size_t length, off_t at);
+
 /* Writes all bytes. At false, errno says why, and some of them may have been written. */
 bool write_whole(int file, const void *bytes, size_t length);
 

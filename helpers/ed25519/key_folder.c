@@ -3,7 +3,6 @@
 #include <dirent.h>
 #include <errno.h>
 #include <fcntl.h>
-#include <limits.h>
 #include <sodium.h>
 #include <stdlib.h>
 #include <string.h>
@@ -11,11 +10,15 @@
 #include <unistd.h>
 
 #include "input_output.h"
+#include "key_digest.h"
+#include "private_files.h"
 #include "record.h"
 
 #define BASE_64 sodium_base64_VARIANT_URLSAFE_NO_PADDING
 
-enum { SEED_LINE = 45 };
+#define PROMISE ".next-"
+
+enum { SEED_LINE = 45, PROMISE_NAME = sizeof PROMISE + KEY_CHARACTERS };
 
 /* What must not be told. It is in memory of sodium_malloc alone: locked where that is allowed, left out of core dumps,
    and wiped when it is freed. */
@@ -34,129 +37,6 @@ static struct secret *new_secret(void)
         fail(KEY_FAULT, "memory", strerror(errno));
     sodium_memzero(secret, sizeof *secret);
     return secret;
-}
-
-/* What is wrong with what was found, which has to be of the kind and the caller's alone; or NULL. */
-static const char *fault_of(const struct stat *found, mode_t kind)
-{
-    if (S_ISLNK(found->st_mode))
-        return "it is a link: refused";
-    if ((found->st_mode & S_IFMT) != kind)
-        return "it isn't a plain file: refused";
-    if (found->st_uid != geteuid())
-        return "it isn't yours: refused";
-    if ((found->st_mode & 077) != 0)
-        return kind == S_IFDIR ? "others can read or write it: refused (where nobody has: chmod 700 DIR)"
-                               : "others can read or write it: refused (where nobody has: chmod 600 FILE)";
-    return NULL;
-}
-
-/* The path without slashes at its end, behind which a link would be followed. */
-static const char *without_slashes(const char *path)
-{
-    static char text[PATH_MAX];
-    size_t length = strlen(path);
-
-    while (length > 1 && path[length - 1] == '/')
-        length--;
-    if (length >= sizeof text)
-        fail(KEY_FAULT, "the folder", strerror(ENAMETOOLONG));
-    memcpy(text, path, length);
-    text[length] = '\0';
-    return text;
-}
-
-/* Opens a folder that is the caller's alone, and no link. */
-static int open_folder(const char *path)
-{
-    struct stat found;
-    const char *name = without_slashes(path);
-    int folder = open(name, O_RDONLY | O_DIRECTORY | O_NOFOLLOW | O_CLOEXEC);
-    const char *fault;
-
-    if (folder < 0)
-        fail(KEY_FAULT, path, why_not_opened(AT_FDCWD, name));
-    fault = fstat(folder, &found) == 0 ? fault_of(&found, S_IFDIR) : strerror(errno);
-    if (fault != NULL)
-        fail(KEY_FAULT, path, fault);
-    return folder;
-}
-
-/* Syncs the folder's own name in the folder above. */
-static void sync_name(int folder)
-{
-    int above = openat(folder, "..", O_RDONLY | O_DIRECTORY | O_CLOEXEC);
-
-    if (above < 0 || fsync(above) != 0)
-        fail(KEY_FAULT, "the folder above", strerror(errno));
-    (void)close(above);
-}
-
-/* What is wrong with what the folder has under the name, or NULL. What has gone was another run's unfinished file. */
-static const char *fault_of_entry(int folder, const char *name)
-{
-    struct stat found;
-
-    if (strcmp(name, ".") == 0 || strcmp(name, "..") == 0)
-        return NULL;
-    if (fstatat(folder, name, &found, AT_SYMLINK_NOFOLLOW) != 0)
-        return errno == ENOENT ? NULL : strerror(errno);
-    return fault_of(&found, S_IFREG);
-}
-
-/* The entries of the folder, to be read one by one. */
-static DIR *entries_of(int folder, const char *path)
-{
-    int copy = dup(folder);
-    DIR *entries = copy < 0 ? NULL : fdopendir(copy);
-
-    if (entries == NULL)
-        fail(KEY_FAULT, path, strerror(errno));
-    return entries;
-}
-
-/* Looks at all that is in the folder: plain files that are the caller's alone. */
-static void look_through(int folder)
-{
-    DIR *entries = entries_of(folder, "the folder");
-    const struct dirent *entry;
-
-    for (errno = 0; (entry = readdir(entries)) != NULL; errno = 0) {
-        const char *fault = fault_of_entry(folder, entry->d_name);
-        if (fault != NULL)
-            fail(KEY_FAULT, entry->d_name, fault);
-    }
-    if (errno != 0)
-        fail(KEY_FAULT, "the folder", strerror(errno));
-    (void)closedir(entries);
-}
-
-/* Opens the folder, made where it isn't there, once its name is kept and all in it is the caller's alone. */
-static int open_or_make_folder(const char *path)
-{
-    if (mkdir(path, 0700) != 0 && errno != EEXIST)
-        fail(KEY_FAULT, path, strerror(errno));
-    int folder = open_folder(path);
-    sync_name(folder);
-    look_through(folder);
-    return folder;
-}
-
-/* Writes a new file and syncs it. Answers NULL, or what failed, and then there is no such file. */
-static const char *write_new_file(int folder, const char *name, const void *bytes, size_t length)
-{
-    int file = openat(folder, name, O_WRONLY | O_CREAT | O_EXCL | O_NOFOLLOW | O_CLOEXEC, 0600);
-    const char *fault = NULL;
-
-    if (file < 0)
-        return strerror(errno);
-    if (!write_whole(file, bytes, length) || fsync(file) != 0)
-        fault = strerror(errno);
-    if (close(file) != 0 && fault == NULL)
-        fault = strerror(errno);
-    if (fault != NULL)
-        (void)unlinkat(folder, name, 0);
-    return fault;
 }
 
 /* Keeps the secret's line under the key's name: it is written under another, and renamed once it is whole. What that
@@ -189,17 +69,68 @@ static const char *make_pair(char code, struct secret *secret, char key[KEY_CHAR
     return NULL;
 }
 
-void make_key(const char *path, char code, char key[KEY_CHARACTERS + 1])
+/* A new secret. */
+static struct secret *random_secret(void)
 {
-    int folder = open_or_make_folder(path);
     struct secret *secret = new_secret();
 
     randombytes_buf(secret->seed + 1, crypto_sign_SEEDBYTES);
     (void)sodium_bin2base64(secret->line, sizeof secret->line, secret->seed, sizeof secret->seed, BASE_64);
     secret->line[SEED_LINE - 1] = '\n';
+    return secret;
+}
+
+void make_key(const char *path, char code, char key[KEY_CHARACTERS + 1])
+{
+    int folder = open_or_make_folder(path);
+    struct secret *secret = random_secret();
     const char *fault = make_pair(code, secret, key);
+
     if (fault == NULL)
         fault = keep(folder, key, secret);
+    sodium_free(secret);
+    if (fault != NULL)
+        fail(KEY_FAULT, path, fault);
+    (void)close(folder);
+}
+
+/* The name of the file with the digest that was told of a key made to be promised. */
+static void name_promise(const char *key, char name[PROMISE_NAME])
+{
+    memcpy(name, PROMISE, sizeof PROMISE - 1);
+    memcpy(name + sizeof PROMISE - 1, key, KEY_CHARACTERS + 1);
+}
+
+/* Keeps the digest of the key, and then the secret. Of a key that isn't kept no digest is left. Answers NULL, or what
+   failed. */
+static const char *keep_next(int folder, const char *key, const char *digest, const struct secret *secret)
+{
+    struct stat found;
+    char name[PROMISE_NAME], line[KEY_CHARACTERS + 1];
+    const char *fault;
+
+    name_promise(key, name);
+    memcpy(line, digest, KEY_CHARACTERS);
+    line[KEY_CHARACTERS] = '\n';
+    fault = write_new_file(folder, name, line, sizeof line);
+    if (fault != NULL)
+        return fault;
+    fault = keep(folder, key, secret);
+    if (fault != NULL && fstatat(folder, key, &found, AT_SYMLINK_NOFOLLOW) != 0)
+        (void)unlinkat(folder, name, 0);
+    return fault;
+}
+
+void make_next_key(const char *path, char code, char key[KEY_CHARACTERS + 1], char digest[KEY_CHARACTERS + 1])
+{
+    int folder = open_or_make_folder(path);
+    struct secret *secret = random_secret();
+    const char *fault = make_pair('D', secret, key);
+
+    if (fault == NULL && !digest_of_key(code, key, digest))
+        fault = "libsodium makes no digest";
+    if (fault == NULL)
+        fault = keep_next(folder, key, digest, secret);
     sodium_free(secret);
     if (fault != NULL)
         fail(KEY_FAULT, path, fault);
@@ -209,19 +140,14 @@ void make_key(const char *path, char code, char key[KEY_CHARACTERS + 1])
 /* Reads the line of the key's file. Answers NULL, or what is wrong. */
 static const char *read_line(int folder, const char *key, struct secret *secret)
 {
-    struct stat found;
-    int file = openat(folder, key, O_RDONLY | O_NOFOLLOW | O_NONBLOCK | O_CLOEXEC);
-    const char *fault;
+    bool is_there;
     ssize_t count = 0;
+    const char *fault = read_file(folder, key, secret->line, sizeof secret->line, &count, &is_there);
 
-    if (file < 0)
-        return errno == ENOENT ? "there is no such key" : why_not_opened(folder, key);
-    fault = fstat(file, &found) == 0 ? fault_of(&found, S_IFREG) : strerror(errno);
-    if (fault == NULL && (count = read_whole(file, secret->line, sizeof secret->line)) < 0)
-        fault = strerror(errno);
+    if (fault == NULL && !is_there)
+        fault = "there is no such key";
     if (fault == NULL && (count != SEED_LINE || secret->line[SEED_LINE - 1] != '\n'))
         fault = "its file doesn't hold a seed";
-    (void)close(file);
     return fault;
 }
 
@@ -269,51 +195,96 @@ static bool is_key(const char *name)
 
 static int by_spelling(const void *one, const void *other)
 {
-    return memcmp(one, other, KEY_CHARACTERS);
+    return memcmp(((const struct kept_key *)one)->name, ((const struct kept_key *)other)->name, KEY_CHARACTERS);
 }
 
-/* The names of the folder's keys, in the order of their spellings; how many goes to the count. */
-static key_name *key_names(int folder, const char *path, size_t *count)
+/* The folder's keys with their names alone, in the order of their spellings; how many goes to the count. */
+static struct kept_key *named_keys(int folder, const char *path, size_t *count)
 {
     DIR *entries = entries_of(folder, path);
     const struct dirent *entry;
-    key_name *names = NULL;
+    struct kept_key *keys = NULL;
 
     *count = 0;
     for (errno = 0; (entry = readdir(entries)) != NULL; errno = 0) {
         if (!is_key(entry->d_name))
             continue;
-        key_name *more = realloc(names, (*count + 1) * sizeof *names);
+        struct kept_key *more = realloc(keys, (*count + 1) * sizeof *keys);
         if (more == NULL)
             fail(KEY_FAULT, "memory", strerror(errno));
-        names = more;
-        memcpy(names[(*count)++], entry->d_name, sizeof *names);
+        keys = more;
+        keys[*count] = (struct kept_key){.has_signed = false};
+        memcpy(keys[(*count)++].name, entry->d_name, KEY_CHARACTERS + 1);
     }
     if (errno != 0)
         fail(KEY_FAULT, path, strerror(errno));
     (void)closedir(entries);
     if (*count == 0)
         fail(KEY_FAULT, path, "there is no key in it");
-    qsort(names, *count, sizeof *names, by_spelling);
-    return names;
+    qsort(keys, *count, sizeof *keys, by_spelling);
+    return keys;
 }
 
-key_name *kept_keys(const char *path, size_t *count)
+/* Notes of the keys which have signed an event, by the names of the records. */
+static void note_signed(int folder, const char *path, struct kept_key *keys, size_t count)
+{
+    DIR *entries = entries_of(folder, path);
+    const struct dirent *entry;
+    struct kept_key sought = {.has_signed = false};
+
+    for (errno = 0; (entry = readdir(entries)) != NULL; errno = 0) {
+        if (!is_record(folder, entry->d_name, sought.name + 1))
+            continue;
+        for (const char *code = "BD"; *code != '\0'; code++) {
+            sought.name[0] = *code;
+            struct kept_key *key = bsearch(&sought, keys, count, sizeof *keys, by_spelling);
+            if (key != NULL)
+                key->has_signed = true;
+        }
+    }
+    if (errno != 0)
+        fail(KEY_FAULT, path, strerror(errno));
+    (void)closedir(entries);
+}
+
+/* Reads the digest that was told of a key made to be promised, and leaves it empty for others. Answers NULL, or what is
+   wrong. */
+static const char *read_promise(int folder, struct kept_key *key)
+{
+    char name[PROMISE_NAME], line[KEY_CHARACTERS + 2] = "", digest[KEY_CHARACTERS + 1];
+    bool is_there;
+    ssize_t count = 0;
+
+    name_promise(key->name, name);
+    const char *fault = read_file(folder, name, line, sizeof line, &count, &is_there);
+    if (fault != NULL || !is_there)
+        return fault;
+    if (count != KEY_CHARACTERS + 1 || line[KEY_CHARACTERS] != '\n' || (line[0] != BY_BLAKE3 && line[0] != BY_SHA256)
+        || !digest_of_key(line[0], key->name, digest) || memcmp(digest, line, KEY_CHARACTERS) != 0)
+        return "its file .next-KEY doesn't hold its digest: refused (without that file it counts as not made by next)";
+    memcpy(key->promise, digest, sizeof digest);
+    return NULL;
+}
+
+struct kept_key *kept_keys(const char *path, size_t *count)
 {
     int folder = open_folder(path);
-    key_name *names = key_names(folder, path, count);
+    struct kept_key *keys = named_keys(folder, path, count);
 
     for (size_t place = 0; place < *count; place++) {
         struct secret *secret = new_secret();
-        const char *fault = read_line(folder, names[place], secret);
+        const char *fault = read_line(folder, keys[place].name, secret);
         if (fault == NULL)
-            fault = read_pair(names[place], secret);
+            fault = read_pair(keys[place].name, secret);
         sodium_free(secret);
+        if (fault == NULL)
+            fault = read_promise(folder, keys + place);
         if (fault != NULL)
-            fail(KEY_FAULT, names[place], fault);
+            fail(KEY_FAULT, keys[place].name, fault);
     }
+    note_signed(folder, path, keys, *count);
     (void)close(folder);
-    return names;
+    return keys;
 }
 
 void allow_event(const char *path, const char *key, const char *said)

@@ -11,17 +11,15 @@
 #include <sys/stat.h>
 #include <unistd.h>
 
-#include "blake3_block.h"
 #include "event_front.h"
 #include "input_output.h"
+#include "key_digest.h"
 #include "key_folder.h"
+#include "key_lines.h"
 #include "primitives.h"
 #include "protocol.h"
 
-enum {
-    LEAST_STACK = 256 * 1024,
-    LINES = sizeof "key " + 2 * sizeof "next " + 3 * KEY_CHARACTERS /* a line feed for each NUL */
-};
+enum { LEAST_STACK = 256 * 1024 };
 
 /* Puts something that can't be read or written where a standard stream is closed, lest a key's file come to stand
    there. */
@@ -47,101 +45,113 @@ static void prepare(void)
         fail(KEY_FAULT, "signals", strerror(errno));
 }
 
-/* A line of a plan: its name, and a key or a digest. */
-static void add_line(char *text, const char *name, const char *value)
-{
-    strcat(text, name);
-    strcat(text, value);
-    strcat(text, "\n");
-}
-
-/* Adds the lines of a key, as a plan takes them: it, and the digests by which an event before commits to it, that by
-   SHA2-256, and that by BLAKE3. The text has room for LINES characters more. */
-static void add_lines(char *text, const char *key)
-{
-    char by_sha256[KEY_CHARACTERS + 1], by_blake3[KEY_CHARACTERS + 1];
-    unsigned char digest[crypto_hash_sha256_BYTES];
-
-    if (crypto_hash_sha256(digest, (const unsigned char *)key, KEY_CHARACTERS) != 0)
-        fail(KEY_FAULT, key, "libsodium makes no digest of it");
-    write_key('I', digest, by_sha256);
-    blake3_of_block((const unsigned char *)key, KEY_CHARACTERS, digest);
-    write_key('E', digest, by_blake3);
-    add_line(text, "key ", key);
-    add_line(text, "next ", by_sha256);
-    add_line(text, "next ", by_blake3);
-}
-
-/* Makes a key, and prints its lines. */
-static void new_key(const char *folder, char code)
-{
-    char key[KEY_CHARACTERS + 1], text[LINES + 1] = "", fault[512];
-
-    make_key(folder, code, key);
-    add_lines(text, key);
-    if (write_whole(STDOUT_FILENO, text, strlen(text)))
-        return;
-    (void)snprintf(fault, sizeof fault, "the key %s is kept, but standard output: %s", key, strerror(errno));
-    fail(WRITE_FAULT, folder, fault);
-}
-
-/* Prints the lines of the keys that are kept. */
-static void show_keys(const char *folder)
-{
-    size_t count;
-    key_name *keys = kept_keys(folder, &count);
-    char *text = calloc(count + 1, LINES), *end = text;
-
-    if (text == NULL)
-        fail(KEY_FAULT, "memory", strerror(errno));
-    for (size_t place = 0; place < count; place++) {
-        add_lines(end, keys[place]);
-        end += strlen(end);
-    }
-    if (!write_whole(STDOUT_FILENO, text, strlen(text)))
-        fail(WRITE_FAULT, "standard output", strerror(errno));
-    free(text);
-    free(keys);
-}
-
 /* Prints the forms of the words. */
 static void help(void)
 {
     static const char text[] =
         "usage: keri-ed25519 new DIR [--witness]\n"
+        "       keri-ed25519 next DIR [--sha256]\n"
         "       keri-ed25519 show DIR\n"
         "       keri-ed25519 allow DIR KEY DIGEST\n"
         "       KERI_KEYS=DIR keri-ed25519 rehearse\n"
         "\n"
-        "new makes a key, keeps it in the folder DIR, and prints its lines for a plan; with --witness it can't be\n"
-        "rotated. show prints the lines of the keys that are kept there. allow lets the KEY sign the event with this\n"
-        "DIGEST, though it has signed another one for its place. rehearse answers questions on standard input, as\n"
-        "keri asks them, with the keys in the folder that KERI_KEYS names. man keri-ed25519 has the statuses.\n"
+        "new makes a key, keeps it in the folder DIR, and prints its line key for a plan; with --witness it can't be\n"
+        "rotated. next makes another key, which a plan promises, and prints its line next alone, a digest by BLAKE3,\n"
+        "or with --sha256 by SHA2-256. show prints what the folder knows of each key, and its lines; those that begin\n"
+        "with # are for no plan. allow lets the KEY sign the event with this DIGEST, though it has signed another one\n"
+        "for its place. rehearse answers questions on standard input, as keri asks them, with the keys in the folder\n"
+        "that KERI_KEYS names. man keri-ed25519 has the statuses.\n"
         "\n"
-        "example: keri-ed25519 new keys > keys.pub\n";
+        "example: keri-ed25519 new keys > keys.pub && keri-ed25519 next drawer > drawer.pub\n";
 
     if (!write_whole(STDOUT_FILENO, text, strlen(text)))
         fail(WRITE_FAULT, "standard output", strerror(errno));
 }
 
-/* Whether the words are those of `allow`, with a key and a digest. */
-static bool allows(int count, char **words)
-{
-    unsigned char key[KEY_BYTES];
-    char name[NAME_CHARACTERS + 1];
+/* A word that the program takes first, its form, how many words stand behind it at least, and the option that may stand
+   behind these. */
+static const struct form {
+    const char *word, *text;
+    int least;
+    const char *option;
+} forms[] = {
+    {"new", "new DIR [--witness]", 1, "--witness"}, {"next", "next DIR [--sha256]", 1, "--sha256"},
+    {"show", "show DIR", 1, NULL}, {"allow", "allow DIR KEY DIGEST", 3, NULL},
+    {"rehearse", "rehearse", 0, NULL}, {"--help", "--help", 0, NULL}, {"-h", "-h", 0, NULL}, {"help", "help", 0, NULL},
+};
 
-    return count == 5 && strcmp(words[1], "allow") == 0 && words[2][0] != '-' && strlen(words[3]) == KEY_CHARACTERS
-        && read_key(words[3], key) && strlen(words[4]) == NAME_CHARACTERS && read_name(words[4], "EI", name);
+/* Ends the program, since the words aren't of the form. */
+static _Noreturn void wrong(const char *word, const char *fault, const char *form)
+{
+    char text[512];
+
+    (void)snprintf(text, sizeof text, "%s: %s", fault, form);
+    fail(WORDS, word, text);
 }
 
-/* The code of the key that the words ask to be made, or 0 where they aren't of that form. */
-static char code_of(int count, char **words)
+/* The form whose word comes first. */
+static const struct form *form_of(int count, char **words)
 {
-    if (count < 3 || count > 4 || strcmp(words[1], "new") != 0 || words[2][0] == '-')
-        return 0;
-    if (count == 3)
-        return 'D';
-    return strcmp(words[3], "--witness") == 0 ? 'B' : 0;
+    static const char all[] = "new DIR [--witness] | next DIR [--sha256] | show DIR | allow DIR KEY DIGEST | rehearse; "
+                              "--help says more";
+
+    if (count < 2)
+        fail(WORDS, "usage", all);
+    for (size_t place = 0; place < sizeof forms / sizeof *forms; place++)
+        if (strcmp(words[1], forms[place].word) == 0)
+            return forms + place;
+    wrong(words[1], "it is no word of this program", all);
+}
+
+/* Sees to it that the words behind the first are those of its form; answers whether its option is among them. */
+static bool has_option(const struct form *form, int count, char **words)
+{
+    for (int place = 2; place < count; place++) {
+        bool is_option = form->option != NULL && strcmp(words[place], form->option) == 0;
+        if (words[place][0] == '-' && !is_option)
+            wrong(words[place], "it doesn't go with this word", form->text);
+        if (is_option && place != 2 + form->least)
+            wrong(words[place], "it stands once, behind the folder", form->text);
+        if (!is_option && place >= 2 + form->least)
+            wrong(words[place], "it is a word too many", form->text);
+    }
+    if (count < 2 + form->least)
+        wrong(form->word, "a word is missing", form->text);
+    return count > 2 + form->least;
+}
+
+/* Sees to it that what is to be allowed is a key and a digest. */
+static void look_at_leave(const struct form *form, const char *key, const char *digest)
+{
+    unsigned char bytes[KEY_BYTES];
+    char name[NAME_CHARACTERS + 1];
+
+    if (strlen(key) != KEY_CHARACTERS || !read_key(key, bytes))
+        wrong(key, "it isn't a key", form->text);
+    if (strlen(digest) != NAME_CHARACTERS || !read_name(digest, "EI", name))
+        wrong(digest, "it isn't a digest", form->text);
+}
+
+/* Does what the words ask for. */
+static void run(int count, char **words)
+{
+    const struct form *form = form_of(count, words);
+    bool is_other = has_option(form, count, words);
+
+    if (strcmp(form->word, "new") == 0)
+        print_new(words[2], is_other ? 'B' : 'D');
+    else if (strcmp(form->word, "next") == 0)
+        print_next(words[2], is_other ? BY_SHA256 : BY_BLAKE3);
+    else if (strcmp(form->word, "show") == 0)
+        print_kept(words[2]);
+    else if (strcmp(form->word, "rehearse") == 0)
+        serve(getenv("KERI_KEYS"));
+    else if (strcmp(form->word, "allow") != 0)
+        help();
+    else {
+        look_at_leave(form, words[3], words[4]);
+        allow_event(words[2], words[3], words[4]);
+    }
 }
 
 int main(int count, char **words)
@@ -151,18 +161,6 @@ int main(int count, char **words)
     (void)umask(077);
     if (sodium_init() < 0)
         fail(KEY_FAULT, "libsodium", "it can't start");
-    char code = code_of(count, words);
-    if (code != 0)
-        new_key(words[2], code);
-    else if (count == 3 && strcmp(words[1], "show") == 0 && words[2][0] != '-')
-        show_keys(words[2]);
-    else if (allows(count, words))
-        allow_event(words[2], words[3], words[4]);
-    else if (count == 2 && strcmp(words[1], "rehearse") == 0)
-        serve(getenv("KERI_KEYS"));
-    else if (count == 2 && (strcmp(words[1], "--help") == 0 || strcmp(words[1], "-h") == 0))
-        help();
-    else
-        fail(WORDS, "usage", "new DIR [--witness] | show DIR | allow DIR KEY DIGEST | rehearse; --help says more");
+    run(count, words);
     return 0;
 }

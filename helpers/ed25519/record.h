@@ -3,6 +3,7 @@
 #ifndef RECORD_H
 #define RECORD_H
 
+#include <stdbool.h>
 #include <stddef.h>
 
 #include "event_front.h"
@@ -17,5 +18,9 @@ const char *record_event(int folder, const char *key, const unsigned char *body,
 /* Records that the key may sign the event with this digest though it has signed another one for its place. Answers
    NULL, or what failed. */
 const char *record_leave(int folder, const char *key, const char said[NAME_CHARACTERS + 1]);
+
+/* Whether this is the name of a record in the folder with something in it. The key's 43 characters without its code,
+   and a NUL behind, go to the key. */
+bool is_record(int folder, const char *name, char key[KEY_CHARACTERS]);
 
 #endif
