@@ -15,8 +15,8 @@ from log_cases import by_prefix, field, log
 SECONDS = 60
 BOTH = ["sign 0 0", "sign 1 1"]
 
-# A key, and the digest by which an event before commits to it.
-Key = collections.namedtuple("Key", "text digest")
+# A key, and of one that an event is to promise the digest by which it does.
+Key = collections.namedtuple("Key", "text digest", defaults=[None])
 
 
 class Party:
@@ -25,10 +25,21 @@ class Party:
     def __init__(self, helper, folder):
         self.helper, self.folder = helper, folder
 
+    def told(self, *words):
+        """The lines that the helper writes of the folder."""
+        words = [self.helper, words[0], self.folder, *words[1:]]
+        return subprocess.run(words, stdout=subprocess.PIPE, check=True, text=True).stdout.splitlines()
+
     def new(self, *words):
-        done = subprocess.run([self.helper, "new", self.folder, *words], stdout=subprocess.PIPE, check=True, text=True)
-        key, by_sha256, _ = [line.split(" ")[1] for line in done.stdout.splitlines()]
-        return Key(key, by_sha256)
+        """A key that is presented at once."""
+        [line] = self.told("new", *words)
+        return Key(line.removeprefix("key "))
+
+    def next(self):
+        """A key that an event promises, and a rotation presents: the key is shown behind its digest."""
+        [line] = self.told("next", "--sha256")
+        shown = self.told("show")
+        return Key(shown[shown.index(line) + 1].removeprefix("key "), line.removeprefix("next "))
 
     def allow(self, key, text):
         """Lets the key sign an event though it has signed another one for its place."""
@@ -153,8 +164,8 @@ def live(day):
     """Has the two controllers make their events. Answers the stream of all, and another rotation that the first
     controller signs for the place of the one in it."""
     anna, ben = day.anna, day.ben
-    one = [anna.party.new() for _ in range(4)]
-    two = [[ben.party.new(), ben.party.new()] for _ in range(3)]
+    one = [anna.party.new(), *(anna.party.next() for _ in range(3))]
+    two = [[ben.party.new(), ben.party.new()], *([ben.party.next(), ben.party.next()] for _ in range(2))]
     witnessed = ["add " + witness.key for witness in day.witnesses] + ["bt 2"]
     stream = anna.add(day.with_one_more, "icp", *key_lines(one[:1], one[1:2]), *witnessed, SIGN)
     stream += ben.add(day.apart, "dip", "di " + said(anna.events[0]), *key_lines(two[0], two[1]), *witnessed, *BOTH)

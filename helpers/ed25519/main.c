@@ -54,6 +54,7 @@ static void help(void)
         "       keri-ed25519 show DIR\n"
         "       keri-ed25519 allow DIR KEY DIGEST\n"
         "       KERI_KEYS=DIR keri-ed25519 rehearse\n"
+        "       keri-ed25519 --version\n"
         "\n"
         "new makes a key, keeps it in the folder DIR, and prints its line key for a plan; with --witness it can't be\n"
         "rotated. next makes another key, which a plan promises, and prints its line next alone, a digest by BLAKE3,\n"
@@ -68,6 +69,16 @@ static void help(void)
         fail(WRITE_FAULT, "standard output", strerror(errno));
 }
 
+/* Prints which version this is, and of which library. */
+static void version(void)
+{
+    char text[128];
+    int length = snprintf(text, sizeof text, "keri-ed25519 %s over libsodium %s\n", VERSION, sodium_version_string());
+
+    if (!write_whole(STDOUT_FILENO, text, (size_t)length))
+        fail(WRITE_FAULT, "standard output", strerror(errno));
+}
+
 /* A word that the program takes first, its form, how many words stand behind it at least, and the option that may stand
    behind these. */
 static const struct form {
@@ -78,6 +89,7 @@ static const struct form {
     {"new", "new DIR [--witness]", 1, "--witness"}, {"next", "next DIR [--sha256]", 1, "--sha256"},
     {"show", "show DIR", 1, NULL}, {"allow", "allow DIR KEY DIGEST", 3, NULL},
     {"rehearse", "rehearse", 0, NULL}, {"--help", "--help", 0, NULL}, {"-h", "-h", 0, NULL}, {"help", "help", 0, NULL},
+    {"--version", "--version", 0, NULL}, {"-V", "-V", 0, NULL},
 };
 
 /* Ends the program, since the words aren't of the form. */
@@ -146,6 +158,8 @@ static void run(int count, char **words)
         print_kept(words[2]);
     else if (strcmp(form->word, "rehearse") == 0)
         serve(getenv("KERI_KEYS"));
+    else if (strcmp(form->word, "--version") == 0 || strcmp(form->word, "-V") == 0)
+        version();
     else if (strcmp(form->word, "allow") != 0)
         help();
     else {
