@@ -4,6 +4,7 @@
    TRACE              the name of each step is written to standard error, and what becomes of locked memory
    DIE_AT=n, FAIL_AT=n   the program is killed at the step of that number, from 1, or the step fails as on a full disk
    CHOPPED            every other read or write is interrupted, and the others move one byte
+   COUNT_READS        how many bytes were read of files, other than standard input, is written at the end
    NO_LOCKING         memory can't be locked */
 #define _GNU_SOURCE
 #include <dlfcn.h>
@@ -16,6 +17,7 @@
 #include <unistd.h>
 
 typedef ssize_t moving(int, void *, size_t);
+typedef ssize_t moving_at(int, void *, size_t, off_t);
 typedef int syncing(int);
 typedef int renaming(int, const char *, int, const char *);
 typedef int locking(const void *, size_t);
@@ -55,12 +57,36 @@ static size_t chopped(int *calls, size_t length)
     return (*calls)++ % 2;
 }
 
+static long bytes_read;
+
+/* Notes how many bytes were read of the file. */
+static ssize_t counted(int file, ssize_t count)
+{
+    if (file != STDIN_FILENO && count > 0)
+        bytes_read += count;
+    return count;
+}
+
+__attribute__((destructor)) static void tell_reads(void)
+{
+    if (getenv("COUNT_READS"))
+        dprintf(STDERR_FILENO, "%ld\n", bytes_read);
+}
+
 ssize_t read(int file, void *bytes, size_t length)
 {
     static int calls;
     size_t moved = chopped(&calls, length);
 
-    return moved || !length ? ((moving *)dlsym(RTLD_NEXT, "read"))(file, bytes, moved) : -1;
+    return moved || !length ? counted(file, ((moving *)dlsym(RTLD_NEXT, "read"))(file, bytes, moved)) : -1;
+}
+
+ssize_t pread(int file, void *bytes, size_t length, off_t at)
+{
+    static int calls;
+    size_t moved = chopped(&calls, length);
+
+    return moved || !length ? counted(file, ((moving_at *)dlsym(RTLD_NEXT, "pread"))(file, bytes, moved, at)) : -1;
 }
 
 ssize_t write(int file, const void *bytes, size_t length)

@@ -24,9 +24,10 @@ def missing():
     return None
 
 
-def build(folder):
-    """Builds keri-ed25519 in the folder, and answers its path."""
-    subprocess.run(["make", "-s", "-C", HELPERS / "ed25519", f"OUT={folder}"], check=True)
+def build(folder, **variables):
+    """Builds keri-ed25519 in the folder, with these variables of make, and answers its path."""
+    given = [f"{name}={value}" for name, value in variables.items()]
+    subprocess.run(["make", "-s", "-C", HELPERS / "ed25519", f"OUT={folder}", *given], check=True)
     return os.path.join(folder, "keri-ed25519")
 
 

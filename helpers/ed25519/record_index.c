@@ -6,8 +6,10 @@
 #include <string.h>
 #include <sys/stat.h>
 
-/* All indexes together take so much at most, or there is one alone. */
-enum { MOST_HELD = 64 * 1024 * 1024 };
+/* All indexes together take hardly more bytes than that, or there is one alone. */
+#ifndef MOST_HELD
+#define MOST_HELD 67108864
+#endif
 
 /* Where a line stands, and the number of its event. */
 struct place {
