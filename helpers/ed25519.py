@@ -1,6 +1,6 @@
 #!/usr/bin/env python3
 """The helper protocol over PyNaCl: what keri-ed25519 does, but for making keys and allowing what was refused, written
-apart from it.
+apart from it. It reads a record whole for each signature, and holds nothing of it.
 
 It is there to test keri-ed25519 against. Seeds aren't locked in memory and aren't wiped here. README.md in the folder
 ed25519 has the protocol, the key folder and the statuses.
