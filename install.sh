@@ -12,7 +12,8 @@ usage: ./install.sh [--prefix DIR] [--uninstall]
 Copies keri to DIR/bin, DIR/lib/keri and DIR/share, where DIR is /usr/local if none is named; --uninstall removes just these
 files again. Where the variable DESTDIR is set, that folder stands before DIR, as those who make packages want it.
 The status is 0, or 1 where something couldn't be done, which is said on standard error, or 2 for other words, as a DIR
-that begins with ~ because the shell has left it so, as some do in --prefix=~/DIR.
+that begins with ~ because the shell has left it so, as some do in --prefix=~/DIR. It is 71, and nothing is copied, where
+release/SHA256SUMS isn't there or has another checksum than that of the program.
 
 example: ./install.sh --prefix ~/.local
 TEXT
@@ -20,7 +21,7 @@ TEXT
 
 refuse() {
     printf 'install.sh: %s\n' "$*" >&2
-    exit 1
+    exit "${status:-1}"
 }
 
 top=$(dirname "$(readlink -f "$0")") || exit 1
@@ -56,6 +57,8 @@ helper=helpers/ed25519/out/keri-ed25519
 files() {
     cat <<TEXT
 755 $program release/keri-x86_64-linux
+644 lib/keri/SHA256SUMS release/SHA256SUMS
+644 lib/keri/SOURCES release/SOURCES
 644 lib/keri/judge packaging/judge
 644 lib/keri/look packaging/look
 644 lib/keri/answers packaging/answers
@@ -129,6 +132,12 @@ if [ -n "$uninstall" ]; then
     exit 0
 fi
 
+status=71
+[ -r "$top/release/SHA256SUMS" ] ||
+    refuse "release/SHA256SUMS isn't there, so nothing says whether the program is unchanged: get the clone or the package again"
+[ "$("$top/release/program" sums)" = "$(cat "$top/release/SHA256SUMS")" ] ||
+    refuse "the program isn't the one whose checksum is in release/SHA256SUMS, so it isn't installed: get the clone or the package again"
+status=1
 [ "$(uname -sm)" = "Linux x86_64" ] || refuse "the program is for Linux on x86-64, and this is $(uname -sm)"
 "$top/release/keri-x86_64-linux" check /dev/null ||
     refuse "the program doesn't run here: it needs glibc 2.34 or newer, and this is $(getconf GNU_LIBC_VERSION 2>/dev/null || echo 'none or another C library')"

@@ -27,6 +27,8 @@ def wrapped(program, folder):
     """The path of the script `keri` round this program, as it would be installed in the folder, which is made."""
     shutil.copytree(TOP / "packaging", folder / "lib" / "keri")
     os.symlink(program, folder / "lib" / "keri" / "keri-x86_64-linux")
+    summed = subprocess.run(["sha256sum", "keri-x86_64-linux"], cwd=folder / "lib" / "keri", stdout=subprocess.PIPE, check=True)
+    (folder / "lib" / "keri" / "SHA256SUMS").write_bytes(summed.stdout)
     (folder / "bin").mkdir()
     return shutil.copy2(TOP / "keri", folder / "bin")
 
