@@ -8,6 +8,7 @@ umask 022
 usage() {
     cat <<'TEXT'
 usage: ./install.sh [--prefix DIR] [--uninstall]
+       ./install.sh --version
 
 Copies keri to DIR/bin, DIR/lib/keri and DIR/share, where DIR is /usr/local if none is named; --uninstall removes just these
 files again. Where the variable DESTDIR is set, that folder stands before DIR, as those who make packages want it.
@@ -27,9 +28,14 @@ refuse() {
 top=$(dirname "$(readlink -f "$0")") || exit 1
 prefix=/usr/local
 uninstall=''
+[ $# -ne 1 ] || [ "$1" != help ] || set -- --help
 while [ $# -gt 0 ]; do
     case $1 in
-        -h | --help) usage; exit 0 ;;
+        -h | --help) usage; exit ;;
+        -V | --version)
+            of=$("$top/keri" --version) && printf 'install.sh, of %s\n' "$of"
+            exit
+            ;;
         --prefix=?*) prefix=${1#*=} ;;
         --prefix)
             [ -n "${2-}" ] || { usage >&2; exit 2; }
@@ -59,6 +65,7 @@ files() {
 755 $program release/keri-x86_64-linux
 644 lib/keri/SHA256SUMS release/SHA256SUMS
 644 lib/keri/SOURCES release/SOURCES
+644 lib/keri/VERSION VERSION
 644 lib/keri/judge packaging/judge
 644 lib/keri/look packaging/look
 644 lib/keri/answers packaging/answers

@@ -68,12 +68,29 @@ class Once(argparse.Action):
         setattr(namespace, self.dest, value)
 
 
+class Version(argparse.Action):
+    """Writes the version of the `keri` that the script is of, and ends it."""
+
+    def __init__(self, **more):
+        super().__init__(nargs=0, help="writes the version, and ends", **more)
+
+    def __call__(self, parser, *_):
+        try:
+            done = subprocess.run([KERI, "--version"], stdin=subprocess.DEVNULL, stdout=subprocess.PIPE)
+        except OSError:
+            raise Fault(NO_PROGRAM, "there is no keri beside this script: install again") from None
+        if not done.returncode:
+            put(f"{parser.prog}, of ".encode() + done.stdout)
+        sys.exit(done.returncode)
+
+
 class Words(argparse.ArgumentParser):
     """The words of a script; a helper and FILEs are among them."""
 
     def __init__(self, **more):
         super().__init__(allow_abbrev=False, formatter_class=argparse.RawDescriptionHelpFormatter, **more)
         self.register("action", None, Once)
+        self.add_argument("-V", "--version", action=Version)
         self.add_argument("--helper", required=True, metavar="HELPER",
                           help="as for keri: a program, or `rehearsal`, which gives no security")
 
@@ -203,7 +220,7 @@ def run(form, act):
         signal.signal(signal.SIGINT, signal.SIG_DFL)  # Ctrl-C ends it without a word
     fill_streams()
     try:
-        asked = form.parse_args()
+        asked = form.parse_args(["--help"] if sys.argv[1:] == ["help"] else None)
         if len(asked.files) > MOST_FILES:
             form.error(f"there are over {MOST_FILES} FILEs")
         look_at_output()

@@ -1,6 +1,7 @@
 #!/usr/bin/env python3
 """Makes the cases under tests/cases in which an option or a FILE is written in each of its forms and places, and those
-of words that aren't in the form, but for what `gen_cases.py` and `make_cases.py` make of the words of `gen` and `make`.
+of words that aren't in the form, but for what `gen_cases.py` and `make_cases.py` make of the words of `gen` and `make`,
+and for words that ask for help, which the wrapper answers (`wrapper`).
 """
 from kit import body, couples, digest, key, said, signed
 from stream_cases import BARE, RECEIPT, write_case
@@ -73,13 +74,6 @@ REFUSED = {
     "file_that_begins_with_a_dash": ["check", "-F"],
     "no_file_behind_two_dashes": ["check", "--"],
     "two_files_behind_two_dashes": ["check", "--", "a", "a"],
-    "help_as_a_command": ["help"],
-    "help_of_a_command": ["help", "check"],
-    "help_in_short": ["-h"],
-    "help_in_short_behind_a_command": ["check", "-h"],
-    "version": ["--version"],
-    "version_in_short": ["-V"],
-    "version_behind_a_command": ["check", "a", "--version"],
     "rehearse_with_a_file": ["rehearse", "extra"],
     "rehearse_with_an_option": ["rehearse", *HELPER],
     "witness_without_words": ["witness"],
@@ -148,8 +142,6 @@ PLAIN = {
     "no_file": (["check"], {}),
     "two_files": (["check", "a", "a"], {"a": RECEIPT}),
     "another_command": (["validate", "a"], {"a": RECEIPT}),
-    "help": (["--help"], {}),
-    "an_option": (["check", "--help"], {}),
     "a_word_that_is_no_text": (["check", b"\xff".decode(errors="surrogateescape")], {}),
 }
 
