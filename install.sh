@@ -71,6 +71,7 @@ files() {
 644 lib/keri/answers packaging/answers
 644 lib/keri/door packaging/door
 644 lib/keri/plan packaging/plan
+644 lib/keri/state packaging/state
 644 lib/keri/words packaging/words
 644 lib/keri/reports.py packaging/reports.py
 755 bin/keri keri
