@@ -25,7 +25,16 @@ refuse() {
     exit "${status:-1}"
 }
 
+# A word as it is told.
+told() (
+    LC_ALL=C
+    shown "$1"
+    printf '%s\n' "$text"
+)
+
 top=$(dirname "$(readlink -f "$0")") || exit 1
+# shellcheck source=packaging/shown
+. "$top/packaging/shown" || exit 1
 prefix=/usr/local
 uninstall=''
 [ $# -ne 1 ] || [ "$1" != help ] || set -- --help
@@ -50,7 +59,7 @@ done
 case $prefix in
     /*) ;;
     '~'*)
-        printf 'install.sh: %s: the shell has left the ~ as it is; write --prefix DIR in two words\n' "$prefix" >&2
+        printf 'install.sh: %s: the shell has left the ~ as it is; write --prefix DIR in two words\n' "$(told "$prefix")" >&2
         exit 2
         ;;
     *) prefix=$PWD/$prefix ;;
@@ -67,6 +76,7 @@ files() {
 644 lib/keri/SOURCES release/SOURCES
 644 lib/keri/VERSION VERSION
 644 lib/keri/judge packaging/judge
+644 lib/keri/shown packaging/shown
 644 lib/keri/look packaging/look
 644 lib/keri/answers packaging/answers
 644 lib/keri/door packaging/door
@@ -118,25 +128,26 @@ put() {
     to=$into/$2
     new=$to.new
     if ! mkdir -p "${to%/*}" 2>/dev/null || [ ! -w "${to%/*}" ]; then
-        refuse "can't write in ${to%/*}: take another folder, as --prefix ~/.local, or run this as root"
+        refuse "can't write in $(told "${to%/*}"): take another folder, as --prefix ~/.local, or run this as root"
     fi
+    { : >"$new"; } 2>/dev/null || refuse "$(told "$to") couldn't be written" # of this the shell says no name
     case $3 in
         -) made "$2" ;;
         *) cat "$top/$3" ;;
     esac >"$new" && chmod "$1" "$new" && mv -f "$new" "$to" && return
-    refuse "$to couldn't be written"
+    refuse "$(told "$to") couldn't be written"
 }
 
 if [ -n "$uninstall" ]; then
-    [ -d "$into/lib/keri" ] || { echo "keri isn't installed in $into"; exit 0; }
+    [ -d "$into/lib/keri" ] || { echo "keri isn't installed in $(told "$into")"; exit 0; }
     files | {
         while read -r _ place _; do
-            rm -f "$into/$place" || refuse "$into/$place couldn't be removed"
+            rm -f "$into/$place" || refuse "$(told "$into/$place") couldn't be removed"
         done
         find "$into/lib/keri" "$into/share/doc/keri" -depth -type d -exec rmdir {} + 2>/dev/null
         exit 0
     } || exit 1
-    echo "keri is removed from $into"
+    echo "keri is removed from $(told "$into")"
     exit 0
 fi
 
@@ -158,7 +169,7 @@ files | {
         put "$mode" "$place" "$source"
     done
 } || exit 1
-echo "keri is installed in $into; the checksum of the program is"
+echo "keri is installed in $(told "$into"); the checksum of the program is"
 (cd "$into" && sha256sum "$program")
 [ -x "$top/$helper" ] || echo "the Ed25519 helper isn't built: for real keys, make -C helpers/ed25519 and run this again"
-case :$PATH: in *":$prefix/bin:"*) ;; *) echo "$prefix/bin isn't in your PATH" ;; esac
+case :$PATH: in *":$prefix/bin:"*) ;; *) echo "$(told "$prefix/bin") isn't in your PATH" ;; esac
