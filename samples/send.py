@@ -1,8 +1,10 @@
 #!/usr/bin/env python3
 """Sends what comes on standard input over a link, ends its side, and meanwhile writes what comes back, until the other
 side ends: `send.py HOST PORT < messages > receipts`. It waits 10 seconds for a door that isn't open yet. The status is
-1 where there is no link, it broke, the other side ended before all was sent, or the receipts couldn't be written; what
-came until then is written. It is 2 where the words are other ones.
+1 where there is no link, it broke, the other side ended before it had all that was sent and its end, so that not all
+receipts can have come, or the receipts couldn't be written; what came until then is written. It is 2 where the words
+are other ones. What the other side has is what its system has taken, as Linux tells it; behind a tunnel the other side
+is the tunnel's end.
 """
 import os
 import signal
@@ -32,12 +34,23 @@ for attempt in range(101):
     except (OSError, OverflowError, UnicodeError) as fault:
         sys.exit(f"send.py: {host}, port {port}: {fault}")
 faults, is_sent = [], threading.Event()
+EARLY = "the other side ended before all was sent"
+TIME_WAIT, CLOSED, CLOSE_WAIT = 6, 7, 8
+
+
+def is_in(*states):
+    """Whether the link is in one of these states of TCP; None where the system doesn't tell."""
+    if sys.platform != "linux":
+        return None
+    return link.getsockopt(socket.IPPROTO_TCP, socket.TCP_INFO, 1)[0] in states
 
 
 def send():
     try:
         while piece := os.read(0, 65536):  # a buffered reader would be locked at the end
             link.sendall(piece)
+        if is_in(CLOSE_WAIT):
+            faults.append(EARLY)
         is_sent.set()  # before the other side can know
         link.shutdown(socket.SHUT_WR)
     except OSError as fault:
@@ -53,9 +66,11 @@ try:
             rest = rest[os.write(1, rest):]  # a write may take a part alone
 except OSError as fault:
     faults.append(fault)
-if is_sent.wait(0.1):
+if is_sent.is_set():
     sender.join()
+    if not faults and (link.getsockopt(socket.SOL_SOCKET, socket.SO_ERROR) or is_in(TIME_WAIT, CLOSED) is False):
+        faults.append(EARLY)  # its end was under way before it had ours
 elif not faults:
-    faults.append("the other side ended before all was sent")
+    faults.append(EARLY)
 if faults:
     sys.exit(f"send.py: {faults[0]}")
