@@ -1,7 +1,9 @@
 pub mod Parts
 pub mod Numerals
 pub mod Names
+pub mod Promised
 pub mod Sheets
+pub mod Reuse
 pub mod Given
 pub mod SoFar
 pub mod PlanTexts

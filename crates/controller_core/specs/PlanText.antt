@@ -1,6 +1,7 @@
 pub mod Lines
 pub mod Entries
 pub mod Sheets
+pub mod Promises
 pub mod Plans
 pub mod Reading
 pub mod Drafts

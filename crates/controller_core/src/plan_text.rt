@@ -12,6 +12,8 @@ mod number;
 mod plan_reader;
 mod plan_text_fault;
 mod primitive;
+mod promise;
+mod reuse;
 mod slot;
 mod split;
 mod value;

@@ -39,6 +39,7 @@ good_said kind name.Trait value is s = rw s.2 s.1.0.0
 good_said kind name.Seal value is s = rw s.2 s.1.0.0
 good_said kind name.Di value is s = rw s.3 tt
 good_said kind name.Sign value is s = rw s.3 tt
+good_said kind name.Reuse value is s = rw s.1 tt
 
 good_lines : (kind : Kind) (entries : List Entry) (text rest : List ℕ) → AreLines kind entries text rest → AllByRecursion IsGood entries
 good_lines kind [] text rest a = tt
@@ -62,6 +63,7 @@ seals_are_json (entry.Trait text ∷ entries) a = seals_are_json entries a.1
 seals_are_json (entry.Seal tree ∷ entries) a = (a.0, seals_are_json entries a.1)
 seals_are_json (entry.Di prefix ∷ entries) a = seals_are_json entries a.1
 seals_are_json (entry.Sign slot ∷ entries) a = seals_are_json entries a.1
+seals_are_json (entry.Reuse ∷ entries) a = seals_are_json entries a.1
 
 traits_are_strings : (entries : List Entry) → AllByRecursion IsGood entries → AllByRecursion IsString (filter_map trait_in entries)
 traits_are_strings [] a = tt
@@ -78,6 +80,7 @@ traits_are_strings (entry.Trait text ∷ entries) a = (a.0, traits_are_strings e
 traits_are_strings (entry.Seal tree ∷ entries) a = traits_are_strings entries a.1
 traits_are_strings (entry.Di prefix ∷ entries) a = traits_are_strings entries a.1
 traits_are_strings (entry.Sign slot ∷ entries) a = traits_are_strings entries a.1
+traits_are_strings (entry.Reuse ∷ entries) a = traits_are_strings entries a.1
 
 -- an event that isn't an inception has the identifier's prefix
 others : (kind : Kind) (sheet : Sheet) (event : PlannedEvent) → event_of kind sheet.prefixes ≡ Some event → is_some (first_of sheet.delegators) ≡ has_delegator kind → HasDelegator (plan_of kind sheet) event

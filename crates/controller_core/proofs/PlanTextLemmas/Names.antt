@@ -4,14 +4,14 @@ use Rattle.std.specs.List.{find}
 use Rattle.std.specs.Str.{bytes_eq}
 use Rattle.controller_core.specs.declared.plan_text.kind.Kind.{Kind}
 use Rattle.controller_core.specs.declared.plan_text.name.Name.{Name}
-use Rattle.controller_core.specs.declared.plan_text.name.Name.TheVariants.{Prefix, Code, Kt, Nt, Key, Next, Cut, Add, Bt, Trait, Seal, Di, Sign}
+use Rattle.controller_core.specs.declared.plan_text.name.Name.TheVariants.{Prefix, Code, Kt, Nt, Key, Next, Cut, Add, Bt, Trait, Seal, Di, Sign, Reuse}
 use Rattle.controller_core.specs.declared.plan_text.entry.Entry.{Entry}
 use Rattle.controller_core.specs.PlanText.Lines.{Splits}
 use Rattle.controller_core.specs.PlanText.Entries.{name_text, Says, IsLine}
 use Rattle.controller_core.proofs.PlanTextLemmas.Parts.{Lacks, parts_of, whole}
 
 abbrev names : List Name
-names = Prefix ∷ Code ∷ Kt ∷ Nt ∷ Key ∷ Next ∷ Cut ∷ Add ∷ Bt ∷ Trait ∷ Seal ∷ Di ∷ Sign ∷ []
+names = Prefix ∷ Code ∷ Kt ∷ Nt ∷ Key ∷ Next ∷ Cut ∷ Add ∷ Bt ∷ Trait ∷ Seal ∷ Di ∷ Sign ∷ Reuse ∷ []
 
 -- the name of a text
 abbrev name_of : List ℕ → Name
@@ -31,6 +31,7 @@ name_of-name_text Trait = refl
 name_of-name_text Seal = refl
 name_of-name_text Di = refl
 name_of-name_text Sign = refl
+name_of-name_text Reuse = refl
 
 lacks_space : (name : Name) → Lacks 32 (name_text name)
 lacks_space Prefix = refl
@@ -46,6 +47,7 @@ lacks_space Trait = refl
 lacks_space Seal = refl
 lacks_space Di = refl
 lacks_space Sign = refl
+lacks_space Reuse = refl
 
 same_name : (a b : Name) → name_text a ≡ name_text b → a ≡ b
 same_name a b e = sym (name_of-name_text a) ∙ ap name_of e ∙ name_of-name_text b

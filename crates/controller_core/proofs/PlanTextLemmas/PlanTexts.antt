@@ -9,9 +9,10 @@ use Rattle.controller_core.specs.declared.plan_text.event_plan.EventPlan.{EventP
 use Rattle.controller_core.specs.declared.plan_text.plan_text_fault.PlanTextFault.{PlanTextFault}
 use Rattle.controller_core.specs.declared.plan_text.plan_text_fault.PlanTextFault.TheVariants.{Line, OutOfMemory}
 use Rattle.controller_core.specs.PlanText.Entries.{kind_line, AreLines}
+use Rattle.controller_core.specs.PlanText.Promises.{HasFirstReuse, PromisesNewKeys}
 use Rattle.controller_core.specs.PlanText.Sheets.{Sheet, IsOnce, sheet_of}
 use Rattle.controller_core.specs.PlanText.Plans.{BeginsWith, IsEventPlan, IsGoodText, IsPlanText}
-use Rattle.controller_core.specs.PlanText.Reading.{IsCause, IsLineCause, IsRefusedAt, IsRead, bad_line, no_plan}
+use Rattle.controller_core.specs.PlanText.Reading.{IsCause, IsLineCause, IsRefusedAt, IsRead, bad_line, no_plan, reuse}
 
 abbrev kinds : List Kind
 kinds = Icp ∷ Dip ∷ Rot ∷ Drt ∷ Ixn ∷ []
@@ -48,8 +49,23 @@ module _ (text : List ℕ) (kind : Kind) (lines : List ℕ) (begins : BeginsWith
       let found = lines_in is.kind is.entries is.good in
       subst (λ s. IsEventPlan kind s plan) (sym (reads is.entries found.1 is.good.once)) (subst (λ k. IsEventPlan k (sheet_of is.entries) plan) found.0 is.is)
 
-  -- where the lines are read and make no plan
-  pub no_plan_in : (sheet : Sheet) → IsRead kind lines sheet → ((plan : EventPlan) → ¬ IsEventPlan kind sheet plan) → IsRefusedAt text 1
-  no_plan_in sheet read none =
-      let good : IsGoodText text kind read.entries = record { lines = lines; begins = begins; spelled = read.spelled; once = read.once } in
-      no_plan kind read.entries good (λ plan is. none plan (subst (λ s. IsEventPlan kind s plan) (sym read.is) is)) refl
+  module _ (sheet : Sheet) (read : IsRead kind lines sheet) where
+    good : IsGoodText text kind read.entries
+    good = record { lines = lines; begins = begins; spelled = read.spelled; once = read.once }
+
+    -- where the lines make a plan, and a promise is of a key that it has already
+    pub reuse_in : (plan : EventPlan) → IsEventPlan kind sheet plan → (line : ℕ) → HasFirstReuse sheet line → IsRefusedAt text line
+    reuse_in plan is line first = reuse kind read.entries plan good (subst (λ s. IsEventPlan kind s plan) read.is is) (subst (λ s. HasFirstReuse s line) read.is first)
+
+    -- where the lines make no plan
+    pub no_plan_in : ((plan : EventPlan) → ¬ IsEventPlan kind sheet plan) → IsRefusedAt text 1
+    no_plan_in none = no_plan kind read.entries good (λ plan is. none plan (subst (λ s. IsEventPlan kind s plan) (sym read.is) is)) refl
+
+  -- a plan of the text has no such promise
+  pub no_reuse : (sheet : Sheet) → ((entries : List Entry) → AreLines kind entries lines [] → IsOnce (sheet_of entries) → sheet ≡ sheet_of entries) → (line : ℕ) → HasFirstReuse sheet line
+      → (plan : EventPlan) → ¬ IsPlanText text plan
+  no_reuse sheet reads line first plan is =
+      let found = lines_in is.kind is.entries is.good in
+      let fresh = subst PromisesNewKeys (sym (reads is.entries found.1 is.good.once)) is.fresh in
+      let not_reuse = fresh first.earlier first.later first.promise first.parts in
+      let reuse = first.reuse in cc (reuse, not_reuse)

@@ -46,6 +46,7 @@ name_text name.Trait = codes "trait"
 name_text name.Seal = codes "seal"
 name_text name.Di = codes "di"
 name_text name.Sign = codes "sign"
+name_text name.Reuse = codes "reuse"
 
 -- an inception's prefix is its digest or its first key
 abbrev pub IsWord : GivenPrefix → List ℕ → Type 0
@@ -116,6 +117,7 @@ Says kind name.Trait value is = (text : List ℕ) × IsTraitText text value × (
 Says kind name.Seal value is = (tree : Tree) × IsJsonValue tree value × (is ≡ entry.Seal tree)
 Says kind name.Di value is = (prefix : Prefix) × IsPrefix prefix × (value ≡ prefix_text prefix) × (is ≡ entry.Di prefix)
 Says kind name.Sign value is = (slot : Slot) × IsSlot slot × (value ≡ slot_text slot) × (is ≡ entry.Sign slot)
+Says kind name.Reuse value is = (value ≡ codes "yes") × (is ≡ entry.Reuse)
 
 -- in a plan of this kind the line spells the entry
 pub record IsLine (kind : Kind) (line : List ℕ) (is : Entry) : Type 0 where

@@ -16,6 +16,7 @@ use Rattle.controller_core.specs.declared.plan_text.event_plan.PlannedEvent.{Pla
 use Rattle.controller_core.specs.declared.plan_text.event_plan.PlannedEvent.TheVariants.{Inception, Rotation, Interaction}
 use Rattle.controller_core.specs.PlanText.Lines.{HasLine}
 use Rattle.controller_core.specs.PlanText.Entries.{kind_line, AreLines}
+use Rattle.controller_core.specs.PlanText.Promises.{PromisesNewKeys}
 use Rattle.controller_core.specs.PlanText.Sheets.{Sheet, IsOnce, sheet_of}
 
 -- the value that a line gives, or this one where none does
@@ -102,9 +103,10 @@ pub record IsGoodText (text : List ℕ) (kind : Kind) (entries : List Entry) : T
   pub spelled : AreLines kind entries lines []
   pub once : IsOnce (sheet_of entries)
 
--- the text spells the plan
+-- the text spells the plan, and no line promises a key that it has already, unless one that allows it stands before
 pub record IsPlanText (text : List ℕ) (plan : EventPlan) : Type 0 where
   pub kind : Kind
   pub entries : List Entry
   pub good : IsGoodText text kind entries
+  pub fresh : PromisesNewKeys (sheet_of entries)
   pub is : IsEventPlan kind (sheet_of entries) plan

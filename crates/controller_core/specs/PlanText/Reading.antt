@@ -8,6 +8,7 @@ use Rattle.controller_core.specs.declared.plan_text.line_fault.LineFault.TheVari
 use Rattle.controller_core.specs.declared.plan_text.plan_text_fault.PlanTextFault.{PlanTextFault}
 use Rattle.controller_core.specs.declared.plan_text.plan_text_fault.PlanTextFault.TheVariants.{Line, OutOfMemory}
 use Rattle.controller_core.specs.PlanText.Entries.{BeginsEntry, AreLines}
+use Rattle.controller_core.specs.PlanText.Promises.{HasFirstReuse}
 use Rattle.controller_core.specs.PlanText.Sheets.{Sheet, IsOnce, sheet_of}
 use Rattle.controller_core.specs.PlanText.Plans.{BeginsWith, IsEventPlan, IsGoodText}
 
@@ -26,11 +27,14 @@ pub record IsBadLine (kind : Kind) (lines : List ℕ) (n : ℕ) : Type 0 where
   pub number : n ≡ length entries + 2
   pub none : (is : Entry) (behind : List ℕ) → BeginsEntry kind is rest behind → ¬ IsOnce (sheet_of (entries ++ is ∷ []))
 
--- The cause of a refused line: the first names no kind, a later one is the first that is bad, or good lines make no plan.
+-- The cause of a refused line: the first names no kind, a later one is the first that is bad, good lines make no plan, or one
+-- is the first of them that promises a key which the plan has already.
 pub data IsRefusedAt (text : List ℕ) (n : ℕ) : Type 0 where
   no_kind : ((kind : Kind) (lines : List ℕ) → ¬ BeginsWith kind text lines) → n ≡ 1 → IsRefusedAt text n
   bad_line : (kind : Kind) (lines : List ℕ) → BeginsWith kind text lines → IsBadLine kind lines n → IsRefusedAt text n
   no_plan : (kind : Kind) (entries : List Entry) → IsGoodText text kind entries → ((plan : EventPlan) → ¬ IsEventPlan kind (sheet_of entries) plan) → n ≡ 1 → IsRefusedAt text n
+  reuse : (kind : Kind) (entries : List Entry) (plan : EventPlan) → IsGoodText text kind entries
+      → IsEventPlan kind (sheet_of entries) plan → HasFirstReuse (sheet_of entries) n → IsRefusedAt text n
 
 -- the cause of a fault
 abbrev pub IsCause : List ℕ → PlanTextFault → Type 0

@@ -1,6 +1,6 @@
 -- What entries give: the values of each name, in order.
-use Rattle.std.specs.Prelude.{ℕ, ◌≤◌, List, length, Option, Some, None}
-use Rattle.std.specs.List.{filter_map}
+use Rattle.std.specs.Prelude.{ℕ, ◌≤◌, List, length, Option, Some, None, ⊤, is_some, option_map}
+use Rattle.std.specs.List.{before_first, enumerate_from, filter_map}
 use Rattle.cesr_codes.specs.declared.digest.Digest.{Digest}
 use Rattle.cesr_codes.specs.declared.digest.DigestCode.{DigestCode}
 use Rattle.cesr_codes.specs.declared.key.Key.{Key}
@@ -11,6 +11,7 @@ use Rattle.controller_core.specs.declared.controller_core.slot.Slot.{Slot}
 use Rattle.controller_core.specs.declared.plan_text.given_prefix.GivenPrefix.{GivenPrefix}
 use Rattle.controller_core.specs.declared.plan_text.entry.Entry.{Entry}
 use Rattle.controller_core.specs.declared.plan_text.entry.Entry.TheVariants as entry
+use Rattle.controller_core.specs.declared.plan_text.promise.Promise.{Promise}
 
 pub record Sheet : Type 0 where
   pub prefixes : List GivenPrefix
@@ -26,6 +27,8 @@ pub record Sheet : Type 0 where
   pub seals : List Tree
   pub delegators : List Prefix
   pub slots : List Slot
+  pub promises : List Promise
+  pub reuses : List ⊤
 
 -- the value that an entry of one name has
 abbrev pub prefix_in : Entry → Option GivenPrefix
@@ -80,7 +83,19 @@ abbrev pub slot_in : Entry → Option Slot
 slot_in (entry.Sign slot) = Some slot
 slot_in _ = None
 
--- the values of the entries of each name, in order
+abbrev pub reuse_in : Entry → Option ⊤
+reuse_in entry.Reuse = Some tt
+reuse_in _ = None
+
+-- the promise of a next key that the entry of a line is
+abbrev pub promise_in : ℕ × Entry → Option Promise
+promise_in line = option_map (λ digest. record { line = line.0; digest = digest }) (next_in line.1)
+
+-- the promises that stand before a line `reuse yes`, each with its line, where the first entry stands in this one
+abbrev pub promises_from : ℕ → List Entry → List Promise
+promises_from number entries = filter_map promise_in (enumerate_from number (before_first (λ is. is_some (reuse_in is)) entries))
+
+-- the values of the entries of each name, in order; the first entry stands in line 2, behind the kind's
 abbrev pub sheet_of : List Entry → Sheet
 sheet_of entries = record {
   prefixes = filter_map prefix_in entries;
@@ -96,6 +111,8 @@ sheet_of entries = record {
   seals = filter_map seal_in entries;
   delegators = filter_map delegator_in entries;
   slots = filter_map slot_in entries;
+  promises = promises_from 2 entries;
+  reuses = filter_map reuse_in entries;
 }
 
 -- each name that isn't of a list comes at most once
@@ -106,3 +123,4 @@ pub record IsOnce (sheet : Sheet) : Type 0 where
   pub nt : length sheet.nts ≤ 1
   pub toad : length sheet.toads ≤ 1
   pub delegator : length sheet.delegators ≤ 1
+  pub reuse : length sheet.reuses ≤ 1

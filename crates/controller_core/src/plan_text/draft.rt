@@ -9,12 +9,14 @@ use crate::plan_text::event_plan::{EventPlan, PlannedEvent};
 use crate::plan_text::given_prefix::GivenPrefix;
 use crate::plan_text::kind::Kind;
 use crate::plan_text::line_fault::LineFault;
+use crate::plan_text::promise::Promise;
+use crate::plan_text::reuse;
 use crate::plan_text::split::split;
 use cesr_codes::{Digest, DigestCode, Key, Prefix};
 use json_tree::{Text, Tree};
 use lists::Items;
 use sith::Threshold;
-use std::alloc::Global;
+use std::alloc::{AllocError, Global};
 
 /// What the lines of a plan so far give.
 #[derive(Drop)]
@@ -32,6 +34,8 @@ pub(crate) struct Draft {
     anchors: Items<Tree>,
     delegator: Option<Prefix>,
     signers: Items<Slot>,
+    promises: Items<Promise>,
+    reuse: Option<()>,
 }
 
 impl Draft {
@@ -39,6 +43,8 @@ impl Draft {
     ghost use Rattle.controller_core.specs.declared.plan_text.entry.Entry.{Entry};
     ghost use Rattle.controller_core.specs.declared.plan_text.event_plan.EventPlan.{EventPlan};
     ghost use Rattle.controller_core.specs.declared.plan_text.line_fault.LineFault.TheVariants.{Refused};
+    ghost use Rattle.controller_core.specs.declared.plan_text.entry.Entry.TheVariants.{Next};
+    ghost use Rattle.controller_core.specs.PlanText.Promises.{HasFirstReuse, PromisesNewKeys};
     ghost use Rattle.controller_core.specs.PlanText.Sheets.{IsOnce};
     ghost use Rattle.controller_core.specs.PlanText.Plans.{IsEventPlan, plan_of};
     ghost use Rattle.controller_core.specs.PlanText.Drafts.{IsRefusedLine, TakesLine, empty, push, sheet};
@@ -61,18 +67,21 @@ impl Draft {
             anchors: Items::new(alloc),
             delegator: None,
             signers: Items::new(alloc),
+            promises: Items::new(alloc),
+            reuse: None,
         }
     }
 
-    /// Takes the first line of the text, and answers what stands behind it.
+    /// Takes the first line of the text, which has this number in the plan, and answers what stands behind it.
     pub(crate) fn take_line<'a>(
         &mut self,
         alloc: Global,
         kind: Kind,
+        number: u64,
         text: &'a [u8],
     ) -> Result<&'a [u8], LineFault>
-        ensures some { IfOk result (λ rest. TakesLine kind text.now rest.now (sheet self.old) (sheet self.new)) }
-        ensures refused { IfErr result (λ fault. fault ≡ Refused → IsRefusedLine kind text.now (sheet self.old)) }
+        ensures some { IfOk result (λ rest. TakesLine kind number text.now rest.now (sheet self.old) (sheet self.new)) }
+        ensures refused { IfErr result (λ fault. fault ≡ Refused → IsRefusedLine kind number text.now (sheet self.old)) }
     {
         let Some((line, rest)) = split(text, b'\n') else {
             return Err(LineFault::Refused);
@@ -81,16 +90,16 @@ impl Draft {
             Ok(entry) => entry,
             Err(fault) => return Err(fault),
         };
-        match self.add(entry) {
+        match self.add(number, entry) {
             Ok(()) => Ok(rest),
             Err(fault) => Err(fault),
         }
     }
 
-    // Adds what a line gives.
-    fn add(&mut self, entry: Entry) -> Result<(), LineFault>
-        ensures ok { OnOk result (sheet self.new ≡ push entry (sheet self.old)) }
-        ensures refused { IfErr result (λ fault. fault ≡ Refused → ¬ IsOnce (push entry (sheet self.old))) }
+    // Adds what the line of this number gives.
+    fn add(&mut self, number: u64, entry: Entry) -> Result<(), LineFault>
+        ensures ok { OnOk result (sheet self.new ≡ push number entry (sheet self.old)) }
+        ensures refused { IfErr result (λ fault. fault ≡ Refused → ¬ IsOnce (push number entry (sheet self.old))) }
     {
         match entry {
             Entry::Prefix(prefix) => fill(&mut self.prefix, prefix)?,
@@ -98,7 +107,7 @@ impl Draft {
             Entry::Kt(threshold) => fill(&mut self.kt, threshold)?,
             Entry::Nt(threshold) => fill(&mut self.nt, threshold)?,
             Entry::Key(key) => self.keys.push(key)?,
-            Entry::Next(digest) => self.next.push(digest)?,
+            Entry::Next(digest) => self.add_next(number, digest)?,
             Entry::Cut(key) => self.cuts.push(key)?,
             Entry::Add(key) => self.adds.push(key)?,
             Entry::Bt(toad) => fill(&mut self.toad, toad)?,
@@ -106,8 +115,28 @@ impl Draft {
             Entry::Seal(tree) => self.anchors.push(tree)?,
             Entry::Di(prefix) => fill(&mut self.delegator, prefix)?,
             Entry::Sign(slot) => self.signers.push(slot)?,
+            Entry::Reuse => fill(&mut self.reuse, ())?,
         }
         Ok(())
+    }
+
+    // Adds a promise. Before a line `reuse yes` it is kept with its line too, to be judged with the plan's keys.
+    fn add_next(&mut self, line: u64, digest: Digest) -> Result<(), AllocError>
+        ensures { OnOk result (sheet self.new ≡ push line (Next digest) (sheet self.old)) }
+    {
+        if self.reuse.is_none() {
+            self.promises.push(Promise { line, digest })?;
+        }
+        self.next.push(digest)?;
+        Ok(())
+    }
+
+    /// The number of the first line before one `reuse yes` that promises a key which the plan has already.
+    pub(crate) fn first_reuse(&self, alloc: Global) -> Result<Option<u64>, AllocError>
+        ensures some { IfOk result (λ found. IfSome found (HasFirstReuse (sheet self.now))) }
+        ensures none { IfOk result (λ found. IfNone found (PromisesNewKeys (sheet self.now))) }
+    {
+        reuse::first_reuse(alloc, self.keys.as_slice(), self.promises.as_slice())
     }
 
     /// The plan of this kind, where nothing is missing and no delegator too many.

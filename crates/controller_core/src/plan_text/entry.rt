@@ -29,6 +29,8 @@ pub(crate) enum Entry {
     Seal(Tree),
     Di(Prefix),
     Sign(Slot),
+    /// Behind it a key may be promised that the plan has already.
+    Reuse,
 }
 
 impl Entry {

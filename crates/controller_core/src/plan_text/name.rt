@@ -17,6 +17,7 @@ pub(crate) enum Name {
     Seal,
     Di,
     Sign,
+    Reuse,
 }
 
 impl Name {
@@ -42,6 +43,7 @@ impl Name {
             b"seal" => Some(Name::Seal),
             b"di" => Some(Name::Di),
             b"sign" => Some(Name::Sign),
+            b"reuse" => Some(Name::Reuse),
             _ => None,
         }
     }

@@ -35,9 +35,14 @@ pub fn read_plan(alloc: Global, bytes: &[u8]) -> Result<EventPlan, PlanTextFault
         Ok(draft) => draft,
         Err(fault) => return Err(fault),
     };
-    match draft.finish(kind) {
-        Some(plan) => Ok(plan),
-        None => Err(PlanTextFault::Line(1)),
+    let reuse = draft.first_reuse(alloc);
+    let Some(plan) = draft.finish(kind) else {
+        return Err(PlanTextFault::Line(1));
+    };
+    match reuse {
+        Ok(None) => Ok(plan),
+        Ok(Some(line)) => Err(PlanTextFault::Line(line)),
+        Err(_) => Err(PlanTextFault::OutOfMemory),
     }
 }
 
@@ -62,7 +67,7 @@ fn read_lines(alloc: Global, kind: Kind, text: &[u8]) -> Result<Draft, PlanTextF
     let mut rest = text;
     let mut number = 2u64;
     while !rest.is_empty() {
-        match draft.take_line(alloc, kind, rest) {
+        match draft.take_line(alloc, kind, number, rest) {
             Ok(behind) => rest = behind,
             Err(LineFault::Refused) => return Err(PlanTextFault::Line(number)),
             Err(LineFault::OutOfMemory) => return Err(PlanTextFault::OutOfMemory),

@@ -1,6 +1,7 @@
 //! Values of a plan's lines.
-ghost use Rattle.std.specs.Prelude.{◌≡◌, IfOk};
+ghost use Rattle.std.specs.Prelude.{◌≡◌, Ok, IfOk, codes};
 ghost use Rattle.controller_core.specs.declared.plan_text.entry.Entry.{Entry};
+ghost use Rattle.controller_core.specs.declared.plan_text.entry.Entry.TheVariants.{Reuse};
 ghost use Rattle.controller_core.specs.PlanText.Entries.{Says};
 ghost use Rattle.controller_core.specs.PlanText.Reading.{Gives};
 
@@ -39,5 +40,17 @@ pub(crate) fn read_value(
         Name::Seal => Ok(Entry::Seal(read_json(alloc, value)?)),
         Name::Di => Ok(Entry::Di(read_primitive(value)?)),
         Name::Sign => Ok(Entry::Sign(read_slot(value)?)),
+        Name::Reuse => read_reuse(value),
+    }
+}
+
+// The entry of `reuse`, which has one value.
+fn read_reuse(value: &[u8]) -> Result<Entry, LineFault>
+    ensures some { IfOk result (λ entry. (value.now ≡ codes "yes") × (entry ≡ Reuse)) }
+    ensures only { value.now ≡ codes "yes" → result ≡ Ok Reuse }
+{
+    match value {
+        b"yes" => Ok(Entry::Reuse),
+        _ => Err(LineFault::Refused),
     }
 }

@@ -22,7 +22,7 @@ pub overflow_add-number : goal.overflow_add-number
 overflow_add-number c = let so = c.loop-rest.invariant in omega (arith, so.short)
 
 pub loop-rest-smaller : goal.loop-rest-smaller
-loop-rest-smaller c = fewer_left c.args.kind c.loop-rest.rest.now c.in-Ok.behind.now (sheet c.loop-rest.draft) (sheet c.take_line.new.self) c.in-Ok.ensures.some
+loop-rest-smaller c = fewer_left c.args.kind c.loop-rest.rest.now c.in-Ok.behind.now c.loop-rest.number (sheet c.loop-rest.draft) (sheet c.take_line.new.self) c.in-Ok.ensures.some
 
 pub loop-rest-preserved : goal.loop-rest-preserved
 loop-rest-preserved c = step c.args.kind c.args.text.now c.loop-rest.rest.now c.in-Ok.behind.now (sheet c.loop-rest.draft) (sheet c.take_line.new.self) c.loop-rest.number c.loop-rest.invariant c.in-Ok.ensures.some

@@ -25,4 +25,4 @@ pub returns-in-Err-add-clause-refused : goal.returns-in-Err-add-clause-refused
 returns-in-Err-add-clause-refused c = λ refused is line rest first spells once.
     let line_is : line ≡ c.in-Some.line.now = first.front_is ∙ sym c.in-Some.ensures.some.front_is in
     let same = same_given c.in-Ok.entry is (c.in-Ok.ensures.only is (subst (λ l. IsLine c.args.kind l is) line_is spells)) in
-    c.in-Err-add.ensures.refused refused (subst (λ e. IsOnce (push e (sheet c.args.self.now))) same once)
+    c.in-Err-add.ensures.refused refused (subst (λ e. IsOnce (push c.args.number e (sheet c.args.self.now))) same once)
