@@ -13,7 +13,7 @@ from event_cases import BASIC, FIXED
 from life import CHILD, CHILD_1, CHILD_MESSAGES, HEAD, IXN_1, MESSAGES, ROT_2, SIGN, STEPS, keys, plan, prefix, sealing
 from log_cases import BARRED, CLOSED, HALVES, LISTED, LOG as WITNESSED_LOG, OTHER_1, REALISTIC, RECOVERY, ROT, ROT_3, THIRD, THREE, VAIN
 from log_cases import behind, digests, ixn, rot, status
-from plan_refusals import INCEPTION, INTERACTION, LOG, ONLY, REFUSALS
+from plan_refusals import INCEPTION, INTERACTION, LOG, ONLY, REFUSALS, REUSE
 from validate_cases import CASES, SAMPLES
 
 MAKE = ["make", "--helper", "rehearsal", "--plan", "plan"]
@@ -97,6 +97,12 @@ INCEPTIONS = {
         signed(SPELLED, 1),
     ),
     "icp_that_does_not_use_a_cut": (*incept(*keys(1, 2), "cut " + key(9)), signed(ICP, 1)),
+    "icp_that_promises_its_own_key": (*incept(REUSE, *keys(1, 1)), signed(body("icp", n=digests(1)), 1)),
+    "icp_that_promises_its_own_key_before_it": (*incept(REUSE, *keys(1, 1)[::-1]), signed(body("icp", n=digests(1)), 1)),
+    "icp_that_promises_one_key_twice": (
+        *incept(*keys(1, 2), REUSE, *keys(3, 2)), signed(body("icp", k=[key(1), key(3)], n=digests(2, 2)), 1),
+    ),
+    "icp_that_may_promise_its_own_key": (*incept(REUSE, *keys(1, 2)), signed(ICP, 1)),
     "dip": (plan("dip", *HEAD, "di " + said(ICP), *keys(10, 11), SIGN), None, signed(CHILD, 10)),
     "dip_of_a_basic_delegator": (
         plan("dip", *HEAD, "di " + key(1), *keys(10, 11), SIGN), None,
@@ -105,7 +111,7 @@ INCEPTIONS = {
 }
 
 LOG_7 = ixn(WITNESSED_LOG[-1])
-UNUSED = ["kt []", 'nt "7"', "key " + key(1), "next " + digest(key(1)), "cut " + key(9), "add " + key(9), "bt 9", 'trait "EO"']
+UNUSED = ["kt []", 'nt "7"', "key " + key(1), "next " + digest(key(3)), "cut " + key(9), "add " + key(9), "bt 9", 'trait "EO"']
 # Events behind a log: the plan, the log, and the message.
 BEHIND_LOGS = {
     "ixn": (from_state("ixn", ICP), LOG, signed(IXN_1, 1)),
@@ -143,6 +149,11 @@ BEHIND_LOGS = {
         signed(rot(LISTED, 2, br=witnesses(2, 1)), 2),
     ),
     "rot_to_no_next_key": (from_state("rot", ICP, *keys(2)), LOG, signed(behind("rot", ICP, k=[key(2)], nt="0", n=[]), 2)),
+    "rot_that_promises_its_own_key": (from_state("rot", ICP, REUSE, *keys(2, 2)), LOG, signed(behind("rot", ICP, k=[key(2)], n=digests(2)), 2)),
+    # The key of the state before isn't looked at, where the plan doesn't have it.
+    "rot_that_promises_the_key_before": (
+        from_state("rot", ICP, *keys(2, 1)), LOG, signed(behind("rot", ICP, k=[key(2)], n=digests(1)), 2),
+    ),
     "drt_behind_no_seal": (from_state("drt", CHILD, *keys(11, 12)), CHILD_MESSAGES[0], signed(CHILD_1, 11)),
     "icp_beside_a_log": (INCEPTION, signed(LISTED, 1), signed(ICP, 1)),
     "icp_beside_its_own_log": (INCEPTION, LOG, signed(ICP, 1)),

@@ -12,6 +12,7 @@ INTERACTION = plan("ixn", *BEHIND, SIGN)
 ROTATION = [*BEHIND, *keys(2, 3)]
 DIP = [*HEAD, *keys(10, 11), SIGN]
 WITNESS, OTHER_WITNESS = key(1, "B"), key(2, "B")
+REUSE = "reuse yes"
 
 
 def line_4(line):
@@ -64,16 +65,45 @@ FOURTH = {
     "sign_with_three_numbers": "sign 0 0 0",
     "sign_of_no_index": "sign - 0",
     "sign_with_a_sign": "sign +1 0",
+    "reuse_of_another_value": "reuse no",
+    "reuse_in_capitals": "reuse YES",
+    "reuse_without_a_value": "reuse",
+    "reuse_of_no_value": "reuse ",
+    "own_key_promised_before_another": "next " + digest(key(1)),
+    "own_key_promised_by_blake3_before_another": "next " + digest(key(1), "E"),
 }
 
 # Names that come for the second time, each in line 5.
 SECOND = {
-    "prefix": "prefix said", "kt": 'kt "1"', "nt": 'nt "1"', "bt": "bt 0", "di": "di " + said(ICP),
+    "reuse": REUSE, "prefix": "prefix said", "kt": 'kt "1"', "nt": 'nt "1"', "bt": "bt 0", "di": "di " + said(ICP),
+}
+
+OWN, OWN_BY_BLAKE3, STAYS = "next " + digest(key(1)), "next " + digest(key(1), "E"), key(1, "B")
+# Promises of a key that the plan has already: the plan, its log, and the number of the first such line.
+PROMISES = {
+    "own_key_promised": (plan("icp", *HEAD, *keys(1, 1), SIGN), None, 4),
+    "own_key_promised_before_it": (plan("icp", OWN, *HEAD, "key " + key(1), SIGN), None, 2),
+    "own_key_promised_before_it_by_blake3": (plan("icp", *HEAD, OWN_BY_BLAKE3, SIGN, "key " + key(1)), None, 3),
+    "own_key_promised_before_reuse": (plan("icp", *HEAD, *keys(1, 1), REUSE, SIGN), None, 4),
+    "own_key_promised_behind_another": (plan("icp", *HEAD, *keys(1, 2), OWN, SIGN), None, 5),
+    "own_key_promised_by_both": (plan("icp", OWN_BY_BLAKE3, OWN, *keys(1), *HEAD, SIGN), None, 2),
+    "own_key_promised_that_is_the_second": (plan("icp", *HEAD, *keys(1), *keys(2, 3, 2), 'kt "2"', SIGN, "sign 1 1"), None, 6),
+    "own_key_promised_that_could_stay": (plan("icp", *HEAD, "key " + STAYS, "next " + digest(STAYS), SIGN), None, 4),
+    "next_key_promised_twice": (plan("icp", *HEAD, *keys(1, 2, 3, 2), SIGN), None, 6),
+    "next_key_promised_twice_before_reuse": (plan("icp", *HEAD, *keys(1, 2, 2), REUSE, *keys(3, 3), SIGN), None, 5),
+    "own_key_promised_in_a_rot": (plan("rot", *BEHIND, *keys(2, 3, 2), SIGN), LOG, 6),
+    "own_key_promised_in_a_rot_without_a_log": (plan("rot", *BEHIND, *keys(2, 2), SIGN), None, 5),
+    "own_key_promised_in_a_dip": (plan("dip", *HEAD, "di " + said(ICP), *keys(10, 10), SIGN), None, 5),
+    "own_key_promised_in_a_drt": (plan("drt", *HEAD, prefix(CHILD), *keys(11, 11), SIGN), None, 5),
+    "own_key_promised_in_an_ixn": (plan("ixn", *BEHIND, *keys(1, 1), SIGN), LOG, 5),
+    "own_key_promised_before_a_bad_line": (plan("icp", *HEAD, *keys(1, 1), "sign 0"), None, 5),
+    "own_key_promised_where_a_prefix_is_missing": (plan("rot", *HEAD, *keys(2, 2), SIGN), LOG, 1),
 }
 
 LINES = {
     **{"line_" + name: (line_4(line), None, "line 4") for name, line in FOURTH.items()},
     **{"line_second_" + name: (plan("icp", *HEAD, *keys(1), line, line), None, "line 5") for name, line in SECOND.items()},
+    **{"line_" + name: (text, log, "line %d" % number) for name, (text, log, number) in PROMISES.items()},
     "line_not_utf8": (line_4('trait "?"').replace(b"?", b"\xff"), None, "line 4"),
     "line_none": ("", None, "line 1"),
     "line_first_not_kind": (plan("icp", *HEAD).split("\n", 1)[1] + "kind icp\n", None, "line 1"),
@@ -150,7 +180,8 @@ BODIES = {
     "key_as_an_add": (*turned("add " + key(9), "bt 1"), "field 12"),
     "65_keys": (*icp(*MANY_KEYS, 'kt "42"'), "many"),
     "65_traits": (*icp(*keys(1, 2), *['trait "x"'] * 65), "many"),
-    "65_next_keys": (*icp(*keys(1), *["next " + digest(key(2))] * 65), "many"),
+    "65_next_keys": (*icp(*keys(1, *range(2, 67))), "many"),
+    "65_next_keys_that_are_one": (*icp(REUSE, *keys(1, *[2] * 65)), "many"),
     "large": (*icp(*MANY_KEYS, 'seal "%s"' % LARGE), "large"),
     "basic_with_two_keys": (*icp("prefix basic", *keys(1), *keys(2, 3)), "prefix"),
     "basic_with_a_key_that_has_no_next_one": (*icp("prefix basic", "key " + key(1, "B"), "next " + digest(key(2))), "prefix"),

@@ -7,13 +7,15 @@ import re
 from fractions import Fraction
 from math import lcm
 
+from kit import digest
+
 KINDS = ("icp", "dip", "rot", "drt", "ixn")
 REPEATED = ("key", "next", "cut", "add", "trait", "seal", "sign")
 # The characters of a primitive behind its code: two bits before the raw bytes are zero.
 REST = "[A-P][A-Za-z0-9_-]{42}"
 FORMS = {
     "code": "[EI]", "key": "[BD]" + REST, "next": "[EI]" + REST, "cut": "[BD]" + REST, "add": "[BD]" + REST,
-    "bt": "0|[1-9a-f][0-9a-f]{0,15}", "di": "[BDEI]" + REST,
+    "bt": "0|[1-9a-f][0-9a-f]{0,15}", "di": "[BDEI]" + REST, "reuse": "yes",
 }
 NUMBER = "0|[1-9][0-9]{0,4}"
 JSON_STRING = re.compile(r'"((?:[^"\\\x00-\x1f]|\\(?:["\\/bfnrt]|u[0-9a-fA-F]{4}))*)"')
@@ -183,8 +185,9 @@ class Plan:
 
     def __init__(self, kind):
         self.kind, self.values, self.lists = kind, {}, {name: [] for name in REPEATED}
+        self.promises = []
 
-    def take(self, line):
+    def take(self, number, line):
         name, space, text = line.decode().partition(" ")
         if not space:
             raise Refused
@@ -195,6 +198,16 @@ class Plan:
             raise Refused
         else:
             self.values[name] = value
+        if name == "next" and "reuse" not in self.values:
+            self.promises.append((number, value))
+
+    def first_reuse(self):
+        """The line of the first promise of a key that the plan has, or that an earlier line promises, if there is one."""
+        known = {digest(key, code) for key in self.lists["key"] for code in "EI"}
+        for number, promise in self.promises:
+            if promise in known:
+                return number
+            known.add(promise)
 
     def is_whole(self):
         """Whether nothing is missing, and no delegator too many."""
@@ -215,11 +228,13 @@ def read_plan(text):
     plan = Plan(first[5:].decode())
     for number, line in enumerate(lines[1:], 2):
         try:
-            plan.take(line)
+            plan.take(number, line)
         except (Refused, UnicodeDecodeError):
             raise BadLine(number)
     if rest:
         raise BadLine(len(lines) + 1)
     if not plan.is_whole():
         raise BadLine(1)
+    if number := plan.first_reuse():
+        raise BadLine(number)
     return plan
