@@ -1,10 +1,10 @@
 //! What a row is answered by.
 
-use crate::outside_text::outside_of;
+use crate::outside_text::{awaited, outside_of};
 use keri_outside::{MemSink, MemSource, MemVerifier};
 use keri_roles::{Close, Done, ReaderEnd, run};
 use rows::Row;
-use run_status::{Making, MemOutside};
+use run_status::{Making, MemOutside, Outside};
 use std::alloc::{AllocError, Global};
 use std::fmt::Write;
 use std::sync::Wait;
@@ -71,10 +71,24 @@ fn link_words(text: &mut String, sinks: &[MemSink]) -> Result<(), AllocError> {
     Ok(())
 }
 
+// Whether the readers met, where the row says that some should.
+fn meeting_word(text: &mut String, row: &Row, outside: &MemOutside) -> Result<(), AllocError> {
+    if awaited(row) == 0 {
+        return Ok(());
+    }
+    let met = if outside.gate().all_met() {
+        "yes"
+    } else {
+        "no"
+    };
+    write!(text, " met={met}")
+}
+
 // What is written, and right behind it `=`, the status, how many messages and verdicts were told, how each reader closed, each
-// making, with a `!` where it failed, and how many bytes each link was sent.
+// making, with a `!` where it failed, how many bytes each link was sent, and whether the readers met.
 fn told(
     alloc: Global,
+    row: &Row,
     outside: &MemOutside,
     done: &Done<MemOutside>,
 ) -> Result<String, AllocError> {
@@ -83,6 +97,7 @@ fn told(
     close_words(&mut text, done.readers.as_slice())?;
     making_words(&mut text, outside.makings())?;
     link_words(&mut text, done.sinks.as_slice())?;
+    meeting_word(&mut text, row, outside)?;
     Ok(text)
 }
 
@@ -92,7 +107,7 @@ fn ran<R: Threads + Wait + Sync>(rt: &R, alloc: Global, row: &Row) -> Result<Str
     let words = words_of(alloc, row)?;
     let mut outside = outside_of(alloc, row)?;
     let done = run_words(rt, alloc, &words, &mut outside);
-    let text = told(alloc, &outside, &done);
+    let text = told(alloc, row, &outside, &done);
     drop(done);
     drop(outside);
     text

@@ -1,7 +1,7 @@
 //! Outsides in memory, as rows set them up.
 ghost use Rattle.std.specs.Prelude.{◌≤◌};
 
-use keri_outside::{Limits, MemSink, VerdictRule};
+use keri_outside::{Limits, MemGate, MemSink, VerdictRule};
 use lists::Items;
 use rows::Row;
 use run_status::{MemAddress, MemDiskFile, MemFile, MemHelper, MemOutside, MemPeer};
@@ -180,13 +180,18 @@ fn doors_of(alloc: Global, row: &Row) -> Result<Items<MemAddress>, AllocError> {
     Ok(doors)
 }
 
+/// How many readers are to meet, or 0 where the row doesn't say.
+pub(crate) fn awaited(row: &Row) -> u16 {
+    row.word(place_of(row, "gate")).parse::<u16>().unwrap_or(0)
+}
+
 /// The outside of a row: behind its command line stand names, each with a value behind it. `text` is what the file `a` and
 /// standard input hold, `plan` what `p` does, `shelf` and `old` what the files of these names do, which aren't there else, `piece`
 /// how many bytes a read gives at most, and `says yes` or `says no` what the helper says of everything; else it is the rehearsal.
 /// `reads`, `plan_reads`, `asks`, `signings`, `puts`, `shelf_calls`, `old_calls` and `makings` are the numbers of the calls that
 /// fail, counted from 0, with a comma between two of them; `links` is how many links come at the address `door`, each of which
 /// holds what `a` does, and `door_calls` and `link_puts` are the calls of it and of each link's sink that fail. The others are limits,
-/// by their names.
+/// by their names; `gate` is how many readers are to meet before their first message.
 pub(crate) fn outside_of(alloc: Global, row: &Row) -> Result<MemOutside, AllocError> {
     let files = files_of(alloc, row)?;
     let helpers = helpers_of(alloc, row)?;
@@ -198,6 +203,7 @@ pub(crate) fn outside_of(alloc: Global, row: &Row) -> Result<MemOutside, AllocEr
         MemOutside::new(alloc, files, sink, makings, limits_of(row))
             .with_helpers(helpers)
             .with_disks(disks)
-            .with_doors(doors),
+            .with_doors(doors)
+            .with_gate(MemGate::new(awaited(row))),
     )
 }

@@ -1,0 +1,28 @@
+"""Runs whose readers meet: before its first message each waits for the others, for a number of turns at most.
+
+A run's end says whether all of them met. They do where each has a thread of its own, in whatever order the threads run,
+and neither where there are fewer of them than are awaited, nor where one reads behind the other or in turn.
+"""
+from row_tables.run_calls import MADE, REPORT, VALIDATE, WATCH, run
+from validate_cases import SIGNED
+
+READERS = 3
+ENDS = " End" * READERS
+
+
+def meeting(text, written, readers, met):
+    """Three files, and three links, each of which holds the text: one message."""
+    for command, lines in ((VALIDATE, written), (WATCH, "")):
+        # Three messages are told, and what the one verdict is.
+        yield from run(command + ",a,a", lines, "0 told=4%s%s met=%s" % (ENDS, " Source Verifier" * READERS, met), text, gate=readers)
+        over_links = command[:-1] + "--listen,door,--links,%d" % READERS
+        yield from run(over_links, lines, "0 told=4%s Door%s%s met=%s" % (ENDS, " Verifier" * READERS, " link=0" * READERS, met), text,
+                       links=READERS, gate=readers)
+
+
+def rows():
+    yield "# readers that meet"
+    yield from meeting(SIGNED, REPORT, READERS, "yes")
+    # Of more readers than there are none meet the others, and the run ends.
+    yield from run(VALIDATE + ",a,a", REPORT, "0 told=4%s%s met=no" % (ENDS, " Source Verifier" * READERS), SIGNED, gate=READERS + 1)
+    yield from run(VALIDATE, REPORT, "0 told=2 End %s met=no" % MADE, SIGNED, gate=2)
