@@ -6,6 +6,7 @@ ghost use Rattle.keri.specs.Links.{door_address, door_faults};
 use crate::behind_streams::behind_streams;
 use crate::real_sink::{RealSink, Target};
 use crate::real_source::{Origin, RealSource};
+use crate::timed_link::TimedLink;
 use keri_outside::{Caller, Door, Failed};
 use std::io;
 use std::io::ErrorKind;
@@ -18,6 +19,7 @@ const ATTEMPTS: usize = 1_000;
 /// A door at an address, which tells no links. It never ends.
 #[derive(Drop)]
 pub(crate) struct TcpDoor {
+    rt: HostRuntime,
     address: SocketAddr,
     listener: TcpListener,
     // The link that came last. Its sink may be kept until the program ends, so its peer is told of the end of
@@ -47,6 +49,7 @@ impl TcpDoor {
     {
         let listener = behind_streams(TcpListener::bind(rt, address)?)?;
         Ok(TcpDoor {
+            rt: *rt,
             address,
             listener,
             last: None,
@@ -55,15 +58,28 @@ impl TcpDoor {
     }
 }
 
-// The next link, as its source, its sink and one handle more.
-fn accept(listener: &TcpListener) -> io::Result<(TcpStream, TcpStream, TcpStream)> {
+// A link that was taken, as what its source reads, what its sink writes, and one handle more.
+#[derive(Drop)]
+struct Taken {
+    source: TimedLink,
+    sink: TimedLink,
+    last: TcpStream,
+}
+
+// The next link. The time for its receipts begins now, and that for what it holds with the first read: of several links that
+// are taken before one is read none loses time by waiting for the others.
+fn accept(rt: HostRuntime, listener: &TcpListener) -> io::Result<Taken> {
     for _ in 0..ATTEMPTS {
         match listener.accept() {
             Ok((link, _)) => {
                 let link = behind_streams(link)?;
                 let sink = link.try_clone()?;
                 let last = link.try_clone()?;
-                return Ok((link, sink, last));
+                return Ok(Taken {
+                    source: TimedLink::new(rt, link),
+                    sink: TimedLink::new(rt, sink).begun()?,
+                    last,
+                });
             }
             Err(error) if is_tried_again(error.kind()) => {}
             Err(error) => return Err(error),
@@ -99,8 +115,8 @@ impl Door for TcpDoor {
             // Its peer may have gone, which is no fault of the door.
             let _ = last.shutdown(Shutdown::Write);
         }
-        match accept(&self.listener) {
-            Ok((source, sink, last)) => {
+        match accept(self.rt, &self.listener) {
+            Ok(Taken { source, sink, last }) => {
                 self.last = Some(last);
                 Ok(Some(Caller {
                     source: RealSource::new(Origin::Link(source)),

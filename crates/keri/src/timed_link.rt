@@ -1,0 +1,75 @@
+//! Links over TCP that are held to a time.
+
+use std::io;
+use std::io::{Read, Write};
+use std::net::TcpStream;
+use std::time::{Duration, Instant};
+
+/// So many seconds a read or a write waits for the peer at most.
+const SILENCE_SECONDS: u64 = 30;
+
+/// So many seconds a link is read, and so many it is written, from when its time begins.
+const LINK_SECONDS: u64 = 300;
+
+/// A handle of a link. A read or a write fails where the peer keeps it waiting too long, and where the time of the link is
+/// up.
+#[derive(Drop)]
+pub(crate) struct TimedLink {
+    rt: HostRuntime,
+    link: TcpStream,
+    // The end of its time, once that has begun.
+    end: Option<Instant>,
+}
+
+impl TimedLink {
+    /// A handle whose time begins with the first read or write.
+    pub(crate) fn new(rt: HostRuntime, link: TcpStream) -> TimedLink {
+        TimedLink {
+            rt,
+            link,
+            end: None,
+        }
+    }
+
+    /// It, with a time that begins now.
+    pub(crate) fn begun(self) -> io::Result<TimedLink> {
+        let mut begun = self;
+        begun.wait()?;
+        Ok(begun)
+    }
+
+    // How long a read or a write that is asked for now may wait. Once the time of the link is up that is nothing, which the
+    // system refuses as a limit.
+    fn wait(&mut self) -> io::Result<Duration> {
+        let now = Instant::now(&self.rt)?;
+        let end = match self.end {
+            Some(end) => end,
+            None => now
+                .checked_add(Duration::from_secs(LINK_SECONDS))
+                .unwrap_or(now),
+        };
+        self.end = Some(end);
+        let left = end.saturating_duration_since(now);
+        Ok(left.min(Duration::from_secs(SILENCE_SECONDS)))
+    }
+}
+
+impl Read for TimedLink {
+    fn read(&mut self, buf: &mut [u8]) -> io::Result<usize> {
+        let wait = self.wait()?;
+        self.link.set_read_timeout(Some(wait))?;
+        self.link.read(buf)
+    }
+}
+
+impl Write for TimedLink {
+    fn write(&mut self, buf: &[u8]) -> io::Result<usize> {
+        let wait = self.wait()?;
+        self.link.set_write_timeout(Some(wait))?;
+        self.link.write(buf)
+    }
+
+    fn flush(&mut self) -> io::Result<()> {
+        self.link.flush()
+    }
+}
