@@ -66,8 +66,8 @@ struct Taken {
     last: TcpStream,
 }
 
-// The next link. The time for its receipts begins now, and that for what it holds with the first read: of several links that
-// are taken before one is read none loses time by waiting for the others.
+// The next link. The time for its receipts begins now, and that for what it holds with the first read: of several
+// links that are taken before one is read none loses time by waiting for the others.
 fn accept(rt: HostRuntime, listener: &TcpListener) -> io::Result<Taken> {
     for _ in 0..ATTEMPTS {
         match listener.accept() {

@@ -11,8 +11,8 @@ const SILENCE_SECONDS: u64 = 30;
 /// So many seconds a link is read, and so many it is written, from when its time begins.
 const LINK_SECONDS: u64 = 300;
 
-/// A handle of a link. A read or a write fails where the peer keeps it waiting too long, and where the time of the link is
-/// up.
+/// A handle of a link. A read or a write fails where the peer keeps it waiting too long, and where the time of
+/// the link is up.
 #[derive(Drop)]
 pub(crate) struct TimedLink {
     rt: HostRuntime,
@@ -38,8 +38,8 @@ impl TimedLink {
         Ok(begun)
     }
 
-    // How long a read or a write that is asked for now may wait. Once the time of the link is up that is nothing, which the
-    // system refuses as a limit.
+    // How long a read or a write that is asked for now may wait. Once the time of the link is up that is nothing,
+    // which is refused as a limit.
     fn wait(&mut self) -> io::Result<Duration> {
         let now = Instant::now(&self.rt)?;
         let end = match self.end {
