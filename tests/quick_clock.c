@@ -3,32 +3,22 @@
    waits are shorter by as much. A socket whose writes may wait for some time holds as many bytes that aren't taken yet as
    ROOM says, where that is set. */
 #define _GNU_SOURCE
-#include <dlfcn.h>
 #include <stdint.h>
 #include <stdlib.h>
 #include <sys/socket.h>
+#include <sys/syscall.h>
 #include <sys/time.h>
 #include <time.h>
-
-typedef int reading(clockid_t, struct timespec *);
-typedef int setting(int, int, int, const void *, socklen_t);
+#include <unistd.h>
 
 static int64_t quicker(void)
 {
     return getenv("QUICKER") ? atoi(getenv("QUICKER")) : 1;
 }
 
-static void make_room(setting *real, int socket)
-{
-    int room = getenv("ROOM") ? atoi(getenv("ROOM")) : 0;
-
-    if (room > 0)
-        real(socket, SOL_SOCKET, SO_SNDBUF, &room, sizeof room);
-}
-
 int clock_gettime(clockid_t clock, struct timespec *time)
 {
-    int failed = ((reading *)dlsym(RTLD_NEXT, "clock_gettime"))(clock, time);
+    int failed = syscall(SYS_clock_gettime, clock, time);
     int64_t nanos;
 
     if (failed || clock != CLOCK_MONOTONIC)
@@ -39,16 +29,21 @@ int clock_gettime(clockid_t clock, struct timespec *time)
     return 0;
 }
 
+static int set(int socket, int level, int name, const void *value, socklen_t length)
+{
+    return syscall(SYS_setsockopt, socket, level, name, value, length);
+}
+
 int setsockopt(int socket, int level, int name, const void *value, socklen_t length)
 {
-    setting *real = (setting *)dlsym(RTLD_NEXT, "setsockopt");
+    int room = getenv("ROOM") ? atoi(getenv("ROOM")) : 0;
     struct timeval time;
     int64_t micros;
 
     if (level != SOL_SOCKET || (name != SO_RCVTIMEO && name != SO_SNDTIMEO) || length != sizeof time)
-        return real(socket, level, name, value, length);
-    if (name == SO_SNDTIMEO)
-        make_room(real, socket);
+        return set(socket, level, name, value, length);
+    if (name == SO_SNDTIMEO && room > 0)
+        set(socket, SOL_SOCKET, SO_SNDBUF, &room, sizeof room);
     time = *(const struct timeval *)value;
     micros = time.tv_sec * 1000000LL + time.tv_usec;
     /* A time of 0 stands for no limit, and none becomes that. */
@@ -56,5 +51,5 @@ int setsockopt(int socket, int level, int name, const void *value, socklen_t len
         micros = micros < quicker() ? 1 : micros / quicker();
     time.tv_sec = micros / 1000000;
     time.tv_usec = micros % 1000000;
-    return real(socket, level, name, &time, length);
+    return set(socket, level, name, &time, length);
 }

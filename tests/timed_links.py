@@ -28,7 +28,7 @@ def served(place, command, links, quicker=QUICKER):
     """The program over so many links, whose time is so many times as fast."""
     library = place.folder / "quick_clock.so"
     if not library.exists():
-        subprocess.run(["cc", "-shared", "-fPIC", "-o", library, SOURCE, "-ldl"], check=True)
+        subprocess.run(["cc", "-shared", "-fPIC", "-o", library, SOURCE], check=True)
     return place.serve(command, links, env=dict(os.environ, LD_PRELOAD=str(library), QUICKER=str(quicker), ROOM=str(ROOM)))
 
 
