@@ -14,8 +14,8 @@ use said_digest::digest_of;
 use std::alloc::{AllocError, Global};
 use std::collections::BTreeSet;
 
-/// The number of the line of the first promise of a key that the plan has already: one of these, or one that an earlier
-/// promise is of.
+/// The number of the line of the first promise of a key that the plan has already: of one of these keys, or the same as an
+/// earlier promise.
 pub(crate) fn first_reuse(
     alloc: Global,
     keys: &[Key],
