@@ -175,7 +175,9 @@ def main():
     for name, left in (("old_shelf_that_is_missing", b""), ("old_shelf_that_is_missing_beside_a_leftover", LEFTOVER)):
         files = {"a": NEVER_READ.encode(), **({"shelf": left} if left else {})}
         write(name, [*WORDS, "--from", "old", "a"], files, "", DISK_FAULT, {"shelf": left}, gone=["old"])
-    print(len(SERVED) + len(UNOPENED) + len(FILLED) + 5, "cases")
+    files = {"a": NEVER_READ.encode(), "shelf": UNOPENED["old_shelf_and_a_text"][0]}
+    write("old_shelf_that_is_missing_beside_a_text", [*WORDS, "--from", "old", "a"], files, "shelf 0\n", REFUSED, files, gone=["old"])
+    print(len(SERVED) + len(UNOPENED) + len(FILLED) + 6, "cases")
 
 
 if __name__ == "__main__":
