@@ -65,7 +65,7 @@ def test_silent(place):
         check(f"{name}: the shelf", place.shelf(), payloads(*MESSAGES))
 
 
-def test_slow(place):
+def test_byte_by_byte(place):
     """A peer that sends a byte each second, for six minutes."""
     door = served(place, WITNESS, 2)
     slow, other = door.peers(2)
@@ -161,6 +161,6 @@ def long_silence(place):
 def tests():
     """The tests, where the library can be built."""
     if shutil.which("cc"):
-        return [test_slow, test_deaf, test_silent, test_quiet, test_silent_among_others, test_late]
+        return [test_byte_by_byte, test_deaf, test_silent, test_quiet, test_silent_among_others, test_late]
     skip("tests/links: there is no C compiler, and how long a peer is waited for isn't tried")
     return []
