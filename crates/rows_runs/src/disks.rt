@@ -1,24 +1,37 @@
-//! What rows write of faults and bytes.
+//! Disks in memory, and what rows write of their faults and their bytes.
+ghost use Rattle.std.specs.Prelude.{◌≡◌, ℕ, List, IfOk};
+ghost use Rattle.shelf_log.specs.KeriDisk.Memory.{mem_told};
 
-use journal::ResumeFault;
 use lists::Items;
-use rows::bytes_words;
-use shelf_log::ShelfFault;
+use rows::{Row, bytes_words};
+use shelf_log::{MemDisk, ShelfFault};
 use std::alloc::{AllocError, Global};
+
+/// The numbers of the calls that fail, by the word at a place.
+pub(crate) fn failing_of(alloc: Global, row: &Row, place: usize) -> Result<Items<u64>, AllocError> {
+    let mut failing = Items::new(alloc);
+    for number in row.numbers(alloc, place)?.as_slice() {
+        failing.push(u64::from(*number))?;
+    }
+    Ok(failing)
+}
+
+/// A disk of which a crash leaves the bytes alone.
+pub(crate) fn disk_of(
+    alloc: Global,
+    bytes: Vec<u8>,
+    failing: Items<u64>,
+) -> Result<MemDisk, AllocError>
+    ensures { IfOk result (λ disk. (c : List ℕ) → (mem_told disk).images c → c ≡ bytes.items) }
+{
+    MemDisk::new(alloc, bytes, failing)
+}
 
 /// The fault of a shelf, but for want of memory.
 pub(crate) fn refused(alloc: Global, fault: ShelfFault) -> Result<String, AllocError> {
     match fault {
         ShelfFault::OutOfMemory => Err(AllocError),
         _ => format!(in alloc; "{fault:?}"),
-    }
-}
-
-/// Why no witness starts, but for want of memory.
-pub(crate) fn not_started(alloc: Global, fault: ResumeFault) -> Result<String, AllocError> {
-    match fault {
-        ResumeFault::OutOfMemory => Err(AllocError),
-        ResumeFault::NotALog(_) => format!(in alloc; "{fault:?}"),
     }
 }
 

@@ -1,9 +1,10 @@
-//! What a row is answered by.
+//! Runs: the one call that does all that the program `keri` does, over an outside in memory.
+mod outside_text;
 
-use crate::outside_text::{awaited, outside_of};
 use keri_outside::{MemSink, MemSource, MemVerifier};
 use keri_roles::{Close, Done, ReaderEnd, run};
-use rows::Row;
+use outside_text::{awaited, outside_of};
+use rows::{Row, given};
 use run_status::{Making, MemOutside, Outside};
 use std::alloc::{AllocError, Global};
 use std::fmt::Write;
@@ -113,15 +114,14 @@ fn ran<R: Threads + Wait + Sync>(rt: &R, alloc: Global, row: &Row) -> Result<Str
     text
 }
 
-/// What a line is answered by: itself, where it names no run.
+/// The answer of the row, where it is a run.
 pub(crate) fn answer<R: Threads + Wait + Sync>(
     rt: &R,
     alloc: Global,
-    line: &str,
-) -> Result<String, AllocError> {
-    let row = Row::of(alloc, line)?;
-    if row.word(0) == "run" {
-        return ran(rt, alloc, &row);
+    row: &Row,
+) -> Result<Option<String>, AllocError> {
+    match row.word(0) {
+        "run" => given(ran(rt, alloc, row)),
+        _ => Ok(None),
     }
-    String::from_str(alloc, line)
 }

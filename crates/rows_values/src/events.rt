@@ -1,21 +1,15 @@
-//! The program of rows of events: each line of standard input names a library call with its arguments, and is answered by
-//! a line of what the call gives. Lines that name no call are written as they are. The lines that must come out are made
-//! by tests/rows, never by this program.
-#![tactic(auto)]
-
+//! Calls of events: bodies, key states, what backs an event, and messages of plans.
 mod backers;
 mod bodies;
 mod event;
 mod plans;
 mod states;
 
-use anyhow::Result;
 use rows::Row;
 use std::alloc::{AllocError, Global};
-use std::io;
 
-// The answer of the first part of the library that has the call.
-fn called(alloc: Global, row: &Row) -> Result<Option<String>, AllocError> {
+/// The answer of the row, where it is one of these calls.
+pub(crate) fn answer(alloc: Global, row: &Row) -> Result<Option<String>, AllocError> {
     if let Some(answer) = bodies::answer(alloc, row)? {
         return Ok(Some(answer));
     }
@@ -26,24 +20,4 @@ fn called(alloc: Global, row: &Row) -> Result<Option<String>, AllocError> {
         return Ok(Some(answer));
     }
     plans::answer(alloc, row)
-}
-
-// What the line is answered by.
-fn answer(alloc: Global, line: &str) -> Result<String, AllocError> {
-    let row = Row::of(alloc, line)?;
-    let called = called(alloc, &row);
-    drop(row);
-    match called? {
-        Some(answer) => Ok(answer),
-        None => String::from_str(alloc, line),
-    }
-}
-
-fn main(rt: HostRuntime) -> Result<()> {
-    let alloc = rt.alloc();
-    let text = io::read_to_string(alloc, &mut rt.reader())?;
-    for line in text.as_str().lines() {
-        rt.println(answer(alloc, line)?)?;
-    }
-    Ok(())
 }

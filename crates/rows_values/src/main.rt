@@ -1,11 +1,12 @@
-//! The program of rows of primitives, JSON values, thresholds and digests: each line of standard input names a library
-//! call with its arguments, and is answered by a line of what the call gives. Lines that name no call are written as they
-//! are. The lines that must come out are made by tests/rows, never by this program.
+//! The program of rows of values: each line of standard input names a library call with its arguments, and is answered by a
+//! line of what the call gives. The calls are those of values, of streams and of events; no two have one name, and none knows of
+//! another. Lines that name no call are written as they are. The lines that must come out are made by tests/rows, never by this
+//! program.
 #![tactic(auto)]
 
-mod codes;
-mod digests;
-mod trees;
+mod events;
+mod streams;
+mod values;
 
 use anyhow::Result;
 use rows::Row;
@@ -14,13 +15,13 @@ use std::io;
 
 // The answer of the first part of the library that has the call.
 fn called(alloc: Global, row: &Row) -> Result<Option<String>, AllocError> {
-    if let Some(answer) = codes::answer(alloc, row)? {
+    if let Some(answer) = values::answer(alloc, row)? {
         return Ok(Some(answer));
     }
-    if let Some(answer) = trees::answer(alloc, row)? {
+    if let Some(answer) = streams::answer(alloc, row)? {
         return Ok(Some(answer));
     }
-    digests::answer(alloc, row)
+    events::answer(alloc, row)
 }
 
 // What the line is answered by.

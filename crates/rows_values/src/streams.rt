@@ -2,7 +2,7 @@
 ghost use Rattle.std.specs.Prelude.{◌≡◌, ◌<◌, ◌∷◌, [], IfOk, IfSome, OnOk};
 ghost use Rattle.cesr_stream.specs.Groups.{elements_of};
 ghost use Rattle.cesr_stream.specs.Reading.{IsDrained};
-ghost use Rattle.rows_streams.specs.Fed.{fed};
+ghost use Rattle.rows_values.specs.Fed.{fed};
 
 use cesr_codes::{Digest, IndexedSig, Key, KeyCode, Moment, Number, Sig};
 use cesr_stream::{

@@ -1,7 +1,7 @@
 //! Cores that begin with a list of texts.
 ghost use Rattle.std.specs.Prelude.{◌≤◌, length};
 
-use crate::session::{Session, mode_of};
+use crate::cores::session::{Session, mode_of};
 use journal::{Mode, ResumeFault};
 use json_tree::Text;
 use keri_outside::Limits;

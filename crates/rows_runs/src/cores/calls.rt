@@ -1,8 +1,8 @@
 //! The calls of a core.
 
-use crate::evidence::evidence;
-use crate::session::{Session, limits_of, mode_of};
-use crate::{base, views};
+use crate::cores::evidence::evidence;
+use crate::cores::session::{Session, limits_of, mode_of};
+use crate::cores::{base, views};
 use cesr_codes::Sig;
 use cesr_stream::Message;
 use journal::Question;

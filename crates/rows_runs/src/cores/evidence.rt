@@ -2,7 +2,7 @@
 ghost use Rattle.std.specs.Prelude.{◌≡◌};
 ghost use Rattle.journal.specs.declared.journal.mode.Mode.TheVariants.{Local};
 
-use crate::calls::{MOST_QUESTIONS, verdict};
+use crate::cores::calls::{MOST_QUESTIONS, verdict};
 use journal::Mode;
 use keri_outside::{Limits, MemSink, Steps};
 use lists::Items;

@@ -3,7 +3,7 @@ ghost use Rattle.std.specs.Prelude.{◌≡◌, []};
 ghost use Rattle.turn_lock.specs.Locks.{IsPassOf};
 ghost use Rattle.validator_core.specs.ValidatorCore.View.{told_of};
 
-use crate::views::{prefix_of, state_words};
+use crate::cores::views::{prefix_of, state_words};
 use cesr_codes::Prefix;
 use cesr_stream::Message;
 use journal::Mode;

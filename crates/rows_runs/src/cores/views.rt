@@ -1,7 +1,7 @@
 //! What a core shows of what it was told.
 
-use crate::calls::number_of;
-use crate::session::Session;
+use crate::cores::calls::number_of;
+use crate::cores::session::Session;
 use cesr_codes::Prefix;
 use journal::Conflict;
 use keri_outside::Steps;

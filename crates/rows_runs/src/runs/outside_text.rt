@@ -1,6 +1,7 @@
 //! Outsides in memory, as rows set them up.
 ghost use Rattle.std.specs.Prelude.{◌≤◌};
 
+use crate::disks::failing_of;
 use keri_outside::{Limits, MemGate, MemSink, VerdictRule};
 use lists::Items;
 use rows::Row;
@@ -64,12 +65,7 @@ fn limits_of(row: &Row) -> Limits {
 
 // The numbers of the calls that are to fail, which stand behind the name.
 fn failing(alloc: Global, row: &Row, name: &str) -> Result<Items<u64>, AllocError> {
-    let calls = row.numbers(alloc, place_of(row, name))?;
-    let mut numbers = Vec::new(alloc);
-    for call in calls.as_slice() {
-        numbers.push(u64::from(*call))?;
-    }
-    Ok(Items::from_vec(numbers))
+    failing_of(alloc, row, place_of(row, name))
 }
 
 // The bytes of a name.

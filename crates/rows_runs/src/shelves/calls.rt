@@ -2,8 +2,8 @@
 ghost use Rattle.shelf_log.specs.ShelfLog.Format.{IsSized};
 ghost use Rattle.shelf_log.specs.declared.shelf_log.version.Version.TheVariants.{Two};
 
-use crate::session::{Held, Session};
-use crate::spelling::{file_text, list_text, refused};
+use crate::disks::{file_text, list_text, refused};
+use crate::shelves::session::{Held, Session};
 use rows::Row;
 use shelf_log::{MemDisk, Shelf, ShelfFault};
 use std::alloc::{AllocError, Global};

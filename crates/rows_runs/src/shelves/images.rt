@@ -2,9 +2,9 @@
 ghost use Rattle.std.specs.Prelude.{◌≤◌};
 ghost use Rattle.shelf_log.specs.KeriDisk.Memory.{mem_told};
 
-use crate::opening::old_of;
-use crate::session::{Held, Session};
-use crate::spelling::{list_text, refused};
+use crate::disks::{list_text, refused};
+use crate::shelves::opening::old_of;
+use crate::shelves::session::{Held, Session};
 use keri_outside::Limits;
 use lists::Items;
 use shelf_log::{MemDisk, Returned, Shape, Shelf, ShelfFault, is_leftover};

@@ -5,8 +5,8 @@ ghost use Rattle.shelf_log.specs.KeriDisk.Memory.{mem_told};
 ghost use Rattle.shelf_log.specs.ShelfLog.Format.{IsSized, IsNoShelf};
 ghost use Rattle.shelf_log.specs.declared.shelf_log.version.Version.TheVariants.{One, Two};
 
-use crate::session::{Held, Session};
-use crate::spelling::list_text;
+use crate::disks::{disk_of, failing_of, list_text};
+use crate::shelves::session::{Held, Session};
 use keri_outside::Limits;
 use lists::Items;
 use rows::Row;
@@ -22,22 +22,6 @@ fn limits_of(row: &Row) -> Limits {
     limits.records = row.number(1).min(u64::from(limits.records)) as u32;
     limits.shelf_bytes = row.number(2).min(u64::from(limits.shelf_bytes)) as u32;
     limits
-}
-
-// The numbers of the calls that fail.
-fn failing_of(alloc: Global, row: &Row, place: usize) -> Result<Items<u64>, AllocError> {
-    let mut failing = Items::new(alloc);
-    for number in row.numbers(alloc, place)?.as_slice() {
-        failing.push(u64::from(*number))?;
-    }
-    Ok(failing)
-}
-
-// A disk of which a crash leaves the bytes alone.
-fn disk_of(alloc: Global, bytes: Vec<u8>, failing: Items<u64>) -> Result<MemDisk, AllocError>
-    ensures { IfOk result (λ disk. (c : List ℕ) → (mem_told disk).images c → c ≡ bytes.items) }
-{
-    MemDisk::new(alloc, bytes, failing)
 }
 
 /// `disk FAILING BYTES`: a disk is at hand whose file holds the bytes.

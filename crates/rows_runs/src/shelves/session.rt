@@ -1,6 +1,6 @@
 //! The shelf that rows speak of.
 
-use crate::spelling::refused;
+use crate::disks::refused;
 use shelf_log::{MemDisk, Returned, Shelf};
 use std::alloc::{AllocError, Global};
 use std::mem;
@@ -21,6 +21,14 @@ pub(crate) struct Session {
 }
 
 impl Session {
+    /// Nothing is at hand.
+    pub(crate) fn new(alloc: Global) -> Session {
+        Session {
+            alloc,
+            held: Held::Nothing,
+        }
+    }
+
     /// The disk, which is at hand no more.
     pub(crate) fn take_disk(&mut self) -> Option<MemDisk> {
         match mem::replace(&mut self.held, Held::Nothing) {

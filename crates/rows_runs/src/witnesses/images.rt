@@ -2,9 +2,9 @@
 ghost use Rattle.std.specs.Prelude.{◌≤◌};
 ghost use Rattle.shelf_log.specs.KeriDisk.Memory.{mem_told};
 
-use crate::opening::started;
-use crate::session::{Held, Session};
-use crate::spelling::{list_text, not_started, refused};
+use crate::disks::{list_text, refused};
+use crate::witnesses::opening::{not_started, started};
+use crate::witnesses::session::{Held, Session};
 use cesr_codes::Key;
 use keri_outside::Limits;
 use lists::Items;

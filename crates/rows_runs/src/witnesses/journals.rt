@@ -1,6 +1,6 @@
 //! How rows write a journal.
 
-use crate::spelling::list_text;
+use crate::disks::list_text;
 use cesr_codes::{Key, Sig};
 use journal::{Claim, Entry, Journal};
 use std::alloc::{AllocError, Global};

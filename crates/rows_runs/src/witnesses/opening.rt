@@ -2,23 +2,16 @@
 ghost use Rattle.std.specs.Prelude.{◌≡◌, ℕ, List, IfOk, false};
 ghost use Rattle.shelf_log.specs.KeriDisk.Memory.{mem_told};
 
-use crate::outside_files::failing_of;
-use crate::session::{Held, Session};
-use crate::spelling::{not_started, refused};
+use crate::disks::{disk_of, failing_of, refused};
+use crate::witnesses::session::{Held, Session};
 use cesr_codes::{Key, KeyCode};
+use journal::ResumeFault;
 use keri_outside::Limits;
 use lists::Items;
 use rows::Row;
 use shelf_log::{MemDisk, Returned, Shelf};
 use std::alloc::{AllocError, Global};
 use witness_core::{StartFault, Witness};
-
-// A disk of which a crash leaves the bytes alone.
-fn disk_of(alloc: Global, bytes: Vec<u8>, failing: Items<u64>) -> Result<MemDisk, AllocError>
-    ensures { IfOk result (λ disk. (c : List ℕ) → (mem_told disk).images c → c ≡ bytes.items) }
-{
-    MemDisk::new(alloc, bytes, failing)
-}
 
 /// `disk FAILING BYTES`: a disk is at hand whose file holds the bytes.
 pub(crate) fn put_in(session: &mut Session, row: &Row) -> Result<String, AllocError> {
@@ -41,6 +34,14 @@ pub(crate) fn started(
     match key.code {
         KeyCode::Fixed => Some(Witness::start(alloc, key, shelf, limits)),
         KeyCode::Rotating => None,
+    }
+}
+
+/// Why no witness starts, but for want of memory.
+pub(crate) fn not_started(alloc: Global, fault: ResumeFault) -> Result<String, AllocError> {
+    match fault {
+        ResumeFault::OutOfMemory => Err(AllocError),
+        ResumeFault::NotALog(_) => format!(in alloc; "{fault:?}"),
     }
 }
 

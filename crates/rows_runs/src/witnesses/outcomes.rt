@@ -1,6 +1,6 @@
 //! What becomes of messages.
 
-use crate::session::{Held, Session};
+use crate::witnesses::session::{Held, Session};
 use cesr_stream::Message;
 use keri_outside::{MemSigner, MemVerifier};
 use rows::{Row, bytes_words, message_of};

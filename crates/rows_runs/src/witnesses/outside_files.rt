@@ -1,7 +1,8 @@
 //! What the calls of a witness are given.
 ghost use Rattle.std.specs.Prelude.{◌≤◌};
 
-use crate::session::Session;
+use crate::disks::failing_of;
+use crate::witnesses::session::Session;
 use cesr_codes::Key;
 use keri_outside::{Limits, MemSigner, MemVerifier, VerdictRule};
 use lists::Items;
@@ -42,15 +43,6 @@ pub(crate) fn key(session: &mut Session, row: &Row) -> Result<String, AllocError
         }
         Err(_) => String::from_str(session.alloc, "no-key"),
     }
-}
-
-/// The numbers of the calls that fail, by the word at a place.
-pub(crate) fn failing_of(alloc: Global, row: &Row, place: usize) -> Result<Items<u64>, AllocError> {
-    let mut failing = Items::new(alloc);
-    for number in row.numbers(alloc, place)?.as_slice() {
-        failing.push(u64::from(*number))?;
-    }
-    Ok(failing)
 }
 
 /// `verifier RULE FAILING`: a verifier that says yes or no to everything, or else to what the rehearsal says it to.

@@ -1,8 +1,8 @@
 //! What a witness shows.
 
-use crate::journals::journal_text;
-use crate::session::{Held, Session};
-use crate::spelling::{file_text, list_text};
+use crate::disks::{file_text, list_text};
+use crate::witnesses::journals::journal_text;
+use crate::witnesses::session::{Held, Session};
 use shelf_log::MemDisk;
 use std::alloc::AllocError;
 

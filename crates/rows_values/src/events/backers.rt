@@ -1,6 +1,7 @@
 //! Witnesses that back an event, seals, and numbers of receipts that bind.
 
-use crate::event::kept_event;
+use crate::events::event::kept_event;
+use crate::values::spelled;
 use cesr_codes::{Digest, Key, KeyCode, Prefix};
 use event_backing::{Backers, EventSeal, anchors, seals};
 use event_body::{Event, prefix_of};
@@ -8,13 +9,6 @@ use quorum_laws::{binds, union_size};
 use rows::{Row, given};
 use std::alloc::{AllocError, Global};
 use std::fmt::Write;
-
-// The digest as it is written.
-fn spelled(alloc: Global, digest: &Digest) -> Result<String, AllocError> {
-    let mut text = [0; 44];
-    digest.write(&mut text);
-    String::from_utf8_lossy(alloc, &text)
-}
 
 /// The keys of the word, with a comma between two of them.
 pub(crate) fn keys(alloc: Global, row: &Row, place: usize) -> Result<Vec<Key>, AllocError> {

@@ -2,6 +2,7 @@
 ghost use Rattle.std.specs.Prelude.{IfOk};
 ghost use Rattle.event_body.specs.EventWriting.Writable.{IsWritable};
 
+use crate::values::code;
 use cesr_codes::DigestCode;
 use event_body::{Event, ReadBody, read_body, sealed, writable, write_body};
 use rows::{Row, given};
@@ -66,14 +67,6 @@ fn written_sealed(alloc: Global, event: Event, code: DigestCode) -> Result<Strin
     match sealed {
         Ok(sealed) => written(alloc, sealed),
         Err(fault) => refused(alloc, fault),
-    }
-}
-
-/// The code that the word names.
-pub(crate) fn code(word: &str) -> DigestCode {
-    match word {
-        "E" => DigestCode::Blake3,
-        _ => DigestCode::Sha256,
     }
 }
 

@@ -1,10 +1,10 @@
 //! Messages that are made of plans.
 ghost use Rattle.std.specs.Prelude.{◌≡◌, [], false, None, IfOk};
 
-use crate::backers::keys;
-use crate::bodies::code;
-use crate::event::kept_event;
-use crate::states::fold;
+use crate::events::backers::keys;
+use crate::events::event::kept_event;
+use crate::events::states::fold;
+use crate::values::code;
 use cesr_codes::Digest;
 use cesr_stream::{Group, Message};
 use controller_core::{Plan, PlanFault, Slot, delegate, incept, interact, rotate};

@@ -1,7 +1,7 @@
 //! Key states after events.
 ghost use Rattle.key_state.specs.Kept.{IsKept};
 
-use crate::event::kept_event;
+use crate::events::event::kept_event;
 use cesr_codes::{IndexedSig, Key};
 use event_body::Event;
 use key_state::{KeyState, Misfit, StateFault, first};

@@ -3,7 +3,7 @@
 ghost use Rattle.std.specs.Prelude.{◌<◌, ◌↔◌, IsTrue};
 ghost use Rattle.said_digest.specs.Replaced.{LieIn};
 
-use crate::codes::hex;
+use crate::values::codes::hex;
 use blake3_hash::{Hasher, digest};
 use cesr_codes::{Digest, DigestCode};
 use rows::{Row, given};

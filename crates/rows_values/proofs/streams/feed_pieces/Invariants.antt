@@ -1,6 +1,6 @@
 use Rattle.std.proofs.Common.{◌+◌, ◌≤◌, length}
-use Rattle.rows_streams.specs.Fed.{fed}
-use Rattle.rows_streams.proofs.streams.feed_pieces.Given as goal
+use Rattle.rows_values.specs.Fed.{fed}
+use Rattle.rows_values.proofs.streams.feed_pieces.Given as goal
 
 -- what was fed and what is left are not more than all
 abbrev pub invariant-pieces : goal.invariant-pieces

@@ -1,6 +1,6 @@
 use Rattle.std.proofs.Common.{◌≡◌}
-use Rattle.rows_streams.specs.Fed.{fed}
-use Rattle.rows_streams.proofs.streams.take_items.Given as goal
+use Rattle.rows_values.specs.Fed.{fed}
+use Rattle.rows_values.proofs.streams.take_items.Given as goal
 
 -- nothing is fed here
 abbrev pub invariant-items : goal.invariant-items

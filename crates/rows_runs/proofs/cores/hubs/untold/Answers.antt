@@ -1,7 +1,7 @@
 use Rattle.std.proofs.Common.{◌≡◌, [], ap, refl}
 use Rattle.journal.specs.Journal.Journals.{told_by}
 use Rattle.validator_core.specs.ValidatorCore.View.{CoreView, told_of}
-use Rattle.rows_core.proofs.hubs.untold.Goals as goal
+use Rattle.rows_runs.proofs.cores.hubs.untold.Goals as goal
 
 -- a core without entries was told nothing
 nothing_told : (core : CoreView) → core.entries ≡ [] → told_of core ≡ []
