@@ -5,6 +5,9 @@ side ends: `send.py HOST PORT < messages > receipts`. It waits 10 seconds for a 
 receipts can have come, or the receipts couldn't be written; what came until then is written. It is 2 where the words
 are other ones. What the other side has is what its system has taken, as Linux tells it; behind a tunnel the other side
 is the tunnel's end.
+
+With --no-receipts before HOST all is sent, whenever the other side ends what it writes: `validate` and `watch` write
+nothing over a link, and may say so while they read it.
 """
 import os
 import signal
@@ -19,10 +22,14 @@ if sys.stdin is None or sys.stdout is None:
     sys.exit("send.py: standard input or output is closed")  # the link may not come to stand there
 if sys.stderr is None:
     sys.stderr = open(os.devnull, "w")
-if len(sys.argv) != 3 or not sys.argv[2].isdecimal():
-    print("usage: send.py HOST PORT < messages > receipts", file=sys.stderr)
+words = sys.argv[1:]
+wants_receipts = words[:1] != ["--no-receipts"]
+if not wants_receipts:
+    words = words[1:]
+if len(words) != 2 or not words[1].isdecimal():
+    print("usage: send.py [--no-receipts] HOST PORT < messages > receipts", file=sys.stderr)
     sys.exit(2)
-host, port = sys.argv[1:]
+host, port = words
 for attempt in range(101):
     try:
         link = socket.create_connection((host, int(port)))
@@ -49,7 +56,7 @@ def send():
     try:
         while piece := os.read(0, 65536):  # a buffered reader would be locked at the end
             link.sendall(piece)
-        if is_in(CLOSE_WAIT):
+        if wants_receipts and is_in(CLOSE_WAIT):
             faults.append(EARLY)
         is_sent.set()  # before the other side can know
         link.shutdown(socket.SHUT_WR)
@@ -66,10 +73,11 @@ try:
             rest = rest[os.write(1, rest):]  # a write may take a part alone
 except OSError as fault:
     faults.append(fault)
-if is_sent.is_set():
+if is_sent.is_set() or not wants_receipts:
     sender.join()
-    if not faults and (link.getsockopt(socket.SOL_SOCKET, socket.SO_ERROR) or is_in(TIME_WAIT, CLOSED) is False):
-        faults.append(EARLY)  # its end was under way before it had ours
+    ended_early = wants_receipts and is_in(TIME_WAIT, CLOSED) is False  # its end was under way before it had ours
+    if not faults and (link.getsockopt(socket.SOL_SOCKET, socket.SO_ERROR) or ended_early):
+        faults.append(EARLY)
 elif not faults:
     faults.append(EARLY)
 if faults:
