@@ -2,15 +2,51 @@
 
 #include <errno.h>
 #include <fcntl.h>
+#include <limits.h>
 #include <stdio.h>
 #include <stdlib.h>
 #include <string.h>
 #include <sys/stat.h>
 #include <unistd.h>
 
+/* How many bytes the character has that begins there in UTF-8; 0 where none does, or it is a control character. */
+static size_t character_at(const unsigned char *text)
+{
+    unsigned char first = text[0];
+    size_t length = first < 0x80 ? 1 : first < 0xc2 ? 0 : first < 0xe0 ? 2 : first < 0xf0 ? 3 : first < 0xf5 ? 4 : 0;
+
+    if (first < ' ' || first == 0x7f)
+        return 0;
+    for (size_t place = 1; place < length; place++)
+        if ((text[place] & 0xc0) != 0x80)
+            return 0;
+    bool is_control = first == 0xc2 && text[1] < 0xa0;
+    bool is_too_long = (first == 0xe0 && text[1] < 0xa0) || (first == 0xf0 && text[1] < 0x90);
+    return is_control || is_too_long || (first == 0xf4 && text[1] > 0x8f) ? 0 : length;
+}
+
+/* The text as it is told, lest something of it acts on a terminal: `?` for each byte of no character, or of a control
+   character; of a long one the beginning. */
+static const char *shown(const char *text)
+{
+    static char told[PATH_MAX];
+    size_t length = 0;
+
+    while (*text != '\0') {
+        size_t found = character_at((const unsigned char *)text), count = found > 0 ? found : 1;
+        if (length + count >= sizeof told)
+            break;
+        memcpy(told + length, found > 0 ? text : "?", count);
+        length += count;
+        text += count;
+    }
+    told[length] = '\0';
+    return told;
+}
+
 void fail(enum status status, const char *subject, const char *fault)
 {
-    (void)fprintf(stderr, "keri-ed25519: %s: %s\n", subject, fault);
+    (void)fprintf(stderr, "keri-ed25519: %s: %s\n", shown(subject), fault);
     exit((int)status);
 }
 

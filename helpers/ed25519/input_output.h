@@ -15,8 +15,8 @@ enum status {
     KEY_FAULT = 7    /* there is no such key, its folder or file is refused, or a new one couldn't be kept */
 };
 
-/* Ends the program with the status, after one line on standard error: its name, the subject and the fault. No secret
-   may be held. */
+/* Ends the program with the status, after one line on standard error: its name, the subject without control characters,
+   and the fault. No secret may be held. */
 _Noreturn void fail(enum status status, const char *subject, const char *fault);
 
 /* Reads so many bytes, or fewer only where the input ends. Answers how many, or -1 where reading failed. */
