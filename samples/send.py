@@ -3,8 +3,8 @@
 side ends: `send.py HOST PORT < messages > receipts`. It waits 10 seconds for a door that isn't open yet. The status is
 1 where there is no link, it broke, the other side ended before it had all that was sent and its end, so that not all
 receipts can have come, or the receipts couldn't be written; what came until then is written. It is 2 where the words
-are other ones. What the other side has is what its system has taken, as Linux tells it; behind a tunnel the other side
-is the tunnel's end.
+are other ones; `send.py --help` writes this. What the other side has is what its system has taken, as Linux tells it;
+behind a tunnel the other side is the tunnel's end.
 
 With --no-receipts before HOST all is sent, whenever the other side ends what it writes: `validate` and `watch` write
 nothing over a link, and may say so while they read it.
@@ -23,6 +23,12 @@ if sys.stdin is None or sys.stdout is None:
 if sys.stderr is None:
     sys.stderr = open(os.devnull, "w")
 words = sys.argv[1:]
+if words in (["--help"], ["-h"], ["help"]):
+    try:
+        os.write(1, __doc__.encode())
+    except OSError as fault:
+        sys.exit(f"send.py: standard output: {fault.strerror}")
+    sys.exit(0)
 wants_receipts = words[:1] != ["--no-receipts"]
 if not wants_receipts:
     words = words[1:]
