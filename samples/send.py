@@ -32,10 +32,10 @@ if words in (["--help"], ["-h"], ["help"]):
 wants_receipts = words[:1] != ["--no-receipts"]
 if not wants_receipts:
     words = words[1:]
-if len(words) != 2 or not words[1].isdecimal():
-    print("usage: send.py [--no-receipts] HOST PORT < messages > receipts", file=sys.stderr)
+host, port = words if len(words) == 2 else ("", "")
+if not (port.isascii() and port.isdecimal() and len(port) < 6 and 0 < int(port) < 65536):  # a greater one would be taken modulo 65536
+    print("usage: send.py [--no-receipts] HOST PORT < messages > receipts; a PORT is 1 to 65535", file=sys.stderr)
     sys.exit(2)
-host, port = words
 for attempt in range(101):
     try:
         link = socket.create_connection((host, int(port)))
@@ -44,7 +44,7 @@ for attempt in range(101):
         if attempt == 100:
             sys.exit(f"send.py: {host}, port {port}: {fault.strerror}")
         time.sleep(0.1)
-    except (OSError, OverflowError, UnicodeError) as fault:
+    except (OSError, UnicodeError) as fault:
         sys.exit(f"send.py: {host}, port {port}: {fault}")
 faults, is_sent = [], threading.Event()
 EARLY = "the other side ended before all was sent"
