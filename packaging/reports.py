@@ -7,6 +7,7 @@ lib/keri.
 import argparse
 import contextlib
 import fcntl
+import itertools
 import json
 import os
 import re
@@ -97,6 +98,15 @@ class Words(argparse.ArgumentParser):
     def take_files(self):
         """Adds the FILEs, behind what other words stand alone."""
         self.add_argument("files", metavar="FILE", nargs="+", help="a path, or - for standard input; up to 64")
+
+    def parse_args(self, args=None, namespace=None):
+        """Names an option that there isn't before the words behind it are taken for others."""
+        words = sys.argv[1:] if args is None else args
+        for word in itertools.takewhile(lambda word: word != "--", words):
+            name = word.split("=", 1)[0]
+            if name.startswith("--") and name not in self._option_string_actions:
+                self.error(f"{name}: there is no such option")
+        return super().parse_args(args, namespace)
 
     def error(self, message):
         say(f"{self.format_usage()}{self.prog}: error: {shown(message)}")
