@@ -192,7 +192,7 @@ def recorded(key, body):
         way = way_of(folder, key, asked, digest, record.matches)
         record.keep(way and b"%s %s %s %s %s\n" % (asked[5], asked[2], asked[3], digest, way))
     except OSError as fault:
-        raise Fault(KEY_FAULT, f"{key}: what it has signed can't be kept: {fault.strerror}") from None
+        raise Fault(KEY_FAULT, f"{key}: its record can't be kept: {fault.strerror}") from None
     finally:
         os.close(folder)
     return record

@@ -17,7 +17,7 @@ const char *told(const char *text)
 {
     static char fault_text[512];
 
-    (void)snprintf(fault_text, sizeof fault_text, "what it has signed can't be kept: %s", text);
+    (void)snprintf(fault_text, sizeof fault_text, "its record can't be kept: %s", text);
     return fault_text;
 }
 
