@@ -12,7 +12,7 @@ from row_tables.run_calls import (BEHIND, BOTH_LINES, BOTH_MADE, BOTH_ROTATIONS,
                                   ICP_PLAN, IXN_PLAN, MADE, MAKE, READ_FAULT, REPORT, SIGNED_IXN, TWO_SLOTS, UNSIGNED, VALIDATE,
                                   VERIFIER_FAULT, WATCH, WITNESS_MADE, WITNESS_WORDS, bad, run)
 from row_tables.shelf import NEW, OLD, file_of
-from row_tables.witness import OWN, OWN_IXN, payload
+from row_tables.witness import OWN, OWN_IXN, payload, weight
 from row_tables.witness import receipt_of as bare_receipt_of
 from stream_cases import BARE, RECEIPT, inception_line, malformed
 from validate_cases import SIGNED
@@ -71,6 +71,11 @@ def limits_of_validate():
         yield from run(VALIDATE, REPORT + FULL, "9 told=2 Full " + MADE, SIGNED + SIGNED_IXN, stream_bytes=size)
     yield from run(VALIDATE, FULL, "9 told=0 Full " + MADE, SIGNED + SIGNED_IXN, stream_bytes=first - 1)
     yield from run(VALIDATE, "refused 0 0 signatures\n", "3 told=0 End " + MADE, SIGNED, message_signatures=0)
+    # Without a turn nothing is told; behind the only one the question is left to the last round. No run needs a hundred.
+    yield from run(VALIDATE, FULL, "9 told=0 Full " + MADE, SIGNED, turns=0)
+    for turns in (1, 2):
+        yield from run(VALIDATE, REPORT + FULL, "9 told=2 Full " + MADE, SIGNED, turns=turns)
+    yield from run(VALIDATE, REPORT, "0 told=2 End " + MADE, SIGNED, turns=100)
     # A limit comes before a refusal and before a conflict.
     yield from run(VALIDATE, UNSIGNED + FULL, "9 told=0 Full " + MADE, ICP + SIGNED, messages=0)
     yield from run(VALIDATE, BOTH_LINES + FULL, "9 told=6 Full " + MADE, BOTH_ROTATIONS + SIGNED, messages=3)
@@ -298,6 +303,23 @@ def witnesses():
     yield from run(FROM_OLD, "", "8 told=0 Disk OldDisk", first, shelf=EMPTY, old=old, old_calls=0)
 
 
+def limits_of_witness():
+    """Of records and of the shelf's bytes: what has no room on the shelf isn't told, and nothing is read behind it."""
+    first, both = signed(OWN, 1), signed(OWN, 1) + signed(OWN_IXN, 1)
+    made, written, held = " Disk " + WITNESS_MADE, receipt_of(OWN), file_of(NEW, payload(OWN, 1))
+    # An empty shelf has 9 bytes.
+    needed = 9 + weight(OWN)
+    yield from run(WITNESS_WORDS + ",a", written, "0 told=2 End" + made, first, shelf=EMPTY, records=1, shelf_bytes=needed)
+    for limit in ({"records": 0}, {"shelf_bytes": needed - 1}):
+        yield from run(WITNESS_WORDS + ",a", "", "9 told=0 Full" + made, first, shelf=EMPTY, **limit)
+    for limit in ({"records": 1}, {"shelf_bytes": needed}):
+        yield from run(WITNESS_WORDS + ",a", written, "9 told=2 Full" + made, both, shelf=EMPTY, **limit)
+        yield from run(WITNESS_WORDS + ",a", "", "9 told=0 Full" + made, signed(OWN_IXN, 1), shelf=argument(held), **limit)
+    # A shelf that is over the limits isn't opened.
+    for limit in ({"records": 0}, {"shelf_bytes": len(held) - 1}):
+        yield from run(WITNESS_WORDS + ",a", "", "9 told=0 Disk", first, shelf=argument(held), **limit)
+
+
 def several_files():
     """The same file read by several readers, each with a verifier of its own: what is told doesn't depend on which
     comes first."""
@@ -331,7 +353,9 @@ def links():
         yield from run(words, "", "5 told=0 Door", SIGNED, links=2, door_calls=0)
         yield from run(words, "", "5 told=0 Door!", SIGNED, links=2, makings=0)
         yield from run(words.replace("door", "wall"), "", "5 told=0 Door!", SIGNED, links=2)
-    words = VALIDATE[:-1] + "--listen,door,--links,2"
+    words, made = VALIDATE[:-1] + "--listen,door,--links,2", "Door Verifier Verifier link=0 link=0"
+    for link, ends in ((0, "ReadFault End"), (1, "End ReadFault")):
+        yield from run(words, REPORT + "fault %d read\n" % link, "5 told=2 %s %s" % (ends, made), SIGNED, links=2, reads=0, at_link=link)
     yield from run(words, REPORT + VERIFIER_FAULT, "7 told=2 VerifierFault End Door Verifier! Verifier link=0 link=0", SIGNED, links=2, makings=1)
 
 
@@ -345,6 +369,12 @@ def served_links():
     yield from run(words, "", "5 told=2 End%s link=%d" % (made, sent), first, shelf=EMPTY, links=2, door_calls=1)
     yield from run(words, "", "6 told=3 WriteFault WriteFault%s link=0 link=0" % made, first, shelf=EMPTY, links=2, link_puts=0)
     yield from run(words, "", "5 told=0 ReadFault ReadFault%s link=0 link=0" % made, first, shelf=EMPTY, links=2, reads=0)
+    # A fault of one link leaves the other as it is.
+    for link, ends in ((0, "ReadFault End"), (1, "End ReadFault")):
+        lengths = "link=%d link=%d" % (sent * link, sent * (1 - link))
+        yield from run(words, "", "5 told=2 %s%s %s" % (ends, made, lengths), first, shelf=EMPTY, links=2, reads=0, at_link=link)
+        yield from run(words, "", "6 told=3 %s%s %s" % (ends.replace("Read", "Write"), made, lengths), first, shelf=EMPTY, links=2, link_puts=0,
+                       at_link=link)
     yield from run(words, "", "7 told=1 VerifierFault%s link=0" % made, first, shelf=EMPTY, links=2, asks=0)
     yield from run(words, "", "7 told=2 SignerFault%s link=0" % made, first, shelf=EMPTY, links=2, signings=0)
     yield from run(words, "", "9 told=0 Full%s link=0" % made, first, shelf=EMPTY, links=2, messages=0)
@@ -379,6 +409,7 @@ def rows():
     yield from messages_of_plans()
     yield "# witnesses"
     yield from witnesses()
+    yield from limits_of_witness()
     yield "# several files"
     yield from several_files()
     yield "# links"

@@ -4,15 +4,14 @@ use crate::Gate;
 use std::sync::atomic::{AtomicU64, Ordering};
 use std::thread;
 
-/// So many turns a reader waits for the others at most. In each of them it lets other threads run.
-const MOST_TURNS: u32 = 4_000_000;
-
 /// A gate where the first readers meet before their first message. Each of them notes that it came, waits for the others,
 /// for a number of turns at most, and notes whether all came. Readers that run one after another, or in turn, don't meet.
 #[derive(Drop)]
 pub struct MemGate {
     /// A bit for each reader that is to come, by its number.
     awaited: u64,
+    /// The turns that a reader waits at most.
+    turns: u32,
     /// A bit for each of them that came.
     came: AtomicU64,
     /// A bit for each of them that saw all others come.
@@ -20,9 +19,9 @@ pub struct MemGate {
 }
 
 impl MemGate {
-    /// A gate where so many readers meet, counted from 0. It holds nobody up where they are fewer than two, and no reader
-    /// from number 64 on.
-    pub fn new(readers: u16) -> MemGate {
+    /// A gate where the readers below this number meet. Each waits for this many turns at most, in each of which it lets
+    /// other threads run. The gate holds nobody up where fewer than two are to meet, and no reader from number 64 on.
+    pub fn new(readers: u16, turns: u32) -> MemGate {
         let awaited = match readers {
             0 | 1 => 0,
             2..=63 => (1 << readers) - 1,
@@ -30,6 +29,7 @@ impl MemGate {
         };
         MemGate {
             awaited,
+            turns,
             came: AtomicU64::new(0),
             met: AtomicU64::new(0),
         }
@@ -50,7 +50,7 @@ impl MemGate {
 
     // Waits for all readers, and answers whether they came.
     fn waits(&self) -> bool {
-        for _ in 0..MOST_TURNS {
+        for _ in 0..self.turns {
             if self.came.load(Ordering::SeqCst) == self.awaited {
                 return true;
             }

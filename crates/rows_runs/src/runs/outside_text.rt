@@ -31,6 +31,9 @@ const HELPER: &[u8] = b"rehearsal";
 /// So many bytes a read gives at most, unless the row says fewer.
 const PIECE: u64 = 4_096;
 
+/// So many turns a reader waits for the others at most, unless the row says fewer.
+const MOST_TURNS: u64 = 4_000_000;
+
 // The place of the word behind the name, among those behind the command line; a place behind all where the name is none of
 // them.
 fn place_of(row: &Row, name: &str) -> usize {
@@ -60,6 +63,9 @@ fn limits_of(row: &Row) -> Limits {
     let elements = u64::from(limits.message_signatures);
     limits.message_signatures = lowered(row, "message_signatures", elements) as u16;
     limits.stream_bytes = lowered(row, "stream_bytes", limits.stream_bytes);
+    limits.turns = lowered(row, "turns", limits.turns);
+    limits.records = lowered(row, "records", u64::from(limits.records)) as u32;
+    limits.shelf_bytes = lowered(row, "shelf_bytes", u64::from(limits.shelf_bytes)) as u32;
     limits
 }
 
@@ -150,13 +156,22 @@ fn disks_of(alloc: Global, row: &Row) -> Result<Items<MemDiskFile>, AllocError> 
     Ok(disks)
 }
 
-// A link, which holds what the file `a` does.
-fn peer_of(alloc: Global, row: &Row) -> Result<MemPeer, AllocError> {
+// The numbers of the calls of a link that are to fail, which stand behind the name. They are those of each link, or of the one
+// that the row names.
+fn failing_at(alloc: Global, row: &Row, name: &str, link: u8) -> Result<Items<u64>, AllocError> {
+    match row.word(place_of(row, "at_link")).parse::<u8>() {
+        Ok(named) if named != link => Ok(Items::new(alloc)),
+        _ => failing(alloc, row, name),
+    }
+}
+
+// The link of this number, which holds what the file `a` does.
+fn peer_of(alloc: Global, row: &Row, link: u8) -> Result<MemPeer, AllocError> {
     Ok(MemPeer {
         bytes: Items::from_vec(row.bytes(alloc, place_of(row, "text"))?),
         piece: lowered(row, "piece", PIECE).max(1) as usize,
-        failing_reads: failing(alloc, row, "reads")?,
-        failing_puts: failing(alloc, row, "link_puts")?,
+        failing_reads: failing_at(alloc, row, "reads", link)?,
+        failing_puts: failing_at(alloc, row, "link_puts", link)?,
     })
 }
 
@@ -164,8 +179,8 @@ fn peer_of(alloc: Global, row: &Row) -> Result<MemPeer, AllocError> {
 fn doors_of(alloc: Global, row: &Row) -> Result<Items<MemAddress>, AllocError> {
     let count = row.word(place_of(row, "links")).parse::<u8>().unwrap_or(0);
     let mut peers = Items::new(alloc);
-    for _ in 0..count {
-        peers.push(peer_of(alloc, row)?)?;
+    for link in 0..count {
+        peers.push(peer_of(alloc, row, link)?)?;
     }
     let mut doors = Items::new(alloc);
     doors.push(MemAddress {
@@ -181,13 +196,19 @@ pub(crate) fn awaited(row: &Row) -> u16 {
     row.word(place_of(row, "gate")).parse::<u16>().unwrap_or(0)
 }
 
+// The gate where the readers meet.
+fn gate_of(row: &Row) -> MemGate {
+    MemGate::new(awaited(row), lowered(row, "waits", MOST_TURNS) as u32)
+}
+
 /// The outside of a row: behind its command line stand names, each with a value behind it. `text` is what the file `a` and
 /// standard input hold, `plan` what `p` does, `shelf` and `old` what the files of these names do, which aren't there else, `piece`
 /// how many bytes a read gives at most, and `says yes` or `says no` what the helper says of everything; else it is the rehearsal.
 /// `reads`, `plan_reads`, `asks`, `signings`, `puts`, `shelf_calls`, `old_calls` and `makings` are the numbers of the calls that
 /// fail, counted from 0, with a comma between two of them; `links` is how many links come at the address `door`, each of which
-/// holds what `a` does, and `door_calls` and `link_puts` are the calls of it and of each link's sink that fail. The others are limits,
-/// by their names; `gate` is how many readers are to meet before their first message.
+/// holds what `a` does, and `door_calls` and `link_puts` are the calls of it and of each link's sink that fail. Behind `at_link`
+/// stands the number of the one link whose reads and puts fail. `gate` is how many readers are to meet before their first message,
+/// and `waits` how many turns each waits for the others at most. The others are limits, by their names.
 pub(crate) fn outside_of(alloc: Global, row: &Row) -> Result<MemOutside, AllocError> {
     let files = files_of(alloc, row)?;
     let helpers = helpers_of(alloc, row)?;
@@ -200,6 +221,6 @@ pub(crate) fn outside_of(alloc: Global, row: &Row) -> Result<MemOutside, AllocEr
             .with_helpers(helpers)
             .with_disks(disks)
             .with_doors(doors)
-            .with_gate(MemGate::new(awaited(row))),
+            .with_gate(gate_of(row)),
     )
 }

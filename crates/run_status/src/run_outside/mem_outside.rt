@@ -63,7 +63,7 @@ impl MemOutside {
             makings: Items::new(alloc),
             telling: true,
             sink,
-            gate: MemGate::new(0),
+            gate: MemGate::new(0, 0),
             faults: 0,
             limits,
         }
