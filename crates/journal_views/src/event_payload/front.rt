@@ -3,6 +3,7 @@ ghost use Rattle.std.specs.Prelude.{◌≡◌, ◌≤◌, ◌++◌, ℕ, List, I
 ghost use Rattle.std.specs.List.{list_all};
 ghost use Rattle.lists.specs.KeriSpecs.Hex.{is_hex};
 ghost use Rattle.cesr_stream.specs.Front.{size_of};
+ghost use Rattle.cesr_stream.specs.Reading.{fresh};
 ghost use Rattle.cesr_stream.specs.Written.{IsWritable};
 ghost use Rattle.cesr_stream.specs.declared.item.Item.TheVariants.{Body as BodyItem};
 ghost use Rattle.journal_views.specs.EventPayload.Payloads.{BeginsWithBody, IsBehindBody, are_groups as are_groups_alone};
@@ -38,11 +39,21 @@ pub fn text_in(alloc: Global, payload: &[u8]) -> Result<&[u8], AllocError>
     ensures { IfOk result (λ text. text.now ≡ text_in_of payload.now) }
 {
     let mut reader = Reader::new(alloc, Limits::standard());
+    let text = text_read(&mut reader, payload);
+    drop(reader);
+    text
+}
+
+// The same, by a reader to which nothing was fed.
+fn text_read<'p>(reader: &mut Reader, payload: &'p [u8]) -> Result<&'p [u8], AllocError>
+    requires { reader.old ≡ fresh 65535 }
+    ensures { IfOk result (λ text. text.now ≡ text_in_of payload.now) }
+{
     reader.feed(payload)?;
     let step = reader.next()?;
-    match size_in(&step) {
+    match size_in(step) {
         None => Ok(&[]),
-        Some(size) if are_groups(&mut reader)? => Ok(&payload[..size]),
+        Some(size) if are_groups(reader)? => Ok(&payload[..size]),
         Some(_) => Ok(&[]),
     }
 }
@@ -69,8 +80,8 @@ fn is_group(step: &Step) -> bool
 }
 
 // How many bytes a body has that was answered.
-fn size_in(step: &Step) -> Option<usize>
-    ensures { result ≡ size_in_step step.now }
+fn size_in(step: Step) -> Option<usize>
+    ensures { result ≡ size_in_step step }
 {
     match step {
         Step::Item(Item::Body(bytes), _) => Some(bytes.len()),
