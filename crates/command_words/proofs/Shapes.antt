@@ -1,7 +1,7 @@
 -- How the shape of a command of clap comes about.
 use Rattle.std.proofs.Common.{◌≡◌, ◌∙◌, ◌||◌, ◌++◌, ap, ap₂, false, List, [], ◌∷◌, ℕ, Result, IfOk}
 use Rattle.std.proofs.lemmas.Result.{IfOk-weaker}
-use Rattle.clap.specs.Words.{AddsArg, AddsSubcommand, App, Rule, Shape, app_of, new_app, rule_of, with_subcommand}
+use Rattle.clap.specs.Words.{AddsArg, App, Rule, Shape, app_of, new_app, rule_of}
 use Rattle.clap.specs.Simple.{app_of_fields, on_top}
 use Rattle.clap.specs.declared.builder.arg.Arg.{Arg}
 use Rattle.clap.specs.declared.builder.command.Command.{Command}
@@ -27,11 +27,6 @@ module _ (name : List ℕ) (rules : List Rule) (rule : Rule) (old : Command) (ar
   pub with_last_argument : {E : Type 0} (r : Result Command E) → IfOk r (λ new. AddsArg old argument new)
       → IfOk r (HasShape (command name (rules ++ rule ∷ [])))
   with_last_argument r added = IfOk-weaker r _ _ with_argument added
-
--- one command more
-pub with_command : (old below new : Command) (app : App) (shape : Shape) → app_of old ≡ app → HasShape shape below → AddsSubcommand old below new
-    → app_of new ≡ with_subcommand app shape
-with_command old below new app shape is has added = added.shape has.local ∙ ap₂ with_subcommand is has.shape_is
 
 -- one setting more
 pub with_setting : (on_fields : Command-F Command → Command-F Command) (on_shape : Shape → Shape)

@@ -1,6 +1,6 @@
 //! The form of the words: the command line that `clap` reads them by.
 ghost use Rattle.std.specs.Prelude.{◌≡◌, ◌∷◌, [], IfOk, codes, false};
-ghost use Rattle.clap.specs.Words.{app_of, rule_of};
+ghost use Rattle.clap.specs.Words.{App, Shape, app_of, rule_of, with_subcommand};
 ghost use Rattle.command_words.specs.Table as specs;
 ghost use Rattle.command_words.specs.Table.{HasShape, bare, may_have, table, wants};
 
@@ -11,17 +11,27 @@ use std::alloc::{AllocError, Global};
 pub(crate) fn program<'a>(alloc: Global) -> Result<Command<'a>, AllocError>
     ensures { IfOk result (λ program. app_of program ≡ table) }
 {
-    without_commands(alloc)
-        .subcommand(check(alloc)?)?
-        .subcommand(over_core(alloc, "validate")?)?
-        .subcommand(over_core(alloc, "watch")?)?
-        .subcommand(witness(alloc)?)?
-        .subcommand(make(alloc)?)?
-        .subcommand(convert(alloc)?)?
-        .subcommand(export(alloc)?)?
-        .subcommand(blame(alloc)?)?
-        .subcommand(generate(alloc)?)?
-        .subcommand(Command::new(alloc, "rehearse"))
+    let program = with(without_commands(alloc), check(alloc))?;
+    let program = with(program, over_core(alloc, "validate"))?;
+    let program = with(program, over_core(alloc, "watch"))?;
+    let program = with(program, witness(alloc))?;
+    let program = with(program, make(alloc))?;
+    let program = with(program, convert(alloc))?;
+    let program = with(program, export(alloc))?;
+    let program = with(program, blame(alloc))?;
+    let program = with(program, generate(alloc))?;
+    with(program, Ok(Command::new(alloc, "rehearse")))
+}
+
+// The program with one command more, where there was memory for that.
+fn with<'a>(
+    program: Command<'a>,
+    command: Result<Command<'a>, AllocError>,
+) -> Result<Command<'a>, AllocError>
+    ensures { (app : App) (shape : Shape) → app_of program.entry ≡ app → IfOk command.entry (HasShape shape)
+        → IfOk result (λ it. app_of it ≡ with_subcommand app shape) }
+{
+    program.subcommand(command?)
 }
 
 // The program before it has a command.
