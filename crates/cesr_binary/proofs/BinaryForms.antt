@@ -48,17 +48,6 @@ length-binary_of (a ∷ b ∷ c ∷ d ∷ t) =
     let n : ℕ = number_of_text (a ∷ b ∷ c ∷ d ∷ []) in
     omega (arith, length-append (digits_in 256 3 n) (binary_of t), length-digits_in 256 3 n, length-binary_of t)
 
--- texts of whole fours are turned one by one
-pub binary_of-append : (x y : List ℕ) (q : ℕ) → length x ≡ 4 * q → binary_of (x ++ y) ≡ binary_of x ++ binary_of y
-unfolding binary_of
-binary_of-append [] y q e = refl
-binary_of-append (a ∷ []) y q e = absurd (omega (arith, e))
-binary_of-append (a ∷ b ∷ []) y q e = absurd (omega (arith, e))
-binary_of-append (a ∷ b ∷ c ∷ []) y q e = absurd (omega (arith, e))
-binary_of-append (a ∷ b ∷ c ∷ d ∷ x) y q e =
-    let three : List ℕ = digits_in 256 3 (number_of_text (a ∷ b ∷ c ∷ d ∷ [])) in
-    ap (λ t. three ++ t) (binary_of-append x y (q - 1) (omega (arith, e))) ∙ sym (append_assoc three (binary_of x) (binary_of y))
-
 -- three bytes that are the digits of a number are the characters of that number
 text_of_three : (n : ℕ) → n < 256 ^ 3 → text_of (digits_in 256 3 n) ≡ base64_text 4 n
 unfolding text_of digits_in

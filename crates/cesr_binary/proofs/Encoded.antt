@@ -11,7 +11,8 @@ use Rattle.lists.proofs.KeriSpecsLemmas.Digits.{all_below-digits_in}
 use Rattle.base64.proofs.EngineFacts.{decode_of-encode_of}
 use Rattle.base64.specs.Engines.{url_safe_no_pad}
 use Rattle.lists.specs.KeriSpecs.Base64.{base64_text, characters, digits_in, number_of_text, whole_number}
-use Rattle.cesr_binary.specs.BinaryForm.{text_of, binary_of, IsTurnable}
+use Rattle.cesr_binary.specs.BinaryForm.{text_of, binary_of}
+use Rattle.cesr_stream.specs.Forms.{IsTurnable}
 
 -- bytes are digits in base 256
 pub bytes_below : (xs : List ℕ) → ((i : ℕ) → slice_index xs i < 256) → AllBelowBase 256 xs

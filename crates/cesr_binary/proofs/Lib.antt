@@ -1,11 +1,9 @@
 pub mod BinaryForms
-pub mod Characters
 pub mod MixedFronts
 pub mod SameMixedItems
 pub mod Wires
 pub mod GivenBytes
 pub mod Encoded
 pub mod ItemTexts
-pub mod CountedTexts
 pub mod MixedFed
 pub mod StandingItems

@@ -9,7 +9,7 @@ use Rattle.cesr_stream.specs.Texts.{SpellsItem}
 use Rattle.cesr_stream.proofs.Fed.{fed_counted}
 use Rattle.cesr_binary.specs.Mixed.{mixed_front, SpellsEither, StandMixed, one}
 use Rattle.cesr_binary.specs.MixedAnswers.{AnswersItem}
-use Rattle.cesr_binary.proofs.Characters.{group_dash, wrap_dash}
+use Rattle.cesr_stream.proofs.Characters.{group_dash, wrap_dash}
 use Rattle.cesr_binary.proofs.Wires.{in_text_of}
 
 -- the spelling of an item isn't empty

@@ -19,7 +19,7 @@ use Rattle.cesr_binary.specs.declared.domain.Domain.{Domain}
 use Rattle.cesr_binary.specs.BinaryForm.{is_binary, text_of}
 use Rattle.cesr_binary.specs.Mixed.{mixed_front, SpellsEither, StandMixed, none, one}
 use Rattle.cesr_binary.specs.Wire.{item_in, MayAllStand, ReadsBack, Written, wire, written}
-use Rattle.cesr_binary.proofs.Characters.{group_dash, wrap_dash}
+use Rattle.cesr_stream.proofs.Characters.{group_dash, wrap_dash}
 use Rattle.cesr_binary.proofs.GivenBytes.{first_kept, text_characters}
 use Rattle.cesr_binary.proofs.MixedFed.{spelled_some}
 use Rattle.cesr_binary.proofs.MixedFronts.{in_binary-whole}

@@ -11,12 +11,13 @@ use Rattle.cesr_stream.specs.Texts.{group_text, wrap_text, SpellsItem}
 use Rattle.cesr_stream.specs.Written.{item_text, IsItem, IsWritable, MayStand}
 use Rattle.cesr_stream.proofs.SameItems.{same_item}
 use Rattle.cesr_stream.proofs.WrittenItems.{written_front, spells_itself}
-use Rattle.cesr_binary.specs.BinaryForm.{text_of, binary_of, is_binary, IsTurnable}
+use Rattle.cesr_binary.specs.BinaryForm.{text_of, binary_of, is_binary}
+use Rattle.cesr_stream.specs.Forms.{IsTurnable}
 use Rattle.cesr_binary.specs.Mixed.{in_binary, mixed_front, text_in_either, SpellsEither, StandMixed, none, one}
 use Rattle.cesr_binary.specs.declared.domain.Domain.{Domain}
 use Rattle.cesr_binary.specs.declared.domain.Domain.TheVariants.{Binary, Text}
 use Rattle.cesr_binary.specs.Wire.{item_binary, item_in, IsRead, Written, wire, MayAllStand, ReadsBack}
-use Rattle.cesr_binary.proofs.Characters.{turnable_group, turnable_wrap, group_dash, wrap_dash}
+use Rattle.cesr_stream.proofs.Characters.{turnable_group, turnable_wrap, group_dash, wrap_dash}
 use Rattle.cesr_binary.proofs.BinaryForms.{text_of-append, text_of-binary_of, length-binary_of, binary_dash}
 use Rattle.cesr_binary.proofs.MixedFronts.{stand_more}
 use Rattle.cesr_binary.proofs.SameMixedItems.{same_items}

@@ -1,7 +1,6 @@
 -- The binary domain (CESR): four characters of six bits are three bytes.
-use Rattle.std.specs.Prelude.{◌≡◌, ℕ, ◌*◌, ◌/◌, ◌%◌, Bool, true, ◌&&◌, nat_le, List, [], ◌∷◌, ◌++◌, length}
-use Rattle.std.specs.List.{list_all}
-use Rattle.lists.specs.KeriSpecs.Base64.{base64_text, digits_in, is_character, number_of_text, whole_number}
+use Rattle.std.specs.Prelude.{ℕ, ◌*◌, ◌/◌, Bool, ◌&&◌, nat_le, List, [], ◌∷◌, ◌++◌}
+use Rattle.lists.specs.KeriSpecs.Base64.{base64_text, digits_in, number_of_text, whole_number}
 
 -- each whole three bytes as four characters; a rest of one or two is left out
 unfoldable pub text_of : List ℕ → List ℕ
@@ -25,8 +24,3 @@ in_bytes place = place / 4 * 3
 -- the first byte of what begins with a dash, whose six bits are 62
 abbrev pub is_binary : ℕ → Bool
 is_binary byte = nat_le 248 byte && nat_le byte 251
-
--- characters, as many as are turned to whole threes
-pub record IsTurnable (text : List ℕ) : Type 0 where
-  pub characters : list_all is_character text ≡ true
-  pub fours : length text % 4 ≡ 0

@@ -1,4 +1,5 @@
 pub mod BinaryForm
+pub mod BinaryLaws
 pub mod Mixed
 pub mod Wire
 pub mod MixedAnswers

@@ -1,13 +1,10 @@
 //! CESR streams whose groups and wraps stand in the text or in the binary domain.
 #![tactic(auto)]
 
+mod as_binary;
 mod domain;
 mod either_reader;
 mod mixed_reader;
-mod put_text;
-mod spelled;
-mod spelled_element;
-mod spelled_group;
 mod write;
 
 pub use domain::Domain;

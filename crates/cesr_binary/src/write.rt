@@ -9,8 +9,8 @@ ghost use Rattle.cesr_binary.specs.Wire.{IsRead, MayAllStand, ReadsBack, Written
 ghost use Rattle.cesr_binary.specs.Wire.{item_binary, item_in, wire, written};
 
 use crate::Domain;
-use crate::spelled::{Spelled, put_counted, size_of_all};
-use cesr_stream::{Item, write_item};
+use crate::as_binary::AsBinary;
+use cesr_stream::{Item, write_in_form, write_item};
 use keri_outside::{Failed, Sink};
 
 /// Puts an item in the domain, which takes no memory.
@@ -37,7 +37,6 @@ pub fn write_in<S: Sink>(domain: Domain, item: &Item, sink: &mut S) -> Result<()
 }
 
 /// Puts a body as it is, and a group or a wrap in binary, which takes no memory.
-#[tactic(auto, using(crate::proofs::Wires::read_binary, crate::proofs::Wires::same_binary))]
 pub fn write_binary<S: Sink>(item: &Item, sink: &mut S) -> Result<(), Failed>
     requires { IsWritable item.now }
 
@@ -56,12 +55,5 @@ pub fn write_binary<S: Sink>(item: &Item, sink: &mut S) -> Result<(), Failed>
     ensures only { (other : ItemValue) → IsItem item.now → IsItem other
         → SpellsEither (item_binary item.now) other → other ≡ item.now }
 {
-    match item {
-        Item::Body(bytes) => sink.put(bytes.as_slice()),
-        Item::Group(group) => group.put(sink),
-        Item::Wrapped(groups) => {
-            let fours = size_of_all(groups.as_slice()) / 4;
-            put_counted(b'V', fours, groups.as_slice(), sink)
-        }
-    }
+    write_in_form::<AsBinary, S>(item, sink)
 }

@@ -16,4 +16,6 @@ pub mod BegunItems
 pub mod Counters
 pub mod Bounds
 pub mod Sizes
+pub mod Characters
+pub mod Forms
 pub mod Wholes

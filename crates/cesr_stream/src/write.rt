@@ -2,10 +2,13 @@
 ghost use Rattle.std.specs.Prelude.{◌≡◌};
 ghost use Rattle.lists.specs.KeriSpecs.Causes.{HasCause};
 ghost use Rattle.lists.specs.KeriSpecs.Told.{Puts};
+ghost use Rattle.cesr_stream.specs.Forms.{item_in_form};
 ghost use Rattle.cesr_stream.specs.Written.{IsWritable, item_text};
 
-use crate::spellings::{Spelled, put_counted, size_counted, size_of_all};
-use crate::{Group, Item};
+use crate::form::AsText;
+use crate::writable::{Writable, put_counted, size_counted, size_of_all};
+use crate::{AnchorCouple, Couple, Form, Group, Item, Seen};
+use cesr_codes::IndexedSig;
 use keri_outside::{Failed, Sink};
 
 /// Puts the spelling of an item, which takes no memory.
@@ -18,17 +21,30 @@ pub fn write_item<S: Sink>(item: &Item, sink: &mut S) -> Result<(), Failed>
     // It fails only where the sink did.
     ensures cause { HasCause (S.faults sink.old) (S.faults sink.new) result }
 {
+    write_in_form::<AsText, S>(item, sink)
+}
+
+/// Puts a body as it is, and a group or a wrap in a form, which takes no memory.
+pub fn write_in_form<F: Form, S: Sink>(item: &Item, sink: &mut S) -> Result<(), Failed>
+    requires { IsWritable item.now }
+
+    // All of the spelling is put, or a front of it where the sink fails.
+    ensures written { Puts (S.written sink.old) (S.written sink.new) result (item_in_form F.form item.now) }
+
+    // It fails only where the sink did.
+    ensures cause { HasCause (S.faults sink.old) (S.faults sink.new) result }
+{
     match item {
         Item::Body(bytes) => sink.put(bytes.as_slice()),
-        Item::Group(group) => group.put(sink),
+        Item::Group(group) => group.put::<F, S>(sink),
         Item::Wrapped(groups) => {
             let fours = size_of_all(groups.as_slice()) / 4;
-            put_counted(b'V', fours, groups.as_slice(), sink)
+            put_counted::<F, Group, S>(b'V', fours, groups.as_slice(), sink)
         }
     }
 }
 
-impl Spelled for Group {
+impl Writable for Group {
     ghost use Rattle.cesr_stream.specs.Texts.{group_text};
 
     ghost text = { group_text };
@@ -42,13 +58,38 @@ impl Spelled for Group {
         }
     }
 
-    fn put<S: Sink>(&self, sink: &mut S) -> Result<(), Failed> {
+    fn put<F: Form, S: Sink>(&self, sink: &mut S) -> Result<(), Failed> {
         match self {
-            Group::Held(sigs) => put_counted(b'A', sigs.len(), sigs.as_slice(), sink),
-            Group::Witness(sigs) => put_counted(b'B', sigs.len(), sigs.as_slice(), sink),
-            Group::Couples(couples) => put_counted(b'C', couples.len(), couples.as_slice(), sink),
-            Group::FirstSeen(seen) => put_counted(b'E', seen.len(), seen.as_slice(), sink),
-            Group::Anchor(anchors) => put_counted(b'G', anchors.len(), anchors.as_slice(), sink),
+            Group::Held(sigs) => put_counted::<F, IndexedSig, S>(
+                b'A',
+                sigs.len(),
+                sigs.as_slice(),
+                sink,
+            ),
+            Group::Witness(sigs) => put_counted::<F, IndexedSig, S>(
+                b'B',
+                sigs.len(),
+                sigs.as_slice(),
+                sink,
+            ),
+            Group::Couples(couples) => put_counted::<F, Couple, S>(
+                b'C',
+                couples.len(),
+                couples.as_slice(),
+                sink,
+            ),
+            Group::FirstSeen(seen) => put_counted::<F, Seen, S>(
+                b'E',
+                seen.len(),
+                seen.as_slice(),
+                sink,
+            ),
+            Group::Anchor(anchors) => put_counted::<F, AnchorCouple, S>(
+                b'G',
+                anchors.len(),
+                anchors.as_slice(),
+                sink,
+            ),
         }
     }
 }

@@ -1,27 +1,25 @@
-use Rattle.std.proofs.Common.{◌/◌, length, flat_map, subst}
+use Rattle.std.proofs.Common.{◌≡◌, refl, subst}
 use Rattle.lists.specs.KeriSpecs.Told.{Puts}
-use Rattle.cesr_stream.specs.Texts.{group_text}
-use Rattle.cesr_binary.proofs.Characters.{turnable_group}
-use Rattle.cesr_binary.proofs.CountedTexts.{binary_of-counted}
+use Rattle.cesr_stream.specs.Forms.{item_in_form}
+use Rattle.cesr_stream.specs.declared.item.Item.{Item}
+use Rattle.cesr_stream.specs.declared.item.Item.TheVariants.{Body, Group as GroupItem, Wrapped}
+use Rattle.cesr_binary.specs.BinaryForm.{binary_of}
+use Rattle.cesr_binary.specs.Wire.{item_binary}
 use Rattle.cesr_binary.proofs.Wires.{read_binary, same_binary}
 use Rattle.cesr_binary.proofs.write.write_binary.Goals as goal
 
-pub returns-in-Body-clause-read : goal.returns-in-Body-clause-read
-returns-in-Body-clause-read g c = λ limit begun rest valid may. read_binary limit begun c.args.item.now rest valid c.requires may
+in_form : (item : Item) → item_in_form binary_of item ≡ item_binary item
+in_form (Body bytes) = refl
+in_form (GroupItem group) = refl
+in_form (Wrapped groups) = refl
 
-pub returns-in-Body-clause-only : goal.returns-in-Body-clause-only
-returns-in-Body-clause-only g c = λ other valid other_valid spelled. same_binary c.args.item.now other valid other_valid c.requires spelled
+pub returns-clause-written : goal.returns-clause-written
+returns-clause-written g c =
+    subst (Puts (g.S.Sink.written c.args.sink.now) (g.S.Sink.written c.write_in_form.new.sink) c.write_in_form.result)
+    (in_form c.args.item.now) c.write_in_form.ensures.written
 
-pub returns-in-Group-clause-read : goal.returns-in-Group-clause-read
-returns-in-Group-clause-read g c = λ limit begun rest valid may. read_binary limit begun c.args.item.now rest valid c.requires may
+pub returns-clause-read : goal.returns-clause-read
+returns-clause-read g c = λ limit begun rest valid may. read_binary limit begun c.args.item.now rest valid c.requires may
 
-pub returns-in-Wrapped-clause-written : goal.returns-in-Wrapped-clause-written
-returns-in-Wrapped-clause-written g c =
-    let groups = c.in-Wrapped.groups in
-    rw c.in-Wrapped.is
-    (subst (Puts (g.S.Sink.written c.args.sink.now) (g.S.Sink.written c.put_counted.new.sink) c.put_counted.result)
-    (binary_of-counted group_text turnable_group 86 (length (flat_map group_text groups) / 4) groups)
-    (rw (c.size_of_all-fours.ensures, c.as_slice-in-Wrapped.ensures, c.as_slice-in-Wrapped-2.ensures) at c.put_counted.ensures.written))
-
-pub returns-in-Wrapped-clause-read : goal.returns-in-Wrapped-clause-read
-returns-in-Wrapped-clause-read g c = λ limit begun rest valid may. read_binary limit begun c.args.item.now rest valid c.requires may
+pub returns-clause-only : goal.returns-clause-only
+returns-clause-only g c = λ other valid other_valid spelled. same_binary c.args.item.now other valid other_valid c.requires spelled
