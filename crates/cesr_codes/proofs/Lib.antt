@@ -11,3 +11,4 @@ pub mod Dates
 mod Texts
 pub mod Same
 mod WholeTexts
+pub mod FixedKeys

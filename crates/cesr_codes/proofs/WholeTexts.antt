@@ -1,5 +1,5 @@
 -- Whole texts of primitives.
-use Rattle.std.proofs.Common.{◌≡◌, ◌≢◌, ℕ, List, [], ◌++◌, length, Option, Some, None, Result, Ok, Err, sym, ap, ◌∙◌, append-nil}
+use Rattle.std.proofs.Common.{◌≡◌, ◌≢◌, ℕ, List, [], ◌++◌, length, Result, Ok, Err, sym, ap, ◌∙◌, append-nil}
 use Rattle.cesr_codes.specs.declared.code_fault.CodeFault.{CodeFault}
 
 module _ {V : Type 0} (spelling : V → List ℕ) (IsValid : V → Type 0) (text : List ℕ) where

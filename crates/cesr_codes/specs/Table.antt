@@ -22,9 +22,12 @@ total layout = length layout.code + layout.index + layout.digits
 abbrev pub layout : List ℕ → ℕ → ℕ → ℕ → Layout
 layout code index digits bytes = record { code = code; index = index; digits = digits; bytes = bytes }
 
--- keys, digests and prefixes of 32 bytes
+-- keys, those that can't be rotated, digests and prefixes of 32 bytes
 abbrev pub key_layouts : List Layout
 key_layouts = layout (codes "B") 0 43 32 ∷ layout (codes "D") 0 43 32 ∷ []
+
+abbrev pub fixed_layouts : List Layout
+fixed_layouts = layout (codes "B") 0 43 32 ∷ []
 
 abbrev pub digest_layouts : List Layout
 digest_layouts = layout (codes "E") 0 43 32 ∷ layout (codes "I") 0 43 32 ∷ []

@@ -4,7 +4,7 @@ ghost use Rattle.std.specs.List.{AllByRecursion};
 ghost use Rattle.cesr_codes.specs.Reading.{Reads};
 ghost use Rattle.cesr_codes.specs.Table.{Verdict};
 
-use crate::{CodeFault, Digest, Key, Prefix};
+use crate::{CodeFault, Digest, Key, Prefix, Sig};
 
 /// A type of primitives, of which each has a spelling of its own.
 pub trait Spelled: Copy {
@@ -111,4 +111,21 @@ impl Spelled for Prefix {
             Prefix::Said(digest) => digest.held(),
         }
     }
+}
+
+impl Spelled for Sig {
+    ghost use Rattle.cesr_codes.specs.Spelling.{IsSig, sig_text};
+    ghost use Rattle.cesr_codes.specs.Table.{sig_layouts, verdict};
+
+    ghost spelling = { sig_text };
+
+    ghost is_valid = { IsSig };
+
+    ghost judge = { verdict sig_layouts };
+
+    fn read_front(text: &[u8]) -> Result<(Sig, usize), CodeFault> {
+        Sig::read(text)
+    }
+
+    fn held(self) {}
 }

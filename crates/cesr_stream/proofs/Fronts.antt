@@ -2,11 +2,11 @@
 use Rattle.std.proofs.Common.{◌≡◌, ◌≢◌, ℕ, zero, suc, ◌+◌, ◌-◌, ◌*◌, ◌%◌, ◌<◌, ◌≤◌, ◌==◌, nat_lt, if◌then◌else◌, Bool, true, false, List, [], ◌∷◌, ◌++◌, length, drop, slice_index, refl, ap, ◌∙◌, arith, inl, inr, Option, None, Some, length-drop, lit≤}
 use Rattle.std.proofs.lemmas.Bool.{cases_Bool}
 use Rattle.std.proofs.lemmas.List.{drop-append-le}
-use Rattle.cesr_codes.specs.Table.{verdict, sig_layouts, number_layouts, digest_layouts, indexed_layouts}
+use Rattle.cesr_codes.specs.Table.{verdict, fixed_layouts, sig_layouts, number_layouts, digest_layouts, indexed_layouts}
 use Rattle.cesr_codes.specs.Dates.{moment_verdict}
 use Rattle.cesr_stream.specs.declared.bad.BadReason.TheVariants.{NoStart}
 use Rattle.cesr_stream.specs.Parts.{Part, whole, refused, unfinished, shifted, less, followed_by}
-use Rattle.cesr_stream.specs.Front.{fixed_layouts, moment_layouts, primitive_part, signature_part, couple_part, seen_part, anchor_part, element_part, elements_part, counter_part, count_of, counted_part, behind_counter, is_group, group_part, begun_group, groups_part, wrap_part, attached_part, behind_body, front}
+use Rattle.cesr_stream.specs.Front.{moment_layouts, primitive_part, signature_part, couple_part, seen_part, anchor_part, element_part, elements_part, counter_part, count_of, counted_part, behind_counter, is_group, group_part, begun_group, groups_part, wrap_part, attached_part, behind_body, front}
 use Rattle.cesr_stream.proofs.Stays.{Stays, Fits, stays-followed_by, fits-followed_by, fits-shifted, stays-body_part, fits-body_part, stays-counter_part, fits-counter_part, whole-counter_part, count_same, letter_same, byte_same, enough}
 use Rattle.cesr_stream.proofs.Primitives.{InRoom, IsFew, AreFours, extent, few-primitive_part, Judging, stays-primitive_part, fits-primitive_part, in_room-primitive_part, fours-primitive_part, judging-verdict, judging-moment_verdict}
 

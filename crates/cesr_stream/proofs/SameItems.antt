@@ -1,17 +1,16 @@
 -- A text spells one item at most.
 use Rattle.std.proofs.Common.{◌≡◌, ℕ, ◌≤◌, ◌==◌, ◌*◌, ◌/◌, Bool, true, false, ◌⊎◌, inl, inr, List, [], ◌∷◌, ◌++◌, length, drop, append-nil, slice_index, flat_map, refl, sym, ap, ◌∙◌, arith, append_assoc, length-append, All, subst}
-use Rattle.std.proofs.Props.{props}
 use Rattle.std.proofs.lemmas.Bool.{eqb-false}
 use Rattle.std.proofs.lemmas.List.Elements.{All-head, All-tail}
 use Rattle.lists.specs.KeriSpecs.Base64.{base64_text}
 use Rattle.cesr_codes.specs.declared.key.Key.{Key}
-use Rattle.cesr_codes.specs.declared.key.KeyCode.{KeyCode}
 use Rattle.cesr_codes.specs.declared.key.KeyCode.TheVariants.{Fixed}
 use Rattle.cesr_codes.specs.declared.sig.Sig.{Sig}
 use Rattle.cesr_codes.specs.declared.indexed_sig.IndexedSig.{IndexedSig}
 use Rattle.cesr_codes.specs.Indexed.{indexed_text, IsIndexed}
 use Rattle.cesr_codes.specs.Moments.{moment_text, IsMoment}
 use Rattle.cesr_codes.specs.Spelling.{key_text, sig_text, number_text, digest_text, IsKey, IsSig, IsNumber, IsDigest}
+use Rattle.cesr_codes.proofs.FixedKeys.{one_proof}
 use Rattle.cesr_codes.proofs.Numbers.{length-base64_text, same_digits}
 use Rattle.cesr_codes.proofs.Same.{same_front, same_key, same_sig, same_number, same_digest, same_moment, same_indexed}
 use Rattle.cesr_stream.specs.declared.anchor_couple.AnchorCouple.{AnchorCouple}
@@ -42,9 +41,6 @@ same-both text text' IsFirst IsSecond one two a b r s ia ib e =
 
 made : (key : Key) (sig : Sig) → key.code ≡ Fixed → Couple
 made key sig fixed = record { key = key; sig = sig; fixed = fixed }
-
-pub one_proof : (code : KeyCode) → IsProp (code ≡ Fixed)
-one_proof code = hlevel props
 
 same_made : (p q : Key × Sig) (f : p.0.code ≡ Fixed) (g : q.0.code ≡ Fixed) → p ≡ q → made p.0 p.1 f ≡ made q.0 q.1 g
 same_made p q f g e = subst (λ (x : Key × Sig). (h : x.0.code ≡ Fixed) → made p.0 p.1 f ≡ made x.0 x.1 h) e (λ h. ap (made p.0 p.1) (one_proof p.0.code f h)) g

@@ -12,7 +12,7 @@ use Rattle.cesr_codes.specs.Indexed.{indexed_text, IsIndexed}
 use Rattle.cesr_codes.specs.Moments.{moment_text, IsMoment}
 use Rattle.cesr_codes.specs.declared.key.Key.{Key}
 use Rattle.cesr_codes.specs.Spelling.{primitive_text, key_code, key_text, sig_text, number_text, digest_text, IsKey, IsSig, IsNumber, IsDigest}
-use Rattle.cesr_codes.specs.Table.{Layout, Verdict, good, verdict, sig_layouts, number_layouts, digest_layouts, indexed_layouts}
+use Rattle.cesr_codes.specs.Table.{Layout, Verdict, good, verdict, fixed_layouts, sig_layouts, number_layouts, digest_layouts, indexed_layouts}
 use Rattle.cesr_codes.proofs.Basic.{primitive_good, good_digest}
 use Rattle.cesr_codes.proofs.Dates.{good_moment}
 use Rattle.cesr_codes.proofs.Figures.{good_number}
@@ -23,7 +23,7 @@ use Rattle.cesr_codes.proofs.Sigs.{good_sig}
 use Rattle.cesr_stream.specs.declared.group.Group.{Group}
 use Rattle.cesr_stream.specs.declared.group.Group.TheVariants.{Held, Witness, Couples, FirstSeen, Anchor}
 use Rattle.cesr_stream.specs.Parts.{Part, whole, shifted, less, followed_by}
-use Rattle.cesr_stream.specs.Front.{is_past, primitive_part, fixed_layouts, moment_layouts, pair_part, key_part, sig_part, number_part, digest_part, moment_part, signature_part, couple_part, seen_part, anchor_part, is_group, element_part, elements_part, counter_part, count_of, counted_part, group_part}
+use Rattle.cesr_stream.specs.Front.{is_past, primitive_part, moment_layouts, pair_part, key_part, sig_part, number_part, digest_part, moment_part, signature_part, couple_part, seen_part, anchor_part, is_group, element_part, elements_part, counter_part, count_of, counted_part, group_part}
 use Rattle.cesr_stream.specs.Texts.{couple_text, seen_text, anchor_text, group_text}
 use Rattle.cesr_stream.specs.Written.{IsCouple, IsSeen, IsAnchor, IsGroup, IsCounted}
 use Rattle.cesr_stream.proofs.Primitives.{Judging, judging-verdict, judging-moment_verdict}

@@ -6,7 +6,7 @@ use Rattle.lists.specs.KeriSpecs.Hex.{is_hex, hex_value}
 use Rattle.std.specs.declared.option.Option.{Option}
 use Rattle.std.specs.declared.option.Option.TheVariants.{None, Some}
 use Rattle.cesr_codes.specs.Dates.{moment_verdict}
-use Rattle.cesr_codes.specs.Table.{Layout, Verdict, good, short, bad, verdict, layout, total, is_within_code, has_code, sig_layouts, number_layouts, digest_layouts, indexed_layouts}
+use Rattle.cesr_codes.specs.Table.{Layout, Verdict, good, short, bad, verdict, layout, total, is_within_code, has_code, fixed_layouts, sig_layouts, number_layouts, digest_layouts, indexed_layouts}
 use Rattle.cesr_codes.specs.declared.code_fault.CodeFault.TheVariants.{BadCharacter}
 use Rattle.cesr_stream.specs.declared.bad.BadReason.TheVariants.{NoStart, Version, TooLarge, GroupNotSupported, Code, WrapLength, GroupFirst}
 use Rattle.cesr_stream.specs.Parts.{Part, whole, refused, unfinished, followed_by, shifted, less}
@@ -72,10 +72,7 @@ judged_part (bad fault) = refused 0 (Code fault)
 abbrev pub primitive_part : List Layout → (List ℕ → Verdict) → Option ℕ → List ℕ → Part
 primitive_part layouts judge room text = if is_past room (shown layouts text) then refused 0 WrapLength else judged_part (judge text)
 
--- of keys those alone that can't be rotated, and date-times
-abbrev pub fixed_layouts : List Layout
-fixed_layouts = layout (codes "B") 0 43 32 ∷ []
-
+-- date-times
 abbrev pub moment_layouts : List Layout
 moment_layouts = layout (codes "1AAG") 0 32 24 ∷ []
 

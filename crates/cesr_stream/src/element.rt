@@ -6,8 +6,8 @@ ghost use Rattle.cesr_stream.specs.Judged.{JudgesElement};
 use crate::pair::read_pair;
 use crate::primitive::read_primitive;
 use crate::stop::Stop;
-use crate::{AnchorCouple, Seen};
-use cesr_codes::{Digest, IndexedSig, Moment, Number};
+use crate::{AnchorCouple, Couple, Seen};
+use cesr_codes::{Digest, FixedKey, IndexedSig, Moment, Number, Sig};
 
 /// An element of a group.
 pub(crate) trait Element: Drop {
@@ -35,6 +35,25 @@ impl Element for IndexedSig {
 
     fn at_front(bytes: &[u8], room: Option<usize>) -> Result<(IndexedSig, usize), Stop> {
         read_primitive::<IndexedSig>(bytes, room)
+    }
+}
+
+impl Element for Couple {
+    ghost use Rattle.cesr_stream.specs.Front.{couple_part};
+    ghost use Rattle.cesr_stream.specs.Texts.{couple_text};
+
+    ghost text = { couple_text };
+
+    ghost judged = { couple_part };
+
+    fn at_front(bytes: &[u8], room: Option<usize>) -> Result<(Couple, usize), Stop> {
+        match read_pair::<FixedKey, Sig>(bytes, room) {
+            Ok(((fixed, sig), length)) => {
+                let key = fixed.key;
+                Ok((Couple { key, sig }, length))
+            }
+            Err(stop) => Err(stop),
+        }
     }
 }
 

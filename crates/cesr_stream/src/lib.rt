@@ -12,7 +12,6 @@ mod counter;
 mod couple;
 mod element;
 mod elements;
-mod fixed_key;
 mod form;
 mod group;
 mod item;

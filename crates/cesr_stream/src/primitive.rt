@@ -6,7 +6,7 @@ ghost use Rattle.cesr_stream.specs.Judged.{JudgesElement, ReadsFront};
 
 use crate::BadReason;
 use crate::stop::Stop;
-use cesr_codes::{CodeFault, Digest, IndexedSig, Moment, Number, Sig};
+use cesr_codes::{CodeFault, Digest, FixedKey, IndexedSig, Moment, Number, Sig, Spelled};
 
 /// A type of primitives, or some of one.
 pub(crate) trait Primitive: Copy {
@@ -53,6 +53,28 @@ fn is_past(room: Option<usize>, count: Option<usize>) -> bool
         (None, _) => false,
         (Some(room), None) => room == 0,
         (Some(room), Some(count)) => room == 0 || room < count,
+    }
+}
+
+impl Primitive for FixedKey {
+    ghost use Rattle.cesr_codes.specs.Spelling.{key_text};
+    ghost use Rattle.cesr_codes.specs.Table.{fixed_layouts, verdict};
+
+    ghost text = { λ fixed. key_text fixed.key };
+
+    ghost layouts = { fixed_layouts };
+
+    ghost judge = { verdict fixed_layouts };
+
+    fn shown(bytes: &[u8]) -> Option<usize> {
+        match bytes {
+            [b'B', ..] => Some(44),
+            _ => None,
+        }
+    }
+
+    fn read_front(bytes: &[u8]) -> Result<(FixedKey, usize), CodeFault> {
+        <FixedKey as Spelled>::read_front(bytes)
     }
 }
 

@@ -6,8 +6,8 @@ use Rattle.std.specs.Int.Digits.{AllBelowBase}
 use Rattle.lists.specs.KeriSpecs.Base64.{AreBytes, base64_text, digits_in, number_of_text, whole_number}
 use Rattle.lists.proofs.KeriSpecsLemmas.Digits.{all_below-digits_in, length-digits_in, number-digits_in}
 use Rattle.cesr_codes.specs.declared.key.Key.{Key}
-use Rattle.cesr_codes.specs.declared.key.KeyCode.TheVariants.{Fixed, Rotating}
-use Rattle.cesr_codes.specs.Spelling.{IsKey, key_code, key_text}
+use Rattle.cesr_codes.specs.declared.key.KeyCode.TheVariants.{Fixed}
+use Rattle.cesr_codes.specs.Spelling.{IsKey, key_text}
 use Rattle.cesr_codes.proofs.Numbers.{bytes_low, number-text, same_bytes}
 use Rattle.command_words.specs.Keys.{fixed_key_in, key_behind}
 
@@ -47,9 +47,3 @@ not_spelled word none = elim (cases_Bool (bytes_eq word (key_text (key_behind wo
   | inl t ↦ absurd (none (key_behind word).raw (are_bytes (number_of_text (drop 1 word))) ((bytes_eq-Decides word (key_text (key_behind word))).0 t))
   | inr f ↦ sym (ap (λ b. cond b (Some (key_behind word)) None) f)
 ]
-
--- where a word is the spelling of a key that can be rotated
-pub rotating : (word : List ℕ) (key : Key) → key.code ≡ Rotating → word ≡ key_text key → None ≡ fixed_key_in word
-rotating word key is e =
-    not_spelled word (λ raw bytes other.
-    let code : 68 ≡ 66 = ap (λ k. key_code k) (sym is) ∙ ap (λ text. slice_index text 0) (sym e ∙ other) in absurd (omega arith))

@@ -3,16 +3,13 @@ ghost use Rattle.std.specs.Prelude.{◌≡◌, IfSome};
 ghost use Rattle.cesr_codes.specs.declared.key.KeyCode.TheVariants.{Fixed};
 ghost use Rattle.command_words.specs.Keys.{fixed_key_in};
 
-use cesr_codes::{Key, KeyCode, of_text};
+use cesr_codes::{FixedKey, Key, of_text};
 
 /// The key that can't be rotated that a word spells.
 pub(crate) fn fixed_key(word: &[u8]) -> Option<Key>
     ensures key { result ≡ fixed_key_in word.now }
     ensures fixed { IfSome result (λ key. key.code ≡ Fixed) }
 {
-    let key = of_text::<Key>(word)?;
-    match key.code {
-        KeyCode::Fixed => Some(key),
-        KeyCode::Rotating => None,
-    }
+    let fixed = of_text::<FixedKey>(word)?;
+    Some(fixed.key)
 }

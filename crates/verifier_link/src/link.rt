@@ -4,7 +4,7 @@ ghost use Rattle.std.specs.Prelude.{◌≡◌};
 use crate::Wanted;
 use crate::field::read_field;
 use crate::question::put_question;
-use cesr_codes::{Key, Sig};
+use cesr_codes::{Key, Sig, of_text};
 use keri_outside::{Failed, Signer, Sink, Source, Verifier};
 
 /// A verifier and a signer that asks a helper: questions go to the sink, and answers come from the source. It doesn't tell
@@ -128,9 +128,9 @@ impl<S: Source, K: Sink> Signer for Link<S, K> {
     {
         let mut answer = [0u8; 88];
         self.fetch(&Wanted::Signature(*key), body, &mut answer)?;
-        match Sig::read(&answer) {
-            Ok((sig, _)) => Ok(sig),
-            Err(_) => Err(self.fail()),
+        match of_text::<Sig>(&answer) {
+            Some(sig) => Ok(sig),
+            None => Err(self.fail()),
         }
     }
 }

@@ -11,7 +11,7 @@ use crate::field::take_field;
 use crate::length_digits::read_length;
 use crate::letter::Letter;
 use crate::stop::Stop;
-use cesr_codes::{Key, Sig};
+use cesr_codes::{Key, Sig, of_text};
 use keri_outside::Source;
 
 /// Reads a question, whose body is put at the front of the buffer, and answers what is wanted and how long the body is.
@@ -96,9 +96,9 @@ fn read_key<S: Source>(source: &mut S, room: &mut u64) -> Result<Key, Stop>
 {
     let mut text = [0u8; 44];
     take_field(source, room, &mut text)?;
-    match Key::read(&text) {
-        Ok((key, _)) => Ok(key),
-        Err(_) => Err(Stop::Malformed),
+    match of_text::<Key>(&text) {
+        Some(key) => Ok(key),
+        None => Err(Stop::Malformed),
     }
 }
 
@@ -111,9 +111,9 @@ fn read_sig<S: Source>(source: &mut S, room: &mut u64) -> Result<Sig, Stop>
 {
     let mut text = [0u8; 88];
     take_field(source, room, &mut text)?;
-    match Sig::read(&text) {
-        Ok((sig, _)) => Ok(sig),
-        Err(_) => Err(Stop::Malformed),
+    match of_text::<Sig>(&text) {
+        Some(sig) => Ok(sig),
+        None => Err(Stop::Malformed),
     }
 }
 

@@ -1,14 +1,8 @@
-use Rattle.std.proofs.Common.{◌∙◌, [], sym, arith, append-nil}
-use Rattle.cesr_codes.specs.Spelling.{key_text}
+use Rattle.std.proofs.Common.{arith}
 use Rattle.verifier_link.proofs.question_fields.read_key.Goals as goal
 
-pub returns-in-Err-clause-err : goal.returns-in-Err-clause-err
-returns-in-Err-clause-err g c =
+pub returns-in-None-clause-err : goal.returns-in-None-clause-err
+returns-in-None-clause-err g c =
     let taken = c.in_ok-take_field.ensures.ok in
-    let counted = taken.counted in (
-      c.take_field.new.field,
-      omega arith,
-      omega (arith, counted),
-      λ (key, valid, is). let whole = c.in-Err.ensures.whole key [] valid (is ∙ sym (append-nil (key_text key))) in cc whole,
-      taken.gave,
-    )
+    let counted = taken.counted in
+    (c.take_field.new.field, omega arith, omega (arith, counted), λ (key, valid, is). c.in-None.ensures.none key valid is, taken.gave)

@@ -1,6 +1,6 @@
 use Rattle.cesr_stream.specs.Front.{couple_part}
 use Rattle.cesr_stream.proofs.Fronts.{whole_stays, holds_couple}
-use Rattle.cesr_stream.proofs.fixed_key.CoupleElement.at_front.Goals as goal
+use Rattle.cesr_stream.proofs.element.CoupleElement.at_front.Goals as goal
 
 pub returns-in-Ok-clause-stays : goal.returns-in-Ok-clause-stays
 returns-in-Ok-clause-stays c = λ more.
