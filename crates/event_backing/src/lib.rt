@@ -12,4 +12,4 @@ mod witness;
 pub use backers::Backers;
 pub use event_seal::EventSeal;
 pub use laws::sealed_by_parts;
-pub use seal_search::{anchors, seals};
+pub use seal_search::{holds_seal_of, seals};

@@ -18,7 +18,7 @@ pub fn seals(alloc: Global, event: &Event) -> Result<Vec<EventSeal>, AllocError>
     ensures { IfOk result (λ seals. AreSealsOf (events.anchors_of event.now) seals.items) }
 {
     let mut seals = Vec::new(alloc);
-    for value in anchors_of(event) {
+    for value in event.anchors() {
         if let Some(seal) = seal_in(value) {
             seals.push(seal)?;
         }
@@ -27,10 +27,10 @@ pub fn seals(alloc: Global, event: &Event) -> Result<Vec<EventSeal>, AllocError>
 }
 
 /// Whether the event holds the event seal of an identifier, a number and a digest. It takes no memory.
-pub fn anchors(event: &Event, prefix: &Prefix, sn: u64, said: &Digest) -> bool
+pub fn holds_seal_of(event: &Event, prefix: &Prefix, sn: u64, said: &Digest) -> bool
     ensures { result ≡ holds_seal event.now prefix.now sn said.now }
 {
-    holds(anchors_of(event), prefix, sn, said)
+    holds(event.anchors(), prefix, sn, said)
 }
 
 // Whether one of the values is the event seal of these.
@@ -38,18 +38,6 @@ fn holds(values: &[Tree], prefix: &Prefix, sn: u64, said: &Digest) -> bool
     ensures { result ≡ list_any (seal_test prefix.now sn said.now) values.now }
 {
     values.iter().any(|value| is_seal(value, prefix, sn, said))
-}
-
-// The values of an event.
-fn anchors_of(event: &Event) -> &[Tree]
-    ensures { result.now ≡ events.anchors_of event.now }
-{
-    match event {
-        Event::Icp(event) | Event::Dip(event) => event.anchors.as_slice(),
-        Event::Rot(event) | Event::Drt(event) => event.anchors.as_slice(),
-        Event::Ixn(event) => event.anchors.as_slice(),
-        Event::Rct(_) => &[],
-    }
 }
 
 /// The event seal that the value is.

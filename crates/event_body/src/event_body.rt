@@ -20,9 +20,7 @@ mod witness_rule;
 
 pub use body::read_body;
 pub use body_fault::{BodyFault, ReadBody};
-pub use event::{
-    Event, hides_prefix, is_establishment, is_receipt, kind_of, prefix_of, said_of_event, sn_of,
-};
+pub use event::Event;
 pub use inception::Inception;
 pub use interaction::Interaction;
 pub use laws::one_event;

@@ -11,7 +11,6 @@ pub use body_fields::{
     prefix_in, prefix_tree, read_fields, strings_in, strings_tree, values_in, write_fields,
 };
 pub use event_body::{
-    BodyFault, Event, Inception, Interaction, ReadBody, ReceiptBody, Rotation, hides_prefix,
-    is_establishment, is_receipt, kind_of, one_event, prefix_of, read_body, said_of_event, sn_of,
+    BodyFault, Event, Inception, Interaction, ReadBody, ReceiptBody, Rotation, one_event, read_body,
 };
 pub use event_writing::{EventText, sealed, sealed_text, writable, write_body};

@@ -12,8 +12,8 @@ mod witnesses;
 
 pub use additions::{Additions, reveal_of};
 pub use claim_support::ClaimSupport;
-pub use delegation::{delegator_of, is_delegated};
-pub use order::{is_behind, is_inception, prior_of, takes};
+pub use delegation::delegator_of;
+pub use order::{is_behind, takes};
 pub use signers::{claimed_key, claimed_sig, signing_keys};
 pub use support::Support;
 pub use thresholds::{is_backed, meets_before, meets_own};

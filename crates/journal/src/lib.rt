@@ -6,8 +6,8 @@ mod journal;
 
 pub use event_rules::{
     Additions, ClaimSupport, Support, Verdicts, claimed_key, claimed_sig, delegator_of,
-    has_witness, is_backed, is_behind, is_delegated, is_inception, meets_before, meets_own,
-    prior_of, reveal_of, signing_keys, takes, toad_of, witness, witness_count,
+    has_witness, is_backed, is_behind, meets_before, meets_own, reveal_of, signing_keys, takes,
+    toad_of, witness, witness_count,
 };
 pub use journal::{
     Body, Claim, Conflict, Entry, Journal, Mode, Noted, Question, Reason, Refusal, Reply,

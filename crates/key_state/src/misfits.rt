@@ -1,6 +1,6 @@
 //! Which event may come next.
 ghost use Rattle.std.specs.Prelude.{◌≡◌, ◌+◌, ◌-◌, ◌<◌, ◌≤◌, ◌==◌, ◌&&◌, ◌||◌, length, not, nat_le, nat_lt, codes, Some};
-ghost use Rattle.event_body.specs.EventBody.Events.{is_inception, is_receipt, is_interaction};
+ghost use Rattle.event_body.specs.EventBody.Events.{is_interaction};
 ghost use Rattle.key_state.specs.Heads.{head_sn};
 ghost use Rattle.key_state.specs.KeyStates as states;
 ghost use Rattle.key_state.specs.KeyStates.{state_behind};
@@ -9,7 +9,7 @@ ghost use Rattle.key_state.specs.Same.{has_text};
 use crate::witnesses::is_bad_change;
 use crate::{KeyState, Misfit};
 use cesr_codes::Digest;
-use event_body::{Event, prefix_of};
+use event_body::Event;
 
 // The trait of identifiers that have no interactions (KERI: configuration traits).
 const ESTABLISHMENT_ONLY: &[u8] = b"EO";
@@ -57,7 +57,10 @@ impl KeyState {
     fn is_other_kind(&self, event: &Event) -> bool
         ensures { result ≡ states.is_other_kind self.now event.now }
     {
-        never_follows(event) || prefix_of(event) != self.prefix || self.is_other_rotation(event)
+        event.is_inception()
+            || event.is_receipt()
+            || event.prefix() != self.prefix
+            || self.is_other_rotation(event)
     }
 
     fn is_other_rotation(&self, event: &Event) -> bool
@@ -81,7 +84,7 @@ impl KeyState {
     fn is_barred(&self, event: &Event) -> bool
         ensures { result ≡ (is_interaction event.now && has_text self.now.traits (codes "EO")) }
     {
-        is_interaction(event) && self.is_establishment_only()
+        event.is_interaction() && self.is_establishment_only()
     }
 
     fn is_establishment_only(&self) -> bool
@@ -168,24 +171,5 @@ impl KeyState {
             Event::Rot(event) | Event::Drt(event) => is_bad_change(self.list.as_slice(), event),
             Event::Icp(_) | Event::Ixn(_) | Event::Dip(_) | Event::Rct(_) => false,
         }
-    }
-}
-
-// Whether it begins an identifier, or is a receipt.
-fn never_follows(event: &Event) -> bool
-    ensures { result ≡ (is_inception event.now || is_receipt event.now) }
-{
-    match event {
-        Event::Icp(_) | Event::Dip(_) | Event::Rct(_) => true,
-        Event::Rot(_) | Event::Ixn(_) | Event::Drt(_) => false,
-    }
-}
-
-fn is_interaction(event: &Event) -> bool
-    ensures { result ≡ is_interaction event.now }
-{
-    match event {
-        Event::Ixn(_) => true,
-        Event::Icp(_) | Event::Rot(_) | Event::Dip(_) | Event::Drt(_) | Event::Rct(_) => false,
     }
 }

@@ -6,7 +6,6 @@ ghost use Rattle.report_lines.specs.Report.{AreConflictLines, saids_of};
 
 use crate::conflict_line;
 use cesr_codes::Digest;
-use event_body::said_of_event;
 use journal::Conflict;
 use std::alloc::{AllocError, Global};
 use validator_core::Core;
@@ -58,7 +57,7 @@ fn saids_of_numbers(alloc: Global, core: &Core, numbers: &[u32]) -> Result<Vec<D
     let mut saids = Vec::new(alloc);
     for number in numbers {
         if let Some(event) = core.event(*number) {
-            saids.push(said_of_event(event))?;
+            saids.push(event.said())?;
         }
     }
     Ok(saids)

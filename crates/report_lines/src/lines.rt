@@ -7,7 +7,7 @@ use crate::plan_word::PlanWord;
 use crate::why_word::WhyWord;
 use crate::{PlanRefusal, Sizes, Standing, StateSizes, StreamCounts};
 use cesr_codes::{Digest, Prefix};
-use event_body::{Event, kind_of, prefix_of, said_of_event, sn_of};
+use event_body::Event;
 use journal::Why;
 use std::alloc::{AllocError, Global};
 
@@ -26,10 +26,10 @@ pub fn plan_line(alloc: Global, refusal: PlanRefusal) -> Result<String, AllocErr
 pub fn event_line(alloc: Global, event: &Event, sizes: Sizes) -> Result<String, AllocError>
     ensures { IfOk result (λ line. string_bytes line ≡ event_text event.now sizes) }
 {
-    let kind = kind_of(event);
-    let prefix = prefix_of(event);
-    let sn = sn_of(event);
-    let said = said_of_event(event);
+    let kind = event.kind();
+    let prefix = event.prefix();
+    let sn = event.sn();
+    let said = event.said();
     format!(in alloc; "{kind} {prefix} {sn:x} {said} {sizes}\n")
 }
 
@@ -37,10 +37,10 @@ pub fn event_line(alloc: Global, event: &Event, sizes: Sizes) -> Result<String, 
 pub fn accepted_line(alloc: Global, event: &Event, standing: Standing) -> Result<String, AllocError>
     ensures { IfOk result (λ line. string_bytes line ≡ accepted_text event.now standing) }
 {
-    let kind = kind_of(event);
-    let prefix = prefix_of(event);
-    let sn = sn_of(event);
-    let said = said_of_event(event);
+    let kind = event.kind();
+    let prefix = event.prefix();
+    let sn = event.sn();
+    let said = event.said();
     format!(in alloc; "event {prefix} {sn:x} {kind} {said} {standing}\n")
 }
 
@@ -48,9 +48,9 @@ pub fn accepted_line(alloc: Global, event: &Event, standing: Standing) -> Result
 pub fn waits_line(alloc: Global, event: &Event, why: Why) -> Result<String, AllocError>
     ensures { IfOk result (λ line. string_bytes line ≡ waits_text event.now why) }
 {
-    let prefix = prefix_of(event);
-    let sn = sn_of(event);
-    let said = said_of_event(event);
+    let prefix = event.prefix();
+    let sn = event.sn();
+    let said = event.said();
     let word = WhyWord(why);
     format!(in alloc; "waits {prefix} {sn:x} {said} {word}\n")
 }

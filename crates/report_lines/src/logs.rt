@@ -6,7 +6,6 @@ ghost use Rattle.validator_core.specs.ValidatorCore.View.{accepted_by};
 ghost use Rattle.report_lines.specs.Logs.{AreLogs};
 
 use cesr_codes::{Prefix, Spelled};
-use event_body::prefix_of;
 use std::alloc::{AllocError, Global};
 use std::collections::BTreeMap;
 use validator_core::Core;
@@ -25,7 +24,7 @@ pub(crate) fn logs_of(alloc: Global, core: &Core) -> Result<BTreeMap<[u8; 44], L
     let mut logs = BTreeMap::new(alloc);
     for number in core.accepted() {
         if let Some(event) = core.event(*number) {
-            add_number(alloc, &mut logs, prefix_of(event), *number)?;
+            add_number(alloc, &mut logs, event.prefix(), *number)?;
         }
     }
     Ok(logs)

@@ -3,7 +3,7 @@ ghost use Rattle.std.specs.Prelude.{◌≡◌};
 ghost use Rattle.cesr_codes.specs.Spelling.{prefix_text};
 ghost use Rattle.event_body.specs.EventBody.Events.{prefix_of as event_prefix};
 
-use event_body::{Event, prefix_of, sn_of};
+use event_body::Event;
 use std::cmp::Ordering;
 
 /// A body, and the lines that stand for it.
@@ -28,7 +28,7 @@ impl<'a> Row<'a> {
         ensures lines { string_bytes result.lines ≡ string_bytes lines }
     {
         let mut prefix = [0; 44];
-        prefix_of(event).write(&mut prefix);
+        event.prefix().write(&mut prefix);
         Row {
             body,
             event,
@@ -51,7 +51,7 @@ impl<'a> Row<'a> {
     fn compare_behind(&self, other: &Row<'_>) -> Ordering
         ensures { result ≡ behind_cmp (body_of self.now) (body_of other.now) }
     {
-        match sn_of(self.event).cmp(&sn_of(other.event)) {
+        match self.event.sn().cmp(&other.event.sn()) {
             Ordering::Equal => self.body.cmp(other.body),
             order => order,
         }

@@ -10,7 +10,7 @@ ghost use Rattle.validator_core.specs.ValidatorCore.View.{accepted_by};
 use crate::blame_core::own_lists::own_list;
 use crate::blame_core::place::Place;
 use cesr_codes::{Key, Spelled};
-use event_body::{Event, is_establishment, prefix_of, sn_of};
+use event_body::Event;
 use lists::{Items, copy_items};
 use std::alloc::{AllocError, Global};
 use std::collections::BTreeMap;
@@ -59,7 +59,7 @@ fn add_event(
         → IsWalked held log seen lists.old.entries events.old.entries
         → OnOk result (IsWalked held log (seen ++ b ∷ []) lists.new.entries events.new.entries) }
 {
-    if !is_establishment(event) {
+    if !event.is_establishment() {
         return Ok(());
     }
     let place = place_of(event);
@@ -81,12 +81,12 @@ fn place_of(event: &Event) -> Place
     ensures place { result ≡ establishments.place_of event.now }
     ensures prefix { IsPrefix (events.prefix_of event.now) }
 {
-    let prefix = prefix_of(event);
+    let prefix = event.prefix();
     prefix.held();
     let mut text = [0; 44];
     prefix.write(&mut text);
     Place {
         prefix: text,
-        sn: sn_of(event),
+        sn: event.sn(),
     }
 }

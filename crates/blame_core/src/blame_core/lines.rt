@@ -4,7 +4,6 @@ ghost use Rattle.blame_core.specs.BlameCore.Lines.{blames_text, culprit_text, pa
 
 use crate::blame_core::{Blame, Culprit};
 use cesr_codes::{Digest, Prefix};
-use event_body::said_of_event;
 use lists::Items;
 use std::alloc::{AllocError, Global};
 use validator_core::Core;
@@ -34,8 +33,8 @@ fn lines_of(alloc: Global, first: &Core, second: &Core, blame: &Blame) -> Result
     let (Some(one), Some(other)) = (first.event(blame.first), second.event(blame.second)) else {
         return Ok(String::new(alloc));
     };
-    let said = said_of_event(one);
-    let other_said = said_of_event(other);
+    let said = one.said();
+    let other_said = other.said();
     let mut text = pair_line(alloc, &blame.prefix, blame.sn, &said, &other_said)?;
     let culprits = culprit_lines(alloc, blame.culprits.as_slice())?;
     text.push_str(culprits.as_str())?;

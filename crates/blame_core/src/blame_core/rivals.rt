@@ -13,7 +13,6 @@ use crate::blame_core::place::Place;
 use crate::blame_core::signatures::signatures_on;
 use core_tables::Name;
 use escrow::Index;
-use event_body::{prefix_of, sn_of};
 use lists::Items;
 use std::alloc::{AllocError, Global};
 use std::collections::BTreeMap;
@@ -111,8 +110,8 @@ fn compare(
         &others,
     )?;
     Ok(Some(Blame {
-        prefix: prefix_of(event),
-        sn: sn_of(event),
+        prefix: event.prefix(),
+        sn: event.sn(),
         first: one.number,
         second: other.number,
         culprits,

@@ -14,7 +14,7 @@ use crate::blame_core::signed::Signed;
 use cesr_codes::{Key, Sig};
 use core_tables::{Name, name_of};
 use escrow::Index;
-use event_body::{Event, is_receipt, prefix_of, said_of_event, sn_of};
+use event_body::Event;
 use journal::{Claim, Entry, claimed_sig};
 use std::alloc::{AllocError, Global};
 use std::collections::BTreeMap;
@@ -145,10 +145,10 @@ fn is_body(core: &Core, number: u32, text: &[u8]) -> bool
 fn is_receipt_for(first: &Event, second: &Event) -> bool
     ensures { result ≡ is_receipt_of first.now second.now }
 {
-    is_receipt(first)
-        && said_of_event(first) == said_of_event(second)
-        && prefix_of(first) == prefix_of(second)
-        && sn_of(first) == sn_of(second)
+    first.is_receipt()
+        && first.said() == second.said()
+        && first.prefix() == second.prefix()
+        && first.sn() == second.sn()
 }
 
 // Adds the signatures of these entries that a verifier called good on a body.

@@ -7,12 +7,11 @@ use Rattle.event_body.specs.declared.event_body.event.Event.{Event}
 use Rattle.event_body.specs.declared.event_body.event.Event.TheVariants.{Icp, Rot, Ixn, Dip, Drt, Rct}
 use Rattle.event_body.specs.declared.event_body.inception.Inception.{Inception}
 use Rattle.event_body.specs.declared.event_body.rotation.Rotation.{Rotation}
-use Rattle.event_body.specs.EventBody.Events.{sn_of, said_of, prior_of}
+use Rattle.event_body.specs.EventBody.Events.{sn_of, said_of, prior_of, is_delegated}
 use Rattle.key_state.specs.Heads.{head_sn}
 use Rattle.key_state.specs.KeyStates.{digest_at, misfit, misfit_rules, moved, begun, first_true, are_same, is_other_sn, is_other_prior}
 use Rattle.key_state.specs.States.{State}
 use Rattle.journal.specs.Journal.Logs.{stepped, takes}
-use Rattle.journal.specs.Journal.Seals.{is_delegated}
 use Rattle.claim_table.specs.CoreLaws.Alike.{AreAlike}
 use Rattle.claim_table.proofs.CoreLawsLemmas.States.{none_is}
 

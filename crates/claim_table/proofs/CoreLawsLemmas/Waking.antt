@@ -9,7 +9,7 @@ use Rattle.cesr_codes.specs.declared.prefix.Prefix.{Prefix}
 use Rattle.cesr_codes.specs.declared.prefix.Prefix.TheVariants.{Said}
 use Rattle.event_body.specs.declared.event_body.event.Event.{Event}
 use Rattle.event_body.specs.declared.event_body.event.Event.TheVariants.{Icp, Rot, Ixn, Dip, Drt, Rct}
-use Rattle.event_body.specs.EventBody.Events.{prefix_of, sn_of, said_of, prior_of, is_receipt}
+use Rattle.event_body.specs.EventBody.Events.{prefix_of, sn_of, said_of, prior_of, is_receipt, is_delegated}
 use Rattle.key_state.specs.Heads.{head_sn}
 use Rattle.key_state.specs.KeyStates.{digest_at, misfit_rules, are_same}
 use Rattle.key_state.specs.Same.{same_digest}
@@ -18,7 +18,7 @@ use Rattle.journal.specs.declared.journal.mode.Mode.{Mode}
 use Rattle.journal.specs.declared.journal.mode.Mode.TheVariants.{Full, Local}
 use Rattle.journal.specs.declared.journal.body.Body.{Body}
 use Rattle.journal.specs.Journal.Logs.{is_in, is_of, same_body, state, stepped, takes, precedes, predecessor}
-use Rattle.journal.specs.Journal.Seals.{seals, anchored, is_delegated, is_sealed, delegator_of, forbids, has_trait}
+use Rattle.journal.specs.Journal.Seals.{seals, anchored, is_sealed, delegator_of, forbids, has_trait}
 use Rattle.journal.specs.Journal.History.{Told}
 use Rattle.journal.specs.Journal.Readiness.{is_ready, is_local, is_backed, signed}
 use Rattle.journal.proofs.JournalLemmas.StateSteps.{state-own, state-other}

@@ -10,7 +10,7 @@ use Rattle.cesr_codes.specs.declared.digest.Digest.{Digest}
 use Rattle.cesr_codes.specs.declared.prefix.Prefix.{Prefix}
 use Rattle.event_body.specs.declared.event_body.event.Event.{Event}
 use Rattle.event_body.specs.declared.event_body.event.Event.TheVariants.{Icp, Rot, Ixn, Dip, Drt, Rct}
-use Rattle.event_body.specs.EventBody.Events.{prefix_of, sn_of, said_of, prior_of, is_inception, is_receipt}
+use Rattle.event_body.specs.EventBody.Events.{prefix_of, sn_of, said_of, prior_of, is_inception, is_receipt, is_delegated}
 use Rattle.key_state.specs.KeyStates.{are_same, misfit, moved}
 use Rattle.key_state.specs.States.{State}
 use Rattle.key_state.proofs.Same.{same_prefix_is}
@@ -18,7 +18,7 @@ use Rattle.journal.specs.declared.journal.body.Body.{Body}
 use Rattle.journal.specs.declared.journal.mode.Mode.{Mode}
 use Rattle.journal.specs.Journal.Grown.{IsGrown, fits}
 use Rattle.journal.specs.Journal.Logs.{is_in, is_of, same_body, state, stepped, precedes, predecessor}
-use Rattle.journal.specs.Journal.Seals.{seals, anchored, forbids, is_delegated, is_sealed, delegator_of}
+use Rattle.journal.specs.Journal.Seals.{seals, anchored, forbids, is_sealed, delegator_of}
 use Rattle.journal.specs.Journal.Readiness.{is_local}
 use Rattle.journal.proofs.JournalLemmas.StateSteps.{state-own, state-other}
 use Rattle.journal.proofs.JournalLemmas.Settling.{find-true}

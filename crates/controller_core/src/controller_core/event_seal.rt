@@ -4,7 +4,7 @@ ghost use Rattle.std.specs.List.{AllByRecursion};
 ghost use Rattle.json_tree.specs.Spelling.{IsJson};
 ghost use Rattle.controller_core.specs.ControllerCore.Plans as plans;
 
-use event_body::{Event, digest_tree, number_tree, prefix_of, prefix_tree, said_of_event, sn_of};
+use event_body::{Event, digest_tree, number_tree, prefix_tree};
 use json_tree::{Member, Tree};
 use lists::Items;
 use std::alloc::{AllocError, Global};
@@ -30,14 +30,14 @@ fn event_seal(alloc: Global, event: &Event) -> Result<Tree, AllocError>
         alloc,
         &mut members,
         b'i',
-        prefix_tree(alloc, &prefix_of(event))?,
+        prefix_tree(alloc, &event.prefix())?,
     )?;
-    push_member(alloc, &mut members, b's', number_tree(alloc, sn_of(event))?)?;
+    push_member(alloc, &mut members, b's', number_tree(alloc, event.sn())?)?;
     push_member(
         alloc,
         &mut members,
         b'd',
-        digest_tree(alloc, &said_of_event(event))?,
+        digest_tree(alloc, &event.said())?,
     )?;
     Ok(Tree::Object(members))
 }

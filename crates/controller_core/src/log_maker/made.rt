@@ -5,7 +5,7 @@ ghost use Rattle.event_body.specs.EventWriting.Writable.{IsWritable};
 ghost use Rattle.controller_core.specs.LogMaker.Plans.{event_text, sealed};
 
 use cesr_codes::{Digest, DigestCode};
-use event_body::{Event, EventText, ReadBody, said_of_event, sealed_text};
+use event_body::{Event, EventText, ReadBody, sealed_text};
 use std::alloc::{AllocError, Global};
 
 /// What was made of an event, its body or its whole message, and the event's digest.
@@ -25,7 +25,7 @@ pub(crate) fn sealed_body(alloc: Global, plan: &Event) -> Result<Made, AllocErro
 {
     match sealed_text(alloc, plan, DigestCode::Blake3) {
         Ok(EventText { event, text }) => Ok(Made {
-            said: said_of_event(&event),
+            said: event.said(),
             text,
         }),
         Err(ReadBody::OutOfMemory) => Err(AllocError),

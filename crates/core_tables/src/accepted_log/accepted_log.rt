@@ -2,7 +2,6 @@
 ghost use Rattle.std.specs.Prelude.{◌≡◌, ◌<◌, ◌+◌, ◌^◌, [], List, Some, length, slice_get, take, vec_len, vec_capacity, IfSome, IfOk, OnOk, OnErr};
 ghost use Rattle.std.specs.Option.{option_map};
 ghost use Rattle.key_state.specs.Heads.{head_sn};
-ghost use Rattle.event_body.specs.EventBody.Events as events;
 ghost use Rattle.event_body.specs.EventBody.Events.{prefix_of};
 ghost use Rattle.journal.specs.Journal.Grown.{IsGrown};
 ghost use Rattle.journal.specs.Journal.Logs as logs;
@@ -16,7 +15,7 @@ use crate::accepted_log::hints::last_at;
 use crate::accepted_log::states::{go_onto, undo_from};
 use cesr_codes::{Digest, Prefix};
 use escrow::Index;
-use event_body::{Event, prefix_of};
+use event_body::Event;
 use key_state::KeyState;
 use lists::length_u32;
 use std::alloc::{AllocError, Global};
@@ -169,10 +168,10 @@ impl AcceptedLog {
         ensures { option_map (λ s. s.now) result ≡ under_at self.now.states event.now (slice_get self.now.places i) }
     {
         let place = self.place(i)?.state;
-        if is_interaction(event) {
+        if event.is_interaction() {
             self.state(place)
         } else {
-            self.last_before(place, &prefix_of(event))
+            self.last_before(place, &event.prefix())
         }
     }
 
@@ -225,13 +224,6 @@ fn make_room(
     places.reserve(1)?;
     states.reserve(1)?;
     length_u32(states.len())
-}
-
-// Whether it is an interaction.
-fn is_interaction(event: &Event) -> bool
-    ensures { result ≡ events.is_interaction event.now }
-{
-    matches!(event, Event::Ixn(_))
 }
 
 // The first so many states, or all.

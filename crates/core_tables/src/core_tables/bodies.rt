@@ -14,8 +14,7 @@ ghost use Rattle.core_tables.specs.CoreTables.View.{body_of, waiter_of as waiter
 use crate::core_tables::Tables;
 use crate::core_tables::name::{Name, name_of};
 use escrow::{Index, Waiter, Waiting};
-use event_body::{Event, is_receipt, one_event, said_of_event};
-use journal::prior_of;
+use event_body::{Event, one_event};
 use json_tree::Text;
 use lists::{CopyValue, Items, length_u32};
 use std::alloc::AllocError;
@@ -199,7 +198,7 @@ fn note_waiter(waiting: &mut Waiting, number: u32, event: &Event) -> Result<(), 
         → held_by n waiting.new ≡ placed (waiter_for number event.now) n (held_by n waiting.old)) }
     ensures same { OnErr result ((n : ℕ) → held_by n waiting.new ≡ held_by n waiting.old) }
 {
-    if is_receipt(event) {
+    if event.is_receipt() {
         return Ok(());
     }
     put_waiter(waiting, waiter_of(number, event))
@@ -211,8 +210,8 @@ fn waiter_of(number: u32, event: &Event) -> Waiter
 {
     Waiter {
         number,
-        prior: prior_of(event),
-        said: said_of_event(event),
+        prior: event.prior(),
+        said: event.said(),
     }
 }
 

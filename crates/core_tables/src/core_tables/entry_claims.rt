@@ -8,7 +8,7 @@ ghost use Rattle.core_tables.specs.CoreTables.RaisedRows.{RaisesRows, RaisesSome
 
 use crate::core_tables::raised_claims::raise_claims;
 use claim_table::ClaimTable;
-use event_body::{Event, is_receipt, prefix_of, said_of_event, sn_of};
+use event_body::Event;
 use journal::{Claim, Entry};
 use key_state::KeyState;
 use std::alloc::AllocError;
@@ -88,8 +88,8 @@ fn is_receipt_of(receipt: Option<&Event>, event: Option<&Event>) -> bool
     let (Some(receipt), Some(event)) = (receipt, event) else {
         return false;
     };
-    is_receipt(receipt)
-        && said_of_event(receipt) == said_of_event(event)
-        && prefix_of(receipt) == prefix_of(event)
-        && sn_of(receipt) == sn_of(event)
+    receipt.is_receipt()
+        && receipt.said() == event.said()
+        && receipt.prefix() == event.prefix()
+        && receipt.sn() == event.sn()
 }

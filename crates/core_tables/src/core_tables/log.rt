@@ -26,8 +26,8 @@ use crate::core_tables::named_places::NamedPlaces;
 use crate::core_tables::tables::event_at;
 use cesr_codes::Prefix;
 use escrow::{Index, Waiting};
-use event_backing::{EventSeal, anchors, seals};
-use event_body::{Event, prefix_of, said_of_event, sn_of};
+use event_backing::{EventSeal, holds_seal_of, seals};
+use event_body::Event;
 use key_state::KeyState;
 use lists::length_u32;
 use std::alloc::{AllocError, Global};
@@ -39,7 +39,7 @@ impl Tables {
         ensures { (bytes : List ℕ) → result ≡ position (precedes (body_of bytes event.now)) (log_of self.now) }
     {
         let name = prior_name(event)?;
-        if sn_of(event) == 0 {
+        if event.sn() == 0 {
             return None;
         }
         first_named(
@@ -156,7 +156,7 @@ impl Tables {
             self.journal.entries.len(),
         )?;
         self.log
-            .interact(number, entries, &prefix_of(event), said_of_event(event))
+            .interact(number, entries, &event.prefix(), event.said())
     }
 
     /// The accepted events leave the escrow. It takes no memory.
@@ -245,8 +245,8 @@ fn is_sealing(event: Option<&Event>, key: &SealKey) -> bool
 {
     match event {
         Some(event) => {
-            prefix_of(event) == key.holder
-                && anchors(event, &key.name.prefix, key.name.sn, &key.name.said)
+            event.prefix() == key.holder
+                && holds_seal_of(event, &key.name.prefix, key.name.sn, &key.name.said)
         }
         None => false,
     }
@@ -290,7 +290,7 @@ fn note_accepted(
 {
     accepted.add(name_of(event), place)?;
     let seals = seals(alloc, event)?;
-    note_seals(sealed, prefix_of(event), seals.as_slice(), place)
+    note_seals(sealed, event.prefix(), seals.as_slice(), place)
 }
 
 // Adds a place of the log under each name that the holder seals there.

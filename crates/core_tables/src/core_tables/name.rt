@@ -4,8 +4,8 @@ ghost use Rattle.core_tables.specs.CoreTables.Names as names;
 ghost use Rattle.core_tables.specs.CoreTables.Rows.{same_name};
 
 use cesr_codes::{Digest, Prefix};
-use event_body::{Event, prefix_of, said_of_event, sn_of};
-use journal::{Claim, prior_of};
+use event_body::Event;
+use journal::Claim;
 
 /// An event's identifier, number and digest, as an event seal names it (KERI). Names are ordered by their numbers first: those of
 /// one log, among which names are mostly looked for, differ there.
@@ -35,9 +35,9 @@ pub fn name_of(event: &Event) -> Name
     ensures { result ≡ names.name_of event.now }
 {
     Name {
-        prefix: prefix_of(event),
-        sn: sn_of(event),
-        said: said_of_event(event),
+        prefix: event.prefix(),
+        sn: event.sn(),
+        said: event.said(),
     }
 }
 
@@ -45,17 +45,17 @@ pub fn name_of(event: &Event) -> Name
 pub(crate) fn has_name(event: &Event, name: &Name) -> bool
     ensures { result ≡ same_name (names.name_of event.now) name.now }
 {
-    prefix_of(event) == name.prefix && sn_of(event) == name.sn && said_of_event(event) == name.said
+    event.prefix() == name.prefix && event.sn() == name.sn && event.said() == name.said
 }
 
 /// The name of the event before it, where it names one.
 pub fn prior_name(event: &Event) -> Option<Name>
     ensures { result ≡ names.prior_name event.now }
 {
-    let prior = prior_of(event)?;
+    let prior = event.prior()?;
     Some(Name {
-        prefix: prefix_of(event),
-        sn: sn_of(event).saturating_sub(1),
+        prefix: event.prefix(),
+        sn: event.sn().saturating_sub(1),
         said: prior,
     })
 }

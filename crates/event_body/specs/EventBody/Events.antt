@@ -55,38 +55,30 @@ anchors_of (Rct e) = []
 -- it is an icp or a dip
 abbrev pub is_inception : Event → Bool
 is_inception (Icp e) = true
-is_inception (Rot e) = false
-is_inception (Ixn e) = false
 is_inception (Dip e) = true
-is_inception (Drt e) = false
-is_inception (Rct e) = false
+is_inception _ = false
 
 -- it is a rot or a drt
 abbrev pub is_rotation : Event → Bool
-is_rotation (Icp e) = false
 is_rotation (Rot e) = true
-is_rotation (Ixn e) = false
-is_rotation (Dip e) = false
 is_rotation (Drt e) = true
-is_rotation (Rct e) = false
+is_rotation _ = false
 
 -- it is an rct, and so no event of a log
 abbrev pub is_receipt : Event → Bool
-is_receipt (Icp e) = false
-is_receipt (Rot e) = false
-is_receipt (Ixn e) = false
-is_receipt (Dip e) = false
-is_receipt (Drt e) = false
 is_receipt (Rct e) = true
+is_receipt _ = false
 
 -- it is an ixn
 abbrev pub is_interaction : Event → Bool
-is_interaction (Icp e) = false
-is_interaction (Rot e) = false
 is_interaction (Ixn e) = true
-is_interaction (Dip e) = false
-is_interaction (Drt e) = false
-is_interaction (Rct e) = false
+is_interaction _ = false
+
+-- it is a dip or a drt, and so wants the seal of a delegator
+abbrev pub is_delegated : Event → Bool
+is_delegated (Dip e) = true
+is_delegated (Drt e) = true
+is_delegated _ = false
 
 -- it sets the keys: an inception or a rotation
 abbrev pub is_establishment : Event → Bool

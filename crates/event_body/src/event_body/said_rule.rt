@@ -4,7 +4,7 @@ ghost use Rattle.event_body.specs.EventBody.Events.{places_of};
 ghost use Rattle.event_body.specs.EventBody.Judging.{HasEvent};
 ghost use Rattle.event_body.specs.EventBody.Rules.{HasSaid};
 
-use crate::event_body::{Event, hides_prefix, is_receipt, said_of_event};
+use crate::event_body::Event;
 use said_digest::holds;
 
 /// Where the digest stands in a body of any kind.
@@ -17,7 +17,7 @@ const PREFIX_PLACE: u32 = 91;
 fn places(event: &Event) -> &'static [u32]
     ensures { result.now ≡ places_of event.now }
 {
-    if hides_prefix(event) {
+    if event.hides_prefix() {
         &[DIGEST_PLACE, PREFIX_PLACE]
     } else {
         &[DIGEST_PLACE]
@@ -29,8 +29,8 @@ pub(crate) fn has_said(event: &Event, bytes: &[u8]) -> bool
     requires { HasEvent event.now bytes.now }
     ensures { IsTrue result ↔ HasSaid event.now }
 {
-    if is_receipt(event) {
+    if event.is_receipt() {
         return true;
     }
-    holds(bytes, places(event), &said_of_event(event))
+    holds(bytes, places(event), &event.said())
 }

@@ -10,9 +10,9 @@ ghost use Rattle.event_body.specs.EventWriting.Faults.{IsFaultOf, IsLengthFault}
 ghost use Rattle.event_body.specs.EventWriting.Writable.{HasOwnThresholds, IsWritable};
 
 use crate::body_fields::{Kind, digest_tree, prefix_tree, write_fields};
-use crate::event_body::{BodyFault, Event, ReadBody, prefix_of, read_body, said_of_event};
+use crate::event_body::{BodyFault, Event, ReadBody, read_body};
 use crate::event_writing::held::held;
-use crate::event_writing::values::{kind_of, values};
+use crate::event_writing::values::values;
 use json_tree::Tree;
 use lists::Items;
 use std::alloc::{AllocError, Global};
@@ -71,15 +71,15 @@ pub(crate) fn event_text(alloc: Global, event: &Event) -> Result<Vec<u8>, ReadBo
     ensures large { IfErr result (λ fault. IsLengthFault (text_of event.now) fault) }
 {
     let values = event_values(alloc, event)?;
-    body_text(alloc, kind_of(event), values.as_slice())
+    body_text(alloc, event.body_kind(), values.as_slice())
 }
 
 // The values of the event's fields.
 fn event_values(alloc: Global, event: &Event) -> Result<Items<Tree>, AllocError>
     ensures { IfOk result (λ values. values ≡ values_of event.now) }
 {
-    let said = digest_tree(alloc, &said_of_event(event))?;
-    let prefix = prefix_tree(alloc, &prefix_of(event))?;
+    let said = digest_tree(alloc, &event.said())?;
+    let prefix = prefix_tree(alloc, &event.prefix())?;
     let values = values(alloc, said, prefix, event)?;
     Ok(values)
 }

@@ -10,12 +10,10 @@ ghost use Rattle.event_body.specs.EventWriting.Sealed as specs;
 ghost use Rattle.event_body.specs.EventWriting.Writable.{HasOwnThresholds, IsWritable};
 
 use crate::body_fields::prefix_tree;
-use crate::event_body::{
-    BodyFault, Event, Inception, Interaction, ReadBody, Rotation, hides_prefix, prefix_of,
-};
+use crate::event_body::{BodyFault, Event, Inception, Interaction, ReadBody, Rotation};
 use crate::event_writing::body::{body_text, write_body};
 use crate::event_writing::held::held;
-use crate::event_writing::values::{kind_of, values};
+use crate::event_writing::values::values;
 use cesr_codes::{Digest, DigestCode, Prefix};
 use json_tree::Tree;
 use lists::{CopyValue, Items};
@@ -77,7 +75,7 @@ pub(crate) fn digested_text(alloc: Global, event: &Event) -> Result<Vec<u8>, Rea
     ensures large { IfErr result (λ fault. IsLengthFault (rules.digested_text event.now) fault) }
 {
     let values = digested_values(alloc, event)?;
-    body_text(alloc, kind_of(event), values.as_slice())
+    body_text(alloc, event.body_kind(), values.as_slice())
 }
 
 // The values of the event's fields with placeholders.
@@ -94,10 +92,10 @@ fn digested_values(alloc: Global, event: &Event) -> Result<Items<Tree>, AllocErr
 fn hidden_prefix(alloc: Global, event: &Event) -> Result<Tree, AllocError>
     ensures { IfOk result (λ tree. tree ≡ rules.hidden_prefix event.now) }
 {
-    if hides_prefix(event) {
+    if event.hides_prefix() {
         placeholder_tree(alloc)
     } else {
-        prefix_tree(alloc, &prefix_of(event))
+        prefix_tree(alloc, &event.prefix())
     }
 }
 

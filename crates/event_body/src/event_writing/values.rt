@@ -3,10 +3,10 @@ ghost use Rattle.std.specs.Prelude.{◌≡◌, ◌++◌, ◌∷◌, [], IfOk, On
 ghost use Rattle.sith.specs.Thresholds.{threshold_value};
 ghost use Rattle.event_body.specs.BodyFields.Forms.{digest_value, digests_value, keys_value, number_value};
 ghost use Rattle.event_body.specs.EventBody.Spelling as spelling;
-ghost use Rattle.event_body.specs.EventBody.Spelling.{body_kind, delegator_values};
+ghost use Rattle.event_body.specs.EventBody.Spelling.{delegator_values};
 
 use crate::body_fields::{
-    Kind, digest_tree, digests_tree, keys_tree, number_tree, prefix_tree, strings_tree,
+    digest_tree, digests_tree, keys_tree, number_tree, prefix_tree, strings_tree,
 };
 use crate::event_body::{Event, Inception, Interaction, ReceiptBody, Rotation};
 use cesr_codes::{Digest, Key, Prefix};
@@ -14,20 +14,6 @@ use json_tree::Tree;
 use lists::{CopyValue, Items};
 use sith::Threshold;
 use std::alloc::{AllocError, Global};
-
-/// The kind of the event's body.
-pub(crate) fn kind_of(event: &Event) -> Kind
-    ensures { result ≡ body_kind event.now }
-{
-    match event {
-        Event::Icp(_) => Kind::Icp,
-        Event::Rot(_) => Kind::Rot,
-        Event::Ixn(_) => Kind::Ixn,
-        Event::Dip(_) => Kind::Dip,
-        Event::Drt(_) => Kind::Drt,
-        Event::Rct(_) => Kind::Rct,
-    }
-}
 
 /// The values of the event's fields, with these as the first two, the digest's and the prefix's.
 pub(crate) fn values(

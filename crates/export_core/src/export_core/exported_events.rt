@@ -14,7 +14,7 @@ use cesr_codes::Prefix;
 use claim_table::Signature;
 use core_tables::{Name, name_of};
 use escrow::Index;
-use event_body::{Event, prefix_of};
+use event_body::Event;
 use journal::Claim;
 use journal_views::StreamText;
 use key_state::spelled_is_kept;
@@ -114,7 +114,7 @@ fn put_event(
         return Ok(false);
     };
     spelled_is_kept();
-    let prefix = prefix_of(event);
+    let prefix = event.prefix();
     if !has_prefix(family, &prefix) {
         return Ok(false);
     }

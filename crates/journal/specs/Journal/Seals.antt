@@ -9,7 +9,7 @@ use Rattle.event_body.specs.declared.event_body.event.Event.{Event}
 use Rattle.event_body.specs.declared.event_body.event.Event.TheVariants.{Icp, Dip, Drt}
 use Rattle.key_state.specs.States.{State}
 use Rattle.key_state.specs.Same.{has_text}
-use Rattle.event_body.specs.EventBody.Events.{prefix_of, sn_of, said_of, anchors_of}
+use Rattle.event_body.specs.EventBody.Events.{prefix_of, sn_of, said_of, anchors_of, is_delegated}
 use Rattle.journal.specs.Journal.Logs.{Body, is_of}
 
 -- the names and values of an object's members
@@ -55,12 +55,6 @@ abbrev pub delegator_of : Option State → Event → Option Prefix
 delegator_of s (Dip e) = e.delegator
 delegator_of (Some s) (Drt e) = s.delegator
 delegator_of s _ = None
-
--- it is a dip or a drt
-abbrev pub is_delegated : Event → Bool
-is_delegated (Dip e) = true
-is_delegated (Drt e) = true
-is_delegated _ = false
 
 -- an accepted event of the delegator, superseded or not, holds the seal
 abbrev pub is_sealed : List Body → Prefix → Event → Bool

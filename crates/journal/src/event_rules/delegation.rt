@@ -7,13 +7,6 @@ use cesr_codes::Prefix;
 use event_body::Event;
 use key_state::KeyState;
 
-/// Whether the event wants the seal of a delegator.
-pub fn is_delegated(event: &Event) -> bool
-    ensures { result ≡ seals.is_delegated event.now }
-{
-    matches!(event, Event::Dip(_) | Event::Drt(_))
-}
-
 /// The delegator of a delegated event: its own of an inception, that of the state before a rotation.
 pub fn delegator_of(state: Option<&KeyState>, event: &Event) -> Option<Prefix>
     ensures { result ≡ seals.delegator_of (option_copied state.entry) event.now }

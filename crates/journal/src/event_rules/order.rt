@@ -7,8 +7,7 @@ ghost use Rattle.key_state.specs.KeyStates.{are_same};
 ghost use Rattle.key_state.specs.Kept.{IsKept};
 ghost use Rattle.key_state.specs.Same.{same_prefix};
 
-use cesr_codes::Digest;
-use event_body::{Event, prefix_of, said_of_event, sn_of};
+use event_body::Event;
 use key_state::KeyState;
 
 /// Whether the event may come next: an inception where there is no state, else an event that follows the state. It takes
@@ -18,25 +17,7 @@ pub fn takes(state: Option<&KeyState>, event: &Event) -> bool
 {
     match state {
         Some(state) => state.misfit(event).is_none(),
-        None => is_inception(event),
-    }
-}
-
-/// Whether it is the first event of an identifier.
-pub fn is_inception(event: &Event) -> bool
-    ensures { result ≡ events.is_inception event.now }
-{
-    matches!(event, Event::Icp(_) | Event::Dip(_))
-}
-
-/// The digest of the event before it, where it names one.
-pub fn prior_of(event: &Event) -> Option<Digest>
-    ensures { result ≡ events.prior_of event.now }
-{
-    match event {
-        Event::Rot(event) | Event::Drt(event) => Some(event.prior),
-        Event::Ixn(event) => Some(event.prior),
-        Event::Icp(_) | Event::Dip(_) | Event::Rct(_) => None,
+        None => event.is_inception(),
     }
 }
 
@@ -48,7 +29,7 @@ pub fn is_behind(event: &Event, earlier: &Event) -> bool
         && (events.sn_of earlier.now + 1 == events.sn_of event.now)
         && are_same (events.prior_of event.now) (Some (events.said_of earlier.now))) }
 {
-    prefix_of(earlier) == prefix_of(event)
-        && sn_of(earlier).checked_add(1) == Some(sn_of(event))
-        && prior_of(event) == Some(said_of_event(earlier))
+    earlier.prefix() == event.prefix()
+        && earlier.sn().checked_add(1) == Some(event.sn())
+        && event.prior() == Some(earlier.said())
 }

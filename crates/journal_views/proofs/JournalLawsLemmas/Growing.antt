@@ -10,7 +10,7 @@ use Rattle.cesr_codes.specs.declared.key.Key.{Key}
 use Rattle.cesr_codes.specs.declared.prefix.Prefix.{Prefix}
 use Rattle.event_body.specs.declared.event_body.event.Event.{Event}
 use Rattle.event_body.specs.declared.event_body.event.Event.TheVariants.{Icp, Rot, Ixn, Dip, Drt, Rct}
-use Rattle.event_body.specs.EventBody.Events.{is_rotation, is_inception}
+use Rattle.event_body.specs.EventBody.Events.{is_rotation, is_inception, is_delegated}
 use Rattle.key_state.specs.Exposure.{exposed, opens, own_rules, numbers_below}
 use Rattle.key_state.specs.Same.{same_key, distinct}
 use Rattle.key_state.specs.States.{State}
@@ -18,7 +18,7 @@ use Rattle.journal.specs.declared.journal.body.Body.{Body}
 use Rattle.journal.specs.declared.journal.claim.Claim.{Claim}
 use Rattle.journal.specs.Journal.History.{Told, claims_on, triple_of}
 use Rattle.journal.specs.Journal.Readiness.{backers, backs, good_sigs, held_sig, is_backed, meets_before, meets_next, meets_own, signed, yes_to}
-use Rattle.journal.specs.Journal.Seals.{anchored, delegator_of, forbids, has_trait, is_delegated, is_sealed}
+use Rattle.journal.specs.Journal.Seals.{anchored, delegator_of, forbids, has_trait, is_sealed}
 use Rattle.quorum_laws.proofs.Counting.{count_by-number, number-le}
 use Rattle.key_state.proofs.Among.{Among, among_filter_map, among_left_by, filter_map_among, left_among, passed, passing}
 use Rattle.sith.proofs.More.{AreAmong, is_among, more_left, more_satisfied}

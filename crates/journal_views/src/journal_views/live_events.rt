@@ -8,7 +8,7 @@ ghost use Rattle.journal_views.specs.JournalViews.Rises.{sn_at};
 ghost use Rattle.key_state.specs.Same.{same_prefix};
 
 use cesr_codes::Prefix;
-use event_body::{Event, prefix_of, sn_of};
+use event_body::Event;
 use std::alloc::{AllocError, Global};
 
 /// The numbers of the live events of an identifier among the accepted ones, in order: an event takes the place of
@@ -29,7 +29,7 @@ pub fn live(
         let number = accepted[place];
         let event = &events[number as usize];
         if is_of(event, prefix) {
-            drop_superseded(events, &mut numbers, sn_of(event));
+            drop_superseded(events, &mut numbers, event.sn());
             numbers.push(number)?;
         }
     }
@@ -51,7 +51,7 @@ fn drop_superseded(events: &[Event], numbers: &mut Vec<u32>, sn: u64)
 fn is_of(event: &Event, prefix: &Prefix) -> bool
     ensures { result ≡ same_prefix (said.prefix_of event.now) prefix.now }
 {
-    prefix_of(event) == *prefix
+    event.prefix() == *prefix
 }
 
 // Whether the event of the number stands below a number of its log; none stands at 0.
@@ -59,7 +59,7 @@ fn is_below(events: &[Event], number: u32, sn: u64) -> bool
     ensures { result ≡ nat_lt (sn_at events.now number) sn }
 {
     let at = match events.get(number as usize) {
-        Some(event) => sn_of(event),
+        Some(event) => event.sn(),
         None => 0,
     };
     at < sn

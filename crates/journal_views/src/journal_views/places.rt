@@ -8,8 +8,7 @@ ghost use Rattle.journal.specs.Journal.Conflicts.{text_cmp, prior_text};
 ghost use Rattle.journal_views.specs.JournalViews.Rankings.{event_cmp, listed, log_cmp, number_place, of_event, spelled_cmp};
 
 use cesr_codes::{Digest, Prefix};
-use event_body::{Event, prefix_of, sn_of};
-use journal::prior_of;
+use event_body::Event;
 use json_tree::Text;
 use std::alloc::{AllocError, Global};
 use std::cmp::Ordering;
@@ -43,7 +42,7 @@ pub(crate) fn prefix_texts(alloc: Global, events: &[Event]) -> Result<Vec<[u8; 4
 {
     let mut texts = Vec::with_capacity(alloc, events.len())?;
     for event in events {
-        texts.push(text_of(prefix_of(event)))?;
+        texts.push(text_of(event.prefix()))?;
     }
     Ok(texts)
 }
@@ -111,7 +110,7 @@ fn bytes_order(bodies: &[Text], first: u32, second: u32) -> Ordering
 fn place_order(first: &Event, second: &Event) -> Ordering
     ensures { result ≡ event_cmp first.now second.now }
 {
-    match prefix_order(prefix_of(first), prefix_of(second)) {
+    match prefix_order(first.prefix(), second.prefix()) {
         Ordering::Equal => order_in_log(first, second),
         order => order,
     }
@@ -121,8 +120,8 @@ fn place_order(first: &Event, second: &Event) -> Ordering
 fn order_in_log(first: &Event, second: &Event) -> Ordering
     ensures { result ≡ log_cmp first.now second.now }
 {
-    match sn_of(first).cmp(&sn_of(second)) {
-        Ordering::Equal => prior_order(prior_of(first), prior_of(second)).then(sort_of(first).cmp(
+    match first.sn().cmp(&second.sn()) {
+        Ordering::Equal => prior_order(first.prior(), second.prior()).then(sort_of(first).cmp(
             &sort_of(second),
         )),
         order => order,

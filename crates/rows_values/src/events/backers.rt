@@ -3,8 +3,8 @@
 use crate::events::event::kept_event;
 use crate::values::spelled;
 use cesr_codes::{Digest, Key, KeyCode, Prefix};
-use event_backing::{Backers, EventSeal, anchors, seals};
-use event_body::{Event, prefix_of};
+use event_backing::{Backers, EventSeal, holds_seal_of, seals};
+use event_body::Event;
 use quorum_laws::{binds, union_size};
 use rows::{Row, given};
 use std::alloc::{AllocError, Global};
@@ -74,7 +74,7 @@ fn own_seal_word(
     seal: &EventSeal,
     event: &Event,
 ) -> Result<(), AllocError> {
-    let own = seal.prefix == prefix_of(event);
+    let own = seal.prefix == event.prefix();
     seal_word(alloc, text, seal, own)
 }
 
@@ -114,7 +114,7 @@ fn held_word(
     let bytes = row.bytes(alloc, 4)?;
     match kept_event(alloc, bytes.as_slice()) {
         Ok(event) => {
-            let anchored = anchors(&event, prefix, row.number(2), said);
+            let anchored = holds_seal_of(&event, prefix, row.number(2), said);
             drop(event);
             bool_word(alloc, anchored)
         }

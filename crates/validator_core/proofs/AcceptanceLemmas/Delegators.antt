@@ -7,7 +7,7 @@ use Rattle.std.proofs.Math.Bool.{or-false}
 use Rattle.cesr_codes.specs.declared.prefix.Prefix.{Prefix}
 use Rattle.event_body.specs.declared.event_body.event.Event.{Event}
 use Rattle.event_body.specs.declared.event_body.event.Event.TheVariants.{Icp, Rot, Ixn, Dip, Drt, Rct}
-use Rattle.event_body.specs.EventBody.Events.{prefix_of, is_receipt}
+use Rattle.event_body.specs.EventBody.Events.{prefix_of, is_receipt, is_delegated}
 use Rattle.key_state.specs.KeyStates.{misfit, moved}
 use Rattle.key_state.specs.Same.{has_text}
 use Rattle.key_state.specs.States.{State}
@@ -15,7 +15,7 @@ use Rattle.key_state.proofs.Same.{same_prefix_is}
 use Rattle.journal.specs.declared.journal.body.Body.{Body}
 use Rattle.journal.specs.Journal.Grown.{IsGrown, fits}
 use Rattle.journal.specs.Journal.Logs.{is_in, is_of, state, stepped, takes}
-use Rattle.journal.specs.Journal.Seals.{anchored, delegator_of, forbids, has_trait, is_delegated, is_sealed}
+use Rattle.journal.specs.Journal.Seals.{anchored, delegator_of, forbids, has_trait, is_sealed}
 use Rattle.journal.proofs.JournalLemmas.StateSteps.{state-own, state-other}
 
 -- the state's traits forbid it, where there is a state

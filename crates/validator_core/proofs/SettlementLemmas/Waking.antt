@@ -4,7 +4,7 @@ use Rattle.std.specs.Prelude.{slice_get, take, filter_map, IsTrue}
 use Rattle.std.specs.List.{list_any, cons_option}
 use Rattle.std.proofs.lemmas.Bool.{and_from, and_parts, cases_Bool, not-true, or_cases, or_parts}
 use Rattle.cesr_codes.specs.declared.prefix.Prefix.{Prefix}
-use Rattle.event_body.specs.EventBody.Events.{is_receipt, prefix_of, prior_of, said_of, sn_of}
+use Rattle.event_body.specs.EventBody.Events.{is_receipt, prefix_of, prior_of, said_of, sn_of, is_delegated}
 use Rattle.event_body.specs.EventBody.Judging.{SpellsEvent}
 use Rattle.event_body.specs.declared.event_body.event.Event.{Event}
 use Rattle.event_body.specs.declared.event_body.event.Event.TheVariants.{Icp, Rot, Ixn, Dip, Drt, Rct}
@@ -17,7 +17,7 @@ use Rattle.journal.specs.Journal.History.{Told}
 use Rattle.journal.specs.Journal.Journals.{chosen}
 use Rattle.journal.specs.Journal.Logs.{is_in, precedes, same_body, state, takes}
 use Rattle.journal.specs.Journal.Readiness.{is_local, is_ready}
-use Rattle.journal.specs.Journal.Seals.{delegator_of, is_delegated, seals}
+use Rattle.journal.specs.Journal.Seals.{delegator_of, seals}
 use Rattle.journal.proofs.JournalLemmas.Accepting.{same_body-refl}
 use Rattle.journal.proofs.JournalLemmas.Settling.{outside}
 use Rattle.key_state.proofs.Same.{numbers}

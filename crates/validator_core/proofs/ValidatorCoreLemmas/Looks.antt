@@ -13,14 +13,14 @@ use Rattle.claim_table.specs.CoreLaws.Standing.{HasNoClash}
 use Rattle.claim_table.specs.CoreLaws.Waking.{holds_first_seal, is_anchored, is_there, is_waiting, may_wake, seals_first, wakes}
 use Rattle.cesr_codes.specs.declared.prefix.Prefix.{Prefix}
 use Rattle.core_tables.specs.CoreTables.View.{View, log_of}
-use Rattle.event_body.specs.EventBody.Events.{prefix_of, said_of}
+use Rattle.event_body.specs.EventBody.Events.{prefix_of, said_of, is_delegated}
 use Rattle.journal.specs.declared.journal.body.Body.{Body}
 use Rattle.journal.specs.declared.journal.mode.Mode.{Mode}
 use Rattle.journal.specs.Journal.Accepted.{accepted}
 use Rattle.journal.specs.Journal.History.{Told, bodies}
 use Rattle.journal.specs.Journal.Logs.{precedes, state}
 use Rattle.journal.specs.Journal.Readiness.{is_local, is_ready}
-use Rattle.journal.specs.Journal.Seals.{delegator_of, is_delegated, seals}
+use Rattle.journal.specs.Journal.Seals.{delegator_of, seals}
 use Rattle.validator_core.proofs.SettlementLemmas.Few.{few}
 use Rattle.validator_core.proofs.SettlementLemmas.Waking.{waited}
 use Rattle.validator_core.specs.ValidatorCore.Looks.{most_looks, waits_behind, waits_with}

@@ -11,8 +11,7 @@ ghost use Rattle.validator_core.specs.Acceptance.Current.{IsOnCurrent, state_on}
 
 use crate::acceptance::{Footing, footing_of};
 use core_tables::Tables;
-use event_body::{Event, is_receipt};
-use journal::is_inception;
+use event_body::Event;
 use key_state::KeyState;
 
 /// Whether the event stands.
@@ -66,7 +65,7 @@ pub(crate) fn footing_state(tables: &Tables, footing: Footing) -> Option<&KeySta
 pub(crate) fn is_behind_some(tables: &Tables, event: &Event) -> bool
     ensures { (bytes : List ℕ) → result ≡ waking.is_there (log_of tables.now) (body_of bytes event.now) }
 {
-    is_inception(event) || follows_some(tables, event)
+    event.is_inception() || follows_some(tables, event)
 }
 
 /// Whether the event before it is accepted.
@@ -82,5 +81,5 @@ pub(crate) fn is_waiting(tables: &Tables, number: u32, event: &Event) -> bool
     ensures { (bytes : List ℕ) → slice_get tables.now.held number ≡ Some (body_of bytes event.now)
         → result ≡ waking.is_waiting (log_of tables.now) (body_of bytes event.now) }
 {
-    !is_receipt(event) && !tables.is_accepted(number)
+    !event.is_receipt() && !tables.is_accepted(number)
 }

@@ -10,7 +10,6 @@ use crate::acceptance::current::{event_of, is_state};
 use crate::acceptance::footing_of;
 use crate::acceptance::row_support::RowSupport;
 use core_tables::Tables;
-use event_body::is_receipt;
 use journal::{meets_before, meets_own};
 
 /// Whether the event of a number stands and is signed under the state that it follows: then it may conflict with others. It
@@ -23,7 +22,7 @@ pub fn counts(tables: &Tables, number: u32) -> bool
     let Some(event) = event_of(tables, number) else {
         return false;
     };
-    if is_receipt(event) {
+    if event.is_receipt() {
         return false;
     }
     let Some(footing) = footing_of(tables, event) else {

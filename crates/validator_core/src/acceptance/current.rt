@@ -11,7 +11,7 @@ ghost use Rattle.key_state.specs.States.{IsState};
 
 use cesr_codes::Prefix;
 use core_tables::Tables;
-use event_body::{Event, prefix_of};
+use event_body::Event;
 use key_state::{KeyState, spelled_is_kept};
 
 /// The event of the body of a number.
@@ -37,7 +37,7 @@ pub(crate) fn current_of<'a>(tables: &'a Tables, event: &Event) -> CurrentState<
     ensures place { result.place ≡ last_place (events.prefix_of event.now) tables.now.log.states }
     ensures state { option_copied result.state ≡ logs.state (log_of tables.now) (events.prefix_of event.now) }
 {
-    let place = tables.log().current_place(&prefix_of(event));
+    let place = tables.log().current_place(&event.prefix());
     CurrentState {
         place,
         state: state_at(tables, place),
@@ -56,7 +56,7 @@ pub(crate) fn state_of<'a>(tables: &'a Tables, event: &Event) -> Option<&'a KeyS
     requires { IsStanding tables.now }
     ensures { option_copied result ≡ logs.state (log_of tables.now) (events.prefix_of event.now) }
 {
-    current(tables, &prefix_of(event))
+    current(tables, &event.prefix())
 }
 
 /// The current state of an identifier.

@@ -9,8 +9,7 @@ ghost use Rattle.validator_core.specs.Acceptance.Footing.{IsFooting};
 ghost use Rattle.core_tables.specs.CoreTables.View.{body_of, log_of};
 
 use core_tables::Tables;
-use event_body::{Event, sn_of};
-use journal::is_inception;
+use event_body::Event;
 use key_state::KeyState;
 
 /// What an event stands on in the log of accepted events.
@@ -31,7 +30,7 @@ pub fn footing_of(tables: &Tables, event: &Event) -> Option<Footing>
     ensures some { (bytes : List ℕ) → IfSome result
         (λ on. IsFooting (log_of tables.now) tables.now.log (body_of bytes event.now) on) }
 {
-    if is_inception(event) {
+    if event.is_inception() {
         return Some(Footing::Inception);
     }
     let before = tables.predecessor(event)?;
@@ -51,6 +50,6 @@ fn follows(state: &KeyState, event: &Event) -> bool
     requires live { events.sn_of event.now - state.now.est_sn ≤ length state.now.since }
     ensures { result ≡ is_none (misfit (state_behind (events.sn_of event.now - state.now.est_sn) state.now) event.now) }
 {
-    let live = (sn_of(event) - state.est_sn) as usize;
+    let live = (event.sn() - state.est_sn) as usize;
     state.misfit_behind(live, event).is_none()
 }

@@ -12,7 +12,7 @@ use crate::acceptance::current::current;
 use cesr_codes::Prefix;
 use core_tables::Tables;
 use event_body::Event;
-use journal::{Mode, delegator_of, is_delegated};
+use journal::{Mode, delegator_of};
 use json_tree::Text;
 use key_state::KeyState;
 
@@ -45,7 +45,7 @@ pub(crate) fn is_anchored(tables: &Tables, state: Option<&KeyState>, event: &Eve
     requires { IsStanding tables.now }
     ensures { result ≡ seals.anchored (log_of tables.now) (option_copied state.entry) event.now }
 {
-    if !is_delegated(event) {
+    if !event.is_delegated() {
         return true;
     }
     match delegator_of(state, event) {

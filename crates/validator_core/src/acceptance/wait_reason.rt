@@ -14,7 +14,7 @@ use crate::acceptance::seals::{is_forbidden, is_local};
 use crate::acceptance::wants::wanting;
 use core_tables::Tables;
 use event_body::Event;
-use journal::{Mode, Why, is_inception, takes};
+use journal::{Mode, Why, takes};
 use key_state::KeyState;
 
 /// Why the event of a number waits: the first reason that applies, and none for a receipt or an accepted event. It takes no
@@ -55,7 +55,7 @@ fn is_lost(tables: &Tables, mode: Mode, state: Option<&KeyState>, event: &Event)
 fn is_late(state: Option<&KeyState>, event: &Event) -> bool
     ensures { result ≡ (events.is_inception event.now && is_some (option_copied state.entry)) }
 {
-    is_inception(event) && state.is_some()
+    event.is_inception() && state.is_some()
 }
 
 // Whether its predecessor is there, and it doesn't stand behind it or isn't taken by the current state.

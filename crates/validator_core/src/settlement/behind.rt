@@ -11,7 +11,6 @@ ghost use Rattle.validator_core.specs.Settlement.Entries.{IsLogged};
 
 use crate::settlement::standing_claims::raise_if_standing;
 use core_tables::Tables;
-use event_body::said_of_event;
 use std::alloc::{AllocError, Global};
 
 /// The numbers of the events that wait for one with the digest of this event, rising.
@@ -28,7 +27,7 @@ pub(crate) fn numbers_behind(
         → precedes b c ≡ true → predecessor (log_of tables.now) b ≡ None → list_any (λ m. m == n) numbers.items ≡ true) }
 {
     match tables.event(number) {
-        Some(event) => copied(alloc, tables.waiting().woken_by(&said_of_event(event))),
+        Some(event) => copied(alloc, tables.waiting().woken_by(&event.said())),
         None => Ok(Vec::new(alloc)),
     }
 }

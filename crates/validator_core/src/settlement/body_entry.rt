@@ -13,7 +13,7 @@ use crate::settlement::standing_claims::{
     raise_entry_if_standing, raise_if_standing, raise_receipt,
 };
 use core_tables::{Name, Tables, name_of};
-use event_body::{Event, is_receipt};
+use event_body::Event;
 use journal::Claim;
 use json_tree::Text;
 use lists::{Items, length_u32};
@@ -34,7 +34,7 @@ pub fn enter_body(
         tables.old tables.new) }
     ensures extends { Extends tables.old tables.new }
 {
-    if is_receipt(&event) {
+    if event.is_receipt() {
         enter_receipt(tables, reader, text, event, claims)
     } else {
         enter_event(tables, reader, text, event, claims)
@@ -125,7 +125,7 @@ fn receipt_name(tables: &Tables, number: u32) -> Option<Name>
         → result ≡ (if events.is_receipt b.event then Some (name_of_event b.event) else None) }
 {
     let event = tables.event(number)?;
-    if is_receipt(event) {
+    if event.is_receipt() {
         Some(name_of(event))
     } else {
         None

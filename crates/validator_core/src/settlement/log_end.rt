@@ -14,7 +14,7 @@ ghost use Rattle.validator_core.specs.Settlement.Turning.{IsAppended, MakesState
 
 use crate::settlement::behind::{numbers_behind, raise_behind};
 use core_tables::{AcceptedLog, Tables};
-use event_body::{Event, prefix_of};
+use event_body::Event;
 use key_state::{KeyState, StateFault, first, spelled_is_kept};
 use std::alloc::{AllocError, Global};
 
@@ -80,7 +80,7 @@ fn state_made(
     if let Event::Ixn(_) = event {
         return Ok(None);
     }
-    match state_after(alloc, log.current(&prefix_of(event)), event) {
+    match state_after(alloc, log.current(&event.prefix()), event) {
         Ok(state) => Ok(Some(state)),
         Err(StateFault::OutOfMemory) => Err(AllocError),
         Err(StateFault::Misfit(_)) => unreachable!(),

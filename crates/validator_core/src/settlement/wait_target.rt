@@ -12,9 +12,9 @@ ghost use Rattle.validator_core.specs.Settlement.Awaited as awaited;
 
 use cesr_codes::Prefix;
 use core_tables::Tables;
-use event_backing::{anchors, sealed_by_parts};
-use event_body::{Event, prefix_of, said_of_event, sn_of};
-use journal::{Mode, delegator_of, is_behind, is_delegated};
+use event_backing::{holds_seal_of, sealed_by_parts};
+use event_body::Event;
+use journal::{Mode, delegator_of, is_behind};
 use key_state::spelled_is_kept;
 
 /// Whether the event of the second number may wait for that of the first, which comes next: this is right before it or, in
@@ -60,7 +60,7 @@ fn seals_first(tables: &Tables, event: &Event, waiting: &Event) -> bool
     ensures { (bs cs : List ℕ) → result
         ≡ waking.seals_first (log_of tables.now) (body_of cs event.now) (body_of bs waiting.now) }
 {
-    if !is_delegated(waiting) {
+    if !waiting.is_delegated() {
         return false;
     }
     match delegator(tables, waiting) {
@@ -74,7 +74,7 @@ fn delegator(tables: &Tables, event: &Event) -> Option<Prefix>
     requires stands { IsStanding tables.now }
     ensures { result ≡ seals.delegator_of (logs.state (log_of tables.now) (events.prefix_of event.now)) event.now }
 {
-    delegator_of(tables.log().current(&prefix_of(event)), event)
+    delegator_of(tables.log().current(&event.prefix()), event)
 }
 
 // Whether the event is of the delegator and seals the other one, and no accepted one does.
@@ -83,7 +83,7 @@ fn holds_first_seal(tables: &Tables, event: &Event, waiting: &Event, delegator: 
         ≡ (logs.is_of delegator.now (body_of cs event.now) && seals.seals event.now waiting.now
         && not (seals.is_sealed (log_of tables.now) delegator.now waiting.now)) }
 {
-    prefix_of(event) == *delegator
+    event.prefix() == *delegator
         && holds_seal(event, waiting)
         && !tables.is_sealed(delegator, waiting)
 }
@@ -93,10 +93,5 @@ fn holds_seal(event: &Event, sealed: &Event) -> bool
     ensures { result ≡ seals.seals event.now sealed.now }
 {
     sealed_by_parts();
-    anchors(
-        event,
-        &prefix_of(sealed),
-        sn_of(sealed),
-        &said_of_event(sealed),
-    )
+    holds_seal_of(event, &sealed.prefix(), sealed.sn(), &sealed.said())
 }

@@ -18,7 +18,7 @@ use crate::settlement::wait_target::is_awaited_at;
 use core_tables::Tables;
 use escrow::Waiting;
 use event_backing::{EventSeal, sealed_by_parts, seals};
-use event_body::{Event, said_of_event};
+use event_body::Event;
 use journal::Mode;
 use std::alloc::{AllocError, Global};
 use std::collections::BTreeSet;
@@ -81,7 +81,7 @@ fn numbers_named(
     let Some(event) = tables.event(number) else {
         return Ok(Vec::new(alloc));
     };
-    let numbers = copied(alloc, tables.waiting().woken_by(&said_of_event(event)))?;
+    let numbers = copied(alloc, tables.waiting().woken_by(&event.said()))?;
     match mode {
         Mode::Full => with_sealed(alloc, numbers, tables.waiting(), event),
         Mode::Local => Ok(numbers),

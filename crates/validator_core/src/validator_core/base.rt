@@ -11,7 +11,7 @@ use crate::settlement::accept;
 use crate::validator_core::Core;
 use crate::validator_core::tally::Tally;
 use core_tables::Tables;
-use event_body::{Event, ReadBody, is_receipt, one_event, prefix_of, read_body};
+use event_body::{Event, ReadBody, one_event, read_body};
 use journal::{Mode, ResumeFault, takes};
 use json_tree::Text;
 use keri_outside::Limits;
@@ -135,12 +135,12 @@ fn is_fit(tables: &Tables, text: &[u8], event: &Event) -> bool
     requires held { IsHeld (body_of text.now event.now) }
     ensures { result ≡ fits tables.now.held (body_of text.now event.now) }
 {
-    if is_receipt(event) {
+    if event.is_receipt() {
         return false;
     }
     match tables.number_of(text, event) {
         Some(_) => false,
-        None => takes(tables.log().current(&prefix_of(event)), event),
+        None => takes(tables.log().current(&event.prefix()), event),
     }
 }
 

@@ -6,7 +6,7 @@ ghost use Rattle.journal.specs.Journal.Replies as replies;
 ghost use Rattle.std.specs.List.{list_any, list_all};
 
 use cesr_stream::{Group, Message};
-use event_body::{Event, ReadBody, is_receipt, read_body};
+use event_body::{Event, ReadBody, read_body};
 use journal::Reason;
 use std::alloc::{AllocError, Global};
 
@@ -33,7 +33,7 @@ fn refusal_of(message: &Message, event: &Event) -> Option<Reason>
     if message.excess {
         return Some(Reason::TooManySigs);
     }
-    if is_receipt(event) {
+    if event.is_receipt() {
         receipt_refusal(groups)
     } else if any_signature(groups) {
         None

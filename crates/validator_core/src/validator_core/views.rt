@@ -16,7 +16,7 @@ use crate::acceptance::counts;
 use crate::validator_core::Core;
 use cesr_codes::Prefix;
 use core_tables::Tables;
-use event_body::{Event, prefix_of, sn_of};
+use event_body::Event;
 use journal::Conflict;
 use journal_views::{conflict_sets, live};
 use lists::{Items, length_u32};
@@ -99,8 +99,8 @@ fn conflict_of(alloc: Global, events: &[Event], set: &[u32]) -> Result<Conflict,
     let event = &events[set[0] as usize];
     let bodies = Items::from_vec(Vec::from_slice(alloc, set)?);
     Ok(Conflict {
-        prefix: prefix_of(event),
-        sn: sn_of(event),
+        prefix: event.prefix(),
+        sn: event.sn(),
         bodies,
     })
 }

@@ -12,7 +12,7 @@ ghost use Rattle.validator_core.specs.ValidatorCore.Tables.{AddsEntry, AddsVerdi
 
 use crate::settlement::{enter_body, enter_claims, enter_verdict, settle};
 use core_tables::{Mark, Tables};
-use event_body::{Event, said_of_event};
+use event_body::Event;
 use journal::{Claim, Mode, Question};
 use json_tree::Text;
 use keri_outside::Steps;
@@ -189,7 +189,7 @@ fn candidates(alloc: Global, tables: &Tables, number: u32) -> Result<BTreeSet<u3
     ensures no_others { IfOk result (λ due. HaveNoOthers tables.now number due.keys) }
 {
     match tables.event(number) {
-        Some(event) => set_of(alloc, tables.waiting().named(&said_of_event(event))),
+        Some(event) => set_of(alloc, tables.waiting().named(&event.said())),
         None => Ok(BTreeSet::new(alloc)),
     }
 }

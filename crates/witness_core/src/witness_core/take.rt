@@ -22,7 +22,7 @@ use crate::witness_core::WitnessFault;
 use crate::witness_core::taken::Taken;
 use crate::witness_store::{Coming, Room, ask_open, count_signatures, lacks_room, store};
 use cesr_stream::Message;
-use event_body::{Event, is_receipt};
+use event_body::Event;
 use journal::{Claim, Reply};
 use json_tree::Text;
 use keri_outside::{Limits, Steps, Verifier};
@@ -101,7 +101,7 @@ fn take_in<D: Disk + Drop>(
     match judge_message(alloc, message)? {
         Err(reason) => Ok(Taken::Refused(reason)),
         Ok(event) => {
-            if is_receipt(&event) {
+            if event.is_receipt() {
                 drop(event);
                 return Ok(Taken::NotAnEvent);
             }

@@ -9,7 +9,7 @@ ghost use Rattle.witness_core.specs.WitnessReceipts.Fates as fates;
 ghost use Rattle.witness_core.specs.WitnessReceipts.Fates.{live_there, waiting_fate};
 
 use cesr_codes::{Digest, Key, Prefix};
-use event_body::{Event, prefix_of, said_of_event, sn_of};
+use event_body::Event;
 use journal::{Reason, Why, takes};
 use key_state::KeyState;
 use validator_core::Core;
@@ -71,7 +71,7 @@ fn fate_by(core: &Core, event: &Event, why: Why) -> Fate
     if wants_signatures(core, event, why) {
         return Fate::Waits(why);
     }
-    match live_at(core, &prefix_of(event), sn_of(event)) {
+    match live_at(core, &event.prefix(), event.sn()) {
         Some(said) => Fate::Seen(said),
         None => Fate::Waits(why),
     }
@@ -81,7 +81,7 @@ fn fate_by(core: &Core, event: &Event, why: Why) -> Fate
 fn wants_signatures(core: &Core, event: &Event, why: Why) -> bool
     ensures { result ≡ (takes_next (state_of core.now (events.prefix_of event.now)) event.now && fates.is_signing why) }
 {
-    takes(core.state(&prefix_of(event)), event) && is_signing(why)
+    takes(core.state(&event.prefix()), event) && is_signing(why)
 }
 
 // Whether signatures are wanted.
@@ -134,15 +134,15 @@ fn earlier_at(core: &Core, prefix: &Prefix, sn: u64) -> Option<Digest>
 fn is_within(event: &Event, prefix: &Prefix, sn: u64) -> bool
     ensures { result ≡ fates.is_within prefix.now sn event.now }
 {
-    prefix_of(event) == *prefix && sn_of(event) <= sn
+    event.prefix() == *prefix && event.sn() <= sn
 }
 
 // The digest of the event, where it has the number.
 fn said_at(event: &Event, sn: u64) -> Option<Digest>
     ensures { result ≡ fates.said_at sn event.now }
 {
-    if sn_of(event) == sn {
-        Some(said_of_event(event))
+    if event.sn() == sn {
+        Some(event.said())
     } else {
         None
     }

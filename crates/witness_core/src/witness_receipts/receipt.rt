@@ -14,7 +14,7 @@ ghost use Rattle.witness_core.specs.declared.witness_receipts.receipt.SigningFau
 
 use cesr_codes::{Digest, Key, Spelled};
 use cesr_stream::{Couple, Group, Item};
-use event_body::{Event, ReadBody, ReceiptBody, prefix_of, said_of_event, sn_of, write_body};
+use event_body::{Event, ReadBody, ReceiptBody, write_body};
 use journal_views::StreamText;
 use keri_outside::{Failed, Signer};
 use lists::Items;
@@ -79,7 +79,7 @@ pub(crate) fn receipt_of<S: Signer>(
     let sig = signer.sign(key, body)?;
     let bytes = with_couple(alloc, &text, Couple { key: *key, sig })?;
     Ok(Receipt {
-        event: said_of_event(event),
+        event: event.said(),
         bytes,
     })
 }
@@ -89,9 +89,9 @@ fn receipt_body(alloc: Global, event: &Event) -> Result<Vec<u8>, AllocError>
     ensures { IfOk result (λ text. text.items ≡ text_of (receipt_event event.now)) }
 {
     let receipt = ReceiptBody {
-        said: said_of_event(event),
-        prefix: prefix_of(event),
-        sn: sn_of(event),
+        said: event.said(),
+        prefix: event.prefix(),
+        sn: event.sn(),
     };
     held(receipt);
     match written(alloc, receipt) {

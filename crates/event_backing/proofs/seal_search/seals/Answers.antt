@@ -6,7 +6,7 @@ use Rattle.event_backing.proofs.seal_search.seals.Goals.{in-Some+in_ok-push, in_
 
 pub loop-value-preserved : goal.loop-value-preserved
 loop-value-preserved c =
-    let values = c.anchors_of-value-items.result.now in
+    let values = c.anchors-value-items.result.now in
     let i = c.loop-value.value-index in
     let v = c.value-item.result in
     let more : take (i + 1) values ≡ take i values ++ v ∷ [] = take_more values i v c.loop-value-test.true ∙ ap (λ u. take i values ++ u ∷ []) (sym c.value-item.is) in

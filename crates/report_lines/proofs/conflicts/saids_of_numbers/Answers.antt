@@ -18,7 +18,7 @@ loop-number-preserved c =
     elim c.match-event.branch [
       | in-Some+in_ok-push w ↦ (
           ap (λ v. v.items) w.saids-is ∙ w.in_ok-push.ensures.items
-          ∙ (λ j. c.loop-number.invariant j ++ w.said_of_event.ensures j ∷ [])
+          ∙ (λ j. c.loop-number.invariant j ++ w.said.ensures j ∷ [])
           ∙ sym (said_more held ns i (omega arith) w.in-Some.event.now w.in-Some.ensures))
       | in_default w ↦ (
           ap (λ v. v.items) w.saids-is ∙ c.loop-number.invariant ∙ sym (said_same held ns i (omega arith) w.in_default.ensures))

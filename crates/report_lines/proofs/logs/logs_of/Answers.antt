@@ -22,7 +22,7 @@ loop-number-preserved c =
           let found = with_event (slice_get held (get_or ns i 0)) w.in-Some.event.now w.in-Some.ensures in
           let b = found.0 in
           rw (w.logs-is, with_one held ns i (omega arith) b found.1)
-          (w.in_ok-add_number.ensures held (chosen held (take i ns)) b found.1 (ap prefix_of found.2 ∙ sym w.prefix_of.ensures) c.loop-number.invariant))
+          (w.in_ok-add_number.ensures held (chosen held (take i ns)) b found.1 (ap prefix_of found.2 ∙ sym w.prefix.ensures) c.loop-number.invariant))
       | in_default w ↦ rw (w.logs-is, with_none held ns i (omega arith) (without_event (slice_get held (get_or ns i 0)) w.in_default.ensures)) c.loop-number.invariant
     ]
 

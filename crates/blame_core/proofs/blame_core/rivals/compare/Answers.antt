@@ -18,8 +18,8 @@ returns c = λ b d at there.
     let g = c.in_ok-others.ensures d there in
     record {
       differ = λ same. (let equal = (bytes_decides text rival).1 (mine ∙ same ∙ sym its) in cc (equal, c.is_same.ensures, c.if-is_same.false));
-      prefix = c.prefix_of.ensures ∙ ap prefix_of event;
-      sn = c.sn_of.ensures ∙ ap sn_of event;
+      prefix = c.prefix.ensures ∙ ap prefix_of event;
+      sn = c.sn.ensures ∙ ap sn_of event;
       one_is = refl;
       other_is = refl;
       culprits = c.in_ok-culprits.ensures ∙ (λ i. filter_map (culprit_of (c.as_slice-2.ensures i) (λ key. f key i) (λ key. g key i)) (distinct same_key (c.as_slice.ensures i)));

@@ -16,6 +16,6 @@ returns-clause-named c = on_ok c.note_seals.result (subst (λ m. Contains (place
 pub returns-clause-sealed : goal.returns-clause-sealed
 returns-clause-sealed c =
     on_ok_weaker c.note_seals.result
-    (λ each. sealed_at (numbers_at seal_cmp c.note_seals.new.sealed) c.args.event.now c.args.place c.prefix_of.result c.as_slice.result.now c.prefix_of.ensures
+    (λ each. sealed_at (numbers_at seal_cmp c.note_seals.new.sealed) c.args.event.now c.args.place c.prefix.result c.as_slice.result.now c.prefix.ensures
     (subst (λ seals. AreSealsOf (anchors_of c.args.event.now) seals) (sym c.as_slice.ensures.value) c.in_ok-seals.ensures) each)
     c.note_seals.ensures.added

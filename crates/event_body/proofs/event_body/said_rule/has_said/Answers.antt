@@ -8,5 +8,5 @@ holds-requires c = subst (LieIn c.args.bytes.now) (sym c.places.ensures) (places
 
 pub returns : goal.returns
 returns c =
-    tests_said c.args.event.now c.args.bytes.now c.said_of_event.result c.places.result.now c.holds.result c.requires.text (sym c.is_receipt.ensures ∙ c.if-is_receipt.false)
-    c.said_of_event.ensures c.places.ensures c.holds.ensures
+    tests_said c.args.event.now c.args.bytes.now c.said.result c.places.result.now c.holds.result c.requires.text (sym c.is_receipt.ensures ∙ c.if-is_receipt.false)
+    c.said.ensures c.places.ensures c.holds.ensures

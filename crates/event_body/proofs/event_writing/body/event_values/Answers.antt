@@ -8,5 +8,5 @@ pub returns : goal.returns
 returns c =
     let further = further_values c.args.event.now in
     c.in_ok-values.ensures
-    ∙ ap (λ t. t ∷ c.in_ok-prefix.prefix ∷ further) (c.in_ok-said.ensures ∙ ap digest_value c.said_of_event.ensures)
-    ∙ ap (λ t. digest_value (said_of c.args.event.now) ∷ t ∷ further) (c.in_ok-prefix.ensures ∙ ap prefix_value c.prefix_of.ensures)
+    ∙ ap (λ t. t ∷ c.in_ok-prefix.prefix ∷ further) (c.in_ok-said.ensures ∙ ap digest_value c.said.ensures)
+    ∙ ap (λ t. digest_value (said_of c.args.event.now) ∷ t ∷ further) (c.in_ok-prefix.ensures ∙ ap prefix_value c.prefix.ensures)

@@ -41,7 +41,7 @@ returns-then-not-has_prefix c = λ b at.
     let events : Some c.in-Some-event.event.now ≡ Some b.event = sym (ap (option_map (λ e. e.now)) c.in-Some-event.is) ∙ c.event.ensures ∙ ap (λ k. option_map (λ b. b.event) (slice_get core.held k)) one ∙ ap (option_map (λ b. b.event)) n.2 in
     let event : c.in-Some-event.event.now ≡ b.event = cc events in
     passed_over core c.args.family.now.keys c.args.place b at (core_grown core c.requires.full c.requires.no_base) c.args.signers.now c.requires.signers c.args.text.now.bytes.items
-    (ap (λ p. list_any (λ q. same_prefix q p) c.args.family.now.keys) (sym (c.prefix_of-prefix.ensures ∙ ap prefix_of event)) ∙ sym c.has_prefix.ensures ∙ c.if-not-has_prefix.true)
+    (ap (λ p. list_any (λ q. same_prefix q p) c.args.family.now.keys) (sym (c.prefix-prefix.ensures ∙ ap prefix_of event)) ∙ sym c.has_prefix.ensures ∙ c.if-not-has_prefix.true)
 
 pub put_messages-requires : goal.put_messages-requires
 put_messages-requires c =
@@ -54,7 +54,7 @@ put_messages-requires c =
     let held : slice_get core.held c.in-Some.number ≡ Some b = ap (slice_get core.held) one ∙ n.2 in
     let events : Some c.in-Some-event.event.now ≡ Some b.event = sym (ap (option_map (λ e. e.now)) c.in-Some-event.is) ∙ c.event.ensures ∙ ap (option_map (λ b. b.event)) held in
     let event : c.in-Some-event.event.now ≡ b.event = cc events in
-    let prefix : c.prefix_of-prefix.result ≡ prefix_of b.event = c.prefix_of-prefix.ensures ∙ ap prefix_of event in
+    let prefix : c.prefix-prefix.result ≡ prefix_of b.event = c.prefix-prefix.ensures ∙ ap prefix_of event in
     let of = ap (λ p. list_any (λ q. same_prefix q p) c.args.family.now.keys) (sym prefix) ∙ sym c.has_prefix.ensures ∙ c.if-not-has_prefix.false in
     let own_is = c.in_ok-own.ensures ∙ (λ i. own_signers (signers_in ((c.get.ensures.value ∙ ap (get prefix_cmp c.args.signers.now) prefix) i)) (event i)) in
     let kept : IsKept b.event = c.spelled_is_kept.ensures b.event b.bytes (all_at IsHeld core.held c.requires.stands.spelled c.in-Some.number b held).spelled in
@@ -72,7 +72,7 @@ returns c = λ b at.
     let event : c.in-Some-event.event.now ≡ b.event = cc events in
     let bytes_same : Some c.in-Some-body.bytes.now ≡ Some b.bytes = sym (ap (option_map (λ e. e.now)) c.in-Some-body.is) ∙ c.body.ensures.body ∙ ap (option_map (λ b. b.bytes)) held in
     let bytes : c.in-Some-body.bytes.now ≡ b.bytes = cc bytes_same in
-    let prefix : c.prefix_of-prefix.result ≡ prefix_of b.event = c.prefix_of-prefix.ensures ∙ ap prefix_of event in
+    let prefix : c.prefix-prefix.result ≡ prefix_of b.event = c.prefix-prefix.ensures ∙ ap prefix_of event in
     let of = ap (λ p. list_any (λ q. same_prefix q p) c.args.family.now.keys) (sym prefix) ∙ sym c.has_prefix.ensures ∙ c.if-not-has_prefix.false in
     let own_is = c.in_ok-own.ensures ∙ (λ i. own_signers (signers_in ((c.get.ensures.value ∙ ap (get prefix_cmp c.args.signers.now) prefix) i)) (event i)) in
     let kept : IsKept b.event = c.spelled_is_kept.ensures b.event b.bytes (all_at IsHeld core.held c.requires.stands.spelled c.in-Some.number b held).spelled in

@@ -33,7 +33,7 @@ loop-place-preserved c =
           let numbers = c.loop-place.numbers.items in
           let of : same_prefix (prefix_of e) prefix ≡ true = sym c.is_of.ensures ∙ w.if-is_of.true in
           let kept : w.drop_superseded.new.numbers.items ≡ filter (λ n. nat_lt (sn_at events n) (sn_of e)) numbers =
-          w.drop_superseded.ensures ∙ ap (λ sn. filter (λ n. nat_lt (sn_at events n) sn) numbers) w.sn_of.ensures in
+          w.drop_superseded.ensures ∙ ap (λ sn. filter (λ n. nat_lt (sn_at events n) sn) numbers) w.sn.ensures in
           let items : c.if-is_of.numbers.items ≡ w.drop_superseded.new.numbers.items ++ n ∷ [] = ap (λ v. v.items) w.numbers-is ∙ w.in_ok-push.ensures.items in
           record {
             live = λ held are. (

@@ -18,7 +18,7 @@ returns-in-Full c = record {
       let there = waits_there c.waiting.result.now v.held v.settled v.log.numbers n b c.waiting.ensures at was.0 in
       let again = waits_there c.waiting-in-Full.result.now v.held v.settled v.log.numbers n b c.waiting-in-Full.ensures at was.0 in
       elim was.1 [
-        | inl prior ↦ kept n (subst (λ ns. Contains ns n) (sym c.in_ok-numbers.ensures) ((c.woken_by.ensures.those n).1 (waiter_of n b.event, there, prior ∙ ap Some (sym (c.said_of_event.ensures ∙ ap said_of same)))))
+        | inl prior ↦ kept n (subst (λ ns. Contains ns n) (sym c.in_ok-numbers.ensures) ((c.woken_by.ensures.those n).1 (waiter_of n b.event, there, prior ∙ ap Some (sym (c.said.ensures ∙ ap said_of same)))))
         | inr sealing ↦ sealed n (record { prefix = prefix_of b.event; sn = sn_of b.event; said = said_of b.event }) (own_seal b.event b.bytes (c.requires.stands.spelled n b at).spelled)
             (sym (c.sealed_by_parts.ensures c.in-Some.event.now b.event) ∙ ap (λ e. journal_seals e b.event) same ∙ sealing.1) (waiter_of n b.event, again, refl)
       ]);
@@ -33,7 +33,7 @@ returns-in-Local c = record {
       let was = woken c.args.mode (log_of v) d b wakes in
       let there = waits_there c.waiting.result.now v.held v.settled v.log.numbers n b c.waiting.ensures at was.0 in
       elim was.1 [
-        | inl prior ↦ subst (λ ns. Contains ns n) (sym c.in_ok-numbers.ensures) ((c.woken_by.ensures.those n).1 (waiter_of n b.event, there, prior ∙ ap Some (sym (c.said_of_event.ensures ∙ ap said_of same))))
+        | inl prior ↦ subst (λ ns. Contains ns n) (sym c.in_ok-numbers.ensures) ((c.woken_by.ensures.those n).1 (waiter_of n b.event, there, prior ∙ ap Some (sym (c.said.ensures ∙ ap said_of same))))
         | inr sealing ↦ (let local = ap is_local c.in-Local.is in let no = sym local ∙ sealing.0 in cc)
       ]);
 }

@@ -20,6 +20,6 @@ pub returns-in-None : goal.returns-in-None
 returns-in-None c =
     let v = c.args.tables.now in
     let event = c.args.event.now in
-    let current = state_held v c.requires.accepted (prefix_of event) (option_copied c.current.result) (rw (c.log.ensures, c.prefix_of.ensures) at c.current.ensures) in
+    let current = state_held v c.requires.accepted (prefix_of event) (option_copied c.current.result) (rw (c.log.ensures, c.prefix.ensures) at c.current.ensures) in
     c.takes.ensures ∙ ap (λ s. takes s event) current
     ∙ sym (fits_new v.held (body_of c.args.text.now event) (sym c.is_receipt.ensures ∙ c.if-is_receipt.false) c.in-None.ensures.none)

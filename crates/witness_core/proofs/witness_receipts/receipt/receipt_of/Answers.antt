@@ -7,7 +7,7 @@ pub returns-clause-receipt : goal.returns-clause-receipt
 returns-clause-receipt g c =
     let couple : Couple = record { key = c.args.key.now; sig = c.in_ok-sig.sig; fixed = c.requires.witness } in
     record {
-      event = c.said_of_event.ensures;
+      event = c.said.ensures;
       couple = couple;
       by_key = refl;
       signed = c.in_ok-sig.ensures.signature;

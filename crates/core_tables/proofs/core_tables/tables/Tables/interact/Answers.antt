@@ -39,7 +39,7 @@ interact-requires c =
     let event = event_is t.journal.bodies t.events.items c.self.invariant.0 c.args.number c.index-event.result.now b.0 c.index-event.ensures b.1 in
     let room = c.requires.room b.0 (ap (λ (v : View). slice_get v.held c.args.number) (sym c.self.view_is) ∙ b.1) in
     record {
-      room = subst (λ p. IfSome (last_of p t.log.states) (λ s. head_sn s + 1 < 2 ^ 64)) (ap prefix_of event ∙ sym c.prefix_of.ensures)
+      room = subst (λ p. IfSome (last_of p t.log.states) (λ s. head_sn s + 1 < 2 ^ 64)) (ap prefix_of event ∙ sym c.prefix.ensures)
           (subst (λ (v : View). IfSome (last_of (prefix_of b.0.event) v.log.states) (λ s. head_sn s + 1 < 2 ^ 64)) (sym c.self.view_is) room);
     }
 
@@ -53,7 +53,7 @@ invariant_of-self-2 c =
       c.self.invariant.0,
       c.self.invariant.1,
       on_both c.interact.result c.interact.ensures.ok c.interact.ensures.err
-          (λ made. elim (numbers_gone_onto c.args.number c.in_ok-entries.entries c.said_of_event.result (last_place c.prefix_of.result t.log.states) t.log) [
+          (λ made. elim (numbers_gone_onto c.args.number c.in_ok-entries.entries c.said.result (last_place c.prefix.result t.log.states) t.log) [
             | inl more ↦ one_accepted c.self.invariant.2 _ _ _ c.len.ensures.numbers c.note_next.ensures.kept c.note_next.ensures.kept_sealed c.clashes_with-self-inside.result c.clashes_with-self-inside.ensures.before b.0 c.args.number c.index-event.result.now b.1 event
                 c.in_ok-entries.ensures.named c.in_ok-entries.ensures.sealed fresh _ (ap (λ l. l.numbers) made ∙ more)
             | inr same ↦ none_accepted c.self.invariant.2 _ _ _ c.len.ensures.numbers c.note_next.ensures.kept c.note_next.ensures.kept_sealed c.clashes_with-self-inside.result c.clashes_with-self-inside.ensures.before _ (ap (λ l. l.numbers) made ∙ same)
@@ -67,7 +67,7 @@ returns-clause-ok c =
     on_ok_weaker c.interact.result
     (λ made b at.
     let event = event_is t.journal.bodies t.events.items c.self.invariant.0 c.args.number c.index-event.result.now b c.index-event.ensures (ap (λ (v : View). slice_get v.held c.args.number) c.self.view_is ∙ at) in
-    let prefix = c.prefix_of.ensures ∙ ap prefix_of (sym event) in let said = c.said_of_event.ensures ∙ ap said_of (sym event) in
+    let prefix = c.prefix.ensures ∙ ap prefix_of (sym event) in let said = c.said.ensures ∙ ap said_of (sym event) in
     view_accepted (view_of t) c.args.self.now c.interact.new.self (λ v. interacted c.args.number (length v.entries) (prefix_of b.event) (said_of b.event) v.log) c.self.view_is
     (made ∙ (λ i. interacted c.args.number (entries i) (prefix i) (said i) t.log))) c.interact.ensures.ok
 
@@ -77,9 +77,9 @@ returns-clause-grows c =
     on_ok_weaker c.interact.result
     (λ grows b at.
     let event = event_is t.journal.bodies t.events.items c.self.invariant.0 c.args.number c.index-event.result.now b c.index-event.ensures (ap (λ (v : View). slice_get v.held c.args.number) c.self.view_is ∙ at) in
-    let prefix = c.prefix_of.ensures ∙ ap prefix_of (sym event) in let said = c.said_of_event.ensures ∙ ap said_of (sym event) in
+    let prefix = c.prefix.ensures ∙ ap prefix_of (sym event) in let said = c.said.ensures ∙ ap said_of (sym event) in
     subst (λ (v : View). GrowsByInteraction (prefix_of b.event) (said_of b.event) v.log c.interact.new.self) c.self.view_is
-    (subst (λ p. GrowsByInteraction p (said_of b.event) t.log c.interact.new.self) prefix (subst (λ d. GrowsByInteraction c.prefix_of.result d t.log c.interact.new.self) said grows))) c.interact.ensures.log
+    (subst (λ p. GrowsByInteraction p (said_of b.event) t.log c.interact.new.self) prefix (subst (λ d. GrowsByInteraction c.prefix.result d t.log c.interact.new.self) said grows))) c.interact.ensures.log
 
 pub returns-clause-extends : goal.returns-clause-extends
 returns-clause-extends c = subst (λ (v : View). OnOk c.interact.result (Extends v.log c.interact.new.self)) c.self.view_is c.interact.ensures.extends
