@@ -1,4 +1,5 @@
 pub mod Events
+pub mod FieldLists
 pub mod Ranges
 pub mod Spelling
 pub mod Rules

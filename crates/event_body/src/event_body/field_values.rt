@@ -1,5 +1,6 @@
 //! The values of a body's fields, by name.
-ghost use Rattle.std.specs.Prelude.{◌≡◌, ◌<◌, ◌≤◌, ◌+◌, ◌∷◌, [], length};
+ghost use Rattle.std.specs.Prelude.{◌≡◌, ◌<◌, ◌≤◌, ◌+◌, ◌∷◌, length};
+ghost use Rattle.event_body.specs.EventBody.FieldLists.{inception_list, rotation_list};
 
 use json_tree::Tree;
 
@@ -52,9 +53,7 @@ pub(crate) fn split(values: &[Tree]) -> (&Tree, &[Tree])
 /// The values of an inception by name.
 pub(crate) fn inception_values(values: &[Tree]) -> InceptionValues<'_>
     requires { 11 ≤ length values.now }
-    ensures { values.now ≡ result.said.now ∷ result.prefix.now ∷ result.first.now ∷ result.kt.now ∷
-        result.keys.now ∷ result.nt.now
-        ∷ result.next.now ∷ result.toad.now ∷ result.list.now ∷ result.traits.now ∷ result.anchors.now ∷ result.rest.now }
+    ensures { values.now ≡ inception_list result result.rest.now }
 {
     let (said, rest) = split(values);
     let (prefix, rest) = split(rest);
@@ -86,9 +85,7 @@ pub(crate) fn inception_values(values: &[Tree]) -> InceptionValues<'_>
 /// The values of a rotation by name.
 pub(crate) fn rotation_values(values: &[Tree]) -> RotationValues<'_>
     requires { length values.now ≡ 12 }
-    ensures { values.now ≡ result.said.now ∷ result.prefix.now ∷ result.sn.now ∷ result.prior.now ∷ result.kt.now
-        ∷ result.keys.now ∷ result.nt.now
-        ∷ result.next.now ∷ result.toad.now ∷ result.cuts.now ∷ result.adds.now ∷ result.anchors.now ∷ [] }
+    ensures { values.now ≡ rotation_list result }
 {
     let (said, rest) = split(values);
     let (prefix, rest) = split(rest);

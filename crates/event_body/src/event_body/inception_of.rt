@@ -1,8 +1,9 @@
 //! The inception that the values of a body are the parts of.
-ghost use Rattle.std.specs.Prelude.{◌≡◌, ◌∷◌, [], IfOk, IfErr, IfSome};
+ghost use Rattle.std.specs.Prelude.{◌≡◌, [], IfOk, IfErr, IfSome};
 ghost use Rattle.cesr_codes.specs.Spelling.{IsPrefix};
 ghost use Rattle.event_body.specs.BodyFields.Bodies.{AreOfForms};
 ghost use Rattle.event_body.specs.BodyFields.Maps.{delegated_inception_fields, inception_fields};
+ghost use Rattle.event_body.specs.EventBody.FieldLists.{inception_list};
 ghost use Rattle.event_body.specs.EventBody.KeySets.{IsThresholdFault};
 ghost use Rattle.event_body.specs.EventBody.Ranges.{IsInception};
 ghost use Rattle.event_body.specs.EventBody.Rules.{AreFew, AreShort, AreThresholds, HasFewDigits, HasFewMembers, HasThresholds};
@@ -23,16 +24,12 @@ fn inception(
     values: &InceptionValues<'_>,
     delegator: Option<Prefix>,
 ) -> Result<Inception, ReadBody>
-    requires forms { AreOfForms inception_fields
-        (values.now.said.now ∷ values.now.prefix.now ∷ values.now.first.now ∷ values.now.kt.now ∷ values.now.keys.now
-        ∷ values.now.nt.now ∷ values.now.next.now ∷ values.now.toad.now ∷ values.now.list.now ∷ values.now.traits.now ∷ values.now.anchors.now ∷ []) }
+    requires forms { AreOfForms inception_fields (inception_list values.now []) }
     requires few { HasFewMembers values.now.keys.now × HasFewMembers values.now.next.now }
     requires short { HasFewDigits values.now.toad.now }
     requires delegator { IfSome delegator IsPrefix }
     ensures ranges { IfOk result (λ e. IsInception e) }
-    ensures parts { IfOk result (λ e.
-        (values.now.said.now ∷ values.now.prefix.now ∷ values.now.first.now ∷ values.now.kt.now ∷ values.now.keys.now
-        ∷ values.now.nt.now ∷ values.now.next.now ∷ values.now.toad.now ∷ values.now.list.now ∷ values.now.traits.now ∷ values.now.anchors.now ∷ delegator_values delegator) ≡ values_of (Event.Icp e)) }
+    ensures parts { IfOk result (λ e. inception_list values.now (delegator_values delegator) ≡ values_of (Event.Icp e)) }
     ensures thresholds { IfOk result (λ _. AreThresholds values.now.kt.now values.now.keys.now values.now.nt.now
         values.now.next.now) }
     ensures fault { IfErr result (λ fault. IsThresholdFault

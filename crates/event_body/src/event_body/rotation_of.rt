@@ -1,7 +1,8 @@
 //! The rotation that the values of a body are the parts of.
-ghost use Rattle.std.specs.Prelude.{◌≡◌, ◌∷◌, [], IfOk, IfErr};
+ghost use Rattle.std.specs.Prelude.{◌≡◌, IfOk, IfErr};
 ghost use Rattle.event_body.specs.BodyFields.Bodies.{AreOfForms};
 ghost use Rattle.event_body.specs.BodyFields.Maps.{rotation_fields};
+ghost use Rattle.event_body.specs.EventBody.FieldLists.{rotation_list};
 ghost use Rattle.event_body.specs.EventBody.KeySets.{IsThresholdFault};
 ghost use Rattle.event_body.specs.EventBody.Ranges.{IsRotation};
 ghost use Rattle.event_body.specs.EventBody.Rules.{AreFew, AreShort, AreThresholds, HasFewDigits, HasFewMembers, HasThresholds};
@@ -17,15 +18,11 @@ use std::alloc::Global;
 
 // The rotation of these values.
 fn rotation(alloc: Global, values: &RotationValues<'_>) -> Result<Rotation, ReadBody>
-    requires forms { AreOfForms rotation_fields
-        (values.now.said.now ∷ values.now.prefix.now ∷ values.now.sn.now ∷ values.now.prior.now ∷ values.now.kt.now
-        ∷ values.now.keys.now ∷ values.now.nt.now ∷ values.now.next.now ∷ values.now.toad.now ∷ values.now.cuts.now ∷ values.now.adds.now ∷ values.now.anchors.now ∷ []) }
+    requires forms { AreOfForms rotation_fields (rotation_list values.now) }
     requires few { HasFewMembers values.now.keys.now × HasFewMembers values.now.next.now }
     requires short { HasFewDigits values.now.sn.now × HasFewDigits values.now.toad.now }
     ensures ranges { IfOk result (λ e. IsRotation e) }
-    ensures parts { IfOk result (λ e.
-        (values.now.said.now ∷ values.now.prefix.now ∷ values.now.sn.now ∷ values.now.prior.now ∷ values.now.kt.now
-        ∷ values.now.keys.now ∷ values.now.nt.now ∷ values.now.next.now ∷ values.now.toad.now ∷ values.now.cuts.now ∷ values.now.adds.now ∷ values.now.anchors.now ∷ []) ≡ values_of (Event.Rot e)) }
+    ensures parts { IfOk result (λ e. rotation_list values.now ≡ values_of (Event.Rot e)) }
     ensures thresholds { IfOk result (λ _. AreThresholds values.now.kt.now values.now.keys.now values.now.nt.now
         values.now.next.now) }
     ensures fault { IfErr result (λ fault. IsThresholdFault
