@@ -1,3 +1,4 @@
 pub mod Claims
 pub mod Parts
 pub mod Additions
+pub mod WitnessLists

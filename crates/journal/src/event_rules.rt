@@ -3,11 +3,13 @@ mod additions;
 mod claim_support;
 mod delegation;
 mod order;
+mod own_rules;
 mod places;
 mod signers;
 mod support;
 mod thresholds;
 mod verdicts;
+mod witness_list;
 mod witnesses;
 
 pub use additions::{Additions, reveal_of};

@@ -1,5 +1,5 @@
 -- Event seals among the values of an event (KERI, the field a), and delegation.
-use Rattle.std.specs.Prelude.{ℕ, Bool, true, false, ◌&&◌, ◌||◌, not, List, [], ◌∷◌, codes, bytes_eq, Option, Some, None}
+use Rattle.std.specs.Prelude.{ℕ, Bool, false, ◌&&◌, ◌||◌, not, List, [], ◌∷◌, codes, bytes_eq, Option, Some, None}
 use Rattle.std.specs.List.{list_any}
 use Rattle.std.specs.Fmt.{digits}
 use Rattle.cesr_codes.specs.declared.prefix.Prefix.{Prefix}

@@ -3,8 +3,9 @@ ghost use Rattle.std.specs.Prelude.{◌≡◌};
 ghost use Rattle.std.specs.Option.{option_copied};
 ghost use Rattle.journal.specs.EventRules.Parts.{opens_at};
 ghost use Rattle.journal.specs.Journal.History as history;
-ghost use Rattle.key_state.specs.Exposure.{own_rules};
+ghost use Rattle.key_state.specs.Exposure as exposure;
 
+use crate::event_rules::own_rules::own_rules;
 use crate::event_rules::witnesses::{has_witness, witness};
 use crate::journal::Claim;
 use cesr_codes::{IndexedSig, Key, Sig};
@@ -13,22 +14,15 @@ use key_state::{KeyState, opens};
 
 /// The keys that sign the event: its own, or for an interaction those of the state before it.
 pub fn signing_keys<'a>(state: Option<&'a KeyState>, event: &'a Event) -> &'a [Key]
-    ensures { result.now ≡ (own_rules (option_copied state.entry) event.now).keys }
+    ensures { result.now ≡ (exposure.own_rules (option_copied state.entry) event.now).keys }
 {
-    match event {
-        Event::Icp(event) | Event::Dip(event) => event.keys.as_slice(),
-        Event::Rot(event) | Event::Drt(event) => event.keys.as_slice(),
-        Event::Ixn(_) | Event::Rct(_) => match state {
-            Some(state) => state.keys.as_slice(),
-            None => &[],
-        },
-    }
+    own_rules(state, event).keys
 }
 
 /// The key of a claim on the event: that of its index among the signing keys or the witnesses, or its own where it is a
 /// witness.
 pub fn claimed_key(state: Option<&KeyState>, event: &Event, claim: &Claim) -> Option<Key>
-    ensures { result ≡ history.claimed_key (own_rules (option_copied state.entry) event.now) claim.now }
+    ensures { result ≡ history.claimed_key (exposure.own_rules (option_copied state.entry) event.now) claim.now }
 {
     match claim {
         Claim::Held(sig) => signing_keys(state, event)

@@ -4,11 +4,13 @@ ghost use Rattle.std.specs.Prelude.{◌≡◌, ◌≤◌, ◌||◌, filter, leng
 ghost use Rattle.std.specs.Option.{option_copied};
 ghost use Rattle.event_body.specs.EventBody.Events.{is_rotation};
 ghost use Rattle.journal.specs.EventRules.Parts as parts;
-ghost use Rattle.key_state.specs.Exposure.{numbers_below, own_rules};
+ghost use Rattle.key_state.specs.Exposure as exposure;
+ghost use Rattle.key_state.specs.Exposure.{numbers_below};
 ghost use Rattle.key_state.specs.Kept.{IsKept};
 ghost use Rattle.sith.specs.Tests.{satisfied};
 
 use crate::event_rules::Support;
+use crate::event_rules::own_rules::own_rules;
 use crate::event_rules::places::Places;
 use crate::event_rules::witnesses::{place_count, toad_of};
 use event_body::Event;
@@ -17,7 +19,7 @@ use key_state::KeyState;
 /// Whether the indices of the good signatures meet the threshold of the signing keys.
 pub fn meets_own<S: Support>(support: &S, state: Option<&KeyState>, event: &Event) -> bool
     requires { IsKept event.now }
-    ensures { result ≡ parts.has_own (S.has support.now) (own_rules (option_copied state.entry) event.now) }
+    ensures { result ≡ parts.has_own (S.has support.now) (exposure.own_rules (option_copied state.entry) event.now) }
 {
     let indices = indices_below(support, key_count(state, event));
     meets_keys(state, event, indices.as_slice())
@@ -26,17 +28,10 @@ pub fn meets_own<S: Support>(support: &S, state: Option<&KeyState>, event: &Even
 // How many keys sign the event.
 fn key_count(state: Option<&KeyState>, event: &Event) -> u16
     requires { IsKept event.now }
-    ensures count { result ≡ length (own_rules (option_copied state.entry) event.now).keys }
+    ensures count { result ≡ length (exposure.own_rules (option_copied state.entry) event.now).keys }
     ensures few { result ≤ 64 }
 {
-    match event {
-        Event::Icp(event) | Event::Dip(event) => event.keys.len() as u16,
-        Event::Rot(event) | Event::Drt(event) => event.keys.len() as u16,
-        Event::Ixn(_) | Event::Rct(_) => match state {
-            Some(state) => state.keys.len() as u16,
-            None => 0,
-        },
-    }
+    own_rules(state, event).keys.len() as u16
 }
 
 // The indices below a bound that good signatures have.
@@ -56,29 +51,23 @@ fn indices_below<S: Support>(support: &S, count: u16) -> Places
 #[tactic(auto, unfolding(sith::specs::Tests::satisfied))]
 fn meets_keys(state: Option<&KeyState>, event: &Event, indices: &[u16]) -> bool
     requires { IsKept event.now }
-    ensures { result ≡ satisfied (own_rules (option_copied state.entry) event.now).kt
-        (length (own_rules (option_copied state.entry) event.now).keys) indices.now }
+    ensures { result ≡ satisfied (exposure.own_rules (option_copied state.entry) event.now).kt
+        (length (exposure.own_rules (option_copied state.entry) event.now).keys) indices.now }
 {
     let count = key_count(state, event);
-    match event {
-        Event::Icp(event) | Event::Dip(event) => event.kt.satisfied(count, indices),
-        Event::Rot(event) | Event::Drt(event) => event.kt.satisfied(count, indices),
-        Event::Ixn(_) | Event::Rct(_) => match state {
-            Some(state) => state.kt.satisfied(count, indices),
-            None => false,
-        },
+    match own_rules(state, event).kt {
+        Some(kt) => kt.satisfied(count, indices),
+        None => false,
     }
 }
 
 /// Whether the commitments that the good signatures on a rotation open meet the threshold of the state before it; true of
 /// every other event, which opens nothing (KERI, pre-rotation).
 pub fn meets_before<S: Support>(support: &S, state: Option<&KeyState>, event: &Event) -> bool
-    ensures { result ≡ (not (is_rotation event.now) || parts.has_next (S.has support.now) (option_copied state.entry)) }
+    ensures { result ≡ (not (is_rotation event.now)
+        || parts.has_next (S.has support.now) (option_copied state.entry)) }
 {
-    match event {
-        Event::Rot(_) | Event::Drt(_) => meets_next(support, state),
-        Event::Icp(_) | Event::Ixn(_) | Event::Dip(_) | Event::Rct(_) => true,
-    }
+    !event.is_rotation() || meets_next(support, state)
 }
 
 // Whether the commitments that the good signatures open meet the threshold of the state, where there is one.
@@ -111,7 +100,7 @@ fn revealed_below<S: Support>(support: &S, count: u16) -> Places
 /// state, stand once.
 pub fn is_backed<S: Support>(support: &S, state: Option<&KeyState>, event: &Event) -> bool
     requires { IsKept event.now }
-    ensures { result ≡ parts.has_backed (S.has support.now) (own_rules (option_copied state.entry) event.now) }
+    ensures { result ≡ parts.has_backed (S.has support.now) (exposure.own_rules (option_copied state.entry) event.now) }
 {
     let toad = toad_of(state, event);
     // Mostly receipts are wanting, and then no place is asked for.

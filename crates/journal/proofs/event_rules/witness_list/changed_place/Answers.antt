@@ -5,8 +5,8 @@ use Rattle.key_state.specs.Same.{has_key}
 use Rattle.journal.specs.EventRules.Claims.{has_this}
 use Rattle.journal.proofs.EventRulesLemmas.KeyPlaces.{filter_few}
 use Rattle.journal.proofs.EventRulesLemmas.ChangedPlaces.{added_at, cut_not_added, left_at, never_there, place_within}
-use Rattle.journal.proofs.event_rules.witnesses.changed_place.Goals.{then-not-has_key+in_default, else-not-has_key}
-use Rattle.journal.proofs.event_rules.witnesses.changed_place.Goals as goal
+use Rattle.journal.proofs.event_rules.witness_list.changed_place.Goals.{then-not-has_key+in_default, else-not-has_key}
+use Rattle.journal.proofs.event_rules.witness_list.changed_place.Goals as goal
 
 pub returns-in-Some-clause-found : goal.returns-in-Some-clause-found
 returns-in-Some-clause-found c =

@@ -1,7 +1,7 @@
 use Rattle.std.proofs.Common.{refl, rules}
 use Rattle.std.proofs.lemmas.List.{drop_all}
 use Rattle.journal.proofs.EventRulesLemmas.Searching.{met, passed}
-use Rattle.journal.proofs.event_rules.witnesses.left_witness.Goals as goal
+use Rattle.journal.proofs.event_rules.witness_list.left_witness.Goals as goal
 
 pub loop-place-init : goal.loop-place-init
 loop-place-init c = refl
