@@ -4,5 +4,4 @@ pub mod Asking
 pub mod Enough
 pub mod Signing
 pub mod Zipped
-pub mod Behind
 pub mod Keys

@@ -5,3 +5,4 @@ pub mod Refusals
 pub mod LastNumbers
 pub mod Signings
 pub mod Signing
+pub mod Answers

@@ -6,10 +6,15 @@ use Rattle.std.proofs.lemmas.Result.{err_from_is_err_and}
 use Rattle.lists.specs.KeriSpecs.Told.{after}
 use Rattle.lists.proofs.KeriSpecsLemmas.Putting.{after-nil}
 use Rattle.cesr_codes.specs.declared.key.Key.{Key}
+use Rattle.cesr_codes.specs.declared.sig.Sig.{Sig}
+use Rattle.cesr_stream.specs.declared.message.Message.{Message}
+use Rattle.event_body.specs.declared.event_body.event.Event.{Event}
 use Rattle.keri_outside.specs.declared.signing.Signing.{Signing}
+use Rattle.key_state.specs.States.{State}
 use Rattle.controller_core.specs.declared.controller_core.plan_fault.PlanFault.{PlanFault}
 use Rattle.controller_core.specs.declared.controller_core.plan_fault.PlanFault.TheVariants.{Body, Misfit, Unsigned, SignerFault, OutOfMemory}
 use Rattle.controller_core.specs.declared.controller_core.slot.Slot.{Slot}
+use Rattle.controller_core.specs.ControllerCore.Answers.{IsAnswerBehind}
 use Rattle.controller_core.specs.ControllerCore.Signings.{AsksFor, AsksFront, signings_in}
 
 -- the same keys, text and slots want the same signatures
@@ -46,3 +51,11 @@ module _ (T : Type 0) (old : Option (List Signing)) (wanted : List Signing) wher
   -- there was no memory before the signer was asked
   pub asks_without_memory : (result : Result T PlanFault) → IsErrAnd result (λ f. f ≡ OutOfMemory) → AsksFor {T = T} old old wanted result
   asks_without_memory result is = asks_handed_on old result OutOfMemory is (asks_nothing OutOfMemory)
+
+-- where there was no memory before the signer was asked, that is the answer to a plan
+pub unanswered : (gives : Key → List ℕ → Option Sig) (old : Option (List Signing)) (s : State) (e : Event) (slots : List Slot) (answer : Result Message PlanFault) → IsErrAnd answer (λ f. f ≡ OutOfMemory)
+    → IsAnswerBehind gives old old s e slots answer
+unanswered gives old s e slots answer is =
+    let same = err_from_is_err_and answer is in
+    subst (λ r. IsAnswerBehind gives old old s e slots r) (sym (same.1 ∙ ap Err same.2))
+    (record { made = tt; refused = λ room. tt; last = λ greatest. tt; asked = (0, after-nil old); signed = tt })

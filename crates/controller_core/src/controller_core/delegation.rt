@@ -1,13 +1,9 @@
 //! Interactions that seal an event.
-ghost use Rattle.std.specs.Prelude.{◌≡◌, ◌+◌, ◌-◌, ◌<◌, ◌^◌, true, Some, IfOk, IfErr};
+ghost use Rattle.std.specs.Prelude.{◌≡◌, true};
 ghost use Rattle.journal.specs.Journal.Seals.{seals};
-ghost use Rattle.key_state.specs.Heads.{head_sn};
-ghost use Rattle.controller_core.specs.ControllerCore.LastNumbers.{IsLastAnswer};
-ghost use Rattle.controller_core.specs.ControllerCore.Messages.{IsMessageOf, event_text};
+ghost use Rattle.controller_core.specs.ControllerCore.Answers.{IsAnswerBehind};
 ghost use Rattle.controller_core.specs.ControllerCore.Plans.{sealed_delegation};
-ghost use Rattle.controller_core.specs.ControllerCore.Refusals.{CountsSignerFaults, IsRefusal};
-ghost use Rattle.controller_core.specs.ControllerCore.Signing.{IsSignedByYes};
-ghost use Rattle.controller_core.specs.ControllerCore.Signings.{AsksFor, signings_of};
+ghost use Rattle.controller_core.specs.ControllerCore.Refusals.{CountsSignerFaults};
 
 use crate::controller_core::event_seal::seal_anchor;
 use crate::controller_core::made::made_behind;
@@ -20,7 +16,7 @@ use key_state::KeyState;
 use std::alloc::Global;
 
 /// The message of an interaction behind the head of a state, whose one anchor is the event seal of an event.
-#[tactic(auto, using(crate::proofs::ControllerCoreLemmas::Seals::holds_seal, crate::proofs::ControllerCoreLemmas::Asking::asks_without_memory))]
+#[tactic(auto, using(crate::proofs::ControllerCoreLemmas::Seals::holds_seal, crate::proofs::ControllerCoreLemmas::Asking::unanswered))]
 pub fn delegate<S: Signer>(
     alloc: Global,
     state: &KeyState,
@@ -28,28 +24,16 @@ pub fn delegate<S: Signer>(
     plan: &Plan,
     signer: &mut S,
 ) -> Result<Message, PlanFault>
-    // The event is one by all rules and follows the state, and the message has its text and a signature in each slot.
-    ensures made { IfOk result (IsMessageOf (S.gives signer.old) (Some state.now)
-        (sealed_delegation state.now event.now plan.now) plan.now.signers) }
+    // The message has the event's text and a signature in each slot, or the answer says why there is none.
+    ensures answer { IsAnswerBehind (S.gives signer.old) (S.signings signer.old) (S.signings signer.new) state.now
+        (sealed_delegation state.now event.now plan.now) plan.now.signers result }
 
     // The event holds the seal.
     ensures seal { seals (sealed_delegation state.now event.now plan.now) event.now ≡ true }
 
-    // A refusal is the first that is so. Behind the greatest number there is no message.
-    ensures refused { head_sn state.now + 1 < 2 ^ 64
-        → IfErr result (IsRefusal (Some state.now) (sealed_delegation state.now event.now plan.now) plan.now.signers) }
-    ensures last { head_sn state.now ≡ 2 ^ 64 - 1
-        → IsLastAnswer (event_text (sealed_delegation state.now event.now plan.now)) result }
-
-    // The signer was asked for these signatures and for nothing else, and for none where the plan is refused. Its count of
-    // faults rises exactly where it failed.
+    // The signer's count of faults rises exactly where it failed.
     ensures gives { S.gives signer.new ≡ S.gives signer.old }
-    ensures asked { AsksFor (S.signings signer.old) (S.signings signer.new)
-        (signings_of (Some state.now) (sealed_delegation state.now event.now plan.now) plan.now.signers) result }
     ensures count { CountsSignerFaults (S.faults signer.old) (S.faults signer.new) result }
-
-    // Once verifiers have said yes of the signatures, the body is signed.
-    ensures signed { IfOk result (IsSignedByYes (Some state.now) (sealed_delegation state.now event.now plan.now)) }
 {
     let sealing = interaction(state, seal_anchor(alloc, event)?);
     let message = made_behind(alloc, state, &sealing, plan, signer);

@@ -1,6 +1,6 @@
 use Rattle.std.proofs.Common.{◌∙◌, ap, subst}
-use Rattle.controller_core.specs.ControllerCore.Plans.{interaction}
-use Rattle.controller_core.proofs.ControllerCoreLemmas.Behind.{IsAnswerBehind}
+use Rattle.controller_core.specs.ControllerCore.Answers.{IsAnswerBehind}
+use Rattle.controller_core.specs.ControllerCore.Plans.{interaction, sealed}
 use Rattle.controller_core.proofs.ControllerCoreLemmas.Seals.{holds_seal}
 use Rattle.controller_core.proofs.controller_core.delegation.delegate.Goals as goal
 
@@ -9,15 +9,6 @@ returns g c =
     let state = c.args.state.now in
     let is = c.interaction-sealing.ensures.event ∙ ap (interaction state) c.in_ok-seal_anchor.ensures.seal in
     let said = c.made_behind-message.ensures in
-    let answer = subst (IsAnswerBehind (g.S.Signer.gives c.args.signer.now) (g.S.Signer.signings c.args.signer.now) (g.S.Signer.signings c.made_behind-message.new.signer) state c.args.plan.now c.made_behind-message.result) is
+    let answer = subst (λ event. IsAnswerBehind (g.S.Signer.gives c.args.signer.now) (g.S.Signer.signings c.args.signer.now) (g.S.Signer.signings c.made_behind-message.new.signer) state (sealed c.args.plan.now.code event) c.args.plan.now.signers c.made_behind-message.result) is
     (record { made = said.made; refused = said.refused; last = said.last; asked = said.asked; signed = said.signed }) in
-    record {
-      made = answer.made;
-      seal = holds_seal state c.args.event.now c.args.plan.now;
-      refused = answer.refused;
-      last = answer.last;
-      gives = said.gives;
-      asked = answer.asked;
-      count = said.count;
-      signed = answer.signed;
-    }
+    record { answer = answer; seal = holds_seal state c.args.event.now c.args.plan.now; gives = said.gives; count = said.count }

@@ -1,10 +1,11 @@
 use Rattle.std.proofs.Common.{subst}
-use Rattle.controller_core.proofs.ControllerCoreLemmas.Behind.{IsAnswerBehind}
+use Rattle.controller_core.specs.ControllerCore.Answers.{IsAnswerBehind}
+use Rattle.controller_core.specs.ControllerCore.Plans.{sealed}
 use Rattle.controller_core.proofs.controller_core.rotation.rotate.Goals as goal
 
 pub returns : goal.returns
 returns g c =
     let said = c.made_behind-message.ensures in
-    let answer = subst (IsAnswerBehind (g.S.Signer.gives c.args.signer.now) (g.S.Signer.signings c.args.signer.now) (g.S.Signer.signings c.made_behind-message.new.signer) c.args.state.now c.args.plan.now c.made_behind-message.result) c.in_ok-event.ensures.event
+    let answer = subst (λ event. IsAnswerBehind (g.S.Signer.gives c.args.signer.now) (g.S.Signer.signings c.args.signer.now) (g.S.Signer.signings c.made_behind-message.new.signer) c.args.state.now (sealed c.args.plan.now.code event) c.args.plan.now.signers c.made_behind-message.result) c.in_ok-event.ensures.event
     (record { made = said.made; refused = said.refused; last = said.last; asked = said.asked; signed = said.signed }) in
-    record { made = answer.made; refused = answer.refused; last = answer.last; gives = said.gives; asked = answer.asked; count = said.count; signed = answer.signed }
+    record { answer = answer; gives = said.gives; count = said.count }

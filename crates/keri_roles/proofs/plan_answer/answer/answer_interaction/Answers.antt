@@ -6,11 +6,11 @@ use Rattle.keri_roles.proofs.PlanAnswerLemmas.Made.{all_answers, all_counted, al
 use Rattle.keri_roles.proofs.plan_answer.answer.answer_interaction.Goals as goal
 
 pub answer_made-requires : goal.answer_made-requires
-answer_made-requires g c = all_counted (g.S.Signer.gives c.args.signer.now) (Some c.args.state.now) (sealed_interaction c.args.state.now c.args.plan.now) c.args.plan.now.signers c.interact-made.result c.interact-made.ensures.made
+answer_made-requires g c = all_counted (g.S.Signer.gives c.args.signer.now) (Some c.args.state.now) (sealed_interaction c.args.state.now c.args.plan.now) c.args.plan.now.signers c.interact-made.result c.interact-made.ensures.answer.made
 
 pub returns-clause-answers : goal.returns-clause-answers
 returns-clause-answers g c = all_answers (signer_asked (g.S.Signer.gives c.args.signer.now) (g.S.Signer.signings c.args.signer.now) (g.S.Signer.signings c.interact-made.new.signer)) (record { state = (Some c.args.state.now); event = sealed_interaction c.args.state.now c.args.plan.now }) c.args.plan.now.signers c.interact-made.result c.answer_made.result
-    c.interact-made.ensures.made c.interact-made.ensures.signed c.interact-made.ensures.asked c.interact-made.ensures.refused c.interact-made.ensures.last c.answer_made.ensures.answer
+    c.interact-made.ensures.answer.made c.interact-made.ensures.answer.signed c.interact-made.ensures.answer.asked c.interact-made.ensures.answer.refused c.interact-made.ensures.answer.last c.answer_made.ensures.answer
 
 pub returns-clause-count : goal.returns-clause-count
 returns-clause-count g c = counts _ _ c.interact-made.result c.answer_made.result c.interact-made.ensures.count c.answer_made.ensures.answer
@@ -20,4 +20,4 @@ returns-clause-kept g c = all_kept _ _ c.interact-made.result c.answer_made.resu
 
 pub returns-clause-few : goal.returns-clause-few
 returns-clause-few g c =
-    few (g.S.Signer.signings c.args.signer.now) (g.S.Signer.signings c.interact-made.new.signer) (signings_of (Some c.args.state.now) (sealed_interaction c.args.state.now c.args.plan.now) c.args.plan.now.signers) c.interact-made.result c.interact-made.ensures.asked
+    few (g.S.Signer.signings c.args.signer.now) (g.S.Signer.signings c.interact-made.new.signer) (signings_of (Some c.args.state.now) (sealed_interaction c.args.state.now c.args.plan.now) c.args.plan.now.signers) c.interact-made.result c.interact-made.ensures.answer.asked
