@@ -3,7 +3,7 @@ ghost use Rattle.std.specs.Prelude.{◌≡◌};
 ghost use Rattle.event_body.specs.BodyFields.Forms.{IsOfForm, number_value};
 ghost use Rattle.event_body.specs.EventBody.Rules.{HasFewDigits};
 
-use crate::body_fields::{Form, number_in, numbers};
+use crate::body_fields::{Form, number_in};
 use json_tree::Tree;
 use lists::hex_value;
 
@@ -22,6 +22,5 @@ pub(crate) fn later_number(value: &Tree) -> u64
     requires few { HasFewDigits value.now }
     ensures { value.now ≡ number_value result }
 {
-    numbers();
     number(value)
 }

@@ -1,6 +1,6 @@
 //! What the types of an event's parts hold by themselves, stated for proofs: a proof learns a value's range where the
 //! value is read. Nothing else is done here.
-ghost use Rattle.std.specs.Prelude.{◌<◌, ◌^◌, IfSome};
+ghost use Rattle.std.specs.Prelude.{IfSome};
 ghost use Rattle.cesr_codes.specs.Spelling.{IsPrefix};
 ghost use Rattle.sith.specs.OwnValues.{HasOwnValue};
 ghost use Rattle.event_body.specs.EventBody.Held.{IsHeld, IsHeldInception, IsHeldInteraction, IsHeldReceipt, IsHeldRotation};
@@ -17,10 +17,6 @@ fn delegator(delegator: Option<Prefix>)
     }
 }
 
-fn number(_number: u64)
-    ensures { _number < 2 ^ 64 }
-{}
-
 fn inception(event: &Inception)
     ensures held { IsHeldInception event.now }
     ensures thresholds { HasOwnValue event.now.kt × HasOwnValue event.now.nt }
@@ -31,7 +27,7 @@ fn inception(event: &Inception)
     all_held(event.keys.as_slice());
     event.nt.own_value();
     all_held(event.next.as_slice());
-    number(event.toad);
+    let _toad = event.toad;
     all_held(event.list.as_slice());
     delegator(event.delegator);
 }
@@ -42,13 +38,13 @@ fn rotation(event: &Rotation)
 {
     event.said.held();
     event.prefix.held();
-    number(event.sn);
+    let _sn = event.sn;
     event.prior.held();
     event.kt.own_value();
     all_held(event.keys.as_slice());
     event.nt.own_value();
     all_held(event.next.as_slice());
-    number(event.toad);
+    let _toad = event.toad;
     all_held(event.cuts.as_slice());
     all_held(event.adds.as_slice());
 }
@@ -58,7 +54,7 @@ fn interaction(event: &Interaction)
 {
     event.said.held();
     event.prefix.held();
-    number(event.sn);
+    let _sn = event.sn;
     event.prior.held();
 }
 
@@ -67,7 +63,7 @@ fn receipt(receipt: &ReceiptBody)
 {
     receipt.said.held();
     receipt.prefix.held();
-    number(receipt.sn);
+    let _sn = receipt.sn;
 }
 
 pub(crate) fn held(event: &Event)
