@@ -24,10 +24,11 @@ pub(crate) fn sealed_body(alloc: Global, plan: &Event) -> Result<Made, AllocErro
     ensures text { IfOk result (λ body. body.text.items ≡ event_text (sealed plan.now)) }
 {
     match sealed_text(alloc, plan, DigestCode::Blake3) {
-        Ok(EventText { event, text }) => Ok(Made {
-            said: event.said(),
-            text,
-        }),
+        Ok(EventText { event, text }) => {
+            let said = event.said();
+            drop(event);
+            Ok(Made { said, text })
+        }
         Err(ReadBody::OutOfMemory) => Err(AllocError),
         Err(ReadBody::Fault(_)) => unreachable!(),
     }

@@ -40,7 +40,9 @@ fn next_body(alloc: Global, log: &Log) -> Result<Made, AllocError>
         ≡ event_text (event_at log.now.next.seed log.now.next.log log.now.next.sn)) }
 {
     let plan = log.plan(alloc)?;
-    sealed_body(alloc, &plan)
+    let body = sealed_body(alloc, &plan);
+    drop(plan);
+    body
 }
 
 // The body with the key's signature, and those of the first three witnesses.

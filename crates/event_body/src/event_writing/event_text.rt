@@ -49,6 +49,9 @@ fn text_with(alloc: Global, event: &Event, said: Digest) -> Result<EventText, Re
             event: sealed,
             text,
         }),
-        Err(fault) => Err(fault),
+        Err(fault) => {
+            drop(sealed);
+            Err(fault)
+        }
     }
 }

@@ -62,7 +62,10 @@ fn sealed_with(alloc: Global, event: &Event, said: Digest) -> Result<Event, Read
     let sealed = with_digest(alloc, event, said)?;
     match write_body(alloc, &sealed) {
         Ok(_) => Ok(sealed),
-        Err(fault) => Err(fault),
+        Err(fault) => {
+            drop(sealed);
+            Err(fault)
+        }
     }
 }
 
