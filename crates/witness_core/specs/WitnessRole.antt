@@ -1,3 +1,4 @@
 pub mod ServedFile
 pub mod ServedLinks
+pub mod Views
 pub mod Witnessed

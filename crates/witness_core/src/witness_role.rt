@@ -4,6 +4,7 @@ mod link_service;
 mod links_kept;
 mod role;
 mod unread;
+mod viewed;
 mod witness_end;
 mod witness_file;
 mod witness_links;

@@ -1,10 +1,7 @@
 -- How a link closes, by how its source was read and how the last message was served.
 use Rattle.std.proofs.Common.{◌≡◌, ◌≤◌, ℕ, ◌⊎◌, inl, inr, List, [], ◌∷◌, ◌++◌, length, Option, Some, None, refl, sym, ◌∙◌, ap, subst, append-nil, append_assoc, arith}
-use Rattle.std.specs.Prelude.{Bool}
 use Rattle.std.proofs.lemmas.List.{map-append}
 use Rattle.cesr_codes.specs.declared.digest.Digest.{Digest}
-use Rattle.cesr_codes.specs.declared.key.Key.{Key}
-use Rattle.cesr_codes.specs.declared.sig.Sig.{Sig}
 use Rattle.cesr_stream.specs.declared.message.Message.{Message}
 use Rattle.cesr_stream.specs.Assembly.{all_of}
 use Rattle.cesr_stream.specs.Items.{Placed, IsEnd}
@@ -12,20 +9,18 @@ use Rattle.cesr_stream.specs.Messages.{messages}
 use Rattle.cesr_stream.specs.Reading.{Reading, judged}
 use Rattle.journal.specs.Journal.Feeds.{AreFirst}
 use Rattle.journal.specs.declared.journal.refusal.Refusal.{Refusal}
-use Rattle.keri_outside.specs.declared.inquiry.Inquiry.{Inquiry}
 use Rattle.keri_outside.specs.declared.limits.Limits.{Limits}
-use Rattle.keri_outside.specs.declared.signing.Signing.{Signing}
 use Rattle.run_status.specs.MessageFeed.Closing.{ClosesBy, Gave}
 use Rattle.run_status.specs.MessageFeed.Feeds.{Feeds, Stream}
 use Rattle.run_status.specs.declared.message_feed.feed_close.FeedClose.{FeedClose}
 use Rattle.run_status.specs.declared.message_feed.feed_close.FeedClose.TheVariants as feed
-use Rattle.run_status.specs.RunStatus.Readers.{SourceTold}
+use Rattle.run_status.specs.RunStatus.Readers.{SinkTold, SourceTold}
 use Rattle.run_status.specs.declared.run_status.close.Close.{Close}
 use Rattle.run_status.specs.declared.run_status.close.Close.TheVariants.{End, Bad, ReadFault, VerifierFault, SignerFault, DiskFault, WriteFault, Malformed, Full, OutOfMemory}
 use Rattle.witness_core.specs.declared.witness_store.witness_fault.WitnessFault.{WitnessFault}
 use Rattle.witness_core.specs.declared.witness_store.witness_fault.WitnessFault.TheVariants as fault
 use Rattle.witness_core.specs.WitnessLink.Calls.{Call, messages_in, receipts_in}
-use Rattle.witness_core.specs.WitnessLink.Links.{LinkTold, WitnessTold, terms_of, told_of_link}
+use Rattle.witness_core.specs.WitnessLink.Links.{LinkTold, ServiceTold, terms_of, told_of_link}
 use Rattle.witness_core.specs.WitnessLink.Offered.{Finishes, HasStopped, HasTaken, LendsSame, link_told}
 use Rattle.witness_core.specs.WitnessLink.Served.{ClosesLink, ReadsAll, ServesLink, StopsAtNext}
 use Rattle.witness_core.specs.WitnessLink.Serving.{GoesOn, HasEnded, HasServed, Serves, StopsTaking}
@@ -111,17 +106,16 @@ module _ (limits : Limits) (source_old source_new : SourceTold) (old new : LinkT
     link_read source_close close now served (inr h) all ends closes gave gives =
         link_ended served [] (append-nil served ∙ all) (λ none earlier m e. ends) gave now h
 
-module _ {W K V G : Type 0} (witness_seen : W → WitnessTold) (written : K → Option (List ℕ)) (sink_faults : K → ℕ) (says : V → Key → List ℕ → Sig → Option Bool)
-    (inquiries : V → Option (List Inquiry)) (verifier_faults : V → ℕ) (gives : G → Key → List ℕ → Option Sig) (signings : G → Option (List Signing)) (signer_faults : G → ℕ)
-    (limits : Limits) (source_old source_new : SourceTold) (first middle new : Link W K V G) where
-  abbrev told : Link W K V G → LinkTold
-  told link = link_told witness_seen written sink_faults says inquiries verifier_faults gives signings signer_faults link
+module _ {W K : Type 0} (service_seen : W → ServiceTold) (written : K → Option (List ℕ)) (sink_faults : K → ℕ)
+    (limits : Limits) (source_old source_new : SourceTold) (first middle new : Link W K) where
+  abbrev told : Link W K → LinkTold
+  told link = link_told service_seen written sink_faults link
 
-  abbrev Taken : Link W K V G → Link W K V G → List Message → Type 0
-  Taken = HasTaken witness_seen written sink_faults says inquiries verifier_faults gives signings signer_faults
+  abbrev Taken : Link W K → Link W K → List Message → Type 0
+  Taken = HasTaken service_seen written sink_faults
 
-  abbrev Stopped : Link W K V G → Link W K V G → Close → List Message → Type 0
-  Stopped = HasStopped witness_seen written sink_faults says inquiries verifier_faults gives signings signer_faults
+  abbrev Stopped : Link W K → Link W K → Close → List Message → Type 0
+  Stopped = HasStopped service_seen written sink_faults
 
   -- what was served, without what lends it
   either : (close now : Close) (served : List Message) → (Taken first new served × (now ≡ close)) ⊎ Stopped first new now served
@@ -137,7 +131,7 @@ module _ {W K V G : Type 0} (witness_seen : W → WitnessTold) (written : K → 
   -- CLOSED: a link was served
   pub link_closed : (source_close : FeedClose Close) (now : Close) (last : Option Message)
       → Feeds (Taken first) (Stopped first) limits source_old.left source_new.left source_old.faults source_new.faults middle source_close last
-      → Finishes witness_seen written sink_faults says inquiries verifier_faults gives signings signer_faults source_close last middle new now
+      → Finishes service_seen written sink_faults source_close last middle new now
       → ServesLink limits source_old source_new (told first) (told new) now
   link_closed feed.End now last f e =
       link_read limits source_old source_new (told first) (told new) f.fed f.reading f.items f.stream feed.End End now (f.answered ++ all_of last)
@@ -178,7 +172,7 @@ module _ {W K V G : Type 0} (witness_seen : W → WitnessTold) (written : K → 
   -- and the same objects were lent
   pub lent_same : (source_close : FeedClose Close) (now : Close) (last : Option Message)
       → Feeds (Taken first) (Stopped first) limits source_old.left source_new.left source_old.faults source_new.faults middle source_close last
-      → Finishes witness_seen written sink_faults says inquiries verifier_faults gives signings signer_faults source_close last middle new now → LendsSame first new
+      → Finishes service_seen written sink_faults source_close last middle new now → LendsSame first new
   lent_same feed.End now last f e = lent (e first f.answered f.takes)
   lent_same (feed.Bad bad) now last f e = lent (e first f.answered f.takes)
   lent_same feed.ReadFault now last f e = lent (e first f.answered f.takes)
@@ -187,11 +181,9 @@ module _ {W K V G : Type 0} (witness_seen : W → WitnessTold) (written : K → 
   lent_same (feed.Stopped stop) now last f e = subst (LendsSame first) (sym e.1) f.takes.same
 
 -- nothing was noted before
-pub from_none : (limits : Limits) (source_old source_new : SourceTold) (witness : WitnessTold) (says : Key → List ℕ → Sig → Option Bool) (inquiries : Option (List Inquiry)) (verifier_faults : ℕ)
-    (gives : Key → List ℕ → Option Sig) (signings : Option (List Signing)) (signer_faults : ℕ)
-    (written : Option (List ℕ)) (sink_faults : ℕ) (refused : List Refusal) (seen : List Digest) (new : LinkTold) (close : Close) → refused ≡ [] → seen ≡ []
-    → ServesLink limits source_old source_new (told_of_link witness says inquiries verifier_faults gives signings signer_faults written sink_faults refused seen) new close
-    → ServesLink limits source_old source_new (told_of_link witness says inquiries verifier_faults gives signings signer_faults written sink_faults [] []) new close
-from_none limits source_old source_new witness says inquiries verifier_faults gives signings signer_faults written sink_faults refused seen new close none_refused none_seen s =
-    subst (λ l. ServesLink limits source_old source_new (told_of_link witness says inquiries verifier_faults gives signings signer_faults written sink_faults [] l) new close) none_seen
-    (subst (λ l. ServesLink limits source_old source_new (told_of_link witness says inquiries verifier_faults gives signings signer_faults written sink_faults l seen) new close) none_refused s)
+pub from_none : (limits : Limits) (source_old source_new : SourceTold) (service : ServiceTold) (sink : SinkTold) (refused : List Refusal) (seen : List Digest) (new : LinkTold) (close : Close) → refused ≡ [] → seen ≡ []
+    → ServesLink limits source_old source_new (told_of_link service sink refused seen) new close
+    → ServesLink limits source_old source_new (told_of_link service sink [] []) new close
+from_none limits source_old source_new service sink refused seen new close none_refused none_seen s =
+    subst (λ l. ServesLink limits source_old source_new (told_of_link service sink [] l) new close) none_seen
+    (subst (λ l. ServesLink limits source_old source_new (told_of_link service sink l seen) new close) none_refused s)

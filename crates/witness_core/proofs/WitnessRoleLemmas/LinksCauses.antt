@@ -10,11 +10,11 @@ use Rattle.run_status.specs.declared.run_outside.making.MakingKind.TheVariants.{
 use Rattle.run_status.specs.declared.run_status.close.Close.{Close}
 use Rattle.run_status.specs.declared.run_status.close.Close.TheVariants.{End, Bad, ReadFault, VerifierFault, SignerFault, DiskFault, WriteFault, Malformed, Full, OutOfMemory}
 use Rattle.run_status.specs.RunStatus.Readers.{HasClose, Reader, SourceTold, VerifierTold}
-use Rattle.witness_core.specs.WitnessLink.Links.{Counts, LinkTold, counts, counts_of}
+use Rattle.witness_core.specs.WitnessLink.Links.{Counts, Left, LinkTold, counts, counts_of}
 use Rattle.witness_core.specs.WitnessLink.Served.{ClosesLink}
 use Rattle.witness_core.specs.WitnessLink.Serving.{Serves}
 use Rattle.run_status.specs.RunRecord.Run.{DoorTold, ReadFaultsRose, Run, SignerTold, SinkRose, shared_verifier}
-use Rattle.witness_core.specs.WitnessRole.ServedFile.{Left, MakesServing}
+use Rattle.witness_core.specs.WitnessRole.ServedFile.{MakesServing}
 use Rattle.witness_core.specs.WitnessLink.Closes.{asks_next}
 use Rattle.witness_core.specs.WitnessRole.ServedLinks.{Between, ServedLink, ServesEach, ServesLinksBy, ServesOne, idle_reader, reader_of, readers_with}
 

@@ -9,11 +9,11 @@ use Rattle.run_status.specs.declared.run_outside.making.MakingKind.TheVariants.{
 use Rattle.run_status.specs.declared.run_status.close.Close.{Close}
 use Rattle.run_status.specs.declared.run_status.close.Close.TheVariants.{End, Bad, ReadFault, VerifierFault, SignerFault, DiskFault, WriteFault, Malformed, Full, OutOfMemory}
 use Rattle.run_status.specs.RunStatus.Readers.{Reader, SourceTold, VerifierTold}
-use Rattle.witness_core.specs.WitnessLink.Links.{LinkTold}
+use Rattle.witness_core.specs.WitnessLink.Links.{Left, LinkTold}
 use Rattle.witness_core.specs.WitnessLink.Served.{ClosesLink}
 use Rattle.witness_core.specs.WitnessLink.Serving.{Serves}
 use Rattle.run_status.specs.RunRecord.Run.{Run, SignerTold}
-use Rattle.witness_core.specs.WitnessRole.ServedFile.{Left, MakesServing, ServesBy}
+use Rattle.witness_core.specs.WitnessRole.ServedFile.{MakesServing, ServesBy}
 
 -- the sink failed in the link only where that closed so
 sink_kept : (limits : Limits) (source_old source_new : SourceTold) (bytes : List ℕ) (old new : LinkTold) (serves : Serves old new) (close : Close)

@@ -11,9 +11,9 @@ use Rattle.run_status.specs.RunOutside.Makings.{AreMakings}
 use Rattle.run_status.specs.RunOutside.Told.{Told, making}
 use Rattle.run_status.specs.declared.run_outside.making.MakingKind.TheVariants.{Source, Verifier, Signer}
 use Rattle.run_status.specs.RunStatus.Readers.{SinkTold, SourceTold, VerifierTold}
-use Rattle.witness_core.specs.WitnessLink.Links.{source_told}
+use Rattle.witness_core.specs.WitnessLink.Links.{Left, source_told}
 use Rattle.run_status.specs.RunRecord.Run.{Run, SignerTold}
-use Rattle.witness_core.specs.WitnessRole.ServedFile.{IsServing, Left, ServesAll, signer_of, verifier_of}
+use Rattle.witness_core.specs.WitnessRole.ServedFile.{IsServing, ServesAll, signer_of, verifier_of}
 
 -- all three were made of the name and of the helper, over an outside that told this before and with this sink
 pub serving_all : {D : Type 0} {told : D → DiskTold} {key : Key} {limits : Limits} {source_old : SourceTold} {verifier_old : VerifierTold} {signer_old : SignerTold}

@@ -11,7 +11,7 @@ use Rattle.run_status.specs.RunOutside.Makings.{AreMakings}
 use Rattle.run_status.specs.RunOutside.Told.{making}
 use Rattle.run_status.specs.declared.run_outside.making.MakingKind.TheVariants.{Door, Verifier, Signer}
 use Rattle.run_status.specs.RunRecord.Run.{DoorTold, Run}
-use Rattle.witness_core.specs.WitnessRole.ServedFile.{Left}
+use Rattle.witness_core.specs.WitnessLink.Links.{Left}
 use Rattle.witness_core.specs.WitnessRole.ServedLinks.{Between, IsServingLinks, ServesAllLinks, at_first, readers_with}
 
 -- all three were made of the address and of the helper, and had never failed

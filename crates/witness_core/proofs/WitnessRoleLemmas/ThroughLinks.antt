@@ -14,13 +14,12 @@ use Rattle.witness_core.specs.WitnessStore.Storing.{Grown}
 use Rattle.witness_core.specs.WitnessCore.Telling.{AsksVerdicts}
 use Rattle.witness_core.specs.declared.witness_receipts.receipt.Receipt.{Receipt}
 use Rattle.witness_core.specs.WitnessLink.Calls.{receipts_in}
-use Rattle.witness_core.specs.WitnessLink.Links.{LinkTold, Standing, standing_of, terms_of}
+use Rattle.witness_core.specs.WitnessLink.Links.{Left, LinkTold, Standing, standing_of, terms_of}
 use Rattle.witness_core.specs.WitnessLink.Served.{ClosesLink}
 use Rattle.witness_core.specs.WitnessLink.Serving.{Serves}
 use Rattle.witness_core.specs.WitnessLink.Stored.{IsOfListed}
 use Rattle.witness_core.proofs.WitnessLinkLemmas.Asked.{asks_on, calls_close, untold_asked}
 use Rattle.witness_core.proofs.WitnessLinkLemmas.Storing.{front_of, held_each, of_longer, stores_more}
-use Rattle.witness_core.specs.WitnessRole.ServedFile.{Left}
 use Rattle.witness_core.specs.WitnessLink.Closes.{asks_next}
 use Rattle.witness_core.specs.WitnessRole.ServedLinks.{Between, ServedLink, ServesEach, ServesOne, StopsLeave, StoresThrough, link_terms, receipts_due}
 

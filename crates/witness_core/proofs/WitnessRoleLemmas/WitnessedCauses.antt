@@ -23,7 +23,8 @@ use Rattle.witness_core.specs.declared.witness_opening.fault.OpeningFault.{Openi
 use Rattle.witness_core.specs.declared.witness_opening.fault.OpeningFault.TheVariants.{NotAShelf, NotAnOldShelf, DiskFault, Full, OutOfMemory}
 use Rattle.run_status.specs.RunRecord.Run.{AreCausedBy, DiskRose, HasCauses, Run, is_out}
 use Rattle.run_status.specs.RunRecord.Seen.{disk_seen}
-use Rattle.witness_core.specs.WitnessRole.ServedFile.{IsServing, Left, status_closing}
+use Rattle.witness_core.specs.WitnessLink.Links.{Left}
+use Rattle.witness_core.specs.WitnessRole.ServedFile.{IsServing, status_closing}
 use Rattle.witness_core.specs.WitnessRole.ServedLinks.{IsServingLinks}
 use Rattle.witness_core.specs.WitnessRole.Witnessed.{IsUnread, IsUnstarted, IsWitnessed, OpensNone, ServesInput, start_found, start_text}
 use Rattle.witness_core.proofs.WitnessRoleLemmas.LinksCauses.{links_asked, links_failed, links_read, links_signed, links_stored, links_wrote}

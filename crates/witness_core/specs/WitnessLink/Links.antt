@@ -1,4 +1,4 @@
--- What is seen of a witness, and of all that serves a link.
+-- What is seen of a witness, of what serves links by it, and of all that serves one.
 use Rattle.std.specs.Prelude.{ℕ, Bool, List, Option}
 use Rattle.cesr_codes.specs.declared.digest.Digest.{Digest}
 use Rattle.cesr_codes.specs.declared.key.Key.{Key}
@@ -8,8 +8,10 @@ use Rattle.shelf_log.specs.KeriDisk.Images.{DiskTold}
 use Rattle.keri_outside.specs.declared.inquiry.Inquiry.{Inquiry}
 use Rattle.keri_outside.specs.declared.limits.Limits.{Limits}
 use Rattle.keri_outside.specs.declared.signing.Signing.{Signing}
-use Rattle.run_status.specs.RunStatus.Readers.{SourceTold}
+use Rattle.run_status.specs.RunRecord.Run.{SignerTold}
+use Rattle.run_status.specs.RunStatus.Readers.{SinkTold, SourceTold, VerifierTold}
 use Rattle.validator_core.specs.ValidatorCore.View.{CoreView}
+use Rattle.witness_core.specs.declared.witness_link.notes.Notes.{Notes}
 
 -- a witness's core, and the list of its shelf
 pub record Standing : Type 0 where
@@ -61,23 +63,39 @@ pub record LinkTold : Type 1 where
   pub refused : List Refusal
   pub seen : List Digest
 
-abbrev pub told_of_link : WitnessTold → (Key → List ℕ → Sig → Option Bool) → Option (List Inquiry) → ℕ → (Key → List ℕ → Option Sig) → Option (List Signing) → ℕ → Option (List ℕ) → ℕ → List Refusal → List Digest → LinkTold
-told_of_link witness says inquiries verifier_faults gives signings signer_faults written sink_faults refused seen = record {
-  witness = witness;
-  says = says;
-  inquiries = inquiries;
-  verifier_faults = verifier_faults;
-  gives = gives;
-  signings = signings;
-  signer_faults = signer_faults;
-  written = written;
-  sink_faults = sink_faults;
+-- what is seen of a witness, and of the verifier and the signer that it has
+pub record ServiceTold : Type 1 where
+  pub witness : WitnessTold
+  pub verifier : VerifierTold
+  pub signer : SignerTold
+
+abbrev pub told_of_link : ServiceTold → SinkTold → List Refusal → List Digest → LinkTold
+told_of_link service sink refused seen = record {
+  witness = service.witness;
+  says = service.verifier.says;
+  inquiries = service.verifier.inquiries;
+  verifier_faults = service.verifier.faults;
+  gives = service.signer.gives;
+  signings = service.signer.signings;
+  signer_faults = service.signer.faults;
+  written = sink.written;
+  sink_faults = sink.faults;
   refused = refused;
   seen = seen;
 }
 
+-- with what is noted
+abbrev pub told_noting : ServiceTold → SinkTold → Notes → LinkTold
+told_noting service sink notes = told_of_link service sink notes.refused.items notes.seen.items
+
 abbrev pub terms_with : (Key → List ℕ → Sig → Option Bool) → (Key → List ℕ → Option Sig) → WitnessTold → Terms
 terms_with says gives witness = record { says = says; gives = gives; key = witness.key; limits = witness.limits }
+
+abbrev pub terms_at : ServiceTold → Terms
+terms_at service = terms_with service.verifier.says service.signer.gives service.witness
+
+abbrev pub counts_at : ServiceTold → Counts
+counts_at service = counts service.witness.disk.faults service.verifier.faults service.signer.faults
 
 abbrev pub terms_of : LinkTold → Terms
 terms_of link = terms_with link.says link.gives link.witness
@@ -85,6 +103,36 @@ terms_of link = terms_with link.says link.gives link.witness
 abbrev pub counts_of : LinkTold → Counts
 counts_of link = counts link.witness.disk.faults link.verifier_faults link.signer_faults
 
+-- what a verifier tells
+abbrev pub verifier_told : {V : Type 0} → (V → Key → List ℕ → Sig → Option Bool) → (V → Option (List Inquiry)) → (V → ℕ) → V → VerifierTold
+verifier_told says inquiries faults verifier = record { says = says verifier; inquiries = inquiries verifier; faults = faults verifier }
+
 -- what a source has left, where it tells, and how often it has failed
 abbrev pub source_told : Option (List ℕ) → ℕ → SourceTold
 source_told left faults = record { left = left; faults = faults }
+
+abbrev pub source_at : {S : Type 0} → (S → Option (List ℕ)) → (S → ℕ) → S → SourceTold
+source_at left faults source = source_told (left source) (faults source)
+
+-- what a witness is at a moment: its core, the list of its shelf, whether it is broken, and its disk
+pub record Left (D : Type 0) : Type 0 where
+  pub core : CoreView
+  pub list : List (List ℕ)
+  pub broken : Bool
+  pub disk : D
+
+-- what is seen of it
+abbrev pub seen_as : {D : Type 0} → (D → DiskTold) → Key → Limits → Left D → WitnessTold
+seen_as told key limits left = record { key = key; limits = limits; core = left.core; list = left.list; disk = told left.disk; broken = left.broken }
+
+-- what serves links at a moment: a witness as it is, with its key and its limits, and what its verifier and its signer tell
+pub record Serving (D : Type 0) : Type 0 where
+  pub key : Key
+  pub limits : Limits
+  pub left : Left D
+  pub verifier : VerifierTold
+  pub signer : SignerTold
+
+-- what is seen of these
+abbrev pub seen_by : {D : Type 0} → (D → DiskTold) → Serving D → ServiceTold
+seen_by told serving = record { witness = seen_as told serving.key serving.limits serving.left; verifier = serving.verifier; signer = serving.signer }

@@ -1,51 +1,44 @@
 -- What stands while messages are handed to a link.
-use Rattle.std.specs.Prelude.{◌≡◌, ℕ, ◌⊎◌, Bool, List, ◌++◌, Option}
-use Rattle.cesr_codes.specs.declared.key.Key.{Key}
-use Rattle.cesr_codes.specs.declared.sig.Sig.{Sig}
+use Rattle.std.specs.Prelude.{◌≡◌, ℕ, ◌⊎◌, List, ◌++◌, Option}
 use Rattle.cesr_stream.specs.declared.message.Message.{Message}
-use Rattle.keri_outside.specs.declared.inquiry.Inquiry.{Inquiry}
-use Rattle.keri_outside.specs.declared.signing.Signing.{Signing}
 use Rattle.cesr_stream.specs.Assembly.{all_of}
 use Rattle.run_status.specs.declared.message_feed.feed_close.FeedClose.{FeedClose}
 use Rattle.run_status.specs.declared.message_feed.feed_close.FeedClose.TheVariants as feed
+use Rattle.run_status.specs.RunStatus.Readers.{sink_seen}
 use Rattle.run_status.specs.declared.run_status.close.Close.{Close}
 use Rattle.run_status.specs.declared.run_status.close.Close.TheVariants.{End, Bad, ReadFault, Full, OutOfMemory}
-use Rattle.witness_core.specs.WitnessLink.Links.{LinkTold, WitnessTold, told_of_link}
+use Rattle.witness_core.specs.WitnessLink.Links.{LinkTold, ServiceTold, told_noting}
 use Rattle.witness_core.specs.WitnessLink.Serving.{HasEnded, HasServed}
 use Rattle.witness_core.specs.declared.witness_link.link.Link.{Link}
 
 -- the link lends the same objects
-pub record LendsSame {W K V G : Type 0} (first now : Link W K V G) : Type 0 where
-  pub witness : now.witness.ghost_name ≡ first.witness.ghost_name
+pub record LendsSame {W K : Type 0} (first now : Link W K) : Type 0 where
+  pub service : now.service.ghost_name ≡ first.service.ghost_name
   pub sink : now.sink.ghost_name ≡ first.sink.ghost_name
-  pub verifier : now.verifier.ghost_name ≡ first.verifier.ghost_name
-  pub signer : now.signer.ghost_name ≡ first.signer.ghost_name
   pub notes : now.notes.ghost_name ≡ first.notes.ghost_name
 
-module _ {W K V G : Type 0} (witness_seen : W → WitnessTold) (written : K → Option (List ℕ)) (sink_faults : K → ℕ) (says : V → Key → List ℕ → Sig → Option Bool)
-    (inquiries : V → Option (List Inquiry)) (verifier_faults : V → ℕ) (gives : G → Key → List ℕ → Option Sig) (signings : G → Option (List Signing)) (signer_faults : G → ℕ) where
+module _ {W K : Type 0} (service_seen : W → ServiceTold) (written : K → Option (List ℕ)) (sink_faults : K → ℕ) where
   -- what is seen of a link
-  abbrev pub link_told : Link W K V G → LinkTold
-  link_told link = told_of_link (witness_seen link.witness.now) (says link.verifier.now) (inquiries link.verifier.now) (verifier_faults link.verifier.now) (gives link.signer.now) (signings link.signer.now)
-      (signer_faults link.signer.now) (written link.sink.now) (sink_faults link.sink.now) link.notes.now.refused.items link.notes.now.seen.items
+  abbrev pub link_told : Link W K → LinkTold
+  link_told link = told_noting (service_seen link.service.now) (sink_seen written sink_faults link.sink.now) link.notes.now
 
   -- since it had the first of these values it has served these messages
-  pub record HasTaken (first now : Link W K V G) (messages : List Message) : Type 0 where
+  pub record HasTaken (first now : Link W K) (messages : List Message) : Type 0 where
     pub same : LendsSame first now
     pub served : HasServed (link_told first) (link_told now) messages
 
   -- since then it has stopped so at the last of them
-  pub record HasStopped (first now : Link W K V G) (close : Close) (messages : List Message) : Type 0 where
+  pub record HasStopped (first now : Link W K) (close : Close) (messages : List Message) : Type 0 where
     pub same : LendsSame first now
     pub ended : HasEnded (link_told first) (link_told now) close messages
 
   -- the last message, where there is one, was served too, and the link closes as its source did; or serving stopped there
-  abbrev pub TakesLast : Close → Option Message → Link W K V G → Link W K V G → Close → Type 0
-  TakesLast close last old new now = (first : Link W K V G) (messages : List Message) → HasTaken first old messages
+  abbrev pub TakesLast : Close → Option Message → Link W K → Link W K → Close → Type 0
+  TakesLast close last old new now = (first : Link W K) (messages : List Message) → HasTaken first old messages
       → (HasTaken first new (messages ++ all_of last) × (now ≡ close)) ⊎ HasStopped first new now (messages ++ all_of last)
 
   -- how the link closes where its source has closed so
-  abbrev pub Finishes : FeedClose Close → Option Message → Link W K V G → Link W K V G → Close → Type 0
+  abbrev pub Finishes : FeedClose Close → Option Message → Link W K → Link W K → Close → Type 0
   Finishes feed.End last old new now = TakesLast End last old new now
   Finishes (feed.Bad bad) last old new now = TakesLast (Bad bad) last old new now
   Finishes feed.ReadFault last old new now = TakesLast ReadFault last old new now

@@ -12,13 +12,15 @@ use Rattle.run_status.specs.MessageFeed.Closing.{ClosesBy, Gave}
 use Rattle.run_status.specs.MessageFeed.Feeds.{Stream}
 use Rattle.run_status.specs.declared.message_feed.feed_close.FeedClose.{FeedClose}
 use Rattle.run_status.specs.declared.message_feed.feed_close.FeedClose.TheVariants as feed
-use Rattle.run_status.specs.RunStatus.Readers.{SourceTold}
+use Rattle.run_status.specs.RunStatus.Readers.{SinkTold, SourceTold, sink_seen}
 use Rattle.run_status.specs.declared.run_status.close.Close.{Close}
 use Rattle.run_status.specs.declared.run_status.close.Close.TheVariants.{End, Bad, ReadFault, VerifierFault, SignerFault, DiskFault, WriteFault, Malformed, Full, OutOfMemory}
+use Rattle.witness_core.specs.declared.witness_link.link_end.LinkEnd.{LinkEnd}
+use Rattle.witness_core.specs.declared.witness_link.notes.Notes.{Notes}
 use Rattle.witness_core.specs.declared.witness_store.witness_fault.WitnessFault.{WitnessFault}
 use Rattle.witness_core.specs.declared.witness_store.witness_fault.WitnessFault.TheVariants as fault
 use Rattle.witness_core.specs.WitnessLink.Calls.{messages_in, receipts_in}
-use Rattle.witness_core.specs.WitnessLink.Links.{LinkTold, terms_of}
+use Rattle.witness_core.specs.WitnessLink.Links.{LinkTold, ServiceTold, source_at, terms_of, told_noting, told_of_link}
 use Rattle.witness_core.specs.WitnessLink.Serving.{FailsToPut, FailsToTake, GoesOn, Serves}
 use Rattle.witness_core.specs.WitnessLink.Stored.{HoldsEach}
 
@@ -79,3 +81,15 @@ pub record ServesLink (limits : Limits) (source_old source_new : SourceTold) (ol
   pub messages_are : AreFirst limits bytes (messages_in serves.calls)
   pub closes : ClosesLink limits source_old source_new bytes old new serves close
   pub held : (c : List ℕ) → new.witness.disk.images c → HoldsEach (terms_of old) (receipts_in serves.calls) c
+
+-- a link was served that ended so, and nothing was noted before
+abbrev pub ServesLinkTo : Limits → SourceTold → SourceTold → ServiceTold → ServiceTold → SinkTold → SinkTold → LinkEnd → Type 0
+ServesLinkTo limits source_old source_new old new sink_old sink_new end =
+    ServesLink limits source_old source_new (told_of_link old sink_old [] []) (told_of_link new sink_new end.refused.items end.seen.items) end.close
+
+-- a link was served with the objects that lend it, and what was noted before stands before the new notes
+abbrev pub ServesNoting : {S W K : Type 0} → (S → Option (List ℕ)) → (S → ℕ) → (W → ServiceTold) → (K → Option (List ℕ)) → (K → ℕ) → Limits → S → S → W → W → K → K → Notes → Notes → Close → Type 0
+ServesNoting left faults service_seen written sink_faults limits source_old source_new old new sink_old sink_new notes_old notes_new close =
+    ServesLink limits (source_at left faults source_old) (source_at left faults source_new)
+    (told_noting (service_seen old) (sink_seen written sink_faults sink_old) notes_old)
+    (told_noting (service_seen new) (sink_seen written sink_faults sink_new) notes_new) close

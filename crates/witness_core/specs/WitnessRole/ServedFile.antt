@@ -24,10 +24,11 @@ use Rattle.run_status.specs.RunStatus.Status.{nothing_besides, status_of}
 use Rattle.shelf_log.specs.ShelfLog.Format.{Holds}
 use Rattle.shelf_log.specs.ShelfLog.Settled.{AllHold}
 use Rattle.shelf_log.specs.declared.shelf_log.version.Version.TheVariants.{Two}
-use Rattle.validator_core.specs.ValidatorCore.View.{CoreView}
-use Rattle.witness_core.specs.WitnessLink.Links.{LinkTold, WitnessTold, source_told, told_of_link}
-use Rattle.witness_core.specs.WitnessLink.Served.{ServesLink}
+use Rattle.witness_core.specs.declared.witness_link.link_end.LinkEnd.{LinkEnd}
+use Rattle.witness_core.specs.WitnessLink.Links.{Left, LinkTold, Serving, seen_as, seen_by, source_told, told_of_link}
+use Rattle.witness_core.specs.WitnessLink.Served.{ServesLink, ServesLinkTo}
 use Rattle.run_status.specs.RunRecord.Run.{HasNoLinks, Run, SignerTold, is_out}
+use Rattle.witness_core.specs.WitnessRole.Views.{Views}
 
 -- the status of a run that owes nothing more: by its readers, and by what was found besides
 abbrev pub status_closing : Besides → List Reader → ℕ
@@ -41,17 +42,6 @@ MakesServing kind name helper (Some first) None signer before after =
     (is_none signer ≡ true) × AreMakings (making kind name false ∷ making VerifierKind helper true ∷ []) before after
 MakesServing kind name helper (Some first) (Some verifier) signer before after =
     AreMakings (making kind name false ∷ making VerifierKind helper false ∷ making SignerKind helper (is_none signer) ∷ []) before after
-
--- what a witness is at a moment: its core, the list of its shelf, whether it is broken, and its disk
-pub record Left (D : Type 0) : Type 0 where
-  pub core : CoreView
-  pub list : List (List ℕ)
-  pub broken : Bool
-  pub disk : D
-
--- what is seen of it
-abbrev pub seen_as : {D : Type 0} → (D → DiskTold) → Key → Limits → Left D → WitnessTold
-seen_as told key limits left = record { key = key; limits = limits; core = left.core; list = left.list; disk = told left.disk; broken = left.broken }
 
 -- The run ends with these readers, and with this found besides, and hands back the disk and the journal of the witness as it is
 -- left. Nothing more is owed. Unless the witness is broken, each image of the disk stands for its list, and so does the file as it
@@ -85,8 +75,7 @@ signer_of before helper signings = record { gives = before.gives helper; signing
 module _ {D : Type 0} (told : D → DiskTold) (key : Key) (limits : Limits) where
   -- what is seen of a witness and of a verifier, a signer and a sink, and what was noted
   abbrev pub at_link : Left D → VerifierTold → SignerTold → SinkTold → List Refusal → List Digest → LinkTold
-  at_link left verifier signer sink refused seen = told_of_link (seen_as told key limits left)
-      verifier.says verifier.inquiries verifier.faults signer.gives signer.signings signer.faults sink.written sink.faults refused seen
+  at_link left verifier signer sink refused seen = told_of_link (record { witness = seen_as told key limits left; verifier = verifier; signer = signer }) sink refused seen
 
   -- the link that a run has with its source, its verifier and its signer, which these were before, and the sink
   abbrev pub ServesIts : Run → SourceTold → VerifierTold → SignerTold → Left D → SourceTold → VerifierTold → SignerTold → Reader → Left D → Type 0
@@ -133,3 +122,14 @@ module _ {D : Type 0} (told : D → DiskTold) (key : Key) (limits : Limits) wher
     pub serves : ServesIts run source_old verifier_old signer_old old source verifier signer reader new
     pub no_links : HasNoLinks run
     pub ends : EndsWith told disk (reader ∷ []) nothing_besides new run
+
+module _ {O S V G D P K W : Type 0} (views : Views O S V G D P K) (serving : W → Serving D) where
+  -- a link was served over a source and the sink of the outside
+  abbrev pub ServesOver : Limits → S → S → O → O → W → W → LinkEnd → Type 0
+  ServesOver limits source_old source_new outside_old outside_new old new end = ServesLinkTo limits (views.source source_old) (views.source source_new)
+      (seen_by views.disk (serving old)) (seen_by views.disk (serving new)) (views.sink outside_old) (views.sink outside_new) end
+
+  -- what serves links serves the source as a link, and the run ends
+  abbrev pub ServesAllBy : S → W → Option D → Run → Type 0
+  ServesAllBy source service disk run = ServesAll views.disk (serving service).key (serving service).limits (views.source source)
+      (serving service).verifier (serving service).signer (serving service).left disk run

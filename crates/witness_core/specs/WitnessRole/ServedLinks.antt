@@ -16,6 +16,7 @@ use Rattle.keri_outside.specs.declared.signing.Signing.{Signing}
 use Rattle.run_status.specs.declared.run_outside.making.MakingKind.TheVariants.{Door as DoorKind}
 use Rattle.run_status.specs.declared.run_status.close.Close.{Close}
 use Rattle.run_status.specs.declared.run_status.close.Close.TheVariants.{End, VerifierFault, SignerFault}
+use Rattle.run_status.specs.declared.run_status.reader_end.ReaderEnd.{ReaderEnd}
 use Rattle.run_status.specs.RunStatus.Readers.{Reader, SinkTold, SourceTold, VerifierTold}
 use Rattle.run_status.specs.RunStatus.Status.{nothing_besides}
 use Rattle.validator_core.specs.ValidatorCore.View.{open_of}
@@ -24,11 +25,13 @@ use Rattle.witness_core.specs.WitnessCore.Telling.{AsksVerdicts}
 use Rattle.witness_core.specs.declared.witness_receipts.receipt.Receipt.{Receipt}
 use Rattle.witness_core.specs.WitnessLink.Calls.{receipts_in}
 use Rattle.witness_core.specs.WitnessLink.Closes.{asks_next}
-use Rattle.witness_core.specs.WitnessLink.Links.{Terms}
+use Rattle.witness_core.specs.WitnessLink.Links.{Left, Serving, Terms}
 use Rattle.witness_core.specs.WitnessLink.Served.{ServesLink}
 use Rattle.witness_core.specs.WitnessLink.Stored.{HoldsEach, IsLawfulList, IsOfListed}
 use Rattle.run_status.specs.RunRecord.Run.{DoorTold, Run, SignerTold}
-use Rattle.witness_core.specs.WitnessRole.ServedFile.{EndsWith, Left, MakesServing, at_link}
+use Rattle.witness_core.specs.WitnessRole.ServedFile.{EndsWith, MakesServing, at_link}
+use Rattle.witness_core.specs.WitnessRole.Views.{Views, link_sinks_by, reader_by, readers_by}
+use Rattle.witness_core.specs.declared.witness_role.links_kept.LinksKept.{LinksKept}
 
 -- a link that was served: what its source and its sink were before and after, what was noted of its messages, and how it closed
 pub record ServedLink : Type 0 where
@@ -55,6 +58,16 @@ verifier_at says between = record { says = says; inquiries = between.inquiries; 
 
 abbrev pub signer_at : {D : Type 0} → (Key → List ℕ → Option Sig) → Between D → SignerTold
 signer_at gives between = record { gives = gives; signings = between.signings; faults = between.signer_faults }
+
+-- what serves links is that at a moment
+abbrev pub between_of : {D : Type 0} → Serving D → Between D
+between_of serving = record {
+  left = serving.left;
+  inquiries = serving.verifier.inquiries;
+  verifier_faults = serving.verifier.faults;
+  signings = serving.signer.signings;
+  signer_faults = serving.signer.faults;
+}
 
 -- a reader of no link, with the verifier, where there is one
 abbrev pub idle_reader : Option VerifierTold → Close → Reader
@@ -210,3 +223,21 @@ module _ {D : Type 0} (told : D → DiskTold) (key : Key) (limits : Limits) wher
     pub serves : ServesLinksBy helper address count old new run.door verifier run.signer failed readers run
     pub same_sink : run.sink_after ≡ run.sink_before
     pub ends : EndsWith told disk readers (record nothing_besides { door_failed = failed }) new run
+
+module _ {O S V G D P K W : Type 0} (views : Views O S V G D P K) (serving : W → Serving D) where
+  -- what came was served as a link, with this reader and this sink
+  abbrev pub IsServedBy : Limits → Option (List ℕ) → ReaderEnd S V → K → W → W → Type 0
+  IsServedBy run_limits held reader sink service_old service = IsServed views.disk (serving service_old).key (serving service_old).limits run_limits
+      (serving service_old).verifier.says (serving service_old).signer.gives held (reader_by views reader) (views.link_sink sink)
+      (between_of (serving service_old)) (between_of (serving service))
+
+  -- the links that came at a door were served, and this is kept of them
+  abbrev pub ServesComingBy : Limits → ℕ → Bool → P → P → W → W → LinksKept S V K → Type 0
+  ServesComingBy run_limits count failed door_old door service_old service kept = ServesComing views.disk (serving service_old).key (serving service_old).limits run_limits
+      (serving service_old).verifier.says (serving service_old).signer.gives count failed (views.door door_old) (views.door door)
+      (between_of (serving service_old)) (between_of (serving service)) (readers_by views kept.readers.items) (link_sinks_by views kept.sinks.items)
+
+  -- all of them were, and a run that ends with this is that of the links
+  abbrev pub ServesAllLinksBy : {B : Type 0} → (O → O → B → Run) → Limits → ℕ → P → W → Option D → B → Type 0
+  ServesAllLinksBy run run_limits count door service disk back = (before after : O) → ServesAllLinks views.disk (serving service).key (serving service).limits run_limits
+      (serving service).verifier.says (serving service).signer.gives count (views.door door) (between_of (serving service)) disk (run before after back)

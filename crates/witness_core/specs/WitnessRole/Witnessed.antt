@@ -27,7 +27,8 @@ use Rattle.witness_core.specs.WitnessLink.Stored.{IsLawfulList}
 use Rattle.witness_core.specs.declared.witness_opening.fault.OpeningFault.TheVariants.{OutOfMemory as NoMemory}
 use Rattle.run_status.specs.RunRecord.NoJournal.{no_journal}
 use Rattle.run_status.specs.RunRecord.Run.{HasNoLinks, Run, Settles}
-use Rattle.witness_core.specs.WitnessRole.ServedFile.{IsServing, Left}
+use Rattle.witness_core.specs.WitnessLink.Links.{Left}
+use Rattle.witness_core.specs.WitnessRole.ServedFile.{IsServing}
 use Rattle.witness_core.specs.WitnessRole.ServedLinks.{IsServingLinks}
 use Rattle.witness_core.specs.declared.witness_role.role.WitnessWords.{WitnessWords}
 

@@ -1,67 +1,34 @@
 //! The call that serves a link.
-ghost use Rattle.std.specs.Prelude.{◌≡◌, false, []};
-ghost use Rattle.witness_core.specs.WitnessLink.Links.{source_told, told_of_link};
+ghost use Rattle.std.specs.Prelude.{◌≡◌, false};
+ghost use Rattle.run_status.specs.RunStatus.Readers.{sink_seen};
+ghost use Rattle.witness_core.specs.WitnessLink.Links.{source_at};
 ghost use Rattle.witness_core.specs.WitnessLink.Offered.{Finishes, LendsSame, TakesLast, link_told};
-ghost use Rattle.witness_core.specs.WitnessLink.Served.{ServesLink};
+ghost use Rattle.witness_core.specs.WitnessLink.Served.{ServesLink, ServesLinkTo, ServesNoting};
 
-use crate::witness_core::Witness;
 use crate::witness_link::link::Link;
 use crate::witness_link::notes::Notes;
 use crate::witness_link::{LinkEnd, Witnessing};
 use cesr_stream::Message;
-use keri_outside::{Limits, Signer, Sink, Source, Verifier};
+use keri_outside::{Limits, Sink, Source};
 use run_status::{Close, FeedClose, Taker, feed_messages};
-use shelf_log::Disk;
 use std::alloc::Global;
 
 /// Serves a link: a witness takes the messages that the source gives, in order, and puts the receipts of these on the
 /// sink, in order.
-pub fn serve_link<S: Source, K: Sink, D: Disk + Drop, V: Verifier, G: Signer>(
+pub fn serve_link<S: Source, W: Witnessing, K: Sink>(
     alloc: Global,
-    witness: &mut Witness<D>,
+    service: &mut W,
     source: &mut S,
     sink: &mut K,
-    verifier: &mut V,
-    signer: &mut G,
     limits: Limits,
 ) -> LinkEnd
-    requires { witness.old.broken ≡ false }
-    ensures { ServesLink limits (source_told (S.left source.old) (S.faults source.old))
-        (source_told (S.left source.new) (S.faults source.new))
-        (told_of_link (⟦<Witness<D> as Witnessing>⟧.seen witness.old)
-        (V.says verifier.old) (V.inquiries verifier.old) (V.faults verifier.old)
-        (G.gives signer.old) (G.signings signer.old) (G.faults signer.old) (K.written sink.old) (K.faults sink.old) [] [])
-        (told_of_link (⟦<Witness<D> as Witnessing>⟧.seen witness.new)
-        (V.says verifier.new) (V.inquiries verifier.new) (V.faults verifier.new)
-        (G.gives signer.new) (G.signings signer.new) (G.faults signer.new) (K.written sink.new) (K.faults sink.new)
-        result.refused.items result.seen.items) result.close }
-{
-    serve_over(alloc, witness, source, sink, verifier, signer, limits)
-}
-
-// The same with anything that is as a witness.
-fn serve_over<S: Source, K: Sink, W: Witnessing, V: Verifier, G: Signer>(
-    alloc: Global,
-    witness: &mut W,
-    source: &mut S,
-    sink: &mut K,
-    verifier: &mut V,
-    signer: &mut G,
-    limits: Limits,
-) -> LinkEnd
-    requires { (W.seen witness.old).broken ≡ false }
-    ensures { ServesLink limits (source_told (S.left source.old) (S.faults source.old))
-        (source_told (S.left source.new) (S.faults source.new))
-        (told_of_link (W.seen witness.old) (V.says verifier.old) (V.inquiries verifier.old) (V.faults verifier.old)
-        (G.gives signer.old) (G.signings signer.old) (G.faults signer.old) (K.written sink.old) (K.faults sink.old) [] [])
-        (told_of_link (W.seen witness.new) (V.says verifier.new) (V.inquiries verifier.new) (V.faults verifier.new)
-        (G.gives signer.new) (G.signings signer.new) (G.faults signer.new) (K.written sink.new) (K.faults sink.new)
-        result.refused.items result.seen.items) result.close }
+    requires { (W.seen service.old).witness.broken ≡ false }
+    ensures { ServesLinkTo limits (source_at S.left S.faults source.old) (source_at S.left S.faults source.new)
+        (W.seen service.old) (W.seen service.new)
+        (sink_seen K.written K.faults sink.old) (sink_seen K.written K.faults sink.new) result }
 {
     let mut notes = Notes::new(alloc);
-    let close = serve_noting(
-        alloc, witness, source, sink, verifier, signer, limits, &mut notes,
-    );
+    let close = serve_noting(alloc, service, source, sink, limits, &mut notes);
     let Notes { refused, seen } = notes;
     LinkEnd {
         refused,
@@ -71,63 +38,51 @@ fn serve_over<S: Source, K: Sink, W: Witnessing, V: Verifier, G: Signer>(
 }
 
 // Has all messages of the source taken, and notes what becomes of them.
-fn serve_noting<S: Source, K: Sink, W: Witnessing, V: Verifier, G: Signer>(
+fn serve_noting<S: Source, W: Witnessing, K: Sink>(
     alloc: Global,
-    witness: &mut W,
+    service: &mut W,
     source: &mut S,
     sink: &mut K,
-    verifier: &mut V,
-    signer: &mut G,
     limits: Limits,
     notes: &mut Notes,
 ) -> Close
-    requires { (W.seen witness.old).broken ≡ false }
-    ensures { ServesLink limits (source_told (S.left source.old) (S.faults source.old))
-        (source_told (S.left source.new) (S.faults source.new))
-        (told_of_link (W.seen witness.old) (V.says verifier.old) (V.inquiries verifier.old) (V.faults verifier.old)
-        (G.gives signer.old) (G.signings signer.old) (G.faults signer.old) (K.written sink.old) (K.faults sink.old)
-        notes.old.refused.items notes.old.seen.items)
-        (told_of_link (W.seen witness.new) (V.says verifier.new) (V.inquiries verifier.new) (V.faults verifier.new)
-        (G.gives signer.new) (G.signings signer.new) (G.faults signer.new) (K.written sink.new) (K.faults sink.new)
-        notes.new.refused.items notes.new.seen.items) result }
+    requires { (W.seen service.old).witness.broken ≡ false }
+    ensures { ServesNoting S.left S.faults W.seen K.written K.faults limits source.old source.new
+        service.old service.new sink.old sink.new notes.old notes.new result }
 {
     let mut link = Link {
-        witness,
+        service,
         sink,
-        verifier,
-        signer,
         notes,
     };
     serve_all(alloc, source, &mut link, limits)
 }
 
 // Has all messages of the source taken.
-fn serve_all<'w, 'k, 'v, 'g, 'n, S: Source, K: Sink, W: Witnessing, V: Verifier, G: Signer>(
+fn serve_all<'w, 'k, 'n, S: Source, W: Witnessing, K: Sink>(
     alloc: Global,
     source: &mut S,
-    link: &mut Link<'w, 'k, 'v, 'g, 'n, W, K, V, G>,
+    link: &mut Link<'w, 'k, 'n, W, K>,
     limits: Limits,
 ) -> Close
-    requires { (W.seen link.old.witness.now).broken ≡ false }
-    ensures serves { ServesLink limits (source_told (S.left source.old) (S.faults source.old))
-        (source_told (S.left source.new) (S.faults source.new))
-        (link_told W.seen K.written K.faults V.says V.inquiries V.faults G.gives G.signings G.faults link.old)
-        (link_told W.seen K.written K.faults V.says V.inquiries V.faults G.gives G.signings G.faults link.new) result }
+    requires { (W.seen link.old.service.now).witness.broken ≡ false }
+    ensures serves { ServesLink limits (source_at S.left S.faults source.old)
+        (source_at S.left S.faults source.new)
+        (link_told W.seen K.written K.faults link.old) (link_told W.seen K.written K.faults link.new) result }
     ensures same { LendsSame link.old link.new }
 {
-    link.witness.stands();
+    link.service.stands();
     let (close, last) = feed_messages(alloc, source, limits, link);
     finish(link, close, last)
 }
 
 // Has the last message taken, where there is one and nothing stopped the serving before it, and answers how the link closes.
-fn finish<'w, 'k, 'v, 'g, 'n, K: Sink, W: Witnessing, V: Verifier, G: Signer>(
-    link: &mut Link<'w, 'k, 'v, 'g, 'n, W, K, V, G>,
+fn finish<'w, 'k, 'n, W: Witnessing, K: Sink>(
+    link: &mut Link<'w, 'k, 'n, W, K>,
     close: FeedClose<Close>,
     last: Option<Message>,
 ) -> Close
-    ensures { Finishes W.seen K.written K.faults V.says V.inquiries V.faults G.gives G.signings G.faults
-        close last link.old link.new result }
+    ensures { Finishes W.seen K.written K.faults close last link.old link.new result }
 {
     let close = match close {
         FeedClose::End => Close::End,
@@ -141,13 +96,12 @@ fn finish<'w, 'k, 'v, 'g, 'n, K: Sink, W: Witnessing, V: Verifier, G: Signer>(
 }
 
 // Has the last message taken, where there is one.
-fn take_last<'w, 'k, 'v, 'g, 'n, K: Sink, W: Witnessing, V: Verifier, G: Signer>(
-    link: &mut Link<'w, 'k, 'v, 'g, 'n, W, K, V, G>,
+fn take_last<'w, 'k, 'n, W: Witnessing, K: Sink>(
+    link: &mut Link<'w, 'k, 'n, W, K>,
     close: Close,
     last: Option<Message>,
 ) -> Close
-    ensures { TakesLast W.seen K.written K.faults V.says V.inquiries V.faults G.gives G.signings G.faults
-        close last link.old link.new result }
+    ensures { TakesLast W.seen K.written K.faults close last link.old link.new result }
 {
     match last {
         Some(message) => match link.take(message) {

@@ -1,9 +1,9 @@
-//! What serving a link needs of a witness.
+//! What serves links: a witness, with its verifier and its signer.
 ghost use Rattle.std.specs.Prelude.{◌≡◌, ◌⊎◌, false, List, ℕ};
 ghost use Rattle.witness_core.specs.WitnessCore.Outcomes.{AsksSigner};
 ghost use Rattle.witness_core.specs.WitnessStore.Payloads.{AreListed};
 ghost use Rattle.witness_core.specs.WitnessCore.Telling.{AsksVerdicts};
-ghost use Rattle.witness_core.specs.WitnessLink.Links.{WitnessTold, counts, terms_with};
+ghost use Rattle.witness_core.specs.WitnessLink.Links.{ServiceTold, Serving, counts_at, terms_at};
 ghost use Rattle.witness_core.specs.WitnessLink.Taking.{IsSound, KeepsSame, TakesMessage};
 
 use crate::witness_core::{Outcome, Witness, WitnessFault};
@@ -12,70 +12,102 @@ use keri_outside::{Signer, Verifier};
 use key_state::spelled_is_kept;
 use shelf_log::Disk;
 
-/// A witness, as far as a link needs it.
-pub trait Witnessing {
-    /// What is seen of it.
-    ghost seen: { Self → WitnessTold };
+/// What serves links.
+pub trait Serves {
+    /// The disk of its witness.
+    type Disk;
 
-    /// Takes a message, and gives what becomes of it and the receipts that are due.
-    fn take<V: Verifier, G: Signer>(
-        &mut self,
-        message: &Message,
-        verifier: &mut V,
-        signer: &mut G,
-    ) -> Result<Outcome, WitnessFault>
-        ensures takes { (seen self.old).broken ≡ false → TakesMessage
-            (terms_with (V.says verifier.old) (G.gives signer.old) (seen self.old))
-            (counts (seen self.old).disk.faults (V.faults verifier.old) (G.faults signer.old))
-            (counts (seen self.new).disk.faults (V.faults verifier.new) (G.faults signer.new))
-            message.now (seen self.old) (seen self.new) result }
-        ensures same { (seen self.old).broken ≡ false → KeepsSame (seen self.old) (seen self.new) }
-        ensures says { V.says verifier.new ≡ V.says verifier.old }
-        ensures gives { G.gives signer.new ≡ G.gives signer.old }
-        // The signer is asked for just the receipts that are due, and where it was asked all that is accepted is stored. The
-        // verifier is asked for just the verdicts that came.
-        ensures asked { AsksSigner (seen self.old).key (seen self.old).core (seen self.new).core message.now
-            (G.signings signer.old) (G.signings signer.new) result }
-        ensures stored_where_asked { (G.signings signer.new ≡ G.signings signer.old)
-            ⊎ AreListed (seen self.new).core (seen self.new).list }
-        ensures verdicts { AsksVerdicts (V.inquiries verifier.old) (V.inquiries verifier.new)
-            (seen self.old).core (seen self.new).core };
-
-    /// What is true of it where it isn't broken, stated for proofs. Nothing is done here.
-    fn stands(&self)
-        ensures { (seen self.now).broken ≡ false → IsSound (seen self.now) };
-
-    // Since this moment there is no other.
-    ghost only_now: { (w : Self) (c : List ℕ) → (seen w).disk.images_since (seen w).disk.moment c → (seen w).disk.images c };
+    /// What it is at a moment.
+    ghost serving: { Self → Serving Self.Disk };
 }
 
-impl<D: Disk + Drop> Witnessing for Witness<D> {
-    ghost seen = { λ w. record {
-      key = w.key;
-      limits = w.limits;
-      core = w.core;
-      list = w.shelf.list;
-      disk = D.told w.shelf.disk;
-      broken = w.broken;
-    } };
+/// A witness with its verifier and its signer, as far as a link needs them.
+pub trait Witnessing: Serves {
+    /// What is seen of them.
+    ghost seen: { Self → ServiceTold };
 
-    fn take<V: Verifier, G: Signer>(
-        &mut self,
-        message: &Message,
-        verifier: &mut V,
-        signer: &mut G,
-    ) -> Result<Outcome, WitnessFault> {
-        let taken = Witness::take(self, message, verifier, signer);
+    /// Takes a message, and gives what becomes of it and the receipts that are due.
+    fn take(&mut self, message: &Message) -> Result<Outcome, WitnessFault>
+        ensures takes { (seen self.old).witness.broken ≡ false → TakesMessage (terms_at (seen self.old))
+            (counts_at (seen self.old)) (counts_at (seen self.new)) message.now
+            (seen self.old).witness (seen self.new).witness result }
+        ensures same { (seen self.old).witness.broken ≡ false
+            → KeepsSame (seen self.old).witness (seen self.new).witness }
+        ensures says { (seen self.new).verifier.says ≡ (seen self.old).verifier.says }
+        ensures gives { (seen self.new).signer.gives ≡ (seen self.old).signer.gives }
+        // The signer is asked for just the receipts that are due, and where it was asked all that is accepted is stored. The
+        // verifier is asked for just the verdicts that came.
+        ensures asked { AsksSigner (seen self.old).witness.key (seen self.old).witness.core (seen self.new).witness.core
+            message.now (seen self.old).signer.signings (seen self.new).signer.signings result }
+        ensures stored_where_asked { ((seen self.new).signer.signings ≡ (seen self.old).signer.signings)
+            ⊎ AreListed (seen self.new).witness.core (seen self.new).witness.list }
+        ensures verdicts { AsksVerdicts (seen self.old).verifier.inquiries (seen self.new).verifier.inquiries
+            (seen self.old).witness.core (seen self.new).witness.core };
+
+    /// What is true of the witness where it isn't broken, stated for proofs. Nothing is done here.
+    fn stands(&self)
+        ensures { (seen self.now).witness.broken ≡ false → IsSound (seen self.now).witness };
+
+    // Since this moment there is no other.
+    ghost only_now: { (w : Self) (c : List ℕ) → (seen w).witness.disk.images_since (seen w).witness.disk.moment c
+        → (seen w).witness.disk.images c };
+}
+
+impl<D: Disk + Drop> Witness<D> {
+    ghost use Rattle.witness_core.specs.WitnessLink.Links.{seen_as};
+
+    /// What is true of it where it isn't broken, stated for proofs. Nothing is done here.
+    pub(crate) fn stands(&self)
+        ensures { self.now.broken ≡ false → IsSound (seen_as D.told self.now.key self.now.limits
+            (record { core = self.now.core; list = self.now.shelf.list; broken = self.now.broken; disk = self.now.shelf.disk })) }
+    {
         // What is true of its core, a proof learns here.
         let _journal = self.journal();
+        spelled_is_kept();
+    }
+}
+
+/// A witness, and the verifier and the signer by which it serves links.
+#[derive(Drop)]
+pub struct Service<D: Disk, V, G> {
+    pub(crate) witness: Witness<D>,
+    pub(crate) verifier: V,
+    pub(crate) signer: G,
+}
+
+impl<D: Disk, V: Verifier, G: Signer> Serves for Service<D, V, G> {
+    ghost use Rattle.run_status.specs.RunRecord.Seen.{signer_told};
+    ghost use Rattle.witness_core.specs.WitnessLink.Links.{verifier_told};
+
+    type Disk = D;
+
+    ghost serving = { λ s. record {
+      key = s.witness.key;
+      limits = s.witness.limits;
+      left = record { core = s.witness.core; list = s.witness.shelf.list; broken = s.witness.broken; disk = s.witness.shelf.disk };
+      verifier = verifier_told V.says V.inquiries V.faults s.verifier;
+      signer = signer_told G.gives G.signings G.faults s.signer;
+    } };
+}
+
+impl<D: Disk + Drop, V: Verifier, G: Signer> Witnessing for Service<D, V, G> {
+    ghost use Rattle.witness_core.specs.WitnessLink.Links.{seen_by};
+
+    ghost seen = { λ s. seen_by D.told (Self.serving s) };
+
+    fn take(&mut self, message: &Message) -> Result<Outcome, WitnessFault> {
+        let taken = self
+            .witness
+            .take(message, &mut self.verifier, &mut self.signer);
+        // What is true of its core, a proof learns here.
+        let _journal = self.witness.journal();
         spelled_is_kept();
         taken
     }
 
     fn stands(&self) {
-        let _journal = self.journal();
-        spelled_is_kept();
+        self.witness.stands();
     }
 
-    ghost only_now = { λ w. D.only_now w.shelf.disk };
+    ghost only_now = { λ s. D.only_now s.witness.shelf.disk };
 }

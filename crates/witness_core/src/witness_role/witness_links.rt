@@ -1,13 +1,14 @@
 //! Links that come at a door, and are served to a witness.
 ghost use Rattle.std.specs.Prelude.{◌≡◌, ◌≤◌, ◌<◌, [], false, is_none};
 ghost use Rattle.std.specs.Vec.{vec_capacity};
-ghost use Rattle.run_status.specs.RunRecord.Seen.{door_told};
-ghost use Rattle.witness_core.specs.WitnessRole.ServedLinks.{IsServingLinks, ServesAllLinks};
+ghost use Rattle.witness_core.specs.WitnessRole.ServedLinks.{IsServingLinks, ServesAllLinksBy};
 
 use crate::witness_core::Witness;
+use crate::witness_link::{Serves, Service};
 use crate::witness_role::door_end::DoorEnd;
 use crate::witness_role::link_service::serve_coming;
 use crate::witness_role::links_kept::{LinksKept, unserved, with_verifier};
+use crate::witness_role::viewed::{ServiceOf, Viewed};
 use crate::witness_role::witness_end::{end, end_one};
 use command_words::Links;
 use keri_outside::{Door, Limits};
@@ -66,17 +67,12 @@ pub(crate) fn serve_links<O: Outside>(
     };
     let limits = outside.limits();
     let kept = LinksKept { readers, sinks };
-    serve_made(
-        alloc,
-        links.count,
-        door,
+    let service = Service {
         witness,
         verifier,
         signer,
-        limits,
-        old,
-        kept,
-    )
+    };
+    serve_made::<O>(alloc, links.count, door, service, limits, old, kept)
 }
 
 // A door that isn't asked for links. Where there is none, its making failed.
@@ -93,14 +89,12 @@ fn unasked<P, K>(door: Option<P>, sinks: Vec<K>) -> DoorEnd<P, K>
     }
 }
 
-// Serves the witness the links that come at the door, by a verifier and a signer, and ends the run.
+// Serves the witness the links that come at the door, by its verifier and its signer, and ends the run.
 fn serve_made<O: Outside>(
     alloc: Global,
     count: u16,
     door: O::Door,
-    witness: Witness<O::Disk>,
-    verifier: O::Verifier,
-    signer: O::Signer,
+    service: ServiceOf<O>,
     limits: Limits,
     old: Option<O::Disk>,
     kept: LinksKept<O::Source, O::Verifier, <O::Door as Door>::Sink>,
@@ -110,36 +104,29 @@ fn serve_made<O: Outside>(
     requires readers { count ≤ vec_capacity kept.readers }
     requires sinks { count ≤ vec_capacity kept.sinks }
     requires one { 0 < vec_capacity kept.readers }
-    requires whole { witness.broken ≡ false }
+    requires whole { service.witness.broken ≡ false }
     ensures old { result.old ≡ old }
     ensures no_second { result.second ≡ None }
-    ensures serves { (before after : O) → ServesAllLinks O.Disk.told witness.key witness.limits limits
-        (O.Verifier.says verifier) (O.Signer.gives signer) count (door_told O.Door.left O.Door.faults door)
-        (record {
-          left = record { core = witness.core; list = witness.shelf.list; broken = witness.broken; disk = witness.shelf.disk };
-          inquiries = O.Verifier.inquiries verifier;
-          verifier_faults = O.Verifier.faults verifier;
-          signings = O.Signer.signings signer;
-          signer_faults = O.Signer.faults signer;
-        })
-        result.disk (⟦<O as Runs>⟧.run before after result) }
+    ensures serves { ServesAllLinksBy ⟦<O as Viewed>⟧.views ⟦<ServiceOf<O> as Serves>⟧.serving ⟦<O as Runs>⟧.run
+        limits count door service result.disk result }
 {
     let mut door = door;
-    let mut witness = witness;
-    let mut verifier = verifier;
-    let mut signer = signer;
+    let mut service = service;
     let mut kept = kept;
-    let failed = serve_coming(
+    let failed = serve_coming::<O>(
         alloc,
         usize::from(count),
         &mut door,
-        &mut witness,
-        &mut verifier,
-        &mut signer,
+        &mut service,
         limits,
         &mut kept,
     );
     let LinksKept { readers, sinks } = kept;
+    let Service {
+        witness,
+        verifier,
+        signer,
+    } = service;
     let readers = with_verifier(alloc, verifier, readers);
     let links = DoorEnd {
         door: Some(door),

@@ -14,9 +14,9 @@ pub returns-in-Err : goal.returns-in-Err
 unfolding stores_none
 returns-in-Err g c = λ whole.
     let sound = c.stands.ensures whole in
-    let w = g.W.Witnessing.seen c.args.witness.now in
-    one_failed _ _ c.args.message.now (stores_none w.list w.disk w.core (g.met.W.Witnessing.only_now c.args.witness.now) sound.stand sound.listed) sound.lawful refl
-    (untold_asked (g.V.Verifier.inquiries c.args.verifier.now) w.core) c.make_place.ensures.refused c.make_place.ensures.seen refl refl fault.OutOfMemory OutOfMemory refl (inl (untold_itself w.core)) refl (0, after-nil (g.G.Signer.signings c.args.signer.now)) (inl refl)
+    let w = g.W.Witnessing.seen c.args.service.now in
+    one_failed _ _ c.args.message.now (stores_none w.witness.list w.witness.disk w.witness.core (g.met.W.Witnessing.only_now c.args.service.now) sound.stand sound.listed) sound.lawful refl
+    (untold_asked w.verifier.inquiries w.witness.core) c.make_place.ensures.refused c.make_place.ensures.seen refl refl fault.OutOfMemory OutOfMemory refl (inl (untold_itself w.witness.core)) refl (0, after-nil w.signer.signings) (inl refl)
 
 pub returns-in-Ok-put_receipts : goal.returns-in-Ok-put_receipts
 returns-in-Ok-put_receipts g c = λ whole.

@@ -20,8 +20,8 @@ loop-alloc-init g c = record {
   same_limits = refl;
   says = refl;
   gives = refl;
-  coming = rw (c.requires.no_readers, c.requires.no_sinks) (coming_none g.D.Disk.told c.args.witness.now.key c.args.witness.now.limits c.args.limits
-      (g.V.Verifier.says c.args.verifier.now) (g.G.Signer.gives c.args.signer.now) (g.P.Door.left c.args.door.now) _);
+  coming = rw (c.requires.no_readers, c.requires.no_sinks) (coming_none g.O.Disk.Disk.told c.args.service.now.witness.key c.args.service.now.witness.limits c.args.limits
+      (g.O.Verifier.Verifier.says c.args.service.now.verifier) (g.O.Signer.Signer.gives c.args.service.now.signer) (g.O.Door.Door.left c.args.door.now) _);
 }
 
 pub returns-then-not-asks_next-clause-serves : goal.returns-then-not-asks_next-clause-serves
@@ -30,18 +30,18 @@ returns-then-not-asks_next-clause-serves g c =
     let before = c.loop-alloc.kept in
     let came = c.in-Ok-Some.ensures in
     let result = c.serve_one-reader.result in
-    let left = g.P.Source.Source.left in
-    let seen = reader_seen left g.P.Source.Source.faults g.V.Verifier.says g.V.Verifier.inquiries g.V.Verifier.faults in
-    let sink = sink_seen g.P.Sink.Sink.written g.P.Sink.Sink.faults in
+    let left = g.O.Source.Source.left in
+    let seen = reader_seen left g.O.Source.Source.faults g.O.Verifier.Verifier.says g.O.Verifier.Verifier.inquiries g.O.Verifier.Verifier.faults in
+    let sink = sink_seen g.O.Door.Sink.Sink.written g.O.Door.Sink.Sink.faults in
     let readers : map seen c.push_reserved.new.self.items ≡ map seen before.readers.items ++ seen result.reader ∷ []
     = ap (map seen) c.push_reserved.ensures.items ∙ map-append seen before.readers.items (result.reader ∷ []) in
     let sinks : map sink c.push_reserved-in-Ok-Some.new.self.items ≡ map sink before.sinks.items ++ sink result.sink ∷ []
     = ap (map sink) c.push_reserved-in-Ok-Some.ensures.items ∙ map-append sink before.sinks.items (result.sink ∷ []) in
     let few : length c.push_reserved.new.self.items ≤ c.args.count = search rules in
-    rw (readers, sinks) (comes_last g.D.Disk.told c.args.witness.now.key c.args.witness.now.limits c.args.limits (g.V.Verifier.says c.args.verifier.now) (g.G.Signer.gives c.args.signer.now)
+    rw (sym readers, sym sinks) at (comes_last g.O.Disk.Disk.told c.args.service.now.witness.key c.args.service.now.witness.limits c.args.limits (g.O.Verifier.Verifier.says c.args.service.now.verifier) (g.O.Signer.Signer.gives c.args.service.now.signer)
     _ _ _ _ _ _ inv.coming Failed (λ (caller : _). left caller.source) _ c.in-Ok-Some.caller (rw c.in-Ok-Some.field-0-is at came.comes) _ (seen result.reader) (sink result.sink)
-    (rw (inv.key, inv.same_limits, inv.says, inv.gives) at c.serve_one-reader.ensures.serves) c.args.count (door_told g.P.Door.left g.P.Door.faults c.args.door.now)
-    (door_told g.P.Door.left g.P.Door.faults c.next.new.self) refl refl
+    (rw (inv.key, inv.same_limits, inv.says, inv.gives) at c.serve_one-reader.ensures.serves) c.args.count (door_told g.O.Door.Door.left g.O.Door.Door.faults c.args.door.now)
+    (door_told g.O.Door.Door.left g.O.Door.Door.faults c.next.new.self) refl refl
     (subst (λ xs. length xs ≤ c.args.count) readers (subst (λ n. n ≤ c.args.count) (sym (length-map c.push_reserved.new.self.items seen)) few)) (search rules) (search rules))
 
 pub loop-alloc-preserved : goal.loop-alloc-preserved
@@ -51,9 +51,9 @@ loop-alloc-preserved g c =
     let came = c.in-Ok-Some.ensures in
     let served = c.serve_one-reader.ensures in
     let result = c.serve_one-reader.result in
-    let left = g.P.Source.Source.left in
-    let seen = reader_seen left g.P.Source.Source.faults g.V.Verifier.says g.V.Verifier.inquiries g.V.Verifier.faults in
-    let sink = sink_seen g.P.Sink.Sink.written g.P.Sink.Sink.faults in
+    let left = g.O.Source.Source.left in
+    let seen = reader_seen left g.O.Source.Source.faults g.O.Verifier.Verifier.says g.O.Verifier.Verifier.inquiries g.O.Verifier.Verifier.faults in
+    let sink = sink_seen g.O.Door.Sink.Sink.written g.O.Door.Sink.Sink.faults in
     let readers : map seen c.push_reserved.new.self.items ≡ map seen before.readers.items ++ seen result.reader ∷ []
     = ap (map seen) c.push_reserved.ensures.items ∙ map-append seen before.readers.items (result.reader ∷ []) in
     let sinks : map sink c.push_reserved-in-Ok-Some.new.self.items ≡ map sink before.sinks.items ++ sink result.sink ∷ []
@@ -70,7 +70,7 @@ loop-alloc-preserved g c =
       same_limits = served.limits ∙ inv.same_limits;
       says = served.says ∙ inv.says;
       gives = served.gives ∙ inv.gives;
-      coming = rw (readers, sinks) (coming_more g.D.Disk.told c.args.witness.now.key c.args.witness.now.limits c.args.limits (g.V.Verifier.says c.args.verifier.now) (g.G.Signer.gives c.args.signer.now)
+      coming = rw (readers, sinks) (coming_more g.O.Disk.Disk.told c.args.service.now.witness.key c.args.service.now.witness.limits c.args.limits (g.O.Verifier.Verifier.says c.args.service.now.verifier) (g.O.Signer.Signer.gives c.args.service.now.signer)
           _ _ _ _ _ _ inv.coming Failed (λ (caller : _). left caller.source) _ c.in-Ok-Some.caller (rw c.in-Ok-Some.field-0-is at came.comes) _ (seen result.reader) (sink result.sink)
           (rw (inv.key, inv.same_limits, inv.says, inv.gives) at served.serves) (search rules));
     }
@@ -78,31 +78,31 @@ loop-alloc-preserved g c =
 pub returns-in-Ok-None-clause-serves : goal.returns-in-Ok-None-clause-serves
 returns-in-Ok-None-clause-serves g c =
     let inv = c.loop-alloc.invariant in
-    let seen = reader_seen g.P.Source.Source.left g.P.Source.Source.faults g.V.Verifier.says g.V.Verifier.inquiries g.V.Verifier.faults in
+    let seen = reader_seen g.O.Source.Source.left g.O.Source.Source.faults g.O.Verifier.Verifier.says g.O.Verifier.Verifier.inquiries g.O.Verifier.Verifier.faults in
     let before = c.loop-alloc.kept.readers.items in
     let few : length (map seen before) ≤ c.args.count = subst (λ n. n ≤ c.args.count) (sym (length-map before seen)) inv.few in
-    let came : NoneLeft (g.P.Door.left c.loop-alloc.door) × (g.P.Door.left c.next.new.self ≡ g.P.Door.left c.loop-alloc.door) = rw c.in-Ok-None.field-0-is at c.in-Ok-None.ensures.comes in
-    comes_to g.D.Disk.told c.args.witness.now.key c.args.witness.now.limits c.args.limits (g.V.Verifier.says c.args.verifier.now) (g.G.Signer.gives c.args.signer.now)
-    _ _ _ _ _ _ inv.coming c.args.count false (door_told g.P.Door.left g.P.Door.faults c.args.door.now) (door_told g.P.Door.left g.P.Door.faults c.next.new.self) refl came.1 few
+    let came : NoneLeft (g.O.Door.Door.left c.loop-alloc.door) × (g.O.Door.Door.left c.next.new.self ≡ g.O.Door.Door.left c.loop-alloc.door) = rw c.in-Ok-None.field-0-is at c.in-Ok-None.ensures.comes in
+    comes_to g.O.Disk.Disk.told c.args.service.now.witness.key c.args.service.now.witness.limits c.args.limits (g.O.Verifier.Verifier.says c.args.service.now.verifier) (g.O.Signer.Signer.gives c.args.service.now.signer)
+    _ _ _ _ _ _ inv.coming c.args.count false (door_told g.O.Door.Door.left g.O.Door.Door.faults c.args.door.now) (door_told g.O.Door.Door.left g.O.Door.Door.faults c.next.new.self) refl came.1 few
     (inr (inr came.0)) (search rules)
 
 pub returns-in-Err-clause-serves : goal.returns-in-Err-clause-serves
 returns-in-Err-clause-serves g c =
     let inv = c.loop-alloc.invariant in
-    let seen = reader_seen g.P.Source.Source.left g.P.Source.Source.faults g.V.Verifier.says g.V.Verifier.inquiries g.V.Verifier.faults in
+    let seen = reader_seen g.O.Source.Source.left g.O.Source.Source.faults g.O.Verifier.Verifier.says g.O.Verifier.Verifier.inquiries g.O.Verifier.Verifier.faults in
     let before = c.loop-alloc.kept.readers.items in
     let few : length (map seen before) ≤ c.args.count = subst (λ n. n ≤ c.args.count) (sym (length-map before seen)) inv.few in
-    comes_to g.D.Disk.told c.args.witness.now.key c.args.witness.now.limits c.args.limits (g.V.Verifier.says c.args.verifier.now) (g.G.Signer.gives c.args.signer.now)
-    _ _ _ _ _ _ inv.coming c.args.count true (door_told g.P.Door.left g.P.Door.faults c.args.door.now) (door_told g.P.Door.left g.P.Door.faults c.next.new.self) refl c.in-Err.ensures.comes few
+    comes_to g.O.Disk.Disk.told c.args.service.now.witness.key c.args.service.now.witness.limits c.args.limits (g.O.Verifier.Verifier.says c.args.service.now.verifier) (g.O.Signer.Signer.gives c.args.service.now.signer)
+    _ _ _ _ _ _ inv.coming c.args.count true (door_told g.O.Door.Door.left g.O.Door.Door.faults c.args.door.now) (door_told g.O.Door.Door.left g.O.Door.Door.faults c.next.new.self) refl c.in-Err.ensures.comes few
     (inr (inl refl)) (search rules)
 
 pub returns-clause-serves : goal.returns-clause-serves
 returns-clause-serves g c =
     let inv = c.loop-alloc.invariant in
-    let seen = reader_seen g.P.Source.Source.left g.P.Source.Source.faults g.V.Verifier.says g.V.Verifier.inquiries g.V.Verifier.faults in
+    let seen = reader_seen g.O.Source.Source.left g.O.Source.Source.faults g.O.Verifier.Verifier.says g.O.Verifier.Verifier.inquiries g.O.Verifier.Verifier.faults in
     let before = c.loop-alloc.kept.readers.items in
     let few : length (map seen before) ≤ c.args.count = subst (λ n. n ≤ c.args.count) (sym (length-map before seen)) inv.few in
     let many : length (map seen before) ≡ c.args.count = length-map before seen ∙ omega (arith, inv.few, c.len.ensures, c.loop-alloc-test.false) in
-    comes_to g.D.Disk.told c.args.witness.now.key c.args.witness.now.limits c.args.limits (g.V.Verifier.says c.args.verifier.now) (g.G.Signer.gives c.args.signer.now)
-    _ _ _ _ _ _ inv.coming c.args.count false (door_told g.P.Door.left g.P.Door.faults c.args.door.now) (door_told g.P.Door.left g.P.Door.faults c.loop-alloc.door) refl refl few
+    comes_to g.O.Disk.Disk.told c.args.service.now.witness.key c.args.service.now.witness.limits c.args.limits (g.O.Verifier.Verifier.says c.args.service.now.verifier) (g.O.Signer.Signer.gives c.args.service.now.signer)
+    _ _ _ _ _ _ inv.coming c.args.count false (door_told g.O.Door.Door.left g.O.Door.Door.faults c.args.door.now) (door_told g.O.Door.Door.left g.O.Door.Door.faults c.loop-alloc.door) refl refl few
     (inl many) inv.unfailed

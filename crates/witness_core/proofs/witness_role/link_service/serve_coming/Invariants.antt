@@ -7,35 +7,34 @@ use Rattle.witness_core.proofs.witness_role.link_service.serve_coming.Given as g
 -- Links came so far, and were served. The witness is whole, and the door didn't fail yet.
 abbrev pub invariant-loop-alloc : goal.invariant-loop-alloc
 invariant-loop-alloc g l = record {
-  whole : l.witness.broken ≡ false;
+  whole : l.service.witness.broken ≡ false;
   few : length l.kept.readers.items ≤ l.count;
   each : length l.kept.sinks.items ≡ length l.kept.readers.items;
   room : l.count ≤ vec_capacity l.kept.readers;
   sink_room : l.count ≤ vec_capacity l.kept.sinks;
   same_room : vec_capacity l.kept.readers ≡ vec_capacity l.fn.kept.readers;
-  unfailed : g.P.Door.faults l.door ≡ g.P.Door.faults l.fn.door;
-  key : l.witness.key ≡ l.fn.witness.key;
-  same_limits : l.witness.limits ≡ l.fn.witness.limits;
-  says : g.V.Verifier.says l.verifier ≡ g.V.Verifier.says l.fn.verifier;
-  gives : g.G.Signer.gives l.signer ≡ g.G.Signer.gives l.fn.signer;
-  coming : IsComing g.D.Disk.told l.fn.witness.key l.fn.witness.limits l.fn.limits (g.V.Verifier.says l.fn.verifier) (g.G.Signer.gives l.fn.signer)
-      (g.P.Door.left l.fn.door) (g.P.Door.left l.door)
-      (record {
-        left = record { core = l.fn.witness.core; list = l.fn.witness.shelf.list; broken = l.fn.witness.broken; disk = l.fn.witness.shelf.disk };
-        inquiries = g.V.Verifier.inquiries l.fn.verifier;
-        verifier_faults = g.V.Verifier.faults l.fn.verifier;
-        signings = g.G.Signer.signings l.fn.signer;
-        signer_faults = g.G.Signer.faults l.fn.signer;
+  unfailed : g.O.Door.Door.faults l.door ≡ g.O.Door.Door.faults l.fn.door;
+  key : l.service.witness.key ≡ l.fn.service.witness.key;
+  same_limits : l.service.witness.limits ≡ l.fn.service.witness.limits;
+  says : g.O.Verifier.Verifier.says l.service.verifier ≡ g.O.Verifier.Verifier.says l.fn.service.verifier;
+  gives : g.O.Signer.Signer.gives l.service.signer ≡ g.O.Signer.Signer.gives l.fn.service.signer;
+  coming : IsComing g.O.Disk.Disk.told l.fn.service.witness.key l.fn.service.witness.limits l.fn.limits (g.O.Verifier.Verifier.says l.fn.service.verifier) (g.O.Signer.Signer.gives l.fn.service.signer)
+      (g.O.Door.Door.left l.fn.door) (g.O.Door.Door.left l.door) (record {
+        left = record { core = l.fn.service.witness.core; list = l.fn.service.witness.shelf.list; broken = l.fn.service.witness.broken; disk = l.fn.service.witness.shelf.disk };
+        inquiries = g.O.Verifier.Verifier.inquiries l.fn.service.verifier;
+        verifier_faults = g.O.Verifier.Verifier.faults l.fn.service.verifier;
+        signings = g.O.Signer.Signer.signings l.fn.service.signer;
+        signer_faults = g.O.Signer.Signer.faults l.fn.service.signer;
       })
       (record {
-        left = record { core = l.witness.core; list = l.witness.shelf.list; broken = l.witness.broken; disk = l.witness.shelf.disk };
-        inquiries = g.V.Verifier.inquiries l.verifier;
-        verifier_faults = g.V.Verifier.faults l.verifier;
-        signings = g.G.Signer.signings l.signer;
-        signer_faults = g.G.Signer.faults l.signer;
+        left = record { core = l.service.witness.core; list = l.service.witness.shelf.list; broken = l.service.witness.broken; disk = l.service.witness.shelf.disk };
+        inquiries = g.O.Verifier.Verifier.inquiries l.service.verifier;
+        verifier_faults = g.O.Verifier.Verifier.faults l.service.verifier;
+        signings = g.O.Signer.Signer.signings l.service.signer;
+        signer_faults = g.O.Signer.Signer.faults l.service.signer;
       })
-      (map (reader_seen g.P.Source.Source.left g.P.Source.Source.faults g.V.Verifier.says g.V.Verifier.inquiries g.V.Verifier.faults) l.kept.readers.items)
-      (map (sink_seen g.P.Sink.Sink.written g.P.Sink.Sink.faults) l.kept.sinks.items);
+      (map (reader_seen g.O.Source.Source.left g.O.Source.Source.faults g.O.Verifier.Verifier.says g.O.Verifier.Verifier.inquiries g.O.Verifier.Verifier.faults) l.kept.readers.items)
+      (map (sink_seen g.O.Door.Sink.Sink.written g.O.Door.Sink.Sink.faults) l.kept.sinks.items);
 }
 
 abbrev pub decreases-loop-alloc : goal.decreases-loop-alloc

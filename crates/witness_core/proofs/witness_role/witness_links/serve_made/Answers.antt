@@ -10,10 +10,10 @@ returns-clause-serves g c = λ before after.
     let end = c.end.ensures in
     record {
       door = door_told g.O.Door.Door.left g.O.Door.Door.faults now.door;
-      verifier = verifier_seen g.O.Source.Source.left g.O.Source.Source.faults g.O.Verifier.Verifier.says g.O.Verifier.Verifier.inquiries g.O.Verifier.Verifier.faults now.verifier;
-      signer = signer_told g.O.Signer.Signer.gives g.O.Signer.Signer.signings g.O.Signer.Signer.faults now.signer;
+      verifier = verifier_seen g.O.Source.Source.left g.O.Source.Source.faults g.O.Verifier.Verifier.says g.O.Verifier.Verifier.inquiries g.O.Verifier.Verifier.faults now.service.verifier;
+      signer = signer_told g.O.Signer.Signer.gives g.O.Signer.Signer.signings g.O.Signer.Signer.faults now.service.signer;
       each = map (reader_seen g.O.Source.Source.left g.O.Source.Source.faults g.O.Verifier.Verifier.says g.O.Verifier.Verifier.inquiries g.O.Verifier.Verifier.faults) now.kept.readers.items;
-      new = record { core = now.witness.core; list = now.witness.shelf.list; broken = now.witness.broken; disk = now.witness.shelf.disk };
+      new = record { core = now.service.witness.core; list = now.service.witness.shelf.list; broken = now.service.witness.broken; disk = now.service.witness.shelf.disk };
       failed = c.serve_coming-failed.result;
       door_is = rw end.door refl;
       signer_is = rw end.signer refl;

@@ -1,6 +1,6 @@
 use Rattle.witness_core.proofs.WitnessLinkLemmas.Holding.{all_kept}
 use Rattle.witness_core.proofs.WitnessLinkLemmas.Lawful.{sound}
-use Rattle.witness_core.proofs.witness_link.witnessing.WitnessWitnessing.stands.Goals as goal
+use Rattle.witness_core.proofs.witness_core.witness.Witness.stands.Goals as goal
 
 pub returns : goal.returns
 returns g c = λ whole.

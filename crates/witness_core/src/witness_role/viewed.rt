@@ -1,0 +1,35 @@
+//! What is seen of the objects of an outside.
+
+use crate::witness_link::Service;
+use run_status::Outside;
+
+/// What serves links with the objects of an outside.
+pub(crate) type ServiceOf<O> = Service<
+    <O as Outside>::Disk,
+    <O as Outside>::Verifier,
+    <O as Outside>::Signer,
+>;
+
+/// Gives what is seen of an outside and of its objects as one value. Each outside has it, by the impl below.
+pub trait Viewed: Outside {
+    ghost use Rattle.witness_core.specs.WitnessRole.Views.{Views};
+
+    /// Of each kind of object, what it tells.
+    ghost views: { Views Self Self.Source Self.Verifier Self.Signer Self.Disk Self.Door Self.Door.Sink };
+}
+
+impl<O: Outside> Viewed for O {
+    ghost use Rattle.run_status.specs.RunRecord.Seen.{door_told, signer_told};
+    ghost use Rattle.run_status.specs.RunStatus.Readers.{sink_seen};
+    ghost use Rattle.witness_core.specs.WitnessLink.Links.{source_at, verifier_told};
+
+    ghost views = { record {
+      sink = λ outside. sink_seen O.Sink.written O.Sink.faults (O.sink outside);
+      source = source_at O.Source.left O.Source.faults;
+      verifier = verifier_told O.Verifier.says O.Verifier.inquiries O.Verifier.faults;
+      signer = signer_told O.Signer.gives O.Signer.signings O.Signer.faults;
+      disk = O.Disk.told;
+      door = door_told O.Door.left O.Door.faults;
+      link_sink = sink_seen O.Door.Sink.written O.Door.Sink.faults;
+    } };
+}
