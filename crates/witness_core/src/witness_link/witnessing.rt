@@ -12,8 +12,8 @@ use keri_outside::{Signer, Verifier};
 use key_state::spelled_is_kept;
 use shelf_log::Disk;
 
-/// What serves links.
-pub trait Serves {
+/// Gives what serves links as one value.
+pub trait ServiceView {
     /// The disk of its witness.
     type Disk;
 
@@ -22,7 +22,7 @@ pub trait Serves {
 }
 
 /// A witness with its verifier and its signer, as far as a link needs them.
-pub trait Witnessing: Serves {
+pub trait Witnessing: ServiceView {
     /// What is seen of them.
     ghost seen: { Self → ServiceTold };
 
@@ -75,7 +75,7 @@ pub struct Service<D: Disk, V, G> {
     pub(crate) signer: G,
 }
 
-impl<D: Disk, V: Verifier, G: Signer> Serves for Service<D, V, G> {
+impl<D: Disk, V: Verifier, G: Signer> ServiceView for Service<D, V, G> {
     ghost use Rattle.run_status.specs.RunRecord.Seen.{signer_told};
     ghost use Rattle.witness_core.specs.WitnessLink.Links.{verifier_told};
 

@@ -5,7 +5,7 @@ ghost use Rattle.lists.specs.KeriSpecs.Told.{HasNone};
 ghost use Rattle.witness_core.specs.WitnessRole.ServedLinks.{IsServedBy, ServesComingBy};
 ghost use Rattle.witness_core.specs.WitnessLink.Closes.{asks_next as asks_next_by};
 
-use crate::witness_link::{LinkEnd, Serves, asks_next, serve_link};
+use crate::witness_link::{LinkEnd, ServiceView, asks_next, serve_link};
 use crate::witness_role::links_kept::LinksKept;
 use crate::witness_role::viewed::{ServiceOf, Viewed};
 use keri_outside::{Caller, Door, Failed, Limits};
@@ -29,7 +29,7 @@ pub(crate) fn serve_coming<O: Outside>(
     requires readers { count ≤ vec_capacity kept.old.readers }
     requires sinks { count ≤ vec_capacity kept.old.sinks }
     ensures room { vec_capacity kept.new.readers ≡ vec_capacity kept.old.readers }
-    ensures serves { ServesComingBy ⟦<O as Viewed>⟧.views ⟦<ServiceOf<O> as Serves>⟧.serving limits count result
+    ensures serves { ServesComingBy ⟦<O as Viewed>⟧.views ⟦<ServiceOf<O> as ServiceView>⟧.serving limits count result
         door.old door.new service.old service.new kept.new }
     ensures says { O.Verifier.says service.new.verifier ≡ O.Verifier.says service.old.verifier }
     ensures gives { O.Signer.gives service.new.signer ≡ O.Signer.gives service.old.signer }
@@ -70,7 +70,7 @@ fn serve_one<O: Outside>(
     requires source_unfailed { O.Source.faults caller.source ≡ 0 }
     requires sink_unfailed { O.Door.Sink.faults caller.sink ≡ 0 }
     requires unwritten { HasNone (O.Door.Sink.written caller.sink) }
-    ensures serves { IsServedBy ⟦<O as Viewed>⟧.views ⟦<ServiceOf<O> as Serves>⟧.serving limits
+    ensures serves { IsServedBy ⟦<O as Viewed>⟧.views ⟦<ServiceOf<O> as ServiceView>⟧.serving limits
         (O.Source.left caller.source) result.reader result.sink service.old service.new }
     ensures whole { asks_next_by result.reader.close ≡ true → service.new.witness.broken ≡ false }
     ensures key { service.new.witness.key ≡ service.old.witness.key }

@@ -4,7 +4,7 @@ ghost use Rattle.std.specs.Vec.{vec_capacity};
 ghost use Rattle.witness_core.specs.WitnessRole.ServedFile.{IsServing, ServesAllBy, ServesOver};
 
 use crate::witness_core::Witness;
-use crate::witness_link::{LinkEnd, Serves, Service, serve_link};
+use crate::witness_link::{LinkEnd, Service, ServiceView, serve_link};
 use crate::witness_role::door_end::DoorEnd;
 use crate::witness_role::links_kept::unserved;
 use crate::witness_role::viewed::{ServiceOf, Viewed};
@@ -67,7 +67,7 @@ fn serve_made<O: Outside>(
     requires whole { service.witness.broken ≡ false }
     ensures old { result.old ≡ old }
     ensures no_second { result.second ≡ None }
-    ensures serves { ServesAllBy ⟦<O as Viewed>⟧.views ⟦<ServiceOf<O> as Serves>⟧.serving source service result.disk
+    ensures serves { ServesAllBy ⟦<O as Viewed>⟧.views ⟦<ServiceOf<O> as ServiceView>⟧.serving source service result.disk
         (⟦<O as Runs>⟧.run outside.old outside.new result) }
     ensures told { O.told outside.new ≡ O.told outside.old }
 {
@@ -102,7 +102,7 @@ fn serve<O: Outside>(
     outside: &mut O,
 ) -> LinkEnd
     requires { service.old.witness.broken ≡ false }
-    ensures serves { ServesOver ⟦<O as Viewed>⟧.views ⟦<ServiceOf<O> as Serves>⟧.serving (O.told outside.old).limits
+    ensures serves { ServesOver ⟦<O as Viewed>⟧.views ⟦<ServiceOf<O> as ServiceView>⟧.serving (O.told outside.old).limits
         source.old source.new outside.old outside.new service.old service.new result }
     ensures told { O.told outside.new ≡ O.told outside.old }
 {

@@ -4,7 +4,7 @@ ghost use Rattle.std.specs.Vec.{vec_capacity};
 ghost use Rattle.witness_core.specs.WitnessRole.ServedLinks.{IsServingLinks, ServesAllLinksBy};
 
 use crate::witness_core::Witness;
-use crate::witness_link::{Serves, Service};
+use crate::witness_link::{Service, ServiceView};
 use crate::witness_role::door_end::DoorEnd;
 use crate::witness_role::link_service::serve_coming;
 use crate::witness_role::links_kept::{LinksKept, unserved, with_verifier};
@@ -107,7 +107,7 @@ fn serve_made<O: Outside>(
     requires whole { service.witness.broken ≡ false }
     ensures old { result.old ≡ old }
     ensures no_second { result.second ≡ None }
-    ensures serves { ServesAllLinksBy ⟦<O as Viewed>⟧.views ⟦<ServiceOf<O> as Serves>⟧.serving ⟦<O as Runs>⟧.run
+    ensures serves { ServesAllLinksBy ⟦<O as Viewed>⟧.views ⟦<ServiceOf<O> as ServiceView>⟧.serving ⟦<O as Runs>⟧.run
         limits count door service result.disk result }
 {
     let mut door = door;
