@@ -1,12 +1,17 @@
 //! Seats for the readers of one core.
-ghost use Rattle.std.specs.Prelude.{◌≡◌, ◌<◌, [], length, map, vec_len, IfOk};
+ghost use Rattle.std.specs.Prelude.{◌≡◌, ◌<◌, [], ◌∷◌, length, map, vec_len, IfOk};
+ghost use Rattle.std.specs.List.{AllByRecursion};
 ghost use Rattle.run_status.specs.RunStatus.Readers.{reader_seen};
+ghost use Rattle.turn_lock.specs.Locks.{IsPassOf, known};
 ghost use Rattle.validator_core.specs.ValidatorCore.View.{Stands, told_of};
+ghost use Rattle.reader_hub.specs.ReaderHub.Closing.{AreAll, ClosesAll};
+ghost use Rattle.reader_hub.specs.ReaderHub.Hubs.{head_of};
 ghost use Rattle.reader_hub.specs.ReaderThreads.Asked.{EachAsksOnly};
 ghost use Rattle.reader_hub.specs.ReaderThreads.Fed.{AllRead};
 ghost use Rattle.reader_hub.specs.ReaderThreads.Given.{given_by};
 ghost use Rattle.reader_hub.specs.ReaderThreads.Seats.{AreReady, HasSeats, mode_of};
 ghost use Rattle.reader_hub.specs.ReaderThreads.Told.{AllTold};
+ghost use Rattle.journal.specs.Journal.Feeds.{reader_of};
 ghost use Rattle.journal.specs.Journal.Questions.{IsInStep};
 
 use crate::reader_hub::{Extent, Hub, Pass};
@@ -136,12 +141,27 @@ impl<S: Source + Drop + Send, V: Verifier + Drop + Send> ReaderSeats<S, V> {
             providers: providers.remove(0),
         };
         let jobs = jobs_for(others, providers, jobs);
-        let AllEnds { pass, ends } = run_all(rt, alloc, &hub, gate, limits, own, jobs, room);
-        let Ends { passes, readers } = ends;
-        let core = hub.close(pass, passes);
-        core.stands();
-        (core, readers)
+        let all = run_all(rt, alloc, &hub, gate, limits, own, jobs, room);
+        close(hub, all)
     }
+}
+
+// Closes the hub by all its passes: its core, and how the readers ended.
+fn close<S, V>(hub: Hub, all: AllEnds<S, V>) -> (Core, Vec<ReaderEnd<S, V>>)
+    requires pass { IsPassOf hub.turn all.pass }
+    requires others { AllByRecursion (λ p. IsPassOf hub.turn p) all.ends.passes.items }
+    requires all { AreAll (known all.pass ∷ map (λ p. known p) all.ends.passes.items) }
+    ensures no_base { result.0.base ≡ 0 }
+    ensures stands { Stands result.0 }
+    ensures closed { ClosesAll told_of head_of reader_of (known all.pass) (map (λ p. known p) all.ends.passes.items)
+        result.0 }
+    ensures readers { result.1 ≡ all.ends.readers }
+{
+    let AllEnds { pass, ends } = all;
+    let Ends { passes, readers } = ends;
+    let core = hub.close(pass, passes);
+    core.stands();
+    (core, readers)
 }
 
 // Which open questions reader 0 asks between messages, beside so many others.

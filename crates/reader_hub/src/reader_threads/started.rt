@@ -1,5 +1,5 @@
 //! Readers that were started in threads of one scope.
-ghost use Rattle.std.specs.Prelude.{◌≡◌, [], ◌∷◌, ◌++◌, ◌+◌, ◌≤◌, List, IfSome, IfNone, vec_len, vec_capacity};
+ghost use Rattle.std.specs.Prelude.{◌≡◌, [], ◌∷◌, ◌++◌, ◌+◌, ◌≤◌, ◌<◌, List, IfSome, IfNone, vec_len, vec_capacity};
 ghost use Rattle.std.specs.List.{AllByRecursion};
 ghost use Rattle.turn_lock.specs.Locks.{limit_of};
 ghost use Rattle.reader_hub.specs.ReaderThreads.Jobs.{HasRun, IsFit};
@@ -52,6 +52,21 @@ fn take_last<S, V>(hub: &Hub, jobs: &mut Vec<Job<S, V>>) -> Option<Job<S, V>>
     jobs.pop()
 }
 
+// Puts one more behind those that were started.
+fn put<S: Source + Drop, V: Verifier + Drop>(
+    all: Vec<Started<S, V>>,
+    one: Started<S, V>,
+) -> Vec<Started<S, V>>
+    requires room { vec_len all < vec_capacity all }
+    ensures behind { result.items ≡ all.items ++ one ∷ [] }
+    ensures count { vec_len result ≡ vec_len all + 1 }
+    ensures room { vec_capacity result ≡ vec_capacity all }
+{
+    let mut all = all;
+    all.push_reserved(one);
+    all
+}
+
 /// Starts the jobs, the last one first, and once all the others were started runs each that found no thread.
 pub(crate) fn start<
     's,
@@ -89,14 +104,12 @@ pub(crate) fn start<
     };
     match scope.spawn_with(promise, move || run_job(rt, alloc, hub, gate, limits, job)) {
         Ok(child) => {
-            let mut all = start(rt, alloc, scope, hub, gate, limits, jobs, started);
-            all.push_reserved(Started::Running(child));
-            all
+            let all = start(rt, alloc, scope, hub, gate, limits, jobs, started);
+            put(all, Started::Running(child))
         }
         Err(refused) => {
-            let mut all = start(rt, alloc, scope, hub, gate, limits, jobs, started);
-            all.push_reserved(Started::Ended((refused.value)()));
-            all
+            let all = start(rt, alloc, scope, hub, gate, limits, jobs, started);
+            put(all, Started::Ended((refused.value)()))
         }
     }
 }

@@ -1,10 +1,14 @@
 //! The open questions, which the verifier is asked between two turns.
-ghost use Rattle.std.specs.Prelude.{◌≡◌, false, OnOk, IfOk, IfErr, if◌then◌else◌};
+ghost use Rattle.std.specs.Prelude.{◌≡◌, ◌≤◌, [], ◌∷◌, false, length, OnOk, IfOk, IfErr, IfSome, if◌then◌else◌};
+ghost use Rattle.lists.specs.KeriSpecs.Causes.{HasCause};
+ghost use Rattle.lists.specs.KeriSpecs.Told.{Puts};
+ghost use Rattle.keri_outside.specs.Asked.{inquiry};
 ghost use Rattle.turn_lock.specs.Locks.{limit_of, known, IsPassOf};
 ghost use Rattle.reader_hub.specs.SharedReader.Asks.{Asks, LeavesNone, StopsAsking};
 
 use crate::reader_hub::{Asked, Extent, Hub, Pass};
 use crate::shared_reader::closes::close_of;
+use journal::Question;
 use keri_outside::{Failed, Verifier};
 use run_status::Close;
 use std::alloc::Global;
@@ -70,7 +74,7 @@ fn ask_one<V: Verifier, W: Wait>(
     let Some(Asked { question, bytes }) = answer else {
         return Ok(false);
     };
-    let verdict = match verifier.ask(&question.key, bytes.as_slice(), &question.sig) {
+    let verdict = match verdict_on(verifier, &question, bytes.as_slice()) {
         Ok(verdict) => verdict,
         Err(Failed) => return Err(Close::VerifierFault),
     };
@@ -78,4 +82,21 @@ fn ask_one<V: Verifier, W: Wait>(
         Ok(_) => Ok(true),
         Err(fault) => Err(close_of(fault)),
     }
+}
+
+// What the verifier says of a question on this body.
+fn verdict_on<V: Verifier>(
+    verifier: &mut V,
+    question: &Question,
+    body: &[u8],
+) -> Result<bool, Failed>
+    requires few { length body.now ≤ 65535 }
+    ensures said { IfOk result (λ yes. IfSome (V.says verifier.old question.now.key body.now question.now.sig)
+        (λ told. yes ≡ told)) }
+    ensures same { V.says verifier.new ≡ V.says verifier.old }
+    ensures asked { Puts (V.inquiries verifier.old) (V.inquiries verifier.new) result
+        (inquiry question.now.key body.now question.now.sig ∷ []) }
+    ensures cause { HasCause (V.faults verifier.old) (V.faults verifier.new) result }
+{
+    verifier.ask(&question.key, body, &question.sig)
 }

@@ -1,4 +1,4 @@
-use Rattle.std.proofs.Common.{rules, ◌≡◌, ◌∷◌, ◌++◌, []}
+use Rattle.std.proofs.Common.{rules}
 use base.Fml.{Lft}
 use denote.Exit.{no as hidden}
 use denote.Param.{param}
@@ -16,15 +16,13 @@ pub returns-in-Ok-clause-started : goal.returns-in-Ok-clause-started
 returns-in-Ok-clause-started g t c =
     let R = IsStarted g.S.Source.left g.S.Source.faults g.V.Verifier.says g.V.Verifier.inquiries g.V.Verifier.faults c.args.limits (limit_of c.args.hub.now.turn) in
     let is : R c.in-Some.job (Running c.in-Ok.child) = search rules in
-    let pushed : c.push_reserved.new.self.items ≡ c.start-all.result.items ++ Running c.in-Ok.child ∷ [] = c.push_reserved.ensures.items in
-    λ front each. behind R front _ _ _ _ _ _ c.in-Some.ensures.some pushed (c.start-all.ensures.started front each) is
+    λ front each. behind R front _ _ _ _ _ _ c.in-Some.ensures.some c.put.ensures.behind (c.start-all.ensures.started front each) is
 
 pub returns-in-Err-clause-started : goal.returns-in-Err-clause-started
 returns-in-Err-clause-started g t c =
     let R = IsStarted g.S.Source.left g.S.Source.faults g.V.Verifier.says g.V.Verifier.inquiries g.V.Verifier.faults c.args.limits (limit_of c.args.hub.now.turn) in
     let is : R c.in-Some.job (Ended c.spawn_with-in-Err.result) = search rules in
-    let pushed : c.push_reserved-in-Err.new.self.items ≡ c.start-all-in-Err.result.items ++ Ended c.spawn_with-in-Err.result ∷ [] = c.push_reserved-in-Err.ensures.items in
-    λ front each. behind R front _ _ _ _ _ _ c.in-Some.ensures.some pushed (c.start-all-in-Err.ensures.started front each) is
+    λ front each. behind R front _ _ _ _ _ _ c.in-Some.ensures.some c.put-in-Err.ensures.behind (c.start-all-in-Err.ensures.started front each) is
 
 pub spawn_with-requires-send-F : goal.spawn_with-requires-send-F
 spawn_with-requires-send-F g t c κs within =

@@ -18,14 +18,14 @@ returns-in-Err-clause-stopped g c =
     (asks_nothing c.args.extent says told told _ q 1 0 (none_asked told [] refl) (none_asked_seen told q) (stop_tells (limit_of c.args.hub.now.turn) _ q c.in-Err.fault c.in-Err.ensures.stops))
 
 -- the verifier failed: it was asked that, or nothing
-pub returns-in-Err-ask-clause-stopped : goal.returns-in-Err-ask-clause-stopped
-returns-in-Err-ask-clause-stopped g c =
+pub returns-in-Err-verdict_on-clause-stopped : goal.returns-in-Err-verdict_on-clause-stopped
+returns-in-Err-verdict_on-clause-stopped g c =
     let says = g.V.Verifier.says c.args.verifier.now in
     let told = g.V.Verifier.inquiries c.args.verifier.now in
-    let now = g.V.Verifier.inquiries c.ask.new.self in
+    let now = g.V.Verifier.inquiries c.verdict_on.new.verifier in
     let limit = limit_of c.args.hub.now.turn in
     let t = c.in-Ok.ensures.asks in
-    let front = c.in-Err-ask.ensures.asked in
+    let front = c.in-Err-verdict_on.ensures.asked in
     let q = known c.next_question.new.pass in
     let a = c.in-Some.field-0 in
     let asked = subst (λ o. AsksAt limit (known c.args.pass.now) c.args.extent o q) c.in-Some.is t in
@@ -38,22 +38,22 @@ pub returns-in-Ok-answer-clause-asks : goal.returns-in-Ok-answer-clause-asks
 returns-in-Ok-answer-clause-asks g c =
     let says = g.V.Verifier.says c.args.verifier.now in
     let told = g.V.Verifier.inquiries c.args.verifier.now in
-    let now = g.V.Verifier.inquiries c.ask.new.self in
+    let now = g.V.Verifier.inquiries c.verdict_on.new.verifier in
     let limit = limit_of c.args.hub.now.turn in
     let p = known c.args.pass.now in
     let q = known c.next_question.new.pass in
     let a = c.in-Some.field-0 in
     let asked = subst (λ o. AsksAt limit p c.args.extent o q) c.in-Some.is c.in-Ok.ensures.asks in
-    let said : IfSome (says a.question.key a.bytes.items a.question.sig) (λ told. c.in-Ok-ask.verdict ≡ told) = search rules in
+    let said : IfSome (says a.question.key a.bytes.items a.question.sig) (λ told. c.in-Ok-verdict_on.verdict ≡ told) = search rules in
     let put : now ≡ after told (inquiry a.question.key a.bytes.items a.question.sig ∷ []) = search rules in
-    asks_one c.args.extent says limit p a q (known c.answer.new.pass) c.in-Ok-ask.verdict c.in-Ok-answer.field-0 asked c.in-Ok-answer.ensures.answers told now put said
+    asks_one c.args.extent says limit p a q (known c.answer.new.pass) c.in-Ok-verdict_on.verdict c.in-Ok-answer.field-0 asked c.in-Ok-answer.ensures.answers told now put said
 
 -- the verdict wasn't told to the hub
 pub returns-clause-stopped : goal.returns-clause-stopped
 returns-clause-stopped g c =
     let says = g.V.Verifier.says c.args.verifier.now in
     let told = g.V.Verifier.inquiries c.args.verifier.now in
-    let now = g.V.Verifier.inquiries c.ask.new.self in
+    let now = g.V.Verifier.inquiries c.verdict_on.new.verifier in
     let limit = limit_of c.args.hub.now.turn in
     let t = c.in-Ok.ensures.asks in
     let put : now ≡ after told (take 1 (inquiry c.in-Some.field-0.question.key c.in-Some.field-0.bytes.items c.in-Some.field-0.question.sig ∷ [])) = search rules in
