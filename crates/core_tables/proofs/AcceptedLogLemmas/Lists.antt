@@ -1,5 +1,5 @@
 -- Lists with one more element, or with one changed.
-use Rattle.std.proofs.Common.{◌≡◌, ℕ, zero, suc, ◌≤◌, ◌<◌, List, [], ◌∷◌, ◌++◌, length, take, drop, Some, refl, sym, ◌∙◌, ap, set, arith}
+use Rattle.std.proofs.Common.{◌≡◌, ℕ, zero, suc, ◌≤◌, ◌<◌, List, [], ◌∷◌, ◌++◌, take, drop, Some, refl, sym, ◌∙◌, ap, set, arith}
 use Rattle.std.specs.Prelude.{slice_get}
 use Rattle.core_tables.specs.AcceptedLog.Values.{at_place}
 

@@ -7,7 +7,7 @@ use Rattle.event_body.specs.declared.event_body.event.Event.{Event}
 use Rattle.key_state.specs.KeyStates.{digest_at, state_behind}
 use Rattle.key_state.specs.States.{State}
 use Rattle.journal.specs.declared.journal.body.Body.{Body}
-use Rattle.journal.specs.Journal.Grown.{fits}
+use Rattle.journal.specs.Journal.Grown.{IsGrown, fits}
 use Rattle.journal.specs.Journal.Logs as logs
 use Rattle.core_tables.specs.declared.accepted_log.place.Place.{Place}
 use Rattle.core_tables.specs.AcceptedLog.Values.{Log, last_of}
@@ -66,3 +66,8 @@ GrowsByState s old new = (log : List Body) (b : Body) → IsLog log old → IsTr
 abbrev pub GrowsByInteraction : Prefix → Digest → Log → Log → Type 0
 GrowsByInteraction prefix said old new = (log : List Body) (b : Body) → IsLog log old → IsTrue (fits log b) → is_interaction b.event ≡ true
     → prefix_of b.event ≡ prefix → said_of b.event ≡ said → IsLog (log ++ b ∷ []) new
+
+-- of whatever grown list the log is: the state is, but for its live events, the one right before the event at a place
+abbrev pub IsStateBefore : Log → ℕ → Event → Option State → Type 0
+IsStateBefore v i e s = (log : List Body) (b : Body) → IsLog log v → IsGrown log → slice_get log i ≡ Some b → b.event ≡ e
+    → AreBothAlike s (logs.state (logs.before b log) (prefix_of b.event))

@@ -1,5 +1,5 @@
 -- Which claims of an entry stand on the event of a number: those that came with it, and those of its receipts.
-use Rattle.std.specs.Prelude.{ℕ, Bool, false, ◌&&◌, ◌||◌, ◌==◌, List, [], slice_get, Option, Some, None, if◌then◌else◌}
+use Rattle.std.specs.Prelude.{ℕ, Bool, false, ◌&&◌, ◌||◌, ◌==◌, List, [], slice_get, flat_map, Option, Some, None, if◌then◌else◌}
 use Rattle.event_body.specs.declared.event_body.event.Event.{Event}
 use Rattle.event_body.specs.EventBody.Events.{prefix_of, sn_of, said_of, is_receipt}
 use Rattle.journal.specs.declared.journal.claim.Claim.{Claim}
@@ -22,3 +22,7 @@ abbrev pub came_to : List Event → ℕ → Option Entry → List Claim
 came_to events n None = []
 came_to events n (Some (Took reader m claims)) = if stands_on events m n then claims else []
 came_to events n (Some (Heard reader m key sig verdict)) = []
+
+-- the claims of the entries of these numbers that stand on it
+abbrev pub all_came_to : List Event → ℕ → List Entry → List ℕ → List Claim
+all_came_to events n entries numbers = flat_map (λ i. came_to events n (slice_get entries i)) numbers

@@ -27,6 +27,15 @@ abbrev pub AreTold : (Name → List ℕ) → List Body → List Entry → Type 0
 AreTold told held entries = (i reader n : ℕ) (claims : List Claim) (b : Body) → slice_get entries i ≡ Some (Took reader n claims)
     → slice_get held n ≡ Some b → Contains (told (name_of b.event)) i
 
+-- among the numbers are those of all bodies with the name
+abbrev pub HasBodiesNamed : Name → List Body → List ℕ → Type 0
+HasBodiesNamed name held numbers = (n : ℕ) (b : Body) → slice_get held n ≡ Some b → name_of b.event ≡ name → Contains numbers n
+
+-- among the numbers are those of all entries by which bodies with the name came
+abbrev pub HasEntriesNamed : Name → List Body → List Entry → List ℕ → Type 0
+HasEntriesNamed name held entries numbers = (i reader n : ℕ) (claims : List Claim) (b : Body)
+    → slice_get entries i ≡ Some (Took reader n claims) → slice_get held n ≡ Some b → name_of b.event ≡ name → Contains numbers i
+
 -- each entry by which a claim came with a body, under both
 abbrev pub HaveCome : (ClaimKey → List ℕ) → List Entry → Type 0
 HaveCome came entries = (i reader n : ℕ) (claims : List Claim) (c : Claim) → slice_get entries i ≡ Some (Took reader n claims)

@@ -1,12 +1,9 @@
 //! The accepted log itself.
-ghost use Rattle.std.specs.Prelude.{◌≡◌, ◌<◌, ◌+◌, ◌^◌, [], List, Some, length, slice_get, take, vec_len, vec_capacity, IfSome, IfOk, OnOk, OnErr};
+ghost use Rattle.std.specs.Prelude.{◌≡◌, ◌<◌, ◌+◌, ◌^◌, [], length, slice_get, take, vec_len, vec_capacity, IfSome, IfOk, OnOk, OnErr};
 ghost use Rattle.std.specs.Option.{option_map};
 ghost use Rattle.key_state.specs.Heads.{head_sn};
 ghost use Rattle.event_body.specs.EventBody.Events.{prefix_of};
-ghost use Rattle.journal.specs.Journal.Grown.{IsGrown};
-ghost use Rattle.journal.specs.Journal.Logs as logs;
-ghost use Rattle.journal.specs.declared.journal.body.Body.{Body};
-ghost use Rattle.core_tables.specs.AcceptedLog.Cuts.{AreBothAlike, GrowsByInteraction, GrowsByState, IsLog, under_at};
+ghost use Rattle.core_tables.specs.AcceptedLog.Cuts.{GrowsByInteraction, GrowsByState, IsLog, IsStateBefore, under_at};
 ghost use Rattle.core_tables.specs.AcceptedLog.Values as values;
 ghost use Rattle.core_tables.specs.AcceptedLog.Values.{Extends, established, interacted, last_of, last_place, nothing, rewound};
 
@@ -156,9 +153,7 @@ impl AcceptedLog {
     pub fn state_before(&self, i: usize, event: &Event) -> Option<&KeyState>
         ensures under { option_map (λ s. s.now) result
             ≡ under_at self.now.states event.now (slice_get self.now.places i) }
-        ensures alike { (log : List Body) (b : Body) → IsLog log self.now → IsGrown log → slice_get log i ≡ Some b
-            → b.event ≡ event.now
-            → AreBothAlike (option_map (λ s. s.now) result) (logs.state (logs.before b log) (prefix_of b.event)) }
+        ensures alike { IsStateBefore self.now i event.now (option_map (λ s. s.now) result) }
     {
         self.state_under(i, event)
     }

@@ -1,14 +1,13 @@
 //! Entries of the journal, found by the names of their bodies' events and by their claims.
-ghost use Rattle.std.specs.Prelude.{◌≡◌, ℕ, List, Contains, IfOk, OnOk, Some, length, slice_get, ◌<◌, ◌++◌, ◌∷◌, [], OnErr};
+ghost use Rattle.std.specs.Prelude.{◌≡◌, Contains, IfOk, OnOk, Some, length, slice_get, ◌<◌, ◌++◌, ◌∷◌, [], OnErr};
 ghost use Rattle.std.specs.List.{list_any};
 ghost use Rattle.std.specs.List.Sorted.{IsStrictlyIncreasing};
 ghost use Rattle.escrow.specs.EventIndex.Keys.{numbers_at};
 ghost use Rattle.journal.specs.Journal.Replies.{same_claim};
-ghost use Rattle.journal.specs.declared.journal.body.Body.{Body};
 ghost use Rattle.journal.specs.declared.journal.claim.Claim.{Claim as ClaimValue};
 ghost use Rattle.journal.specs.declared.journal.entry.Entry.TheVariants.{Took, Heard};
 ghost use Rattle.core_tables.specs.CoreTables.ClaimEntries.{came_at};
-ghost use Rattle.core_tables.specs.CoreTables.Hints.{KeepsBelow};
+ghost use Rattle.core_tables.specs.CoreTables.Hints.{HasEntriesNamed, KeepsBelow};
 ghost use Rattle.core_tables.specs.CoreTables.Names.{claim_key, name_of as name_of_event};
 ghost use Rattle.core_tables.specs.CoreTables.Rows.{has_claim};
 ghost use Rattle.core_tables.specs.CoreTables.View.{came_with};
@@ -25,9 +24,7 @@ use std::alloc::AllocError;
 impl Tables {
     /// The numbers of all entries by which bodies with this name came, and perhaps of others, rising: whoever asks compares.
     pub fn told(&self, name: &Name) -> &[u32]
-        ensures all { (i reader n : ℕ) (claims : List ClaimValue) (b : Body)
-            → slice_get self.now.entries i ≡ Some (Took reader n claims) → slice_get self.now.held n ≡ Some b
-            → name_of_event b.event ≡ name.now → Contains result.now i }
+        ensures all { HasEntriesNamed name.now self.now.held self.now.entries result.now }
         ensures rising { IsStrictlyIncreasing result.now }
     {
         self.told.numbers(name)

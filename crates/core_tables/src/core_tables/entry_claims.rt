@@ -1,9 +1,9 @@
 //! What came with entries of a journal, raised on an event.
-ghost use Rattle.std.specs.Prelude.{◌≡◌, ◌<◌, flat_map, length, slice_get, Some, OnOk, OnErr};
+ghost use Rattle.std.specs.Prelude.{◌≡◌, ◌<◌, length, slice_get, Some, OnOk, OnErr};
 ghost use Rattle.std.specs.Option.{option_copied};
 ghost use Rattle.event_body.specs.declared.event_body.event.Event.{Event as EventValue};
 ghost use Rattle.key_state.specs.Kept.{IsKept};
-ghost use Rattle.core_tables.specs.CoreTables.EntryClaims.{came_to, is_receipt_of, stands_on};
+ghost use Rattle.core_tables.specs.CoreTables.EntryClaims.{all_came_to, came_to, is_receipt_of, stands_on};
 ghost use Rattle.core_tables.specs.CoreTables.RaisedRows.{RaisesRows, RaisesSomeRows};
 
 use crate::core_tables::raised_claims::raise_claims;
@@ -26,8 +26,8 @@ pub fn raise_entries(
     requires held { number < length events.now }
     requires kept { (e : EventValue) → slice_get events.now number ≡ Some e → IsKept e }
     ensures ok { OnOk result ((e : EventValue) → slice_get events.now number ≡ Some e
-        → RaisesRows number (option_copied state.entry) e
-        (flat_map (λ i. came_to events.now number (slice_get entries.now i)) numbers.now) claims.old claims.new) }
+        → RaisesRows number (option_copied state.entry) e (all_came_to events.now number entries.now numbers.now)
+        claims.old claims.new) }
     ensures err { OnErr result (RaisesSomeRows number claims.old claims.new) }
 {
     for entry in numbers {

@@ -1,22 +1,19 @@
 -- The tables stand when the entry of an event that came is added, and its claims are raised.
-use Rattle.std.proofs.Common.{◌≡◌, ℕ, ◌<◌, true, false, ◌==◌, List, [], ◌∷◌, ◌++◌, length, Some, option_map, refl, sym, ◌∙◌, ap, inl, inr, subst, if◌then◌else◌}
+use Rattle.std.proofs.Common.{◌≡◌, ℕ, ◌<◌, true, false, ◌==◌, List, [], ◌∷◌, ◌++◌, length, Some, option_map, refl, sym, ◌∙◌, ap, inl, inr, subst}
 use Rattle.std.specs.Prelude.{slice_get}
 use Rattle.std.proofs.lemmas.Bool.{cases_Bool}
 use Rattle.event_body.specs.EventBody.Events.{is_receipt}
-use Rattle.key_state.specs.Exposure.{own_rules}
 use Rattle.key_state.proofs.Same.{numbers, number_itself}
 use Rattle.journal.specs.declared.journal.body.Body.{Body}
 use Rattle.journal.specs.declared.journal.claim.Claim.{Claim}
 use Rattle.journal.specs.declared.journal.entry.Entry.{Entry}
 use Rattle.journal.specs.declared.journal.entry.Entry.TheVariants.{Took}
-use Rattle.journal.specs.Journal.Logs.{same_body, stands}
+use Rattle.journal.specs.Journal.Logs.{same_body}
 use Rattle.journal.specs.Journal.History.{Told, took, claims_in}
 use Rattle.journal.specs.Journal.Questions.{state_before}
 use Rattle.journal.proofs.JournalLemmas.Accepting.{same_body-refl}
 use Rattle.journal.proofs.JournalLemmas.Held.{told_push}
 use Rattle.journal.proofs.JournalLemmas.Places.{others_differ, slice_get_last, slice_get_before}
-use Rattle.journal.specs.EventRules.Parts.{Row as Found}
-use Rattle.claim_table.specs.CoreLaws.Claimed.{rows_of}
 use Rattle.claim_table.specs.declared.claim_table.claimed.Claimed.{Claimed}
 use Rattle.claim_table.specs.ClaimTable.Rows.{raised_all}
 use Rattle.claim_table.specs.CoreLaws.ClaimRows.{AreFound, AreClaims, HasClaims, found_on, triple_on, verdict_in}

@@ -1,7 +1,7 @@
 -- What is wanting in an event that the current state of its identifier takes: the reasons to wait that are left of it.
-use Rattle.std.specs.Prelude.{Bool, ◌&&◌, ◌||◌, not, List, [], ◌∷◌, Option}
+use Rattle.std.specs.Prelude.{Bool, ◌≡◌, ℕ, true, ◌&&◌, ◌||◌, not, List, [], ◌∷◌, slice_get, Option, Some}
 use Rattle.event_body.specs.declared.event_body.event.Event.{Event}
-use Rattle.event_body.specs.EventBody.Events.{is_rotation}
+use Rattle.event_body.specs.EventBody.Events.{is_rotation, prefix_of}
 use Rattle.journal.specs.EventRules.Parts.{Part, has_own, has_next, has_backed}
 use Rattle.key_state.specs.Exposure.{own_rules}
 use Rattle.key_state.specs.KeyStates.{first_true}
@@ -12,6 +12,9 @@ use Rattle.journal.specs.declared.journal.why.Why.{Why}
 use Rattle.journal.specs.declared.journal.why.Why.TheVariants.{Signatures, Next, Receipts, Seal}
 use Rattle.journal.specs.Journal.Seals.{anchored}
 use Rattle.journal.specs.Journal.History.{Told}
+use Rattle.journal.specs.Journal.Logs.{state, takes}
+use Rattle.core_tables.specs.CoreTables.View.{View, body_of, log_of}
+use Rattle.validator_core.specs.Acceptance.Standing.{told_of}
 use Rattle.journal.specs.Journal.Readiness.{meets_own, meets_before, is_backed, is_local}
 
 -- by its parts, and whether it is sealed
@@ -31,3 +34,8 @@ wants mode told log s b = first_true (
     ∷ (not (is_local mode) && not (is_backed told s b), Receipts)
     ∷ (not (is_local mode) && not (anchored log s b.event), Seal)
     ∷ [])
+
+-- it is what is wanting in the event of a number, where the state is the current one of its identifier and takes it
+abbrev pub IsWanting : Mode → View → ℕ → Event → Option State → Option Why → Type 0
+IsWanting mode v number e s why = (bytes : List ℕ) → slice_get v.held number ≡ Some (body_of bytes e) → s ≡ state (log_of v) (prefix_of e)
+    → takes s e ≡ true → why ≡ wants mode (told_of v) (log_of v) s (body_of bytes e)

@@ -1,6 +1,7 @@
 -- Between the acceptance of an event and that of the next: the log has the event, and the claims on the events behind it are
 -- raised one event after the other.
-use Rattle.std.specs.Prelude.{◌≡◌, ℕ, ◌+◌, false, List, [], ◌∷◌, ◌++◌, length, position, slice_get, Some, IsTrue}
+use Rattle.std.specs.Prelude.{◌≡◌, ℕ, ◌+◌, ◌==◌, false, List, [], ◌∷◌, ◌++◌, length, position, slice_get, Some, IsTrue}
+use Rattle.std.specs.List.{list_any}
 use Rattle.event_body.specs.EventBody.Events.{is_interaction, prefix_of}
 use Rattle.key_state.specs.States.{State}
 use Rattle.journal.specs.declared.journal.body.Body.{Body}
@@ -45,3 +46,8 @@ pub record IsTurning (old : View) (c : Body) (done : List ℕ) (new : View) : Ty
   pub claims : HasClaims (state_before (log_of old ++ c ∷ []))
       (turned (λ n b. found_on (told_of old) (log_of old) b) (λ n b. found_on (told_of old) (log_of old ++ c ∷ []) b) done)
       (verdict_in (told_of old)) old.held new.claims.rows
+
+-- all claims are raised of the body of one number more, where that isn't among those that are done
+abbrev pub TurnsOne : ℕ → View → View → Type 0
+TurnsOne number old new = (v : View) (c : Body) (done : List ℕ) → list_any (λ m. m == number) done ≡ false
+    → IsTurning v c done old → IsTurning v c (done ++ number ∷ []) new

@@ -1,11 +1,10 @@
 //! What is wanting in an event that the current state of its identifier takes.
-ghost use Rattle.std.specs.Prelude.{◌≡◌, ◌<◌, ℕ, List, true, length, slice_get, Some};
+ghost use Rattle.std.specs.Prelude.{◌≡◌, ◌<◌, length};
 ghost use Rattle.std.specs.Option.{option_copied};
-ghost use Rattle.validator_core.specs.Acceptance.Standing.{IsStanding, told_of};
+ghost use Rattle.validator_core.specs.Acceptance.Standing.{IsStanding};
 ghost use Rattle.core_tables.specs.AcceptedLog.Values.{last_place};
-ghost use Rattle.core_tables.specs.CoreTables.View.{body_of, log_of};
+ghost use Rattle.core_tables.specs.CoreTables.View.{log_of};
 ghost use Rattle.event_body.specs.EventBody.Events as events;
-ghost use Rattle.journal.specs.Journal.Logs as logs;
 ghost use Rattle.journal.specs.Journal.Seals as seals;
 ghost use Rattle.key_state.specs.Kept.{IsKept};
 ghost use Rattle.validator_core.specs.Acceptance.Wants as specs;
@@ -33,11 +32,7 @@ pub(crate) fn wanting(
     requires last { current.place ≡ last_place (events.prefix_of event.now) tables.now.log.states }
     requires kept { IsKept event.now }
     requires held { number < length tables.now.held }
-    ensures { (bytes : List ℕ) → slice_get tables.now.held number ≡ Some (body_of bytes event.now)
-        → option_copied current.entry.state ≡ logs.state (log_of tables.now) (events.prefix_of event.now)
-        → logs.takes (option_copied current.entry.state) event.now ≡ true
-        → result ≡ specs.wants mode (told_of tables.now) (log_of tables.now) (option_copied current.entry.state)
-        (body_of bytes event.now) }
+    ensures { specs.IsWanting mode tables.now number event.now (option_copied current.entry.state) result }
 {
     let state = current.state;
     is_state(state);

@@ -1,12 +1,12 @@
 //! The events that stand right behind the last accepted one.
-ghost use Rattle.std.specs.Prelude.{◌≡◌, ◌==◌, ◌<◌, ◌+◌, ◌++◌, ◌∷◌, [], ℕ, List, Some, None, Contains, IfOk, OnOk, false, length, position, slice_get, true};
-ghost use Rattle.std.specs.List.{list_any};
+ghost use Rattle.std.specs.Prelude.{◌≡◌, ◌<◌, [], ℕ, Some, Contains, IfOk, OnOk, false, length, position, slice_get, true};
 ghost use Rattle.std.specs.List.Sorted.{IsStrictlyIncreasing};
 ghost use Rattle.journal.specs.declared.journal.body.Body.{Body};
-ghost use Rattle.journal.specs.Journal.Logs.{precedes, predecessor};
+ghost use Rattle.journal.specs.Journal.Logs.{precedes};
 ghost use Rattle.core_tables.specs.CoreTables.View.{View, log_of, with_rows};
 ghost use Rattle.validator_core.specs.Acceptance.Standing.{Extends, IsStanding};
-ghost use Rattle.validator_core.specs.Settlement.Turning.{IsBehindLast, IsTurning};
+ghost use Rattle.validator_core.specs.Settlement.Awaited.{HasAllBehind};
+ghost use Rattle.validator_core.specs.Settlement.Turning.{IsBehindLast, IsTurning, TurnsOne};
 ghost use Rattle.validator_core.specs.Settlement.Entries.{IsLogged};
 
 use crate::settlement::standing_claims::raise_if_standing;
@@ -22,9 +22,7 @@ pub(crate) fn numbers_behind(
     requires stands { IsStanding tables.now }
     ensures rising { IfOk result (λ numbers. IsStrictlyIncreasing numbers.items) }
     ensures held { IfOk result (λ numbers. (n : ℕ) → Contains numbers.items n → n < length tables.now.held) }
-    ensures all { IfOk result (λ numbers. (c b : Body) (n : ℕ) → slice_get tables.now.held number ≡ Some c
-        → slice_get tables.now.held n ≡ Some b
-        → precedes b c ≡ true → predecessor (log_of tables.now) b ≡ None → list_any (λ m. m == n) numbers.items ≡ true) }
+    ensures all { IfOk result (λ numbers. HasAllBehind tables.now number numbers.items) }
 {
     match tables.event(number) {
         Some(event) => copied(alloc, tables.waiting().woken_by(&event.said())),
@@ -58,8 +56,7 @@ pub(crate) fn raise_behind(tables: &mut Tables, numbers: &[u32]) -> Result<(), A
 fn raise_new(tables: &mut Tables, number: u32) -> Result<(), AllocError>
     requires logged { IsLogged tables.old }
     requires held { number < length tables.old.held }
-    ensures ok { OnOk result ((v : View) (c : Body) (done : List ℕ) → list_any (λ m. m == number) done ≡ false
-        → IsTurning v c done tables.old → IsTurning v c (done ++ number ∷ []) tables.new) }
+    ensures ok { OnOk result (TurnsOne number tables.old tables.new) }
     ensures rows { tables.new ≡ with_rows tables.new.claims.rows tables.old }
     ensures extends { Extends tables.old tables.new }
 {

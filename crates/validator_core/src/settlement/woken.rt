@@ -3,14 +3,14 @@ ghost use Rattle.std.specs.Prelude.{◌≡◌, ◌==◌, ◌&&◌, ◌⊎◌, �
 ghost use Rattle.std.specs.List.{list_any};
 ghost use Rattle.std.specs.List.Sorted.{IsStrictlySortedBy};
 ghost use Rattle.std.specs.Ordering.{nat_cmp};
-ghost use Rattle.claim_table.specs.CoreLaws.Waking.{is_anchored, is_there as is_all_there, is_waiting, may_wake};
+ghost use Rattle.claim_table.specs.CoreLaws.Waking.{is_anchored, is_there as is_all_there};
 ghost use Rattle.event_backing.specs.EventSeals.{IsEventSeal, holds_seal};
 ghost use Rattle.event_backing.specs.declared.event_seal.EventSeal.{EventSeal as EventSealValue};
 ghost use Rattle.escrow.specs.Escrow.Escrow.{Waits};
 ghost use Rattle.journal.specs.declared.journal.body.Body.{Body};
 ghost use Rattle.core_tables.specs.CoreTables.View.{log_of};
 ghost use Rattle.validator_core.specs.Acceptance.Standing.{IsStanding};
-ghost use Rattle.validator_core.specs.Settlement.Awaited.{IsNextAt, is_awaited_there};
+ghost use Rattle.validator_core.specs.Settlement.Awaited.{HasAllWoken, IsNextAt, has_all_awaited, is_awaited_there};
 
 use crate::acceptance::is_there;
 use crate::settlement::behind::copied;
@@ -31,9 +31,7 @@ pub(crate) fn numbers_woken(
     number: u32,
 ) -> Result<Vec<u32>, AllocError>
     requires stands { IsStanding tables.now }
-    ensures all { IfOk result (λ numbers. (c b : Body) (n : ℕ) → slice_get tables.now.held number ≡ Some c
-        → slice_get tables.now.held n ≡ Some b
-        → may_wake mode (log_of tables.now) c b ≡ true → Contains numbers.items n) }
+    ensures all { IfOk result (λ numbers. HasAllWoken mode tables.now number numbers.items) }
     ensures waits { IfOk result (λ numbers. (n : ℕ) → Contains numbers.items n
         → is_awaited_there mode (log_of tables.now) (slice_get tables.now.held number)
         (slice_get tables.now.held n) ≡ true) }
@@ -73,9 +71,7 @@ fn numbers_named(
     number: u32,
 ) -> Result<Vec<u32>, AllocError>
     requires stands { IsStanding tables.now }
-    ensures all { IfOk result (λ numbers. (c b : Body) (n : ℕ) → slice_get tables.now.held number ≡ Some c
-        → slice_get tables.now.held n ≡ Some b
-        → may_wake mode (log_of tables.now) c b ≡ true → Contains numbers.items n) }
+    ensures all { IfOk result (λ numbers. HasAllWoken mode tables.now number numbers.items) }
 {
     sealed_by_parts();
     let Some(event) = tables.event(number) else {
@@ -132,8 +128,7 @@ pub(crate) fn add_due(
     requires stands { IsStanding tables.now }
     ensures kept { (n : ℕ) → Contains due.old.keys n → Contains due.new.keys n }
     ensures there { OnOk result ((n : ℕ) (b : Body) → Contains numbers.now n → slice_get tables.now.held n ≡ Some b
-        → (is_waiting (log_of tables.now) b && is_all_there (log_of tables.now) b
-        && is_anchored mode (log_of tables.now) b) ≡ true → Contains due.new.keys n) }
+        → has_all_awaited mode (log_of tables.now) b ≡ true → Contains due.new.keys n) }
     ensures few { OnOk result ((n : ℕ) → Contains due.new.keys n
         → Contains due.old.keys n ⊎ (Contains numbers.now n × IsNextAt mode tables.now n)) }
     ensures rising { IsStrictlySortedBy nat_cmp due.old.keys → IsStrictlySortedBy nat_cmp due.new.keys }
@@ -154,8 +149,7 @@ fn add_if_there(
     requires stands { IsStanding tables.now }
     ensures kept { (n : ℕ) → Contains due.old.keys n → Contains due.new.keys n }
     ensures there { OnOk result ((b : Body) → slice_get tables.now.held number ≡ Some b
-        → (is_waiting (log_of tables.now) b && is_all_there (log_of tables.now) b
-        && is_anchored mode (log_of tables.now) b) ≡ true → Contains due.new.keys number) }
+        → has_all_awaited mode (log_of tables.now) b ≡ true → Contains due.new.keys number) }
     ensures few { OnOk result ((n : ℕ) → Contains due.new.keys n
         → Contains due.old.keys n ⊎ ((number ≡ n) × IsNextAt mode tables.now n)) }
     ensures rising { IsStrictlySortedBy nat_cmp due.old.keys → IsStrictlySortedBy nat_cmp due.new.keys }

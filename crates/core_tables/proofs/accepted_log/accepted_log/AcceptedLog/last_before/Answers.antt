@@ -1,4 +1,4 @@
-use Rattle.std.proofs.Common.{◌≡◌, take, sym, ◌∙◌, ap}
+use Rattle.std.proofs.Common.{take, ◌∙◌, ap}
 use Rattle.escrow.specs.EventIndex.Keys.{numbers_at}
 use Rattle.core_tables.specs.AcceptedLog.Hints.{prefix_cmp}
 use Rattle.core_tables.specs.AcceptedLog.Values.{Log, last_of, state_there}
