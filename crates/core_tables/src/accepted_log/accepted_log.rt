@@ -2,7 +2,6 @@
 ghost use Rattle.std.specs.Prelude.{◌≡◌, ◌<◌, ◌+◌, ◌^◌, [], length, slice_get, take, vec_len, vec_capacity, IfSome, IfOk, OnOk, OnErr};
 ghost use Rattle.std.specs.Option.{option_map};
 ghost use Rattle.key_state.specs.Heads.{head_sn};
-ghost use Rattle.event_body.specs.EventBody.Events.{prefix_of};
 ghost use Rattle.core_tables.specs.AcceptedLog.Cuts.{GrowsByInteraction, GrowsByState, IsLog, IsStateBefore, under_at};
 ghost use Rattle.core_tables.specs.AcceptedLog.Values as values;
 ghost use Rattle.core_tables.specs.AcceptedLog.Values.{Extends, established, interacted, last_of, last_place, nothing, rewound};

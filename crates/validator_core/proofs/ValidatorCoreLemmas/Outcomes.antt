@@ -6,11 +6,14 @@ use Rattle.core_tables.specs.CoreTables.View.{View}
 use Rattle.journal.specs.declared.journal.body.Body.{Body}
 use Rattle.journal.specs.declared.journal.entry.Entry.{Entry}
 use Rattle.journal.specs.declared.journal.mode.Mode.{Mode}
-use Rattle.validator_core.specs.ValidatorCore.Tables.{AddsEntry, BringsEntry}
+use Rattle.validator_core.specs.Acceptance.Standing.{Comes}
+use Rattle.validator_core.specs.ValidatorCore.Tables.{AddsEntry, SettlesFrom}
 
-pub adds_entry : {T E : Type 0} (mode : Mode) (number : ℕ) (more : List Body) (e : Entry) (old before new : View) (steps steps_then : ℕ) (brought result : Result T E) → result ≡ brought
-    → OnOk brought (BringsEntry mode number more e old before steps steps_then) → OnOk result (new ≡ record before { settled = length before.log.numbers })
+-- an entry comes, and what it makes ready is kept
+pub adds_entry : {T E : Type 0} (mode : Mode) (number : ℕ) (more : List Body) (e : Entry) (old between before new : View) (steps steps_then : ℕ) (settled result : Result T E) → result ≡ settled → Comes more e old between
+    → OnOk settled (SettlesFrom mode number between before steps steps_then) → OnOk result (new ≡ record before { settled = length before.log.numbers })
     → OnOk result (AddsEntry mode number more e old new steps steps_then)
-adds_entry mode number more e old before new steps steps_then brought (Ok x) same brings kept =
-    record { before = before; brings = IfOk-at_ok (λ _. BringsEntry mode number more e old before steps steps_then) (sym same) brings; new_is = kept }
-adds_entry mode number more e old before new steps steps_then brought (Err d) same brings kept = tt
+adds_entry mode number more e old between before new steps steps_then settled (Ok x) same comes settles kept =
+    let from_it = IfOk-at_ok (λ _. SettlesFrom mode number between before steps steps_then) (sym same) settles in
+    record { before = before; brings = record { between = between; comes = comes; settles = from_it }; new_is = kept }
+adds_entry mode number more e old between before new steps steps_then settled (Err d) same comes settles kept = tt

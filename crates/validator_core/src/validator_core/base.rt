@@ -12,7 +12,7 @@ use crate::validator_core::Core;
 use crate::validator_core::tally::Tally;
 use core_tables::Tables;
 use event_body::{Event, ReadBody, one_event, read_body};
-use journal::{Mode, ResumeFault, takes};
+use journal::{Body, Mode, ResumeFault, takes};
 use json_tree::Text;
 use keri_outside::Limits;
 use std::alloc::{AllocError, Global};
@@ -88,9 +88,8 @@ fn add_text(alloc: Global, tables: &mut Tables, text: Text) -> Result<(), Resume
     ensures ok { OnOk result (AcceptsText text tables.old tables.new) }
     ensures err { IfErr result (λ fault. IsRefused tables.old.held text fault) }
 {
-    let number = tables.len() as u32;
     let event = event_of(alloc, tables, &text)?;
-    match add_event(alloc, tables, number, text, event) {
+    match add_event(alloc, tables, Body { bytes: text, event }) {
         Ok(()) => Ok(()),
         Err(_) => Err(ResumeFault::OutOfMemory),
     }
@@ -153,20 +152,13 @@ fn no_log(tables: &Tables) -> ResumeFault
 }
 
 // Accepts an event that fits as the next.
-fn add_event(
-    alloc: Global,
-    tables: &mut Tables,
-    number: u32,
-    text: Text,
-    event: Event,
-) -> Result<(), AllocError>
+fn add_event(alloc: Global, tables: &mut Tables, body: Body) -> Result<(), AllocError>
     requires accepted { AreAccepted tables.old }
-    requires number { number ≡ length tables.old.held }
-    requires held { IsHeld (body_of text event) }
-    requires fits { fits tables.old.held (body_of text event) ≡ true }
-    ensures { OnOk result (AcceptsText text tables.old tables.new) }
+    requires held { IsHeld body }
+    requires fits { fits tables.old.held body ≡ true }
+    ensures { OnOk result (AcceptsText body.bytes tables.old tables.new) }
 {
-    tables.push_body(text, event)?;
+    let number = tables.push_body(body)?;
     accept(alloc, tables, number)
 }
 

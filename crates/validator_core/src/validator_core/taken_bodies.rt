@@ -3,7 +3,7 @@ ghost use Rattle.std.specs.Prelude.{◌≡◌, ◌<◌, false, length, slice_get
 ghost use Rattle.std.specs.List.{list_all, list_any};
 ghost use Rattle.validator_core.specs.Acceptance.Standing.{IsHeld};
 ghost use Rattle.core_tables.specs.CoreTables.View.{body_of, came_with};
-ghost use Rattle.journal.specs.declared.journal.body.Body.{Body};
+ghost use Rattle.journal.specs.declared.journal.body.Body.{Body as BodyValue};
 ghost use Rattle.journal.specs.declared.journal.reply.Reply.TheVariants.{Again, Taken};
 ghost use Rattle.journal.specs.Journal.Logs.{is_in};
 ghost use Rattle.journal.specs.Journal.Replies.{same_claim};
@@ -14,7 +14,7 @@ use crate::validator_core::Core;
 use crate::validator_core::whole_entries::{add_body, add_claims};
 use core_tables::Tables;
 use event_body::Event;
-use journal::{Claim, Reply};
+use journal::{Body, Claim, Reply};
 use json_tree::Text;
 use keri_outside::Steps;
 use lists::{Items, copy_items};
@@ -55,9 +55,9 @@ impl Core {
         steps: &mut Steps,
     ) -> Result<Reply, AllocError>
         requires held { number < length self.old.held }
-        ensures takes { IfOk result (λ reply. (b : Body) → slice_get self.old.held number ≡ Some b
+        ensures takes { IfOk result (λ reply. (b : BodyValue) → slice_get self.old.held number ≡ Some b
             → TakesBody self.old reader b claims reply self.new) }
-        ensures few { IfOk result (λ reply. (b : Body) → slice_get self.old.held number ≡ Some b
+        ensures few { IfOk result (λ reply. (b : BodyValue) → slice_get self.old.held number ≡ Some b
             → LooksByReply self.old b reply self.new steps.old steps.new) }
         ensures err { OnErr result (self.new ≡ self.old) }
     {
@@ -96,22 +96,21 @@ impl Core {
         ensures err { OnErr result (self.new ≡ self.old) }
     {
         let count = claims.len();
-        let bytes = body.len();
-        if self.tally.lacks_room(self.limits, bytes, count) {
+        let size = body.len();
+        if self.tally.lacks_room(self.limits, size, count) {
             return Ok(Reply::Full);
         }
-        let text = copy_items(body, self.alloc)?;
+        let bytes = copy_items(body, self.alloc)?;
         add_body(
             self.alloc,
             &mut self.tables,
             self.mode,
             reader,
-            text,
-            event,
+            Body { bytes, event },
             claims,
             steps,
         )?;
-        self.tally = self.tally.with(bytes, count);
+        self.tally = self.tally.with(size, count);
         Ok(Reply::Taken)
     }
 }

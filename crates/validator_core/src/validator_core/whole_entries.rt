@@ -2,21 +2,19 @@
 ghost use Rattle.std.specs.Prelude.{◌≡◌, ◌<◌, ◌∷◌, ◌⊎◌, ◌↔◌, [], ℕ, false, true, None, Contains, IfOk, OnOk, OnErr, length};
 ghost use Rattle.std.specs.List.Sorted.{IsStrictlySortedBy};
 ghost use Rattle.std.specs.Ordering.{nat_cmp};
-ghost use Rattle.validator_core.specs.Acceptance.Standing.{Comes, Extends, Hears, IsHeld, IsStanding};
+ghost use Rattle.validator_core.specs.Acceptance.Standing.{Extends, IsHeld, IsStanding};
 ghost use Rattle.claim_table.specs.ClaimTable.Rows.{is_raised, verdict_of};
-ghost use Rattle.core_tables.specs.CoreTables.View.{IsCut, body_of, rewound};
+ghost use Rattle.core_tables.specs.CoreTables.View.{IsCut, rewound};
 ghost use Rattle.journal.specs.declared.journal.entry.Entry.TheVariants.{Took};
 ghost use Rattle.journal.specs.Journal.Logs.{is_in};
 ghost use Rattle.validator_core.specs.Settlement.Entries.{signature_asked};
-ghost use Rattle.validator_core.specs.ValidatorCore.Tables.{AddsEntry, AddsVerdict, BringsEntry, HaveNoOthers, HaveNumbers, SettlesFrom};
+ghost use Rattle.validator_core.specs.ValidatorCore.Tables.{AddsEntry, AddsVerdict, HaveNoOthers, HaveNumbers, SettlesFrom};
 
 use crate::settlement::{enter_body, enter_claims, enter_verdict, settle};
 use core_tables::{Mark, Tables};
-use event_body::Event;
-use journal::{Claim, Mode, Question};
-use json_tree::Text;
+use journal::{Body, Claim, Mode, Question};
 use keri_outside::Steps;
-use lists::{Items, length_u32};
+use lists::Items;
 use std::alloc::{AllocError, Global};
 use std::collections::BTreeSet;
 
@@ -39,8 +37,16 @@ pub(crate) fn add_claims(
     ensures err { OnErr result (tables.new ≡ tables.old) }
 {
     let mark = tables.mark();
-    let brought = bring_claims(alloc, tables, mode, reader, number, claims, steps);
-    keep_or_cut(tables, brought, &mark)
+    match enter_claims(alloc, tables, reader, number, claims) {
+        Ok(()) => {
+            let settled = settle_from(alloc, tables, mode, number, steps);
+            keep_or_cut(tables, settled, &mark)
+        }
+        Err(error) => {
+            tables.rewind(&mark);
+            Err(error)
+        }
+    }
 }
 
 /// A body that isn't held comes with its claims, and what they make ready is accepted.
@@ -49,23 +55,30 @@ pub(crate) fn add_body(
     tables: &mut Tables,
     mode: Mode,
     reader: u16,
-    text: Text,
-    event: Event,
+    body: Body,
     claims: Items<Claim>,
     steps: &mut Steps,
 ) -> Result<(), AllocError>
     requires stands { IsStanding tables.old }
     requires idle { tables.old.claims.pending ≡ None }
     requires left { tables.old.settled ≡ length tables.old.log.numbers }
-    requires held { IsHeld (body_of text event) }
-    requires outside { is_in tables.old.held (body_of text event) ≡ false }
-    ensures ok { OnOk result (AddsEntry mode (length tables.old.held) (body_of text event ∷ [])
+    requires held { IsHeld body }
+    requires outside { is_in tables.old.held body ≡ false }
+    ensures ok { OnOk result (AddsEntry mode (length tables.old.held) (body ∷ [])
         (Took reader (length tables.old.held) claims) tables.old tables.new steps.old steps.new) }
     ensures err { OnErr result (tables.new ≡ tables.old) }
 {
     let mark = tables.mark();
-    let brought = bring_body(alloc, tables, mode, reader, text, event, claims, steps);
-    keep_or_cut(tables, brought, &mark)
+    match enter_body(alloc, tables, reader, body, claims) {
+        Ok(number) => {
+            let settled = settle_from(alloc, tables, mode, number, steps);
+            keep_or_cut(tables, settled, &mark)
+        }
+        Err(error) => {
+            tables.rewind(&mark);
+            Err(error)
+        }
+    }
 }
 
 /// A verdict on the open question of a signature comes, and what it makes ready is accepted.
@@ -97,52 +110,6 @@ pub(crate) fn add_verdict(
     }
     tables.close();
     Ok(())
-}
-
-// Claims come with the body of a number, and what they make ready is accepted. After an error the tables are to be cut back.
-fn bring_claims(
-    alloc: Global,
-    tables: &mut Tables,
-    mode: Mode,
-    reader: u16,
-    number: u32,
-    claims: Items<Claim>,
-    steps: &mut Steps,
-) -> Result<(), AllocError>
-    requires stands { IsStanding tables.old }
-    requires left { tables.old.settled ≡ length tables.old.log.numbers }
-    requires held { number < length tables.old.held }
-    ensures ok { OnOk result (BringsEntry mode number [] (Took reader number claims) tables.old tables.new
-        steps.old steps.new) }
-    ensures extends { Extends tables.old tables.new }
-{
-    enter_claims(tables, reader, number, claims)?;
-    settle_from(alloc, tables, mode, number, steps)
-}
-
-// A body that isn't held comes so.
-fn bring_body(
-    alloc: Global,
-    tables: &mut Tables,
-    mode: Mode,
-    reader: u16,
-    text: Text,
-    event: Event,
-    claims: Items<Claim>,
-    steps: &mut Steps,
-) -> Result<(), AllocError>
-    requires stands { IsStanding tables.old }
-    requires left { tables.old.settled ≡ length tables.old.log.numbers }
-    requires held { IsHeld (body_of text event) }
-    requires outside { is_in tables.old.held (body_of text event) ≡ false }
-    ensures ok { OnOk result (BringsEntry mode (length tables.old.held) (body_of text event ∷ [])
-        (Took reader (length tables.old.held) claims) tables.old tables.new steps.old steps.new) }
-    ensures extends { Extends tables.old tables.new }
-{
-    let length = tables.len();
-    enter_body(tables, reader, text, event, claims)?;
-    let number = length_u32(length)?;
-    settle_from(alloc, tables, mode, number, steps)
 }
 
 // The accepted events leave the escrow, or what came is cut back.
