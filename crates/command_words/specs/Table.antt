@@ -34,6 +34,15 @@ files = record maybe_files { required = true }
 abbrev pub command : List ℕ → List Rule → Shape
 command name rules = record (new_shape name) { rules = rules }
 
+-- `validate` or `watch`: a helper, and FILEs or links
+abbrev pub core_shape : List ℕ → Shape
+core_shape name = command name (wants (codes "helper") ∷ may_have (codes "listen") ∷ may_have (codes "links") ∷ maybe_files ∷ [])
+
+-- `witness`: a helper, the key of the witness, its shelf and maybe an old one, and a FILE or links
+abbrev pub witness_shape : Shape
+witness_shape = command (codes "witness") (wants (codes "helper") ∷ wants (codes "prefix") ∷ wants (codes "shelf") ∷ may_have (codes "from")
+    ∷ may_have (codes "listen") ∷ may_have (codes "links") ∷ maybe_file (codes "file") ∷ [])
+
 -- The program before it has a command. The words are those behind its name, and one is to name a command. There are no words for
 -- help, and as a program without a version it has none for that.
 abbrev pub bare : App
@@ -52,10 +61,9 @@ unfoldable pub table : App
 table = record {
   top = record bare.top { is_leaf = false };
   subs = command (codes "check") (file (codes "file") ∷ [])
-      ∷ command (codes "validate") (wants (codes "helper") ∷ may_have (codes "listen") ∷ may_have (codes "links") ∷ maybe_files ∷ [])
-      ∷ command (codes "watch") (wants (codes "helper") ∷ may_have (codes "listen") ∷ may_have (codes "links") ∷ maybe_files ∷ [])
-      ∷ command (codes "witness") (wants (codes "helper") ∷ wants (codes "prefix") ∷ wants (codes "shelf") ∷ may_have (codes "from")
-      ∷ may_have (codes "listen") ∷ may_have (codes "links") ∷ maybe_file (codes "file") ∷ [])
+      ∷ core_shape (codes "validate")
+      ∷ core_shape (codes "watch")
+      ∷ witness_shape
       ∷ command (codes "make") (wants (codes "helper") ∷ wants (codes "plan") ∷ may_have (codes "log") ∷ [])
       ∷ command (codes "convert") (wants (codes "to") ∷ file (codes "file") ∷ [])
       ∷ command (codes "export") (wants (codes "helper") ∷ wants (codes "prefix") ∷ files ∷ [])

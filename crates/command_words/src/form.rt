@@ -54,8 +54,7 @@ fn check<'a>(alloc: Global) -> Result<Command<'a>, AllocError>
 
 // `validate` and `watch`, with `--helper HELPER FILE ..`, or `--listen ADDRESS --links COUNT` in the place of the FILEs
 fn over_core<'a>(alloc: Global, name: &'a str) -> Result<Command<'a>, AllocError>
-    ensures { IfOk result (HasShape (specs.command name.now (wants (codes "helper") ∷ may_have (codes "listen")
-        ∷ may_have (codes "links") ∷ specs.maybe_files ∷ []))) }
+    ensures { IfOk result (HasShape (specs.core_shape name.now)) }
 {
     Command::new(alloc, name)
         .arg(wanted(alloc, "helper"))?
@@ -66,9 +65,7 @@ fn over_core<'a>(alloc: Global, name: &'a str) -> Result<Command<'a>, AllocError
 
 // `witness --helper HELPER --prefix KEY --shelf SHELF FILE`, and `--from OLD`; or links in the place of the FILE
 fn witness<'a>(alloc: Global) -> Result<Command<'a>, AllocError>
-    ensures { IfOk result (HasShape (specs.command (codes "witness") (wants (codes "helper") ∷ wants (codes "prefix")
-        ∷ wants (codes "shelf") ∷ may_have (codes "from") ∷ may_have (codes "listen") ∷ may_have (codes "links")
-        ∷ specs.maybe_file (codes "file") ∷ []))) }
+    ensures { IfOk result (HasShape specs.witness_shape) }
 {
     Command::new(alloc, "witness")
         .arg(wanted(alloc, "helper"))?

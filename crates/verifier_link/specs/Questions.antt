@@ -1,5 +1,5 @@
 -- Questions to a helper and how they are spelled (the helper's protocol).
-use Rattle.std.specs.Prelude.{ℕ, ◌+◌, ◌≤◌, nat_lt, if◌then◌else◌, List, ◌∷◌, ◌++◌, length, map}
+use Rattle.std.specs.Prelude.{ℕ, ◌+◌, ◌≤◌, nat_lt, if◌then◌else◌, List, ◌∷◌, ◌++◌, length, map, take}
 use Rattle.lists.specs.KeriSpecs.Base64.{digits_in}
 use Rattle.cesr_codes.specs.declared.key.Key.{Key}
 use Rattle.cesr_codes.specs.declared.sig.Sig.{Sig}
@@ -47,3 +47,8 @@ question_text asked = wanted_text asked.wanted ++ (length_text (length asked.bod
 pub record IsQuestion (asked : Question) : Type 0 where
   pub wanted : IsWanted asked.wanted
   pub short : length asked.body ≤ 65535
+
+-- a question is found, which asks what is wanted of the front of the buffer, and its text is such
+abbrev pub FindsQuestion : Wanted × ℕ → List ℕ → (List ℕ → Type 0) → Type 0
+FindsQuestion found buffer IsSuch = let asked = question found.0 (take found.1 buffer) in
+    IsQuestion asked × (found.1 ≤ 65535) × IsSuch (question_text asked)

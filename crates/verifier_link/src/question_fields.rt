@@ -1,8 +1,8 @@
 //! Questions, read field by field.
-ghost use Rattle.std.specs.Prelude.{◌≡◌, ◌≤◌, ◌∷◌, [], IfOk, IfErr, length, take};
+ghost use Rattle.std.specs.Prelude.{◌≡◌, ◌≤◌, ◌∷◌, [], IfOk, IfErr, length};
 ghost use Rattle.cesr_codes.specs.Spelling.{IsKey, IsSig, key_text, sig_text};
 ghost use Rattle.verifier_link.specs.Fields.{FieldStops, IsTaken, Completes, letter_code, the_key, the_length, the_letter, the_sig};
-ghost use Rattle.verifier_link.specs.Questions.{IsQuestion, IsWanted, length_text, question, question_text, wanted_text};
+ghost use Rattle.verifier_link.specs.Questions.{FindsQuestion, IsWanted, length_text, wanted_text};
 ghost use Rattle.verifier_link.specs.Sides.{source_told};
 ghost use Rattle.verifier_link.specs.Stops.{StopsBehind, StopsReading};
 
@@ -22,8 +22,8 @@ pub(crate) fn read_question<S: Source>(
     buffer: &mut [u8],
 ) -> Result<(Wanted, usize), Stop>
     requires { length buffer.old ≡ 65535 }
-    ensures ok { IfOk result (λ found. let asked = question found.0 (take found.1 buffer.new) in
-        IsQuestion asked × (found.1 ≤ 65535) × IsTaken room.old room.new (source_told S.left S.faults source.old) (source_told S.left S.faults source.new) (question_text asked)) }
+    ensures ok { IfOk result (λ found. FindsQuestion found buffer.new
+        (IsTaken room.old room.new (source_told S.left S.faults source.old) (source_told S.left S.faults source.new))) }
     ensures err { IfErr result (λ stop. StopsReading room.old (source_told S.left S.faults source.old)
         (source_told S.left S.faults source.new) stop) }
 {
@@ -42,11 +42,9 @@ fn read_behind<S: Source>(
     buffer: &mut [u8],
 ) -> Result<(Wanted, usize), Stop>
     requires { length buffer.old ≡ 65535 }
-    ensures ok { IfOk result (λ found. let asked = question found.0 (take found.1 buffer.new) in
-        IsQuestion asked × (found.1 ≤ 65535)
-        × Completes (letter_code letter ∷ []) (question_text asked)
-        (IsTaken room.old room.new (source_told S.left S.faults source.old)
-        (source_told S.left S.faults source.new))) }
+    ensures ok { IfOk result (λ found. FindsQuestion found buffer.new
+        (λ text. Completes (letter_code letter ∷ []) text (IsTaken room.old room.new
+        (source_told S.left S.faults source.old) (source_told S.left S.faults source.new)))) }
     ensures err { IfErr result (λ stop. StopsBehind (letter_code letter ∷ []) room.old
         (source_told S.left S.faults source.old) (source_told S.left S.faults source.new) stop) }
 {
