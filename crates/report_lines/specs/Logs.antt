@@ -1,5 +1,5 @@
 -- The accepted events by their identifiers.
-use Rattle.std.specs.Prelude.{◌≡◌, ℕ, ◌<◌, ◌==◌, List, [], map, length, slice_get, All, Option, Some, None}
+use Rattle.std.specs.Prelude.{◌≡◌, ℕ, ◌<◌, ◌==◌, List, [], ◌∷◌, ◌++◌, map, length, slice_get, All, OnOk, Option, Result, Some, None}
 use Rattle.std.specs.List.{list_any}
 use Rattle.std.specs.List.Sorted.{IsPermutation}
 use Rattle.std.specs.Ordering.{nat_cmp}
@@ -8,6 +8,7 @@ use Rattle.std.specs.BTreeMap.{is_at}
 use Rattle.std.specs.Map.{lookup}
 use Rattle.cesr_codes.specs.Spelling.{IsPrefix, prefix_text}
 use Rattle.cesr_codes.specs.declared.prefix.Prefix.{Prefix}
+use Rattle.event_body.specs.EventBody.Events.{prefix_of}
 use Rattle.journal.specs.declared.journal.body.Body.{Body}
 use Rattle.journal.specs.Journal.Journals.{chosen}
 use Rattle.journal.specs.Journal.Logs.{is_in}
@@ -42,6 +43,11 @@ pub record AreLogs (held log : List Body) (entries : List (List ℕ × Log)) : T
   pub members : IsPermutation (prefixes_of log) (prefixes_in entries)
   pub numbers_held : (p : Prefix) → IsPrefix p → All (λ n. n < length held) (numbers_at entries p)
   pub own : (p : Prefix) → IsPrefix p → chosen held (numbers_at entries p) ≡ own_of p log
+
+-- the event of a number, which has this identifier, is logged next, unless memory runs out
+abbrev pub LogsNext : {E : Type 0} → ℕ → Prefix → List (List ℕ × Log) → List (List ℕ × Log) → Result (Unit {0}) E → Type 0
+LogsNext number prefix entries entries_new result = (held log : List Body) (b : Body) → slice_get held number ≡ Some b → prefix_of b.event ≡ prefix
+    → AreLogs held log entries → OnOk result (AreLogs held (log ++ b ∷ []) entries_new)
 
 -- the numbers are those of the bodies, as far as bodies are held
 abbrev pub Marks : List Body → List ℕ → List Body → Type 0

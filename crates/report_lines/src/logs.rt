@@ -1,9 +1,7 @@
 //! The accepted events by their identifiers.
-ghost use Rattle.std.specs.Prelude.{◌≡◌, ◌++◌, ◌∷◌, [], List, Some, IfOk, OnOk, slice_get};
-ghost use Rattle.event_body.specs.EventBody.Events as events;
-ghost use Rattle.journal.specs.declared.journal.body.Body.{Body};
+ghost use Rattle.std.specs.Prelude.{IfOk};
 ghost use Rattle.validator_core.specs.ValidatorCore.View.{accepted_by};
-ghost use Rattle.report_lines.specs.Logs.{AreLogs};
+ghost use Rattle.report_lines.specs.Logs.{AreLogs, LogsNext};
 
 use cesr_codes::{Prefix, Spelled};
 use std::alloc::{AllocError, Global};
@@ -37,8 +35,7 @@ fn add_number(
     prefix: Prefix,
     number: u32,
 ) -> Result<(), AllocError>
-    ensures { (bodies log : List Body) (b : Body) → slice_get bodies number ≡ Some b → events.prefix_of b.event ≡ prefix
-        → AreLogs bodies log logs.old.entries → OnOk result (AreLogs bodies (log ++ b ∷ []) logs.new.entries) }
+    ensures { LogsNext number prefix logs.old.entries logs.new.entries result }
 {
     prefix.held();
     let mut text = [0; 44];

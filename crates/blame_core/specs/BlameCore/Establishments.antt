@@ -1,5 +1,5 @@
 -- The accepted establishment events by the texts of their prefixes and their numbers.
-use Rattle.std.specs.Prelude.{◌≡◌, ℕ, List, ◌∷◌, ◌++◌, Option, Some, true, slice_get, Contains}
+use Rattle.std.specs.Prelude.{◌≡◌, ℕ, List, [], ◌∷◌, ◌++◌, Option, Some, OnOk, Result, true, slice_get, Contains}
 use Rattle.std.specs.declared.cmp.Ordering.{Ordering}
 use Rattle.std.specs.Ordering.{nat_cmp, ordering_then}
 use Rattle.std.specs.Cmp.Lexicographic.{slice_cmp}
@@ -71,3 +71,8 @@ pub record IsFollowedBy (log seen : List Body) (b : Body) : Type 0 where
 pub record IsWalked (held log seen : List Body) (lists : List (List ℕ × List Key)) (entries : List (Place × Establishment)) : Type 0 where
   pub placed : ArePlaced held log seen entries
   pub current : (p : Prefix) → IsPrefix p → list_at lists p ≡ (rules_of (state seen p)).witnesses
+
+-- the event of a number is walked over next, unless memory runs out
+abbrev pub WalksOver : {E : Type 0} → ℕ → Event → List (List ℕ × List Key) → List (Place × Establishment) → List (List ℕ × List Key) → List (Place × Establishment) → Result (Unit {0}) E → Type 0
+WalksOver number e lists entries lists_new entries_new result = (held log seen : List Body) (b : Body) → slice_get held number ≡ Some b → b.event ≡ e
+    → IsFollowedBy log seen b → IsWalked held log seen lists entries → OnOk result (IsWalked held log (seen ++ b ∷ []) lists_new entries_new)

@@ -1,5 +1,6 @@
 -- Where the first good signatures of keys came.
 use Rattle.std.specs.Prelude.{ℕ, Bool, ◌&&◌, nat_le, List, Option, Some, None, slice_get, if◌then◌else◌}
+use Rattle.std.specs.BTreeMap.{is_at}
 use Rattle.std.specs.declared.cmp.Ordering.{Ordering}
 use Rattle.std.specs.declared.cmp.Ord as ord
 use Rattle.cesr_codes.specs.contracts.key.KeyOrd.TheImpl as key_order
@@ -26,6 +27,10 @@ abbrev pub earlier : Option ℕ → Option ℕ → Option ℕ
 earlier None other = other
 earlier (Some i) None = Some i
 earlier (Some i) (Some j) = if nat_le i j then Some i else Some j
+
+-- the place of a signature, if it is of this key
+abbrev pub place_for : Signed → (Sig → Option ℕ) → Key → Option ℕ
+place_for s place key = if is_at (key_cmp s.key) key then place s.sig else None
 
 -- what stands at a place, where there is one
 abbrev pub at_place : {X : Type 0} → List X → Option ℕ → Option X

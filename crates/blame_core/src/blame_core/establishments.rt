@@ -1,10 +1,9 @@
 //! The accepted establishment events of a core, by identifier and number.
-ghost use Rattle.std.specs.Prelude.{◌≡◌, ◌++◌, ◌∷◌, [], List, Some, IfOk, OnOk, slice_get};
-ghost use Rattle.blame_core.specs.BlameCore.Establishments.{AreEstablishments, IsFollowedBy, IsWalked};
+ghost use Rattle.std.specs.Prelude.{◌≡◌, Some, IfOk};
+ghost use Rattle.blame_core.specs.BlameCore.Establishments.{AreEstablishments, WalksOver};
 ghost use Rattle.blame_core.specs.BlameCore.Establishments as establishments;
 ghost use Rattle.cesr_codes.specs.Spelling.{IsPrefix};
 ghost use Rattle.event_body.specs.EventBody.Events as events;
-ghost use Rattle.journal.specs.declared.journal.body.Body.{Body};
 ghost use Rattle.validator_core.specs.ValidatorCore.View.{accepted_by};
 
 use crate::blame_core::own_lists::own_list;
@@ -54,10 +53,7 @@ fn add_event(
     lists: &mut BTreeMap<[u8; 44], Items<Key>>,
     events: &mut BTreeMap<Place, Establishment>,
 ) -> Result<(), AllocError>
-    ensures { (held log seen : List Body) (b : Body) → slice_get held number ≡ Some b → b.event ≡ event.now
-        → IsFollowedBy log seen b
-        → IsWalked held log seen lists.old.entries events.old.entries
-        → OnOk result (IsWalked held log (seen ++ b ∷ []) lists.new.entries events.new.entries) }
+    ensures { WalksOver number event.now lists.old.entries events.old.entries lists.new.entries events.new.entries result }
 {
     if !event.is_establishment() {
         return Ok(());

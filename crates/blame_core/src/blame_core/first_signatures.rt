@@ -50,7 +50,7 @@ fn note_good(
     signed: &Signed,
 ) -> Result<(), AllocError>
     ensures { OnOk result ((key : KeyValue) → get key_cmp firsts.new key ≡ first.earlier (get key_cmp firsts.old key)
-        (if is_at (key_cmp signed.now.key) key then get sig_cmp places.now signed.now.sig else None)) }
+        (first.place_for signed.now (get sig_cmp places.now) key)) }
 {
     lower(firsts, signed.key, place_came(places, &signed.sig))
 }
