@@ -1,12 +1,11 @@
 //! A list that is brought over to a new file.
-ghost use Rattle.std.specs.Prelude.{◌≡◌, ◌≢◌, ◌⊎◌, ◌≤◌, ◌↔◌, List, ℕ, false, length, IfOk, IfErr, OnOk, IsTrue, MatchResult};
+ghost use Rattle.std.specs.Prelude.{◌≡◌, ◌≢◌, ◌≤◌, ◌↔◌, false, length, IfOk, IfErr, IsTrue, MatchResult};
 ghost use Rattle.std.specs.List.{All};
 ghost use Rattle.lists.specs.KeriSpecs.Causes.{HasCause};
 ghost use Rattle.shelf_log.specs.KeriDisk.Images.{LeavesOnly};
 ghost use Rattle.shelf_log.specs.ShelfLog.Answers.{IsOver, HasDiskCause, MigrationRefuses};
-ghost use Rattle.shelf_log.specs.ShelfLog.Format.{IsSized, IsNoShelf, shelf_front, shelf_size};
-ghost use Rattle.shelf_log.specs.ShelfLog.Leftover.{IsLeftover};
-ghost use Rattle.shelf_log.specs.ShelfLog.Settled.{AllHold, BringsOver, IsBroughtOver, IsFilledOrLeftover};
+ghost use Rattle.shelf_log.specs.ShelfLog.Format.{IsSized, shelf_front, shelf_size};
+ghost use Rattle.shelf_log.specs.ShelfLog.Settled.{AllHold, AllLeftover, BringsOver, IsBroughtOver, IsFilledOrLeftover, NoneIsShelf};
 ghost use Rattle.shelf_log.specs.declared.shelf_log.version.Version.TheVariants.{One, Two};
 ghost use Rattle.shelf_log.specs.declared.shelf_log.fault.ShelfFault.TheVariants.{DiskFault};
 
@@ -32,7 +31,7 @@ impl<D: Disk + Drop> Shelf<D> {
         limits: Limits,
     ) -> Result<Shelf<D>, Returned<D>>
         requires sized { All (IsSized One) list.now }
-        requires no_shelf { (c : List ℕ) → (D.told target).images c → IsNoShelf Two c }
+        requires no_shelf { NoneIsShelf (D.told target) }
         ensures made { IfOk result (λ shelf. (shelf.list ≡ list.now) × (shelf.limits ≡ limits)
             × (shelf.broken ≡ false) × AllHold (D.told shelf.disk) list.now) }
         ensures full { MatchResult result (λ _. IsOver Two limits list.now
@@ -46,7 +45,7 @@ impl<D: Disk + Drop> Shelf<D> {
 
         // What a stopped migration may leave is that again at any moment of this one, until it stands for the list. So the same
         // can be done again.
-        ensures leftover { ((c : List ℕ) → (D.told target).images c → IsLeftover c) → MatchResult result
+        ensures leftover { AllLeftover (D.told target) → MatchResult result
             (λ shelf. LeavesOnly (D.told target) (D.told shelf.disk) (IsFilledOrLeftover list.now))
             (λ returned. LeavesOnly (D.told target) (D.told returned.disk) (IsFilledOrLeftover list.now)) }
     {

@@ -1,11 +1,10 @@
 //! One payload more on a disk.
-ghost use Rattle.std.specs.Prelude.{◌≡◌, ◌+◌, ◌<◌, ◌++◌, [], ◌∷◌, ◌⊎◌, List, ℕ, OnOk, OnErr, IfErr, MatchResult, length};
-ghost use Rattle.std.specs.Int.{w32, to_be_bytes};
+ghost use Rattle.std.specs.Prelude.{◌≡◌, ◌+◌, ◌<◌, ◌++◌, [], ◌∷◌, ◌⊎◌, OnOk, OnErr, IfErr, MatchResult, length};
 ghost use Rattle.lists.specs.KeriSpecs.Causes.{HasCause};
 ghost use Rattle.shelf_log.specs.KeriDisk.Calls.{IsInFile};
 ghost use Rattle.shelf_log.specs.ShelfLog.Answers.{HasDiskCause};
 ghost use Rattle.shelf_log.specs.ShelfLog.Format.{shelf_front, IsSized};
-ghost use Rattle.shelf_log.specs.ShelfLog.Settled.{IsSettled, Stores};
+ghost use Rattle.shelf_log.specs.ShelfLog.Settled.{IsSettled, Stores, StoresStaged};
 ghost use Rattle.shelf_log.specs.declared.shelf_log.version.Version.TheVariants.{Two};
 ghost use Rattle.shelf_log.specs.declared.shelf_log.fault.ShelfFault.TheVariants.{DiskFault, OutOfMemory};
 
@@ -50,9 +49,7 @@ pub(crate) fn add<D: Disk>(
 fn store<D: Disk>(disk: &mut D, end: u64, staged: &[u8]) -> Result<(), Failed>
     requires inside { IsInFile (end + 1) 0 (D.told disk.old).file }
     requires few { end < 1073741824 }
-    ensures stores { (list : List (List ℕ)) (payload : List ℕ) → IsSettled (D.told disk.old) list
-        → end ≡ length (shelf_front Two list) → IsSized Two payload
-        → staged.now ≡ to_be_bytes w32 (length payload) ++ payload ++ 0 ∷ [] → Stores list payload (D.told disk.old) (D.told disk.new) result }
+    ensures stores { StoresStaged end staged.now (D.told disk.old) (D.told disk.new) result }
     ensures cause { HasCause (D.told disk.old).faults (D.told disk.new).faults result }
 {
     put_durably(disk, end + 1, staged)?;
