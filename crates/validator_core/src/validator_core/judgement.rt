@@ -17,7 +17,10 @@ pub fn judge_message(alloc: Global, message: &Message) -> Result<Result<Event, R
     match read_body(alloc, message.body.as_slice()) {
         Ok(event) => match refusal_of(message, &event) {
             None => Ok(Ok(event)),
-            Some(reason) => Ok(Err(reason)),
+            Some(reason) => {
+                drop(event);
+                Ok(Err(reason))
+            }
         },
         Err(ReadBody::Fault(_)) if message.excess => Ok(Err(Reason::TooManySigs)),
         Err(ReadBody::Fault(fault)) => Ok(Err(Reason::Body(fault))),

@@ -98,9 +98,13 @@ impl Core {
         let count = claims.len();
         let size = body.len();
         if self.tally.lacks_room(self.limits, size, count) {
+            drop(event);
             return Ok(Reply::Full);
         }
-        let bytes = copy_items(body, self.alloc)?;
+        let Ok(bytes) = copy_items(body, self.alloc) else {
+            drop(event);
+            return Err(AllocError);
+        };
         add_body(
             self.alloc,
             &mut self.tables,

@@ -24,7 +24,7 @@ invariant_of-self-2 c =
     let is = c.self.view_is in
     let b = body_of c.args.body.now c.args.event in
     let room = rw (c.len-count.ensures, c.len-size.ensures) at (sym c.lacks_room.ensures ∙ c.if-lacks_room.false) in
-    let adds = rw c.in_ok-bytes.ensures at c.in_ok-add_body.ensures.ok in
+    let adds = rw c.in-Ok.ensures at c.in_ok-add_body.ensures.ok in
     subst (λ t. IsCore i.mode i.limits i.base c.add_body.new.tables t) (sym (c.with-self-inside.ensures ∙ (λ j. tally_with i.tally (c.len-size.ensures j) (c.len-count.ensures j))))
     (core_first i.mode i.limits i.base i.tables i.tally c.self.invariant c.args.reader b c.args.claims (rw (← is) at c.requires.outside) room c.add_body.new.tables _ _ adds)
 
@@ -34,7 +34,7 @@ returns-clause-takes c =
     let is = c.self.view_is in
     let b = body_of c.args.body.now c.args.event in
     let room = rw (c.len-count.ensures, c.len-size.ensures) at (sym c.lacks_room.ensures ∙ c.if-lacks_room.false) in
-    let adds = rw c.in_ok-bytes.ensures at c.in_ok-add_body.ensures.ok in
+    let adds = rw c.in-Ok.ensures at c.in_ok-add_body.ensures.ok in
     subst (λ core. TakesBody core c.args.reader b c.args.claims Taken (seen i.mode i.limits i.base c.add_body.new.tables)) is
     (takes_first i.mode i.limits i.base i.tables i.tally c.self.invariant c.args.reader b c.args.claims (rw (← is) at c.requires.outside) room c.add_body.new.tables _ _ adds)
 
@@ -44,6 +44,6 @@ returns-clause-few c =
     let is = c.self.view_is in
     let b = body_of c.args.body.now c.args.event in
     let room = rw (c.len-count.ensures, c.len-size.ensures) at (sym c.lacks_room.ensures ∙ c.if-lacks_room.false) in
-    let adds = rw c.in_ok-bytes.ensures at c.in_ok-add_body.ensures.ok in
+    let adds = rw c.in-Ok.ensures at c.in_ok-add_body.ensures.ok in
     subst (λ core. LooksByReply core b Taken (seen i.mode i.limits i.base c.add_body.new.tables) c.args.steps.now c.add_body.new.steps) is
     (few_first i.mode i.limits i.base i.tables i.tally c.self.invariant c.args.reader b c.args.claims (rw (← is) at c.requires.outside) room c.add_body.new.tables _ _ adds)
