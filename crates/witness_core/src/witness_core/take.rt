@@ -1,4 +1,4 @@
-//! Messages that are judged, told to the core, and stored.
+//! Messages that are judged, and told to the core.
 //!
 //! An event that isn't taken is let go by `drop`: where that happens of itself at a function's end, its proof takes longer.
 ghost use Rattle.std.specs.Prelude.{◌≡◌, ◌⊎◌, ◌≤◌, true, false, length, IfOk, IfErr, OnOk, OnErr, MatchResult, Ok, Some, slice_get};
@@ -10,77 +10,28 @@ ghost use Rattle.journal.specs.Journal.Replies as replies;
 ghost use Rattle.journal.specs.Journal.Replies.{is_full};
 ghost use Rattle.validator_core.specs.ValidatorCore.Messages.{JudgesMessage};
 ghost use Rattle.validator_core.specs.ValidatorCore.View.{Follows, base_of, told_of};
-ghost use Rattle.witness_core.specs.WitnessStore.Faults.{StoresStill};
 ghost use Rattle.witness_core.specs.WitnessStore.Histories.{history_of, log_in};
 ghost use Rattle.witness_core.specs.WitnessStore.Room.{IsKnown, IsRoom};
-ghost use Rattle.witness_core.specs.WitnessStore.Storing.{AreStored, GoesOn};
+ghost use Rattle.witness_core.specs.WitnessStore.Storing.{AreStored};
 ghost use Rattle.witness_core.specs.declared.witness_store.witness_fault.WitnessFault.TheVariants.{Full as NoRoom, OutOfMemory as NoMemory};
-ghost use Rattle.witness_core.specs.WitnessCore.Faults.{FullBy, TakeFault};
-ghost use Rattle.witness_core.specs.WitnessCore.Telling.{AsksVerdicts, Came, Fails, FailsMessage, IsReady, IsTakenAs, IsTurnedAway, IsUntold, TakesIn, TellsFault, TellsTaken, has_no_room};
+ghost use Rattle.witness_core.specs.WitnessCore.Faults.{FullBy};
+ghost use Rattle.witness_core.specs.WitnessCore.Telling.{Came, Fails, FailsMessage, IsReady, IsTurnedAway, IsUntold, TakesIn, has_no_room};
 
 use crate::witness_core::WitnessFault;
 use crate::witness_core::taken::Taken;
-use crate::witness_store::{Coming, Room, ask_open, count_signatures, lacks_room, store};
+use crate::witness_store::{Coming, Room, count_signatures, lacks_room};
 use cesr_stream::Message;
 use event_body::Event;
 use journal::{Claim, Reply};
 use json_tree::Text;
-use keri_outside::{Limits, Steps, Verifier};
+use keri_outside::{Limits, Steps};
 use lists::{Items, length_u32};
 use shelf_log::{Disk, Shelf};
 use std::alloc::Global;
 use validator_core::{Core, claims_of, judge_message};
 
-/// Takes a message, asks each open question, and after each entry stores what it makes accepted.
-pub(crate) fn take_whole<D: Disk + Drop, V: Verifier>(
-    alloc: Global,
-    core: &mut Core,
-    shelf: &mut Shelf<D>,
-    room: &mut Room,
-    steps: &mut Steps,
-    limits: Limits,
-    message: &Message,
-    verifier: &mut V,
-) -> Result<Taken, WitnessFault>
-    requires limits { (shelf.old.limits ≡ limits) × (core.old.limits ≡ limits) }
-    requires stored { AreStored (history_of core.old) shelf.old.list shelf.old.limits shelf.old.broken
-        (D.told shelf.old.disk) room.old }
-    ensures stored { OnOk result (AreStored (history_of core.new) shelf.new.list shelf.new.limits shelf.new.broken
-        (D.told shelf.new.disk) room.new) }
-    ensures kept { IfErr result (λ fault. StoresStill fault (AreStored (history_of core.new) shelf.new.list
-        shelf.new.limits shelf.new.broken (D.told shelf.new.disk) room.new)) }
-    ensures goes_on { GoesOn shelf.old.list (D.told shelf.old.disk) (history_of core.new) shelf.new.list
-        (D.told shelf.new.disk) }
-    ensures limits { shelf.new.limits ≡ shelf.old.limits }
-    ensures same_at_full { IfErr result (λ fault. fault ≡ NoRoom → shelf.new ≡ shelf.old) }
-    ensures full { MatchResult result (λ _. IsTurnedAway limits core.old shelf.old.list message.now → ⊥)
-        (FullBy (IsTurnedAway limits core.old shelf.old.list message.now)) }
-    ensures told { MatchResult result (λ taken. TellsTaken (V.says verifier.old) core.old message.now taken core.new)
-        (λ fault. TellsFault (V.says verifier.old) core.old message.now fault core.new) }
-    ensures says { V.says verifier.new ≡ V.says verifier.old }
-    ensures taken { IfOk result (IsTakenAs core.new shelf.old.list shelf.new.list message.now) }
-    ensures verdicts { AsksVerdicts (V.inquiries verifier.old) (V.inquiries verifier.new) core.old core.new }
-    ensures follows { Follows core.old core.new }
-    ensures disk_same { OnOk result ((D.told shelf.new.disk).faults ≡ (D.told shelf.old.disk).faults) }
-    ensures verifier_same { OnOk result (V.faults verifier.new ≡ V.faults verifier.old) }
-    ensures causes { IfErr result (TakeFault (D.told shelf.old.disk).faults (D.told shelf.new.disk).faults
-        (V.faults verifier.old) (V.faults verifier.new)) }
-{
-    let taken = take_in(alloc, core, shelf, room, steps, limits, message)?;
-    match taken {
-        Taken::Refused(reason) => Ok(Taken::Refused(reason)),
-        Taken::NotAnEvent => Ok(Taken::NotAnEvent),
-        Taken::Event(number) => {
-            store(alloc, core, shelf, room)?;
-            ask_open(alloc, core, shelf, room, steps, verifier)?;
-            core.stands();
-            Ok(Taken::Event(number))
-        }
-    }
-}
-
-// Judges a message, and tells the core of its event where there is room.
-fn take_in<D: Disk + Drop>(
+/// Judges a message, and tells the core of its event where there is room.
+pub(crate) fn take_in<D: Disk + Drop>(
     alloc: Global,
     core: &mut Core,
     shelf: &Shelf<D>,
@@ -97,6 +48,7 @@ fn take_in<D: Disk + Drop>(
     ensures full { MatchResult result (λ _. IsTurnedAway limits core.old shelf.now.list message.now → ⊥)
         (FullBy (IsTurnedAway limits core.old shelf.now.list message.now)) }
     ensures fault { IfErr result (FailsMessage message.now core.old room.old core.new room.new) }
+    ensures follows { Follows core.old core.new }
 {
     match judge_message(alloc, message)? {
         Err(reason) => Ok(Taken::Refused(reason)),
@@ -105,40 +57,49 @@ fn take_in<D: Disk + Drop>(
                 drop(event);
                 return Ok(Taken::NotAnEvent);
             }
-            let number = take_event(alloc, core, shelf, room, steps, limits, message, event)?;
+            let Ok(claims) = claims_of(alloc, message) else {
+                drop(event);
+                return Err(WitnessFault::OutOfMemory);
+            };
+            let brought = Brought { event, claims };
+            let number = take_event(core, shelf, room, steps, limits, message, brought)?;
             Ok(Taken::Event(number))
         }
     }
 }
 
+// An event of a message, with the claims that came with it.
+#[derive(Drop)]
+struct Brought {
+    event: Event,
+    claims: Items<Claim>,
+}
+
 // Tells the core of a message's event where there is room. Answers the number of its body.
 fn take_event<D: Disk + Drop>(
-    alloc: Global,
     core: &mut Core,
     shelf: &Shelf<D>,
     room: &mut Room,
     steps: &mut Steps,
     limits: Limits,
     message: &Message,
-    event: Event,
+    brought: Brought,
 ) -> Result<u32, WitnessFault>
     requires limits { (shelf.now.limits ≡ limits) × (core.old.limits ≡ limits) }
     requires stored { AreStored (history_of core.old) shelf.now.list shelf.now.limits shelf.now.broken
         (D.told shelf.now.disk) room.old }
-    requires judged { JudgesMessage message.now (Ok event) }
-    requires no_receipt { events.is_receipt event ≡ false }
+    requires judged { JudgesMessage message.now (Ok brought.event) }
+    requires claims { brought.claims ≡ replies.claims_of message.now }
+    requires no_receipt { events.is_receipt brought.event ≡ false }
     ensures ready { IfOk result (λ number. IsReady limits core.old shelf.now.list message.now number
         core.new room.new) }
-    ensures room { OnOk result (has_no_room limits core.old shelf.now.list (body_of message.now.body event)
+    ensures room { OnOk result (has_no_room limits core.old shelf.now.list (body_of message.now.body brought.event)
         (replies.claims_of message.now) ≡ false) }
-    ensures fault { IfErr result (Fails (has_no_room limits core.old shelf.now.list (body_of message.now.body event)
-        (replies.claims_of message.now) ≡ true) (body_of message.now.body event) (replies.claims_of message.now)
+    ensures fault { IfErr result (Fails (has_no_room limits core.old shelf.now.list (body_of message.now.body brought.event)
+        (replies.claims_of message.now) ≡ true) (body_of message.now.body brought.event) (replies.claims_of message.now)
         core.old room.old core.new room.new) }
 {
-    let Ok(claims) = claims_of(alloc, message) else {
-        drop(event);
-        return Err(WitnessFault::OutOfMemory);
-    };
+    let Brought { event, claims } = brought;
     let coming = Coming {
         number: core.number_of(message.body.as_slice(), &event),
         bytes: message.body.len(),

@@ -6,9 +6,12 @@ ghost use Rattle.journal.specs.declared.journal.mode.Mode.TheVariants.{Local};
 ghost use Rattle.witness_core.specs.WitnessStore.Histories.{history_of};
 ghost use Rattle.witness_core.specs.WitnessStore.Storing.{AreStored};
 
-use crate::witness_core::outcome::take_message;
+use crate::witness_core::outcome::event_outcome;
+use crate::witness_core::take::take_in;
+use crate::witness_core::taken::Taken;
 use crate::witness_core::{Outcome, StartFault, WitnessFault};
-use crate::witness_store::{Begun, Room, begin, breaks};
+use crate::witness_receipts::Fate;
+use crate::witness_store::{Begun, Room, ask_open, begin, breaks, store};
 use cesr_codes::Key;
 use cesr_stream::Message;
 use journal::Journal;
@@ -43,15 +46,16 @@ pub struct Witness<D: Disk> {
 impl<D: Disk + Drop> Witness<D> {
     ghost use Rattle.std.specs.Prelude.{◌≡◌, ◌⊎◌, true, map, All, Err, IfErr, IfOk, MatchResult, OnOk};
     ghost use Rattle.shelf_log.specs.ShelfLog.Settled.{AllHold};
-    ghost use Rattle.validator_core.specs.ValidatorCore.View.{Stands};
+    ghost use Rattle.validator_core.specs.ValidatorCore.View.{Follows, Stands};
+    ghost use Rattle.witness_core.specs.WitnessStore.Faults.{StoresStill};
     ghost use Rattle.witness_core.specs.WitnessReceipts.Fates.{IsFate};
     ghost use Rattle.witness_core.specs.WitnessStore.Payloads.{AreListed};
     ghost use Rattle.witness_core.specs.WitnessStore.Starts.{AreNoStart, IsStarted, ReadsAgain};
-    ghost use Rattle.witness_core.specs.WitnessStore.Storing.{StoresOn};
+    ghost use Rattle.witness_core.specs.WitnessStore.Storing.{GoesOn, StoresOn};
     ghost use Rattle.witness_core.specs.declared.witness_store.witness_fault.WitnessFault.TheVariants.{Full as NoRoom};
-    ghost use Rattle.witness_core.specs.WitnessCore.Faults.{CausedBy, FullBy, Goes};
+    ghost use Rattle.witness_core.specs.WitnessCore.Faults.{CausedBy, FullBy, Goes, TakeFault};
     ghost use Rattle.witness_core.specs.WitnessCore.Outcomes.{AreReceipts, AsksSigner, IsOfStored, KeepsList, TellsFate};
-    ghost use Rattle.witness_core.specs.WitnessCore.Telling.{AsksVerdicts, IsTurnedAway, IsUntold, TellsFault};
+    ghost use Rattle.witness_core.specs.WitnessCore.Telling.{AsksVerdicts, IsTakenAs, IsTurnedAway, IsUntold, TellsFault, TellsTaken};
 
     /// A witness that starts from a shelf: the events of its payloads count as accepted, in their order. Its key can't be
     /// rotated.
@@ -149,19 +153,11 @@ impl<D: Disk + Drop> Witness<D> {
         if self.broken {
             return Err(WitnessFault::Broken);
         }
-        match take_message(
-            self.alloc,
-            &mut self.core,
-            &mut self.shelf,
-            &mut self.room,
-            &mut self.steps,
-            self.limits,
-            &self.key,
-            message,
-            verifier,
-            signer,
-        ) {
+        // Till it is known how the call ends.
+        self.broken = true;
+        match self.take_message(message, verifier, signer) {
             Ok(outcome) => {
+                self.broken = false;
                 self.core.stands();
                 spelled_is_kept();
                 Ok(outcome)
@@ -171,6 +167,132 @@ impl<D: Disk + Drop> Witness<D> {
                 self.core.stands();
                 spelled_is_kept();
                 Err(fault)
+            }
+        }
+    }
+
+    // Takes a message whole, and then signs the receipts that are due. A message that is refused, or is a receipt, has none.
+    // Meanwhile the witness counts as broken, though all that it had accepted is stored.
+    fn take_message<V: Verifier, S: Signer>(
+        &mut self,
+        message: &Message,
+        verifier: &mut V,
+        signer: &mut S,
+    ) -> Result<Outcome, WitnessFault>
+        requires broken { self.old.broken ≡ true }
+        requires stored { AreStored (history_of self.old.core) self.old.shelf.list self.old.shelf.limits
+            self.old.shelf.broken (D.told self.old.shelf.disk) self.old.room }
+        ensures same { (self.new.key ≡ self.old.key) × (self.new.limits ≡ self.old.limits) }
+        ensures stored { OnOk result (AreStored (history_of self.new.core) self.new.shelf.list self.new.shelf.limits
+            self.new.shelf.broken (D.told self.new.shelf.disk) self.new.room) }
+        ensures kept { IfErr result (λ fault. StoresStill fault (AreStored (history_of self.new.core) self.new.shelf.list
+            self.new.shelf.limits self.new.shelf.broken (D.told self.new.shelf.disk) self.new.room)) }
+        ensures goes_on { GoesOn self.old.shelf.list (D.told self.old.shelf.disk) (history_of self.new.core)
+            self.new.shelf.list (D.told self.new.shelf.disk) }
+        ensures same_at_full { IfErr result (λ fault. fault ≡ NoRoom → self.new.shelf ≡ self.old.shelf) }
+        ensures full { MatchResult result
+            (λ _. IsTurnedAway self.old.limits self.old.core self.old.shelf.list message.now → ⊥)
+            (FullBy (IsTurnedAway self.old.limits self.old.core self.old.shelf.list message.now)) }
+        ensures told { MatchResult result
+            (λ o. TellsFate (V.says verifier.old) self.old.core message.now o.fate self.new.core)
+            (λ fault. TellsFault (V.says verifier.old) self.old.core message.now fault self.new.core) }
+        ensures says { V.says verifier.new ≡ V.says verifier.old }
+        ensures same_list { IfOk result (λ o. KeepsList o.fate self.old.shelf.list self.new.shelf.list) }
+        ensures verdicts { AsksVerdicts (V.inquiries verifier.old) (V.inquiries verifier.new)
+            self.old.core self.new.core }
+        ensures follows { Follows self.old.core self.new.core }
+        ensures fate { IfOk result (λ o. IsFate self.old.key self.new.core message.now o.fate) }
+        ensures receipts { IfOk result (AreReceipts self.old.key (S.gives signer.old)
+            self.old.core self.new.core message.now) }
+        ensures of_stored { IfOk result (λ o. All (IsOfStored self.new.core) o.receipts.items) }
+        ensures gives { S.gives signer.new ≡ S.gives signer.old }
+        ensures asked { AsksSigner self.old.key self.old.core self.new.core message.now
+            (S.signings signer.old) (S.signings signer.new) result }
+        ensures stored_where_asked { (S.signings signer.new ≡ S.signings signer.old)
+            ⊎ AreStored (history_of self.new.core) self.new.shelf.list self.new.shelf.limits self.new.shelf.broken
+            (D.told self.new.shelf.disk) self.new.room }
+        ensures disk_same { OnOk result ((D.told self.new.shelf.disk).faults ≡ (D.told self.old.shelf.disk).faults) }
+        ensures verifier_same { OnOk result (V.faults verifier.new ≡ V.faults verifier.old) }
+        ensures signer_same { OnOk result (S.faults signer.new ≡ S.faults signer.old) }
+        ensures causes { IfErr result (CausedBy (D.told self.old.shelf.disk).faults (D.told self.new.shelf.disk).faults
+            (V.faults verifier.old) (V.faults verifier.new) (S.faults signer.old) (S.faults signer.new)) }
+    {
+        let key = self.key;
+        let front = self.shelf.list().len();
+        let taken = self.take_whole(message, verifier)?;
+        match taken {
+            Taken::Refused(reason) => Ok(Outcome {
+                fate: Fate::Refused(reason),
+                receipts: Vec::new(self.alloc),
+            }),
+            Taken::NotAnEvent => Ok(Outcome {
+                fate: Fate::NotAnEvent,
+                receipts: Vec::new(self.alloc),
+            }),
+            Taken::Event(number) => event_outcome(
+                self.alloc, &self.core, &key, front, number, signer,
+            ),
+        }
+    }
+
+    // Takes a message, asks each open question, and after each entry stores what it makes accepted. Meanwhile the witness counts
+    // as broken, though all that it had accepted is stored.
+    fn take_whole<V: Verifier>(
+        &mut self,
+        message: &Message,
+        verifier: &mut V,
+    ) -> Result<Taken, WitnessFault>
+        requires broken { self.old.broken ≡ true }
+        requires stored { AreStored (history_of self.old.core) self.old.shelf.list self.old.shelf.limits
+            self.old.shelf.broken (D.told self.old.shelf.disk) self.old.room }
+        ensures same { (self.new.key ≡ self.old.key) × (self.new.limits ≡ self.old.limits) }
+        ensures stored { OnOk result (AreStored (history_of self.new.core) self.new.shelf.list self.new.shelf.limits
+            self.new.shelf.broken (D.told self.new.shelf.disk) self.new.room) }
+        ensures kept { IfErr result (λ fault. StoresStill fault (AreStored (history_of self.new.core) self.new.shelf.list
+            self.new.shelf.limits self.new.shelf.broken (D.told self.new.shelf.disk) self.new.room)) }
+        ensures goes_on { GoesOn self.old.shelf.list (D.told self.old.shelf.disk) (history_of self.new.core)
+            self.new.shelf.list (D.told self.new.shelf.disk) }
+        ensures same_at_full { IfErr result (λ fault. fault ≡ NoRoom → self.new.shelf ≡ self.old.shelf) }
+        ensures full { MatchResult result
+            (λ _. IsTurnedAway self.old.limits self.old.core self.old.shelf.list message.now → ⊥)
+            (FullBy (IsTurnedAway self.old.limits self.old.core self.old.shelf.list message.now)) }
+        ensures told { MatchResult result
+            (λ taken. TellsTaken (V.says verifier.old) self.old.core message.now taken self.new.core)
+            (λ fault. TellsFault (V.says verifier.old) self.old.core message.now fault self.new.core) }
+        ensures says { V.says verifier.new ≡ V.says verifier.old }
+        ensures taken { IfOk result (IsTakenAs self.new.core self.old.shelf.list self.new.shelf.list message.now) }
+        ensures verdicts { AsksVerdicts (V.inquiries verifier.old) (V.inquiries verifier.new)
+            self.old.core self.new.core }
+        ensures follows { Follows self.old.core self.new.core }
+        ensures disk_same { OnOk result ((D.told self.new.shelf.disk).faults ≡ (D.told self.old.shelf.disk).faults) }
+        ensures verifier_same { OnOk result (V.faults verifier.new ≡ V.faults verifier.old) }
+        ensures causes { IfErr result (TakeFault (D.told self.old.shelf.disk).faults (D.told self.new.shelf.disk).faults
+            (V.faults verifier.old) (V.faults verifier.new)) }
+    {
+        let taken = take_in(
+            self.alloc,
+            &mut self.core,
+            &self.shelf,
+            &mut self.room,
+            &mut self.steps,
+            self.limits,
+            message,
+        )?;
+        match taken {
+            Taken::Refused(reason) => Ok(Taken::Refused(reason)),
+            Taken::NotAnEvent => Ok(Taken::NotAnEvent),
+            Taken::Event(number) => {
+                store(self.alloc, &self.core, &mut self.shelf, &mut self.room)?;
+                ask_open(
+                    self.alloc,
+                    &mut self.core,
+                    &mut self.shelf,
+                    &mut self.room,
+                    &mut self.steps,
+                    verifier,
+                )?;
+                self.core.stands();
+                Ok(Taken::Event(number))
             }
         }
     }

@@ -1,5 +1,6 @@
 use Rattle.std.proofs.Common.{sym, ◌∙◌}
 use Rattle.witness_core.proofs.WitnessCoreLemmas.Judging.{fails_full, fails_message, refused_stays, room_stays}
+use Rattle.witness_core.proofs.WitnessCoreLemmas.Messages.{message_follows}
 use Rattle.witness_core.proofs.WitnessStoreLemmas.Results.{if_err, match_err}
 use Rattle.witness_core.proofs.witness_core.take.take_in.Goals as goal
 
@@ -22,3 +23,11 @@ returns-in-Err-clause-full g c = refused_stays c.args.limits c.args.core.now c.a
 
 pub returns-in_ok-number-in-Ok-clause-full : goal.returns-in_ok-number-in-Ok-clause-full
 returns-in_ok-number-in-Ok-clause-full g c = room_stays c.args.limits c.args.core.now c.args.shelf.now.list c.args.message.now c.in-Ok.event (rw c.in-Ok.is at c.in_ok-reason.ensures) c.in_ok-number-in-Ok.ensures.room
+
+pub returns-in_err-number-in-Ok-clause-follows : goal.returns-in_err-number-in-Ok-clause-follows
+returns-in_err-number-in-Ok-clause-follows g c =
+    let s = c.args.shelf.now in
+    let fault = c.in_err-number-in-Ok.field-0.0 in
+    let judged = rw c.in-Ok.is at c.in_ok-reason.ensures in
+    message_follows c.args.core.now s.list s.limits s.broken (g.D.Disk.told s.disk) (g.met.D.Disk.only_now s.disk) c.args.room.now c.requires.stored c.take_event.new.core c.take_event.new.room c.args.message.now fault
+    (fails_message c.args.message.now _ c.in-Ok.event (sym c.is_receipt.ensures ∙ c.if-is_receipt.false) judged c.args.core.now c.args.room.now c.take_event.new.core c.take_event.new.room fault c.in_err-number-in-Ok.ensures.fault)
