@@ -11,4 +11,4 @@ pub use closes::asks_next;
 pub use link_end::LinkEnd;
 pub use run_status::Close;
 pub use service::serve_link;
-pub use witnessing::{Service, ServiceView, Witnessing};
+pub use witnessing::{LeftView, Service, ServiceView, Witnessing};

@@ -1,5 +1,5 @@
 -- What becomes of a file that a witness is to serve.
-use Rattle.std.specs.Prelude.{◌≡◌, ℕ, false, true, List, [], ◌∷◌, map, is_none, IfSome, if◌then◌else◌}
+use Rattle.std.specs.Prelude.{◌≡◌, ℕ, Bool, false, true, List, [], ◌∷◌, map, is_none, IfSome, if◌then◌else◌}
 use Rattle.std.specs.List.{list_any}
 use Rattle.std.specs.declared.option.Option.{Option}
 use Rattle.std.specs.declared.option.Option.TheVariants.{None, Some}
@@ -17,6 +17,7 @@ use Rattle.run_status.specs.declared.run_outside.making.MakingKind.{MakingKind}
 use Rattle.run_status.specs.declared.run_outside.making.MakingKind.TheVariants.{Source as SourceKind, Verifier as VerifierKind, Signer as SignerKind}
 use Rattle.run_status.specs.declared.run_status.besides.Besides.{Besides}
 use Rattle.run_status.specs.declared.run_status.close.Close.{Close}
+use Rattle.run_status.specs.declared.run_status.reader_end.ReaderEnd.{ReaderEnd}
 use Rattle.run_status.specs.declared.run_status.close.Close.TheVariants.{ReadFault, VerifierFault, SignerFault}
 use Rattle.run_status.specs.RunStatus.Readers.{Reader, SinkTold, SourceTold, VerifierTold}
 use Rattle.run_status.specs.RunStatus.Settling.{found}
@@ -28,7 +29,7 @@ use Rattle.witness_core.specs.declared.witness_link.link_end.LinkEnd.{LinkEnd}
 use Rattle.witness_core.specs.WitnessLink.Links.{Left, LinkTold, Serving, seen_as, seen_by, source_told, told_of_link}
 use Rattle.witness_core.specs.WitnessLink.Served.{ServesLink, ServesLinkTo}
 use Rattle.run_status.specs.RunRecord.Run.{HasNoLinks, Run, SignerTold, is_out}
-use Rattle.witness_core.specs.WitnessRole.Views.{Views}
+use Rattle.witness_core.specs.WitnessRole.Views.{Views, readers_by}
 
 -- the status of a run that owes nothing more: by its readers, and by what was found besides
 abbrev pub status_closing : Besides → List Reader → ℕ
@@ -122,6 +123,10 @@ module _ {D : Type 0} (told : D → DiskTold) (key : Key) (limits : Limits) wher
     pub serves : ServesIts run source_old verifier_old signer_old old source verifier signer reader new
     pub no_links : HasNoLinks run
     pub ends : EndsWith told disk (reader ∷ []) nothing_besides new run
+
+-- the run ends with these readers, and with a door that failed or didn't
+abbrev pub EndsBy : {O S V G D P K : Type 0} → Views O S V G D P K → Option D → List (ReaderEnd S V) → Bool → Left D → Run → Type 0
+EndsBy views disk readers door_failed left run = EndsWith views.disk disk (readers_by views readers) (record nothing_besides { door_failed = door_failed }) left run
 
 module _ {O S V G D P K W : Type 0} (views : Views O S V G D P K) (serving : W → Serving D) where
   -- a link was served over a source and the sink of the outside

@@ -1,10 +1,13 @@
 -- What is stored of the accepted events.
 use Rattle.std.specs.Prelude.{◌≡◌, ℕ, true, false, List, [], ◌∷◌, ◌++◌, map, drop}
+use Rattle.cesr_codes.specs.declared.indexed_sig.IndexedSig.{IndexedSig}
 use Rattle.journal.specs.declared.journal.body.Body.{Body}
 use Rattle.journal.specs.declared.journal.mode.Mode.{Mode}
 use Rattle.journal.specs.Journal.Accepted.{accepted}
 use Rattle.journal.specs.Journal.History.{Told}
 use Rattle.journal.specs.Journal.Logs.{is_in}
+use Rattle.journal_views.specs.declared.event_payload.kept.Kept.{Kept}
+use Rattle.journal_views.specs.EventPayload.Holding.{HasKept}
 use Rattle.journal_views.specs.EventPayload.Kept.{kept, signed_by, state_under}
 use Rattle.journal_views.specs.EventPayload.Payloads.{payload_of, text_in}
 use Rattle.validator_core.specs.ValidatorCore.View.{CoreView, accepted_by, base_of, told_of}
@@ -18,6 +21,10 @@ pub record IsAcceptedAt (mode : Mode) (base : List Body) (told : List Told) (b :
   pub parted : told ≡ moment ++ later
   pub not_yet : is_in (accepted mode base earlier) b ≡ false
   pub now : is_in (accepted mode base moment) b ≡ true
+
+-- these signatures on an accepted event came, and were kept
+abbrev pub HasKeptOf : List Body → Body → List IndexedSig → Kept → Type 0
+HasKeptOf log b came kept = HasKept (state_under log b) b.event came kept
 
 -- the body, and the signatures that are kept by what was told and accepted so far (own: the payload of version 2)
 abbrev pub payload_now : List Told → List Body → Body → List ℕ

@@ -3,7 +3,7 @@ ghost use Rattle.std.specs.Prelude.{◌≡◌, ◌⊎◌, false, List, ℕ};
 ghost use Rattle.witness_core.specs.WitnessCore.Outcomes.{AsksSigner};
 ghost use Rattle.witness_core.specs.WitnessStore.Payloads.{AreListed};
 ghost use Rattle.witness_core.specs.WitnessCore.Telling.{AsksVerdicts};
-ghost use Rattle.witness_core.specs.WitnessLink.Links.{ServiceTold, Serving, counts_at, terms_at};
+ghost use Rattle.witness_core.specs.WitnessLink.Links.{Left, ServiceTold, Serving, counts_at, terms_at};
 ghost use Rattle.witness_core.specs.WitnessLink.Taking.{IsSound, KeepsSame, TakesMessage};
 
 use crate::witness_core::{Outcome, Witness, WitnessFault};
@@ -11,6 +11,21 @@ use cesr_stream::Message;
 use keri_outside::{Signer, Verifier};
 use key_state::spelled_is_kept;
 use shelf_log::Disk;
+
+/// Gives what a witness is at a moment as one value.
+pub trait LeftView {
+    /// The disk of its shelf.
+    type Disk;
+
+    /// What it is.
+    ghost left: { Self → Left Self.Disk };
+}
+
+impl<D: Disk> LeftView for Witness<D> {
+    type Disk = D;
+
+    ghost left = { λ w. record { core = w.core; list = w.shelf.list; broken = w.broken; disk = w.shelf.disk } };
+}
 
 /// Gives what serves links as one value.
 pub trait ServiceView {

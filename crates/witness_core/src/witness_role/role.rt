@@ -8,10 +8,11 @@ ghost use Rattle.journal.specs.declared.journal.resume_fault.ResumeFault.TheVari
 ghost use Rattle.witness_core.specs.WitnessRole.Witnessed.{IsUnopened, IsUnread, IsWitnessedBy, ServesInput, StartsOver, count_in, start_found, start_text};
 
 use crate::witness_core::{StartFault, Witness};
-use crate::witness_link::Witnessing;
+use crate::witness_link::{LeftView, Witnessing};
 use crate::witness_opening::{NotOpened, Opened, log_line, open_shelf};
 use crate::witness_role::links_kept::{LinksKept, room_for};
 use crate::witness_role::unread::unread;
+use crate::witness_role::viewed::WitnessOf;
 use crate::witness_role::witness_file::serve_file;
 use crate::witness_role::witness_links::serve_links;
 use cesr_codes::Key;
@@ -148,7 +149,7 @@ fn serve<O: Outside>(
     ensures old { result.old ≡ old }
     ensures no_second { result.second ≡ None }
     ensures serves { ServesInput O.Disk.told witness.key witness.limits helper.now (inputs_by (λ name. name.now) input.entry)
-        (record { core = witness.core; list = witness.shelf.list; broken = witness.broken; disk = witness.shelf.disk })
+        (⟦<WitnessOf<O> as LeftView>⟧.left witness)
         result.disk (⟦<O as Runs>⟧.run outside.old outside.new result) }
 {
     match input {

@@ -1,7 +1,11 @@
 //! What is seen of the objects of an outside.
 
+use crate::witness_core::Witness;
 use crate::witness_link::Service;
 use run_status::Outside;
+
+/// A witness on a disk of an outside.
+pub(crate) type WitnessOf<O> = Witness<<O as Outside>::Disk>;
 
 /// What serves links with the objects of an outside.
 pub(crate) type ServiceOf<O> = Service<

@@ -8,7 +8,9 @@ ghost use Rattle.run_status.specs.RunRecord.Run.{is_out};
 ghost use Rattle.witness_core.specs.WitnessRole.ServedFile as specs;
 
 use crate::witness_core::Witness;
+use crate::witness_link::LeftView;
 use crate::witness_role::door_end::DoorEnd;
+use crate::witness_role::viewed::{Viewed, WitnessOf};
 use keri_outside::Door;
 use run_status::{Besides, Close, Done, NO_MEMORY, Outside, ReaderEnd, Runs, status_by};
 
@@ -20,11 +22,8 @@ pub(crate) fn end<O: Outside>(
     old: Option<O::Disk>,
     links: DoorEnd<O::Door, <O::Door as Door>::Sink>,
 ) -> Done<O>
-    ensures ends { (before after : O) → specs.EndsWith O.Disk.told result.disk
-        (map (reader_seen O.Source.left O.Source.faults O.Verifier.says O.Verifier.inquiries O.Verifier.faults)
-        readers.items) (record nothing_besides { door_failed = links.failed })
-        (record { core = witness.core; list = witness.shelf.list; broken = witness.broken; disk = witness.shelf.disk })
-        (⟦<O as Runs>⟧.run before after result) }
+    ensures ends { (before after : O) → specs.EndsBy ⟦<O as Viewed>⟧.views result.disk readers.items links.failed
+        (⟦<WitnessOf<O> as LeftView>⟧.left witness) (⟦<O as Runs>⟧.run before after result) }
     ensures signer { result.signer ≡ signer }
     ensures old { result.old ≡ old }
     ensures door { result.door ≡ links.door }
@@ -62,11 +61,8 @@ pub(crate) fn end_one<O: Outside>(
 ) -> Done<O>
     requires none_yet { readers.items ≡ [] }
     requires room { 0 < vec_capacity readers }
-    ensures ends { (before after : O) → specs.EndsWith O.Disk.told result.disk
-        (reader_seen O.Source.left O.Source.faults O.Verifier.says O.Verifier.inquiries O.Verifier.faults reader ∷ [])
-        (record nothing_besides { door_failed = links.failed })
-        (record { core = witness.core; list = witness.shelf.list; broken = witness.broken; disk = witness.shelf.disk })
-        (⟦<O as Runs>⟧.run before after result) }
+    ensures ends { (before after : O) → specs.EndsBy ⟦<O as Viewed>⟧.views result.disk (reader ∷ []) links.failed
+        (⟦<WitnessOf<O> as LeftView>⟧.left witness) (⟦<O as Runs>⟧.run before after result) }
     ensures signer { result.signer ≡ signer }
     ensures old { result.old ≡ old }
     ensures door { result.door ≡ links.door }

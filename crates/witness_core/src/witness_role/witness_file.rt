@@ -4,10 +4,10 @@ ghost use Rattle.std.specs.Vec.{vec_capacity};
 ghost use Rattle.witness_core.specs.WitnessRole.ServedFile.{IsServing, ServesAllBy, ServesOver};
 
 use crate::witness_core::Witness;
-use crate::witness_link::{LinkEnd, Service, ServiceView, serve_link};
+use crate::witness_link::{LeftView, LinkEnd, Service, ServiceView, serve_link};
 use crate::witness_role::door_end::DoorEnd;
 use crate::witness_role::links_kept::unserved;
-use crate::witness_role::viewed::{ServiceOf, Viewed};
+use crate::witness_role::viewed::{ServiceOf, Viewed, WitnessOf};
 use crate::witness_role::witness_end::end_one;
 use lists::Items;
 use run_status::{Close, Done, Outside, ReaderEnd, Runs};
@@ -30,7 +30,7 @@ pub(crate) fn serve_file<O: Outside>(
     ensures old { result.old ≡ old }
     ensures no_second { result.second ≡ None }
     ensures serves { IsServing O.Disk.told witness.key witness.limits helper.now name.now
-        (record { core = witness.core; list = witness.shelf.list; broken = witness.broken; disk = witness.shelf.disk })
+        (⟦<WitnessOf<O> as LeftView>⟧.left witness)
         result.disk (⟦<O as Runs>⟧.run outside.old outside.new result) }
 {
     let Ok(source) = outside.source(name) else {

@@ -4,11 +4,11 @@ ghost use Rattle.std.specs.Vec.{vec_capacity};
 ghost use Rattle.witness_core.specs.WitnessRole.ServedLinks.{IsServingLinks, ServesAllLinksBy};
 
 use crate::witness_core::Witness;
-use crate::witness_link::{Service, ServiceView};
+use crate::witness_link::{LeftView, Service, ServiceView};
 use crate::witness_role::door_end::DoorEnd;
 use crate::witness_role::link_service::serve_coming;
 use crate::witness_role::links_kept::{LinksKept, unserved, with_verifier};
-use crate::witness_role::viewed::{ServiceOf, Viewed};
+use crate::witness_role::viewed::{ServiceOf, Viewed, WitnessOf};
 use crate::witness_role::witness_end::{end, end_one};
 use command_words::Links;
 use keri_outside::{Door, Limits};
@@ -35,7 +35,7 @@ pub(crate) fn serve_links<O: Outside>(
     ensures old { result.old ≡ old }
     ensures no_second { result.second ≡ None }
     ensures serves { IsServingLinks O.Disk.told witness.key witness.limits helper.now links.entry.address.now links.entry.count
-        (record { core = witness.core; list = witness.shelf.list; broken = witness.broken; disk = witness.shelf.disk })
+        (⟦<WitnessOf<O> as LeftView>⟧.left witness)
         result.disk (⟦<O as Runs>⟧.run outside.old outside.new result) }
 {
     let LinksKept { readers, sinks } = kept;

@@ -1,14 +1,13 @@
 //! The payloads of accepted events.
 ghost use Rattle.std.specs.Prelude.{◌≡◌, ◌<◌, ◌≤◌, ◌+◌, [], All, IfOk, OnOk, Some, length, slice_get};
 ghost use Rattle.cesr_codes.specs.Indexed.{IsIndexed};
-ghost use Rattle.journal_views.specs.EventPayload.Holding.{HasKept};
-ghost use Rattle.journal_views.specs.EventPayload.Kept.{kept as kept_on, state_under};
+ghost use Rattle.journal_views.specs.EventPayload.Kept.{kept as kept_on};
 ghost use Rattle.journal_views.specs.EventPayload.Payloads.{text_in};
 ghost use Rattle.journal.specs.declared.journal.body.Body.{Body};
 ghost use Rattle.shelf_log.specs.ShelfLog.Format.{IsSized};
 ghost use Rattle.shelf_log.specs.declared.shelf_log.version.Version.TheVariants.{Two};
 ghost use Rattle.validator_core.specs.ValidatorCore.View.{accepted_by, told_of};
-ghost use Rattle.witness_core.specs.WitnessStore.Payloads.{payload_now};
+ghost use Rattle.witness_core.specs.WitnessStore.Payloads.{HasKeptOf, payload_now};
 ghost use Rattle.witness_core.specs.WitnessStore.Room.{IsKnown, weight};
 
 use cesr_codes::IndexedSig;
@@ -58,8 +57,8 @@ fn add_all(
     sigs: &[IndexedSig],
 ) -> Result<(), AllocError>
     ensures { OnOk result ((b : Body) → slice_get (accepted_by core.now) place ≡ Some b
-        → HasKept (state_under (accepted_by core.now) b) b.event [] kept.old
-        → HasKept (state_under (accepted_by core.now) b) b.event sigs.now kept.new) }
+        → HasKeptOf (accepted_by core.now) b [] kept.old
+        → HasKeptOf (accepted_by core.now) b sigs.now kept.new) }
 {
     for sig in sigs {
         kept.add(*sig, core.reveal_at(place, sig))?;
