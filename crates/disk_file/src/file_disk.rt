@@ -61,9 +61,9 @@ impl FileDisk {
 
 impl Disk for FileDisk {
     ghost use Rattle.std.proofs.lemmas.Option.{none-some};
-    ghost use Rattle.disk_file.specs.Untold.{disk_told};
+    ghost use Rattle.disk_file.specs.Untold.{disk_shown};
 
-    ghost told = { disk_told };
+    ghost shown = { disk_shown };
 
     fn size(&mut self) -> Result<u64, Failed> {
         match self.file.metadata() {

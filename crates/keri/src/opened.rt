@@ -74,7 +74,7 @@ impl<R: Read> Read for Opened<R> {
 impl<D: Disk> Disk for Opened<D> {
     ghost use Rattle.keri.specs.Opened.{what_opened};
 
-    ghost told = { λ opened. D.told (what_opened opened) };
+    ghost shown = { λ opened. D.shown (what_opened opened) };
 
     fn size(&mut self) -> Result<u64, Failed> {
         self.what.size()

@@ -1,7 +1,7 @@
 pub mod Work
 pub mod Through
 pub mod CoreTold
-pub mod LinksTold
+pub mod LinksShown
 pub mod OneSeats
 pub mod CommandTexts
 pub mod Reports

@@ -18,7 +18,7 @@ use Rattle.journal.proofs.JournalLemmas.Premises.{nothing_grown}
 use Rattle.journal.specs.Journal.Acceptance.{settled, grown_by}
 use Rattle.journal.specs.Journal.Accepted.{accepted}
 use Rattle.journal.specs.declared.journal.body.Body.{Body}
-use Rattle.journal.specs.declared.journal.claim.Claim.TheVariants.{Held}
+use Rattle.journal.specs.declared.journal.claim.Claim.TheVariants.{Controller}
 use Rattle.journal.specs.declared.journal.mode.Mode.TheVariants.{Full}
 use Rattle.journal.specs.Journal.Grown.{fits}
 use Rattle.journal.specs.Journal.History.{Told, took, heard, bodies, claims_on, said_yes}
@@ -169,7 +169,7 @@ module _ (first_spelled : SpellsEvent (Icp (inception first_said (witness 1))) f
   signature = record { raw = 7 ∷ [] }
 
   abbrev told : List Told
-  told = took 0 first (Held (record { big = false; index = 0; ondex = Some 0; sig = signature; form = refl }) ∷ [])
+  told = took 0 first (Controller (record { big = false; index = 0; ondex = Some 0; sig = signature; form = refl }) ∷ [])
       ∷ heard 0 first controller signature true ∷ heard 0 first (witness 1) signature true ∷ []
 
   accepts : accepted Full [] told ≡ first ∷ []

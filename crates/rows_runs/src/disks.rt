@@ -1,11 +1,14 @@
 //! Disks in memory, and what rows write of their faults and their bytes.
 ghost use Rattle.std.specs.Prelude.{◌≡◌, ℕ, List, IfOk};
-ghost use Rattle.shelf_log.specs.KeriDisk.Memory.{mem_told};
+ghost use Rattle.shelf_log.specs.KeriDisk.Memory.{mem_shown};
 
 use lists::Items;
 use rows::{Row, bytes_words};
 use shelf_log::{MemDisk, ShelfFault};
 use std::alloc::{AllocError, Global};
+
+/// What rows say of a limit that is reached.
+pub(crate) const LIMIT: &str = "Full";
 
 /// The numbers of the calls that fail, by the word at a place.
 pub(crate) fn failing_of(alloc: Global, row: &Row, place: usize) -> Result<Items<u64>, AllocError> {
@@ -22,7 +25,7 @@ pub(crate) fn disk_of(
     bytes: Vec<u8>,
     failing: Items<u64>,
 ) -> Result<MemDisk, AllocError>
-    ensures { IfOk result (λ disk. (c : List ℕ) → (mem_told disk).images c → c ≡ bytes.items) }
+    ensures { IfOk result (λ disk. (c : List ℕ) → (mem_shown disk).images c → c ≡ bytes.items) }
 {
     MemDisk::new(alloc, bytes, failing)
 }
@@ -31,6 +34,7 @@ pub(crate) fn disk_of(
 pub(crate) fn refused(alloc: Global, fault: ShelfFault) -> Result<String, AllocError> {
     match fault {
         ShelfFault::OutOfMemory => Err(AllocError),
+        ShelfFault::LimitReached => String::from_str(alloc, LIMIT),
         _ => format!(in alloc; "{fault:?}"),
     }
 }

@@ -1,6 +1,7 @@
 //! Runs: the one call that does all that the program `keri` does, over an outside in memory.
 mod outside_text;
 
+use crate::disks::LIMIT;
 use keri_outside::{MemSink, MemSource, MemVerifier};
 use keri_roles::{Close, Done, ReaderEnd, run};
 use outside_text::{awaited, outside_of};
@@ -31,7 +32,10 @@ fn run_words<R: Threads + Wait + Sync>(
 }
 
 fn close_word(text: &mut String, close: Close) -> Result<(), AllocError> {
-    write!(text, " {close:?}")
+    match close {
+        Close::LimitReached => write!(text, " {LIMIT}"),
+        _ => write!(text, " {close:?}"),
+    }
 }
 
 fn close_words(

@@ -2,6 +2,6 @@ pub mod Files
 pub mod Disks
 pub mod Helpers
 pub mod Addresses
-pub mod Told
+pub mod Shown
 pub mod Makings
 pub mod Memory

@@ -31,7 +31,7 @@ pub(crate) enum Stop {
     /// A call on the file failed.
     DiskFault,
     /// As many records or bytes are there as may be.
-    Full,
+    LimitReached,
     NoMemory,
 }
 
@@ -53,7 +53,7 @@ impl Stop {
             Stop::InUse => (8, "in use"),
             Stop::NotAFile => (8, "not a file"),
             Stop::DiskFault => (8, "disk fault"),
-            Stop::Full => (9, "full"),
+            Stop::LimitReached => (9, "full"),
             Stop::NoMemory => (10, "out of memory"),
         }
     }
@@ -103,7 +103,7 @@ impl From<ShelfFault> for Stop {
         match fault {
             ShelfFault::DiskFault | ShelfFault::Broken => Stop::DiskFault,
             ShelfFault::NotAShelf(place) => Stop::NotAShelf(place),
-            ShelfFault::Full => Stop::Full,
+            ShelfFault::LimitReached => Stop::LimitReached,
             ShelfFault::OutOfMemory => Stop::NoMemory,
         }
     }

@@ -6,5 +6,5 @@ mod settlement;
 mod validator_core;
 
 pub use acceptance::{Footing, counts, footing_of, is_ready, is_there, why_waits};
-pub use settlement::{accept, enter_body, enter_claims, enter_verdict, settle};
+pub use settlement::{accept, accept_ready, enter_body, enter_claims, enter_verdict};
 pub use validator_core::{Core, VerdictFault, claims_of, core_is_send, judge_message};

@@ -11,5 +11,5 @@ mod woken;
 
 pub use body_entry::{enter_body, enter_claims};
 pub use log_end::accept;
-pub use settlement::settle;
+pub use settlement::accept_ready;
 pub use verdict_entry::enter_verdict;

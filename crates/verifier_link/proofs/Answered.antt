@@ -6,20 +6,20 @@ use Rattle.lists.specs.KeriSpecs.Causes.{Rose}
 use Rattle.lists.specs.KeriSpecs.Told.{after}
 use Rattle.verifier_link.specs.declared.served.Served.TheVariants.{WriteFault}
 use Rattle.verifier_link.specs.declared.stop.Stop.{Stop}
-use Rattle.verifier_link.specs.declared.stop.Stop.TheVariants.{Ended, Malformed, ReadFault, Full}
+use Rattle.verifier_link.specs.declared.stop.Stop.TheVariants.{Ended, Malformed, ReadFault, LimitReached}
 use Rattle.verifier_link.specs.Answers.{answer_text}
 use Rattle.verifier_link.specs.Exchanges.{Took}
 use Rattle.verifier_link.specs.Fields.{IsTaken}
 use Rattle.verifier_link.specs.Questions.{Question, IsQuestion, question_text}
-use Rattle.verifier_link.specs.Serving.{SidesTold, IsServed, sides_told, questions_text, answers_text}
-use Rattle.verifier_link.specs.Sides.{SourceTold, SinkTold, Gave}
+use Rattle.verifier_link.specs.Serving.{SidesShown, IsServed, sides_shown, questions_text, answers_text}
+use Rattle.verifier_link.specs.Sides.{SourceShown, SinkShown, Gave}
 use Rattle.verifier_link.specs.Stops.{StopsReading, served_at}
 use Rattle.verifier_link.proofs.Behind.{taken_more, left_more, rose_more, next_more}
 use Rattle.verifier_link.proofs.Pieces.{gave_more}
 use Rattle.lists.proofs.KeriSpecsLemmas.Putting.{after-append}
 
 -- Questions were read and answered, and so many bytes more may be read.
-pub record AreAnswered (most room : ℕ) (first now : SidesTold) : Type 0 where
+pub record AreAnswered (most room : ℕ) (first now : SidesShown) : Type 0 where
   pub questions : List Question
   pub each : AllByRecursion IsQuestion questions
   pub taken : IsTaken most room first.source now.source (questions_text questions)
@@ -34,7 +34,7 @@ each_more : (questions : List Question) (question : Question) → AllByRecursion
 each_more [] question each valid = (valid, tt)
 each_more (one ∷ questions) question each valid = (each.0, each_more questions question each.1 valid)
 
-module _ (most room : ℕ) (first now : SidesTold) (answered : AreAnswered most room first now) where
+module _ (most room : ℕ) (first now : SidesShown) (answered : AreAnswered most room first now) where
   few : (bytes : List ℕ) → length bytes ≤ room → length (questions_text answered.questions ++ bytes) ≤ most
   few bytes fewer = let counted = answered.taken.counted in omega (arith, counted, fewer, length-append (questions_text answered.questions) bytes)
 
@@ -42,7 +42,7 @@ module _ (most room : ℕ) (first now : SidesTold) (answered : AreAnswered most 
   placed place is = let counted = answered.taken.counted in omega (arith, counted, is)
 
   -- no further question is read
-  pub ends_reading : (new : SourceTold) (place : ℕ) → place ≡ most - room → (stop : Stop) → StopsReading room now.source new stop → IsServed most first (sides_told new now.sink) (served_at stop place)
+  pub ends_reading : (new : SourceShown) (place : ℕ) → place ≡ most - room → (stop : Stop) → StopsReading room now.source new stop → IsServed most first (sides_shown new now.sink) (served_at stop place)
   ends_reading new place is Ended (gave, at_end) =
       let texts = questions_text answered.questions in
       record {
@@ -68,7 +68,7 @@ module _ (most room : ℕ) (first now : SidesTold) (answered : AreAnswered most 
         few = few bytes fewer;
         closes = (begun, left_more most room first.source now.source new texts answered.taken bytes left, rose_more most room first.source now.source new texts answered.taken rose, answered.took);
       }
-  ends_reading new place is Full (bytes, begun, all, more, gave) =
+  ends_reading new place is LimitReached (bytes, begun, all, more, gave) =
       let texts = questions_text answered.questions in
       let counted = answered.taken.counted in
       record {
@@ -87,13 +87,13 @@ module _ (most room : ℕ) (first now : SidesTold) (answered : AreAnswered most 
         );
       }
 
-  module _ (middle_room : ℕ) (middle : SourceTold) (question : Question) (valid : IsQuestion question) (taken : IsTaken room middle_room now.source middle (question_text question)) where
+  module _ (middle_room : ℕ) (middle : SourceShown) (question : Question) (valid : IsQuestion question) (taken : IsTaken room middle_room now.source middle (question_text question)) where
     read_on : IsTaken most middle_room first.source middle (questions_text (answered.questions ++ question ∷ []))
     read_on = subst (IsTaken most middle_room first.source middle) (sym (texts_more question_text answered.questions question))
         (taken_more most room middle_room first.source now.source middle (questions_text answered.questions) (question_text question) answered.taken taken)
 
     -- one more question was read and answered
-    pub answered_more : (sink : SinkTold) → Took now.sink sink (answer_text question) → AreAnswered most middle_room first (sides_told middle sink)
+    pub answered_more : (sink : SinkShown) → Took now.sink sink (answer_text question) → AreAnswered most middle_room first (sides_shown middle sink)
     answered_more sink took = record {
       questions = answered.questions ++ question ∷ [];
       each = each_more answered.questions question answered.each valid;
@@ -107,8 +107,8 @@ module _ (most room : ℕ) (first now : SidesTold) (answered : AreAnswered most 
     }
 
     -- one more question was read, and the sink failed at its answer
-    pub ends_answering : (sink : SinkTold) (count : ℕ) → sink.written ≡ after now.sink.written (take count (answer_text question)) → Rose now.sink.faults sink.faults
-        → IsServed most first (sides_told middle sink) WriteFault
+    pub ends_answering : (sink : SinkShown) (count : ℕ) → sink.written ≡ after now.sink.written (take count (answer_text question)) → Rose now.sink.faults sink.faults
+        → IsServed most first (sides_shown middle sink) WriteFault
     ends_answering sink count written rose =
         let counted = read_on.counted in
         record {

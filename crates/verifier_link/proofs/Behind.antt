@@ -3,9 +3,9 @@ use Rattle.std.proofs.Common.{◌≡◌, ℕ, ◌≤◌, List, [], ◌∷◌, �
 use Rattle.lists.specs.KeriSpecs.Causes.{Rose}
 use Rattle.lists.specs.KeriSpecs.Told.{before}
 use Rattle.verifier_link.specs.declared.stop.Stop.{Stop}
-use Rattle.verifier_link.specs.declared.stop.Stop.TheVariants.{Ended, Malformed, ReadFault, Full}
+use Rattle.verifier_link.specs.declared.stop.Stop.TheVariants.{Ended, Malformed, ReadFault, LimitReached}
 use Rattle.verifier_link.specs.Fields.{Field, field_size, IsDue, IsBegun, IsRefused, IsTaken, IsCut, FieldStops}
-use Rattle.verifier_link.specs.Sides.{SourceTold, Gave}
+use Rattle.verifier_link.specs.Sides.{SourceShown, Gave}
 use Rattle.verifier_link.specs.Stops.{StopsBehind, StopsReading, cut_short}
 use Rattle.verifier_link.proofs.Pieces.{before_more, gave_more}
 
@@ -14,32 +14,32 @@ pub if_err : {T E : Type 0} (r : Result T E) (e : E) (Q : E → Type 0) → IsEr
 if_err (Ok x) e Q given holds = absurd given
 if_err (Err y) e Q given holds = subst Q (sym given) holds
 
-pub cut_field : (field : Field) (room : ℕ) (old new : SourceTold) (stop : Stop) → IsCut (field_size field) room old new stop → FieldStops field room old new stop
+pub cut_field : (field : Field) (room : ℕ) (old new : SourceShown) (stop : Stop) → IsCut (field_size field) room old new stop → FieldStops field room old new stop
 cut_field field room old new Ended cut = cut
 cut_field field room old new Malformed cut = absurd cut
 cut_field field room old new ReadFault cut = cut
-cut_field field room old new Full cut = cut
+cut_field field room old new LimitReached cut = cut
 
 -- a field that isn't read stops a question of which the fields before it were read
-pub field_behind : (field : Field) (front : List ℕ) (room : ℕ) (old new : SourceTold) → IsDue field front → (stop : Stop) → FieldStops field room old new stop → StopsBehind front room old new stop
+pub field_behind : (field : Field) (front : List ℕ) (room : ℕ) (old new : SourceShown) → IsDue field front → (stop : Stop) → FieldStops field room old new stop → StopsBehind front room old new stop
 field_behind field front room old new due Ended (bytes, fewer, few, gave, at_end) =
     (bytes, record { field = field; front = front; text = bytes; due = due; is = refl; fewer = fewer }, few, gave, at_end)
 field_behind field front room old new due Malformed (bytes, all, few, other, gave) =
     (bytes, record { field = field; front = front; text = bytes; due = due; is = refl; all = all; other = other }, few, gave)
 field_behind field front room old new due ReadFault (bytes, fewer, few, left, rose) =
     (bytes, record { field = field; front = front; text = bytes; due = due; is = refl; fewer = fewer }, few, left, rose)
-field_behind field front room old new due Full (bytes, fewer, all, more, gave) =
+field_behind field front room old new due LimitReached (bytes, fewer, all, more, gave) =
     (bytes, record { field = field; front = front; text = bytes; due = due; is = refl; fewer = fewer }, all, more, gave)
 
 -- fields that were taken one after the other
-pub taken_more : (room middle_room last_room : ℕ) (old middle new : SourceTold) (bytes more : List ℕ) → IsTaken room middle_room old middle bytes → IsTaken middle_room last_room middle new more
+pub taken_more : (room middle_room last_room : ℕ) (old middle new : SourceShown) (bytes more : List ℕ) → IsTaken room middle_room old middle bytes → IsTaken middle_room last_room middle new more
     → IsTaken room last_room old new (bytes ++ more)
 taken_more room middle_room last_room old middle new bytes more a b = record {
   gave = gave_more old middle new bytes more a.gave b.gave;
   counted = let x = a.counted in let y = b.counted in omega (arith, x, y, length-append bytes more);
 }
 
-module _ (room middle_room : ℕ) (old middle new : SourceTold) (bytes : List ℕ) (taken : IsTaken room middle_room old middle bytes) where
+module _ (room middle_room : ℕ) (old middle new : SourceShown) (bytes : List ℕ) (taken : IsTaken room middle_room old middle bytes) where
   fewer : (more : List ℕ) → length more ≤ middle_room → length (bytes ++ more) ≤ room
   fewer more few = let counted = taken.counted in omega (arith, counted, few, length-append bytes more)
 
@@ -63,11 +63,11 @@ module _ (room middle_room : ℕ) (old middle new : SourceTold) (bytes : List �
       (bytes ++ more, subst IsRefused (append_assoc front bytes more) refused, fewer more few, gave_more old middle new bytes more taken.gave gave)
   behind_more front ReadFault (more, begun, few, left, rose) =
       (bytes ++ more, subst IsBegun (append_assoc front bytes more) begun, fewer more few, left_more more left, rose_more rose)
-  behind_more front Full (more, begun, all, next, gave) =
+  behind_more front LimitReached (more, begun, all, next, gave) =
       (bytes ++ more, subst IsBegun (append_assoc front bytes more) begun, all_more more all, next, next_more more next gave)
 
 -- where the reading of a question stops behind its letter
-pub reading_behind : (letter : ℕ) (room middle_room : ℕ) (old middle new : SourceTold) → IsTaken room middle_room old middle (letter ∷ []) → (stop : Stop)
+pub reading_behind : (letter : ℕ) (room middle_room : ℕ) (old middle new : SourceShown) → IsTaken room middle_room old middle (letter ∷ []) → (stop : Stop)
     → StopsBehind (letter ∷ []) middle_room middle new stop → StopsReading room old new (cut_short stop)
 reading_behind letter room middle_room old middle new taken Ended (more, begun, few, gave, at_end) = (
   letter ∷ more,
@@ -78,4 +78,4 @@ reading_behind letter room middle_room old middle new taken Ended (more, begun, 
 reading_behind letter room middle_room old middle new taken Malformed (more, refused, few, gave) =
     (letter ∷ more, inl refused, fewer room middle_room old middle new (letter ∷ []) taken more few, gave_more old middle new (letter ∷ []) more taken.gave gave)
 reading_behind letter room middle_room old middle new taken ReadFault stops = behind_more room middle_room old middle new (letter ∷ []) taken [] ReadFault stops
-reading_behind letter room middle_room old middle new taken Full stops = behind_more room middle_room old middle new (letter ∷ []) taken [] Full stops
+reading_behind letter room middle_room old middle new taken LimitReached stops = behind_more room middle_room old middle new (letter ∷ []) taken [] LimitReached stops

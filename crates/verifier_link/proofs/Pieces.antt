@@ -5,14 +5,14 @@ use Rattle.std.proofs.lemmas.List.{take-take, length-take, length-take-le}
 use Rattle.std.proofs.lemmas.Slice.{take-put_mid}
 use borrow.Rule.Slice.PartMut.{put_mid}
 use Rattle.lists.specs.KeriSpecs.Told.{before}
-use Rattle.verifier_link.specs.Sides.{SourceTold, Gave}
+use Rattle.verifier_link.specs.Sides.{SourceShown, Gave}
 
 pub before_more : (first middle last : Option (List ℕ)) (bytes piece : List ℕ) → first ≡ before bytes middle → middle ≡ before piece last → first ≡ before (bytes ++ piece) last
 before_more first middle None bytes piece a b = a ∙ ap (before bytes) b
 before_more first middle (Some left) bytes piece a b = a ∙ (ap (before bytes) b ∙ ap (λ l. Some l) (sym (append_assoc bytes piece left)))
 
 -- pieces one after the other are one piece
-pub gave_more : (first middle last : SourceTold) (bytes piece : List ℕ) → Gave first middle bytes → Gave middle last piece → Gave first last (bytes ++ piece)
+pub gave_more : (first middle last : SourceShown) (bytes piece : List ℕ) → Gave first middle bytes → Gave middle last piece → Gave first last (bytes ++ piece)
 gave_more first middle last bytes piece a b = record {
   left = before_more first.left middle.left last.left bytes piece a.left b.left;
   faults = b.faults ∙ a.faults;

@@ -8,10 +8,10 @@ use Rattle.cesr_codes.specs.Spelling.{key_text, sig_text, IsKey, IsSig}
 use Rattle.verifier_link.specs.declared.letter.Letter.{Letter}
 use Rattle.verifier_link.specs.declared.letter.Letter.TheVariants.{Verdict, Signing}
 use Rattle.verifier_link.specs.declared.stop.Stop.{Stop}
-use Rattle.verifier_link.specs.declared.stop.Stop.TheVariants.{Ended, Malformed, ReadFault, Full}
+use Rattle.verifier_link.specs.declared.stop.Stop.TheVariants.{Ended, Malformed, ReadFault, LimitReached}
 use Rattle.verifier_link.specs.declared.wanted.Wanted.{Wanted}
 use Rattle.verifier_link.specs.Questions.{IsWanted, wanted_text, length_text}
-use Rattle.verifier_link.specs.Sides.{SourceTold, Gave}
+use Rattle.verifier_link.specs.Sides.{SourceShown, Gave}
 
 -- `V` is a question for a verdict, `S` one for a signature
 abbrev pub letter_code : Letter → ℕ
@@ -69,7 +69,7 @@ pub record IsRefused (bytes : List ℕ) : Type 0 where
   pub other : IsFieldText field text → ⊥
 
 -- the source gave these bytes, and so many fewer may be read then
-pub record IsTaken (room_old room_new : ℕ) (old new : SourceTold) (bytes : List ℕ) : Type 0 where
+pub record IsTaken (room_old room_new : ℕ) (old new : SourceShown) (bytes : List ℕ) : Type 0 where
   pub gave : Gave old new bytes
   pub counted : room_new + length bytes ≡ room_old
 
@@ -80,29 +80,29 @@ pub record Completes (front text : List ℕ) (Taken : List ℕ → Type 0) : Typ
   pub taken : Taken bytes
 
 -- the input ended, or the source failed, before so many bytes had come
-abbrev pub IsShort : ℕ → SourceTold → SourceTold → Stop → Type 0
+abbrev pub IsShort : ℕ → SourceShown → SourceShown → Stop → Type 0
 IsShort size old new Ended = (bytes : List ℕ) × (length bytes < size) × Gave old new bytes × IsAtEnd new.left
 IsShort size old new ReadFault = (bytes : List ℕ) × (length bytes < size) × (old.left ≡ before bytes new.left) × Rose old.faults new.faults
 IsShort size old new Malformed = ⊥
-IsShort size old new Full = ⊥
+IsShort size old new LimitReached = ⊥
 
 -- one more byte was asked for
-abbrev pub SeesMore : SourceTold → SourceTold → Stop → Type 0
+abbrev pub SeesMore : SourceShown → SourceShown → Stop → Type 0
 SeesMore old new Ended = Gave old new [] × IsAtEnd new.left
 SeesMore old new ReadFault = (old.left ≡ before [] new.left) × Rose old.faults new.faults
-SeesMore old new Full = (more : ℕ) × Gave old new (more ∷ [])
+SeesMore old new LimitReached = (more : ℕ) × Gave old new (more ∷ [])
 SeesMore old new Malformed = ⊥
 
 -- the same where only so many bytes may be read; or so many were read, and the source gave one more
-abbrev pub IsCut : ℕ → ℕ → SourceTold → SourceTold → Stop → Type 0
+abbrev pub IsCut : ℕ → ℕ → SourceShown → SourceShown → Stop → Type 0
 IsCut size room old new Ended = (bytes : List ℕ) × (length bytes < size) × (length bytes ≤ room) × Gave old new bytes × IsAtEnd new.left
 IsCut size room old new ReadFault = (bytes : List ℕ) × (length bytes < size) × (length bytes ≤ room) × (old.left ≡ before bytes new.left) × Rose old.faults new.faults
 IsCut size room old new Malformed = ⊥
-IsCut size room old new Full = (bytes : List ℕ) × (length bytes < size) × (length bytes ≡ room) × (more : ℕ) × Gave old new (bytes ++ more ∷ [])
+IsCut size room old new LimitReached = (bytes : List ℕ) × (length bytes < size) × (length bytes ≡ room) × (more : ℕ) × Gave old new (bytes ++ more ∷ [])
 
 -- the field isn't whole, or what stands there isn't one
-abbrev pub FieldStops : Field → ℕ → SourceTold → SourceTold → Stop → Type 0
+abbrev pub FieldStops : Field → ℕ → SourceShown → SourceShown → Stop → Type 0
 FieldStops field room old new Ended = IsCut (field_size field) room old new Ended
 FieldStops field room old new ReadFault = IsCut (field_size field) room old new ReadFault
-FieldStops field room old new Full = IsCut (field_size field) room old new Full
+FieldStops field room old new LimitReached = IsCut (field_size field) room old new LimitReached
 FieldStops field room old new Malformed = (text : List ℕ) × (length text ≡ field_size field) × (length text ≤ room) × (IsFieldText field text → ⊥) × Gave old new text

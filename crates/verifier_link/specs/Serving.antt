@@ -4,21 +4,21 @@ use Rattle.std.specs.List.{AllByRecursion}
 use Rattle.lists.specs.KeriSpecs.Causes.{Rose}
 use Rattle.lists.specs.KeriSpecs.Told.{before, after, IsAtEnd}
 use Rattle.verifier_link.specs.declared.served.Served.{Served}
-use Rattle.verifier_link.specs.declared.served.Served.TheVariants.{End, Malformed, ReadFault, WriteFault, Full, OutOfMemory}
+use Rattle.verifier_link.specs.declared.served.Served.TheVariants.{End, Malformed, ReadFault, WriteFault, LimitReached, OutOfMemory}
 use Rattle.verifier_link.specs.Answers.{answer_text}
 use Rattle.verifier_link.specs.Exchanges.{Took}
 use Rattle.verifier_link.specs.Fields.{IsBegun, IsRefused}
 use Rattle.verifier_link.specs.Questions.{Question, IsQuestion, question_text}
-use Rattle.verifier_link.specs.Sides.{SourceTold, SinkTold, Gave}
+use Rattle.verifier_link.specs.Sides.{SourceShown, SinkShown, Gave}
 use Rattle.verifier_link.specs.Stops.{IsCutShort}
 
 -- what is told of a source and a sink
-pub record SidesTold : Type 0 where
-  pub source : SourceTold
-  pub sink : SinkTold
+pub record SidesShown : Type 0 where
+  pub source : SourceShown
+  pub sink : SinkShown
 
-abbrev pub sides_told : SourceTold → SinkTold → SidesTold
-sides_told source sink = record { source = source; sink = sink }
+abbrev pub sides_shown : SourceShown → SinkShown → SidesShown
+sides_shown source sink = record { source = source; sink = sink }
 
 -- questions and the rehearsal's answers, in order
 abbrev pub questions_text : List Question → List ℕ
@@ -28,7 +28,7 @@ abbrev pub answers_text : List Question → List ℕ
 answers_text questions = flat_map answer_text questions
 
 -- the sink failed at the last of these answers, of which a front was written behind those before it
-pub record FailsToAnswer (old new : SinkTold) (questions : List Question) : Type 0 where
+pub record FailsToAnswer (old new : SinkShown) (questions : List Question) : Type 0 where
   pub answered : List Question
   pub last : Question
   pub are : questions ≡ answered ++ last ∷ []
@@ -36,7 +36,7 @@ pub record FailsToAnswer (old new : SinkTold) (questions : List Question) : Type
   pub written : new.written ≡ after old.written (answers_text answered ++ take count (answer_text last))
   pub faults : Rose old.faults new.faults
 
-module _ (most : ℕ) (old new : SidesTold) (questions : List Question) (rest : List ℕ) where
+module _ (most : ℕ) (old new : SidesShown) (questions : List Question) (rest : List ℕ) where
   -- so many bytes were read as may be, and the source gave one more
   pub record IsFull : Type 0 where
     pub all : length (questions_text questions ++ rest) ≡ most
@@ -51,12 +51,12 @@ module _ (most : ℕ) (old new : SidesTold) (questions : List Question) (rest : 
   ClosesServing ReadFault = IsBegun rest × (old.source.left ≡ before (questions_text questions ++ rest) new.source.left) × Rose old.source.faults new.source.faults
       × Took old.sink new.sink (answers_text questions)
   ClosesServing WriteFault = (rest ≡ []) × Gave old.source new.source (questions_text questions) × FailsToAnswer old.sink new.sink questions
-  ClosesServing Full = IsBegun rest × IsFull × Took old.sink new.sink (answers_text questions)
+  ClosesServing LimitReached = IsBegun rest × IsFull × Took old.sink new.sink (answers_text questions)
   ClosesServing OutOfMemory = (questions ≡ []) × (rest ≡ []) × (new ≡ old)
 
 -- The bytes read are whole questions in order and a rest, at most so many, and the rehearsal's answers to the questions
 -- were written in order.
-pub record IsServed (most : ℕ) (old new : SidesTold) (served : Served) : Type 0 where
+pub record IsServed (most : ℕ) (old new : SidesShown) (served : Served) : Type 0 where
   pub questions : List Question
   pub each : AllByRecursion IsQuestion questions
   pub rest : List ℕ

@@ -19,7 +19,7 @@ impl<S: Source, K: Sink, P> Verifier for Helper<S, K, P> {
     ghost use Rattle.lists.specs.KeriSpecs.Causes.{HasCause};
     ghost use Rattle.keri_outside.specs.Rehearsal.{is_rehearsed};
     ghost use Rattle.verifier_link.specs.Answers.{SaysVerdict};
-    ghost use Rattle.verifier_link.specs.Helpers.{IsAnswered, helper_faults, helper_says, helper_told};
+    ghost use Rattle.verifier_link.specs.Helpers.{IsAnswered, helper_faults, helper_says, helper_shown};
     ghost use Rattle.verifier_link.specs.Questions.{verdict_question};
 
     ghost says = { helper_says };
@@ -33,8 +33,8 @@ impl<S: Source, K: Sink, P> Verifier for Helper<S, K, P> {
 
         // It is the rehearsal's verdict, or the program's, which was asked for over the link.
         ensures answered { IsAnswered SaysVerdict (is_rehearsed key.now body.now sig.now)
-            (verdict_question key.now body.now sig.now) (helper_told S.left S.faults K.written K.faults self.old)
-            (helper_told S.left S.faults K.written K.faults self.new) result }
+            (verdict_question key.now body.now sig.now) (helper_shown S.left S.faults K.written K.faults self.old)
+            (helper_shown S.left S.faults K.written K.faults self.new) result }
         ensures verdict { IfOk result (λ yes. IfSome (helper_says self.old key.now body.now sig.now)
             (λ told. yes ≡ told)) }
         ensures same { helper_says self.new ≡ helper_says self.old }
@@ -52,7 +52,7 @@ impl<S: Source, K: Sink, P> Signer for Helper<S, K, P> {
     ghost use Rattle.lists.specs.KeriSpecs.Causes.{HasCause};
     ghost use Rattle.keri_outside.specs.Rehearsal.{rehearsed};
     ghost use Rattle.verifier_link.specs.Answers.{SaysSig};
-    ghost use Rattle.verifier_link.specs.Helpers.{IsAnswered, helper_faults, helper_gives, helper_told};
+    ghost use Rattle.verifier_link.specs.Helpers.{IsAnswered, helper_faults, helper_gives, helper_shown};
     ghost use Rattle.verifier_link.specs.Questions.{signing_question};
 
     ghost gives = { helper_gives };
@@ -66,8 +66,8 @@ impl<S: Source, K: Sink, P> Signer for Helper<S, K, P> {
 
         // It is the rehearsal's signature, or the program's, which was asked for over the link.
         ensures answered { IsAnswered SaysSig (rehearsed key.now body.now) (signing_question key.now body.now)
-            (helper_told S.left S.faults K.written K.faults self.old)
-            (helper_told S.left S.faults K.written K.faults self.new) result }
+            (helper_shown S.left S.faults K.written K.faults self.old)
+            (helper_shown S.left S.faults K.written K.faults self.new) result }
         ensures signature { IfOk result (λ sig. IfSome (helper_gives self.old key.now body.now) (λ told. sig ≡ told)) }
         ensures same { helper_gives self.new ≡ helper_gives self.old }
         ensures cause { HasCause (helper_faults self.old) (helper_faults self.new) result }

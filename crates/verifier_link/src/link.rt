@@ -22,14 +22,14 @@ impl<S: Source, K: Sink> Link<S, K> {
     ghost use Rattle.lists.specs.KeriSpecs.Causes.{HasCause};
     ghost use Rattle.verifier_link.specs.Questions.{question};
     ghost use Rattle.verifier_link.specs.Exchanges.{Fetches};
-    ghost use Rattle.verifier_link.specs.Sides.{link_faults, link_told, source_told, sink_told};
+    ghost use Rattle.verifier_link.specs.Sides.{link_faults, link_shown, source_shown, sink_shown};
 
     /// A link that wasn't asked yet.
     pub fn new(source: S, sink: K) -> Link<S, K>
-        ensures { link_told S.left S.faults K.written K.faults result
+        ensures { link_shown S.left S.faults K.written K.faults result
             ≡ record {
-              source = source_told S.left S.faults source;
-              sink = sink_told K.written K.faults sink;
+              source = source_shown S.left S.faults source;
+              sink = sink_shown K.written K.faults sink;
               faults = 0;
             } }
     {
@@ -44,8 +44,8 @@ impl<S: Source, K: Sink> Link<S, K> {
     fn fetch(&mut self, wanted: &Wanted, body: &[u8], answer: &mut [u8]) -> Result<(), Failed>
         requires { length body.now ≤ 65535 }
         ensures fetches { Fetches (question wanted.now body.now)
-            (link_told S.left S.faults K.written K.faults self.old)
-            (link_told S.left S.faults K.written K.faults self.new) answer.new result }
+            (link_shown S.left S.faults K.written K.faults self.old)
+            (link_shown S.left S.faults K.written K.faults self.new) answer.new result }
         ensures size { length answer.new ≡ length answer.old }
         ensures cause { HasCause (link_faults self.old) (link_faults self.new) result }
     {
@@ -76,7 +76,7 @@ impl<S: Source, K: Sink> Verifier for Link<S, K> {
     ghost use Rattle.verifier_link.specs.Answers.{SaysVerdict};
     ghost use Rattle.verifier_link.specs.Exchanges.{Exchanges};
     ghost use Rattle.verifier_link.specs.Questions.{verdict_question};
-    ghost use Rattle.verifier_link.specs.Sides.{link_faults, link_told};
+    ghost use Rattle.verifier_link.specs.Sides.{link_faults, link_shown};
 
     ghost says = { λ _ _ _ _. None };
 
@@ -89,8 +89,8 @@ impl<S: Source, K: Sink> Verifier for Link<S, K> {
 
         // The question was put and the bytes read say the verdict, or a fault came.
         ensures exchanges { Exchanges SaysVerdict (verdict_question key.now body.now sig.now)
-            (link_told S.left S.faults K.written K.faults self.old)
-            (link_told S.left S.faults K.written K.faults self.new) result }
+            (link_shown S.left S.faults K.written K.faults self.old)
+            (link_shown S.left S.faults K.written K.faults self.new) result }
         ensures cause { HasCause (link_faults self.old) (link_faults self.new) result }
     {
         let mut answer = [0u8; 1];
@@ -109,7 +109,7 @@ impl<S: Source, K: Sink> Signer for Link<S, K> {
     ghost use Rattle.verifier_link.specs.Answers.{SaysSig};
     ghost use Rattle.verifier_link.specs.Exchanges.{Exchanges};
     ghost use Rattle.verifier_link.specs.Questions.{signing_question};
-    ghost use Rattle.verifier_link.specs.Sides.{link_faults, link_told};
+    ghost use Rattle.verifier_link.specs.Sides.{link_faults, link_shown};
 
     ghost gives = { λ _ _ _. None };
 
@@ -122,8 +122,8 @@ impl<S: Source, K: Sink> Signer for Link<S, K> {
 
         // The question was put and the bytes read are the signature, or a fault came.
         ensures exchanges { Exchanges SaysSig (signing_question key.now body.now)
-            (link_told S.left S.faults K.written K.faults self.old)
-            (link_told S.left S.faults K.written K.faults self.new) result }
+            (link_shown S.left S.faults K.written K.faults self.old)
+            (link_shown S.left S.faults K.written K.faults self.new) result }
         ensures cause { HasCause (link_faults self.old) (link_faults self.new) result }
     {
         let mut answer = [0u8; 88];

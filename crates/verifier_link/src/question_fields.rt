@@ -3,7 +3,7 @@ ghost use Rattle.std.specs.Prelude.{◌≡◌, ◌≤◌, ◌∷◌, [], IfOk, I
 ghost use Rattle.cesr_codes.specs.Spelling.{IsKey, IsSig, key_text, sig_text};
 ghost use Rattle.verifier_link.specs.Fields.{FieldStops, IsTaken, Completes, letter_code, the_key, the_length, the_letter, the_sig};
 ghost use Rattle.verifier_link.specs.Questions.{FindsQuestion, IsWanted, length_text, wanted_text};
-ghost use Rattle.verifier_link.specs.Sides.{source_told};
+ghost use Rattle.verifier_link.specs.Sides.{source_shown};
 ghost use Rattle.verifier_link.specs.Stops.{StopsBehind, StopsReading};
 
 use crate::Wanted;
@@ -23,9 +23,9 @@ pub(crate) fn read_question<S: Source>(
 ) -> Result<(Wanted, usize), Stop>
     requires { length buffer.old ≡ 65535 }
     ensures ok { IfOk result (λ found. FindsQuestion found buffer.new
-        (IsTaken room.old room.new (source_told S.left S.faults source.old) (source_told S.left S.faults source.new))) }
-    ensures err { IfErr result (λ stop. StopsReading room.old (source_told S.left S.faults source.old)
-        (source_told S.left S.faults source.new) stop) }
+        (IsTaken room.old room.new (source_shown S.left S.faults source.old) (source_shown S.left S.faults source.new))) }
+    ensures err { IfErr result (λ stop. StopsReading room.old (source_shown S.left S.faults source.old)
+        (source_shown S.left S.faults source.new) stop) }
 {
     let letter = read_letter(source, room)?;
     match read_behind(letter, source, room, buffer) {
@@ -44,9 +44,9 @@ fn read_behind<S: Source>(
     requires { length buffer.old ≡ 65535 }
     ensures ok { IfOk result (λ found. FindsQuestion found buffer.new
         (λ text. Completes (letter_code letter ∷ []) text (IsTaken room.old room.new
-        (source_told S.left S.faults source.old) (source_told S.left S.faults source.new)))) }
+        (source_shown S.left S.faults source.old) (source_shown S.left S.faults source.new)))) }
     ensures err { IfErr result (λ stop. StopsBehind (letter_code letter ∷ []) room.old
-        (source_told S.left S.faults source.old) (source_told S.left S.faults source.new) stop) }
+        (source_shown S.left S.faults source.old) (source_shown S.left S.faults source.new) stop) }
 {
     let wanted = read_wanted(letter, source, room)?;
     let size = usize::from(read_size(source, room)?);
@@ -58,10 +58,10 @@ fn read_behind<S: Source>(
 fn read_wanted<S: Source>(letter: Letter, source: &mut S, room: &mut u64) -> Result<Wanted, Stop>
     ensures ok { IfOk result (λ wanted. IsWanted wanted
         × Completes (letter_code letter ∷ []) (wanted_text wanted)
-        (IsTaken room.old room.new (source_told S.left S.faults source.old)
-        (source_told S.left S.faults source.new))) }
+        (IsTaken room.old room.new (source_shown S.left S.faults source.old)
+        (source_shown S.left S.faults source.new))) }
     ensures err { IfErr result (λ stop. StopsBehind (letter_code letter ∷ []) room.old
-        (source_told S.left S.faults source.old) (source_told S.left S.faults source.new) stop) }
+        (source_shown S.left S.faults source.old) (source_shown S.left S.faults source.new) stop) }
 {
     let key = read_key(source, room)?;
     match letter {
@@ -71,10 +71,10 @@ fn read_wanted<S: Source>(letter: Letter, source: &mut S, room: &mut u64) -> Res
 }
 
 fn read_letter<S: Source>(source: &mut S, room: &mut u64) -> Result<Letter, Stop>
-    ensures ok { IfOk result (λ letter. IsTaken room.old room.new (source_told S.left S.faults source.old)
-        (source_told S.left S.faults source.new) (letter_code letter ∷ [])) }
-    ensures err { IfErr result (λ stop. FieldStops the_letter room.old (source_told S.left S.faults source.old)
-        (source_told S.left S.faults source.new) stop) }
+    ensures ok { IfOk result (λ letter. IsTaken room.old room.new (source_shown S.left S.faults source.old)
+        (source_shown S.left S.faults source.new) (letter_code letter ∷ [])) }
+    ensures err { IfErr result (λ stop. FieldStops the_letter room.old (source_shown S.left S.faults source.old)
+        (source_shown S.left S.faults source.new) stop) }
 {
     let mut text = [0u8; 1];
     take_field(source, room, &mut text)?;
@@ -87,10 +87,10 @@ fn read_letter<S: Source>(source: &mut S, room: &mut u64) -> Result<Letter, Stop
 
 fn read_key<S: Source>(source: &mut S, room: &mut u64) -> Result<Key, Stop>
     ensures ok { IfOk result (λ key. IsKey key
-        × IsTaken room.old room.new (source_told S.left S.faults source.old) (source_told S.left S.faults source.new)
+        × IsTaken room.old room.new (source_shown S.left S.faults source.old) (source_shown S.left S.faults source.new)
         (key_text key)) }
-    ensures err { IfErr result (λ stop. FieldStops the_key room.old (source_told S.left S.faults source.old)
-        (source_told S.left S.faults source.new) stop) }
+    ensures err { IfErr result (λ stop. FieldStops the_key room.old (source_shown S.left S.faults source.old)
+        (source_shown S.left S.faults source.new) stop) }
 {
     let mut text = [0u8; 44];
     take_field(source, room, &mut text)?;
@@ -102,10 +102,10 @@ fn read_key<S: Source>(source: &mut S, room: &mut u64) -> Result<Key, Stop>
 
 fn read_sig<S: Source>(source: &mut S, room: &mut u64) -> Result<Sig, Stop>
     ensures ok { IfOk result (λ sig. IsSig sig
-        × IsTaken room.old room.new (source_told S.left S.faults source.old) (source_told S.left S.faults source.new)
+        × IsTaken room.old room.new (source_shown S.left S.faults source.old) (source_shown S.left S.faults source.new)
         (sig_text sig)) }
-    ensures err { IfErr result (λ stop. FieldStops the_sig room.old (source_told S.left S.faults source.old)
-        (source_told S.left S.faults source.new) stop) }
+    ensures err { IfErr result (λ stop. FieldStops the_sig room.old (source_shown S.left S.faults source.old)
+        (source_shown S.left S.faults source.new) stop) }
 {
     let mut text = [0u8; 88];
     take_field(source, room, &mut text)?;
@@ -118,10 +118,10 @@ fn read_sig<S: Source>(source: &mut S, room: &mut u64) -> Result<Sig, Stop>
 // Reads the length of the body.
 fn read_size<S: Source>(source: &mut S, room: &mut u64) -> Result<u16, Stop>
     ensures ok { IfOk result (λ size. (size ≤ 65535)
-        × IsTaken room.old room.new (source_told S.left S.faults source.old) (source_told S.left S.faults source.new)
+        × IsTaken room.old room.new (source_shown S.left S.faults source.old) (source_shown S.left S.faults source.new)
         (length_text size)) }
-    ensures err { IfErr result (λ stop. FieldStops the_length room.old (source_told S.left S.faults source.old)
-        (source_told S.left S.faults source.new) stop) }
+    ensures err { IfErr result (λ stop. FieldStops the_length room.old (source_shown S.left S.faults source.old)
+        (source_shown S.left S.faults source.new) stop) }
 {
     let mut text = [0u8; 8];
     take_field(source, room, &mut text)?;

@@ -1,7 +1,7 @@
 //! A server that answers a helper's questions by the rehearsal.
 ghost use Rattle.std.specs.Prelude.{◌≡◌, length};
-ghost use Rattle.verifier_link.specs.Serving.{IsServed, sides_told};
-ghost use Rattle.verifier_link.specs.Sides.{sink_told, source_told};
+ghost use Rattle.verifier_link.specs.Serving.{IsServed, sides_shown};
+ghost use Rattle.verifier_link.specs.Sides.{sink_shown, source_shown};
 
 use crate::Served;
 use crate::answer::put_answer;
@@ -21,8 +21,8 @@ pub fn serve_rehearsal<S: Source, K: Sink>(
     limits: Limits,
 ) -> Served
     ensures { IsServed limits.stream_bytes
-        (sides_told (source_told S.left S.faults source.old) (sink_told K.written K.faults sink.old))
-        (sides_told (source_told S.left S.faults source.new) (sink_told K.written K.faults sink.new)) result }
+        (sides_shown (source_shown S.left S.faults source.old) (sink_shown K.written K.faults sink.old))
+        (sides_shown (source_shown S.left S.faults source.new) (sink_shown K.written K.faults sink.new)) result }
 {
     match vec![in alloc; 0u8; LONGEST_BODY] {
         Ok(mut body) => serve_all(source, sink, limits.stream_bytes, body.as_mut_slice()),
@@ -38,9 +38,9 @@ fn serve_all<S: Source, K: Sink>(
     buffer: &mut [u8],
 ) -> Served
     requires { length buffer.old ≡ 65535 }
-    ensures { IsServed most (sides_told (source_told S.left S.faults source.old)
-        (sink_told K.written K.faults sink.old))
-        (sides_told (source_told S.left S.faults source.new) (sink_told K.written K.faults sink.new)) result }
+    ensures { IsServed most (sides_shown (source_shown S.left S.faults source.old)
+        (sink_shown K.written K.faults sink.old))
+        (sides_shown (source_shown S.left S.faults source.new) (sink_shown K.written K.faults sink.new)) result }
 {
     let mut room = most;
     'questions: loop {

@@ -12,7 +12,7 @@ pub enum Served {
     /// The sink failed.
     WriteFault,
     /// So many bytes were read as may be, and the source gave more.
-    Full,
+    LimitReached,
     /// There was no memory. Nothing was read.
     OutOfMemory,
 }

@@ -14,7 +14,7 @@ pub(crate) enum Stop {
     /// The source failed.
     ReadFault,
     /// So many bytes were read as may be, and the source gave more.
-    Full,
+    LimitReached,
 }
 
 impl Stop {
@@ -36,7 +36,7 @@ impl Stop {
             Stop::Ended => Served::End,
             Stop::Malformed => Served::Malformed(place),
             Stop::ReadFault => Served::ReadFault,
-            Stop::Full => Served::Full,
+            Stop::LimitReached => Served::LimitReached,
         }
     }
 }

@@ -17,7 +17,7 @@ use Rattle.key_state.specs.Same.{same_key, same_sig}
 use Rattle.key_state.specs.States.{State}
 use Rattle.journal.specs.declared.journal.body.Body.{Body}
 use Rattle.journal.specs.declared.journal.claim.Claim.{Claim}
-use Rattle.journal.specs.declared.journal.claim.Claim.TheVariants.{Held, Witness, Couple}
+use Rattle.journal.specs.declared.journal.claim.Claim.TheVariants.{Controller, Witness, Couple}
 use Rattle.journal.specs.Journal.Logs.{same_body}
 use Rattle.journal.specs.Journal.History.{Told, took, heard, same_triple, claimed_key, claims_in, claims_on, said_yes, yes_in}
 use Rattle.journal.specs.Journal.Readiness.{backs}
@@ -78,8 +78,8 @@ and_or false b c = refl
 
 held_either : (p q : Key → Sig → Bool) (rules : Rules) (test : IndexedSig → Bool) (c : Claim)
     → is_held_so (λ k g. p k g || q k g) rules test c ≡ (is_held_so p rules test c || is_held_so q rules test c)
-held_either p q rules test (Held g) =
-    ap (λ y. y && test g) (yes_either p q (claimed_key rules (Held g)) g.sig) ∙ and_or (is_good p rules (Held g)) (is_good q rules (Held g)) (test g)
+held_either p q rules test (Controller g) =
+    ap (λ y. y && test g) (yes_either p q (claimed_key rules (Controller g)) g.sig) ∙ and_or (is_good p rules (Controller g)) (is_good q rules (Controller g)) (test g)
 held_either p q rules test (Witness g) = refl
 held_either p q rules test (Couple key sig) = refl
 

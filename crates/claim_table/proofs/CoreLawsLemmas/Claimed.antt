@@ -10,7 +10,7 @@ use Rattle.key_state.specs.Exposure.{Rules, own_rules}
 use Rattle.key_state.specs.States.{State}
 use Rattle.journal.specs.declared.journal.body.Body.{Body}
 use Rattle.journal.specs.declared.journal.claim.Claim.{Claim}
-use Rattle.journal.specs.declared.journal.claim.Claim.TheVariants.{Held, Witness, Couple}
+use Rattle.journal.specs.declared.journal.claim.Claim.TheVariants.{Controller, Witness, Couple}
 use Rattle.journal.specs.Journal.History.{claimed_key, claimed_sig, triple_of}
 use Rattle.journal.specs.EventRules.Claims.{is_held_so, is_yes}
 use Rattle.journal.specs.EventRules.Parts.{Part, index, reveal, backer, opens_at, parts_in}
@@ -27,7 +27,7 @@ triples_are rules b (c ∷ claims) = elim (claimed_key rules c) as (λ k. claime
 
 -- a test of claims by their keys
 held_is : (says : Key → Sig → Bool) (rules : Rules) (test : IndexedSig → Bool) (c : Claim) → is_held_so says rules test c ≡ (is_yes says (claimed_key rules c) (claimed_sig c) && is_held_as test c)
-held_is says rules test (Held g) = refl
+held_is says rules test (Controller g) = refl
 held_is says rules test (Witness g) = sym (and-false (is_yes says (claimed_key rules (Witness g)) g.sig))
 held_is says rules test (Couple key sig) = sym (and-false (is_yes says (claimed_key rules (Couple key sig)) sig))
 

@@ -21,7 +21,7 @@ use Rattle.key_state.proofs.Same.{same_prefix_itself}
 use Rattle.claim_table.proofs.CoreLawsLemmas.SampleEvents.{key, witness, digest, identifier, begin}
 use Rattle.journal.specs.declared.journal.body.Body.{Body}
 use Rattle.journal.specs.declared.journal.claim.Claim.{Claim}
-use Rattle.journal.specs.declared.journal.claim.Claim.TheVariants.{Held}
+use Rattle.journal.specs.declared.journal.claim.Claim.TheVariants.{Controller}
 use Rattle.journal.specs.declared.journal.mode.Mode.TheVariants.{Full}
 use Rattle.journal.specs.Journal.Logs.{state, stands, precedes}
 use Rattle.journal.specs.Journal.Seals.{anchored, seals}
@@ -39,10 +39,10 @@ signature = record { raw = 7 ∷ [] }
 
 -- the same signature at two indices
 abbrev pub at_first : Claim
-at_first = Held (record { big = false; index = 0; ondex = Some 0; sig = signature; form = refl })
+at_first = Controller (record { big = false; index = 0; ondex = Some 0; sig = signature; form = refl })
 
 abbrev at_second : Claim
-at_second = Held (record { big = false; index = 1; ondex = Some 1; sig = signature; form = refl })
+at_second = Controller (record { big = false; index = 1; ondex = Some 1; sig = signature; form = refl })
 
 -- ONE TRIPLE, TWO INDICES: a key that stands twice, both wanted. One verdict is on both claims; the body that comes again with
 -- the other claim is ready at once, with no further verdict.
@@ -179,7 +179,7 @@ abbrev other_signature : Sig
 other_signature = record { raw = 8 ∷ [] }
 
 abbrev other_at_first : Claim
-other_at_first = Held (record { big = false; index = 0; ondex = Some 0; sig = other_signature; form = refl })
+other_at_first = Controller (record { big = false; index = 0; ondex = Some 0; sig = other_signature; form = refl })
 
 abbrev first_yes : List Told
 first_yes = took 0 delegator (at_first ∷ other_at_first ∷ []) ∷ yes_on 1 delegator ∷ []

@@ -9,7 +9,7 @@ use Rattle.cesr_codes.specs.declared.indexed_sig.IndexedSig.{IndexedSig}
 use Rattle.cesr_codes.specs.declared.key.Key.{Key}
 use Rattle.cesr_codes.specs.declared.sig.Sig.{Sig}
 use Rattle.journal.specs.declared.journal.claim.Claim.{Claim}
-use Rattle.journal.specs.declared.journal.claim.Claim.TheVariants.{Held, Witness, Couple}
+use Rattle.journal.specs.declared.journal.claim.Claim.TheVariants.{Controller, Witness, Couple}
 use Rattle.key_state.proofs.Numbers.{filter_below-suc}
 use Rattle.key_state.proofs.Same.{number_itself, numbers}
 use Rattle.key_state.specs.Exposure.{Rules, numbers_below}
@@ -26,7 +26,7 @@ module _ (says : Key → Sig → Bool) (rules : Rules) (test : IndexedSig → Bo
   pub any_good : (claims : List Claim) → list_any (is_held_so says rules test) claims ≡ list_any test (good says rules claims)
   unfolding good
   any_good [] = refl
-  any_good (Held s ∷ claims) = elim (cases_Bool (is_good says rules (Held s))) [
+  any_good (Controller s ∷ claims) = elim (cases_Bool (is_good says rules (Controller s))) [
     | inl k ↦ (let ih = any_good claims in rw (k, ih) refl)
     | inr k ↦ (let ih = any_good claims in rw (k, ih) refl)
   ]

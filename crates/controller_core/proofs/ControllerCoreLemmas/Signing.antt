@@ -19,7 +19,7 @@ use Rattle.key_state.specs.States.{State}
 use Rattle.key_state.proofs.Same.{numbers}
 use Rattle.journal.specs.declared.journal.body.Body.{Body}
 use Rattle.journal.specs.declared.journal.claim.Claim.{Claim}
-use Rattle.journal.specs.declared.journal.claim.Claim.TheVariants.{Held, Witness, Couple}
+use Rattle.journal.specs.declared.journal.claim.Claim.TheVariants.{Controller, Witness, Couple}
 use Rattle.journal.specs.Journal.History.{Told, claims_on, triple_of}
 use Rattle.journal.specs.Journal.Readiness.{good_sigs, held_sig, meets_next, signed, yes_to}
 use Rattle.journal.specs.Journal.Replies.{claims_of, claims_of_group}
@@ -33,14 +33,14 @@ use Rattle.sith.proofs.More.{is_among, more_left, more_satisfied, passes}
 use Rattle.controller_core.proofs.ControllerCoreLemmas.Enough.{signed_by_slots}
 
 -- a claim's signature is among those of the claims that pass a test, where the claim is one that does
-module _ (yes : Claim → Bool) (test : IndexedSig → Bool) (sig : IndexedSig) (good : yes (Held sig) ≡ true) (so : test sig ≡ true) where
-  found : (claims : List Claim) (k : ℕ) → k < length claims → get_or claims k (Held sig) ≡ Held sig → list_any test (filter_map held_sig (filter yes claims)) ≡ true
+module _ (yes : Claim → Bool) (test : IndexedSig → Bool) (sig : IndexedSig) (good : yes (Controller sig) ≡ true) (so : test sig ≡ true) where
+  found : (claims : List Claim) (k : ℕ) → k < length claims → get_or claims k (Controller sig) ≡ Controller sig → list_any test (filter_map held_sig (filter yes claims)) ≡ true
   found [] k low at = absurd (omega (arith, low))
   found (c ∷ claims) zero low at = subst (λ c. list_any test (filter_map held_sig (filter yes (c ∷ claims))) ≡ true) (sym at) (rw (good, so) refl)
   found (c ∷ claims) (suc k) low at = later c (found claims k (omega (arith, low)) at)
     where
       later : (c : Claim) → list_any test (filter_map held_sig (filter yes claims)) ≡ true → list_any test (filter_map held_sig (filter yes (c ∷ claims))) ≡ true
-      later (Held s) ih = elim (cases_Bool (yes (Held s))) [
+      later (Controller s) ih = elim (cases_Bool (yes (Controller s))) [
         | inl y ↦ elim (cases_Bool (test s)) [ inl t ↦ rw (y, t) refl | inr t ↦ rw (y, t) ih ]
         | inr n ↦ rw n ih
       ]
@@ -49,7 +49,7 @@ module _ (yes : Claim → Bool) (test : IndexedSig → Bool) (sig : IndexedSig) 
 
 module _ (told : List Told) (s : Option State) (b : Body) where
   -- an answered signature is a good one
-  good_has : (sig : IndexedSig) → IsAnswered told s b (Held sig) → (test : IndexedSig → Bool) → test sig ≡ true → list_any test (good_sigs told s b) ≡ true
+  good_has : (sig : IndexedSig) → IsAnswered told s b (Controller sig) → (test : IndexedSig → Bool) → test sig ≡ true → list_any test (good_sigs told s b) ≡ true
   unfolding good_sigs
   good_has sig answered test so =
       found (λ c. yes_to told (triple_of (own_rules s b.event) b c)) test sig answered.yes so (claims_on told b) answered.stands.0 answered.stands.1 answered.stands.2
@@ -58,7 +58,7 @@ module _ (told : List Told) (s : Option State) (b : Body) where
   module _ (gives : Key → List ℕ → Option Sig) (keys : List Key) (in_slot : Slot → Bool) (test : IndexedSig → Bool)
       (each : (slot : Slot) (sig : IndexedSig) → IsInSlot gives keys b.bytes slot sig → in_slot slot ≡ true → test sig ≡ true) where
     any_good : (slots : List Slot) (sigs : List IndexedSig) → AllZip (IsInSlot gives keys b.bytes) slots sigs
-        → AllByRecursion (IsAnswered told s b) (map (λ sig. Held sig) sigs) → list_any in_slot slots ≡ true → list_any test (good_sigs told s b) ≡ true
+        → AllByRecursion (IsAnswered told s b) (map (λ sig. Controller sig) sigs) → list_any in_slot slots ≡ true → list_any test (good_sigs told s b) ≡ true
     any_good [] [] zipped all h = cc h
     any_good [] (sig ∷ sigs) zipped all h = elim zipped [ ]
     any_good (slot ∷ slots) [] zipped all h = elim zipped [ ]
@@ -87,7 +87,7 @@ opens_so gives keys body next own n slot sig is h = by slot.ondex refl
 
 module _ (gives : Key → List ℕ → Option Sig) (told : List Told) (s : Option State) (e : Event) (slots : List Slot) (sigs : List IndexedSig)
     (zipped : AllZip (IsInSlot gives (own_rules s e).keys (event_text e)) slots sigs)
-    (all : AllByRecursion (IsAnswered told s (body_of e)) (map (λ sig. Held sig) sigs)) where
+    (all : AllByRecursion (IsAnswered told s (body_of e)) (map (λ sig. Controller sig) sigs)) where
   own_met : has_own (slots_have s e slots) (own_rules s e) ≡ true → satisfied (own_rules s e).kt (length (own_rules s e).keys) (map (λ g. g.index) (good_sigs told s (body_of e))) ≡ true
   unfolding slots_have
   own_met h = more_satisfied _ _ (λ n is.
@@ -97,7 +97,7 @@ module _ (gives : Key → List ℕ → Option Sig) (told : List Told) (s : Optio
       (own_rules s e).kt (length (own_rules s e).keys) h
 
 next_met : (gives : Key → List ℕ → Option Sig) (told : List Told) (s : Option State) (e : Event) (slots : List Slot) (sigs : List IndexedSig)
-    → AllZip (IsInSlot gives (own_rules s e).keys (event_text e)) slots sigs → AllByRecursion (IsAnswered told s (body_of e)) (map (λ sig. Held sig) sigs)
+    → AllZip (IsInSlot gives (own_rules s e).keys (event_text e)) slots sigs → AllByRecursion (IsAnswered told s (body_of e)) (map (λ sig. Controller sig) sigs)
     → (not (is_rotation e) || has_next (slots_have s e slots) s) ≡ true → (not (is_rotation e) || meets_next s e (good_sigs told s (body_of e))) ≡ true
 unfolding slots_have exposed
 next_met gives told None e slots sigs zipped all h = h
@@ -121,8 +121,8 @@ next_met gives told (Some s) (Drt e) slots sigs zipped all h =
     s.nt (length s.next) h
 
 -- the claims of a message with one group
-claims_are : (message : Message) (sigs : List IndexedSig) → message.groups ≡ HeldGroup sigs ∷ [] → claims_of message ≡ map (λ sig. Held sig) sigs
-claims_are message sigs group = ap (flat_map claims_of_group) group ∙ append-nil (map (λ sig. Held sig) sigs)
+claims_are : (message : Message) (sigs : List IndexedSig) → message.groups ≡ HeldGroup sigs ∷ [] → claims_of message ≡ map (λ sig. Controller sig) sigs
+claims_are message sigs group = ap (flat_map claims_of_group) group ∙ append-nil (map (λ sig. Controller sig) sigs)
 
 -- SIGNED
 pub signed_by_yes : (gives : Key → List ℕ → Option Sig) (s : Option State) (e : Event) (slots : List Slot) (message : Message)

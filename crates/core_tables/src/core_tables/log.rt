@@ -160,7 +160,7 @@ impl Tables {
     }
 
     /// The accepted events leave the escrow. It takes no memory.
-    pub fn settle(&mut self)
+    pub fn release(&mut self)
         ensures { self.new ≡ record self.old { settled = length self.old.log.numbers } }
     {
         let numbers = self.log.numbers();

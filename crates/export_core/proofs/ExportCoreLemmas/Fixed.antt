@@ -10,7 +10,7 @@ use Rattle.export_core.specs.ExportLaws.Export.{is_couple, is_witness, ordered}
 use Rattle.key_state.proofs.Among.{Among, among_either, distinct_among, left_among, passing}
 use Rattle.journal.specs.declared.journal.body.Body.{Body}
 use Rattle.journal.specs.declared.journal.claim.Claim.{Claim}
-use Rattle.journal.specs.declared.journal.claim.Claim.TheVariants.{Held, Witness, Couple}
+use Rattle.journal.specs.declared.journal.claim.Claim.TheVariants.{Controller, Witness, Couple}
 use Rattle.journal.specs.Journal.History.{Told, claims_on, triple_of}
 use Rattle.journal.specs.Journal.Readiness.{yes_to}
 use Rattle.journal.specs.Journal.Replies.{is_held, same_claim}
@@ -41,7 +41,7 @@ among_at (y ∷ xs) (suc i) x at = inr (among_at xs i x at)
 
 module _ (told : List Told) (own : Signers) (b : Body) (fixed : IsTrue (are_witnesses own.witnesses)) where
   good_fixed : (c : Claim) → yes_to told (triple_of (rules_by own) b c) ≡ true → IsFixed c
-  good_fixed (Held s) good = tt
+  good_fixed (Controller s) good = tt
   good_fixed (Witness s) good = tt
   good_fixed (Couple key sig) good = elim (cases_Bool (has_key own.witnesses key)) as (λ _. key.code ≡ Fixed) [
     | inl k ↦ witness_fixed own.witnesses key fixed k

@@ -8,7 +8,7 @@ use Rattle.event_body.specs.declared.event_body.event.Event.{Event}
 use Rattle.event_body.specs.declared.event_body.event.Event.TheVariants.{Icp, Rot, Ixn, Dip, Drt, Rct}
 use Rattle.journal.specs.declared.journal.body.Body.{Body}
 use Rattle.journal.specs.declared.journal.claim.Claim.{Claim}
-use Rattle.journal.specs.declared.journal.claim.Claim.TheVariants.{Held, Witness, Couple}
+use Rattle.journal.specs.declared.journal.claim.Claim.TheVariants.{Controller, Witness, Couple}
 use Rattle.journal.specs.Journal.History.{triple_of}
 use Rattle.journal.specs.Journal.Logs.{stepped, takes}
 use Rattle.key_state.specs.Exposure.{Rules, own_rules, rules_of}
@@ -57,7 +57,7 @@ behind_are (Some s) (Rct e) t = cc
 
 -- the key of a claim depends on these alone
 pub same_triples : (rules : Rules) (b : Body) (c : Claim) → triple_of (rules_by (signers_of rules)) b c ≡ triple_of rules b c
-same_triples rules b (Held s) = refl
+same_triples rules b (Controller s) = refl
 same_triples rules b (Witness s) = refl
 same_triples rules b (Couple key sig) = refl
 

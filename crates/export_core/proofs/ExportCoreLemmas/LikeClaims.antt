@@ -22,7 +22,7 @@ use Rattle.cesr_stream.specs.declared.item.Item.TheVariants.{Group as GroupItem}
 use Rattle.cesr_stream.proofs.SameItems.{same_item}
 use Rattle.journal.specs.Journal.Replies.{claims_of_group, is_held}
 use Rattle.journal.specs.declared.journal.claim.Claim.{Claim}
-use Rattle.journal.specs.declared.journal.claim.Claim.TheVariants.{Held, Witness}
+use Rattle.journal.specs.declared.journal.claim.Claim.TheVariants.{Controller, Witness}
 use Rattle.export_core.specs.ExportCore.Messages.{claim_of, couple_group, held_group, witness_group}
 use Rattle.export_core.specs.ExportCore.Retelling.{HasRawBytes}
 use Rattle.export_core.proofs.ExportCoreLemmas.Alike.{AreAlike, as_many, couple_sizes, couples_alike, held_alike, indexed_sizes, witness_alike}
@@ -127,14 +127,14 @@ couples_same xs ys raw few e valid =
     = same_item (GroupItem (Couples xs)) (GroupItem (Couples ys)) raw valid (omega (arith, few)) e in cc same
 
 pub held_like : (xs : List IndexedSig) (more : List Item) (ps : List Placed) → All IsIndexed xs → length xs ≤ 1024
-    → AreAlike (held_group xs ++ more) (map (λ p. p.item) ps) → ReadsLike (map (λ s. Held s) xs) more ps
+    → AreAlike (held_group xs ++ more) (map (λ p. p.item) ps) → ReadsLike (map (λ s. Controller s) xs) more ps
 held_like [] more ps raw few alike = no_group more ps alike
 held_like (x ∷ xs) more [] raw few alike = absurd alike
 held_like (x ∷ xs) more (p ∷ ps) raw few alike =
     let y = held_alike (x ∷ xs) p.item alike.0 in
     let e : group_text (HeldGroup (x ∷ xs)) ≡ group_text (HeldGroup y.0) = subst (SpellsItem (group_text (HeldGroup (x ∷ xs)))) y.1 alike.0 in
-    one_group (map (λ s. Held s) (x ∷ xs)) more p ps (HeldGroup y.0) y.1
-    (group_like (λ s. Held s) IsIndexed (λ s h. h) (λ s t. refl) (λ es. HeldGroup es) (λ es. refl) (λ es. refl) (x ∷ xs) y.0
+    one_group (map (λ s. Controller s) (x ∷ xs)) more p ps (HeldGroup y.0) y.1
+    (group_like (λ s. Controller s) IsIndexed (λ s h. h) (λ s t. refl) (λ es. HeldGroup es) (λ es. refl) (λ es. refl) (x ∷ xs) y.0
     (as_many indexed_text indexed_sizes 65 (x ∷ xs) y.0 few e) (held_same (x ∷ xs) y.0 raw few e)) alike.1
 
 pub witness_like : (xs : List IndexedSig) (more : List Item) (ps : List Placed) → All IsIndexed xs → length xs ≤ 1024

@@ -19,7 +19,7 @@ use Rattle.cesr_stream.proofs.Keeping.{kept-all}
 use Rattle.event_body.specs.EventBody.Events.{is_receipt}
 use Rattle.journal_views.proofs.EventPayloadLemmas.Written.{event_writable}
 use Rattle.journal.specs.Journal.Replies.{is_held}
-use Rattle.journal.specs.declared.journal.claim.Claim.TheVariants.{Held, Witness}
+use Rattle.journal.specs.declared.journal.claim.Claim.TheVariants.{Controller, Witness}
 use Rattle.export_core.specs.ExportLaws.Export.{Sent, ordered}
 use Rattle.export_core.specs.ExportCore.Messages.{claim_of, couple_group, held_group, witness_group}
 use Rattle.export_core.proofs.ExportCoreLemmas.Alike.{AreAlike, body_alike}
@@ -84,7 +84,7 @@ module _ (m : Sent) (may : MayBeTaken m) (items : List Item) (is : IsSentAs m it
       ∙ ap (λ xs. BodyItem m.body.bytes ∷ xs) (append_assoc (held_group held) (witness_group witness ++ couple_group couples) more
       ∙ ap (λ xs. held_group held ++ xs) (append_assoc (witness_group witness) (couple_group couples) more))
 
-  claims_are : map (λ s. Held s) held ++ (map (λ s. Witness s) witness ++ map claim_of couples) ≡ m.claims
+  claims_are : map (λ s. Controller s) held ++ (map (λ s. Witness s) witness ++ map claim_of couples) ≡ m.claims
   claims_are = (λ i. is.are.held_are i ++ (is.are.witness_are i ++ is.are.couples_are i)) ∙ may.in_order
 
   of_groups : (p : Placed) (ps rest : List Placed) (groups : List Group) → p.item ≡ BodyItem m.body.bytes → groups_before_body ps ≡ groups
@@ -116,7 +116,7 @@ module _ (m : Sent) (may : MayBeTaken m) (items : List Item) (is : IsSentAs m it
       let are : groups_before_body ps ≡ one.groups ++ (two.groups ++ three.groups)
       = one.goes_on ∙ ap (λ gs. one.groups ++ gs) (two.goes_on ∙ ap (λ gs. two.groups ++ gs)
       (three.goes_on ∙ ap (λ gs. three.groups ++ gs) (new three.rest three.alike) ∙ append-nil three.groups)) in
-      let like = like_both (map (λ s. Held s) held) (map (λ s. Witness s) witness ++ map claim_of couples) one.groups (two.groups ++ three.groups) one.like
+      let like = like_both (map (λ s. Controller s) held) (map (λ s. Witness s) witness ++ map claim_of couples) one.groups (two.groups ++ three.groups) one.like
       (like_both (map (λ s. Witness s) witness) (map claim_of couples) two.groups three.groups two.like three.like) in
       of_groups p ps three.rest (one.groups ++ (two.groups ++ three.groups)) (body_alike m.body.bytes p.item (writable m may) all.0) are
       (one.later ∙ two.later ∙ three.later) (subst (λ cs. IsLike cs (one.groups ++ (two.groups ++ three.groups))) claims_are like) three.alike

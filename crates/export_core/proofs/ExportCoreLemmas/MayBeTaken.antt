@@ -12,7 +12,7 @@ use Rattle.journal.specs.Journal.History.{Told}
 use Rattle.journal.specs.Journal.Replies.{is_held}
 use Rattle.journal.specs.declared.journal.body.Body.{Body}
 use Rattle.journal.specs.declared.journal.claim.Claim.{Claim}
-use Rattle.journal.specs.declared.journal.claim.Claim.TheVariants.{Held, Witness, Couple}
+use Rattle.journal.specs.declared.journal.claim.Claim.TheVariants.{Controller, Witness, Couple}
 use Rattle.journal.specs.declared.journal.mode.Mode.TheVariants.{Full}
 use Rattle.journal_views.proofs.JournalLawsLemmas.Came.{were_ready}
 use Rattle.key_state.proofs.Among.{Among, contained, flat_map_among, left_among, map_among, parted}
@@ -29,7 +29,7 @@ ordered_twice claims = λ i. ordered_held claims i ++ (ordered_witness claims i 
 
 kinds_many : (claims : List Claim) → length (filter is_held claims) + (length (filter is_witness claims) + length (filter is_couple claims)) ≡ length claims
 kinds_many [] = refl
-kinds_many (Held s ∷ claims) = omega (arith, kinds_many claims)
+kinds_many (Controller s ∷ claims) = omega (arith, kinds_many claims)
 kinds_many (Witness s ∷ claims) = omega (arith, kinds_many claims)
 kinds_many (Couple key sig ∷ claims) = omega (arith, kinds_many claims)
 

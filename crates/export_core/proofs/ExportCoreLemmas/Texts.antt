@@ -9,7 +9,7 @@ use Rattle.cesr_stream.specs.Written.{item_text}
 use Rattle.cesr_stream.specs.declared.couple.Couple.{Couple}
 use Rattle.journal.specs.Journal.Replies.{is_held}
 use Rattle.journal.specs.declared.journal.claim.Claim.{Claim}
-use Rattle.journal.specs.declared.journal.claim.Claim.TheVariants.{Held, Witness, Couple as CoupleClaim}
+use Rattle.journal.specs.declared.journal.claim.Claim.TheVariants.{Controller, Witness, Couple as CoupleClaim}
 use Rattle.export_core.specs.ExportLaws.Export.{is_couple, is_witness, ordered}
 use Rattle.export_core.specs.ExportCore.Messages.{AreTexts, IsMessageText, MayBeSent, PutsMessage, claim_of, couple_group, held_group, witness_group}
 
@@ -42,32 +42,32 @@ module _ (q : Claim → Bool) (claims : List Claim) where
       ∙ ap (λ more. filter q (filter is_held claims) ++ more) (filter-append q (filter is_witness claims) (filter is_couple claims))
 
 held_witness : (c : Claim) → is_held c ≡ true → is_witness c ≡ false
-held_witness (Held s) h = refl
+held_witness (Controller s) h = refl
 held_witness (Witness s) h = cc
 held_witness (CoupleClaim key sig) h = cc
 
 held_couple : (c : Claim) → is_held c ≡ true → is_couple c ≡ false
-held_couple (Held s) h = refl
+held_couple (Controller s) h = refl
 held_couple (Witness s) h = cc
 held_couple (CoupleClaim key sig) h = cc
 
 witness_held : (c : Claim) → is_witness c ≡ true → is_held c ≡ false
-witness_held (Held s) h = cc
+witness_held (Controller s) h = cc
 witness_held (Witness s) h = refl
 witness_held (CoupleClaim key sig) h = cc
 
 witness_couple : (c : Claim) → is_witness c ≡ true → is_couple c ≡ false
-witness_couple (Held s) h = cc
+witness_couple (Controller s) h = cc
 witness_couple (Witness s) h = refl
 witness_couple (CoupleClaim key sig) h = cc
 
 couple_held : (c : Claim) → is_couple c ≡ true → is_held c ≡ false
-couple_held (Held s) h = cc
+couple_held (Controller s) h = cc
 couple_held (Witness s) h = cc
 couple_held (CoupleClaim key sig) h = refl
 
 couple_witness : (c : Claim) → is_couple c ≡ true → is_witness c ≡ false
-couple_witness (Held s) h = cc
+couple_witness (Controller s) h = cc
 couple_witness (Witness s) h = cc
 couple_witness (CoupleClaim key sig) h = refl
 
@@ -108,7 +108,7 @@ one_text bytes claims text is = (text, [], is, refl, sym (append-nil text))
 
 -- PARTS: the text of a message, put part by part
 module _ (old bytes : List ℕ) (claims : List Claim) (held witness : List IndexedSig) (couples : List Couple)
-    (held_are : map (λ s. Held s) held ≡ filter is_held claims) (witness_are : map (λ s. Witness s) witness ≡ filter is_witness claims) (couples_are : map claim_of couples ≡ filter is_couple claims)
+    (held_are : map (λ s. Controller s) held ≡ filter is_held claims) (witness_are : map (λ s. Witness s) witness ≡ filter is_witness claims) (couples_are : map claim_of couples ≡ filter is_couple claims)
     (sent : MayBeSent held witness couples) where
   pub parts_put : (one two three four : List ℕ) → one ≡ old ++ bytes → two ≡ one ++ flat_map item_text (held_group held) → three ≡ two ++ flat_map item_text (witness_group witness)
       → four ≡ three ++ flat_map item_text (couple_group couples) → PutsMessage bytes claims old four

@@ -21,7 +21,7 @@ use Rattle.key_state.specs.Same.{distinct, same_prefix}
 use Rattle.key_state.proofs.Among.{Among, among, contained}
 use Rattle.key_state.proofs.Same.{same_prefix_is}
 use Rattle.journal.specs.declared.journal.body.Body.{Body}
-use Rattle.journal.specs.declared.journal.claim.Claim.TheVariants.{Held}
+use Rattle.journal.specs.declared.journal.claim.Claim.TheVariants.{Controller}
 use Rattle.journal.specs.declared.journal.mode.Mode.{Mode}
 use Rattle.journal.specs.declared.journal.mode.Mode.TheVariants.{Full, Local}
 use Rattle.journal.specs.Journal.Acceptance.{Settles, grown_by, more, rest, settled}
@@ -71,7 +71,7 @@ abbrev signature : Sig
 signature = record { raw = 7 ∷ [] }
 
 abbrev comes : Body → Told
-comes b = took 0 b (Held (record { big = false; index = 0; ondex = Some 0; sig = signature; form = refl }) ∷ [])
+comes b = took 0 b (Controller (record { big = false; index = 0; ondex = Some 0; sig = signature; form = refl }) ∷ [])
 
 abbrev is_good : Body → Told
 is_good b = heard 0 b controller signature true

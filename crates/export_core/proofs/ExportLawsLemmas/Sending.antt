@@ -6,7 +6,7 @@ use Rattle.std.proofs.lemmas.List.Concat.{flat_map-append}
 use Rattle.key_state.specs.Same.{distinct}
 use Rattle.journal.specs.declared.journal.body.Body.{Body}
 use Rattle.journal.specs.declared.journal.claim.Claim.{Claim}
-use Rattle.journal.specs.declared.journal.claim.Claim.TheVariants.{Held, Witness, Couple}
+use Rattle.journal.specs.declared.journal.claim.Claim.TheVariants.{Controller, Witness, Couple}
 use Rattle.journal.specs.Journal.History.{Told, took, heard, Triple, claims_in, claims_on, is_receipt_for, no_in, taken}
 use Rattle.journal.specs.Journal.Logs.{same_body}
 use Rattle.journal.specs.Journal.Replies.{is_held, same_claim}
@@ -44,7 +44,7 @@ runs_some (suc n) size xs = elim (cases_Bool (nat_le (length xs) size)) [
 
 -- the order keeps each claim
 pub ordered_all : (claims : List Claim) (c : Claim) → Among c claims → Among c (ordered claims)
-ordered_all claims (Held s) m = among_left (filter is_held claims) (filter is_witness claims ++ filter is_couple claims) (Held s) (among_left_by is_held claims (Held s) m refl)
+ordered_all claims (Controller s) m = among_left (filter is_held claims) (filter is_witness claims ++ filter is_couple claims) (Controller s) (among_left_by is_held claims (Controller s) m refl)
 ordered_all claims (Witness s) m = among_right (filter is_held claims) (filter is_witness claims ++ filter is_couple claims) (Witness s)
     (among_left (filter is_witness claims) (filter is_couple claims) (Witness s) (among_left_by is_witness claims (Witness s) m refl))
 ordered_all claims (Couple key sig) m = among_right (filter is_held claims) (filter is_witness claims ++ filter is_couple claims) (Couple key sig)

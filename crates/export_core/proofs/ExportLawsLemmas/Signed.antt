@@ -10,7 +10,7 @@ use Rattle.key_state.specs.Exposure.{own_rules}
 use Rattle.key_state.specs.States.{State}
 use Rattle.journal.specs.declared.journal.body.Body.{Body}
 use Rattle.journal.specs.declared.journal.claim.Claim.{Claim}
-use Rattle.journal.specs.declared.journal.claim.Claim.TheVariants.{Held, Witness, Couple}
+use Rattle.journal.specs.declared.journal.claim.Claim.TheVariants.{Controller, Witness, Couple}
 use Rattle.journal.specs.declared.journal.mode.Mode.TheVariants.{Full}
 use Rattle.journal.specs.Journal.Accepted.{accepted}
 use Rattle.journal.specs.Journal.History.{Told, claims_on, said_yes, triple_of}
@@ -29,7 +29,7 @@ use Rattle.journal_views.proofs.JournalLawsLemmas.Verdicts.{yes_by}
 
 -- a signature of the controller is one of its claims
 held_is : (c : Claim) (g : IndexedSig) → held_sig c ≡ Some g → is_held c ≡ true
-held_is (Held s) g e = refl
+held_is (Controller s) g e = refl
 held_is (Witness s) g e = cc
 held_is (Couple key sig) g e = cc
 

@@ -10,7 +10,7 @@ use Rattle.cesr_stream.specs.declared.item.Item.{Item}
 use Rattle.cesr_stream.specs.declared.item.Item.TheVariants.{Group as GroupItem}
 use Rattle.journal.specs.Journal.Replies.{is_held}
 use Rattle.journal.specs.declared.journal.claim.Claim.{Claim}
-use Rattle.journal.specs.declared.journal.claim.Claim.TheVariants.{Held, Witness, Couple as CoupleClaim}
+use Rattle.journal.specs.declared.journal.claim.Claim.TheVariants.{Controller, Witness, Couple as CoupleClaim}
 use Rattle.export_core.specs.ExportLaws.Export.{Sent, cut_claims, is_couple, is_witness, runs_by}
 
 -- the claim of a couple
@@ -19,7 +19,7 @@ claim_of c = CoupleClaim c.key c.sig
 
 -- a key beside its signature can't be rotated (KERI: a witness's is non-transferable)
 abbrev pub IsFixed : Claim → Type 0
-IsFixed (Held s) = Unit {0}
+IsFixed (Controller s) = Unit {0}
 IsFixed (Witness s) = Unit {0}
 IsFixed (CoupleClaim key sig) = key.code ≡ Fixed
 
@@ -51,7 +51,7 @@ pub record IsMessageText (bytes : List ℕ) (claims : List Claim) (text : List �
   pub held : List IndexedSig
   pub witness : List IndexedSig
   pub couples : List Couple
-  pub held_are : map (λ s. Held s) held ≡ filter is_held claims
+  pub held_are : map (λ s. Controller s) held ≡ filter is_held claims
   pub witness_are : map (λ s. Witness s) witness ≡ filter is_witness claims
   pub couples_are : map claim_of couples ≡ filter is_couple claims
   pub sent : MayBeSent held witness couples

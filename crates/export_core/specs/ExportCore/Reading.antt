@@ -7,7 +7,7 @@ use Rattle.cesr_stream.specs.declared.couple.Couple.{Couple}
 use Rattle.cesr_stream.specs.declared.item.Item.{Item}
 use Rattle.cesr_stream.specs.declared.item.Item.TheVariants.{Body as BodyItem}
 use Rattle.journal.specs.Journal.Replies.{is_held}
-use Rattle.journal.specs.declared.journal.claim.Claim.TheVariants.{Held, Witness}
+use Rattle.journal.specs.declared.journal.claim.Claim.TheVariants.{Controller, Witness}
 use Rattle.export_core.specs.ExportLaws.Export.{Sent, is_couple, is_witness}
 use Rattle.watcher_core.specs.Evidence.{placed_from}
 use Rattle.export_core.specs.ExportCore.Messages.{claim_of, couple_group, held_group, witness_group}
@@ -17,7 +17,7 @@ pub record AreItemsOf (m : Sent) (items : List Item) : Type 0 where
   pub held : List IndexedSig
   pub witness : List IndexedSig
   pub couples : List Couple
-  pub held_are : map (λ s. Held s) held ≡ filter is_held m.claims
+  pub held_are : map (λ s. Controller s) held ≡ filter is_held m.claims
   pub witness_are : map (λ s. Witness s) witness ≡ filter is_witness m.claims
   pub couples_are : map claim_of couples ≡ filter is_couple m.claims
   pub items_are : items ≡ BodyItem m.body.bytes ∷ (held_group held ++ (witness_group witness ++ couple_group couples))

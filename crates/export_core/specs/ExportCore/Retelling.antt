@@ -6,14 +6,14 @@ use Rattle.journal.specs.Journal.Feeds.{Fed}
 use Rattle.journal.specs.Journal.History.{Told, took, heard}
 use Rattle.journal.specs.Journal.Questions.{IsInStep, questions}
 use Rattle.journal.specs.declared.journal.claim.Claim.{Claim}
-use Rattle.journal.specs.declared.journal.claim.Claim.TheVariants.{Held, Witness, Couple}
+use Rattle.journal.specs.declared.journal.claim.Claim.TheVariants.{Controller, Witness, Couple}
 use Rattle.journal.specs.declared.journal.mode.Mode.TheVariants.{Full}
 use Rattle.journal.specs.declared.journal.refusal.Refusal.{Refusal}
 use Rattle.keri_outside.specs.declared.limits.Limits.{Limits}
 
 -- the raw bytes of a claim's signature, and of its key where it has one, are bytes
 abbrev pub HasRawBytes : Claim → Type 0
-HasRawBytes (Held s) = IsIndexed s
+HasRawBytes (Controller s) = IsIndexed s
 HasRawBytes (Witness s) = IsIndexed s
 HasRawBytes (Couple key sig) = IsKey key × IsSig sig
 

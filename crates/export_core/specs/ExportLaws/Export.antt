@@ -9,7 +9,7 @@ use Rattle.key_state.specs.States.{State}
 use Rattle.event_body.specs.EventBody.Events.{prefix_of}
 use Rattle.journal.specs.declared.journal.body.Body.{Body}
 use Rattle.journal.specs.declared.journal.claim.Claim.{Claim}
-use Rattle.journal.specs.declared.journal.claim.Claim.TheVariants.{Held, Witness, Couple}
+use Rattle.journal.specs.declared.journal.claim.Claim.TheVariants.{Controller, Witness, Couple}
 use Rattle.journal.specs.declared.journal.mode.Mode.TheVariants.{Full}
 use Rattle.journal.specs.Journal.Accepted.{accepted}
 use Rattle.journal.specs.Journal.History.{Told, took, heard, claims_on, triple_of}
@@ -52,13 +52,13 @@ is_good told log b c = yes_to told (triple_of (rules_under log b) b c)
 
 -- it is a claim of a witness by its index
 abbrev pub is_witness : Claim → Bool
-is_witness (Held s) = false
+is_witness (Controller s) = false
 is_witness (Witness s) = true
 is_witness (Couple key sig) = false
 
 -- it is a claim with a key of its own
 abbrev pub is_couple : Claim → Bool
-is_couple (Held s) = false
+is_couple (Controller s) = false
 is_couple (Witness s) = false
 is_couple (Couple key sig) = true
 

@@ -92,7 +92,7 @@ fn couple_claims(alloc: Global, claims: &[Claim]) -> Result<Vec<Claim>, AllocErr
 fn is_held(claim: &Claim) -> bool
     ensures { result ≡ replies.is_held claim.now }
 {
-    matches!(claim, Claim::Held(_))
+    matches!(claim, Claim::Controller(_))
 }
 
 fn is_witness(claim: &Claim) -> bool

@@ -6,7 +6,7 @@ ghost use Rattle.cesr_stream.specs.Written.{IsCouple, item_text};
 ghost use Rattle.export_core.specs.ExportLaws.Export.{is_couple, is_witness};
 ghost use Rattle.export_core.specs.ExportCore.Messages.{IsFixed, claim_of, couple_group, held_group, witness_group};
 ghost use Rattle.journal.specs.Journal.Replies.{is_held};
-ghost use Rattle.journal.specs.declared.journal.claim.Claim.TheVariants.{Held, Witness};
+ghost use Rattle.journal.specs.declared.journal.claim.Claim.TheVariants.{Controller, Witness};
 
 use cesr_codes::{IndexedSig, Key, Sig};
 use cesr_stream::{Couple, Group, Item};
@@ -17,13 +17,13 @@ use std::alloc::{AllocError, Global};
 
 /// The controller's signatures among the claims.
 pub(crate) fn held_sigs(alloc: Global, claims: &[Claim]) -> Result<Vec<IndexedSig>, AllocError>
-    ensures are { IfOk result (λ sigs. map (λ s. Held s) sigs.items ≡ filter is_held claims.now) }
+    ensures are { IfOk result (λ sigs. map (λ s. Controller s) sigs.items ≡ filter is_held claims.now) }
     ensures few { IfOk result (λ sigs. length sigs.items ≤ length claims.now) }
     ensures raw { IfOk result (λ sigs. All IsIndexed sigs.items) }
 {
     let mut sigs = Vec::new(alloc);
     for claim in claims {
-        if let Claim::Held(sig) = claim {
+        if let Claim::Controller(sig) = claim {
             is_indexed(*sig);
             sigs.push(*sig)?;
         }

@@ -47,7 +47,7 @@ impl Signers {
         ensures { result ≡ history.claimed_key (rules_by self.now) claim.now }
     {
         match claim {
-            Claim::Held(sig) => self.keys.as_slice().get(usize::from(sig.index)).copied(),
+            Claim::Controller(sig) => self.keys.as_slice().get(usize::from(sig.index)).copied(),
             Claim::Witness(sig) => self
                 .witnesses
                 .as_slice()

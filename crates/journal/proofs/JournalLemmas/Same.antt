@@ -12,7 +12,7 @@ use mathlib.Core.HLevel.{is_prop→PathP}
 use Rattle.cesr_codes.specs.Indices.{has_form}
 use Rattle.cesr_codes.specs.declared.indexed_sig.IndexedSig.{IndexedSig}
 use Rattle.journal.specs.declared.journal.claim.Claim.{Claim}
-use Rattle.journal.specs.declared.journal.claim.Claim.TheVariants.{Held, Witness, Couple}
+use Rattle.journal.specs.declared.journal.claim.Claim.TheVariants.{Controller, Witness, Couple}
 use Rattle.journal.specs.Journal.Replies.{same_indexed, same_claim}
 use Rattle.journal.specs.Journal.History.{Triple, same_triple}
 
@@ -63,22 +63,22 @@ same_indexed_itself s = and_from _ _ (and_from _ _ (and_from _ _ (flag s.big) (n
     place (Some i) = number_itself i
 
 pub same_claim_is : (c d : Claim) → same_claim c d ≡ true → c ≡ d
-same_claim_is (Held s) (Held t) h = ap (λ s. Held s) (same_indexed_is s t h)
+same_claim_is (Controller s) (Controller t) h = ap (λ s. Controller s) (same_indexed_is s t h)
 same_claim_is (Witness s) (Witness t) h = ap (λ s. Witness s) (same_indexed_is s t h)
 same_claim_is (Couple k s) (Couple l t) h =
     let parts = and_parts (same_key k l) (same_sig s t) h in
     let key = same_key_is k l parts.0 in
     let sig = same_sig_is s t parts.1 in
     λ i. Couple (key i) (sig i)
-same_claim_is (Held s) (Witness t) h = cc
-same_claim_is (Held s) (Couple l t) h = cc
-same_claim_is (Witness s) (Held t) h = cc
+same_claim_is (Controller s) (Witness t) h = cc
+same_claim_is (Controller s) (Couple l t) h = cc
+same_claim_is (Witness s) (Controller t) h = cc
 same_claim_is (Witness s) (Couple l t) h = cc
-same_claim_is (Couple k s) (Held t) h = cc
+same_claim_is (Couple k s) (Controller t) h = cc
 same_claim_is (Couple k s) (Witness t) h = cc
 
 pub same_claim_itself : (c : Claim) → same_claim c c ≡ true
-same_claim_itself (Held s) = same_indexed_itself s
+same_claim_itself (Controller s) = same_indexed_itself s
 same_claim_itself (Witness s) = same_indexed_itself s
 same_claim_itself (Couple k s) = and_from _ _ (same_key_itself k) (same_sig_itself s)
 

@@ -4,7 +4,7 @@ use Rattle.cesr_codes.specs.declared.indexed_sig.IndexedSig.{IndexedSig}
 use Rattle.cesr_codes.specs.declared.key.Key.{Key}
 use Rattle.cesr_codes.specs.declared.sig.Sig.{Sig}
 use Rattle.journal.specs.declared.journal.claim.Claim.{Claim}
-use Rattle.journal.specs.declared.journal.claim.Claim.TheVariants.{Held, Witness, Couple}
+use Rattle.journal.specs.declared.journal.claim.Claim.TheVariants.{Controller, Witness, Couple}
 use Rattle.journal.specs.Journal.History.{claimed_key, claimed_sig}
 use Rattle.key_state.specs.Exposure.{Rules}
 use Rattle.key_state.specs.Same.{same_key}
@@ -20,13 +20,13 @@ is_good says rules c = is_yes says (claimed_key rules c) (claimed_sig c)
 
 -- the claim is a good signature of the controller that passes a test
 abbrev pub is_held_so : (Key → Sig → Bool) → Rules → (IndexedSig → Bool) → Claim → Bool
-is_held_so says rules test (Held s) = is_good says rules (Held s) && test s
+is_held_so says rules test (Controller s) = is_good says rules (Controller s) && test s
 is_held_so says rules test (Witness s) = false
 is_held_so says rules test (Couple key sig) = false
 
 -- the claim is a signature of the controller that passes a test
 abbrev pub is_held_as : (IndexedSig → Bool) → Claim → Bool
-is_held_as test (Held s) = test s
+is_held_as test (Controller s) = test s
 is_held_as test (Witness s) = false
 is_held_as test (Couple key sig) = false
 

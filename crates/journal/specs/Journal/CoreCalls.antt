@@ -8,7 +8,7 @@ use Rattle.cesr_stream.specs.declared.message.Message.{Message}
 use Rattle.journal.specs.declared.journal.mode.Mode.{Mode}
 use Rattle.journal.specs.declared.journal.reply.Reason.{Reason}
 use Rattle.journal.specs.declared.journal.reply.Reply.{Reply}
-use Rattle.journal.specs.declared.journal.reply.Reply.TheVariants.{Taken, Again, Refused, Full}
+use Rattle.journal.specs.declared.journal.reply.Reply.TheVariants.{Taken, Again, Refused, LimitReached}
 use Rattle.journal.specs.declared.journal.question.Noted.{Noted}
 use Rattle.journal.specs.declared.journal.question.Noted.TheVariants.{New, Known, Unasked}
 use Rattle.journal.specs.Journal.Logs.{Body}
@@ -22,7 +22,7 @@ abbrev pub told_after : List Told → ℕ → Body → Message → Reply → Lis
 told_after told reader b m Taken = told ++ took reader b (claims_of m) ∷ []
 told_after told reader b m Again = told ++ took reader b (claims_of m) ∷ []
 told_after told reader b m (Refused r) = told
-told_after told reader b m Full = told
+told_after told reader b m LimitReached = told
 
 -- the reply where reading gave an event, by the first reason to refuse
 abbrev pub reply_unless : Option Reason → Reply → Reply

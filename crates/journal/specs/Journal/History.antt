@@ -4,7 +4,7 @@ use Rattle.std.specs.List.{list_any}
 use Rattle.cesr_codes.specs.declared.key.Key.{Key}
 use Rattle.cesr_codes.specs.declared.sig.Sig.{Sig}
 use Rattle.journal.specs.declared.journal.claim.Claim.{Claim}
-use Rattle.journal.specs.declared.journal.claim.Claim.TheVariants.{Held, Witness, Couple}
+use Rattle.journal.specs.declared.journal.claim.Claim.TheVariants.{Controller, Witness, Couple}
 use Rattle.key_state.specs.Same.{same_key, same_sig, same_digest, same_prefix, has_key, distinct}
 use Rattle.event_body.specs.EventBody.Events.{prefix_of, sn_of, said_of, is_receipt}
 use Rattle.key_state.specs.Exposure.{Rules}
@@ -50,13 +50,13 @@ same_triple t u = bytes_eq t.body u.body && same_key t.key u.key && same_sig t.s
 
 -- the key of a claim: by its index among the signing keys or the witnesses, or its own where it is a witness
 abbrev pub claimed_key : Rules → Claim → Option Key
-claimed_key rules (Held s) = slice_get rules.keys s.index
+claimed_key rules (Controller s) = slice_get rules.keys s.index
 claimed_key rules (Witness s) = slice_get rules.witnesses s.index
 claimed_key rules (Couple key sig) = if has_key rules.witnesses key then Some key else None
 
 -- the signature of a claim
 abbrev pub claimed_sig : Claim → Sig
-claimed_sig (Held s) = s.sig
+claimed_sig (Controller s) = s.sig
 claimed_sig (Witness s) = s.sig
 claimed_sig (Couple key sig) = sig
 

@@ -6,7 +6,7 @@ use Rattle.cesr_codes.specs.declared.indexed_sig.IndexedSig.{IndexedSig}
 use Rattle.event_body.specs.declared.event_body.event.Event.{Event}
 use Rattle.key_state.specs.States.{State}
 use Rattle.journal.specs.declared.journal.claim.Claim.{Claim}
-use Rattle.journal.specs.declared.journal.claim.Claim.TheVariants.{Held, Witness, Couple}
+use Rattle.journal.specs.declared.journal.claim.Claim.TheVariants.{Controller, Witness, Couple}
 use Rattle.journal.specs.declared.journal.mode.Mode.{Mode}
 use Rattle.journal.specs.declared.journal.mode.Mode.TheVariants.{Full, Local}
 use Rattle.key_state.specs.Same.{same_key, distinct}
@@ -24,7 +24,7 @@ yes_to told (Some t) = said_yes told t
 
 -- the controller's signature of a claim
 abbrev pub held_sig : Claim → Option IndexedSig
-held_sig (Held s) = Some s
+held_sig (Controller s) = Some s
 held_sig (Witness s) = None
 held_sig (Couple key sig) = None
 

@@ -10,11 +10,11 @@ use Rattle.cesr_stream.specs.declared.group.Group.TheVariants.{Held as HeldGroup
 use Rattle.cesr_stream.specs.declared.message.Message.{Message}
 use Rattle.keri_outside.specs.declared.limits.Limits.{Limits}
 use Rattle.journal.specs.declared.journal.claim.Claim.{Claim}
-use Rattle.journal.specs.declared.journal.claim.Claim.TheVariants.{Held, Witness, Couple}
+use Rattle.journal.specs.declared.journal.claim.Claim.TheVariants.{Controller, Witness, Couple}
 use Rattle.journal.specs.declared.journal.reply.Reason.{Reason}
 use Rattle.journal.specs.declared.journal.reply.Reason.TheVariants.{Body as BodyReason, Unsigned, WrongGroup, DigestOnly, TooManySigs}
 use Rattle.journal.specs.declared.journal.reply.Reply.{Reply}
-use Rattle.journal.specs.declared.journal.reply.Reply.TheVariants.{Taken, Again, Full}
+use Rattle.journal.specs.declared.journal.reply.Reply.TheVariants.{Taken, Again, LimitReached}
 use Rattle.key_state.specs.Same.{same_key, same_sig}
 use Rattle.event_body.specs.EventBody.Events.{is_receipt}
 use Rattle.key_state.specs.KeyStates.{first_true}
@@ -23,7 +23,7 @@ use Rattle.journal.specs.Journal.History.{Told, took, heard, bodies, taken}
 
 -- the claims of a group: the controller's, the witnesses', and the receipts by other keys (-A, -B, -C)
 abbrev pub claims_of_group : Group → List Claim
-claims_of_group (HeldGroup sigs) = map (λ s. Held s) sigs
+claims_of_group (HeldGroup sigs) = map (λ s. Controller s) sigs
 claims_of_group (WitnessGroup sigs) = map (λ s. Witness s) sigs
 claims_of_group (Couples couples) = map (λ c. Couple c.key c.sig) couples
 claims_of_group (FirstSeen seen) = []
@@ -35,7 +35,7 @@ claims_of m = flat_map claims_of_group m.groups
 
 -- it is a claim of the controller
 abbrev pub is_held : Claim → Bool
-is_held (Held s) = true
+is_held (Controller s) = true
 is_held (Witness s) = false
 is_held (Couple key sig) = false
 
@@ -70,7 +70,7 @@ same_indexed s t = same_flag s.big t.big && (s.index == t.index)
 
 -- the claims are the same
 abbrev pub same_claim : Claim → Claim → Bool
-same_claim (Held s) (Held t) = same_indexed s t
+same_claim (Controller s) (Controller t) = same_indexed s t
 same_claim (Witness s) (Witness t) = same_indexed s t
 same_claim (Couple k s) (Couple l t) = same_key k l && same_sig s t
 same_claim _ _ = false
@@ -107,4 +107,4 @@ is_again base told b claims = is_in (bodies base told) b
 -- the reply to a message that isn't refused
 unfoldable pub reply_to : Limits → List Body → List Told → Body → List Claim → Reply
 reply_to limits base told b claims =
-    if is_full limits base told b claims then Full else (if is_again base told b claims then Again else Taken)
+    if is_full limits base told b claims then LimitReached else (if is_again base told b claims then Again else Taken)

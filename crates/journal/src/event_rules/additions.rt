@@ -72,7 +72,7 @@ fn index_of(claim: &Claim) -> Option<u16>
     ensures { (n : ℕ) → is_number result n ≡ is_held_as (λ s. s.index == n) claim.now }
 {
     match claim {
-        Claim::Held(sig) => Some(sig.index),
+        Claim::Controller(sig) => Some(sig.index),
         Claim::Witness(_) | Claim::Couple(..) => None,
     }
 }
@@ -82,7 +82,7 @@ fn revealed_by(state: Option<&KeyState>, event: &Event, claim: &Claim) -> Option
     ensures { (n : ℕ) → is_number result n ≡ is_held_as (opens_at (option_copied state.entry) event.now n) claim.now }
 {
     match claim {
-        Claim::Held(sig) => reveal_of(state, event, sig),
+        Claim::Controller(sig) => reveal_of(state, event, sig),
         Claim::Witness(_) | Claim::Couple(..) => None,
     }
 }

@@ -89,7 +89,7 @@ fn good_sig<V: Verdicts>(
         → passes test result ≡ is_held_so (V.says verdicts.now) (own_rules (option_copied state.entry) event.now) test
         claim.now }
 {
-    let Claim::Held(sig) = claim else {
+    let Claim::Controller(sig) = claim else {
         return None;
     };
     let key = claimed_key(state, event, claim)?;

@@ -25,7 +25,7 @@ pub fn claimed_key(state: Option<&KeyState>, event: &Event, claim: &Claim) -> Op
     ensures { result ≡ history.claimed_key (exposure.own_rules (option_copied state.entry) event.now) claim.now }
 {
     match claim {
-        Claim::Held(sig) => signing_keys(state, event)
+        Claim::Controller(sig) => signing_keys(state, event)
             .get(usize::from(sig.index))
             .copied(),
         Claim::Witness(sig) => witness(state, event, usize::from(sig.index)),
@@ -44,7 +44,7 @@ pub fn claimed_sig(claim: &Claim) -> Sig
     ensures { result ≡ history.claimed_sig claim.now }
 {
     match claim {
-        Claim::Held(sig) | Claim::Witness(sig) => sig.sig,
+        Claim::Controller(sig) | Claim::Witness(sig) => sig.sig,
         Claim::Couple(_, sig) => *sig,
     }
 }

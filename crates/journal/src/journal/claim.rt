@@ -6,7 +6,7 @@ use cesr_codes::{IndexedSig, Key, Sig};
 #[derive(Clone, Copy, PartialEq, Eq, PartialOrd, Ord, Debug)]
 pub enum Claim {
     /// By the signing key at an index.
-    Held(IndexedSig),
+    Controller(IndexedSig),
     /// By the witness at an index.
     Witness(IndexedSig),
     /// By a key that stands beside its signature.

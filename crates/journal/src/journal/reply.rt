@@ -23,5 +23,5 @@ pub enum Reply {
     Again,
     Refused(Reason),
     /// The journal has no room for it.
-    Full,
+    LimitReached,
 }

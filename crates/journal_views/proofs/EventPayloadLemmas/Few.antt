@@ -19,7 +19,7 @@ use Rattle.journal.specs.Journal.History.{Told, claims_on, triple_of}
 use Rattle.journal.specs.Journal.Readiness.{good_sigs, held_sig, yes_to}
 use Rattle.journal.specs.declared.journal.body.Body.{Body}
 use Rattle.journal.specs.declared.journal.claim.Claim.{Claim}
-use Rattle.journal.specs.declared.journal.claim.Claim.TheVariants.{Held, Witness, Couple}
+use Rattle.journal.specs.declared.journal.claim.Claim.TheVariants.{Controller, Witness, Couple}
 use Rattle.journal_views.specs.EventPayload.Kept.{kept, reveal_of, same_part, state_under}
 use Rattle.journal_views.specs.EventPayload.Payloads.{payload_of}
 use Rattle.journal_views.proofs.EventPayloadLemmas.Firsts.{All-distinct, chosen_fewer, distinct_shorter}
@@ -110,7 +110,7 @@ keys_few (Some s) (Rct e) kept is = (is s refl).few_keys
 
 -- a signature with a yes is by a key of the event
 index_low : (told : List Told) (rules : Rules) (b : Body) (c : Claim) (sig : IndexedSig) → yes_to told (triple_of rules b c) ≡ true → held_sig c ≡ Some sig → sig.index < length rules.keys
-index_low told rules b (Held g) sig good is =
+index_low told rules b (Controller g) sig good is =
     let same : g ≡ sig = cc is in
     omega (arith, at (slice_get rules.keys g.index) refl, ap (λ (x : IndexedSig). x.index) same)
   where

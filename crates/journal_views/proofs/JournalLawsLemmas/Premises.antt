@@ -17,7 +17,7 @@ use Rattle.key_state.specs.KeyStates.{misfit}
 use Rattle.key_state.specs.Same.{distinct}
 use Rattle.journal.specs.declared.journal.body.Body.{Body}
 use Rattle.journal.specs.declared.journal.claim.Claim.{Claim}
-use Rattle.journal.specs.declared.journal.claim.Claim.TheVariants.{Held}
+use Rattle.journal.specs.declared.journal.claim.Claim.TheVariants.{Controller}
 use Rattle.journal.specs.declared.journal.mode.Mode.{Mode}
 use Rattle.journal.specs.declared.journal.mode.Mode.TheVariants.{Full}
 use Rattle.journal.specs.Journal.Acceptance.{grown_by, settled}
@@ -87,7 +87,7 @@ abbrev signature : Sig
 signature = record { raw = 7 ∷ [] }
 
 abbrev claim : Claim
-claim = Held (record { big = false; index = 0; ondex = Some 0; sig = signature; form = refl })
+claim = Controller (record { big = false; index = 0; ondex = Some 0; sig = signature; form = refl })
 
 abbrev comes : ℕ → Body → Told
 comes reader b = took reader b (claim ∷ [])

@@ -13,23 +13,23 @@ use Rattle.journal.specs.Journal.Feeds.{FeedEach}
 use Rattle.journal.specs.Journal.History.{Told as ToldEntry}
 use Rattle.run_status.specs.declared.run_status.close.Close.TheVariants.{ReadFault, VerifierFault, OutOfMemory}
 use Rattle.run_status.specs.RunOutside.Makings.{some_failed}
-use Rattle.run_status.specs.RunOutside.Told.{Told}
-use Rattle.run_status.specs.RunStatus.Readers.{Reader, SourceTold, VerifierTold}
+use Rattle.run_status.specs.RunOutside.Shown.{OutsideShown}
+use Rattle.run_status.specs.RunStatus.Readers.{Reader, SourceShown, VerifierShown}
 use Rattle.reader_hub.specs.ReaderThreads.Fed.{ReadEach, ReadsBy, ends_of}
 use Rattle.reader_hub.specs.ReaderThreads.Given.{Given}
 use Rattle.reader_hub.specs.ReaderThreads.Told.{HasFailed, SomeFailed}
 use Rattle.reader_hub.specs.declared.reader_threads.last_round.LastRound.{LastRound}
 use Rattle.reader_hub.specs.declared.reader_threads.last_round.LastRound.TheVariants.{NoneFailed, VerifierFailed, OutOfMemory as NoMemory}
 use Rattle.keri_roles.specs.CoreRoles.CoreTold.{AreGiven, AreProvided, ReadsToCore, fails_last, makings_of}
-use Rattle.keri_roles.specs.CoreRoles.LinksTold.{AreLinked, AreLinksGiven, AreTakenBy, verifiers_of}
-use Rattle.run_status.specs.RunRecord.Run.{DoorTold, AreCaused, VerifierRose}
-use Rattle.keri_roles.specs.CoreRoles.Work.{LinksTold, Work}
+use Rattle.keri_roles.specs.CoreRoles.LinksShown.{AreLinked, AreLinksGiven, AreTakenBy, verifiers_of}
+use Rattle.run_status.specs.RunRecord.Run.{DoorShown, AreCaused, VerifierRose}
+use Rattle.keri_roles.specs.CoreRoles.Work.{LinksShown, Work}
 
 -- where it may be that the source and the verifier couldn't be made, the count of the outside rose
 module _ (rose : Type 0) (limits : Limits) (told : List ToldEntry) (most number : ℕ) (rest : LastRound) (reader : Reader) (bytes : List ℕ)
     (offered : List Message) where
   -- a reader that was given what has failed not yet
-  told_read : (source : Option SourceTold) (verifier : Option VerifierTold) → (is_none source ≡ true → rose) → IfSome source (λ s. s.faults ≡ 0)
+  told_read : (source : Option SourceShown) (verifier : Option VerifierShown) → (is_none source ≡ true → rose) → IfSome source (λ s. s.faults ≡ 0)
       → ReadsBy limits told most number rest source verifier reader bytes offered → reader.close ≡ ReadFault → MatchOption reader.source rose (λ s. Rose 0 s.faults)
   told_read None None out zero r e = rw r.0 (out refl)
   told_read None (Some verifier) out zero r e = rw r.0.source_is (out refl)
@@ -39,7 +39,7 @@ module _ (rose : Type 0) (limits : Limits) (told : List ToldEntry) (most number 
       let closes = rw e at (r.closes some).closes in
       rw r.source_is (subst (λ n. Rose n r.source_left.faults) zero closes.1)
 
-  told_asked : (source : Option SourceTold) (verifier : Option VerifierTold) → (is_none verifier ≡ true → rose) → IfSome verifier (λ v. v.faults ≡ 0)
+  told_asked : (source : Option SourceShown) (verifier : Option VerifierShown) → (is_none verifier ≡ true → rose) → IfSome verifier (λ v. v.faults ≡ 0)
       → ReadsBy limits told most number rest source verifier reader bytes offered → reader.close ≡ VerifierFault → MatchOption reader.verifier rose (λ v. Rose 0 v.faults)
   told_asked None None out zero r e = let clash : VerifierFault ≡ ReadFault = sym e ∙ ap (λ x. x.close) r.0 in cc
   told_asked None (Some verifier) out zero r e = let clash : VerifierFault ≡ ReadFault = sym e ∙ r.0.close_is in cc
@@ -77,7 +77,7 @@ abbrev pub lacks : List Given → Bool
 lacks given = list_any (λ g. is_none g.source || is_none g.verifier) given
 
 -- each of the readers that were given this, where a making that failed has its cause
-module _ (limits : Limits) (told : List ToldEntry) (most : ℕ) (rest : LastRound) (before after : Told) where
+module _ (limits : Limits) (told : List ToldEntry) (most : ℕ) (rest : LastRound) (before after : OutsideShown) where
   pub each_caused : (number : ℕ) (read : List (List ℕ)) (given : List Given) (readers : List Reader) (feeds : FeedEach limits told number (ends_of read readers))
       → AreUnfailed given → (lacks given ≡ true → Rose before.faults after.faults)
       → ReadEach limits told most rest number read given readers feeds → AreCaused before after readers
@@ -98,7 +98,7 @@ module _ (limits : Limits) (told : List ToldEntry) (most : ℕ) (rest : LastRoun
   )
 
 -- what is given for names had not failed, and where something lacks a making failed
-module _ (before : Told) (helper : List ℕ) where
+module _ (before : OutsideShown) (helper : List ℕ) where
   pub names_unfailed : (names : List (List ℕ)) (given : List Given) → AreGiven before helper names given → AreUnfailed given
   names_unfailed [] [] are = tt
   names_unfailed [] (g ∷ given) are = absurd are
@@ -114,7 +114,7 @@ module _ (before : Told) (helper : List ℕ) where
       regroup (is_none g.source) (is_none g.verifier) _ ∙ ap (λ b. (is_none g.source || is_none g.verifier) || b) (names_lack names given are.1)
 
   -- and so of links, whose sources are always there
-  pub links_unfailed : (sources : List SourceTold) (given : List Given) → All (λ s. s.faults ≡ 0) sources → AreLinksGiven before helper sources given → AreUnfailed given
+  pub links_unfailed : (sources : List SourceShown) (given : List Given) → All (λ s. s.faults ≡ 0) sources → AreLinksGiven before helper sources given → AreUnfailed given
   links_unfailed [] [] unread are = tt
   links_unfailed [] (g ∷ given) unread are = absurd are
   links_unfailed (s ∷ sources) [] unread are = tt
@@ -124,7 +124,7 @@ module _ (before : Told) (helper : List ℕ) where
     links_unfailed sources given (All-tail (λ s. s.faults ≡ 0) s sources unread) are.1,
   )
 
-  pub links_lack : (sources : List SourceTold) (given : List Given) → AreLinksGiven before helper sources given → some_failed (verifiers_of helper given) ≡ lacks given
+  pub links_lack : (sources : List SourceShown) (given : List Given) → AreLinksGiven before helper sources given → some_failed (verifiers_of helper given) ≡ lacks given
   links_lack [] [] are = refl
   links_lack [] (g ∷ given) are = absurd are
   links_lack (s ∷ sources) [] are = absurd are
@@ -138,7 +138,7 @@ front_test : (a b : Bool) → a ≡ true → (a || b) ≡ true
 front_test true b e = refl
 front_test false b e = cc
 
-rose_since : (given left : Option VerifierTold) → IfSome given (λ v. v.faults ≡ 0) → HasFailed given left → IsSomeAnd left (λ w. Rose 0 w.faults)
+rose_since : (given left : Option VerifierShown) → IfSome given (λ v. v.faults ≡ 0) → HasFailed given left → IsSomeAnd left (λ w. Rose 0 w.faults)
 rose_since None left zero failed = absurd failed
 rose_since (Some v) None zero failed = absurd failed
 rose_since (Some v) (Some w) zero failed = subst (λ n. Rose n w.faults) zero failed
@@ -156,7 +156,7 @@ some_rose (g ∷ given) (reader ∷ readers) are (inl this) = inl (rose_since g.
 some_rose (g ∷ given) (reader ∷ readers) are (inr later) = inr (some_rose given readers are.2 later)
 
 -- of any command over a core, what is given to whose readers had not failed
-module _ (mode : Mode) (IsProvided : List Given → Told → Told → Type 0) (work : Work) (t : ReadsToCore mode IsProvided work) (are : AreUnfailed t.given) where
+module _ (mode : Mode) (IsProvided : List Given → OutsideShown → OutsideShown → Type 0) (work : Work) (t : ReadsToCore mode IsProvided work) (are : AreUnfailed t.given) where
   pub told_caused : (lacks t.given ≡ true → Rose work.before.faults work.after.faults) → AreCaused work.before work.after work.readers
   told_caused rose = each_caused work.before.limits _ _ t.rest work.before work.after 0 t.journal.read t.given work.readers t.journal.fed.fed.each are rose t.journal.each
 
@@ -176,13 +176,13 @@ module _ (mode : Mode) (helper : List ℕ) (names : List (List ℕ)) (work : Wor
   files_caused = told_caused mode _ work t files_unfailed files_rose
 
 -- the door failed, where it is found to have
-pub door_rose : (rose : Type 0) (told : Option (List (List ℕ))) (count : ℕ) (failed : Bool) (held : List (Option (List ℕ))) (door : Option DoorTold) → (is_none door ≡ true → rose)
+pub door_rose : (rose : Type 0) (told : Option (List (List ℕ))) (count : ℕ) (failed : Bool) (held : List (Option (List ℕ))) (door : Option DoorShown) → (is_none door ≡ true → rose)
     → AreTakenBy told count failed held door → failed ≡ true → MatchOption door rose (λ d. Rose 0 d.faults)
 door_rose rose told count failed held None out t e = out refl
 door_rose rose told count failed held (Some d) out t e = rw e at t.cause
 
 -- over links
-module _ (mode : Mode) (helper address : List ℕ) (count : ℕ) (links : LinksTold) (work : Work) (t : ReadsToCore mode (AreLinked helper address count links) work) where
+module _ (mode : Mode) (helper address : List ℕ) (count : ℕ) (links : LinksShown) (work : Work) (t : ReadsToCore mode (AreLinked helper address count links) work) where
   pub linked_unfailed : AreUnfailed t.given
   linked_unfailed = links_unfailed work.before helper t.provided.sources t.given t.provided.taken.sources_unfailed t.provided.are_given
 

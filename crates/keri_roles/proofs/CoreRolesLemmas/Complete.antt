@@ -12,8 +12,8 @@ use Rattle.journal.specs.Journal.History.{Told as ToldEntry, bodies}
 use Rattle.journal.specs.Journal.Questions.{questions, raised}
 use Rattle.key_state.specs.Same.{distinct}
 use Rattle.run_status.specs.declared.run_status.close.Close.{Close}
-use Rattle.run_status.specs.declared.run_status.close.Close.TheVariants.{End, Bad, ReadFault, VerifierFault, SignerFault, DiskFault, WriteFault, Malformed, Full, OutOfMemory}
-use Rattle.run_status.specs.RunStatus.Readers.{Reader, SourceTold, VerifierTold}
+use Rattle.run_status.specs.declared.run_status.close.Close.TheVariants.{End, Bad, ReadFault, VerifierFault, SignerFault, DiskFault, WriteFault, Malformed, LimitReached, OutOfMemory}
+use Rattle.run_status.specs.RunStatus.Readers.{Reader, SourceShown, VerifierShown}
 use Rattle.validator_core.specs.ValidatorCore.View.{CoreView, told_of}
 use Rattle.reader_hub.specs.declared.reader_threads.last_round.LastRound.{LastRound}
 use Rattle.reader_hub.specs.declared.reader_threads.last_round.LastRound.TheVariants.{NoneFailed, VerifierFailed, OutOfMemory as NoMemory}
@@ -30,12 +30,12 @@ lost None there none = cc
 lost (Some x) there none = cc
 
 -- a verifier whose count is zero hasn't failed
-not_since : (given left : Option VerifierTold) → IfSome left (λ v. v.faults ≡ 0) → HasFailed given left → ⊥
+not_since : (given left : Option VerifierShown) → IfSome left (λ v. v.faults ≡ 0) → HasFailed given left → ⊥
 not_since None left zero failed = failed
 not_since (Some v) None zero failed = failed
 not_since (Some v) (Some w) zero failed = omega (arith, failed, zero)
 
-not_there : (given : VerifierTold) (left : Option VerifierTold) → IsSome left → IfSome left (λ v. v.faults ≡ 0) → FailedIfThere (Some given) left → ⊥
+not_there : (given : VerifierShown) (left : Option VerifierShown) → IsSome left → IfSome left (λ v. v.faults ≡ 0) → FailedIfThere (Some given) left → ⊥
 not_there v None there zero failed = cc
 not_there v (Some w) there zero failed = omega (arith, failed, zero)
 
@@ -47,8 +47,8 @@ none_since (g ∷ given) (reader ∷ readers) met (inr later) = none_since given
 
 module _ (limits : Limits) (told : List ToldEntry) (most number : ℕ) where
   -- neither the source nor the verifier of a reader failed, and so it came to the end of what it read
-  module _ (source left : SourceTold) (verifier verifier_left : VerifierTold) (bytes : List ℕ) (reading : Reading) (items : List Placed) (offered : List Message) where
-    through_by : (close : Close) → left.faults ≡ 0 → verifier_left.faults ≡ 0 → close ≢ Full
+  module _ (source left : SourceShown) (verifier verifier_left : VerifierShown) (bytes : List ℕ) (reading : Reading) (items : List Placed) (offered : List Message) where
+    through_by : (close : Close) → left.faults ≡ 0 → verifier_left.faults ≡ 0 → close ≢ LimitReached
         → ClosesReader limits told most number source left verifier verifier_left bytes reading items offered close → is_through close ≡ true
     through_by End zero unfailed room closes = refl
     through_by (Bad bad) zero unfailed room closes = refl
@@ -58,7 +58,7 @@ module _ (limits : Limits) (told : List ToldEntry) (most number : ℕ) where
     through_by DiskFault zero unfailed room closes = absurd closes
     through_by WriteFault zero unfailed room closes = absurd closes
     through_by (Malformed place) zero unfailed room closes = absurd closes
-    through_by Full zero unfailed room closes = absurd (room refl)
+    through_by LimitReached zero unfailed room closes = absurd (room refl)
     through_by OutOfMemory zero unfailed room closes = absurd closes
 
   module _ (rest : LastRound) (reader : Reader) (bytes : List ℕ) (offered : List Message) (both : HasBoth reader) (met : MetNoFault reader) where
@@ -68,7 +68,7 @@ module _ (limits : Limits) (told : List ToldEntry) (most number : ℕ) where
     no_verifier : reader.verifier ≡ None → ⊥
     no_verifier = lost reader.verifier both.verifier
 
-    one_through : (source : Option SourceTold) (verifier : Option VerifierTold) → reader.close ≢ OutOfMemory
+    one_through : (source : Option SourceShown) (verifier : Option VerifierShown) → reader.close ≢ OutOfMemory
         → ReadsBy limits told most number rest source verifier reader bytes offered → is_through reader.close ≡ true
     one_through None None memory r = absurd (no_source (ap (λ x. x.source) r.0))
     one_through None (Some verifier) memory r = absurd (no_source r.0.source_is)
@@ -79,7 +79,7 @@ module _ (limits : Limits) (told : List ToldEntry) (most number : ℕ) where
         (rw r.source_is at met.source) (rw r.verifier_is at met.verifier) met.no_limit c.closes
 
     -- its verifier is there, and didn't fail
-    one_unfailed : (source : Option SourceTold) (verifier : Option VerifierTold)
+    one_unfailed : (source : Option SourceShown) (verifier : Option VerifierShown)
         → ReadsBy limits told most number rest source verifier reader bytes offered → FailedIfThere verifier reader.verifier → ⊥
     one_unfailed None None r failed = no_source (ap (λ x. x.source) r.0)
     one_unfailed None (Some verifier) r failed = no_source r.0.source_is

@@ -11,22 +11,22 @@ use Rattle.journal.specs.declared.journal.mode.Mode.TheVariants.{Full}
 use Rattle.journal.specs.Journal.Feeds.{FeedEach}
 use Rattle.journal.specs.Journal.History.{Told as ToldEntry}
 use Rattle.journal.specs.Journal.Journals.{told_by}
-use Rattle.run_status.specs.RunOutside.Told.{Told}
+use Rattle.run_status.specs.RunOutside.Shown.{OutsideShown}
 use Rattle.run_status.specs.declared.run_status.besides.Besides.{Besides}
-use Rattle.run_status.specs.RunStatus.Readers.{Reader, SourceTold, VerifierTold}
+use Rattle.run_status.specs.RunStatus.Readers.{Reader, SourceShown, VerifierShown}
 use Rattle.validator_core.specs.ValidatorCore.View.{CoreView}
 use Rattle.reader_hub.specs.declared.reader_threads.last_round.LastRound.{LastRound}
 use Rattle.reader_hub.specs.ReaderThreads.Fed.{ReadEach, ReadsBy, ends_of}
 use Rattle.reader_hub.specs.ReaderThreads.Given.{Given}
 use Rattle.keri_roles.specs.CoreRoles.CoreTold.{AreProvided, AreThrough, HadMemory, HasBoth, IsOverCore, IsToldBy, MetNoFault, OwesText, ReadsToCore, core_of}
-use Rattle.keri_roles.specs.CoreRoles.LinksTold.{AreLinked}
-use Rattle.keri_roles.specs.CoreRoles.Work.{LinksTold, Work}
+use Rattle.keri_roles.specs.CoreRoles.LinksShown.{AreLinked}
+use Rattle.keri_roles.specs.CoreRoles.Work.{LinksShown, Work}
 use Rattle.keri_roles.proofs.CoreRolesLemmas.Causes.{files_rose, lacks, linked_rose, names_lack}
 use Rattle.keri_roles.proofs.CoreRolesLemmas.OverCore.{none_parts}
 
 module _ (limits : Limits) (told : List ToldEntry) (most : ℕ) (rest : LastRound) where
   -- a reader hands back what it was given
-  one_there : (number : ℕ) (reader : Reader) (bytes : List ℕ) (offered : List Message) (source : Option SourceTold) (verifier : Option VerifierTold)
+  one_there : (number : ℕ) (reader : Reader) (bytes : List ℕ) (offered : List Message) (source : Option SourceShown) (verifier : Option VerifierShown)
       → is_none source ≡ false → is_none verifier ≡ false → ReadsBy limits told most number rest source verifier reader bytes offered → HasBoth reader
   one_there number reader bytes offered None verifier s v r = cc
   one_there number reader bytes offered (Some source) None s v r = cc
@@ -51,7 +51,7 @@ not_so true cause none = absurd (none (cause refl))
 not_so false cause none = refl
 
 -- of any command over a core of which something lacks only where a making failed
-module _ (mode : Mode) (IsProvided : List Given → Told → Told → Type 0) (work : Work) (t : ReadsToCore mode IsProvided work) (rose : lacks t.given ≡ true → Rose work.before.faults work.after.faults) where
+module _ (mode : Mode) (IsProvided : List Given → OutsideShown → OutsideShown → Type 0) (work : Work) (t : ReadsToCore mode IsProvided work) (rose : lacks t.given ≡ true → Rose work.before.faults work.after.faults) where
   told_through : (Rose work.before.faults work.after.faults → ⊥) → All MetNoFault work.readers → HadMemory t.rest work.readers
       → AreThrough mode work.before.limits t.given work.readers t.rest (told_by t.journal.fed.held work.journal.entries)
   told_through none met had =
@@ -65,7 +65,7 @@ module _ (mode : Mode) (is_text : CoreView → List Reader → List ℕ → Bool
       → IsOverCore mode is_text finds (AreProvided helper names) door_failed work
   over_files helper names t owes = record { told = t; owes = owes; complete = told_through mode (AreProvided helper names) work t (files_rose mode helper names work t) }
 
-  pub over_linked : (helper address : List ℕ) (count : ℕ) (links : LinksTold) (t : ReadsToCore mode (AreLinked helper address count links) work)
+  pub over_linked : (helper address : List ℕ) (count : ℕ) (links : LinksShown) (t : ReadsToCore mode (AreLinked helper address count links) work)
       → OwesText is_text finds door_failed (core_of mode work.before.limits t.journal.fed.held work.journal.entries) work.readers t.rest work.owed work.besides
       → IsOverCore mode is_text finds (AreLinked helper address count links) door_failed work
   over_linked helper address count links t owes =
@@ -77,7 +77,7 @@ pub told_one : (mode : Mode) (limits : Limits) (given : Given) (reader : Reader)
 told_one mode limits given reader rest journal t none = each_there limits _ _ rest 0 t.read (given ∷ []) (reader ∷ []) t.fed.fed.each none t.each
 
 -- of two files, each read to a core of its own
-module _ (helper first second : List ℕ) (given other_given : Given) (reader other_reader : Reader) (rest other_rest : LastRound) (journal other_journal : Journal) (limits : Limits) (before after : Told) where
+module _ (helper first second : List ℕ) (given other_given : Given) (reader other_reader : Reader) (rest other_rest : LastRound) (journal other_journal : Journal) (limits : Limits) (before after : OutsideShown) where
   pub both_there : AreProvided helper (first ∷ second ∷ []) (given ∷ other_given ∷ []) before after
       → IsToldBy Full limits (given ∷ []) (reader ∷ []) rest journal → IsToldBy Full limits (other_given ∷ []) (other_reader ∷ []) other_rest other_journal
       → (Rose before.faults after.faults → ⊥) → All HasBoth (reader ∷ other_reader ∷ [])

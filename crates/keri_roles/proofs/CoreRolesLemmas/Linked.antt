@@ -5,11 +5,11 @@ use Rattle.std.proofs.lemmas.List.{map-append}
 use Rattle.std.proofs.lemmas.List.Elements.{All-cons, All-head, All-nil, All-tail}
 use Rattle.lists.specs.KeriSpecs.Told.{HasNone}
 use Rattle.run_status.specs.RunOutside.Makings.{AreMakings, Noted}
-use Rattle.run_status.specs.RunOutside.Told.{Grows, Makes, Told, making}
+use Rattle.run_status.specs.RunOutside.Shown.{Grows, Makes, OutsideShown, making}
 use Rattle.run_status.specs.declared.run_outside.making.Making.{Making}
 use Rattle.run_status.specs.declared.run_outside.making.MakingKind.{MakingKind}
 use Rattle.run_status.specs.declared.run_outside.making.MakingKind.TheVariants.{Door as DoorKind, Verifier as VerifierKind}
-use Rattle.run_status.specs.RunStatus.Readers.{SourceTold}
+use Rattle.run_status.specs.RunStatus.Readers.{SourceShown}
 use Rattle.journal.specs.declared.journal.mode.Mode.{Mode}
 use Rattle.keri_outside.specs.declared.limits.Limits.{Limits}
 use Rattle.reader_hub.specs.ReaderThreads.AnySeats.{AreAnyReady, HaveSeats}
@@ -17,8 +17,8 @@ use Rattle.reader_hub.specs.ReaderThreads.Given.{Given}
 use Rattle.reader_hub.specs.ReaderThreads.Seats.{AreReady}
 use Rattle.reader_hub.specs.declared.reader_threads.any_seats.AnySeats.{AnySeats}
 use Rattle.reader_hub.specs.declared.reader_threads.any_seats.AnySeats.TheVariants.{Nobody, Readers}
-use Rattle.keri_roles.specs.CoreRoles.LinksTold.{AreLinked, AreLinksGiven, IsLinkGiven, ProvidesLinks, TakesLinks, verifiers_of}
-use Rattle.keri_roles.specs.CoreRoles.Work.{LinksTold}
+use Rattle.keri_roles.specs.CoreRoles.LinksShown.{AreLinked, AreLinksGiven, IsLinkGiven, ProvidesLinks, TakesLinks, verifiers_of}
+use Rattle.keri_roles.specs.CoreRoles.Work.{LinksShown}
 use Rattle.keri_roles.proofs.CoreRolesLemmas.Provided.{makings_on}
 
 -- what is seen of all of a list
@@ -39,7 +39,7 @@ noted_none : (makings : Option (List Making)) → Noted makings makings []
 noted_none None = tt
 noted_none (Some makings) = (makings, refl, sym (append-nil makings))
 
-makings_none : (told : Told) → AreMakings [] told told
+makings_none : (told : OutsideShown) → AreMakings [] told told
 makings_none told = record { noted = noted_none told.makings; rose = λ e. cc; kept = λ e. refl }
 
 noted_one : (old new : Option (List Making)) (kind : MakingKind) (name : List ℕ) (failed : Bool) → Grows old new kind name failed → Noted old new (making kind name failed ∷ [])
@@ -47,23 +47,23 @@ noted_one old None kind name failed g = tt
 noted_one old (Some new) kind name failed g = g
 
 -- one came
-pub makings_one : {T E : Type 0} (kind : MakingKind) (name : List ℕ) (old new : Told) (r : Result T E) → Makes kind name old new r
+pub makings_one : {T E : Type 0} (kind : MakingKind) (name : List ℕ) (old new : OutsideShown) (r : Result T E) → Makes kind name old new r
     → AreMakings (making kind name (is_err r) ∷ []) old new
 makings_one kind name old new (Ok x) m = record { noted = noted_one old.makings new.makings kind name false m.noted; rose = λ e. cc; kept = λ e. m.cause.else_same }
 makings_one kind name old new (Err x) m = record { noted = noted_one old.makings new.makings kind name true m.noted; rose = λ e. m.cause.failed; kept = λ e. cc }
 
 -- the links so far are given their sources and verifiers, and these are left
-pub record AreGivenSoFar (helper : List ℕ) (sources left : List SourceTold) (given : List Given) (before now : Told) : Type 0 where
-  pub done : List SourceTold
+pub record AreGivenSoFar (helper : List ℕ) (sources left : List SourceShown) (given : List Given) (before now : OutsideShown) : Type 0 where
+  pub done : List SourceShown
   pub parts : sources ≡ done ++ left
   pub are_given : AreLinksGiven before helper done given
   pub makes : AreMakings (verifiers_of helper given) before now
   pub says : now.says ≡ before.says
 
-pub given_none : (helper : List ℕ) (sources : List SourceTold) (told : Told) → AreGivenSoFar helper sources sources [] told told
+pub given_none : (helper : List ℕ) (sources : List SourceShown) (told : OutsideShown) → AreGivenSoFar helper sources sources [] told told
 given_none helper sources told = record { done = []; parts = refl; are_given = tt; makes = makings_none told; says = refl }
 
-links_push : (before : Told) (helper : List ℕ) (done : List SourceTold) (given : List Given) (source : SourceTold) (g : Given)
+links_push : (before : OutsideShown) (helper : List ℕ) (done : List SourceShown) (given : List Given) (source : SourceShown) (g : Given)
     → AreLinksGiven before helper done given → IsLinkGiven before helper source g → AreLinksGiven before helper (done ++ source ∷ []) (given ++ g ∷ [])
 links_push before helper [] [] source g are is = (is, tt)
 links_push before helper [] (h ∷ given) source g are is = absurd are
@@ -71,7 +71,7 @@ links_push before helper (s ∷ done) [] source g are is = absurd are
 links_push before helper (s ∷ done) (h ∷ given) source g are is = (are.0, links_push before helper done given source g are.1 is)
 
 -- one link more is given its verifier
-module _ (helper : List ℕ) (sources : List SourceTold) (source : SourceTold) (left : List SourceTold) (given : List Given) (g : Given) (before mid after : Told) where
+module _ (helper : List ℕ) (sources : List SourceShown) (source : SourceShown) (left : List SourceShown) (given : List Given) (g : Given) (before mid after : OutsideShown) where
   pub given_more : AreGivenSoFar helper sources (source ∷ left) given before mid → IsLinkGiven mid helper source g
       → AreMakings (making VerifierKind helper (is_none g.verifier) ∷ []) mid after → after.says ≡ mid.says
       → AreGivenSoFar helper sources left (given ++ g ∷ []) before after
@@ -88,7 +88,7 @@ module _ (helper : List ℕ) (sources : List SourceTold) (source : SourceTold) (
   }
 
 -- what is said is as before
-pub links_before : (before mid : Told) (helper : List ℕ) (sources : List SourceTold) (given : List Given) → mid.says ≡ before.says → AreLinksGiven mid helper sources given
+pub links_before : (before mid : OutsideShown) (helper : List ℕ) (sources : List SourceShown) (given : List Given) → mid.says ≡ before.says → AreLinksGiven mid helper sources given
     → AreLinksGiven before helper sources given
 links_before before mid helper [] [] says are = tt
 links_before before mid helper [] (g ∷ given) says are = absurd are
@@ -102,7 +102,7 @@ links_before before mid helper (s ∷ sources) (g ∷ given) says are = (
 )
 
 -- links were taken, and then given verifiers
-pub are_linked : (helper address : List ℕ) (count : ℕ) (sources : List SourceTold) (links : LinksTold) (given : List Given) (before mid after : Told)
+pub are_linked : (helper address : List ℕ) (count : ℕ) (sources : List SourceShown) (links : LinksShown) (given : List Given) (before mid after : OutsideShown)
     → TakesLinks address count sources links before mid → ProvidesLinks helper sources given mid after → AreLinked helper address count links given before after
 are_linked helper address count sources links given before mid after taken provided = record {
   sources = sources;
@@ -117,7 +117,7 @@ any_ready mode limits count n (Nobody core) has e = (sym e ∙ has.0, has.1.is_n
 any_ready mode limits count n (Readers seats) has e = subst (λ m. AreReady m seats) e has.ready
 
 -- none is left
-pub given_all : (helper : List ℕ) (sources left : List SourceTold) (given : List Given) (before now : Told) → AreGivenSoFar helper sources left given before now → left ≡ []
+pub given_all : (helper : List ℕ) (sources left : List SourceShown) (given : List Given) (before now : OutsideShown) → AreGivenSoFar helper sources left given before now → left ≡ []
     → ProvidesLinks helper sources given before now
 given_all helper sources left given before now so_far none =
     let all : sources ≡ so_far.done = so_far.parts ∙ (ap (λ l. so_far.done ++ l) none ∙ append-nil so_far.done) in

@@ -7,9 +7,9 @@ use Rattle.journal.specs.declared.journal.mode.Mode.{Mode}
 use Rattle.journal.specs.Journal.Feeds.{FeedEach}
 use Rattle.journal.specs.Journal.History.{Told as ToldEntry}
 use Rattle.run_status.specs.declared.run_status.close.Close.{Close}
-use Rattle.run_status.specs.declared.run_status.close.Close.TheVariants.{End, Bad, ReadFault, VerifierFault, SignerFault, DiskFault, WriteFault, Malformed, Full, OutOfMemory}
-use Rattle.run_status.specs.RunStatus.Readers.{HasClose, Reader, SourceTold, VerifierTold, close_found}
-use Rattle.run_status.specs.RunOutside.Told.{Told}
+use Rattle.run_status.specs.declared.run_status.close.Close.TheVariants.{End, Bad, ReadFault, VerifierFault, SignerFault, DiskFault, WriteFault, Malformed, LimitReached, OutOfMemory}
+use Rattle.run_status.specs.RunStatus.Readers.{HasClose, Reader, SourceShown, VerifierShown, close_found}
+use Rattle.run_status.specs.RunOutside.Shown.{OutsideShown}
 use Rattle.reader_hub.specs.ReaderThreads.Fed.{ClosesStream, ReadEach, ReadsBy, ends_of}
 use Rattle.reader_hub.specs.ReaderThreads.Given.{Given}
 use Rattle.reader_hub.specs.declared.reader_threads.last_round.LastRound.{LastRound}
@@ -53,11 +53,11 @@ module _ (Closes : Close → Type 0) (signer : Closes SignerFault → ⊥) (disk
   reads_only DiskFault c = absurd (disk c)
   reads_only WriteFault c = absurd (sink c)
   reads_only (Malformed place) c = refl
-  reads_only Full c = refl
+  reads_only LimitReached c = refl
   reads_only OutOfMemory c = refl
 
 module _ (limits : Limits) (told : List ToldEntry) (most number : ℕ) (rest : LastRound) (reader : Reader) (bytes : List ℕ) (offered : List Message) where
-  told_only : (source : Option SourceTold) (verifier : Option VerifierTold) → ReadsBy limits told most number rest source verifier reader bytes offered
+  told_only : (source : Option SourceShown) (verifier : Option VerifierShown) → ReadsBy limits told most number rest source verifier reader bytes offered
       → is_serving reader.close ≡ false
   told_only None None r = ap (λ x. is_serving x.close) r.0
   told_only None (Some verifier) r = ap is_serving r.0.close_is
@@ -77,5 +77,5 @@ module _ (limits : Limits) (told : List ToldEntry) (most : ℕ) (rest : LastRoun
   each_serves number (bytes ∷ read) (g ∷ given) (reader ∷ readers) feeds each = or_false (is_serving reader.close) (some_serves readers)
       (told_only limits told most number rest reader bytes _ g.source g.verifier each.0) (each_serves (number + 1) read given readers feeds.1 each.1)
 
-pub told_serves : (mode : Mode) (IsProvided : List Given → Told → Told → Type 0) (work : Work) → ReadsToCore mode IsProvided work → some_serves work.readers ≡ false
+pub told_serves : (mode : Mode) (IsProvided : List Given → OutsideShown → OutsideShown → Type 0) (work : Work) → ReadsToCore mode IsProvided work → some_serves work.readers ≡ false
 told_serves mode IsProvided work t = each_serves _ _ _ t.rest 0 t.journal.read t.given work.readers t.journal.fed.fed.each t.journal.each

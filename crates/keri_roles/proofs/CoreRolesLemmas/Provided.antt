@@ -10,7 +10,7 @@ use Rattle.cesr_codes.specs.declared.key.Key.{Key}
 use Rattle.cesr_codes.specs.declared.sig.Sig.{Sig}
 use Rattle.keri_outside.specs.declared.inquiry.Inquiry.{Inquiry}
 use Rattle.run_status.specs.RunOutside.Makings.{AreMakings, Noted, some_failed}
-use Rattle.run_status.specs.RunOutside.Told.{Told, making}
+use Rattle.run_status.specs.RunOutside.Shown.{OutsideShown, making}
 use Rattle.run_status.specs.declared.run_outside.making.Making.{Making}
 use Rattle.run_status.specs.declared.run_outside.making.MakingKind.TheVariants.{Source as SourceKind, Verifier as VerifierKind}
 use Rattle.run_status.specs.RunStatus.Readers.{source_seen, verifier_seen}
@@ -38,7 +38,7 @@ kept_on true q o m n b d e = cc
 kept_on false true o m n b d e = cc
 kept_on false false o m n b d e = d refl ∙ b refl
 
-pub makings_on : (a b : List Making) (old mid new : Told) → AreMakings a old mid → AreMakings b mid new → AreMakings (a ++ b) old new
+pub makings_on : (a b : List Making) (old mid new : OutsideShown) → AreMakings a old mid → AreMakings b mid new → AreMakings (a ++ b) old new
 makings_on a b old mid new x y =
     let both = list_any-append (λ m. m.failed) a b in
     record {
@@ -47,7 +47,7 @@ makings_on a b old mid new x y =
       kept = λ e. kept_on (some_failed a) (some_failed b) old.faults mid.faults new.faults x.kept y.kept (sym both ∙ e);
     }
 
-module _ (before : Told) (helper : List ℕ) (name : List ℕ) (g : Given) where
+module _ (before : OutsideShown) (helper : List ℕ) (name : List ℕ) (g : Given) where
   given_push : (names : List (List ℕ)) (given : List Given) → AreGiven before helper names given → IsGiven before helper name g
       → AreGiven before helper (names ++ name ∷ []) (given ++ g ∷ [])
   given_push [] [] are is = (is, tt)
@@ -65,7 +65,7 @@ module _ (before : Told) (helper : List ℕ) (name : List ℕ) (g : Given) where
       ap (λ l. making SourceKind n (is_none h.source) ∷ making VerifierKind helper (is_none h.verifier) ∷ l) (makings_push names given are.1)
 
 -- one reader more is given what was made for it
-pub provided_more : (before mid after : Told) (helper : List ℕ) (names : List (List ℕ)) (given : List Given) (name : List ℕ) (g : Given)
+pub provided_more : (before mid after : OutsideShown) (helper : List ℕ) (names : List (List ℕ)) (given : List Given) (name : List ℕ) (g : Given)
     → AreProvided helper names given before mid → SameNames before mid → IsGiven mid helper name g
     → AreMakings (making SourceKind name (is_none g.source) ∷ making VerifierKind helper (is_none g.verifier) ∷ []) mid after
     → AreProvided helper (names ++ name ∷ []) (given ++ g ∷ []) before after
@@ -81,11 +81,11 @@ provided_more before mid after helper names given name g so_far same is makes =
     }
 
 -- what is unchanged from one moment to another, and on to a third
-pub same_on : (before mid after : Told) → SameNames before mid → SameNames mid after → SameNames before after
+pub same_on : (before mid after : OutsideShown) → SameNames before mid → SameNames mid after → SameNames before after
 same_on before mid after x y = record { holds = y.holds ∙ x.holds; says = y.says ∙ x.says }
 
 -- a loop over names: one more
-pub provided_at : {X : Type 0} (text : X → List ℕ) (names : List X) (i : ℕ) (d : X) (before mid after : Told) (helper : List ℕ) (given : List Given) (g : Given) → i < length names
+pub provided_at : {X : Type 0} (text : X → List ℕ) (names : List X) (i : ℕ) (d : X) (before mid after : OutsideShown) (helper : List ℕ) (given : List Given) (g : Given) → i < length names
     → AreProvided helper (map text (take i names)) given before mid → SameNames before mid → IsGiven mid helper (text (get_or names i d)) g
     → AreMakings (making SourceKind (text (get_or names i d)) (is_none g.source) ∷ making VerifierKind helper (is_none g.verifier) ∷ []) mid after
     → AreProvided helper (map text (take (i + 1) names)) (given ++ g ∷ []) before after
@@ -107,7 +107,7 @@ module _ {S V : Type 0} (left : S → Option (List ℕ)) (faults : S → ℕ) (s
   verifier_given said (Some v) so unasked none = (so, unasked, none)
 
   -- what was made is given
-  pub is_given : (told : Told) (helper name : List ℕ) (made : Providers S V) → IfSome made.source (λ s. left s ≡ told.holds name) → IfSome made.source (λ s. faults s ≡ 0)
+  pub is_given : (told : OutsideShown) (helper name : List ℕ) (made : Providers S V) → IfSome made.source (λ s. left s ≡ told.holds name) → IfSome made.source (λ s. faults s ≡ 0)
       → IfSome made.verifier (λ v. says v ≡ told.says helper) → IfSome made.verifier (λ v. HasNone (inquiries v)) → IfSome made.verifier (λ v. verifier_faults v ≡ 0)
       → IsGiven told helper name (given_by left faults says inquiries verifier_faults made)
   is_given told helper name made holds unread so unasked unfailed = record {

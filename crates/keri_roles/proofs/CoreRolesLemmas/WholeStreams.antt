@@ -20,8 +20,8 @@ use Rattle.run_status.specs.MessageFeed.Closing.{Gave}
 use Rattle.run_status.specs.MessageFeed.Feeds.{Stream}
 use Rattle.run_status.specs.MessageFeed.Serving.{IsRefused}
 use Rattle.run_status.specs.declared.run_status.close.Close.{Close}
-use Rattle.run_status.specs.declared.run_status.close.Close.TheVariants.{End, Bad, ReadFault, VerifierFault, SignerFault, DiskFault, WriteFault, Malformed, Full, OutOfMemory}
-use Rattle.run_status.specs.RunStatus.Readers.{Reader, SourceTold, VerifierTold}
+use Rattle.run_status.specs.declared.run_status.close.Close.TheVariants.{End, Bad, ReadFault, VerifierFault, SignerFault, DiskFault, WriteFault, Malformed, LimitReached, OutOfMemory}
+use Rattle.run_status.specs.RunStatus.Readers.{Reader, SourceShown, VerifierShown}
 use Rattle.reader_hub.specs.declared.reader_threads.last_round.LastRound.{LastRound}
 use Rattle.reader_hub.specs.ReaderThreads.Fed.{ClosesReader, ReadEach, ReadsBy, ends_of}
 use Rattle.reader_hub.specs.ReaderThreads.Given.{Given, end_of, said_by}
@@ -115,7 +115,7 @@ held_whole old new bytes held gave at_end is =
     h.2 ∙ (ap (λ more. bytes ++ more) nothing ∙ append-nil bytes)
 
 module _ (limits : Limits) (told : List ToldEntry) (most number : ℕ) where
-  module _ (source left : SourceTold) (verifier verifier_left : VerifierTold) (bytes : List ℕ) (reading : Reading) (items : List Placed) (stream : Stream limits bytes reading items)
+  module _ (source left : SourceShown) (verifier verifier_left : VerifierShown) (bytes : List ℕ) (reading : Reading) (items : List Placed) (stream : Stream limits bytes reading items)
       (offered : List Message) (are : AreMessages limits bytes offered) where
     -- all messages of what a source held were offered, where its reader came to the end
     pub all_by : (close : Close) → is_through close ≡ true → ClosesReader limits told most number source left verifier verifier_left bytes reading items offered close
@@ -134,7 +134,7 @@ module _ (limits : Limits) (told : List ToldEntry) (most number : ℕ) where
     all_by DiskFault through closes held is = cc
     all_by WriteFault through closes held is = cc
     all_by (Malformed place) through closes held is = cc
-    all_by Full through closes held is = cc
+    all_by LimitReached through closes held is = cc
     all_by OutOfMemory through closes held is = cc
 
 -- a reader that came to the end wasn't stopped
@@ -148,7 +148,7 @@ module _ (bytes : List ℕ) (reader : Reader) where
   not_stopped DiskFault through = cc
   not_stopped WriteFault through = cc
   not_stopped (Malformed place) through = cc
-  not_stopped Full through = cc
+  not_stopped LimitReached through = cc
   not_stopped OutOfMemory through = cc
 
 -- where it is told
@@ -175,7 +175,7 @@ module _ (limits : Limits) (told : List ToldEntry) (most : ℕ) (rest : LastRoun
       all = λ e. are;
     }
 
-    one_whole : (source : Option SourceTold) (verifier : Option VerifierTold) → ReadsBy limits told most number rest source verifier reader bytes Offered
+    one_whole : (source : Option SourceShown) (verifier : Option VerifierShown) → ReadsBy limits told most number rest source verifier reader bytes Offered
         → FeedsOne limits told number (whole_end (held_by source) reader)
     one_whole None verifier r = (tt, fed.1)
     one_whole (Some source) None r = let clash : is_through VerifierFault ≡ true = rw r.0 at through in cc

@@ -19,12 +19,12 @@ use Rattle.cesr_binary.proofs.ItemTexts.{stand_text}
 use Rattle.cesr_binary.proofs.MixedFronts.{stand_more}
 use Rattle.cesr_binary.proofs.StandingItems.{stand_again}
 use Rattle.run_status.specs.declared.run_status.close.Close.{Close}
-use Rattle.run_status.specs.declared.run_status.close.Close.TheVariants.{End, Bad, ReadFault, VerifierFault, SignerFault, DiskFault, WriteFault, Malformed, Full}
+use Rattle.run_status.specs.declared.run_status.close.Close.TheVariants.{End, Bad, ReadFault, VerifierFault, SignerFault, DiskFault, WriteFault, Malformed, LimitReached}
 use Rattle.run_status.specs.declared.run_status.close.Close.TheVariants.{OutOfMemory}
-use Rattle.run_status.specs.RunStatus.Readers.{SourceTold, SinkTold}
+use Rattle.run_status.specs.RunStatus.Readers.{SourceShown, SinkShown}
 use Rattle.keri_roles.specs.ItemConversion.Closes.{Bounds, ClosesBy, Gave, Taken, rest_judged}
 use Rattle.keri_roles.specs.ItemConversion.Progress.{GoesOn, HasPut, IsIdle, IsRefused, progress, text_in}
-use Rattle.keri_roles.specs.ItemConversion.Converts.{ConvertsWithin, EndsTold, conversion}
+use Rattle.keri_roles.specs.ItemConversion.Converts.{ConvertsWithin, EndsShown, conversion}
 use Rattle.keri_roles.specs.ItemConversion.Pieces.{EndsSo, FeedsNone, FeedsPiece, PassesEnd}
 
 -- pieces one after the other are one piece
@@ -33,10 +33,10 @@ gave_told : (first middle last : Option (List ℕ)) (bytes piece : List ℕ) →
 gave_told first middle None bytes piece a b = a ∙ ap (before bytes) b
 gave_told first middle (Some left) bytes piece a b = a ∙ (ap (before bytes) b ∙ ap (λ l. Some l) (sym (append_assoc bytes piece left)))
 
-pub gave_more : (first middle last : SourceTold) (bytes piece : List ℕ) → Gave first middle bytes → Gave middle last piece → Gave first last (bytes ++ piece)
+pub gave_more : (first middle last : SourceShown) (bytes piece : List ℕ) → Gave first middle bytes → Gave middle last piece → Gave first last (bytes ++ piece)
 gave_more first middle last bytes piece a b = gave_told first.left middle.left last.left bytes piece a b
 
-pub gave_same : (first middle last : SourceTold) (bytes : List ℕ) → Gave first middle bytes → last.left ≡ middle.left → Gave first last bytes
+pub gave_same : (first middle last : SourceShown) (bytes : List ℕ) → Gave first middle bytes → last.left ≡ middle.left → Gave first last bytes
 gave_same first middle last bytes a same = a ∙ ap (before bytes) (sym same)
 
 -- what stayed the same, and stayed so again
@@ -48,14 +48,14 @@ no_bytes [] e = refl
 no_bytes (b ∷ bytes) e = absurd (omega (arith, e))
 
 -- an empty piece is none
-pub gave_none : (first middle last : SourceTold) (bytes piece : List ℕ) (count : ℕ) → Gave first middle bytes → Gave middle last piece
+pub gave_none : (first middle last : SourceShown) (bytes piece : List ℕ) (count : ℕ) → Gave first middle bytes → Gave middle last piece
     → length piece ≡ count → count ≡ 0 → Gave first last bytes
 gave_none first middle last bytes piece count a b counted empty =
     subst (λ p. Gave first last p) (ap (λ p. bytes ++ p) (no_bytes piece (omega (arith, counted, empty))) ∙ append-nil bytes)
     (gave_more first middle last bytes piece a b)
 
 -- what was put is put still when a piece is fed
-pub put_fed : (told : SinkTold) (fed : List ℕ) (old : Reading) (piece : List ℕ) (domain : Domain) (failed : Bool) (sink : SinkTold)
+pub put_fed : (told : SinkShown) (fed : List ℕ) (old : Reading) (piece : List ℕ) (domain : Domain) (failed : Bool) (sink : SinkShown)
     → HasPut told fed (progress old domain failed sink)
     → HasPut told (fed ++ piece) (progress (fed_with old piece None) domain failed sink)
 put_fed told fed old piece domain failed sink has = record {
@@ -67,7 +67,7 @@ put_fed told fed old piece domain failed sink has = record {
 }
 
 -- nothing was fed, and nothing put
-pub put_none : (limit : ℕ) (domain : Domain) (sink : SinkTold) → HasPut sink [] (progress (fresh limit) domain false sink)
+pub put_none : (limit : ℕ) (domain : Domain) (sink : SinkShown) → HasPut sink [] (progress (fresh limit) domain false sink)
 put_none limit domain sink = record {
   has_fed = fed_fresh limit;
   items = [];
@@ -86,7 +86,7 @@ some_bytes : (bytes : List ℕ) → bytes ≢ [] → 1 ≤ length bytes
 some_bytes [] ne = absurd (ne refl)
 some_bytes (b ∷ bytes) ne = omega arith
 
-module _ (bounds : Bounds) (domain : Domain) (first now : EndsTold) (fed : List ℕ) (reader : Reading) (failed : Bool)
+module _ (bounds : Bounds) (domain : Domain) (first now : EndsShown) (fed : List ℕ) (reader : Reading) (failed : Bool)
     (has : HasPut first.sink fed (progress reader domain failed now.sink))
     (limit : reader.limit ≡ bounds.body) (few : length fed ≤ bounds.stream) where
   abbrev pub taken : Taken
@@ -168,7 +168,7 @@ module _ (bounds : Bounds) (domain : Domain) (first now : EndsTold) (fed : List 
   ends new DiskFault idle gave at_end same e = absurd e
   ends new WriteFault idle gave at_end same e = absurd e
   ends new (Malformed place) idle gave at_end same e = absurd e
-  ends new Full idle gave at_end same e = absurd e
+  ends new LimitReached idle gave at_end same e = absurd e
   ends new OutOfMemory idle gave at_end same e = absurd e
 
   -- a rule refuses the rest
@@ -184,7 +184,7 @@ module _ (bounds : Bounds) (domain : Domain) (first now : EndsTold) (fed : List 
   faults idle gave rose = converts ReadFault unfinished idle.unfinished_item tt (gave, rose, judged_rest unfinished idle.unfinished_item)
 
   -- nothing came, since the source failed, or since there was no memory
-  pub stops : (middle : SourceTold) (new : Reading) (close : Close) → IsIdle reader → Gave first.source middle fed → middle.faults ≡ first.source.faults
+  pub stops : (middle : SourceShown) (new : Reading) (close : Close) → IsIdle reader → Gave first.source middle fed → middle.faults ≡ first.source.faults
       → FeedsNone (record { source = middle; reader = reader }) (record { source = now.source; reader = new }) close
       → ConvertsWithin bounds domain first now (conversion close failed)
   stops middle new ReadFault idle gave same e = faults idle (gave_same first.source middle now.source fed gave e.0)
@@ -197,10 +197,10 @@ module _ (bounds : Bounds) (domain : Domain) (first now : EndsTold) (fed : List 
   stops middle new DiskFault idle gave same e = absurd e
   stops middle new WriteFault idle gave same e = absurd e
   stops middle new (Malformed place) idle gave same e = absurd e
-  stops middle new Full idle gave same e = absurd e
+  stops middle new LimitReached idle gave same e = absurd e
 
   -- past the greatest number of bytes
-  pub passes : (middle : SourceTold) (new : Reading) (close : Close) → IsIdle reader → Gave first.source middle fed
+  pub passes : (middle : SourceShown) (new : Reading) (close : Close) → IsIdle reader → Gave first.source middle fed
       → middle.faults ≡ first.source.faults → length fed ≡ bounds.stream
       → PassesEnd (record { source = middle; reader = reader }) (record { source = now.source; reader = new }) close
       → ConvertsWithin bounds domain first now (conversion close failed)
@@ -208,8 +208,8 @@ module _ (bounds : Bounds) (domain : Domain) (first now : EndsTold) (fed : List 
   passes middle new (Bad bad) idle gave same all e = ends new (Bad bad) idle (gave_same first.source middle now.source fed gave e.1) e.2 (e.3 ∙ same) e.0
   passes middle new ReadFault idle gave same all e =
       faults idle (gave_same first.source middle now.source fed gave e.0) (let risen = e.1 in omega (arith, same, risen))
-  passes middle new Full idle gave same all e =
-      converts Full unfinished idle.unfinished_item tt (
+  passes middle new LimitReached idle gave same all e =
+      converts LimitReached unfinished idle.unfinished_item tt (
         record {
           all = all;
           unfinished_item = judged_rest unfinished idle.unfinished_item;
@@ -227,7 +227,7 @@ module _ (bounds : Bounds) (domain : Domain) (first now : EndsTold) (fed : List 
   passes middle new OutOfMemory idle gave same all e = absurd e.0
 
 -- Of these bytes, which were read so far, the items from the front were put, and there is room for so many more.
-pub record HasRead (bounds : Bounds) (room : ℕ) (domain : Domain) (first now : EndsTold) (reader : Reading) (failed : Bool) : Type 0 where
+pub record HasRead (bounds : Bounds) (room : ℕ) (domain : Domain) (first now : EndsShown) (reader : Reading) (failed : Bool) : Type 0 where
   pub fed : List ℕ
   pub has_put : HasPut first.sink fed (progress reader domain failed now.sink)
   pub limit : reader.limit ≡ bounds.body
@@ -236,13 +236,13 @@ pub record HasRead (bounds : Bounds) (room : ℕ) (domain : Domain) (first now :
   pub counted : length fed + room ≡ bounds.stream
 
 -- so many bytes were read, less than may be
-pub few_read : (bounds : Bounds) (room : ℕ) (domain : Domain) (first now : EndsTold) (reader : Reading) (failed : Bool)
+pub few_read : (bounds : Bounds) (room : ℕ) (domain : Domain) (first now : EndsShown) (reader : Reading) (failed : Bool)
     (r : HasRead bounds room domain first now reader failed)
     → length r.fed ≤ bounds.stream
 few_read bounds room domain first now reader failed r = let counted = r.counted in omega (arith, counted)
 
 -- one more piece was read, and its items were put
-pub read_on : (bounds : Bounds) (room count : ℕ) (domain fed_domain new_domain : Domain) (first now : EndsTold) (source : SourceTold) (sink : SinkTold)
+pub read_on : (bounds : Bounds) (room count : ℕ) (domain fed_domain new_domain : Domain) (first now : EndsShown) (source : SourceShown) (sink : SinkShown)
     (reader fed_reader new : Reading)
     (failed fed_failed new_failed : Bool) → HasRead bounds room domain first now reader failed
     → FeedsPiece room (record { source = now.source; reader = reader }) (record { source = source; reader = fed_reader }) count → count ≢ 0

@@ -15,12 +15,12 @@ use Rattle.cesr_binary.specs.MixedAnswers.{AnswersItem}
 use Rattle.cesr_binary.specs.Wire.{item_in}
 use Rattle.cesr_binary.proofs.ItemTexts.{flat_map-push}
 use Rattle.cesr_binary.proofs.MixedFed.{fed_answered, stand_on}
-use Rattle.run_status.specs.RunStatus.Readers.{SinkTold}
+use Rattle.run_status.specs.RunStatus.Readers.{SinkShown}
 use Rattle.run_status.specs.RunStatus.Settling.{Puts}
 use Rattle.keri_roles.specs.ItemConversion.Progress.{GoesOn, Progress, progress, text_in}
 
 -- one text more was put, or the sink failed at it
-pub put_on : {T E : Type 0} (result : Result T E) (first old new : SinkTold) (text more : List ℕ) → Puts text false first old
+pub put_on : {T E : Type 0} (result : Result T E) (first old new : SinkShown) (text more : List ℕ) → Puts text false first old
     → Added old.written new.written result more
     → HasCause old.faults new.faults result → Puts (text ++ more) (is_err result) first new
 put_on {T = T} {E = E} (Ok u) first old new text more put added cause =
@@ -32,13 +32,13 @@ put_on {T = T} {E = E} (Err e) first old new text more put added cause = (
 )
 
 -- after the sink has failed nothing more is put
-pub put_no_more : (first now : SinkTold) (text more : List ℕ) → Puts text true first now → Puts (text ++ more) true first now
+pub put_no_more : (first now : SinkShown) (text more : List ℕ) → Puts text true first now → Puts (text ++ more) true first now
 put_no_more first now text more put =
     let failed : Result (Unit {0}) (Unit {0}) = Err tt in
     (front_stands failed first.written now.written text more refl put.0, put.1)
 
 -- what is refused, and whether no item is there, changes nothing of what was put
-pub goes_still : (first : Progress) (old : Reading) (domain : Domain) (failed : Bool) (sink : SinkTold) (bad : Option Bad) (drained : Bool)
+pub goes_still : (first : Progress) (old : Reading) (domain : Domain) (failed : Bool) (sink : SinkShown) (bad : Option Bad) (drained : Bool)
     → GoesOn first (progress old domain failed sink) → GoesOn first (progress (record old { bad = bad; drained = drained }) domain failed sink)
 goes_still first old domain failed sink bad drained on = record {
   has_put = λ told fed has.
@@ -59,9 +59,9 @@ pub good_still : (old new : Reading) (item : Item) (place : ℕ) → AnswersItem
 good_still old new item place a = ap (λ r. r.bad) a.moved ∙ a.not_bad
 
 -- one more item was put
-pub goes_further : (first : Progress) (old new : Reading) (domain domain' : Domain) (failed failed' : Bool) (sink sink' : SinkTold) (item : Item) (place : ℕ)
+pub goes_further : (first : Progress) (old new : Reading) (domain domain' : Domain) (failed failed' : Bool) (sink sink' : SinkShown) (item : Item) (place : ℕ)
     → AnswersItem old new item place → domain' ≡ domain
-    → ((told : SinkTold) (text : List ℕ) → Puts text failed told sink → Puts (text ++ item_in domain item) failed' told sink')
+    → ((told : SinkShown) (text : List ℕ) → Puts text failed told sink → Puts (text ++ item_in domain item) failed' told sink')
     → GoesOn first (progress old domain failed sink) → GoesOn first (progress new domain' failed' sink')
 goes_further first old new domain domain' failed failed' sink sink' item place a same puts on = record {
   has_put = λ told fed has.

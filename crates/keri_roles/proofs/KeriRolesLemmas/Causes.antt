@@ -11,7 +11,7 @@ use Rattle.run_status.specs.declared.run_status.close.Close.{Close}
 use Rattle.run_status.specs.declared.run_status.close.Close.TheVariants.{ReadFault, VerifierFault, OutOfMemory}
 use Rattle.keri_roles.specs.KeriRoles.Check.{IsChecked, OwesChecks}
 use Rattle.keri_roles.specs.KeriRoles.Commands.{IsGenerated}
-use Rattle.run_status.specs.RunStatus.Readers.{SinkTold, SourceTold, VerifierTold}
+use Rattle.run_status.specs.RunStatus.Readers.{SinkShown, SourceShown, VerifierShown}
 use Rattle.keri_roles.specs.CoreRoles.CoreTold.{last_close}
 use Rattle.keri_roles.specs.KeriRoles.Made.{IsMade, IsMadeAlone, IsMadeBehind, given_alone, given_behind}
 use Rattle.keri_roles.specs.KeriRoles.Rehearsed.{IsRehearsed, Serves, serving_close}
@@ -22,7 +22,7 @@ use Rattle.keri_roles.proofs.CoreRolesLemmas.Causes.{each_caused, failed_last, n
 
 -- where it may be that the source and the verifier couldn't be made, the count of the outside rose
 module _ (rose : Type 0) where
-  check_read : (limits : Limits) (held : Option (List ℕ)) (source : Option SourceTold) (verifier : Option VerifierTold) (refused : List Refusal) (seen : List Digest) (close : Close) (owed : Option (List ℕ))
+  check_read : (limits : Limits) (held : Option (List ℕ)) (source : Option SourceShown) (verifier : Option VerifierShown) (refused : List Refusal) (seen : List Digest) (close : Close) (owed : Option (List ℕ))
       → (is_none source ≡ true → rose)
       → OwesChecks (record { source = source; verifier = verifier; refused = refused; seen = seen; close = close }) limits held owed → close ≡ ReadFault
       → MatchOption source rose (λ s. Rose 0 s.faults)
@@ -30,7 +30,7 @@ module _ (rose : Type 0) where
   check_read limits held (Some source) verifier refused seen close None out o e = let clash : ReadFault ≡ OutOfMemory = sym e ∙ o in cc
   check_read limits held (Some source) verifier refused seen close (Some text) out o e = let closes = rw e at o.1.closes in closes.1
 
-  check_asked : (limits : Limits) (held : Option (List ℕ)) (source : Option SourceTold) (verifier : Option VerifierTold) (refused : List Refusal) (seen : List Digest) (close : Close) (owed : Option (List ℕ))
+  check_asked : (limits : Limits) (held : Option (List ℕ)) (source : Option SourceShown) (verifier : Option VerifierShown) (refused : List Refusal) (seen : List Digest) (close : Close) (owed : Option (List ℕ))
       → OwesChecks (record { source = source; verifier = verifier; refused = refused; seen = seen; close = close }) limits held owed → close ≡ VerifierFault → ⊥
   check_asked limits held source verifier refused seen close None o e = let clash : VerifierFault ≡ OutOfMemory = sym e ∙ o in cc
   check_asked limits held None verifier refused seen close (Some text) o e = let clash : VerifierFault ≡ ReadFault = sym e ∙ o.1.fault in cc
@@ -89,8 +89,8 @@ pub generated_caused : (seed logs events : ℕ) (work : Work) → IsGenerated se
 generated_caused seed logs events work c = rw c.one (record { source = λ e. absurd (c.none_failed.0 e); verifier = λ e. absurd (c.none_failed.1 e) }, tt)
 
 -- of `rehearse`, whose source failed or couldn't be made
-module _ (rose : Type 0) (most : ℕ) (held : Option (List ℕ)) (old new : SinkTold) where
-  served_read : (source : Option SourceTold) (served : Served) → (is_none source ≡ true → rose) → Serves most held source old new served
+module _ (rose : Type 0) (most : ℕ) (held : Option (List ℕ)) (old new : SinkShown) where
+  served_read : (source : Option SourceShown) (served : Served) → (is_none source ≡ true → rose) → Serves most held source old new served
       → serving_close served ≡ ReadFault → MatchOption source rose (λ s. Rose 0 s.faults)
   served_read None served out s e = out refl
   served_read (Some source) serving.ReadFault out s e = s.closes.2

@@ -10,10 +10,10 @@ use Rattle.keri_roles.specs.ItemConversion.Progress.{text_in}
 use Rattle.keri_roles.specs.ItemConversion.Converts.{bounds}
 use Rattle.keri_roles.specs.declared.item_conversion.conversion.Conversion.{Conversion}
 use Rattle.keri_outside.specs.declared.limits.Limits.{Limits}
-use Rattle.run_status.specs.RunOutside.Told.{Told}
+use Rattle.run_status.specs.RunOutside.Shown.{OutsideShown}
 use Rattle.run_status.specs.declared.run_status.close.Close.{Close}
-use Rattle.run_status.specs.declared.run_status.close.Close.TheVariants.{End, Bad, ReadFault, VerifierFault, SignerFault, DiskFault, WriteFault, Malformed, Full, OutOfMemory}
-use Rattle.run_status.specs.RunStatus.Readers.{HasClose, Reader, SinkTold, SourceTold}
+use Rattle.run_status.specs.declared.run_status.close.Close.TheVariants.{End, Bad, ReadFault, VerifierFault, SignerFault, DiskFault, WriteFault, Malformed, LimitReached, OutOfMemory}
+use Rattle.run_status.specs.RunStatus.Readers.{HasClose, Reader, SinkShown, SourceShown}
 use Rattle.run_status.specs.RunStatus.Settling.{FaultsHaveCauses, Puts, SettlesBy, found}
 use Rattle.run_status.specs.RunStatus.Status.{nothing_besides, status_of}
 use Rattle.run_status.proofs.RunStatusLemmas.Causes.{faults_have_causes, words_refused}
@@ -39,42 +39,42 @@ by_close SignerFault = inr (λ status. refl)
 by_close DiskFault = inr (λ status. refl)
 by_close WriteFault = inr (λ status. refl)
 by_close (Malformed place) = inr (λ status. refl)
-by_close Full = inr (λ status. refl)
+by_close LimitReached = inr (λ status. refl)
 
-module _ (limits : Limits) (domain : Domain) (held : Option (List ℕ)) (before : Told) (old new : SinkTold) (c : Conversion) where
-  abbrev around : Option SourceTold → Serving
+module _ (limits : Limits) (domain : Domain) (held : Option (List ℕ)) (before : OutsideShown) (old new : SinkShown) (c : Conversion) where
+  abbrev around : Option SourceShown → Serving
   around source = record { before = before; source = source; sink_before = old; sink_after = new }
 
   -- some text was put, or a front of it
-  put_some : (source : Option SourceTold) → ConvertsFrom limits domain held (around source) c → (text : List ℕ) × Puts text c.sink_failed old new
+  put_some : (source : Option SourceShown) → ConvertsFrom limits domain held (around source) c → (text : List ℕ) × Puts text c.sink_failed old new
   put_some (Some source) w = (text_in domain w.taken.items, w.puts)
-  put_some None w = ([], subst (λ (b : Bool). Puts [] b old new) (sym (ap (λ (d : Conversion). d.sink_failed) w.0)) (ap (λ (s : SinkTold). s.written) w.1 ∙ after-nil old.written, ap (λ (s : SinkTold). s.faults) w.1))
+  put_some None w = ([], subst (λ (b : Bool). Puts [] b old new) (sym (ap (λ (d : Conversion). d.sink_failed) w.0)) (ap (λ (s : SinkShown). s.written) w.1 ∙ after-nil old.written, ap (λ (s : SinkShown). s.faults) w.1))
 
   -- it closes by no other fault than that of its source
-  never : (close : Close) → (ReadFault ≢ close) → ((source : SourceTold) → ConvertsFrom limits domain held (around (Some source)) c → c.close ≡ close → ⊥)
-      → (source : Option SourceTold) → ConvertsFrom limits domain held (around source) c → c.close ≢ close
+  never : (close : Close) → (ReadFault ≢ close) → ((source : SourceShown) → ConvertsFrom limits domain held (around (Some source)) c → c.close ≡ close → ⊥)
+      → (source : Option SourceShown) → ConvertsFrom limits domain held (around source) c → c.close ≢ close
   never close other each None w e = other (sym (ap (λ (d : Conversion). d.close) w.0) ∙ e)
   never close other each (Some source) w e = each source w e
 
-  signs_never : (source : Option SourceTold) → ConvertsFrom limits domain held (around source) c → c.close ≢ SignerFault
+  signs_never : (source : Option SourceShown) → ConvertsFrom limits domain held (around source) c → c.close ≢ SignerFault
   signs_never = never SignerFault (λ e. cc) (λ source w e. subst (ClosesBy (bounds limits.body limits.stream_bytes) _ _ w.taken) e w.closes)
 
-  stores_never : (source : Option SourceTold) → ConvertsFrom limits domain held (around source) c → c.close ≢ DiskFault
+  stores_never : (source : Option SourceShown) → ConvertsFrom limits domain held (around source) c → c.close ≢ DiskFault
   stores_never = never DiskFault (λ e. cc) (λ source w e. subst (ClosesBy (bounds limits.body limits.stream_bytes) _ _ w.taken) e w.closes)
 
-  writes_never : (source : Option SourceTold) → ConvertsFrom limits domain held (around source) c → c.close ≢ WriteFault
+  writes_never : (source : Option SourceShown) → ConvertsFrom limits domain held (around source) c → c.close ≢ WriteFault
   writes_never = never WriteFault (λ e. cc) (λ source w e. subst (ClosesBy (bounds limits.body limits.stream_bytes) _ _ w.taken) e w.closes)
 
-  asks_never : (source : Option SourceTold) → ConvertsFrom limits domain held (around source) c → c.close ≢ VerifierFault
+  asks_never : (source : Option SourceShown) → ConvertsFrom limits domain held (around source) c → c.close ≢ VerifierFault
   asks_never = never VerifierFault (λ e. cc) (λ source w e. subst (ClosesBy (bounds limits.body limits.stream_bytes) _ _ w.taken) e w.closes)
 
-  read_failed : (rose : Type 0) (source : Option SourceTold) → (is_none source ≡ true → rose) → ConvertsFrom limits domain held (around source) c
+  read_failed : (rose : Type 0) (source : Option SourceShown) → (is_none source ≡ true → rose) → ConvertsFrom limits domain held (around source) c
       → c.close ≡ ReadFault → MatchOption source rose (λ s. Rose 0 s.faults)
   read_failed rose None out w e = out refl
   read_failed rose (Some source) out w e = (subst (ClosesBy (bounds limits.body limits.stream_bytes) _ _ w.taken) e w.closes).1
 
 -- the status is that of a sink that failed
-sink_causes : (readers : List Reader) (old new : SinkTold) (status : ℕ) → status ≡ 6 → Rose old.faults new.faults → FaultsHaveCauses readers nothing_besides old new status
+sink_causes : (readers : List Reader) (old new : SinkShown) (status : ℕ) → status ≡ 6 → Rose old.faults new.faults → FaultsHaveCauses readers nothing_besides old new status
 sink_causes readers old new status is rose = record {
   five = λ e. let clash : 6 ≡ 5 = sym is ∙ e in cc;
   seven = λ e. let clash : 6 ≡ 7 = sym is ∙ e in cc;
@@ -85,7 +85,7 @@ sink_causes readers old new status is rose = record {
 }
 
 -- or of no memory
-memory_causes : (readers : List Reader) (old new : SinkTold) (status : ℕ) → status ≡ 10 → new.faults ≡ old.faults → FaultsHaveCauses readers nothing_besides old new status
+memory_causes : (readers : List Reader) (old new : SinkShown) (status : ℕ) → status ≡ 10 → new.faults ≡ old.faults → FaultsHaveCauses readers nothing_besides old new status
 memory_causes readers old new status is kept = record {
   five = λ e. let clash : 10 ≡ 5 = sym is ∙ e in cc;
   seven = λ e. let clash : 10 ≡ 7 = sym is ∙ e in cc;
@@ -96,7 +96,7 @@ memory_causes readers old new status is kept = record {
 }
 
 -- or by what was found of the reader
-status_causes : (c : Conversion) (failed : Bool) → c.sink_failed ≡ failed → (readers : List Reader) (old new : SinkTold) (text : List ℕ) (status : ℕ) → Puts text failed old new
+status_causes : (c : Conversion) (failed : Bool) → c.sink_failed ≡ failed → (readers : List Reader) (old new : SinkShown) (text : List ℕ) (status : ℕ) → Puts text failed old new
     → status ≡ (if failed then 6 else unless_no_memory c.close (status_of (found nothing_besides readers false))) → FaultsHaveCauses readers nothing_besides old new status × (status ≢ 2)
 status_causes c true e readers old new text status puts is = (sink_causes readers old new status is puts.1, λ two. let clash : 6 ≡ 2 = sym is ∙ two in cc)
 status_causes c false e readers old new text status puts is = ⊎_elim no_memory as_found (by_close c.close)

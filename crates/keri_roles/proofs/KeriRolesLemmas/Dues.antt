@@ -8,9 +8,9 @@ use Rattle.keri_roles.specs.PlanAnswer.Answers.{CountsFaults, IsAnswer, SignsNoM
 use Rattle.run_status.specs.declared.run_status.besides.Besides.{Besides}
 use Rattle.run_status.specs.RunStatus.Status.{nothing_besides}
 use Rattle.keri_roles.specs.KeriRoles.Made.{MadeFrom, OwesAnswer, OwesNone, found_in, written}
-use Rattle.run_status.specs.RunRecord.Run.{SignerTold}
+use Rattle.run_status.specs.RunRecord.Run.{SignerShown}
 
-module _ (given : MadeFrom) (signer : SignerTold) (before : Option (List Signing)) (none_before : HasNone before) (owed : Option (List ℕ)) (besides : Besides) where
+module _ (given : MadeFrom) (signer : SignerShown) (before : Option (List Signing)) (none_before : HasNone before) (owed : Option (List ℕ)) (besides : Besides) where
   -- the text of an answer is owed
   pub owes_answer : {E : Type 0} (answer : Result PlanAnswer E) → IfOk answer (IsAnswer (signer_asked given.gives before signer.signings) given.log given.text)
       → (faults : ℕ) → faults ≡ 0 → IfOk answer (CountsFaults faults signer.faults) → OnErr answer (false ≡ true)

@@ -16,8 +16,8 @@ use Rattle.journal.proofs.JournalLemmas.Places.{some_at}
 use Rattle.validator_core.specs.ValidatorCore.View.{CoreView, accepted_by, told_of}
 use Rattle.validator_core.proofs.ValidatorCoreLemmas.OpenQuestions.{no_bodies}
 use Rattle.run_status.specs.declared.run_status.close.Close.{Close}
-use Rattle.run_status.specs.declared.run_status.close.Close.TheVariants.{End, Bad, ReadFault, VerifierFault, SignerFault, DiskFault, WriteFault, Malformed, Full, OutOfMemory}
-use Rattle.run_status.specs.RunStatus.Readers.{Reader, VerifierTold}
+use Rattle.run_status.specs.declared.run_status.close.Close.TheVariants.{End, Bad, ReadFault, VerifierFault, SignerFault, DiskFault, WriteFault, Malformed, LimitReached, OutOfMemory}
+use Rattle.run_status.specs.RunStatus.Readers.{Reader, VerifierShown}
 use Rattle.reader_hub.specs.ReaderThreads.Fed.{AllRead, ReadEach, ends_of, most_turns}
 use Rattle.reader_hub.specs.ReaderThreads.Given.{Given}
 use Rattle.reader_hub.specs.ReaderThreads.Told.{AllTold, SomeFailed}
@@ -34,7 +34,7 @@ abbrev pub closing : Reader → Close → Reader
 closing reader close = record reader { close = close }
 
 -- a verifier that never fails
-abbrev pub tells_all : {A : Type 0} → (Key → List ℕ → Sig → Option Bool) → A → VerifierTold
+abbrev pub tells_all : {A : Type 0} → (Key → List ℕ → Sig → Option Bool) → A → VerifierShown
 tells_all says x = record { says = says; inquiries = None; faults = 0 }
 
 pub none_counted : {A : Type 0} (says : Key → List ℕ → Sig → Option Bool) (o : Option A) → IfSome (option_map (tells_all says) o) (λ v. v.faults ≡ 0)
@@ -57,7 +57,7 @@ module _ (seed logs events : ℕ) (limits : Limits) (rest : LastRound) (reader :
         let zero = rw r.verifier_is at none in
         omega (arith, closes.1, zero)
 
-    none_fails_last : (left : Option VerifierTold) → IfSome left (λ v. v.faults ≡ 0) → SomeFailed given_it (record reader { verifier = left } ∷ []) → ⊥
+    none_fails_last : (left : Option VerifierShown) → IfSome left (λ v. v.faults ≡ 0) → SomeFailed given_it (record reader { verifier = left } ∷ []) → ⊥
     none_fails_last None zero failed = elim failed [ inl f ↦ f | inr f ↦ f ]
     none_fails_last (Some v) zero failed = elim failed [ inl f ↦ omega (arith, f, zero) | inr f ↦ f ]
 
@@ -136,7 +136,7 @@ module _ (seed logs events : ℕ) (limits : Limits) (rest : LastRound) (reader :
     tells_made DiskFault e = tells_so DiskFault e
     tells_made WriteFault e = tells_so WriteFault e
     tells_made (Malformed place) e = tells_so (Malformed place) e
-    tells_made Full e = tells_so Full e
+    tells_made LimitReached e = tells_so LimitReached e
     tells_made OutOfMemory e = tells_so OutOfMemory e
 
     pub tells_closed : ClosedSo (made_close reader.close)
@@ -151,7 +151,7 @@ made_not_read SignerFault e = cc
 made_not_read DiskFault e = cc
 made_not_read WriteFault e = cc
 made_not_read (Malformed place) e = cc
-made_not_read Full e = cc
+made_not_read LimitReached e = cc
 made_not_read OutOfMemory e = cc
 
 pub made_not_asked : (close : Close) → close ≢ VerifierFault → made_close close ≢ VerifierFault
@@ -163,7 +163,7 @@ made_not_asked SignerFault never e = cc
 made_not_asked DiskFault never e = cc
 made_not_asked WriteFault never e = cc
 made_not_asked (Malformed place) never e = cc
-made_not_asked Full never e = cc
+made_not_asked LimitReached never e = cc
 made_not_asked OutOfMemory never e = cc
 
 -- it found no memory only where the stream failed or there was none
@@ -177,7 +177,7 @@ made_not_out SignerFault out read e = cc
 made_not_out DiskFault out read e = cc
 made_not_out WriteFault out read e = cc
 made_not_out (Malformed place) out read e = cc
-made_not_out Full out read e = cc
+made_not_out LimitReached out read e = cc
 
 -- the line is owed, where there was memory
 pub owes_line : {Z : Type 0} (plan : StreamPlan) (bodies : List Body) (reader : Reader) (rest : LastRound) (line : Option (Vec ℕ Z)) → IfSome line (HasCounts plan bodies reader.close rest)

@@ -11,7 +11,7 @@ use Rattle.keri_outside.specs.declared.signing.Signing.{Signing}
 use Rattle.journal.specs.declared.journal.journal.Journal.{Journal}
 use Rattle.journal.specs.declared.journal.mode.Mode.TheVariants.{Local}
 use Rattle.run_status.specs.RunOutside.Makings.{AreMakings}
-use Rattle.run_status.specs.RunOutside.Told.{Told}
+use Rattle.run_status.specs.RunOutside.Shown.{OutsideShown}
 use Rattle.run_status.specs.declared.message_feed.text_close.TextClose.{TextClose}
 use Rattle.run_status.specs.declared.message_feed.text_close.TextClose.TheVariants as text
 use Rattle.keri_roles.specs.declared.plan_answer.answer.PlanAnswer.{PlanAnswer}
@@ -20,7 +20,7 @@ use Rattle.keri_roles.specs.PlanAnswer.Answers.{CountsFaults}
 use Rattle.run_status.specs.declared.run_status.besides.Besides.{Besides}
 use Rattle.run_status.specs.declared.run_status.close.Close.{Close}
 use Rattle.run_status.specs.declared.run_status.close.Close.TheVariants.{ReadFault, VerifierFault}
-use Rattle.run_status.specs.RunStatus.Readers.{Reader, SourceTold}
+use Rattle.run_status.specs.RunStatus.Readers.{Reader, SourceShown}
 use Rattle.run_status.specs.RunStatus.Status.{nothing_besides}
 use Rattle.reader_hub.specs.declared.reader_threads.last_round.LastRound.{LastRound}
 use Rattle.reader_hub.specs.ReaderThreads.Given.{Given}
@@ -29,7 +29,7 @@ use Rattle.keri_roles.specs.CoreRoles.Through.{is_through}
 use Rattle.keri_roles.proofs.CoreRolesLemmas.Causes.{lacks, regroup}
 use Rattle.keri_roles.proofs.CoreRolesLemmas.CompleteOver.{not_so, told_one}
 use Rattle.keri_roles.specs.KeriRoles.Made.{MadeFrom, IsDue, IsDueBy, WasRead, close_of, found_in, makings_behind}
-use Rattle.run_status.specs.RunRecord.Run.{SignerTold, is_out}
+use Rattle.run_status.specs.RunRecord.Run.{SignerShown, is_out}
 use Rattle.run_status.specs.RunRecord.Seen.{signer_seen}
 
 -- the reader of a text closes so by its source alone
@@ -46,12 +46,12 @@ by_verifier text.Full e = cc
 by_verifier text.OutOfMemory e = cc
 
 module _ (most : ℕ) (held : Option (List ℕ)) (bytes : List ℕ) (close : Close) where
-  pub text_read : (rose : Type 0) (source : Option SourceTold) → (is_none source ≡ true → rose) → WasRead most held source bytes close → close ≡ ReadFault
+  pub text_read : (rose : Type 0) (source : Option SourceShown) → (is_none source ≡ true → rose) → WasRead most held source bytes close → close ≡ ReadFault
       → MatchOption source rose (λ s. Rose 0 s.faults)
   text_read rose None out r e = out refl
   text_read rose (Some source) out r e = let closes = rw (by_read r.closed (sym r.closes ∙ e)) at r.reads.closes in closes.1
 
-  pub text_asked : (source : Option SourceTold) → WasRead most held source bytes close → close ≡ VerifierFault → ⊥
+  pub text_asked : (source : Option SourceShown) → WasRead most held source bytes close → close ≡ VerifierFault → ⊥
   text_asked None r e = let clash : VerifierFault ≡ ReadFault = sym e ∙ r.0 in cc
   text_asked (Some source) r e = by_verifier r.closed (sym r.closes ∙ e)
 
@@ -72,17 +72,17 @@ module _ (given : MadeFrom) (owed : Option (List ℕ)) (besides : Besides) where
     clash_of : {b : Besides} → besides ≡ b → finds b ≡ false → finds besides ≡ true → ⊥
     clash_of e absent some = let clash : false ≡ true = sym absent ∙ (sym (ap finds e) ∙ some) in cc
 
-    finds_by : (out through : Bool) (signer : Option SignerTold) → IsDueBy given out through signer owed besides → finds besides ≡ true → ⊥
+    finds_by : (out through : Bool) (signer : Option SignerShown) → IsDueBy given out through signer owed besides → finds besides ≡ true → ⊥
     finds_by true through signer d = clash_of d.1 (none (is_none signer) false)
     finds_by false false signer d = clash_of d.1 (none (is_none signer) false)
     finds_by false true None d = clash_of d.1 (none true false)
     finds_by false true (Some signer) (inl o) = clash_of o.found (finds_in o.answer)
     finds_by false true (Some signer) (inr n) = clash_of n.found (none false false)
 
-    pub due_finds : (closes : List Close) (signer : Option SignerTold) → IsDue given closes signer owed besides → finds besides ≡ true → ⊥
+    pub due_finds : (closes : List Close) (signer : Option SignerShown) → IsDue given closes signer owed besides → finds besides ≡ true → ⊥
     due_finds closes signer d = finds_by (list_any is_out closes) (list_all is_through closes) signer d
 
-  signer_by : (rose : Type 0) (out through : Bool) (signer : Option SignerTold) → (is_none signer ≡ true → rose) → IsDueBy given out through signer owed besides
+  signer_by : (rose : Type 0) (out through : Bool) (signer : Option SignerShown) → (is_none signer ≡ true → rose) → IsDueBy given out through signer owed besides
       → besides.signer_failed ≡ true → MatchOption signer rose (λ s. Rose 0 s.faults)
   signer_by rose out through None none d e = none refl
   signer_by rose true through (Some signer) none d e = let clash : false ≡ true = sym (ap (λ b. b.signer_failed) d.1) ∙ e in cc
@@ -90,7 +90,7 @@ module _ (given : MadeFrom) (owed : Option (List ℕ)) (besides : Besides) where
   signer_by rose false true (Some signer) none (inl o) e = found_signer o.answer signer.faults o.counts (sym (ap (λ b. b.signer_failed) o.found) ∙ e)
   signer_by rose false true (Some signer) none (inr n) e = let clash : false ≡ true = sym (ap (λ b. b.signer_failed) n.found) ∙ e in cc
 
-  pub due_signer : (rose : Type 0) (closes : List Close) (signer : Option SignerTold) → (is_none signer ≡ true → rose) → IsDue given closes signer owed besides
+  pub due_signer : (rose : Type 0) (closes : List Close) (signer : Option SignerShown) → (is_none signer ≡ true → rose) → IsDue given closes signer owed besides
       → besides.signer_failed ≡ true → MatchOption signer rose (λ s. Rose 0 s.faults)
   due_signer rose closes signer none d e = signer_by rose (list_any is_out closes) (list_all is_through closes) signer none d e
 
@@ -124,7 +124,7 @@ module _ {S : Type 0} (gives : S → Key → List ℕ → Option Sig) (signings 
   gives_seen (Some s) told e = e
 
 -- of the log behind which a plan is answered
-module _ {S G : Type 0} (plan log helper : List ℕ) (plan_source : Option S) (given : Given) (signer : Option G) (reader : Reader) (rest : LastRound) (journal : Journal) (limits : Limits) (before after : Told) where
+module _ {S G : Type 0} (plan log helper : List ℕ) (plan_source : Option S) (given : Given) (signer : Option G) (reader : Reader) (rest : LastRound) (journal : Journal) (limits : Limits) (before after : OutsideShown) where
   pub log_there : AreMakings (makings_behind plan log helper plan_source given.source given.verifier signer) before after
       → IsToldBy Local limits (given ∷ []) (reader ∷ []) rest journal → (Rose before.faults after.faults → ⊥) → HasBoth reader
   log_there makes t none =

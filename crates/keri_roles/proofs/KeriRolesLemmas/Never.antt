@@ -6,8 +6,8 @@ use Rattle.journal.specs.declared.journal.refusal.Refusal.{Refusal}
 use Rattle.run_status.specs.declared.message_feed.text_close.TextClose.{TextClose}
 use Rattle.run_status.specs.declared.message_feed.text_close.TextClose.TheVariants as text
 use Rattle.run_status.specs.declared.run_status.close.Close.{Close}
-use Rattle.run_status.specs.declared.run_status.close.Close.TheVariants.{End, ReadFault, SignerFault, DiskFault, WriteFault, Full, OutOfMemory}
-use Rattle.run_status.specs.RunStatus.Readers.{Reader, SourceTold, VerifierTold}
+use Rattle.run_status.specs.declared.run_status.close.Close.TheVariants.{End, ReadFault, SignerFault, DiskFault, WriteFault, LimitReached, OutOfMemory}
+use Rattle.run_status.specs.RunStatus.Readers.{Reader, SourceShown, VerifierShown}
 use Rattle.keri_roles.specs.KeriRoles.Check.{IsChecked, OwesChecks}
 use Rattle.keri_roles.specs.KeriRoles.Commands.{IsGenerated}
 use Rattle.keri_roles.specs.KeriRoles.Generated.{made_of}
@@ -15,18 +15,18 @@ use Rattle.keri_roles.specs.KeriRoles.Made.{IsMade, WasRead, close_of}
 use Rattle.keri_roles.specs.CoreRoles.Work.{Work}
 use Rattle.keri_roles.proofs.CoreRolesLemmas.Never.{each_serves, is_serving, or_false, reads_only, some_serves}
 
-module _ (limits : Limits) (held : Option (List ℕ)) (verifier : Option VerifierTold) (refused : List Refusal) (seen : List Digest) where
-  abbrev closing_so : Option SourceTold → Close → Reader
+module _ (limits : Limits) (held : Option (List ℕ)) (verifier : Option VerifierShown) (refused : List Refusal) (seen : List Digest) where
+  abbrev closing_so : Option SourceShown → Close → Reader
   closing_so source close = record { source = source; verifier = verifier; refused = refused; seen = seen; close = close }
 
   module _ (at : Close) (not_out : at ≢ OutOfMemory) (not_read : at ≢ ReadFault)
-      (never : (source : SourceTold) (text : List ℕ) → OwesChecks (closing_so (Some source) at) limits held (Some text) → ⊥) where
-    check_never : (source : Option SourceTold) (owed : Option (List ℕ)) → OwesChecks (closing_so source at) limits held owed → ⊥
+      (never : (source : SourceShown) (text : List ℕ) → OwesChecks (closing_so (Some source) at) limits held (Some text) → ⊥) where
+    check_never : (source : Option SourceShown) (owed : Option (List ℕ)) → OwesChecks (closing_so source at) limits held owed → ⊥
     check_never source None o = not_out o
     check_never None (Some text) o = not_read o.1.fault
     check_never (Some source) (Some text) o = never source text o
 
-  check_only : (source : Option SourceTold) (owed : Option (List ℕ)) (close : Close) → OwesChecks (closing_so source close) limits held owed → is_serving close ≡ false
+  check_only : (source : Option SourceShown) (owed : Option (List ℕ)) (close : Close) → OwesChecks (closing_so source close) limits held owed → is_serving close ≡ false
   check_only source owed close o = reads_only (λ close. OwesChecks (closing_so source close) limits held owed)
       (check_never SignerFault (λ e. cc) (λ e. cc) (λ s text o. o.1.closes) source owed)
       (check_never DiskFault (λ e. cc) (λ e. cc) (λ s text o. o.1.closes) source owed)
@@ -38,7 +38,7 @@ text_closes text.ReadFault = refl
 text_closes text.Full = refl
 text_closes text.OutOfMemory = refl
 
-text_only : (most : ℕ) (held : Option (List ℕ)) (bytes : List ℕ) (source : Option SourceTold) (close : Close) → WasRead most held source bytes close → is_serving close ≡ false
+text_only : (most : ℕ) (held : Option (List ℕ)) (bytes : List ℕ) (source : Option SourceShown) (close : Close) → WasRead most held source bytes close → is_serving close ≡ false
 text_only most held bytes None close r = rw r.0 refl
 text_only most held bytes (Some source) close r = rw r.closes (text_closes r.closed)
 

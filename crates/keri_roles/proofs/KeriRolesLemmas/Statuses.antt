@@ -4,13 +4,13 @@ use Rattle.std.specs.Prelude.{IsNone, MatchOption, codes}
 use Rattle.lists.specs.KeriSpecs.Causes.{Rose}
 use Rattle.command_words.specs.Inputs.{links, named}
 use Rattle.command_words.specs.Words.{Asked, blame, check, convert, export, generate, make, rehearse, validate, watch, witness}
-use Rattle.shelf_log.specs.KeriDisk.Images.{DiskTold}
+use Rattle.shelf_log.specs.KeriDisk.Images.{DiskShown}
 use Rattle.verifier_link.specs.declared.served.Served.{Served}
-use Rattle.verifier_link.specs.declared.served.Served.TheVariants.{End, Malformed, ReadFault, WriteFault, Full, OutOfMemory}
+use Rattle.verifier_link.specs.declared.served.Served.TheVariants.{End, Malformed, ReadFault, WriteFault, LimitReached, OutOfMemory}
 use Rattle.run_status.specs.declared.run_status.besides.Besides.{Besides}
 use Rattle.run_status.specs.declared.run_status.close.Close.{Close}
 use Rattle.run_status.specs.declared.run_status.close.Close.TheVariants as closing
-use Rattle.run_status.specs.RunStatus.Readers.{HasClose, Reader, SinkTold, SourceTold}
+use Rattle.run_status.specs.RunStatus.Readers.{HasClose, Reader, SinkShown, SourceShown}
 use Rattle.run_status.specs.RunStatus.Status.{nothing_besides}
 use Rattle.run_status.proofs.RunStatusLemmas.Causes.{faults_have_causes, words_refused}
 use Rattle.keri_roles.specs.KeriRoles.Commands.{IsRunOf, IsUnbegun, CarriesOut}
@@ -18,8 +18,8 @@ use Rattle.keri_roles.specs.CoreRoles.CoreTold.{fails_last, last_close}
 use Rattle.keri_roles.specs.KeriRoles.Made.{IsMade, given_alone, given_behind}
 use Rattle.keri_roles.specs.KeriRoles.Rehearsed.{IsRehearsed, Serves, serving_close, serving_status}
 use Rattle.run_status.specs.RunRecord.Run.{AreCausedBy, DoorFails, DoorRose, Settles, Run, HasCauses, SignerFails, VerifierRose}
-use Rattle.keri_roles.specs.CoreRoles.Work.{LinksTold, Work, work_in}
-use Rattle.keri_roles.specs.CoreRoles.LinksTold.{AreUnseated}
+use Rattle.keri_roles.specs.CoreRoles.Work.{LinksShown, Work, work_in}
+use Rattle.keri_roles.specs.CoreRoles.LinksShown.{AreUnseated}
 use Rattle.run_status.specs.RunRecord.Seen.{disk_seen}
 use Rattle.witness_core.proofs.WitnessRoleLemmas.WitnessedCauses.{witnessed_causes}
 use Rattle.keri_roles.proofs.KeriRolesLemmas.ConvertedCauses.{converted_causes}
@@ -82,7 +82,7 @@ by_two End e = cc
 by_two (Malformed place) e = cc
 by_two ReadFault e = cc
 by_two WriteFault e = cc
-by_two Full e = cc
+by_two LimitReached e = cc
 by_two OutOfMemory e = cc
 
 by_seven : (served : Served) → serving_status served ≢ 7
@@ -90,7 +90,7 @@ by_seven End e = cc
 by_seven (Malformed place) e = cc
 by_seven ReadFault e = cc
 by_seven WriteFault e = cc
-by_seven Full e = cc
+by_seven LimitReached e = cc
 by_seven OutOfMemory e = cc
 
 by_eight : (served : Served) → serving_status served ≢ 8
@@ -98,7 +98,7 @@ by_eight End e = cc
 by_eight (Malformed place) e = cc
 by_eight ReadFault e = cc
 by_eight WriteFault e = cc
-by_eight Full e = cc
+by_eight LimitReached e = cc
 by_eight OutOfMemory e = cc
 
 by_five : (served : Served) → serving_status served ≡ 5 → serving_close served ≡ closing.ReadFault
@@ -106,7 +106,7 @@ by_five End e = cc
 by_five (Malformed place) e = cc
 by_five ReadFault e = refl
 by_five WriteFault e = cc
-by_five Full e = cc
+by_five LimitReached e = cc
 by_five OutOfMemory e = cc
 
 by_nine : (served : Served) → serving_status served ≡ 9 → serving_close served ≡ closing.Full
@@ -114,26 +114,26 @@ by_nine End e = cc
 by_nine (Malformed place) e = cc
 by_nine ReadFault e = cc
 by_nine WriteFault e = cc
-by_nine Full e = refl
+by_nine LimitReached e = refl
 by_nine OutOfMemory e = cc
 
-module _ (most : ℕ) (held : Option (List ℕ)) (old new : SinkTold) where
-  serving_wrote : (source : Option SourceTold) (served : Served) → Serves most held source old new served → serving_status served ≡ 6 → Rose old.faults new.faults
+module _ (most : ℕ) (held : Option (List ℕ)) (old new : SinkShown) where
+  serving_wrote : (source : Option SourceShown) (served : Served) → Serves most held source old new served → serving_status served ≡ 6 → Rose old.faults new.faults
   serving_wrote None served s e = let clash : 5 ≡ 6 = sym (ap serving_status s.0) ∙ e in cc
   serving_wrote (Some source) WriteFault s e = s.closes.2.faults
   serving_wrote (Some source) End s e = cc
   serving_wrote (Some source) (Malformed place) s e = cc
   serving_wrote (Some source) ReadFault s e = cc
-  serving_wrote (Some source) Full s e = cc
+  serving_wrote (Some source) LimitReached s e = cc
   serving_wrote (Some source) OutOfMemory s e = cc
 
-  serving_kept : (source : Option SourceTold) (served : Served) → Serves most held source old new served → serving_status served ≢ 6 → new.faults ≡ old.faults
+  serving_kept : (source : Option SourceShown) (served : Served) → Serves most held source old new served → serving_status served ≢ 6 → new.faults ≡ old.faults
   serving_kept None served s other = ap (λ sink. sink.faults) s.1
   serving_kept (Some source) End s other = s.closes.3.faults
   serving_kept (Some source) (Malformed place) s other = s.closes.3.faults
   serving_kept (Some source) ReadFault s other = s.closes.3.faults
   serving_kept (Some source) WriteFault s other = absurd (other refl)
-  serving_kept (Some source) Full s other = s.closes.2.faults
+  serving_kept (Some source) LimitReached s other = s.closes.2.faults
   serving_kept (Some source) OutOfMemory s other = ap (λ sides. sides.sink.faults) s.closes.2
 
 -- no reader of it closes by a fault of a signer or of a disk
@@ -142,7 +142,7 @@ served_signs End e = cc
 served_signs (Malformed place) e = cc
 served_signs ReadFault e = cc
 served_signs WriteFault e = cc
-served_signs Full e = cc
+served_signs LimitReached e = cc
 served_signs OutOfMemory e = cc
 
 served_stores : (served : Served) → serving_close served ≢ closing.DiskFault
@@ -150,7 +150,7 @@ served_stores End e = cc
 served_stores (Malformed place) e = cc
 served_stores ReadFault e = cc
 served_stores WriteFault e = cc
-served_stores Full e = cc
+served_stores LimitReached e = cc
 served_stores OutOfMemory e = cc
 
 served_writes : (served : Served) → serving_close served ≡ closing.WriteFault → serving_status served ≡ 6
@@ -158,7 +158,7 @@ served_writes WriteFault e = refl
 served_writes End e = cc
 served_writes (Malformed place) e = cc
 served_writes ReadFault e = cc
-served_writes Full e = cc
+served_writes LimitReached e = cc
 served_writes OutOfMemory e = cc
 
 closed_one : (at : Close) (reader : Reader) → HasClose at (reader ∷ []) → reader.close ≡ at
@@ -233,7 +233,7 @@ unbegun_causes asked run u = record {
 }
 
 -- one over links, where there was no memory for their readers
-unseated_causes : (asked : Asked) (run : Run) (owed : Option (List ℕ)) (besides : Besides) → Settles owed besides run → (address : List ℕ) (count : ℕ) (came : LinksTold)
+unseated_causes : (asked : Asked) (run : Run) (owed : Option (List ℕ)) (besides : Besides) → Settles owed besides run → (address : List ℕ) (count : ℕ) (came : LinksShown)
     → AreUnseated address count came (work_in run owed besides) → came.door ≡ run.door → (DoorRose run → DoorFails (Some asked) run)
     → (run.readers ≡ [] → AreCausedBy (Some asked) run) → HasCauses (Some asked) run
 unseated_causes asked run owed besides settles address count came u door fails caused =
@@ -242,7 +242,7 @@ unseated_causes asked run owed besides settles address count came u door fails c
     (door_rose _ (run.before.links address) count came.failed _ came.door (λ none. u.makes.rose (rw none refl)) u.taken.taken e)))
     (ap some_serves u.none_read) (caused u.none_read)
 
-carried_causes : {D : Type 0} (told : D → DiskTold) (disk old : Option D) (asked : Option Asked) (run : Run) → run.disk ≡ disk_seen told disk → run.old ≡ disk_seen told old
+carried_causes : {D : Type 0} (told : D → DiskShown) (disk old : Option D) (asked : Option Asked) (run : Run) → run.disk ≡ disk_seen told disk → run.old ≡ disk_seen told old
     → CarriesOut told disk old asked run → HasCauses asked run
 carried_causes told disk old None run d o w = written_causes None run w.owed w.besides w.settles (λ refused. refl)
     (λ some. absurd (refused_only (λ b. b.signer_failed) refl some)) (refused_only (λ b. b.disk_failed) refl) (refused_only (λ b. b.shelf_full) refl)
@@ -259,7 +259,7 @@ carried_causes told disk old (Some (validate helper (named names))) run d o w = 
     (told_rose _ _ work over.told (files_unfailed _ helper names work over.told)) (λ e. absurd (not_true e))
     (told_serves _ _ work over.told) (files_caused _ helper names work over.told)
 carried_causes told disk old (Some (validate helper (links address count))) run d o w = let work = work_in run w.owed w.besides in
-    let at : LinksTold = record { door = run.door; sinks = run.sinks; failed = w.besides.door_failed } in elim w.does [
+    let at : LinksShown = record { door = run.door; sinks = run.sinks; failed = w.besides.door_failed } in elim w.does [
       | inl is ↦ (let over = is.over in plain_causes (validate helper (links address count)) run w.owed w.besides w.settles over.owes.is_found false (fails_last over.told.rest) at.failed
           over.owes.nothing_else (told_rose _ _ work over.told (linked_unfailed _ helper address count at work over.told)) (linked_door _ helper address count at work over.told)
           (told_serves _ _ work over.told) (linked_caused _ helper address count at work over.told))
@@ -270,7 +270,7 @@ carried_causes told disk old (Some (watch helper (named names))) run d o w = let
     (told_rose _ _ work over.told (files_unfailed _ helper names work over.told)) (λ e. absurd (not_true e))
     (told_serves _ _ work over.told) (files_caused _ helper names work over.told)
 carried_causes told disk old (Some (watch helper (links address count))) run d o w = let work = work_in run w.owed w.besides in
-    let at : LinksTold = record { door = run.door; sinks = run.sinks; failed = w.besides.door_failed } in elim w.does [
+    let at : LinksShown = record { door = run.door; sinks = run.sinks; failed = w.besides.door_failed } in elim w.does [
       | inl is ↦ (let over = is.over in plain_causes (watch helper (links address count)) run w.owed w.besides w.settles over.owes.is_found false (fails_last over.told.rest) at.failed
           over.owes.nothing_else (told_rose _ _ work over.told (linked_unfailed _ helper address count at work over.told)) (linked_door _ helper address count at work over.told)
           (told_serves _ _ work over.told) (linked_caused _ helper address count at work over.told))
@@ -298,7 +298,7 @@ carried_causes told disk old (Some (generate seed logs events)) run d o w = let 
 carried_causes told disk old (Some rehearse) run d o r = rehearsed_causes run r
 
 -- of any run of which this is known
-pub has_causes : {D : Type 0} (told : D → DiskTold) (disk old : Option D) (asked : Option Asked) (run : Run) → IsRunOf told disk old asked run
+pub has_causes : {D : Type 0} (told : D → DiskShown) (disk old : Option D) (asked : Option Asked) (run : Run) → IsRunOf told disk old asked run
     → run.disk ≡ disk_seen told disk → run.old ≡ disk_seen told old → HasCauses asked run
 has_causes told disk old asked run (inl c) d o = carried_causes told disk old asked run d o c
 has_causes told disk old asked run (inr u) d o = unbegun_causes asked run u

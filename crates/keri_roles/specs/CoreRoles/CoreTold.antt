@@ -16,13 +16,13 @@ use Rattle.journal.specs.Journal.Readiness.{is_ready}
 use Rattle.journal.specs.Journal.Replies.{IsWithin}
 use Rattle.validator_core.specs.ValidatorCore.View.{CoreView, Stands}
 use Rattle.run_status.specs.RunOutside.Makings.{AreMakings}
-use Rattle.run_status.specs.RunOutside.Told.{Told, making}
+use Rattle.run_status.specs.RunOutside.Shown.{OutsideShown, making}
 use Rattle.run_status.specs.declared.run_outside.making.Making.{Making}
 use Rattle.run_status.specs.declared.run_outside.making.MakingKind.TheVariants.{Source as SourceKind, Verifier as VerifierKind}
 use Rattle.run_status.specs.declared.run_status.besides.Besides.{Besides}
 use Rattle.run_status.specs.declared.run_status.close.Close.{Close}
 use Rattle.run_status.specs.declared.run_status.close.Close.TheVariants as close
-use Rattle.run_status.specs.RunStatus.Readers.{Reader, SourceTold}
+use Rattle.run_status.specs.RunStatus.Readers.{Reader, SourceShown}
 use Rattle.run_status.specs.RunStatus.Status.{nothing_besides}
 use Rattle.reader_hub.specs.declared.reader_threads.last_round.LastRound.{LastRound}
 use Rattle.reader_hub.specs.declared.reader_threads.last_round.LastRound.TheVariants.{NoneFailed, VerifierFailed, OutOfMemory}
@@ -34,12 +34,12 @@ use Rattle.keri_roles.specs.CoreRoles.Through.{is_through}
 use Rattle.keri_roles.specs.CoreRoles.Work.{Work}
 
 -- what the reader of a name is given, with the verifier of a helper, as far as both could be made: nothing was read, asked or failed yet
-pub record IsGiven (before : Told) (helper name : List ℕ) (given : Given) : Type 0 where
+pub record IsGiven (before : OutsideShown) (helper name : List ℕ) (given : Given) : Type 0 where
   pub source : IfSome given.source (λ s. (s.left ≡ before.holds name) × (s.faults ≡ 0))
   pub verifier : IfSome given.verifier (λ v. (v.says ≡ before.says helper) × HasNone v.inquiries × (v.faults ≡ 0))
 
 -- and so the reader of each name
-abbrev pub AreGiven : Told → List ℕ → List (List ℕ) → List Given → Type 0
+abbrev pub AreGiven : OutsideShown → List ℕ → List (List ℕ) → List Given → Type 0
 AreGiven before helper [] [] = Unit {0}
 AreGiven before helper [] (g ∷ given) = ⊥
 AreGiven before helper (name ∷ names) [] = ⊥
@@ -53,12 +53,12 @@ makings_of helper (name ∷ names) (g ∷ given) =
     making SourceKind name (is_none g.source) ∷ making VerifierKind helper (is_none g.verifier) ∷ makings_of helper names given
 
 -- the names stand for the same, and so do helpers
-pub record SameNames (before after : Told) : Type 0 where
+pub record SameNames (before after : OutsideShown) : Type 0 where
   pub holds : after.holds ≡ before.holds
   pub says : after.says ≡ before.says
 
 -- The readers of these names are given what could be made for them, and there are no other makings.
-pub record AreProvided (helper : List ℕ) (names : List (List ℕ)) (given : List Given) (before after : Told) : Type 0 where
+pub record AreProvided (helper : List ℕ) (names : List (List ℕ)) (given : List Given) (before after : OutsideShown) : Type 0 where
   pub are_given : AreGiven before helper names given
   pub makes : AreMakings (makings_of helper names given) before after
 
@@ -95,7 +95,7 @@ pub record MetNoFault (reader : Reader) : Type 0 where
   pub no_limit : reader.close ≢ close.Full
 
 -- what the source held that a reader was given, where it tells
-abbrev pub held_by : Option SourceTold → Option (List ℕ)
+abbrev pub held_by : Option SourceShown → Option (List ℕ)
 held_by None = None
 held_by (Some source) = source.left
 
@@ -138,7 +138,7 @@ pub record IsToldBy (mode : Mode) (limits : Limits) (given : List Given) (reader
   pub complete : IsComplete mode limits given readers rest (told_by fed.held journal.entries)
 
 -- What the readers are given was made so, and the journal was told by them, in order.
-pub record ReadsToCore (mode : Mode) (IsProvided : List Given → Told → Told → Type 0) (work : Work) : Type 0 where
+pub record ReadsToCore (mode : Mode) (IsProvided : List Given → OutsideShown → OutsideShown → Type 0) (work : Work) : Type 0 where
   pub given : List Given
   pub provided : IsProvided given work.before work.after
   pub rest : LastRound
@@ -166,7 +166,7 @@ pub record OwesText (is_text : CoreView → List Reader → List ℕ → Bool �
 
 -- Readers told a core, and the text of its journal and of them is owed. Where no making failed, nothing that was made has, no limit was
 -- reached and there was memory, all streams were read through, and no question is open.
-pub record IsOverCore (mode : Mode) (is_text : CoreView → List Reader → List ℕ → Bool → Type 0) (finds : Bool → Besides) (IsProvided : List Given → Told → Told → Type 0) (door_failed : Bool)
+pub record IsOverCore (mode : Mode) (is_text : CoreView → List Reader → List ℕ → Bool → Type 0) (finds : Bool → Besides) (IsProvided : List Given → OutsideShown → OutsideShown → Type 0) (door_failed : Bool)
     (work : Work) : Type 0 where
   pub told : ReadsToCore mode IsProvided work
   pub owes : OwesText is_text finds door_failed (core_of mode work.before.limits told.journal.fed.held work.journal.entries) work.readers told.rest work.owed work.besides

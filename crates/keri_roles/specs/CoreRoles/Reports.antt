@@ -6,7 +6,7 @@ use Rattle.validator_core.specs.ValidatorCore.View.{CoreView}
 use Rattle.report_lines.specs.Report.{IsStandingText}
 use Rattle.run_status.specs.declared.run_status.close.Close.{Close}
 use Rattle.run_status.specs.RunStatus.Readers.{Reader}
-use Rattle.run_status.specs.declared.run_status.close.Close.TheVariants.{End, Bad, ReadFault, VerifierFault, SignerFault, DiskFault, WriteFault, Malformed, Full, OutOfMemory}
+use Rattle.run_status.specs.declared.run_status.close.Close.TheVariants.{End, Bad, ReadFault, VerifierFault, SignerFault, DiskFault, WriteFault, Malformed, LimitReached, OutOfMemory}
 
 -- the lines of the messages that a reader refused
 abbrev pub refused_lines : ℕ → List Refusal → List ℕ
@@ -18,7 +18,7 @@ malformed_line reader (Bad bad) = malformed_text reader bad
 malformed_line reader End = []
 malformed_line reader ReadFault = []
 malformed_line reader VerifierFault = []
-malformed_line reader Full = []
+malformed_line reader LimitReached = []
 malformed_line reader SignerFault = []
 malformed_line reader DiskFault = []
 malformed_line reader WriteFault = []
@@ -29,7 +29,7 @@ malformed_line reader OutOfMemory = []
 abbrev pub stopped_line : ℕ → Close → List ℕ
 stopped_line reader ReadFault = read_fault_text reader
 stopped_line reader VerifierFault = verifier_fault_text reader
-stopped_line reader Full = full_text reader
+stopped_line reader LimitReached = full_text reader
 stopped_line reader SignerFault = []
 stopped_line reader DiskFault = []
 stopped_line reader WriteFault = []

@@ -1,7 +1,7 @@
 -- Which readers came through their streams.
 use Rattle.std.specs.Prelude.{Bool, true, false}
 use Rattle.run_status.specs.declared.run_status.close.Close.{Close}
-use Rattle.run_status.specs.declared.run_status.close.Close.TheVariants.{End, Bad, ReadFault, VerifierFault, SignerFault, DiskFault, WriteFault, Malformed, Full, OutOfMemory}
+use Rattle.run_status.specs.declared.run_status.close.Close.TheVariants.{End, Bad, ReadFault, VerifierFault, SignerFault, DiskFault, WriteFault, Malformed, LimitReached, OutOfMemory}
 
 -- the reader came to the end of its stream, or to what is refused of it
 abbrev pub is_through : Close → Bool
@@ -13,5 +13,5 @@ is_through SignerFault = false
 is_through DiskFault = false
 is_through WriteFault = false
 is_through (Malformed place) = false
-is_through Full = false
+is_through LimitReached = false
 is_through OutOfMemory = false

@@ -7,32 +7,32 @@ use Rattle.cesr_codes.specs.declared.sig.Sig.{Sig}
 use Rattle.keri_outside.specs.declared.inquiry.Inquiry.{Inquiry}
 use Rattle.keri_outside.specs.declared.signing.Signing.{Signing}
 use Rattle.run_status.specs.RunOutside.Makings.{AreMakings}
-use Rattle.run_status.specs.RunOutside.Told.{Told, making}
+use Rattle.run_status.specs.RunOutside.Shown.{OutsideShown, making}
 use Rattle.run_status.specs.declared.run_outside.making.MakingKind.TheVariants.{Source as SourceKind, Verifier as VerifierKind}
 use Rattle.journal.specs.declared.journal.journal.Journal.{Journal}
 use Rattle.run_status.specs.declared.run_status.besides.Besides.{Besides}
 use Rattle.run_status.specs.declared.run_status.close.Close.{Close}
 use Rattle.run_status.specs.declared.run_status.close.Close.TheVariants.{OutOfMemory}
-use Rattle.run_status.specs.RunStatus.Readers.{Reader, SinkTold, reader_seen}
-use Rattle.run_status.specs.RunRecord.Run.{DoorTold, Run, Settles, SignerTold}
+use Rattle.run_status.specs.RunStatus.Readers.{Reader, SinkShown, reader_seen}
+use Rattle.run_status.specs.RunRecord.Run.{DoorShown, Run, Settles, SignerShown}
 use Rattle.run_status.specs.RunRecord.Seen.{door_seen, signer_seen, sinks_seen}
 use Rattle.keri_roles.specs.declared.core_roles.outcome.LinkedOutcome.{LinkedOutcome}
 use Rattle.keri_roles.specs.declared.core_roles.outcome.Outcome.{Outcome}
 use Rattle.keri_roles.specs.declared.core_roles.outcome.SignedOutcome.{SignedOutcome}
 
 -- what links tell that were taken at a door: the door, where it was made, the sinks of the links in order, and whether the door failed
-pub record LinksTold : Type 0 where
-  pub door : Option DoorTold
-  pub sinks : List SinkTold
+pub record LinksShown : Type 0 where
+  pub door : Option DoorShown
+  pub sinks : List SinkShown
   pub failed : Bool
 
 -- What a command did with the outside: its readers, its signer, where it made one, what was told, the text that it owes, unless
 -- there was no memory for that, and what it found besides its readers' ends.
 pub record Work : Type 0 where
-  pub before : Told
-  pub after : Told
+  pub before : OutsideShown
+  pub after : OutsideShown
   pub readers : List Reader
-  pub signer : Option SignerTold
+  pub signer : Option SignerShown
   pub journal : Journal
   pub owed : Option (List ℕ)
   pub besides : Besides
@@ -42,11 +42,11 @@ abbrev pub work_in : Run → Option (List ℕ) → Besides → Work
 work_in run owed besides = record { before = run.before; after = run.after; readers = run.readers; signer = run.signer; journal = run.journal; owed = owed; besides = besides }
 
 -- the one making is the source of a name, and it failed where there is none
-abbrev pub MakesSource : {S : Type 0} → List ℕ → Option S → Told → Told → Type 0
+abbrev pub MakesSource : {S : Type 0} → List ℕ → Option S → OutsideShown → OutsideShown → Type 0
 MakesSource name source before after = AreMakings (making SourceKind name (is_none source) ∷ []) before after
 
 -- the makings are the source of a name and the verifier of a helper
-abbrev pub MakesProviders : {S V : Type 0} → List ℕ → List ℕ → Option S → Option V → Told → Told → Type 0
+abbrev pub MakesProviders : {S V : Type 0} → List ℕ → List ℕ → Option S → Option V → OutsideShown → OutsideShown → Type 0
 MakesProviders name helper source verifier before after =
     AreMakings (making SourceKind name (is_none source) ∷ making VerifierKind helper (is_none verifier) ∷ []) before after
 
@@ -57,7 +57,7 @@ Owes (Some text) close is_text = (close ≢ OutOfMemory) × is_text text
 
 -- what is seen of links, by what a command over a core came to that read them
 module _ {D K : Type 0} (left : D → Option (List (List ℕ))) (door_faults : D → ℕ) (written : K → Option (List ℕ)) (sink_faults : K → ℕ) where
-  abbrev pub links_over : {S V : Type 0} → LinkedOutcome S V D K → LinksTold
+  abbrev pub links_over : {S V : Type 0} → LinkedOutcome S V D K → LinksShown
   links_over linked = record {
     door = door_seen left door_faults linked.door;
     sinks = sinks_seen written sink_faults linked.sinks.items;
@@ -66,7 +66,7 @@ module _ {D K : Type 0} (left : D → Option (List (List ℕ))) (door_faults : D
 
 module _ {O S V : Type 0} (left : S → Option (List ℕ)) (faults : S → ℕ) (says : V → Key → List ℕ → Sig → Option Bool) (inquiries : V → Option (List Inquiry)) (verifier_faults : V → ℕ) where
   -- what is seen of a command's work: of the outside before and after it, and of what it came to
-  abbrev pub work_over : (O → Told) → O → O → Outcome S V → Work
+  abbrev pub work_over : (O → OutsideShown) → O → O → Outcome S V → Work
   work_over told old new outcome = record {
     before = told old;
     after = told new;
@@ -79,7 +79,7 @@ module _ {O S V : Type 0} (left : S → Option (List ℕ)) (faults : S → ℕ) 
 
   module _ {G : Type 0} (gives : G → Key → List ℕ → Option Sig) (signings : G → Option (List Signing)) (signer_faults : G → ℕ) where
     -- the same with its signer
-    abbrev pub signed_over : (O → Told) → O → O → SignedOutcome S V G → Work
+    abbrev pub signed_over : (O → OutsideShown) → O → O → SignedOutcome S V G → Work
     signed_over told old new signed =
         record (work_over told old new signed.outcome) { signer = signer_seen gives signings signer_faults signed.signer }
 

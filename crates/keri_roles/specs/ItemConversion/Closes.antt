@@ -10,11 +10,11 @@ use Rattle.cesr_stream.specs.Reading.{bad_at}
 use Rattle.cesr_binary.specs.Mixed.{mixed_front}
 use Rattle.run_status.specs.declared.run_status.close.Close.{Close}
 use Rattle.run_status.specs.declared.run_status.close.Close.TheVariants.{End, Bad as BadClose, ReadFault, VerifierFault, SignerFault}
-use Rattle.run_status.specs.declared.run_status.close.Close.TheVariants.{DiskFault, WriteFault, Malformed, Full, OutOfMemory}
-use Rattle.run_status.specs.RunStatus.Readers.{SourceTold}
+use Rattle.run_status.specs.declared.run_status.close.Close.TheVariants.{DiskFault, WriteFault, Malformed, LimitReached, OutOfMemory}
+use Rattle.run_status.specs.RunStatus.Readers.{SourceShown}
 
 -- the source gave these bytes, where it tells
-abbrev pub Gave : SourceTold → SourceTold → List ℕ → Type 0
+abbrev pub Gave : SourceShown → SourceShown → List ℕ → Type 0
 Gave old new bytes = old.left ≡ before bytes new.left
 
 -- All bytes that were read, the items that stand from their front, whether a body is among them, and where the rest begins.
@@ -35,14 +35,14 @@ pub record IsRefusedAt (limit : ℕ) (taken : Taken) (bad : Bad) : Type 0 where
   pub at : bad.place ≡ taken.place + within
 
 -- the input ended within an item
-pub record IsCutShort (limit : ℕ) (source : SourceTold) (taken : Taken) (bad : Bad) : Type 0 where
+pub record IsCutShort (limit : ℕ) (source : SourceShown) (taken : Taken) (bad : Bad) : Type 0 where
   pub at_end : IsAtEnd source.left
   pub unfinished_item : rest_judged limit taken ≡ unfinished
   pub some : taken.place < length taken.bytes
   pub is : bad ≡ bad_at taken.place Truncated
 
 -- So many bytes were read as may be, no item is whole in the rest, and the source gave one byte more.
-pub record IsFull (limit most : ℕ) (old new : SourceTold) (taken : Taken) : Type 0 where
+pub record IsFull (limit most : ℕ) (old new : SourceShown) (taken : Taken) : Type 0 where
   pub all : length taken.bytes ≡ most
   pub unfinished_item : rest_judged limit taken ≡ unfinished
   pub more : ℕ
@@ -54,12 +54,12 @@ pub record Bounds : Type 0 where
   pub stream : ℕ
 
 -- Why reading closed: what the source told before and tells now, and what was read.
-abbrev pub ClosesBy : Bounds → SourceTold → SourceTold → Taken → Close → Type 0
+abbrev pub ClosesBy : Bounds → SourceShown → SourceShown → Taken → Close → Type 0
 ClosesBy bounds old new taken End = Gave old new taken.bytes × IsAtEnd new.left × (taken.place ≡ length taken.bytes) × (new.faults ≡ old.faults)
 ClosesBy bounds old new taken (BadClose bad) =
     Gave old new taken.bytes × (IsRefusedAt bounds.body taken bad ⊎ IsCutShort bounds.body new taken bad) × (new.faults ≡ old.faults)
 ClosesBy bounds old new taken ReadFault = Gave old new taken.bytes × Rose old.faults new.faults × (rest_judged bounds.body taken ≡ unfinished)
-ClosesBy bounds old new taken Full = IsFull bounds.body bounds.stream old new taken × (new.faults ≡ old.faults)
+ClosesBy bounds old new taken LimitReached = IsFull bounds.body bounds.stream old new taken × (new.faults ≡ old.faults)
 ClosesBy bounds old new taken OutOfMemory = ((more : List ℕ) × Gave old new (taken.bytes ++ more)) × (new.faults ≡ old.faults)
 ClosesBy bounds old new taken VerifierFault = ⊥
 ClosesBy bounds old new taken SignerFault = ⊥

@@ -10,19 +10,19 @@ use Rattle.cesr_binary.specs.Wire.{ReadsBack}
 use Rattle.cesr_binary.specs.Mixed.{StandMixed, MixedItems}
 use Rattle.run_status.specs.declared.run_status.close.Close.{Close}
 use Rattle.run_status.specs.declared.run_status.close.Close.TheVariants.{OutOfMemory}
-use Rattle.run_status.specs.RunStatus.Readers.{SourceTold, SinkTold}
+use Rattle.run_status.specs.RunStatus.Readers.{SourceShown, SinkShown}
 use Rattle.run_status.specs.RunStatus.Settling.{Puts}
 use Rattle.keri_roles.specs.declared.item_conversion.conversion.Conversion.{Conversion}
 use Rattle.keri_roles.specs.ItemConversion.Closes.{Bounds, Taken, ClosesBy, rest_judged}
 use Rattle.keri_roles.specs.ItemConversion.Progress.{text_in}
 
 -- what a source and a sink tell
-pub record EndsTold : Type 0 where
-  pub source : SourceTold
-  pub sink : SinkTold
+pub record EndsShown : Type 0 where
+  pub source : SourceShown
+  pub sink : SinkShown
 
-abbrev pub ends_told : {S K : Type 0} → (S → Option (List ℕ)) → (S → ℕ) → (K → Option (List ℕ)) → (K → ℕ) → S → K → EndsTold
-ends_told left source_faults written sink_faults source sink = record {
+abbrev pub ends_shown : {S K : Type 0} → (S → Option (List ℕ)) → (S → ℕ) → (K → Option (List ℕ)) → (K → ℕ) → S → K → EndsShown
+ends_shown left source_faults written sink_faults source sink = record {
   source = record { left = left source; faults = source_faults source };
   sink = record { written = written sink; faults = sink_faults sink };
 }
@@ -38,7 +38,7 @@ conversion close sink_failed = record { close = close; sink_failed = sink_failed
 -- the sink failed. That text, read again, has these items and no others, where all raw bytes are bytes; and where the items
 -- stand in text, the text of such items, wherever they were read, is what was read first. So a good stream of text is the same
 -- bytes when it was turned to binary and back.
-pub record ConvertsWithin (bounds : Bounds) (domain : Domain) (old new : EndsTold) (conversion : Conversion) : Type 0 where
+pub record ConvertsWithin (bounds : Bounds) (domain : Domain) (old new : EndsShown) (conversion : Conversion) : Type 0 where
   pub taken : Taken
   pub few : length taken.bytes ≤ bounds.stream
   pub stand : StandMixed bounds.body taken.bytes taken.items taken.begun taken.place
@@ -49,5 +49,5 @@ pub record ConvertsWithin (bounds : Bounds) (domain : Domain) (old new : EndsTol
   pub back : Stand bounds.body taken.bytes taken.items taken.begun taken.place → (others : List Placed)
       → map (λ p. p.item) others ≡ map (λ p. p.item) taken.items → text_in Text others ≡ take taken.place taken.bytes
 
-abbrev pub Converts : Limits → Domain → EndsTold → EndsTold → Conversion → Type 0
+abbrev pub Converts : Limits → Domain → EndsShown → EndsShown → Conversion → Type 0
 Converts limits domain old new conversion = ConvertsWithin (bounds limits.body limits.stream_bytes) domain old new conversion

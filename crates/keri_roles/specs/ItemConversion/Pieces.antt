@@ -8,13 +8,13 @@ use Rattle.cesr_stream.specs.declared.bad.BadReason.TheVariants.{Truncated}
 use Rattle.cesr_stream.specs.Reading.{Reading, bad_at, fed_with, refused_by}
 use Rattle.run_status.specs.declared.run_status.close.Close.{Close}
 use Rattle.run_status.specs.declared.run_status.close.Close.TheVariants.{End, Bad, ReadFault, VerifierFault, SignerFault}
-use Rattle.run_status.specs.declared.run_status.close.Close.TheVariants.{DiskFault, WriteFault, Malformed, Full, OutOfMemory}
-use Rattle.run_status.specs.RunStatus.Readers.{SourceTold}
+use Rattle.run_status.specs.declared.run_status.close.Close.TheVariants.{DiskFault, WriteFault, Malformed, LimitReached, OutOfMemory}
+use Rattle.run_status.specs.RunStatus.Readers.{SourceShown}
 use Rattle.keri_roles.specs.ItemConversion.Closes.{Gave}
 
 -- a source and the reader behind it
 pub record Intake : Type 0 where
-  pub source : SourceTold
+  pub source : SourceShown
   pub reader : Reading
 
 abbrev pub intake : {S : Type 0} → (S → Option (List ℕ)) → (S → ℕ) → S → Reading → Intake
@@ -41,7 +41,7 @@ FeedsNone old new SignerFault = ⊥
 FeedsNone old new DiskFault = ⊥
 FeedsNone old new WriteFault = ⊥
 FeedsNone old new (Malformed place) = ⊥
-FeedsNone old new Full = ⊥
+FeedsNone old new LimitReached = ⊥
 
 -- the input ended: nothing is left, or an item is cut short
 abbrev pub EndsSo : Reading → Reading → Close → Type 0
@@ -53,12 +53,12 @@ EndsSo old new SignerFault = ⊥
 EndsSo old new DiskFault = ⊥
 EndsSo old new WriteFault = ⊥
 EndsSo old new (Malformed place) = ⊥
-EndsSo old new Full = ⊥
+EndsSo old new LimitReached = ⊥
 EndsSo old new OutOfMemory = ⊥
 
 -- one more byte was asked for
 abbrev pub PassesEnd : Intake → Intake → Close → Type 0
 PassesEnd old new ReadFault = (new.source.left ≡ old.source.left) × Rose old.source.faults new.source.faults
-PassesEnd old new Full = ((more : ℕ) × Gave old.source new.source (more ∷ [])) × (new.source.faults ≡ old.source.faults)
+PassesEnd old new LimitReached = ((more : ℕ) × Gave old.source new.source (more ∷ [])) × (new.source.faults ≡ old.source.faults)
 PassesEnd old new close =
     EndsSo old.reader new.reader close × (new.source.left ≡ old.source.left) × IsAtEnd new.source.left × (new.source.faults ≡ old.source.faults)

@@ -12,7 +12,7 @@ use Rattle.cesr_binary.specs.Mixed.{StandMixed}
 use Rattle.cesr_binary.specs.MixedAnswers.{judged}
 use Rattle.cesr_binary.specs.Wire.{item_in}
 use Rattle.keri_roles.specs.declared.item_conversion.converter.Converter.{Converter}
-use Rattle.run_status.specs.RunStatus.Readers.{SinkTold, sink_seen}
+use Rattle.run_status.specs.RunStatus.Readers.{SinkShown, sink_seen}
 use Rattle.run_status.specs.RunStatus.Settling.{Puts}
 
 -- the text of the items in a domain, one after the other
@@ -41,16 +41,16 @@ pub record Progress : Type 0 where
   pub reader : Reading
   pub domain : Domain
   pub sink_failed : Bool
-  pub sink : SinkTold
+  pub sink : SinkShown
 
-abbrev pub progress : Reading → Domain → Bool → SinkTold → Progress
+abbrev pub progress : Reading → Domain → Bool → SinkShown → Progress
 progress reader domain sink_failed sink = record { reader = reader; domain = domain; sink_failed = sink_failed; sink = sink }
 
 abbrev pub progress_of : {K : Type 0} → (K → Option (List ℕ)) → (K → ℕ) → Converter → K → Progress
 progress_of written faults converter sink = progress converter.reader converter.domain converter.sink_failed (sink_seen written faults sink)
 
 -- of these bytes, which were fed, the items from the front were put since the sink told this first
-pub record HasPut (first : SinkTold) (fed : List ℕ) (now : Progress) : Type 0 where
+pub record HasPut (first : SinkShown) (fed : List ℕ) (now : Progress) : Type 0 where
   pub has_fed : HasFed now.reader fed
   pub items : List Placed
   pub stand : StandMixed now.reader.limit fed items now.reader.begun now.reader.place
@@ -59,6 +59,6 @@ pub record HasPut (first : SinkTold) (fed : List ℕ) (now : Progress) : Type 0 
 
 -- Whatever was fed, the items from its front were put, where it was so before; the limit and the domain are the same.
 pub record GoesOn (old new : Progress) : Type 0 where
-  pub has_put : (first : SinkTold) (fed : List ℕ) → HasPut first fed old → HasPut first fed new
+  pub has_put : (first : SinkShown) (fed : List ℕ) → HasPut first fed old → HasPut first fed new
   pub limit : new.reader.limit ≡ old.reader.limit
   pub domain : new.domain ≡ old.domain

@@ -2,7 +2,7 @@
 use Rattle.std.specs.Prelude.{◌≡◌, ◌≢◌, ℕ, List, [], ◌∷◌, ◌++◌, MatchOption}
 use Rattle.std.specs.declared.option.Option.{Option}
 use Rattle.std.specs.declared.option.Option.TheVariants.{None}
-use Rattle.run_status.specs.RunOutside.Told.{Told}
+use Rattle.run_status.specs.RunOutside.Shown.{OutsideShown}
 use Rattle.keri_outside.specs.declared.limits.Limits.{Limits}
 use Rattle.cesr_stream.specs.Items.{Placed}
 use Rattle.cesr_stream.specs.Messages.{messages}
@@ -12,12 +12,12 @@ use Rattle.run_status.specs.declared.run_status.close.Close.TheVariants.{OutOfMe
 use Rattle.keri_roles.specs.KeriRoles.MessageLines.{AreLinesOf}
 use Rattle.keri_roles.specs.KeriRoles.Closes.{Closes, ending_text}
 use Rattle.run_status.specs.RunRecord.NoJournal.{no_journal}
-use Rattle.run_status.specs.RunStatus.Readers.{Reader, SourceTold}
+use Rattle.run_status.specs.RunStatus.Readers.{Reader, SourceShown}
 use Rattle.keri_roles.specs.CoreRoles.Work.{Work, MakesSource, Owes}
 use Rattle.run_status.specs.RunStatus.Status.{nothing_besides}
 
 -- A stream was read: the text has the lines of its messages, and then how reading closed.
-pub record ChecksStream (limits : Limits) (held : Option (List ℕ)) (source : SourceTold) (reader : Reader) (text : List ℕ) : Type 0 where
+pub record ChecksStream (limits : Limits) (held : Option (List ℕ)) (source : SourceShown) (reader : Reader) (text : List ℕ) : Type 0 where
   pub bytes : List ℕ
   pub reading : Reading
   pub items : List Placed
@@ -41,7 +41,7 @@ abbrev pub ChecksHeld : Limits → Option (List ℕ) → Reader → List ℕ →
 ChecksHeld limits held reader text = reader.close ≢ OutOfMemory → ChecksReader limits held reader text
 
 -- of a file of the outside
-abbrev pub ChecksFile : List ℕ → Told → Reader → List ℕ → Type 0
+abbrev pub ChecksFile : List ℕ → OutsideShown → Reader → List ℕ → Type 0
 ChecksFile name told reader text = ChecksHeld told.limits (told.holds name) reader text
 
 -- whatever a source would have held

@@ -8,7 +8,7 @@ use Rattle.run_status.specs.declared.message_feed.feed_close.FeedClose.{FeedClos
 use Rattle.run_status.specs.declared.message_feed.feed_close.FeedClose.TheVariants as feed
 use Rattle.keri_roles.specs.declared.keri_roles.checker.Checker.{Checker}
 use Rattle.run_status.specs.declared.run_status.close.Close.{Close}
-use Rattle.run_status.specs.declared.run_status.close.Close.TheVariants.{End, Bad, ReadFault, Full}
+use Rattle.run_status.specs.declared.run_status.close.Close.TheVariants.{End, Bad, ReadFault, LimitReached}
 use Rattle.keri_roles.specs.KeriRoles.MessageLines.{AreLinesOf}
 use Rattle.keri_roles.specs.KeriRoles.Closes.{ending_text}
 
@@ -25,7 +25,7 @@ abbrev pub IsClose : FeedClose AllocError → Close → Type 0
 IsClose feed.End close = close ≡ End
 IsClose (feed.Bad bad) close = close ≡ Bad bad
 IsClose feed.ReadFault close = close ≡ ReadFault
-IsClose feed.Full close = close ≡ Full
+IsClose feed.Full close = close ≡ LimitReached
 IsClose feed.OutOfMemory close = ⊥
 IsClose (feed.Stopped stop) close = ⊥
 

@@ -23,9 +23,9 @@ use Rattle.run_status.specs.RunRecord.NoJournal.{no_journal}
 use Rattle.keri_roles.specs.KeriRoles.Rehearsed.{IsRehearsed}
 use Rattle.run_status.specs.RunStatus.Readers.{Reader}
 use Rattle.run_status.specs.RunRecord.Run.{HasNoLinks, Run, Settles}
-use Rattle.keri_roles.specs.CoreRoles.Work.{LinksTold, Work, work_in}
+use Rattle.keri_roles.specs.CoreRoles.Work.{LinksShown, Work, work_in}
 use Rattle.run_status.specs.RunStatus.Status.{nothing_besides}
-use Rattle.shelf_log.specs.KeriDisk.Images.{DiskTold}
+use Rattle.shelf_log.specs.KeriDisk.Images.{DiskShown}
 use Rattle.witness_core.specs.WitnessRole.Witnessed.{IsWitnessed}
 
 -- `gen --seed SEED --logs LOGS --events EVENTS`: a core that wants receipts and seals is told the stream that is made of the
@@ -65,7 +65,7 @@ pub record IsWritten (Does : Work → Type 0) (run : Run) : Type 0 where
   pub no_links : HasNoLinks run
 
 -- the same over links, with the door and the sinks of the links, which are handed back
-pub record IsLinked (Does : LinksTold → Work → Type 0) (run : Run) : Type 0 where
+pub record IsLinked (Does : LinksShown → Work → Type 0) (run : Run) : Type 0 where
   pub owed : Option (List ℕ)
   pub besides : Besides
   pub does : Does (record { door = run.door; sinks = run.sinks; failed = besides.door_failed }) (work_in run owed besides)
@@ -75,7 +75,7 @@ pub record IsLinked (Does : LinksTold → Work → Type 0) (run : Run) : Type 0 
 
 -- A row for each command, of which `convert`, `rehearse` and `witness` alone write as they read. `witness` alone has disks, which it hands
 -- back.
-abbrev pub CarriesOut : {D : Type 0} → (D → DiskTold) → Option D → Option D → Option Asked → Run → Type 0
+abbrev pub CarriesOut : {D : Type 0} → (D → DiskShown) → Option D → Option D → Option Asked → Run → Type 0
 CarriesOut told disk old None run = IsWritten RefusesWords run
 CarriesOut told disk old (Some (check name)) run = IsWritten (IsChecked name) run
 CarriesOut told disk old (Some (validate helper (named names))) run = IsWritten (IsValidated helper names) run
@@ -103,5 +103,5 @@ pub record IsUnbegun (run : Run) : Type 0 where
   pub status : run.status ≡ 10
 
 -- what a run of the program does
-abbrev pub IsRunOf : {D : Type 0} → (D → DiskTold) → Option D → Option D → Option Asked → Run → Type 0
+abbrev pub IsRunOf : {D : Type 0} → (D → DiskShown) → Option D → Option D → Option Asked → Run → Type 0
 IsRunOf told disk old asked run = CarriesOut told disk old asked run ⊎ IsUnbegun run

@@ -3,12 +3,12 @@ use Rattle.std.specs.Prelude.{◌≡◌, ℕ, List, [], ◌∷◌, false, if◌t
 use Rattle.std.specs.declared.option.Option.{Option}
 use Rattle.std.specs.declared.option.Option.TheVariants.{None}
 use Rattle.cesr_binary.specs.declared.domain.Domain.{Domain}
-use Rattle.keri_roles.specs.ItemConversion.Converts.{Converts, EndsTold, conversion}
+use Rattle.keri_roles.specs.ItemConversion.Converts.{Converts, EndsShown, conversion}
 use Rattle.keri_roles.specs.declared.item_conversion.conversion.Conversion.{Conversion}
 use Rattle.keri_outside.specs.declared.limits.Limits.{Limits}
 use Rattle.run_status.specs.declared.run_status.close.Close.{Close}
-use Rattle.run_status.specs.declared.run_status.close.Close.TheVariants.{End, Bad, ReadFault, VerifierFault, SignerFault, DiskFault, WriteFault, Malformed, Full, OutOfMemory}
-use Rattle.run_status.specs.RunStatus.Readers.{Reader, SourceTold, SinkTold}
+use Rattle.run_status.specs.declared.run_status.close.Close.TheVariants.{End, Bad, ReadFault, VerifierFault, SignerFault, DiskFault, WriteFault, Malformed, LimitReached, OutOfMemory}
+use Rattle.run_status.specs.RunStatus.Readers.{Reader, SourceShown, SinkShown}
 use Rattle.run_status.specs.RunStatus.Settling.{found}
 use Rattle.run_status.specs.RunStatus.Status.{nothing_besides, status_of}
 use Rattle.run_status.specs.RunRecord.NoJournal.{no_journal}
@@ -17,7 +17,7 @@ use Rattle.run_status.specs.RunRecord.Run.{HasNoLinks, Run}
 use Rattle.keri_roles.specs.CoreRoles.Work.{MakesSource}
 
 -- what a source and a sink tell
-abbrev pub ends_of : SourceTold → SinkTold → EndsTold
+abbrev pub ends_of : SourceShown → SinkShown → EndsShown
 ends_of source sink = record { source = source; sink = sink }
 
 -- there is no source, and nothing was put
@@ -44,7 +44,7 @@ unless_no_memory SignerFault status = status
 unless_no_memory DiskFault status = status
 unless_no_memory WriteFault status = status
 unless_no_memory (Malformed place) status = status
-unless_no_memory Full status = status
+unless_no_memory LimitReached status = status
 
 -- The status of `convert`. Where the sink failed that is told, however reading ended behind it.
 abbrev pub conversion_status : Conversion → List Reader → ℕ

@@ -8,7 +8,7 @@ use Rattle.lists.specs.KeriSpecs.Told.{HasNone}
 use Rattle.cesr_codes.specs.declared.key.Key.{Key}
 use Rattle.cesr_codes.specs.declared.sig.Sig.{Sig}
 use Rattle.keri_outside.specs.declared.signing.Signing.{Signing}
-use Rattle.run_status.specs.RunOutside.Told.{Told, making}
+use Rattle.run_status.specs.RunOutside.Shown.{OutsideShown, making}
 use Rattle.run_status.specs.declared.run_outside.making.Making.{Making}
 use Rattle.run_status.specs.declared.run_outside.making.MakingKind.TheVariants.{Source as SourceKind, Verifier as VerifierKind, Signer as SignerKind}
 use Rattle.journal.specs.declared.journal.body.Body.{Body}
@@ -23,8 +23,8 @@ use Rattle.keri_roles.specs.PlanAnswer.Asked.{LogTold}
 use Rattle.report_lines.specs.Lines.{plan_text}
 use Rattle.run_status.specs.declared.run_status.besides.Besides.{Besides}
 use Rattle.run_status.specs.declared.run_status.close.Close.{Close}
-use Rattle.run_status.specs.declared.run_status.close.Close.TheVariants.{End, ReadFault, Full, OutOfMemory}
-use Rattle.run_status.specs.RunStatus.Readers.{Reader, SourceTold}
+use Rattle.run_status.specs.declared.run_status.close.Close.TheVariants.{End, ReadFault, LimitReached, OutOfMemory}
+use Rattle.run_status.specs.RunStatus.Readers.{Reader, SourceShown}
 use Rattle.run_status.specs.RunStatus.Settling.{refuses}
 use Rattle.run_status.specs.RunStatus.Status.{nothing_besides}
 use Rattle.reader_hub.specs.ReaderThreads.Given.{Given}
@@ -34,7 +34,7 @@ use Rattle.keri_roles.specs.CoreRoles.Through.{is_through}
 use Rattle.keri_roles.specs.CoreRoles.CoreTold.{HasBoth, IsGiven, IsToldBy, core_of, fails_last, last_close}
 use Rattle.run_status.specs.RunRecord.NoJournal.{no_journal}
 use Rattle.run_status.specs.RunOutside.Makings.{AreMakings}
-use Rattle.run_status.specs.RunRecord.Run.{SignerTold, is_out}
+use Rattle.run_status.specs.RunRecord.Run.{SignerShown, is_out}
 use Rattle.keri_roles.specs.CoreRoles.Work.{Work}
 use Rattle.keri_roles.specs.declared.keri_roles.make.MakeWords.{MakeWords}
 
@@ -42,17 +42,17 @@ use Rattle.keri_roles.specs.declared.keri_roles.make.MakeWords.{MakeWords}
 abbrev pub close_of : TextClose → Close
 close_of text.End = End
 close_of text.ReadFault = ReadFault
-close_of text.Full = Full
+close_of text.Full = LimitReached
 close_of text.OutOfMemory = OutOfMemory
 
 -- the source, which had failed not yet and held this, gave the text, and reading closed by its cause
-pub record GaveText (most : ℕ) (held : Option (List ℕ)) (source : SourceTold) (bytes : List ℕ) (close : Close) : Type 0 where
+pub record GaveText (most : ℕ) (held : Option (List ℕ)) (source : SourceShown) (bytes : List ℕ) (close : Close) : Type 0 where
   pub closed : TextClose
   pub reads : ReadsText most held source.left 0 source.faults bytes closed
   pub closes : close ≡ close_of closed
 
 -- the source was read; or it couldn't be made
-abbrev pub WasRead : ℕ → Option (List ℕ) → Option SourceTold → List ℕ → Close → Type 0
+abbrev pub WasRead : ℕ → Option (List ℕ) → Option SourceShown → List ℕ → Close → Type 0
 WasRead most held None bytes close = (close ≡ ReadFault) × (bytes ≡ [])
 WasRead most held (Some source) bytes close = GaveText most held source bytes close
 
@@ -91,7 +91,7 @@ pub record MadeFrom : Type 0 where
   pub text : List ℕ
 
 -- the answer is owed, of a signer that hadn't been asked or failed yet
-pub record OwesAnswer (given : MadeFrom) (signer : SignerTold) (owed : Option (List ℕ)) (besides : Besides) : Type 0 where
+pub record OwesAnswer (given : MadeFrom) (signer : SignerShown) (owed : Option (List ℕ)) (besides : Besides) : Type 0 where
   pub answer : PlanAnswer
   pub before : Option (List Signing)
   pub none_before : HasNone before
@@ -101,7 +101,7 @@ pub record OwesAnswer (given : MadeFrom) (signer : SignerTold) (owed : Option (L
   pub found : besides ≡ found_in answer
 
 -- There was no memory for the answer, or for its text. No more was signed than the message would have.
-pub record OwesNone (given : MadeFrom) (signer : SignerTold) (owed : Option (List ℕ)) (besides : Besides) : Type 0 where
+pub record OwesNone (given : MadeFrom) (signer : SignerShown) (owed : Option (List ℕ)) (besides : Besides) : Type 0 where
   pub before : Option (List Signing)
   pub none_before : HasNone before
   pub few : SignsNoMore (signer_asked given.gives before signer.signings) given.log given.text
@@ -109,19 +109,19 @@ pub record OwesNone (given : MadeFrom) (signer : SignerTold) (owed : Option (Lis
   pub found : besides ≡ nothing_besides
 
 -- this is owed, it is found whether the signer couldn't be made, and one that could wasn't asked and hasn't failed
-abbrev pub IsUnanswered : Option (List ℕ) → Option SignerTold → Option (List ℕ) → Besides → Type 0
+abbrev pub IsUnanswered : Option (List ℕ) → Option SignerShown → Option (List ℕ) → Besides → Type 0
 IsUnanswered text signer owed besides = (owed ≡ text) × (besides ≡ record nothing_besides { signer_failed = is_none signer })
     × IfSome signer (λ s. HasNone s.signings × (s.faults ≡ 0))
 
 -- There is an answer where each reader came to the end and there is a signer. Else nothing is written.
-abbrev pub IsDueBy : MadeFrom → (out through : Bool) → Option SignerTold → Option (List ℕ) → Besides → Type 0
+abbrev pub IsDueBy : MadeFrom → (out through : Bool) → Option SignerShown → Option (List ℕ) → Besides → Type 0
 IsDueBy given true through signer owed besides = IsUnanswered None signer owed besides
 IsDueBy given false false signer owed besides = IsUnanswered (Some []) signer owed besides
 IsDueBy given false true None owed besides = IsUnanswered (Some []) None owed besides
 IsDueBy given false true (Some signer) owed besides = OwesAnswer given signer owed besides ⊎ OwesNone given signer owed besides
 
 -- what is owed where the readers closed so
-abbrev pub IsDue : MadeFrom → List Close → Option SignerTold → Option (List ℕ) → Besides → Type 0
+abbrev pub IsDue : MadeFrom → List Close → Option SignerShown → Option (List ℕ) → Besides → Type 0
 IsDue given closes signer owed besides = IsDueBy given (list_any is_out closes) (list_all is_through closes) signer owed besides
 
 -- what a message is made from without a log
@@ -137,7 +137,7 @@ given_behind helper text reader held work = record {
 }
 
 -- the makings without a log: the plan's source and the signer
-abbrev pub MakesAlone : {S G : Type 0} → List ℕ → List ℕ → Option S → Option G → Told → Told → Type 0
+abbrev pub MakesAlone : {S G : Type 0} → List ℕ → List ℕ → Option S → Option G → OutsideShown → OutsideShown → Type 0
 MakesAlone plan helper source signer before after =
     AreMakings (making SourceKind plan (is_none source) ∷ making SignerKind helper (is_none signer) ∷ []) before after
 
@@ -146,7 +146,7 @@ abbrev pub makings_behind : {S T V G : Type 0} → List ℕ → List ℕ → Lis
 makings_behind plan log helper source log_source verifier signer = making SourceKind plan (is_none source)
     ∷ making SourceKind log (is_none log_source) ∷ making VerifierKind helper (is_none verifier) ∷ making SignerKind helper (is_none signer) ∷ []
 
-abbrev pub MakesBehind : {S V G : Type 0} → List ℕ → List ℕ → List ℕ → Option S → Providers S V → Option G → Told → Told → Type 0
+abbrev pub MakesBehind : {S V G : Type 0} → List ℕ → List ℕ → List ℕ → Option S → Providers S V → Option G → OutsideShown → OutsideShown → Type 0
 MakesBehind plan log helper source provided signer before after =
     AreMakings (makings_behind plan log helper source provided.source provided.verifier signer) before after
 

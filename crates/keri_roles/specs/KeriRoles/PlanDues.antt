@@ -9,7 +9,7 @@ use Rattle.keri_roles.specs.declared.plan_answer.read_log.ReadLog.{ReadLog}
 use Rattle.keri_roles.specs.PlanAnswer.Asked.{log_told}
 use Rattle.run_status.specs.declared.run_status.close.Close.{Close}
 use Rattle.keri_roles.specs.KeriRoles.Made.{MadeFrom, IsDue, OwesAnswer, OwesNone, found_in, written}
-use Rattle.run_status.specs.RunRecord.Run.{SignerTold}
+use Rattle.run_status.specs.RunRecord.Run.{SignerShown}
 use Rattle.keri_roles.specs.declared.keri_roles.message_due.MessageDue.{MessageDue}
 
 -- what a message is made from, by the log that was read
@@ -21,12 +21,12 @@ abbrev pub owed_by : MessageDue → Option (List ℕ)
 owed_by due = option_map (λ text. text.items) due.owed
 
 -- the signer, which told the first before, was asked: there is an answer, or there was no memory
-abbrev pub IsAnswered : SignerTold → SignerTold → Option ReadLog → List ℕ → MessageDue → Type 0
+abbrev pub IsAnswered : SignerShown → SignerShown → Option ReadLog → List ℕ → MessageDue → Type 0
 IsAnswered before now log plan due =
     OwesAnswer (made_from before.gives log plan) now (owed_by due) due.besides ⊎ OwesNone (made_from before.gives log plan) now (owed_by due) due.besides
 
 -- what is due where the readers closed so, by what the signer gives, where there is one
-abbrev pub IsDueTo : {G : Type 0} → (G → Key → List ℕ → Option Sig) → Option G → Option SignerTold → Option ReadLog → List ℕ → List Close → MessageDue → Type 0
+abbrev pub IsDueTo : {G : Type 0} → (G → Key → List ℕ → Option Sig) → Option G → Option SignerShown → Option ReadLog → List ℕ → List Close → MessageDue → Type 0
 IsDueTo gives signer now log plan closes due = (given : Key → List ℕ → Option Sig) → IfSome signer (λ s. gives s ≡ given)
     → IsDue (made_from given log plan) closes now (owed_by due) due.besides
 

@@ -5,7 +5,7 @@ use Rattle.journal.specs.declared.journal.body.Body.{Body}
 use Rattle.journal.specs.declared.journal.mode.Mode.TheVariants.{Full}
 use Rattle.report_lines.specs.Lines.{stream_text}
 use Rattle.run_status.specs.declared.run_status.close.Close.{Close}
-use Rattle.run_status.specs.declared.run_status.close.Close.TheVariants.{End, Bad, ReadFault, VerifierFault, SignerFault, DiskFault, WriteFault, Malformed, Full as FullClose, OutOfMemory}
+use Rattle.run_status.specs.declared.run_status.close.Close.TheVariants.{End, Bad, ReadFault, VerifierFault, SignerFault, DiskFault, WriteFault, Malformed, LimitReached as FullClose, OutOfMemory}
 use Rattle.run_status.specs.RunStatus.Readers.{Reader}
 use Rattle.validator_core.specs.ValidatorCore.View.{CoreView}
 use Rattle.reader_hub.specs.declared.reader_threads.last_round.LastRound.{LastRound}

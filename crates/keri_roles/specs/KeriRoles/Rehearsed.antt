@@ -2,16 +2,16 @@
 use Rattle.std.specs.Prelude.{◌≡◌, ℕ, List, [], ◌∷◌, codes, option_map}
 use Rattle.std.specs.declared.option.Option.{Option}
 use Rattle.std.specs.declared.option.Option.TheVariants.{None, Some}
-use Rattle.keri_roles.specs.ItemConversion.Converts.{EndsTold, ends_told}
+use Rattle.keri_roles.specs.ItemConversion.Converts.{EndsShown, ends_shown}
 use Rattle.keri_outside.specs.declared.limits.Limits.{Limits}
-use Rattle.run_status.specs.RunOutside.Told.{Told}
+use Rattle.run_status.specs.RunOutside.Shown.{OutsideShown}
 use Rattle.verifier_link.specs.declared.served.Served.{Served}
-use Rattle.verifier_link.specs.declared.served.Served.TheVariants.{End, Malformed, ReadFault, WriteFault, Full, OutOfMemory}
-use Rattle.verifier_link.specs.Serving.{IsServed, SidesTold, sides_told}
-use Rattle.verifier_link.specs.Sides.{sink_told, source_told}
+use Rattle.verifier_link.specs.declared.served.Served.TheVariants.{End, Malformed, ReadFault, WriteFault, LimitReached, OutOfMemory}
+use Rattle.verifier_link.specs.Serving.{IsServed, SidesShown, sides_shown}
+use Rattle.verifier_link.specs.Sides.{sink_shown, source_shown}
 use Rattle.run_status.specs.declared.run_status.close.Close.{Close}
-use Rattle.run_status.specs.declared.run_status.close.Close.TheVariants.{End as EndClose, Malformed as MalformedClose, ReadFault as ReadFaultClose, WriteFault as WriteFaultClose, Full as FullClose, OutOfMemory as OutOfMemoryClose}
-use Rattle.run_status.specs.RunStatus.Readers.{Reader, SourceTold, SinkTold, sink_seen}
+use Rattle.run_status.specs.declared.run_status.close.Close.TheVariants.{End as EndClose, Malformed as MalformedClose, ReadFault as ReadFaultClose, WriteFault as WriteFaultClose, LimitReached as FullClose, OutOfMemory as OutOfMemoryClose}
+use Rattle.run_status.specs.RunStatus.Readers.{Reader, SourceShown, SinkShown, sink_seen}
 use Rattle.run_status.specs.RunRecord.NoJournal.{no_journal}
 use Rattle.run_status.specs.RunRecord.Run.{HasNoLinks, Run}
 use Rattle.keri_roles.specs.CoreRoles.Work.{MakesSource}
@@ -22,7 +22,7 @@ serving_close End = EndClose
 serving_close (Malformed place) = MalformedClose place
 serving_close ReadFault = ReadFaultClose
 serving_close WriteFault = WriteFaultClose
-serving_close Full = FullClose
+serving_close LimitReached = FullClose
 serving_close OutOfMemory = OutOfMemoryClose
 
 -- the status of `rehearse`, by how the serving ended
@@ -31,25 +31,25 @@ serving_status End = 0
 serving_status (Malformed place) = 3
 serving_status ReadFault = 5
 serving_status WriteFault = 6
-serving_status Full = 9
+serving_status LimitReached = 9
 serving_status OutOfMemory = 10
 
 -- what a source and a sink tell, as a link's sides
-abbrev pub sides_of : SourceTold → SinkTold → SidesTold
-sides_of source sink = sides_told (record { left = source.left; faults = source.faults }) (record { written = sink.written; faults = sink.faults })
+abbrev pub sides_of : SourceShown → SinkShown → SidesShown
+sides_of source sink = sides_shown (record { left = source.left; faults = source.faults }) (record { written = sink.written; faults = sink.faults })
 
 -- Questions were read of the source, which had failed not yet and held this, and the rehearsal's answers were written. Where
 -- there is no source, nothing was.
-abbrev pub Serves : ℕ → Option (List ℕ) → Option SourceTold → SinkTold → SinkTold → Served → Type 0
+abbrev pub Serves : ℕ → Option (List ℕ) → Option SourceShown → SinkShown → SinkShown → Served → Type 0
 Serves most held None old new served = (served ≡ ReadFault) × (new ≡ old)
 Serves most held (Some source) old new served = IsServed most (sides_of (record { left = held; faults = 0 }) old) (sides_of source new) served
 
 -- what is seen of a command that writes as it reads: the outside before it, the source, where there is one, and the sink before and after it
 pub record Serving : Type 0 where
-  pub before : Told
-  pub source : Option SourceTold
-  pub sink_before : SinkTold
-  pub sink_after : SinkTold
+  pub before : OutsideShown
+  pub source : Option SourceShown
+  pub sink_before : SinkShown
+  pub sink_after : SinkShown
 
 -- standard input was served
 abbrev pub ServesInput : Limits → Serving → Served → Type 0
@@ -57,13 +57,13 @@ ServesInput limits serving served =
     Serves limits.stream_bytes (serving.before.holds (codes "-")) serving.source serving.sink_before serving.sink_after served
 
 module _ {O S K : Type 0} (left : S → Option (List ℕ)) (faults : S → ℕ) (written : K → Option (List ℕ)) (sink_faults : K → ℕ) (sink : O → K) where
-  abbrev pub sides_over : S → O → SidesTold
-  sides_over source outside = sides_told (source_told left faults source) (sink_told written sink_faults (sink outside))
+  abbrev pub sides_over : S → O → SidesShown
+  sides_over source outside = sides_shown (source_shown left faults source) (sink_shown written sink_faults (sink outside))
 
-  abbrev pub ends_over : S → O → EndsTold
-  ends_over source outside = ends_told left faults written sink_faults source (sink outside)
+  abbrev pub ends_over : S → O → EndsShown
+  ends_over source outside = ends_shown left faults written sink_faults source (sink outside)
 
-  abbrev pub serving_over : (O → Told) → O → O → Option S → Serving
+  abbrev pub serving_over : (O → OutsideShown) → O → O → Option S → Serving
   serving_over told old new source = record {
     before = told old;
     source = option_map (λ s. record { left = left s; faults = faults s }) source;

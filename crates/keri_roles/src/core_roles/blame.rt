@@ -55,7 +55,7 @@ pub fn blame_files<R: Threads + Wait + Sync, O: Outside>(
     requires room { 1 < vec_capacity room }
     ensures blamed { IfOk result (λ rival. IsBlamedBy words.entry (Some rival.second)
         (⟦<O as Works>⟧.work outside.old outside.new rival.outcome)) }
-    ensures none_made { OnErr result (O.told outside.new ≡ O.told outside.old) }
+    ensures none_made { OnErr result (O.shown outside.new ≡ O.shown outside.old) }
     ensures sink { O.sink outside.new ≡ O.sink outside.old }
 {
     let limits = outside.limits();
@@ -111,7 +111,7 @@ fn provide_both<O: Outside>(
 ) -> BothProviders<O::Source, O::Verifier>
     ensures provided { AreProvided words.entry.helper.now (words.entry.first.now ∷ words.entry.second.now ∷ [])
         (⟦<O as Works>⟧.given result.first ∷ ⟦<O as Works>⟧.given result.second ∷ [])
-        (O.told outside.old) (O.told outside.new) }
+        (O.shown outside.old) (O.shown outside.new) }
     ensures sink { O.sink outside.new ≡ O.sink outside.old }
 {
     let first = provide(words.first, words.helper, outside);

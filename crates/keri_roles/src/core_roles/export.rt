@@ -78,7 +78,7 @@ pub fn export_files<R: Threads + Wait + Sync, O: Outside>(
     requires few { length words.names.now ≤ 65535 }
     ensures exported { IfOk result (λ outcome. IsExported words.entry.helper.now prefix
         (map (λ name. name.now) words.entry.names.now) (⟦<O as Works>⟧.work outside.old outside.new outcome)) }
-    ensures none_made { OnErr result (O.told outside.new ≡ O.told outside.old) }
+    ensures none_made { OnErr result (O.shown outside.new ≡ O.shown outside.old) }
     ensures sink { O.sink outside.new ≡ O.sink outside.old }
 {
     over_core(rt, alloc, Mode::Full, &Export { prefix }, words, outside)

@@ -40,7 +40,7 @@ pub(crate) fn over_core<R: Threads + Wait + Sync, O: Outside, T: CoreText>(
     ensures done { IfOk result (λ outcome. IsOverCore mode (T.is_text text.now) T.finds
         (AreProvided words.entry.helper.now (map (λ name. name.now) words.entry.names.now)) false
         (⟦<O as Works>⟧.work outside.old outside.new outcome)) }
-    ensures none_made { OnErr result (O.told outside.new ≡ O.told outside.old) }
+    ensures none_made { OnErr result (O.shown outside.new ≡ O.shown outside.old) }
     ensures sink { O.sink outside.new ≡ O.sink outside.old }
 {
     let FileWords { helper, names } = words;

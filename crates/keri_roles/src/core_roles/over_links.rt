@@ -2,13 +2,13 @@
 ghost use Rattle.std.specs.Prelude.{◌≡◌, ◌≤◌, ◌∷◌, [], None, Some, IfOk, IfSome, OnErr, is_none, length, map};
 ghost use Rattle.lists.specs.KeriSpecs.Told.{HasNone};
 ghost use Rattle.run_status.specs.RunOutside.Makings.{AreMakings};
-ghost use Rattle.run_status.specs.RunOutside.Told.{making};
+ghost use Rattle.run_status.specs.RunOutside.Shown.{making};
 ghost use Rattle.run_status.specs.declared.run_outside.making.MakingKind.TheVariants.{Verifier as VerifierKind};
 ghost use Rattle.run_status.specs.RunStatus.Readers.{source_seen};
 ghost use Rattle.run_status.specs.RunStatus.Status.{nothing_besides};
 ghost use Rattle.run_status.specs.RunRecord.NoJournal.{no_journal};
 ghost use Rattle.std.specs.Vec.{vec_capacity};
-ghost use Rattle.keri_roles.specs.CoreRoles.LinksTold.{IsOverLinks, ProvidesLinks, TakesLinks};
+ghost use Rattle.keri_roles.specs.CoreRoles.LinksShown.{IsOverLinks, ProvidesLinks, TakesLinks};
 ghost use Rattle.run_status.specs.RunRecord.Seen.{door_seen, sinks_seen};
 
 use crate::core_roles::core_text::CoreText;
@@ -54,7 +54,7 @@ pub(crate) fn over_links<R: Threads + Wait + Sync, O: Outside, T: CoreText>(
     ensures done { IfOk result (λ linked. IsOverLinks mode (T.is_text text.now) T.finds
         words.entry.helper.now words.entry.address.now words.entry.count
         (⟦<O as Works>⟧.links linked) (⟦<O as Works>⟧.work outside.old outside.new linked.outcome)) }
-    ensures none_made { OnErr result (O.told outside.new ≡ O.told outside.old) }
+    ensures none_made { OnErr result (O.shown outside.new ≡ O.shown outside.old) }
     ensures sink { O.sink outside.new ≡ O.sink outside.old }
 {
     let LinkWords {
@@ -109,7 +109,7 @@ fn take_at<O: Outside>(
           sinks = sinks_seen O.Door.Sink.written O.Door.Sink.faults result.taken.sinks.items;
           failed = result.taken.failed;
         })
-        (O.told outside.old) (O.told outside.new) }
+        (O.shown outside.old) (O.shown outside.new) }
     ensures few { length result.taken.sources.items ≤ count }
     ensures sink { O.sink outside.new ≡ O.sink outside.old }
 {
@@ -140,7 +140,7 @@ fn provide_links<O: Outside>(
     ensures provided { ProvidesLinks helper.now
         (map (source_seen O.Source.left O.Source.faults O.Verifier.says O.Verifier.inquiries O.Verifier.faults)
         sources.items)
-        (map ⟦<O as Works>⟧.given result.items) (O.told outside.old) (O.told outside.new) }
+        (map ⟦<O as Works>⟧.given result.items) (O.shown outside.old) (O.shown outside.new) }
     ensures count { length result.items ≡ length sources.items }
     ensures sink { O.sink outside.new ≡ O.sink outside.old }
 {
@@ -160,12 +160,12 @@ fn provide_link<O: Outside>(
 ) -> Providers<O::Source, O::Verifier>
     ensures source { result.source ≡ Some source }
     ensures makes { AreMakings (making VerifierKind helper.now (is_none result.verifier) ∷ [])
-        (O.told outside.old) (O.told outside.new) }
+        (O.shown outside.old) (O.shown outside.new) }
     ensures says { IfSome result.verifier (λ verifier.
-        O.Verifier.says verifier ≡ (O.told outside.old).says helper.now) }
+        O.Verifier.says verifier ≡ (O.shown outside.old).says helper.now) }
     ensures unasked { IfSome result.verifier (λ verifier. HasNone (O.Verifier.inquiries verifier)) }
     ensures unfailed { IfSome result.verifier (λ verifier. O.Verifier.faults verifier ≡ 0) }
-    ensures same { (O.told outside.new).says ≡ (O.told outside.old).says }
+    ensures same { (O.shown outside.new).says ≡ (O.shown outside.old).says }
     ensures sink { O.sink outside.new ≡ O.sink outside.old }
 {
     let verifier = outside.verifier(helper).ok();

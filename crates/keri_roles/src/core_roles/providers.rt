@@ -19,7 +19,7 @@ pub(crate) fn providers_for<O: Outside>(
     requires none_yet { room.items ≡ [] }
     requires room { length names.now ≤ vec_capacity room }
     ensures provided { AreProvided helper.now (map (λ name. name.now) names.now)
-        (map ⟦<O as Works>⟧.given result.items) (O.told outside.old) (O.told outside.new) }
+        (map ⟦<O as Works>⟧.given result.items) (O.shown outside.old) (O.shown outside.new) }
     ensures count { length result.items ≡ length names.now }
     ensures sink { O.sink outside.new ≡ O.sink outside.old }
 {
@@ -38,15 +38,15 @@ pub(crate) fn provide<O: Outside>(
     outside: &mut O,
 ) -> Providers<O::Source, O::Verifier>
     ensures makes { MakesProviders name.now helper.now result.source result.verifier
-        (O.told outside.old) (O.told outside.new) }
+        (O.shown outside.old) (O.shown outside.new) }
     ensures holds { IfSome result.source (λ source.
-        O.Source.left source ≡ (O.told outside.old).holds name.now) }
+        O.Source.left source ≡ (O.shown outside.old).holds name.now) }
     ensures unread { IfSome result.source (λ source. O.Source.faults source ≡ 0) }
     ensures says { IfSome result.verifier (λ verifier.
-        O.Verifier.says verifier ≡ (O.told outside.old).says helper.now) }
+        O.Verifier.says verifier ≡ (O.shown outside.old).says helper.now) }
     ensures unasked { IfSome result.verifier (λ verifier. HasNone (O.Verifier.inquiries verifier)) }
     ensures unfailed { IfSome result.verifier (λ verifier. O.Verifier.faults verifier ≡ 0) }
-    ensures names { SameNames (O.told outside.old) (O.told outside.new) }
+    ensures names { SameNames (O.shown outside.old) (O.shown outside.new) }
     ensures sink { O.sink outside.new ≡ O.sink outside.old }
 {
     let source = outside.source(name).ok();

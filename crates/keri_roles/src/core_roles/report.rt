@@ -118,7 +118,7 @@ fn stopped_text(alloc: Global, number: u16, close: Close) -> Result<String, Allo
     match close {
         Close::ReadFault => read_fault_line(alloc, number),
         Close::VerifierFault => verifier_fault_line(alloc, number),
-        Close::Full => full_line(alloc, number),
+        Close::LimitReached => full_line(alloc, number),
         Close::OutOfMemory => Err(AllocError),
         Close::End
         | Close::Bad(_)

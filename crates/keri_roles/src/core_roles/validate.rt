@@ -63,7 +63,7 @@ pub fn validate_files<R: Threads + Wait + Sync, O: Outside>(
     requires few { length words.names.now ≤ 65535 }
     ensures validated { IfOk result (λ outcome. IsValidated words.entry.helper.now (map (λ name. name.now) words.entry.names.now)
         (⟦<O as Works>⟧.work outside.old outside.new outcome)) }
-    ensures none_made { OnErr result (O.told outside.new ≡ O.told outside.old) }
+    ensures none_made { OnErr result (O.shown outside.new ≡ O.shown outside.old) }
     ensures sink { O.sink outside.new ≡ O.sink outside.old }
 {
     over_core(rt, alloc, Mode::Full, &Report, words, outside)
@@ -79,7 +79,7 @@ pub fn validate_links<R: Threads + Wait + Sync, O: Outside>(
     requires few { words.count ≤ 64 }
     ensures validated { IfOk result (λ linked. AreLinksValidated words.entry.helper.now words.entry.address.now
         words.entry.count (⟦<O as Works>⟧.links linked) (⟦<O as Works>⟧.work outside.old outside.new linked.outcome)) }
-    ensures none_made { OnErr result (O.told outside.new ≡ O.told outside.old) }
+    ensures none_made { OnErr result (O.shown outside.new ≡ O.shown outside.old) }
     ensures sink { O.sink outside.new ≡ O.sink outside.old }
 {
     over_links(rt, alloc, Mode::Full, &Report, words, outside)

@@ -71,7 +71,7 @@ pub fn watch_files<R: Threads + Wait + Sync, O: Outside>(
     requires few { length words.names.now ≤ 65535 }
     ensures watched { IfOk result (λ outcome. IsWatched words.entry.helper.now (map (λ name. name.now) words.entry.names.now)
         (⟦<O as Works>⟧.work outside.old outside.new outcome)) }
-    ensures none_made { OnErr result (O.told outside.new ≡ O.told outside.old) }
+    ensures none_made { OnErr result (O.shown outside.new ≡ O.shown outside.old) }
     ensures sink { O.sink outside.new ≡ O.sink outside.old }
 {
     over_core(rt, alloc, Mode::Local, &Evidence, words, outside)
@@ -87,7 +87,7 @@ pub fn watch_links<R: Threads + Wait + Sync, O: Outside>(
     requires few { words.count ≤ 64 }
     ensures watched { IfOk result (λ linked. AreLinksWatched words.entry.helper.now words.entry.address.now
         words.entry.count (⟦<O as Works>⟧.links linked) (⟦<O as Works>⟧.work outside.old outside.new linked.outcome)) }
-    ensures none_made { OnErr result (O.told outside.new ≡ O.told outside.old) }
+    ensures none_made { OnErr result (O.shown outside.new ≡ O.shown outside.old) }
     ensures sink { O.sink outside.new ≡ O.sink outside.old }
 {
     over_links(rt, alloc, Mode::Local, &Evidence, words, outside)

@@ -2,7 +2,7 @@
 ghost use Rattle.std.specs.Prelude.{◌≡◌, [], false};
 ghost use Rattle.run_status.specs.RunStatus.Readers.{sink_seen};
 ghost use Rattle.keri_roles.specs.ItemConversion.Progress.{IsIdle, HasPut, progress_of};
-ghost use Rattle.keri_roles.specs.ItemConversion.Converts.{Converts, ConvertsWithin, bounds, conversion, ends_told};
+ghost use Rattle.keri_roles.specs.ItemConversion.Converts.{Converts, ConvertsWithin, bounds, conversion, ends_shown};
 
 use crate::item_conversion::Conversion;
 use crate::item_conversion::converter::Converter;
@@ -21,8 +21,8 @@ pub fn convert_items<S: Source, K: Sink>(
     domain: Domain,
 ) -> Conversion
     ensures { Converts limits domain
-        (ends_told S.left S.faults K.written K.faults source.old sink.old)
-        (ends_told S.left S.faults K.written K.faults source.new sink.new) result }
+        (ends_shown S.left S.faults K.written K.faults source.old sink.old)
+        (ends_shown S.left S.faults K.written K.faults source.new sink.new) result }
 {
     let mut converter = Converter {
         reader: MixedReader::new(alloc, limits),
@@ -47,8 +47,8 @@ fn read_pieces<S: Source, K: Sink>(
     requires none_put { HasPut (sink_seen K.written K.faults sink.old) []
         (progress_of K.written K.faults converter.old sink.old) }
     ensures { ConvertsWithin (bounds converter.old.reader.limit most) converter.old.domain
-        (ends_told S.left S.faults K.written K.faults source.old sink.old)
-        (ends_told S.left S.faults K.written K.faults source.new sink.new)
+        (ends_shown S.left S.faults K.written K.faults source.old sink.old)
+        (ends_shown S.left S.faults K.written K.faults source.new sink.new)
         (conversion result converter.new.sink_failed) }
 {
     let mut room = most;

@@ -1,6 +1,6 @@
 //! Items between a source and a sink.
 ghost use Rattle.std.specs.Prelude.{◌≡◌, ◌+◌, ◌<◌, ◌^◌, ◌++◌, List, ℕ, None, IfOk, IfErr, length};
-ghost use Rattle.run_status.specs.RunStatus.Readers.{SinkTold, sink_seen};
+ghost use Rattle.run_status.specs.RunStatus.Readers.{SinkShown, sink_seen};
 ghost use Rattle.run_status.specs.RunStatus.Settling.{Puts};
 ghost use Rattle.cesr_stream.specs.Written.{IsWritable};
 ghost use Rattle.cesr_binary.specs.Wire.{item_in};
@@ -76,7 +76,7 @@ impl Converter {
     // Writes an item, unless the sink has failed before.
     fn write<K: Sink>(&mut self, item: &Item, sink: &mut K)
         requires { IsWritable item.now }
-        ensures puts { (first : SinkTold) (text : List ℕ)
+        ensures puts { (first : SinkShown) (text : List ℕ)
             → Puts text self.old.sink_failed first (sink_seen K.written K.faults sink.old)
             → Puts (text ++ item_in self.old.domain item.now) self.new.sink_failed first
             (sink_seen K.written K.faults sink.new) }
@@ -110,7 +110,7 @@ impl Converter {
         let mut piece = [0u8; 1];
         match source.read(&mut piece) {
             Ok(0) => self.close_end(),
-            Ok(_) => Close::Full,
+            Ok(_) => Close::LimitReached,
             Err(Failed) => Close::ReadFault,
         }
     }

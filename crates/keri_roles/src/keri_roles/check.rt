@@ -55,8 +55,8 @@ fn check_file<O: Outside>(
     name: &str,
     outside: &mut O,
 ) -> (ReaderEnd<O::Source, O::Verifier>, String)
-    ensures makes { MakesSource name.now result.0.source (O.told outside.old) (O.told outside.new) }
-    ensures checks { ChecksFile name.now (O.told outside.old)
+    ensures makes { MakesSource name.now result.0.source (O.shown outside.old) (O.shown outside.new) }
+    ensures checks { ChecksFile name.now (O.shown outside.old)
         (⟦<O as Works>⟧.reader result.0) (string_bytes result.1) }
     ensures no_verifier { result.0.verifier ≡ None }
     ensures none_seen { result.0.seen ≡ [] }

@@ -70,7 +70,7 @@ impl Checker {
             FeedClose::End => Close::End,
             FeedClose::Bad(bad) => Close::Bad(bad),
             FeedClose::ReadFault => Close::ReadFault,
-            FeedClose::Full => Close::Full,
+            FeedClose::LimitReached => Close::LimitReached,
             FeedClose::OutOfMemory | FeedClose::Stopped(AllocError) => return Err(AllocError),
         };
         if let Some(message) = last {
@@ -104,7 +104,7 @@ fn end_line(alloc: Global, close: Close) -> Result<String, AllocError>
     match close {
         Close::Bad(bad) => malformed_line(alloc, 0, bad),
         Close::ReadFault => read_fault_line(alloc, 0),
-        Close::Full => full_line(alloc, 0),
+        Close::LimitReached => full_line(alloc, 0),
         Close::End
         | Close::VerifierFault
         | Close::SignerFault

@@ -65,7 +65,7 @@ fn convert_file<O: Outside>(
     limits: Limits,
     outside: &mut O,
 ) -> (Option<O::Source>, Conversion)
-    ensures makes { MakesSource name.now result.0 (O.told outside.old) (O.told outside.new) }
+    ensures makes { MakesSource name.now result.0 (O.shown outside.old) (O.shown outside.new) }
     ensures converts { ConvertsFile limits domain name.now
         (⟦<O as Serves>⟧.serving outside.old outside.new result.0) result.1 }
 {
@@ -95,7 +95,7 @@ fn convert_stream<O: Outside>(
 ) -> Conversion
     ensures converts { Converts limits domain (⟦<O as Serves>⟧.ends source.old outside.old)
         (⟦<O as Serves>⟧.ends source.new outside.new) result }
-    ensures told { O.told outside.new ≡ O.told outside.old }
+    ensures told { O.shown outside.new ≡ O.shown outside.old }
 {
     convert_items(alloc, source, outside.out(), limits, domain)
 }
@@ -122,6 +122,6 @@ fn conversion_status<O: Outside>(
         | Close::DiskFault
         | Close::WriteFault
         | Close::Malformed(_)
-        | Close::Full => status_by::<O>(Besides::nothing(), readers),
+        | Close::LimitReached => status_by::<O>(Besides::nothing(), readers),
     }
 }

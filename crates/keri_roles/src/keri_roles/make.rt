@@ -37,7 +37,7 @@ pub(crate) fn make<R: Threads + Wait + Sync, O: Outside>(
     requires none_yet { readers.items ≡ [] }
     requires room { 1 < vec_capacity readers }
     ensures made { IfOk result (λ outcome. IsMadeBy words.entry (⟦<O as Works>⟧.signed outside.old outside.new outcome)) }
-    ensures none_made { OnErr result (O.told outside.new ≡ O.told outside.old) }
+    ensures none_made { OnErr result (O.shown outside.new ≡ O.shown outside.old) }
     ensures sink { O.sink outside.new ≡ O.sink outside.old }
 {
     match words.log {
@@ -95,7 +95,7 @@ fn made_behind<R: Threads + Wait + Sync, O: Outside>(
     requires room { 1 < vec_capacity readers }
     ensures made { IfOk result (λ outcome. IsMadeBehind helper.now plan.now log.now
         (⟦<O as Works>⟧.signed outside.old outside.new outcome)) }
-    ensures none_made { OnErr result (O.told outside.new ≡ O.told outside.old) }
+    ensures none_made { OnErr result (O.shown outside.new ≡ O.shown outside.old) }
     ensures sink { O.sink outside.new ≡ O.sink outside.old }
 {
     let mut readers = readers;

@@ -20,12 +20,12 @@ pub(crate) fn make_alone<O: Outside>(
     outside: &mut O,
 ) -> MakeParts<O::Source, O::Signer>
     ensures makes { MakesAlone plan.now helper.now result.plan result.signer
-        (O.told outside.old) (O.told outside.new) }
+        (O.shown outside.old) (O.shown outside.new) }
     ensures holds { IfSome result.plan (λ source.
-        O.Source.left source ≡ (O.told outside.old).holds plan.now) }
+        O.Source.left source ≡ (O.shown outside.old).holds plan.now) }
     ensures unread { IfSome result.plan (λ source. O.Source.faults source ≡ 0) }
     ensures signs { IfSome result.signer (λ signer.
-        O.Signer.gives signer ≡ (O.told outside.old).gives helper.now) }
+        O.Signer.gives signer ≡ (O.shown outside.old).gives helper.now) }
     ensures unasked { IfSome result.signer (λ signer. HasNone (O.Signer.signings signer)) }
     ensures unfailed { IfSome result.signer (λ signer. O.Signer.faults signer ≡ 0) }
     ensures sink { O.sink outside.new ≡ O.sink outside.old }
@@ -51,19 +51,19 @@ pub(crate) fn make_behind<O: Outside>(
     outside: &mut O,
 ) -> MakeBehindParts<O::Source, O::Verifier, O::Signer>
     ensures makes { MakesBehind plan.now log.now helper.now result.plan result.log result.signer
-        (O.told outside.old) (O.told outside.new) }
+        (O.shown outside.old) (O.shown outside.new) }
     ensures holds { IfSome result.plan (λ source.
-        O.Source.left source ≡ (O.told outside.old).holds plan.now) }
+        O.Source.left source ≡ (O.shown outside.old).holds plan.now) }
     ensures unread { IfSome result.plan (λ source. O.Source.faults source ≡ 0) }
     ensures log_holds { IfSome result.log.source (λ source.
-        O.Source.left source ≡ (O.told outside.old).holds log.now) }
+        O.Source.left source ≡ (O.shown outside.old).holds log.now) }
     ensures log_unread { IfSome result.log.source (λ source. O.Source.faults source ≡ 0) }
     ensures says { IfSome result.log.verifier (λ verifier.
-        O.Verifier.says verifier ≡ (O.told outside.old).says helper.now) }
+        O.Verifier.says verifier ≡ (O.shown outside.old).says helper.now) }
     ensures unheard { IfSome result.log.verifier (λ verifier. HasNone (O.Verifier.inquiries verifier)) }
     ensures log_unfailed { IfSome result.log.verifier (λ verifier. O.Verifier.faults verifier ≡ 0) }
     ensures signs { IfSome result.signer (λ signer.
-        O.Signer.gives signer ≡ (O.told outside.old).gives helper.now) }
+        O.Signer.gives signer ≡ (O.shown outside.old).gives helper.now) }
     ensures unasked { IfSome result.signer (λ signer. HasNone (O.Signer.signings signer)) }
     ensures unfailed { IfSome result.signer (λ signer. O.Signer.faults signer ≡ 0) }
     ensures sink { O.sink outside.new ≡ O.sink outside.old }

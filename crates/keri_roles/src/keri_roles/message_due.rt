@@ -80,7 +80,7 @@ fn answer_due<G: Signer>(
 ) -> MessageDue
     requires unasked { HasNone (G.signings signer.old) }
     requires unfailed { G.faults signer.old ≡ 0 }
-    ensures due { IsAnswered (⟦<G as Signs>⟧.told signer.old) (⟦<G as Signs>⟧.told signer.new)
+    ensures due { IsAnswered (⟦<G as Signs>⟧.shown signer.old) (⟦<G as Signs>⟧.shown signer.new)
         log.entry plan.now result }
     ensures gives { G.gives signer.new ≡ G.gives signer.old }
 {

@@ -41,7 +41,7 @@ pub fn run<R: Threads + Wait + Sync, O: Runs>(
     outside: &mut O,
 ) -> Done<O>
     // Words that aren't in the form of a command are refused, and nothing is made. Others are answered as they ask.
-    ensures answered { IsRunOf O.Disk.told result.disk result.old (asked_in words.now.items)
+    ensures answered { IsRunOf O.Disk.shown result.disk result.old (asked_in words.now.items)
         (O.run outside.old outside.new result) }
 
     // Each fault that is answered has its cause.
@@ -60,7 +60,7 @@ fn answer<R: Threads + Wait + Sync, O: Outside>(
     words: &Vec<String>,
     outside: &mut O,
 ) -> Done<O>
-    ensures answered { IsRunOf O.Disk.told result.disk result.old (asked_in words.now.items)
+    ensures answered { IsRunOf O.Disk.shown result.disk result.old (asked_in words.now.items)
         (⟦<O as Runs>⟧.run outside.old outside.new result) }
     ensures second { HasNoSecond (asked_in words.now.items) result.second }
 {
@@ -83,10 +83,10 @@ fn carry_out<R: Threads + Wait + Sync, O: Outside>(
     outside: &mut O,
 ) -> Result<Done<O>, AllocError>
     requires in_form { IsInForm command }
-    ensures does { IfOk result (λ done. CarriesOut O.Disk.told done.disk done.old (Some (asked_by command.entry))
+    ensures does { IfOk result (λ done. CarriesOut O.Disk.shown done.disk done.old (Some (asked_by command.entry))
         (⟦<O as Runs>⟧.run outside.old outside.new done)) }
     ensures second { IfOk result (λ done. HasNoSecond (Some (asked_by command.entry)) done.second) }
-    ensures none_made { OnErr result (O.told outside.new ≡ O.told outside.old) }
+    ensures none_made { OnErr result (O.shown outside.new ≡ O.shown outside.old) }
     ensures none_written { OnErr result (O.sink outside.new ≡ O.sink outside.old) }
 {
     match command {
@@ -164,11 +164,11 @@ fn carry_validate<R: Threads + Wait + Sync, O: Outside>(
     outside: &mut O,
 ) -> Result<Done<O>, AllocError>
     requires in_form { AreInForm (λ files. AreFew (length files.items)) inputs }
-    ensures does { IfOk result (λ done. CarriesOut O.Disk.told done.disk done.old
+    ensures does { IfOk result (λ done. CarriesOut O.Disk.shown done.disk done.old
         (Some (asks_for.validate helper.now (inputs_by (λ files. map (λ f. f.now) files.items) inputs.entry)))
         (⟦<O as Runs>⟧.run outside.old outside.new done)) }
     ensures no_second { IfOk result (λ done. done.second ≡ None) }
-    ensures none_made { OnErr result (O.told outside.new ≡ O.told outside.old) }
+    ensures none_made { OnErr result (O.shown outside.new ≡ O.shown outside.old) }
     ensures none_written { OnErr result (O.sink outside.new ≡ O.sink outside.old) }
 {
     match inputs {
@@ -198,11 +198,11 @@ fn carry_watch<R: Threads + Wait + Sync, O: Outside>(
     outside: &mut O,
 ) -> Result<Done<O>, AllocError>
     requires in_form { AreInForm (λ files. AreFew (length files.items)) inputs }
-    ensures does { IfOk result (λ done. CarriesOut O.Disk.told done.disk done.old
+    ensures does { IfOk result (λ done. CarriesOut O.Disk.shown done.disk done.old
         (Some (asks_for.watch helper.now (inputs_by (λ files. map (λ f. f.now) files.items) inputs.entry)))
         (⟦<O as Runs>⟧.run outside.old outside.new done)) }
     ensures no_second { IfOk result (λ done. done.second ≡ None) }
-    ensures none_made { OnErr result (O.told outside.new ≡ O.told outside.old) }
+    ensures none_made { OnErr result (O.shown outside.new ≡ O.shown outside.old) }
     ensures none_written { OnErr result (O.sink outside.new ≡ O.sink outside.old) }
 {
     match inputs {
@@ -256,7 +256,7 @@ fn finish<O: Outside>(
     ensures no_sinks { result.sinks.items ≡ [] }
     ensures no_second { result.second ≡ None }
     ensures settles { IsSettled outcome.outcome (⟦<O as Runs>⟧.run outside.old outside.new result) }
-    ensures told { O.told outside.new ≡ O.told outside.old }
+    ensures told { O.shown outside.new ≡ O.shown outside.old }
 {
     let SignedOutcome { outcome, signer } = outcome;
     let Outcome {
@@ -294,7 +294,7 @@ fn finish_rival<O: Outside>(
     ensures no_door { result.door ≡ None }
     ensures no_sinks { result.sinks.items ≡ [] }
     ensures settles { IsSettled rival.outcome (⟦<O as Runs>⟧.run outside.old outside.new result) }
-    ensures told { O.told outside.new ≡ O.told outside.old }
+    ensures told { O.shown outside.new ≡ O.shown outside.old }
 {
     let RivalOutcome { outcome, second } = rival;
     Done {
@@ -318,7 +318,7 @@ fn finish_links<O: Outside>(
     ensures sinks { result.sinks ≡ linked.sinks }
     ensures no_second { result.second ≡ None }
     ensures settles { IsSettled linked.outcome (⟦<O as Runs>⟧.run outside.old outside.new result) }
-    ensures told { O.told outside.new ≡ O.told outside.old }
+    ensures told { O.shown outside.new ≡ O.shown outside.old }
 {
     let LinkedOutcome {
         outcome,

@@ -55,7 +55,7 @@ fn serve_input<O: Outside>(
     limits: Limits,
     outside: &mut O,
 ) -> (Option<O::Source>, Served)
-    ensures makes { MakesSource (codes "-") result.0 (O.told outside.old) (O.told outside.new) }
+    ensures makes { MakesSource (codes "-") result.0 (O.shown outside.old) (O.shown outside.new) }
     ensures serves { ServesInput limits (⟦<O as Serves>⟧.serving outside.old outside.new result.0) result.1 }
 {
     match outside.source("-") {
@@ -77,7 +77,7 @@ fn serve<O: Outside>(
 ) -> Served
     ensures serves { IsServed limits.stream_bytes (⟦<O as Serves>⟧.sides source.old outside.old)
         (⟦<O as Serves>⟧.sides source.new outside.new) result }
-    ensures told { O.told outside.new ≡ O.told outside.old }
+    ensures told { O.shown outside.new ≡ O.shown outside.old }
 {
     serve_rehearsal(alloc, source, outside.out(), limits)
 }
@@ -91,7 +91,7 @@ fn serving_close(served: Served) -> Close
         Served::Malformed(place) => Close::Malformed(place),
         Served::ReadFault => Close::ReadFault,
         Served::WriteFault => Close::WriteFault,
-        Served::Full => Close::Full,
+        Served::LimitReached => Close::LimitReached,
         Served::OutOfMemory => Close::OutOfMemory,
     }
 }
@@ -105,7 +105,7 @@ fn serving_status(served: Served) -> u8
         Served::Malformed(_) => 3,
         Served::ReadFault => 5,
         Served::WriteFault => 6,
-        Served::Full => 9,
+        Served::LimitReached => 9,
         Served::OutOfMemory => 10,
     }
 }

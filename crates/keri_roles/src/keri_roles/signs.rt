@@ -6,29 +6,29 @@ use keri_outside::Signer;
 pub(crate) trait Signs: Signer {
     ghost use Rattle.std.specs.Prelude.{◌≡◌};
     ghost use Rattle.std.specs.declared.option.Option.{Option};
-    ghost use Rattle.run_status.specs.RunRecord.Run.{SignerTold};
-    ghost use Rattle.run_status.specs.RunRecord.Seen.{signer_seen, signer_told};
+    ghost use Rattle.run_status.specs.RunRecord.Run.{SignerShown};
+    ghost use Rattle.run_status.specs.RunRecord.Seen.{signer_seen, signer_shown};
 
-    ghost told: { Self → SignerTold };
+    ghost shown: { Self → SignerShown };
 
     /// Where there is one.
-    ghost seen: { Option Self → Option SignerTold };
+    ghost seen: { Option Self → Option SignerShown };
 
     // They can be no others.
-    ghost told_is: { told ≡ signer_told Self.gives Self.signings Self.faults };
+    ghost shown_is: { shown ≡ signer_shown Self.gives Self.signings Self.faults };
 
     ghost seen_is: { seen ≡ signer_seen Self.gives Self.signings Self.faults };
 }
 
 impl<G: Signer> Signs for G {
     ghost use Rattle.std.specs.Prelude.{refl};
-    ghost use Rattle.run_status.specs.RunRecord.Seen.{signer_seen, signer_told};
+    ghost use Rattle.run_status.specs.RunRecord.Seen.{signer_seen, signer_shown};
 
-    ghost told = { signer_told G.gives G.signings G.faults };
+    ghost shown = { signer_shown G.gives G.signings G.faults };
 
     ghost seen = { signer_seen G.gives G.signings G.faults };
 
-    ghost told_is = { refl };
+    ghost shown_is = { refl };
 
     ghost seen_is = { refl };
 }

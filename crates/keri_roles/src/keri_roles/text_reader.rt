@@ -82,7 +82,7 @@ fn close_of(close: TextClose) -> Close
     match close {
         TextClose::End => Close::End,
         TextClose::ReadFault => Close::ReadFault,
-        TextClose::Full => Close::Full,
+        TextClose::LimitReached => Close::LimitReached,
         TextClose::OutOfMemory => Close::OutOfMemory,
     }
 }

@@ -5,7 +5,7 @@ use Rattle.cesr_stream.specs.declared.message.Message.{Message}
 use Rattle.event_body.specs.declared.event_body.event.Event.{Event}
 use Rattle.event_body.specs.declared.event_body.body_fault.BodyFault.{BodyFault}
 use Rattle.journal.specs.declared.journal.reply.Reply.{Reply}
-use Rattle.journal.specs.declared.journal.reply.Reply.TheVariants.{Taken, Again, Refused, Full}
+use Rattle.journal.specs.declared.journal.reply.Reply.TheVariants.{Taken, Again, Refused, LimitReached}
 use Rattle.journal.specs.Journal.CoreCalls.{Takes}
 use Rattle.journal.specs.Journal.Feeds.{reader_of}
 use Rattle.journal.specs.Journal.History.{Told, took}
@@ -30,7 +30,7 @@ module _ (x y : SharedCore) (reader : ℕ) (head : head_of y.core ≡ head_of x.
   by_reply m (Ok e) Taken t = entry (took reader (record { bytes = m.body; event = e }) (claims_of m)) refl t.1
   by_reply m (Ok e) Again t = entry (took reader (record { bytes = m.body; event = e }) (claims_of m)) refl t.1
   by_reply m (Ok e) (Refused reason) t = none t.1
-  by_reply m (Ok e) Full t = none t.1
+  by_reply m (Ok e) LimitReached t = none t.1
   by_reply m (Err fault) reply t = none t.1
 
   pub take_appends : {E : Type 0} (m : Message) (r : Result Reply E) → IfOk r (λ reply. TakesOver x.core.limits (told_of x.core) reader m reply (told_of y.core))

@@ -13,13 +13,13 @@ use Rattle.keri_outside.specs.declared.limits.Limits.{Limits}
 use Rattle.journal.specs.declared.journal.body.Body.{Body}
 use Rattle.journal.specs.declared.journal.claim.Claim.{Claim}
 use Rattle.journal.specs.declared.journal.reply.Reason.{Reason}
-use Rattle.journal.specs.declared.journal.reply.Reply.TheVariants.{Taken, Again, Refused, Full as FullReply}
+use Rattle.journal.specs.declared.journal.reply.Reply.TheVariants.{Taken, Again, Refused, LimitReached as FullReply}
 use Rattle.journal.specs.Journal.CoreCalls.{Takes, reply_unless}
 use Rattle.journal.specs.Journal.History.{Told}
 use Rattle.journal.specs.Journal.Replies.{IsWithin, claims_of, is_again, is_full, refusal, reply_to}
-use Rattle.run_status.specs.RunStatus.Readers.{SourceTold, VerifierTold}
+use Rattle.run_status.specs.RunStatus.Readers.{SourceShown, VerifierShown}
 use Rattle.run_status.specs.declared.run_status.close.Close.{Close}
-use Rattle.run_status.specs.declared.run_status.close.Close.TheVariants.{End, Bad, ReadFault, VerifierFault, SignerFault, DiskFault, WriteFault, Malformed, Full, OutOfMemory}
+use Rattle.run_status.specs.declared.run_status.close.Close.TheVariants.{End, Bad, ReadFault, VerifierFault, SignerFault, DiskFault, WriteFault, Malformed, LimitReached, OutOfMemory}
 use Rattle.reader_hub.specs.ReaderHub.Hubs.{TakesOver}
 use Rattle.reader_hub.specs.declared.reader_hub.core_head.CoreHead.{CoreHead}
 use Rattle.reader_hub.specs.SharedReader.Offers.{IsTurnedAway}
@@ -62,7 +62,7 @@ module _ (limits : Limits) (seen told : List Told) (begins : IsPrefix seen told)
       by_reason (Some reason) is = let other : Some FullReply ≡ Some (Refused reason) = rw is at t.0 in cc
 
 -- The reader had a pass with this head, had seen a beginning of what is told, and knew that so many turns were past.
-module _ (limits : Limits) (told : List Told) (within : IsWithin limits [] told) (most k : ℕ) (s t : Standing) (old new : SourceTold) (verifier verifier_left : VerifierTold)
+module _ (limits : Limits) (told : List Told) (within : IsWithin limits [] told) (most k : ℕ) (s t : Standing) (old new : SourceShown) (verifier verifier_left : VerifierShown)
     (turns : s.limit ≡ limits.turns) (faults : s.faults ≡ verifier.faults) (faults_left : t.faults ≡ verifier_left.faults)
     (head : CoreHead) (head_is : t.pass.head ≡ Some head) (limits_are : head.limits ≡ limits) (begins : IsPrefix t.pass.seen told) (past : t.pass.past ≤ most) where
   turned_away : (m : Message) → IsTurnedAway t.pass m → TakesOver limits told k m FullReply told
@@ -80,7 +80,7 @@ module _ (limits : Limits) (told : List Told) (within : IsWithin limits [] told)
   closes_reader bytes reading items offered End c = c.0
   closes_reader bytes reading items offered (Bad bad) c = c.0
   closes_reader bytes reading items offered ReadFault c = c.0
-  closes_reader bytes reading items offered Full c = elim c [
+  closes_reader bytes reading items offered LimitReached c = elim c [
     | inl full ↦ inl (full.0, full.1)
     | inr cut ↦ inr (
       cut.0,

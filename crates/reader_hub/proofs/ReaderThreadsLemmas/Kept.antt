@@ -4,7 +4,7 @@ use Rattle.std.specs.Prelude.{filter}
 use Rattle.journal.specs.Journal.Feeds.{is_taken_by}
 use Rattle.journal.specs.Journal.History.{Told}
 use Rattle.keri_outside.specs.declared.limits.Limits.{Limits}
-use Rattle.run_status.specs.RunStatus.Readers.{Reader, SourceTold, VerifierTold}
+use Rattle.run_status.specs.RunStatus.Readers.{Reader, SourceShown, VerifierShown}
 use Rattle.turn_lock.specs.Known.{OwnsAlone}
 use Rattle.reader_hub.specs.declared.reader_hub.extent.Extent.{Extent}
 use Rattle.reader_hub.specs.declared.reader_hub.extent.Extent.TheVariants.{First}
@@ -34,7 +34,7 @@ kept_as extent old reader new own e =
       alone = λ first. alone_first new.pass;
     }
 
-pub kept : (limits : Limits) (limit : ℕ) (extent : Extent) (source : Option SourceTold) (verifier : Option VerifierTold) (old : PassSeen) (reader : Reader) (new : PassSeen) → OwnsAlone old.pass []
+pub kept : (limits : Limits) (limit : ℕ) (extent : Extent) (source : Option SourceShown) (verifier : Option VerifierShown) (old : PassSeen) (reader : Reader) (new : PassSeen) → OwnsAlone old.pass []
     → RunsBy limits limit extent source verifier old reader new → Kept extent old reader new
 kept limits limit extent None verifier old reader new own run = kept_as extent old reader new own run.0
 kept limits limit extent (Some source) None old reader new own run = kept_as extent old reader new own run.0

@@ -10,7 +10,7 @@ use Rattle.keri_outside.specs.declared.limits.Limits.{Limits}
 use Rattle.journal.specs.Journal.Feeds.{AreMessages, FeedsOne, entry_of, is_taken_by, reader_of}
 use Rattle.journal.specs.Journal.History.{Told}
 use Rattle.journal.specs.Journal.Replies.{IsWithin}
-use Rattle.run_status.specs.RunStatus.Readers.{Reader, SourceTold, VerifierTold}
+use Rattle.run_status.specs.RunStatus.Readers.{Reader, SourceShown, VerifierShown}
 use Rattle.run_status.specs.declared.run_status.close.Close.{Close}
 use Rattle.run_status.specs.declared.run_status.close.Close.TheVariants.{ReadFault, VerifierFault}
 use Rattle.turn_lock.specs.Histories.{share_of}
@@ -37,7 +37,7 @@ unfolding front
 nothing_among limits = record { items = []; end = unfinished; all = record { begun = _; place = 0; stand = no_item; behind = refl; ends = tt }; made = refl }
 
 -- what a reader of this number fed
-pub record ReadIn (limits : Limits) (told : List Told) (most k : ℕ) (source : Option SourceTold) (verifier : Option VerifierTold) (reader : Reader) : Type 0 where
+pub record ReadIn (limits : Limits) (told : List Told) (most k : ℕ) (source : Option SourceShown) (verifier : Option VerifierShown) (reader : Reader) : Type 0 where
   pub bytes : List ℕ
   pub feeds : FeedsOne limits told k (end_of bytes reader)
   pub reads : ReadsBy limits told most k NoneFailed source verifier reader bytes (map (λ j. j.message) feeds.0.offered)
@@ -60,11 +60,11 @@ module _ (limits : Limits) (told : List Told) (within : IsWithin limits [] told)
   module _ (old : PassSeen) (reader : Reader) (new : PassSeen) (number : old.pass.number ≡ k) (own : OwnsAlone old.pass [])
       (shares : (es : List Told) → OwnsAlone new.pass es → share_of reader_of k told ≡ es) where
     -- it was given no source, or no verifier
-    reads_none : (source : Option SourceTold) (verifier : Option VerifierTold) (close : Close) → new ≡ old → reader ≡ unread source verifier close → FeedsOne limits told k (end_of [] reader)
+    reads_none : (source : Option SourceShown) (verifier : Option VerifierShown) (close : Close) → new ≡ old → reader ≡ unread source verifier close → FeedsOne limits told k (end_of [] reader)
     reads_none source verifier close same is = feeds_none reader (ap (λ r. r.refused) is) (shares [] (subst (λ (x : PassSeen). OwnsAlone x.pass []) (sym same) own))
 
     -- it was given both
-    reads_from : (limit : ℕ) (extent : Extent) (source : SourceTold) (verifier : VerifierTold) → limit ≡ limits.turns → ReadsStream limits limit extent source verifier old reader new
+    reads_from : (limit : ℕ) (extent : Extent) (source : SourceShown) (verifier : VerifierShown) → limit ≡ limits.turns → ReadsStream limits limit extent source verifier old reader new
         → new.pass.head ≡ Some head → IsPrefix new.pass.seen told → new.pass.past ≤ most → ReadIn limits told most k (Some source) (Some verifier) reader
     reads_from limit extent source verifier turns run head_is begins past =
         let r = run.reads in
@@ -108,7 +108,7 @@ module _ (limits : Limits) (told : List Told) (within : IsWithin limits [] told)
         }
 
     -- it was given no source: its verifier wasn't asked
-    reads_nothing : (verifier : VerifierTold) → new ≡ old → reader ≡ unread None (Some verifier) ReadFault → HasNoSource limits told most k NoneFailed verifier reader
+    reads_nothing : (verifier : VerifierShown) → new ≡ old → reader ≡ unread None (Some verifier) ReadFault → HasNoSource limits told most k NoneFailed verifier reader
     reads_nothing verifier same is =
         let none : share_of reader_of k told ≡ [] = shares [] (subst (λ (x : PassSeen). OwnsAlone x.pass []) (sym same) own) in
         let asked : AsksFor verifier.inquiries verifier.inquiries (share_of reader_of k told) 0 = none_asked verifier.inquiries (share_of reader_of k told) (ap inquiries_in none) in
@@ -125,7 +125,7 @@ module _ (limits : Limits) (told : List Told) (within : IsWithin limits [] told)
           close_is = ap (λ r. r.close) is;
         }
 
-    pub reads_in : (limit : ℕ) (extent : Extent) (source : Option SourceTold) (verifier : Option VerifierTold) → limit ≡ limits.turns → RunsBy limits limit extent source verifier old reader new
+    pub reads_in : (limit : ℕ) (extent : Extent) (source : Option SourceShown) (verifier : Option VerifierShown) → limit ≡ limits.turns → RunsBy limits limit extent source verifier old reader new
         → new.pass.head ≡ Some head → IsPrefix new.pass.seen told → new.pass.past ≤ most → ReadIn limits told most k source verifier reader
     reads_in limit extent None None turns run head_is begins past = record { bytes = []; feeds = reads_none None None ReadFault run.0 run.1; reads = (run.1, refl) }
     reads_in limit extent None (Some verifier) turns run head_is begins past = record { bytes = []; feeds = reads_none None (Some verifier) ReadFault run.0 run.1; reads = (reads_nothing verifier run.0 run.1, refl) }

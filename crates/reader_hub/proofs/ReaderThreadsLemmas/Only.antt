@@ -8,7 +8,7 @@ use Rattle.keri_outside.specs.declared.inquiry.Inquiry.{Inquiry}
 use Rattle.keri_outside.specs.declared.limits.Limits.{Limits}
 use Rattle.journal.specs.declared.journal.mode.Mode.{Mode}
 use Rattle.journal.specs.Journal.History.{Told}
-use Rattle.run_status.specs.RunStatus.Readers.{Reader, SourceTold, VerifierTold, reader_seen}
+use Rattle.run_status.specs.RunStatus.Readers.{Reader, SourceShown, VerifierShown, reader_seen}
 use Rattle.turn_lock.specs.Locks.{LockId}
 use Rattle.reader_hub.specs.declared.reader_hub.core_head.CoreHead.{CoreHead}
 use Rattle.reader_hub.specs.declared.reader_hub.extent.Extent.{Extent}
@@ -23,7 +23,7 @@ use Rattle.reader_hub.proofs.ReaderThreadsLemmas.Readers.{Ran, RanEach, leaves, 
 
 module _ (mode : Mode) where
   -- a verifier that wasn't asked
-  pub unasked_there : (told : List Told) (o : Option VerifierTold) → AsksOnlyIfThere mode told o o
+  pub unasked_there : (told : List Told) (o : Option VerifierShown) → AsksOnlyIfThere mode told o o
   unasked_there told None = tt
   unasked_there told (Some v) = only_none v.inquiries mode told
 
@@ -33,14 +33,14 @@ module _ (mode : Mode) where
 
   module _ (xs ys : List Told) (begins : IsPrefix xs ys) where
     -- more was told since
-    pub there_later : (o p : Option VerifierTold) → AsksOnlyIfThere mode xs o p → AsksOnlyIfThere mode ys o p
+    pub there_later : (o p : Option VerifierShown) → AsksOnlyIfThere mode xs o p → AsksOnlyIfThere mode ys o p
     there_later None None a = tt
     there_later None (Some w) a = absurd a
     there_later (Some v) None a = absurd a
     there_later (Some v) (Some w) a = only_later mode xs ys begins v.inquiries w.inquiries a
 
     -- and more was asked
-    there_on : (o p q : Option VerifierTold) → AsksOnlyIfThere mode xs o p → AsksOnlyIfThere mode ys p q → AsksOnlyIfThere mode ys o q
+    there_on : (o p q : Option VerifierShown) → AsksOnlyIfThere mode xs o p → AsksOnlyIfThere mode ys p q → AsksOnlyIfThere mode ys o q
     there_on None None q a b = b
     there_on None (Some w) q a b = absurd a
     there_on (Some v) None q a b = absurd a
@@ -56,7 +56,7 @@ module _ (mode : Mode) where
     each_only_on (g ∷ given) (r ∷ olds) (s ∷ news) a b = (there_on g.verifier r.verifier s.verifier a.0 b.0, each_only_on given olds news a.1 b.1)
 
 -- of a reader that has run, by all that is told
-pub run_only : (limits : Limits) (limit : ℕ) (extent : Extent) (source : Option SourceTold) (verifier : Option VerifierTold) (old : PassSeen) (reader : Reader) (new : PassSeen) (head : CoreHead) (told : List Told)
+pub run_only : (limits : Limits) (limit : ℕ) (extent : Extent) (source : Option SourceShown) (verifier : Option VerifierShown) (old : PassSeen) (reader : Reader) (new : PassSeen) (head : CoreHead) (told : List Told)
     → RunsBy limits limit extent source verifier old reader new → new.pass.head ≡ Some head → IsPrefix new.pass.seen told → AsksOnlyIfThere head.mode told verifier reader.verifier
 run_only limits limit extent None verifier old reader new head told run head_is begins =
     subst (AsksOnlyIfThere head.mode told verifier) (sym (ap (λ r. r.verifier) run.1)) (unasked_there head.mode told verifier)

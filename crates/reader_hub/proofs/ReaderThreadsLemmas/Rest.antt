@@ -16,9 +16,9 @@ use Rattle.journal.specs.Journal.Feeds.{FeedEach, FeedsOne, IsHeardFrom, is_take
 use Rattle.journal.specs.Journal.History.{Told, took, heard, taken}
 use Rattle.journal.specs.Journal.Questions.{IsInStep, questions}
 use Rattle.journal.specs.Journal.Replies.{IsWithin}
-use Rattle.run_status.specs.RunStatus.Readers.{Reader, SourceTold, VerifierTold, close_found}
+use Rattle.run_status.specs.RunStatus.Readers.{Reader, SourceShown, VerifierShown, close_found}
 use Rattle.run_status.specs.declared.run_status.close.Close.{Close}
-use Rattle.run_status.specs.declared.run_status.close.Close.TheVariants.{End, Bad, ReadFault, VerifierFault, SignerFault, DiskFault, WriteFault, Malformed, Full, OutOfMemory as NoMemory}
+use Rattle.run_status.specs.declared.run_status.close.Close.TheVariants.{End, Bad, ReadFault, VerifierFault, SignerFault, DiskFault, WriteFault, Malformed, LimitReached, OutOfMemory as NoMemory}
 use Rattle.turn_lock.specs.Histories.{share_of}
 use Rattle.turn_lock.proofs.Histories.{share_of-append}
 use Rattle.validator_core.specs.ValidatorCore.View.{CoreView, Stands, open_of, told_of}
@@ -63,36 +63,36 @@ module _ (limits : Limits) (told more : List Told) (count : ℕ) (verdicts : All
     abbrev had_failed : Bool
     had_failed = (close_found old.close).verifier_failed
 
-    saids : (o p : Option VerifierTold) → IsAskedIfThere more rest k had_failed o p → (said_by p ≡ said_by o) × All (IsHeardFrom k (said_by p)) more
+    saids : (o p : Option VerifierShown) → IsAskedIfThere more rest k had_failed o p → (said_by p ≡ said_by o) × All (IsHeardFrom k (said_by p)) more
     saids None None t = (refl, λ i d lt. unsaid k _)
     saids None (Some w) t = absurd t
     saids (Some v) None t = absurd t
     saids (Some v) (Some w) t = (t.same_says, subst (λ (s : Says). All (IsHeardFrom k s) more) (sym t.same_says) t.said)
 
-    none_there : (o p : Option VerifierTold) → o ≡ None → IsAskedIfThere more rest k had_failed o p → p ≡ o
+    none_there : (o p : Option VerifierShown) → o ≡ None → IsAskedIfThere more rest k had_failed o p → p ≡ o
     none_there None None e t = refl
     none_there None (Some w) e t = absurd t
     none_there (Some v) p e t = cc
 
     -- the verifier that is left of one that was there
-    record IsLeft (mid : VerifierTold) : Type 0 where
-      left : VerifierTold
+    record IsLeft (mid : VerifierShown) : Type 0 where
+      left : VerifierShown
       left_is : new.verifier ≡ Some left
       asked : IsAsked more rest k had_failed mid left
 
-    left_of : (o p : Option VerifierTold) (mid : VerifierTold) → o ≡ Some mid → IsAskedIfThere more rest k had_failed o p → (left : VerifierTold) × (p ≡ Some left) × IsAsked more rest k had_failed mid left
+    left_of : (o p : Option VerifierShown) (mid : VerifierShown) → o ≡ Some mid → IsAskedIfThere more rest k had_failed o p → (left : VerifierShown) × (p ≡ Some left) × IsAsked more rest k had_failed mid left
     left_of None p mid e t = cc
     left_of (Some v) None mid e t = absurd t
-    left_of (Some v) (Some w) mid e t = (w, refl, subst (λ (u : VerifierTold). IsAsked more rest k had_failed u w) (some_same v mid e) t)
+    left_of (Some v) (Some w) mid e t = (w, refl, subst (λ (u : VerifierShown). IsAsked more rest k had_failed u w) (some_same v mid e) t)
       where
-        some_same : (x y : VerifierTold) → Some x ≡ Some y → x ≡ y
+        some_same : (x y : VerifierShown) → Some x ≡ Some y → x ≡ y
         some_same x y s = cc
 
-    is_left : (mid : VerifierTold) → old.verifier ≡ Some mid → IsLeft mid
+    is_left : (mid : VerifierShown) → old.verifier ≡ Some mid → IsLeft mid
     is_left mid e = let l = left_of old.verifier new.verifier mid e a.asked in record { left = l.0; left_is = l.1; asked = l.2 }
 
     -- the inquiries of before, and those of the round
-    inquired_on : (v mid left : VerifierTold) (n : ℕ) → IsAsked more rest k had_failed mid left → verdict_count told + 1 + (verdict_count more + unheard_by rest) ≤ n
+    inquired_on : (v mid left : VerifierShown) (n : ℕ) → IsAsked more rest k had_failed mid left → verdict_count told + 1 + (verdict_count more + unheard_by rest) ≤ n
         → AsksFor v.inquiries mid.inquiries (share_of reader_of k told) (verdict_count told + 1) → AsksFor v.inquiries left.inquiries (share_of reader_of k all) n
     inquired_on v mid left n asked few before =
         subst (λ (l : List Told). AsksFor v.inquiries left.inquiries l n) (sym (share_of-append reader_of k told more))
@@ -114,15 +114,15 @@ module _ (limits : Limits) (told more : List Told) (count : ℕ) (verdicts : All
         }
 
     -- why it closed
-    module _ (source source_left : SourceTold) (v mid left : VerifierTold) where
+    module _ (source source_left : SourceShown) (v mid left : VerifierShown) where
       closes_on : (bytes : List ℕ) (reading : Reading) (items : List Placed) (offered : List Message) (close : Close) → (close ≡ VerifierFault → left.faults ≡ mid.faults)
           → ClosesReader limits told most k source source_left v mid bytes reading items offered close → ClosesReader limits all later k source source_left v left bytes reading items offered close
       closes_on bytes reading items offered End kept c = c
       closes_on bytes reading items offered (Bad bad) kept c = c
       closes_on bytes reading items offered ReadFault kept c = c
-      closes_on bytes reading items offered Full kept (inl full) = inl full
-      closes_on bytes reading items offered Full kept (inr (gave, inl spent)) = inr (gave, inl (omega (arith, spent, grows)))
-      closes_on bytes reading items offered Full kept (inr (gave, inr next)) = inr (gave, inr (finds_none bytes offered next))
+      closes_on bytes reading items offered LimitReached kept (inl full) = inl full
+      closes_on bytes reading items offered LimitReached kept (inr (gave, inl spent)) = inr (gave, inl (omega (arith, spent, grows)))
+      closes_on bytes reading items offered LimitReached kept (inr (gave, inr next)) = inr (gave, inr (finds_none bytes offered next))
       closes_on bytes reading items offered VerifierFault kept c = (c.0, subst (λ (n : ℕ). Rose v.faults n) (sym (kept refl)) c.1)
       closes_on bytes reading items offered SignerFault kept c = absurd c
       closes_on bytes reading items offered DiskFault kept c = absurd c
@@ -139,12 +139,12 @@ module _ (limits : Limits) (told more : List Told) (count : ℕ) (verdicts : All
         closes = closes_on bytes c.reading c.items offered close kept c.closes;
       }
 
-    kept_by : (mid left : VerifierTold) → IsAsked more rest k had_failed mid left → old.close ≡ VerifierFault → left.faults ≡ mid.faults
+    kept_by : (mid left : VerifierShown) → IsAsked more rest k had_failed mid left → old.close ≡ VerifierFault → left.faults ≡ mid.faults
     kept_by mid left asked e = asked.unasked (ap (λ c. (close_found c).verifier_failed) e)
 
     module _ (bytes : List ℕ) (offered : List Message) where
       -- it had a verifier and no source, or both
-      sourceless_on : (v : VerifierTold) → HasNoSource limits told most k NoneFailed v old → HasNoSource limits all later k rest v new
+      sourceless_on : (v : VerifierShown) → HasNoSource limits told most k NoneFailed v old → HasNoSource limits all later k rest v new
       sourceless_on v h =
           let l = is_left h.verifier_left h.verifier_is in
           record {
@@ -160,7 +160,7 @@ module _ (limits : Limits) (told more : List Told) (count : ℕ) (verdicts : All
             close_is = a.close ∙ h.close_is;
           }
 
-      from_on : (source : SourceTold) (v : VerifierTold) → ReadsFrom limits told most k NoneFailed source v old bytes offered → ReadsFrom limits all later k rest source v new bytes offered
+      from_on : (source : SourceShown) (v : VerifierShown) → ReadsFrom limits told most k NoneFailed source v old bytes offered → ReadsFrom limits all later k rest source v new bytes offered
       from_on source v h =
           let l = is_left h.verifier_left h.verifier_is in
           record {
@@ -179,25 +179,25 @@ module _ (limits : Limits) (told more : List Told) (count : ℕ) (verdicts : All
             none_seen = a.seen ∙ h.none_seen;
           }
 
-      unread_on : (source : Option SourceTold) (close : Close) → old ≡ unread source None close → new ≡ unread source None close
+      unread_on : (source : Option SourceShown) (close : Close) → old ≡ unread source None close → new ≡ unread source None close
       unread_on source close e =
           let none = none_there old.verifier new.verifier (ap (λ r. r.verifier) e) a.asked in
           same_reader old new a.source none a.refused a.seen a.close ∙ e
 
-      reads_on : (source : Option SourceTold) (verifier : Option VerifierTold) → ReadsBy limits told most k NoneFailed source verifier old bytes offered → ReadsBy limits all later k rest source verifier new bytes offered
+      reads_on : (source : Option SourceShown) (verifier : Option VerifierShown) → ReadsBy limits told most k NoneFailed source verifier old bytes offered → ReadsBy limits all later k rest source verifier new bytes offered
       reads_on None None h = (unread_on None ReadFault h.0, h.1)
       reads_on None (Some v) h = (sourceless_on v h.0, h.1)
       reads_on (Some source) None h = (unread_on (Some source) VerifierFault h.0, h.1)
       reads_on (Some source) (Some v) h = from_on source v h
 
       -- what became of a verifier that was given
-      record WasGiven (v : VerifierTold) : Type 0 where
-        mid : VerifierTold
+      record WasGiven (v : VerifierShown) : Type 0 where
+        mid : VerifierShown
         there : old.verifier ≡ Some mid
         kept : old.close ≢ VerifierFault → mid.faults ≡ v.faults
         rose : old.close ≡ VerifierFault → Rose v.faults mid.faults
 
-      given_to : (source : Option SourceTold) (v : VerifierTold) → ReadsBy limits told most k NoneFailed source (Some v) old bytes offered → WasGiven v
+      given_to : (source : Option SourceShown) (v : VerifierShown) → ReadsBy limits told most k NoneFailed source (Some v) old bytes offered → WasGiven v
       given_to None v h = record {
         mid = h.0.verifier_left;
         there = h.0.verifier_is;
@@ -211,7 +211,7 @@ module _ (limits : Limits) (told more : List Told) (count : ℕ) (verdicts : All
         rose = λ e. (subst (λ (c : Close). c ≢ NoMemory → ClosesStream limits told most k source h.source_left v h.verifier_left bytes offered c) e h.closes (λ none. cc)).closes.1;
       }
 
-      rose_since : (v mid left : VerifierTold) → (old.close ≢ VerifierFault → mid.faults ≡ v.faults) → (old.close ≡ VerifierFault → Rose v.faults mid.faults) → IsAsked more rest k had_failed mid left
+      rose_since : (v mid left : VerifierShown) → (old.close ≢ VerifierFault → mid.faults ≡ v.faults) → (old.close ≡ VerifierFault → Rose v.faults mid.faults) → IsAsked more rest k had_failed mid left
           → (had_failed ≡ true) ⊎ Rose mid.faults left.faults → Rose v.faults left.faults
       rose_since v mid left kept rose asked why = elim (cases_Bool had_failed) [
         | inl failed ↦ subst (λ (n : ℕ). Rose v.faults n) (sym (asked.unasked failed)) (rose (failed_then old.close failed))
@@ -221,7 +221,7 @@ module _ (limits : Limits) (told more : List Told) (count : ℕ) (verdicts : All
         ]
       ]
 
-      gave_up : (source : Option SourceTold) (verifier : Option VerifierTold) → ReadsBy limits told most k NoneFailed source verifier old bytes offered → GivesUp had_failed old.verifier new.verifier
+      gave_up : (source : Option SourceShown) (verifier : Option VerifierShown) → ReadsBy limits told most k NoneFailed source verifier old bytes offered → GivesUp had_failed old.verifier new.verifier
           → FailedIfThere verifier new.verifier
       gave_up source None h up = tt
       gave_up source (Some v) h up =
@@ -229,7 +229,7 @@ module _ (limits : Limits) (told more : List Told) (count : ℕ) (verdicts : All
           let l = is_left w.mid w.there in
           rw l.left_is (rose_since v w.mid l.left w.kept w.rose l.asked (gives_up_at had_failed old.verifier new.verifier w.mid l.left w.there l.left_is up))
 
-      failed_now : (source : Option SourceTold) (verifier : Option VerifierTold) → ReadsBy limits told most k NoneFailed source verifier old bytes offered → FailsNow old.verifier new.verifier
+      failed_now : (source : Option SourceShown) (verifier : Option VerifierShown) → ReadsBy limits told most k NoneFailed source verifier old bytes offered → FailsNow old.verifier new.verifier
           → HasFailed verifier new.verifier
       failed_now None None h now = (let none = ap (λ r. r.verifier) h.0 in absurd (rw none at now))
       failed_now (Some source) None h now = (let none = ap (λ r. r.verifier) h.0 in absurd (rw none at now))

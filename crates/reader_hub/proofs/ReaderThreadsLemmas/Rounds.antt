@@ -7,9 +7,9 @@ use Rattle.journal.specs.declared.journal.mode.Mode.{Mode}
 use Rattle.journal.specs.Journal.Feeds.{IsHeardFrom, is_taken_by, reader_of}
 use Rattle.journal.specs.Journal.History.{Told, took, heard, taken}
 use Rattle.journal.specs.Journal.Questions.{IsInStep}
-use Rattle.run_status.specs.RunStatus.Readers.{Reader, VerifierTold, close_found}
+use Rattle.run_status.specs.RunStatus.Readers.{Reader, VerifierShown, close_found}
 use Rattle.run_status.specs.declared.run_status.close.Close.{Close}
-use Rattle.run_status.specs.declared.run_status.close.Close.TheVariants.{End, Bad, ReadFault, VerifierFault, SignerFault, DiskFault, WriteFault, Malformed, Full, OutOfMemory as NoMemory}
+use Rattle.run_status.specs.declared.run_status.close.Close.TheVariants.{End, Bad, ReadFault, VerifierFault, SignerFault, DiskFault, WriteFault, Malformed, LimitReached, OutOfMemory as NoMemory}
 use Rattle.turn_lock.specs.Histories.{share_of}
 use Rattle.turn_lock.proofs.Histories.{share_of-all, share_of-append, share_of-none}
 use Rattle.validator_core.specs.ValidatorCore.View.{CoreView, open_of, told_of}
@@ -99,7 +99,7 @@ module _ (n count k : ℕ) (apart : (k < n) ⊎ (n + count ≤ k)) (others more 
 
 -- what became of a part of the round, and of all of it
 module _ (more all : List Told) (here rest : LastRound) (unheard : unheard_by here ≤ unheard_by rest) (answered : rest ≡ NoneFailed → here ≡ NoneFailed) where
-  asked_in : (k : ℕ) (had_failed : Bool) (v w : VerifierTold) → HasOthers k more all → IsAsked more here k had_failed v w → IsAsked all rest k had_failed v w
+  asked_in : (k : ℕ) (had_failed : Bool) (v w : VerifierShown) → HasOthers k more all → IsAsked more here k had_failed v w → IsAsked all rest k had_failed v w
   asked_in k had_failed v w o a = record {
     same_says = a.same_says;
     said = o.said v.says a.said;
@@ -109,7 +109,7 @@ module _ (more all : List Told) (here rest : LastRound) (unheard : unheard_by he
     unasked = a.unasked;
   }
 
-  asked_if : (k : ℕ) (had_failed : Bool) (o p : Option VerifierTold) → HasOthers k more all → IsAskedIfThere more here k had_failed o p → IsAskedIfThere all rest k had_failed o p
+  asked_if : (k : ℕ) (had_failed : Bool) (o p : Option VerifierShown) → HasOthers k more all → IsAskedIfThere more here k had_failed o p → IsAskedIfThere all rest k had_failed o p
   asked_if k had_failed None None others a = tt
   asked_if k had_failed None (Some w) others a = absurd a
   asked_if k had_failed (Some v) None others a = absurd a
@@ -166,7 +166,7 @@ rest_on n old new olds news first middle last here later a b = record {
     fails (inr e) = inr (b.failed e)
 
 -- a reader that wasn't asked
-unasked_if : (rest : LastRound) (k : ℕ) (had_failed : Bool) (o : Option VerifierTold) → IsAskedIfThere [] rest k had_failed o o
+unasked_if : (rest : LastRound) (k : ℕ) (had_failed : Bool) (o : Option VerifierShown) → IsAskedIfThere [] rest k had_failed o o
 unasked_if rest k had_failed None = tt
 unasked_if rest k had_failed (Some v) = record {
   same_says = refl;
@@ -207,7 +207,7 @@ rest_out n old new others first middle here out a =
     (rest_on n old new others others first middle middle OutOfMemory OutOfMemory (subst (λ (r : LastRound). AsksRest n (old ∷ []) (new ∷ []) first middle r) out a)
     (still (n + 1) others middle OutOfMemory (λ some. absurd (some refl)) (λ e. cc)))
 
-gives_up : (had_failed : Bool) (o : Option VerifierTold) → (had_failed ≡ true) ⊎ (o ≡ None) → GivesUp had_failed o o
+gives_up : (had_failed : Bool) (o : Option VerifierShown) → (had_failed ≡ true) ⊎ (o ≡ None) → GivesUp had_failed o o
 gives_up had_failed None why = tt
 gives_up had_failed (Some v) (inl failed) = inl failed
 gives_up had_failed (Some v) (inr none) = cc
@@ -229,7 +229,7 @@ one_reader n says (took reader b claims) v = v
 one_reader n says (heard reader b key sig verdict) v = let same = v.0 in (omega (arith, same), omega (arith, same))
 
 -- its verifier was asked
-module _ (n : ℕ) (old new : Reader) (v w : VerifierTold) (first last : CoreView) (rest : LastRound) (old_is : old.verifier ≡ Some v) (new_is : new ≡ record old { verifier = Some w })
+module _ (n : ℕ) (old new : Reader) (v w : VerifierShown) (first last : CoreView) (rest : LastRound) (old_is : old.verifier ≡ Some v) (new_is : new ≡ record old { verifier = Some w })
     (unfailed : (close_found old.close).verifier_failed ≡ false) (same_says : w.says ≡ v.says) (faults : CountsFault rest v.faults w.faults)
     (h : Hears n v.says v.inquiries w.inquiries first last (unheard_by rest)) where
   asked_it : IsAsked h.verdicts rest n (close_found old.close).verifier_failed v w
@@ -301,15 +301,15 @@ failed_then SignerFault e = cc
 failed_then DiskFault e = cc
 failed_then WriteFault e = cc
 failed_then (Malformed place) e = cc
-failed_then Full e = cc
+failed_then LimitReached e = cc
 failed_then NoMemory e = cc
 
 pub not_then : (close : Close) → (close_found close).verifier_failed ≡ false → close ≢ VerifierFault
 not_then close e same = let both : true ≡ false = sym (ap (λ c. (close_found c).verifier_failed) same) ∙ e in cc
 
 -- the two cases of a verifier that is there
-pub gives_up_at : (had_failed : Bool) (o p : Option VerifierTold) (mid left : VerifierTold) → o ≡ Some mid → p ≡ Some left → GivesUp had_failed o p → (had_failed ≡ true) ⊎ Rose mid.faults left.faults
+pub gives_up_at : (had_failed : Bool) (o p : Option VerifierShown) (mid left : VerifierShown) → o ≡ Some mid → p ≡ Some left → GivesUp had_failed o p → (had_failed ≡ true) ⊎ Rose mid.faults left.faults
 gives_up_at had_failed o p mid left there here up = rw (there, here) at up
 
-pub fails_at : (o p : Option VerifierTold) (mid left : VerifierTold) → o ≡ Some mid → p ≡ Some left → FailsNow o p → Rose mid.faults left.faults
+pub fails_at : (o p : Option VerifierShown) (mid left : VerifierShown) → o ≡ Some mid → p ≡ Some left → FailsNow o p → Rose mid.faults left.faults
 fails_at o p mid left there here now = rw (there, here) at now

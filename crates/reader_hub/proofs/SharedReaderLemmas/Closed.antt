@@ -16,9 +16,9 @@ use Rattle.run_status.specs.MessageFeed.Closing.{Gave}
 use Rattle.run_status.specs.MessageFeed.Feeds.{Feeds, Stream}
 use Rattle.run_status.specs.declared.message_feed.feed_close.FeedClose.{FeedClose}
 use Rattle.run_status.specs.declared.message_feed.feed_close.FeedClose.TheVariants as feed
-use Rattle.run_status.specs.RunStatus.Readers.{SourceTold}
+use Rattle.run_status.specs.RunStatus.Readers.{SourceShown}
 use Rattle.run_status.specs.declared.run_status.close.Close.{Close}
-use Rattle.run_status.specs.declared.run_status.close.Close.TheVariants.{End, Bad, ReadFault, VerifierFault, SignerFault, DiskFault, WriteFault, Malformed, Full, OutOfMemory}
+use Rattle.run_status.specs.declared.run_status.close.Close.TheVariants.{End, Bad, ReadFault, VerifierFault, SignerFault, DiskFault, WriteFault, Malformed, LimitReached, OutOfMemory}
 use Rattle.reader_hub.specs.SharedReader.Offers.{Offers}
 use Rattle.reader_hub.specs.SharedReader.ReadsOne.{ClosesReader, ClosesStream, ReadsOne, is_stopped}
 use Rattle.reader_hub.specs.SharedReader.Taken.{AreAsked, Finishes, HasStopped, HasTaken, IsSame, IsStopped, Standing}
@@ -54,7 +54,7 @@ none_taken : (last : Option Message) (ms all : List Message) → ms ++ all_of la
 none_taken None ms all made begun none = sym (append-nil ms) ∙ (made ∙ begun refl)
 none_taken (Some m) ms all made begun none = cc
 
-module _ (limits : Limits) (s t : Standing) (old new : SourceTold) where
+module _ (limits : Limits) (s t : Standing) (old new : SourceShown) where
   -- these messages were offered, the first of bytes that the source gave, and the reader closes so
   reads_by : (close : Close) (bytes more : List ℕ) (ms : List Message) → Offers s.extent s.says s.inquiries t.inquiries s.pass t.pass t.refused ms 4 1 → IsSame s t → AreFirst limits bytes ms
       → (is_stopped close ≡ false → AreMessages limits bytes ms) → Gave old.left new.left (bytes ++ more)
@@ -96,8 +96,8 @@ module _ (limits : Limits) (s t : Standing) (old new : SourceTold) where
   gave_by bytes reading items ms (Bad bad) c = ([], rw append-nil c.0.0)
   gave_by bytes reading items ms ReadFault c = ([], rw append-nil c.0.0)
   gave_by bytes reading items ms VerifierFault c = ([], rw append-nil c.0)
-  gave_by bytes reading items ms Full (inl full) = (full.0.0.more ∷ [], full.0.0.gave)
-  gave_by bytes reading items ms Full (inr limit) = ([], rw append-nil limit.0)
+  gave_by bytes reading items ms LimitReached (inl full) = (full.0.0.more ∷ [], full.0.0.gave)
+  gave_by bytes reading items ms LimitReached (inr limit) = ([], rw append-nil limit.0)
   gave_by bytes reading items ms SignerFault c = absurd c
   gave_by bytes reading items ms DiskFault c = absurd c
   gave_by bytes reading items ms WriteFault c = absurd c
@@ -132,12 +132,12 @@ module _ (limits : Limits) (s t : Standing) (old new : SourceTold) where
 
         by_close : (c : Close) → IsStopped s t h.rest c → ReadsOne limits s t old new c
         by_close VerifierFault why = reads_so VerifierFault h.offered (h.rest ++ later) h.offers h.same parts ends (λ e. cc) (gave, why) (λ other. absurd (other refl))
-        by_close Full (inl past, none) = reads_so Full h.offered (h.rest ++ later) h.offers h.same parts ends (λ e. cc) (inr (gave, inl past)) (λ other. none)
-        by_close Full (inr room, none) =
+        by_close LimitReached (inl past, none) = reads_so LimitReached h.offered (h.rest ++ later) h.offers h.same parts ends (λ e. cc) (inr (gave, inl past)) (λ other. none)
+        by_close LimitReached (inr room, none) =
             let next : h.offered ++ (room.next ∷ (room.later ++ later)) ≡ messages limits.message_signatures items = ap (λ l. h.offered ++ (l ++ later)) (sym room.rest_is) ∙ parts in
             let first = first_of limits bytes reading items stream (h.offered ++ room.next ∷ []) (room.later ++ later) (append_assoc h.offered (room.next ∷ []) (room.later ++ later) ∙ next)
             (λ none. whole (none_behind room.later later none) h.some) in
-            reads_so Full h.offered (h.rest ++ later) h.offers h.same parts ends (λ e. cc) (inr (gave, inr (record { next = room.next; first = first; turned_away = room.turned_away }))) (λ other. none)
+            reads_so LimitReached h.offered (h.rest ++ later) h.offers h.same parts ends (λ e. cc) (inr (gave, inr (record { next = room.next; first = first; turned_away = room.turned_away }))) (λ other. none)
         by_close OutOfMemory why = reads_out bytes [] h.offered h.offers h.same (first_of limits bytes reading items stream h.offered (h.rest ++ later) parts ends) (rw append-nil gave) why
         by_close End why = absurd why
         by_close (Bad bad) why = absurd why
@@ -157,7 +157,7 @@ module _ (limits : Limits) (s t : Standing) (old new : SourceTold) where
     reads_ended source_close close ms (inr stopped) all ends gave closes = reads_stopped close ms [] stopped (append-nil ms ∙ all) (λ none some. ends) gave
 
 -- a stream was read
-pub reads_stream : {T : Type 0} (seen : T → Standing) (limits : Limits) (s t : Standing) (old new : SourceTold) (taker : T) (source_close : FeedClose Close) (close : Close) (last : Option Message)
+pub reads_stream : {T : Type 0} (seen : T → Standing) (limits : Limits) (s t : Standing) (old new : SourceShown) (taker : T) (source_close : FeedClose Close) (close : Close) (last : Option Message)
     → Feeds (λ x ms. HasTaken s (seen x) ms) (λ x c ms. HasStopped s (seen x) c ms) limits old.left new.left old.faults new.faults taker source_close last
     → Finishes source_close last (seen taker) t close → ReadsOne limits s t old new close
 reads_stream seen limits s t old new taker feed.End close last f e =
@@ -169,7 +169,7 @@ reads_stream seen limits s t old new taker feed.ReadFault close last f e =
 reads_stream seen limits s t old new taker feed.Full close last f e =
     let taken : HasTaken s t f.answered = subst (λ x. HasTaken s x f.answered) (sym e.1) f.takes in
     subst (λ c. ReadsOne limits s t old new c) (sym e.0)
-    (reads_so limits s t old new f.fed f.reading f.items f.stream Full f.answered (all_of last) (offers_besides s.extent s.says s.inquiries t.inquiries s.pass t.pass t.refused f.answered 0 4 0 1 (omega arith) (omega arith) taken.offers) taken.same f.all
+    (reads_so limits s t old new f.fed f.reading f.items f.stream LimitReached f.answered (all_of last) (offers_besides s.extent s.says s.inquiries t.inquiries s.pass t.pass t.refused f.answered 0 4 0 1 (omega arith) (omega arith) taken.offers) taken.same f.all
     (λ none. rw f.closes.0.unfinished_item tt) (λ e. cc) (inl (f.closes, record { last = last; all = f.all })) (λ other. taken.none_failed))
 reads_stream seen limits s t old new taker feed.OutOfMemory close last f e =
     let taken : HasTaken s t f.answered = subst (λ x. HasTaken s x f.answered) (sym e.1) f.takes in
@@ -189,7 +189,7 @@ reads_stream seen limits s t old new taker (feed.Stopped stop) close last f e =
     (λ none some. absurd (some_open last f.answered none some f.begun f.all)) f.closes)
 
 -- the extent, the limit and what was refused at first, written otherwise
-pub reads_at : (limits : Limits) (s t : Standing) (old new : SourceTold) (close : Close) → s.refused ≡ [] → ReadsOne limits s t old new close
+pub reads_at : (limits : Limits) (s t : Standing) (old new : SourceShown) (close : Close) → s.refused ≡ [] → ReadsOne limits s t old new close
     → ReadsOne limits (record s { refused = [] }) (record t { extent = s.extent; limit = s.limit }) old new close
 reads_at limits s t old new close none r =
     let same : ReadsOne limits s (record t { limit = s.limit }) old new close = subst (λ l. ReadsOne limits s (record t { limit = l }) old new close) r.same.limit r in

@@ -15,7 +15,7 @@ use Rattle.journal.specs.declared.journal.claim.Claim.{Claim}
 use Rattle.journal.specs.declared.journal.refusal.Refusal.{Refusal}
 use Rattle.journal.specs.declared.journal.reply.Reason.{Reason}
 use Rattle.journal.specs.declared.journal.reply.Reply.{Reply}
-use Rattle.journal.specs.declared.journal.reply.Reply.TheVariants.{Taken, Again, Refused, Full}
+use Rattle.journal.specs.declared.journal.reply.Reply.TheVariants.{Taken, Again, Refused, LimitReached}
 use Rattle.journal.specs.Journal.CoreCalls.{Takes}
 use Rattle.journal.specs.Journal.Feeds.{GivesBody, entry_of, entry_unless, is_taken_by, noted_at, refusal_of}
 use Rattle.journal.specs.Journal.History.{Told, took, heard}
@@ -41,7 +41,7 @@ abbrev pub refused_as : ℕ → Reply → List Refusal
 refused_as place Taken = []
 refused_as place Again = []
 refused_as place (Refused reason) = record { place = place; reason = reason } ∷ []
-refused_as place Full = []
+refused_as place LimitReached = []
 
 -- what is told and noted after a message that was offered
 record IsOffered (n : ℕ) (old new : List Told) (m : Message) (gives : Result Event BodyFault) (reply : Reply) : Type 0 where
@@ -49,7 +49,7 @@ record IsOffered (n : ℕ) (old new : List Told) (m : Message) (gives : Result E
   noted : refused_as m.place reply ≡ noted_at m.place (refusal m gives)
 
 module _ (limits : Limits) (n : ℕ) (old new : List Told) (m : Message) where
-  replies : (b : Body) (claims : List Claim) → (reply_to limits [] old b claims ≡ Full)
+  replies : (b : Body) (claims : List Claim) → (reply_to limits [] old b claims ≡ LimitReached)
       ⊎ ((reply_to limits [] old b claims ≡ Again) ⊎ (reply_to limits [] old b claims ≡ Taken))
   unfolding reply_to
   replies b claims = elim (cases_Bool (is_full limits [] old b claims)) [
@@ -58,7 +58,7 @@ module _ (limits : Limits) (n : ℕ) (old new : List Told) (m : Message) where
   ]
 
   -- a message for which there is room has its entry, or is noted as refused
-  offered : (gives : Result Event BodyFault) (reply : Reply) → Takes limits [] old n m gives reply new → reply ≢ Full → IsOffered n old new m gives reply
+  offered : (gives : Result Event BodyFault) (reply : Reply) → Takes limits [] old n m gives reply new → reply ≢ LimitReached → IsOffered n old new m gives reply
   offered (Ok e) reply takes roomy = by_reason (refusal m (Ok e)) refl
     where
       by_reason : (r : Option Reason) → refusal m (Ok e) ≡ r → IsOffered n old new m (Ok e) reply
@@ -88,12 +88,12 @@ module _ (limits : Limits) (n : ℕ) (old new : List Told) (m : Message) where
   refused_same reason (Ok e) t = t.1
   refused_same reason (Err fault) t = t.1
 
-  full_same : (gives : Result Event BodyFault) → Takes limits [] old n m gives Full new → (new ≡ old) × Takes limits [] old n m gives Full old
+  full_same : (gives : Result Event BodyFault) → Takes limits [] old n m gives LimitReached new → (new ≡ old) × Takes limits [] old n m gives LimitReached old
   full_same (Ok e) t = (t.1, (t.0, refl))
   full_same (Err fault) t = (t.1, (t.0, refl))
 
 module _ (limit : ℕ) (p : HubPass) (m : Message) (q : HubPass) where
-  pub offers_one : (reply : Reply) (old new : List Refusal) → reply ≢ Full → new ≡ old ++ refused_as m.place reply → TakesAt limit p m reply q → OffersOne p q old new m
+  pub offers_one : (reply : Reply) (old new : List Refusal) → reply ≢ LimitReached → new ≡ old ++ refused_as m.place reply → TakesAt limit p m reply q → OffersOne p q old new m
   offers_one reply old new roomy noted t =
       let was = offered t.meets.head.limits p.number t.meets.met (t.meets.met ++ t.more) m t.takes.gives reply t.takes.takes roomy in
       let entry = append_cancel_left t.meets.met t.more (entry_unless (refusal m t.takes.gives) p.number m t.takes.gives) was.behind in
@@ -122,17 +122,17 @@ module _ (limit : ℕ) (p : HubPass) (m : Message) (q : HubPass) where
   pub refused_tells : (reason : Reason) → TakesAt limit p m (Refused reason) q → TellsNothing p q 1
   refused_tells reason t = quiet (Refused reason) t (refused_same t.meets.head.limits p.number t.meets.met (t.meets.met ++ t.more) m reason t.takes.gives t.takes.takes)
 
-  pub full_tells : TakesAt limit p m Full q → TellsNothing p q 1 × IsTurnedAway q m
+  pub full_tells : TakesAt limit p m LimitReached q → TellsNothing p q 1 × IsTurnedAway q m
   full_tells t =
       let (same, full) = full_same t.meets.head.limits p.number t.meets.met (t.meets.met ++ t.more) m t.takes.gives t.takes.takes in
       let seen : q.seen ≡ t.meets.met = seen_then limit p t.meets.met t.more q t.turn ∙ same in
       let number = ap (λ x. x.number) t.turn.now in (
-        quiet Full t same,
+        quiet LimitReached t same,
         record {
           head = t.meets.head;
           head_is = ap (λ x. x.head) t.turn.now ∙ t.meets.head_is;
-          full = subst (λ l. TakesOver t.meets.head.limits l q.number m Full l) (sym seen)
-              (subst (λ k. TakesOver t.meets.head.limits t.meets.met k m Full t.meets.met) (sym number) (record { gives = t.takes.gives; judged = t.takes.judged; takes = full }));
+          full = subst (λ l. TakesOver t.meets.head.limits l q.number m LimitReached l) (sym seen)
+              (subst (λ k. TakesOver t.meets.head.limits t.meets.met k m LimitReached t.meets.met) (sym number) (record { gives = t.takes.gives; judged = t.takes.judged; takes = full }));
         },
       )
 

@@ -7,7 +7,7 @@ use Rattle.cesr_stream.specs.declared.message.Message.{Message}
 use Rattle.turn_lock.specs.Known.{OwnsAlone}
 use Rattle.reader_hub.specs.ReaderHub.Hubs.{HubPass}
 use Rattle.run_status.specs.declared.run_status.close.Close.{Close}
-use Rattle.run_status.specs.declared.run_status.close.Close.TheVariants.{End, Bad, ReadFault, VerifierFault, SignerFault, DiskFault, WriteFault, Malformed, Full, OutOfMemory}
+use Rattle.run_status.specs.declared.run_status.close.Close.TheVariants.{End, Bad, ReadFault, VerifierFault, SignerFault, DiskFault, WriteFault, Malformed, LimitReached, OutOfMemory}
 use Rattle.reader_hub.specs.SharedReader.Asks.{Asks, LeavesNone, StopsAsking, TellsNothing}
 use Rattle.reader_hub.specs.declared.reader_hub.extent.Extent.{Extent}
 use Rattle.reader_hub.specs.SharedReader.Offers.{IsKeptOut, OffersOne}
@@ -60,7 +60,7 @@ no_end (x ∷ before) m h = cc
 module _ (s t u : Standing) (limit : t.limit ≡ s.limit) (faults : t.faults ≡ s.faults) where
   stopped_by : (rest : List Message) (close : Close) → StopsAsking t.limit u.pass t.faults u.faults close → IsStopped s u rest close
   stopped_by rest VerifierFault w = subst (λ x. Rose x u.faults) faults w
-  stopped_by rest Full w = (inl (w.0 ∙ limit), w.1 ∙ faults)
+  stopped_by rest LimitReached w = (inl (w.0 ∙ limit), w.1 ∙ faults)
   stopped_by rest OutOfMemory w = w ∙ faults
   stopped_by rest End w = absurd w
   stopped_by rest (Bad bad) w = absurd w
@@ -71,8 +71,8 @@ module _ (s t u : Standing) (limit : t.limit ≡ s.limit) (faults : t.faults ≡
   stopped_by rest (Malformed place) w = absurd w
 
   kept_by : (m : Message) (close : Close) → IsKeptOut t.limit u.pass m close → u.faults ≡ t.faults → IsStopped s u (m ∷ []) close
-  kept_by m Full (inl past) none = (inl (past ∙ limit), none ∙ faults)
-  kept_by m Full (inr away) none = (inr (record { next = m; later = []; rest_is = refl; turned_away = away }), none ∙ faults)
+  kept_by m LimitReached (inl past) none = (inl (past ∙ limit), none ∙ faults)
+  kept_by m LimitReached (inr away) none = (inr (record { next = m; later = []; rest_is = refl; turned_away = away }), none ∙ faults)
   kept_by m OutOfMemory w none = none ∙ faults
   kept_by m End w none = absurd w
   kept_by m (Bad bad) w none = absurd w

@@ -2,13 +2,13 @@
 use Rattle.std.specs.Prelude.{List, Option, Some, None}
 use Rattle.journal.specs.declared.journal.mode.Mode.{Mode}
 use Rattle.journal.specs.Journal.History.{Told}
-use Rattle.run_status.specs.RunStatus.Readers.{Reader, VerifierTold}
+use Rattle.run_status.specs.RunStatus.Readers.{Reader, VerifierShown}
 use Rattle.reader_hub.specs.SharedReader.Asks.{AsksOnly}
 use Rattle.reader_hub.specs.ReaderThreads.Given.{Given}
 use Rattle.reader_hub.specs.ReaderThreads.Starts.{EachPair}
 
 -- where there is a verifier, it is there still, and was asked only for verdicts that are told, and on questions that are open
-abbrev pub AsksOnlyIfThere : Mode → List Told → Option VerifierTold → Option VerifierTold → Type 0
+abbrev pub AsksOnlyIfThere : Mode → List Told → Option VerifierShown → Option VerifierShown → Type 0
 AsksOnlyIfThere mode told None None = Unit {0}
 AsksOnlyIfThere mode told None (Some new) = ⊥
 AsksOnlyIfThere mode told (Some old) None = ⊥

@@ -5,7 +5,7 @@ use Rattle.cesr_stream.specs.declared.message.Message.{Message}
 use Rattle.cesr_stream.specs.Items.{Placed}
 use Rattle.cesr_stream.specs.Reading.{Reading}
 use Rattle.keri_outside.specs.declared.limits.Limits.{Limits}
-use Rattle.journal.specs.declared.journal.reply.Reply.TheVariants.{Full as FullReply}
+use Rattle.journal.specs.declared.journal.reply.Reply.TheVariants.{LimitReached as FullReply}
 use Rattle.journal.specs.Journal.Feeds as feeds
 use Rattle.journal.specs.Journal.Feeds.{AreFirst, Fed, FeedEach, reader_of}
 use Rattle.journal.specs.Journal.History.{Told, taken}
@@ -13,9 +13,9 @@ use Rattle.run_status.specs.MessageFeed.Closing.{ClosesBy, Gave}
 use Rattle.run_status.specs.MessageFeed.Feeds.{Stream}
 use Rattle.run_status.specs.declared.message_feed.feed_close.FeedClose.{FeedClose}
 use Rattle.run_status.specs.declared.message_feed.feed_close.FeedClose.TheVariants as feed
-use Rattle.run_status.specs.RunStatus.Readers.{Reader, SourceTold, VerifierTold}
+use Rattle.run_status.specs.RunStatus.Readers.{Reader, SourceShown, VerifierShown}
 use Rattle.run_status.specs.declared.run_status.close.Close.{Close}
-use Rattle.run_status.specs.declared.run_status.close.Close.TheVariants.{End, Bad, ReadFault, VerifierFault, SignerFault, DiskFault, WriteFault, Malformed, Full, OutOfMemory}
+use Rattle.run_status.specs.declared.run_status.close.Close.TheVariants.{End, Bad, ReadFault, VerifierFault, SignerFault, DiskFault, WriteFault, Malformed, LimitReached, OutOfMemory}
 use Rattle.turn_lock.specs.Histories.{share_of}
 use Rattle.reader_hub.specs.ReaderHub.Hubs.{TakesOver}
 use Rattle.reader_hub.specs.SharedReader.Asks.{AsksFor, verdict_count}
@@ -36,7 +36,7 @@ pub record NextFindsNoRoom (limits : Limits) (told : List Told) (number : ℕ) (
   pub turned_away : TakesOver limits told number next FullReply told
 
 module _ (limits : Limits) (told : List Told) (most : ℕ) (number : ℕ) where
-  module _ (source source_left : SourceTold) (verifier verifier_left : VerifierTold) where
+  module _ (source source_left : SourceShown) (verifier verifier_left : VerifierShown) where
     -- the source closed the reading so, behind these bytes
     abbrev pub IsClosedSo : List ℕ → Reading → FeedClose ℕ → Type 0
     IsClosedSo bytes reading close = ClosesBy limits.stream_bytes source.left source_left.left source.faults source_left.faults bytes reading close
@@ -47,7 +47,7 @@ module _ (limits : Limits) (told : List Told) (most : ℕ) (number : ℕ) where
     ClosesReader bytes reading items offered End = IsClosedSo bytes reading feed.End
     ClosesReader bytes reading items offered (Bad bad) = IsClosedSo bytes reading (feed.Bad bad)
     ClosesReader bytes reading items offered ReadFault = IsClosedSo bytes reading feed.ReadFault
-    ClosesReader bytes reading items offered Full = (IsClosedSo bytes reading feed.Full × LacksOnlyOpen limits items offered)
+    ClosesReader bytes reading items offered LimitReached = (IsClosedSo bytes reading feed.Full × LacksOnlyOpen limits items offered)
         ⊎ (Gave source.left source_left.left bytes × ((limits.turns ≤ most) ⊎ NextFindsNoRoom limits told number bytes offered))
     ClosesReader bytes reading items offered VerifierFault = Gave source.left source_left.left bytes × Rose verifier.faults verifier_left.faults
     ClosesReader bytes reading items offered SignerFault = ⊥
@@ -67,9 +67,9 @@ module _ (limits : Limits) (told : List Told) (most : ℕ) (number : ℕ) where
     -- The source gave the bytes, and maybe more, and these are what is left of both. Unless there was no memory, the reader closed
     -- by its cause. The verifier was asked for each of this reader's verdicts, in order, and little more; it never failed, unless
     -- its fault closed the reader, or a verifier failed in the last round.
-    pub record ReadsFrom (source : SourceTold) (verifier : VerifierTold) (reader : Reader) (bytes : List ℕ) (offered : List Message) : Type 0 where
-      pub source_left : SourceTold
-      pub verifier_left : VerifierTold
+    pub record ReadsFrom (source : SourceShown) (verifier : VerifierShown) (reader : Reader) (bytes : List ℕ) (offered : List Message) : Type 0 where
+      pub source_left : SourceShown
+      pub verifier_left : VerifierShown
       pub source_is : reader.source ≡ Some source_left
       pub verifier_is : reader.verifier ≡ Some verifier_left
       pub same_says : verifier_left.says ≡ verifier.says
@@ -82,8 +82,8 @@ module _ (limits : Limits) (told : List Told) (most : ℕ) (number : ℕ) where
       pub none_seen : reader.seen ≡ []
 
     -- There was no source: nothing was read, and the reader closes by that. Its verifier was asked in the last round at most.
-    pub record HasNoSource (verifier : VerifierTold) (reader : Reader) : Type 0 where
-      pub verifier_left : VerifierTold
+    pub record HasNoSource (verifier : VerifierShown) (reader : Reader) : Type 0 where
+      pub verifier_left : VerifierShown
       pub source_is : reader.source ≡ None
       pub verifier_is : reader.verifier ≡ Some verifier_left
       pub same_says : verifier_left.says ≡ verifier.says
@@ -95,7 +95,7 @@ module _ (limits : Limits) (told : List Told) (most : ℕ) (number : ℕ) where
       pub close_is : reader.close ≡ ReadFault
 
     -- The stream was read with the verifier. Where one of both is lacking nothing was read, and the reader closes by what is lacking.
-    abbrev pub ReadsBy : Option SourceTold → Option VerifierTold → Reader → List ℕ → List Message → Type 0
+    abbrev pub ReadsBy : Option SourceShown → Option VerifierShown → Reader → List ℕ → List Message → Type 0
     ReadsBy None None reader bytes offered = (reader ≡ unread None None ReadFault) × (bytes ≡ [])
     ReadsBy None (Some verifier) reader bytes offered = HasNoSource verifier reader × (bytes ≡ [])
     ReadsBy (Some source) None reader bytes offered = (reader ≡ unread (Some source) None VerifierFault) × (bytes ≡ [])

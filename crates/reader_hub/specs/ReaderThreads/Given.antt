@@ -4,7 +4,7 @@ use Rattle.cesr_codes.specs.declared.key.Key.{Key}
 use Rattle.cesr_codes.specs.declared.sig.Sig.{Sig}
 use Rattle.journal.specs.Journal.Feeds as feeds
 use Rattle.keri_outside.specs.declared.inquiry.Inquiry.{Inquiry}
-use Rattle.run_status.specs.RunStatus.Readers.{Reader, SourceTold, VerifierTold, source_seen, verifier_seen}
+use Rattle.run_status.specs.RunStatus.Readers.{Reader, SourceShown, VerifierShown, source_seen, verifier_seen}
 use Rattle.run_status.specs.declared.run_status.close.Close.{Close}
 use Rattle.reader_hub.specs.SharedReader.Asks.{Says}
 use Rattle.reader_hub.specs.SharedReader.ReadsOne.{is_stopped}
@@ -12,8 +12,8 @@ use Rattle.reader_hub.specs.declared.reader_threads.providers.Providers.{Provide
 
 -- the source and the verifier, as far as they could be made
 pub record Given : Type 0 where
-  pub source : Option SourceTold
-  pub verifier : Option VerifierTold
+  pub source : Option SourceShown
+  pub verifier : Option VerifierShown
 
 -- of what a reader is given
 abbrev pub given_by : {S V : Type 0} → (S → Option (List ℕ)) → (S → ℕ) → (V → Key → List ℕ → Sig → Option Bool) → (V → Option (List Inquiry))
@@ -24,7 +24,7 @@ given_by left faults says inquiries verifier_faults providers = record {
 }
 
 -- what the verifier says, where there is one
-abbrev pub said_by : Option VerifierTold → Says
+abbrev pub said_by : Option VerifierShown → Says
 said_by None = λ key body sig. None
 said_by (Some verifier) = verifier.says
 
@@ -33,5 +33,5 @@ abbrev pub end_of : List ℕ → Reader → feeds.End
 end_of bytes reader = record { bytes = Some bytes; says = said_by reader.verifier; refused = reader.refused; stopped = is_stopped reader.close }
 
 -- a reader that read nothing, and closes so
-abbrev pub unread : Option SourceTold → Option VerifierTold → Close → Reader
+abbrev pub unread : Option SourceShown → Option VerifierShown → Close → Reader
 unread source verifier close = record { source = source; verifier = verifier; refused = []; seen = []; close = close }

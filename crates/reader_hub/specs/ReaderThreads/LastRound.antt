@@ -7,7 +7,7 @@ use Rattle.journal.specs.declared.journal.question.Question.{Question}
 use Rattle.journal.specs.Journal.Feeds.{IsHeardFrom, reader_of}
 use Rattle.journal.specs.Journal.History.{Told, took, heard}
 use Rattle.journal.specs.Journal.Questions.{IsInStep}
-use Rattle.run_status.specs.RunStatus.Readers.{Reader, VerifierTold, close_found}
+use Rattle.run_status.specs.RunStatus.Readers.{Reader, VerifierShown, close_found}
 use Rattle.turn_lock.specs.Histories.{share_of}
 use Rattle.validator_core.specs.ValidatorCore.View.{CoreView, Follows, open_of, told_of}
 use Rattle.reader_hub.specs.SharedReader.Asks.{AsksFor, AsksOnly, IsVerdict, Says, verdict_count}
@@ -67,7 +67,7 @@ IsHeardOf number count (heard reader b key sig verdict) = (number ≤ reader) ×
 module _ (more : List Told) (rest : LastRound) where
   -- Since `more` is told, the reader's verifier was asked for the reader's verdicts in it, and little more; not at all if its fault
   -- had closed the reader.
-  pub record IsAsked (number : ℕ) (had_failed : Bool) (old new : VerifierTold) : Type 0 where
+  pub record IsAsked (number : ℕ) (had_failed : Bool) (old new : VerifierShown) : Type 0 where
     pub same_says : new.says ≡ old.says
     pub said : All (IsHeardFrom number old.says) more
     pub inquired : AsksFor old.inquiries new.inquiries (share_of reader_of number more) (verdict_count more + unheard_by rest)
@@ -75,7 +75,7 @@ module _ (more : List Told) (rest : LastRound) where
     pub unasked : had_failed ≡ true → new.faults ≡ old.faults
 
   -- where there is one
-  abbrev pub IsAskedIfThere : ℕ → Bool → Option VerifierTold → Option VerifierTold → Type 0
+  abbrev pub IsAskedIfThere : ℕ → Bool → Option VerifierShown → Option VerifierShown → Type 0
   IsAskedIfThere number had_failed None None = Unit {0}
   IsAskedIfThere number had_failed None (Some new) = ⊥
   IsAskedIfThere number had_failed (Some old) None = ⊥
@@ -97,13 +97,13 @@ module _ (more : List Told) (rest : LastRound) where
   AsksEach number (old ∷ olds) (new ∷ news) = AsksOne number old new × AsksEach (number + 1) olds news
 
 -- a verifier that is there failed in the round
-abbrev pub FailsNow : Option VerifierTold → Option VerifierTold → Type 0
+abbrev pub FailsNow : Option VerifierShown → Option VerifierShown → Type 0
 FailsNow None new = ⊥
 FailsNow (Some old) None = ⊥
 FailsNow (Some old) (Some new) = Rose old.faults new.faults
 
 -- the verifier isn't there, or failed, in the round or before
-abbrev pub GivesUp : Bool → Option VerifierTold → Option VerifierTold → Type 0
+abbrev pub GivesUp : Bool → Option VerifierShown → Option VerifierShown → Type 0
 GivesUp had_failed None new = Unit {0}
 GivesUp had_failed (Some old) None = ⊥
 GivesUp had_failed (Some old) (Some new) = (had_failed ≡ true) ⊎ Rose old.faults new.faults

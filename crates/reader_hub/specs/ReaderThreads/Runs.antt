@@ -1,7 +1,7 @@
 -- What one reader does with its pass.
 use Rattle.std.specs.Prelude.{◌≡◌, ℕ, [], Option, Some, None}
 use Rattle.keri_outside.specs.declared.limits.Limits.{Limits}
-use Rattle.run_status.specs.RunStatus.Readers.{Reader, SourceTold, VerifierTold}
+use Rattle.run_status.specs.RunStatus.Readers.{Reader, SourceShown, VerifierShown}
 use Rattle.run_status.specs.declared.run_status.close.Close.TheVariants.{ReadFault, VerifierFault}
 use Rattle.turn_lock.specs.Locks.{LockId}
 use Rattle.reader_hub.specs.ReaderHub.Hubs.{HubPass}
@@ -17,10 +17,10 @@ pub record PassSeen : Type 0 where
 
 -- With a pass of a lock for so many turns, one stream was read and one verifier asked, to that extent. These are what is left of
 -- both.
-pub record ReadsStream (limits : Limits) (limit : ℕ) (extent : Extent) (source : SourceTold) (verifier : VerifierTold) (old : PassSeen) (reader : Reader)
+pub record ReadsStream (limits : Limits) (limit : ℕ) (extent : Extent) (source : SourceShown) (verifier : VerifierShown) (old : PassSeen) (reader : Reader)
     (new : PassSeen) : Type 0 where
-  pub source_left : SourceTold
-  pub verifier_left : VerifierTold
+  pub source_left : SourceShown
+  pub verifier_left : VerifierShown
   pub source_is : reader.source ≡ Some source_left
   pub verifier_is : reader.verifier ≡ Some verifier_left
   pub none_seen : reader.seen ≡ []
@@ -29,7 +29,7 @@ pub record ReadsStream (limits : Limits) (limit : ℕ) (extent : Extent) (source
 
 -- The stream was read where there were both a source and a verifier. Where one of them is lacking nothing was read, the pass and
 -- the other one are as they were, and the reader closes by what is lacking.
-abbrev pub RunsBy : Limits → ℕ → Extent → Option SourceTold → Option VerifierTold → PassSeen → Reader → PassSeen → Type 0
+abbrev pub RunsBy : Limits → ℕ → Extent → Option SourceShown → Option VerifierShown → PassSeen → Reader → PassSeen → Type 0
 RunsBy limits limit extent None verifier old reader new = (new ≡ old) × (reader ≡ unread None verifier ReadFault)
 RunsBy limits limit extent (Some source) None old reader new = (new ≡ old) × (reader ≡ unread (Some source) None VerifierFault)
 RunsBy limits limit extent (Some source) (Some verifier) old reader new = ReadsStream limits limit extent source verifier old reader new

@@ -4,7 +4,7 @@ use Rattle.lists.specs.KeriSpecs.Causes.{Rose}
 use Rattle.keri_outside.specs.declared.limits.Limits.{Limits}
 use Rattle.journal.specs.declared.journal.mode.Mode.{Mode}
 use Rattle.journal.specs.Journal.Questions.{IsInStep, questions}
-use Rattle.run_status.specs.RunStatus.Readers.{Reader, VerifierTold}
+use Rattle.run_status.specs.RunStatus.Readers.{Reader, VerifierShown}
 use Rattle.validator_core.specs.ValidatorCore.View.{CoreView, Stands, told_of}
 use Rattle.reader_hub.specs.ReaderThreads.Asked.{EachAsksOnly}
 use Rattle.reader_hub.specs.ReaderThreads.Fed.{AllRead}
@@ -13,7 +13,7 @@ use Rattle.reader_hub.specs.declared.reader_threads.last_round.LastRound.{LastRo
 use Rattle.reader_hub.specs.declared.reader_threads.last_round.LastRound.TheVariants.{VerifierFailed, OutOfMemory}
 
 -- the verifier that was given failed since; where none was given, or none came back, there is nothing to fail
-abbrev pub FailedIfThere : Option VerifierTold → Option VerifierTold → Type 0
+abbrev pub FailedIfThere : Option VerifierShown → Option VerifierShown → Type 0
 FailedIfThere None left = Unit {0}
 FailedIfThere (Some given) None = Unit {0}
 FailedIfThere (Some given) (Some left) = Rose given.faults left.faults
@@ -25,7 +25,7 @@ EachFailed (g ∷ given) [] = Unit {0}
 EachFailed (g ∷ given) (reader ∷ readers) = FailedIfThere g.verifier reader.verifier × EachFailed given readers
 
 -- a verifier was given, and failed since
-abbrev pub HasFailed : Option VerifierTold → Option VerifierTold → Type 0
+abbrev pub HasFailed : Option VerifierShown → Option VerifierShown → Type 0
 HasFailed None left = ⊥
 HasFailed (Some given) None = ⊥
 HasFailed (Some given) (Some left) = Rose given.faults left.faults

@@ -18,7 +18,7 @@ use Rattle.reader_hub.specs.declared.reader_hub.hub_fault.HubFault.TheVariants.{
 use Rattle.reader_hub.specs.declared.reader_hub.extent.Extent.{Extent}
 use Rattle.reader_hub.specs.declared.reader_hub.extent.Extent.TheVariants.{First, Free, All as Every}
 use Rattle.run_status.specs.declared.run_status.close.Close.{Close}
-use Rattle.run_status.specs.declared.run_status.close.Close.TheVariants.{End, Bad, ReadFault, VerifierFault, SignerFault, DiskFault, WriteFault, Malformed, Full, OutOfMemory}
+use Rattle.run_status.specs.declared.run_status.close.Close.TheVariants.{End, Bad, ReadFault, VerifierFault, SignerFault, DiskFault, WriteFault, Malformed, LimitReached, OutOfMemory}
 use Rattle.reader_hub.specs.SharedReader.Steps.{StepsAlone}
 
 -- what a verifier says of a key, a body and a signature, where it tells
@@ -27,7 +27,7 @@ Says = Key → List ℕ → Sig → Option Bool
 
 -- how a reader closes by a fault of the hub
 abbrev pub closed_by : HubFault → Close
-closed_by (Spent turns) = Full
+closed_by (Spent turns) = LimitReached
 closed_by NoMemory = OutOfMemory
 
 -- so many verdicts were told
@@ -112,7 +112,7 @@ at_last Every = Every
 -- why no more is asked: the verifier failed, all turns were taken, or there was no memory
 abbrev pub StopsAsking : ℕ → HubPass → ℕ → ℕ → Close → Type 0
 StopsAsking limit q faults_old faults_new VerifierFault = Rose faults_old faults_new
-StopsAsking limit q faults_old faults_new Full = (q.past ≡ limit) × (faults_new ≡ faults_old)
+StopsAsking limit q faults_old faults_new LimitReached = (q.past ≡ limit) × (faults_new ≡ faults_old)
 StopsAsking limit q faults_old faults_new OutOfMemory = faults_new ≡ faults_old
 StopsAsking limit q faults_old faults_new End = ⊥
 StopsAsking limit q faults_old faults_new (Bad bad) = ⊥

@@ -4,7 +4,7 @@ use mathlib.Core.List.{IsPrefix}
 use Rattle.cesr_stream.specs.declared.message.Message.{Message}
 use Rattle.keri_outside.specs.declared.inquiry.Inquiry.{Inquiry}
 use Rattle.journal.specs.declared.journal.refusal.Refusal.{Refusal}
-use Rattle.journal.specs.declared.journal.reply.Reply.TheVariants.{Full as FullReply}
+use Rattle.journal.specs.declared.journal.reply.Reply.TheVariants.{LimitReached as FullReply}
 use Rattle.journal.specs.Journal.Feeds.{GivesBody, Judged, entry_of, refusal_of, is_taken_by}
 use Rattle.journal.specs.Journal.History.{Told, took, heard}
 use Rattle.turn_lock.specs.Histories.{longer_share}
@@ -14,7 +14,7 @@ use Rattle.reader_hub.specs.declared.reader_hub.core_head.CoreHead.{CoreHead}
 use Rattle.reader_hub.specs.declared.reader_hub.extent.Extent.{Extent}
 use Rattle.reader_hub.specs.declared.reader_hub.extent.Extent.TheVariants.{First}
 use Rattle.run_status.specs.declared.run_status.close.Close.{Close}
-use Rattle.run_status.specs.declared.run_status.close.Close.TheVariants.{End, Bad, ReadFault, VerifierFault, SignerFault, DiskFault, WriteFault, Malformed, Full, OutOfMemory}
+use Rattle.run_status.specs.declared.run_status.close.Close.TheVariants.{End, Bad, ReadFault, VerifierFault, SignerFault, DiskFault, WriteFault, Malformed, LimitReached, OutOfMemory}
 use Rattle.reader_hub.specs.SharedReader.Asks.{AsksFor, AsksOnlySeen, Says, Stays, verdict_count}
 use Rattle.reader_hub.specs.SharedReader.Steps.{SawNoneOpen, StepsAlone}
 
@@ -40,7 +40,7 @@ pub record OffersOne (p q : HubPass) (refused_old refused_new : List Refusal) (m
 
 -- why the message wasn't offered: all turns were taken, there was no room for it, or no memory
 abbrev pub IsKeptOut : ℕ → HubPass → Message → Close → Type 0
-IsKeptOut limit q m Full = (q.past ≡ limit) ⊎ IsTurnedAway q m
+IsKeptOut limit q m LimitReached = (q.past ≡ limit) ⊎ IsTurnedAway q m
 IsKeptOut limit q m OutOfMemory = Unit {0}
 IsKeptOut limit q m End = ⊥
 IsKeptOut limit q m (Bad bad) = ⊥

@@ -19,16 +19,16 @@ use Rattle.run_status.specs.declared.message_feed.feed_close.FeedClose.TheVarian
 use Rattle.turn_lock.specs.Known.{OwnsAlone}
 use Rattle.reader_hub.specs.ReaderHub.Hubs.{HubPass}
 use Rattle.reader_hub.specs.declared.reader_hub.extent.Extent.TheVariants.{First}
-use Rattle.run_status.specs.RunStatus.Readers.{SourceTold}
+use Rattle.run_status.specs.RunStatus.Readers.{SourceShown}
 use Rattle.run_status.specs.declared.run_status.close.Close.{Close}
-use Rattle.run_status.specs.declared.run_status.close.Close.TheVariants.{End, Bad, ReadFault, VerifierFault, SignerFault, DiskFault, WriteFault, Malformed, Full, OutOfMemory}
+use Rattle.run_status.specs.declared.run_status.close.Close.TheVariants.{End, Bad, ReadFault, VerifierFault, SignerFault, DiskFault, WriteFault, Malformed, LimitReached, OutOfMemory}
 use Rattle.reader_hub.specs.SharedReader.Asks.{AsksFor, AsksOnlySeen, Stays, verdict_count}
 use Rattle.reader_hub.specs.SharedReader.Offers.{IsEntryOf, IsTurnedAway}
 use Rattle.reader_hub.specs.SharedReader.Steps.{StepsAlone}
 use Rattle.reader_hub.specs.SharedReader.Taken.{AreAsked, IsSame, Standing}
 
-abbrev pub source_told : Option (List ℕ) → ℕ → SourceTold
-source_told left faults = record { left = left; faults = faults }
+abbrev pub source_shown : Option (List ℕ) → ℕ → SourceShown
+source_shown left faults = record { left = left; faults = faults }
 
 -- the reader was stopped before it had taken all that it read
 abbrev pub is_stopped : Close → Bool
@@ -40,7 +40,7 @@ is_stopped SignerFault = true
 is_stopped DiskFault = true
 is_stopped WriteFault = true
 is_stopped (Malformed place) = false
-is_stopped Full = true
+is_stopped LimitReached = true
 is_stopped OutOfMemory = true
 
 -- the end of a reader that read these bytes
@@ -58,7 +58,7 @@ pub record NextFindsNoRoom (limits : Limits) (bytes : List ℕ) (q : HubPass) (o
   pub first : AreFirst limits bytes (offered ++ next ∷ [])
   pub turned_away : IsTurnedAway q next
 
-module _ (limits : Limits) (s t : Standing) (old new : SourceTold) where
+module _ (limits : Limits) (s t : Standing) (old new : SourceShown) where
   -- the source closed the reading so, behind these bytes
   abbrev pub IsClosedSo : List ℕ → Reading → FeedClose ℕ → Type 0
   IsClosedSo bytes reading close = ClosesBy limits.stream_bytes old.left new.left old.faults new.faults bytes reading close
@@ -70,7 +70,7 @@ module _ (limits : Limits) (s t : Standing) (old new : SourceTold) where
   ClosesReader bytes reading items offered End = IsClosedSo bytes reading feed.End × AreAsked s.pass t.pass offered
   ClosesReader bytes reading items offered (Bad bad) = IsClosedSo bytes reading (feed.Bad bad) × AreAsked s.pass t.pass offered
   ClosesReader bytes reading items offered ReadFault = IsClosedSo bytes reading feed.ReadFault × AreAsked s.pass t.pass offered
-  ClosesReader bytes reading items offered Full = (IsClosedSo bytes reading feed.Full × LacksOnlyOpen limits items offered)
+  ClosesReader bytes reading items offered LimitReached = (IsClosedSo bytes reading feed.Full × LacksOnlyOpen limits items offered)
       ⊎ (Gave old.left new.left bytes × ((t.pass.past ≡ s.limit) ⊎ NextFindsNoRoom limits bytes t.pass offered))
   ClosesReader bytes reading items offered VerifierFault = Gave old.left new.left bytes × Rose s.faults t.faults
   ClosesReader bytes reading items offered SignerFault = ⊥

@@ -10,7 +10,7 @@ use Rattle.run_status.specs.declared.message_feed.feed_close.FeedClose.TheVarian
 use Rattle.turn_lock.specs.Locks.{LockId}
 use Rattle.reader_hub.specs.ReaderHub.Hubs.{HubPass}
 use Rattle.run_status.specs.declared.run_status.close.Close.{Close}
-use Rattle.run_status.specs.declared.run_status.close.Close.TheVariants.{End, Bad, ReadFault, VerifierFault, SignerFault, DiskFault, WriteFault, Malformed, Full, OutOfMemory}
+use Rattle.run_status.specs.declared.run_status.close.Close.TheVariants.{End, Bad, ReadFault, VerifierFault, SignerFault, DiskFault, WriteFault, Malformed, LimitReached, OutOfMemory}
 use Rattle.reader_hub.specs.declared.reader_hub.extent.Extent.{Extent}
 use Rattle.reader_hub.specs.declared.reader_hub.extent.Extent.TheVariants.{First}
 use Rattle.reader_hub.specs.SharedReader.Asks.{HasNoneOpen, LeavesNone, Says}
@@ -72,7 +72,7 @@ pub record FindsNoRoom (q : HubPass) (rest : List Message) : Type 0 where
 -- why a reader stopped before the rest of these messages: by its verifier's fault, at a limit, or for want of memory
 abbrev pub IsStopped : Standing → Standing → List Message → Close → Type 0
 IsStopped s t rest VerifierFault = Rose s.faults t.faults
-IsStopped s t rest Full = ((t.pass.past ≡ s.limit) ⊎ FindsNoRoom t.pass rest) × (t.faults ≡ s.faults)
+IsStopped s t rest LimitReached = ((t.pass.past ≡ s.limit) ⊎ FindsNoRoom t.pass rest) × (t.faults ≡ s.faults)
 IsStopped s t rest OutOfMemory = t.faults ≡ s.faults
 IsStopped s t rest End = ⊥
 IsStopped s t rest (Bad bad) = ⊥
@@ -114,6 +114,6 @@ abbrev pub Finishes : FeedClose Close → Option Message → Standing → Standi
 Finishes feed.End last old new now = TakesLast End last old new now
 Finishes (feed.Bad bad) last old new now = TakesLast (Bad bad) last old new now
 Finishes feed.ReadFault last old new now = TakesLast ReadFault last old new now
-Finishes feed.Full last old new now = (now ≡ Full) × (new ≡ old)
+Finishes feed.Full last old new now = (now ≡ LimitReached) × (new ≡ old)
 Finishes feed.OutOfMemory last old new now = (now ≡ OutOfMemory) × (new ≡ old)
 Finishes (feed.Stopped stop) last old new now = (now ≡ stop) × (new ≡ old)

@@ -10,7 +10,7 @@ pub(crate) fn close_of(fault: HubFault) -> Close
     ensures { result ≡ closed_by fault }
 {
     match fault {
-        HubFault::Spent(_) => Close::Full,
+        HubFault::Spent(_) => Close::LimitReached,
         HubFault::OutOfMemory => Close::OutOfMemory,
     }
 }

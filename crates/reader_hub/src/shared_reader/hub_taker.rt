@@ -84,7 +84,7 @@ impl<'a, V: Verifier + Drop, G: Gate, W: Wait> HubTaker<'a, V, G, W> {
             FeedClose::End => Close::End,
             FeedClose::Bad(bad) => Close::Bad(bad),
             FeedClose::ReadFault => Close::ReadFault,
-            FeedClose::Full => return Close::Full,
+            FeedClose::LimitReached => return Close::LimitReached,
             FeedClose::OutOfMemory => return Close::OutOfMemory,
             FeedClose::Stopped(close) => return close,
         };

@@ -67,7 +67,7 @@ fn hand_in<W: Wait>(
         Ok(Reply::Taken) => Ok(()),
         Ok(Reply::Again) => Ok(()),
         Ok(Reply::Refused(reason)) => note(refused, message.place, reason),
-        Ok(Reply::Full) => Err(Close::Full),
+        Ok(Reply::LimitReached) => Err(Close::LimitReached),
         Err(fault) => Err(close_of(fault)),
     }
 }

@@ -2,7 +2,7 @@
 ghost use Rattle.std.specs.Prelude.{[]};
 ghost use Rattle.turn_lock.specs.Known.{OwnsAlone};
 ghost use Rattle.turn_lock.specs.Locks.{limit_of, lock_of, known, IsPassOf};
-ghost use Rattle.reader_hub.specs.SharedReader.ReadsOne.{ReadsOne, source_told};
+ghost use Rattle.reader_hub.specs.SharedReader.ReadsOne.{ReadsOne, source_shown};
 ghost use Rattle.reader_hub.specs.SharedReader.Taken.{standing};
 
 use crate::reader_hub::{Extent, Hub, Pass};
@@ -47,7 +47,7 @@ pub fn read_one<S: Source + Drop, V: Verifier + Drop, G: Gate, W: Wait>(
         (V.faults verifier) [])
         (standing extent (limit_of hub.now.turn) (lock_of result.pass) (known result.pass) (V.says result.verifier)
         (V.inquiries result.verifier) (V.faults result.verifier) result.refused.items)
-        (source_told (S.left source) (S.faults source)) (source_told (S.left result.source) (S.faults result.source))
+        (source_shown (S.left source) (S.faults source)) (source_shown (S.left result.source) (S.faults result.source))
         result.close }
 {
     let mut source = source;

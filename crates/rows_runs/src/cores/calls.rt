@@ -3,9 +3,10 @@
 use crate::cores::evidence::evidence;
 use crate::cores::session::{Session, limits_of, mode_of};
 use crate::cores::{base, views};
+use crate::disks::LIMIT;
 use cesr_codes::Sig;
 use cesr_stream::Message;
-use journal::Question;
+use journal::{Question, Reply};
 use keri_outside::{Rehearsal, Verifier};
 use rows::{Row, given, message_of};
 use std::alloc::{AllocError, Global};
@@ -47,7 +48,10 @@ fn told(
     let reply = session
         .core
         .take(reader_of(row), message, &mut session.steps)?;
-    let reply = format!(in alloc; "{reply:?}")?;
+    let reply = match reply {
+        Reply::LimitReached => String::from_str(alloc, LIMIT)?,
+        _ => format!(in alloc; "{reply:?}")?,
+    };
     let steps = session.steps.count().saturating_sub(before);
     within(alloc, reply.as_str(), steps, row.number(2))
 }

@@ -1,6 +1,6 @@
 //! What crashes leave.
 ghost use Rattle.std.specs.Prelude.{◌≤◌};
-ghost use Rattle.shelf_log.specs.KeriDisk.Memory.{mem_told};
+ghost use Rattle.shelf_log.specs.KeriDisk.Memory.{mem_shown};
 
 use crate::disks::{list_text, refused};
 use crate::shelves::opening::old_of;
@@ -52,7 +52,7 @@ fn moment_words(
     disk: &MemDisk,
     moment: u64,
 ) -> Result<(), AllocError>
-    requires { moment ≤ (mem_told disk.now).moment }
+    requires { moment ≤ (mem_shown disk.now).moment }
 {
     for shape in [Shape::Whole, Shape::Lost, Shape::Ones] {
         text.push_str(", ")?;

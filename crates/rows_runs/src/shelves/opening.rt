@@ -1,7 +1,7 @@
 //! Calls that make a disk or open a shelf.
 ghost use Rattle.std.specs.Prelude.{◌≡◌, ℕ, List, IfOk, IfSome, IsTrue};
 ghost use Rattle.std.specs.List.{All};
-ghost use Rattle.shelf_log.specs.KeriDisk.Memory.{mem_told};
+ghost use Rattle.shelf_log.specs.KeriDisk.Memory.{mem_shown};
 ghost use Rattle.shelf_log.specs.ShelfLog.Format.{IsSized, IsNoShelf};
 ghost use Rattle.shelf_log.specs.declared.shelf_log.version.Version.TheVariants.{One, Two};
 
@@ -98,7 +98,7 @@ fn are_sized(list: &[Items<u8>]) -> bool
 
 // Whether the file of the disk is no shelf.
 fn has_no_shelf(alloc: Global, disk: MemDisk) -> bool
-    ensures { IsTrue result → IfSome (mem_told disk).file (IsNoShelf Two) }
+    ensures { IsTrue result → IfSome (mem_shown disk).file (IsNoShelf Two) }
 {
     match Shelf::read_back(alloc, disk, Limits::standard()) {
         Err(returned) => matches!(returned.fault, ShelfFault::NotAShelf(_)),

@@ -1,6 +1,6 @@
 //! What crashes leave of a witness's disk.
 ghost use Rattle.std.specs.Prelude.{◌≤◌};
-ghost use Rattle.shelf_log.specs.KeriDisk.Memory.{mem_told};
+ghost use Rattle.shelf_log.specs.KeriDisk.Memory.{mem_shown};
 
 use crate::disks::{list_text, refused};
 use crate::witnesses::opening::{not_started, started};
@@ -54,7 +54,7 @@ fn moment_words(
     disk: &MemDisk,
     moment: u64,
 ) -> Result<(), AllocError>
-    requires { moment ≤ (mem_told disk.now).moment }
+    requires { moment ≤ (mem_shown disk.now).moment }
 {
     for shape in [Shape::Whole, Shape::Lost, Shape::Ones] {
         let image = disk.image(moment, shape)?;

@@ -8,7 +8,7 @@ use std::fmt::Write;
 
 fn claim_word(text: &mut String, claim: &Claim) -> Result<(), AllocError> {
     match claim {
-        Claim::Held(sig) => write!(text, " A={sig}"),
+        Claim::Controller(sig) => write!(text, " A={sig}"),
         Claim::Witness(sig) => write!(text, " B={sig}"),
         Claim::Couple(key, sig) => write!(text, " C={key}{sig}"),
     }

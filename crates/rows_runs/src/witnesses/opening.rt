@@ -1,6 +1,6 @@
 //! Calls that make a disk or start a witness.
 ghost use Rattle.std.specs.Prelude.{◌≡◌, ℕ, List, IfOk, false};
-ghost use Rattle.shelf_log.specs.KeriDisk.Memory.{mem_told};
+ghost use Rattle.shelf_log.specs.KeriDisk.Memory.{mem_shown};
 
 use crate::disks::{disk_of, failing_of, refused};
 use crate::witnesses::session::{Held, Session};

@@ -1,5 +1,6 @@
 //! What becomes of messages.
 
+use crate::disks::LIMIT;
 use crate::witnesses::session::{Held, Session};
 use cesr_stream::Message;
 use keri_outside::{MemSigner, MemVerifier};
@@ -53,6 +54,7 @@ fn answer_text(
     match answered {
         Ok(outcome) => outcome_text(alloc, &outcome),
         Err(WitnessFault::OutOfMemory) => Err(AllocError),
+        Err(WitnessFault::LimitReached) => String::from_str(alloc, LIMIT),
         Err(fault) => format!(in alloc; "{fault:?}"),
     }
 }

@@ -8,7 +8,7 @@ use Rattle.cesr_stream.specs.Assembly.{Assembly}
 use Rattle.cesr_stream.proofs.Fed.{fed_on}
 use Rattle.cesr_stream.proofs.Items.{stand_more}
 use Rattle.run_status.specs.declared.message_feed.feed_close.FeedClose.{FeedClose}
-use Rattle.run_status.specs.declared.message_feed.feed_close.FeedClose.TheVariants.{End, Bad, ReadFault, Full, OutOfMemory, Stopped}
+use Rattle.run_status.specs.declared.message_feed.feed_close.FeedClose.TheVariants.{End, Bad, ReadFault, LimitReached, OutOfMemory, Stopped}
 use Rattle.run_status.specs.MessageFeed.Serving.{Serves, IsIdle}
 use Rattle.run_status.specs.MessageFeed.Closing.{Gave, ClosesBy}
 use Rattle.run_status.specs.MessageFeed.Pieces.{EndsSo, PassesEnd}
@@ -71,7 +71,7 @@ module _ {T : Type 0} (has_taken : T → List Message → Type 0) where
     ends new End idle gave at_end same e = runs End (gave, at_end, e.0, same) s.taken
     ends new (Bad bad) idle gave at_end same e = runs (Bad bad) (gave, inr (record { at_end = at_end; unfinished_item = idle.unfinished_item; some = e.0; is = e.1 }), same) s.taken
     ends new ReadFault idle gave at_end same e = absurd e
-    ends new Full idle gave at_end same e = absurd e
+    ends new LimitReached idle gave at_end same e = absurd e
     ends new OutOfMemory idle gave at_end same e = absurd e
     ends new (Stopped stop) idle gave at_end same e = absurd e
 
@@ -87,8 +87,8 @@ module _ {T : Type 0} (has_taken : T → List Message → Type 0) where
       where
         rose : Rose faults_first faults_now
         rose = let risen = e.1 in omega (arith, later, risen)
-    passes middle faults_middle new Full idle gave later all e =
-        runs Full (record { all = all; unfinished_item = idle.unfinished_item; more = e.0.0; gave = gave_more first middle now fed (e.0.0 ∷ []) gave e.0.1 }, e.2 ∙ later) s.taken
+    passes middle faults_middle new LimitReached idle gave later all e =
+        runs LimitReached (record { all = all; unfinished_item = idle.unfinished_item; more = e.0.0; gave = gave_more first middle now fed (e.0.0 ∷ []) gave e.0.1 }, e.2 ∙ later) s.taken
     passes middle faults_middle new OutOfMemory idle gave later all e = absurd e
     passes middle faults_middle new (Stopped stop) idle gave later all e = absurd e
 

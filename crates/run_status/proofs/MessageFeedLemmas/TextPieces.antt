@@ -3,7 +3,7 @@ use Rattle.std.proofs.Common.{◌≡◌, ℕ, ◌+◌, List, [], ◌∷◌, ◌+
 use Rattle.lists.specs.KeriSpecs.Causes.{Rose}
 use Rattle.lists.specs.KeriSpecs.Told.{before}
 use Rattle.run_status.specs.declared.message_feed.text_close.TextClose.{TextClose}
-use Rattle.run_status.specs.declared.message_feed.text_close.TextClose.TheVariants.{End, ReadFault, Full, OutOfMemory}
+use Rattle.run_status.specs.declared.message_feed.text_close.TextClose.TheVariants.{End, ReadFault, LimitReached, OutOfMemory}
 use Rattle.run_status.specs.MessageFeed.Texts.{Gave, ReadsText, IsPiece, StopsSo, StopsFull}
 
 -- pieces one after the other are one piece
@@ -43,7 +43,7 @@ more most room old middle new faults_old faults_middle faults_new bytes now read
 pub stopped : (most room : ℕ) (old middle new : Option (List ℕ)) (faults_old faults_middle faults_new : ℕ) (bytes : List ℕ) → IsRead most room old middle faults_old faults_middle bytes
     → (close : TextClose) → StopsSo middle new faults_middle faults_new close → ReadsText most old new faults_old faults_new bytes close
 stopped most room old middle new faults_old faults_middle faults_new bytes read End none = elim none [ ]
-stopped most room old middle new faults_old faults_middle faults_new bytes read Full none = elim none [ ]
+stopped most room old middle new faults_old faults_middle faults_new bytes read LimitReached none = elim none [ ]
 stopped most room old middle new faults_old faults_middle faults_new bytes read ReadFault (same, rose) =
     let c = read.counted in
     record { few = omega (arith, c); closes = (subst (λ s. Gave old s bytes) (sym same) read.gave, subst (λ f. Rose f faults_new) read.same rose) }
@@ -57,7 +57,7 @@ pub full : (most : ℕ) (old middle new : Option (List ℕ)) (faults_old faults_
 full most old middle new faults_old faults_middle faults_new bytes room none read End (same, at_end, faults) =
     let c = read.counted in
     record { few = omega (arith, c); closes = (subst (λ s. Gave old s bytes) (sym same) read.gave, at_end, faults ∙ read.same) }
-full most old middle new faults_old faults_middle faults_new bytes room none read Full ((next, gave), faults) =
+full most old middle new faults_old faults_middle faults_new bytes room none read LimitReached ((next, gave), faults) =
     let c = read.counted in
     record { few = omega (arith, c); closes = (omega (arith, c, none), (next, gave_more old middle new bytes (next ∷ []) read.gave gave), faults ∙ read.same) }
 full most old middle new faults_old faults_middle faults_new bytes room none read ReadFault (same, rose) =

@@ -2,7 +2,7 @@
 use Rattle.std.proofs.Common.{◌≡◌, ℕ, true, false, Bool, List, [], ◌∷◌, ◌++◌, Option, Some, None, Ok, Err, refl, sym, ◌∙◌, ap, append_assoc}
 use Rattle.std.proofs.lemmas.Option.{none-some, same_Some}
 use Rattle.run_status.specs.RunOutside.Makings.{AreMakings, Noted, some_failed}
-use Rattle.run_status.specs.RunOutside.Told.{Grows, Makes, Told, making}
+use Rattle.run_status.specs.RunOutside.Shown.{Grows, Makes, OutsideShown, making}
 use Rattle.run_status.specs.declared.run_outside.making.Making.{Making}
 use Rattle.run_status.specs.declared.run_outside.making.MakingKind.{MakingKind}
 
@@ -12,11 +12,11 @@ noted_one kind name failed old None g = tt
 noted_one kind name failed old (Some new) g = g
 
 -- one making that came about, and one that failed
-pub one_made : {T E : Type 0} (kind : MakingKind) (name : List ℕ) (before after : Told) (it : T) → Makes {T = T} {E = E} kind name before after (Ok it)
+pub one_made : {T E : Type 0} (kind : MakingKind) (name : List ℕ) (before after : OutsideShown) (it : T) → Makes {T = T} {E = E} kind name before after (Ok it)
     → AreMakings (making kind name false ∷ []) before after
 one_made kind name before after it m = record { noted = noted_one kind name false before.makings after.makings m.noted; rose = λ e. cc; kept = λ e. m.cause.else_same }
 
-pub one_failed : {T E : Type 0} (kind : MakingKind) (name : List ℕ) (before after : Told) (error : E) → Makes {T = T} {E = E} kind name before after (Err error)
+pub one_failed : {T E : Type 0} (kind : MakingKind) (name : List ℕ) (before after : OutsideShown) (error : E) → Makes {T = T} {E = E} kind name before after (Err error)
     → AreMakings (making kind name true ∷ []) before after
 one_failed kind name before after error m = record { noted = noted_one kind name true before.makings after.makings m.noted; rose = λ e. m.cause.failed; kept = λ e. cc }
 
@@ -31,7 +31,7 @@ noted_more first last old (Some mid) (Some new) a b = (
 )
 
 -- one that came about or failed behind those
-pub then_made : (first : List Making) (kind : MakingKind) (name : List ℕ) (failed : Bool) (before mid after : Told) → some_failed first ≡ false
+pub then_made : (first : List Making) (kind : MakingKind) (name : List ℕ) (failed : Bool) (before mid after : OutsideShown) → some_failed first ≡ false
     → some_failed (first ++ making kind name true ∷ []) ≡ true → some_failed (first ++ making kind name false ∷ []) ≡ false
     → AreMakings first before mid → AreMakings (making kind name failed ∷ []) mid after → AreMakings (first ++ making kind name failed ∷ []) before after
 then_made first kind name true before mid after none some still a b = record {

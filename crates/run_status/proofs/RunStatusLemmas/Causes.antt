@@ -4,8 +4,8 @@ use Rattle.std.specs.List.{list_any}
 use Rattle.lists.specs.KeriSpecs.Causes.{Rose}
 use Rattle.run_status.specs.declared.run_status.besides.Besides.{Besides}
 use Rattle.run_status.specs.declared.run_status.close.Close.{Close}
-use Rattle.run_status.specs.declared.run_status.close.Close.TheVariants.{End, Bad, ReadFault, VerifierFault, SignerFault, DiskFault, WriteFault, Malformed, Full, OutOfMemory}
-use Rattle.run_status.specs.RunStatus.Readers.{Reader, SinkTold, HasClose, close_found}
+use Rattle.run_status.specs.declared.run_status.close.Close.TheVariants.{End, Bad, ReadFault, VerifierFault, SignerFault, DiskFault, WriteFault, Malformed, LimitReached, OutOfMemory}
+use Rattle.run_status.specs.RunStatus.Readers.{Reader, SinkShown, HasClose, close_found}
 use Rattle.run_status.specs.RunStatus.Settling.{found, SettlesBy, Puts, FaultsHaveCauses}
 use Rattle.run_status.specs.RunStatus.Status.{status_of}
 
@@ -90,7 +90,7 @@ read_fault SignerFault e = cc
 read_fault DiskFault e = cc
 read_fault WriteFault e = cc
 read_fault (Malformed place) e = cc
-read_fault Full e = cc
+read_fault LimitReached e = cc
 read_fault OutOfMemory e = cc
 
 verifier_fault : (close : Close) → (close_found close).verifier_failed ≡ true → close ≡ VerifierFault
@@ -102,7 +102,7 @@ verifier_fault SignerFault e = cc
 verifier_fault DiskFault e = cc
 verifier_fault WriteFault e = cc
 verifier_fault (Malformed place) e = cc
-verifier_fault Full e = cc
+verifier_fault LimitReached e = cc
 verifier_fault OutOfMemory e = cc
 
 signer_fault : (close : Close) → (close_found close).signer_failed ≡ true → close ≡ SignerFault
@@ -114,7 +114,7 @@ signer_fault VerifierFault e = cc
 signer_fault DiskFault e = cc
 signer_fault WriteFault e = cc
 signer_fault (Malformed place) e = cc
-signer_fault Full e = cc
+signer_fault LimitReached e = cc
 signer_fault OutOfMemory e = cc
 
 disk_fault : (close : Close) → (close_found close).disk_failed ≡ true → close ≡ DiskFault
@@ -126,7 +126,7 @@ disk_fault VerifierFault e = cc
 disk_fault SignerFault e = cc
 disk_fault WriteFault e = cc
 disk_fault (Malformed place) e = cc
-disk_fault Full e = cc
+disk_fault LimitReached e = cc
 disk_fault OutOfMemory e = cc
 
 write_fault : (close : Close) → (close_found close).sink_failed ≡ true → close ≡ WriteFault
@@ -138,11 +138,11 @@ write_fault VerifierFault e = cc
 write_fault SignerFault e = cc
 write_fault DiskFault e = cc
 write_fault (Malformed place) e = cc
-write_fault Full e = cc
+write_fault LimitReached e = cc
 write_fault OutOfMemory e = cc
 
-full : (close : Close) → (close_found close).limit_reached ≡ true → close ≡ Full
-full Full e = refl
+full : (close : Close) → (close_found close).limit_reached ≡ true → close ≡ LimitReached
+full LimitReached e = refl
 full End e = cc
 full (Bad bad) e = cc
 full ReadFault e = cc
@@ -160,7 +160,7 @@ six_closed besides readers status s e = elim (closed_or (λ c. (close_found c).s
   | inr failed ↦ cc
 ]
 
-module _ (besides : Besides) (readers : List Reader) (old new : SinkTold) (status : ℕ) where
+module _ (besides : Besides) (readers : List Reader) (old new : SinkShown) (status : ℕ) where
   pub words_refused : (owed : Option (List ℕ)) → SettlesBy owed besides readers old new status → status ≡ 2 → besides.words_refused ≡ true
   words_refused None s e = let clash : 10 ≡ 2 = sym s.0 ∙ e in cc
   words_refused (Some text) s e = by_two _ _ _ _ _ _ _ _ (sym s.2 ∙ e)
@@ -210,7 +210,7 @@ module _ (besides : Besides) (readers : List Reader) (old new : SinkTold) (statu
     seven = λ e. seven_of _ _ (closed_or (λ c. (close_found c).verifier_failed) VerifierFault verifier_fault besides.verifier_failed readers)
         (closed_or (λ c. (close_found c).signer_failed) SignerFault signer_fault besides.signer_failed readers) (by_seven _ _ _ _ _ _ _ _ (sym s.2 ∙ e));
     eight = λ e. closed_or (λ c. (close_found c).disk_failed) DiskFault disk_fault besides.disk_failed readers (by_eight _ _ _ _ _ _ _ _ (sym s.2 ∙ e));
-    nine = λ e. closed_or (λ c. (close_found c).limit_reached) Full full besides.shelf_full readers (by_nine _ _ _ _ _ _ _ _ (sym s.2 ∙ e));
+    nine = λ e. closed_or (λ c. (close_found c).limit_reached) LimitReached full besides.shelf_full readers (by_nine _ _ _ _ _ _ _ _ (sym s.2 ∙ e));
     six = λ e. elim (closed_or (λ c. (close_found c).sink_failed) WriteFault write_fault s.0 readers (by_six _ _ _ _ _ _ _ _ (sym s.2 ∙ e))) [
       | inl closed ↦ inl closed
       | inr failed ↦ inr (put_failed text s.0 s.1 failed)

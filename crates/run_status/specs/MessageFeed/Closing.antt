@@ -9,7 +9,7 @@ use Rattle.cesr_stream.specs.Parts.{unfinished}
 use Rattle.cesr_stream.specs.Reading.{Reading, judged, bad_at}
 use Rattle.run_status.specs.MessageFeed.Serving.{IsRefused}
 use Rattle.run_status.specs.declared.message_feed.feed_close.FeedClose.{FeedClose}
-use Rattle.run_status.specs.declared.message_feed.feed_close.FeedClose.TheVariants.{End, Bad as BadClose, ReadFault, Full, OutOfMemory, Stopped}
+use Rattle.run_status.specs.declared.message_feed.feed_close.FeedClose.TheVariants.{End, Bad as BadClose, ReadFault, LimitReached, OutOfMemory, Stopped}
 
 -- the source gave these bytes, where it tells
 abbrev pub Gave : Option (List ℕ) → Option (List ℕ) → List ℕ → Type 0
@@ -35,6 +35,6 @@ abbrev pub ClosesBy : {T : Type 0} → ℕ → Option (List ℕ) → Option (Lis
 ClosesBy most old new faults_old faults_new fed reading End = Gave old new fed × IsAtEnd new × (reading.rest ≡ []) × (faults_new ≡ faults_old)
 ClosesBy most old new faults_old faults_new fed reading (BadClose bad) = Gave old new fed × (IsRefused reading bad ⊎ IsCutShort new reading bad) × (faults_new ≡ faults_old)
 ClosesBy most old new faults_old faults_new fed reading ReadFault = Gave old new fed × Rose faults_old faults_new × (judged reading ≡ unfinished)
-ClosesBy most old new faults_old faults_new fed reading Full = IsFull most old new fed reading × (faults_new ≡ faults_old)
+ClosesBy most old new faults_old faults_new fed reading LimitReached = IsFull most old new fed reading × (faults_new ≡ faults_old)
 ClosesBy most old new faults_old faults_new fed reading OutOfMemory = (more : List ℕ) × Gave old new (fed ++ more)
 ClosesBy most old new faults_old faults_new fed reading (Stopped stop) = Gave old new fed

@@ -9,7 +9,7 @@ use Rattle.cesr_stream.specs.Messages.{messages}
 use Rattle.cesr_stream.specs.Reading.{Reading, HasFed}
 use Rattle.cesr_stream.specs.Assembly.{Assembly, IsAssembled, all_of}
 use Rattle.run_status.specs.declared.message_feed.feed_close.FeedClose.{FeedClose}
-use Rattle.run_status.specs.declared.message_feed.feed_close.FeedClose.TheVariants.{End, Bad, ReadFault, Full, OutOfMemory, Stopped}
+use Rattle.run_status.specs.declared.message_feed.feed_close.FeedClose.TheVariants.{End, Bad, ReadFault, LimitReached, OutOfMemory, Stopped}
 use Rattle.run_status.specs.MessageFeed.Closing.{ClosesBy}
 
 -- These items stand from the front of the bytes that were read, at most as many as may be.
@@ -25,7 +25,7 @@ module _ {T St : Type 0} (has_taken : T → List Message → Type 0) (has_stoppe
   TakesBy End answered taker = has_taken taker answered
   TakesBy (Bad bad) answered taker = has_taken taker answered
   TakesBy ReadFault answered taker = has_taken taker answered
-  TakesBy Full answered taker = has_taken taker answered
+  TakesBy LimitReached answered taker = has_taken taker answered
   TakesBy OutOfMemory answered taker = has_taken taker answered
   TakesBy (Stopped stop) answered taker = has_stopped taker stop answered
 

@@ -8,7 +8,7 @@ use Rattle.keri_outside.specs.declared.failed.Failed.{Failed}
 use Rattle.cesr_stream.specs.declared.bad.BadReason.TheVariants.{Truncated}
 use Rattle.cesr_stream.specs.Reading.{Reading, bad_at, fed_with, refused_by}
 use Rattle.run_status.specs.declared.message_feed.feed_close.FeedClose.{FeedClose}
-use Rattle.run_status.specs.declared.message_feed.feed_close.FeedClose.TheVariants.{End, Bad, ReadFault, Full, OutOfMemory, Stopped}
+use Rattle.run_status.specs.declared.message_feed.feed_close.FeedClose.TheVariants.{End, Bad, ReadFault, LimitReached, OutOfMemory, Stopped}
 use Rattle.run_status.specs.declared.message_feed.halt.Halt.{Halt}
 use Rattle.run_status.specs.declared.message_feed.halt.Halt.TheVariants.{OutOfMemory as NoMemory, Stopped as Halted}
 use Rattle.run_status.specs.MessageFeed.Closing.{Gave}
@@ -33,7 +33,7 @@ abbrev pub EndsSo : {T : Type 0} → Reading → Reading → FeedClose T → Typ
 EndsSo old new End = (old.rest ≡ []) × (new ≡ old)
 EndsSo old new (Bad bad) = (old.rest ≢ []) × (bad ≡ bad_at old.place Truncated) × (new ≡ refused_by old bad)
 EndsSo old new ReadFault = ⊥
-EndsSo old new Full = ⊥
+EndsSo old new LimitReached = ⊥
 EndsSo old new OutOfMemory = ⊥
 EndsSo old new (Stopped stop) = ⊥
 
@@ -43,6 +43,6 @@ PassesEnd left_old left_new faults_old faults_new old new End = (left_new ≡ le
 PassesEnd left_old left_new faults_old faults_new old new (Bad bad) = (left_new ≡ left_old) × IsAtEnd left_new × (old.rest ≢ []) × (bad ≡ bad_at old.place Truncated) × (new ≡ refused_by old bad)
     × (faults_new ≡ faults_old)
 PassesEnd left_old left_new faults_old faults_new old new ReadFault = (left_new ≡ left_old) × Rose faults_old faults_new × (new ≡ old)
-PassesEnd left_old left_new faults_old faults_new old new Full = ((more : ℕ) × Gave left_old left_new (more ∷ [])) × (new ≡ old) × (faults_new ≡ faults_old)
+PassesEnd left_old left_new faults_old faults_new old new LimitReached = ((more : ℕ) × Gave left_old left_new (more ∷ [])) × (new ≡ old) × (faults_new ≡ faults_old)
 PassesEnd left_old left_new faults_old faults_new old new OutOfMemory = ⊥
 PassesEnd left_old left_new faults_old faults_new old new (Stopped stop) = ⊥

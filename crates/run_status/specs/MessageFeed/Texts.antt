@@ -4,7 +4,7 @@ use Rattle.std.specs.declared.option.Option.{Option}
 use Rattle.lists.specs.KeriSpecs.Causes.{Rose}
 use Rattle.lists.specs.KeriSpecs.Told.{before, IsAtEnd}
 use Rattle.run_status.specs.declared.message_feed.text_close.TextClose.{TextClose}
-use Rattle.run_status.specs.declared.message_feed.text_close.TextClose.TheVariants.{End, ReadFault, Full, OutOfMemory}
+use Rattle.run_status.specs.declared.message_feed.text_close.TextClose.TheVariants.{End, ReadFault, LimitReached, OutOfMemory}
 
 -- the source gave these bytes, where it tells
 abbrev pub Gave : Option (List ℕ) → Option (List ℕ) → List ℕ → Type 0
@@ -15,7 +15,7 @@ Gave old new bytes = old ≡ before bytes new
 abbrev pub ClosesText : ℕ → Option (List ℕ) → Option (List ℕ) → ℕ → ℕ → List ℕ → TextClose → Type 0
 ClosesText most old new faults_old faults_new bytes End = Gave old new bytes × IsAtEnd new × (faults_new ≡ faults_old)
 ClosesText most old new faults_old faults_new bytes ReadFault = Gave old new bytes × Rose faults_old faults_new
-ClosesText most old new faults_old faults_new bytes Full = (length bytes ≡ most) × ((more : ℕ) × Gave old new (bytes ++ more ∷ [])) × (faults_new ≡ faults_old)
+ClosesText most old new faults_old faults_new bytes LimitReached = (length bytes ≡ most) × ((more : ℕ) × Gave old new (bytes ++ more ∷ [])) × (faults_new ≡ faults_old)
 ClosesText most old new faults_old faults_new bytes OutOfMemory = ((more : List ℕ) × Gave old new (bytes ++ more)) × (faults_new ≡ faults_old)
 
 -- At most so many bytes were read, and reading closed by its cause.
@@ -37,11 +37,11 @@ abbrev pub StopsSo : Option (List ℕ) → Option (List ℕ) → ℕ → ℕ →
 StopsSo old new faults_old faults_new ReadFault = (new ≡ old) × Rose faults_old faults_new
 StopsSo old new faults_old faults_new OutOfMemory = ((more : List ℕ) × Gave old new more) × (faults_new ≡ faults_old)
 StopsSo old new faults_old faults_new End = ⊥
-StopsSo old new faults_old faults_new Full = ⊥
+StopsSo old new faults_old faults_new LimitReached = ⊥
 
 -- one more byte was asked for
 abbrev pub StopsFull : Option (List ℕ) → Option (List ℕ) → ℕ → ℕ → TextClose → Type 0
 StopsFull old new faults_old faults_new End = (new ≡ old) × IsAtEnd new × (faults_new ≡ faults_old)
-StopsFull old new faults_old faults_new Full = ((more : ℕ) × Gave old new (more ∷ [])) × (faults_new ≡ faults_old)
+StopsFull old new faults_old faults_new LimitReached = ((more : ℕ) × Gave old new (more ∷ [])) × (faults_new ≡ faults_old)
 StopsFull old new faults_old faults_new ReadFault = (new ≡ old) × Rose faults_old faults_new
 StopsFull old new faults_old faults_new OutOfMemory = ⊥

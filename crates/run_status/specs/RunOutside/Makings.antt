@@ -4,7 +4,7 @@ use Rattle.std.specs.List.{list_any}
 use Rattle.std.specs.declared.option.Option.{Option}
 use Rattle.std.specs.declared.option.Option.TheVariants.{None, Some}
 use Rattle.lists.specs.KeriSpecs.Causes.{Rose}
-use Rattle.run_status.specs.RunOutside.Told.{Told}
+use Rattle.run_status.specs.RunOutside.Shown.{OutsideShown}
 use Rattle.run_status.specs.declared.run_outside.making.Making.{Making}
 
 -- these makings came behind those of before, where they are told
@@ -16,7 +16,7 @@ abbrev pub some_failed : List Making → Bool
 some_failed makings = list_any (λ m. m.failed) makings
 
 -- These are the makings that came, in order, and there are no others. The count rose where one failed, and stood still where none did.
-pub record AreMakings (makings : List Making) (before after : Told) : Type 0 where
+pub record AreMakings (makings : List Making) (before after : OutsideShown) : Type 0 where
   pub noted : Noted before.makings after.makings makings
   pub rose : some_failed makings ≡ true → Rose before.faults after.faults
   pub kept : some_failed makings ≡ false → after.faults ≡ before.faults

@@ -6,14 +6,14 @@ use Rattle.run_status.specs.RunOutside.Addresses.{links_under}
 use Rattle.run_status.specs.RunOutside.Disks.{stored_under}
 use Rattle.run_status.specs.RunOutside.Files.{held_under}
 use Rattle.run_status.specs.RunOutside.Helpers.{says_under, gives_under}
-use Rattle.run_status.specs.RunOutside.Told.{Told}
+use Rattle.run_status.specs.RunOutside.Shown.{OutsideShown}
 use Rattle.run_status.specs.declared.run_outside.mem_outside.MemOutside.{MemOutside}
 
 abbrev pub outside_sink : MemOutside → MemSink
 outside_sink outside = outside.sink
 
-abbrev pub outside_told : MemOutside → Told
-outside_told outside = record {
+abbrev pub outside_shown : MemOutside → OutsideShown
+outside_shown outside = record {
   faults = outside.faults;
   holds = held_under outside.files;
   says = says_under outside.helpers;

@@ -8,16 +8,16 @@ use Rattle.command_words.specs.Words.{Asked, asks, blame, check, convert, export
 use Rattle.cesr_codes.specs.declared.key.Key.{Key}
 use Rattle.cesr_codes.specs.declared.sig.Sig.{Sig}
 use Rattle.keri_outside.specs.declared.signing.Signing.{Signing}
-use Rattle.run_status.specs.RunOutside.Told.{Told}
+use Rattle.run_status.specs.RunOutside.Shown.{OutsideShown}
 use Rattle.journal.specs.declared.journal.journal.Journal.{Journal}
 use Rattle.run_status.specs.declared.run_status.close.Close.{Close}
-use Rattle.run_status.specs.declared.run_status.close.Close.TheVariants.{End, Bad, ReadFault, VerifierFault, SignerFault, DiskFault, WriteFault, Malformed, Full, OutOfMemory}
+use Rattle.run_status.specs.declared.run_status.close.Close.TheVariants.{End, Bad, ReadFault, VerifierFault, SignerFault, DiskFault, WriteFault, Malformed, LimitReached, OutOfMemory}
 use Rattle.run_status.specs.declared.run_status.besides.Besides.{Besides}
-use Rattle.run_status.specs.RunStatus.Readers.{HasClose, Reader, SinkTold, VerifierTold}
+use Rattle.run_status.specs.RunStatus.Readers.{HasClose, Reader, SinkShown, VerifierShown}
 use Rattle.run_status.specs.RunStatus.Settling.{FaultsHaveCauses, SettlesBy}
 
 -- what a signer tells: the signatures that it gives, what it was asked, and how often it has failed
-pub record SignerTold : Type 0 where
+pub record SignerShown : Type 0 where
   pub gives : Key → List ℕ → Option Sig
   pub signings : Option (List Signing)
   pub faults : ℕ
@@ -28,7 +28,7 @@ pub record DiskSeen : Type 0 where
   pub faults : ℕ
 
 -- what a door tells: the bytes of each link that is left, where it tells, and how often it has failed
-pub record DoorTold : Type 0 where
+pub record DoorShown : Type 0 where
   pub left : Option (List (List ℕ))
   pub faults : ℕ
 
@@ -36,16 +36,16 @@ pub record DoorTold : Type 0 where
 -- read links, it has the door, where that was made, and the links' sinks, in order. The second journal is that of the second file of
 -- `blame`.
 pub record Run : Type 0 where
-  pub before : Told
-  pub after : Told
-  pub sink_before : SinkTold
-  pub sink_after : SinkTold
+  pub before : OutsideShown
+  pub after : OutsideShown
+  pub sink_before : SinkShown
+  pub sink_after : SinkShown
   pub readers : List Reader
-  pub signer : Option SignerTold
+  pub signer : Option SignerShown
   pub disk : Option DiskSeen
   pub old : Option DiskSeen
-  pub door : Option DoorTold
-  pub sinks : List SinkTold
+  pub door : Option DoorShown
+  pub sinks : List SinkShown
   pub journal : Journal
   pub second : Option Journal
   pub status : ℕ
@@ -61,7 +61,7 @@ is_out SignerFault = false
 is_out DiskFault = false
 is_out WriteFault = false
 is_out (Malformed place) = false
-is_out Full = false
+is_out LimitReached = false
 
 -- no door was made, and no link came
 pub record HasNoLinks (run : Run) : Type 0 where
@@ -70,11 +70,11 @@ pub record HasNoLinks (run : Run) : Type 0 where
 
 -- A reader closes by a fault of its source or its verifier only where the count of that rose from zero, or where it
 -- couldn't be made and the count of the outside rose.
-pub record IsCaused (before after : Told) (reader : Reader) : Type 0 where
+pub record IsCaused (before after : OutsideShown) (reader : Reader) : Type 0 where
   pub source : reader.close ≡ ReadFault → MatchOption reader.source (Rose before.faults after.faults) (λ s. Rose 0 s.faults)
   pub verifier : reader.close ≡ VerifierFault → MatchOption reader.verifier (Rose before.faults after.faults) (λ v. Rose 0 v.faults)
 
-abbrev pub AreCaused : Told → Told → List Reader → Type 0
+abbrev pub AreCaused : OutsideShown → OutsideShown → List Reader → Type 0
 AreCaused before after [] = Unit {0}
 AreCaused before after (reader ∷ readers) = IsCaused before after reader × AreCaused before after readers
 
@@ -155,7 +155,7 @@ ReadsShelf (Some (make helper plan log)) = ⊥
 ReadsShelf (Some (witness helper key shelf from inputs)) = Unit {0}
 
 -- one of these sinks failed
-abbrev pub SinkRose : List SinkTold → Type 0
+abbrev pub SinkRose : List SinkShown → Type 0
 SinkRose [] = ⊥
 SinkRose (sink ∷ sinks) = Rose 0 sink.faults ⊎ SinkRose sinks
 
@@ -165,7 +165,7 @@ SinkFails (Some (witness helper key shelf from (links address count))) run = Sin
 SinkFails _ run = Rose run.sink_before.faults run.sink_after.faults
 
 -- the one verifier that the readers of a witness's links share, which stands in the first of them, where it could be made
-abbrev pub shared_verifier : List Reader → Option VerifierTold
+abbrev pub shared_verifier : List Reader → Option VerifierShown
 shared_verifier [] = None
 shared_verifier (reader ∷ readers) = reader.verifier
 

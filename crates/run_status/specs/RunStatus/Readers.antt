@@ -7,30 +7,30 @@ use Rattle.cesr_codes.specs.declared.sig.Sig.{Sig}
 use Rattle.keri_outside.specs.declared.inquiry.Inquiry.{Inquiry}
 use Rattle.journal.specs.declared.journal.refusal.Refusal.{Refusal}
 use Rattle.run_status.specs.declared.run_status.close.Close.{Close}
-use Rattle.run_status.specs.declared.run_status.close.Close.TheVariants.{End, Bad, ReadFault, VerifierFault, SignerFault, DiskFault, WriteFault, Malformed, Full, OutOfMemory}
+use Rattle.run_status.specs.declared.run_status.close.Close.TheVariants.{End, Bad, ReadFault, VerifierFault, SignerFault, DiskFault, WriteFault, Malformed, LimitReached, OutOfMemory}
 use Rattle.run_status.specs.declared.run_status.findings.Findings.{Findings}
 use Rattle.run_status.specs.declared.run_status.reader_end.ReaderEnd.{ReaderEnd}
 use Rattle.run_status.specs.RunStatus.Status.{nothing}
 
 -- what objects of the outside tell: what a source has left, what a verifier says and what it was asked, what was written;
 -- and how often each has failed
-pub record SourceTold : Type 0 where
+pub record SourceShown : Type 0 where
   pub left : Option (List ℕ)
   pub faults : ℕ
 
-pub record VerifierTold : Type 0 where
+pub record VerifierShown : Type 0 where
   pub says : Key → List ℕ → Sig → Option Bool
   pub inquiries : Option (List Inquiry)
   pub faults : ℕ
 
-pub record SinkTold : Type 0 where
+pub record SinkShown : Type 0 where
   pub written : Option (List ℕ)
   pub faults : ℕ
 
 -- how a reader ended
 pub record Reader : Type 0 where
-  pub source : Option SourceTold
-  pub verifier : Option VerifierTold
+  pub source : Option SourceShown
+  pub verifier : Option VerifierShown
   pub refused : List Refusal
   pub seen : List Digest
   pub close : Close
@@ -46,7 +46,7 @@ close_found SignerFault = record nothing { signer_failed = true }
 close_found DiskFault = record nothing { disk_failed = true }
 close_found WriteFault = record nothing { sink_failed = true }
 close_found (Malformed place) = nothing
-close_found Full = record nothing { limit_reached = true }
+close_found LimitReached = record nothing { limit_reached = true }
 close_found OutOfMemory = nothing
 
 -- a reader closed so
@@ -55,10 +55,10 @@ HasClose close [] = ⊥
 HasClose close (reader ∷ readers) = (reader.close ≡ close) ⊎ HasClose close readers
 
 module _ {S V : Type 0} (left : S → Option (List ℕ)) (faults : S → ℕ) (says : V → Key → List ℕ → Sig → Option Bool) (inquiries : V → Option (List Inquiry)) (verifier_faults : V → ℕ) where
-  abbrev pub source_seen : S → SourceTold
+  abbrev pub source_seen : S → SourceShown
   source_seen source = record { left = left source; faults = faults source }
 
-  abbrev pub verifier_seen : V → VerifierTold
+  abbrev pub verifier_seen : V → VerifierShown
   verifier_seen verifier = record { says = says verifier; inquiries = inquiries verifier; faults = verifier_faults verifier }
 
   abbrev pub reader_seen : ReaderEnd S V → Reader
@@ -70,5 +70,5 @@ module _ {S V : Type 0} (left : S → Option (List ℕ)) (faults : S → ℕ) (s
     close = end.close;
   }
 
-abbrev pub sink_seen : {K : Type 0} → (K → Option (List ℕ)) → (K → ℕ) → K → SinkTold
+abbrev pub sink_seen : {K : Type 0} → (K → Option (List ℕ)) → (K → ℕ) → K → SinkShown
 sink_seen written faults sink = record { written = written sink; faults = faults sink }

@@ -9,9 +9,9 @@ use Rattle.cesr_codes.specs.declared.digest.Digest.{Digest}
 use Rattle.journal.specs.declared.journal.refusal.Refusal.{Refusal}
 use Rattle.run_status.specs.declared.run_status.besides.Besides.{Besides}
 use Rattle.run_status.specs.declared.run_status.close.Close.{Close}
-use Rattle.run_status.specs.declared.run_status.close.Close.TheVariants.{ReadFault, VerifierFault, SignerFault, DiskFault, WriteFault, Full}
+use Rattle.run_status.specs.declared.run_status.close.Close.TheVariants.{ReadFault, VerifierFault, SignerFault, DiskFault, WriteFault, LimitReached}
 use Rattle.run_status.specs.declared.run_status.findings.Findings.{Findings}
-use Rattle.run_status.specs.RunStatus.Readers.{Reader, SinkTold, HasClose, close_found}
+use Rattle.run_status.specs.RunStatus.Readers.{Reader, SinkShown, HasClose, close_found}
 use Rattle.run_status.specs.RunStatus.Status.{status_of}
 
 -- a reader that closed so and refused these messages refused its stream or a message
@@ -40,22 +40,22 @@ found besides readers sink_failed = record {
 }
 
 -- the text was put, or a front of it where the sink failed
-abbrev pub Puts : List ℕ → Bool → SinkTold → SinkTold → Type 0
+abbrev pub Puts : List ℕ → Bool → SinkShown → SinkShown → Type 0
 Puts text false old new = (new.written ≡ after old.written text) × (new.faults ≡ old.faults)
 Puts text true old new = ((n : ℕ) × (new.written ≡ after old.written (take n text))) × Rose old.faults new.faults
 
 -- There was no memory, and nothing is put; or the text is, and the status is by what is found.
-abbrev pub SettlesBy : Option (List ℕ) → Besides → List Reader → SinkTold → SinkTold → ℕ → Type 0
+abbrev pub SettlesBy : Option (List ℕ) → Besides → List Reader → SinkShown → SinkShown → ℕ → Type 0
 SettlesBy None besides readers old new status = (status ≡ 10) × (new ≡ old)
 SettlesBy (Some text) besides readers old new status =
     (sink_failed : Bool) × Puts text sink_failed old new × (status ≡ status_of (found besides readers sink_failed))
 
 -- Each fault that is answered has its cause: a reader closed by it, or it was found besides, or it is the sink's, whose count
 -- rose.
-pub record FaultsHaveCauses (readers : List Reader) (besides : Besides) (old new : SinkTold) (status : ℕ) : Type 0 where
+pub record FaultsHaveCauses (readers : List Reader) (besides : Besides) (old new : SinkShown) (status : ℕ) : Type 0 where
   pub five : status ≡ 5 → HasClose ReadFault readers ⊎ (besides.door_failed ≡ true)
   pub seven : status ≡ 7 → HasClose VerifierFault readers ⊎ HasClose SignerFault readers ⊎ (besides.signer_failed ≡ true) ⊎ (besides.verifier_failed ≡ true)
   pub eight : status ≡ 8 → HasClose DiskFault readers ⊎ (besides.disk_failed ≡ true)
-  pub nine : status ≡ 9 → HasClose Full readers ⊎ (besides.shelf_full ≡ true)
+  pub nine : status ≡ 9 → HasClose LimitReached readers ⊎ (besides.shelf_full ≡ true)
   pub six : status ≡ 6 → HasClose WriteFault readers ⊎ Rose old.faults new.faults
   pub kept : status ≢ 6 → new.faults ≡ old.faults

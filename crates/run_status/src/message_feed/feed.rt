@@ -119,7 +119,7 @@ fn close_full<S: Source, T>(source: &mut S, reader: &mut Reader) -> FeedClose<T>
     let mut piece = [0u8; 1];
     match source.read(&mut piece) {
         Ok(0) => close_end(reader),
-        Ok(_) => FeedClose::Full,
+        Ok(_) => FeedClose::LimitReached,
         Err(Failed) => FeedClose::ReadFault,
     }
 }

@@ -12,7 +12,7 @@ pub enum FeedClose<T> {
     /// The source failed.
     ReadFault,
     /// So many bytes were read as may be, and the source gave more.
-    Full,
+    LimitReached,
     /// There was no memory.
     OutOfMemory,
     /// The taker of the messages stopped.

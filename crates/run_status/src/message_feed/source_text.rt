@@ -69,7 +69,7 @@ fn close_full<S: Source>(source: &mut S) -> TextClose
     let mut piece = [0u8; 1];
     match source.read(&mut piece) {
         Ok(0) => TextClose::End,
-        Ok(_) => TextClose::Full,
+        Ok(_) => TextClose::LimitReached,
         Err(Failed) => TextClose::ReadFault,
     }
 }

@@ -8,7 +8,7 @@ pub enum TextClose {
     /// The source failed.
     ReadFault,
     /// So many bytes were read as may be, and the source gave more.
-    Full,
+    LimitReached,
     /// There was no memory.
     OutOfMemory,
 }

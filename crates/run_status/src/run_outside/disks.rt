@@ -1,7 +1,7 @@
 //! What the disks of an outside in memory hold.
 ghost use Rattle.std.specs.Prelude.{◌≡◌, IfSome};
 ghost use Rattle.std.specs.Option.{option_map};
-ghost use Rattle.shelf_log.specs.KeriDisk.Memory.{mem_told};
+ghost use Rattle.shelf_log.specs.KeriDisk.Memory.{mem_shown};
 ghost use Rattle.run_status.specs.RunOutside.Disks.{disk_file_named, stored_under};
 
 use crate::run_outside::MemDiskFile;
@@ -20,8 +20,8 @@ fn find<'a>(files: &'a [MemDiskFile], name: &str) -> Option<&'a MemDiskFile>
 
 // A disk of the name, where there is a file and memory for its copy.
 pub(crate) fn disk_of(alloc: Global, files: &[MemDiskFile], name: &str) -> Option<MemDisk>
-    ensures file { IfSome result (λ disk. (mem_told disk).file ≡ stored_under files.now name.now) }
-    ensures faults { IfSome result (λ disk. (mem_told disk).faults ≡ 0) }
+    ensures file { IfSome result (λ disk. (mem_shown disk).file ≡ stored_under files.now name.now) }
+    ensures faults { IfSome result (λ disk. (mem_shown disk).faults ≡ 0) }
 {
     let Some(file) = find(files, name) else {
         return None;

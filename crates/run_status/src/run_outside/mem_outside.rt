@@ -33,10 +33,10 @@ pub struct MemOutside {
 
 impl MemOutside {
     ghost use Rattle.std.specs.Prelude.{◌≡◌, ◌≤◌, ◌++◌, ◌∷◌, [], true, Some, IfOk, IfSome, OnOk, OnErr};
-    ghost use Rattle.shelf_log.specs.KeriDisk.Memory.{mem_told};
+    ghost use Rattle.shelf_log.specs.KeriDisk.Memory.{mem_shown};
     ghost use Rattle.lists.specs.KeriSpecs.Causes.{Rose};
-    ghost use Rattle.run_status.specs.RunOutside.Memory.{outside_told, outside_sink};
-    ghost use Rattle.run_status.specs.RunOutside.Told.{Grows, Makes, first_told, making};
+    ghost use Rattle.run_status.specs.RunOutside.Memory.{outside_shown, outside_sink};
+    ghost use Rattle.run_status.specs.RunOutside.Shown.{Grows, Makes, first_shown, making};
     ghost use Rattle.run_status.specs.RunOutside.Helpers.{says_under, gives_under};
     ghost use Rattle.run_status.specs.RunOutside.Disks.{stored_under};
     ghost use Rattle.run_status.specs.RunOutside.Addresses.{links_under};
@@ -49,7 +49,7 @@ impl MemOutside {
         failing: Items<u64>,
         limits: Limits,
     ) -> MemOutside
-        ensures told { outside_told result ≡ first_told files limits }
+        ensures told { outside_shown result ≡ first_shown files limits }
         ensures sink { outside_sink result ≡ sink }
     {
         MemOutside {
@@ -71,8 +71,8 @@ impl MemOutside {
 
     /// It with these helpers.
     pub fn with_helpers(self, helpers: Items<MemHelper>) -> MemOutside
-        ensures told { outside_told result
-            ≡ record (outside_told self) { says = says_under helpers; gives = gives_under helpers } }
+        ensures told { outside_shown result
+            ≡ record (outside_shown self) { says = says_under helpers; gives = gives_under helpers } }
         ensures sink { outside_sink result ≡ outside_sink self }
     {
         MemOutside { helpers, ..self }
@@ -80,7 +80,7 @@ impl MemOutside {
 
     /// It with these files of disks.
     pub fn with_disks(self, disks: Items<MemDiskFile>) -> MemOutside
-        ensures told { outside_told result ≡ record (outside_told self) { stored = stored_under disks } }
+        ensures told { outside_shown result ≡ record (outside_shown self) { stored = stored_under disks } }
         ensures sink { outside_sink result ≡ outside_sink self }
     {
         MemOutside { disks, ..self }
@@ -88,7 +88,7 @@ impl MemOutside {
 
     /// It with the doors of these addresses.
     pub fn with_doors(self, addresses: Items<MemAddress>) -> MemOutside
-        ensures told { outside_told result ≡ record (outside_told self) { links = links_under addresses } }
+        ensures told { outside_shown result ≡ record (outside_shown self) { links = links_under addresses } }
         ensures sink { outside_sink result ≡ outside_sink self }
     {
         MemOutside { addresses, ..self }
@@ -96,7 +96,7 @@ impl MemOutside {
 
     /// It with this gate.
     pub fn with_gate(self, gate: MemGate) -> MemOutside
-        ensures told { outside_told result ≡ outside_told self }
+        ensures told { outside_shown result ≡ outside_shown self }
         ensures sink { outside_sink result ≡ outside_sink self }
     {
         MemOutside { gate, ..self }
@@ -111,14 +111,14 @@ impl MemOutside {
 
     /// The makings so far. Where there was no memory to note one, these are only those before it.
     pub fn makings(&self) -> &[Making]
-        ensures { IfSome (outside_told self.now).makings (λ makings. result.now ≡ makings) }
+        ensures { IfSome (outside_shown self.now).makings (λ makings. result.now ≡ makings) }
     {
         self.makings.as_slice()
     }
 
     // Notes a making. Without memory for that the makings are told no more.
     fn note(&mut self, kind: MakingKind, name: &str, failed: bool)
-        ensures makings { Grows (outside_told self.old).makings (outside_told self.new).makings kind name.now failed }
+        ensures makings { Grows (outside_shown self.old).makings (outside_shown self.new).makings kind name.now failed }
         ensures same { self.new ≡ record self.old { makings = self.new.makings; telling = self.new.telling } }
     {
         if self.telling && self.push(kind, name, failed).is_err() {
@@ -148,9 +148,9 @@ impl MemOutside {
 
     // Makes the disk of a name that has a file.
     fn make_disk(&mut self, kind: MakingKind, name: &str) -> Result<MemDisk, Failed>
-        ensures makes { Makes kind name.now (outside_told self.old) (outside_told self.new) result }
-        ensures holds { IfOk result (λ disk. (mem_told disk).file ≡ stored_under self.old.disks name.now) }
-        ensures none_yet { IfOk result (λ disk. (mem_told disk).faults ≡ 0) }
+        ensures makes { Makes kind name.now (outside_shown self.old) (outside_shown self.new) result }
+        ensures holds { IfOk result (λ disk. (mem_shown disk).file ≡ stored_under self.old.disks name.now) }
+        ensures none_yet { IfOk result (λ disk. (mem_shown disk).faults ≡ 0) }
         ensures same_sink { outside_sink self.new ≡ outside_sink self.old }
     {
         let fails = self.next_fails();
@@ -165,7 +165,7 @@ impl MemOutside {
 
     // Notes a making that fails.
     fn fail(&mut self, kind: MakingKind, name: &str) -> Failed
-        ensures makings { Grows (outside_told self.old).makings (outside_told self.new).makings kind name.now true }
+        ensures makings { Grows (outside_shown self.old).makings (outside_shown self.new).makings kind name.now true }
         ensures count { Rose self.old.faults self.new.faults }
         ensures later { self.old.faults ≤ self.new.faults }
         ensures same { self.new ≡ record self.old
@@ -179,7 +179,7 @@ impl MemOutside {
 
 impl Outside for MemOutside {
     ghost use Rattle.std.proofs.Common.{refl};
-    ghost use Rattle.run_status.specs.RunOutside.Memory.{outside_told, outside_sink};
+    ghost use Rattle.run_status.specs.RunOutside.Memory.{outside_shown, outside_sink};
 
     type Source = MemSource;
 
@@ -195,7 +195,7 @@ impl Outside for MemOutside {
 
     type Gate = MemGate;
 
-    ghost told = { outside_told };
+    ghost shown = { outside_shown };
 
     ghost sink = { outside_sink };
 

@@ -15,9 +15,9 @@ pub trait Runs: Outside {
     // It can be no other.
     ghost run_is: { run ≡ run_over Self.Source.left Self.Source.faults
         Self.Verifier.says Self.Verifier.inquiries Self.Verifier.faults
-        Self.Signer.gives Self.Signer.signings Self.Signer.faults Self.Disk.told
+        Self.Signer.gives Self.Signer.signings Self.Signer.faults Self.Disk.shown
         Self.Door.left Self.Door.faults Self.Door.Sink.written Self.Door.Sink.faults
-        Self.Sink.written Self.Sink.faults Self.told Self.sink };
+        Self.Sink.written Self.Sink.faults Self.shown Self.sink };
 }
 
 impl<O: Outside> Runs for O {
@@ -26,9 +26,9 @@ impl<O: Outside> Runs for O {
 
     ghost run = { run_over O.Source.left O.Source.faults
         O.Verifier.says O.Verifier.inquiries O.Verifier.faults
-        O.Signer.gives O.Signer.signings O.Signer.faults O.Disk.told
+        O.Signer.gives O.Signer.signings O.Signer.faults O.Disk.shown
         O.Door.left O.Door.faults O.Door.Sink.written O.Door.Sink.faults
-        O.Sink.written O.Sink.faults O.told O.sink };
+        O.Sink.written O.Sink.faults O.shown O.sink };
 
     ghost run_is = { refl };
 }

@@ -22,7 +22,7 @@ pub enum Close {
     /// What stands at this place, in bytes from the start, isn't of the form or is cut short.
     Malformed(u64),
     /// As much was read or taken as may be, and there was more.
-    Full,
+    LimitReached,
     /// There was no memory.
     OutOfMemory,
 }

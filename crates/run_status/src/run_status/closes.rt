@@ -55,7 +55,9 @@ pub(crate) fn some_write_fault<S, V>(readers: &[ReaderEnd<S, V>]) -> bool
 pub(crate) fn some_full<S, V>(readers: &[ReaderEnd<S, V>]) -> bool
     ensures { result ≡ list_any (λ end. (close_found end.close).limit_reached) readers.now }
 {
-    readers.iter().any(|reader| reader.close == Close::Full)
+    readers
+        .iter()
+        .any(|reader| reader.close == Close::LimitReached)
 }
 
 /// Whether to some reader an event came for a place at which another one is stored.

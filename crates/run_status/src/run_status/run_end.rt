@@ -27,7 +27,7 @@ pub fn settle<O: Outside>(
         readers.now)
         (sink_seen O.Sink.written O.Sink.faults (O.sink outside.old))
         (sink_seen O.Sink.written O.Sink.faults (O.sink outside.new)) result }
-    ensures told { O.told outside.new ≡ O.told outside.old }
+    ensures told { O.shown outside.new ≡ O.shown outside.old }
 {
     let Some(text) = owed else {
         return Findings::no_memory().status();
@@ -49,7 +49,7 @@ pub fn status_by<O: Outside>(besides: Besides, readers: &[ReaderEnd<O::Source, O
 fn put<O: Outside>(outside: &mut O, text: &[u8]) -> bool
     ensures puts { Puts text.now result (sink_seen O.Sink.written O.Sink.faults (O.sink outside.old))
         (sink_seen O.Sink.written O.Sink.faults (O.sink outside.new)) }
-    ensures told { O.told outside.new ≡ O.told outside.old }
+    ensures told { O.shown outside.new ≡ O.shown outside.old }
 {
     if text.is_empty() {
         return false;

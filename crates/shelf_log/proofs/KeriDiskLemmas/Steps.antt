@@ -5,7 +5,7 @@ use Rattle.std.proofs.lemmas.List.{append-nil, take_all, take-append-le, length_
 use Rattle.shelf_log.specs.KeriDisk.Images.{Torn}
 use Rattle.shelf_log.specs.KeriDisk.Calls.{Elapses, Keeps, Syncs, Changes}
 use Rattle.shelf_log.specs.KeriDisk.Replay.{file_after, file_of, IsLeftBy, IsLeftByAll}
-use Rattle.shelf_log.specs.KeriDisk.Memory.{images_at, mem_told, Did}
+use Rattle.shelf_log.specs.KeriDisk.Memory.{images_at, mem_shown, Did}
 use Rattle.shelf_log.specs.KeriDisk.Laws.{Torn-overwritten, reads_an_image, counts_now}
 use Rattle.shelf_log.specs.declared.keri_disk.disk_call.DiskCall.{DiskCall}
 use Rattle.shelf_log.specs.declared.keri_disk.disk_call.DiskCall.TheVariants.{Kept, Synced, Wrote}
@@ -25,7 +25,7 @@ module _ (old new : MemDisk) (call : DiskCall) (did : Did (call ∷ []) old new)
   same n c le = λ i. IsLeftByAll ((ap (λ (l : List DiskCall). take n l) did.calls ∙ take-append-le n old.calls (call ∷ []) le) i) (did.first i) (did.first i) c
 
   -- each image is left by the call, of one of before
-  images_did : (c : List ℕ) → (mem_told new).images c → (d : List ℕ) × (mem_told old).images d × IsLeftBy call old.file.items d c
+  images_did : (c : List ℕ) → (mem_shown new).images c → (d : List ℕ) × (mem_shown old).images d × IsLeftBy call old.file.items d c
   images_did c now =
       let calls = take_all (length new.calls) new.calls (omega arith) ∙ did.calls in
       let left = subst (λ (X : Type 0). X) (λ i. IsLeftByAll (calls i) (did.first i) (did.first i) c) now in
@@ -35,7 +35,7 @@ module _ (old new : MemDisk) (call : DiskCall) (did : Did (call ∷ []) old new)
         subst (λ (f : List ℕ). IsLeftBy call f parts.0 c) (sym old.replayed) parts.2,
       )
 
-  elapses : Elapses (mem_told old) (mem_told new)
+  elapses : Elapses (mem_shown old) (mem_shown new)
   elapses =
       let counts : length new.calls ≡ length old.calls + 1 = ap length did.calls ∙ length_push old.calls call in
       record {
@@ -48,12 +48,12 @@ module _ (old new : MemDisk) (call : DiskCall) (did : Did (call ∷ []) old new)
       }
 
   -- the whole of a call
-  pub changes : {E : Type 0} → Changes {E = E} (file_after call) (IsLeftBy call old.file.items) (mem_told old) (mem_told new) (Ok tt)
+  pub changes : {E : Type 0} → Changes {E = E} (file_after call) (IsLeftBy call old.file.items) (mem_shown old) (mem_shown new) (Ok tt)
   changes = record { ok = ap Some file_did; err = tt; images = images_did; time = elapses }
 
 module _ (old new : MemDisk) where
   -- a call after which no image is new keeps all
-  no_new : (call : DiskCall) → Did (call ∷ []) old new → new.file.items ≡ old.file.items → ((c : List ℕ) → (mem_told new).images c → (mem_told old).images c) → Keeps (mem_told old) (mem_told new)
+  no_new : (call : DiskCall) → Did (call ∷ []) old new → new.file.items ≡ old.file.items → ((c : List ℕ) → (mem_shown new).images c → (mem_shown old).images c) → Keeps (mem_shown old) (mem_shown new)
   no_new call did file images =
       let time = elapses old new call did in
       record {
@@ -64,19 +64,19 @@ module _ (old new : MemDisk) where
         keeps = time.keeps;
       }
 
-  pub keeps_kept : Did (Kept ∷ []) old new → Keeps (mem_told old) (mem_told new)
+  pub keeps_kept : Did (Kept ∷ []) old new → Keeps (mem_shown old) (mem_shown new)
   keeps_kept did =
-      no_new Kept did (file_did old new Kept did) (λ c now. let left = images_did old new Kept did c now in subst (mem_told old).images (sym left.2) left.1)
+      no_new Kept did (file_did old new Kept did) (λ c now. let left = images_did old new Kept did c now in subst (mem_shown old).images (sym left.2) left.1)
 
-  pub syncs : {E : Type 0} → Did (Synced ∷ []) old new → Syncs {E = E} (mem_told old) (mem_told new) (Ok tt)
+  pub syncs : {E : Type 0} → Did (Synced ∷ []) old new → Syncs {E = E} (mem_shown old) (mem_shown new) (Ok tt)
   syncs did = record {
     keeps = no_new Synced did (file_did old new Synced did)
-        (λ c now. let left = images_did old new Synced did c now in subst (mem_told old).images (sym left.2) (reads_an_image old old.file.items refl));
+        (λ c now. let left = images_did old new Synced did c now in subst (mem_shown old).images (sym left.2) (reads_an_image old old.file.items refl));
     durable = λ c now. let left = images_did old new Synced did c now in ap Some (file_did old new Synced did ∙ sym left.2);
   }
 
   -- a write of fewer bytes, told as one that failed
-  pub changes_part : {E : Type 0} (e : E) (whole : List ℕ → List ℕ) (place n : ℕ) (bytes : List ℕ) → length bytes ≤ n → Did (Wrote place bytes ∷ []) old new → Changes whole (Torn place n) (mem_told old) (mem_told new) (Err e)
+  pub changes_part : {E : Type 0} (e : E) (whole : List ℕ → List ℕ) (place n : ℕ) (bytes : List ℕ) → length bytes ≤ n → Did (Wrote place bytes ∷ []) old new → Changes whole (Torn place n) (mem_shown old) (mem_shown new) (Err e)
   changes_part e whole place n bytes fewer did =
       let call = Wrote place bytes in
       let file = subst (Torn place (length bytes) old.file.items) (sym (file_did old new call did)) (Torn-overwritten old.file.items place bytes) in

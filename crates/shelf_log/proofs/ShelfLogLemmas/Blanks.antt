@@ -1,7 +1,7 @@
 -- A file that is written from behind its first byte.
 use Rattle.std.proofs.Common.{◌≡◌, ℕ, ◌+◌, ◌≤◌, min, List, [], ◌∷◌, ◌++◌, length, take, drop, get_or, Option, Some, None, IfSome, Result, OnOk, IsErr, Ok, Err, option_map, refl, sym, ◌∙◌, ap, arith, append-nil, append_assoc, take_all, take-take}
 use Rattle.std.proofs.lemmas.List.{drop_all}
-use Rattle.shelf_log.specs.KeriDisk.Images.{DiskTold, overwritten, Torn}
+use Rattle.shelf_log.specs.KeriDisk.Images.{DiskShown, overwritten, Torn}
 use Rattle.shelf_log.specs.KeriDisk.Calls.{Changes}
 use Rattle.shelf_log.specs.ShelfLog.Blank.{IsBlank, AllBlank, Extends}
 use Rattle.shelf_log.proofs.ShelfLogLemmas.Changes.{none_of_err}
@@ -39,7 +39,7 @@ on_ok P Q (Ok x) gives holds = gives holds
 on_ok P Q (Err e) gives holds = tt
 
 -- a write at the end
-pub extends : {E : Type 0} (end : ℕ) (bytes : List ℕ) (old new : DiskTold) (result : Result (Unit {0}) E) → KnowsNow old → 1 ≤ end → IfSome old.file (λ file. length file ≡ end)
+pub extends : {E : Type 0} (end : ℕ) (bytes : List ℕ) (old new : DiskShown) (result : Result (Unit {0}) E) → KnowsNow old → 1 ≤ end → IfSome old.file (λ file. length file ≡ end)
     → Changes (λ file. overwritten file end bytes) (Torn end (length bytes)) old new result → Extends bytes old new result
 extends end bytes old new result knows le is changes = record {
   file = on_ok _ _ result (λ file. file ∙ mapped_end end bytes old.file is) changes.ok;
@@ -51,7 +51,7 @@ extends end bytes old new result knows le is changes = record {
     blank all c now = let part = changes.images c now in torn_blank end (length bytes) part.0 c le (all part.0 part.1) part.2
 
 -- bytes were written behind the others
-abbrev pub ExtendsSoFar : List ℕ → DiskTold → DiskTold → Type 0
+abbrev pub ExtendsSoFar : List ℕ → DiskShown → DiskShown → Type 0
 ExtendsSoFar bytes old new = Extends {T = Unit {0}} {E = Unit {0}} bytes old new (Ok tt)
 
 -- bytes behind bytes
@@ -59,7 +59,7 @@ mapped_both : (xs ys : List ℕ) (o : Option (List ℕ)) → option_map (λ file
 mapped_both xs ys None = refl
 mapped_both xs ys (Some file) = ap Some (append_assoc file xs ys)
 
-pub extends_both : {T E : Type 0} (xs ys : List ℕ) (old mid new : DiskTold) (result : Result T E) → ExtendsSoFar xs old mid → Extends ys mid new result → Extends (xs ++ ys) old new result
+pub extends_both : {T E : Type 0} (xs ys : List ℕ) (old mid new : DiskShown) (result : Result T E) → ExtendsSoFar xs old mid → Extends ys mid new result → Extends (xs ++ ys) old new result
 extends_both xs ys old mid new result a b = record {
   file = on_ok _ _ result (λ file. file ∙ ap (λ (o : Option (List ℕ)). option_map (λ file. file ++ ys) o) a.file ∙ mapped_both xs ys old.file) b.file;
   blank = λ all. b.blank (a.blank all);
@@ -67,7 +67,7 @@ extends_both xs ys old mid new result a b = record {
 }
 
 -- a call that failed
-pub extends_failed : {T U E F : Type 0} (xs ys zs : List ℕ) (old mid new : DiskTold) (first : Result T E) (result : Result U F) → ExtendsSoFar xs old mid → Extends ys mid new first → IsErr result → Extends zs old new result
+pub extends_failed : {T U E F : Type 0} (xs ys zs : List ℕ) (old mid new : DiskShown) (first : Result T E) (result : Result U F) → ExtendsSoFar xs old mid → Extends ys mid new first → IsErr result → Extends zs old new result
 extends_failed xs ys zs old mid new first result a b failed = record {
   file = none_of_err _ result failed;
   blank = λ all. b.blank (a.blank all);

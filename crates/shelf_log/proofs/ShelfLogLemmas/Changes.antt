@@ -1,7 +1,7 @@
 -- A change with a sync behind it.
 use Rattle.std.proofs.Common.{◌≡◌, inl, inr, ℕ, min, List, length, take, Result, Ok, Err, IsErr, OnOk, option_map, refl, sym, ◌∙◌, ap, arith, take_all}
 use Rattle.std.proofs.lemmas.Bool.{cases_lt}
-use Rattle.shelf_log.specs.KeriDisk.Images.{DiskTold, Torn, CutShort, LeavesOnly}
+use Rattle.shelf_log.specs.KeriDisk.Images.{DiskShown, Torn, CutShort, LeavesOnly}
 use Rattle.shelf_log.specs.KeriDisk.Calls.{Elapses, Syncs}
 use Rattle.shelf_log.specs.ShelfLog.Durable.{ChangesDurably}
 use Rattle.shelf_log.proofs.KeriDiskLemmas.Moments.{KnowsNow, one_call, and_then, elapses_of}
@@ -29,7 +29,7 @@ pub none_of_err : {T E : Type 0} (P : Type 0) (result : Result T E) → IsErr re
 none_of_err P (Ok x) failed = grind (arith, failed)
 none_of_err P (Err e) failed = tt
 
-module _ (whole : List ℕ → List ℕ) (part : List ℕ → List ℕ → Type 0) (none : (c : List ℕ) → part c c) (old mid : DiskTold) (knows : KnowsNow old) (time : Elapses old mid)
+module _ (whole : List ℕ → List ℕ) (part : List ℕ → List ℕ → Type 0) (none : (c : List ℕ) → part c c) (old mid : DiskShown) (knows : KnowsNow old) (time : Elapses old mid)
     (images : (c : List ℕ) → mid.images c → (d : List ℕ) × old.images d × part d c) where
   changed : LeavesOnly old mid (λ c. (d : List ℕ) × old.images d × part d c)
   changed = one_call old mid _ knows time (λ c here. (c, here, none c)) images
@@ -37,7 +37,7 @@ module _ (whole : List ℕ → List ℕ) (part : List ℕ → List ℕ → Type 
   pub change_failed : {E : Type 0} (result : Result (Unit {0}) E) → IsErr result → ChangesDurably whole part old mid result
   change_failed result failed = record { durable = none_of_err _ result failed; file = none_of_err _ result failed; moments = changed }
 
-  pub then_synced : {E : Type 0} (new : DiskTold) (result : Result (Unit {0}) E) → KnowsNow mid → mid.file ≡ option_map whole old.file → Syncs mid new result → ChangesDurably whole part old new result
+  pub then_synced : {E : Type 0} (new : DiskShown) (result : Result (Unit {0}) E) → KnowsNow mid → mid.file ≡ option_map whole old.file → Syncs mid new result → ChangesDurably whole part old new result
   then_synced new result knows_mid file synced = record {
     durable = synced.durable;
     file = ok_anyway _ result (synced.keeps.file ∙ file);

@@ -1,7 +1,7 @@
 -- Files that a stopped migration may leave.
 use Rattle.std.proofs.Common.{◌≡◌, ◌≢◌, inl, inr, ℕ, ◌≤◌, List, [], ◌∷◌, ◌++◌, length, take, drop, get_or, Option, IfSome, refl, sym, ◌∙◌, ap, subst, arith, length-take, length-append, take_all, take-take}
 use Rattle.std.proofs.lemmas.Bool.{cases_lt}
-use Rattle.shelf_log.specs.KeriDisk.Images.{DiskTold, IsDurable}
+use Rattle.shelf_log.specs.KeriDisk.Images.{DiskShown, IsDurable}
 use Rattle.shelf_log.specs.ShelfLog.Format.{IsNoShelf, shelf_front}
 use Rattle.shelf_log.specs.ShelfLog.Leftover.{rest_of_mark, GoesOnAsMark, IsLeftover}
 use Rattle.shelf_log.specs.declared.shelf_log.version.Version.TheVariants.{Two}
@@ -58,5 +58,5 @@ leftover_no_shelf (x ∷ c) is list holds =
     ]
 
 -- so where the file is one, and each image is the file, no image is a shelf
-pub images_no_shelf : (told : DiskTold) → IsDurable told → IfSome told.file IsLeftover → (c : List ℕ) → told.images c → IsNoShelf Two c
+pub images_no_shelf : (told : DiskShown) → IsDurable told → IfSome told.file IsLeftover → (c : List ℕ) → told.images c → IsNoShelf Two c
 images_no_shelf told durable left c now = leftover_no_shelf c (subst (λ (o : Option (List ℕ)). IfSome o IsLeftover) (durable c now) left)

@@ -2,7 +2,7 @@
 use Rattle.std.proofs.Common.{◌≡◌, ◌≢◌, ◌⊎◌, inl, inr, ℕ, ◌≤◌, List, [], ◌∷◌, ◌++◌, length, take, drop, get_or, Some, IfSome, Result, All, option_map, refl, sym, ◌∙◌, ap, subst, arith, append_assoc, length-append, take-append-drop}
 use Rattle.std.proofs.lemmas.Bool.{cases_eq}
 use Rattle.std.proofs.lemmas.List.{drop_more}
-use Rattle.shelf_log.specs.KeriDisk.Images.{DiskTold, IsDurable, overwritten, Torn, CutShort, LeavesOnly}
+use Rattle.shelf_log.specs.KeriDisk.Images.{DiskShown, IsDurable, overwritten, Torn, CutShort, LeavesOnly}
 use Rattle.shelf_log.specs.ShelfLog.Blank.{IsBlank, AllBlank, blank_file}
 use Rattle.shelf_log.specs.ShelfLog.Durable.{ChangesDurably}
 use Rattle.shelf_log.specs.ShelfLog.Format.{mark, Holds, IsSized, IsNoShelf, records, shelf_front}
@@ -53,20 +53,20 @@ blank_unbegun N unbegun (x ∷ c) blank = subst (λ (y : ℕ). N (y ∷ c)) (sym
 pub sized_two : (list : List (List ℕ)) → All (IsSized One) list → All (IsSized Two) list
 sized_two list sized k d lt = let s = sized k d lt in (s.0, omega (arith, s.1))
 
-module _ (old m1 : DiskTold) (durable : IsDurable m1) (file_is : m1.file ≡ option_map (take 0) old.file) where
+module _ (old m1 : DiskShown) (durable : IsDurable m1) (file_is : m1.file ≡ option_map (take 0) old.file) where
   pub emptied : (d : List ℕ) → m1.file ≡ Some d → d ≡ []
   emptied d is = (mapped (take 0) old.file d (sym file_is ∙ is)).2
 
-  pub byte_blank : (m2 : DiskTold) → IsDurable m2 → m2.file ≡ option_map (λ file. overwritten file 0 (0 ∷ [])) m1.file → AllBlank m2
+  pub byte_blank : (m2 : DiskShown) → IsDurable m2 → m2.file ≡ option_map (λ file. overwritten file 0 (0 ∷ [])) m1.file → AllBlank m2
   byte_blank m2 durable_2 file_2 c now =
       let from = mapped (λ file. overwritten file 0 (0 ∷ [])) m1.file c (sym file_2 ∙ durable_2 c now) in
       subst IsBlank (sym (from.2 ∙ ap (λ (f : List ℕ). overwritten f 0 (0 ∷ [])) (emptied from.0 from.1))) refl
 
-module _ (N : List ℕ → Type 0) (unbegun : IsUnbegun N) (old m1 : DiskTold) where
+module _ (N : List ℕ → Type 0) (unbegun : IsUnbegun N) (old m1 : DiskShown) where
   pub cut_leaves : {E : Type 0} (result : Result (Unit {0}) E) → ((c : List ℕ) → old.images c → N c) → ChangesDurably (take 0) (CutShort 0) old m1 result → LeavesOnly old m1 N
   cut_leaves result none changes = weaker old m1 _ N (λ c part. unbegun.front c part.0 part.2.front (none part.0 part.1)) changes.moments
 
-  pub byte_leaves : {E : Type 0} (durable : IsDurable m1) (file_is : m1.file ≡ option_map (take 0) old.file) (m2 : DiskTold) (bytes : List ℕ) (result : Result (Unit {0}) E)
+  pub byte_leaves : {E : Type 0} (durable : IsDurable m1) (file_is : m1.file ≡ option_map (take 0) old.file) (m2 : DiskShown) (bytes : List ℕ) (result : Result (Unit {0}) E)
       → length bytes ≡ 1 → ChangesDurably (λ file. overwritten file 0 bytes) (Torn 0 (length bytes)) m1 m2 result → LeavesOnly m1 m2 N
   byte_leaves durable file_is m2 bytes result one changes = weaker m1 m2 _ N
       (λ c part. unbegun.short c (omega (arith, part.2.no_longer, one, ap length (emptied old m1 durable file_is part.0 (durable part.0 part.1))))) changes.moments
@@ -75,7 +75,7 @@ module _ (N : List ℕ → Type 0) (unbegun : IsUnbegun N) (old m1 : DiskTold) w
 abbrev pub IsBegunOr : (List ℕ → Type 0) → List (List ℕ) → List ℕ → Type 0
 IsBegunOr N list file = N file ⊎ Holds Two file list
 
-module _ (list : List (List ℕ)) (sized : All (IsSized One) list) (m3 m4 : DiskTold) (durable : IsDurable m3) (file_is : IfSome m3.file (λ file. file ≡ blank_file list)) where
+module _ (list : List (List ℕ)) (sized : All (IsSized One) list) (m3 m4 : DiskShown) (durable : IsDurable m3) (file_is : IfSome m3.file (λ file. file ≡ blank_file list)) where
   abbrev behind : List ℕ
   behind = drop 1 (mark Two) ++ records list ++ 0 ∷ []
 
@@ -112,21 +112,21 @@ module _ (list : List (List ℕ)) (sized : All (IsSized One) list) (m3 m4 : Disk
         changes.moments
 
 -- the first steps, up to the last byte
-module _ (N : List ℕ → Type 0) (unbegun : IsUnbegun N) (list : List (List ℕ)) (old m1 : DiskTold) (none : (c : List ℕ) → old.images c → N c) where
-  either : (from to : DiskTold) → LeavesOnly from to N → LeavesOnly from to (IsBegunOr N list)
+module _ (N : List ℕ → Type 0) (unbegun : IsUnbegun N) (list : List (List ℕ)) (old m1 : DiskShown) (none : (c : List ℕ) → old.images c → N c) where
+  either : (from to : DiskShown) → LeavesOnly from to N → LeavesOnly from to (IsBegunOr N list)
   either from to leaves = weaker from to N (IsBegunOr N list) (λ c n. inl n) leaves
 
   pub after_cut : {E : Type 0} (result : Result (Unit {0}) E) → ChangesDurably (take 0) (CutShort 0) old m1 result → LeavesOnly old m1 (IsBegunOr N list)
   after_cut result cuts = either old m1 (cut_leaves N unbegun old m1 result none cuts)
 
-  module _ (durable : IsDurable m1) (file_is : m1.file ≡ option_map (take 0) old.file) (cut : LeavesOnly old m1 (IsBegunOr N list)) (m2 : DiskTold) where
+  module _ (durable : IsDurable m1) (file_is : m1.file ≡ option_map (take 0) old.file) (cut : LeavesOnly old m1 (IsBegunOr N list)) (m2 : DiskShown) where
     pub after_byte : {E : Type 0} (result : Result (Unit {0}) E) → ChangesDurably (λ file. overwritten file 0 (0 ∷ [])) (Torn 0 1) m1 m2 result → LeavesOnly old m2 (IsBegunOr N list)
     after_byte result puts = and_then old m1 m2 (IsBegunOr N list) cut (either m1 m2 (byte_leaves N unbegun old m1 durable file_is m2 (0 ∷ []) result refl puts))
 
-    pub after_behind : (m3 : DiskTold) → LeavesOnly old m2 (IsBegunOr N list) → IsDurable m2 → m2.file ≡ option_map (λ file. overwritten file 0 (0 ∷ [])) m1.file → (AllBlank m2 → LeavesOnly m2 m3 IsBlank) → LeavesOnly old m3 (IsBegunOr N list)
+    pub after_behind : (m3 : DiskShown) → LeavesOnly old m2 (IsBegunOr N list) → IsDurable m2 → m2.file ≡ option_map (λ file. overwritten file 0 (0 ∷ [])) m1.file → (AllBlank m2 → LeavesOnly m2 m3 IsBlank) → LeavesOnly old m3 (IsBegunOr N list)
     after_behind m3 byte durable_2 file_2 moments = and_then old m2 m3 (IsBegunOr N list) byte
         (weaker m2 m3 IsBlank (IsBegunOr N list) (λ c blank. inl (blank_unbegun N unbegun c blank)) (moments (byte_blank old m1 durable file_is m2 durable_2 file_2)))
 
-    pub all_but_first : {E : Type 0} (m3 : DiskTold) (first : Result (Unit {0}) E) → ChangesDurably (λ file. overwritten file 0 (0 ∷ [])) (Torn 0 1) m1 m2 first → IsDurable m2
+    pub all_but_first : {E : Type 0} (m3 : DiskShown) (first : Result (Unit {0}) E) → ChangesDurably (λ file. overwritten file 0 (0 ∷ [])) (Torn 0 1) m1 m2 first → IsDurable m2
         → m2.file ≡ option_map (λ file. overwritten file 0 (0 ∷ [])) m1.file → (AllBlank m2 → LeavesOnly m2 m3 IsBlank) → LeavesOnly old m3 (IsBegunOr N list)
     all_but_first m3 first puts durable_2 file_2 moments = after_behind m3 (after_byte first puts) durable_2 file_2 moments

@@ -4,7 +4,7 @@ use Rattle.std.specs.Int.{w32, to_be_bytes}
 use Rattle.std.proofs.lemmas.Option.{same_Some, none-some}
 use Rattle.std.proofs.lemmas.List.Elements.{All-push}
 use Rattle.std.proofs.lemmas.Bool.{false≢true}
-use Rattle.shelf_log.specs.KeriDisk.Images.{DiskTold, IsDurable, overwritten, Torn, LeavesOnly}
+use Rattle.shelf_log.specs.KeriDisk.Images.{DiskShown, IsDurable, overwritten, Torn, LeavesOnly}
 use Rattle.shelf_log.specs.ShelfLog.Durable.{ChangesDurably}
 use Rattle.shelf_log.specs.ShelfLog.Format.{Holds, IsSized, shelf_front}
 use Rattle.shelf_log.specs.ShelfLog.Settled.{IsSettled, HoldsEither, Stores}
@@ -20,23 +20,23 @@ mapped f None y is = absurd (none-some y is)
 mapped f (Some x) y is = (x, refl, sym (same_Some (f x) y is))
 
 -- an image of a settled disk stands for the list
-pub image_holds : (told : DiskTold) (list : List (List ℕ)) (c : List ℕ) → IsSettled told list → told.file ≡ Some c → Holds Two c list
+pub image_holds : (told : DiskShown) (list : List (List ℕ)) (c : List ℕ) → IsSettled told list → told.file ≡ Some c → Holds Two c list
 image_holds told list c settled is = subst (λ o. IfSome o (λ file. Holds Two file list)) is settled.1
 
-module _ (list : List (List ℕ)) (payload : List ℕ) (fits : IsSized Two payload) (old : DiskTold) (settled : IsSettled old list) where
+module _ (list : List (List ℕ)) (payload : List ℕ) (fits : IsSized Two payload) (old : DiskShown) (settled : IsSettled old list) where
   abbrev place : ℕ
   place = length (shelf_front Two list)
 
   abbrev bytes : List ℕ
   bytes = to_be_bytes w32 (length payload) ++ payload ++ 0 ∷ []
 
-  pub first_moments : {E : Type 0} (mid : DiskTold) (result : Result (Unit {0}) E) → ChangesDurably (λ file. overwritten file (place + 1) bytes) (Torn (place + 1) (length bytes)) old mid result
+  pub first_moments : {E : Type 0} (mid : DiskShown) (result : Result (Unit {0}) E) → ChangesDurably (λ file. overwritten file (place + 1) bytes) (Torn (place + 1) (length bytes)) old mid result
       → LeavesOnly old mid (HoldsEither list payload)
   first_moments mid result changes = weaker old mid _ (HoldsEither list payload)
       (λ c part. inl (torn_behind list part.0 (image_holds old list part.0 settled (settled.0 part.0 part.1)) (length bytes) c part.2)) changes.moments
 
   -- between the two steps the file is a staged one
-  pub staged_between : (mid : DiskTold) (d : List ℕ) → mid.file ≡ option_map (λ file. overwritten file (place + 1) bytes) old.file → mid.file ≡ Some d
+  pub staged_between : (mid : DiskShown) (d : List ℕ) → mid.file ≡ option_map (λ file. overwritten file (place + 1) bytes) old.file → mid.file ≡ Some d
       → (gate : ℕ) × (rest : List ℕ) × All (IsSized Two) list × (d ≡ staged list gate payload rest)
   staged_between mid d file_is is =
       let from = mapped (λ file. overwritten file (place + 1) bytes) old.file d (sym file_is ∙ is) in
@@ -44,7 +44,7 @@ module _ (list : List (List ℕ)) (payload : List ℕ) (fits : IsSized Two paylo
       let s = staged_file list from.0 payload holds in
       (s.0, s.1, holds.2, from.2 ∙ s.3)
 
-  module _ (mid new : DiskTold) (durable : (c : List ℕ) → mid.images c → mid.file ≡ Some c) (file_is : mid.file ≡ option_map (λ file. overwritten file (place + 1) bytes) old.file) where
+  module _ (mid new : DiskShown) (durable : (c : List ℕ) → mid.images c → mid.file ≡ Some c) (file_is : mid.file ≡ option_map (λ file. overwritten file (place + 1) bytes) old.file) where
     second_moments : {E : Type 0} (result : Result (Unit {0}) E) → ChangesDurably (λ file. overwritten file place (1 ∷ [])) (Torn place 1) mid new result → LeavesOnly mid new (HoldsEither list payload)
     second_moments result changes = weaker mid new _ (HoldsEither list payload)
         (λ c part.
@@ -73,23 +73,23 @@ module _ (list : List (List ℕ)) (payload : List ℕ) (fits : IsSized Two paylo
     }
 
 -- the two steps of an append at the place where the closed gate stands
-module _ (list : List (List ℕ)) (payload : List ℕ) (old : DiskTold) (settled : IsSettled old list) (fits : IsSized Two payload)
+module _ (list : List (List ℕ)) (payload : List ℕ) (old : DiskShown) (settled : IsSettled old list) (fits : IsSized Two payload)
     (end : ℕ) (end_is : end ≡ length (shelf_front Two list)) (bytes : List ℕ) (bytes_are : bytes ≡ to_be_bytes w32 (length payload) ++ payload ++ 0 ∷ []) where
-  at_gate : {E : Type 0} (mid : DiskTold) (result : Result (Unit {0}) E) → ChangesDurably (λ file. overwritten file (end + 1) bytes) (Torn (end + 1) (length bytes)) old mid result
+  at_gate : {E : Type 0} (mid : DiskShown) (result : Result (Unit {0}) E) → ChangesDurably (λ file. overwritten file (end + 1) bytes) (Torn (end + 1) (length bytes)) old mid result
       → ChangesDurably (λ file. overwritten file (length (shelf_front Two list) + 1) (to_be_bytes w32 (length payload) ++ payload ++ 0 ∷ []))
       (Torn (length (shelf_front Two list) + 1) (length (to_be_bytes w32 (length payload) ++ payload ++ 0 ∷ []))) old mid result
   at_gate mid result changes =
       subst (λ (p : List ℕ). ChangesDurably (λ file. overwritten file (length (shelf_front Two list) + 1) p) (Torn (length (shelf_front Two list) + 1) (length p)) old mid result) bytes_are
       (subst (λ (e : ℕ). ChangesDurably (λ file. overwritten file (e + 1) bytes) (Torn (e + 1) (length bytes)) old mid result) end_is changes)
 
-  pub first_failed : {E F : Type 0} (mid : DiskTold) (first : Result (Unit {0}) E) (result : Result (Unit {0}) F) → IsErr result
+  pub first_failed : {E F : Type 0} (mid : DiskShown) (first : Result (Unit {0}) E) (result : Result (Unit {0}) F) → IsErr result
       → ChangesDurably (λ file. overwritten file (end + 1) bytes) (Torn (end + 1) (length bytes)) old mid first → Stores list payload old mid result
   first_failed mid first result failed changes = record {
     settled = none_of_err _ result failed;
     moments = first_moments list payload fits old settled mid first (at_gate mid first changes);
   }
 
-  pub both_done : {E F : Type 0} (mid new : DiskTold) (first : Result (Unit {0}) E) (result : Result (Unit {0}) F)
+  pub both_done : {E F : Type 0} (mid new : DiskShown) (first : Result (Unit {0}) E) (result : Result (Unit {0}) F)
       → IsDurable mid → mid.file ≡ option_map (λ file. overwritten file (end + 1) bytes) old.file
       → ChangesDurably (λ file. overwritten file (end + 1) bytes) (Torn (end + 1) (length bytes)) old mid first
       → ChangesDurably (λ file. overwritten file end (1 ∷ [])) (Torn end 1) mid new result → Stores list payload old new result

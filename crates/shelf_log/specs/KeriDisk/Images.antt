@@ -6,7 +6,7 @@ use Rattle.std.specs.declared.option.Option.TheVariants.{Some}
 -- What a disk tells: the bytes that a read gives; its images, which are the contents that a crash at this moment may
 -- leave; the moment, as a number that doesn't fall; the images of all moments from one on; how often it has failed.
 -- A disk that tells nothing gives no bytes and has no image.
-pub record DiskTold : Type 1 where
+pub record DiskShown : Type 1 where
   pub file : Option (List ℕ)
   pub images : List ℕ → Type 0
   pub moment : ℕ
@@ -31,12 +31,12 @@ pub record CutShort (size : ℕ) (old new : List ℕ) : Type 0 where
   pub no_shorter : min size (length old) ≤ length new
 
 -- each image is the file as it reads
-abbrev pub IsDurable : DiskTold → Type 0
+abbrev pub IsDurable : DiskShown → Type 0
 IsDurable told = (c : List ℕ) → told.images c → told.file ≡ Some c
 
 -- Each content that a crash may have left at a moment from the first of these two on has P. For a run that began earlier,
 -- what a crash may have left since is what it may have left before, or has P.
-pub record LeavesOnly (old new : DiskTold) (P : List ℕ → Type 0) : Type 0 where
+pub record LeavesOnly (old new : DiskShown) (P : List ℕ → Type 0) : Type 0 where
   pub later : old.moment ≤ new.moment
   pub each : (c : List ℕ) → new.images_since old.moment c → P c
   pub before : (t : ℕ) (c : List ℕ) → t ≤ old.moment → new.images_since t c → old.images_since t c ⊎ P c

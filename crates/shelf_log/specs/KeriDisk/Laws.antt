@@ -7,7 +7,7 @@ use Rattle.std.proofs.lemmas.Option.{same_Some}
 use Rattle.std.specs.declared.option.Option.TheVariants.{Some}
 use Rattle.shelf_log.specs.KeriDisk.Images.{overwritten, Torn, CutShort}
 use Rattle.shelf_log.specs.KeriDisk.Replay.{file_after, file_of, IsLeftBy, IsLeftByAll}
-use Rattle.shelf_log.specs.KeriDisk.Memory.{images_at, mem_told}
+use Rattle.shelf_log.specs.KeriDisk.Memory.{images_at, mem_shown}
 use Rattle.shelf_log.specs.declared.keri_disk.disk_call.DiskCall.{DiskCall}
 use Rattle.shelf_log.specs.declared.keri_disk.disk_call.DiskCall.TheVariants.{Kept, Synced, Wrote, CutTo}
 use Rattle.shelf_log.specs.declared.keri_disk.mem_disk.MemDisk.{MemDisk}
@@ -52,17 +52,17 @@ file_of-IsLeft : (calls : List DiskCall) (file : List ℕ) → IsLeftByAll calls
 file_of-IsLeft [] file = refl
 file_of-IsLeft (call ∷ calls) file = (file_after call file, file_after-IsLeft call file, file_of-IsLeft calls (file_after call file))
 
-pub reads_an_image : (disk : MemDisk) (file : List ℕ) → (mem_told disk).file ≡ Some file → (mem_told disk).images file
+pub reads_an_image : (disk : MemDisk) (file : List ℕ) → (mem_shown disk).file ≡ Some file → (mem_shown disk).images file
 reads_an_image disk file is =
     let calls : List DiskCall = take (length disk.calls) disk.calls in
     let reads : file_of disk.first calls ≡ file =
     ap (file_of disk.first) (take_all (length disk.calls) disk.calls (omega arith)) ∙ sym disk.replayed ∙ same_Some _ _ is in
     subst (images_at disk (length disk.calls)) reads (file_of-IsLeft calls disk.first)
 
-pub counts_now : (disk : MemDisk) (t : ℕ) (c : List ℕ) → t ≤ (mem_told disk).moment → (mem_told disk).images c → (mem_told disk).images_since t c
+pub counts_now : (disk : MemDisk) (t : ℕ) (c : List ℕ) → t ≤ (mem_shown disk).moment → (mem_shown disk).images c → (mem_shown disk).images_since t c
 counts_now disk t c le now = (length disk.calls, le, omega arith, now)
 
-pub only_now : (disk : MemDisk) (c : List ℕ) → (mem_told disk).images_since (mem_told disk).moment c → (mem_told disk).images c
+pub only_now : (disk : MemDisk) (c : List ℕ) → (mem_shown disk).images_since (mem_shown disk).moment c → (mem_shown disk).images c
 only_now disk c left =
     let last : left.0 ≡ length disk.calls = omega (arith, left.1, left.2) in
     subst (λ (n : ℕ). images_at disk n c) last left.3

@@ -1,7 +1,7 @@
 -- What a disk in memory tells: it keeps what its file held first, and what each of its calls did.
 use Rattle.std.specs.Prelude.{◌≡◌, ℕ, ◌≤◌, List, ◌++◌, length, take}
 use Rattle.std.specs.declared.option.Option.TheVariants.{Some}
-use Rattle.shelf_log.specs.KeriDisk.Images.{DiskTold}
+use Rattle.shelf_log.specs.KeriDisk.Images.{DiskShown}
 use Rattle.shelf_log.specs.KeriDisk.Replay.{file_of, IsLeftByAll}
 use Rattle.shelf_log.specs.KeriDisk.Shapes.{image_of}
 use Rattle.shelf_log.specs.declared.keri_disk.disk_call.DiskCall.{DiskCall}
@@ -19,8 +19,8 @@ images_at disk n c = IsLeftByAll (take n disk.calls) disk.first disk.first c
 abbrev pub image_at : MemDisk → Shape → ℕ → List ℕ
 image_at disk shape n = image_of shape disk.first disk.first (take n disk.calls)
 
-abbrev pub mem_told : MemDisk → DiskTold
-mem_told disk = record {
+abbrev pub mem_shown : MemDisk → DiskShown
+mem_shown disk = record {
   file = Some disk.file.items;
   images = images_at disk (length disk.calls);
   moment = length disk.calls;

@@ -11,7 +11,7 @@ use Rattle.shelf_log.specs.declared.shelf_log.piece.End.{End}
 use Rattle.shelf_log.specs.declared.shelf_log.piece.End.TheVariants.{Closed, Part, OutOfRange}
 use Rattle.shelf_log.specs.declared.shelf_log.scan.Scan.{Scan}
 use Rattle.shelf_log.specs.declared.shelf_log.fault.ShelfFault.{ShelfFault}
-use Rattle.shelf_log.specs.declared.shelf_log.fault.ShelfFault.TheVariants.{DiskFault, NotAShelf, Full, Broken, OutOfMemory}
+use Rattle.shelf_log.specs.declared.shelf_log.fault.ShelfFault.TheVariants.{DiskFault, NotAShelf, LimitReached, Broken, OutOfMemory}
 use Rattle.std.specs.declared.option.Option.{Option}
 use Rattle.std.specs.declared.result.Result.TheVariants.{Ok, Err}
 
@@ -55,7 +55,7 @@ pub record ReadsOn (file : Option (List ℕ)) (scan : Scan) : Type 0 where
 abbrev pub Scans : List ℕ → Scan → Result (Unit {0}) ShelfFault → Type 0
 Scans file scan (Ok _) = (list : List (List ℕ)) × HasRead scan list × Holds scan.version file list
 Scans file scan (Err (NotAShelf place)) = FailsAt scan.version file place
-Scans file scan (Err Full) = ⊥
+Scans file scan (Err LimitReached) = ⊥
 Scans file scan (Err Broken) = ⊥
 Scans file scan (Err DiskFault) = Unit {0}
 Scans file scan (Err OutOfMemory) = Unit {0}

@@ -1,17 +1,17 @@
 -- What stands on the disk of a shelf.
 use Rattle.std.specs.Prelude.{◌≡◌, ◌⊎◌, ◌++◌, [], ◌∷◌, List, ℕ, IfSome, OnOk, Result, length}
 use Rattle.std.specs.Int.{w32, to_be_bytes}
-use Rattle.shelf_log.specs.KeriDisk.Images.{DiskTold, IsDurable, LeavesOnly}
+use Rattle.shelf_log.specs.KeriDisk.Images.{DiskShown, IsDurable, LeavesOnly}
 use Rattle.shelf_log.specs.ShelfLog.Format.{Holds, IsNoShelf, IsSized, FailsAt, shelf_front}
 use Rattle.shelf_log.specs.ShelfLog.Leftover.{IsLeftover}
 use Rattle.shelf_log.specs.declared.shelf_log.version.Version.TheVariants.{Two}
 
 -- each image is the file as it reads, and that stands for the list
-abbrev pub IsSettled : DiskTold → List (List ℕ) → Type 0
+abbrev pub IsSettled : DiskShown → List (List ℕ) → Type 0
 IsSettled told list = IsDurable told × IfSome told.file (λ file. Holds Two file list)
 
 -- each image stands for the list
-abbrev pub AllHold : DiskTold → List (List ℕ) → Type 0
+abbrev pub AllHold : DiskShown → List (List ℕ) → Type 0
 AllHold told list = (c : List ℕ) → told.images c → Holds Two c list
 
 -- the file stands for the list, or for it with the payload
@@ -19,13 +19,13 @@ abbrev pub HoldsEither : List (List ℕ) → List ℕ → List ℕ → Type 0
 HoldsEither list payload file = Holds Two file list ⊎ Holds Two file (list ++ payload ∷ [])
 
 -- A payload is stored: after Ok each image stands for the list with it, and at any moment for the list or for that one.
-pub record Stores {E : Type 0} (list : List (List ℕ)) (payload : List ℕ) (old new : DiskTold) (result : Result (Unit {0}) E) : Type 0 where
+pub record Stores {E : Type 0} (list : List (List ℕ)) (payload : List ℕ) (old new : DiskShown) (result : Result (Unit {0}) E) : Type 0 where
   pub settled : OnOk result (IsSettled new (list ++ payload ∷ []))
   pub moments : LeavesOnly old new (HoldsEither list payload)
 
 -- Where the closed gate of a settled shelf stands at the end, and the staged bytes are a payload's length, the payload and a
 -- closed gate, the payload is stored.
-abbrev pub StoresStaged : {E : Type 0} → ℕ → List ℕ → DiskTold → DiskTold → Result (Unit {0}) E → Type 0
+abbrev pub StoresStaged : {E : Type 0} → ℕ → List ℕ → DiskShown → DiskShown → Result (Unit {0}) E → Type 0
 StoresStaged end staged old new result = (list : List (List ℕ)) (payload : List ℕ) → IsSettled old list → end ≡ length (shelf_front Two list) → IsSized Two payload
     → staged ≡ to_be_bytes w32 (length payload) ++ payload ++ 0 ∷ [] → Stores list payload old new result
 
@@ -42,16 +42,16 @@ abbrev pub IsFilledOrLeftover : List (List ℕ) → List ℕ → Type 0
 IsFilledOrLeftover list file = IsLeftover file ⊎ Holds Two file list
 
 -- no image is a shelf
-abbrev pub NoneIsShelf : DiskTold → Type 0
+abbrev pub NoneIsShelf : DiskShown → Type 0
 NoneIsShelf told = (c : List ℕ) → told.images c → IsNoShelf Two c
 
 -- a stopped migration may leave each image
-abbrev pub AllLeftover : DiskTold → Type 0
+abbrev pub AllLeftover : DiskShown → Type 0
 AllLeftover told = (c : List ℕ) → told.images c → IsLeftover c
 
 -- A list is brought over to a disk that holds no shelf: after Ok each image stands for it, and at any moment is no shelf
 -- or stands for it. Where each was what a stopped migration may leave, it is that until it stands for the list.
-pub record BringsOver {T E : Type 0} (list : List (List ℕ)) (old new : DiskTold) (result : Result T E) : Type 0 where
+pub record BringsOver {T E : Type 0} (list : List (List ℕ)) (old new : DiskShown) (result : Result T E) : Type 0 where
   pub settled : OnOk result (IsSettled new list)
   pub moments : NoneIsShelf old → LeavesOnly old new (IsBroughtOver list)
   pub leftover : AllLeftover old → LeavesOnly old new (IsFilledOrLeftover list)

@@ -29,16 +29,16 @@ impl MemDisk {
     ghost use Rattle.lists.specs.KeriSpecs.Causes.{Rose};
     ghost use Rattle.shelf_log.specs.KeriDisk.Images.{IsDurable};
     ghost use Rattle.shelf_log.specs.KeriDisk.Calls.{Keeps};
-    ghost use Rattle.shelf_log.specs.KeriDisk.Memory.{mem_told, file_at, images_at, image_at, Did};
+    ghost use Rattle.shelf_log.specs.KeriDisk.Memory.{mem_shown, file_at, images_at, image_at, Did};
     ghost use Rattle.shelf_log.specs.declared.keri_disk.disk_call.DiskCall.TheVariants.{Wrote, CutTo};
 
     /// A disk whose file holds these bytes, all of them synced. Its calls of the numbers in `failing`, counted from 0, fail:
     /// a write does the first half of its bytes, and any other call nothing.
     pub fn new(alloc: Global, bytes: Vec<u8>, failing: Items<u64>) -> Result<MemDisk, AllocError>
-        ensures file { IfOk result (λ disk. (mem_told disk).file ≡ Some bytes.items) }
-        ensures synced { IfOk result (λ disk. IsDurable (mem_told disk)) }
-        ensures faults { IfOk result (λ disk. (mem_told disk).faults ≡ 0) }
-        ensures moment { IfOk result (λ disk. (mem_told disk).moment ≡ 0) }
+        ensures file { IfOk result (λ disk. (mem_shown disk).file ≡ Some bytes.items) }
+        ensures synced { IfOk result (λ disk. IsDurable (mem_shown disk)) }
+        ensures faults { IfOk result (λ disk. (mem_shown disk).faults ≡ 0) }
+        ensures moment { IfOk result (λ disk. (mem_shown disk).moment ≡ 0) }
     {
         Ok(MemDisk {
             alloc,
@@ -52,21 +52,21 @@ impl MemDisk {
 
     /// How many calls it has done, which is its moment. One that found no memory isn't counted.
     pub fn moments(&self) -> u64
-        ensures { result ≡ (mem_told self.now).moment }
+        ensures { result ≡ (mem_shown self.now).moment }
     {
         self.calls.len() as u64
     }
 
     /// What the file holds.
     pub fn bytes(&self) -> &[u8]
-        ensures { (mem_told self.now).file ≡ Some result.now }
+        ensures { (mem_shown self.now).file ≡ Some result.now }
     {
         &self.file
     }
 
     /// The image of this shape just after the call of this number, counted from 1; 0 is the beginning.
     pub fn image(&self, moment: u64, shape: Shape) -> Result<Vec<u8>, AllocError>
-        requires { moment ≤ (mem_told self.now).moment }
+        requires { moment ≤ (mem_shown self.now).moment }
         ensures image { IfOk result (λ bytes. images_at self.now moment bytes.items) }
         ensures shape { IfOk result (λ bytes. bytes.items ≡ image_at self.now shape moment) }
         ensures whole { shape ≡ Shape.Whole → IfOk result (λ bytes. bytes.items ≡ file_at self.now moment) }
@@ -93,7 +93,7 @@ impl MemDisk {
 
     // Fails a call that does nothing.
     fn skip(&mut self) -> Failed
-        ensures keeps { Keeps (mem_told self.old) (mem_told self.new) }
+        ensures keeps { Keeps (mem_shown self.old) (mem_shown self.new) }
         ensures later { self.old.faults ≤ self.new.faults }
         ensures count { Rose self.old.faults self.new.faults }
     {
@@ -105,7 +105,7 @@ impl MemDisk {
 
     // A call that asks.
     fn ask(&mut self) -> Result<(), Failed>
-        ensures keeps { Keeps (mem_told self.old) (mem_told self.new) }
+        ensures keeps { Keeps (mem_shown self.old) (mem_shown self.new) }
         ensures cause { HasCause self.old.faults self.new.faults result }
     {
         if self.next_fails() {
@@ -119,7 +119,7 @@ impl MemDisk {
     fn note(&mut self, call: DiskCall) -> Result<(), Failed>
         requires { (file : List ℕ) → file_after call file ≡ file }
         ensures ok { OnOk result (Did (call ∷ []) self.old self.new) }
-        ensures err { OnErr result (Keeps (mem_told self.old) (mem_told self.new)) }
+        ensures err { OnErr result (Keeps (mem_shown self.old) (mem_shown self.new)) }
         ensures cause { HasCause self.old.faults self.new.faults result }
     {
         match self.calls.push(call) {
@@ -131,7 +131,7 @@ impl MemDisk {
     // Writes the bytes, where there is memory for that.
     fn write(&mut self, place: usize, bytes: &[u8]) -> Result<(), Failed>
         ensures ok { OnOk result (Did (Wrote place bytes.now ∷ []) self.old self.new) }
-        ensures err { OnErr result (Keeps (mem_told self.old) (mem_told self.new)) }
+        ensures err { OnErr result (Keeps (mem_shown self.old) (mem_shown self.new)) }
         ensures cause { HasCause self.old.faults self.new.faults result }
     {
         let Ok(next) = overwrite(self.alloc, &self.file, place, bytes) else {
@@ -153,7 +153,7 @@ impl MemDisk {
     // Cuts the file, where there is memory to keep that.
     fn cut_to(&mut self, size: usize) -> Result<(), Failed>
         ensures ok { OnOk result (Did (CutTo size ∷ []) self.old self.new) }
-        ensures err { OnErr result (Keeps (mem_told self.old) (mem_told self.new)) }
+        ensures err { OnErr result (Keeps (mem_shown self.old) (mem_shown self.new)) }
         ensures cause { HasCause self.old.faults self.new.faults result }
     {
         match self.calls.push(DiskCall::CutTo { size }) {
@@ -167,10 +167,10 @@ impl MemDisk {
 }
 
 impl Disk for MemDisk {
-    ghost use Rattle.shelf_log.specs.KeriDisk.Memory.{mem_told};
+    ghost use Rattle.shelf_log.specs.KeriDisk.Memory.{mem_shown};
     ghost use Rattle.shelf_log.specs.KeriDisk.Laws.{reads_an_image as reads, counts_now as counts, only_now as only};
 
-    ghost told = { mem_told };
+    ghost shown = { mem_shown };
 
     ghost reads_an_image = { reads };
 

@@ -17,10 +17,10 @@ use lists::Items;
 pub(crate) fn write_behind<D: Disk>(disk: &mut D, list: &[Items<u8>]) -> Result<u64, Failed>
     requires sized { All (IsSized One) list.now }
     requires few { shelf_size Two list.now ≤ 1073741824 }
-    requires byte { IfSome (D.told disk.old).file (λ file. file ≡ 0 ∷ []) }
+    requires byte { IfSome (D.shown disk.old).file (λ file. file ≡ 0 ∷ []) }
     ensures end { IfOk result (λ end. end ≡ length (shelf_front Two list.now)) }
-    ensures writes { WritesBehind list.now (D.told disk.old) (D.told disk.new) result }
-    ensures cause { HasCause (D.told disk.old).faults (D.told disk.new).faults result }
+    ensures writes { WritesBehind list.now (D.shown disk.old) (D.shown disk.new) result }
+    ensures cause { HasCause (D.shown disk.old).faults (D.shown disk.new).faults result }
 {
     extend(disk, 1, &Version::Two.mark()[1..])?;
     let end = write_records(disk, list)?;
@@ -33,10 +33,10 @@ pub(crate) fn write_behind<D: Disk>(disk: &mut D, list: &[Items<u8>]) -> Result<
 fn write_records<D: Disk>(disk: &mut D, list: &[Items<u8>]) -> Result<u64, Failed>
     requires sized { All (IsSized One) list.now }
     requires few { shelf_size Two list.now ≤ 1073741824 }
-    requires mark { IfSome (D.told disk.old).file (λ file. length file ≡ 8) }
+    requires mark { IfSome (D.shown disk.old).file (λ file. length file ≡ 8) }
     ensures end { IfOk result (λ end. end ≡ length (shelf_front Two list.now)) }
-    ensures extends { Extends (records list.now) (D.told disk.old) (D.told disk.new) result }
-    ensures cause { HasCause (D.told disk.old).faults (D.told disk.new).faults result }
+    ensures extends { Extends (records list.now) (D.shown disk.old) (D.shown disk.new) result }
+    ensures cause { HasCause (D.shown disk.old).faults (D.shown disk.new).faults result }
 {
     let mut place = 8;
     for payload in list {
@@ -50,9 +50,9 @@ fn write_records<D: Disk>(disk: &mut D, list: &[Items<u8>]) -> Result<u64, Faile
 fn write_record<D: Disk>(disk: &mut D, end: u64, payload: &[u8]) -> Result<(), Failed>
     requires sized { IsSized One payload.now }
     requires few { (1 ≤ end) × (end ≤ 1073741824) }
-    requires end { IfSome (D.told disk.old).file (λ file. length file ≡ end) }
-    ensures extends { Extends (record_bytes payload.now) (D.told disk.old) (D.told disk.new) result }
-    ensures cause { HasCause (D.told disk.old).faults (D.told disk.new).faults result }
+    requires end { IfSome (D.shown disk.old).file (λ file. length file ≡ end) }
+    ensures extends { Extends (record_bytes payload.now) (D.shown disk.old) (D.shown disk.new) result }
+    ensures cause { HasCause (D.shown disk.old).faults (D.shown disk.new).faults result }
 {
     extend(disk, end, &head_of(payload.len()))?;
     extend(disk, end + HEAD as u64, payload)
@@ -61,9 +61,9 @@ fn write_record<D: Disk>(disk: &mut D, end: u64, payload: &[u8]) -> Result<(), F
 // Writes the bytes at the end of the file.
 fn extend<D: Disk>(disk: &mut D, end: u64, bytes: &[u8]) -> Result<(), Failed>
     requires few { 1 ≤ end }
-    requires end { IfSome (D.told disk.old).file (λ file. length file ≡ end) }
-    ensures extends { Extends bytes.now (D.told disk.old) (D.told disk.new) result }
-    ensures cause { HasCause (D.told disk.old).faults (D.told disk.new).faults result }
+    requires end { IfSome (D.shown disk.old).file (λ file. length file ≡ end) }
+    ensures extends { Extends bytes.now (D.shown disk.old) (D.shown disk.new) result }
+    ensures cause { HasCause (D.shown disk.old).faults (D.shown disk.new).faults result }
 {
     disk.write_at(end, bytes)
 }

@@ -10,10 +10,10 @@ use keri_outside::Failed;
 
 // Writes the bytes and syncs.
 pub(crate) fn put_durably<D: Disk>(disk: &mut D, place: u64, bytes: &[u8]) -> Result<(), Failed>
-    requires { IsInFile place 0 (D.told disk.old).file }
+    requires { IsInFile place 0 (D.shown disk.old).file }
     ensures puts { ChangesDurably (λ file. overwritten file place bytes.now) (Torn place (length bytes.now))
-        (D.told disk.old) (D.told disk.new) result }
-    ensures cause { HasCause (D.told disk.old).faults (D.told disk.new).faults result }
+        (D.shown disk.old) (D.shown disk.new) result }
+    ensures cause { HasCause (D.shown disk.old).faults (D.shown disk.new).faults result }
 {
     disk.write_at(place, bytes)?;
     disk.sync()
@@ -21,9 +21,9 @@ pub(crate) fn put_durably<D: Disk>(disk: &mut D, place: u64, bytes: &[u8]) -> Re
 
 // Cuts the file and syncs.
 pub(crate) fn cut_durably<D: Disk>(disk: &mut D, size: u64) -> Result<(), Failed>
-    requires { IsInFile size 0 (D.told disk.old).file }
-    ensures cuts { ChangesDurably (take size) (CutShort size) (D.told disk.old) (D.told disk.new) result }
-    ensures cause { HasCause (D.told disk.old).faults (D.told disk.new).faults result }
+    requires { IsInFile size 0 (D.shown disk.old).file }
+    ensures cuts { ChangesDurably (take size) (CutShort size) (D.shown disk.old) (D.shown disk.new) result }
+    ensures cause { HasCause (D.shown disk.old).faults (D.shown disk.new).faults result }
 {
     disk.cut(size)?;
     disk.sync()

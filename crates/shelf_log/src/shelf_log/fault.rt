@@ -13,7 +13,7 @@ pub enum ShelfFault {
     /// The file isn't a shelf, which shows first at this place.
     NotAShelf(u64),
     /// A limit on records or bytes is reached.
-    Full,
+    LimitReached,
     /// The disk failed in an earlier append of this shelf.
     Broken,
     /// There is no memory.

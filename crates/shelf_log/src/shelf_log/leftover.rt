@@ -13,11 +13,11 @@ use keri_outside::Failed;
 /// than the mark's with bytes behind it that go on as the mark does. It syncs first, and writes nothing.
 #[tactic(auto, using(crate::proofs::KeriDiskLemmas::Moments::keeps_both, crate::proofs::KeriDiskLemmas::Moments::durable_kept))]
 pub fn is_leftover<D: Disk>(disk: &mut D) -> Result<bool, Failed>
-    ensures leftover { IfOk result (λ is_leftover. IfSome (D.told disk.old).file
+    ensures leftover { IfOk result (λ is_leftover. IfSome (D.shown disk.old).file
         (λ file. IsTrue is_leftover ↔ IsLeftover file)) }
-    ensures durable { OnOk result (IsDurable (D.told disk.new)) }
-    ensures keeps { Keeps (D.told disk.old) (D.told disk.new) }
-    ensures cause { HasCause (D.told disk.old).faults (D.told disk.new).faults result }
+    ensures durable { OnOk result (IsDurable (D.shown disk.new)) }
+    ensures keeps { Keeps (D.shown disk.old) (D.shown disk.new) }
+    ensures cause { HasCause (D.shown disk.old).faults (D.shown disk.new).faults result }
 {
     disk.sync()?;
     let size = disk.size()?;

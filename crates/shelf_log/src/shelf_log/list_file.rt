@@ -26,16 +26,16 @@ pub(crate) fn read_list<D: Disk>(
     version: Version,
     limits: Limits,
 ) -> Result<Scan, ShelfFault>
-    ensures reads { IfSome (D.told disk.old).file
+    ensures reads { IfSome (D.shown disk.old).file
         (λ file. MatchResult result (λ scan. Reads version limits file (Ok scan.list))
         (λ fault. Reads version limits file (Err fault))) }
     ensures read { IfOk result (λ scan. IsWithin version limits scan) }
     ensures unbroken { IfErr result (λ fault. fault ≢ Broken) }
-    ensures durable { MatchResult result (λ _. IsDurable (D.told disk.new)) (λ fault. fault ≢ DiskFault
-        → IsDurable (D.told disk.new)) }
-    ensures keeps { Keeps (D.told disk.old) (D.told disk.new) }
-    ensures cause { MatchResult result (λ _. (D.told disk.new).faults ≡ (D.told disk.old).faults)
-        (λ fault. HasDiskCause (D.told disk.old) (D.told disk.new) fault) }
+    ensures durable { MatchResult result (λ _. IsDurable (D.shown disk.new)) (λ fault. fault ≢ DiskFault
+        → IsDurable (D.shown disk.new)) }
+    ensures keeps { Keeps (D.shown disk.old) (D.shown disk.new) }
+    ensures cause { MatchResult result (λ _. (D.shown disk.new).faults ≡ (D.shown disk.old).faults)
+        (λ fault. HasDiskCause (D.shown disk.old) (D.shown disk.new) fault) }
 {
     disk.sync()?;
     let size = disk.size()?;
@@ -46,19 +46,19 @@ pub(crate) fn read_list<D: Disk>(
     let mut scan = Scan::new(alloc, version, limits);
     read_records(disk, size, &mut window, &mut scan)?;
     if scan.is_over {
-        return Err(ShelfFault::Full);
+        return Err(ShelfFault::LimitReached);
     }
     Ok(scan)
 }
 
 // Whether the file of this size begins with the version's mark.
 fn has_mark<D: Disk>(disk: &mut D, size: u64, version: Version) -> Result<bool, Failed>
-    requires size { IsSizeOf (D.told disk.old).file size }
-    ensures mark { IfOk result (λ has. IfSome (D.told disk.old).file
+    requires size { IsSizeOf (D.shown disk.old).file size }
+    ensures mark { IfOk result (λ has. IfSome (D.shown disk.old).file
         (λ file. IsTrue has ↔ (take 8 file ≡ mark version))) }
     ensures long { IfOk result (λ has. IsTrue has → 8 ≤ size) }
-    ensures keeps { Keeps (D.told disk.old) (D.told disk.new) }
-    ensures cause { HasCause (D.told disk.old).faults (D.told disk.new).faults result }
+    ensures keeps { Keeps (D.shown disk.old) (D.shown disk.new) }
+    ensures cause { HasCause (D.shown disk.old).faults (D.shown disk.new).faults result }
 {
     if size < 8 {
         return Ok(false);
@@ -76,17 +76,17 @@ fn read_records<D: Disk>(
     window: &mut [u8],
     scan: &mut Scan,
 ) -> Result<(), ShelfFault>
-    requires size { IsSizeOf (D.told disk.old).file size }
+    requires size { IsSizeOf (D.shown disk.old).file size }
     requires window { (length window.old ≡ size - 8) ⊎ (length window.old ≡ 2097152) }
-    requires mark { (8 ≤ size) × IfSome (D.told disk.old).file (λ file. take 8 file ≡ mark scan.old.version) }
+    requires mark { (8 ≤ size) × IfSome (D.shown disk.old).file (λ file. take 8 file ≡ mark scan.old.version) }
     requires none_yet { HasRead scan.old [] }
     ensures read { OnOk result ((list : List (List ℕ)) × HasRead scan.new list) }
-    ensures scans { IfSome (D.told disk.old).file (λ file. Scans file scan.new result) }
+    ensures scans { IfSome (D.shown disk.old).file (λ file. Scans file scan.new result) }
     ensures unbroken { IfErr result (λ fault. fault ≢ Broken) }
     ensures of { (scan.new.version ≡ scan.old.version) × (scan.new.limits ≡ scan.old.limits) }
-    ensures keeps { Keeps (D.told disk.old) (D.told disk.new) }
-    ensures cause { MatchResult result (λ _. (D.told disk.new).faults ≡ (D.told disk.old).faults)
-        (λ fault. HasDiskCause (D.told disk.old) (D.told disk.new) fault) }
+    ensures keeps { Keeps (D.shown disk.old) (D.shown disk.new) }
+    ensures cause { MatchResult result (λ _. (D.shown disk.new).faults ≡ (D.shown disk.old).faults)
+        (λ fault. HasDiskCause (D.shown disk.old) (D.shown disk.new) fault) }
 {
     loop {
         let left = size - scan.place;

@@ -31,28 +31,28 @@ impl<D: Disk + Drop> Shelf<D> {
         limits: Limits,
     ) -> Result<Shelf<D>, Returned<D>>
         requires sized { All (IsSized One) list.now }
-        requires no_shelf { NoneIsShelf (D.told target) }
+        requires no_shelf { NoneIsShelf (D.shown target) }
         ensures made { IfOk result (λ shelf. (shelf.list ≡ list.now) × (shelf.limits ≡ limits)
-            × (shelf.broken ≡ false) × AllHold (D.told shelf.disk) list.now) }
+            × (shelf.broken ≡ false) × AllHold (D.shown shelf.disk) list.now) }
         ensures full { MatchResult result (λ _. IsOver Two limits list.now
             → ⊥) (λ returned. MigrationRefuses limits list.now returned.fault) }
         ensures kept { IfErr result (λ returned. returned.fault ≢ DiskFault → returned.disk ≡ target) }
-        ensures cause { MatchResult result (λ shelf. (D.told shelf.disk).faults ≡ (D.told target).faults)
-            (λ returned. HasDiskCause (D.told target) (D.told returned.disk) returned.fault) }
+        ensures cause { MatchResult result (λ shelf. (D.shown shelf.disk).faults ≡ (D.shown target).faults)
+            (λ returned. HasDiskCause (D.shown target) (D.shown returned.disk) returned.fault) }
         ensures moments { MatchResult result
-            (λ shelf. LeavesOnly (D.told target) (D.told shelf.disk) (IsBroughtOver list.now))
-            (λ returned. LeavesOnly (D.told target) (D.told returned.disk) (IsBroughtOver list.now)) }
+            (λ shelf. LeavesOnly (D.shown target) (D.shown shelf.disk) (IsBroughtOver list.now))
+            (λ returned. LeavesOnly (D.shown target) (D.shown returned.disk) (IsBroughtOver list.now)) }
 
         // What a stopped migration may leave is that again at any moment of this one, until it stands for the list. So the same
         // can be done again.
-        ensures leftover { AllLeftover (D.told target) → MatchResult result
-            (λ shelf. LeavesOnly (D.told target) (D.told shelf.disk) (IsFilledOrLeftover list.now))
-            (λ returned. LeavesOnly (D.told target) (D.told returned.disk) (IsFilledOrLeftover list.now)) }
+        ensures leftover { AllLeftover (D.shown target) → MatchResult result
+            (λ shelf. LeavesOnly (D.shown target) (D.shown shelf.disk) (IsFilledOrLeftover list.now))
+            (λ returned. LeavesOnly (D.shown target) (D.shown returned.disk) (IsFilledOrLeftover list.now)) }
     {
         if is_over(list, limits) {
             return Err(Returned {
                 disk: target,
-                fault: ShelfFault::Full,
+                fault: ShelfFault::LimitReached,
             });
         }
         let Ok(copies) = copies_of(alloc, list) else {
@@ -104,8 +104,8 @@ fn write_over<D: Disk>(disk: &mut D, list: &[Items<u8>]) -> Result<u64, Failed>
     requires sized { All (IsSized One) list.now }
     requires few { shelf_size Two list.now ≤ 1073741824 }
     ensures end { IfOk result (λ end. end ≡ length (shelf_front Two list.now)) }
-    ensures brings { BringsOver list.now (D.told disk.old) (D.told disk.new) result }
-    ensures cause { HasCause (D.told disk.old).faults (D.told disk.new).faults result }
+    ensures brings { BringsOver list.now (D.shown disk.old) (D.shown disk.new) result }
+    ensures cause { HasCause (D.shown disk.old).faults (D.shown disk.new).faults result }
 {
     cut_durably(disk, 0)?;
     put_durably(disk, 0, &[0])?;

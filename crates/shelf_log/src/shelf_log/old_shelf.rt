@@ -29,16 +29,16 @@ impl<D: Disk + Drop> Shelf<D> {
     /// whatever it answers.
     pub fn read_old(alloc: Global, disk: D, limits: Limits) -> Result<OldShelf<D>, Returned<D>>
         ensures sized { IfOk result (λ old. All (IsSized One) old.list) }
-        ensures durable { MatchResult result (λ old. IsDurable (D.told old.disk))
-            (λ returned. returned.fault ≢ DiskFault → IsDurable (D.told returned.disk)) }
-        ensures reads { IfSome (D.told disk).file
+        ensures durable { MatchResult result (λ old. IsDurable (D.shown old.disk))
+            (λ returned. returned.fault ≢ DiskFault → IsDurable (D.shown returned.disk)) }
+        ensures reads { IfSome (D.shown disk).file
             (λ file. MatchResult result (λ old. Reads One limits file (Ok old.list))
             (λ returned. Reads One limits file (Err returned.fault))) }
         ensures unbroken { IfErr result (λ returned. returned.fault ≢ Broken) }
-        ensures keeps { MatchResult result (λ old. Keeps (D.told disk) (D.told old.disk))
-            (λ returned. Keeps (D.told disk) (D.told returned.disk)) }
-        ensures cause { MatchResult result (λ old. (D.told old.disk).faults ≡ (D.told disk).faults)
-            (λ returned. HasDiskCause (D.told disk) (D.told returned.disk) returned.fault) }
+        ensures keeps { MatchResult result (λ old. Keeps (D.shown disk) (D.shown old.disk))
+            (λ returned. Keeps (D.shown disk) (D.shown returned.disk)) }
+        ensures cause { MatchResult result (λ old. (D.shown old.disk).faults ≡ (D.shown disk).faults)
+            (λ returned. HasDiskCause (D.shown disk) (D.shown returned.disk) returned.fault) }
     {
         let mut disk = disk;
         match read_list(alloc, &mut disk, Version::One, limits) {

@@ -30,7 +30,7 @@ pub struct Shelf<D: Disk> {
     ghost ends: { end ≡ length (shelf_front Two list) },
     ghost few: { end < 1073741824 },
     ghost counted: { length list ≤ limits.records },
-    ghost settled: { broken ≡ false → IsSettled (D.told disk) list } by { Prim.hlevel props },
+    ghost settled: { broken ≡ false → IsSettled (D.shown disk) list } by { Prim.hlevel props },
 }
 
 impl<D: Disk + Drop> Shelf<D> {
@@ -46,14 +46,14 @@ impl<D: Disk + Drop> Shelf<D> {
     ///
     /// A stop at any moment leaves an empty file, an empty shelf, or a file that is refused.
     pub fn create(alloc: Global, disk: D, limits: Limits) -> Result<Shelf<D>, Returned<D>>
-        requires { (c : List ℕ) → (D.told disk).images c → c ≡ [] }
+        requires { (c : List ℕ) → (D.shown disk).images c → c ≡ [] }
         ensures made { IfOk result (λ shelf. (shelf.list ≡ []) × (shelf.limits ≡ limits) × (shelf.broken ≡ false)
-            × AllHold (D.told shelf.disk) []) }
+            × AllHold (D.shown shelf.disk) []) }
         ensures refused { IfErr result (λ returned. returned.fault ≡ DiskFault) }
-        ensures cause { MatchResult result (λ shelf. (D.told shelf.disk).faults ≡ (D.told disk).faults)
-            (λ returned. HasDiskCause (D.told disk) (D.told returned.disk) returned.fault) }
-        ensures moments { MatchResult result (λ shelf. LeavesOnly (D.told disk) (D.told shelf.disk) IsUnfinished)
-            (λ returned. LeavesOnly (D.told disk) (D.told returned.disk) IsUnfinished) }
+        ensures cause { MatchResult result (λ shelf. (D.shown shelf.disk).faults ≡ (D.shown disk).faults)
+            (λ returned. HasDiskCause (D.shown disk) (D.shown returned.disk) returned.fault) }
+        ensures moments { MatchResult result (λ shelf. LeavesOnly (D.shown disk) (D.shown shelf.disk) IsUnfinished)
+            (λ returned. LeavesOnly (D.shown disk) (D.shown returned.disk) IsUnfinished) }
     {
         let mut disk = disk;
         match put_durably(&mut disk, 0, &Version::Two.empty_file()) {
@@ -69,16 +69,16 @@ impl<D: Disk + Drop> Shelf<D> {
     #[tactic(auto, using(crate::proofs::ShelfLogLemmas::Sizes::counted))]
     pub fn read_back(alloc: Global, disk: D, limits: Limits) -> Result<Shelf<D>, Returned<D>>
         ensures made { IfOk result (λ shelf. (shelf.limits ≡ limits) × (shelf.broken ≡ false)
-            × AllHold (D.told shelf.disk) shelf.list) }
-        ensures durable { IfErr result (λ returned. returned.fault ≢ DiskFault → IsDurable (D.told returned.disk)) }
-        ensures reads { IfSome (D.told disk).file
+            × AllHold (D.shown shelf.disk) shelf.list) }
+        ensures durable { IfErr result (λ returned. returned.fault ≢ DiskFault → IsDurable (D.shown returned.disk)) }
+        ensures reads { IfSome (D.shown disk).file
             (λ file. MatchResult result (λ shelf. Reads Two limits file (Ok shelf.list))
             (λ returned. Reads Two limits file (Err returned.fault))) }
         ensures unbroken { IfErr result (λ returned. returned.fault ≢ Broken) }
-        ensures keeps { MatchResult result (λ shelf. Keeps (D.told disk) (D.told shelf.disk))
-            (λ returned. Keeps (D.told disk) (D.told returned.disk)) }
-        ensures cause { MatchResult result (λ shelf. (D.told shelf.disk).faults ≡ (D.told disk).faults)
-            (λ returned. HasDiskCause (D.told disk) (D.told returned.disk) returned.fault) }
+        ensures keeps { MatchResult result (λ shelf. Keeps (D.shown disk) (D.shown shelf.disk))
+            (λ returned. Keeps (D.shown disk) (D.shown returned.disk)) }
+        ensures cause { MatchResult result (λ shelf. (D.shown shelf.disk).faults ≡ (D.shown disk).faults)
+            (λ returned. HasDiskCause (D.shown disk) (D.shown returned.disk) returned.fault) }
     {
         let mut disk = disk;
         match read_list(alloc, &mut disk, Version::Two, limits) {
@@ -98,7 +98,7 @@ impl<D: Disk + Drop> Shelf<D> {
         requires end { end ≡ length (shelf_front Two list) }
         requires few { end < 1073741824 }
         requires counted { length list ≤ limits.records }
-        requires settled { IsSettled (D.told disk) list }
+        requires settled { IsSettled (D.shown disk) list }
         ensures { (result.disk ≡ disk) × (result.list ≡ list) × (result.limits ≡ limits) × (result.broken ≡ false) }
     {
         Shelf {
@@ -124,17 +124,17 @@ impl<D: Disk + Drop> Shelf<D> {
         ensures failed { IfErr result (λ fault. fault ≡ DiskFault → self.new.broken ≡ true) }
         ensures added { OnOk result ((self.new.list ≡ self.old.list ++ payload.now ∷ [])
             × (self.new.limits ≡ self.old.limits) × (self.new.broken ≡ false)) }
-        ensures durable { OnOk result (AllHold (D.told self.new.disk) self.new.list) }
-        ensures cause { MatchResult result (λ _. (D.told self.new.disk).faults ≡ (D.told self.old.disk).faults)
-            (λ fault. HasDiskCause (D.told self.old.disk) (D.told self.new.disk) fault) }
+        ensures durable { OnOk result (AllHold (D.shown self.new.disk) self.new.list) }
+        ensures cause { MatchResult result (λ _. (D.shown self.new.disk).faults ≡ (D.shown self.old.disk).faults)
+            (λ fault. HasDiskCause (D.shown self.old.disk) (D.shown self.new.disk) fault) }
         ensures moments { self.old.broken ≡ false
-            → LeavesOnly (D.told self.old.disk) (D.told self.new.disk) (HoldsEither self.old.list payload.now) }
+            → LeavesOnly (D.shown self.old.disk) (D.shown self.new.disk) (HoldsEither self.old.list payload.now) }
     {
         if self.broken {
             return Err(ShelfFault::Broken);
         }
         if self.has_no_room(payload.len()) {
-            return Err(ShelfFault::Full);
+            return Err(ShelfFault::LimitReached);
         }
         match add(
             self.alloc,

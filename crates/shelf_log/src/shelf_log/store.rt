@@ -24,16 +24,16 @@ pub(crate) fn add<D: Disk>(
     end: u64,
     payload: &[u8],
 ) -> Result<(), ShelfFault>
-    requires inside { IsInFile (end + 1) 0 (D.told disk.old).file }
+    requires inside { IsInFile (end + 1) 0 (D.shown disk.old).file }
     requires few { end < 1073741824 }
     requires sized { IsSized Two payload.now }
     ensures ok { OnOk result (list.new ≡ list.old ++ payload.now ∷ []) }
     ensures err { OnErr result (list.new ≡ list.old) }
     ensures refused { IfErr result (λ fault. (fault ≡ DiskFault) ⊎ ((fault ≡ OutOfMemory) × (disk.new ≡ disk.old))) }
-    ensures stores { IsSettled (D.told disk.old) list.old → end ≡ length (shelf_front Two list.old)
-        → Stores list.old payload.now (D.told disk.old) (D.told disk.new) result }
-    ensures cause { MatchResult result (λ _. (D.told disk.new).faults ≡ (D.told disk.old).faults)
-        (λ fault. HasDiskCause (D.told disk.old) (D.told disk.new) fault) }
+    ensures stores { IsSettled (D.shown disk.old) list.old → end ≡ length (shelf_front Two list.old)
+        → Stores list.old payload.now (D.shown disk.old) (D.shown disk.new) result }
+    ensures cause { MatchResult result (λ _. (D.shown disk.new).faults ≡ (D.shown disk.old).faults)
+        (λ fault. HasDiskCause (D.shown disk.old) (D.shown disk.new) fault) }
 {
     let staged = staged_record(alloc, payload)?;
     let kept = Items::from_vec(Vec::from_slice(alloc, payload)?);
@@ -47,10 +47,10 @@ pub(crate) fn add<D: Disk>(
 
 // Writes the staged record behind the closed gate at `end`, and when that is on the disk opens the gate.
 fn store<D: Disk>(disk: &mut D, end: u64, staged: &[u8]) -> Result<(), Failed>
-    requires inside { IsInFile (end + 1) 0 (D.told disk.old).file }
+    requires inside { IsInFile (end + 1) 0 (D.shown disk.old).file }
     requires few { end < 1073741824 }
-    ensures stores { StoresStaged end staged.now (D.told disk.old) (D.told disk.new) result }
-    ensures cause { HasCause (D.told disk.old).faults (D.told disk.new).faults result }
+    ensures stores { StoresStaged end staged.now (D.shown disk.old) (D.shown disk.new) result }
+    ensures cause { HasCause (D.shown disk.old).faults (D.shown disk.new).faults result }
 {
     put_durably(disk, end + 1, staged)?;
     put_durably(disk, end, &[1])

@@ -7,7 +7,7 @@ use Rattle.std.proofs.lemmas.List.Folds.{list_any-append, list_all-append}
 use Rattle.cesr_codes.specs.declared.indexed_sig.IndexedSig.{IndexedSig}
 use Rattle.cesr_stream.specs.declared.couple.Couple.{Couple}
 use Rattle.cesr_stream.specs.declared.group.Group.{Group}
-use Rattle.journal.specs.declared.journal.claim.Claim.TheVariants.{Held, Witness, Couple as CoupleClaim}
+use Rattle.journal.specs.declared.journal.claim.Claim.TheVariants.{Controller, Witness, Couple as CoupleClaim}
 use Rattle.event_body.specs.declared.event_body.event.Event.{Event}
 use Rattle.event_body.specs.EventBody.Events.{is_receipt}
 use Rattle.cesr_stream.specs.declared.message.Message.{Message}
@@ -21,11 +21,11 @@ use Rattle.validator_core.specs.ValidatorCore.Messages.{first_refusal}
 abbrev pub SaysEmpty : {X : Type 0} → Bool → List X → Type 0
 SaysEmpty r xs = (IsTrue r → xs ≡ []) × (xs ≡ [] → IsTrue r)
 
-pub all_held : (sigs : List IndexedSig) → list_all is_held (map (λ s. Held s) sigs) ≡ true
+pub all_held : (sigs : List IndexedSig) → list_all is_held (map (λ s. Controller s) sigs) ≡ true
 all_held [] = refl
 all_held (s ∷ sigs) = all_held sigs
 
-pub held_some : (r : Bool) (sigs : List IndexedSig) → SaysEmpty r sigs → not r ≡ list_any is_held (map (λ s. Held s) sigs)
+pub held_some : (r : Bool) (sigs : List IndexedSig) → SaysEmpty r sigs → not r ≡ list_any is_held (map (λ s. Controller s) sigs)
 held_some true [] e = refl
 held_some true (s ∷ sigs) e = (let h = e.0 refl in cc)
 held_some false [] e = (let h = e.1 refl in cc)

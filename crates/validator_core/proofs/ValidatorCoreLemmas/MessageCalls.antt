@@ -5,7 +5,7 @@ use Rattle.cesr_stream.specs.declared.message.Message.{Message}
 use Rattle.event_body.specs.declared.event_body.event.Event.{Event}
 use Rattle.core_tables.specs.CoreTables.View.{body_of}
 use Rattle.journal.specs.declared.journal.reply.Reply.{Reply}
-use Rattle.journal.specs.declared.journal.reply.Reply.TheVariants.{Taken, Again, Refused, Full}
+use Rattle.journal.specs.declared.journal.reply.Reply.TheVariants.{Taken, Again, Refused, LimitReached}
 use Rattle.journal.specs.Journal.CoreCalls.{told_after}
 use Rattle.journal.specs.Journal.History.{Told}
 use Rattle.journal.specs.Journal.Replies.{claims_of}
@@ -20,7 +20,7 @@ told_same : (old : List Told) (reader : ℕ) (m : Message) (e : Event) (reply : 
 told_same old reader m e Taken = refl
 told_same old reader m e Again = refl
 told_same old reader m e (Refused r) = refl
-told_same old reader m e Full = refl
+told_same old reader m e LimitReached = refl
 
 pub takes_message : (old new : CoreView) (reader : ℕ) (m : Message) (e : Event) (reply : Reply) → JudgesMessage m (Ok e)
     → TakesBody old reader (body_of m.body e) (claims_of m) reply new → TakesMessage old reader m reply new
@@ -37,7 +37,7 @@ pub looks_message : (old new : CoreView) (m : Message) (e : Event) (reply : Repl
 looks_message old new m e Taken steps steps_then judged few = (e, judged.0, few)
 looks_message old new m e Again steps steps_then judged few = (e, judged.0, few)
 looks_message old new m e (Refused r) steps steps_then judged few = few
-looks_message old new m e Full steps steps_then judged few = (e, judged.0, few)
+looks_message old new m e LimitReached steps steps_then judged few = (e, judged.0, few)
 
 pub if_ok : {A E : Type 0} {P Q : A → Type 0} (r : Result A E) → IfOk r P → ((x : A) → P x → Q x) → IfOk r Q
 if_ok (Ok x) h f = f x h

@@ -10,7 +10,7 @@ use Rattle.journal.specs.declared.journal.body.Body.{Body}
 use Rattle.journal.specs.declared.journal.claim.Claim.{Claim}
 use Rattle.journal.specs.declared.journal.entry.Entry.{Entry}
 use Rattle.journal.specs.declared.journal.entry.Entry.TheVariants.{Took, Heard}
-use Rattle.journal.specs.declared.journal.reply.Reply.TheVariants.{Taken, Again, Full}
+use Rattle.journal.specs.declared.journal.reply.Reply.TheVariants.{Taken, Again, LimitReached}
 use Rattle.journal.specs.Journal.History.{Told, took, heard, taken, bodies}
 use Rattle.journal.specs.Journal.Journals.{told_by, whole}
 use Rattle.journal.specs.Journal.Logs.{is_in, same_body}
@@ -58,7 +58,7 @@ module _ (limits : Limits) (base : List Body) (told : List Told) (b : Body) (cla
   unfolding is_again
   again_new outside = rw outside refl
 
-  pub reply_full : is_full limits base told b claims ≡ true → Full ≡ reply_to limits base told b claims
+  pub reply_full : is_full limits base told b claims ≡ true → LimitReached ≡ reply_to limits base told b claims
   unfolding reply_to
   reply_full full = rw full refl
 

@@ -10,7 +10,7 @@ use Rattle.journal.specs.declared.journal.body.Body.{Body}
 use Rattle.journal.specs.declared.journal.claim.Claim.{Claim}
 use Rattle.journal.specs.declared.journal.entry.Entry.TheVariants.{Took}
 use Rattle.journal.specs.declared.journal.mode.Mode.{Mode}
-use Rattle.journal.specs.declared.journal.reply.Reply.TheVariants.{Taken, Again, Full}
+use Rattle.journal.specs.declared.journal.reply.Reply.TheVariants.{Taken, Again, LimitReached}
 use Rattle.journal.specs.Journal.History.{Told, took, bodies}
 use Rattle.journal.specs.Journal.Logs.{is_in, same_body}
 use Rattle.journal.specs.Journal.Replies.{is_again, is_full, reply_to, same_claim}
@@ -51,7 +51,7 @@ module _ (mode : Mode) (limits : Limits) (base : ℕ) (old : View) (tally : Tall
   told = told_of old
 
   -- FULL: nothing changes
-  takes_full : is_full limits bs told b claims ≡ true → TakesBody (seen mode limits base old) reader b claims Full (seen mode limits base old)
+  takes_full : is_full limits bs told b claims ≡ true → TakesBody (seen mode limits base old) reader b claims LimitReached (seen mode limits base old)
   takes_full full = record { reply_is = reply_full limits bs told b claims full; told_is = refl; follows = record { mode = refl; limits = refl; base = refl; bodies = refl } }
 
   -- AGAIN: a body that is held
@@ -59,7 +59,7 @@ module _ (mode : Mode) (limits : Limits) (base : ℕ) (old : View) (tally : Tall
     inside : is_in (bodies bs told) b ≡ true
     inside = let order = core.in_order in ap (λ hs. is_in hs b) (sym order) ∙ any_at (λ c. same_body c b) old.held number b at (same_body-refl b)
 
-    pub takes_full_again : is_spent limits tally (length claims) ≡ true → TakesBody (seen mode limits base old) reader b claims Full (seen mode limits base old)
+    pub takes_full_again : is_spent limits tally (length claims) ≡ true → TakesBody (seen mode limits base old) reader b claims LimitReached (seen mode limits base old)
     takes_full_again spent = takes_full (full_again limits tally bs told core.tallied b claims inside ∙ spent)
 
     module _ (spent : is_spent limits tally (length claims) ≡ false) (new : View) (steps steps_then : ℕ) (adds : AddsEntry mode number [] (Took reader number claims) old new steps steps_then) where
@@ -83,7 +83,7 @@ module _ (mode : Mode) (limits : Limits) (base : ℕ) (old : View) (tally : Tall
     beyond : is_in (bodies bs told) b ≡ false
     beyond = let order = core.in_order in ap (λ hs. is_in hs b) (sym order) ∙ outside
 
-    pub takes_full_new : (is_spent limits tally (length claims) || is_crowded limits tally (length b.bytes)) ≡ true → TakesBody (seen mode limits base old) reader b claims Full (seen mode limits base old)
+    pub takes_full_new : (is_spent limits tally (length claims) || is_crowded limits tally (length b.bytes)) ≡ true → TakesBody (seen mode limits base old) reader b claims LimitReached (seen mode limits base old)
     takes_full_new lacks = takes_full (full_new limits tally bs told core.tallied b claims beyond ∙ lacks)
 
     module _ (has_room : (is_spent limits tally (length claims) || is_crowded limits tally (length b.bytes)) ≡ false) (new : View) (steps steps_then : ℕ)

@@ -6,7 +6,7 @@ use Rattle.journal.specs.declared.journal.claim.Claim.{Claim}
 use Rattle.journal.specs.declared.journal.question.Noted.{Noted}
 use Rattle.journal.specs.declared.journal.question.Question.{Question}
 use Rattle.journal.specs.declared.journal.reply.Reply.{Reply}
-use Rattle.journal.specs.declared.journal.reply.Reply.TheVariants.{Taken, Again, Refused, Full}
+use Rattle.journal.specs.declared.journal.reply.Reply.TheVariants.{Taken, Again, Refused, LimitReached}
 use Rattle.journal.specs.Journal.History.{Told, took}
 use Rattle.journal.specs.Journal.Journals.{AnswersOn}
 use Rattle.journal.specs.Journal.Replies.{reply_to}
@@ -16,7 +16,7 @@ use Rattle.validator_core.specs.ValidatorCore.View.{CoreView, base_of, told_of, 
 abbrev pub told_then : List Told → ℕ → Body → List Claim → Reply → List Told
 told_then told reader b claims Taken = told ++ took reader b claims ∷ []
 told_then told reader b claims Again = told ++ took reader b claims ∷ []
-told_then told reader b claims Full = told
+told_then told reader b claims LimitReached = told
 told_then told reader b claims (Refused reason) = told
 
 -- a body with its claims got this reply

@@ -11,7 +11,7 @@ use Rattle.journal.specs.declared.journal.question.Noted.{Noted}
 use Rattle.journal.specs.declared.journal.question.Noted.TheVariants.{New, Known, Unasked}
 use Rattle.journal.specs.declared.journal.question.Question.{Question}
 use Rattle.journal.specs.declared.journal.reply.Reply.{Reply}
-use Rattle.journal.specs.declared.journal.reply.Reply.TheVariants.{Taken, Again, Refused, Full}
+use Rattle.journal.specs.declared.journal.reply.Reply.TheVariants.{Taken, Again, Refused, LimitReached}
 use Rattle.journal.specs.Journal.Logs.{precedes}
 use Rattle.journal.specs.Journal.Seals.{seals}
 use Rattle.key_state.specs.Same.{same_digest}
@@ -44,7 +44,7 @@ pub record LooksAtFew (old : CoreView) (said : Digest) (new : CoreView) (steps s
 abbrev pub LooksByReply : CoreView → Body → Reply → CoreView → ℕ → ℕ → Type 0
 LooksByReply old b Taken new steps steps_then = LooksAtFew old (said_of b.event) new steps steps_then
 LooksByReply old b Again new steps steps_then = LooksAtFew old (said_of b.event) new steps steps_then
-LooksByReply old b Full new steps steps_then = steps_then ≡ steps
+LooksByReply old b LimitReached new steps steps_then = steps_then ≡ steps
 LooksByReply old b (Refused reason) new steps steps_then = steps_then ≡ steps
 
 -- by what becomes of a verdict on a question, which names the digest of its body

@@ -7,7 +7,7 @@ use Rattle.core_tables.specs.CoreTables.View.{body_of}
 use Rattle.validator_core.specs.ValidatorCore.Looks.{LooksByReply}
 use Rattle.validator_core.specs.ValidatorCore.View.{CoreView, Follows, base_of, told_of}
 use Rattle.journal.specs.declared.journal.reply.Reply.{Reply}
-use Rattle.journal.specs.declared.journal.reply.Reply.TheVariants.{Taken, Again, Refused, Full}
+use Rattle.journal.specs.declared.journal.reply.Reply.TheVariants.{Taken, Again, Refused, LimitReached}
 use Rattle.journal.specs.Journal.CoreCalls.{Takes}
 use Rattle.journal.specs.Journal.Feeds.{GivesBody}
 
@@ -27,4 +27,4 @@ abbrev pub LooksByMessage : CoreView → Message → Reply → CoreView → ℕ 
 LooksByMessage old m (Refused reason) new steps steps_then = steps_then ≡ steps
 LooksByMessage old m Taken new steps steps_then = LooksByEvent old m Taken new steps steps_then
 LooksByMessage old m Again new steps steps_then = LooksByEvent old m Again new steps steps_then
-LooksByMessage old m Full new steps steps_then = LooksByEvent old m Full new steps steps_then
+LooksByMessage old m LimitReached new steps steps_then = LooksByEvent old m LimitReached new steps steps_then

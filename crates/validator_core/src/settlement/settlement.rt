@@ -21,7 +21,7 @@ use std::collections::BTreeSet;
 /// Accepts events as long as one of the candidates is ready, the earliest first. What one more accepted event wakes is a
 /// candidate (again), and nothing else comes in. Each candidate is looked at when it is taken out. After an error some events
 /// may be accepted: the tables are to be cut back.
-pub fn settle(
+pub fn accept_ready(
     alloc: Global,
     tables: &mut Tables,
     mode: Mode,

@@ -56,7 +56,7 @@ fn tables_of(alloc: Global, base: Vec<Text>) -> Result<Tables, ResumeFault>
     let mut tables = Tables::new(alloc);
     match add_texts(alloc, &mut tables, base) {
         Ok(()) => {
-            tables.settle();
+            tables.release();
             Ok(tables)
         }
         Err(fault) => {

@@ -1,6 +1,6 @@
 //! The claims of messages.
 ghost use Rattle.std.specs.Prelude.{◌≡◌, ◌++◌, map, IfOk, OnOk};
-ghost use Rattle.journal.specs.declared.journal.claim.Claim.TheVariants.{Held, Witness, Couple as CoupleClaim};
+ghost use Rattle.journal.specs.declared.journal.claim.Claim.TheVariants.{Controller, Witness, Couple as CoupleClaim};
 ghost use Rattle.journal.specs.Journal.Replies as replies;
 
 use cesr_codes::IndexedSig;
@@ -33,10 +33,10 @@ fn add_group(claims: &mut Items<Claim>, group: &Group) -> Result<(), AllocError>
 }
 
 fn add_held(claims: &mut Items<Claim>, sigs: &[IndexedSig]) -> Result<(), AllocError>
-    ensures { OnOk result (claims.new ≡ claims.old ++ map (λ s. Held s) sigs.now) }
+    ensures { OnOk result (claims.new ≡ claims.old ++ map (λ s. Controller s) sigs.now) }
 {
     for sig in sigs {
-        claims.push(Claim::Held(*sig))?;
+        claims.push(Claim::Controller(*sig))?;
     }
     Ok(())
 }

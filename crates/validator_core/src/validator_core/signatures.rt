@@ -141,7 +141,7 @@ fn good_signature(
     ensures { result ≡ good_claim (says_in tables.now.claims.rows number)
         (own_rules (option_copied state.entry) event.now) claim.now }
 {
-    let Claim::Held(sig) = claim else {
+    let Claim::Controller(sig) = claim else {
         return None;
     };
     let key = claimed_key(state, event, claim)?;

@@ -63,7 +63,7 @@ impl Core {
     {
         let count = claims.len();
         if self.tally.is_spent(self.limits, count) {
-            return Ok(Reply::Full);
+            return Ok(Reply::LimitReached);
         }
         let again = have_come(&self.tables, number, claims.as_slice());
         add_claims(
@@ -99,7 +99,7 @@ impl Core {
         let size = body.len();
         if self.tally.lacks_room(self.limits, size, count) {
             drop(event);
-            return Ok(Reply::Full);
+            return Ok(Reply::LimitReached);
         }
         let Ok(bytes) = copy_items(body, self.alloc) else {
             drop(event);

@@ -10,7 +10,7 @@ ghost use Rattle.journal.specs.Journal.Logs.{is_in};
 ghost use Rattle.validator_core.specs.Settlement.Entries.{signature_asked};
 ghost use Rattle.validator_core.specs.ValidatorCore.Tables.{AddsEntry, AddsVerdict, HaveNoOthers, HaveNumbers, SettlesFrom};
 
-use crate::settlement::{enter_body, enter_claims, enter_verdict, settle};
+use crate::settlement::{accept_ready, enter_body, enter_claims, enter_verdict};
 use core_tables::{Mark, Tables};
 use journal::{Body, Claim, Mode, Question};
 use keri_outside::Steps;
@@ -124,7 +124,7 @@ fn keep_or_cut(
     ensures cut { OnErr result (tables.new ≡ rewound mark.now tables.old) }
 {
     match brought {
-        Ok(()) => tables.settle(),
+        Ok(()) => tables.release(),
         Err(_) => tables.rewind(mark),
     }
     brought
@@ -144,7 +144,7 @@ fn settle_from(
     ensures extends { Extends tables.old tables.new }
 {
     let mut due = candidates(alloc, tables, number)?;
-    settle(alloc, tables, mode, &mut due, steps)
+    accept_ready(alloc, tables, mode, &mut due, steps)
 }
 
 // The numbers of the waiting events with the digest that the body of a number names: its own, or of a receipt that of the

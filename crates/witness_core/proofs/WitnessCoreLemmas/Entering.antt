@@ -22,7 +22,7 @@ use Rattle.witness_core.specs.WitnessStore.Room.{IsKnown, IsRoom, signatures_in,
 use Rattle.witness_core.specs.WitnessCore.Telling.{Came, Fails, IsUntold, full, untold}
 use Rattle.witness_core.specs.declared.witness_store.room.Room.{Room}
 use Rattle.witness_core.specs.declared.witness_store.witness_fault.WitnessFault.{WitnessFault}
-use Rattle.witness_core.specs.declared.witness_store.witness_fault.WitnessFault.TheVariants.{Full, OutOfMemory}
+use Rattle.witness_core.specs.declared.witness_store.witness_fault.WitnessFault.TheVariants.{LimitReached, OutOfMemory}
 use Rattle.validator_core.proofs.ValidatorCoreLemmas.OpenQuestions.{follows_itself}
 use Rattle.witness_core.proofs.WitnessStoreLemmas.Entries.{history_follows}
 use Rattle.witness_core.proofs.WitnessStoreLemmas.RoomSteps.{among, held_differ, held_is, room_again, room_first}
@@ -33,8 +33,8 @@ pub untold_itself : (core : CoreView) → IsUntold core core
 untold_itself core = record { told = refl; follows = follows_itself core }
 
 -- FAILED: it wasn't told, for want of room or of memory
-pub fails_by : (no_room : Type 0) (b : Body) (claims : List Claim) (old : CoreView) (room : Room) (new : CoreView) (fault : WitnessFault) → IsUntold old new → (fault ≡ Full → no_room)
-    → (fault ≡ Full) ⊎ (fault ≡ OutOfMemory) → Fails no_room b claims old room new room fault
+pub fails_by : (no_room : Type 0) (b : Body) (claims : List Claim) (old : CoreView) (room : Room) (new : CoreView) (fault : WitnessFault) → IsUntold old new → (fault ≡ LimitReached → no_room)
+    → (fault ≡ LimitReached) ⊎ (fault ≡ OutOfMemory) → Fails no_room b claims old room new room fault
 fails_by no_room b claims old room new fault none turned (inl f) = subst (Fails no_room b claims old room new room) (sym f) (full (turned f) none refl)
 fails_by no_room b claims old room new fault none turned (inr m) = subst (Fails no_room b claims old room new room) (sym m) (untold none)
 

@@ -25,7 +25,7 @@ use Rattle.witness_core.specs.declared.witness_store.room.Coming.{Coming}
 use Rattle.witness_core.specs.WitnessCore.Telling.{Came, Fails, FailsMessage, IsReady, IsTurnedAway, full, has_no_room, told, untold}
 use Rattle.witness_core.specs.declared.witness_store.room.Room.{Room}
 use Rattle.witness_core.specs.declared.witness_store.witness_fault.WitnessFault.{WitnessFault}
-use Rattle.witness_core.specs.declared.witness_store.witness_fault.WitnessFault.TheVariants.{DiskFault, SignerFault, VerifierFault, Full, Broken, OutOfMemory}
+use Rattle.witness_core.specs.declared.witness_store.witness_fault.WitnessFault.TheVariants.{DiskFault, SignerFault, VerifierFault, LimitReached, Broken, OutOfMemory}
 use Rattle.witness_core.proofs.WitnessCoreLemmas.Entering.{there_in, unlogged}
 use Rattle.witness_core.proofs.WitnessStoreLemmas.Entries.{history_follows}
 use Rattle.witness_core.proofs.WitnessCoreLemmas.Making.{IsThere, has_room_took}
@@ -60,7 +60,7 @@ module _ (limits : Limits) (core : CoreView) (list : List (List ℕ)) (m : Messa
 
       -- where it fails for want of room it is turned away
       pub fails_full : (fault : WitnessFault) → Turned fault → FullBy (IsTurnedAway limits core list m) fault
-      fails_full Full (full turned none same) = record { event = event; judged = judged; no_receipt = no_receipt; full = turned }
+      fails_full LimitReached (full turned none same) = record { event = event; judged = judged; no_receipt = no_receipt; full = turned }
       fails_full OutOfMemory f = tt
       fails_full DiskFault f = elim f [ ]
       fails_full SignerFault f = elim f [ ]
@@ -70,7 +70,7 @@ module _ (limits : Limits) (core : CoreView) (list : List (List ℕ)) (m : Messa
 -- what fails for one reason fails for a wider one
 pub fails_wider : (P Q : Type 0) → (P → Q) → (b : Body) (claims : List Claim) (old : CoreView) (room : Room) (new : CoreView) (room_then : Room) (fault : WitnessFault) → Fails P b claims old room new room_then fault
     → Fails Q b claims old room new room_then fault
-fails_wider P Q gives b claims old room new room_then Full (full p none same) = full (gives p) none same
+fails_wider P Q gives b claims old room new room_then LimitReached (full p none same) = full (gives p) none same
 fails_wider P Q gives b claims old room new room_then OutOfMemory (untold none) = untold none
 fails_wider P Q gives b claims old room new room_then OutOfMemory (told came) = told came
 fails_wider P Q gives b claims old room new room_then DiskFault f = elim f [ ]

@@ -11,7 +11,7 @@ use Rattle.journal.specs.declared.journal.claim.Claim.{Claim}
 use Rattle.journal.specs.Journal.Grown.{IsGrown}
 use Rattle.journal.specs.Journal.History.{took}
 use Rattle.journal.specs.Journal.Replies.{claims_of}
-use Rattle.shelf_log.specs.KeriDisk.Images.{DiskTold}
+use Rattle.shelf_log.specs.KeriDisk.Images.{DiskShown}
 use Rattle.shelf_log.proofs.KeriDiskLemmas.Moments.{KnowsNow}
 use Rattle.keri_outside.specs.declared.inquiry.Inquiry.{Inquiry}
 use Rattle.keri_outside.specs.declared.limits.Limits.{Limits}
@@ -24,7 +24,7 @@ use Rattle.witness_core.specs.WitnessStore.Storing.{AreStored, GoesOn, IsOnWay}
 use Rattle.witness_core.specs.WitnessCore.Telling.{AsksVerdicts, Came, Fails, FailsMessage, Hears, IsUntold, TellsEvent, TellsFault, full, untold, told}
 use Rattle.witness_core.specs.declared.witness_store.room.Room.{Room}
 use Rattle.witness_core.specs.declared.witness_store.witness_fault.WitnessFault.{WitnessFault}
-use Rattle.witness_core.specs.declared.witness_store.witness_fault.WitnessFault.TheVariants.{DiskFault, SignerFault, VerifierFault, Full, Broken, OutOfMemory}
+use Rattle.witness_core.specs.declared.witness_store.witness_fault.WitnessFault.TheVariants.{DiskFault, SignerFault, VerifierFault, LimitReached, Broken, OutOfMemory}
 use Rattle.validator_core.proofs.ValidatorCoreLemmas.OpenQuestions.{follows_on}
 use Rattle.witness_core.proofs.WitnessCoreLemmas.Heard.{came_asks, hears_none, untold_asks}
 use Rattle.witness_core.proofs.WitnessStoreLemmas.Entries.{history_follows, history_same, on_way_more}
@@ -46,7 +46,7 @@ module _ (says : Key → List ℕ → Sig → Option Bool) (m : Message) (event 
   pub tells_first : (old mid : CoreView) → Came (body_of m.body event) (claims_of m) old mid → TellsEvent says old m mid
   tells_first old mid came = tells old mid mid came (hears_none says mid)
 
-module _ (old : CoreView) (list : List (List ℕ)) (limits : Limits) (broken : Bool) (disk : DiskTold) (knows : KnowsNow disk) (room : Room) (stored : AreStored (history_of old) list limits broken disk room) where
+module _ (old : CoreView) (list : List (List ℕ)) (limits : Limits) (broken : Bool) (disk : DiskShown) (knows : KnowsNow disk) (room : Room) (stored : AreStored (history_of old) list limits broken disk room) where
   -- nothing was told
   untold_goes : (new : CoreView) → IsUntold old new → GoesOn list disk (history_of new) list disk
   untold_goes new is = goes_none (history_of new) list disk knows (subst (λ h. IsOnWay h list) (sym (history_same old new is.follows is.told)) stored.on_way) stored.holds
@@ -63,7 +63,7 @@ module _ (old : CoreView) (list : List (List ℕ)) (limits : Limits) (broken : B
 
   module _ (new : CoreView) (room_then : Room) where
     fails_goes : (no_room : Type 0) (b : Body) (claims : List Claim) (fault : WitnessFault) → Fails no_room b claims old room new room_then fault → GoesOn list disk (history_of new) list disk
-    fails_goes no_room b claims Full (full turned none same) = untold_goes new none
+    fails_goes no_room b claims LimitReached (full turned none same) = untold_goes new none
     fails_goes no_room b claims OutOfMemory (untold none) = untold_goes new none
     fails_goes no_room b claims OutOfMemory (told came) = came_goes new b claims came
     fails_goes no_room b claims DiskFault f = elim f [ ]
@@ -72,7 +72,7 @@ module _ (old : CoreView) (list : List (List ℕ)) (limits : Limits) (broken : B
     fails_goes no_room b claims Broken f = elim f [ ]
 
     fails_follows : (no_room : Type 0) (b : Body) (claims : List Claim) (fault : WitnessFault) → Fails no_room b claims old room new room_then fault → Follows old new
-    fails_follows no_room b claims Full (full turned none same) = none.follows
+    fails_follows no_room b claims LimitReached (full turned none same) = none.follows
     fails_follows no_room b claims OutOfMemory (untold none) = none.follows
     fails_follows no_room b claims OutOfMemory (told came) = came.follows
     fails_follows no_room b claims DiskFault f = elim f [ ]
@@ -82,7 +82,7 @@ module _ (old : CoreView) (list : List (List ℕ)) (limits : Limits) (broken : B
 
     fails_kept : (no_room : Type 0) (b : Body) (claims : List Claim) (fault : WitnessFault) → Fails no_room b claims old room new room_then fault
         → StoresStill fault (AreStored (history_of new) list limits broken disk room_then)
-    fails_kept no_room b claims Full (full turned none same) = subst (λ h. AreStored h list limits broken disk room_then) (sym (history_same old new none.follows none.told)) (subst (AreStored (history_of old) list limits broken disk) (sym same) stored)
+    fails_kept no_room b claims LimitReached (full turned none same) = subst (λ h. AreStored h list limits broken disk room_then) (sym (history_same old new none.follows none.told)) (subst (AreStored (history_of old) list limits broken disk) (sym same) stored)
     fails_kept no_room b claims OutOfMemory (untold none) = tt
     fails_kept no_room b claims OutOfMemory (told came) = tt
     fails_kept no_room b claims DiskFault f = elim f [ ]
@@ -91,7 +91,7 @@ module _ (old : CoreView) (list : List (List ℕ)) (limits : Limits) (broken : B
     fails_kept no_room b claims Broken f = elim f [ ]
 
     fails_caused : (no_room : Type 0) (b : Body) (claims : List Claim) (fault : WitnessFault) → Fails no_room b claims old room new room_then fault → (d v : ℕ) → TakeFault d d v v fault
-    fails_caused no_room b claims Full (full turned none same) d v = (refl, refl)
+    fails_caused no_room b claims LimitReached (full turned none same) d v = (refl, refl)
     fails_caused no_room b claims OutOfMemory (untold none) d v = (refl, refl)
     fails_caused no_room b claims OutOfMemory (told came) d v = (refl, refl)
     fails_caused no_room b claims DiskFault f d v = elim f [ ]
@@ -100,7 +100,7 @@ module _ (old : CoreView) (list : List (List ℕ)) (limits : Limits) (broken : B
     fails_caused no_room b claims Broken f d v = elim f [ ]
 
     fails_asks : (before : Option (List Inquiry)) (no_room : Type 0) (b : Body) (claims : List Claim) (fault : WitnessFault) → Fails no_room b claims old room new room_then fault → AsksVerdicts before before old new
-    fails_asks before no_room b claims Full (full turned none same) = untold_asks before old new none
+    fails_asks before no_room b claims LimitReached (full turned none same) = untold_asks before old new none
     fails_asks before no_room b claims OutOfMemory (untold none) = untold_asks before old new none
     fails_asks before no_room b claims OutOfMemory (told came) = came_asks before old b claims new came
     fails_asks before no_room b claims DiskFault f = elim f [ ]
@@ -134,7 +134,7 @@ module _ (old : CoreView) (list : List (List ℕ)) (limits : Limits) (broken : B
 
       fails_tell : (says : Key → List ℕ → Sig → Option Bool) (event : Event) → JudgesMessage m (Ok event) → is_receipt event ≡ false → (x : WitnessFault)
           → Fails (Unit {0}) (body_of m.body event) (claims_of m) old room new room_then x → TellsFault says old m x new
-      fails_tell says event judged no_receipt Full (full turned none same) = none
+      fails_tell says event judged no_receipt LimitReached (full turned none same) = none
       fails_tell says event judged no_receipt OutOfMemory (untold none) = inl none
       fails_tell says event judged no_receipt OutOfMemory (told came) = inr (tells_first says m event judged no_receipt old new came)
       fails_tell says event judged no_receipt DiskFault f = elim f [ ]

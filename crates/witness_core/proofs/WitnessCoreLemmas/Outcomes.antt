@@ -34,7 +34,7 @@ use Rattle.witness_core.specs.declared.witness_receipts.fate.Fate.TheVariants.{S
 use Rattle.witness_core.specs.declared.witness_core.outcome.Outcome.{Outcome}
 use Rattle.witness_core.specs.declared.witness_receipts.receipt.Receipt.{Receipt}
 use Rattle.witness_core.specs.declared.witness_store.witness_fault.WitnessFault.{WitnessFault}
-use Rattle.witness_core.specs.declared.witness_store.witness_fault.WitnessFault.TheVariants.{DiskFault, SignerFault, VerifierFault, Full, Broken, OutOfMemory}
+use Rattle.witness_core.specs.declared.witness_store.witness_fault.WitnessFault.TheVariants.{DiskFault, SignerFault, VerifierFault, LimitReached, Broken, OutOfMemory}
 use Rattle.witness_core.proofs.WitnessStoreLemmas.Lists.{take_front}
 use Rattle.witness_core.proofs.WitnessCoreLemmas.MessageFates.{IsOfEvent, fate_judged, of_event}
 
@@ -156,7 +156,7 @@ module _ (says : Key → List ℕ → Sig → Option Bool) (old : CoreView) (m :
       outcome_asks before now count count_then (Err OutOfMemory) made fault asked = subst (λ bs. (n : ℕ) × (now ≡ after before (take n (signings_of key bs)))) due_front (asked own own_at)
       outcome_asks before now count count_then (Err DiskFault) made fault asked = absurd fault
       outcome_asks before now count count_then (Err VerifierFault) made fault asked = absurd fault
-      outcome_asks before now count count_then (Err Full) made fault asked = absurd fault
+      outcome_asks before now count count_then (Err LimitReached) made fault asked = absurd fault
       outcome_asks before now count count_then (Err Broken) made fault asked = absurd fault
 
 -- SIGNING: where the signer failed, or there was no memory
@@ -166,10 +166,10 @@ module _ (count count_then : ℕ) where
   sign_kept S stored OutOfMemory f = tt
   sign_kept S stored DiskFault f = absurd f
   sign_kept S stored VerifierFault f = absurd f
-  sign_kept S stored Full f = absurd f
+  sign_kept S stored LimitReached f = absurd f
   sign_kept S stored Broken f = absurd f
 
-  pub sign_room : (fault : WitnessFault) → SignFault count count_then fault → fault ≡ Full → ⊥
+  pub sign_room : (fault : WitnessFault) → SignFault count count_then fault → fault ≡ LimitReached → ⊥
   sign_room fault f is = subst (SignFault count count_then) is f
 
   pub sign_full : (turned : Type 0) → (turned → ⊥) → (fault : WitnessFault) → SignFault count count_then fault → FullBy turned fault
@@ -177,7 +177,7 @@ module _ (count count_then : ℕ) where
   sign_full turned stays OutOfMemory f = tt
   sign_full turned stays DiskFault f = absurd f
   sign_full turned stays VerifierFault f = absurd f
-  sign_full turned stays Full f = absurd f
+  sign_full turned stays LimitReached f = absurd f
   sign_full turned stays Broken f = absurd f
 
   pub sign_tells : (says : Key → List ℕ → Sig → Option Bool) (old : CoreView) (m : Message) (new : CoreView) → TellsEvent says old m new → open_of new ≡ [] → (fault : WitnessFault) → SignFault count count_then fault
@@ -186,7 +186,7 @@ module _ (count count_then : ℕ) where
   sign_tells says old m new tells none OutOfMemory f = inr tells
   sign_tells says old m new tells none DiskFault f = absurd f
   sign_tells says old m new tells none VerifierFault f = absurd f
-  sign_tells says old m new tells none Full f = absurd f
+  sign_tells says old m new tells none LimitReached f = absurd f
   sign_tells says old m new tells none Broken f = absurd f
 
   pub sign_caused : (disk disk_then verifier verifier_then : ℕ) → disk_then ≡ disk → verifier_then ≡ verifier → (fault : WitnessFault) → SignFault count count_then fault
@@ -195,7 +195,7 @@ module _ (count count_then : ℕ) where
   sign_caused disk disk_then verifier verifier_then d v OutOfMemory f = (d, v, f)
   sign_caused disk disk_then verifier verifier_then d v DiskFault f = absurd f
   sign_caused disk disk_then verifier verifier_then d v VerifierFault f = absurd f
-  sign_caused disk disk_then verifier verifier_then d v Full f = absurd f
+  sign_caused disk disk_then verifier verifier_then d v LimitReached f = absurd f
   sign_caused disk disk_then verifier verifier_then d v Broken f = absurd f
 
 -- BEFORE: where another fault came first the signer wasn't asked
@@ -203,7 +203,7 @@ module _ (disk disk_then verifier verifier_then : ℕ) where
   pub take_caused : (signer : ℕ) (fault : WitnessFault) → TakeFault disk disk_then verifier verifier_then fault → CausedBy disk disk_then verifier verifier_then signer signer fault
   take_caused signer DiskFault f = (f.0, f.1, refl)
   take_caused signer VerifierFault f = (f.0, f.1, refl)
-  take_caused signer Full f = (f.0, f.1, refl)
+  take_caused signer LimitReached f = (f.0, f.1, refl)
   take_caused signer OutOfMemory f = (f.0, f.1, refl)
   take_caused signer SignerFault f = absurd f
   take_caused signer Broken f = absurd f
@@ -212,7 +212,7 @@ pub asks_none : (key : Key) (old new : CoreView) (m : Message) (before : Option 
 asks_none key old new m before (Ok o) failed = cc failed
 asks_none key old new m before (Err DiskFault) failed = refl
 asks_none key old new m before (Err VerifierFault) failed = refl
-asks_none key old new m before (Err Full) failed = refl
+asks_none key old new m before (Err LimitReached) failed = refl
 asks_none key old new m before (Err Broken) failed = refl
 asks_none key old new m before (Err SignerFault) failed = (0, after-nil before)
 asks_none key old new m before (Err OutOfMemory) failed = (0, after-nil before)

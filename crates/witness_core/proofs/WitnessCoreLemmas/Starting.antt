@@ -20,7 +20,7 @@ use Rattle.journal.proofs.JournalLemmas.Keeping.{IsGrown-push}
 use Rattle.journal.proofs.JournalLemmas.Places.{any_at}
 use Rattle.journal.proofs.JournalLemmas.Premises.{nothing_grown}
 use Rattle.event_body.specs.EventBody.Events.{is_receipt}
-use Rattle.shelf_log.specs.KeriDisk.Images.{DiskTold}
+use Rattle.shelf_log.specs.KeriDisk.Images.{DiskShown}
 use Rattle.keri_outside.specs.declared.limits.Limits.{Limits}
 use Rattle.shelf_log.specs.ShelfLog.Settled.{AllHold}
 use Rattle.validator_core.specs.ValidatorCore.View.{CoreView, told_of}
@@ -66,7 +66,7 @@ none_waits log (b ∷ all) inside f =
     none : (b : Body) → is_in log b ≡ true → if_waiting log f b ≡ 0
     none b there = elim (cases_Bool (is_receipt b.event)) [ inl k ↦ rw k refl | inr k ↦ rw (k, there) refl ]
 
-module _ (mode : Mode) (held : List Body) (list : List (List ℕ)) (limits : Limits) (disk : DiskTold) (room : Room)
+module _ (mode : Mode) (held : List Body) (list : List (List ℕ)) (limits : Limits) (disk : DiskShown) (room : Room)
     (texts : map text_in list ≡ map (λ b. b.bytes) held) (unfit : first_unfit 0 [] held ≡ None) (all : bodies held [] ≡ held)
     (signatures : room.signatures.items ≡ replicate (length held) 0) (reserved : room.reserved ≡ 0) (few : length list ≤ limits.records) (holds : AllHold disk list) where
   abbrev h : History
@@ -114,7 +114,7 @@ module _ (mode : Mode) (held : List Body) (list : List (List ℕ)) (limits : Lim
   }
 
 -- STARTED: a core that was told nothing, and began with the bodies of the list
-pub started : (core : CoreView) (list : List (List ℕ)) (limits : Limits) (disk : DiskTold) (room : Room) → core.base ≡ length list → map (λ b. b.bytes) core.held ≡ map text_in list
+pub started : (core : CoreView) (list : List (List ℕ)) (limits : Limits) (disk : DiskShown) (room : Room) → core.base ≡ length list → map (λ b. b.bytes) core.held ≡ map text_in list
     → first_unfit 0 [] core.held ≡ None → core.entries ≡ [] → InOrder core.base core.held core.entries
     → room.signatures.items ≡ replicate (length core.held) 0 → room.reserved ≡ 0 → length list ≤ limits.records → AllHold disk list → AreStored (history_of core) list limits false disk room
 unfolding told_by

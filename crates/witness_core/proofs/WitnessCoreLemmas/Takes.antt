@@ -8,7 +8,7 @@ use Rattle.cesr_stream.specs.declared.message.Message.{Message}
 use Rattle.core_tables.specs.CoreTables.View.{body_of}
 use Rattle.journal.specs.declared.journal.body.Body.{Body}
 use Rattle.journal.specs.Journal.History.{Told, bodies, heard, took}
-use Rattle.shelf_log.specs.KeriDisk.Images.{DiskTold}
+use Rattle.shelf_log.specs.KeriDisk.Images.{DiskShown}
 use Rattle.shelf_log.proofs.KeriDiskLemmas.Moments.{KnowsNow}
 use Rattle.keri_outside.specs.declared.limits.Limits.{Limits}
 use Rattle.validator_core.specs.ValidatorCore.View.{CoreView, Stands, base_of, told_of}
@@ -22,7 +22,7 @@ use Rattle.witness_core.specs.WitnessCore.Telling.{Hears, IsReady, IsTakenAs, Is
 use Rattle.witness_core.specs.declared.witness_store.room.Room.{Room}
 use Rattle.witness_core.specs.declared.witness_core.taken.Taken.TheVariants.{Event as EventTaken}
 use Rattle.witness_core.specs.declared.witness_store.witness_fault.WitnessFault.{WitnessFault}
-use Rattle.witness_core.specs.declared.witness_store.witness_fault.WitnessFault.TheVariants.{DiskFault, SignerFault, VerifierFault, Full, Broken, OutOfMemory}
+use Rattle.witness_core.specs.declared.witness_store.witness_fault.WitnessFault.TheVariants.{DiskFault, SignerFault, VerifierFault, LimitReached, Broken, OutOfMemory}
 use Rattle.witness_core.proofs.WitnessCoreLemmas.Entering.{untold_itself}
 use Rattle.witness_core.proofs.WitnessCoreLemmas.Judging.{one_judged}
 use Rattle.witness_core.proofs.WitnessStoreLemmas.RoomSteps.{held_is}
@@ -32,7 +32,7 @@ use Rattle.witness_core.proofs.WitnessStoreLemmas.Stored.{goes_more, goes_none, 
 pub same_untold : (old new : CoreView) → new ≡ old → IsUntold old new
 same_untold old new same = subst (IsUntold old) (sym same) (untold_itself old)
 
-module _ (old : CoreView) (list : List (List ℕ)) (limits : Limits) (broken : Bool) (disk : DiskTold) (knows : KnowsNow disk) (room : Room) (stored : AreStored (history_of old) list limits broken disk room)
+module _ (old : CoreView) (list : List (List ℕ)) (limits : Limits) (broken : Bool) (disk : DiskShown) (knows : KnowsNow disk) (room : Room) (stored : AreStored (history_of old) list limits broken disk room)
     (new : CoreView) (same : new ≡ old) where
   pub same_stored : (room_then : Room) → room_then ≡ room → AreStored (history_of new) list limits broken disk room_then
   same_stored room_then same_room = subst (λ (c : CoreView). AreStored (history_of c) list limits broken disk room_then) (sym same) (subst (AreStored (history_of old) list limits broken disk) (sym same_room) stored)
@@ -48,7 +48,7 @@ module _ (disk disk_then : ℕ) where
   store_tells says old m new tells OutOfMemory f = inr tells
   store_tells says old m new tells SignerFault f = absurd f
   store_tells says old m new tells VerifierFault f = absurd f
-  store_tells says old m new tells Full f = absurd f
+  store_tells says old m new tells LimitReached f = absurd f
   store_tells says old m new tells Broken f = absurd f
 
   -- or the verifier failed
@@ -59,11 +59,11 @@ module _ (disk disk_then : ℕ) where
     ask_tells says old m new tells VerifierFault f = tells
     ask_tells says old m new tells OutOfMemory f = inr tells
     ask_tells says old m new tells SignerFault f = absurd f
-    ask_tells says old m new tells Full f = absurd f
+    ask_tells says old m new tells LimitReached f = absurd f
     ask_tells says old m new tells Broken f = absurd f
 
 -- stored, and then verdicts
-pub goes_asked : (mid new : CoreView) (first list longer : List (List ℕ)) (told middle last : DiskTold) → Appends first told (history_of mid) list middle → length list ≡ length (log_in (history_of mid))
+pub goes_asked : (mid new : CoreView) (first list longer : List (List ℕ)) (told middle last : DiskShown) → Appends first told (history_of mid) list middle → length list ≡ length (log_in (history_of mid))
     → GoesOn list middle (history_of new) longer last → GoesOn first told (history_of new) longer last
 goes_asked mid new first list longer told middle last appends all goes =
     goes_more (history_of mid) (history_of new) first list longer told middle last (goes_of (history_of mid) first list told middle appends) all goes

@@ -7,7 +7,7 @@ use Rattle.journal.specs.declared.journal.body.Body.{Body}
 use Rattle.journal.specs.declared.journal.claim.Claim.{Claim}
 use Rattle.journal.specs.declared.journal.reply.Reason.{Reason}
 use Rattle.journal.specs.declared.journal.reply.Reply.{Reply}
-use Rattle.journal.specs.declared.journal.reply.Reply.TheVariants.{Taken, Again, Refused, Full}
+use Rattle.journal.specs.declared.journal.reply.Reply.TheVariants.{Taken, Again, Refused, LimitReached}
 use Rattle.journal.specs.Journal.History.{bodies, taken, took}
 use Rattle.journal.specs.Journal.Logs.{is_in}
 use Rattle.journal.specs.Journal.Replies.{all_claims, is_again, is_full, reply_to}
@@ -20,16 +20,16 @@ abbrev pub is_told : Reply → Bool
 is_told Taken = true
 is_told Again = true
 is_told (Refused reason) = false
-is_told Full = false
+is_told LimitReached = false
 
 -- there was no room
 abbrev pub is_refused_room : Reply → Bool
 is_refused_room Taken = false
 is_refused_room Again = false
 is_refused_room (Refused reason) = false
-is_refused_room Full = true
+is_refused_room LimitReached = true
 
-by_reply : (reply : Reply) (full again : Bool) → reply ≡ (if full then Full else (if again then Again else Taken)) → (is_refused_room reply ≡ full) × (is_told reply ≡ not full)
+by_reply : (reply : Reply) (full again : Bool) → reply ≡ (if full then LimitReached else (if again then Again else Taken)) → (is_refused_room reply ≡ full) × (is_told reply ≡ not full)
 by_reply reply true again is = (ap is_refused_room is, ap is_told is)
 by_reply reply false true is = (ap is_refused_room is, ap is_told is)
 by_reply reply false false is = (ap is_refused_room is, ap is_told is)
@@ -73,7 +73,7 @@ module _ (old new : CoreView) (b : Body) (claims : List Claim) (reply : Reply) (
       told_then Taken t is = is
       told_then Again t is = is
       told_then (Refused reason) t is = cc
-      told_then Full t is = cc
+      told_then LimitReached t is = cc
 
-  pub untold : reply ≡ Full → IsUntold old new
+  pub untold : reply ≡ LimitReached → IsUntold old new
   untold is = record { told = takes.told_is ∙ ap (told_by_reply (told_of old) 0 b claims) is; follows = takes.follows }

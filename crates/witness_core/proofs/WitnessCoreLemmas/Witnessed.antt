@@ -8,7 +8,7 @@ use Rattle.cesr_codes.specs.declared.key.Key.{Key}
 use Rattle.cesr_codes.specs.declared.sig.Sig.{Sig}
 use Rattle.cesr_stream.specs.declared.message.Message.{Message}
 use Rattle.key_state.specs.Kept.{IsKept}
-use Rattle.shelf_log.specs.KeriDisk.Images.{DiskTold}
+use Rattle.shelf_log.specs.KeriDisk.Images.{DiskShown}
 use Rattle.keri_outside.specs.declared.limits.Limits.{Limits}
 use Rattle.shelf_log.specs.ShelfLog.Format.{Holds}
 use Rattle.shelf_log.specs.ShelfLog.Settled.{AllHold, IsSettled}
@@ -24,23 +24,23 @@ use Rattle.witness_core.specs.WitnessStore.Storing.{AreStored, GoesOn, StoresOn,
 use Rattle.witness_core.specs.WitnessCore.Telling.{IsUntold, TellsFault}
 use Rattle.witness_core.specs.declared.witness_store.room.Room.{Room}
 use Rattle.witness_core.specs.declared.witness_store.witness_fault.WitnessFault.{WitnessFault}
-use Rattle.witness_core.specs.declared.witness_store.witness_fault.WitnessFault.TheVariants.{DiskFault, SignerFault, VerifierFault, Full, Broken, OutOfMemory}
+use Rattle.witness_core.specs.declared.witness_store.witness_fault.WitnessFault.TheVariants.{DiskFault, SignerFault, VerifierFault, LimitReached, Broken, OutOfMemory}
 use Rattle.witness_core.proofs.WitnessCoreLemmas.Listed.{listed}
 use Rattle.witness_core.proofs.WitnessCoreLemmas.Starting.{started}
 use Rattle.witness_core.proofs.WitnessStoreLemmas.Stored.{payloads_all}
 
 -- STORED: what is stored is listed
-pub are_listed : (core : CoreView) (list : List (List ℕ)) (limits : Limits) (broken : Bool) (told : DiskTold) (room : Room) → All (λ b. IsKept b.event) (accepted_by core)
+pub are_listed : (core : CoreView) (list : List (List ℕ)) (limits : Limits) (broken : Bool) (told : DiskShown) (room : Room) → All (λ b. IsKept b.event) (accepted_by core)
     → AreStored (history_of core) list limits broken told room → AreListed core list
 are_listed core list limits broken told room all stored = subst (AreListed core) (payloads_all (history_of core) list stored.all) (listed core list all stored.on_way)
 
 -- and reads as the accepted events
-pub reads_again : (core : CoreView) (list : List (List ℕ)) (limits : Limits) (broken : Bool) (told : DiskTold) (room : Room) → AreStored (history_of core) list limits broken told room → ReadsAgain core list
+pub reads_again : (core : CoreView) (list : List (List ℕ)) (limits : Limits) (broken : Bool) (told : DiskShown) (room : Room) → AreStored (history_of core) list limits broken told room → ReadsAgain core list
 reads_again core list limits broken told room stored =
     stored.on_way.read ∙ ap (λ n. map (λ (b : Body). b.bytes) (take n (accepted_by core))) stored.all ∙ ap (map (λ (b : Body). b.bytes)) (take_all (length (accepted_by core)) (accepted_by core) (omega arith))
 
 -- and goes on so
-pub stores_on : (old : List (List ℕ)) (disk_old : DiskTold) (core : CoreView) (new : List (List ℕ)) (disk_new : DiskTold) → All (λ b. IsKept b.event) (accepted_by core)
+pub stores_on : (old : List (List ℕ)) (disk_old : DiskShown) (core : CoreView) (new : List (List ℕ)) (disk_new : DiskShown) → All (λ b. IsKept b.event) (accepted_by core)
     → GoesOn old disk_old (history_of core) new disk_new → StoresOn old disk_old core new disk_new
 stores_on old disk_old core new disk_new all goes = record {
   accepted = payloads (history_of core) new;
@@ -59,7 +59,7 @@ module _ (S : Type 0) where
   still OutOfMemory kept whole = absurd (true≢false whole)
   still SignerFault kept whole = kept
   still VerifierFault kept whole = kept
-  still Full kept whole = kept
+  still LimitReached kept whole = kept
   still Broken kept whole = absurd kept
 
   pub still_stored : (fault : WitnessFault) → StoresStill fault S → (broken : Bool) → broken ≡ breaks fault → broken ≡ false → S
@@ -70,21 +70,21 @@ module _ (S : Type 0) where
   goes_so T OutOfMemory kept = refl
   goes_so T SignerFault kept = refl
   goes_so T VerifierFault kept = refl
-  goes_so T Full kept = refl
+  goes_so T LimitReached kept = refl
   goes_so T Broken kept = kept
 
   pub goes_by : (T : Type 0) (fault : WitnessFault) → StoresStill fault S → (old new : Bool) → old ≡ false → new ≡ breaks fault → Goes {T = T} old new (Err fault)
   goes_by T fault kept old new whole is = subst (λ b. Goes {T = T} b new (Err fault)) (sym whole) (subst (λ b. Goes {T = T} false b (Err fault)) (sym is) (goes_so T fault kept))
 
 -- at a fault for want of room nothing was told
-pub full_untold : (says : Key → List ℕ → Sig → Option Bool) (old : CoreView) (m : Message) (fault : WitnessFault) (new : CoreView) → TellsFault says old m fault new → fault ≡ Full → IsUntold old new
+pub full_untold : (says : Key → List ℕ → Sig → Option Bool) (old : CoreView) (m : Message) (fault : WitnessFault) (new : CoreView) → TellsFault says old m fault new → fault ≡ LimitReached → IsUntold old new
 full_untold says old m fault new tells is = subst (λ (f : WitnessFault). TellsFault says old m f new) is tells
 
 -- STARTED: a settled shelf's list
-pub settled_holds : (told : DiskTold) (list : List (List ℕ)) → IsSettled told list → AllHold told list
+pub settled_holds : (told : DiskShown) (list : List (List ℕ)) → IsSettled told list → AllHold told list
 settled_holds told list settled = λ c now. subst (λ (o : Option (List ℕ)). IfSome o (λ file. Holds Two file list)) (settled.0 c now) settled.1
 
-pub started_stored : (core : CoreView) (list : List (List ℕ)) (limits shelf_limits : Limits) (broken : Bool) (disk : DiskTold) (room : Room) → IsStarted limits list core → IsFirstRoom core room → length list ≤ shelf_limits.records
+pub started_stored : (core : CoreView) (list : List (List ℕ)) (limits shelf_limits : Limits) (broken : Bool) (disk : DiskShown) (room : Room) → IsStarted limits list core → IsFirstRoom core room → length list ≤ shelf_limits.records
     → broken ≡ false → AllHold disk list → AreStored (history_of core) list shelf_limits broken disk room
 started_stored core list limits shelf_limits broken disk room is first few whole holds =
     subst (λ b. AreStored (history_of core) list shelf_limits b disk room) (sym whole)

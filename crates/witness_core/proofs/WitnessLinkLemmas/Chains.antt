@@ -11,7 +11,7 @@ use Rattle.lists.specs.KeriSpecs.Causes.{Rose}
 use Rattle.lists.specs.KeriSpecs.Told.{after}
 use Rattle.lists.proofs.KeriSpecsLemmas.Putting.{after-append, after-nil}
 use Rattle.run_status.specs.declared.run_status.close.Close.{Close}
-use Rattle.run_status.specs.declared.run_status.close.Close.TheVariants.{End, Bad, ReadFault, VerifierFault, SignerFault, DiskFault, WriteFault, Malformed, Full, OutOfMemory}
+use Rattle.run_status.specs.declared.run_status.close.Close.TheVariants.{End, Bad, ReadFault, VerifierFault, SignerFault, DiskFault, WriteFault, Malformed, LimitReached, OutOfMemory}
 use Rattle.validator_core.specs.ValidatorCore.View.{open_of}
 use Rattle.witness_core.specs.WitnessCore.Outcomes.{AsksSigner}
 use Rattle.witness_core.specs.WitnessStore.Storing.{AllStand, Grown}
@@ -19,7 +19,7 @@ use Rattle.witness_core.specs.declared.witness_receipts.receipt.Receipt.{Receipt
 use Rattle.witness_core.specs.declared.witness_store.witness_fault.WitnessFault.{WitnessFault}
 use Rattle.witness_core.specs.declared.witness_store.witness_fault.WitnessFault.TheVariants as fault
 use Rattle.witness_core.specs.WitnessLink.Calls.{AreCalls, Call, digests_in, messages_in, receipts_in, refusals_in, refused_as, seen_in, signings_in, text_of}
-use Rattle.witness_core.specs.WitnessLink.Links.{LinkTold, Standing, Terms, counts_of, standing_of, terms_of}
+use Rattle.witness_core.specs.WitnessLink.Links.{LinkShown, Standing, Terms, counts_of, standing_of, terms_of}
 use Rattle.witness_core.specs.WitnessLink.Serving.{FailsToPut, FailsToTake, GoesOn, HasEnded, HasServed, Serves, StopsBy, StopsTaking, Wrote, signed_for}
 use Rattle.witness_core.specs.WitnessLink.Stored.{IsLawfulList, IsOfListed}
 use Rattle.witness_core.specs.WitnessLink.Taking.{Counted, FailsAt, IsWhole}
@@ -36,7 +36,7 @@ texts_more : (calls more : List Call) → text_of (receipts_in (calls ++ more)) 
 texts_more calls more =
     ap text_of (flat_map-append (λ (c : Call). c.receipts) calls more) ∙ flat_map-append (λ (r : Receipt). r.bytes.items) (receipts_in calls) (receipts_in more)
 
-module _ (first mid new : LinkTold) (a : Serves first mid) (on : GoesOn first mid a) where
+module _ (first mid new : LinkShown) (a : Serves first mid) (on : GoesOn first mid a) where
   wrote_more : (more : List Call) → Wrote mid new more → Wrote first new (a.calls ++ more)
   wrote_more more w =
       w ∙ ap (λ told. after told (text_of (receipts_in more))) on.wrote
@@ -148,7 +148,7 @@ module _ (first mid new : LinkTold) (a : Serves first mid) (on : GoesOn first mi
       stops_more messages VerifierFault s = taking_more fault.VerifierFault messages s
       stops_more messages SignerFault s = taking_more fault.SignerFault messages s
       stops_more messages DiskFault s = taking_more fault.DiskFault messages s
-      stops_more messages Full s = taking_more fault.Full messages s
+      stops_more messages LimitReached s = taking_more fault.Full messages s
       stops_more messages OutOfMemory s = taking_more fault.OutOfMemory messages s
       stops_more messages WriteFault s = (ap (λ l. before ++ l) s.0 ∙ messages_more, puts_more s.1)
       stops_more messages End s = absurd s
@@ -157,7 +157,7 @@ module _ (first mid new : LinkTold) (a : Serves first mid) (on : GoesOn first mi
       stops_more messages (Malformed place) s = absurd s
 
 -- messages were served, and then others
-pub served_more : (first mid new : LinkTold) (before messages : List Message) → HasServed first mid before → HasServed mid new messages → HasServed first new (before ++ messages)
+pub served_more : (first mid new : LinkShown) (before messages : List Message) → HasServed first mid before → HasServed mid new messages → HasServed first new (before ++ messages)
 served_more first mid new before messages a b = record {
   serves = serves_more first mid new a.serves a.goes_on b.serves;
   messages_are = sym (messages_more first mid new a.serves a.goes_on b.serves before a.messages_are) ∙ ap (λ l. before ++ l) b.messages_are;
@@ -165,14 +165,14 @@ served_more first mid new before messages a b = record {
 }
 
 -- or serving stopped
-pub ended_more : (first mid new : LinkTold) (close : Close) (before messages : List Message) → HasServed first mid before → HasEnded mid new close messages → HasEnded first new close (before ++ messages)
+pub ended_more : (first mid new : LinkShown) (close : Close) (before messages : List Message) → HasServed first mid before → HasEnded mid new close messages → HasEnded first new close (before ++ messages)
 ended_more first mid new close before messages a b = record {
   serves = serves_more first mid new a.serves a.goes_on b.serves;
   stops = stops_more first mid new a.serves a.goes_on b.serves before a.messages_are messages close b.stops;
 }
 
 -- none was served yet
-pub served_none : (link : LinkTold) → IsWhole link.witness → AllStand link.witness.disk link.witness.list link.witness.list → IsLawfulList link.witness.list
+pub served_none : (link : LinkShown) → IsWhole link.witness → AllStand link.witness.disk link.witness.list link.witness.list → IsLawfulList link.witness.list
     → KnowsNow link.witness.disk → HasServed link link []
 unfolding stores_none
 served_none link whole stand lawful knows = record {

@@ -14,21 +14,21 @@ use Rattle.run_status.specs.MessageFeed.Closing.{ClosesBy, Gave}
 use Rattle.run_status.specs.MessageFeed.Feeds.{Feeds, Stream}
 use Rattle.run_status.specs.declared.message_feed.feed_close.FeedClose.{FeedClose}
 use Rattle.run_status.specs.declared.message_feed.feed_close.FeedClose.TheVariants as feed
-use Rattle.run_status.specs.RunStatus.Readers.{SinkTold, SourceTold}
+use Rattle.run_status.specs.RunStatus.Readers.{SinkShown, SourceShown}
 use Rattle.run_status.specs.declared.run_status.close.Close.{Close}
-use Rattle.run_status.specs.declared.run_status.close.Close.TheVariants.{End, Bad, ReadFault, VerifierFault, SignerFault, DiskFault, WriteFault, Malformed, Full, OutOfMemory}
+use Rattle.run_status.specs.declared.run_status.close.Close.TheVariants.{End, Bad, ReadFault, VerifierFault, SignerFault, DiskFault, WriteFault, Malformed, LimitReached, OutOfMemory}
 use Rattle.witness_core.specs.declared.witness_store.witness_fault.WitnessFault.{WitnessFault}
 use Rattle.witness_core.specs.declared.witness_store.witness_fault.WitnessFault.TheVariants as fault
 use Rattle.witness_core.specs.WitnessLink.Calls.{Call, messages_in, receipts_in}
-use Rattle.witness_core.specs.WitnessLink.Links.{LinkTold, ServiceTold, terms_of, told_of_link}
-use Rattle.witness_core.specs.WitnessLink.Offered.{Finishes, HasStopped, HasTaken, LendsSame, link_told}
+use Rattle.witness_core.specs.WitnessLink.Links.{LinkShown, ServiceShown, terms_of, told_of_link}
+use Rattle.witness_core.specs.WitnessLink.Offered.{Finishes, HasStopped, HasTaken, LendsSame, link_shown}
 use Rattle.witness_core.specs.WitnessLink.Served.{ClosesLink, ReadsAll, ServesLink, StopsAtNext}
 use Rattle.witness_core.specs.WitnessLink.Serving.{GoesOn, HasEnded, HasServed, Serves, StopsTaking}
 use Rattle.witness_core.specs.declared.witness_link.link.Link.{Link}
 use Rattle.witness_core.proofs.WitnessLinkLemmas.Storing.{held_each}
 use Rattle.witness_core.proofs.WitnessLinkLemmas.Streams.{all_from, at_bad, at_end, first_none, first_of, some_open}
 
-module _ (limits : Limits) (source_old source_new : SourceTold) (old new : LinkTold) where
+module _ (limits : Limits) (source_old source_new : SourceShown) (old new : LinkShown) where
   -- these bytes were read, and maybe more
   link_by : (close : Close) (s : Serves old new) (bytes more : List ℕ) → Gave source_old.left source_new.left (bytes ++ more) → length bytes ≤ limits.stream_bytes → AreFirst limits bytes (messages_in s.calls)
       → ClosesLink limits source_old source_new bytes old new s close → ServesLink limits source_old source_new old new close
@@ -82,7 +82,7 @@ module _ (limits : Limits) (source_old source_new : SourceTold) (old new : LinkT
       link_ended VerifierFault h = link_failed fault.VerifierFault VerifierFault h.serves h.stops (λ c. c)
       link_ended SignerFault h = link_failed fault.SignerFault SignerFault h.serves h.stops (λ c. c)
       link_ended DiskFault h = link_failed fault.DiskFault DiskFault h.serves h.stops (λ c. c)
-      link_ended Full h = link_failed fault.Full Full h.serves h.stops inr
+      link_ended LimitReached h = link_failed fault.Full LimitReached h.serves h.stops inr
       link_ended OutOfMemory h = link_failed fault.OutOfMemory OutOfMemory h.serves h.stops inr
       link_ended WriteFault h =
           let put = h.stops.1 in
@@ -106,10 +106,10 @@ module _ (limits : Limits) (source_old source_new : SourceTold) (old new : LinkT
     link_read source_close close now served (inr h) all ends closes gave gives =
         link_ended served [] (append-nil served ∙ all) (λ none earlier m e. ends) gave now h
 
-module _ {W K : Type 0} (service_seen : W → ServiceTold) (written : K → Option (List ℕ)) (sink_faults : K → ℕ)
-    (limits : Limits) (source_old source_new : SourceTold) (first middle new : Link W K) where
-  abbrev told : Link W K → LinkTold
-  told link = link_told service_seen written sink_faults link
+module _ {W K : Type 0} (service_seen : W → ServiceShown) (written : K → Option (List ℕ)) (sink_faults : K → ℕ)
+    (limits : Limits) (source_old source_new : SourceShown) (first middle new : Link W K) where
+  abbrev told : Link W K → LinkShown
+  told link = link_shown service_seen written sink_faults link
 
   abbrev Taken : Link W K → Link W K → List Message → Type 0
   Taken = HasTaken service_seen written sink_faults
@@ -146,8 +146,8 @@ module _ {W K : Type 0} (service_seen : W → ServiceTold) (written : K → Opti
       let h = f.takes.served in
       let are = h.messages_are in
       let made : messages_in h.serves.calls ++ all_of last ≡ messages limits.message_signatures f.items = ap (λ l. l ++ all_of last) are ∙ f.all in
-      unmoved Full now e.0 e.1
-      (link_by limits source_old source_new (told first) (told middle) Full h.serves f.fed (f.closes.0.more ∷ []) f.closes.0.gave f.stream.few
+      unmoved LimitReached now e.0 e.1
+      (link_by limits source_old source_new (told first) (told middle) LimitReached h.serves f.fed (f.closes.0.more ∷ []) f.closes.0.gave f.stream.few
       (first_of limits f.fed f.reading f.items f.stream (messages_in h.serves.calls) (all_of last) made (λ none. rw f.closes.0.unfinished_item tt))
       (inl (record { reading = f.reading; items = f.items; stream = f.stream; closes = f.closes; last = last; all = made }, h.goes_on)))
   link_closed feed.OutOfMemory now last f e = unmoved OutOfMemory now e.0 e.1 (out last f.begun f.all)
@@ -181,7 +181,7 @@ module _ {W K : Type 0} (service_seen : W → ServiceTold) (written : K → Opti
   lent_same (feed.Stopped stop) now last f e = subst (LendsSame first) (sym e.1) f.takes.same
 
 -- nothing was noted before
-pub from_none : (limits : Limits) (source_old source_new : SourceTold) (service : ServiceTold) (sink : SinkTold) (refused : List Refusal) (seen : List Digest) (new : LinkTold) (close : Close) → refused ≡ [] → seen ≡ []
+pub from_none : (limits : Limits) (source_old source_new : SourceShown) (service : ServiceShown) (sink : SinkShown) (refused : List Refusal) (seen : List Digest) (new : LinkShown) (close : Close) → refused ≡ [] → seen ≡ []
     → ServesLink limits source_old source_new (told_of_link service sink refused seen) new close
     → ServesLink limits source_old source_new (told_of_link service sink [] []) new close
 from_none limits source_old source_new service sink refused seen new close none_refused none_seen s =

@@ -5,17 +5,17 @@ use Rattle.cesr_stream.specs.declared.message.Message.{Message}
 use Rattle.shelf_log.proofs.KeriDiskLemmas.Moments.{KnowsNow}
 use Rattle.run_status.specs.declared.run_status.close.Close.{Close}
 use Rattle.witness_core.specs.WitnessStore.Storing.{AllStand}
-use Rattle.witness_core.specs.WitnessLink.Links.{LinkTold, ServiceTold}
-use Rattle.witness_core.specs.WitnessLink.Offered.{HasStopped, HasTaken, LendsSame, link_told}
+use Rattle.witness_core.specs.WitnessLink.Links.{LinkShown, ServiceShown}
+use Rattle.witness_core.specs.WitnessLink.Offered.{HasStopped, HasTaken, LendsSame, link_shown}
 use Rattle.witness_core.specs.WitnessLink.Serving.{ServesOne}
 use Rattle.witness_core.specs.WitnessLink.Stored.{IsLawfulList}
 use Rattle.witness_core.specs.WitnessLink.Taking.{IsWhole}
 use Rattle.witness_core.specs.declared.witness_link.link.Link.{Link}
 use Rattle.witness_core.proofs.WitnessLinkLemmas.Chains.{ended_more, served_more, served_none}
 
-module _ {W K : Type 0} (service_seen : W → ServiceTold) (written : K → Option (List ℕ)) (sink_faults : K → ℕ) where
-  abbrev told : Link W K → LinkTold
-  told link = link_told service_seen written sink_faults link
+module _ {W K : Type 0} (service_seen : W → ServiceShown) (written : K → Option (List ℕ)) (sink_faults : K → ℕ) where
+  abbrev told : Link W K → LinkShown
+  told link = link_shown service_seen written sink_faults link
 
   abbrev Taken : Link W K → Link W K → List Message → Type 0
   Taken first now messages = HasTaken service_seen written sink_faults first now messages

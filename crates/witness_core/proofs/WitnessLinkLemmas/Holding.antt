@@ -22,7 +22,7 @@ use Rattle.journal.specs.Journal.History.{Told, took}
 use Rattle.journal.specs.Journal.Replies.{claims_of}
 use Rattle.journal.proofs.JournalLemmas.Accepting.{accepted_extends}
 use Rattle.key_state.specs.Kept.{IsKept}
-use Rattle.shelf_log.specs.KeriDisk.Images.{DiskTold}
+use Rattle.shelf_log.specs.KeriDisk.Images.{DiskShown}
 use Rattle.keri_outside.specs.declared.limits.Limits.{Limits}
 use Rattle.validator_core.specs.ValidatorCore.Signatures.{is_witness_under}
 use Rattle.quorum_laws.proofs.Inside.{accepted_inside}
@@ -44,11 +44,11 @@ use Rattle.witness_core.specs.WitnessLink.Links.{Terms}
 use Rattle.witness_core.specs.WitnessLink.Stored.{HasEvent, HoldsAccepted, IsOfListed}
 
 -- each image stands for the list
-pub stored_stand : (h : History) (list : List (List ℕ)) (limits : Limits) (broken : Bool) (told : DiskTold) (room : Room) → AreStored h list limits broken told room → AllStand told list list
+pub stored_stand : (h : History) (list : List (List ℕ)) (limits : Limits) (broken : Bool) (told : DiskShown) (room : Room) → AreStored h list limits broken told room → AllStand told list list
 stored_stand h list limits broken told room stored = λ c now. subst (λ a. HoldsFirst list a c) (append-nil list) (first_held list [] c (stored.holds c now))
 
 -- which lists the accepted events
-pub stored_listed : (core : CoreView) (list : List (List ℕ)) (limits : Limits) (broken : Bool) (told : DiskTold) (room : Room) → All (λ b. IsKept b.event) (accepted_by core)
+pub stored_listed : (core : CoreView) (list : List (List ℕ)) (limits : Limits) (broken : Bool) (told : DiskShown) (room : Room) → All (λ b. IsKept b.event) (accepted_by core)
     → AreStored (history_of core) list limits broken told room → AreListed core list
 stored_listed core list limits broken told room keeps stored = subst (AreListed core) (payloads_all (history_of core) list stored.all) (listed core list keeps stored.on_way)
 
@@ -112,7 +112,7 @@ pub all_kept : (core : CoreView) → Stands core → ((event : Event) (bytes : L
 all_kept core stands spelled = All-weaker IsHeld (λ b. IsKept b.event) (λ b held. spelled b.event b.bytes held.spelled) (accepted_by core) (all_held core stands)
 
 -- and so it has each accepted event
-pub stored_accepted : (core : CoreView) (list : List (List ℕ)) (limits : Limits) (broken : Bool) (told : DiskTold) (room : Room) → All (λ b. IsKept b.event) (accepted_by core)
+pub stored_accepted : (core : CoreView) (list : List (List ℕ)) (limits : Limits) (broken : Bool) (told : DiskShown) (room : Room) → All (λ b. IsKept b.event) (accepted_by core)
     → AreStored (history_of core) list limits broken told room → Stands core → HoldsAccepted core list
 stored_accepted core list limits broken told room keeps stored stands =
     let way = stored.on_way in

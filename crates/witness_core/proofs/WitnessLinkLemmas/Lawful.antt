@@ -24,7 +24,7 @@ use Rattle.journal.specs.declared.journal.body.Body.{Body}
 use Rattle.journal.specs.declared.journal.mode.Mode.{Mode}
 use Rattle.journal.proofs.JournalLemmas.Keeping.{accepted_grown}
 use Rattle.key_state.specs.Kept.{IsKept}
-use Rattle.shelf_log.specs.KeriDisk.Images.{DiskTold}
+use Rattle.shelf_log.specs.KeriDisk.Images.{DiskShown}
 use Rattle.keri_outside.specs.declared.limits.Limits.{Limits}
 use Rattle.quorum_laws.specs.Histories.{AreLevel}
 use Rattle.validator_core.specs.ValidatorCore.View.{CoreView, Follows, Stands, accepted_by, base_of, told_of}
@@ -115,7 +115,7 @@ lawful_list core list stands keeps grown listed b c has has' level =
     x_same ∙ ap (λ (z : Body). z.bytes) (one_level log log_grown x.event y.event x.inside y.inside levels) ∙ sym y_same
 
 -- SOUND: so it is with what is stored, whatever else is seen of the witness
-pub sound : (core : CoreView) (list : List (List ℕ)) (shelf_limits : Limits) (shelf_broken : Bool) (told : DiskTold) (room : Room) → AreStored (history_of core) list shelf_limits shelf_broken told room
+pub sound : (core : CoreView) (list : List (List ℕ)) (shelf_limits : Limits) (shelf_broken : Bool) (told : DiskShown) (room : Room) → AreStored (history_of core) list shelf_limits shelf_broken told room
     → Stands core → All (λ b. IsKept b.event) (accepted_by core) → (key : Key) (limits : Limits) (broken : Bool) → IsSound (record { key = key; limits = limits; core = core; list = list; disk = told; broken = broken })
 sound core list shelf_limits shelf_broken told room stored stands keeps key limits broken =
     let listed = stored_listed core list shelf_limits shelf_broken told room keeps stored in

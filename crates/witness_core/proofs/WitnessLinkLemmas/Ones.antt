@@ -19,13 +19,13 @@ use Rattle.witness_core.specs.declared.witness_store.witness_fault.WitnessFault.
 use Rattle.witness_core.specs.declared.witness_store.witness_fault.WitnessFault.TheVariants as fault
 use Rattle.witness_core.specs.WitnessLink.Calls.{Call, IsCall, refused_as, seen_in, text_of}
 use Rattle.witness_core.specs.WitnessLink.Closes.{close_by}
-use Rattle.witness_core.specs.WitnessLink.Links.{LinkTold, counts_of, standing_of, terms_of}
+use Rattle.witness_core.specs.WitnessLink.Links.{LinkShown, counts_of, standing_of, terms_of}
 use Rattle.witness_core.specs.WitnessLink.Serving.{FailsToTake, HasEnded, HasServed, Serves, StopsBy, signed_for}
 use Rattle.witness_core.specs.WitnessLink.Stored.{HoldsAccepted, IsLawfulList, IsOfListed}
 use Rattle.witness_core.specs.WitnessLink.Taking.{Counted, FailsAt, IsWhole}
 use Rattle.witness_core.proofs.WitnessLinkLemmas.Holding.{of_fate}
 
-module _ (old new : LinkTold) (m : Message) (stores : StoresOn old.witness.list old.witness.disk new.witness.core new.witness.list new.witness.disk) (lawful : IsLawfulList stores.accepted) (same : terms_of new ≡ terms_of old)
+module _ (old new : LinkShown) (m : Message) (stores : StoresOn old.witness.list old.witness.disk new.witness.core new.witness.list new.witness.disk) (lawful : IsLawfulList stores.accepted) (same : terms_of new ≡ terms_of old)
     (asked : AsksVerdicts old.inquiries new.inquiries old.witness.core new.witness.core) where
   -- what the signer was asked where the witness failed at it
   abbrev Asks : WitnessFault → Type 0

@@ -5,7 +5,7 @@ use Rattle.std.proofs.lemmas.List.{length-map, length-take-le}
 use Rattle.std.proofs.lemmas.List.Elements.{All-weaker}
 use Rattle.journal_views.specs.EventPayload.Payloads.{text_in}
 use Rattle.journal.specs.declared.journal.body.Body.{Body}
-use Rattle.shelf_log.specs.KeriDisk.Images.{DiskTold}
+use Rattle.shelf_log.specs.KeriDisk.Images.{DiskShown}
 use Rattle.shelf_log.proofs.KeriDiskLemmas.Moments.{KnowsNow, and_then, none_yet, weaker}
 use Rattle.validator_core.specs.ValidatorCore.View.{CoreView, accepted_by, base_of}
 use Rattle.witness_core.specs.WitnessStore.Payloads.{AreListed, Pointwise}
@@ -56,7 +56,7 @@ same_listed core list all l m g =
     sym (append-nil list) ∙ ap (λ more. list ++ more) (sym (none_more list g.0 long)) ∙ sym g.1
 
 -- nothing was stored
-unfoldable pub stores_none : (list : List (List ℕ)) (disk : DiskTold) (core : CoreView) → KnowsNow disk → AllStand disk list list → AreListed core list → StoresOn list disk core list disk
+unfoldable pub stores_none : (list : List (List ℕ)) (disk : DiskShown) (core : CoreView) → KnowsNow disk → AllStand disk list list → AreListed core list → StoresOn list disk core list disk
 stores_none list disk core knows stand listed = record {
   accepted = list;
   listed = listed;
@@ -68,7 +68,7 @@ stores_none list disk core knows stand listed = record {
 }
 
 -- all that was accepted was stored, and then more
-unfoldable pub stores_more : (first : List (List ℕ)) (disk_first : DiskTold) (core : CoreView) (mid : List (List ℕ)) (disk_mid : DiskTold) (later : CoreView) (new : List (List ℕ)) (disk_new : DiskTold)
+unfoldable pub stores_more : (first : List (List ℕ)) (disk_first : DiskShown) (core : CoreView) (mid : List (List ℕ)) (disk_mid : DiskShown) (later : CoreView) (new : List (List ℕ)) (disk_new : DiskShown)
     → StoresOn first disk_first core mid disk_mid → AreListed core mid → StoresOn mid disk_mid later new disk_new → StoresOn first disk_first later new disk_new
 stores_more first disk_first core mid disk_mid later new disk_new a listed b =
     let same : mid ≡ a.accepted = same_listed core mid a.accepted listed a.listed a.first in
@@ -96,7 +96,7 @@ lawful_front : (xs ys all : List (List ℕ)) → all ≡ xs ++ ys → IsLawfulLi
 lawful_front xs ys all is lawful b c has has' level = let whole = subst IsLawfulList is lawful in whole b c (has_more xs ys b has) (has_more xs ys c has') level
 
 -- HELD: each image has the event of each receipt
-pub held_each : (terms : Terms) (first : List (List ℕ)) (disk_first : DiskTold) (core : CoreView) (list : List (List ℕ)) (disk : DiskTold) (receipts : List Receipt)
+pub held_each : (terms : Terms) (first : List (List ℕ)) (disk_first : DiskShown) (core : CoreView) (list : List (List ℕ)) (disk : DiskShown) (receipts : List Receipt)
     → (s : StoresOn first disk_first core list disk) → IsLawfulList s.accepted → All (IsOfListed terms list) receipts → (c : List ℕ) → disk.images c → HoldsEach terms receipts c
 held_each terms first disk_first core list disk receipts s lawful of c now =
     let f = s.images c now in

@@ -16,7 +16,7 @@ use Rattle.witness_core.specs.WitnessStore.Room.{lacks_room}
 use Rattle.witness_core.specs.WitnessCore.Telling.{IsTurnedAway, IsUntold, TellsFault, has_no_room}
 use Rattle.witness_core.specs.declared.witness_core.outcome.Outcome.{Outcome}
 use Rattle.witness_core.specs.declared.witness_store.witness_fault.WitnessFault.{WitnessFault}
-use Rattle.witness_core.specs.declared.witness_store.witness_fault.WitnessFault.TheVariants.{DiskFault, SignerFault, VerifierFault, Full, Broken, OutOfMemory}
+use Rattle.witness_core.specs.declared.witness_store.witness_fault.WitnessFault.TheVariants.{DiskFault, SignerFault, VerifierFault, LimitReached, Broken, OutOfMemory}
 use Rattle.witness_core.proofs.WitnessStoreLemmas.Entries.{history_same}
 use Rattle.witness_core.specs.WitnessLink.Links.{WitnessTold, counts, terms_with}
 use Rattle.witness_core.specs.WitnessLink.Taking.{IsWhole, TakesMessage}
@@ -37,7 +37,7 @@ module _ (old new : WitnessTold) (says : Key → List ℕ → Sig → Option Boo
 
   -- TAKEN: all that is said of a call of a witness that isn't broken
   pub taken_so : (result : Result Outcome WitnessFault) → Goes false new.broken result → MatchResult result (λ outcome. Away → ⊥) (FullBy Away)
-      → (result ≡ Err Full → (new.list ≡ old.list) × IsUntold old.core new.core)
+      → (result ≡ Err LimitReached → (new.list ≡ old.list) × IsUntold old.core new.core)
       → MatchResult result (λ outcome. TellsFate says old.core m outcome.fate new.core) (λ why. TellsFault says old.core m why new.core)
       → IfOk result (λ outcome. IsFate old.key new.core m outcome.fate) → IfOk result (AreReceipts old.key gives old.core new.core m)
       → IfOk result (λ outcome. KeepsList outcome.fate old.list new.list) → (new.broken ≡ false → IsWhole new)
@@ -61,7 +61,7 @@ module _ (old new : WitnessTold) (says : Key → List ℕ → Sig → Option Boo
       ((full, told, whole goes), caused)
   taken_so (Err SignerFault) goes full at_full told fate receipts keeps whole d v s caused =
       ((full, told.0, told.1, whole goes), caused)
-  taken_so (Err Full) goes full at_full told fate receipts keeps whole d v s caused =
+  taken_so (Err LimitReached) goes full at_full told fate receipts keeps whole d v s caused =
       let same = at_full refl in (
         (turned_then old.limits old.core new.core old.list new.list m full same.1 same.0, same.1, same.0, whole goes),
         λ i. record { disk = caused.0 i; verifier = caused.1 i; signer = caused.2 i },

@@ -2,7 +2,7 @@
 use Rattle.std.proofs.Common.{ℕ, true, false, Bool, List, [], ◌∷◌, ◌++◌, Option, Some, None, Ok, refl, sym, ◌∙◌, ap, append_assoc}
 use Rattle.std.proofs.lemmas.Option.{none-some, same_Some}
 use Rattle.run_status.specs.RunOutside.Makings.{AreMakings, Noted}
-use Rattle.run_status.specs.RunOutside.Told.{Grows, Makes, Told, making}
+use Rattle.run_status.specs.RunOutside.Shown.{Grows, Makes, OutsideShown, making}
 use Rattle.run_status.specs.declared.run_outside.making.Making.{Making}
 use Rattle.run_status.specs.declared.run_outside.making.MakingKind.{MakingKind}
 
@@ -12,7 +12,7 @@ noted_one kind name failed old None g = tt
 noted_one kind name failed old (Some new) g = g
 
 -- one that came about
-pub one_made : {T E : Type 0} (kind : MakingKind) (name : List ℕ) (before after : Told) (it : T) → Makes {T = T} {E = E} kind name before after (Ok it)
+pub one_made : {T E : Type 0} (kind : MakingKind) (name : List ℕ) (before after : OutsideShown) (it : T) → Makes {T = T} {E = E} kind name before after (Ok it)
     → AreMakings (making kind name false ∷ []) before after
 one_made kind name before after it m = record { noted = noted_one kind name false before.makings after.makings m.noted; rose = λ e. cc; kept = λ e. m.cause.else_same }
 
@@ -26,7 +26,7 @@ noted_two first second old (Some mid) (Some new) a b = (
   b.2 ∙ ap (λ (l : List Making). l ++ second ∷ []) (sym (same_Some mid b.0 b.1) ∙ a.2) ∙ append_assoc a.0 (first ∷ []) (second ∷ []),
 )
 
-pub two_made : (first second : MakingKind) (name other : List ℕ) (failed : Bool) (before mid after : Told) → AreMakings (making first name false ∷ []) before mid
+pub two_made : (first second : MakingKind) (name other : List ℕ) (failed : Bool) (before mid after : OutsideShown) → AreMakings (making first name false ∷ []) before mid
     → AreMakings (making second other failed ∷ []) mid after → AreMakings (making first name false ∷ making second other failed ∷ []) before after
 two_made first second name other true before mid after a b = record {
   noted = noted_two _ _ before.makings mid.makings after.makings a.noted b.noted;

@@ -2,11 +2,11 @@
 use Rattle.std.proofs.Common.{◌≡◌, ◌≢◌, ◌⊎◌, inl, inr, List, ℕ, [], ◌∷◌, false, is_none, Option, Some, None, IfSome, Err, refl, sym, ◌∙◌, subst}
 use Rattle.lists.specs.KeriSpecs.Causes.{Rose}
 use Rattle.shelf_log.specs.KeriDisk.Calls.{Keeps}
-use Rattle.shelf_log.specs.KeriDisk.Images.{DiskTold, IsDurable}
+use Rattle.shelf_log.specs.KeriDisk.Images.{DiskShown, IsDurable}
 use Rattle.shelf_log.proofs.KeriDiskLemmas.Moments.{keeps_both}
 use Rattle.keri_outside.specs.declared.limits.Limits.{Limits}
 use Rattle.run_status.specs.RunOutside.Makings.{AreMakings}
-use Rattle.run_status.specs.RunOutside.Told.{Told, making}
+use Rattle.run_status.specs.RunOutside.Shown.{OutsideShown, making}
 use Rattle.run_status.specs.declared.run_outside.making.MakingKind.TheVariants.{Disk, OldDisk}
 use Rattle.shelf_log.specs.ShelfLog.Leftover.{IsLeftover}
 use Rattle.shelf_log.specs.declared.shelf_log.version.Version.TheVariants.{One, Two}
@@ -24,7 +24,7 @@ rose_on old mid new same (inl rose) = inl (subst (λ (n : ℕ). Rose n new) same
 rose_on old mid new same (inr other) = inr other
 
 -- the disk was made, and synced
-module _ {D : Type 0} (told : D → DiskTold) (limits : Limits) (before mid : Told) (name : List ℕ) (first synced : D)
+module _ {D : Type 0} (told : D → DiskShown) (limits : Limits) (before mid : OutsideShown) (name : List ℕ) (first synced : D)
     (makings : AreMakings (making Disk name false ∷ []) before mid) (is_made : IsMade told (before.stored name) first) (keeps : Keeps (told first) (told synced)) where
   -- it alone is handed back
   module _ (named : Option (List ℕ)) (last : D) (answer : Answer) (answers : Answers limits before name named answer) (becomes : Becomes told before named first last)
@@ -72,7 +72,7 @@ module _ {D : Type 0} (told : D → DiskTold) (limits : Limits) (before mid : To
     filled_or_stays from last leftover (inr f) =
         inr (record { leftover = leftover; list = f.0; of = f.1; leaves = record { synced = synced; keeps = keeps; durable = durable; leaves = f.2 } })
 
-    module _ (after : Told) (old_name : List ℕ) (same : mid.stored ≡ before.stored) (leftover : IfSome (told first).file IsLeftover) where
+    module _ (after : OutsideShown) (old_name : List ℕ) (same : mid.stored ≡ before.stored) (leftover : IfSome (told first).file IsLeftover) where
       from_before : (P : Option (List ℕ) → Type 0) → P (mid.stored old_name) → P (before.stored old_name)
       from_before P holds = subst (λ (s : List ℕ → Option (List ℕ)). P (s old_name)) same holds
 

@@ -6,16 +6,16 @@ use Rattle.std.proofs.lemmas.List.{map-append, length-map}
 use Rattle.cesr_codes.specs.declared.key.Key.{Key}
 use Rattle.cesr_codes.specs.declared.sig.Sig.{Sig}
 use Rattle.run_status.specs.DoorLinks.Taken.{AreTaken, IsCaused, IsEnough}
-use Rattle.shelf_log.specs.KeriDisk.Images.{DiskTold}
+use Rattle.shelf_log.specs.KeriDisk.Images.{DiskShown}
 use Rattle.keri_outside.specs.Doors.{Comes}
 use Rattle.keri_outside.specs.declared.limits.Limits.{Limits}
 use Rattle.run_status.specs.declared.run_status.close.Close.{Close}
-use Rattle.run_status.specs.declared.run_status.close.Close.TheVariants.{End, Bad, ReadFault, VerifierFault, SignerFault, DiskFault, WriteFault, Malformed, Full, OutOfMemory}
-use Rattle.run_status.specs.RunStatus.Readers.{Reader, SinkTold, SourceTold}
-use Rattle.witness_core.specs.WitnessLink.Links.{LinkTold, Terms}
+use Rattle.run_status.specs.declared.run_status.close.Close.TheVariants.{End, Bad, ReadFault, VerifierFault, SignerFault, DiskFault, WriteFault, Malformed, LimitReached, OutOfMemory}
+use Rattle.run_status.specs.RunStatus.Readers.{Reader, SinkShown, SourceShown}
+use Rattle.witness_core.specs.WitnessLink.Links.{LinkShown, Terms}
 use Rattle.witness_core.specs.WitnessLink.Served.{ClosesLink}
 use Rattle.witness_core.specs.WitnessLink.Serving.{Serves}
-use Rattle.run_status.specs.RunRecord.Run.{DoorTold}
+use Rattle.run_status.specs.RunRecord.Run.{DoorShown}
 use Rattle.witness_core.proofs.WitnessRoleLemmas.ThroughLinks.{asked_through, stops_leave}
 use Rattle.witness_core.specs.WitnessLink.Closes.{asks_next}
 use Rattle.witness_core.specs.WitnessRole.ServedLinks.{Between, IsServed, ServedLink, ServesComing, ServesEach, ServesOne, reader_of}
@@ -29,7 +29,7 @@ abbrev held_by : List ServedLink → List (Option (List ℕ))
 held_by links = map (λ l. l.source_old.left) links
 
 -- behind a link after which the next one is asked for the witness is whole
-pub whole_kept : (limits : Limits) (source_old source_new : SourceTold) (bytes : List ℕ) (old new : LinkTold) (serves : Serves old new) (close : Close)
+pub whole_kept : (limits : Limits) (source_old source_new : SourceShown) (bytes : List ℕ) (old new : LinkShown) (serves : Serves old new) (close : Close)
     → ClosesLink limits source_old source_new bytes old new serves close → asks_next close ≡ true → new.witness.broken ≡ false
 whole_kept limits source_old source_new bytes old new serves End c goes = c.1.is_whole.whole
 whole_kept limits source_old source_new bytes old new serves (Bad bad) c goes = c.1.is_whole.whole
@@ -38,12 +38,12 @@ whole_kept limits source_old source_new bytes old new serves WriteFault c goes =
 whole_kept limits source_old source_new bytes old new serves VerifierFault c goes = cc
 whole_kept limits source_old source_new bytes old new serves SignerFault c goes = cc
 whole_kept limits source_old source_new bytes old new serves DiskFault c goes = cc
-whole_kept limits source_old source_new bytes old new serves Full c goes = cc
+whole_kept limits source_old source_new bytes old new serves LimitReached c goes = cc
 whole_kept limits source_old source_new bytes old new serves OutOfMemory c goes = cc
 whole_kept limits source_old source_new bytes old new serves (Malformed place) c goes = absurd c
 
 -- what a link goes by stays
-module _ (old new : LinkTold) (serves : Serves old new) where
+module _ (old new : LinkShown) (serves : Serves old new) where
   pub same_key : new.witness.key ≡ old.witness.key
   same_key = ap (λ (t : Terms). t.key) serves.same_terms
 
@@ -92,7 +92,7 @@ taken_behind E left (Some old) (Some mid) (Some new) held caller taken comes =
           ∙ (ap (λ y. map (λ bytes. Some bytes) taken.0 ++ y ∷ []) comes.2 ∙ sym (map-append (λ bytes. Some bytes) taken.0 (comes.0 ∷ []))),
     )
 
-module _ {D : Type 0} (told : D → DiskTold) (key : Key) (limits run_limits : Limits) (says : Key → List ℕ → Sig → Option Bool) (gives : Key → List ℕ → Option Sig) where
+module _ {D : Type 0} (told : D → DiskShown) (key : Key) (limits run_limits : Limits) (says : Key → List ℕ → Sig → Option Bool) (gives : Key → List ℕ → Option Sig) where
   abbrev Each : List ServedLink → Between D → Between D → Type 0
   Each = ServesEach told key limits run_limits says gives
 
@@ -109,7 +109,7 @@ module _ {D : Type 0} (told : D → DiskTold) (key : Key) (limits run_limits : L
   )
 
   -- Links came and were served, and another may come. These are their readers and their sinks.
-  pub record IsComing (left_old left : Option (List (List ℕ))) (old now : Between D) (readers : List Reader) (sinks : List SinkTold) : Type 0 where
+  pub record IsComing (left_old left : Option (List (List ℕ))) (old now : Between D) (readers : List Reader) (sinks : List SinkShown) : Type 0 where
     pub links : List ServedLink
     pub serves : Each links old now
     pub go_on : all_ask_next links ≡ true
@@ -124,9 +124,9 @@ module _ {D : Type 0} (told : D → DiskTold) (key : Key) (limits run_limits : L
       taken_none None = refl
       taken_none (Some told) = ([], told, refl, refl, refl)
 
-  module _ (left_old left : Option (List (List ℕ))) (old now : Between D) (readers : List Reader) (sinks : List SinkTold) (c : IsComing left_old left old now readers sinks) where
+  module _ (left_old left : Option (List (List ℕ))) (old now : Between D) (readers : List Reader) (sinks : List SinkShown) (c : IsComing left_old left old now readers sinks) where
     -- they are enough, with the door as it is
-    pub comes_to : (count : ℕ) (failed : Bool) (door_old door : DoorTold) → door_old.left ≡ left_old → door.left ≡ left → length readers ≤ count
+    pub comes_to : (count : ℕ) (failed : Bool) (door_old door : DoorShown) → door_old.left ≡ left_old → door.left ≡ left → length readers ≤ count
         → IsEnough count (length readers) failed left → IsCaused failed door_old.faults door.faults
         → ServesComing told key limits run_limits says gives count failed door_old door old now readers sinks
     comes_to count failed door_old door was is few enough cause =
@@ -144,7 +144,7 @@ module _ {D : Type 0} (told : D → DiskTold) (key : Key) (limits run_limits : L
         }
 
     module _ (E : Type 0) {C : Type 0} (held : C → Option (List ℕ)) (left_new : Option (List (List ℕ))) (caller : C) (comes : Comes {E = E} held left left_new (Ok (Some caller)))
-        (new : Between D) (reader : Reader) (sink : SinkTold) (s : IsServed told key limits run_limits says gives (held caller) reader sink now new) where
+        (new : Between D) (reader : Reader) (sink : SinkShown) (s : IsServed told key limits run_limits says gives (held caller) reader sink now new) where
       came_more : AreTaken left_old left_new (held_by (c.links ++ s.link ∷ []))
       came_more = subst (AreTaken left_old left_new) (ap (λ h. held_by c.links ++ h ∷ []) s.held_is ∙ sym (map-append (λ l. l.source_old.left) c.links (s.link ∷ [])))
           (taken_behind E held left_old left left_new (held_by c.links) caller c.came comes)
@@ -170,7 +170,7 @@ module _ {D : Type 0} (told : D → DiskTold) (key : Key) (limits run_limits : L
       }
 
       -- one more was served, which ends the run
-      pub comes_last : (count : ℕ) (door_old door : DoorTold) → door_old.left ≡ left_old → door.left ≡ left_new → length (readers ++ reader ∷ []) ≤ count
+      pub comes_last : (count : ℕ) (door_old door : DoorShown) → door_old.left ≡ left_old → door.left ≡ left_new → length (readers ++ reader ∷ []) ≤ count
           → door.faults ≡ door_old.faults → asks_next reader.close ≡ false
           → ServesComing told key limits run_limits says gives count false door_old door old new (readers ++ reader ∷ []) (sinks ++ sink ∷ [])
       comes_last count door_old door was now_is few unfailed ends =

@@ -4,22 +4,22 @@ use Rattle.std.specs.Prelude.{MatchOption}
 use Rattle.lists.specs.KeriSpecs.Causes.{Rose}
 use Rattle.cesr_codes.specs.declared.key.Key.{Key}
 use Rattle.cesr_codes.specs.declared.sig.Sig.{Sig}
-use Rattle.shelf_log.specs.KeriDisk.Images.{DiskTold}
+use Rattle.shelf_log.specs.KeriDisk.Images.{DiskShown}
 use Rattle.keri_outside.specs.declared.limits.Limits.{Limits}
 use Rattle.run_status.specs.declared.run_outside.making.MakingKind.TheVariants.{Door as DoorKind}
 use Rattle.run_status.specs.declared.run_status.close.Close.{Close}
-use Rattle.run_status.specs.declared.run_status.close.Close.TheVariants.{End, Bad, ReadFault, VerifierFault, SignerFault, DiskFault, WriteFault, Malformed, Full, OutOfMemory}
-use Rattle.run_status.specs.RunStatus.Readers.{HasClose, Reader, SourceTold, VerifierTold}
-use Rattle.witness_core.specs.WitnessLink.Links.{Counts, Left, LinkTold, counts, counts_of}
+use Rattle.run_status.specs.declared.run_status.close.Close.TheVariants.{End, Bad, ReadFault, VerifierFault, SignerFault, DiskFault, WriteFault, Malformed, LimitReached, OutOfMemory}
+use Rattle.run_status.specs.RunStatus.Readers.{HasClose, Reader, SourceShown, VerifierShown}
+use Rattle.witness_core.specs.WitnessLink.Links.{Counts, Left, LinkShown, counts, counts_of}
 use Rattle.witness_core.specs.WitnessLink.Served.{ClosesLink}
 use Rattle.witness_core.specs.WitnessLink.Serving.{Serves}
-use Rattle.run_status.specs.RunRecord.Run.{DoorTold, ReadFaultsRose, Run, SignerTold, SinkRose, shared_verifier}
+use Rattle.run_status.specs.RunRecord.Run.{DoorShown, ReadFaultsRose, Run, SignerShown, SinkRose, shared_verifier}
 use Rattle.witness_core.specs.WitnessRole.ServedFile.{MakesServing}
 use Rattle.witness_core.specs.WitnessLink.Closes.{asks_next}
 use Rattle.witness_core.specs.WitnessRole.ServedLinks.{Between, ServedLink, ServesEach, ServesLinksBy, ServesOne, idle_reader, reader_of, readers_with}
 
 -- behind a link after which the next one is asked for no count but those of its source and its sink has risen
-counts_kept : (limits : Limits) (source_old source_new : SourceTold) (bytes : List ℕ) (old new : LinkTold) (serves : Serves old new) (close : Close)
+counts_kept : (limits : Limits) (source_old source_new : SourceShown) (bytes : List ℕ) (old new : LinkShown) (serves : Serves old new) (close : Close)
     → ClosesLink limits source_old source_new bytes old new serves close → asks_next close ≡ true → counts_of new ≡ counts_of old
 counts_kept limits source_old source_new bytes old new serves End c goes = c.1.counts_same
 counts_kept limits source_old source_new bytes old new serves (Bad bad) c goes = c.1.counts_same
@@ -28,33 +28,33 @@ counts_kept limits source_old source_new bytes old new serves WriteFault c goes 
 counts_kept limits source_old source_new bytes old new serves VerifierFault c goes = cc
 counts_kept limits source_old source_new bytes old new serves SignerFault c goes = cc
 counts_kept limits source_old source_new bytes old new serves DiskFault c goes = cc
-counts_kept limits source_old source_new bytes old new serves Full c goes = cc
+counts_kept limits source_old source_new bytes old new serves LimitReached c goes = cc
 counts_kept limits source_old source_new bytes old new serves OutOfMemory c goes = cc
 counts_kept limits source_old source_new bytes old new serves (Malformed place) c goes = absurd c
 
 -- the verifier stands in a reader, whatever its close
-with_reads : (verifier : VerifierTold) (readers : List Reader) → ReadFaultsRose readers → ReadFaultsRose (readers_with verifier readers)
+with_reads : (verifier : VerifierShown) (readers : List Reader) → ReadFaultsRose readers → ReadFaultsRose (readers_with verifier readers)
 with_reads verifier [] r = (λ e. let clash : End ≡ ReadFault = e in cc, tt)
 with_reads verifier (reader ∷ readers) r = r
 
-with_closed : (at : Close) → at ≢ End → (verifier : VerifierTold) (readers : List Reader) → HasClose at (readers_with verifier readers) → HasClose at readers
+with_closed : (at : Close) → at ≢ End → (verifier : VerifierShown) (readers : List Reader) → HasClose at (readers_with verifier readers) → HasClose at readers
 with_closed at other verifier [] (inl e) = absurd (other (sym e))
 with_closed at other verifier [] (inr none) = absurd none
 with_closed at other verifier (reader ∷ readers) (inl e) = inl e
 with_closed at other verifier (reader ∷ readers) (inr later) = inr later
 
-with_shared : (verifier : VerifierTold) (readers : List Reader) → shared_verifier (readers_with verifier readers) ≡ Some verifier
+with_shared : (verifier : VerifierShown) (readers : List Reader) → shared_verifier (readers_with verifier readers) ≡ Some verifier
 with_shared verifier [] = refl
 with_shared verifier (reader ∷ readers) = refl
 
-idle_closed : (at close : Close) (verifier : Option VerifierTold) (readers : List Reader) → readers ≡ idle_reader verifier close ∷ [] → HasClose at readers → close ≡ at
+idle_closed : (at close : Close) (verifier : Option VerifierShown) (readers : List Reader) → readers ≡ idle_reader verifier close ∷ [] → HasClose at readers → close ≡ at
 idle_closed at close verifier readers one closed = this (subst (HasClose at) one closed)
   where
     this : HasClose at (idle_reader verifier close ∷ []) → close ≡ at
     this (inl e) = e
     this (inr none) = absurd none
 
-module _ {D : Type 0} (told : D → DiskTold) (key : Key) (limits run_limits : Limits) (says : Key → List ℕ → Sig → Option Bool) (gives : Key → List ℕ → Option Sig) where
+module _ {D : Type 0} (told : D → DiskShown) (key : Key) (limits run_limits : Limits) (says : Key → List ℕ → Sig → Option Bool) (gives : Key → List ℕ → Option Sig) where
   abbrev Each : List ServedLink → Between D → Between D → Type 0
   Each = ServesEach told key limits run_limits says gives
 
@@ -106,21 +106,21 @@ module _ {D : Type 0} (told : D → DiskTold) (key : Key) (limits run_limits : L
   writes_rose (link ∷ links) old new each (inl e) = inl (let closes = rw e at each.1.serves.closes in rw each.1.fresh.sink_unfailed at closes.1.rose)
   writes_rose (link ∷ links) old new each (inr later) = inr (writes_rose links each.0 new each.3 later)
 
-module _ {D : Type 0} (told : D → DiskTold) (key : Key) (limits : Limits) (helper address : List ℕ) (count : ℕ) (old new : Left D) (failed : Bool) (readers : List Reader) (run : Run) where
-  abbrev Made : Option DoorTold → Option VerifierTold → Option SignerTold → Type 0
+module _ {D : Type 0} (told : D → DiskShown) (key : Key) (limits : Limits) (helper address : List ℕ) (count : ℕ) (old new : Left D) (failed : Bool) (readers : List Reader) (run : Run) where
+  abbrev Made : Option DoorShown → Option VerifierShown → Option SignerShown → Type 0
   Made door verifier signer = MakesServing DoorKind address helper door verifier signer run.before run.after
 
-  abbrev Served : Option DoorTold → Option VerifierTold → Option SignerTold → Type 0
+  abbrev Served : Option DoorShown → Option VerifierShown → Option SignerShown → Type 0
   Served door verifier signer = ServesLinksBy told key limits helper address count old new door verifier signer failed readers run
 
-  pub links_read : (door : Option DoorTold) (verifier : Option VerifierTold) (signer : Option SignerTold) → Served door verifier signer → ReadFaultsRose readers
+  pub links_read : (door : Option DoorShown) (verifier : Option VerifierShown) (signer : Option SignerShown) → Served door verifier signer → ReadFaultsRose readers
   links_read None verifier signer s = rw s.1.one (λ e. let clash : End ≡ ReadFault = e in cc, tt)
   links_read (Some door) None signer s = rw s.1.one (λ e. let clash : VerifierFault ≡ ReadFault = e in cc, tt)
   links_read (Some door) (Some verifier) None s = rw s.1.one (λ e. let clash : SignerFault ≡ ReadFault = e in cc, tt)
   links_read (Some door) (Some verifier) (Some signer) s =
       rw s.readers_are (with_reads verifier s.each (rw s.coming.readers_are (reads_rose told key limits _ _ _ s.coming.links _ _ s.coming.serves)))
 
-  pub links_asked : (door : Option DoorTold) (verifier : Option VerifierTold) (signer : Option SignerTold) → Made door verifier signer → Served door verifier signer
+  pub links_asked : (door : Option DoorShown) (verifier : Option VerifierShown) (signer : Option SignerShown) → Made door verifier signer → Served door verifier signer
       → HasClose VerifierFault readers → MatchOption (shared_verifier readers) (Rose run.before.faults run.after.faults) (λ v. Rose 0 v.faults)
   links_asked None verifier signer m s closed = let clash : End ≡ VerifierFault = idle_closed VerifierFault End None readers s.1.one closed in cc
   links_asked (Some door) None signer m s closed = rw s.1.one (m.1.rose refl)
@@ -130,7 +130,7 @@ module _ {D : Type 0} (told : D → DiskTold) (key : Key) (limits : Limits) (hel
       let rose : Rose 0 verifier.faults = asked_rose told key limits _ _ _ s.coming.links _ _ s.coming.serves (subst (HasClose VerifierFault) s.coming.readers_are closed_each) in
       rw (s.readers_are, with_shared verifier s.each) rose
 
-  pub links_signed : (door : Option DoorTold) (verifier : Option VerifierTold) (signer : Option SignerTold) → Made door verifier signer → Served door verifier signer
+  pub links_signed : (door : Option DoorShown) (verifier : Option VerifierShown) (signer : Option SignerShown) → Made door verifier signer → Served door verifier signer
       → HasClose SignerFault readers → MatchOption signer (Rose run.before.faults run.after.faults) (λ g. Rose 0 g.faults)
   links_signed None verifier signer m s closed = let clash : End ≡ SignerFault = idle_closed SignerFault End None readers s.1.one closed in cc
   links_signed (Some door) None signer m s closed = let clash : VerifierFault ≡ SignerFault = idle_closed SignerFault VerifierFault None readers s.1.one closed in cc
@@ -139,7 +139,7 @@ module _ {D : Type 0} (told : D → DiskTold) (key : Key) (limits : Limits) (hel
       let closed_each = with_closed SignerFault (λ e. cc) verifier s.each (subst (HasClose SignerFault) s.readers_are closed) in
       signed_rose told key limits _ _ _ s.coming.links _ _ s.coming.serves (subst (HasClose SignerFault) s.coming.readers_are closed_each)
 
-  pub links_stored : (door : Option DoorTold) (verifier : Option VerifierTold) (signer : Option SignerTold) → Served door verifier signer
+  pub links_stored : (door : Option DoorShown) (verifier : Option VerifierShown) (signer : Option SignerShown) → Served door verifier signer
       → HasClose DiskFault readers → Rose (told old.disk).faults (told new.disk).faults
   links_stored None verifier signer s closed = let clash : End ≡ DiskFault = idle_closed DiskFault End None readers s.1.one closed in cc
   links_stored (Some door) None signer s closed = let clash : VerifierFault ≡ DiskFault = idle_closed DiskFault VerifierFault None readers s.1.one closed in cc
@@ -148,7 +148,7 @@ module _ {D : Type 0} (told : D → DiskTold) (key : Key) (limits : Limits) (hel
       let closed_each = with_closed DiskFault (λ e. cc) verifier s.each (subst (HasClose DiskFault) s.readers_are closed) in
       stored_rose told key limits _ _ _ s.coming.links _ _ s.coming.serves (subst (HasClose DiskFault) s.coming.readers_are closed_each)
 
-  pub links_wrote : (door : Option DoorTold) (verifier : Option VerifierTold) (signer : Option SignerTold) → Served door verifier signer
+  pub links_wrote : (door : Option DoorShown) (verifier : Option VerifierShown) (signer : Option SignerShown) → Served door verifier signer
       → HasClose WriteFault readers → SinkRose run.sinks
   links_wrote None verifier signer s closed = let clash : End ≡ WriteFault = idle_closed WriteFault End None readers s.1.one closed in cc
   links_wrote (Some door) None signer s closed = let clash : VerifierFault ≡ WriteFault = idle_closed WriteFault VerifierFault None readers s.1.one closed in cc
@@ -158,7 +158,7 @@ module _ {D : Type 0} (told : D → DiskTold) (key : Key) (limits : Limits) (hel
       rw s.coming.sinks_are (writes_rose told key limits _ _ _ s.coming.links _ _ s.coming.serves (subst (HasClose WriteFault) s.coming.readers_are closed_each))
 
   -- the door failed, or couldn't be made
-  pub links_failed : (door : Option DoorTold) (verifier : Option VerifierTold) (signer : Option SignerTold) → Made door verifier signer → Served door verifier signer
+  pub links_failed : (door : Option DoorShown) (verifier : Option VerifierShown) (signer : Option SignerShown) → Made door verifier signer → Served door verifier signer
       → failed ≡ true → MatchOption door (Rose run.before.faults run.after.faults) (λ d. Rose 0 d.faults)
   links_failed None verifier signer m s e = m.2.rose refl
   links_failed (Some door) None signer m s e = let clash : true ≡ false = sym e ∙ s.0 in cc

@@ -2,24 +2,24 @@
 use Rattle.std.proofs.Common.{◌≡◌, ℕ, false, List, [], ◌∷◌, Option, Some, None, refl}
 use Rattle.std.specs.Prelude.{IfSome}
 use Rattle.cesr_codes.specs.declared.key.Key.{Key}
-use Rattle.shelf_log.specs.KeriDisk.Images.{DiskTold}
+use Rattle.shelf_log.specs.KeriDisk.Images.{DiskShown}
 use Rattle.keri_outside.specs.declared.inquiry.Inquiry.{Inquiry}
 use Rattle.keri_outside.specs.declared.limits.Limits.{Limits}
 use Rattle.keri_outside.specs.declared.signing.Signing.{Signing}
 use Rattle.lists.specs.KeriSpecs.Told.{HasNone}
 use Rattle.run_status.specs.RunOutside.Makings.{AreMakings}
-use Rattle.run_status.specs.RunOutside.Told.{Told, making}
+use Rattle.run_status.specs.RunOutside.Shown.{OutsideShown, making}
 use Rattle.run_status.specs.declared.run_outside.making.MakingKind.TheVariants.{Source, Verifier, Signer}
-use Rattle.run_status.specs.RunStatus.Readers.{SinkTold, SourceTold, VerifierTold}
-use Rattle.witness_core.specs.WitnessLink.Links.{Left, source_told}
-use Rattle.run_status.specs.RunRecord.Run.{Run, SignerTold}
+use Rattle.run_status.specs.RunStatus.Readers.{SinkShown, SourceShown, VerifierShown}
+use Rattle.witness_core.specs.WitnessLink.Links.{Left, source_shown}
+use Rattle.run_status.specs.RunRecord.Run.{Run, SignerShown}
 use Rattle.witness_core.specs.WitnessRole.ServedFile.{IsServing, ServesAll, signer_of, verifier_of}
 
 -- all three were made of the name and of the helper, over an outside that told this before and with this sink
-pub serving_all : {D : Type 0} {told : D → DiskTold} {key : Key} {limits : Limits} {source_old : SourceTold} {verifier_old : VerifierTold} {signer_old : SignerTold}
+pub serving_all : {D : Type 0} {told : D → DiskShown} {key : Key} {limits : Limits} {source_old : SourceShown} {verifier_old : VerifierShown} {signer_old : SignerShown}
     {old : Left D} {disk : Option D} {run : Run} → ServesAll told key limits source_old verifier_old signer_old old disk run → (helper name : List ℕ) (inquiries : Option (List Inquiry)) (signings : Option (List Signing))
-    (before : Told) (sink_before : SinkTold)
-    → run.before.limits ≡ before.limits → run.sink_before ≡ sink_before → source_old ≡ source_told (before.holds name) 0
+    (before : OutsideShown) (sink_before : SinkShown)
+    → run.before.limits ≡ before.limits → run.sink_before ≡ sink_before → source_old ≡ source_shown (before.holds name) 0
     → verifier_old ≡ verifier_of before helper inquiries → HasNone inquiries → signer_old ≡ signer_of before helper signings → HasNone signings
     → AreMakings (making Source name false ∷ making Verifier helper false ∷ making Signer helper false ∷ []) before run.after
     → IsServing told key limits helper name old disk (record run { before = before; sink_before = sink_before })

@@ -2,21 +2,21 @@
 use Rattle.std.proofs.Common.{◌≡◌, ℕ, Bool, false, List, [], ◌∷◌, Option, Some, refl, ◌∙◌}
 use Rattle.cesr_codes.specs.declared.key.Key.{Key}
 use Rattle.cesr_codes.specs.declared.sig.Sig.{Sig}
-use Rattle.shelf_log.specs.KeriDisk.Images.{DiskTold}
+use Rattle.shelf_log.specs.KeriDisk.Images.{DiskShown}
 use Rattle.keri_outside.specs.declared.inquiry.Inquiry.{Inquiry}
 use Rattle.keri_outside.specs.declared.limits.Limits.{Limits}
 use Rattle.keri_outside.specs.declared.signing.Signing.{Signing}
 use Rattle.lists.specs.KeriSpecs.Told.{HasNone}
 use Rattle.run_status.specs.RunOutside.Makings.{AreMakings}
-use Rattle.run_status.specs.RunOutside.Told.{making}
+use Rattle.run_status.specs.RunOutside.Shown.{making}
 use Rattle.run_status.specs.declared.run_outside.making.MakingKind.TheVariants.{Door, Verifier, Signer}
-use Rattle.run_status.specs.RunRecord.Run.{DoorTold, Run}
+use Rattle.run_status.specs.RunRecord.Run.{DoorShown, Run}
 use Rattle.witness_core.specs.WitnessLink.Links.{Left}
 use Rattle.witness_core.specs.WitnessRole.ServedLinks.{Between, IsServingLinks, ServesAllLinks, at_first, readers_with}
 
 -- all three were made of the address and of the helper, and had never failed
-pub serving_links : {D : Type 0} {told : D → DiskTold} {key : Key} {limits run_limits : Limits} {says : Key → List ℕ → Sig → Option Bool} {gives : Key → List ℕ → Option Sig}
-    {count : ℕ} {door_old : DoorTold} {between : Between D} {disk : Option D} {run : Run}
+pub serving_links : {D : Type 0} {told : D → DiskShown} {key : Key} {limits run_limits : Limits} {says : Key → List ℕ → Sig → Option Bool} {gives : Key → List ℕ → Option Sig}
+    {count : ℕ} {door_old : DoorShown} {between : Between D} {disk : Option D} {run : Run}
     → ServesAllLinks told key limits run_limits says gives count door_old between disk run → (helper address : List ℕ) (inquiries : Option (List Inquiry)) (signings : Option (List Signing)) (old : Left D)
     → run_limits ≡ run.before.limits → says ≡ run.before.says helper → gives ≡ run.before.gives helper
     → door_old ≡ record { left = run.before.links address; faults = 0 } → between ≡ at_first inquiries signings old → HasNone inquiries → HasNone signings → run.sink_after ≡ run.sink_before

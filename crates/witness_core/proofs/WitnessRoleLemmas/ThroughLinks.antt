@@ -3,18 +3,18 @@ use Rattle.std.proofs.Common.{◌≡◌, ℕ, Bool, true, false, List, [], ◌�
 use Rattle.std.proofs.lemmas.List.Elements.{All-append, All-weaker}
 use Rattle.cesr_codes.specs.declared.key.Key.{Key}
 use Rattle.cesr_codes.specs.declared.sig.Sig.{Sig}
-use Rattle.shelf_log.specs.KeriDisk.Images.{DiskTold}
+use Rattle.shelf_log.specs.KeriDisk.Images.{DiskShown}
 use Rattle.keri_outside.specs.declared.limits.Limits.{Limits}
 use Rattle.run_status.specs.declared.run_status.close.Close.{Close}
-use Rattle.run_status.specs.declared.run_status.close.Close.TheVariants.{End, Bad, ReadFault, VerifierFault, SignerFault, DiskFault, WriteFault, Malformed, Full, OutOfMemory}
-use Rattle.run_status.specs.RunStatus.Readers.{SourceTold}
+use Rattle.run_status.specs.declared.run_status.close.Close.TheVariants.{End, Bad, ReadFault, VerifierFault, SignerFault, DiskFault, WriteFault, Malformed, LimitReached, OutOfMemory}
+use Rattle.run_status.specs.RunStatus.Readers.{SourceShown}
 use Rattle.validator_core.specs.ValidatorCore.View.{open_of}
 use Rattle.witness_core.specs.WitnessStore.Payloads.{AreListed}
 use Rattle.witness_core.specs.WitnessStore.Storing.{Grown}
 use Rattle.witness_core.specs.WitnessCore.Telling.{AsksVerdicts}
 use Rattle.witness_core.specs.declared.witness_receipts.receipt.Receipt.{Receipt}
 use Rattle.witness_core.specs.WitnessLink.Calls.{receipts_in}
-use Rattle.witness_core.specs.WitnessLink.Links.{Left, LinkTold, Standing, standing_of, terms_of}
+use Rattle.witness_core.specs.WitnessLink.Links.{Left, LinkShown, Standing, standing_of, terms_of}
 use Rattle.witness_core.specs.WitnessLink.Served.{ClosesLink}
 use Rattle.witness_core.specs.WitnessLink.Serving.{Serves}
 use Rattle.witness_core.specs.WitnessLink.Stored.{IsOfListed}
@@ -24,7 +24,7 @@ use Rattle.witness_core.specs.WitnessLink.Closes.{asks_next}
 use Rattle.witness_core.specs.WitnessRole.ServedLinks.{Between, ServedLink, ServesEach, ServesOne, StopsLeave, StoresThrough, link_terms, receipts_due}
 
 -- behind a link after which the next one is asked for all that is accepted is stored
-stored_behind : (limits : Limits) (source_old source_new : SourceTold) (bytes : List ℕ) (old new : LinkTold) (serves : Serves old new) (close : Close)
+stored_behind : (limits : Limits) (source_old source_new : SourceShown) (bytes : List ℕ) (old new : LinkShown) (serves : Serves old new) (close : Close)
     → ClosesLink limits source_old source_new bytes old new serves close → asks_next close ≡ true → AreListed new.witness.core new.witness.list
 stored_behind limits source_old source_new bytes old new serves End c goes = c.1.is_whole.listed
 stored_behind limits source_old source_new bytes old new serves (Bad bad) c goes = c.1.is_whole.listed
@@ -33,12 +33,12 @@ stored_behind limits source_old source_new bytes old new serves WriteFault c goe
 stored_behind limits source_old source_new bytes old new serves VerifierFault c goes = cc
 stored_behind limits source_old source_new bytes old new serves SignerFault c goes = cc
 stored_behind limits source_old source_new bytes old new serves DiskFault c goes = cc
-stored_behind limits source_old source_new bytes old new serves Full c goes = cc
+stored_behind limits source_old source_new bytes old new serves LimitReached c goes = cc
 stored_behind limits source_old source_new bytes old new serves OutOfMemory c goes = cc
 stored_behind limits source_old source_new bytes old new serves (Malformed place) c goes = absurd c
 
 -- the witness stands as behind the last message then
-now_behind : (limits : Limits) (source_old source_new : SourceTold) (bytes : List ℕ) (old new : LinkTold) (serves : Serves old new) (close : Close)
+now_behind : (limits : Limits) (source_old source_new : SourceShown) (bytes : List ℕ) (old new : LinkShown) (serves : Serves old new) (close : Close)
     → ClosesLink limits source_old source_new bytes old new serves close → asks_next close ≡ true → serves.behind ≡ standing_of new.witness
 now_behind limits source_old source_new bytes old new serves End c goes = c.1.now
 now_behind limits source_old source_new bytes old new serves (Bad bad) c goes = c.1.now
@@ -47,16 +47,16 @@ now_behind limits source_old source_new bytes old new serves WriteFault c goes =
 now_behind limits source_old source_new bytes old new serves VerifierFault c goes = cc
 now_behind limits source_old source_new bytes old new serves SignerFault c goes = cc
 now_behind limits source_old source_new bytes old new serves DiskFault c goes = cc
-now_behind limits source_old source_new bytes old new serves Full c goes = cc
+now_behind limits source_old source_new bytes old new serves LimitReached c goes = cc
 now_behind limits source_old source_new bytes old new serves OutOfMemory c goes = cc
 now_behind limits source_old source_new bytes old new serves (Malformed place) c goes = absurd c
 
 -- and no question is open, where none was before
-none_behind : (old new : LinkTold) (serves : Serves old new) → serves.behind ≡ standing_of new.witness → open_of old.witness.core ≡ [] → open_of new.witness.core ≡ []
+none_behind : (old new : LinkShown) (serves : Serves old new) → serves.behind ≡ standing_of new.witness → open_of old.witness.core ≡ [] → open_of new.witness.core ≡ []
 none_behind old new serves now none =
     subst (λ (s : Standing). open_of s.core ≡ []) now (calls_close (terms_of old) (standing_of old.witness) serves.calls serves.behind serves.taken none)
 
-module _ {D : Type 0} (told : D → DiskTold) (key : Key) (limits run_limits : Limits) (says : Key → List ℕ → Sig → Option Bool) (gives : Key → List ℕ → Option Sig) where
+module _ {D : Type 0} (told : D → DiskShown) (key : Key) (limits run_limits : Limits) (says : Key → List ℕ → Sig → Option Bool) (gives : Key → List ℕ → Option Sig) where
   abbrev Each : List ServedLink → Between D → Between D → Type 0
   Each = ServesEach told key limits run_limits says gives
 

@@ -9,18 +9,18 @@ use Rattle.command_words.specs.Inputs.{Inputs, links, named}
 use Rattle.command_words.specs.Words.{witness}
 use Rattle.journal.specs.declared.journal.resume_fault.ResumeFault.{ResumeFault}
 use Rattle.journal.specs.declared.journal.resume_fault.ResumeFault.TheVariants.{NotALog, OutOfMemory as NoMemory}
-use Rattle.shelf_log.specs.KeriDisk.Images.{DiskTold}
-use Rattle.run_status.specs.RunOutside.Told.{Told}
+use Rattle.shelf_log.specs.KeriDisk.Images.{DiskShown}
+use Rattle.run_status.specs.RunOutside.Shown.{OutsideShown}
 use Rattle.run_status.specs.declared.run_status.besides.Besides.{Besides}
 use Rattle.run_status.specs.declared.run_status.close.Close.{Close}
 use Rattle.run_status.specs.declared.run_status.close.Close.TheVariants as closing
-use Rattle.run_status.specs.RunStatus.Readers.{HasClose, Reader, SinkTold}
+use Rattle.run_status.specs.RunStatus.Readers.{HasClose, Reader, SinkShown}
 use Rattle.run_status.specs.RunStatus.Settling.{SettlesBy, found}
 use Rattle.run_status.specs.RunStatus.Status.{nothing_besides, status_of}
 use Rattle.run_status.proofs.RunStatusLemmas.Causes.{faults_have_causes, six_closed, words_refused}
 use Rattle.witness_core.specs.WitnessOpening.Found.{found_by}
 use Rattle.witness_core.specs.declared.witness_opening.fault.OpeningFault.{OpeningFault}
-use Rattle.witness_core.specs.declared.witness_opening.fault.OpeningFault.TheVariants.{NotAShelf, NotAnOldShelf, DiskFault, Full, OutOfMemory}
+use Rattle.witness_core.specs.declared.witness_opening.fault.OpeningFault.TheVariants.{NotAShelf, NotAnOldShelf, DiskFault, LimitReached, OutOfMemory}
 use Rattle.run_status.specs.RunRecord.Run.{AreCausedBy, DiskRose, HasCauses, Run, is_out}
 use Rattle.run_status.specs.RunRecord.Seen.{disk_seen}
 use Rattle.witness_core.specs.WitnessLink.Links.{Left}
@@ -60,35 +60,35 @@ opening_words : (fault : OpeningFault) → (found_by fault).words_refused ≡ tr
 opening_words (NotAShelf place) e = cc
 opening_words (NotAnOldShelf place) e = cc
 opening_words DiskFault e = cc
-opening_words Full e = cc
+opening_words LimitReached e = cc
 opening_words OutOfMemory e = cc
 
 opening_signer : (fault : OpeningFault) → (found_by fault).signer_failed ≡ true → ⊥
 opening_signer (NotAShelf place) e = cc
 opening_signer (NotAnOldShelf place) e = cc
 opening_signer DiskFault e = cc
-opening_signer Full e = cc
+opening_signer LimitReached e = cc
 opening_signer OutOfMemory e = cc
 
 opening_verifier : (fault : OpeningFault) → (found_by fault).verifier_failed ≡ true → ⊥
 opening_verifier (NotAShelf place) e = cc
 opening_verifier (NotAnOldShelf place) e = cc
 opening_verifier DiskFault e = cc
-opening_verifier Full e = cc
+opening_verifier LimitReached e = cc
 opening_verifier OutOfMemory e = cc
 
 opening_door : (fault : OpeningFault) → (found_by fault).door_failed ≡ true → ⊥
 opening_door (NotAShelf place) e = cc
 opening_door (NotAnOldShelf place) e = cc
 opening_door DiskFault e = cc
-opening_door Full e = cc
+opening_door LimitReached e = cc
 opening_door OutOfMemory e = cc
 
 opening_disk : (fault : OpeningFault) → (found_by fault).disk_failed ≡ true → fault ≡ DiskFault
 opening_disk (NotAShelf place) e = cc
 opening_disk (NotAnOldShelf place) e = cc
 opening_disk DiskFault e = refl
-opening_disk Full e = cc
+opening_disk LimitReached e = cc
 opening_disk OutOfMemory e = cc
 
 -- and where no witness starts
@@ -118,7 +118,7 @@ after_none None = refl
 after_none (Some written) = ap Some (sym (append-nil written))
 
 -- the status of readers is as where nothing more was owed
-closing_settles : (out : Bool) (besides : Besides) (readers : List Reader) (sink : SinkTold) (status : ℕ) → status ≡ (if out then 10 else status_of (found besides readers false))
+closing_settles : (out : Bool) (besides : Besides) (readers : List Reader) (sink : SinkShown) (status : ℕ) → status ≡ (if out then 10 else status_of (found besides readers false))
     → SettlesBy (if out then None else Some []) besides readers sink sink status
 closing_settles true besides readers sink status e = (e, refl)
 closing_settles false besides readers sink status e = (false, (after_none sink.written, refl), e)
@@ -137,7 +137,7 @@ closed_one at reader (inr none) = absurd none
 not_true : false ≡ true → ⊥
 not_true e = cc
 
-module _ {D : Type 0} (told : D → DiskTold) where
+module _ {D : Type 0} (told : D → DiskShown) where
   rose_seen : (disk : Option D) → IsSomeAnd disk (λ d. Rose 0 (told d).faults) → DiskRose (disk_seen told disk)
   rose_seen None r = absurd r
   rose_seen (Some d) r = r
@@ -156,7 +156,7 @@ module _ {D : Type 0} (told : D → DiskTold) where
           | inr (inr rose) ↦ inr (inr (rw old_is (rose_seen old rose)))
         ])
 
-    unstarted : (first : D) (list : List (List ℕ)) (middle : Told) → IsUnstarted disk first list (record run { before = middle }) → HasCauses (Some (witness helper key shelf from input)) run
+    unstarted : (first : D) (list : List (List ℕ)) (middle : OutsideShown) → IsUnstarted disk first list (record run { before = middle }) → HasCauses (Some (witness helper key shelf from input)) run
     unstarted first list middle u =
         let it = u.unread in
         let unread : IsUnread (u.fault ≡ NoMemory) (start_text u.fault) (start_found u.fault) run =
@@ -165,7 +165,7 @@ module _ {D : Type 0} (told : D → DiskTold) where
         (λ e. absurd (starting_disk u.fault e))
 
   module _ (disk : Option D) (helper : List ℕ) (key : Key) (shelf : List ℕ) (from : Option (List ℕ)) (run : Run) (disk_is : run.disk ≡ disk_seen told disk)
-      (first : Left D) (middle : Told) (same : middle.faults ≡ run.before.faults) (none : (told first.disk).faults ≡ 0) where
+      (first : Left D) (middle : OutsideShown) (same : middle.faults ≡ run.before.faults) (none : (told first.disk).faults ≡ 0) where
     served_file : (name : List ℕ) → IsServing told key run.before.limits helper name first disk (record run { before = middle }) → HasCauses (Some (witness helper key shelf from (named name))) run
     served_file name s =
         let reader = s.reader in

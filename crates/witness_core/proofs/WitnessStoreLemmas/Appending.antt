@@ -4,7 +4,7 @@ use Rattle.journal_views.specs.EventPayload.Payloads.{text_in}
 use Rattle.journal.specs.declared.journal.body.Body.{Body}
 use Rattle.journal.specs.Journal.Grown.{IsGrown}
 use Rattle.journal.proofs.JournalLemmas.Places.{some_at}
-use Rattle.shelf_log.specs.KeriDisk.Images.{DiskTold, LeavesOnly}
+use Rattle.shelf_log.specs.KeriDisk.Images.{DiskShown, LeavesOnly}
 use Rattle.shelf_log.proofs.KeriDiskLemmas.Moments.{weaker}
 use Rattle.keri_outside.specs.declared.limits.Limits.{Limits}
 use Rattle.shelf_log.specs.ShelfLog.Answers.{Answers, refusal}
@@ -36,7 +36,7 @@ module _ (core : CoreView) (list : List (List ℕ)) (place : ℕ) (place_is : pl
   next = payloads_next (history_of core) list event.0 p event.1 is
 
   -- APPENDED: the list has it
-  pub appended : ((b : Body) → slice_get (accepted_by core) place ≡ Some b → text_in items ≡ b.bytes) → (new : List (List ℕ)) → new ≡ list ++ p ∷ [] → IsOnWay (history_of core) list → (told last : DiskTold) → AllHold last new → LeavesOnly told last (HoldsEither list p)
+  pub appended : ((b : Body) → slice_get (accepted_by core) place ≡ Some b → text_in items ≡ b.bytes) → (new : List (List ℕ)) → new ≡ list ++ p ∷ [] → IsOnWay (history_of core) list → (told last : DiskShown) → AllHold last new → LeavesOnly told last (HoldsEither list p)
       → Appends list told (history_of core) new last
   appended reads new new_is way told last holds leaves = record {
     on_way = subst (IsOnWay (history_of core)) (sym new_is) (on_way_next (history_of core) list event.0 p event.1 is (ap text_in p_is ∙ reads event.0 there) lacking way);
@@ -50,7 +50,7 @@ module _ (core : CoreView) (list : List (List ℕ)) (place : ℕ) (place_is : pl
       same = ap (payloads (history_of core)) new_is ∙ sym next
 
   -- FAILED: the list is as before, and the disk may have it
-  pub failed : (new : List (List ℕ)) → new ≡ list → IsOnWay (history_of core) list → (told last : DiskTold) → ((c : List ℕ) → last.images c → last.images_since told.moment c)
+  pub failed : (new : List (List ℕ)) → new ≡ list → IsOnWay (history_of core) list → (told last : DiskShown) → ((c : List ℕ) → last.images c → last.images_since told.moment c)
       → LeavesOnly told last (HoldsEither list p) → Appends list told (history_of core) new last
   failed new new_is way told last counts leaves = subst (λ l. Appends list told (history_of core) l last) (sym new_is) (record {
     on_way = way;

@@ -3,7 +3,7 @@ use Rattle.std.proofs.Common.{◌≡◌, Bool, List, ℕ, sym, subst}
 use Rattle.journal.specs.declared.journal.question.Question.{Question}
 use Rattle.journal.specs.Journal.Grown.{IsGrown}
 use Rattle.journal.specs.Journal.History.{Told, heard}
-use Rattle.shelf_log.specs.KeriDisk.Images.{DiskTold}
+use Rattle.shelf_log.specs.KeriDisk.Images.{DiskShown}
 use Rattle.keri_outside.specs.declared.limits.Limits.{Limits}
 use Rattle.validator_core.specs.ValidatorCore.View.{CoreView}
 use Rattle.witness_core.specs.WitnessStore.Histories.{history_of, told_more}
@@ -14,7 +14,7 @@ use Rattle.witness_core.specs.declared.witness_store.room.Room.{Room}
 use Rattle.witness_core.proofs.WitnessStoreLemmas.Entries.{history_follows, on_way_more}
 use Rattle.witness_core.proofs.WitnessStoreLemmas.RoomSteps.{has_room_heard}
 
-module _ (old new : CoreView) (q : Question) (verdict : Bool) (notes : Notes old q verdict new) (list : List (List ℕ)) (limits : Limits) (broken : Bool) (told : DiskTold) (room : Room)
+module _ (old new : CoreView) (q : Question) (verdict : Bool) (notes : Notes old q verdict new) (list : List (List ℕ)) (limits : Limits) (broken : Bool) (told : DiskShown) (room : Room)
     (stored : AreStored (history_of old) list limits broken told room) where
   abbrev t : Told
   t = heard 0 notes.body q.key q.sig verdict

@@ -5,7 +5,7 @@ use Rattle.std.proofs.lemmas.List.{take_more}
 use Rattle.std.proofs.lemmas.List.Elements.{filter_map-append}
 use Rattle.cesr_codes.specs.declared.indexed_sig.IndexedSig.{IndexedSig}
 use Rattle.journal.specs.declared.journal.claim.Claim.{Claim}
-use Rattle.journal.specs.declared.journal.claim.Claim.TheVariants.{Held, Witness, Couple}
+use Rattle.journal.specs.declared.journal.claim.Claim.TheVariants.{Controller, Witness, Couple}
 use Rattle.journal.specs.Journal.Readiness.{held_sig}
 use Rattle.witness_core.specs.WitnessStore.Room.{signatures_in}
 
@@ -17,10 +17,10 @@ counted_more claims i c low is =
     ∙ length-append (filter_map held_sig (take i claims)) (filter_map held_sig (c ∷ []))
 
 -- it counts where it is the controller's
-pub counts_held : (c : Claim) (sig : IndexedSig) → c ≡ Held sig → signatures_in (c ∷ []) ≡ 1
+pub counts_held : (c : Claim) (sig : IndexedSig) → c ≡ Controller sig → signatures_in (c ∷ []) ≡ 1
 counts_held c sig is = ap (λ x. signatures_in (x ∷ [])) is
 
-pub counts_no_other : (c : Claim) → ((sig : IndexedSig) → c ≡ Held sig → ⊥) → signatures_in (c ∷ []) ≡ 0
-counts_no_other (Held sig) other = absurd (other sig refl)
+pub counts_no_other : (c : Claim) → ((sig : IndexedSig) → c ≡ Controller sig → ⊥) → signatures_in (c ∷ []) ≡ 0
+counts_no_other (Controller sig) other = absurd (other sig refl)
 counts_no_other (Witness sig) other = refl
 counts_no_other (Couple key sig) other = refl

@@ -15,7 +15,7 @@ use Rattle.claim_table.proofs.CoreLawsLemmas.Told.{claims_heard, claims_push}
 use Rattle.event_body.specs.EventBody.Events.{is_receipt}
 use Rattle.journal.specs.declared.journal.body.Body.{Body}
 use Rattle.journal.specs.declared.journal.claim.Claim.{Claim}
-use Rattle.journal.specs.declared.journal.claim.Claim.TheVariants.{Held, Witness, Couple}
+use Rattle.journal.specs.declared.journal.claim.Claim.TheVariants.{Controller, Witness, Couple}
 use Rattle.journal.specs.Journal.History.{Told, bodies, claims_in, claims_on, heard, is_receipt_for, taken, took}
 use Rattle.journal.specs.Journal.Logs.{is_in, same_body}
 use Rattle.journal.specs.Journal.Readiness.{held_sig}
@@ -166,7 +166,7 @@ module _ (told : List Told) (b : Body) (key : Key) (sig : Sig) (verdict : Bool) 
 -- so many signatures stand on a body at most
 filter_map_short : (claims : List Claim) → signatures_in claims ≤ length claims
 filter_map_short [] = omega arith
-filter_map_short (Held s ∷ claims) = omega (arith, filter_map_short claims)
+filter_map_short (Controller s ∷ claims) = omega (arith, filter_map_short claims)
 filter_map_short (Witness s ∷ claims) = omega (arith, filter_map_short claims)
 filter_map_short (Couple key sig ∷ claims) = omega (arith, filter_map_short claims)
 

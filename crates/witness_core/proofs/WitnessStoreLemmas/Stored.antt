@@ -4,14 +4,14 @@ use Rattle.std.proofs.lemmas.Bool.Decides.{nat_tests}
 use Rattle.std.proofs.lemmas.List.{drop_all, map-append}
 use Rattle.journal_views.specs.EventPayload.Payloads.{text_in}
 use Rattle.journal.specs.declared.journal.body.Body.{Body}
-use Rattle.shelf_log.specs.KeriDisk.Images.{DiskTold}
+use Rattle.shelf_log.specs.KeriDisk.Images.{DiskShown}
 use Rattle.shelf_log.proofs.KeriDiskLemmas.Moments.{KnowsNow, and_then, none_yet, weaker}
 use Rattle.keri_outside.specs.declared.limits.Limits.{Limits}
 use Rattle.shelf_log.specs.ShelfLog.Answers.{Answers, refusal}
 use Rattle.shelf_log.specs.ShelfLog.Format.{Holds, shelf_size}
 use Rattle.shelf_log.specs.ShelfLog.Settled.{AllHold, HoldsEither}
 use Rattle.shelf_log.specs.declared.shelf_log.fault.ShelfFault.{ShelfFault}
-use Rattle.shelf_log.specs.declared.shelf_log.fault.ShelfFault.TheVariants.{DiskFault, NotAShelf, Full, Broken, OutOfMemory}
+use Rattle.shelf_log.specs.declared.shelf_log.fault.ShelfFault.TheVariants.{DiskFault, NotAShelf, LimitReached, Broken, OutOfMemory}
 use Rattle.shelf_log.specs.declared.shelf_log.version.Version.TheVariants.{Two}
 use Rattle.shelf_log.proofs.ShelfLogLemmas.Files.{length-front-push}
 use Rattle.witness_core.specs.WitnessStore.Histories.{History, log_in}
@@ -34,7 +34,7 @@ abbrev pub is_other : ShelfFault → Bool
 is_other DiskFault = false
 is_other OutOfMemory = false
 is_other (NotAShelf place) = true
-is_other Full = true
+is_other LimitReached = true
 is_other Broken = true
 
 -- where there is room for a payload, an append fails for the disk or for memory
@@ -109,7 +109,7 @@ module _ (h : History) where
     }
 
   -- nothing was appended
-  pub appends_none : (list : List (List ℕ)) (told : DiskTold) → KnowsNow told → IsOnWay h list → AllHold told list → Appends list told h list told
+  pub appends_none : (list : List (List ℕ)) (told : DiskShown) → KnowsNow told → IsOnWay h list → AllHold told list → Appends list told h list told
   appends_none list told knows way holds = record {
     on_way = way;
     same = refl;
@@ -119,7 +119,7 @@ module _ (h : History) where
   }
 
   -- appended, and then more
-  pub appends_more : (first list longer : List (List ℕ)) (told mid last : DiskTold) → Appends first told h list mid → Appends list mid h longer last → Appends first told h longer last
+  pub appends_more : (first list longer : List (List ℕ)) (told mid last : DiskShown) → Appends first told h list mid → Appends list mid h longer last → Appends first told h longer last
   appends_more first list longer told mid last a b = record {
     on_way = b.on_way;
     same = b.same ∙ a.same;
@@ -131,7 +131,7 @@ module _ (h : History) where
         (λ c f. record { count = f.count; no_fewer = omega (arith, a.longer, f.no_fewer); no_more = f.no_more; holds = f.holds }) b.moments);
   }
 
-  pub goes_of : (list longer : List (List ℕ)) (told last : DiskTold) → Appends list told h longer last → GoesOn list told h longer last
+  pub goes_of : (list longer : List (List ℕ)) (told last : DiskShown) → Appends list told h longer last → GoesOn list told h longer last
   goes_of list longer told last a = record {
     on_way = a.on_way;
     grown = (missing h list, a.same);
@@ -141,11 +141,11 @@ module _ (h : History) where
   }
 
   -- an entry came, or none, and nothing was appended
-  pub goes_none : (list : List (List ℕ)) (told : DiskTold) → KnowsNow told → IsOnWay h list → AllHold told list → GoesOn list told h list told
+  pub goes_none : (list : List (List ℕ)) (told : DiskShown) → KnowsNow told → IsOnWay h list → AllHold told list → GoesOn list told h list told
   goes_none list told knows way holds = goes_of list list told told (appends_none list told knows way holds)
 
 -- a run that stored all, and then another
-pub goes_more : (h later : History) (first list longer : List (List ℕ)) (told mid last : DiskTold) → GoesOn first told h list mid → length list ≡ length (log_in h)
+pub goes_more : (h later : History) (first list longer : List (List ℕ)) (told mid last : DiskShown) → GoesOn first told h list mid → length list ≡ length (log_in h)
     → GoesOn list mid later longer last → GoesOn first told later longer last
 goes_more h later first list longer told mid last a all b =
     let list_is : list ≡ first ++ a.grown.0 = sym (payloads_all h list all) ∙ a.grown.1 in
@@ -163,7 +163,7 @@ goes_more h later first list longer told mid last a all b =
     }
 
 -- what is kept while payloads are stored
-pub record IsStoring (h : History) (first list : List (List ℕ)) (told_old told : DiskTold) (limits_old limits : Limits) (broken : Bool) (room : Room) : Type 0 where
+pub record IsStoring (h : History) (first list : List (List ℕ)) (told_old told : DiskShown) (limits_old limits : Limits) (broken : Bool) (room : Room) : Type 0 where
   pub appends : Appends first told_old h list told
   pub fits : HasRoom limits h list room
   pub whole : broken ≡ false

@@ -4,7 +4,7 @@ use Rattle.std.specs.declared.result.Result.{Result}
 use Rattle.std.specs.declared.result.Result.TheVariants.{Ok, Err}
 use Rattle.lists.specs.KeriSpecs.Causes.{Rose}
 use Rattle.witness_core.specs.declared.witness_store.witness_fault.WitnessFault.{WitnessFault}
-use Rattle.witness_core.specs.declared.witness_store.witness_fault.WitnessFault.TheVariants.{DiskFault, SignerFault, VerifierFault, Full, Broken, OutOfMemory}
+use Rattle.witness_core.specs.declared.witness_store.witness_fault.WitnessFault.TheVariants.{DiskFault, SignerFault, VerifierFault, LimitReached, Broken, OutOfMemory}
 
 -- a witness that is broken answers that it is, and any other is broken then by just a fault of the disk or want of memory
 abbrev pub Goes : {T : Type 0} → Bool → Bool → Result T WitnessFault → Type 0
@@ -15,12 +15,12 @@ Goes false new (Err DiskFault) = new ≡ true
 Goes false new (Err OutOfMemory) = new ≡ true
 Goes false new (Err SignerFault) = new ≡ false
 Goes false new (Err VerifierFault) = new ≡ false
-Goes false new (Err Full) = new ≡ false
+Goes false new (Err LimitReached) = new ≡ false
 Goes false new (Err Broken) = ⊥
 
 -- a witness that isn't broken answers that it is full just where a message is turned away, but for want of memory
 abbrev pub FullBy : Type 0 → WitnessFault → Type 0
-FullBy turned Full = turned
+FullBy turned LimitReached = turned
 FullBy turned OutOfMemory = Unit {0}
 FullBy turned DiskFault = turned → ⊥
 FullBy turned SignerFault = turned → ⊥
@@ -33,7 +33,7 @@ abbrev pub CausedBy : ℕ → ℕ → ℕ → ℕ → ℕ → ℕ → WitnessFau
 CausedBy disk disk_then verifier verifier_then signer signer_then DiskFault = Rose disk disk_then × (verifier_then ≡ verifier) × (signer_then ≡ signer)
 CausedBy disk disk_then verifier verifier_then signer signer_then VerifierFault = (disk_then ≡ disk) × Rose verifier verifier_then × (signer_then ≡ signer)
 CausedBy disk disk_then verifier verifier_then signer signer_then SignerFault = (disk_then ≡ disk) × (verifier_then ≡ verifier) × Rose signer signer_then
-CausedBy disk disk_then verifier verifier_then signer signer_then Full = (disk_then ≡ disk) × (verifier_then ≡ verifier) × (signer_then ≡ signer)
+CausedBy disk disk_then verifier verifier_then signer signer_then LimitReached = (disk_then ≡ disk) × (verifier_then ≡ verifier) × (signer_then ≡ signer)
 CausedBy disk disk_then verifier verifier_then signer signer_then Broken = (disk_then ≡ disk) × (verifier_then ≡ verifier) × (signer_then ≡ signer)
 CausedBy disk disk_then verifier verifier_then signer signer_then OutOfMemory = (disk_then ≡ disk) × (verifier_then ≡ verifier) × (signer_then ≡ signer)
 
@@ -41,7 +41,7 @@ CausedBy disk disk_then verifier verifier_then signer signer_then OutOfMemory = 
 abbrev pub TakeFault : ℕ → ℕ → ℕ → ℕ → WitnessFault → Type 0
 TakeFault disk disk_then verifier verifier_then DiskFault = Rose disk disk_then × (verifier_then ≡ verifier)
 TakeFault disk disk_then verifier verifier_then VerifierFault = (disk_then ≡ disk) × Rose verifier verifier_then
-TakeFault disk disk_then verifier verifier_then Full = (disk_then ≡ disk) × (verifier_then ≡ verifier)
+TakeFault disk disk_then verifier verifier_then LimitReached = (disk_then ≡ disk) × (verifier_then ≡ verifier)
 TakeFault disk disk_then verifier verifier_then OutOfMemory = (disk_then ≡ disk) × (verifier_then ≡ verifier)
 TakeFault disk disk_then verifier verifier_then SignerFault = ⊥
 TakeFault disk disk_then verifier verifier_then Broken = ⊥
@@ -52,5 +52,5 @@ SignFault signer signer_then SignerFault = Rose signer signer_then
 SignFault signer signer_then OutOfMemory = signer_then ≡ signer
 SignFault signer signer_then DiskFault = ⊥
 SignFault signer signer_then VerifierFault = ⊥
-SignFault signer signer_then Full = ⊥
+SignFault signer signer_then LimitReached = ⊥
 SignFault signer signer_then Broken = ⊥

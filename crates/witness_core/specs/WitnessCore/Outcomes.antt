@@ -17,7 +17,7 @@ use Rattle.witness_core.specs.declared.witness_receipts.fate.Fate.TheVariants.{S
 use Rattle.witness_core.specs.declared.witness_core.outcome.Outcome.{Outcome}
 use Rattle.witness_core.specs.declared.witness_receipts.receipt.Receipt.{Receipt}
 use Rattle.witness_core.specs.declared.witness_store.witness_fault.WitnessFault.{WitnessFault}
-use Rattle.witness_core.specs.declared.witness_store.witness_fault.WitnessFault.TheVariants.{DiskFault, SignerFault, VerifierFault, Full, Broken, OutOfMemory}
+use Rattle.witness_core.specs.declared.witness_store.witness_fault.WitnessFault.TheVariants.{DiskFault, SignerFault, VerifierFault, LimitReached, Broken, OutOfMemory}
 
 -- what the core was told, by the message's fate
 abbrev pub TellsFate : (Key → List ℕ → Sig → Option Bool) → CoreView → Message → Fate → CoreView → Type 0
@@ -65,7 +65,7 @@ AsksSigner key old new m before now (Err SignerFault) = AsksSome key old new m b
 AsksSigner key old new m before now (Err OutOfMemory) = AsksSome key old new m before now
 AsksSigner key old new m before now (Err DiskFault) = now ≡ before
 AsksSigner key old new m before now (Err VerifierFault) = now ≡ before
-AsksSigner key old new m before now (Err Full) = now ≡ before
+AsksSigner key old new m before now (Err LimitReached) = now ≡ before
 AsksSigner key old new m before now (Err Broken) = now ≡ before
 
 -- the outcome of a message whose event is that of a body, where the first so many of the accepted events were stored before

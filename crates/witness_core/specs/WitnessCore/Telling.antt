@@ -21,7 +21,7 @@ use Rattle.witness_core.specs.declared.witness_store.room.Room.{Room}
 use Rattle.witness_core.specs.declared.witness_core.taken.Taken.{Taken}
 use Rattle.witness_core.specs.declared.witness_core.taken.Taken.TheVariants.{Refused, NotAnEvent, Event as EventTaken}
 use Rattle.witness_core.specs.declared.witness_store.witness_fault.WitnessFault.{WitnessFault}
-use Rattle.witness_core.specs.declared.witness_store.witness_fault.WitnessFault.TheVariants.{DiskFault, SignerFault, VerifierFault, Full, Broken, OutOfMemory}
+use Rattle.witness_core.specs.declared.witness_store.witness_fault.WitnessFault.TheVariants.{DiskFault, SignerFault, VerifierFault, LimitReached, Broken, OutOfMemory}
 
 -- the core has no room for it, or the shelf
 abbrev pub has_no_room : Limits → CoreView → List (List ℕ) → Body → List Claim → Bool
@@ -90,7 +90,7 @@ TakesIn limits old room list m (EventTaken number) new room_then = IsReady limit
 
 -- a body that came isn't taken: there is no room, or no memory, and then it may have been told
 pub data Fails (no_room : Type 0) (b : Body) (claims : List Claim) (old : CoreView) (room : Room) (new : CoreView) (room_then : Room) : WitnessFault → Type 0 where
-  full : no_room → IsUntold old new → room_then ≡ room → Fails no_room b claims old room new room_then Full
+  full : no_room → IsUntold old new → room_then ≡ room → Fails no_room b claims old room new room_then LimitReached
   untold : IsUntold old new → Fails no_room b claims old room new room_then OutOfMemory
   told : Came b claims old new → Fails no_room b claims old room new room_then OutOfMemory
 
@@ -108,7 +108,7 @@ TellsTaken says old m (EventTaken number) new = TellsEvent says old m new × (op
 
 -- where there was a fault; without memory maybe nothing was told
 abbrev pub TellsFault : (Key → List ℕ → Sig → Option Bool) → CoreView → Message → WitnessFault → CoreView → Type 0
-TellsFault says old m Full new = IsUntold old new
+TellsFault says old m LimitReached new = IsUntold old new
 TellsFault says old m Broken new = IsUntold old new
 TellsFault says old m OutOfMemory new = IsUntold old new ⊎ TellsEvent says old m new
 TellsFault says old m DiskFault new = TellsEvent says old m new

@@ -3,13 +3,13 @@ use Rattle.std.specs.Prelude.{Bool, true, false}
 use Rattle.witness_core.specs.declared.witness_store.witness_fault.WitnessFault.{WitnessFault}
 use Rattle.witness_core.specs.declared.witness_store.witness_fault.WitnessFault.TheVariants as fault
 use Rattle.run_status.specs.declared.run_status.close.Close.{Close}
-use Rattle.run_status.specs.declared.run_status.close.Close.TheVariants.{End, Bad, ReadFault, VerifierFault, SignerFault, DiskFault, WriteFault, Malformed, Full, OutOfMemory}
+use Rattle.run_status.specs.declared.run_status.close.Close.TheVariants.{End, Bad, ReadFault, VerifierFault, SignerFault, DiskFault, WriteFault, Malformed, LimitReached, OutOfMemory}
 
 abbrev pub close_by : WitnessFault → Close
 close_by fault.DiskFault = DiskFault
 close_by fault.SignerFault = SignerFault
 close_by fault.VerifierFault = VerifierFault
-close_by fault.Full = Full
+close_by fault.Full = LimitReached
 close_by fault.Broken = DiskFault
 close_by fault.OutOfMemory = OutOfMemory
 
@@ -23,5 +23,5 @@ asks_next VerifierFault = false
 asks_next SignerFault = false
 asks_next DiskFault = false
 asks_next (Malformed place) = false
-asks_next Full = false
+asks_next LimitReached = false
 asks_next OutOfMemory = false

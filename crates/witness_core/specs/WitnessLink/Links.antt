@@ -4,12 +4,12 @@ use Rattle.cesr_codes.specs.declared.digest.Digest.{Digest}
 use Rattle.cesr_codes.specs.declared.key.Key.{Key}
 use Rattle.cesr_codes.specs.declared.sig.Sig.{Sig}
 use Rattle.journal.specs.declared.journal.refusal.Refusal.{Refusal}
-use Rattle.shelf_log.specs.KeriDisk.Images.{DiskTold}
+use Rattle.shelf_log.specs.KeriDisk.Images.{DiskShown}
 use Rattle.keri_outside.specs.declared.inquiry.Inquiry.{Inquiry}
 use Rattle.keri_outside.specs.declared.limits.Limits.{Limits}
 use Rattle.keri_outside.specs.declared.signing.Signing.{Signing}
-use Rattle.run_status.specs.RunRecord.Run.{SignerTold}
-use Rattle.run_status.specs.RunStatus.Readers.{SinkTold, SourceTold, VerifierTold}
+use Rattle.run_status.specs.RunRecord.Run.{SignerShown}
+use Rattle.run_status.specs.RunStatus.Readers.{SinkShown, SourceShown, VerifierShown}
 use Rattle.validator_core.specs.ValidatorCore.View.{CoreView}
 use Rattle.witness_core.specs.declared.witness_link.notes.Notes.{Notes}
 
@@ -24,7 +24,7 @@ pub record WitnessTold : Type 1 where
   pub limits : Limits
   pub core : CoreView
   pub list : List (List ℕ)
-  pub disk : DiskTold
+  pub disk : DiskShown
   pub broken : Bool
 
 abbrev pub standing_of : WitnessTold → Standing
@@ -50,7 +50,7 @@ counts disk verifier signer = record { disk = disk; verifier = verifier; signer 
 -- What is seen of a witness, of the verifier, the signer and the sink that it has at a link, with how often each has failed, and
 -- what the verifier and the signer were asked, in order, where they tell. And what was noted of messages: those that were refused,
 -- and the digests of the events that were seen in place of others.
-pub record LinkTold : Type 1 where
+pub record LinkShown : Type 1 where
   pub witness : WitnessTold
   pub says : Key → List ℕ → Sig → Option Bool
   pub inquiries : Option (List Inquiry)
@@ -64,12 +64,12 @@ pub record LinkTold : Type 1 where
   pub seen : List Digest
 
 -- what is seen of a witness, and of the verifier and the signer that it has
-pub record ServiceTold : Type 1 where
+pub record ServiceShown : Type 1 where
   pub witness : WitnessTold
-  pub verifier : VerifierTold
-  pub signer : SignerTold
+  pub verifier : VerifierShown
+  pub signer : SignerShown
 
-abbrev pub told_of_link : ServiceTold → SinkTold → List Refusal → List Digest → LinkTold
+abbrev pub told_of_link : ServiceShown → SinkShown → List Refusal → List Digest → LinkShown
 told_of_link service sink refused seen = record {
   witness = service.witness;
   says = service.verifier.says;
@@ -85,34 +85,34 @@ told_of_link service sink refused seen = record {
 }
 
 -- with what is noted
-abbrev pub told_noting : ServiceTold → SinkTold → Notes → LinkTold
+abbrev pub told_noting : ServiceShown → SinkShown → Notes → LinkShown
 told_noting service sink notes = told_of_link service sink notes.refused.items notes.seen.items
 
 abbrev pub terms_with : (Key → List ℕ → Sig → Option Bool) → (Key → List ℕ → Option Sig) → WitnessTold → Terms
 terms_with says gives witness = record { says = says; gives = gives; key = witness.key; limits = witness.limits }
 
-abbrev pub terms_at : ServiceTold → Terms
+abbrev pub terms_at : ServiceShown → Terms
 terms_at service = terms_with service.verifier.says service.signer.gives service.witness
 
-abbrev pub counts_at : ServiceTold → Counts
+abbrev pub counts_at : ServiceShown → Counts
 counts_at service = counts service.witness.disk.faults service.verifier.faults service.signer.faults
 
-abbrev pub terms_of : LinkTold → Terms
+abbrev pub terms_of : LinkShown → Terms
 terms_of link = terms_with link.says link.gives link.witness
 
-abbrev pub counts_of : LinkTold → Counts
+abbrev pub counts_of : LinkShown → Counts
 counts_of link = counts link.witness.disk.faults link.verifier_faults link.signer_faults
 
 -- what a verifier tells
-abbrev pub verifier_told : {V : Type 0} → (V → Key → List ℕ → Sig → Option Bool) → (V → Option (List Inquiry)) → (V → ℕ) → V → VerifierTold
-verifier_told says inquiries faults verifier = record { says = says verifier; inquiries = inquiries verifier; faults = faults verifier }
+abbrev pub verifier_shown : {V : Type 0} → (V → Key → List ℕ → Sig → Option Bool) → (V → Option (List Inquiry)) → (V → ℕ) → V → VerifierShown
+verifier_shown says inquiries faults verifier = record { says = says verifier; inquiries = inquiries verifier; faults = faults verifier }
 
 -- what a source has left, where it tells, and how often it has failed
-abbrev pub source_told : Option (List ℕ) → ℕ → SourceTold
-source_told left faults = record { left = left; faults = faults }
+abbrev pub source_shown : Option (List ℕ) → ℕ → SourceShown
+source_shown left faults = record { left = left; faults = faults }
 
-abbrev pub source_at : {S : Type 0} → (S → Option (List ℕ)) → (S → ℕ) → S → SourceTold
-source_at left faults source = source_told (left source) (faults source)
+abbrev pub source_at : {S : Type 0} → (S → Option (List ℕ)) → (S → ℕ) → S → SourceShown
+source_at left faults source = source_shown (left source) (faults source)
 
 -- what a witness is at a moment: its core, the list of its shelf, whether it is broken, and its disk
 pub record Left (D : Type 0) : Type 0 where
@@ -122,7 +122,7 @@ pub record Left (D : Type 0) : Type 0 where
   pub disk : D
 
 -- what is seen of it
-abbrev pub seen_as : {D : Type 0} → (D → DiskTold) → Key → Limits → Left D → WitnessTold
+abbrev pub seen_as : {D : Type 0} → (D → DiskShown) → Key → Limits → Left D → WitnessTold
 seen_as told key limits left = record { key = key; limits = limits; core = left.core; list = left.list; disk = told left.disk; broken = left.broken }
 
 -- what serves links at a moment: a witness as it is, with its key and its limits, and what its verifier and its signer tell
@@ -130,9 +130,9 @@ pub record Serving (D : Type 0) : Type 0 where
   pub key : Key
   pub limits : Limits
   pub left : Left D
-  pub verifier : VerifierTold
-  pub signer : SignerTold
+  pub verifier : VerifierShown
+  pub signer : SignerShown
 
 -- what is seen of these
-abbrev pub seen_by : {D : Type 0} → (D → DiskTold) → Serving D → ServiceTold
+abbrev pub seen_by : {D : Type 0} → (D → DiskShown) → Serving D → ServiceShown
 seen_by told serving = record { witness = seen_as told serving.key serving.limits serving.left; verifier = serving.verifier; signer = serving.signer }

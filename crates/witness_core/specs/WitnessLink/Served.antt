@@ -12,19 +12,19 @@ use Rattle.run_status.specs.MessageFeed.Closing.{ClosesBy, Gave}
 use Rattle.run_status.specs.MessageFeed.Feeds.{Stream}
 use Rattle.run_status.specs.declared.message_feed.feed_close.FeedClose.{FeedClose}
 use Rattle.run_status.specs.declared.message_feed.feed_close.FeedClose.TheVariants as feed
-use Rattle.run_status.specs.RunStatus.Readers.{SinkTold, SourceTold, sink_seen}
+use Rattle.run_status.specs.RunStatus.Readers.{SinkShown, SourceShown, sink_seen}
 use Rattle.run_status.specs.declared.run_status.close.Close.{Close}
-use Rattle.run_status.specs.declared.run_status.close.Close.TheVariants.{End, Bad, ReadFault, VerifierFault, SignerFault, DiskFault, WriteFault, Malformed, Full, OutOfMemory}
+use Rattle.run_status.specs.declared.run_status.close.Close.TheVariants.{End, Bad, ReadFault, VerifierFault, SignerFault, DiskFault, WriteFault, Malformed, LimitReached, OutOfMemory}
 use Rattle.witness_core.specs.declared.witness_link.link_end.LinkEnd.{LinkEnd}
 use Rattle.witness_core.specs.declared.witness_link.notes.Notes.{Notes}
 use Rattle.witness_core.specs.declared.witness_store.witness_fault.WitnessFault.{WitnessFault}
 use Rattle.witness_core.specs.declared.witness_store.witness_fault.WitnessFault.TheVariants as fault
 use Rattle.witness_core.specs.WitnessLink.Calls.{messages_in, receipts_in}
-use Rattle.witness_core.specs.WitnessLink.Links.{LinkTold, ServiceTold, source_at, terms_of, told_noting, told_of_link}
+use Rattle.witness_core.specs.WitnessLink.Links.{LinkShown, ServiceShown, source_at, terms_of, told_noting, told_of_link}
 use Rattle.witness_core.specs.WitnessLink.Serving.{FailsToPut, FailsToTake, GoesOn, Serves}
 use Rattle.witness_core.specs.WitnessLink.Stored.{HoldsEach}
 
-module _ (limits : Limits) (source_old source_new : SourceTold) (bytes : List ℕ) where
+module _ (limits : Limits) (source_old source_new : SourceShown) (bytes : List ℕ) where
   -- these are all messages of the bytes, and reading the source closed by this cause
   pub record ReadsAll (all : List Message) (close : FeedClose Close) : Type 0 where
     pub messages_are : AreMessages limits bytes all
@@ -48,7 +48,7 @@ module _ (limits : Limits) (source_old source_new : SourceTold) (bytes : List �
     pub gave : Gave source_old.left source_new.left bytes
     pub messages_are : AreFirst limits bytes first
 
-  module _ (old new : LinkTold) (serves : Serves old new) where
+  module _ (old new : LinkShown) (serves : Serves old new) where
     -- the witness failed at the message that comes behind those taken
     pub record StopsAtNext (why : WitnessFault) : Type 0 where
       pub next : Message
@@ -66,13 +66,13 @@ module _ (limits : Limits) (source_old source_new : SourceTold) (bytes : List �
     ClosesLink VerifierFault = StopsAtNext fault.VerifierFault
     ClosesLink SignerFault = StopsAtNext fault.SignerFault
     ClosesLink DiskFault = StopsAtNext fault.DiskFault
-    ClosesLink Full = (ReadsMost (messages_in serves.calls) × GoesOn old new serves) ⊎ StopsAtNext fault.Full
+    ClosesLink LimitReached = (ReadsMost (messages_in serves.calls) × GoesOn old new serves) ⊎ StopsAtNext fault.Full
     ClosesLink OutOfMemory = GoesOn old new serves ⊎ StopsAtNext fault.OutOfMemory
     ClosesLink (Malformed place) = ⊥
 
 -- SERVES A LINK: The source gave these bytes, at most as many as may be, and maybe more. Their first messages were taken in order,
 -- and the link closes by its cause. Whatever that is, each image of the disk has the event of each receipt.
-pub record ServesLink (limits : Limits) (source_old source_new : SourceTold) (old new : LinkTold) (close : Close) : Type 0 where
+pub record ServesLink (limits : Limits) (source_old source_new : SourceShown) (old new : LinkShown) (close : Close) : Type 0 where
   pub serves : Serves old new
   pub bytes : List ℕ
   pub more : List ℕ
@@ -83,12 +83,12 @@ pub record ServesLink (limits : Limits) (source_old source_new : SourceTold) (ol
   pub held : (c : List ℕ) → new.witness.disk.images c → HoldsEach (terms_of old) (receipts_in serves.calls) c
 
 -- a link was served that ended so, and nothing was noted before
-abbrev pub ServesLinkTo : Limits → SourceTold → SourceTold → ServiceTold → ServiceTold → SinkTold → SinkTold → LinkEnd → Type 0
+abbrev pub ServesLinkTo : Limits → SourceShown → SourceShown → ServiceShown → ServiceShown → SinkShown → SinkShown → LinkEnd → Type 0
 ServesLinkTo limits source_old source_new old new sink_old sink_new end =
     ServesLink limits source_old source_new (told_of_link old sink_old [] []) (told_of_link new sink_new end.refused.items end.seen.items) end.close
 
 -- a link was served with the objects that lend it, and what was noted before stands before the new notes
-abbrev pub ServesNoting : {S W K : Type 0} → (S → Option (List ℕ)) → (S → ℕ) → (W → ServiceTold) → (K → Option (List ℕ)) → (K → ℕ) → Limits → S → S → W → W → K → K → Notes → Notes → Close → Type 0
+abbrev pub ServesNoting : {S W K : Type 0} → (S → Option (List ℕ)) → (S → ℕ) → (W → ServiceShown) → (K → Option (List ℕ)) → (K → ℕ) → Limits → S → S → W → W → K → K → Notes → Notes → Close → Type 0
 ServesNoting left faults service_seen written sink_faults limits source_old source_new old new sink_old sink_new notes_old notes_new close =
     ServesLink limits (source_at left faults source_old) (source_at left faults source_new)
     (told_noting (service_seen old) (sink_seen written sink_faults sink_old) notes_old)

@@ -8,7 +8,7 @@ use Rattle.keri_outside.specs.declared.signing.Signing.{Signing}
 use Rattle.lists.specs.KeriSpecs.Causes.{Rose}
 use Rattle.lists.specs.KeriSpecs.Told.{after}
 use Rattle.run_status.specs.declared.run_status.close.Close.{Close}
-use Rattle.run_status.specs.declared.run_status.close.Close.TheVariants.{End, Bad, ReadFault, VerifierFault, SignerFault, DiskFault, WriteFault, Malformed, Full, OutOfMemory}
+use Rattle.run_status.specs.declared.run_status.close.Close.TheVariants.{End, Bad, ReadFault, VerifierFault, SignerFault, DiskFault, WriteFault, Malformed, LimitReached, OutOfMemory}
 use Rattle.validator_core.specs.ValidatorCore.View.{open_of}
 use Rattle.witness_core.specs.WitnessCore.Outcomes.{AsksSigner}
 use Rattle.witness_core.specs.WitnessStore.Payloads.{AreListed}
@@ -17,7 +17,7 @@ use Rattle.witness_core.specs.WitnessCore.Telling.{AsksVerdicts}
 use Rattle.witness_core.specs.declared.witness_store.witness_fault.WitnessFault.{WitnessFault}
 use Rattle.witness_core.specs.declared.witness_store.witness_fault.WitnessFault.TheVariants as fault
 use Rattle.witness_core.specs.WitnessLink.Calls.{AreCalls, Call, digests_in, messages_in, receipts_in, refusals_in, signings_in, text_of}
-use Rattle.witness_core.specs.WitnessLink.Links.{LinkTold, Standing, counts_of, standing_of, terms_of}
+use Rattle.witness_core.specs.WitnessLink.Links.{LinkShown, Standing, counts_of, standing_of, terms_of}
 use Rattle.witness_core.specs.WitnessLink.Stored.{IsLawfulList, IsOfListed}
 use Rattle.witness_core.specs.WitnessLink.Taking.{Counted, FailsAt, IsWhole}
 
@@ -25,7 +25,7 @@ use Rattle.witness_core.specs.WitnessLink.Taking.{Counted, FailsAt, IsWhole}
 -- before, and the first few of what was accepted since, which is lawful. Each receipt is of a stored event. Where no question was
 -- open before, the verifier was asked for the verdicts that the core was told since, in order, and for nothing else, but maybe for
 -- the first question that is open now.
-pub record Serves (old new : LinkTold) : Type 0 where
+pub record Serves (old new : LinkShown) : Type 0 where
   pub calls : List Call
   pub behind : Standing
   pub taken : AreCalls (terms_of old) (standing_of old.witness) calls behind
@@ -38,14 +38,14 @@ pub record Serves (old new : LinkTold) : Type 0 where
   pub inquired : open_of old.witness.core ≡ [] → AsksVerdicts old.inquiries new.inquiries old.witness.core new.witness.core
 
 -- the text of the receipts of these calls was written
-abbrev pub Wrote : LinkTold → LinkTold → List Call → Type 0
+abbrev pub Wrote : LinkShown → LinkShown → List Call → Type 0
 Wrote old new calls = new.written ≡ after old.written (text_of (receipts_in calls))
 
 -- what the signer has been asked once it was asked for the receipts that are due of these calls, in order, and for no others
-abbrev pub signed_for : LinkTold → List Call → Option (List Signing)
+abbrev pub signed_for : LinkShown → List Call → Option (List Signing)
 signed_for old calls = after old.signings (signings_in old.witness.key old.witness.core calls)
 
-module _ (old new : LinkTold) (serves : Serves old new) where
+module _ (old new : LinkShown) (serves : Serves old new) where
   -- all receipts were signed and written, the witness stands as behind the last message, and nothing failed
   pub record GoesOn : Type 0 where
     pub now : serves.behind ≡ standing_of new.witness
@@ -89,7 +89,7 @@ module _ (old new : LinkTold) (serves : Serves old new) where
   StopsBy messages VerifierFault = StopsTaking fault.VerifierFault messages
   StopsBy messages SignerFault = StopsTaking fault.SignerFault messages
   StopsBy messages DiskFault = StopsTaking fault.DiskFault messages
-  StopsBy messages Full = StopsTaking fault.Full messages
+  StopsBy messages LimitReached = StopsTaking fault.Full messages
   StopsBy messages OutOfMemory = StopsTaking fault.OutOfMemory messages
   StopsBy messages WriteFault = (messages ≡ messages_in serves.calls) × FailsToPut
   StopsBy messages End = ⊥
@@ -98,17 +98,17 @@ module _ (old new : LinkTold) (serves : Serves old new) where
   StopsBy messages (Malformed place) = ⊥
 
 -- these messages were taken, and serving goes on
-pub record HasServed (old new : LinkTold) (messages : List Message) : Type 0 where
+pub record HasServed (old new : LinkShown) (messages : List Message) : Type 0 where
   pub serves : Serves old new
   pub messages_are : messages_in serves.calls ≡ messages
   pub goes_on : GoesOn old new serves
 
 -- serving stopped at the last of them
-pub record HasEnded (old new : LinkTold) (close : Close) (messages : List Message) : Type 0 where
+pub record HasEnded (old new : LinkShown) (close : Close) (messages : List Message) : Type 0 where
   pub serves : Serves old new
   pub stops : StopsBy old new serves messages close
 
 -- one message was served, or serving stopped there
-abbrev pub ServesOne : {T : Type 0} → Message → Result T Close → LinkTold → LinkTold → Type 0
+abbrev pub ServesOne : {T : Type 0} → Message → Result T Close → LinkShown → LinkShown → Type 0
 ServesOne m (Ok done) old new = HasServed old new (m ∷ [])
 ServesOne m (Err close) old new = HasEnded old new close (m ∷ [])

@@ -11,7 +11,7 @@ use Rattle.witness_core.specs.WitnessStore.Storing.{AllStand, StoresOn}
 use Rattle.witness_core.specs.WitnessCore.Telling.{IsTurnedAway, IsUntold, TellsEvent}
 use Rattle.witness_core.specs.declared.witness_core.outcome.Outcome.{Outcome}
 use Rattle.witness_core.specs.declared.witness_store.witness_fault.WitnessFault.{WitnessFault}
-use Rattle.witness_core.specs.declared.witness_store.witness_fault.WitnessFault.TheVariants.{DiskFault, SignerFault, VerifierFault, Full, Broken, OutOfMemory}
+use Rattle.witness_core.specs.declared.witness_store.witness_fault.WitnessFault.TheVariants.{DiskFault, SignerFault, VerifierFault, LimitReached, Broken, OutOfMemory}
 use Rattle.witness_core.specs.WitnessLink.Calls.{IsNotTurnedAway, IsCall}
 use Rattle.witness_core.specs.WitnessLink.Stored.{HoldsAccepted, IsLawfulList}
 use Rattle.witness_core.specs.WitnessLink.Links.{Counts, Standing, Terms, WitnessTold, standing_of}
@@ -21,7 +21,7 @@ abbrev pub Counted : Counts → Counts → WitnessFault → Type 0
 Counted old new DiskFault = Rose old.disk new.disk × (new.verifier ≡ old.verifier) × (new.signer ≡ old.signer)
 Counted old new VerifierFault = (new.disk ≡ old.disk) × Rose old.verifier new.verifier × (new.signer ≡ old.signer)
 Counted old new SignerFault = (new.disk ≡ old.disk) × (new.verifier ≡ old.verifier) × Rose old.signer new.signer
-Counted old new Full = new ≡ old
+Counted old new LimitReached = new ≡ old
 Counted old new OutOfMemory = new ≡ old
 Counted old new Broken = ⊥
 
@@ -50,7 +50,7 @@ abbrev pub FailsAt : Terms → Standing → Message → WitnessTold → WitnessF
 FailsAt terms old m new DiskFault = IsNotTurnedAway terms old m × TellsEvent terms.says old.core m new.core
 FailsAt terms old m new VerifierFault = IsNotTurnedAway terms old m × TellsEvent terms.says old.core m new.core × IsWhole new
 FailsAt terms old m new SignerFault = IsNotTurnedAway terms old m × TellsEvent terms.says old.core m new.core × (open_of new.core ≡ []) × IsWhole new
-FailsAt terms old m new Full = IsTurnedAway terms.limits new.core new.list m × IsUntold old.core new.core × (new.list ≡ old.list) × IsWhole new
+FailsAt terms old m new LimitReached = IsTurnedAway terms.limits new.core new.list m × IsUntold old.core new.core × (new.list ≡ old.list) × IsWhole new
 FailsAt terms old m new OutOfMemory = IsUntold old.core new.core ⊎ TellsEvent terms.says old.core m new.core
 FailsAt terms old m new Broken = ⊥
 

@@ -4,7 +4,7 @@ use Rattle.std.specs.declared.option.Option.{Option}
 use Rattle.std.specs.declared.option.Option.TheVariants.{None, Some}
 use Rattle.std.specs.declared.result.Result.TheVariants.{Ok, Err}
 use Rattle.keri_outside.specs.declared.limits.Limits.{Limits}
-use Rattle.run_status.specs.RunOutside.Told.{Told}
+use Rattle.run_status.specs.RunOutside.Shown.{OutsideShown}
 use Rattle.shelf_log.specs.ShelfLog.Answers.{Reads}
 use Rattle.shelf_log.specs.ShelfLog.Leftover.{IsLeftover}
 use Rattle.shelf_log.specs.declared.shelf_log.fault.ShelfFault.{ShelfFault}
@@ -12,7 +12,7 @@ use Rattle.shelf_log.specs.declared.shelf_log.fault.ShelfFault.TheVariants as sh
 use Rattle.shelf_log.specs.declared.shelf_log.version.Version.{Version}
 use Rattle.shelf_log.specs.declared.shelf_log.version.Version.TheVariants.{One, Two}
 use Rattle.witness_core.specs.declared.witness_opening.fault.OpeningFault.{OpeningFault}
-use Rattle.witness_core.specs.declared.witness_opening.fault.OpeningFault.TheVariants.{NotAShelf, NotAnOldShelf, DiskFault, Full, OutOfMemory}
+use Rattle.witness_core.specs.declared.witness_opening.fault.OpeningFault.TheVariants.{NotAShelf, NotAnOldShelf, DiskFault, LimitReached, OutOfMemory}
 
 -- the list of a shelf that is open, or why there is none
 abbrev pub Answer : Type 0
@@ -27,7 +27,7 @@ not_a_shelf Two place = NotAShelf place
 abbrev pub refusal : Version → ShelfFault → OpeningFault
 refusal version (shelf.NotAShelf place) = not_a_shelf version place
 refusal version shelf.DiskFault = DiskFault
-refusal version shelf.Full = Full
+refusal version shelf.Full = LimitReached
 refusal version shelf.OutOfMemory = OutOfMemory
 refusal version shelf.Broken = DiskFault
 
@@ -54,6 +54,6 @@ pub record AnswersBeside (limits : Limits) (file : List ℕ) (old : Option (List
   pub read : (IsLeftover file → ⊥) → AnswersRead Two limits file answer
 
 -- what is answered by the names of a shelf and of an old one, if any, where the outside tells what their files hold
-abbrev pub Answers : Limits → Told → List ℕ → Option (List ℕ) → Answer → Type 0
+abbrev pub Answers : Limits → OutsideShown → List ℕ → Option (List ℕ) → Answer → Type 0
 Answers limits told name None answer = IfSome (told.stored name) (λ file. AnswersAlone limits file answer)
 Answers limits told name (Some old) answer = IfSome (told.stored name) (λ file. AnswersBeside limits file (told.stored old) answer)

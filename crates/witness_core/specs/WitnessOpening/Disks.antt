@@ -5,9 +5,9 @@ use Rattle.std.specs.declared.option.Option.TheVariants.{None, Some}
 use Rattle.std.specs.declared.result.Result.TheVariants.{Err}
 use Rattle.lists.specs.KeriSpecs.Causes.{Rose}
 use Rattle.shelf_log.specs.KeriDisk.Calls.{Keeps}
-use Rattle.shelf_log.specs.KeriDisk.Images.{DiskTold, IsDurable, LeavesOnly}
+use Rattle.shelf_log.specs.KeriDisk.Images.{DiskShown, IsDurable, LeavesOnly}
 use Rattle.run_status.specs.RunOutside.Makings.{AreMakings}
-use Rattle.run_status.specs.RunOutside.Told.{Told, making}
+use Rattle.run_status.specs.RunOutside.Shown.{OutsideShown, making}
 use Rattle.run_status.specs.declared.run_outside.making.MakingKind.TheVariants.{Disk, OldDisk}
 use Rattle.shelf_log.specs.ShelfLog.Format.{Holds}
 use Rattle.shelf_log.specs.ShelfLog.Leftover.{IsLeftover}
@@ -17,32 +17,32 @@ use Rattle.witness_core.specs.WitnessOpening.Answers.{Answer}
 use Rattle.witness_core.specs.declared.witness_opening.fault.OpeningFault.TheVariants.{DiskFault}
 
 -- no disk was made, and that is answered
-pub record MakesNone {D : Type 0} (before after : Told) (name : List ℕ) (old : Option D) (answer : Answer) : Type 0 where
+pub record MakesNone {D : Type 0} (before after : OutsideShown) (name : List ℕ) (old : Option D) (answer : Answer) : Type 0 where
   pub makings : AreMakings (making Disk name true ∷ []) before after
   pub none_old : old ≡ None
   pub answered : answer ≡ Err DiskFault
 
 -- the shelf's disk alone was made
-pub record MakesOne {D : Type 0} (before after : Told) (name : List ℕ) (old : Option D) : Type 0 where
+pub record MakesOne {D : Type 0} (before after : OutsideShown) (name : List ℕ) (old : Option D) : Type 0 where
   pub makings : AreMakings (making Disk name false ∷ []) before after
   pub none_old : old ≡ None
 
 -- it was, and then the old one's, or that failed, which is answered: the shelf's file was to be filled
-pub record MakesBoth {D : Type 0} (before after : Told) (name named : List ℕ) (old : Option D) (answer : Answer) : Type 0 where
+pub record MakesBoth {D : Type 0} (before after : OutsideShown) (name named : List ℕ) (old : Option D) (answer : Answer) : Type 0 where
   pub makings : AreMakings (making Disk name false ∷ making OldDisk named (is_none old) ∷ []) before after
   pub leftover : IfSome (before.stored name) IsLeftover
   pub answered : old ≡ None → answer ≡ Err DiskFault
 
 -- What is made by these names, in order, and there is nothing else: the disk of the shelf, which there is where that came about;
 -- and then the disk of the old one, only where one is named and the shelf's file is to be filled.
-abbrev pub Makes : {D : Type 0} → Told → Told → List ℕ → Option (List ℕ) → Option D → Option D → Answer → Type 0
+abbrev pub Makes : {D : Type 0} → OutsideShown → OutsideShown → List ℕ → Option (List ℕ) → Option D → Option D → Answer → Type 0
 Makes before after name named None old answer = MakesNone before after name old answer
 Makes before after name named (Some disk) old answer = MakesOne before after name old ⊎ IsSomeAnd named (λ n. MakesBoth before after name n old answer)
 
-module _ {D : Type 0} (told : D → DiskTold) where
+module _ {D : Type 0} (told : D → DiskShown) where
   -- A fault of a disk is answered only where the count of one rose from zero, or where one couldn't be made and the count of
   -- the outside rose. Else each stands as it was.
-  pub record HasCause (before after : Told) (disk old : Option D) (answer : Answer) : Type 0 where
+  pub record HasCause (before after : OutsideShown) (disk old : Option D) (answer : Answer) : Type 0 where
     pub rose : answer ≡ Err DiskFault → Rose before.faults after.faults ⊎ IsSomeAnd disk (λ d. Rose 0 (told d).faults) ⊎ IsSomeAnd old (λ d. Rose 0 (told d).faults)
     pub same : answer ≢ Err DiskFault → (after.faults ≡ before.faults) × IfSome disk (λ d. (told d).faults ≡ 0) × IfSome old (λ d. (told d).faults ≡ 0)
 
@@ -84,12 +84,12 @@ module _ {D : Type 0} (told : D → DiskTold) where
   abbrev pub BecomesBeside : Option (List ℕ) → D → D → Type 0
   BecomesBeside from first last = Keeps (told first) (told last) ⊎ IsFilled from first last
 
-  abbrev pub Becomes : Told → Option (List ℕ) → D → D → Type 0
+  abbrev pub Becomes : OutsideShown → Option (List ℕ) → D → D → Type 0
   Becomes before None first last = BecomesAlone first last
   Becomes before (Some named) first last = BecomesBeside (before.stored named) first last
 
   -- that, from when it was made
-  pub record IsLeft (before : Told) (name : List ℕ) (named : Option (List ℕ)) (last : D) : Type 0 where
+  pub record IsLeft (before : OutsideShown) (name : List ℕ) (named : Option (List ℕ)) (last : D) : Type 0 where
     pub first : D
     pub is_made : IsMade (before.stored name) first
     pub becomes : Becomes before named first last

@@ -1,9 +1,9 @@
 -- What an outside tells of names, which no making changes.
 use Rattle.std.specs.Prelude.{◌≡◌}
-use Rattle.run_status.specs.RunOutside.Told.{Told}
+use Rattle.run_status.specs.RunOutside.Shown.{OutsideShown}
 
 -- what the names stand for, and the limits, are the same
-pub record KeepsNames (old new : Told) : Type 0 where
+pub record KeepsNames (old new : OutsideShown) : Type 0 where
   pub sources : new.holds ≡ old.holds
   pub verdicts : new.says ≡ old.says
   pub signatures : new.gives ≡ old.gives

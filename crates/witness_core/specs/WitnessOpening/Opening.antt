@@ -2,9 +2,9 @@
 use Rattle.std.specs.Prelude.{◌≡◌, ◌≢◌, ℕ, Bool, false, List, IfSome}
 use Rattle.std.specs.declared.option.Option.{Option}
 use Rattle.std.specs.declared.result.Result.TheVariants.{Err}
-use Rattle.shelf_log.specs.KeriDisk.Images.{DiskTold}
+use Rattle.shelf_log.specs.KeriDisk.Images.{DiskShown}
 use Rattle.keri_outside.specs.declared.limits.Limits.{Limits}
-use Rattle.run_status.specs.RunOutside.Told.{Told}
+use Rattle.run_status.specs.RunOutside.Shown.{OutsideShown}
 use Rattle.shelf_log.specs.ShelfLog.Settled.{AllHold}
 use Rattle.witness_core.specs.WitnessOpening.Answers.{Answer, Answers}
 use Rattle.witness_core.specs.WitnessOpening.Disks.{HasCause, IsLeft, Makes, OnlyRead}
@@ -14,7 +14,7 @@ use Rattle.witness_core.specs.declared.witness_opening.fault.OpeningFault.TheVar
 -- The shelf of a name was opened, with an old one where that is named, over an outside that told this before and after it: these
 -- disks are handed back, where they were made, and this is answered. Where it is a fault, but of no disk, the file of the name was only
 -- read.
-pub record IsOpening {D : Type 0} (told : D → DiskTold) (limits : Limits) (before after : Told) (name : List ℕ) (named : Option (List ℕ)) (disk old : Option D) (answer : Answer) : Type 0 where
+pub record IsOpening {D : Type 0} (told : D → DiskShown) (limits : Limits) (before after : OutsideShown) (name : List ℕ) (named : Option (List ℕ)) (disk old : Option D) (answer : Answer) : Type 0 where
   pub answers : Answers limits before name named answer
   pub makes : Makes before after name named disk old answer
   pub cause : HasCause told before after disk old answer
@@ -23,7 +23,7 @@ pub record IsOpening {D : Type 0} (told : D → DiskTold) (limits : Limits) (bef
   pub old_stays : IfSome old (λ d. IfSome named (λ n. OnlyRead told (before.stored n) d))
 
 -- a shelf with these limits whose disk never failed, and on it the list stands
-pub record IsOpen (told : DiskTold) (limits of : Limits) (is_broken : Bool) (list : List (List ℕ)) : Type 0 where
+pub record IsOpen (told : DiskShown) (limits of : Limits) (is_broken : Bool) (list : List (List ℕ)) : Type 0 where
   pub limits_are : of ≡ limits
   pub whole : is_broken ≡ false
   pub stands : AllHold told list

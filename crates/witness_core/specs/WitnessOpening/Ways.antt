@@ -5,10 +5,10 @@ use Rattle.std.specs.declared.option.Option.TheVariants.{None, Some}
 use Rattle.std.specs.declared.result.Result.TheVariants.{Err}
 use Rattle.lists.specs.KeriSpecs.Causes.{Rose}
 use Rattle.shelf_log.specs.KeriDisk.Calls.{Keeps}
-use Rattle.shelf_log.specs.KeriDisk.Images.{DiskTold, LeavesOnly}
+use Rattle.shelf_log.specs.KeriDisk.Images.{DiskShown, LeavesOnly}
 use Rattle.keri_outside.specs.declared.limits.Limits.{Limits}
 use Rattle.run_status.specs.RunOutside.Makings.{AreMakings}
-use Rattle.run_status.specs.RunOutside.Told.{Told, making}
+use Rattle.run_status.specs.RunOutside.Shown.{OutsideShown, making}
 use Rattle.run_status.specs.declared.run_outside.making.MakingKind.TheVariants.{OldDisk}
 use Rattle.shelf_log.specs.ShelfLog.Format.{Holds}
 use Rattle.shelf_log.specs.ShelfLog.Settled.{IsFilledOrLeftover, IsUnfinished}
@@ -18,7 +18,7 @@ use Rattle.witness_core.specs.WitnessOpening.Disks.{HasCause, OnlyRead}
 use Rattle.witness_core.specs.declared.witness_opening.fault.OpeningFault.{OpeningFault}
 use Rattle.witness_core.specs.declared.witness_opening.fault.OpeningFault.TheVariants.{DiskFault}
 
-module _ {D : Type 0} (told : D → DiskTold) (first : D) where
+module _ {D : Type 0} (told : D → DiskShown) (first : D) where
   -- The disk alone is handed back. A fault of it is answered only where its count rose, which else is as it was.
   pub record HandsBack (last : D) (disk old : Option D) (answer : Answer) : Type 0 where
     pub disk_is : disk ≡ Some last
@@ -47,7 +47,7 @@ module _ {D : Type 0} (told : D → DiskTold) (first : D) where
 
   -- The old disk of the name is made, and its list is brought over. Where that isn't done for another reason than a fault of a disk,
   -- the file stays as it was.
-  pub record FillsIt (limits : Limits) (before after : Told) (named : List ℕ) (disk old : Option D) (answer : Answer) : Type 0 where
+  pub record FillsIt (limits : Limits) (before after : OutsideShown) (named : List ℕ) (disk old : Option D) (answer : Answer) : Type 0 where
     pub last : D
     pub disk_is : disk ≡ Some last
     pub makings : AreMakings (making OldDisk named (is_none old) ∷ []) before after

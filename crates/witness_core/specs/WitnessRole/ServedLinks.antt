@@ -8,7 +8,7 @@ use Rattle.cesr_codes.specs.declared.digest.Digest.{Digest}
 use Rattle.cesr_codes.specs.declared.key.Key.{Key}
 use Rattle.cesr_codes.specs.declared.sig.Sig.{Sig}
 use Rattle.journal.specs.declared.journal.refusal.Refusal.{Refusal}
-use Rattle.shelf_log.specs.KeriDisk.Images.{DiskTold}
+use Rattle.shelf_log.specs.KeriDisk.Images.{DiskShown}
 use Rattle.run_status.specs.DoorLinks.Taken.{AreTaken, IsCaused, IsEnough}
 use Rattle.keri_outside.specs.declared.inquiry.Inquiry.{Inquiry}
 use Rattle.keri_outside.specs.declared.limits.Limits.{Limits}
@@ -17,7 +17,7 @@ use Rattle.run_status.specs.declared.run_outside.making.MakingKind.TheVariants.{
 use Rattle.run_status.specs.declared.run_status.close.Close.{Close}
 use Rattle.run_status.specs.declared.run_status.close.Close.TheVariants.{End, VerifierFault, SignerFault}
 use Rattle.run_status.specs.declared.run_status.reader_end.ReaderEnd.{ReaderEnd}
-use Rattle.run_status.specs.RunStatus.Readers.{Reader, SinkTold, SourceTold, VerifierTold}
+use Rattle.run_status.specs.RunStatus.Readers.{Reader, SinkShown, SourceShown, VerifierShown}
 use Rattle.run_status.specs.RunStatus.Status.{nothing_besides}
 use Rattle.validator_core.specs.ValidatorCore.View.{open_of}
 use Rattle.witness_core.specs.WitnessStore.Storing.{StoresOn}
@@ -28,17 +28,17 @@ use Rattle.witness_core.specs.WitnessLink.Closes.{asks_next}
 use Rattle.witness_core.specs.WitnessLink.Links.{Left, Serving, Terms}
 use Rattle.witness_core.specs.WitnessLink.Served.{ServesLink}
 use Rattle.witness_core.specs.WitnessLink.Stored.{HoldsEach, IsLawfulList, IsOfListed}
-use Rattle.run_status.specs.RunRecord.Run.{DoorTold, Run, SignerTold}
+use Rattle.run_status.specs.RunRecord.Run.{DoorShown, Run, SignerShown}
 use Rattle.witness_core.specs.WitnessRole.ServedFile.{EndsWith, MakesServing, at_link}
 use Rattle.witness_core.specs.WitnessRole.Views.{Views, link_sinks_by, reader_by, readers_by}
 use Rattle.witness_core.specs.declared.witness_role.links_kept.LinksKept.{LinksKept}
 
 -- a link that was served: what its source and its sink were before and after, what was noted of its messages, and how it closed
 pub record ServedLink : Type 0 where
-  pub source_old : SourceTold
-  pub source : SourceTold
-  pub sink_old : SinkTold
-  pub sink : SinkTold
+  pub source_old : SourceShown
+  pub source : SourceShown
+  pub sink_old : SinkShown
+  pub sink : SinkShown
   pub refused : List Refusal
   pub seen : List Digest
   pub close : Close
@@ -53,10 +53,10 @@ pub record Between (D : Type 0) : Type 0 where
   pub signer_faults : ℕ
 
 -- what its verifier and its signer tell then
-abbrev pub verifier_at : {D : Type 0} → (Key → List ℕ → Sig → Option Bool) → Between D → VerifierTold
+abbrev pub verifier_at : {D : Type 0} → (Key → List ℕ → Sig → Option Bool) → Between D → VerifierShown
 verifier_at says between = record { says = says; inquiries = between.inquiries; faults = between.verifier_faults }
 
-abbrev pub signer_at : {D : Type 0} → (Key → List ℕ → Option Sig) → Between D → SignerTold
+abbrev pub signer_at : {D : Type 0} → (Key → List ℕ → Option Sig) → Between D → SignerShown
 signer_at gives between = record { gives = gives; signings = between.signings; faults = between.signer_faults }
 
 -- what serves links is that at a moment
@@ -70,7 +70,7 @@ between_of serving = record {
 }
 
 -- a reader of no link, with the verifier, where there is one
-abbrev pub idle_reader : Option VerifierTold → Close → Reader
+abbrev pub idle_reader : Option VerifierShown → Close → Reader
 idle_reader verifier close = record { source = None; verifier = verifier; refused = []; seen = []; close = close }
 
 -- the reader of a link, and with the verifier
@@ -78,7 +78,7 @@ abbrev pub reader_of : ServedLink → Reader
 reader_of link = record { source = Some link.source; verifier = None; refused = link.refused; seen = link.seen; close = link.close }
 
 -- the readers of a run: the one verifier stands in the first, which there is also where no link came
-abbrev pub readers_with : VerifierTold → List Reader → List Reader
+abbrev pub readers_with : VerifierShown → List Reader → List Reader
 readers_with verifier [] = idle_reader (Some verifier) End ∷ []
 readers_with verifier (reader ∷ readers) = record reader { verifier = Some verifier } ∷ readers
 
@@ -94,7 +94,7 @@ pub record IsFresh (link : ServedLink) : Type 0 where
   pub sink_unfailed : link.sink_old.faults ≡ 0
   pub unwritten : HasNone link.sink_old.written
 
-module _ {D : Type 0} (told : D → DiskTold) (key : Key) (limits run_limits : Limits) (says : Key → List ℕ → Sig → Option Bool) (gives : Key → List ℕ → Option Sig) where
+module _ {D : Type 0} (told : D → DiskShown) (key : Key) (limits run_limits : Limits) (says : Key → List ℕ → Sig → Option Bool) (gives : Key → List ℕ → Option Sig) where
   -- a link was served, as the witness stood before it
   pub record ServesOne (link : ServedLink) (old new : Between D) : Type 0 where
     pub fresh : IsFresh link
@@ -103,7 +103,7 @@ module _ {D : Type 0} (told : D → DiskTold) (key : Key) (limits run_limits : L
         (at_link told key limits new.left (verifier_at says new) (signer_at gives new) link.sink link.refused link.seen) link.close
 
   -- what came with these bytes was served as a link, with this reader and this sink
-  pub record IsServed (held : Option (List ℕ)) (reader : Reader) (sink : SinkTold) (old new : Between D) : Type 0 where
+  pub record IsServed (held : Option (List ℕ)) (reader : Reader) (sink : SinkShown) (old new : Between D) : Type 0 where
     pub link : ServedLink
     pub one : ServesOne link old new
     pub held_is : held ≡ link.source_old.left
@@ -141,7 +141,7 @@ module _ {D : Type 0} (told : D → DiskTold) (key : Key) (limits run_limits : L
   -- The links that came at a door were served, and so many are enough. These are their readers and their sinks, in order, and what a
   -- stop leaves through all of them. Where no question was open before the first, the verifier was asked for the verdicts that the core
   -- was told since, in order, and for nothing else, but maybe for the first question that is open behind the last.
-  pub record ServesComing (count : ℕ) (failed : Bool) (door_old door : DoorTold) (old new : Between D) (readers : List Reader) (sinks : List SinkTold) : Type 0 where
+  pub record ServesComing (count : ℕ) (failed : Bool) (door_old door : DoorShown) (old new : Between D) (readers : List Reader) (sinks : List SinkShown) : Type 0 where
     pub links : List ServedLink
     pub serves : ServesEach links old new
     pub stops : StopsLeave links old new serves
@@ -157,22 +157,22 @@ abbrev pub at_first : {D : Type 0} → Option (List Inquiry) → Option (List Si
 at_first inquiries signings left = record { left = left; inquiries = inquiries; verifier_faults = 0; signings = signings; signer_faults = 0 }
 
 -- the verifier and the signer tell this in the end
-abbrev pub at_last : {D : Type 0} → Left D → VerifierTold → SignerTold → Between D
+abbrev pub at_last : {D : Type 0} → Left D → VerifierShown → SignerShown → Between D
 at_last left verifier signer =
     record { left = left; inquiries = verifier.inquiries; verifier_faults = verifier.faults; signings = signer.signings; signer_faults = signer.faults }
 
 -- One of the makings failed: no link is asked for, and the witness is as it was. A verifier that was made was asked nothing, and never
 -- failed.
-pub record ServesNoLink {D : Type 0} (links : Option (List (List ℕ))) (verifier : Option VerifierTold) (at : Close) (readers : List Reader) (old new : Left D) (run : Run) : Type 0 where
+pub record ServesNoLink {D : Type 0} (links : Option (List (List ℕ))) (verifier : Option VerifierShown) (at : Close) (readers : List Reader) (old new : Left D) (run : Run) : Type 0 where
   pub one : readers ≡ idle_reader verifier at ∷ []
   pub unasked : IfSome run.door (λ door. door ≡ record { left = links; faults = 0 })
   pub none_inquired : IfSome verifier (λ v. HasNone v.inquiries × (v.faults ≡ 0))
   pub no_sinks : run.sinks ≡ []
   pub same : new ≡ old
 
-module _ {D : Type 0} (told : D → DiskTold) (key : Key) (limits : Limits) where
+module _ {D : Type 0} (told : D → DiskShown) (key : Key) (limits : Limits) where
   -- All that was made serves the links that come. The verifier and the signer were asked nothing before, where they tell.
-  pub record ServesLinks (helper address : List ℕ) (count : ℕ) (old new : Left D) (door : DoorTold) (verifier : VerifierTold) (signer : SignerTold) (failed : Bool) (readers : List Reader) (run : Run) : Type 0 where
+  pub record ServesLinks (helper address : List ℕ) (count : ℕ) (old new : Left D) (door : DoorShown) (verifier : VerifierShown) (signer : SignerShown) (failed : Bool) (readers : List Reader) (run : Run) : Type 0 where
     pub each : List Reader
     pub inquiries : Option (List Inquiry)
     pub none_inquired : HasNone inquiries
@@ -186,10 +186,10 @@ module _ {D : Type 0} (told : D → DiskTold) (key : Key) (limits : Limits) wher
     pub readers_are : readers ≡ readers_with verifier each
 
   -- all three were made, of which the door told this, and the verifier and the signer were so before; and the run ends
-  pub record ServesAllLinks (run_limits : Limits) (says : Key → List ℕ → Sig → Option Bool) (gives : Key → List ℕ → Option Sig) (count : ℕ) (door_old : DoorTold) (old : Between D) (disk : Option D) (run : Run) : Type 0 where
-    pub door : DoorTold
-    pub verifier : VerifierTold
-    pub signer : SignerTold
+  pub record ServesAllLinks (run_limits : Limits) (says : Key → List ℕ → Sig → Option Bool) (gives : Key → List ℕ → Option Sig) (count : ℕ) (door_old : DoorShown) (old : Between D) (disk : Option D) (run : Run) : Type 0 where
+    pub door : DoorShown
+    pub verifier : VerifierShown
+    pub signer : SignerShown
     pub each : List Reader
     pub new : Left D
     pub failed : Bool
@@ -202,7 +202,7 @@ module _ {D : Type 0} (told : D → DiskTold) (key : Key) (limits : Limits) wher
     pub ends : EndsWith told disk (readers_with verifier each) (record nothing_besides { door_failed = failed }) new run
 
   -- What is made serves the links that come. Where the door couldn't be made, that is found, and the reader closes by nothing.
-  abbrev pub ServesLinksBy : List ℕ → List ℕ → ℕ → Left D → Left D → Option DoorTold → Option VerifierTold → Option SignerTold → Bool → List Reader → Run → Type 0
+  abbrev pub ServesLinksBy : List ℕ → List ℕ → ℕ → Left D → Left D → Option DoorShown → Option VerifierShown → Option SignerShown → Bool → List Reader → Run → Type 0
   ServesLinksBy helper address count old new None verifier signer failed readers run =
       (failed ≡ true) × ServesNoLink (run.before.links address) None End readers old new run
   ServesLinksBy helper address count old new (Some door) None signer failed readers run =
@@ -215,7 +215,7 @@ module _ {D : Type 0} (told : D → DiskTold) (key : Key) (limits : Limits) wher
   -- The door of an address, and the verifier and the signer of a helper, are made. What was made serves the links that come at the
   -- door, so many at most, each with its receipts to its own sink, and the run ends.
   pub record IsServingLinks (helper address : List ℕ) (count : ℕ) (old : Left D) (disk : Option D) (run : Run) : Type 0 where
-    pub verifier : Option VerifierTold
+    pub verifier : Option VerifierShown
     pub makes : MakesServing DoorKind address helper run.door verifier run.signer run.before run.after
     pub readers : List Reader
     pub new : Left D

@@ -9,9 +9,9 @@ use Rattle.command_words.specs.declared.inputs.Inputs.{Inputs as InputWords}
 use Rattle.command_words.specs.declared.inputs.Inputs.TheVariants.{Links, Named}
 use Rattle.journal.specs.declared.journal.resume_fault.ResumeFault.{ResumeFault}
 use Rattle.journal.specs.declared.journal.resume_fault.ResumeFault.TheVariants.{NotALog, OutOfMemory}
-use Rattle.shelf_log.specs.KeriDisk.Images.{DiskTold}
+use Rattle.shelf_log.specs.KeriDisk.Images.{DiskShown}
 use Rattle.keri_outside.specs.declared.limits.Limits.{Limits}
-use Rattle.run_status.specs.RunOutside.Told.{Told}
+use Rattle.run_status.specs.RunOutside.Shown.{OutsideShown}
 use Rattle.run_status.specs.declared.run_status.besides.Besides.{Besides}
 use Rattle.run_status.specs.RunStatus.Status.{nothing_besides}
 use Rattle.shelf_log.specs.ShelfLog.Settled.{AllHold}
@@ -69,7 +69,7 @@ pub record IsUnstarted {D : Type 0} (disk : Option D) (first : D) (list : List (
   pub none : AreNoStart list fault
   pub unread : IsUnread (fault ≡ OutOfMemory) (start_text fault) (start_found fault) run
 
-module _ {D : Type 0} (told : D → DiskTold) where
+module _ {D : Type 0} (told : D → DiskShown) where
   -- what is read serves the witness: the file, or the links that come
   abbrev pub ServesInput : Key → Limits → List ℕ → Inputs (List ℕ) → Left D → Option D → Run → Type 0
   ServesInput key limits helper (named name) old disk run = IsServing told key limits helper name old disk run
@@ -98,7 +98,7 @@ module _ {D : Type 0} (told : D → DiskTold) where
     pub record OpensOne : Type 0 where
       pub first : D
       pub list : List (List ℕ)
-      pub middle : Told
+      pub middle : OutsideShown
       pub opening : IsOpening told run.before.limits run.before middle shelf from (Some first) old (Ok list)
       pub names : KeepsNames run.before middle
       pub stands : AllHold (told first) list

@@ -1,6 +1,6 @@
 -- What is stored at each moment, and what a stop leaves of it.
 use Rattle.std.specs.Prelude.{◌≡◌, ℕ, ◌≤◌, Bool, false, List, [], ◌∷◌, ◌++◌, length, map, take, drop}
-use Rattle.shelf_log.specs.KeriDisk.Images.{DiskTold, LeavesOnly}
+use Rattle.shelf_log.specs.KeriDisk.Images.{DiskShown, LeavesOnly}
 use Rattle.keri_outside.specs.declared.limits.Limits.{Limits}
 use Rattle.journal.specs.declared.journal.body.Body.{Body}
 use Rattle.journal.specs.declared.journal.mode.Mode.{Mode}
@@ -25,7 +25,7 @@ pub record HoldsFirst (stored accepted : List (List ℕ)) (file : List ℕ) : Ty
   pub holds : Holds Two file (take count accepted)
 
 -- each image stands for the stored payloads followed by the first few of the others
-abbrev pub AllStand : DiskTold → List (List ℕ) → List (List ℕ) → Type 0
+abbrev pub AllStand : DiskShown → List (List ℕ) → List (List ℕ) → Type 0
 AllStand told stored accepted = (c : List ℕ) → told.images c → HoldsFirst stored accepted c
 
 -- the second list is the first with more behind it
@@ -35,7 +35,7 @@ Grown old new = (more : List (List ℕ)) × (new ≡ old ++ more)
 -- STORES ON: A list of payloads was stored, and while a call ran, so and so many more were. The accepted payloads go on from
 -- those that were stored before, and those stored now are the first of them. Each image at the end stands for what is stored
 -- now and the first few of the rest, and each image at any moment of the call for what was stored before and the first few.
-pub record StoresOn (old : List (List ℕ)) (disk_old : DiskTold) (core : CoreView) (new : List (List ℕ)) (disk_new : DiskTold) : Type 0 where
+pub record StoresOn (old : List (List ℕ)) (disk_old : DiskShown) (core : CoreView) (new : List (List ℕ)) (disk_new : DiskShown) : Type 0 where
   pub accepted : List (List ℕ)
   pub listed : AreListed core accepted
   pub grown : Grown old accepted
@@ -73,7 +73,7 @@ pub record IsOnWay (h : History) (list : List (List ℕ)) : Type 0 where
 
 -- The shelf has the payloads of all accepted events, and room for the events that wait. Its disk hasn't failed, and each image
 -- stands for the list.
-pub record AreStored (h : History) (list : List (List ℕ)) (limits : Limits) (broken : Bool) (told : DiskTold) (room : Room) : Type 0 where
+pub record AreStored (h : History) (list : List (List ℕ)) (limits : Limits) (broken : Bool) (told : DiskShown) (room : Room) : Type 0 where
   pub on_way : IsOnWay h list
   pub all : length list ≡ length (log_in h)
   pub grown : IsGrown h.base
@@ -82,7 +82,7 @@ pub record AreStored (h : History) (list : List (List ℕ)) (limits : Limits) (b
   pub holds : AllHold told list
 
 -- Payloads were appended: the list lacks fewer of the same payloads.
-pub record Appends (old : List (List ℕ)) (disk_old : DiskTold) (h : History) (new : List (List ℕ)) (disk_new : DiskTold) : Type 0 where
+pub record Appends (old : List (List ℕ)) (disk_old : DiskShown) (h : History) (new : List (List ℕ)) (disk_new : DiskShown) : Type 0 where
   pub on_way : IsOnWay h new
   pub same : payloads h new ≡ payloads h old
   pub longer : length old ≤ length new
@@ -90,7 +90,7 @@ pub record Appends (old : List (List ℕ)) (disk_old : DiskTold) (h : History) (
   pub moments : LeavesOnly disk_old disk_new (HoldsFirst old (payloads h new))
 
 -- Entries came, and payloads were appended: those that were stored, and what the list lacks, go on from those stored before.
-pub record GoesOn (old : List (List ℕ)) (disk_old : DiskTold) (h : History) (new : List (List ℕ)) (disk_new : DiskTold) : Type 0 where
+pub record GoesOn (old : List (List ℕ)) (disk_old : DiskShown) (h : History) (new : List (List ℕ)) (disk_new : DiskShown) : Type 0 where
   pub on_way : IsOnWay h new
   pub grown : Grown old (payloads h new)
   pub longer : length old ≤ length new

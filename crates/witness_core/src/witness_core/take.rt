@@ -13,7 +13,7 @@ ghost use Rattle.validator_core.specs.ValidatorCore.View.{Follows, base_of, told
 ghost use Rattle.witness_core.specs.WitnessStore.Histories.{history_of, log_in};
 ghost use Rattle.witness_core.specs.WitnessStore.Room.{IsKnown, IsRoom};
 ghost use Rattle.witness_core.specs.WitnessStore.Storing.{AreStored};
-ghost use Rattle.witness_core.specs.declared.witness_store.witness_fault.WitnessFault.TheVariants.{Full as NoRoom, OutOfMemory as NoMemory};
+ghost use Rattle.witness_core.specs.declared.witness_store.witness_fault.WitnessFault.TheVariants.{LimitReached as NoRoom, OutOfMemory as NoMemory};
 ghost use Rattle.witness_core.specs.WitnessCore.Faults.{FullBy};
 ghost use Rattle.witness_core.specs.WitnessCore.Telling.{Came, Fails, FailsMessage, IsReady, IsTurnedAway, IsUntold, TakesIn, has_no_room};
 
@@ -42,7 +42,7 @@ pub(crate) fn take_in<D: Disk + Drop>(
 ) -> Result<Taken, WitnessFault>
     requires limits { (shelf.now.limits ≡ limits) × (core.old.limits ≡ limits) }
     requires stored { AreStored (history_of core.old) shelf.now.list shelf.now.limits shelf.now.broken
-        (D.told shelf.now.disk) room.old }
+        (D.shown shelf.now.disk) room.old }
     ensures taken { IfOk result (λ taken. TakesIn limits core.old room.old shelf.now.list message.now taken
         core.new room.new) }
     ensures full { MatchResult result (λ _. IsTurnedAway limits core.old shelf.now.list message.now → ⊥)
@@ -87,7 +87,7 @@ fn take_event<D: Disk + Drop>(
 ) -> Result<u32, WitnessFault>
     requires limits { (shelf.now.limits ≡ limits) × (core.old.limits ≡ limits) }
     requires stored { AreStored (history_of core.old) shelf.now.list shelf.now.limits shelf.now.broken
-        (D.told shelf.now.disk) room.old }
+        (D.shown shelf.now.disk) room.old }
     requires judged { JudgesMessage message.now (Ok brought.event) }
     requires claims { brought.claims ≡ replies.claims_of message.now }
     requires no_receipt { events.is_receipt brought.event ≡ false }
@@ -107,7 +107,7 @@ fn take_event<D: Disk + Drop>(
     };
     if lacks_room(core, shelf, room, limits, coming) {
         drop(event);
-        return Err(WitnessFault::Full);
+        return Err(WitnessFault::LimitReached);
     }
     match coming.number {
         Some(number) => take_again(core, room, steps, &message.body, event, claims, number),
@@ -202,7 +202,7 @@ fn enter(
     let reply = core.take_event(0, body, event, claims, steps)?;
     core.stands();
     match reply {
-        Reply::Full => Err(WitnessFault::Full),
+        Reply::LimitReached => Err(WitnessFault::LimitReached),
         Reply::Taken => Ok(()),
         Reply::Again => Ok(()),
         Reply::Refused(_) => unreachable!(),

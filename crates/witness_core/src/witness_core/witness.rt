@@ -40,7 +40,7 @@ pub struct Witness<D: Disk> {
     ghost core_limits: { core.limits ≡ limits },
     ghost shelf_limits: { shelf.limits ≡ limits },
     ghost stored: { broken ≡ false → AreStored (history_of core) shelf.list shelf.limits shelf.broken
-        (D.told shelf.disk) room } by { Prim.hlevel props },
+        (D.shown shelf.disk) room } by { Prim.hlevel props },
 }
 
 impl<D: Disk + Drop> Witness<D> {
@@ -52,7 +52,7 @@ impl<D: Disk + Drop> Witness<D> {
     ghost use Rattle.witness_core.specs.WitnessStore.Payloads.{AreListed};
     ghost use Rattle.witness_core.specs.WitnessStore.Starts.{AreNoStart, IsStarted, ReadsAgain};
     ghost use Rattle.witness_core.specs.WitnessStore.Storing.{GoesOn, StoresOn};
-    ghost use Rattle.witness_core.specs.declared.witness_store.witness_fault.WitnessFault.TheVariants.{Full as NoRoom};
+    ghost use Rattle.witness_core.specs.declared.witness_store.witness_fault.WitnessFault.TheVariants.{LimitReached as NoRoom};
     ghost use Rattle.witness_core.specs.WitnessCore.Faults.{CausedBy, FullBy, Goes, TakeFault};
     ghost use Rattle.witness_core.specs.WitnessCore.Outcomes.{AreReceipts, AsksSigner, IsOfStored, KeepsList, TellsFate};
     ghost use Rattle.witness_core.specs.WitnessCore.Telling.{AsksVerdicts, IsTakenAs, IsTurnedAway, IsUntold, TellsFault, TellsTaken};
@@ -126,8 +126,8 @@ impl<D: Disk + Drop> Witness<D> {
         ensures read { self.new.broken ≡ false → ReadsAgain self.new.core self.new.shelf.list }
 
         // A stop at any moment leaves what was stored before, and the first few of what was accepted since.
-        ensures stores { self.old.broken ≡ false → StoresOn self.old.shelf.list (D.told self.old.shelf.disk)
-            self.new.core self.new.shelf.list (D.told self.new.shelf.disk) }
+        ensures stores { self.old.broken ≡ false → StoresOn self.old.shelf.list (D.shown self.old.shelf.disk)
+            self.new.core self.new.shelf.list (D.shown self.new.shelf.disk) }
 
         ensures fate { IfOk result (λ o. IsFate self.old.key self.new.core message.now o.fate) }
 
@@ -144,10 +144,10 @@ impl<D: Disk + Drop> Witness<D> {
             ⊎ AreListed self.new.core self.new.shelf.list }
 
         // A fault is answered where its own count rose; the other counts are as they were.
-        ensures disk_same { OnOk result ((D.told self.new.shelf.disk).faults ≡ (D.told self.old.shelf.disk).faults) }
+        ensures disk_same { OnOk result ((D.shown self.new.shelf.disk).faults ≡ (D.shown self.old.shelf.disk).faults) }
         ensures verifier_same { OnOk result (V.faults verifier.new ≡ V.faults verifier.old) }
         ensures signer_same { OnOk result (S.faults signer.new ≡ S.faults signer.old) }
-        ensures causes { IfErr result (CausedBy (D.told self.old.shelf.disk).faults (D.told self.new.shelf.disk).faults
+        ensures causes { IfErr result (CausedBy (D.shown self.old.shelf.disk).faults (D.shown self.new.shelf.disk).faults
             (V.faults verifier.old) (V.faults verifier.new) (S.faults signer.old) (S.faults signer.new)) }
     {
         if self.broken {
@@ -181,14 +181,14 @@ impl<D: Disk + Drop> Witness<D> {
     ) -> Result<Outcome, WitnessFault>
         requires broken { self.old.broken ≡ true }
         requires stored { AreStored (history_of self.old.core) self.old.shelf.list self.old.shelf.limits
-            self.old.shelf.broken (D.told self.old.shelf.disk) self.old.room }
+            self.old.shelf.broken (D.shown self.old.shelf.disk) self.old.room }
         ensures same { (self.new.key ≡ self.old.key) × (self.new.limits ≡ self.old.limits) }
         ensures stored { OnOk result (AreStored (history_of self.new.core) self.new.shelf.list self.new.shelf.limits
-            self.new.shelf.broken (D.told self.new.shelf.disk) self.new.room) }
+            self.new.shelf.broken (D.shown self.new.shelf.disk) self.new.room) }
         ensures kept { IfErr result (λ fault. StoresStill fault (AreStored (history_of self.new.core) self.new.shelf.list
-            self.new.shelf.limits self.new.shelf.broken (D.told self.new.shelf.disk) self.new.room)) }
-        ensures goes_on { GoesOn self.old.shelf.list (D.told self.old.shelf.disk) (history_of self.new.core)
-            self.new.shelf.list (D.told self.new.shelf.disk) }
+            self.new.shelf.limits self.new.shelf.broken (D.shown self.new.shelf.disk) self.new.room)) }
+        ensures goes_on { GoesOn self.old.shelf.list (D.shown self.old.shelf.disk) (history_of self.new.core)
+            self.new.shelf.list (D.shown self.new.shelf.disk) }
         ensures same_at_full { IfErr result (λ fault. fault ≡ NoRoom → self.new.shelf ≡ self.old.shelf) }
         ensures full { MatchResult result
             (λ _. IsTurnedAway self.old.limits self.old.core self.old.shelf.list message.now → ⊥)
@@ -210,11 +210,11 @@ impl<D: Disk + Drop> Witness<D> {
             (S.signings signer.old) (S.signings signer.new) result }
         ensures stored_where_asked { (S.signings signer.new ≡ S.signings signer.old)
             ⊎ AreStored (history_of self.new.core) self.new.shelf.list self.new.shelf.limits self.new.shelf.broken
-            (D.told self.new.shelf.disk) self.new.room }
-        ensures disk_same { OnOk result ((D.told self.new.shelf.disk).faults ≡ (D.told self.old.shelf.disk).faults) }
+            (D.shown self.new.shelf.disk) self.new.room }
+        ensures disk_same { OnOk result ((D.shown self.new.shelf.disk).faults ≡ (D.shown self.old.shelf.disk).faults) }
         ensures verifier_same { OnOk result (V.faults verifier.new ≡ V.faults verifier.old) }
         ensures signer_same { OnOk result (S.faults signer.new ≡ S.faults signer.old) }
-        ensures causes { IfErr result (CausedBy (D.told self.old.shelf.disk).faults (D.told self.new.shelf.disk).faults
+        ensures causes { IfErr result (CausedBy (D.shown self.old.shelf.disk).faults (D.shown self.new.shelf.disk).faults
             (V.faults verifier.old) (V.faults verifier.new) (S.faults signer.old) (S.faults signer.new)) }
     {
         let key = self.key;
@@ -244,14 +244,14 @@ impl<D: Disk + Drop> Witness<D> {
     ) -> Result<Taken, WitnessFault>
         requires broken { self.old.broken ≡ true }
         requires stored { AreStored (history_of self.old.core) self.old.shelf.list self.old.shelf.limits
-            self.old.shelf.broken (D.told self.old.shelf.disk) self.old.room }
+            self.old.shelf.broken (D.shown self.old.shelf.disk) self.old.room }
         ensures same { (self.new.key ≡ self.old.key) × (self.new.limits ≡ self.old.limits) }
         ensures stored { OnOk result (AreStored (history_of self.new.core) self.new.shelf.list self.new.shelf.limits
-            self.new.shelf.broken (D.told self.new.shelf.disk) self.new.room) }
+            self.new.shelf.broken (D.shown self.new.shelf.disk) self.new.room) }
         ensures kept { IfErr result (λ fault. StoresStill fault (AreStored (history_of self.new.core) self.new.shelf.list
-            self.new.shelf.limits self.new.shelf.broken (D.told self.new.shelf.disk) self.new.room)) }
-        ensures goes_on { GoesOn self.old.shelf.list (D.told self.old.shelf.disk) (history_of self.new.core)
-            self.new.shelf.list (D.told self.new.shelf.disk) }
+            self.new.shelf.limits self.new.shelf.broken (D.shown self.new.shelf.disk) self.new.room)) }
+        ensures goes_on { GoesOn self.old.shelf.list (D.shown self.old.shelf.disk) (history_of self.new.core)
+            self.new.shelf.list (D.shown self.new.shelf.disk) }
         ensures same_at_full { IfErr result (λ fault. fault ≡ NoRoom → self.new.shelf ≡ self.old.shelf) }
         ensures full { MatchResult result
             (λ _. IsTurnedAway self.old.limits self.old.core self.old.shelf.list message.now → ⊥)
@@ -264,9 +264,9 @@ impl<D: Disk + Drop> Witness<D> {
         ensures verdicts { AsksVerdicts (V.inquiries verifier.old) (V.inquiries verifier.new)
             self.old.core self.new.core }
         ensures follows { Follows self.old.core self.new.core }
-        ensures disk_same { OnOk result ((D.told self.new.shelf.disk).faults ≡ (D.told self.old.shelf.disk).faults) }
+        ensures disk_same { OnOk result ((D.shown self.new.shelf.disk).faults ≡ (D.shown self.old.shelf.disk).faults) }
         ensures verifier_same { OnOk result (V.faults verifier.new ≡ V.faults verifier.old) }
-        ensures causes { IfErr result (TakeFault (D.told self.old.shelf.disk).faults (D.told self.new.shelf.disk).faults
+        ensures causes { IfErr result (TakeFault (D.shown self.old.shelf.disk).faults (D.shown self.new.shelf.disk).faults
             (V.faults verifier.old) (V.faults verifier.new)) }
     {
         let taken = take_in(
@@ -328,7 +328,7 @@ impl<D: Disk + Drop> Witness<D> {
         ensures bodies { result.0.bodies ≡ map (λ b. b.bytes) self.core.held }
         ensures entries { result.0.entries ≡ self.core.entries }
         ensures shelf { result.1 ≡ self.shelf }
-        ensures stand { self.broken ≡ false → AllHold (D.told self.shelf.disk) self.shelf.list }
+        ensures stand { self.broken ≡ false → AllHold (D.shown self.shelf.disk) self.shelf.list }
     {
         let Witness { core, shelf, .. } = self;
         (core.into_journal(), shelf)

@@ -13,7 +13,7 @@ pub(crate) fn close_of(fault: WitnessFault) -> Close
         WitnessFault::DiskFault => Close::DiskFault,
         WitnessFault::SignerFault => Close::SignerFault,
         WitnessFault::VerifierFault => Close::VerifierFault,
-        WitnessFault::Full => Close::Full,
+        WitnessFault::LimitReached => Close::LimitReached,
         WitnessFault::Broken => Close::DiskFault,
         WitnessFault::OutOfMemory => Close::OutOfMemory,
     }
@@ -26,6 +26,6 @@ pub fn asks_next(close: Close) -> bool
     match close {
         Close::End | Close::Bad(_) | Close::ReadFault | Close::WriteFault => true,
         Close::VerifierFault | Close::SignerFault | Close::DiskFault => false,
-        Close::Malformed(_) | Close::Full | Close::OutOfMemory => false,
+        Close::Malformed(_) | Close::LimitReached | Close::OutOfMemory => false,
     }
 }

@@ -2,7 +2,7 @@
 ghost use Rattle.std.specs.Prelude.{◌≡◌, false};
 ghost use Rattle.run_status.specs.RunStatus.Readers.{sink_seen};
 ghost use Rattle.witness_core.specs.WitnessLink.Links.{source_at};
-ghost use Rattle.witness_core.specs.WitnessLink.Offered.{Finishes, LendsSame, TakesLast, link_told};
+ghost use Rattle.witness_core.specs.WitnessLink.Offered.{Finishes, LendsSame, TakesLast, link_shown};
 ghost use Rattle.witness_core.specs.WitnessLink.Served.{ServesLink, ServesLinkTo, ServesNoting};
 
 use crate::witness_link::link::Link;
@@ -68,7 +68,7 @@ fn serve_all<'w, 'k, 'n, S: Source, W: Witnessing, K: Sink>(
     requires { (W.seen link.old.service.now).witness.broken ≡ false }
     ensures serves { ServesLink limits (source_at S.left S.faults source.old)
         (source_at S.left S.faults source.new)
-        (link_told W.seen K.written K.faults link.old) (link_told W.seen K.written K.faults link.new) result }
+        (link_shown W.seen K.written K.faults link.old) (link_shown W.seen K.written K.faults link.new) result }
     ensures same { LendsSame link.old link.new }
 {
     link.service.stands();
@@ -88,7 +88,7 @@ fn finish<'w, 'k, 'n, W: Witnessing, K: Sink>(
         FeedClose::End => Close::End,
         FeedClose::Bad(bad) => Close::Bad(bad),
         FeedClose::ReadFault => Close::ReadFault,
-        FeedClose::Full => return Close::Full,
+        FeedClose::LimitReached => return Close::LimitReached,
         FeedClose::OutOfMemory => return Close::OutOfMemory,
         FeedClose::Stopped(close) => return close,
     };

@@ -3,7 +3,7 @@ ghost use Rattle.std.specs.Prelude.{◌≡◌, ◌⊎◌, false, List, ℕ};
 ghost use Rattle.witness_core.specs.WitnessCore.Outcomes.{AsksSigner};
 ghost use Rattle.witness_core.specs.WitnessStore.Payloads.{AreListed};
 ghost use Rattle.witness_core.specs.WitnessCore.Telling.{AsksVerdicts};
-ghost use Rattle.witness_core.specs.WitnessLink.Links.{Left, ServiceTold, Serving, counts_at, terms_at};
+ghost use Rattle.witness_core.specs.WitnessLink.Links.{Left, ServiceShown, Serving, counts_at, terms_at};
 ghost use Rattle.witness_core.specs.WitnessLink.Taking.{IsSound, KeepsSame, TakesMessage};
 
 use crate::witness_core::{Outcome, Witness, WitnessFault};
@@ -39,7 +39,7 @@ pub trait ServiceView {
 /// A witness with its verifier and its signer, as far as a link needs them.
 pub trait Witnessing: ServiceView {
     /// What is seen of them.
-    ghost seen: { Self → ServiceTold };
+    ghost seen: { Self → ServiceShown };
 
     /// Takes a message, and gives what becomes of it and the receipts that are due.
     fn take(&mut self, message: &Message) -> Result<Outcome, WitnessFault>
@@ -73,7 +73,7 @@ impl<D: Disk + Drop> Witness<D> {
 
     /// What is true of it where it isn't broken, stated for proofs. Nothing is done here.
     pub(crate) fn stands(&self)
-        ensures { self.now.broken ≡ false → IsSound (seen_as D.told self.now.key self.now.limits
+        ensures { self.now.broken ≡ false → IsSound (seen_as D.shown self.now.key self.now.limits
             (record { core = self.now.core; list = self.now.shelf.list; broken = self.now.broken; disk = self.now.shelf.disk })) }
     {
         // What is true of its core, a proof learns here.
@@ -91,8 +91,8 @@ pub struct Service<D: Disk, V, G> {
 }
 
 impl<D: Disk, V: Verifier, G: Signer> ServiceView for Service<D, V, G> {
-    ghost use Rattle.run_status.specs.RunRecord.Seen.{signer_told};
-    ghost use Rattle.witness_core.specs.WitnessLink.Links.{verifier_told};
+    ghost use Rattle.run_status.specs.RunRecord.Seen.{signer_shown};
+    ghost use Rattle.witness_core.specs.WitnessLink.Links.{verifier_shown};
 
     type Disk = D;
 
@@ -100,15 +100,15 @@ impl<D: Disk, V: Verifier, G: Signer> ServiceView for Service<D, V, G> {
       key = s.witness.key;
       limits = s.witness.limits;
       left = record { core = s.witness.core; list = s.witness.shelf.list; broken = s.witness.broken; disk = s.witness.shelf.disk };
-      verifier = verifier_told V.says V.inquiries V.faults s.verifier;
-      signer = signer_told G.gives G.signings G.faults s.signer;
+      verifier = verifier_shown V.says V.inquiries V.faults s.verifier;
+      signer = signer_shown G.gives G.signings G.faults s.signer;
     } };
 }
 
 impl<D: Disk + Drop, V: Verifier, G: Signer> Witnessing for Service<D, V, G> {
     ghost use Rattle.witness_core.specs.WitnessLink.Links.{seen_by};
 
-    ghost seen = { λ s. seen_by D.told (Self.serving s) };
+    ghost seen = { λ s. seen_by D.shown (Self.serving s) };
 
     fn take(&mut self, message: &Message) -> Result<Outcome, WitnessFault> {
         let taken = self

@@ -16,7 +16,7 @@ pub enum OpeningFault {
     /// A disk failed, or couldn't be made.
     DiskFault,
     /// A file's list has more records or bytes than a shelf may have.
-    Full,
+    LimitReached,
     /// There is no memory.
     OutOfMemory,
 }
@@ -38,7 +38,7 @@ impl OpeningFault {
         match fault {
             ShelfFault::NotAShelf(place) => OpeningFault::of_place(version, place),
             ShelfFault::DiskFault => OpeningFault::DiskFault,
-            ShelfFault::Full => OpeningFault::Full,
+            ShelfFault::LimitReached => OpeningFault::LimitReached,
             ShelfFault::OutOfMemory => OpeningFault::OutOfMemory,
             ShelfFault::Broken => unreachable!(),
         }
@@ -70,7 +70,7 @@ impl OpeningFault {
                 disk_failed: true,
                 ..Besides::nothing()
             },
-            OpeningFault::Full => Besides {
+            OpeningFault::LimitReached => Besides {
                 shelf_full: true,
                 ..Besides::nothing()
             },
@@ -85,7 +85,7 @@ impl OpeningFault {
         match self {
             OpeningFault::NotAShelf(place) => shelf_line(alloc, place),
             OpeningFault::NotAnOldShelf(place) => old_line(alloc, place),
-            OpeningFault::DiskFault | OpeningFault::Full => Ok(String::new(alloc)),
+            OpeningFault::DiskFault | OpeningFault::LimitReached => Ok(String::new(alloc)),
             OpeningFault::OutOfMemory => Err(AllocError),
         }
     }

@@ -10,11 +10,11 @@ use shelf_log::Disk;
 /// Whether the file is empty. It syncs first, and writes nothing.
 #[tactic(auto, using(shelf_log::proofs::KeriDiskLemmas::Moments::keeps_both, shelf_log::proofs::KeriDiskLemmas::Moments::durable_kept))]
 pub(crate) fn is_empty<D: Disk>(disk: &mut D) -> Result<bool, Failed>
-    ensures empty { IfOk result (λ is_empty. IfSome (D.told disk.old).file
+    ensures empty { IfOk result (λ is_empty. IfSome (D.shown disk.old).file
         (λ file. IsTrue is_empty ↔ (file ≡ []))) }
-    ensures durable { OnOk result (IsDurable (D.told disk.new)) }
-    ensures keeps { Keeps (D.told disk.old) (D.told disk.new) }
-    ensures cause { HasCause (D.told disk.old).faults (D.told disk.new).faults result }
+    ensures durable { OnOk result (IsDurable (D.shown disk.new)) }
+    ensures keeps { Keeps (D.shown disk.old) (D.shown disk.new) }
+    ensures cause { HasCause (D.shown disk.old).faults (D.shown disk.new).faults result }
 {
     disk.sync()?;
     Ok(disk.size()? == 0)

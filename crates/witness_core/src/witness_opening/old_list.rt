@@ -21,17 +21,17 @@ pub(crate) fn fill<O: Outside>(
     limits: Limits,
     outside: &mut O,
 ) -> Result<Opened<O::Disk>, NotOpened<O::Disk>>
-    requires durable { IsDurable (O.Disk.told disk) }
-    requires leftover { IfSome (O.Disk.told disk).file IsLeftover }
-    requires none_yet { (O.Disk.told disk).faults ≡ 0 }
-    ensures is_open { IfOk result (λ opened. IsOpen (O.Disk.told opened.shelf.disk) limits
+    requires durable { IsDurable (O.Disk.shown disk) }
+    requires leftover { IfSome (O.Disk.shown disk).file IsLeftover }
+    requires none_yet { (O.Disk.shown disk).faults ≡ 0 }
+    ensures is_open { IfOk result (λ opened. IsOpen (O.Disk.shown opened.shelf.disk) limits
         opened.shelf.limits opened.shelf.broken opened.shelf.list) }
     ensures fills { MatchResult result
-        (λ opened. FillsIt O.Disk.told disk limits (O.told outside.old) (O.told outside.new) old.now
+        (λ opened. FillsIt O.Disk.shown disk limits (O.shown outside.old) (O.shown outside.new) old.now
         (Some opened.shelf.disk) opened.old (Ok opened.shelf.list))
-        (λ none. FillsIt O.Disk.told disk limits (O.told outside.old) (O.told outside.new) old.now
+        (λ none. FillsIt O.Disk.shown disk limits (O.shown outside.old) (O.shown outside.new) old.now
         none.disk none.old (Err none.fault)) }
-    ensures same_names { KeepsNames (O.told outside.old) (O.told outside.new) }
+    ensures same_names { KeepsNames (O.shown outside.old) (O.shown outside.new) }
     ensures same_sink { O.sink outside.new ≡ O.sink outside.old }
 {
     let Ok(old) = outside.old_disk(old) else {

@@ -24,14 +24,14 @@ pub fn open_shelf<O: Outside>(
     limits: Limits,
     outside: &mut O,
 ) -> Result<Opened<O::Disk>, NotOpened<O::Disk>>
-    ensures is_open { IfOk result (λ opened. IsOpen (O.Disk.told opened.shelf.disk) limits
+    ensures is_open { IfOk result (λ opened. IsOpen (O.Disk.shown opened.shelf.disk) limits
         opened.shelf.limits opened.shelf.broken opened.shelf.list) }
     ensures opens { MatchResult result
-        (λ opened. IsOpening O.Disk.told limits (O.told outside.old) (O.told outside.new) name.now
+        (λ opened. IsOpening O.Disk.shown limits (O.shown outside.old) (O.shown outside.new) name.now
         (option_map (λ n. n.now) old.entry) (Some opened.shelf.disk) opened.old (Ok opened.shelf.list))
-        (λ none. IsOpening O.Disk.told limits (O.told outside.old) (O.told outside.new) name.now
+        (λ none. IsOpening O.Disk.shown limits (O.shown outside.old) (O.shown outside.new) name.now
         (option_map (λ n. n.now) old.entry) none.disk none.old (Err none.fault)) }
-    ensures same_names { KeepsNames (O.told outside.old) (O.told outside.new) }
+    ensures same_names { KeepsNames (O.shown outside.old) (O.shown outside.new) }
     ensures same_sink { O.sink outside.new ≡ O.sink outside.old }
 {
     match old {
@@ -47,14 +47,14 @@ fn open_alone<O: Outside>(
     limits: Limits,
     outside: &mut O,
 ) -> Result<Opened<O::Disk>, NotOpened<O::Disk>>
-    ensures is_open { IfOk result (λ opened. IsOpen (O.Disk.told opened.shelf.disk) limits
+    ensures is_open { IfOk result (λ opened. IsOpen (O.Disk.shown opened.shelf.disk) limits
         opened.shelf.limits opened.shelf.broken opened.shelf.list) }
     ensures opens { MatchResult result
-        (λ opened. IsOpening O.Disk.told limits (O.told outside.old) (O.told outside.new) name.now
+        (λ opened. IsOpening O.Disk.shown limits (O.shown outside.old) (O.shown outside.new) name.now
         None (Some opened.shelf.disk) opened.old (Ok opened.shelf.list))
-        (λ none. IsOpening O.Disk.told limits (O.told outside.old) (O.told outside.new) name.now
+        (λ none. IsOpening O.Disk.shown limits (O.shown outside.old) (O.shown outside.new) name.now
         None none.disk none.old (Err none.fault)) }
-    ensures same_names { KeepsNames (O.told outside.old) (O.told outside.new) }
+    ensures same_names { KeepsNames (O.shown outside.old) (O.shown outside.new) }
     ensures same_sink { O.sink outside.new ≡ O.sink outside.old }
 {
     let Ok(disk) = outside.disk(name) else {
@@ -76,14 +76,14 @@ fn open_beside<O: Outside>(
     limits: Limits,
     outside: &mut O,
 ) -> Result<Opened<O::Disk>, NotOpened<O::Disk>>
-    ensures is_open { IfOk result (λ opened. IsOpen (O.Disk.told opened.shelf.disk) limits
+    ensures is_open { IfOk result (λ opened. IsOpen (O.Disk.shown opened.shelf.disk) limits
         opened.shelf.limits opened.shelf.broken opened.shelf.list) }
     ensures opens { MatchResult result
-        (λ opened. IsOpening O.Disk.told limits (O.told outside.old) (O.told outside.new) name.now
+        (λ opened. IsOpening O.Disk.shown limits (O.shown outside.old) (O.shown outside.new) name.now
         (Some old.now) (Some opened.shelf.disk) opened.old (Ok opened.shelf.list))
-        (λ none. IsOpening O.Disk.told limits (O.told outside.old) (O.told outside.new) name.now
+        (λ none. IsOpening O.Disk.shown limits (O.shown outside.old) (O.shown outside.new) name.now
         (Some old.now) none.disk none.old (Err none.fault)) }
-    ensures same_names { KeepsNames (O.told outside.old) (O.told outside.new) }
+    ensures same_names { KeepsNames (O.shown outside.old) (O.shown outside.new) }
     ensures same_sink { O.sink outside.new ≡ O.sink outside.old }
 {
     let Ok(disk) = outside.disk(name) else {

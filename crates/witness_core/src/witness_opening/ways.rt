@@ -14,12 +14,12 @@ pub(crate) fn begin<D: Disk + Drop>(
     disk: D,
     limits: Limits,
 ) -> Result<Opened<D>, NotOpened<D>>
-    requires { (c : List ℕ) → (D.told disk).images c → c ≡ [] }
-    ensures is_open { IfOk result (λ opened. IsOpen (D.told opened.shelf.disk) limits
+    requires { (c : List ℕ) → (D.shown disk).images c → c ≡ [] }
+    ensures is_open { IfOk result (λ opened. IsOpen (D.shown opened.shelf.disk) limits
         opened.shelf.limits opened.shelf.broken opened.shelf.list) }
     ensures begins { MatchResult result
-        (λ opened. BeginsIt D.told disk (Some opened.shelf.disk) opened.old (Ok opened.shelf.list))
-        (λ none. BeginsIt D.told disk none.disk none.old (Err none.fault)) }
+        (λ opened. BeginsIt D.shown disk (Some opened.shelf.disk) opened.old (Ok opened.shelf.list))
+        (λ none. BeginsIt D.shown disk none.disk none.old (Err none.fault)) }
 {
     match Shelf::create(alloc, disk, limits) {
         Ok(shelf) => Ok(Opened { shelf, old: None }),
@@ -33,11 +33,11 @@ pub(crate) fn read<D: Disk + Drop>(
     disk: D,
     limits: Limits,
 ) -> Result<Opened<D>, NotOpened<D>>
-    ensures is_open { IfOk result (λ opened. IsOpen (D.told opened.shelf.disk) limits
+    ensures is_open { IfOk result (λ opened. IsOpen (D.shown opened.shelf.disk) limits
         opened.shelf.limits opened.shelf.broken opened.shelf.list) }
     ensures reads { MatchResult result
-        (λ opened. ReadsIt D.told disk limits (Some opened.shelf.disk) opened.old (Ok opened.shelf.list))
-        (λ none. ReadsIt D.told disk limits none.disk none.old (Err none.fault)) }
+        (λ opened. ReadsIt D.shown disk limits (Some opened.shelf.disk) opened.old (Ok opened.shelf.list))
+        (λ none. ReadsIt D.shown disk limits none.disk none.old (Err none.fault)) }
 {
     match Shelf::read_back(alloc, disk, limits) {
         Ok(shelf) => Ok(Opened { shelf, old: None }),

@@ -42,7 +42,7 @@ pub fn witness<O: Outside>(
     requires none_yet { readers.items ≡ [] }
     requires room { 0 < vec_capacity readers }
     requires fixed { words.prefix.code ≡ Fixed }
-    ensures witnessed { IsWitnessedBy O.Disk.told result.disk result.old words.entry
+    ensures witnessed { IsWitnessedBy O.Disk.shown result.disk result.old words.entry
         (⟦<O as Runs>⟧.run outside.old outside.new result) }
     ensures no_second { result.second ≡ None }
 {
@@ -65,7 +65,7 @@ fn unopened<O: Outside>(
     ensures old { result.old ≡ none.old }
     ensures no_second { result.second ≡ None }
     ensures unopened { IsUnopened none.fault (⟦<O as Runs>⟧.run outside.old outside.new result) }
-    ensures told { O.told outside.new ≡ O.told outside.old }
+    ensures told { O.shown outside.new ≡ O.shown outside.old }
 {
     let NotOpened { fault, disk, old } = none;
     let line = fault.text(alloc).ok();
@@ -88,7 +88,7 @@ fn start<O: Outside>(
     requires whole { opened.shelf.broken ≡ false }
     ensures old { result.old ≡ opened.old }
     ensures no_second { result.second ≡ None }
-    ensures starts { StartsOver O.Disk.told result.disk words.entry.helper.now words.entry.prefix
+    ensures starts { StartsOver O.Disk.shown result.disk words.entry.helper.now words.entry.prefix
         (inputs_by (λ name. name.now) words.entry.input) limits opened.shelf.disk opened.shelf.list
         (⟦<O as Runs>⟧.run outside.old outside.new result) }
 {
@@ -148,7 +148,7 @@ fn serve<O: Outside>(
     requires whole { witness.broken ≡ false }
     ensures old { result.old ≡ old }
     ensures no_second { result.second ≡ None }
-    ensures serves { ServesInput O.Disk.told witness.key witness.limits helper.now (inputs_by (λ name. name.now) input.entry)
+    ensures serves { ServesInput O.Disk.shown witness.key witness.limits helper.now (inputs_by (λ name. name.now) input.entry)
         (⟦<WitnessOf<O> as LeftView>⟧.left witness)
         result.disk (⟦<O as Runs>⟧.run outside.old outside.new result) }
 {
@@ -172,7 +172,7 @@ fn unstarted<O: Outside>(
     ensures no_second { result.second ≡ None }
     ensures unread { IsUnread (none.fault ≡ OutOfMemory) (start_text none.fault) (start_found none.fault)
         (⟦<O as Runs>⟧.run outside.old outside.new result) }
-    ensures told { O.told outside.new ≡ O.told outside.old }
+    ensures told { O.shown outside.new ≡ O.shown outside.old }
 {
     let StartFault { shelf, fault } = none;
     let line = line_of(alloc, fault).ok();

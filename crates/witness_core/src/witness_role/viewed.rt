@@ -23,17 +23,17 @@ pub trait Viewed: Outside {
 }
 
 impl<O: Outside> Viewed for O {
-    ghost use Rattle.run_status.specs.RunRecord.Seen.{door_told, signer_told};
+    ghost use Rattle.run_status.specs.RunRecord.Seen.{door_shown, signer_shown};
     ghost use Rattle.run_status.specs.RunStatus.Readers.{sink_seen};
-    ghost use Rattle.witness_core.specs.WitnessLink.Links.{source_at, verifier_told};
+    ghost use Rattle.witness_core.specs.WitnessLink.Links.{source_at, verifier_shown};
 
     ghost views = { record {
       sink = λ outside. sink_seen O.Sink.written O.Sink.faults (O.sink outside);
       source = source_at O.Source.left O.Source.faults;
-      verifier = verifier_told O.Verifier.says O.Verifier.inquiries O.Verifier.faults;
-      signer = signer_told O.Signer.gives O.Signer.signings O.Signer.faults;
-      disk = O.Disk.told;
-      door = door_told O.Door.left O.Door.faults;
+      verifier = verifier_shown O.Verifier.says O.Verifier.inquiries O.Verifier.faults;
+      signer = signer_shown O.Signer.gives O.Signer.signings O.Signer.faults;
+      disk = O.Disk.shown;
+      door = door_shown O.Door.left O.Door.faults;
       link_sink = sink_seen O.Door.Sink.written O.Door.Sink.faults;
     } };
 }

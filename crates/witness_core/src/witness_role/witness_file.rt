@@ -29,7 +29,7 @@ pub(crate) fn serve_file<O: Outside>(
     requires whole { witness.broken ≡ false }
     ensures old { result.old ≡ old }
     ensures no_second { result.second ≡ None }
-    ensures serves { IsServing O.Disk.told witness.key witness.limits helper.now name.now
+    ensures serves { IsServing O.Disk.shown witness.key witness.limits helper.now name.now
         (⟦<WitnessOf<O> as LeftView>⟧.left witness)
         result.disk (⟦<O as Runs>⟧.run outside.old outside.new result) }
 {
@@ -69,7 +69,7 @@ fn serve_made<O: Outside>(
     ensures no_second { result.second ≡ None }
     ensures serves { ServesAllBy ⟦<O as Viewed>⟧.views ⟦<ServiceOf<O> as ServiceView>⟧.serving source service result.disk
         (⟦<O as Runs>⟧.run outside.old outside.new result) }
-    ensures told { O.told outside.new ≡ O.told outside.old }
+    ensures told { O.shown outside.new ≡ O.shown outside.old }
 {
     let mut service = service;
     let mut source = source;
@@ -102,9 +102,9 @@ fn serve<O: Outside>(
     outside: &mut O,
 ) -> LinkEnd
     requires { service.old.witness.broken ≡ false }
-    ensures serves { ServesOver ⟦<O as Viewed>⟧.views ⟦<ServiceOf<O> as ServiceView>⟧.serving (O.told outside.old).limits
+    ensures serves { ServesOver ⟦<O as Viewed>⟧.views ⟦<ServiceOf<O> as ServiceView>⟧.serving (O.shown outside.old).limits
         source.old source.new outside.old outside.new service.old service.new result }
-    ensures told { O.told outside.new ≡ O.told outside.old }
+    ensures told { O.shown outside.new ≡ O.shown outside.old }
 {
     let limits = outside.limits();
     serve_link(alloc, service, source, outside.out(), limits)

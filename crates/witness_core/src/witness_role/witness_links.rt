@@ -34,7 +34,7 @@ pub(crate) fn serve_links<O: Outside>(
     requires whole { witness.broken ≡ false }
     ensures old { result.old ≡ old }
     ensures no_second { result.second ≡ None }
-    ensures serves { IsServingLinks O.Disk.told witness.key witness.limits helper.now links.entry.address.now links.entry.count
+    ensures serves { IsServingLinks O.Disk.shown witness.key witness.limits helper.now links.entry.address.now links.entry.count
         (⟦<WitnessOf<O> as LeftView>⟧.left witness)
         result.disk (⟦<O as Runs>⟧.run outside.old outside.new result) }
 {

@@ -26,14 +26,14 @@ pub fn store<D: Disk + Drop>(
     requires grown { IsGrown (base_of core.now) }
     requires fits { HasRoom shelf.old.limits (history_of core.now) shelf.old.list room.old }
     requires whole { shelf.old.broken ≡ false }
-    requires holds { AllHold (D.told shelf.old.disk) shelf.old.list }
+    requires holds { AllHold (D.shown shelf.old.disk) shelf.old.list }
     ensures stored { OnOk result (AreStored (history_of core.now) shelf.new.list shelf.new.limits shelf.new.broken
-        (D.told shelf.new.disk) room.new) }
-    ensures appends { Appends shelf.old.list (D.told shelf.old.disk) (history_of core.now) shelf.new.list
-        (D.told shelf.new.disk) }
+        (D.shown shelf.new.disk) room.new) }
+    ensures appends { Appends shelf.old.list (D.shown shelf.old.disk) (history_of core.now) shelf.new.list
+        (D.shown shelf.new.disk) }
     ensures limits { shelf.new.limits ≡ shelf.old.limits }
-    ensures none_failed { OnOk result ((D.told shelf.new.disk).faults ≡ (D.told shelf.old.disk).faults) }
-    ensures fault { IfErr result (StoreFault (D.told shelf.old.disk).faults (D.told shelf.new.disk).faults) }
+    ensures none_failed { OnOk result ((D.shown shelf.new.disk).faults ≡ (D.shown shelf.old.disk).faults) }
+    ensures fault { IfErr result (StoreFault (D.shown shelf.old.disk).faults (D.shown shelf.new.disk).faults) }
 {
     while shelf.list().len() < core.accepted().len() {
         store_next(alloc, core, shelf, room)?;
@@ -53,16 +53,16 @@ fn store_next<D: Disk + Drop>(
     requires grown { IsGrown (base_of core.now) }
     requires fits { HasRoom shelf.old.limits (history_of core.now) shelf.old.list room.old }
     requires whole { shelf.old.broken ≡ false }
-    requires holds { AllHold (D.told shelf.old.disk) shelf.old.list }
+    requires holds { AllHold (D.shown shelf.old.disk) shelf.old.list }
     ensures fits { OnOk result (HasRoom shelf.new.limits (history_of core.now) shelf.new.list room.new) }
     ensures one_more { OnOk result (length shelf.old.list < length shelf.new.list) }
     ensures whole { OnOk result (shelf.new.broken ≡ false) }
-    ensures holds { OnOk result (AllHold (D.told shelf.new.disk) shelf.new.list) }
-    ensures appends { Appends shelf.old.list (D.told shelf.old.disk) (history_of core.now) shelf.new.list
-        (D.told shelf.new.disk) }
+    ensures holds { OnOk result (AllHold (D.shown shelf.new.disk) shelf.new.list) }
+    ensures appends { Appends shelf.old.list (D.shown shelf.old.disk) (history_of core.now) shelf.new.list
+        (D.shown shelf.new.disk) }
     ensures limits { shelf.new.limits ≡ shelf.old.limits }
-    ensures none_failed { OnOk result ((D.told shelf.new.disk).faults ≡ (D.told shelf.old.disk).faults) }
-    ensures fault { IfErr result (StoreFault (D.told shelf.old.disk).faults (D.told shelf.new.disk).faults) }
+    ensures none_failed { OnOk result ((D.shown shelf.new.disk).faults ≡ (D.shown shelf.old.disk).faults) }
+    ensures fault { IfErr result (StoreFault (D.shown shelf.old.disk).faults (D.shown shelf.new.disk).faults) }
 {
     let place = shelf.list().len();
     let payload = payload_at(alloc, core, place)?;
@@ -73,7 +73,7 @@ fn store_next<D: Disk + Drop>(
         }
         Err(ShelfFault::DiskFault) => Err(WitnessFault::DiskFault),
         Err(ShelfFault::OutOfMemory) => Err(WitnessFault::OutOfMemory),
-        Err(ShelfFault::Full) => unreachable!(),
+        Err(ShelfFault::LimitReached) => unreachable!(),
         Err(ShelfFault::Broken) => unreachable!(),
         Err(ShelfFault::NotAShelf(_)) => unreachable!(),
     }

@@ -25,21 +25,21 @@ pub fn ask_open<D: Disk + Drop, V: Verifier>(
     verifier: &mut V,
 ) -> Result<(), WitnessFault>
     requires stored { AreStored (history_of core.old) shelf.old.list shelf.old.limits shelf.old.broken
-        (D.told shelf.old.disk) room.old }
+        (D.shown shelf.old.disk) room.old }
     ensures stored { OnOk result (AreStored (history_of core.new) shelf.new.list shelf.new.limits shelf.new.broken
-        (D.told shelf.new.disk) room.new) }
+        (D.shown shelf.new.disk) room.new) }
     ensures kept { IfErr result (λ fault. StoresStill fault (AreStored (history_of core.new) shelf.new.list
-        shelf.new.limits shelf.new.broken (D.told shelf.new.disk) room.new)) }
-    ensures goes_on { GoesOn shelf.old.list (D.told shelf.old.disk) (history_of core.new) shelf.new.list
-        (D.told shelf.new.disk) }
+        shelf.new.limits shelf.new.broken (D.shown shelf.new.disk) room.new)) }
+    ensures goes_on { GoesOn shelf.old.list (D.shown shelf.old.disk) (history_of core.new) shelf.new.list
+        (D.shown shelf.new.disk) }
     ensures limits { shelf.new.limits ≡ shelf.old.limits }
     ensures asks { Asks (V.says verifier.old) (V.inquiries verifier.old) (V.inquiries verifier.new)
         core.old core.new (open_of core.new) }
     ensures says { V.says verifier.new ≡ V.says verifier.old }
     ensures none_open { OnOk result (open_of core.new ≡ []) }
-    ensures disk_same { OnOk result ((D.told shelf.new.disk).faults ≡ (D.told shelf.old.disk).faults) }
+    ensures disk_same { OnOk result ((D.shown shelf.new.disk).faults ≡ (D.shown shelf.old.disk).faults) }
     ensures verifier_same { OnOk result (V.faults verifier.new ≡ V.faults verifier.old) }
-    ensures fault { IfErr result (AskFault (D.told shelf.old.disk).faults (D.told shelf.new.disk).faults
+    ensures fault { IfErr result (AskFault (D.shown shelf.old.disk).faults (D.shown shelf.new.disk).faults
         (V.faults verifier.old) (V.faults verifier.new)) }
 {
     while let Some(question) = core.next_question(0) {
@@ -60,13 +60,13 @@ fn ask_one<D: Disk + Drop, V: Verifier>(
 ) -> Result<(), WitnessFault>
     requires is_open { IsOpen core.old question.now }
     requires stored { AreStored (history_of core.old) shelf.old.list shelf.old.limits shelf.old.broken
-        (D.told shelf.old.disk) room.old }
+        (D.shown shelf.old.disk) room.old }
     ensures stored { OnOk result (AreStored (history_of core.new) shelf.new.list shelf.new.limits shelf.new.broken
-        (D.told shelf.new.disk) room.new) }
+        (D.shown shelf.new.disk) room.new) }
     ensures kept { IfErr result (λ fault. StoresStill fault (AreStored (history_of core.new) shelf.new.list
-        shelf.new.limits shelf.new.broken (D.told shelf.new.disk) room.new)) }
-    ensures goes_on { GoesOn shelf.old.list (D.told shelf.old.disk) (history_of core.new) shelf.new.list
-        (D.told shelf.new.disk) }
+        shelf.new.limits shelf.new.broken (D.shown shelf.new.disk) room.new)) }
+    ensures goes_on { GoesOn shelf.old.list (D.shown shelf.old.disk) (history_of core.new) shelf.new.list
+        (D.shown shelf.new.disk) }
     ensures limits { shelf.new.limits ≡ shelf.old.limits }
     ensures asks { Asks (V.says verifier.old) (V.inquiries verifier.old) (V.inquiries verifier.new)
         core.old core.new (open_of core.new) }
@@ -74,9 +74,9 @@ fn ask_one<D: Disk + Drop, V: Verifier>(
         core.old core.new []) }
     ensures same { V.says verifier.new ≡ V.says verifier.old }
     ensures fewer { OnOk result (unheard_of core.new < unheard_of core.old) }
-    ensures disk_same { OnOk result ((D.told shelf.new.disk).faults ≡ (D.told shelf.old.disk).faults) }
+    ensures disk_same { OnOk result ((D.shown shelf.new.disk).faults ≡ (D.shown shelf.old.disk).faults) }
     ensures verifier_same { OnOk result (V.faults verifier.new ≡ V.faults verifier.old) }
-    ensures fault { IfErr result (AskFault (D.told shelf.old.disk).faults (D.told shelf.new.disk).faults
+    ensures fault { IfErr result (AskFault (D.shown shelf.old.disk).faults (D.shown shelf.new.disk).faults
         (V.faults verifier.old) (V.faults verifier.new)) }
 {
     match core.ask(verifier, question, steps) {

@@ -102,7 +102,7 @@ pub fn lacks_room<D: Disk + Drop>(
 ) -> bool
     requires limits { shelf.now.limits ≡ limits }
     requires stored { AreStored (history_of core.now) shelf.now.list shelf.now.limits shelf.now.broken
-        (D.told shelf.now.disk) room.now }
+        (D.shown shelf.now.disk) room.now }
     requires held { IfSome coming.number (λ n. n < length core.now.held) }
     ensures known { IsKnown core.now }
     ensures lacks { (b : Body) (claims : List ClaimOf) → IsComing core.now b claims coming
@@ -132,7 +132,7 @@ pub fn count_signatures(claims: &[Claim]) -> usize
 {
     let mut count = 0;
     for claim in claims {
-        if let Claim::Held(_) = claim {
+        if let Claim::Controller(_) = claim {
             count += 1;
         }
     }

@@ -20,7 +20,7 @@ pub enum WitnessFault {
     VerifierFault,
     /// There is no room: nothing has changed.
     #[error("no room")]
-    Full,
+    LimitReached,
     /// The disk failed, or there was no memory, in an earlier call.
     #[error("broken by an earlier fault")]
     Broken,

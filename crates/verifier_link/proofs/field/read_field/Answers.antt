@@ -1,11 +1,11 @@
 use Rattle.std.proofs.Common.{arith, take, subst, sym}
-use Rattle.verifier_link.specs.Sides.{Gave, source_told}
+use Rattle.verifier_link.specs.Sides.{Gave, source_shown}
 use Rattle.verifier_link.proofs.Pieces.{gave_more, field_more, field_holds}
 use Rattle.verifier_link.proofs.field.read_field.Goals as goal
 
 pub loop-count-preserved : goal.loop-count-preserved
 loop-count-preserved g c =
-    let told = source_told g.S.Source.left g.S.Source.faults in
+    let told = source_shown g.S.Source.left g.S.Source.faults in
     let now = c.loop-count.field in
     record {
       few = field_holds c.loop-count.count c.in-Ok.more now c.read.new.buf c.loop-count.invariant.few (omega arith) c.in-Ok.ensures.bytes.0;

@@ -2,13 +2,13 @@ use Rattle.std.proofs.Common.{◌≡◌, [], ◌∷◌, ◌++◌, ◌∙◌, len
 use Rattle.std.proofs.lemmas.List.{length-take}
 use Rattle.verifier_link.specs.Fields.{IsCut, the_length, the_body, letter_code}
 use Rattle.verifier_link.specs.Questions.{length_text, wanted_text}
-use Rattle.verifier_link.specs.Sides.{source_told}
+use Rattle.verifier_link.specs.Sides.{source_shown}
 use Rattle.verifier_link.proofs.Behind.{behind_more, cut_field, field_behind, if_err, taken_more}
 use Rattle.verifier_link.proofs.question_fields.read_behind.Goals as goal
 
 pub returns-in_err-read_size-clause-err : goal.returns-in_err-read_size-clause-err
 returns-in_err-read_size-clause-err g c =
-    let told = source_told g.S.Source.left g.S.Source.faults in
+    let told = source_shown g.S.Source.left g.S.Source.faults in
     let front = letter_code c.args.letter ∷ [] in
     let stop = c.in_err-read_size.field-0.0 in
     let (valid, completes) = c.in_ok-wanted.ensures.ok in
@@ -20,7 +20,7 @@ returns-in_err-read_size-clause-err g c =
 
 pub returns-in_err-take_field-clause-err : goal.returns-in_err-take_field-clause-err
 returns-in_err-take_field-clause-err g c =
-    let told = source_told g.S.Source.left g.S.Source.faults in
+    let told = source_shown g.S.Source.left g.S.Source.faults in
     let front = letter_code c.args.letter ∷ [] in
     let stop = c.in_err-take_field.field-0.0 in
     let wanted = c.in_ok-wanted.wanted in

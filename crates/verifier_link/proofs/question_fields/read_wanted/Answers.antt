@@ -2,21 +2,21 @@ use Rattle.std.proofs.Common.{[], ◌∷◌, ◌++◌, refl, subst, sym}
 use Rattle.cesr_codes.specs.Spelling.{key_text}
 use Rattle.verifier_link.specs.declared.letter.Letter.{Letter}
 use Rattle.verifier_link.specs.Fields.{the_key, the_sig, letter_code}
-use Rattle.verifier_link.specs.Sides.{source_told}
+use Rattle.verifier_link.specs.Sides.{source_shown}
 use Rattle.verifier_link.specs.Stops.{StopsBehind}
 use Rattle.verifier_link.proofs.Behind.{behind_more, field_behind, if_err}
 use Rattle.verifier_link.proofs.question_fields.read_wanted.Goals as goal
 
 pub returns-in_err-key-clause-err : goal.returns-in_err-key-clause-err
 returns-in_err-key-clause-err g c =
-    let told = source_told g.S.Source.left g.S.Source.faults in
+    let told = source_shown g.S.Source.left g.S.Source.faults in
     if_err c.from_residual.result c.in_err-key.field-0.0 _ c.from_residual.ensures.1
     (field_behind the_key (letter_code c.args.letter ∷ []) c.args.room.now (told c.args.source.now) (told c.read_key.new.source) (c.args.letter, refl) c.in_err-key.field-0.0 c.in_err-key.ensures.err)
 
 pub returns-in_err-read_sig-in-Verdict-clause-err :
     goal.returns-in_err-read_sig-in-Verdict-clause-err
 returns-in_err-read_sig-in-Verdict-clause-err g c =
-    let told = source_told g.S.Source.left g.S.Source.faults in
+    let told = source_shown g.S.Source.left g.S.Source.faults in
     let key = c.in_ok-key.key in
     let stop = c.in_err-read_sig-in-Verdict.field-0.0 in
     let (valid, taken) = c.in_ok-key.ensures.ok in

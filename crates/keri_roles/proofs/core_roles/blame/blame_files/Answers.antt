@@ -23,7 +23,7 @@ text_of-owed-requires-clause-other_whole g c = (c.read-other.ensures Full c.limi
 
 pub returns-clause-blamed : goal.returns-clause-blamed
 returns-clause-blamed g c =
-    let before = g.O.Outside.told c.args.outside.now in
+    let before = g.O.Outside.shown c.args.outside.now in
     let left = g.O.Source.Source.left in
     let faults = g.O.Source.Source.faults in
     let says = g.O.Verifier.Verifier.says in

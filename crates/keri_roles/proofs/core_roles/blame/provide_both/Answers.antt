@@ -18,9 +18,9 @@ returns-clause-provided g c =
     let other = c.provide-second.result in
     let did = c.provide-first.ensures in
     let then = c.provide-second.ensures in
-    let before = g.O.Outside.told c.args.outside.now in
-    let mid = g.O.Outside.told c.provide-first.new.outside in
-    let after = g.O.Outside.told c.provide-second.new.outside in
+    let before = g.O.Outside.shown c.args.outside.now in
+    let mid = g.O.Outside.shown c.provide-first.new.outside in
+    let after = g.O.Outside.shown c.provide-second.new.outside in
     provided_more before mid after words.helper.now (words.first.now ∷ []) (f one ∷ []) words.second.now (f other)
     (record {
       are_given = (is_given left faults says inquiries verifier_faults before words.helper.now words.first.now one did.holds did.unread did.says did.unasked did.unfailed, tt);

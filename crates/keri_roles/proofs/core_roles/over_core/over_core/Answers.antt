@@ -27,7 +27,7 @@ outcome_of-requires g c =
 
 pub returns-clause-done : goal.returns-clause-done
 returns-clause-done g c =
-    let before = g.O.Outside.told c.args.outside.now in
+    let before = g.O.Outside.shown c.args.outside.now in
     let core = c.read-ran.result.core in
     let rest = c.read-ran.result.rest in
     let has = c.in_ok-seats.ensures in

@@ -4,8 +4,8 @@ use Rattle.validator_core.specs.ValidatorCore.View.{told_of}
 use Rattle.reader_hub.specs.ReaderThreads.Given.{given_by}
 use Rattle.reader_hub.specs.ReaderThreads.Told.{AllTold}
 use Rattle.keri_roles.specs.CoreRoles.CoreTold.{IsOverCore, OwesText, core_of, plain}
-use Rattle.keri_roles.specs.CoreRoles.LinksTold.{AreLinked, TakesLinks}
-use Rattle.keri_roles.specs.CoreRoles.Work.{LinksTold, Work}
+use Rattle.keri_roles.specs.CoreRoles.LinksShown.{AreLinked, TakesLinks}
+use Rattle.keri_roles.specs.CoreRoles.Work.{LinksShown, Work}
 use Rattle.run_status.specs.RunRecord.Seen.{door_seen, sinks_seen}
 use Rattle.keri_roles.proofs.CoreRolesLemmas.CompleteOver.{over_linked}
 use Rattle.keri_roles.proofs.CoreRolesLemmas.CoreTold.{is_told_by, journal_of, owes_plain, same_journal, untold}
@@ -59,11 +59,11 @@ returns-clause-done g c =
     let says = g.O.Verifier.Verifier.says in
     let inquiries = g.O.Verifier.Verifier.inquiries in
     let verifier_faults = g.O.Verifier.Verifier.faults in
-    let before = g.O.Outside.told c.args.outside.now in
-    let mid = g.O.Outside.told c.take_at-door.new.outside in
+    let before = g.O.Outside.shown c.args.outside.now in
+    let mid = g.O.Outside.shown c.take_at-door.new.outside in
     let at = c.take_at-door.result in
     let sources = map (source_seen left faults says inquiries verifier_faults) at.taken.sources.items in
-    let links : LinksTold = record {
+    let links : LinksShown = record {
       door = door_seen g.O.Door.Door.left g.O.Door.Door.faults at.door;
       sinks = sinks_seen g.O.Door.Sink.Sink.written g.O.Door.Sink.Sink.faults at.taken.sinks.items;
       failed = at.taken.failed;
@@ -71,7 +71,7 @@ returns-clause-done g c =
     let taken : TakesLinks c.args.words.address.now c.args.words.count sources links before mid = rw c.from-count.ensures at c.take_at-door.ensures.taken in
     elim c.match-new.branch [
       | in-Ok w ↦ (
-          let after = g.O.Outside.told w.provide_links-providers.new.outside in
+          let after = g.O.Outside.shown w.provide_links-providers.new.outside in
           let given = map (given_by left faults says inquiries verifier_faults) w.provide_links-providers.result.items in
           let core = w.read-ran.result.core in
           let rest = w.read-ran.result.rest in

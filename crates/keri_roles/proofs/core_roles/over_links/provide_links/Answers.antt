@@ -21,7 +21,7 @@ loop-source-init g c =
       finite = tt;
       room = omega (arith, all, none, here, c.requires.room);
       count = omega (arith, all, none);
-      so_far = rw (items, empty) (given_none c.args.helper.now _ (g.O.Outside.told c.args.outside.now));
+      so_far = rw (items, empty) (given_none c.args.helper.now _ (g.O.Outside.shown c.args.outside.now));
       sink = refl;
     }
 
@@ -37,9 +37,9 @@ loop-source-preserved g c =
     let inv = c.loop-source.invariant in
     let made = c.provide_link-made.result in
     let did = c.provide_link-made.ensures in
-    let before = g.O.Outside.told c.args.outside.now in
-    let mid = g.O.Outside.told c.loop-source.outside in
-    let after = g.O.Outside.told c.provide_link-made.new.outside in
+    let before = g.O.Outside.shown c.args.outside.now in
+    let mid = g.O.Outside.shown c.loop-source.outside in
+    let after = g.O.Outside.shown c.provide_link-made.new.outside in
     let rest = into_iter_items c.next.new.self in
     let taken : into_iter_items c.loop-source.source-iterator ≡ c.in-Some.source ∷ rest = search rules in
     let items : c.push.new.self.items ≡ c.loop-source.providers.items ++ made ∷ [] = search rules in

@@ -16,6 +16,6 @@ invariant-loop-source g l =
       count : length l.providers.items + length (into_iter_items l.source-iterator) ≡ length l.fn.sources.items;
       so_far : AreGivenSoFar l.helper (map seen l.fn.sources.items) (map seen (into_iter_items l.source-iterator))
           (map (given_by g.O.Source.Source.left g.O.Source.Source.faults g.O.Verifier.Verifier.says g.O.Verifier.Verifier.inquiries g.O.Verifier.Verifier.faults) l.providers.items)
-          (g.O.Outside.told l.fn.outside) (g.O.Outside.told l.outside);
+          (g.O.Outside.shown l.fn.outside) (g.O.Outside.shown l.outside);
       sink : g.O.Outside.sink l.outside ≡ g.O.Outside.sink l.fn.outside;
     }

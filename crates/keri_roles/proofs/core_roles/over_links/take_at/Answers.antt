@@ -2,8 +2,8 @@ use Rattle.std.proofs.Common.{◌≡◌, map, sym, subst}
 use Rattle.lists.specs.KeriSpecs.Told.{HasNone}
 use Rattle.run_status.specs.declared.run_outside.making.MakingKind.TheVariants.{Door as DoorKind}
 use Rattle.run_status.specs.RunStatus.Readers.{sink_seen, source_seen}
-use Rattle.keri_roles.specs.CoreRoles.LinksTold.{AreTakenAt}
-use Rattle.run_status.specs.RunRecord.Seen.{door_told}
+use Rattle.keri_roles.specs.CoreRoles.LinksShown.{AreTakenAt}
+use Rattle.run_status.specs.RunRecord.Seen.{door_shown}
 use Rattle.keri_roles.proofs.CoreRolesLemmas.Linked.{all_map, length_map, makings_one, map_map}
 use Rattle.keri_roles.proofs.core_roles.over_links.take_at.Goals as goal
 
@@ -16,10 +16,10 @@ returns-clause-taken g c =
     let taken = c.take_links-taken.ensures in
     let sources = c.take_links-taken.result.sources.items in
     let sinks = c.take_links-taken.result.sinks.items in
-    let before = g.O.Outside.told c.args.outside.now in
-    let after = g.O.Outside.told c.door.new.self in
+    let before = g.O.Outside.shown c.args.outside.now in
+    let after = g.O.Outside.shown c.door.new.self in
     let made = c.in-Ok.ensures in
-    let door = door_told g.O.Door.Door.left g.O.Door.Door.faults c.take_links-taken.new.door in
+    let door = door_shown g.O.Door.Door.left g.O.Door.Door.faults c.take_links-taken.new.door in
     let at : AreTakenAt (before.links c.args.address.now) c.args.count c.take_links-taken.result.failed (map left sources) door = record {
       few = rw (length_map left sources) taken.few;
       enough = rw (length_map left sources) taken.enough;

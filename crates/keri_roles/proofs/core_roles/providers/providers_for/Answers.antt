@@ -19,9 +19,9 @@ loop-name-preserved g c =
     let so_far = c.loop-name.providers.items in
     let made = c.provide-made.result in
     let did = c.provide-made.ensures in
-    let before = g.O.Outside.told c.args.outside.now in
-    let mid = g.O.Outside.told c.loop-name.outside in
-    let after = g.O.Outside.told c.provide-made.new.outside in
+    let before = g.O.Outside.shown c.args.outside.now in
+    let mid = g.O.Outside.shown c.loop-name.outside in
+    let after = g.O.Outside.shown c.provide-made.new.outside in
     let items : c.push.new.self.items ≡ so_far ++ made ∷ [] = search rules in
     record {
       provided = subst (λ l. AreProvided c.args.helper.now (map (λ name. name.now) (take (c.loop-name.name-index + 1) c.args.names.now)) l before after) (sym (ap (map f) items ∙ map-append f so_far (made ∷ [])))

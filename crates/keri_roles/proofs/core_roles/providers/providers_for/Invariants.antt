@@ -9,8 +9,8 @@ abbrev pub invariant-loop-name : goal.invariant-loop-name
 invariant-loop-name g l = record {
   provided : AreProvided l.helper (map (λ name. name.now) (take l.name-index l.names))
       (map (given_by g.O.Source.Source.left g.O.Source.Source.faults g.O.Verifier.Verifier.says g.O.Verifier.Verifier.inquiries g.O.Verifier.Verifier.faults) l.providers.items)
-      (g.O.Outside.told l.fn.outside) (g.O.Outside.told l.outside);
-  same : SameNames (g.O.Outside.told l.fn.outside) (g.O.Outside.told l.outside);
+      (g.O.Outside.shown l.fn.outside) (g.O.Outside.shown l.outside);
+  same : SameNames (g.O.Outside.shown l.fn.outside) (g.O.Outside.shown l.outside);
   count : length l.providers.items ≡ l.name-index;
   room : length l.names ≤ vec_capacity l.providers;
   sink : g.O.Outside.sink l.outside ≡ g.O.Outside.sink l.fn.outside;

@@ -1,12 +1,12 @@
 use Rattle.std.proofs.Common.{◌∙◌, ◌-◌, [], sym, subst, append-nil, arith}
 use Rattle.keri_roles.specs.ItemConversion.Closes.{Gave}
-use Rattle.keri_roles.specs.ItemConversion.Converts.{bounds, ends_told}
+use Rattle.keri_roles.specs.ItemConversion.Converts.{bounds, ends_shown}
 use Rattle.keri_roles.proofs.ItemConversionLemmas.Pieces.{HasRead, ends, few_read, gave_none, no_memory, passes, read_on, refuses, stayed, stops}
 use Rattle.keri_roles.proofs.item_conversion.convert.read_pieces.Goals as goal
 
 pub returns-in-Ok-eq0 : goal.returns-in-Ok-eq0
 returns-in-Ok-eq0 g c =
-    let seen = ends_told g.S.Source.left g.S.Source.faults g.K.Sink.written g.K.Sink.faults in
+    let seen = ends_shown g.S.Source.left g.S.Source.faults g.K.Sink.written g.K.Sink.faults in
     let read = c.loop-room.invariant.has_read in
     let first = seen c.args.source.now c.args.sink.now in
     let before = seen c.loop-room.source c.loop-room.sink in
@@ -26,7 +26,7 @@ returns-in-Ok-eq0 g c =
 
 pub returns-in-Err : goal.returns-in-Err
 returns-in-Err g c =
-    let seen = ends_told g.S.Source.left g.S.Source.faults g.K.Sink.written g.K.Sink.faults in
+    let seen = ends_shown g.S.Source.left g.S.Source.faults g.K.Sink.written g.K.Sink.faults in
     let read = c.loop-room.invariant.has_read in
     let first = seen c.args.source.now c.args.sink.now in
     let before = seen c.loop-room.source c.loop-room.sink in
@@ -42,7 +42,7 @@ returns-in-Err g c =
 
 pub returns : goal.returns
 returns g c =
-    let seen = ends_told g.S.Source.left g.S.Source.faults g.K.Sink.written g.K.Sink.faults in
+    let seen = ends_shown g.S.Source.left g.S.Source.faults g.K.Sink.written g.K.Sink.faults in
     let read = c.loop-room.invariant.has_read in
     let first = seen c.args.source.now c.args.sink.now in
     let before = seen c.loop-room.source c.loop-room.sink in
@@ -60,7 +60,7 @@ returns g c =
 
 pub loop-room-preserved : goal.loop-room-preserved
 loop-room-preserved g c =
-    let seen = ends_told g.S.Source.left g.S.Source.faults g.K.Sink.written g.K.Sink.faults in
+    let seen = ends_shown g.S.Source.left g.S.Source.faults g.K.Sink.written g.K.Sink.faults in
     let read = c.loop-room.invariant.has_read in
     let first = seen c.args.source.now c.args.sink.now in
     let before = seen c.loop-room.source c.loop-room.sink in
@@ -86,7 +86,7 @@ loop-room-preserved g c =
 
 pub returns-in-Ok-Some : goal.returns-in-Ok-Some
 returns-in-Ok-Some g c =
-    let seen = ends_told g.S.Source.left g.S.Source.faults g.K.Sink.written g.K.Sink.faults in
+    let seen = ends_shown g.S.Source.left g.S.Source.faults g.K.Sink.written g.K.Sink.faults in
     let read = c.loop-room.invariant.has_read in
     let first = seen c.args.source.now c.args.sink.now in
     let before = seen c.loop-room.source c.loop-room.sink in
@@ -107,7 +107,7 @@ returns-in-Ok-Some g c =
 
 pub returns-in-Err-write_items : goal.returns-in-Err-write_items
 returns-in-Err-write_items g c =
-    let seen = ends_told g.S.Source.left g.S.Source.faults g.K.Sink.written g.K.Sink.faults in
+    let seen = ends_shown g.S.Source.left g.S.Source.faults g.K.Sink.written g.K.Sink.faults in
     let read = c.loop-room.invariant.has_read in
     let first = seen c.args.source.now c.args.sink.now in
     let before = seen c.loop-room.source c.loop-room.sink in

@@ -1,5 +1,5 @@
 use Rattle.std.proofs.Common.{◌≡◌, refl, [], ◌∷◌, rules, is_none, option_map, string_bytes}
-use Rattle.run_status.specs.RunOutside.Told.{making}
+use Rattle.run_status.specs.RunOutside.Shown.{making}
 use Rattle.run_status.specs.declared.run_outside.making.MakingKind.TheVariants.{Source}
 use Rattle.keri_roles.specs.KeriRoles.Check.{ChecksReader}
 use Rattle.run_status.specs.RunStatus.Readers.{reader_seen, source_seen}
@@ -9,11 +9,11 @@ use Rattle.keri_roles.proofs.keri_roles.check.check.Goals as goal
 
 pub returns-clause-checked : goal.returns-clause-checked
 returns-clause-checked g c =
-    let before = g.O.Outside.told c.args.outside.now in
+    let before = g.O.Outside.shown c.args.outside.now in
     let end = c.check_file-reader.result.0 in
     let reader = reader_seen g.O.Source.Source.left g.O.Source.Source.faults g.O.Verifier.Verifier.says g.O.Verifier.Verifier.inquiries g.O.Verifier.Verifier.faults end in
     let one : c.push.new.self.items ≡ end ∷ [] = search rules in
-    let makes : AreMakings (making Source c.args.name.now (is_none reader.source) ∷ []) before (g.O.Outside.told c.check_file-reader.new.outside) = rw
+    let makes : AreMakings (making Source c.args.name.now (is_none reader.source) ∷ []) before (g.O.Outside.shown c.check_file-reader.new.outside) = rw
     (seen_none (source_seen g.O.Source.Source.left g.O.Source.Source.faults g.O.Verifier.Verifier.says g.O.Verifier.Verifier.inquiries g.O.Verifier.Verifier.faults) end.source)
     c.check_file-reader.ensures.makes in
     rw one (record {

@@ -21,7 +21,7 @@ unwrap-requires g c =
 pub returns-clause-generated : goal.returns-clause-generated
 returns-clause-generated g c =
     let plan = c.args.plan in
-    let before = g.O.Outside.told c.args.outside.now in
+    let before = g.O.Outside.shown c.args.outside.now in
     let end = c.in_ok-core.field-0.reader in
     let core = c.in_ok-core.field-0.core in
     let rest = c.in_ok-core.field-0.rest in

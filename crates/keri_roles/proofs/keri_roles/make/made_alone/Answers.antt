@@ -1,5 +1,5 @@
 use Rattle.std.proofs.Common.{◌≡◌, refl, [], ◌∷◌, rules, is_none}
-use Rattle.run_status.specs.RunOutside.Told.{making}
+use Rattle.run_status.specs.RunOutside.Shown.{making}
 use Rattle.run_status.specs.declared.run_outside.making.MakingKind.TheVariants.{Source, Signer}
 use Rattle.run_status.specs.RunStatus.Readers.{reader_seen, source_seen}
 use Rattle.run_status.specs.RunOutside.Makings.{AreMakings}
@@ -10,8 +10,8 @@ use Rattle.keri_roles.proofs.keri_roles.make.made_alone.Goals as goal
 
 pub returns-clause-made : goal.returns-clause-made
 returns-clause-made g c =
-    let before = g.O.Outside.told c.args.outside.now in
-    let after = g.O.Outside.told c.make_alone-plan.new.outside in
+    let before = g.O.Outside.shown c.args.outside.now in
+    let after = g.O.Outside.shown c.make_alone-plan.new.outside in
     let end = c.read_whole-reader.result.reader in
     let signer = c.message_due-owed.new.signer in
     let gives = g.O.Signer.Signer.gives in

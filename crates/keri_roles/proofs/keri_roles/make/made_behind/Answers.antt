@@ -20,8 +20,8 @@ unwrap-requires g c =
 
 pub returns-clause-made : goal.returns-clause-made
 returns-clause-made g c =
-    let before = g.O.Outside.told c.args.outside.now in
-    let after = g.O.Outside.told c.make_behind-plan.new.outside in
+    let before = g.O.Outside.shown c.args.outside.now in
+    let after = g.O.Outside.shown c.make_behind-plan.new.outside in
     let parts = c.make_behind-plan.ensures in
     let log = c.make_behind-plan.result.log in
     let first = c.read_whole-first.result.reader in

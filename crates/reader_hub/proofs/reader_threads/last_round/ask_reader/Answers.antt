@@ -1,5 +1,5 @@
 use Rattle.std.proofs.Common.{rules, ◌≡◌, true, false, None, Some, option_map, refl, ap, inl, inr}
-use Rattle.run_status.specs.RunStatus.Readers.{Reader, VerifierTold, close_found, reader_seen, verifier_seen}
+use Rattle.run_status.specs.RunStatus.Readers.{Reader, VerifierShown, close_found, reader_seen, verifier_seen}
 use Rattle.reader_hub.specs.declared.reader_threads.last_round.LastRound.TheVariants.{NoneFailed, VerifierFailed, OutOfMemory}
 use Rattle.reader_hub.proofs.ReaderThreadsLemmas.Rounds.{rest_asked, rest_unasked}
 use Rattle.reader_hub.proofs.reader_threads.last_round.ask_reader.Goals as goal
@@ -21,8 +21,8 @@ returns-in-Ok g c =
     let reader = reader_seen g.S.Source.left g.S.Source.faults g.V.Verifier.says g.V.Verifier.inquiries g.V.Verifier.faults in
     let seen = verifier_seen g.S.Source.left g.S.Source.faults g.V.Verifier.says g.V.Verifier.inquiries g.V.Verifier.faults in
     let old : Reader = reader c.args.reader.now in
-    let v : VerifierTold = seen c.in-Some.verifier in
-    let w : VerifierTold = seen c.ask_open.new.verifier in
+    let v : VerifierShown = seen c.in-Some.verifier in
+    let w : VerifierShown = seen c.ask_open.new.verifier in
     let there : c.args.reader.now.verifier ≡ Some c.in-Some.verifier = search rules in
     let fine : (close_found old.close).verifier_failed ≡ false = search rules in
     rest_asked c.args.number old (record old { verifier = Some w }) v w c.args.core.now c.ask_open.new.core NoneFailed (ap (option_map seen) there) refl fine
@@ -33,8 +33,8 @@ returns-in-Err-VerifierFault g c =
     let reader = reader_seen g.S.Source.left g.S.Source.faults g.V.Verifier.says g.V.Verifier.inquiries g.V.Verifier.faults in
     let seen = verifier_seen g.S.Source.left g.S.Source.faults g.V.Verifier.says g.V.Verifier.inquiries g.V.Verifier.faults in
     let old : Reader = reader c.args.reader.now in
-    let v : VerifierTold = seen c.in-Some.verifier in
-    let w : VerifierTold = seen c.ask_open.new.verifier in
+    let v : VerifierShown = seen c.in-Some.verifier in
+    let w : VerifierShown = seen c.ask_open.new.verifier in
     let there : c.args.reader.now.verifier ≡ Some c.in-Some.verifier = search rules in
     let fine : (close_found old.close).verifier_failed ≡ false = search rules in
     rest_asked c.args.number old (record old { verifier = Some w }) v w c.args.core.now c.ask_open.new.core VerifierFailed (ap (option_map seen) there) refl fine
@@ -45,8 +45,8 @@ returns-in-Err-OutOfMemory g c =
     let reader = reader_seen g.S.Source.left g.S.Source.faults g.V.Verifier.says g.V.Verifier.inquiries g.V.Verifier.faults in
     let seen = verifier_seen g.S.Source.left g.S.Source.faults g.V.Verifier.says g.V.Verifier.inquiries g.V.Verifier.faults in
     let old : Reader = reader c.args.reader.now in
-    let v : VerifierTold = seen c.in-Some.verifier in
-    let w : VerifierTold = seen c.ask_open.new.verifier in
+    let v : VerifierShown = seen c.in-Some.verifier in
+    let w : VerifierShown = seen c.ask_open.new.verifier in
     let there : c.args.reader.now.verifier ≡ Some c.in-Some.verifier = search rules in
     let fine : (close_found old.close).verifier_failed ≡ false = search rules in
     rest_asked c.args.number old (record old { verifier = Some w }) v w c.args.core.now c.ask_open.new.core OutOfMemory (ap (option_map seen) there) refl fine

@@ -1,7 +1,7 @@
 use Rattle.std.proofs.Common.{◌∙◌}
 use Rattle.turn_lock.specs.Locks.{known, limit_of, lock_of}
-use Rattle.run_status.specs.RunStatus.Readers.{SourceTold}
-use Rattle.reader_hub.specs.SharedReader.ReadsOne.{source_told}
+use Rattle.run_status.specs.RunStatus.Readers.{SourceShown}
+use Rattle.reader_hub.specs.SharedReader.ReadsOne.{source_shown}
 use Rattle.reader_hub.specs.SharedReader.Takers.{standing_of}
 use Rattle.reader_hub.specs.SharedReader.Taken.{Standing, standing}
 use Rattle.reader_hub.proofs.SharedReaderLemmas.Closed.{reads_at, reads_stream}
@@ -19,8 +19,8 @@ returns g c =
     let source = c.feed_messages-close.new.source in
     let s : Standing = standing c.args.extent (limit_of c.args.hub.now.turn) (lock_of c.args.pass) (known c.args.pass) (says c.args.verifier) (inquiries c.args.verifier) (faults c.args.verifier) c.new.result.items in
     let t : Standing = standing_of says inquiries faults c.finish-close.new.self in
-    let old : SourceTold = source_told (g.S.Source.left c.args.source) (g.S.Source.faults c.args.source) in
-    let new : SourceTold = source_told (g.S.Source.left source) (g.S.Source.faults source) in
+    let old : SourceShown = source_shown (g.S.Source.left c.args.source) (g.S.Source.faults c.args.source) in
+    let new : SourceShown = source_shown (g.S.Source.left source) (g.S.Source.faults source) in
     let reads = reads_stream (standing_of says inquiries faults) c.args.limits s t old new c.feed_messages-close.new.taker c.feed_messages-close.result.0 c.finish-close.result c.feed_messages-close.result.1
     c.feed_messages-close.ensures.feeds c.finish-close.ensures in
     record { pass = reads.same.lock ∙ c.requires.pass; reads = reads_at c.args.limits s t old new c.finish-close.result c.new.ensures.items reads }

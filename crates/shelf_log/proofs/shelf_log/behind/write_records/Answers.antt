@@ -13,7 +13,7 @@ write_record-requires-clause-few g c = (
 
 pub returns-in_err-write_record-clause-extends : goal.returns-in_err-write_record-clause-extends
 returns-in_err-write_record-clause-extends g c =
-    extends_failed _ _ _ (g.D.Disk.told c.args.disk.now) (g.D.Disk.told c.loop-payload.disk) (g.D.Disk.told c.write_record.new.disk) c.write_record.result c.from_residual.result c.loop-payload.invariant.2 c.write_record.ensures.extends c.from_residual.ensures.0
+    extends_failed _ _ _ (g.D.Disk.shown c.args.disk.now) (g.D.Disk.shown c.loop-payload.disk) (g.D.Disk.shown c.write_record.new.disk) c.write_record.result c.from_residual.result c.loop-payload.invariant.2 c.write_record.ensures.extends c.from_residual.ensures.0
 
 pub overflow_add-place-in-loop-payload : goal.overflow_add-place-in-loop-payload
 overflow_add-place-in-loop-payload g c =
@@ -23,9 +23,9 @@ pub loop-payload-preserved : goal.loop-payload-preserved
 loop-payload-preserved g c = (
   omega (arith, c.loop-payload.invariant.0, c.len.ensures, size_more Two c.args.list.now c.loop-payload.payload-index c.payload-item.result c.loop-payload-test.true c.payload-item.is),
   c.in_ok-write_record.ensures.cause.else_same ∙ c.loop-payload.invariant.1,
-  subst (λ (l : List ℕ). ExtendsSoFar l (g.D.Disk.told c.args.disk.now) (g.D.Disk.told c.write_record.new.disk))
+  subst (λ (l : List ℕ). ExtendsSoFar l (g.D.Disk.shown c.args.disk.now) (g.D.Disk.shown c.write_record.new.disk))
       (sym (records_more Two c.args.list.now c.loop-payload.payload-index c.payload-item.result c.loop-payload-test.true c.payload-item.is))
-      (extends_both (records (take c.loop-payload.payload-index c.args.list.now)) (record_bytes c.payload-item.result) (g.D.Disk.told c.args.disk.now) (g.D.Disk.told c.loop-payload.disk) (g.D.Disk.told c.write_record.new.disk) _
-      c.loop-payload.invariant.2 (subst (λ (p : List ℕ). ExtendsSoFar (record_bytes p) (g.D.Disk.told c.loop-payload.disk) (g.D.Disk.told c.write_record.new.disk)) c.as_slice.ensures
+      (extends_both (records (take c.loop-payload.payload-index c.args.list.now)) (record_bytes c.payload-item.result) (g.D.Disk.shown c.args.disk.now) (g.D.Disk.shown c.loop-payload.disk) (g.D.Disk.shown c.write_record.new.disk) _
+      c.loop-payload.invariant.2 (subst (λ (p : List ℕ). ExtendsSoFar (record_bytes p) (g.D.Disk.shown c.loop-payload.disk) (g.D.Disk.shown c.write_record.new.disk)) c.as_slice.ensures
       (record { file = c.in_ok-write_record.ensures.extends.file; blank = c.write_record.ensures.extends.blank; moments = c.write_record.ensures.extends.moments }))),
 )

@@ -7,15 +7,15 @@ use Rattle.shelf_log.proofs.shelf_log.list_file.read_records.Goals as goal
 
 pub returns-in-Closed-clause-scans : goal.returns-in-Closed-clause-scans
 returns-in-Closed-clause-scans g c =
-    if_some _ (g.D.Disk.told c.args.disk.now).file (λ file is. scan_closed (g.D.Disk.told c.args.disk.now).file (g.D.Disk.told c.loop-scan.disk).file c.loop-scan.scan c.take_window.new.self c.in_ok-take_window.field-0 c.read.new.buf
+    if_some _ (g.D.Disk.shown c.args.disk.now).file (λ file is. scan_closed (g.D.Disk.shown c.args.disk.now).file (g.D.Disk.shown c.loop-scan.disk).file c.loop-scan.scan c.take_window.new.self c.in_ok-take_window.field-0 c.read.new.buf
     c.loop-scan.invariant.6 c.loop-scan.invariant.0.file c.in_ok-read.ensures.bytes c.in_ok-take_window.ensures.goes_on file is c.in-Closed.is)
 
 pub returns-in-Part-clause-scans : goal.returns-in-Part-clause-scans
 returns-in-Part-clause-scans g c =
-    if_some _ (g.D.Disk.told c.args.disk.now).file (λ file is. scan_part (g.D.Disk.told c.args.disk.now).file (g.D.Disk.told c.loop-scan.disk).file c.loop-scan.scan c.take_window.new.self c.in_ok-take_window.field-0 c.read.new.buf
+    if_some _ (g.D.Disk.shown c.args.disk.now).file (λ file is. scan_part (g.D.Disk.shown c.args.disk.now).file (g.D.Disk.shown c.loop-scan.disk).file c.loop-scan.scan c.take_window.new.self c.in_ok-take_window.field-0 c.read.new.buf
     c.loop-scan.invariant.6 c.loop-scan.invariant.0.file c.in_ok-read.ensures.bytes c.in_ok-take_window.ensures.goes_on file is c.in-Part.offset c.in-Part.is (last file is))
   where
-    last : (file : List ℕ) → (g.D.Disk.told c.args.disk.now).file ≡ Some file → length file ≤ c.loop-scan.scan.place + length c.read.new.buf
+    last : (file : List ℕ) → (g.D.Disk.shown c.args.disk.now).file ≡ Some file → length file ≤ c.loop-scan.scan.place + length c.read.new.buf
     last file is = omega (arith, subst (λ p. IsSizeOf p c.args.size) is c.requires.size, c.if-count-left.true, c.read.auto.buf, length-take c.min-count.result c.loop-scan.window, c.min-count.ensures, c.loop-scan.invariant.2)
 
 pub loop-scan-preserved : goal.loop-scan-preserved
@@ -26,15 +26,15 @@ loop-scan-preserved g c = (
   c.take_window.ensures.of.0 ∙ c.loop-scan.invariant.3,
   c.take_window.ensures.of.1 ∙ c.loop-scan.invariant.4,
   omega (arith, length-append c.read.new.buf (drop c.min-count.result c.loop-scan.window), length-drop c.min-count.result c.loop-scan.window, c.read.auto.buf, length-take c.min-count.result c.loop-scan.window, c.loop-scan.invariant.5),
-  scan_on (g.D.Disk.told c.args.disk.now).file (g.D.Disk.told c.loop-scan.disk).file c.loop-scan.scan c.take_window.new.self c.in_ok-take_window.field-0 c.read.new.buf
+  scan_on (g.D.Disk.shown c.args.disk.now).file (g.D.Disk.shown c.loop-scan.disk).file c.loop-scan.scan c.take_window.new.self c.in_ok-take_window.field-0 c.read.new.buf
       c.loop-scan.invariant.6 c.loop-scan.invariant.0.file c.in_ok-read.ensures.bytes c.in_ok-take_window.ensures.goes_on,
 )
   where
     inside : c.take_window.new.self.place ≤ c.loop-scan.scan.place + length c.read.new.buf
-    inside = scan_within (g.D.Disk.told c.args.disk.now).file (g.D.Disk.told c.loop-scan.disk).file c.loop-scan.scan c.take_window.new.self c.in_ok-take_window.field-0 c.read.new.buf
+    inside = scan_within (g.D.Disk.shown c.args.disk.now).file (g.D.Disk.shown c.loop-scan.disk).file c.loop-scan.scan c.take_window.new.self c.in_ok-take_window.field-0 c.read.new.buf
         c.loop-scan.invariant.6 c.loop-scan.invariant.0.file c.in_ok-read.ensures.bytes c.in_ok-take_window.ensures.goes_on
 
 pub returns-in-OutOfRange-clause-scans : goal.returns-in-OutOfRange-clause-scans
 returns-in-OutOfRange-clause-scans g c =
-    if_some _ (g.D.Disk.told c.args.disk.now).file (λ file is. scan_out (g.D.Disk.told c.args.disk.now).file (g.D.Disk.told c.loop-scan.disk).file c.loop-scan.scan c.take_window.new.self c.in_ok-take_window.field-0 c.read.new.buf
+    if_some _ (g.D.Disk.shown c.args.disk.now).file (λ file is. scan_out (g.D.Disk.shown c.args.disk.now).file (g.D.Disk.shown c.loop-scan.disk).file c.loop-scan.scan c.take_window.new.self c.in_ok-take_window.field-0 c.read.new.buf
     c.loop-scan.invariant.6 c.loop-scan.invariant.0.file c.in_ok-read.ensures.bytes c.in_ok-take_window.ensures.goes_on file is c.in-OutOfRange.is)

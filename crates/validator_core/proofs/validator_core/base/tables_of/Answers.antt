@@ -7,4 +7,4 @@ pub add_texts-requires-clause-begun : goal.add_texts-requires-clause-begun
 add_texts-requires-clause-begun c = subst (IsBase []) (sym c.new-tables.ensures) nothing_base
 
 pub returns-in-Ok-clause-ok : goal.returns-in-Ok-clause-ok
-returns-in-Ok-clause-ok c = rw c.settle.ensures (settled_base _ _ _ c.in-Ok.ensures.ok, refl)
+returns-in-Ok-clause-ok c = rw c.release.ensures (settled_base _ _ _ c.in-Ok.ensures.ok, refl)

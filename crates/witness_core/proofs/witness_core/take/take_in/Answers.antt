@@ -29,5 +29,5 @@ returns-in_err-number-in-Ok-clause-follows g c =
     let s = c.args.shelf.now in
     let fault = c.in_err-number-in-Ok.field-0.0 in
     let judged = rw c.in-Ok.is at c.in_ok-reason.ensures in
-    message_follows c.args.core.now s.list s.limits s.broken (g.D.Disk.told s.disk) (g.met.D.Disk.only_now s.disk) c.args.room.now c.requires.stored c.take_event.new.core c.take_event.new.room c.args.message.now fault
+    message_follows c.args.core.now s.list s.limits s.broken (g.D.Disk.shown s.disk) (g.met.D.Disk.only_now s.disk) c.args.room.now c.requires.stored c.take_event.new.core c.take_event.new.room c.args.message.now fault
     (fails_message c.args.message.now _ c.in-Ok.event (sym c.is_receipt.ensures ∙ c.if-is_receipt.false) judged c.args.core.now c.args.room.now c.take_event.new.core c.take_event.new.room fault c.in_err-number-in-Ok.ensures.fault)

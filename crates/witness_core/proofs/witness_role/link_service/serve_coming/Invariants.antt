@@ -18,7 +18,7 @@ invariant-loop-alloc g l = record {
   same_limits : l.service.witness.limits ≡ l.fn.service.witness.limits;
   says : g.O.Verifier.Verifier.says l.service.verifier ≡ g.O.Verifier.Verifier.says l.fn.service.verifier;
   gives : g.O.Signer.Signer.gives l.service.signer ≡ g.O.Signer.Signer.gives l.fn.service.signer;
-  coming : IsComing g.O.Disk.Disk.told l.fn.service.witness.key l.fn.service.witness.limits l.fn.limits (g.O.Verifier.Verifier.says l.fn.service.verifier) (g.O.Signer.Signer.gives l.fn.service.signer)
+  coming : IsComing g.O.Disk.Disk.shown l.fn.service.witness.key l.fn.service.witness.limits l.fn.limits (g.O.Verifier.Verifier.says l.fn.service.verifier) (g.O.Signer.Signer.gives l.fn.service.signer)
       (g.O.Door.Door.left l.fn.door) (g.O.Door.Door.left l.door) (record {
         left = record { core = l.fn.service.witness.core; list = l.fn.service.witness.shelf.list; broken = l.fn.service.witness.broken; disk = l.fn.service.witness.shelf.disk };
         inquiries = g.O.Verifier.Verifier.inquiries l.fn.service.verifier;

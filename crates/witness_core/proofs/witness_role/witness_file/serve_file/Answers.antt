@@ -1,6 +1,6 @@
 use Rattle.std.proofs.Common.{◌≡◌, [], ◌∷◌, false, true, Some, None, refl, ◌∙◌, ap}
 use Rattle.run_status.specs.RunOutside.Makings.{AreMakings}
-use Rattle.run_status.specs.RunOutside.Told.{making}
+use Rattle.run_status.specs.RunOutside.Shown.{making}
 use Rattle.run_status.specs.declared.run_outside.making.MakingKind.TheVariants.{Source, Verifier, Signer}
 use Rattle.run_status.specs.declared.run_status.close.Close.TheVariants.{ReadFault, VerifierFault, SignerFault}
 use Rattle.run_status.specs.RunStatus.Readers.{sink_seen, source_seen, verifier_seen}
@@ -71,10 +71,10 @@ returns-clause-serves g c =
     let first = c.in-Ok.ensures in
     let next = c.in-Ok-verifier.ensures in
     let last = c.in-Ok-signer.ensures in
-    let before = g.O.Outside.told c.args.outside.now in
+    let before = g.O.Outside.shown c.args.outside.now in
     let says : g.O.Verifier.Verifier.says c.in-Ok-verifier.verifier ≡ before.says c.args.helper.now = next.says ∙ ap (λ says. says c.args.helper.now) first.makes.verdicts in
     let gives : g.O.Signer.Signer.gives c.in-Ok-signer.signer ≡ before.gives c.args.helper.now = last.gives ∙ ap (λ gives. gives c.args.helper.now) (next.makes.signatures ∙ first.makes.signatures) in
-    let makes : AreMakings (making Source c.args.name.now false ∷ making Verifier c.args.helper.now false ∷ making Signer c.args.helper.now false ∷ []) before (g.O.Outside.told c.serve_made.new.outside) =
+    let makes : AreMakings (making Source c.args.name.now false ∷ making Verifier c.args.helper.now false ∷ making Signer c.args.helper.now false ∷ []) before (g.O.Outside.shown c.serve_made.new.outside) =
     rw c.serve_made.ensures.told (then_made (making Source c.args.name.now false ∷ making Verifier c.args.helper.now false ∷ []) Signer c.args.helper.now false _ _ _ refl refl refl
     (then_made (making Source c.args.name.now false ∷ []) Verifier c.args.helper.now false _ _ _ refl refl refl
     (one_made Source c.args.name.now _ _ c.in-Ok.source first.makes) (one_made Verifier c.args.helper.now _ _ c.in-Ok-verifier.verifier next.makes))

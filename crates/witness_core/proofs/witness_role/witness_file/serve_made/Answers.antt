@@ -1,7 +1,7 @@
 use Rattle.std.proofs.Common.{◌≡◌, Some, refl, ap}
 use Rattle.run_status.specs.RunStatus.Readers.{source_seen, verifier_seen}
 use Rattle.witness_core.specs.WitnessLink.Links.{Terms}
-use Rattle.run_status.specs.RunRecord.Seen.{signer_told}
+use Rattle.run_status.specs.RunRecord.Seen.{signer_shown}
 use Rattle.witness_core.proofs.witness_role.witness_file.serve_made.Goals as goal
 
 pub returns-clause-serves : goal.returns-clause-serves
@@ -15,7 +15,7 @@ returns-clause-serves g c =
     record {
       source = source;
       verifier = verifier;
-      signer = signer_told g.O.Signer.Signer.gives g.O.Signer.Signer.signings g.O.Signer.Signer.faults now.service.signer;
+      signer = signer_shown g.O.Signer.Signer.gives g.O.Signer.Signer.signings g.O.Signer.Signer.faults now.service.signer;
       reader = record { source = Some source; verifier = Some verifier; refused = c.serve-refused.result.refused.items; seen = c.serve-refused.result.seen.items; close = c.serve-refused.result.close };
       new = record { core = now.service.witness.core; list = now.service.witness.shelf.list; broken = now.service.witness.broken; disk = now.service.witness.shelf.disk };
       source_is = refl;

@@ -1,6 +1,6 @@
 use Rattle.std.proofs.Common.{[], ◌∷◌, true, false, Some, None, refl, ◌∙◌, ap}
 use Rattle.run_status.specs.RunOutside.Makings.{AreMakings}
-use Rattle.run_status.specs.RunOutside.Told.{making}
+use Rattle.run_status.specs.RunOutside.Shown.{making}
 use Rattle.run_status.specs.declared.run_outside.making.MakingKind.TheVariants.{Door, Verifier, Signer}
 use Rattle.run_status.specs.declared.run_status.close.Close.TheVariants.{End, VerifierFault, SignerFault}
 use Rattle.run_status.specs.RunStatus.Readers.{verifier_seen}
@@ -76,9 +76,9 @@ returns-clause-serves g c =
     let first = c.in-Ok.ensures in
     let next = c.in-Ok-verifier.ensures in
     let last = c.in-Ok-signer.ensures in
-    let before = g.O.Outside.told c.args.outside.now in
+    let before = g.O.Outside.shown c.args.outside.now in
     let after = c.signer.new.self in
-    let makes : AreMakings (making Door c.args.links.address.now false ∷ making Verifier c.args.helper.now false ∷ making Signer c.args.helper.now false ∷ []) before (g.O.Outside.told after) =
+    let makes : AreMakings (making Door c.args.links.address.now false ∷ making Verifier c.args.helper.now false ∷ making Signer c.args.helper.now false ∷ []) before (g.O.Outside.shown after) =
     then_made (making Door c.args.links.address.now false ∷ making Verifier c.args.helper.now false ∷ []) Signer c.args.helper.now false _ _ _ refl refl refl
     (then_made (making Door c.args.links.address.now false ∷ []) Verifier c.args.helper.now false _ _ _ refl refl refl
     (one_made Door c.args.links.address.now _ _ c.in-Ok.door first.makes) (one_made Verifier c.args.helper.now _ _ c.in-Ok-verifier.verifier next.makes))

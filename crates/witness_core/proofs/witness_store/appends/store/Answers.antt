@@ -6,7 +6,7 @@ use Rattle.witness_core.proofs.witness_store.appends.store.Goals as goal
 
 pub loop-alloc-init : goal.loop-alloc-init
 loop-alloc-init g c = record {
-  appends = appends_none (history_of c.args.core.now) c.args.shelf.now.list (g.D.Disk.told c.args.shelf.now.disk) (g.met.D.Disk.only_now c.args.shelf.now.disk) c.requires.on_way c.requires.holds;
+  appends = appends_none (history_of c.args.core.now) c.args.shelf.now.list (g.D.Disk.shown c.args.shelf.now.disk) (g.met.D.Disk.only_now c.args.shelf.now.disk) c.requires.on_way c.requires.holds;
   fits = c.requires.fits;
   whole = c.requires.whole;
   holds = c.requires.holds;
@@ -30,7 +30,7 @@ loop-alloc-preserved g c =
     let then = c.in_ok-store_next.ensures in
     record {
       appends = appends_more (history_of c.args.core.now) c.args.shelf.now.list c.loop-alloc.shelf.list c.store_next.new.shelf.list
-          (g.D.Disk.told c.args.shelf.now.disk) (g.D.Disk.told c.loop-alloc.shelf.disk) (g.D.Disk.told c.store_next.new.shelf.disk) was.appends then.appends;
+          (g.D.Disk.shown c.args.shelf.now.disk) (g.D.Disk.shown c.loop-alloc.shelf.disk) (g.D.Disk.shown c.store_next.new.shelf.disk) was.appends then.appends;
       fits = then.fits;
       whole = then.whole;
       holds = then.holds;
@@ -41,7 +41,7 @@ loop-alloc-preserved g c =
 pub returns-in_err-store_next-clause-appends : goal.returns-in_err-store_next-clause-appends
 returns-in_err-store_next-clause-appends g c =
     appends_more (history_of c.args.core.now) c.args.shelf.now.list c.loop-alloc.shelf.list c.store_next.new.shelf.list
-    (g.D.Disk.told c.args.shelf.now.disk) (g.D.Disk.told c.loop-alloc.shelf.disk) (g.D.Disk.told c.store_next.new.shelf.disk) c.loop-alloc.invariant.appends c.store_next.ensures.appends
+    (g.D.Disk.shown c.args.shelf.now.disk) (g.D.Disk.shown c.loop-alloc.shelf.disk) (g.D.Disk.shown c.store_next.new.shelf.disk) c.loop-alloc.invariant.appends c.store_next.ensures.appends
 
 pub returns-clause-stored : goal.returns-clause-stored
 returns-clause-stored g c =

@@ -6,7 +6,7 @@ use Rattle.witness_core.proofs.witness_store.appends.store.Given as goal
 
 -- some of the payloads are stored
 abbrev pub invariant-loop-alloc : goal.invariant-loop-alloc
-invariant-loop-alloc g l = IsStoring (history_of l.core) l.fn.shelf.list l.shelf.list (g.D.Disk.told l.fn.shelf.disk) (g.D.Disk.told l.shelf.disk) l.fn.shelf.limits l.shelf.limits l.shelf.broken l.room
+invariant-loop-alloc g l = IsStoring (history_of l.core) l.fn.shelf.list l.shelf.list (g.D.Disk.shown l.fn.shelf.disk) (g.D.Disk.shown l.shelf.disk) l.fn.shelf.limits l.shelf.limits l.shelf.broken l.room
 
 -- the others are left
 abbrev pub decreases-loop-alloc : goal.decreases-loop-alloc

@@ -11,16 +11,16 @@ use Rattle.witness_core.proofs.WitnessStoreLemmas.Stored.{goes_none, goes_of}
 use Rattle.witness_core.proofs.witness_store.open_questions.ask_one.Goals as goal
 
 pub store-requires-clause-on_way : goal.store-requires-clause-on_way
-store-requires-clause-on_way g c = noted_way c.args.core.now c.ask.new.self c.args.question.now c.in-Ok.field-0 c.in-Ok.ensures.noted c.args.shelf.now.list c.args.shelf.now.limits c.args.shelf.now.broken (g.D.Disk.told c.args.shelf.now.disk) c.args.room.now c.requires.stored
+store-requires-clause-on_way g c = noted_way c.args.core.now c.ask.new.self c.args.question.now c.in-Ok.field-0 c.in-Ok.ensures.noted c.args.shelf.now.list c.args.shelf.now.limits c.args.shelf.now.broken (g.D.Disk.shown c.args.shelf.now.disk) c.args.room.now c.requires.stored
 
 pub store-requires-clause-grown : goal.store-requires-clause-grown
-store-requires-clause-grown g c = noted_grown c.args.core.now c.ask.new.self c.args.question.now c.in-Ok.field-0 c.in-Ok.ensures.noted c.args.shelf.now.list c.args.shelf.now.limits c.args.shelf.now.broken (g.D.Disk.told c.args.shelf.now.disk) c.args.room.now c.requires.stored
+store-requires-clause-grown g c = noted_grown c.args.core.now c.ask.new.self c.args.question.now c.in-Ok.field-0 c.in-Ok.ensures.noted c.args.shelf.now.list c.args.shelf.now.limits c.args.shelf.now.broken (g.D.Disk.shown c.args.shelf.now.disk) c.args.room.now c.requires.stored
 
 pub store-requires-clause-fits : goal.store-requires-clause-fits
-store-requires-clause-fits g c = noted_fits c.args.core.now c.ask.new.self c.args.question.now c.in-Ok.field-0 c.in-Ok.ensures.noted c.args.shelf.now.list c.args.shelf.now.limits c.args.shelf.now.broken (g.D.Disk.told c.args.shelf.now.disk) c.args.room.now c.requires.stored
+store-requires-clause-fits g c = noted_fits c.args.core.now c.ask.new.self c.args.question.now c.in-Ok.field-0 c.in-Ok.ensures.noted c.args.shelf.now.list c.args.shelf.now.limits c.args.shelf.now.broken (g.D.Disk.shown c.args.shelf.now.disk) c.args.room.now c.requires.stored
 
 pub returns-in-Ok-clause-goes_on : goal.returns-in-Ok-clause-goes_on
-returns-in-Ok-clause-goes_on g c = goes_of (history_of c.ask.new.self) c.args.shelf.now.list c.store.new.shelf.list (g.D.Disk.told c.args.shelf.now.disk) (g.D.Disk.told c.store.new.shelf.disk) c.store.ensures.appends
+returns-in-Ok-clause-goes_on g c = goes_of (history_of c.ask.new.self) c.args.shelf.now.list c.store.new.shelf.list (g.D.Disk.shown c.args.shelf.now.disk) (g.D.Disk.shown c.store.new.shelf.disk) c.store.ensures.appends
 
 pub returns-in-Ok-clause-asks : goal.returns-in-Ok-clause-asks
 returns-in-Ok-clause-asks g c =
@@ -37,8 +37,8 @@ returns-in-Ok-clause-heard g c =
 
 pub returns-in-Err-VerifierFault-clause-goes_on : goal.returns-in-Err-VerifierFault-clause-goes_on
 returns-in-Err-VerifierFault-clause-goes_on g c =
-    subst (λ core. GoesOn c.args.shelf.now.list (g.D.Disk.told c.args.shelf.now.disk) (history_of core) c.args.shelf.now.list (g.D.Disk.told c.args.shelf.now.disk)) (sym (rw c.in-Err-VerifierFault.is at c.ask.ensures.err))
-    (goes_none (history_of c.args.core.now) c.args.shelf.now.list (g.D.Disk.told c.args.shelf.now.disk) (g.met.D.Disk.only_now c.args.shelf.now.disk) c.requires.stored.on_way c.requires.stored.holds)
+    subst (λ core. GoesOn c.args.shelf.now.list (g.D.Disk.shown c.args.shelf.now.disk) (history_of core) c.args.shelf.now.list (g.D.Disk.shown c.args.shelf.now.disk)) (sym (rw c.in-Err-VerifierFault.is at c.ask.ensures.err))
+    (goes_none (history_of c.args.core.now) c.args.shelf.now.list (g.D.Disk.shown c.args.shelf.now.disk) (g.met.D.Disk.only_now c.args.shelf.now.disk) c.requires.stored.on_way c.requires.stored.holds)
 
 pub returns-in-Err-VerifierFault-clause-asks : goal.returns-in-Err-VerifierFault-clause-asks
 returns-in-Err-VerifierFault-clause-asks g c =
@@ -50,8 +50,8 @@ returns-in-Err-VerifierFault-clause-asks g c =
 
 pub returns-in-Err-OutOfMemory-clause-goes_on : goal.returns-in-Err-OutOfMemory-clause-goes_on
 returns-in-Err-OutOfMemory-clause-goes_on g c =
-    subst (λ core. GoesOn c.args.shelf.now.list (g.D.Disk.told c.args.shelf.now.disk) (history_of core) c.args.shelf.now.list (g.D.Disk.told c.args.shelf.now.disk)) (sym (rw c.in-Err-OutOfMemory.is at c.ask.ensures.err))
-    (goes_none (history_of c.args.core.now) c.args.shelf.now.list (g.D.Disk.told c.args.shelf.now.disk) (g.met.D.Disk.only_now c.args.shelf.now.disk) c.requires.stored.on_way c.requires.stored.holds)
+    subst (λ core. GoesOn c.args.shelf.now.list (g.D.Disk.shown c.args.shelf.now.disk) (history_of core) c.args.shelf.now.list (g.D.Disk.shown c.args.shelf.now.disk)) (sym (rw c.in-Err-OutOfMemory.is at c.ask.ensures.err))
+    (goes_none (history_of c.args.core.now) c.args.shelf.now.list (g.D.Disk.shown c.args.shelf.now.disk) (g.met.D.Disk.only_now c.args.shelf.now.disk) c.requires.stored.on_way c.requires.stored.holds)
 
 pub returns-in-Err-OutOfMemory-clause-asks : goal.returns-in-Err-OutOfMemory-clause-asks
 returns-in-Err-OutOfMemory-clause-asks g c =
@@ -63,5 +63,5 @@ returns-in-Err-OutOfMemory-clause-asks g c =
 
 pub returns-in-Err-VerifierFault-clause-kept : goal.returns-in-Err-VerifierFault-clause-kept
 returns-in-Err-VerifierFault-clause-kept g c =
-    subst (λ core. AreStored (history_of core) c.args.shelf.now.list c.args.shelf.now.limits c.args.shelf.now.broken (g.D.Disk.told c.args.shelf.now.disk) c.args.room.now)
+    subst (λ core. AreStored (history_of core) c.args.shelf.now.list c.args.shelf.now.limits c.args.shelf.now.broken (g.D.Disk.shown c.args.shelf.now.disk) c.args.room.now)
     (sym (rw c.in-Err-VerifierFault.is at c.ask.ensures.err)) c.requires.stored

@@ -10,7 +10,7 @@ use Rattle.witness_core.proofs.witness_store.open_questions.ask_open.Goals as go
 pub loop-question-init : goal.loop-question-init
 loop-question-init g c = record {
   stored = c.requires.stored;
-  goes_on = goes_none (history_of c.args.core.now) c.args.shelf.now.list (g.D.Disk.told c.args.shelf.now.disk) (g.met.D.Disk.only_now c.args.shelf.now.disk) c.requires.stored.on_way c.requires.stored.holds;
+  goes_on = goes_none (history_of c.args.core.now) c.args.shelf.now.list (g.D.Disk.shown c.args.shelf.now.disk) (g.met.D.Disk.only_now c.args.shelf.now.disk) c.requires.stored.on_way c.requires.stored.holds;
   same_limits = refl;
   asks = asks_nothing (g.V.Verifier.says c.args.verifier.now) (g.V.Verifier.inquiries c.args.verifier.now) c.args.core.now [];
   same = refl;
@@ -26,7 +26,7 @@ loop-question-preserved g c =
     record {
       stored = then.stored;
       goes_on = goes_more (history_of c.loop-question.core) (history_of c.ask_one.new.core) c.args.shelf.now.list c.loop-question.shelf.list c.ask_one.new.shelf.list
-          (g.D.Disk.told c.args.shelf.now.disk) (g.D.Disk.told c.loop-question.shelf.disk) (g.D.Disk.told c.ask_one.new.shelf.disk) was.goes_on was.stored.all then.goes_on;
+          (g.D.Disk.shown c.args.shelf.now.disk) (g.D.Disk.shown c.loop-question.shelf.disk) (g.D.Disk.shown c.ask_one.new.shelf.disk) was.goes_on was.stored.all then.goes_on;
       same_limits = then.limits ∙ was.same_limits;
       asks = asks_then (g.V.Verifier.says c.args.verifier.now) (inquiries c.args.verifier.now) (inquiries c.loop-question.verifier) (inquiries c.ask_one.new.verifier) c.args.core.now c.loop-question.core c.ask_one.new.core [] was.asks
           (subst (λ says. Asks says (inquiries c.loop-question.verifier) (inquiries c.ask_one.new.verifier) c.loop-question.core c.ask_one.new.core []) was.same then.heard);
@@ -39,7 +39,7 @@ pub returns-in_err-ask_one-clause-goes_on : goal.returns-in_err-ask_one-clause-g
 returns-in_err-ask_one-clause-goes_on g c =
     let was = c.loop-question.invariant in
     goes_more (history_of c.loop-question.core) (history_of c.ask_one.new.core) c.args.shelf.now.list c.loop-question.shelf.list c.ask_one.new.shelf.list
-    (g.D.Disk.told c.args.shelf.now.disk) (g.D.Disk.told c.loop-question.shelf.disk) (g.D.Disk.told c.ask_one.new.shelf.disk) was.goes_on was.stored.all c.ask_one.ensures.goes_on
+    (g.D.Disk.shown c.args.shelf.now.disk) (g.D.Disk.shown c.loop-question.shelf.disk) (g.D.Disk.shown c.ask_one.new.shelf.disk) was.goes_on was.stored.all c.ask_one.ensures.goes_on
 
 pub returns-in_err-ask_one-clause-asks : goal.returns-in_err-ask_one-clause-asks
 returns-in_err-ask_one-clause-asks g c =

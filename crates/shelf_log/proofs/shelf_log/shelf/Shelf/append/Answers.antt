@@ -14,5 +14,5 @@ invariant_of-self g c =
       ends = omega (arith, self.ends, length-front-push Two self.list c.args.payload.now) ∙ ap (λ (l : List (List ℕ)). length (shelf_front Two l)) (sym c.in-Ok.ensures.ok);
       few = grind (arith, nat_tests, c.has_no_room.ensures, c.if-has_no_room.false, self.ends, self.limits.shelf_bytes_standard);
       counted = grind (arith, nat_tests, c.has_no_room.ensures, c.if-has_no_room.false, ap length c.in-Ok.ensures.ok, length-append self.list (c.args.payload.now ∷ []));
-      settled = λ whole. subst (IsSettled (g.D.Disk.told c.add.new.disk)) (sym c.in-Ok.ensures.ok) stores.settled;
+      settled = λ whole. subst (IsSettled (g.D.Disk.shown c.add.new.disk)) (sym c.in-Ok.ensures.ok) stores.settled;
     }

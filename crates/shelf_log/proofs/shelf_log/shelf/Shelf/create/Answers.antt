@@ -7,11 +7,11 @@ use Rattle.shelf_log.proofs.shelf_log.shelf.Shelf.create.Goals as goal
 
 pub returns-in-Ok-clause-moments : goal.returns-in-Ok-clause-moments
 returns-in-Ok-clause-moments g c =
-    subst (λ d. LeavesOnly (g.D.Disk.told c.args.disk) (g.D.Disk.told d) IsUnfinished) (sym c.settled.ensures.0)
-    (weaker (g.D.Disk.told c.args.disk) (g.D.Disk.told c.put_durably.new.disk) _ IsUnfinished
+    subst (λ d. LeavesOnly (g.D.Disk.shown c.args.disk) (g.D.Disk.shown d) IsUnfinished) (sym c.settled.ensures.0)
+    (weaker (g.D.Disk.shown c.args.disk) (g.D.Disk.shown c.put_durably.new.disk) _ IsUnfinished
     (λ f part. torn_empty (length c.empty_file.result) f (omega (arith, ap length c.empty_file.ensures)) part.0 (c.requires part.0 part.1) part.2) c.put_durably.ensures.puts.moments)
 
 pub returns-in-Err-clause-moments : goal.returns-in-Err-clause-moments
 returns-in-Err-clause-moments g c =
-    weaker (g.D.Disk.told c.args.disk) (g.D.Disk.told c.put_durably.new.disk) _ IsUnfinished
+    weaker (g.D.Disk.shown c.args.disk) (g.D.Disk.shown c.put_durably.new.disk) _ IsUnfinished
     (λ f part. torn_empty (length c.empty_file.result) f (omega (arith, ap length c.empty_file.ensures)) part.0 (c.requires part.0 part.1) part.2) c.put_durably.ensures.puts.moments

@@ -1,6 +1,6 @@
 use Rattle.std.proofs.Common.{sym, ◌∙◌, subst}
 use Rattle.core_tables.specs.CoreTables.View.{body_of}
-use Rattle.journal.specs.declared.journal.reply.Reply.TheVariants.{Full, Taken}
+use Rattle.journal.specs.declared.journal.reply.Reply.TheVariants.{LimitReached, Taken}
 use Rattle.validator_core.specs.ValidatorCore.Calls.{TakesBody}
 use Rattle.validator_core.specs.ValidatorCore.Looks.{LooksByReply}
 use Rattle.validator_core.specs.ValidatorCore.Tables.{IsCore}
@@ -14,7 +14,7 @@ returns-then-lacks_room-clause-takes c =
     let i = c.self.inside in
     let is = c.self.view_is in
     let b = body_of c.args.body.now c.args.event in
-    subst (λ core. TakesBody core c.args.reader b c.args.claims Full core) is
+    subst (λ core. TakesBody core c.args.reader b c.args.claims LimitReached core) is
     (takes_full_new i.mode i.limits i.base i.tables i.tally c.self.invariant c.args.reader b c.args.claims (rw (← is) at c.requires.outside)
     (rw (c.len-count.ensures, c.len-size.ensures) at (sym c.lacks_room.ensures ∙ c.if-lacks_room.true)))
 

@@ -1,7 +1,7 @@
 use Rattle.std.proofs.Common.{◌≡◌, Some, sym, ◌∙◌, ap, subst}
 use Rattle.std.specs.Prelude.{slice_get}
 use Rattle.journal.specs.declared.journal.body.Body.{Body}
-use Rattle.journal.specs.declared.journal.reply.Reply.TheVariants.{Full}
+use Rattle.journal.specs.declared.journal.reply.Reply.TheVariants.{LimitReached}
 use Rattle.journal.proofs.JournalLemmas.Places.{some_at}
 use Rattle.validator_core.specs.ValidatorCore.Calls.{TakesBody}
 use Rattle.validator_core.specs.ValidatorCore.Looks.{LooksByReply}
@@ -14,7 +14,7 @@ use Rattle.validator_core.proofs.validator_core.validator.Core.take_claims.Goals
 pub returns-then-is_spent-clause-takes : goal.returns-then-is_spent-clause-takes
 returns-then-is_spent-clause-takes c =
     let i = c.self.inside in
-    subst (λ core. (b : Body) → slice_get core.held c.args.number ≡ Some b → TakesBody core c.args.reader b c.args.claims Full core) c.self.view_is
+    subst (λ core. (b : Body) → slice_get core.held c.args.number ≡ Some b → TakesBody core c.args.reader b c.args.claims LimitReached core) c.self.view_is
     (λ b at. takes_full_again i.mode i.limits i.base i.tables i.tally c.self.invariant c.args.reader b c.args.claims c.args.number at (rw c.len-count.ensures at (sym c.is_spent.ensures ∙ c.if-is_spent.true)))
 
 pub invariant_of-self-2 : goal.invariant_of-self-2

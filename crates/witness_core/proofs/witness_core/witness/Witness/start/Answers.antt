@@ -17,8 +17,8 @@ invariant_of-result g c =
       local = started.mode_is;
       core_limits = started.limits_are;
       shelf_limits = c.requires.limits;
-      stored = λ _. started_stored begun.core s.list c.args.limits s.limits s.broken (g.D.Disk.told s.disk) begun.room started c.in-Ok.ensures.room s.counted c.requires.whole
-          (settled_holds (g.D.Disk.told s.disk) s.list (s.settled c.requires.whole));
+      stored = λ _. started_stored begun.core s.list c.args.limits s.limits s.broken (g.D.Disk.shown s.disk) begun.room started c.in-Ok.ensures.room s.counted c.requires.whole
+          (settled_holds (g.D.Disk.shown s.disk) s.list (s.settled c.requires.whole));
     }
 
 pub returns-in-Ok-clause-resumed : goal.returns-in-Ok-clause-resumed
@@ -27,7 +27,7 @@ returns-in-Ok-clause-resumed g c =
     let begun = c.in-Ok.field-0 in
     let started = subst (λ l. IsStarted c.args.limits l begun.core) c.list.ensures c.in-Ok.ensures.started in (
       started,
-      are_listed begun.core s.list s.limits s.broken (g.D.Disk.told s.disk) begun.room
+      are_listed begun.core s.list s.limits s.broken (g.D.Disk.shown s.disk) begun.room
           (kept_all begun.core c.stands.ensures.stands c.stands.ensures.held c.stands.ensures.accepted c.spelled_is_kept.ensures)
-          (started_stored begun.core s.list c.args.limits s.limits s.broken (g.D.Disk.told s.disk) begun.room started c.in-Ok.ensures.room s.counted c.requires.whole (settled_holds (g.D.Disk.told s.disk) s.list (s.settled c.requires.whole))),
+          (started_stored begun.core s.list c.args.limits s.limits s.broken (g.D.Disk.shown s.disk) begun.room started c.in-Ok.ensures.room s.counted c.requires.whole (settled_holds (g.D.Disk.shown s.disk) s.list (s.settled c.requires.whole))),
     )

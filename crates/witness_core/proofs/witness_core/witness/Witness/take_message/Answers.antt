@@ -14,7 +14,7 @@ pub returns-in_err-taken-clause-causes : goal.returns-in_err-taken-clause-causes
 returns-in_err-taken-clause-causes g c =
     let fault = c.in_err-taken.field-0.0 in
     if_err c.from_residual.result fault _ c.from_residual.ensures.1
-    (take_caused (g.D.Disk.told c.args.self.now.shelf.disk).faults (g.D.Disk.told c.take_whole.new.self.shelf.disk).faults (g.V.Verifier.faults c.args.verifier.now) (g.V.Verifier.faults c.take_whole.new.verifier)
+    (take_caused (g.D.Disk.shown c.args.self.now.shelf.disk).faults (g.D.Disk.shown c.take_whole.new.self.shelf.disk).faults (g.V.Verifier.faults c.args.verifier.now) (g.V.Verifier.faults c.take_whole.new.verifier)
     (g.S.Signer.faults c.args.signer.now) fault c.in_err-taken.ensures.causes)
 
 pub returns-in_err-taken-clause-stored_where_asked : goal.returns-in_err-taken-clause-stored_where_asked
@@ -168,5 +168,5 @@ returns-in-Event-clause-verifier_same g c =
 pub returns-in-Event-clause-causes : goal.returns-in-Event-clause-causes
 returns-in-Event-clause-causes g c =
     err_weaker c.event_outcome.result _ _ c.event_outcome.ensures.fault
-    (sign_caused (g.S.Signer.faults c.args.signer.now) (g.S.Signer.faults c.event_outcome.new.signer) (g.D.Disk.told c.args.self.now.shelf.disk).faults (g.D.Disk.told c.take_whole.new.self.shelf.disk).faults (g.V.Verifier.faults c.args.verifier.now) (g.V.Verifier.faults c.take_whole.new.verifier)
+    (sign_caused (g.S.Signer.faults c.args.signer.now) (g.S.Signer.faults c.event_outcome.new.signer) (g.D.Disk.shown c.args.self.now.shelf.disk).faults (g.D.Disk.shown c.take_whole.new.self.shelf.disk).faults (g.V.Verifier.faults c.args.verifier.now) (g.V.Verifier.faults c.take_whole.new.verifier)
     c.in_ok-taken.ensures.disk_same c.in_ok-taken.ensures.verifier_same)

@@ -14,39 +14,39 @@ returns-in_err-taken-clause-kept g c =
     let s = c.args.self.now.shelf in
     let fault = c.in_err-taken.field-0.0 in
     if_err c.from_residual.result fault _ c.from_residual.ensures.1
-    (message_kept c.args.self.now.core s.list s.limits s.broken (g.D.Disk.told s.disk) (g.met.D.Disk.only_now s.disk) c.args.self.now.room c.requires.stored c.take_in.new.core c.take_in.new.room c.args.message.now fault c.in_err-taken.ensures.fault)
+    (message_kept c.args.self.now.core s.list s.limits s.broken (g.D.Disk.shown s.disk) (g.met.D.Disk.only_now s.disk) c.args.self.now.room c.requires.stored c.take_in.new.core c.take_in.new.room c.args.message.now fault c.in_err-taken.ensures.fault)
 
 pub returns-in_err-taken-clause-goes_on : goal.returns-in_err-taken-clause-goes_on
 returns-in_err-taken-clause-goes_on g c =
     let s = c.args.self.now.shelf in
-    message_goes c.args.self.now.core s.list s.limits s.broken (g.D.Disk.told s.disk) (g.met.D.Disk.only_now s.disk) c.args.self.now.room c.requires.stored c.take_in.new.core c.take_in.new.room c.args.message.now c.in_err-taken.field-0.0 c.in_err-taken.ensures.fault
+    message_goes c.args.self.now.core s.list s.limits s.broken (g.D.Disk.shown s.disk) (g.met.D.Disk.only_now s.disk) c.args.self.now.room c.requires.stored c.take_in.new.core c.take_in.new.room c.args.message.now c.in_err-taken.field-0.0 c.in_err-taken.ensures.fault
 
 pub returns-in_err-taken-clause-told : goal.returns-in_err-taken-clause-told
 returns-in_err-taken-clause-told g c =
     let s = c.args.self.now.shelf in
     let fault = c.in_err-taken.field-0.0 in
     match_err c.from_residual.result fault _ _ c.from_residual.ensures.1
-    (message_tells c.args.self.now.core s.list s.limits s.broken (g.D.Disk.told s.disk) (g.met.D.Disk.only_now s.disk) c.args.self.now.room c.requires.stored c.take_in.new.core c.take_in.new.room c.args.message.now fault (g.V.Verifier.says c.args.verifier.now) c.in_err-taken.ensures.fault)
+    (message_tells c.args.self.now.core s.list s.limits s.broken (g.D.Disk.shown s.disk) (g.met.D.Disk.only_now s.disk) c.args.self.now.room c.requires.stored c.take_in.new.core c.take_in.new.room c.args.message.now fault (g.V.Verifier.says c.args.verifier.now) c.in_err-taken.ensures.fault)
 
 pub returns-in_err-taken-clause-causes : goal.returns-in_err-taken-clause-causes
 returns-in_err-taken-clause-causes g c =
     let s = c.args.self.now.shelf in
     let fault = c.in_err-taken.field-0.0 in
     if_err c.from_residual.result fault _ c.from_residual.ensures.1
-    (message_caused c.args.self.now.core s.list s.limits s.broken (g.D.Disk.told s.disk) (g.met.D.Disk.only_now s.disk) c.args.self.now.room c.requires.stored c.take_in.new.core c.take_in.new.room c.args.message.now fault c.in_err-taken.ensures.fault
-    (g.D.Disk.told s.disk).faults (g.V.Verifier.faults c.args.verifier.now))
+    (message_caused c.args.self.now.core s.list s.limits s.broken (g.D.Disk.shown s.disk) (g.met.D.Disk.only_now s.disk) c.args.self.now.room c.requires.stored c.take_in.new.core c.take_in.new.room c.args.message.now fault c.in_err-taken.ensures.fault
+    (g.D.Disk.shown s.disk).faults (g.V.Verifier.faults c.args.verifier.now))
 
 pub returns-in-Refused-clause-stored : goal.returns-in-Refused-clause-stored
 returns-in-Refused-clause-stored g c =
     let s = c.args.self.now.shelf in
     let taken = rw c.in-Refused.is at c.in_ok-taken.ensures.taken in
-    same_stored c.args.self.now.core s.list s.limits s.broken (g.D.Disk.told s.disk) (g.met.D.Disk.only_now s.disk) c.args.self.now.room c.requires.stored c.take_in.new.core taken.1 c.take_in.new.room taken.2
+    same_stored c.args.self.now.core s.list s.limits s.broken (g.D.Disk.shown s.disk) (g.met.D.Disk.only_now s.disk) c.args.self.now.room c.requires.stored c.take_in.new.core taken.1 c.take_in.new.room taken.2
 
 pub returns-in-Refused-clause-goes_on : goal.returns-in-Refused-clause-goes_on
 returns-in-Refused-clause-goes_on g c =
     let s = c.args.self.now.shelf in
     let taken = rw c.in-Refused.is at c.in_ok-taken.ensures.taken in
-    same_goes c.args.self.now.core s.list s.limits s.broken (g.D.Disk.told s.disk) (g.met.D.Disk.only_now s.disk) c.args.self.now.room c.requires.stored c.take_in.new.core taken.1
+    same_goes c.args.self.now.core s.list s.limits s.broken (g.D.Disk.shown s.disk) (g.met.D.Disk.only_now s.disk) c.args.self.now.room c.requires.stored c.take_in.new.core taken.1
 
 pub returns-in-Refused-clause-told : goal.returns-in-Refused-clause-told
 returns-in-Refused-clause-told g c =
@@ -57,13 +57,13 @@ pub returns-in-NotAnEvent-clause-stored : goal.returns-in-NotAnEvent-clause-stor
 returns-in-NotAnEvent-clause-stored g c =
     let s = c.args.self.now.shelf in
     let taken = rw c.in-NotAnEvent.is at c.in_ok-taken.ensures.taken in
-    same_stored c.args.self.now.core s.list s.limits s.broken (g.D.Disk.told s.disk) (g.met.D.Disk.only_now s.disk) c.args.self.now.room c.requires.stored c.take_in.new.core taken.1 c.take_in.new.room taken.2
+    same_stored c.args.self.now.core s.list s.limits s.broken (g.D.Disk.shown s.disk) (g.met.D.Disk.only_now s.disk) c.args.self.now.room c.requires.stored c.take_in.new.core taken.1 c.take_in.new.room taken.2
 
 pub returns-in-NotAnEvent-clause-goes_on : goal.returns-in-NotAnEvent-clause-goes_on
 returns-in-NotAnEvent-clause-goes_on g c =
     let s = c.args.self.now.shelf in
     let taken = rw c.in-NotAnEvent.is at c.in_ok-taken.ensures.taken in
-    same_goes c.args.self.now.core s.list s.limits s.broken (g.D.Disk.told s.disk) (g.met.D.Disk.only_now s.disk) c.args.self.now.room c.requires.stored c.take_in.new.core taken.1
+    same_goes c.args.self.now.core s.list s.limits s.broken (g.D.Disk.shown s.disk) (g.met.D.Disk.only_now s.disk) c.args.self.now.room c.requires.stored c.take_in.new.core taken.1
 
 pub returns-in-NotAnEvent-clause-told : goal.returns-in-NotAnEvent-clause-told
 returns-in-NotAnEvent-clause-told g c =
@@ -75,14 +75,14 @@ store-requires-clause-on_way g c =
     let s = c.args.self.now.shelf in
     let m = c.args.message.now in
     let ready = rw c.in-Event.is at c.in_ok-taken.ensures.taken in
-    came_way c.args.self.now.core s.list s.limits s.broken (g.D.Disk.told s.disk) (g.met.D.Disk.only_now s.disk) c.args.self.now.room c.requires.stored c.take_in.new.core (body_of m.body ready.event) (claims_of m) ready.came
+    came_way c.args.self.now.core s.list s.limits s.broken (g.D.Disk.shown s.disk) (g.met.D.Disk.only_now s.disk) c.args.self.now.room c.requires.stored c.take_in.new.core (body_of m.body ready.event) (claims_of m) ready.came
 
 pub store-requires-clause-grown : goal.store-requires-clause-grown
 store-requires-clause-grown g c =
     let s = c.args.self.now.shelf in
     let m = c.args.message.now in
     let ready = rw c.in-Event.is at c.in_ok-taken.ensures.taken in
-    came_grown c.args.self.now.core s.list s.limits s.broken (g.D.Disk.told s.disk) (g.met.D.Disk.only_now s.disk) c.args.self.now.room c.requires.stored c.take_in.new.core (body_of m.body ready.event) (claims_of m) ready.came
+    came_grown c.args.self.now.core s.list s.limits s.broken (g.D.Disk.shown s.disk) (g.met.D.Disk.only_now s.disk) c.args.self.now.room c.requires.stored c.take_in.new.core (body_of m.body ready.event) (claims_of m) ready.came
 
 pub store-requires-clause-fits : goal.store-requires-clause-fits
 store-requires-clause-fits g c =
@@ -91,18 +91,18 @@ store-requires-clause-fits g c =
 
 pub returns-in_err-store-in-Event-clause-told : goal.returns-in_err-store-in-Event-clause-told
 returns-in_err-store-in-Event-clause-told g c =
-    let d = (g.D.Disk.told c.args.self.now.shelf.disk).faults in
+    let d = (g.D.Disk.shown c.args.self.now.shelf.disk).faults in
     let m = c.args.message.now in
     let says = g.V.Verifier.says c.args.verifier.now in
     let fault = c.in_err-store-in-Event.field-0.0 in
     let ready = rw c.in-Event.is at c.in_ok-taken.ensures.taken in
     match_err c.from_residual-in_err-store-in-Event.result fault _ _ c.from_residual-in_err-store-in-Event.ensures.1
-    (store_tells d (g.D.Disk.told c.store.new.shelf.disk).faults says c.args.self.now.core m c.take_in.new.core (tells_first says m ready.event ready.judged ready.no_receipt c.args.self.now.core c.take_in.new.core ready.came) fault c.in_err-store-in-Event.ensures.fault)
+    (store_tells d (g.D.Disk.shown c.store.new.shelf.disk).faults says c.args.self.now.core m c.take_in.new.core (tells_first says m ready.event ready.judged ready.no_receipt c.args.self.now.core c.take_in.new.core ready.came) fault c.in_err-store-in-Event.ensures.fault)
 
 pub returns-in_err-ask_open-in-Event-clause-goes_on : goal.returns-in_err-ask_open-in-Event-clause-goes_on
 returns-in_err-ask_open-in-Event-clause-goes_on g c =
     let s = c.args.self.now.shelf in
-    goes_asked c.take_in.new.core c.ask_open.new.core s.list c.store.new.shelf.list c.ask_open.new.shelf.list (g.D.Disk.told s.disk) (g.D.Disk.told c.store.new.shelf.disk) (g.D.Disk.told c.ask_open.new.shelf.disk)
+    goes_asked c.take_in.new.core c.ask_open.new.core s.list c.store.new.shelf.list c.ask_open.new.shelf.list (g.D.Disk.shown s.disk) (g.D.Disk.shown c.store.new.shelf.disk) (g.D.Disk.shown c.ask_open.new.shelf.disk)
     c.store.ensures.appends c.in_ok-store-in-Event.ensures.stored.all c.ask_open.ensures.goes_on
 
 pub returns-in_err-ask_open-in-Event-clause-told : goal.returns-in_err-ask_open-in-Event-clause-told
@@ -112,13 +112,13 @@ returns-in_err-ask_open-in-Event-clause-told g c =
     let fault = c.in_err-ask_open-in-Event.field-0.0 in
     let ready = rw c.in-Event.is at c.in_ok-taken.ensures.taken in
     match_err c.from_residual-in_err-ask_open-in-Event.result fault _ _ c.from_residual-in_err-ask_open-in-Event.ensures.1
-    (ask_tells (g.D.Disk.told c.store.new.shelf.disk).faults (g.D.Disk.told c.ask_open.new.shelf.disk).faults (g.V.Verifier.faults c.args.verifier.now) (g.V.Verifier.faults c.ask_open.new.verifier) says c.args.self.now.core m c.ask_open.new.core
+    (ask_tells (g.D.Disk.shown c.store.new.shelf.disk).faults (g.D.Disk.shown c.ask_open.new.shelf.disk).faults (g.V.Verifier.faults c.args.verifier.now) (g.V.Verifier.faults c.ask_open.new.verifier) says c.args.self.now.core m c.ask_open.new.core
     (tells says m ready.event ready.judged ready.no_receipt c.args.self.now.core c.take_in.new.core c.ask_open.new.core ready.came (hears_of c.ask_open.ensures.asks)) fault c.in_err-ask_open-in-Event.ensures.fault)
 
 pub returns-in_ok-ask_open-in-Event-clause-goes_on : goal.returns-in_ok-ask_open-in-Event-clause-goes_on
 returns-in_ok-ask_open-in-Event-clause-goes_on g c =
     let s = c.args.self.now.shelf in
-    goes_asked c.take_in.new.core c.ask_open.new.core s.list c.store.new.shelf.list c.ask_open.new.shelf.list (g.D.Disk.told s.disk) (g.D.Disk.told c.store.new.shelf.disk) (g.D.Disk.told c.ask_open.new.shelf.disk)
+    goes_asked c.take_in.new.core c.ask_open.new.core s.list c.store.new.shelf.list c.ask_open.new.shelf.list (g.D.Disk.shown s.disk) (g.D.Disk.shown c.store.new.shelf.disk) (g.D.Disk.shown c.ask_open.new.shelf.disk)
     c.store.ensures.appends c.in_ok-store-in-Event.ensures.stored.all c.ask_open.ensures.goes_on
 
 pub returns-in_ok-ask_open-in-Event-clause-taken : goal.returns-in_ok-ask_open-in-Event-clause-taken
@@ -130,7 +130,7 @@ returns-in_ok-ask_open-in-Event-clause-taken g c =
 pub returns-in_err-taken-clause-verdicts : goal.returns-in_err-taken-clause-verdicts
 returns-in_err-taken-clause-verdicts g c =
     let s = c.args.self.now.shelf in
-    message_asks c.args.self.now.core s.list s.limits s.broken (g.D.Disk.told s.disk) (g.met.D.Disk.only_now s.disk) c.args.self.now.room c.requires.stored c.take_in.new.core c.take_in.new.room c.args.message.now c.in_err-taken.field-0.0
+    message_asks c.args.self.now.core s.list s.limits s.broken (g.D.Disk.shown s.disk) (g.met.D.Disk.only_now s.disk) c.args.self.now.room c.requires.stored c.take_in.new.core c.take_in.new.room c.args.message.now c.in_err-taken.field-0.0
     (g.V.Verifier.inquiries c.args.verifier.now) c.in_err-taken.ensures.fault
 
 pub returns-in-Refused-clause-verdicts : goal.returns-in-Refused-clause-verdicts

@@ -11,8 +11,8 @@ returns-clause-takes g c = λ whole.
     let e = c.take-taken.ensures in
     let old = c.args.self.now.witness in
     let new = c.take-taken.new.self in
-    taken_so (record { key = old.key; limits = old.limits; core = old.core; list = old.shelf.list; disk = g.D.Disk.told old.shelf.disk; broken = old.broken })
-    (record { key = new.key; limits = new.limits; core = new.core; list = new.shelf.list; disk = g.D.Disk.told new.shelf.disk; broken = new.broken }) (g.V.Verifier.says c.args.self.now.verifier) (g.G.Signer.gives c.args.self.now.signer) c.args.message.now _ _ _ _ c.take-taken.result
+    taken_so (record { key = old.key; limits = old.limits; core = old.core; list = old.shelf.list; disk = g.D.Disk.shown old.shelf.disk; broken = old.broken })
+    (record { key = new.key; limits = new.limits; core = new.core; list = new.shelf.list; disk = g.D.Disk.shown new.shelf.disk; broken = new.broken }) (g.V.Verifier.says c.args.self.now.verifier) (g.G.Signer.gives c.args.self.now.signer) c.args.message.now _ _ _ _ c.take-taken.result
     (subst (λ b. Goes b c.take-taken.new.self.broken c.take-taken.result) whole e.goes) (e.full whole) (λ is. (ap (λ s. s.list) (e.same_at_full is).0, (e.same_at_full is).2)) (e.told whole)
     e.fate e.receipts e.same_list
     (λ is. record {

@@ -3,7 +3,7 @@ use Rattle.std.specs.Prelude.{count_by}
 use Rattle.journal.specs.Journal.Logs.{is_in}
 use Rattle.core_tables.specs.CoreTables.View.{log_of}
 use Rattle.validator_core.proofs.SettlementLemmas.Ends.{IsSettling}
-use Rattle.validator_core.proofs.settlement.settlement.settle.Given as goal
+use Rattle.validator_core.proofs.settlement.settlement.accept_ready.Given as goal
 
 abbrev pub invariant-loop-number : goal.invariant-loop-number
 invariant-loop-number l = IsSettling l.mode l.initial.tables l.initial.due.keys l.initial.steps l.tables l.due.keys l.steps

@@ -4,34 +4,34 @@ use Rattle.lists.specs.KeriSpecs.Told.{HasNone}
 use Rattle.run_status.specs.DoorLinks.Taken.{AreTaken, IsCaused, IsEnough}
 use Rattle.journal.specs.declared.journal.mode.Mode.{Mode}
 use Rattle.run_status.specs.RunOutside.Makings.{AreMakings}
-use Rattle.run_status.specs.RunOutside.Told.{Told, making}
+use Rattle.run_status.specs.RunOutside.Shown.{OutsideShown, making}
 use Rattle.run_status.specs.declared.run_outside.making.Making.{Making}
 use Rattle.run_status.specs.declared.run_outside.making.MakingKind.TheVariants.{Door as DoorKind, Verifier as VerifierKind}
 use Rattle.run_status.specs.declared.run_status.besides.Besides.{Besides}
-use Rattle.run_status.specs.RunStatus.Readers.{Reader, SourceTold}
+use Rattle.run_status.specs.RunStatus.Readers.{Reader, SourceShown}
 use Rattle.run_status.specs.RunStatus.Status.{nothing_besides}
 use Rattle.reader_hub.specs.ReaderThreads.Given.{Given}
 use Rattle.validator_core.specs.ValidatorCore.View.{CoreView}
 use Rattle.keri_roles.specs.CoreRoles.CoreTold.{IsOverCore}
 use Rattle.run_status.specs.RunRecord.NoJournal.{no_journal}
-use Rattle.run_status.specs.RunRecord.Run.{DoorTold}
-use Rattle.keri_roles.specs.CoreRoles.Work.{LinksTold, Work}
+use Rattle.run_status.specs.RunRecord.Run.{DoorShown}
+use Rattle.keri_roles.specs.CoreRoles.Work.{LinksShown, Work}
 
 -- So many links at most came, with these bytes left: fewer than were wanted only where the door failed, or had no more or doesn't tell.
 -- It failed only where its count rose.
-pub record AreTakenAt (told : Option (List (List ℕ))) (count : ℕ) (failed : Bool) (held : List (Option (List ℕ))) (door : DoorTold) : Type 0 where
+pub record AreTakenAt (told : Option (List (List ℕ))) (count : ℕ) (failed : Bool) (held : List (Option (List ℕ))) (door : DoorShown) : Type 0 where
   pub few : length held ≤ count
   pub enough : IsEnough count (length held) failed door.left
   pub taken : AreTaken told door.left held
   pub cause : IsCaused failed 0 door.faults
 
 -- none came where the door couldn't be made
-abbrev pub AreTakenBy : Option (List (List ℕ)) → ℕ → Bool → List (Option (List ℕ)) → Option DoorTold → Type 0
+abbrev pub AreTakenBy : Option (List (List ℕ)) → ℕ → Bool → List (Option (List ℕ)) → Option DoorShown → Type 0
 AreTakenBy told count failed held None = (held ≡ []) × (failed ≡ true)
 AreTakenBy told count failed held (Some door) = AreTakenAt told count failed held door
 
 -- links came with these sources and sinks; none of them had failed, and nothing is written to the sinks
-pub record AreTakenFresh (told : Option (List (List ℕ))) (count : ℕ) (sources : List SourceTold) (links : LinksTold) : Type 0 where
+pub record AreTakenFresh (told : Option (List (List ℕ))) (count : ℕ) (sources : List SourceShown) (links : LinksShown) : Type 0 where
   pub taken : AreTakenBy told count links.failed (map (λ s. s.left) sources) links.door
   pub sources_unfailed : All (λ s. s.faults ≡ 0) sources
   pub each : length links.sinks ≡ length sources
@@ -39,12 +39,12 @@ pub record AreTakenFresh (told : Option (List (List ℕ))) (count : ℕ) (source
   pub unwritten : All (λ s. HasNone s.written) links.sinks
 
 -- the reader of a link is given its source, and a verifier of the helper where that could be made
-pub record IsLinkGiven (before : Told) (helper : List ℕ) (source : SourceTold) (given : Given) : Type 0 where
+pub record IsLinkGiven (before : OutsideShown) (helper : List ℕ) (source : SourceShown) (given : Given) : Type 0 where
   pub source_is : given.source ≡ Some source
   pub verifier : IfSome given.verifier (λ v. (v.says ≡ before.says helper) × HasNone v.inquiries × (v.faults ≡ 0))
 
 -- and so the reader of each link
-abbrev pub AreLinksGiven : Told → List ℕ → List SourceTold → List Given → Type 0
+abbrev pub AreLinksGiven : OutsideShown → List ℕ → List SourceShown → List Given → Type 0
 AreLinksGiven before helper [] [] = Unit {0}
 AreLinksGiven before helper [] (g ∷ given) = ⊥
 AreLinksGiven before helper (source ∷ sources) [] = ⊥
@@ -56,15 +56,15 @@ verifiers_of helper given = map (λ g. making VerifierKind helper (is_none g.ver
 
 -- The door of an address was made, links were taken at it, and then a verifier of the helper was made for each; there are no other
 -- makings.
-pub record AreLinked (helper address : List ℕ) (count : ℕ) (links : LinksTold) (given : List Given) (before after : Told) : Type 0 where
-  pub sources : List SourceTold
+pub record AreLinked (helper address : List ℕ) (count : ℕ) (links : LinksShown) (given : List Given) (before after : OutsideShown) : Type 0 where
+  pub sources : List SourceShown
   pub taken : AreTakenFresh (before.links address) count sources links
   pub are_given : AreLinksGiven before helper sources given
   pub makes : AreMakings (making DoorKind address (is_none links.door) ∷ verifiers_of helper given) before after
 
 -- Links were taken, and then there was no memory for their readers: nothing was read, and nothing is owed.
-pub record AreUnseated (address : List ℕ) (count : ℕ) (links : LinksTold) (work : Work) : Type 0 where
-  pub sources : List SourceTold
+pub record AreUnseated (address : List ℕ) (count : ℕ) (links : LinksShown) (work : Work) : Type 0 where
+  pub sources : List SourceShown
   pub taken : AreTakenFresh (work.before.links address) count sources links
   pub makes : AreMakings (making DoorKind address (is_none links.door) ∷ []) work.before work.after
   pub none_read : work.readers ≡ []
@@ -73,17 +73,17 @@ pub record AreUnseated (address : List ℕ) (count : ℕ) (links : LinksTold) (w
   pub nothing_else : work.besides ≡ record nothing_besides { door_failed = links.failed }
 
 -- Links were read to a core, and the text of its journal and its readers is owed; or there was no memory for their readers.
-abbrev pub IsOverLinks : Mode → (CoreView → List Reader → List ℕ → Bool → Type 0) → (Bool → Besides) → List ℕ → List ℕ → ℕ → LinksTold → Work → Type 0
+abbrev pub IsOverLinks : Mode → (CoreView → List Reader → List ℕ → Bool → Type 0) → (Bool → Besides) → List ℕ → List ℕ → ℕ → LinksShown → Work → Type 0
 IsOverLinks mode is_text finds helper address count links work =
     IsOverCore mode is_text finds (AreLinked helper address count links) links.failed work ⊎ AreUnseated address count links work
 
 -- the door of an address was made, and links were taken at it; what verifiers say is as before
-pub record TakesLinks (address : List ℕ) (count : ℕ) (sources : List SourceTold) (links : LinksTold) (before after : Told) : Type 0 where
+pub record TakesLinks (address : List ℕ) (count : ℕ) (sources : List SourceShown) (links : LinksShown) (before after : OutsideShown) : Type 0 where
   pub taken : AreTakenFresh (before.links address) count sources links
   pub makes : AreMakings (making DoorKind address (is_none links.door) ∷ []) before after
   pub says : after.says ≡ before.says
 
 -- readers are given these sources and a verifier each, and there are no other makings
-pub record ProvidesLinks (helper : List ℕ) (sources : List SourceTold) (given : List Given) (before after : Told) : Type 0 where
+pub record ProvidesLinks (helper : List ℕ) (sources : List SourceShown) (given : List Given) (before after : OutsideShown) : Type 0 where
   pub are_given : AreLinksGiven before helper sources given
   pub makes : AreMakings (verifiers_of helper given) before after

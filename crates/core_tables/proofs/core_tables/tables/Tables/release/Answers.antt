@@ -5,7 +5,7 @@ use Rattle.std.proofs.lemmas.List.{length-drop, take_all}
 use Rattle.escrow.specs.Escrow.Escrow.{held}
 use Rattle.core_tables.specs.CoreTables.View.{View}
 use Rattle.core_tables.proofs.CoreTablesLemmas.Hints.{hinted_settled}
-use Rattle.core_tables.proofs.core_tables.tables.Tables.settle.Goals as goal
+use Rattle.core_tables.proofs.core_tables.tables.Tables.release.Goals as goal
 
 -- the rest of a list, to its end
 rest : (n : ℕ) (xs : List ℕ) → take (length xs - n) (drop n xs) ≡ drop n xs

@@ -7,7 +7,7 @@ use Rattle.journal.specs.Journal.Logs.{is_in}
 use Rattle.core_tables.specs.CoreTables.View.{log_of}
 use Rattle.validator_core.proofs.SettlementLemmas.Candidates.{leads_itself, none_counted}
 use Rattle.validator_core.proofs.SettlementLemmas.Ends.{fewer_left, goes_on, is_over, ready_new}
-use Rattle.validator_core.proofs.settlement.settlement.settle.Goals as goal
+use Rattle.validator_core.proofs.settlement.settlement.accept_ready.Goals as goal
 
 pub loop-number-init : goal.loop-number-init
 loop-number-init c =

@@ -16,7 +16,7 @@ use Rattle.run_status.specs.declared.run_outside.mem_file.MemFile.{MemFile}
 -- a signature, the signature that a signer of each name gives of a key on a body, the bytes of the file that a disk of each
 -- name is of, which are none where the file is new, the bytes of each link that comes at a door of each name, and the makings
 -- so far, where it tells, and the limits.
-pub record Told : Type 0 where
+pub record OutsideShown : Type 0 where
   pub faults : ℕ
   pub holds : List ℕ → Option (List ℕ)
   pub says : List ℕ → Key → List ℕ → Sig → Option Bool
@@ -35,7 +35,7 @@ Grows old None kind name failed = Unit {0}
 Grows old (Some new) kind name failed = (makings : List Making) × (old ≡ Some makings) × (new ≡ makings ++ making kind name failed ∷ [])
 
 -- A making was noted, and changed neither the names nor the limits. It failed only where the count rose.
-pub record Makes {T E : Type 0} (kind : MakingKind) (name : List ℕ) (old new : Told) (result : Result T E) : Type 0 where
+pub record Makes {T E : Type 0} (kind : MakingKind) (name : List ℕ) (old new : OutsideShown) (result : Result T E) : Type 0 where
   pub noted : Grows old.makings new.makings kind name (is_err result)
   pub names : new.holds ≡ old.holds
   pub verdicts : new.says ≡ old.says
@@ -46,8 +46,8 @@ pub record Makes {T E : Type 0} (kind : MakingKind) (name : List ℕ) (old new :
   pub cause : HasCause old.faults new.faults result
 
 -- what an outside of these files, and no helpers, disks and doors, tells before anything was made
-abbrev pub first_told : List MemFile → Limits → Told
-first_told files limits = record {
+abbrev pub first_shown : List MemFile → Limits → OutsideShown
+first_shown files limits = record {
   faults = 0;
   holds = held_under files;
   says = λ name key body sig. None;
