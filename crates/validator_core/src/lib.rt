@@ -3,8 +3,12 @@
 
 mod acceptance;
 mod settlement;
+mod tables;
 mod validator_core;
 
 pub use acceptance::{Footing, counts, footing_of, is_ready, is_there, why_waits};
 pub use settlement::{accept, accept_ready, enter_body, enter_claims, enter_verdict};
+pub use tables::{
+    AcceptedLog, ClaimKey, Mark, Name, Place, SealKey, Tables, claims_by, name_of, prior_name,
+};
 pub use validator_core::{Core, VerdictFault, claims_of, core_is_send, judge_message};

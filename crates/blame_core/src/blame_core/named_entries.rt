@@ -1,14 +1,13 @@
 //! The entries of a journal by the names of their bodies.
 ghost use Rattle.std.specs.Prelude.{◌≡◌, IfOk};
 ghost use Rattle.blame_core.specs.BlameCore.NamedEntries.{HasNamed};
-ghost use Rattle.core_tables.specs.CoreTables.View as tables;
+ghost use Rattle.validator_core.specs.Tables.CoreTables.View as tables;
 
-use core_tables::{Name, name_of};
 use escrow::Index;
 use journal::Entry;
 use lists::length_u32;
 use std::alloc::{AllocError, Global};
-use validator_core::Core;
+use validator_core::{Core, Name, name_of};
 
 /// The numbers of the entries of a core's journal, by the names of their bodies' events.
 pub(crate) fn named_entries(alloc: Global, core: &Core) -> Result<Index<Name>, AllocError>

@@ -11,12 +11,11 @@ use crate::blame_core::establishments::{Establishment, establishments};
 use crate::blame_core::named_entries::named_entries;
 use crate::blame_core::place::Place;
 use crate::blame_core::signatures::signatures_on;
-use core_tables::Name;
 use escrow::Index;
 use lists::Items;
 use std::alloc::{AllocError, Global};
 use std::collections::BTreeMap;
-use validator_core::Core;
+use validator_core::{Core, Name};
 
 /// The pairs of different establishment events of one identifier and number, the first accepted by the first core
 /// and the second by the second, in order of prefix text and number; each with the witnesses of both that signed

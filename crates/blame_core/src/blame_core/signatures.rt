@@ -3,7 +3,7 @@ ghost use Rattle.std.specs.Prelude.{◌≡◌, ◌++◌, Some, flat_map, map, op
 ghost use Rattle.blame_core.specs.BlameCore.NamedEntries.{HasNamed};
 ghost use Rattle.blame_core.specs.BlameCore.Signatures.{AreSignatures, came_at, came_with, good_at, good_in, is_body};
 ghost use Rattle.blame_core.specs.BlameCore.Signatures.{is_receipt_of, signature_by, stands_on};
-ghost use Rattle.core_tables.specs.CoreTables.View.{body_of};
+ghost use Rattle.validator_core.specs.Tables.CoreTables.View.{body_of};
 ghost use Rattle.journal.specs.Journal.History as history;
 ghost use Rattle.journal.specs.Journal.Journals.{whole};
 ghost use Rattle.journal.specs.declared.journal.body.Body.{Body};
@@ -12,13 +12,12 @@ ghost use Rattle.validator_core.specs.ValidatorCore.View.{told_of};
 use crate::blame_core::first_signatures::first_places;
 use crate::blame_core::signed::Signed;
 use cesr_codes::{Key, Sig};
-use core_tables::{Name, name_of};
 use escrow::Index;
 use event_body::Event;
 use journal::{Claim, Entry, claimed_sig};
 use std::alloc::{AllocError, Global};
 use std::collections::BTreeMap;
-use validator_core::Core;
+use validator_core::{Core, Name, name_of};
 
 /// The signatures on a body: those that came, and where the first good one of each key stands among them.
 #[derive(Drop)]

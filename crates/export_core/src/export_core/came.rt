@@ -2,22 +2,22 @@
 ghost use Rattle.std.specs.Prelude.{◌≡◌, ◌||◌, Contains, IfOk, OnOk, Some, flat_map, slice_get};
 ghost use Rattle.std.specs.BTreeSet.{contains};
 ghost use Rattle.std.specs.Option.{option_copied};
-ghost use Rattle.core_tables.specs.CoreTables.EntryClaims.{came_to};
+ghost use Rattle.validator_core.specs.Tables.CoreTables.EntryClaims.{came_to};
 ghost use Rattle.claim_table.specs.declared.claim_table.signature.Signature.{Signature as SignatureValue};
-ghost use Rattle.core_tables.specs.CoreTables.Hints.{KeepsBelow};
-ghost use Rattle.core_tables.specs.CoreTables.Names as names;
+ghost use Rattle.validator_core.specs.Tables.CoreTables.Hints.{KeepsBelow};
+ghost use Rattle.validator_core.specs.Tables.CoreTables.Names as names;
 ghost use Rattle.event_body.specs.declared.event_body.event.Event.{Event as EventValue};
 ghost use Rattle.escrow.specs.EventIndex.Keys.{numbers_at};
 ghost use Rattle.export_core.specs.ExportCore.Came.{HasEntries, HasYes, event_in, is_signature, name_cmp, same_signature, signature_cmp, yes_of};
 
 use claim_table::Signature;
-use core_tables::{Name, claims_by, name_of};
 use escrow::Index;
 use event_body::Event;
 use journal::{Claim, Entry};
 use lists::length_u32;
 use std::alloc::{AllocError, Global};
 use std::collections::BTreeSet;
+use validator_core::{Name, claims_by, name_of};
 
 /// The numbers of the entries by which bodies came, by the names of their events: hints, so whoever reads them compares.
 pub(crate) fn entries_by_name(

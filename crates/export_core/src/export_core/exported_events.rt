@@ -12,7 +12,6 @@ use crate::export_core::messages::put_messages;
 use crate::export_core::signers::Signers;
 use cesr_codes::Prefix;
 use claim_table::Signature;
-use core_tables::{Name, name_of};
 use escrow::Index;
 use event_body::Event;
 use journal::Claim;
@@ -20,7 +19,7 @@ use journal_views::StreamText;
 use key_state::spelled_is_kept;
 use std::alloc::{AllocError, Global};
 use std::collections::{BTreeMap, BTreeSet};
-use validator_core::Core;
+use validator_core::{Core, Name, name_of};
 
 /// The text of messages, and of how many events.
 #[derive(Drop)]

@@ -97,7 +97,7 @@ module _ (rose : Type 0) (most : ℕ) (held : Option (List ℕ)) (old new : Sink
   served_read (Some source) serving.End out s e = cc
   served_read (Some source) (serving.Malformed place) out s e = cc
   served_read (Some source) serving.WriteFault out s e = cc
-  served_read (Some source) serving.Full out s e = cc
+  served_read (Some source) serving.LimitReached out s e = cc
   served_read (Some source) serving.OutOfMemory out s e = cc
 
 served_asked : (served : Served) → serving_close served ≡ VerifierFault → ⊥
@@ -105,7 +105,7 @@ served_asked serving.End e = cc
 served_asked (serving.Malformed place) e = cc
 served_asked serving.ReadFault e = cc
 served_asked serving.WriteFault e = cc
-served_asked serving.Full e = cc
+served_asked serving.LimitReached e = cc
 served_asked serving.OutOfMemory e = cc
 
 pub rehearsed_caused : (run : Run) → IsRehearsed run → AreCaused run.before run.after run.readers

@@ -36,13 +36,13 @@ use Rattle.run_status.specs.RunRecord.Seen.{signer_seen}
 by_read : (closed : TextClose) → close_of closed ≡ ReadFault → closed ≡ text.ReadFault
 by_read text.ReadFault e = refl
 by_read text.End e = cc
-by_read text.Full e = cc
+by_read text.LimitReached e = cc
 by_read text.OutOfMemory e = cc
 
 by_verifier : (closed : TextClose) → close_of closed ≡ VerifierFault → ⊥
 by_verifier text.ReadFault e = cc
 by_verifier text.End e = cc
-by_verifier text.Full e = cc
+by_verifier text.LimitReached e = cc
 by_verifier text.OutOfMemory e = cc
 
 module _ (most : ℕ) (held : Option (List ℕ)) (bytes : List ℕ) (close : Close) where

@@ -35,7 +35,7 @@ module _ (limits : Limits) (held : Option (List ℕ)) (verifier : Option Verifie
 text_closes : (closed : TextClose) → is_serving (close_of closed) ≡ false
 text_closes text.End = refl
 text_closes text.ReadFault = refl
-text_closes text.Full = refl
+text_closes text.LimitReached = refl
 text_closes text.OutOfMemory = refl
 
 text_only : (most : ℕ) (held : Option (List ℕ)) (bytes : List ℕ) (source : Option SourceShown) (close : Close) → WasRead most held source bytes close → is_serving close ≡ false

@@ -109,7 +109,7 @@ by_five WriteFault e = cc
 by_five LimitReached e = cc
 by_five OutOfMemory e = cc
 
-by_nine : (served : Served) → serving_status served ≡ 9 → serving_close served ≡ closing.Full
+by_nine : (served : Served) → serving_status served ≡ 9 → serving_close served ≡ closing.LimitReached
 by_nine End e = cc
 by_nine (Malformed place) e = cc
 by_nine ReadFault e = cc

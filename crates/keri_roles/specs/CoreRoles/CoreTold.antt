@@ -92,7 +92,7 @@ pub record HasBoth (reader : Reader) : Type 0 where
 pub record MetNoFault (reader : Reader) : Type 0 where
   pub source : IfSome reader.source (λ s. s.faults ≡ 0)
   pub verifier : IfSome reader.verifier (λ v. v.faults ≡ 0)
-  pub no_limit : reader.close ≢ close.Full
+  pub no_limit : reader.close ≢ close.LimitReached
 
 -- what the source held that a reader was given, where it tells
 abbrev pub held_by : Option SourceShown → Option (List ℕ)

@@ -25,7 +25,7 @@ abbrev pub IsClose : FeedClose AllocError → Close → Type 0
 IsClose feed.End close = close ≡ End
 IsClose (feed.Bad bad) close = close ≡ Bad bad
 IsClose feed.ReadFault close = close ≡ ReadFault
-IsClose feed.Full close = close ≡ LimitReached
+IsClose feed.LimitReached close = close ≡ LimitReached
 IsClose feed.OutOfMemory close = ⊥
 IsClose (feed.Stopped stop) close = ⊥
 

@@ -42,7 +42,7 @@ use Rattle.keri_roles.specs.declared.keri_roles.make.MakeWords.{MakeWords}
 abbrev pub close_of : TextClose → Close
 close_of text.End = End
 close_of text.ReadFault = ReadFault
-close_of text.Full = LimitReached
+close_of text.LimitReached = LimitReached
 close_of text.OutOfMemory = OutOfMemory
 
 -- the source, which had failed not yet and held this, gave the text, and reading closed by its cause

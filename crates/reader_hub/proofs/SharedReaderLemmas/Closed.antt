@@ -166,7 +166,7 @@ reads_stream seen limits s t old new taker (feed.Bad bad) close last f e =
     reads_ended limits s t old new f.fed f.reading f.items f.stream (Bad bad) close (f.answered ++ all_of last) (e s f.answered f.takes (none_taken last f.answered _ f.all f.begun)) f.all (at_bad new.left f.reading bad f.closes.1) f.closes.0 (λ asked. (f.closes, asked))
 reads_stream seen limits s t old new taker feed.ReadFault close last f e =
     reads_ended limits s t old new f.fed f.reading f.items f.stream ReadFault close (f.answered ++ all_of last) (e s f.answered f.takes (none_taken last f.answered _ f.all f.begun)) f.all (rw f.closes.2 tt) f.closes.0 (λ asked. (f.closes, asked))
-reads_stream seen limits s t old new taker feed.Full close last f e =
+reads_stream seen limits s t old new taker feed.LimitReached close last f e =
     let taken : HasTaken s t f.answered = subst (λ x. HasTaken s x f.answered) (sym e.1) f.takes in
     subst (λ c. ReadsOne limits s t old new c) (sym e.0)
     (reads_so limits s t old new f.fed f.reading f.items f.stream LimitReached f.answered (all_of last) (offers_besides s.extent s.says s.inquiries t.inquiries s.pass t.pass t.refused f.answered 0 4 0 1 (omega arith) (omega arith) taken.offers) taken.same f.all

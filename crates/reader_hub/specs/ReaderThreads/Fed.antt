@@ -47,7 +47,7 @@ module _ (limits : Limits) (told : List Told) (most : ℕ) (number : ℕ) where
     ClosesReader bytes reading items offered End = IsClosedSo bytes reading feed.End
     ClosesReader bytes reading items offered (Bad bad) = IsClosedSo bytes reading (feed.Bad bad)
     ClosesReader bytes reading items offered ReadFault = IsClosedSo bytes reading feed.ReadFault
-    ClosesReader bytes reading items offered LimitReached = (IsClosedSo bytes reading feed.Full × LacksOnlyOpen limits items offered)
+    ClosesReader bytes reading items offered LimitReached = (IsClosedSo bytes reading feed.LimitReached × LacksOnlyOpen limits items offered)
         ⊎ (Gave source.left source_left.left bytes × ((limits.turns ≤ most) ⊎ NextFindsNoRoom limits told number bytes offered))
     ClosesReader bytes reading items offered VerifierFault = Gave source.left source_left.left bytes × Rose verifier.faults verifier_left.faults
     ClosesReader bytes reading items offered SignerFault = ⊥

@@ -70,7 +70,7 @@ module _ (limits : Limits) (s t : Standing) (old new : SourceShown) where
   ClosesReader bytes reading items offered End = IsClosedSo bytes reading feed.End × AreAsked s.pass t.pass offered
   ClosesReader bytes reading items offered (Bad bad) = IsClosedSo bytes reading (feed.Bad bad) × AreAsked s.pass t.pass offered
   ClosesReader bytes reading items offered ReadFault = IsClosedSo bytes reading feed.ReadFault × AreAsked s.pass t.pass offered
-  ClosesReader bytes reading items offered LimitReached = (IsClosedSo bytes reading feed.Full × LacksOnlyOpen limits items offered)
+  ClosesReader bytes reading items offered LimitReached = (IsClosedSo bytes reading feed.LimitReached × LacksOnlyOpen limits items offered)
       ⊎ (Gave old.left new.left bytes × ((t.pass.past ≡ s.limit) ⊎ NextFindsNoRoom limits bytes t.pass offered))
   ClosesReader bytes reading items offered VerifierFault = Gave old.left new.left bytes × Rose s.faults t.faults
   ClosesReader bytes reading items offered SignerFault = ⊥

@@ -114,6 +114,6 @@ abbrev pub Finishes : FeedClose Close → Option Message → Standing → Standi
 Finishes feed.End last old new now = TakesLast End last old new now
 Finishes (feed.Bad bad) last old new now = TakesLast (Bad bad) last old new now
 Finishes feed.ReadFault last old new now = TakesLast ReadFault last old new now
-Finishes feed.Full last old new now = (now ≡ LimitReached) × (new ≡ old)
+Finishes feed.LimitReached last old new now = (now ≡ LimitReached) × (new ≡ old)
 Finishes feed.OutOfMemory last old new now = (now ≡ OutOfMemory) × (new ≡ old)
 Finishes (feed.Stopped stop) last old new now = (now ≡ stop) × (new ≡ old)

@@ -13,10 +13,10 @@ use Rattle.journal.specs.Journal.Logs.{predecessor, stands}
 use Rattle.journal.specs.Journal.Grown.{IsGrown}
 use Rattle.journal.specs.Journal.Questions.{state_before}
 use Rattle.journal.specs.EventRules.Parts.{Part, index, reveal, backer, Row as Found, brings_all}
-use Rattle.core_tables.specs.declared.accepted_log.place.Place.{Place}
-use Rattle.core_tables.specs.AcceptedLog.Values.{Log}
-use Rattle.core_tables.specs.AcceptedLog.Cuts.{cut, IsLog}
-use Rattle.core_tables.proofs.AcceptedLogLemmas.Behind.{StateOf, state_of, state_followed}
+use Rattle.validator_core.specs.declared.tables.accepted_log.place.Place.{Place}
+use Rattle.validator_core.specs.Tables.AcceptedLog.Values.{Log}
+use Rattle.validator_core.specs.Tables.AcceptedLog.Cuts.{cut, IsLog}
+use Rattle.validator_core.proofs.TablesLemmas.AcceptedLogLemmas.Behind.{StateOf, state_of, state_followed}
 use Rattle.claim_table.specs.declared.claim_table.claimed.Claimed.{Claimed}
 use Rattle.claim_table.specs.CoreLaws.ClaimRows.{AreFound, part_of}
 

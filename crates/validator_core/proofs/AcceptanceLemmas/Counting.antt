@@ -17,9 +17,9 @@ use Rattle.journal.specs.EventRules.Parts.{Part, has_next, has_own, has_signed, 
 use Rattle.claim_table.specs.CoreLaws.Support.{AreSound}
 use Rattle.claim_table.proofs.CoreLawsLemmas.Enough.{enough}
 use Rattle.claim_table.proofs.CoreLawsLemmas.Sound.{sound}
-use Rattle.core_tables.specs.AcceptedLog.Cuts.{cut}
+use Rattle.validator_core.specs.Tables.AcceptedLog.Cuts.{cut}
 use Rattle.claim_table.proofs.CoreLawsLemmas.Supported.{supported}
-use Rattle.core_tables.specs.CoreTables.View.{View, log_of}
+use Rattle.validator_core.specs.Tables.CoreTables.View.{View, log_of}
 use Rattle.validator_core.specs.Acceptance.Footing.{IsFooting}
 use Rattle.validator_core.specs.Acceptance.Parts.{has_in, table_part}
 use Rattle.validator_core.specs.Acceptance.Standing.{IsStanding, told_of}

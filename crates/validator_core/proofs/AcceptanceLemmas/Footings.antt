@@ -13,8 +13,8 @@ use Rattle.journal.specs.Journal.Logs.{stands, state, takes}
 use Rattle.journal.specs.Journal.Questions.{state_before}
 use Rattle.claim_table.specs.CoreLaws.Standing.{AreAlikeIf, HasNoClash}
 use Rattle.claim_table.proofs.CoreLawsLemmas.Standing.{current, current_stands}
-use Rattle.core_tables.specs.AcceptedLog.Cuts.{IsLog, cut}
-use Rattle.core_tables.specs.AcceptedLog.Values.{Log, last_place, state_there}
+use Rattle.validator_core.specs.Tables.AcceptedLog.Cuts.{IsLog, cut}
+use Rattle.validator_core.specs.Tables.AcceptedLog.Values.{Log, last_place, state_there}
 use Rattle.validator_core.specs.Acceptance.Footing.{IsFooting}
 use Rattle.validator_core.specs.declared.acceptance.footing.Footing.{Footing}
 use Rattle.validator_core.specs.declared.acceptance.footing.Footing.TheVariants.{Inception, Behind}

@@ -22,13 +22,13 @@ use Rattle.journal.proofs.JournalLemmas.Held.{told_push}
 use Rattle.journal.proofs.JournalLemmas.Locality.{bytes_differ}
 use Rattle.journal.proofs.JournalLemmas.Places.{slice_get_last, slice_get_before, slice_get_front, some_at}
 use Rattle.journal.specs.EventRules.Parts.{Row as Found}
-use Rattle.core_tables.specs.AcceptedLog.Cuts.{IsLog}
+use Rattle.validator_core.specs.Tables.AcceptedLog.Cuts.{IsLog}
 use Rattle.claim_table.specs.declared.claim_table.claimed.Claimed.{Claimed}
 use Rattle.claim_table.specs.ClaimTable.Rows.{raised_all}
 use Rattle.claim_table.specs.CoreLaws.ClaimRows.{AreFound, AreClaims, HasClaims, found_on, triple_on, verdict_in}
 use Rattle.claim_table.proofs.CoreLawsLemmas.Steps.{has_new, has_raised, has_same}
 use Rattle.claim_table.proofs.CoreLawsLemmas.Told.{verdict_took, verdict_there}
-use Rattle.core_tables.specs.CoreTables.View.{View, log_of, number_of, with_rows}
+use Rattle.validator_core.specs.Tables.CoreTables.View.{View, log_of, number_of, with_rows}
 use Rattle.validator_core.specs.Acceptance.Standing.{IsHeld, IsStanding, told_of}
 use Rattle.validator_core.specs.Acceptance.Taken.{with_entry}
 use Rattle.validator_core.proofs.AcceptanceLemmas.Taken.{took_off}

@@ -24,12 +24,12 @@ use Rattle.escrow.specs.Escrow.Escrow.{Escrow, Waits, held as held_by}
 use Rattle.claim_table.proofs.CoreLawsLemmas.Members.{find_some, member_any}
 use Rattle.claim_table.proofs.CoreLawsLemmas.NextEvents.{rules_of_taken}
 use Rattle.claim_table.proofs.CoreLawsLemmas.States.{StandIf, all_stand, are_same-some, inside_of, sn_positive}
-use Rattle.core_tables.specs.AcceptedLog.Cuts.{IsLog}
-use Rattle.core_tables.specs.AcceptedLog.Values.{Log}
+use Rattle.validator_core.specs.Tables.AcceptedLog.Cuts.{IsLog}
+use Rattle.validator_core.specs.Tables.AcceptedLog.Values.{Log}
 use Rattle.claim_table.specs.declared.claim_table.row.Row.{Row}
 use Rattle.claim_table.specs.CoreLaws.ClaimRows.{AreClaims, HasClaims, found_on, verdict_in}
-use Rattle.core_tables.specs.CoreTables.Hints.{IsEscrow}
-use Rattle.core_tables.specs.CoreTables.View.{View, log_of, waiter_at, waiter_of, with_log, with_rows}
+use Rattle.validator_core.specs.Tables.CoreTables.Hints.{IsEscrow}
+use Rattle.validator_core.specs.Tables.CoreTables.View.{View, log_of, waiter_at, waiter_of, with_log, with_rows}
 use Rattle.validator_core.specs.Acceptance.Standing.{IsStanding, told_of}
 use Rattle.validator_core.specs.Acceptance.Turned.{turned}
 use Rattle.validator_core.proofs.AcceptanceLemmas.NewBody.{low_at}

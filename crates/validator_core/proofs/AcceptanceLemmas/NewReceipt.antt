@@ -10,10 +10,10 @@ use Rattle.journal.specs.Journal.Journals.{told_by}
 use Rattle.journal.specs.Journal.Logs.{is_in, stands}
 use Rattle.journal.specs.Journal.Questions.{state_before}
 use Rattle.claim_table.specs.CoreLaws.Claimed.{rows_of}
-use Rattle.core_tables.specs.AcceptedLog.Cuts.{IsLog}
+use Rattle.validator_core.specs.Tables.AcceptedLog.Cuts.{IsLog}
 use Rattle.claim_table.specs.CoreLaws.ClaimRows.{AreClaims, found_on, verdict_in}
 use Rattle.claim_table.proofs.CoreLawsLemmas.Steps.{has_new}
-use Rattle.core_tables.specs.CoreTables.View.{View, log_of}
+use Rattle.validator_core.specs.Tables.CoreTables.View.{View, log_of}
 use Rattle.validator_core.specs.Acceptance.Standing.{IsHeld, IsStanding, told_of}
 use Rattle.validator_core.proofs.AcceptanceLemmas.NewBody.{chosen_more, differ_push, last_or, length_more, unsaid_outside}
 use Rattle.validator_core.proofs.AcceptanceLemmas.Receipt.{receipt_stands}

@@ -1,8 +1,8 @@
 -- Tables that hold nothing stand.
-use Rattle.core_tables.proofs.AcceptedLogLemmas.Behind.{nothing_is_log}
+use Rattle.validator_core.proofs.TablesLemmas.AcceptedLogLemmas.Behind.{nothing_is_log}
 use Rattle.journal.proofs.JournalLemmas.Premises.{nothing_grown}
 use Rattle.journal.specs.Journal.Journals.{chosen}
-use Rattle.core_tables.specs.CoreTables.View.{nothing}
+use Rattle.validator_core.specs.Tables.CoreTables.View.{nothing}
 use Rattle.validator_core.specs.Acceptance.Standing.{IsStanding}
 
 pub nothing_stands : IsStanding nothing

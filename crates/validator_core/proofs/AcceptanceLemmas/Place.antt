@@ -7,9 +7,9 @@ use Rattle.key_state.specs.States.{State}
 use Rattle.journal.specs.declared.journal.body.Body.{Body}
 use Rattle.journal.specs.Journal.Logs.{precedes, stands}
 use Rattle.journal.specs.Journal.Grown.{IsGrown}
-use Rattle.core_tables.specs.declared.accepted_log.place.Place.{Place}
-use Rattle.core_tables.specs.AcceptedLog.Cuts.{IsLog}
-use Rattle.core_tables.specs.AcceptedLog.Values.{Log}
+use Rattle.validator_core.specs.declared.tables.accepted_log.place.Place.{Place}
+use Rattle.validator_core.specs.Tables.AcceptedLog.Cuts.{IsLog}
+use Rattle.validator_core.specs.Tables.AcceptedLog.Values.{Log}
 use Rattle.validator_core.specs.Acceptance.Footing.{IsBehind}
 use Rattle.validator_core.proofs.AcceptanceLemmas.Predecessor.{IsFollowed, followed, predecessor_at}
 

@@ -15,9 +15,9 @@ use Rattle.journal.specs.Journal.Grown.{IsGrown}
 use Rattle.journal.specs.Journal.Questions.{state_before}
 use Rattle.journal.proofs.JournalLemmas.Settling.{find-true}
 use Rattle.claim_table.proofs.CoreLawsLemmas.Woken.{parts_of}
-use Rattle.core_tables.specs.declared.accepted_log.place.Place.{Place}
-use Rattle.core_tables.specs.AcceptedLog.Values.{Log}
-use Rattle.core_tables.specs.AcceptedLog.Cuts.{cut, IsLog}
+use Rattle.validator_core.specs.declared.tables.accepted_log.place.Place.{Place}
+use Rattle.validator_core.specs.Tables.AcceptedLog.Values.{Log}
+use Rattle.validator_core.specs.Tables.AcceptedLog.Cuts.{cut, IsLog}
 use Rattle.validator_core.proofs.AcceptanceLemmas.Behind.{of_x, stands_behind, state_there_is}
 use Rattle.std.specs.Prelude.{is_none}
 

@@ -20,7 +20,7 @@ use Rattle.claim_table.specs.CoreLaws.Standing.{AreAlikeIf}
 use Rattle.claim_table.specs.CoreLaws.Support.{ready_by}
 use Rattle.claim_table.proofs.CoreLawsLemmas.Sound.{sound}
 use Rattle.claim_table.proofs.CoreLawsLemmas.Standing.{inception_ready, standing_ready}
-use Rattle.core_tables.specs.AcceptedLog.Cuts.{cut}
+use Rattle.validator_core.specs.Tables.AcceptedLog.Cuts.{cut}
 use Rattle.claim_table.specs.declared.claim_table.row.Row.{Row}
 use Rattle.claim_table.specs.CoreLaws.ClaimRows.{AreClaims, part_of}
 use Rattle.claim_table.proofs.CoreLawsLemmas.Supported.{supported}

@@ -5,12 +5,12 @@ use Rattle.std.specs.Prelude.{All, take}
 use Rattle.journal.specs.declared.journal.body.Body.{Body}
 use Rattle.journal.specs.declared.journal.entry.Entry.{Entry}
 use Rattle.claim_table.proofs.CoreLawsLemmas.Entries.{all_from}
-use Rattle.core_tables.proofs.AcceptedLogLemmas.Extensions.{extends_refl, extends_trans}
+use Rattle.validator_core.proofs.TablesLemmas.AcceptedLogLemmas.Extensions.{extends_refl, extends_trans}
 use Rattle.claim_table.specs.declared.claim_table.claimed.Claimed.{Claimed}
 use Rattle.claim_table.specs.declared.claim_table.row.Row.{Row}
 use Rattle.claim_table.specs.ClaimTable.Rows.{raised, raised_all}
 use Rattle.claim_table.specs.ClaimTable.Table.{KeepsPending}
-use Rattle.core_tables.specs.CoreTables.View.{View, IsCut, mark_of, number_of, rewound, with_rows}
+use Rattle.validator_core.specs.Tables.CoreTables.View.{View, IsCut, mark_of, number_of, rewound, with_rows}
 use Rattle.validator_core.specs.Acceptance.Standing.{Extends, IsStanding}
 use Rattle.validator_core.specs.Acceptance.Taken.{with_entry}
 

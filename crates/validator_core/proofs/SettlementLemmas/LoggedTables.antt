@@ -2,8 +2,8 @@
 use Rattle.std.proofs.Common.{◌≡◌, ℕ, false, List, [], ◌∷◌, ◌++◌, Option, Some, None, refl, sym, ◌∙◌, ap, subst}
 use Rattle.std.proofs.Math.Seq.{take-length}
 use Rattle.std.specs.Prelude.{slice_get, Result, Ok, Err, OnOk, OnErr}
-use Rattle.core_tables.specs.AcceptedLog.Cuts.{IsLog}
-use Rattle.core_tables.proofs.AcceptedLogLemmas.Extensions.{extends_refl}
+use Rattle.validator_core.specs.Tables.AcceptedLog.Cuts.{IsLog}
+use Rattle.validator_core.proofs.TablesLemmas.AcceptedLogLemmas.Extensions.{extends_refl}
 use Rattle.validator_core.specs.Acceptance.Standing.{Extends, IsHeld, IsStanding}
 use Rattle.validator_core.proofs.AcceptanceLemmas.NewBody.{chosen_more, differ_push, last_or}
 use Rattle.validator_core.proofs.AcceptanceLemmas.Rewound.{extends_claimed, extends_held, extends_told}
@@ -11,8 +11,8 @@ use Rattle.validator_core.specs.Acceptance.Taken.{with_entry}
 use Rattle.claim_table.specs.declared.claim_table.claimed.Claimed.{Claimed}
 use Rattle.claim_table.specs.declared.claim_table.row.Row.{Row}
 use Rattle.claim_table.specs.ClaimTable.Rows.{raised_all}
-use Rattle.core_tables.specs.CoreTables.Raised.{RaisesSome}
-use Rattle.core_tables.specs.CoreTables.View.{View, with_rows}
+use Rattle.validator_core.specs.Tables.CoreTables.Raised.{RaisesSome}
+use Rattle.validator_core.specs.Tables.CoreTables.View.{View, with_rows}
 use Rattle.journal.specs.declared.journal.body.Body.{Body}
 use Rattle.journal.specs.declared.journal.claim.Claim.{Claim}
 use Rattle.journal.specs.declared.journal.entry.Entry.{Entry}

@@ -6,12 +6,12 @@ use Rattle.validator_core.specs.declared.acceptance.footing.Footing.TheVariants.
 use Rattle.validator_core.specs.Acceptance.Footing.{IsFooting}
 use Rattle.validator_core.proofs.AcceptanceLemmas.Behind.{found_cut, rules_cut}
 use Rattle.validator_core.proofs.AcceptanceLemmas.FoundClaims.{first_has_none}
-use Rattle.core_tables.specs.AcceptedLog.Cuts.{cut}
+use Rattle.validator_core.specs.Tables.AcceptedLog.Cuts.{cut}
 use Rattle.claim_table.specs.CoreLaws.Claimed.{rows_of}
 use Rattle.claim_table.specs.CoreLaws.ClaimRows.{AreFound}
 use Rattle.claim_table.specs.declared.claim_table.claimed.Claimed.{Claimed}
-use Rattle.core_tables.specs.CoreTables.Raised.{Raises, state_there}
-use Rattle.core_tables.specs.CoreTables.View.{View, body_of, log_of}
+use Rattle.validator_core.specs.Tables.CoreTables.Raised.{Raises, state_there}
+use Rattle.validator_core.specs.Tables.CoreTables.View.{View, body_of, log_of}
 use Rattle.event_body.specs.declared.event_body.event.Event.{Event}
 use Rattle.journal.specs.declared.journal.body.Body.{Body}
 use Rattle.journal.specs.declared.journal.claim.Claim.{Claim}

@@ -11,11 +11,11 @@ use Rattle.key_state.specs.States.{State}
 use Rattle.journal.specs.declared.journal.body.Body.{Body}
 use Rattle.journal.specs.Journal.Grown.{IsGrown, fits}
 use Rattle.journal.specs.Journal.Logs.{state, stepped, takes}
-use Rattle.core_tables.specs.AcceptedLog.Cuts.{GrowsByInteraction, GrowsByState, IsLog}
-use Rattle.core_tables.specs.AcceptedLog.Values.{Log, established, gone_onto, interacted, last_of, last_place, state_there, Extends as LogExtends}
-use Rattle.core_tables.proofs.AcceptedLogLemmas.StateSteps.{GoesOnto, fits_parts, goes_onto}
+use Rattle.validator_core.specs.Tables.AcceptedLog.Cuts.{GrowsByInteraction, GrowsByState, IsLog}
+use Rattle.validator_core.specs.Tables.AcceptedLog.Values.{Log, established, gone_onto, interacted, last_of, last_place, state_there, Extends as LogExtends}
+use Rattle.validator_core.proofs.TablesLemmas.AcceptedLogLemmas.StateSteps.{GoesOnto, fits_parts, goes_onto}
 use Rattle.claim_table.specs.declared.claim_table.row.Row.{Row}
-use Rattle.core_tables.specs.CoreTables.View.{View, log_of, with_log, with_rows}
+use Rattle.validator_core.specs.Tables.CoreTables.View.{View, log_of, with_log, with_rows}
 use Rattle.validator_core.specs.Acceptance.Standing.{Extends, IsStanding}
 use Rattle.validator_core.proofs.AcceptanceLemmas.NewEvent.{log_then}
 use Rattle.validator_core.specs.Settlement.Entries.{IsLogged}

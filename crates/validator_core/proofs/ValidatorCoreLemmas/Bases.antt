@@ -6,7 +6,7 @@ use Rattle.std.proofs.lemmas.Bool.{and_parts, cases_Bool, not-true}
 use Rattle.std.proofs.lemmas.List.{length-map, map-append}
 use Rattle.std.proofs.lemmas.List.Elements.{All-push}
 use Rattle.std.proofs.lemmas.List.Sums.{sum_by-cons, sum_by-le}
-use Rattle.core_tables.specs.AcceptedLog.Values.{last_of}
+use Rattle.validator_core.specs.Tables.AcceptedLog.Values.{last_of}
 use Rattle.cesr_codes.specs.declared.prefix.Prefix.{Prefix}
 use Rattle.event_body.specs.declared.event_body.event.Event.{Event}
 use Rattle.event_body.specs.EventBody.Events.{is_receipt, prefix_of}
@@ -17,7 +17,7 @@ use Rattle.validator_core.specs.Acceptance.Standing.{Accepts, IsHeld, IsStanding
 use Rattle.validator_core.proofs.AcceptanceLemmas.NewBody.{chosen_more}
 use Rattle.validator_core.proofs.AcceptanceLemmas.NewReceipt.{standing_unfound, untold_found}
 use Rattle.validator_core.proofs.AcceptanceLemmas.Nothing.{nothing_stands}
-use Rattle.core_tables.specs.CoreTables.View.{View, log_of, nothing}
+use Rattle.validator_core.specs.Tables.CoreTables.View.{View, log_of, nothing}
 use Rattle.journal.specs.declared.journal.body.Body.{Body}
 use Rattle.journal.specs.declared.journal.mode.Mode.{Mode}
 use Rattle.journal.specs.declared.journal.resume_fault.ResumeFault.{ResumeFault}

@@ -20,11 +20,11 @@ use Rattle.journal.specs.Journal.Questions.{state_before}
 use Rattle.journal.specs.Journal.Readiness.{good_sigs, held_sig, yes_to}
 use Rattle.journal.specs.EventRules.Claims.{is_good, is_yes}
 use Rattle.journal.specs.EventRules.Parts.{says_of}
-use Rattle.core_tables.specs.AcceptedLog.Cuts.{cut}
-use Rattle.core_tables.specs.CoreTables.Names.{name_of}
-use Rattle.core_tables.specs.CoreTables.Raised.{claims_at}
-use Rattle.core_tables.specs.CoreTables.View.{View, log_of}
-use Rattle.core_tables.proofs.CoreTablesLemmas.ToldClaims.{told_claims}
+use Rattle.validator_core.specs.Tables.AcceptedLog.Cuts.{cut}
+use Rattle.validator_core.specs.Tables.CoreTables.Names.{name_of}
+use Rattle.validator_core.specs.Tables.CoreTables.Raised.{claims_at}
+use Rattle.validator_core.specs.Tables.CoreTables.View.{View, log_of}
+use Rattle.validator_core.proofs.TablesLemmas.CoreTablesLemmas.ToldClaims.{told_claims}
 use Rattle.validator_core.specs.Acceptance.Footing.{IsFooting}
 use Rattle.validator_core.specs.Acceptance.Standing.{IsStanding, told_of}
 use Rattle.validator_core.specs.declared.acceptance.footing.Footing.TheVariants.{Inception, Behind}

@@ -5,8 +5,8 @@ use Rattle.key_state.specs.States.{State}
 use Rattle.journal.specs.declared.journal.body.Body.{Body}
 use Rattle.journal.specs.Journal.Logs.{stands}
 use Rattle.journal.specs.Journal.Questions.{state_before}
-use Rattle.core_tables.specs.AcceptedLog.Cuts.{cut}
-use Rattle.core_tables.specs.AcceptedLog.Values.{Log}
+use Rattle.validator_core.specs.Tables.AcceptedLog.Cuts.{cut}
+use Rattle.validator_core.specs.Tables.AcceptedLog.Values.{Log}
 use Rattle.validator_core.specs.declared.acceptance.footing.Footing.{Footing}
 use Rattle.validator_core.specs.declared.acceptance.footing.Footing.TheVariants.{Inception, Behind}
 

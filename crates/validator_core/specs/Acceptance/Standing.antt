@@ -9,12 +9,12 @@ use Rattle.journal.specs.Journal.History.{Told}
 use Rattle.journal.specs.Journal.Journals.{told_by}
 use Rattle.journal.specs.Journal.Logs.{same_body}
 use Rattle.journal.proofs.JournalLemmas.Different.{Differ}
-use Rattle.core_tables.specs.AcceptedLog.Cuts.{IsLog}
-use Rattle.core_tables.specs.AcceptedLog.Values.{Extends as LogExtends}
+use Rattle.validator_core.specs.Tables.AcceptedLog.Cuts.{IsLog}
+use Rattle.validator_core.specs.Tables.AcceptedLog.Values.{Extends as LogExtends}
 use Rattle.claim_table.specs.CoreLaws.ClaimRows.{AreClaims}
 use Rattle.claim_table.specs.declared.claim_table.signature.Signature.{Signature}
 use Rattle.claim_table.specs.ClaimTable.Rows.{heard, unheard}
-use Rattle.core_tables.specs.CoreTables.View.{View, log_of, number_of, with_claims}
+use Rattle.validator_core.specs.Tables.CoreTables.View.{View, log_of, number_of, with_claims}
 
 -- what the entries tell
 abbrev pub told_of : View → List Told

@@ -5,14 +5,14 @@ use Rattle.validator_core.specs.declared.acceptance.footing.Footing.{Footing}
 use Rattle.validator_core.specs.declared.acceptance.footing.Footing.TheVariants.{Inception, Behind}
 use Rattle.validator_core.specs.Acceptance.Standing.{IsHeld, IsStanding}
 use Rattle.validator_core.specs.Acceptance.Taken.{found_by, with_entry}
-use Rattle.core_tables.specs.AcceptedLog.Cuts.{IsLog}
+use Rattle.validator_core.specs.Tables.AcceptedLog.Cuts.{IsLog}
 use Rattle.claim_table.specs.CoreLaws.ClaimRows.{AreFound}
 use Rattle.claim_table.specs.declared.claim_table.claimed.Claimed.{Claimed}
 use Rattle.claim_table.specs.declared.claim_table.signature.Signature.{Signature}
 use Rattle.claim_table.specs.ClaimTable.Rows.{raised_all}
-use Rattle.core_tables.specs.declared.core_tables.name.Name.{Name}
-use Rattle.core_tables.specs.CoreTables.Names.{name_of}
-use Rattle.core_tables.specs.CoreTables.View.{View, log_of, with_rows}
+use Rattle.validator_core.specs.declared.tables.core_tables.name.Name.{Name}
+use Rattle.validator_core.specs.Tables.CoreTables.Names.{name_of}
+use Rattle.validator_core.specs.Tables.CoreTables.View.{View, log_of, with_rows}
 use Rattle.journal.specs.declared.journal.body.Body.{Body}
 use Rattle.journal.specs.declared.journal.claim.Claim.{Claim}
 use Rattle.journal.specs.declared.journal.entry.Entry.TheVariants.{Took}

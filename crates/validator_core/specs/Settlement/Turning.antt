@@ -8,10 +8,10 @@ use Rattle.journal.specs.declared.journal.body.Body.{Body}
 use Rattle.journal.specs.Journal.Grown.{fits}
 use Rattle.journal.specs.Journal.Logs.{precedes, state}
 use Rattle.journal.specs.Journal.Questions.{state_before}
-use Rattle.core_tables.specs.AcceptedLog.Cuts.{IsLog}
-use Rattle.core_tables.specs.AcceptedLog.Values.{Log}
+use Rattle.validator_core.specs.Tables.AcceptedLog.Cuts.{IsLog}
+use Rattle.validator_core.specs.Tables.AcceptedLog.Values.{Log}
 use Rattle.claim_table.specs.CoreLaws.ClaimRows.{HasClaims, found_on, verdict_in}
-use Rattle.core_tables.specs.CoreTables.View.{View, log_of, with_log, with_rows}
+use Rattle.validator_core.specs.Tables.CoreTables.View.{View, log_of, with_log, with_rows}
 use Rattle.validator_core.specs.Acceptance.Standing.{IsStanding, told_of}
 use Rattle.validator_core.specs.Acceptance.Turned.{turned}
 

@@ -2,15 +2,15 @@
 ghost use Rattle.std.specs.Prelude.{◌≡◌, ℕ, List, true, Some, is_some, slice_get};
 ghost use Rattle.std.specs.Option.{option_copied};
 ghost use Rattle.validator_core.specs.Acceptance.Standing.{IsStanding};
-ghost use Rattle.core_tables.specs.AcceptedLog.Values.{last_place};
-ghost use Rattle.core_tables.specs.CoreTables.View.{body_of, log_of};
+ghost use Rattle.validator_core.specs.Tables.AcceptedLog.Values.{last_place};
+ghost use Rattle.validator_core.specs.Tables.CoreTables.View.{body_of, log_of};
 ghost use Rattle.claim_table.specs.CoreLaws.Waking as waking;
 ghost use Rattle.event_body.specs.EventBody.Events as events;
 ghost use Rattle.journal.specs.Journal.Logs as logs;
 ghost use Rattle.validator_core.specs.Acceptance.Current.{IsOnCurrent, state_on};
 
 use crate::acceptance::{Footing, footing_of};
-use core_tables::Tables;
+use crate::tables::Tables;
 use event_body::Event;
 use key_state::KeyState;
 

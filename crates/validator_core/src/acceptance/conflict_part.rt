@@ -1,7 +1,7 @@
 //! Whether an event counts where conflicts are looked for.
 ghost use Rattle.std.specs.Prelude.{◌≡◌, Some, slice_get};
 ghost use Rattle.validator_core.specs.Acceptance.Standing.{IsStanding, told_of};
-ghost use Rattle.core_tables.specs.CoreTables.View.{log_of};
+ghost use Rattle.validator_core.specs.Tables.CoreTables.View.{log_of};
 ghost use Rattle.journal.specs.Journal.Conflicts as conflicts;
 ghost use Rattle.journal.specs.declared.journal.body.Body.{Body};
 
@@ -9,7 +9,7 @@ use crate::acceptance::base_state::footing_state;
 use crate::acceptance::current::{event_of, is_state};
 use crate::acceptance::footing_of;
 use crate::acceptance::row_support::RowSupport;
-use core_tables::Tables;
+use crate::tables::Tables;
 use journal::{meets_before, meets_own};
 
 /// Whether the event of a number stands and is signed under the state that it follows: then it may conflict with others. It

@@ -2,15 +2,15 @@
 ghost use Rattle.std.specs.Prelude.{◌≡◌, slice_get, IfSome};
 ghost use Rattle.std.specs.Option.{option_copied, option_map};
 ghost use Rattle.validator_core.specs.Acceptance.Standing.{IsStanding};
-ghost use Rattle.core_tables.specs.AcceptedLog.Values.{last_place, state_there};
-ghost use Rattle.core_tables.specs.CoreTables.View.{log_of};
+ghost use Rattle.validator_core.specs.Tables.AcceptedLog.Values.{last_place, state_there};
+ghost use Rattle.validator_core.specs.Tables.CoreTables.View.{log_of};
 ghost use Rattle.event_body.specs.EventBody.Events as events;
 ghost use Rattle.journal.specs.Journal.Logs as logs;
 ghost use Rattle.key_state.specs.Kept.{IsKept};
 ghost use Rattle.key_state.specs.States.{IsState};
 
+use crate::tables::Tables;
 use cesr_codes::Prefix;
-use core_tables::Tables;
 use event_body::Event;
 use key_state::{KeyState, spelled_is_kept};
 

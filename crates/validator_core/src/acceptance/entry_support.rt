@@ -9,7 +9,7 @@ ghost use Rattle.validator_core.specs.Acceptance.Differences.{Differ-prop};
 ghost use Rattle.validator_core.specs.Acceptance.Entries.{claims_of, says_in};
 
 use crate::acceptance::signed_entries::{is_opened, is_signed};
-use core_tables::Tables;
+use crate::tables::Tables;
 use event_body::Event;
 use journal::{Support, witness, witness_count};
 use key_state::KeyState;

@@ -4,11 +4,11 @@ ghost use Rattle.event_body.specs.EventBody.Events as events;
 ghost use Rattle.key_state.specs.KeyStates.{misfit, state_behind};
 ghost use Rattle.journal.specs.Journal.Grown.{IsGrown};
 ghost use Rattle.journal.specs.Journal.Logs.{stands};
-ghost use Rattle.core_tables.specs.AcceptedLog.Cuts.{IsLog};
+ghost use Rattle.validator_core.specs.Tables.AcceptedLog.Cuts.{IsLog};
 ghost use Rattle.validator_core.specs.Acceptance.Footing.{IsFooting};
-ghost use Rattle.core_tables.specs.CoreTables.View.{body_of, log_of};
+ghost use Rattle.validator_core.specs.Tables.CoreTables.View.{body_of, log_of};
 
-use core_tables::Tables;
+use crate::tables::Tables;
 use event_body::Event;
 use key_state::KeyState;
 

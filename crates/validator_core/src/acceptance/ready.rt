@@ -1,14 +1,14 @@
 //! Whether an event is ready to be accepted.
 ghost use Rattle.std.specs.Prelude.{◌≡◌, Some, slice_get};
 ghost use Rattle.validator_core.specs.Acceptance.Standing.{IsStanding, told_of};
-ghost use Rattle.core_tables.specs.CoreTables.View.{log_of};
+ghost use Rattle.validator_core.specs.Tables.CoreTables.View.{log_of};
 ghost use Rattle.journal.specs.Journal.Readiness as readiness;
 ghost use Rattle.journal.specs.declared.journal.body.Body.{Body};
 
 use crate::acceptance::base_state::is_waiting;
 use crate::acceptance::current::{current_of, event_of};
 use crate::acceptance::wants::wanting;
-use core_tables::Tables;
+use crate::tables::Tables;
 use journal::{Mode, takes};
 
 /// Whether the event of a number is ready to be accepted. It takes no memory.

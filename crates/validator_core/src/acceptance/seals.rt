@@ -2,15 +2,15 @@
 ghost use Rattle.std.specs.Prelude.{◌≡◌, ◌||◌, codes};
 ghost use Rattle.std.specs.Option.{option_copied};
 ghost use Rattle.validator_core.specs.Acceptance.Standing.{IsStanding};
-ghost use Rattle.core_tables.specs.CoreTables.View.{log_of};
+ghost use Rattle.validator_core.specs.Tables.CoreTables.View.{log_of};
 ghost use Rattle.journal.specs.Journal.Readiness as readiness;
 ghost use Rattle.journal.specs.Journal.Seals as seals;
 ghost use Rattle.journal.specs.Journal.Waiting as waiting;
 ghost use Rattle.key_state.specs.Same.{has_text};
 
 use crate::acceptance::current::current;
+use crate::tables::Tables;
 use cesr_codes::Prefix;
-use core_tables::Tables;
 use event_body::Event;
 use journal::{Mode, delegator_of};
 use json_tree::Text;

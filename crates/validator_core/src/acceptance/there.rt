@@ -2,13 +2,13 @@
 ghost use Rattle.std.specs.Prelude.{◌≡◌, ◌&&◌, Some, slice_get};
 ghost use Rattle.validator_core.specs.Acceptance.Standing.{IsStanding};
 ghost use Rattle.claim_table.specs.CoreLaws.Waking as waking;
-ghost use Rattle.core_tables.specs.CoreTables.View.{log_of};
+ghost use Rattle.validator_core.specs.Tables.CoreTables.View.{log_of};
 ghost use Rattle.journal.specs.declared.journal.body.Body.{Body};
 
 use crate::acceptance::base_state::is_behind_some;
 use crate::acceptance::current::{event_of, state_of};
 use crate::acceptance::seals::is_seal_there;
-use core_tables::Tables;
+use crate::tables::Tables;
 use journal::Mode;
 
 /// Whether what the event of a number waits for in the log is there: the event before it and, in `Full` mode, its seal. It

@@ -2,7 +2,7 @@
 ghost use Rattle.std.specs.Prelude.{◌≡◌, ◌&&◌, ◌||◌, ℕ, List, None, Some, not, is_some, slice_get};
 ghost use Rattle.std.specs.Option.{option_copied};
 ghost use Rattle.validator_core.specs.Acceptance.Standing.{IsStanding, told_of};
-ghost use Rattle.core_tables.specs.CoreTables.View.{body_of, log_of};
+ghost use Rattle.validator_core.specs.Tables.CoreTables.View.{body_of, log_of};
 ghost use Rattle.event_body.specs.EventBody.Events as events;
 ghost use Rattle.journal.specs.Journal.Logs as logs;
 ghost use Rattle.journal.specs.Journal.Waiting as waiting;
@@ -12,7 +12,7 @@ use crate::acceptance::base_state::{follows_some, is_behind_some, is_waiting, st
 use crate::acceptance::current::{current_of, event_of};
 use crate::acceptance::seals::{is_forbidden, is_local};
 use crate::acceptance::wants::wanting;
-use core_tables::Tables;
+use crate::tables::Tables;
 use event_body::Event;
 use journal::{Mode, Why, takes};
 use key_state::KeyState;

@@ -3,14 +3,14 @@ ghost use Rattle.std.specs.Prelude.{◌≡◌, ◌<◌, [], ℕ, Some, Contains,
 ghost use Rattle.std.specs.List.Sorted.{IsStrictlyIncreasing};
 ghost use Rattle.journal.specs.declared.journal.body.Body.{Body};
 ghost use Rattle.journal.specs.Journal.Logs.{precedes};
-ghost use Rattle.core_tables.specs.CoreTables.View.{View, log_of, with_rows};
+ghost use Rattle.validator_core.specs.Tables.CoreTables.View.{View, log_of, with_rows};
 ghost use Rattle.validator_core.specs.Acceptance.Standing.{Extends, IsStanding};
 ghost use Rattle.validator_core.specs.Settlement.Awaited.{HasAllBehind};
 ghost use Rattle.validator_core.specs.Settlement.Turning.{IsBehindLast, IsTurning, TurnsOne};
 ghost use Rattle.validator_core.specs.Settlement.Entries.{IsLogged};
 
 use crate::settlement::standing_claims::raise_if_standing;
-use core_tables::Tables;
+use crate::tables::Tables;
 use std::alloc::{AllocError, Global};
 
 /// The numbers of the events that wait for one with the digest of this event, rising.

@@ -1,8 +1,8 @@
 //! Bodies that are taken, each by an entry, with its claims.
 ghost use Rattle.std.specs.Prelude.{◌≡◌, ◌<◌, ◌∷◌, [], false, length, slice_get, IfOk, None, OnOk, Some, if◌then◌else◌};
 ghost use Rattle.validator_core.specs.Acceptance.Standing.{Comes, Extends, IsHeld, IsStanding};
-ghost use Rattle.core_tables.specs.CoreTables.Names.{name_of as name_of_event};
-ghost use Rattle.core_tables.specs.CoreTables.View.{with_rows};
+ghost use Rattle.validator_core.specs.Tables.CoreTables.Names.{name_of as name_of_event};
+ghost use Rattle.validator_core.specs.Tables.CoreTables.View.{with_rows};
 ghost use Rattle.event_body.specs.EventBody.Events as events;
 ghost use Rattle.journal.specs.declared.journal.body.Body.{Body as BodyValue};
 ghost use Rattle.journal.specs.declared.journal.entry.Entry.TheVariants.{Took};
@@ -12,7 +12,7 @@ ghost use Rattle.validator_core.specs.Settlement.Entries.{IsTold};
 use crate::settlement::standing_claims::{
     raise_entry_if_standing, raise_if_standing, raise_receipt,
 };
-use core_tables::{Name, Tables, name_of};
+use crate::tables::{Name, Tables, name_of};
 use journal::{Body, Claim};
 use lists::{Items, length_u32};
 use std::alloc::{AllocError, Global};

@@ -7,13 +7,13 @@ ghost use Rattle.key_state.specs.declared.state_fault.StateFault.TheVariants.{Ou
 ghost use Rattle.journal.specs.declared.journal.body.Body.{Body};
 ghost use Rattle.journal.specs.Journal.Grown.{fits};
 ghost use Rattle.journal.specs.Journal.Logs.{stepped, takes};
-ghost use Rattle.core_tables.specs.AcceptedLog.Values.{last_of};
-ghost use Rattle.core_tables.specs.CoreTables.View.{log_of};
+ghost use Rattle.validator_core.specs.Tables.AcceptedLog.Values.{last_of};
+ghost use Rattle.validator_core.specs.Tables.CoreTables.View.{log_of};
 ghost use Rattle.validator_core.specs.Acceptance.Standing.{Accepts, Extends, IsStanding};
 ghost use Rattle.validator_core.specs.Settlement.Turning.{IsAppended, MakesState};
 
 use crate::settlement::behind::{numbers_behind, raise_behind};
-use core_tables::{AcceptedLog, Tables};
+use crate::tables::{AcceptedLog, Tables};
 use event_body::Event;
 use key_state::{KeyState, StateFault, first, spelled_is_kept};
 use std::alloc::{AllocError, Global};

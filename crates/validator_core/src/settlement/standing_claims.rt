@@ -2,15 +2,15 @@
 ghost use Rattle.std.specs.Prelude.{◌≡◌, ◌<◌, ℕ, false, length, slice_get, IfNone, IfSome, None, OnOk, OnErr, Some};
 ghost use Rattle.validator_core.specs.Acceptance.Footing.{IsFooting};
 ghost use Rattle.validator_core.specs.Acceptance.Standing.{Extends, IsStanding, told_of};
-ghost use Rattle.core_tables.specs.CoreTables.Raised.{RaisesSome, claims_at};
-ghost use Rattle.core_tables.specs.CoreTables.View.{log_of, with_rows};
+ghost use Rattle.validator_core.specs.Tables.CoreTables.Raised.{RaisesSome, claims_at};
+ghost use Rattle.validator_core.specs.Tables.CoreTables.View.{log_of, with_rows};
 ghost use Rattle.journal.specs.Journal.History.{claims_on};
 ghost use Rattle.journal.specs.Journal.Logs.{stands};
 ghost use Rattle.journal.specs.declared.journal.body.Body.{Body};
 ghost use Rattle.validator_core.specs.Settlement.Entries.{IsLogged, IsReceipted, RaisesFound, place_in};
 
 use crate::acceptance::{Footing, footing_of};
-use core_tables::{Name, Tables};
+use crate::tables::{Name, Tables};
 use key_state::spelled_is_kept;
 use std::alloc::{AllocError, Global};
 

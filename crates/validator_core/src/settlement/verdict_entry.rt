@@ -4,8 +4,8 @@ ghost use Rattle.validator_core.specs.Acceptance.Standing.{Hears, IsStanding};
 ghost use Rattle.claim_table.specs.ClaimTable.Rows.{is_raised, verdict_of};
 ghost use Rattle.validator_core.specs.Settlement.Entries.{signature_asked};
 
+use crate::tables::Tables;
 use claim_table::Signature;
-use core_tables::Tables;
 use journal::Question;
 use std::alloc::AllocError;
 

@@ -1,6 +1,6 @@
 //! Whether an event is one that another may wait for.
 ghost use Rattle.std.specs.Prelude.{◌≡◌, ◌&&◌, ℕ, List, not, slice_get};
-ghost use Rattle.core_tables.specs.CoreTables.View.{body_of, log_of};
+ghost use Rattle.validator_core.specs.Tables.CoreTables.View.{body_of, log_of};
 ghost use Rattle.validator_core.specs.Acceptance.Standing.{IsStanding};
 ghost use Rattle.claim_table.specs.CoreLaws.Waking as waking;
 ghost use Rattle.event_body.specs.EventBody.Events as events;
@@ -10,8 +10,8 @@ ghost use Rattle.journal.specs.Journal.Seals as seals;
 ghost use Rattle.key_state.specs.Kept.{IsKept};
 ghost use Rattle.validator_core.specs.Settlement.Awaited as awaited;
 
+use crate::tables::Tables;
 use cesr_codes::Prefix;
-use core_tables::Tables;
 use event_backing::{holds_seal_of, sealed_by_parts};
 use event_body::Event;
 use journal::{Mode, delegator_of, is_behind};

@@ -8,14 +8,14 @@ ghost use Rattle.event_backing.specs.EventSeals.{IsEventSeal, holds_seal};
 ghost use Rattle.event_backing.specs.declared.event_seal.EventSeal.{EventSeal as EventSealValue};
 ghost use Rattle.escrow.specs.Escrow.Escrow.{Waits};
 ghost use Rattle.journal.specs.declared.journal.body.Body.{Body};
-ghost use Rattle.core_tables.specs.CoreTables.View.{log_of};
+ghost use Rattle.validator_core.specs.Tables.CoreTables.View.{log_of};
 ghost use Rattle.validator_core.specs.Acceptance.Standing.{IsStanding};
 ghost use Rattle.validator_core.specs.Settlement.Awaited.{HasAllWoken, IsNextAt, has_all_awaited, is_awaited_there};
 
 use crate::acceptance::is_there;
 use crate::settlement::behind::copied;
 use crate::settlement::wait_target::is_awaited_at;
-use core_tables::Tables;
+use crate::tables::Tables;
 use escrow::Waiting;
 use event_backing::{EventSeal, sealed_by_parts, seals};
 use event_body::Event;

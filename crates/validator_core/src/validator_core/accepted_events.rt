@@ -1,7 +1,7 @@
 //! Accepted events, by their places, and the numbers of bodies.
 ghost use Rattle.std.specs.Prelude.{◌≡◌, ◌==◌, IfNone, IfSome, Some, ℕ, false, position, slice_get};
 ghost use Rattle.validator_core.specs.Acceptance.Standing.{IsStanding};
-ghost use Rattle.core_tables.specs.CoreTables.View.{body_of, log_of};
+ghost use Rattle.validator_core.specs.Tables.CoreTables.View.{body_of, log_of};
 ghost use Rattle.event_body.specs.EventBody.Judging.{SpellsEvent};
 ghost use Rattle.journal.specs.EventRules.Additions.{is_number};
 ghost use Rattle.validator_core.specs.ValidatorCore.Signatures.{is_witness_under, opens_under};
@@ -9,10 +9,10 @@ ghost use Rattle.validator_core.specs.ValidatorCore.View.{accepted_by};
 ghost use Rattle.journal.specs.Journal.Logs.{is_in};
 ghost use Rattle.journal.specs.declared.journal.body.Body.{Body};
 
+use crate::tables::Tables;
 use crate::validator_core::Core;
 use crate::validator_core::signatures::number_at;
 use cesr_codes::{IndexedSig, Key};
-use core_tables::Tables;
 use event_body::Event;
 use journal::{has_witness, reveal_of};
 

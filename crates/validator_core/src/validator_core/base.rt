@@ -1,16 +1,16 @@
 //! Cores that begin with a list of texts.
 ghost use Rattle.std.specs.Prelude.{◌≡◌, ◌≤◌, ◌<◌, [], All, IfErr, IfOk, OnOk, length, true};
 ghost use Rattle.validator_core.specs.Acceptance.Standing.{IsHeld};
-ghost use Rattle.core_tables.specs.CoreTables.View.{body_of};
+ghost use Rattle.validator_core.specs.Tables.CoreTables.View.{body_of};
 ghost use Rattle.journal.specs.declared.journal.resume_fault.ResumeFault.TheVariants.{NotALog};
 ghost use Rattle.journal.specs.Journal.Grown.{fits};
 ghost use Rattle.validator_core.specs.ValidatorCore.Base.{AcceptsText, AreAccepted, AreRefused, IsBase, IsRefused, IsResumed};
 ghost use Rattle.validator_core.specs.ValidatorCore.View.{bytes_of};
 
 use crate::settlement::accept;
+use crate::tables::Tables;
 use crate::validator_core::Core;
 use crate::validator_core::tally::Tally;
-use core_tables::Tables;
 use event_body::{Event, ReadBody, one_event, read_body};
 use journal::{Body, Mode, ResumeFault, takes};
 use json_tree::Text;

@@ -11,10 +11,10 @@ ghost use Rattle.validator_core.specs.ValidatorCore.Calls.{TakesVerdict, questio
 ghost use Rattle.validator_core.specs.ValidatorCore.Looks.{LooksByVerdict};
 ghost use Rattle.validator_core.specs.ValidatorCore.View.{base_of, told_of, unheard_of};
 
+use crate::tables::Tables;
 use crate::validator_core::Core;
 use crate::validator_core::whole_entries::add_verdict;
 use claim_table::{ClaimTable, Signature};
-use core_tables::Tables;
 use journal::{Noted, Question};
 use keri_outside::Steps;
 use std::alloc::AllocError;

@@ -3,7 +3,7 @@ ghost use Rattle.std.specs.Prelude.{◌≡◌, ◌++◌, ℕ, List, IfOk, OnOk, 
 ghost use Rattle.std.specs.Option.{option_copied};
 ghost use Rattle.validator_core.specs.Acceptance.Standing as standing;
 ghost use Rattle.validator_core.specs.Acceptance.Standing.{IsStanding};
-ghost use Rattle.core_tables.specs.CoreTables.View.{body_of, log_of};
+ghost use Rattle.validator_core.specs.Tables.CoreTables.View.{body_of, log_of};
 ghost use Rattle.validator_core.specs.ValidatorCore.Signatures.{good_claim, good_in, good_on, good_under};
 ghost use Rattle.validator_core.specs.ValidatorCore.View.{accepted_by, told_of};
 ghost use Rattle.journal.specs.Journal.Readiness.{good_sigs};
@@ -12,10 +12,10 @@ ghost use Rattle.key_state.specs.Exposure.{own_rules};
 ghost use Rattle.validator_core.specs.Acceptance.Entries.{says_in, yes_of};
 
 use crate::acceptance::{Footing, footing_of};
+use crate::tables::{Tables, name_of};
 use crate::validator_core::Core;
 use cesr_codes::{IndexedSig, Key, Sig};
 use claim_table::Signature;
-use core_tables::{Tables, name_of};
 use event_body::Event;
 use journal::{Claim, claimed_key};
 use key_state::KeyState;

@@ -2,7 +2,7 @@
 ghost use Rattle.std.specs.Prelude.{◌≡◌, ◌<◌, false, length, slice_get, IfOk, OnErr, Some, if◌then◌else◌};
 ghost use Rattle.std.specs.List.{list_all, list_any};
 ghost use Rattle.validator_core.specs.Acceptance.Standing.{IsHeld};
-ghost use Rattle.core_tables.specs.CoreTables.View.{body_of, came_with};
+ghost use Rattle.validator_core.specs.Tables.CoreTables.View.{body_of, came_with};
 ghost use Rattle.journal.specs.declared.journal.body.Body.{Body as BodyValue};
 ghost use Rattle.journal.specs.declared.journal.reply.Reply.TheVariants.{Again, Taken};
 ghost use Rattle.journal.specs.Journal.Logs.{is_in};
@@ -10,9 +10,9 @@ ghost use Rattle.journal.specs.Journal.Replies.{same_claim};
 ghost use Rattle.validator_core.specs.ValidatorCore.Calls.{TakesBody};
 ghost use Rattle.validator_core.specs.ValidatorCore.Looks.{LooksByReply};
 
+use crate::tables::Tables;
 use crate::validator_core::Core;
 use crate::validator_core::whole_entries::{add_body, add_claims};
-use core_tables::Tables;
 use event_body::Event;
 use journal::{Body, Claim, Reply};
 use json_tree::Text;

@@ -1,16 +1,16 @@
 //! The core: its tables, and how much it took.
 ghost use Rattle.std.specs.Prelude.{◌≡◌, ◌≤◌, ◌<◌, [], All, IfSome, map, length, slice_get};
 ghost use Rattle.std.specs.Option.{option_map};
-ghost use Rattle.core_tables.specs.CoreTables.Hints.{IsEscrow};
+ghost use Rattle.validator_core.specs.Tables.CoreTables.Hints.{IsEscrow};
 ghost use Rattle.journal.specs.Journal.Journals.{chosen};
 ghost use Rattle.journal.specs.Journal.Logs as logs;
 ghost use Rattle.validator_core.specs.ValidatorCore.Confluent.{IsSoInAlike};
 ghost use Rattle.validator_core.specs.ValidatorCore.View.{Stands, accepted_by, state_of, waits_for};
 
 use crate::acceptance::why_waits;
+use crate::tables::Tables;
 use crate::validator_core::tally::Tally;
 use cesr_codes::Prefix;
-use core_tables::Tables;
 use escrow::Waiting;
 use event_body::Event;
 use journal::{Journal, Mode, Why};

@@ -2,7 +2,7 @@
 ghost use Rattle.std.specs.Prelude.{◌≡◌, ◌<◌, ◌≤◌, List, length, map, filter, All, IfOk};
 ghost use Rattle.validator_core.specs.Acceptance.Standing as standing;
 ghost use Rattle.validator_core.specs.Acceptance.Standing.{IsStanding};
-ghost use Rattle.core_tables.specs.CoreTables.View.{log_of};
+ghost use Rattle.validator_core.specs.Tables.CoreTables.View.{log_of};
 ghost use Rattle.journal.specs.declared.journal.body.Body.{Body};
 ghost use Rattle.journal.specs.Journal.Conflicts as conflicts;
 ghost use Rattle.journal.specs.Journal.Conflicts.{IsConflictList};
@@ -13,9 +13,9 @@ ghost use Rattle.validator_core.specs.ValidatorCore.View.{accepted_by, base_of, 
 ghost use Rattle.validator_core.specs.ValidatorCore.Views.{IsPlaced};
 
 use crate::acceptance::counts;
+use crate::tables::Tables;
 use crate::validator_core::Core;
 use cesr_codes::Prefix;
-use core_tables::Tables;
 use event_body::Event;
 use journal::Conflict;
 use journal_views::{conflict_sets, live};

@@ -4,14 +4,14 @@ ghost use Rattle.std.specs.List.Sorted.{IsStrictlySortedBy};
 ghost use Rattle.std.specs.Ordering.{nat_cmp};
 ghost use Rattle.validator_core.specs.Acceptance.Standing.{Extends, IsHeld, IsStanding};
 ghost use Rattle.claim_table.specs.ClaimTable.Rows.{is_raised, verdict_of};
-ghost use Rattle.core_tables.specs.CoreTables.View.{IsCut, rewound};
+ghost use Rattle.validator_core.specs.Tables.CoreTables.View.{IsCut, rewound};
 ghost use Rattle.journal.specs.declared.journal.entry.Entry.TheVariants.{Took};
 ghost use Rattle.journal.specs.Journal.Logs.{is_in};
 ghost use Rattle.validator_core.specs.Settlement.Entries.{signature_asked};
 ghost use Rattle.validator_core.specs.ValidatorCore.Tables.{AddsEntry, AddsVerdict, HaveNoOthers, HaveNumbers, SettlesFrom};
 
 use crate::settlement::{accept_ready, enter_body, enter_claims, enter_verdict};
-use core_tables::{Mark, Tables};
+use crate::tables::{Mark, Tables};
 use journal::{Body, Claim, Mode, Question};
 use keri_outside::Steps;
 use lists::Items;

@@ -148,7 +148,7 @@ module _ (first mid new : LinkShown) (a : Serves first mid) (on : GoesOn first m
       stops_more messages VerifierFault s = taking_more fault.VerifierFault messages s
       stops_more messages SignerFault s = taking_more fault.SignerFault messages s
       stops_more messages DiskFault s = taking_more fault.DiskFault messages s
-      stops_more messages LimitReached s = taking_more fault.Full messages s
+      stops_more messages LimitReached s = taking_more fault.LimitReached messages s
       stops_more messages OutOfMemory s = taking_more fault.OutOfMemory messages s
       stops_more messages WriteFault s = (ap (λ l. before ++ l) s.0 ∙ messages_more, puts_more s.1)
       stops_more messages End s = absurd s

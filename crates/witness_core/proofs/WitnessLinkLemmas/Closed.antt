@@ -82,7 +82,7 @@ module _ (limits : Limits) (source_old source_new : SourceShown) (old new : Link
       link_ended VerifierFault h = link_failed fault.VerifierFault VerifierFault h.serves h.stops (λ c. c)
       link_ended SignerFault h = link_failed fault.SignerFault SignerFault h.serves h.stops (λ c. c)
       link_ended DiskFault h = link_failed fault.DiskFault DiskFault h.serves h.stops (λ c. c)
-      link_ended LimitReached h = link_failed fault.Full LimitReached h.serves h.stops inr
+      link_ended LimitReached h = link_failed fault.LimitReached LimitReached h.serves h.stops inr
       link_ended OutOfMemory h = link_failed fault.OutOfMemory OutOfMemory h.serves h.stops inr
       link_ended WriteFault h =
           let put = h.stops.1 in
@@ -142,7 +142,7 @@ module _ {W K : Type 0} (service_seen : W → ServiceShown) (written : K → Opt
   link_closed feed.ReadFault now last f e =
       link_read limits source_old source_new (told first) (told new) f.fed f.reading f.items f.stream feed.ReadFault ReadFault now (f.answered ++ all_of last)
       (either ReadFault now (f.answered ++ all_of last) (e first f.answered f.takes)) f.all (rw f.closes.2 tt) f.closes f.closes.0 (λ s c. c)
-  link_closed feed.Full now last f e =
+  link_closed feed.LimitReached now last f e =
       let h = f.takes.served in
       let are = h.messages_are in
       let made : messages_in h.serves.calls ++ all_of last ≡ messages limits.message_signatures f.items = ap (λ l. l ++ all_of last) are ∙ f.all in
@@ -176,7 +176,7 @@ module _ {W K : Type 0} (service_seen : W → ServiceShown) (written : K → Opt
   lent_same feed.End now last f e = lent (e first f.answered f.takes)
   lent_same (feed.Bad bad) now last f e = lent (e first f.answered f.takes)
   lent_same feed.ReadFault now last f e = lent (e first f.answered f.takes)
-  lent_same feed.Full now last f e = subst (LendsSame first) (sym e.1) f.takes.same
+  lent_same feed.LimitReached now last f e = subst (LendsSame first) (sym e.1) f.takes.same
   lent_same feed.OutOfMemory now last f e = subst (LendsSame first) (sym e.1) f.takes.same
   lent_same (feed.Stopped stop) now last f e = subst (LendsSame first) (sym e.1) f.takes.same
 

@@ -138,7 +138,7 @@ module _ (says : Key → List ℕ → Sig → Option Bool) (old new : CoreView) 
   fate_follows (Seen said) tells = tells.0.follows
 
   fault_follows : (why : WitnessFault) → TellsFault says old m why new → Follows old new
-  fault_follows fault.Full tells = tells.follows
+  fault_follows fault.LimitReached tells = tells.follows
   fault_follows fault.Broken tells = tells.follows
   fault_follows fault.OutOfMemory tells = elim tells [ inl untold ↦ untold.follows | inr event ↦ event.follows ]
   fault_follows fault.DiskFault tells = tells.follows

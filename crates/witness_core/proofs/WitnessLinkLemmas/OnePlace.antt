@@ -2,7 +2,7 @@
 use Rattle.std.proofs.Common.{◌≡◌, ◌≤◌, ◌<◌, ◌+◌, ◌||◌, true, false, List, [], ◌∷◌, ◌++◌, Option, Some, None, is_none, refl, sym, ◌∙◌, ap, subst, append_assoc, append-nil, arith, inl, inr, Contains}
 use Rattle.std.proofs.lemmas.Bool.{cases_Bool, leb-false, eqb-true, not-false, or_parts}
 use Rattle.std.proofs.lemmas.List.Elements.{Contains-append_cases, Contains-append_left, Contains-append_right, Contains-push, Contains-push_cases}
-use Rattle.core_tables.proofs.AcceptedLogLemmas.StateSteps.{Fits, IsNew, fits_parts, goes_onto, new_of}
+use Rattle.validator_core.proofs.TablesLemmas.AcceptedLogLemmas.StateSteps.{Fits, IsNew, fits_parts, goes_onto, new_of}
 use Rattle.cesr_codes.specs.declared.prefix.Prefix.{Prefix}
 use Rattle.event_body.specs.EventBody.Events.{is_establishment, is_inception, is_interaction, is_receipt, is_rotation, prefix_of, sn_of}
 use Rattle.event_body.specs.declared.event_body.event.Event.{Event}

@@ -66,7 +66,7 @@ module _ (old new : LinkShown) (m : Message) (stores : StoresOn old.witness.list
     stops_so fault.DiskFault fails counted signed stored = (m, refl, fails_so fault.DiskFault fails counted signed stored)
     stops_so fault.SignerFault fails counted signed stored = (m, refl, fails_so fault.SignerFault fails counted signed stored)
     stops_so fault.VerifierFault fails counted signed stored = (m, refl, fails_so fault.VerifierFault fails counted signed stored)
-    stops_so fault.Full fails counted signed stored = (m, refl, fails_so fault.Full fails counted signed stored)
+    stops_so fault.LimitReached fails counted signed stored = (m, refl, fails_so fault.LimitReached fails counted signed stored)
     stops_so fault.OutOfMemory fails counted signed stored = (m, refl, fails_so fault.OutOfMemory fails counted signed stored)
     stops_so fault.Broken fails counted signed stored = absurd fails
 

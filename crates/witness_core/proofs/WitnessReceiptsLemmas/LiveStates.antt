@@ -19,8 +19,8 @@ use Rattle.key_state.specs.KeyStates.{digest_at, misfit, moved}
 use Rattle.key_state.specs.States.{State}
 use Rattle.key_state.proofs.Same.{same_prefix_is, same_prefix_itself}
 use Rattle.lists.proofs.ListsLemmas.Places.{at_end, not_at_end}
-use Rattle.core_tables.specs.AcceptedLog.Values.{with_since}
-use Rattle.core_tables.proofs.AcceptedLogLemmas.StateSteps.{Fits, IsNew, fits_parts, goes_onto, new_of, own_state}
+use Rattle.validator_core.specs.Tables.AcceptedLog.Values.{with_since}
+use Rattle.validator_core.proofs.TablesLemmas.AcceptedLogLemmas.StateSteps.{Fits, IsNew, fits_parts, goes_onto, new_of, own_state}
 use Rattle.witness_core.specs.WitnessReceipts.Fates.{live_there, said_at}
 use Rattle.witness_core.proofs.WitnessReceiptsLemmas.Living.{live_before, live_last, live_other}
 

@@ -9,7 +9,7 @@ abbrev pub close_by : WitnessFault → Close
 close_by fault.DiskFault = DiskFault
 close_by fault.SignerFault = SignerFault
 close_by fault.VerifierFault = VerifierFault
-close_by fault.Full = LimitReached
+close_by fault.LimitReached = LimitReached
 close_by fault.Broken = DiskFault
 close_by fault.OutOfMemory = OutOfMemory
 

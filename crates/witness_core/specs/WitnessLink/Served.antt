@@ -39,7 +39,7 @@ module _ (limits : Limits) (source_old source_new : SourceShown) (bytes : List �
     pub reading : Reading
     pub items : List Placed
     pub stream : Stream limits bytes reading items
-    pub closes : ClosesBy {T = Close} limits.stream_bytes source_old.left source_new.left source_old.faults source_new.faults bytes reading feed.Full
+    pub closes : ClosesBy {T = Close} limits.stream_bytes source_old.left source_new.left source_old.faults source_new.faults bytes reading feed.LimitReached
     pub last : Option Message
     pub all : first ++ all_of last ≡ messages limits.message_signatures items
 
@@ -66,7 +66,7 @@ module _ (limits : Limits) (source_old source_new : SourceShown) (bytes : List �
     ClosesLink VerifierFault = StopsAtNext fault.VerifierFault
     ClosesLink SignerFault = StopsAtNext fault.SignerFault
     ClosesLink DiskFault = StopsAtNext fault.DiskFault
-    ClosesLink LimitReached = (ReadsMost (messages_in serves.calls) × GoesOn old new serves) ⊎ StopsAtNext fault.Full
+    ClosesLink LimitReached = (ReadsMost (messages_in serves.calls) × GoesOn old new serves) ⊎ StopsAtNext fault.LimitReached
     ClosesLink OutOfMemory = GoesOn old new serves ⊎ StopsAtNext fault.OutOfMemory
     ClosesLink (Malformed place) = ⊥
 

@@ -89,7 +89,7 @@ module _ (old new : LinkShown) (serves : Serves old new) where
   StopsBy messages VerifierFault = StopsTaking fault.VerifierFault messages
   StopsBy messages SignerFault = StopsTaking fault.SignerFault messages
   StopsBy messages DiskFault = StopsTaking fault.DiskFault messages
-  StopsBy messages LimitReached = StopsTaking fault.Full messages
+  StopsBy messages LimitReached = StopsTaking fault.LimitReached messages
   StopsBy messages OutOfMemory = StopsTaking fault.OutOfMemory messages
   StopsBy messages WriteFault = (messages ≡ messages_in serves.calls) × FailsToPut
   StopsBy messages End = ⊥

@@ -27,7 +27,7 @@ not_a_shelf Two place = NotAShelf place
 abbrev pub refusal : Version → ShelfFault → OpeningFault
 refusal version (shelf.NotAShelf place) = not_a_shelf version place
 refusal version shelf.DiskFault = DiskFault
-refusal version shelf.Full = LimitReached
+refusal version shelf.LimitReached = LimitReached
 refusal version shelf.OutOfMemory = OutOfMemory
 refusal version shelf.Broken = DiskFault
 

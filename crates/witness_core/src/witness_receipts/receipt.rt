@@ -1,7 +1,7 @@
 //! Receipts.
 ghost use Rattle.std.specs.Prelude.{◌≡◌, ◌≤◌, ◌<◌, ◌^◌, ◌∷◌, ◌++◌, [], ℕ, List, length, IfErr, IfOk};
 ghost use Rattle.cesr_codes.specs.declared.key.KeyCode.TheVariants.{Fixed};
-ghost use Rattle.core_tables.specs.CoreTables.View.{body_of};
+ghost use Rattle.validator_core.specs.Tables.CoreTables.View.{body_of};
 ghost use Rattle.event_body.specs.EventBody.Held.{IsHeldReceipt};
 ghost use Rattle.event_body.specs.EventBody.Judging.{SpellsEvent};
 ghost use Rattle.event_body.specs.EventBody.Spelling.{text_of};

@@ -20,11 +20,11 @@ pub returns-in-Ok-Refused-clause-nothing : goal.returns-in-Ok-Refused-clause-not
 returns-in-Ok-Refused-clause-nothing g c = on_err c.note.result _
     (refused_tells (limit_of c.args.hub.now.turn) _ c.args.message.now _ c.in-Ok-Refused.reason (rw c.in-Ok-Refused.field-0-is at c.in-Ok-Refused.ensures.takes))
 
-pub returns-in-Ok-Full-clause-nothing : goal.returns-in-Ok-Full-clause-nothing
-returns-in-Ok-Full-clause-nothing g c = (full_tells (limit_of c.args.hub.now.turn) _ c.args.message.now _ (rw c.in-Ok-Full.field-0-is at c.in-Ok-Full.ensures.takes)).0
+pub returns-in-Ok-LimitReached-clause-nothing : goal.returns-in-Ok-LimitReached-clause-nothing
+returns-in-Ok-LimitReached-clause-nothing g c = (full_tells (limit_of c.args.hub.now.turn) _ c.args.message.now _ (rw c.in-Ok-LimitReached.field-0-is at c.in-Ok-LimitReached.ensures.takes)).0
 
-pub returns-in-Ok-Full-clause-cause : goal.returns-in-Ok-Full-clause-cause
-returns-in-Ok-Full-clause-cause g c = inr (full_tells (limit_of c.args.hub.now.turn) _ c.args.message.now _ (rw c.in-Ok-Full.field-0-is at c.in-Ok-Full.ensures.takes)).1
+pub returns-in-Ok-LimitReached-clause-cause : goal.returns-in-Ok-LimitReached-clause-cause
+returns-in-Ok-LimitReached-clause-cause g c = inr (full_tells (limit_of c.args.hub.now.turn) _ c.args.message.now _ (rw c.in-Ok-LimitReached.field-0-is at c.in-Ok-LimitReached.ensures.takes)).1
 
 pub returns-in-Err-clause-nothing : goal.returns-in-Err-clause-nothing
 returns-in-Err-clause-nothing g c = stop_tells (limit_of c.args.hub.now.turn) _ _ c.in-Err.fault c.in-Err.ensures.stops

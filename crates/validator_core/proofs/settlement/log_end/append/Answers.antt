@@ -1,10 +1,10 @@
 use Rattle.std.proofs.Common.{◌≡◌, Some, sym, subst, length}
 use Rattle.std.specs.Prelude.{slice_get}
-use Rattle.core_tables.proofs.AcceptedLogLemmas.Made.{fitting_made}
+use Rattle.validator_core.proofs.TablesLemmas.AcceptedLogLemmas.Made.{fitting_made}
 use Rattle.journal.proofs.JournalLemmas.Places.{some_at}
 use Rattle.validator_core.specs.Acceptance.Standing.{Extends}
 use Rattle.validator_core.proofs.AcceptanceLemmas.Rewound.{extends_itself}
-use Rattle.core_tables.specs.CoreTables.View.{log_of}
+use Rattle.validator_core.specs.Tables.CoreTables.View.{log_of}
 use Rattle.journal.specs.declared.journal.body.Body.{Body}
 use Rattle.validator_core.specs.Settlement.Turning.{MakesState}
 use Rattle.validator_core.proofs.SettlementLemmas.Events.{if_none_at, if_some_at, on_ok_both}

@@ -1,8 +1,8 @@
 use Rattle.std.proofs.Common.{◌≡◌, refl, sym, ◌∙◌, ap, subst}
 use Rattle.std.specs.Prelude.{Some, slice_get}
-use Rattle.core_tables.specs.AcceptedLog.Cuts.{IsLog}
+use Rattle.validator_core.specs.Tables.AcceptedLog.Cuts.{IsLog}
 use Rattle.validator_core.specs.Acceptance.Standing.{told_of}
-use Rattle.core_tables.specs.CoreTables.View.{body_of, log_of}
+use Rattle.validator_core.specs.Tables.CoreTables.View.{body_of, log_of}
 use Rattle.journal_views.specs.EventPayload.Kept.{state_under}
 use Rattle.validator_core.specs.ValidatorCore.Signatures.{good_under}
 use Rattle.validator_core.proofs.AcceptanceLemmas.Bodies.{at_body}

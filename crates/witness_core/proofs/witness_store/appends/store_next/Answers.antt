@@ -42,7 +42,7 @@ unreachable-requires g c =
     let place_is = ap length c.list-place.ensures in
     not_refused c.args.core.now c.args.shelf.now.list (length c.list-place.result.now) place_is c.requires.lacking c.in_ok-payload.payload.items c.as_slice.result.now c.as_slice.ensures.value c.in_ok-payload.ensures.payload
     c.in_ok-payload.ensures.known c.requires.grown c.args.shelf.now.limits c.args.room.now c.requires.fits c.in_ok-payload.ensures.within c.args.shelf.now.broken
-    c.in-Err-Full.field-0 c.requires.whole c.in-Err-Full.ensures.refused (ap is_other c.in-Err-Full.field-0-is)
+    c.in-Err-LimitReached.field-0 c.requires.whole c.in-Err-LimitReached.ensures.refused (ap is_other c.in-Err-LimitReached.field-0-is)
 
 pub unreachable-requires-in-Err-Broken : goal.unreachable-requires-in-Err-Broken
 unreachable-requires-in-Err-Broken g c =

@@ -1,6 +1,6 @@
 use Rattle.std.proofs.Common.{◌∙◌, ap, subst}
 use Rattle.std.specs.Option.{option_map}
-use Rattle.core_tables.specs.AcceptedLog.Values.{last_of}
+use Rattle.validator_core.specs.Tables.AcceptedLog.Values.{last_of}
 use Rattle.journal.specs.Journal.Logs.{state}
 use Rattle.validator_core.specs.ValidatorCore.Confluent.{IsSoInAlike}
 use Rattle.validator_core.specs.ValidatorCore.Inside.{core_of}

@@ -1,5 +1,0 @@
-use Rattle.core_tables.proofs.AcceptedLogLemmas.Behind.{nothing_is_log}
-use Rattle.core_tables.proofs.accepted_log.accepted_log.AcceptedLog.new.Goals as goal
-
-pub returns-clause-log : goal.returns-clause-log
-returns-clause-log c = rw (c.new.ensures.items, c.new-2.ensures.items, c.new-3.ensures.items) nothing_is_log

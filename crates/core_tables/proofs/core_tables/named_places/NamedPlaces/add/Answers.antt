@@ -1,5 +1,0 @@
-use Rattle.core_tables.specs.CoreTables.NamedPlaces.{short_of}
-use Rattle.core_tables.proofs.core_tables.named_places.NamedPlaces.add.Goals as goal
-
-pub returns-clause-kept : goal.returns-clause-kept
-returns-clause-kept c = λ q n low has. c.add.ensures.kept (short_of q.said) n low has

@@ -1,8 +1,0 @@
-use Rattle.std.proofs.Common.{subst}
-use Rattle.claim_table.specs.CoreLaws.Standing.{HasNoClash}
-use Rattle.core_tables.specs.CoreTables.View.{View, log_of}
-use Rattle.core_tables.proofs.CoreTablesLemmas.NamedRows.{no_clash}
-use Rattle.core_tables.proofs.core_tables.tables.Tables.has_clash.Goals as goal
-
-pub returns : goal.returns
-returns c = λ no. subst (λ (v : View). HasNoClash (log_of v)) c.self.view_is (no_clash c.self.invariant.2 no)
