@@ -10,6 +10,6 @@ loop-claim-preserved c =
     elim c.match-claim.branch [
       | in-Controller w ↦ (let one = counts_held c.claim-item.result w.in-Controller.field-0 w.in-Controller.is in
           record { counted = omega (arith, w.count-is, was.counted, more, one); few = omega (arith, w.count-is, was.few) })
-      | in_default w ↦ (let none = counts_no_other c.claim-item.result w.in_default.not-Held in
+      | in_default w ↦ (let none = counts_no_other c.claim-item.result w.in_default.not-Controller in
           record { counted = omega (arith, w.count-is, was.counted, more, none); few = omega (arith, w.count-is, was.few) })
     ]
