@@ -1,8 +1,8 @@
 """Runs whose readers meet: before its first message each waits for the others, for a number of turns at most.
 
-A run's end says whether all of them met. They do where each has a thread of its own, in whatever order the threads run,
-and neither where there are fewer of them than are awaited, nor where no message comes. Who waits in vain does so for few
-turns, since each turn lets other programs run.
+A run's end says whether all of them met. They do where each has a thread of its own, in whatever order the threads run.
+They don't where there are fewer of them than are awaited, or where no message comes. A reader that waits in vain does so
+for few turns, since each turn lets other programs run.
 """
 from row_tables.run_calls import MADE, REPORT, VALIDATE, WATCH, run
 from validate_cases import SIGNED
