@@ -3,8 +3,8 @@ use Rattle.std.proofs.Common.{◌≡◌, ℕ, List, [], ◌∷◌, ◌++◌, map
 use Rattle.cesr_codes.proofs.Same.{same_key}
 use Rattle.std.specs.Prelude.{Bool, IsTrue, ◌↔◌}
 use Rattle.std.specs.List.{AllByRecursion}
+use Rattle.cesr_codes.specs.declared.fixed_key.FixedKey.{FixedKey}
 use Rattle.cesr_codes.specs.declared.key.Key.{Key}
-use Rattle.cesr_codes.specs.declared.key.KeyCode.TheVariants.{Fixed}
 use Rattle.cesr_codes.specs.Spelling.{key_text, IsKey}
 use Rattle.json_tree.specs.declared.tree.Tree.{Tree}
 use Rattle.json_tree.specs.declared.tree.Tree.TheVariants.{Str, List as TreeList}
@@ -13,7 +13,6 @@ use Rattle.json_tree.specs.Strings.{IsString}
 use Rattle.json_tree.proofs.Unique.{list_fits}
 use Rattle.json_tree.proofs.Trees.{IsJson-to_list}
 use Rattle.sith.proofs.Values.{list_injective}
-use Rattle.event_body.specs.declared.body_fields.primitive.FixedKey.{FixedKey}
 use Rattle.event_body.specs.declared.body_fields.form.Form.TheVariants.{FixedKeys, Strings, Values}
 use Rattle.event_body.specs.BodyFields.Forms.{IsOfForm, AreFixed, key_value, keys_value}
 use Rattle.event_body.specs.BodyFields.Strings.{HoldsOne, IsListOf, IsText}
@@ -46,18 +45,18 @@ module _ {P : Type 0} (spelling : P → List ℕ) (IsValid : P → Type 0) where
 
 -- keys that can't be rotated
 abbrev pub IsFixedOne : Tree → Type 0
-IsFixedOne = HoldsOne {P = FixedKey} (λ fixed. key_text fixed.0) (λ fixed. IsKey fixed.0 × (fixed.0.code ≡ Fixed))
+IsFixedOne = HoldsOne {P = FixedKey} (λ fixed. key_text fixed.key) (λ fixed. IsKey fixed.key)
 
 fixed_gathered : (values : List Tree) → AllByRecursion IsFixedOne values → (keys : List Key) × AllByRecursion IsKey keys × AreFixed keys × (values ≡ map key_value keys)
 fixed_gathered [] all = ([], tt, tt, refl)
 fixed_gathered (v ∷ values) all =
     let rest = fixed_gathered values all.1 in
-    let key = all.0.0.0 in
-    (key ∷ rest.0, (all.0.1.0.0, rest.1), (all.0.1.0.1, rest.2), ap (λ x. x ∷ values) all.0.1.1 ∙ ap (λ xs. key_value key ∷ xs) rest.3)
+    let fixed = all.0.0 in
+    (fixed.key ∷ rest.0, (all.0.1.0, rest.1), (fixed.fixed, rest.2), ap (λ x. x ∷ values) all.0.1.1 ∙ ap (λ xs. key_value fixed.key ∷ xs) rest.3)
 
 fixed_spread : (keys : List Key) → AllByRecursion IsKey keys → AreFixed keys → AllByRecursion IsFixedOne (map key_value keys)
 fixed_spread [] all fixed = tt
-fixed_spread (key ∷ keys) all fixed = ((record { 0 = key }, ((all.0, fixed.0), refl)), fixed_spread keys all.1 fixed.1)
+fixed_spread (key ∷ keys) all fixed = ((record { key = key; fixed = fixed.0 }, (all.0, refl)), fixed_spread keys all.1 fixed.1)
 
 pub fixed_there : (value : Tree) → IsListOf IsFixedOne value → IsOfForm FixedKeys value
 fixed_there value is = let all = fixed_gathered is.0 is.1 in (all.0, all.1, all.2, is.2 ∙ ap TreeList all.3)

@@ -5,9 +5,8 @@ ghost use Rattle.json_tree.specs.declared.tree.Tree.TheVariants.{Str, List as Tr
 ghost use Rattle.json_tree.specs.Spelling.{Fits};
 ghost use Rattle.event_body.specs.BodyFields.Forms.{depth_of, IsOfForm, IsNumberValue, IsStringOrList};
 
-use crate::body_fields::primitive::FixedKey;
 use crate::body_fields::strings::{digits, is_list_of, is_string_list, one};
-use cesr_codes::{Digest, Key, Prefix};
+use cesr_codes::{Digest, FixedKey, Key, Prefix};
 use json_tree::Tree;
 
 /// A threshold nests at most so deep: a list of clauses, each a list, with groups that are objects of a list.

@@ -6,24 +6,24 @@ ghost use Rattle.json_tree.specs.declared.tree.Tree.TheVariants.{Str};
 ghost use Rattle.event_body.specs.BodyFields.Forms.{IsNumberValue};
 ghost use Rattle.event_body.specs.BodyFields.Strings.{HoldsOne, HoldsIt, IsListOf, IsText};
 
-use crate::body_fields::primitive::Primitive;
+use cesr_codes::{Spelled, of_text};
 use json_tree::{Text, Tree};
 use lists::{CopyValue, Items, is_hex_number};
 use std::alloc::{AllocError, Global};
 
 /// The primitive that the string holds.
-pub(crate) fn one<P: Primitive>(value: &Tree) -> Option<P>
+pub(crate) fn one<P: Spelled>(value: &Tree) -> Option<P>
     ensures some { IfSome result (λ p. HoldsIt P.spelling P.is_valid p value.now) }
     ensures none { IfNone result (¬ HoldsOne P.spelling P.is_valid value.now) }
 {
     match value {
-        Tree::Str(text) => P::of_text(text.as_slice()),
+        Tree::Str(text) => of_text(text.as_slice()),
         _ => None,
     }
 }
 
 /// Whether each is a string that holds a primitive.
-pub(crate) fn are_all<P: Primitive>(values: &[Tree]) -> bool
+pub(crate) fn are_all<P: Spelled>(values: &[Tree]) -> bool
     ensures { IsTrue result ↔ AllByRecursion (HoldsOne P.spelling P.is_valid) values.now }
 {
     for value in values {
@@ -35,7 +35,7 @@ pub(crate) fn are_all<P: Primitive>(values: &[Tree]) -> bool
 }
 
 /// What each holds, where each is a string that holds a primitive.
-pub(crate) fn all<P: Primitive>(alloc: Global, values: &[Tree]) -> Result<Items<P>, AllocError>
+pub(crate) fn all<P: Spelled>(alloc: Global, values: &[Tree]) -> Result<Items<P>, AllocError>
     requires { AllByRecursion (HoldsOne P.spelling P.is_valid) values.now }
     ensures valid { IfOk result (λ found. AllByRecursion P.is_valid found) }
     ensures spelled { IfOk result (λ found. values.now ≡ map (λ p. Str (P.spelling p)) found) }
@@ -66,7 +66,7 @@ pub(crate) fn digits(value: &Tree) -> Option<&[u8]>
 }
 
 /// Whether it is a list of strings that hold a primitive each.
-pub(crate) fn is_list_of<P: Primitive>(value: &Tree) -> bool
+pub(crate) fn is_list_of<P: Spelled>(value: &Tree) -> bool
     ensures { IsTrue result ↔ IsListOf (HoldsOne P.spelling P.is_valid) value.now }
 {
     match value {

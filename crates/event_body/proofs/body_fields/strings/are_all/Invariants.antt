@@ -5,4 +5,4 @@ use Rattle.event_body.proofs.body_fields.strings.are_all.Given as goal
 
 -- the values so far hold one each
 abbrev pub invariant-loop-value : goal.invariant-loop-value
-invariant-loop-value g l = AllByRecursion (HoldsOne g.P.Primitive.spelling g.P.Primitive.is_valid) (take l.value-index l.values)
+invariant-loop-value g l = AllByRecursion (HoldsOne g.P.Spelled.spelling g.P.Spelled.is_valid) (take l.value-index l.values)
