@@ -4,7 +4,7 @@ ghost use Rattle.std.specs.List.{AllByRecursion};
 ghost use Rattle.cesr_codes.specs.Reading.{Reads};
 ghost use Rattle.cesr_codes.specs.Table.{Verdict};
 
-use crate::{CodeFault, Digest, Key, Prefix, Sig};
+use crate::{CodeFault, Digest, IndexedSig, Key, Moment, Number, Prefix, Sig};
 
 /// A type of primitives, of which each has a spelling of its own.
 pub trait Spelled: Copy {
@@ -128,4 +128,59 @@ impl Spelled for Sig {
     }
 
     fn held(self) {}
+}
+
+impl Spelled for Number {
+    ghost use Rattle.cesr_codes.specs.Spelling.{IsNumber, number_text};
+    ghost use Rattle.cesr_codes.specs.Table.{number_layouts, verdict};
+
+    ghost spelling = { number_text };
+
+    ghost is_valid = { IsNumber };
+
+    ghost judge = { verdict number_layouts };
+
+    fn read_front(text: &[u8]) -> Result<(Number, usize), CodeFault> {
+        Number::read(text)
+    }
+
+    fn held(self) {
+        let _value = self.value;
+    }
+}
+
+impl Spelled for Moment {
+    ghost use Rattle.cesr_codes.specs.Dates.{moment_verdict};
+    ghost use Rattle.cesr_codes.specs.Moments.{IsMoment, moment_text};
+
+    ghost spelling = { moment_text };
+
+    ghost is_valid = { IsMoment };
+
+    ghost judge = { moment_verdict };
+
+    fn read_front(text: &[u8]) -> Result<(Moment, usize), CodeFault> {
+        Moment::read(text)
+    }
+
+    fn held(self) {}
+}
+
+impl Spelled for IndexedSig {
+    ghost use Rattle.cesr_codes.specs.Indexed.{IsIndexed, indexed_text};
+    ghost use Rattle.cesr_codes.specs.Table.{indexed_layouts, verdict};
+
+    ghost spelling = { indexed_text };
+
+    ghost is_valid = { IsIndexed };
+
+    ghost judge = { verdict indexed_layouts };
+
+    fn read_front(text: &[u8]) -> Result<(IndexedSig, usize), CodeFault> {
+        IndexedSig::read(text)
+    }
+
+    fn held(self) {
+        self.sig.held();
+    }
 }

@@ -14,7 +14,7 @@ pub(crate) fn read_pair<P: Primitive, Q: Primitive>(
     room: Option<usize>,
 ) -> Result<((P, Q), usize), Stop>
     ensures { JudgesElement (pair_part (primitive_part P.layouts P.judge) (primitive_part Q.layouts Q.judge) room)
-        (pair_text P.text Q.text) bytes.now result }
+        (pair_text P.spelling Q.spelling) bytes.now result }
 {
     match read_primitive::<P>(bytes, room) {
         Ok((first, head)) => {
