@@ -6,13 +6,13 @@ use Rattle.base64.specs.Rfc4648.{encode_symbols, encode_group}
 use Rattle.base64.specs.GeneralPurpose.{encode_of, encoded_size_of, decode_of, IsConsistent, IsEncodedOver}
 use Rattle.base64.specs.declared.EncodeSliceError.{EncodeSliceError}
 use Rattle.std.proofs.lemmas.List.{take_at}
-use Rattle.cesr_binary.proofs.BinaryForms.{length-text_of, length-binary_of, text_of-binary_of}
+use Rattle.cesr_binary.proofs.BinaryDomain.{length-text_of, length-binary_of, text_of-binary_of}
 use Rattle.lists.proofs.KeriSpecsLemmas.Digits.{all_below-digits_in}
 use Rattle.base64.proofs.EngineFacts.{decode_of-encode_of}
 use Rattle.base64.specs.Engines.{url_safe_no_pad}
 use Rattle.lists.specs.KeriSpecs.Base64.{base64_text, characters, digits_in, number_of_text, whole_number}
-use Rattle.cesr_binary.specs.BinaryForm.{text_of, binary_of}
-use Rattle.cesr_stream.specs.Forms.{IsTurnable}
+use Rattle.cesr_binary.specs.BinaryDomain.{text_of, binary_of}
+use Rattle.cesr_stream.specs.Domains.{IsTurnable}
 
 -- bytes are digits in base 256
 pub bytes_below : (xs : List ℕ) → ((i : ℕ) → slice_index xs i < 256) → AllBelowBase 256 xs

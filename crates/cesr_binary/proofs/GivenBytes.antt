@@ -20,12 +20,12 @@ use Rattle.cesr_stream.specs.Reading.{Reading, fed_with}
 use Rattle.cesr_binary.specs.declared.either_reader.EitherReader.{EitherReader}
 use Rattle.cesr_stream.specs.Written.{IsWritable}
 use Rattle.cesr_stream.specs.Texts.{group_text, wrap_text, SpellsItem}
-use Rattle.cesr_binary.specs.BinaryForm.{text_of, in_bytes, is_binary}
-use Rattle.cesr_stream.specs.Forms.{IsTurnable}
+use Rattle.cesr_binary.specs.BinaryDomain.{text_of, in_bytes, is_binary}
+use Rattle.cesr_stream.specs.Domains.{IsTurnable}
 use Rattle.cesr_binary.specs.Mixed.{in_binary, mixed_front, text_in_either, SpellsEither}
 use Rattle.cesr_binary.specs.GivenBytes.{AreGiven, IsGiven, GoesOn, in_either, either_place, turnable, JudgesFront, WhereOpen}
 use Rattle.cesr_stream.proofs.Characters.{turnable_group, turnable_wrap, group_dash, wrap_dash}
-use Rattle.cesr_binary.proofs.BinaryForms.{text_of-append, length-text_of}
+use Rattle.cesr_binary.proofs.BinaryDomain.{text_of-append, length-text_of}
 use Rattle.cesr_binary.proofs.MixedFronts.{stays-mixed_front}
 use Rattle.cesr_binary.proofs.Wires.{mixed_binary, mixed_text, in_either_of, in_text_of}
 

@@ -1,4 +1,4 @@
-pub mod BinaryForms
+pub mod BinaryDomain
 pub mod MixedFronts
 pub mod SameMixedItems
 pub mod Wires

@@ -7,9 +7,9 @@ use Rattle.cesr_stream.specs.Items.{Placed}
 use Rattle.cesr_stream.specs.Parts.{Part, whole, refused, unfinished}
 use Rattle.cesr_stream.proofs.Fronts.{stays-front, fits-front}
 use Rattle.cesr_stream.proofs.Bounds.{few-front}
-use Rattle.cesr_binary.specs.BinaryForm.{text_of, in_bytes, is_binary}
+use Rattle.cesr_binary.specs.BinaryDomain.{text_of, in_bytes, is_binary}
 use Rattle.cesr_binary.specs.Mixed.{in_binary, mixed_front, SpellsEither, StandMixed, none, one}
-use Rattle.cesr_binary.proofs.BinaryForms.{text_of-more, length-text_of}
+use Rattle.cesr_binary.proofs.BinaryDomain.{text_of-more, length-text_of}
 
 -- a part that shows in the text shows in the bytes
 in_binary-shown : (part : Part) → in_binary part ≢ unfinished → part ≢ unfinished

@@ -16,7 +16,7 @@ use Rattle.cesr_stream.specs.Parts.{Part, whole, refused, unfinished}
 use Rattle.cesr_stream.specs.Texts.{SpellsItem}
 use Rattle.cesr_stream.specs.Written.{IsItem, IsWritable, MayStand}
 use Rattle.cesr_binary.specs.declared.domain.Domain.{Domain}
-use Rattle.cesr_binary.specs.BinaryForm.{is_binary, text_of}
+use Rattle.cesr_binary.specs.BinaryDomain.{is_binary, text_of}
 use Rattle.cesr_binary.specs.Mixed.{mixed_front, SpellsEither, StandMixed, none, one}
 use Rattle.cesr_binary.specs.Wire.{item_in, MayAllStand, ReadsBack, Written, wire, written}
 use Rattle.cesr_stream.proofs.Characters.{group_dash, wrap_dash}

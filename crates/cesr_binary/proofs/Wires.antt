@@ -11,14 +11,14 @@ use Rattle.cesr_stream.specs.Texts.{group_text, wrap_text, SpellsItem}
 use Rattle.cesr_stream.specs.Written.{item_text, IsItem, IsWritable, MayStand}
 use Rattle.cesr_stream.proofs.SameItems.{same_item}
 use Rattle.cesr_stream.proofs.WrittenItems.{written_front, spells_itself}
-use Rattle.cesr_binary.specs.BinaryForm.{text_of, binary_of, is_binary}
-use Rattle.cesr_stream.specs.Forms.{IsTurnable}
+use Rattle.cesr_binary.specs.BinaryDomain.{text_of, binary_of, is_binary}
+use Rattle.cesr_stream.specs.Domains.{IsTurnable}
 use Rattle.cesr_binary.specs.Mixed.{in_binary, mixed_front, text_in_either, SpellsEither, StandMixed, none, one}
 use Rattle.cesr_binary.specs.declared.domain.Domain.{Domain}
 use Rattle.cesr_binary.specs.declared.domain.Domain.TheVariants.{Binary, Text}
 use Rattle.cesr_binary.specs.Wire.{item_binary, item_in, IsRead, Written, wire, MayAllStand, ReadsBack}
 use Rattle.cesr_stream.proofs.Characters.{turnable_group, turnable_wrap, group_dash, wrap_dash}
-use Rattle.cesr_binary.proofs.BinaryForms.{text_of-append, text_of-binary_of, length-binary_of, binary_dash}
+use Rattle.cesr_binary.proofs.BinaryDomain.{text_of-append, text_of-binary_of, length-binary_of, binary_dash}
 use Rattle.cesr_binary.proofs.MixedFronts.{stand_more}
 use Rattle.cesr_binary.proofs.SameMixedItems.{same_items}
 use Rattle.std.proofs.lemmas.List.Elements.{All-cons, All-map, All-nil}
@@ -91,7 +91,7 @@ some : (bytes : List ℕ) → slice_index bytes 0 ≡ 123 → 1 ≤ length bytes
 some [] e = cc e
 some (b ∷ bytes) e = omega arith
 
--- each item that may stand there is read from its text, and from its binary form
+-- each item that may stand there is read from its text, and from its bytes in binary
 pub read_text : (limit : ℕ) (begun : Bool) (item : Item) (rest : List ℕ) → IsItem item → IsWritable item → MayStand limit begun item
     → IsRead limit begun (item_text item) rest item
 read_text limit begun (Body bytes) rest valid writable may =

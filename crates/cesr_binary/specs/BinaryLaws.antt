@@ -1,8 +1,8 @@
 -- The bytes of texts one behind the other are those of each.
 use Rattle.std.proofs.Common.{◌≡◌, ℕ, ◌-◌, ◌*◌, ◌/◌, List, [], ◌∷◌, ◌++◌, length, refl, sym, ap, ◌∙◌, arith, append_assoc}
 use Rattle.lists.specs.KeriSpecs.Base64.{digits_in, number_of_text}
-use Rattle.cesr_stream.specs.Forms.{IsTurnable}
-use Rattle.cesr_binary.specs.BinaryForm.{binary_of}
+use Rattle.cesr_stream.specs.Domains.{IsTurnable}
+use Rattle.cesr_binary.specs.BinaryDomain.{binary_of}
 
 pub binary_of-nil : binary_of [] ≡ []
 unfolding binary_of

@@ -8,7 +8,7 @@ use Rattle.cesr_stream.specs.declared.step.Step.TheVariants.{Item as ItemStep, N
 use Rattle.cesr_stream.specs.Parts.{Part, whole, refused, unfinished}
 use Rattle.cesr_stream.specs.Written.{IsWritable}
 use Rattle.cesr_binary.specs.declared.either_reader.EitherReader.{EitherReader}
-use Rattle.cesr_binary.specs.BinaryForm.{in_bytes, is_binary}
+use Rattle.cesr_binary.specs.BinaryDomain.{in_bytes, is_binary}
 use Rattle.cesr_binary.specs.Mixed.{in_binary, mixed_front, text_in_either, SpellsEither}
 
 -- so many bytes are characters: all of them, or whole threes where they are binary

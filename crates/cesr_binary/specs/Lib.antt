@@ -1,4 +1,4 @@
-pub mod BinaryForm
+pub mod BinaryDomain
 pub mod BinaryLaws
 pub mod Mixed
 pub mod Wire

@@ -5,7 +5,7 @@ use Rattle.cesr_stream.specs.Front.{front}
 use Rattle.cesr_stream.specs.Items.{IsEnd, Placed, placed}
 use Rattle.cesr_stream.specs.Parts.{Part, whole, refused, unfinished}
 use Rattle.cesr_stream.specs.Texts.{SpellsItem}
-use Rattle.cesr_binary.specs.BinaryForm.{text_of, in_bytes, is_binary}
+use Rattle.cesr_binary.specs.BinaryDomain.{text_of, in_bytes, is_binary}
 
 -- a part of a text, as one of the bytes
 abbrev pub in_binary : Part → Part

@@ -8,7 +8,7 @@ use Rattle.cesr_stream.specs.Texts.{group_text, wrap_text}
 use Rattle.cesr_stream.specs.Written.{item_text, IsItem, IsWritable, MayStand}
 use Rattle.cesr_binary.specs.declared.domain.Domain.{Domain}
 use Rattle.cesr_binary.specs.declared.domain.Domain.TheVariants.{Binary, Text}
-use Rattle.cesr_binary.specs.BinaryForm.{binary_of}
+use Rattle.cesr_binary.specs.BinaryDomain.{binary_of}
 use Rattle.cesr_binary.specs.Mixed.{mixed_front, MixedItems, SpellsEither, StandMixed}
 
 -- a body as it is, and a group or a wrap in binary

@@ -1,19 +1,19 @@
 //! Characters on a sink, as bytes.
 ghost use Rattle.std.specs.Prelude.{◌≡◌, ◌≤◌, length, take};
-ghost use Rattle.cesr_stream.specs.Forms.{IsTurnable};
-ghost use Rattle.cesr_binary.specs.BinaryForm.{binary_of};
+ghost use Rattle.cesr_stream.specs.Domains.{IsTurnable};
+ghost use Rattle.cesr_binary.specs.BinaryDomain.{binary_of};
 
 use base64::engine::general_purpose::URL_SAFE_NO_PAD;
-use cesr_stream::Form;
+use cesr_stream::DomainWriter;
 use keri_outside::{Failed, Sink};
 
 /// Texts by their bytes: four characters are three bytes.
 pub(crate) struct AsBinary;
 
-impl Form for AsBinary {
+impl DomainWriter for AsBinary {
     ghost use Rattle.cesr_binary.specs.BinaryLaws.{binary_of-append, binary_of-nil};
 
-    ghost form = { binary_of };
+    ghost in_domain = { binary_of };
 
     fn put_text<S: Sink>(text: &[u8], sink: &mut S) -> Result<(), Failed> {
         let mut bytes = [0u8; 99];

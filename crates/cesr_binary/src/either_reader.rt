@@ -1,7 +1,7 @@
 //! Reading the item at the front of bytes, in either domain.
 ghost use Rattle.std.specs.Prelude.{◌≡◌, ◌≤◌, ◌<◌, ◌%◌, ◌^◌, [], OnOk, List, ℕ, length, take, slice_index};
 ghost use Rattle.cesr_stream.specs.Reading.{fresh};
-ghost use Rattle.cesr_binary.specs.BinaryForm.{is_binary, text_of};
+ghost use Rattle.cesr_binary.specs.BinaryDomain.{is_binary, text_of};
 ghost use Rattle.cesr_binary.specs.GivenBytes.{GoesOn, IsGiven, JudgesFront, WhereOpen};
 ghost use Rattle.cesr_binary.specs.GivenBytes.{either_place, turnable};
 

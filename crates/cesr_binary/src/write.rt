@@ -10,7 +10,7 @@ ghost use Rattle.cesr_binary.specs.Wire.{item_binary, item_in, wire, written};
 
 use crate::Domain;
 use crate::as_binary::AsBinary;
-use cesr_stream::{Item, write_in_form, write_item};
+use cesr_stream::{Item, write_in_domain, write_item};
 use keri_outside::{Failed, Sink};
 
 /// Puts an item in the domain, which takes no memory.
@@ -55,5 +55,5 @@ pub fn write_binary<S: Sink>(item: &Item, sink: &mut S) -> Result<(), Failed>
     ensures only { (other : ItemValue) → IsItem item.now → IsItem other
         → SpellsEither (item_binary item.now) other → other ≡ item.now }
 {
-    write_in_form::<AsBinary, S>(item, sink)
+    write_in_domain::<AsBinary, S>(item, sink)
 }

@@ -29,7 +29,7 @@ use Rattle.cesr_stream.specs.declared.group.Group.{Group}
 use Rattle.cesr_stream.specs.declared.group.Group.TheVariants.{Held, Witness, Couples, FirstSeen, Anchor}
 use Rattle.cesr_stream.specs.declared.seen.Seen.{Seen}
 use Rattle.cesr_stream.specs.Texts.{couple_text, seen_text, anchor_text, group_text, wrap_text}
-use Rattle.cesr_stream.specs.Forms.{IsTurnable}
+use Rattle.cesr_stream.specs.Domains.{IsTurnable}
 use Rattle.cesr_stream.proofs.Sizes.{size_big, size_small, length-couple_text, length-seen_text, length-anchor_text, length-counted}
 
 key_characters : (key : Key) → list_all is_character (key_text key) ≡ true

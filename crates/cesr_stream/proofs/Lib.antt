@@ -17,5 +17,5 @@ pub mod Counters
 pub mod Bounds
 pub mod Sizes
 pub mod Characters
-pub mod Forms
+pub mod Domains
 pub mod Wholes

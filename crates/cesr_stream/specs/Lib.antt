@@ -4,7 +4,7 @@ pub mod Stops
 pub mod Judged
 pub mod Groups
 pub mod Texts
-pub mod Forms
+pub mod Domains
 pub mod Begun
 pub mod Items
 pub mod Messages

@@ -1,11 +1,11 @@
-//! Texts on a sink in a form, one behind the other.
+//! Texts on a sink in a domain, one behind the other.
 ghost use Rattle.std.specs.Prelude.{◌≡◌, ◌<◌, ◌≤◌, ◌^◌, ◌+◌, ◌++◌, ◌∷◌, true, List, ℕ, flat_map, length};
 ghost use Rattle.lists.specs.KeriSpecs.Base64.{base64_text, is_character};
 ghost use Rattle.lists.specs.KeriSpecs.Causes.{HasCause};
 ghost use Rattle.lists.specs.KeriSpecs.Told.{Puts};
-ghost use Rattle.cesr_stream.specs.Forms.{IsTurnable};
+ghost use Rattle.cesr_stream.specs.Domains.{IsTurnable};
 
-use crate::Form;
+use crate::DomainWriter;
 use crate::counter::counter;
 use keri_outside::{Failed, Sink};
 
@@ -19,9 +19,9 @@ pub(crate) trait Writable {
         requires { length (text self.now) < 2 ^ 64 }
         ensures { result ≡ length (text self.now) };
 
-    /// Puts the text in a form.
-    fn put<F: Form, S: Sink>(&self, sink: &mut S) -> Result<(), Failed>
-        ensures written { Puts (S.written sink.old) (S.written sink.new) result (F.form (text self.now)) }
+    /// Puts the text in the domain of the writer.
+    fn put<W: DomainWriter, S: Sink>(&self, sink: &mut S) -> Result<(), Failed>
+        ensures written { Puts (S.written sink.old) (S.written sink.new) result (W.in_domain (text self.now)) }
         ensures cause { HasCause (S.faults sink.old) (S.faults sink.new) result };
 }
 
@@ -46,7 +46,7 @@ pub(crate) fn size_counted<E: Writable>(all: &[E]) -> usize
 }
 
 /// Puts a counter with this letter and count, and all the texts behind it.
-pub(crate) fn put_counted<F: Form, E: Writable, S: Sink>(
+pub(crate) fn put_counted<W: DomainWriter, E: Writable, S: Sink>(
     letter: u8,
     count: usize,
     all: &[E],
@@ -55,27 +55,27 @@ pub(crate) fn put_counted<F: Form, E: Writable, S: Sink>(
     requires letter { is_character letter ≡ true }
     requires turnable { (one : E) → IsTurnable (E.text one) }
     ensures written { Puts (S.written sink.old) (S.written sink.new) result
-        (F.form (45 ∷ letter ∷ (base64_text 2 count ++ flat_map E.text all.now))) }
+        (W.in_domain (45 ∷ letter ∷ (base64_text 2 count ++ flat_map E.text all.now))) }
     ensures cause { HasCause (S.faults sink.old) (S.faults sink.new) result }
 {
-    F::put_text(&counter(letter, count), sink)?;
-    put_all::<F, E, S>(all, sink)
+    W::put_text(&counter(letter, count), sink)?;
+    put_all::<W, E, S>(all, sink)
 }
 
 // Puts all the texts.
-fn put_all<F: Form, E: Writable, S: Sink>(all: &[E], sink: &mut S) -> Result<(), Failed>
+fn put_all<W: DomainWriter, E: Writable, S: Sink>(all: &[E], sink: &mut S) -> Result<(), Failed>
     requires { (one : E) → IsTurnable (E.text one) }
-    ensures written { Puts (S.written sink.old) (S.written sink.new) result (F.form (flat_map E.text all.now)) }
+    ensures written { Puts (S.written sink.old) (S.written sink.new) result (W.in_domain (flat_map E.text all.now)) }
     ensures cause { HasCause (S.faults sink.old) (S.faults sink.new) result }
 {
     for one in all {
-        one.put::<F, S>(sink)?;
+        one.put::<W, S>(sink)?;
     }
     Ok(())
 }
 
 /// Puts one text and another.
-pub(crate) fn put_both<F: Form, S: Sink>(
+pub(crate) fn put_both<W: DomainWriter, S: Sink>(
     first: &[u8],
     second: &[u8],
     sink: &mut S,
@@ -84,9 +84,9 @@ pub(crate) fn put_both<F: Form, S: Sink>(
     requires few_behind { length second.now ≤ 132 }
     requires turnable { IsTurnable first.now }
     requires turnable_behind { IsTurnable second.now }
-    ensures written { Puts (S.written sink.old) (S.written sink.new) result (F.form (first.now ++ second.now)) }
+    ensures written { Puts (S.written sink.old) (S.written sink.new) result (W.in_domain (first.now ++ second.now)) }
     ensures cause { HasCause (S.faults sink.old) (S.faults sink.new) result }
 {
-    F::put_text(first, sink)?;
-    F::put_text(second, sink)
+    W::put_text(first, sink)?;
+    W::put_text(second, sink)
 }

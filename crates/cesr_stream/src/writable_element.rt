@@ -1,7 +1,7 @@
 //! Texts of what counters count.
 
 use crate::writable::{Writable, put_both};
-use crate::{AnchorCouple, Couple, Form, Seen};
+use crate::{AnchorCouple, Couple, DomainWriter, Seen};
 use cesr_codes::IndexedSig;
 use keri_outside::{Failed, Sink};
 
@@ -14,10 +14,10 @@ impl Writable for IndexedSig {
         if self.big { 92 } else { 88 }
     }
 
-    fn put<F: Form, S: Sink>(&self, sink: &mut S) -> Result<(), Failed> {
+    fn put<W: DomainWriter, S: Sink>(&self, sink: &mut S) -> Result<(), Failed> {
         let mut text = [0u8; 92];
         let count = self.write(&mut text);
-        F::put_text(&text[..count], sink)
+        W::put_text(&text[..count], sink)
     }
 }
 
@@ -30,12 +30,12 @@ impl Writable for Couple {
         132
     }
 
-    fn put<F: Form, S: Sink>(&self, sink: &mut S) -> Result<(), Failed> {
+    fn put<W: DomainWriter, S: Sink>(&self, sink: &mut S) -> Result<(), Failed> {
         let mut key = [0u8; 44];
         self.key.write(&mut key);
         let mut sig = [0u8; 88];
         self.sig.write(&mut sig);
-        put_both::<F, S>(&key, &sig, sink)
+        put_both::<W, S>(&key, &sig, sink)
     }
 }
 
@@ -48,12 +48,12 @@ impl Writable for Seen {
         60
     }
 
-    fn put<F: Form, S: Sink>(&self, sink: &mut S) -> Result<(), Failed> {
+    fn put<W: DomainWriter, S: Sink>(&self, sink: &mut S) -> Result<(), Failed> {
         let mut number = [0u8; 24];
         self.number.write(&mut number);
         let mut moment = [0u8; 36];
         self.moment.write(&mut moment);
-        put_both::<F, S>(&number, &moment, sink)
+        put_both::<W, S>(&number, &moment, sink)
     }
 }
 
@@ -66,11 +66,11 @@ impl Writable for AnchorCouple {
         68
     }
 
-    fn put<F: Form, S: Sink>(&self, sink: &mut S) -> Result<(), Failed> {
+    fn put<W: DomainWriter, S: Sink>(&self, sink: &mut S) -> Result<(), Failed> {
         let mut number = [0u8; 24];
         self.number.write(&mut number);
         let mut digest = [0u8; 44];
         self.digest.write(&mut digest);
-        put_both::<F, S>(&number, &digest, sink)
+        put_both::<W, S>(&number, &digest, sink)
     }
 }

@@ -2,7 +2,7 @@ use Rattle.std.proofs.Common.{◌∷◌, ◌++◌, flat_map, sym, ap, ◌∙◌,
 use Rattle.lists.specs.KeriSpecs.Base64.{base64_text}
 use Rattle.lists.specs.KeriSpecs.Told.{Puts, after}
 use Rattle.lists.proofs.KeriSpecsLemmas.Putting.{front_stands, puts-behind}
-use Rattle.cesr_stream.specs.Forms.{IsTurnable}
+use Rattle.cesr_stream.specs.Domains.{IsTurnable}
 use Rattle.cesr_stream.proofs.Characters.{turnable_counter}
 use Rattle.cesr_stream.proofs.writable.put_counted.Goals as goal
 
@@ -12,21 +12,21 @@ put_text-requires-clause-turnable g c = subst IsTurnable (sym c.counter.ensures)
 pub returns-in_err-put_text-clause-written : goal.returns-in_err-put_text-clause-written
 returns-in_err-put_text-clause-written g c =
     let told = g.S.Sink.written in
-    let form = g.F.Form.form in
+    let in_domain = g.W.DomainWriter.in_domain in
     let rest = flat_map g.E.Writable.text c.args.all.now in
     let head = 45 ∷ c.args.letter ∷ base64_text 2 c.args.count in
     subst (Puts (told c.args.sink.now) (told c.put_text.new.sink) c.from_residual.result)
-    (ap (λ counter. form counter ++ form rest) c.counter.ensures ∙ sym (g.met.F.Form.of_both head rest (turnable_counter c.args.letter c.args.count c.requires.letter)))
+    (ap (λ counter. in_domain counter ++ in_domain rest) c.counter.ensures ∙ sym (g.met.W.DomainWriter.of_both head rest (turnable_counter c.args.letter c.args.count c.requires.letter)))
     (front_stands c.from_residual.result (told c.args.sink.now) (told c.put_text.new.sink)
-    (form c.counter.result) (form rest) c.from_residual.ensures.0 c.in_err-put_text.ensures.written)
+    (in_domain c.counter.result) (in_domain rest) c.from_residual.ensures.0 c.in_err-put_text.ensures.written)
 
 pub returns-clause-written : goal.returns-clause-written
 returns-clause-written g c =
     let told = g.S.Sink.written in
-    let form = g.F.Form.form in
+    let in_domain = g.W.DomainWriter.in_domain in
     let rest = flat_map g.E.Writable.text c.args.all.now in
     let head = 45 ∷ c.args.letter ∷ base64_text 2 c.args.count in
     subst (Puts (told c.args.sink.now) (told c.put_all.new.sink) c.put_all.result)
-    (sym (g.met.F.Form.of_both head rest (turnable_counter c.args.letter c.args.count c.requires.letter)))
-    (puts-behind c.put_all.result (told c.args.sink.now) (told c.put_all.new.sink) (form head) (told c.put_text.new.sink) (form rest)
-    (c.in_ok-put_text.ensures.written ∙ ap (λ counter. after (told c.args.sink.now) (form counter)) c.counter.ensures) c.put_all.ensures.written)
+    (sym (g.met.W.DomainWriter.of_both head rest (turnable_counter c.args.letter c.args.count c.requires.letter)))
+    (puts-behind c.put_all.result (told c.args.sink.now) (told c.put_all.new.sink) (in_domain head) (told c.put_text.new.sink) (in_domain rest)
+    (c.in_ok-put_text.ensures.written ∙ ap (λ counter. after (told c.args.sink.now) (in_domain counter)) c.counter.ensures) c.put_all.ensures.written)

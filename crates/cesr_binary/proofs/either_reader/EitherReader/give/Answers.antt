@@ -1,5 +1,5 @@
 use Rattle.std.proofs.Common.{◌≡◌, ◌+◌, ◌-◌, ◌*◌, ◌/◌, true, false, refl, length, take, drop, slice_index, arith, sym, ap, ◌∙◌, length-drop, length-take}
-use Rattle.cesr_binary.specs.BinaryForm.{text_of, is_binary}
+use Rattle.cesr_binary.specs.BinaryDomain.{text_of, is_binary}
 use Rattle.cesr_binary.proofs.GivenBytes.{given_length, goes_binary, goes_text}
 use Rattle.cesr_binary.proofs.either_reader.EitherReader.give.Goals as goal
 use Rattle.cesr_binary.proofs.either_reader.EitherReader.give.Goals.{then-begins_binary+in_ok-feed, else-begins_binary+in_ok-feed-2}

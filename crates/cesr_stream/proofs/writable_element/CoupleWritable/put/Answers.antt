@@ -1,5 +1,5 @@
 use Rattle.std.proofs.Common.{sym, subst}
-use Rattle.cesr_stream.specs.Forms.{IsTurnable}
+use Rattle.cesr_stream.specs.Domains.{IsTurnable}
 use Rattle.cesr_stream.proofs.Characters.{turnable_key, turnable_sig}
 use Rattle.cesr_stream.proofs.writable_element.CoupleWritable.put.Goals as goal
 

@@ -1,7 +1,7 @@
 use Rattle.std.proofs.Common.{take, sym, ap, ◌∙◌, subst}
 use Rattle.std.proofs.lemmas.List.{take_at}
 use Rattle.cesr_codes.specs.Indexed.{indexed_text}
-use Rattle.cesr_stream.specs.Forms.{IsTurnable}
+use Rattle.cesr_stream.specs.Domains.{IsTurnable}
 use Rattle.cesr_stream.proofs.Characters.{turnable_indexed}
 use Rattle.cesr_stream.proofs.writable_element.IndexedSigWritable.put.Goals as goal
 

@@ -1,5 +1,5 @@
 use Rattle.std.proofs.Common.{sym, subst}
-use Rattle.cesr_stream.specs.Forms.{IsTurnable}
+use Rattle.cesr_stream.specs.Domains.{IsTurnable}
 use Rattle.cesr_stream.proofs.Characters.{turnable_number, turnable_moment}
 use Rattle.cesr_stream.proofs.writable_element.SeenWritable.put.Goals as goal
 

@@ -6,7 +6,7 @@ use Rattle.std.proofs.lemmas.Bool.Decides.{nat_tests}
 use Rattle.lists.specs.KeriSpecs.Base64.{base64_text, digits_in, digit_of, is_character, number_of_text, whole_number}
 use Rattle.lists.proofs.KeriSpecsLemmas.Digits.{number-digits_in, length-digits_in}
 use Rattle.cesr_codes.proofs.Numbers.{characters-drop, character-digit, character_at, text-number, text_low, length-base64_text}
-use Rattle.cesr_binary.specs.BinaryForm.{text_of, binary_of, is_binary}
+use Rattle.cesr_binary.specs.BinaryDomain.{text_of, binary_of, is_binary}
 
 -- behind whole threes the bytes are turned as they are alone
 pub text_of-append : (x y : List ℕ) (q : ℕ) → length x ≡ 3 * q → text_of (x ++ y) ≡ text_of x ++ text_of y
