@@ -1,4 +1,4 @@
--- All bytes of a mixed stream that were fed, of which those behind the answered items are held.
+-- All bytes of a mixed stream that were fed, of which those behind the answered items are buffered.
 use Rattle.std.proofs.Common.{ℕ, zero, suc, ◌≤◌, ◌<◌, List, [], ◌∷◌, ◌++◌, length, take, drop, refl, sym, ap, ◌∙◌, arith, length-drop, subst}
 use Rattle.std.proofs.lemmas.List.{drop-drop}
 use Rattle.cesr_stream.specs.declared.item.Item.{Item}
@@ -38,7 +38,7 @@ module _ (old new : Reading) (item : Item) (place : ℕ) (a : AnswersItem old ne
       (one a.length_of item stand (ap (mixed_front old.limit old.begun) has.behind ∙ a.is_whole)
       (subst (λ rest. SpellsEither (take a.length_of rest) item) (sym has.behind) a.spelled))
 
--- fewer bytes are held behind an item
+-- fewer bytes are buffered behind an item
 pub fewer_held : (old new : Reading) (item : Item) (place : ℕ) → AnswersItem old new item place → length new.rest < length old.rest
 fewer_held old new item place a =
     let within = a.within in

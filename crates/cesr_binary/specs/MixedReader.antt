@@ -11,7 +11,7 @@ abbrev pub reading_of : Inside → Reading
 reading_of r = record { limit = r.limit; place = r.place; rest = r.bytes.items; begun = r.begun; bad = r.bad; drained = r.drained }
 
 -- A body has at most 65,535 bytes, and a stream fewer than 2^64. The reader of the item at the front has the characters
--- of the first bytes that are held.
+-- of the first bytes that are buffered.
 pub record IsMixedReader (r : Inside) : Type 0 where
   pub standard : r.limit ≤ 65535
   pub short : r.place + length r.bytes.items < 2 ^ 64

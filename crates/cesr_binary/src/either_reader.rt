@@ -71,10 +71,10 @@ impl EitherReader {
         ensures goes_on { WhereOpen result (GoesOn bytes.now self.old self.new) }
         ensures limit { self.new.text.limit ≡ self.old.text.limit }
     {
-        let held = self.text.held();
+        let before = self.text.buffered();
         match self.text.next()? {
             Step::Item(item, _) => {
-                let length = held - self.text.held();
+                let length = before - self.text.buffered();
                 Ok(Step::Item(item, either_place(bytes, length)))
             }
             Step::Bad(bad) => {

@@ -34,7 +34,7 @@ impl Model for MixedReader {
 
 impl MixedReader {
     ghost use Rattle.std.specs.Prelude.{◌≡◌, ◌≢◌, ◌+◌, ◌<◌, ◌^◌, IfOk, OnOk, OnErr, length};
-    ghost use Rattle.cesr_stream.specs.Reading.{HoldsFew, IsDrained, fed_with, fresh};
+    ghost use Rattle.cesr_stream.specs.Reading.{BuffersFew, IsDrained, fed_with, fresh};
     ghost use Rattle.cesr_stream.specs.Parts.{unfinished};
     ghost use Rattle.cesr_binary.specs.MixedAnswers.{Answers, Ends, judged};
 
@@ -75,7 +75,7 @@ impl MixedReader {
         ensures answer { Answers self.old self.new result }
 
         // The greatest item is a group of 4,095 receipts with their keys.
-        ensures few { IfOk result (HoldsFew self.new) }
+        ensures few { IfOk result (BuffersFew self.new) }
     {
         if let Some(bad) = self.bad {
             return Ok(Step::Bad(bad));

@@ -1,4 +1,4 @@
--- All bytes that were fed, of which those behind the answered items are held.
+-- All bytes that were fed, of which those behind the answered items are buffered.
 use Rattle.std.proofs.Common.{◌≡◌, ℕ, ◌+◌, List, [], ◌∷◌, ◌++◌, length, take, drop, refl, sym, ap, ◌∙◌, arith, None, length-append, length-drop, subst}
 use Rattle.std.proofs.lemmas.List.{drop-drop, drop-append-le}
 use Rattle.cesr_stream.specs.declared.item.Item.{Item}
@@ -17,7 +17,7 @@ fed_on reading fed piece has = record {
   behind = drop-append-le reading.place fed piece has.within ∙ ap (λ rest. rest ++ piece) has.behind;
 }
 
--- what is held is what was fed less what was handed out
+-- what is buffered is what was fed less what was handed out
 pub fed_counted : (reading : Reading) (fed : List ℕ) → HasFed reading fed → length reading.rest + reading.place ≡ length fed
 fed_counted reading fed has = let within = has.within in let behind = has.behind in omega (arith, within, ap length behind, length-drop reading.place fed)
 

@@ -77,12 +77,12 @@ Answers old new (Ok NeedMore) = (old.bad ≡ None) × (judged old ≡ unfinished
 Answers old new (Ok (BadStep bad)) = ((old.bad ≡ Some bad) × (new ≡ old)) ⊎ AnswersBad old new bad
 Answers old new (Err e) = new ≡ old
 
--- where more bytes are needed, fewer are held than the greatest item has: a counter of four characters, and 4,095 elements of
+-- where more bytes are needed, fewer are buffered than the greatest item has: a counter of four characters, and 4,095 elements of
 -- 132 each
-abbrev pub HoldsFew : Reading → Step → Type 0
-HoldsFew reading (ItemStep item place) = Unit {0}
-HoldsFew reading NeedMore = length reading.rest < 540544
-HoldsFew reading (BadStep bad) = Unit {0}
+abbrev pub BuffersFew : Reading → Step → Type 0
+BuffersFew reading (ItemStep item place) = Unit {0}
+BuffersFew reading NeedMore = length reading.rest < 540544
+BuffersFew reading (BadStep bad) = Unit {0}
 
 -- no item is there: one was refused, or `next` said so after the last piece, or there was no piece
 abbrev pub IsDrained : Reading → Type 0

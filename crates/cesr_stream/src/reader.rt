@@ -36,7 +36,7 @@ impl Model for Reader {
 
 impl Reader {
     ghost use Rattle.std.specs.Prelude.{◌≡◌, ◌+◌, ◌<◌, ◌^◌, IfOk, OnOk, OnErr, length};
-    ghost use Rattle.cesr_stream.specs.Reading.{Answers, Ends, HoldsFew, IsDrained, fed_with, fresh};
+    ghost use Rattle.cesr_stream.specs.Reading.{Answers, Ends, BuffersFew, IsDrained, fed_with, fresh};
 
     /// A reader of a stream whose bodies are within the limits.
     pub fn new(alloc: Global, limits: Limits) -> Reader
@@ -73,7 +73,7 @@ impl Reader {
         ensures answer { Answers self.old self.new result }
 
         // The greatest item is a group of 4,095 receipts with their keys.
-        ensures few { IfOk result (HoldsFew self.new) }
+        ensures few { IfOk result (BuffersFew self.new) }
     {
         if let Some(bad) = self.bad {
             return Ok(Step::Bad(bad));
@@ -102,7 +102,7 @@ impl Reader {
         }
     }
 
-    /// Forgets what it holds, and begins anew behind a body or before any.
+    /// Forgets what is buffered, and begins anew behind a body or before any.
     pub fn restart(&mut self, begun: bool)
         ensures { self.new ≡ record (fresh self.old.limit) { begun = begun } }
     {
@@ -114,8 +114,8 @@ impl Reader {
         self.drained = true;
     }
 
-    /// How many bytes it holds, which are those that were fed less those of the items that were answered.
-    pub fn held(&self) -> u64
+    /// How many bytes are buffered: those that were fed less those of the items that were answered.
+    pub fn buffered(&self) -> u64
         ensures { result ≡ length self.now.rest }
     {
         self.bytes.len() as u64

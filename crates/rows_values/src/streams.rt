@@ -102,11 +102,11 @@ fn bad_word(text: &mut String, bad: &Bad) -> Result<(), AllocError> {
     write!(text, "{reason:?}@{place}")
 }
 
-// How the stream ends where no further item is whole, and how many bytes are held then.
+// How the stream ends where no further item is whole, and how many bytes are buffered then.
 fn end_word(text: &mut String, reader: &mut Reader) -> Result<(), AllocError>
     requires { IsDrained reader.old }
 {
-    let held = reader.held();
+    let held = reader.buffered();
     match reader.end() {
         Some(bad) => {
             bad_word(text, &bad)?;

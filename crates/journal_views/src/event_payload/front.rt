@@ -63,7 +63,7 @@ fn are_groups(reader: &mut Reader) -> Result<bool, AllocError>
     requires { IsBehindBody reader.old }
     ensures { IfOk result (λ yes. yes ≡ are_groups_alone (length reader.old.rest) reader.old.rest) }
 {
-    while reader.held() > 0 {
+    while reader.buffered() > 0 {
         let step = reader.next()?;
         if !is_group(&step) {
             return Ok(false);

@@ -14,8 +14,8 @@ returns-in-Item-clause-judged c =
     let a = rw c.in-Item.is at c.in_ok-item.ensures.answer in
     let n = a.length_of in
     let within = a.within in
-    let size : c.held-held.result - c.held.result ≡ n = omega
-    (arith, within, c.held-held.ensures, c.held.ensures, ap (λ r. length r.rest) a.moved, length-drop n r.rest) in
+    let size : c.buffered-before.result - c.buffered.result ≡ n = omega
+    (arith, within, c.buffered-before.ensures, c.buffered.ensures, ap (λ r. length r.rest) a.moved, length-drop n r.rest) in
     subst (λ p. (mixed_front r.limit r.begun (take count x) ≡ whole p) × SpellsEither (take p (take count x)) c.in-Item.item ×
     (p ≤ length (take count x)) × IsWritable c.in-Item.item)
     (sym (c.either_place.ensures ∙ ap (either_place x) size))
