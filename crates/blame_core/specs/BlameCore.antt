@@ -1,5 +1,4 @@
 pub mod Blames
-pub mod OwnLists
 pub mod Establishments
 pub mod NamedEntries
 pub mod FirstSignatures

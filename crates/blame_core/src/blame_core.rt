@@ -7,7 +7,6 @@ mod establishments;
 mod first_signatures;
 mod lines;
 mod named_entries;
-mod own_lists;
 mod place;
 mod rivals;
 mod signatures;

@@ -24,6 +24,15 @@ digest_at s n = if nat_lt n s.est_sn then None else slice_get s.since (n - s.est
 abbrev pub changed_list : List Key → Rotation → List Key
 changed_list old e = filter (λ k. not (has_key e.cuts k)) old ++ e.adds
 
+-- the witness list behind an event: an inception's own, what a rotation changes it to, or the same (b, br, ba)
+abbrev pub list_behind : List Key → Event → List Key
+list_behind before (Icp e) = e.list
+list_behind before (Dip e) = e.list
+list_behind before (Rot e) = changed_list before e
+list_behind before (Drt e) = changed_list before e
+list_behind before (Ixn e) = before
+list_behind before (Rct e) = before
+
 -- it is a rot where there is a delegator, or a drt where there is none
 abbrev pub is_other_rotation : State → Event → Bool
 is_other_rotation s (Rot e) = is_some s.delegator

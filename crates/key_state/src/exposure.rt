@@ -4,26 +4,21 @@ ghost use Rattle.std.specs.List.{list_any};
 ghost use Rattle.key_state.specs.Exposure as exposure;
 
 use crate::KeyState;
-use crate::witnesses::changed_list;
+use crate::witnesses::list_behind;
 use cesr_codes::{Digest, IndexedSig, Key};
 use event_body::{Event, Rotation};
-use lists::{Items, copy_items};
+use lists::Items;
 use said_digest::digest_of;
 use std::alloc::{AllocError, Global};
 
 impl KeyState {
     /// The event's own witness list: for a rotation the one that it changes the list to, for an inception the one that
     /// it begins with, and for others the list of the state.
+    #[tactic(auto, using(crate::proofs::Behind::own_list))]
     pub fn list_of(&self, alloc: Global, event: &Event) -> Result<Items<Key>, AllocError>
         ensures { IfOk result (λ list. list ≡ (exposure.own_rules (Some self.now) event.now).witnesses) }
     {
-        match event {
-            Event::Icp(event) | Event::Dip(event) => copy_items(&event.list, alloc),
-            Event::Rot(event) | Event::Drt(event) => {
-                changed_list(alloc, self.list.as_slice(), event)
-            }
-            Event::Ixn(_) | Event::Rct(_) => copy_items(&self.list, alloc),
-        }
+        list_behind(alloc, self.list.as_slice(), event)
     }
 
     /// The places of the commitments that the signatures of a rotation open, rising and each once. Of other events

@@ -15,4 +15,4 @@ pub use first_state::first;
 pub use key_state::KeyState;
 pub use laws::spelled_is_kept;
 pub use state_fault::{Misfit, StateFault};
-pub use witnesses::{changed_count, changed_list, has_key, is_key, left_count};
+pub use witnesses::{changed_count, has_key, is_key, left_count, list_behind};

@@ -5,8 +5,8 @@ ghost use Rattle.key_state.specs.KeyStates as states;
 ghost use Rattle.key_state.specs.Same as same;
 
 use cesr_codes::Key;
-use event_body::Rotation;
-use lists::Items;
+use event_body::{Event, Rotation};
+use lists::{Items, copy_items};
 use std::alloc::{AllocError, Global};
 
 // How many members a witness list may have.
@@ -83,7 +83,11 @@ pub(crate) fn is_bad_change(old: &[Key], event: &Rotation) -> bool
 }
 
 /// The list without the cuts, then the adds.
-pub fn changed_list(alloc: Global, old: &[Key], event: &Rotation) -> Result<Items<Key>, AllocError>
+pub(crate) fn changed_list(
+    alloc: Global,
+    old: &[Key],
+    event: &Rotation,
+) -> Result<Items<Key>, AllocError>
     ensures { IfOk result (λ list. list ≡ states.changed_list old.now event.now) }
 {
     let cuts = event.cuts.as_slice();
@@ -94,4 +98,16 @@ pub fn changed_list(alloc: Global, old: &[Key], event: &Rotation) -> Result<Item
         .collect(alloc)?;
     list.extend_from_slice(event.adds.as_slice())?;
     Ok(Items::from_vec(list))
+}
+
+/// The witness list behind an event, where this one is before it: an inception's own, what a rotation changes it to, or the
+/// same.
+pub fn list_behind(alloc: Global, before: &[Key], event: &Event) -> Result<Items<Key>, AllocError>
+    ensures { IfOk result (λ list. list ≡ states.list_behind before.now event.now) }
+{
+    match event {
+        Event::Icp(event) | Event::Dip(event) => copy_items(&event.list, alloc),
+        Event::Rot(event) | Event::Drt(event) => changed_list(alloc, before, event),
+        Event::Ixn(_) | Event::Rct(_) => Ok(Items::from_vec(Vec::from_slice(alloc, before)?)),
+    }
 }

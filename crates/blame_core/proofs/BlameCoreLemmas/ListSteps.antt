@@ -6,19 +6,18 @@ use Rattle.event_body.specs.declared.event_body.event.Event.{Event}
 use Rattle.event_body.specs.declared.event_body.event.Event.TheVariants.{Icp, Rot, Ixn, Dip, Drt, Rct}
 use Rattle.event_body.specs.EventBody.Events.{prefix_of, is_establishment, is_receipt}
 use Rattle.key_state.specs.Exposure.{own_rules, rules_of}
-use Rattle.key_state.specs.KeyStates.{misfit}
+use Rattle.key_state.specs.KeyStates.{list_behind, misfit}
 use Rattle.key_state.specs.States.{State}
 use Rattle.journal.specs.declared.journal.body.Body.{Body}
 use Rattle.journal.specs.Journal.Logs.{before, is_in, same_body, state, stepped, takes}
 use Rattle.journal.proofs.JournalLemmas.Accepting.{same_body-refl}
 use Rattle.quorum_laws.specs.Backing.{rules_in}
 use Rattle.blame_core.specs.BlameCore.Establishments.{IsFollowedBy}
-use Rattle.blame_core.specs.BlameCore.OwnLists.{list_after}
 use Rattle.blame_core.proofs.BlameLawsLemmas.Journals.{fit_parts}
 
 -- an event that a state takes leaves this list
 pub list_taken : (o : Option State) (e : Event) → is_receipt e ≡ false → takes o e ≡ true
-    → (rules_of (stepped o e)).witnesses ≡ list_after (rules_of o).witnesses e
+    → (rules_of (stepped o e)).witnesses ≡ list_behind (rules_of o).witnesses e
 unfolding misfit
 list_taken None (Icp e) r t = refl
 list_taken None (Dip e) r t = refl
@@ -34,7 +33,7 @@ list_taken (Some s) (Ixn e) r t = rw t refl
 list_taken (Some s) (Rct e) r t = cc
 
 -- which is an establishment event's own
-pub own_after : (o : Option State) (e : Event) → is_establishment e ≡ true → (own_rules o e).witnesses ≡ list_after (rules_of o).witnesses e
+pub own_after : (o : Option State) (e : Event) → is_establishment e ≡ true → (own_rules o e).witnesses ≡ list_behind (rules_of o).witnesses e
 own_after o (Icp e) h = refl
 own_after o (Dip e) h = refl
 own_after o (Rot e) h = refl
@@ -43,7 +42,7 @@ own_after o (Ixn e) h = cc
 own_after o (Rct e) h = cc
 
 -- any other event leaves the list
-pub list_kept : (keys : List Key) (e : Event) → is_establishment e ≡ false → list_after keys e ≡ keys
+pub list_kept : (keys : List Key) (e : Event) → is_establishment e ≡ false → list_behind keys e ≡ keys
 list_kept keys (Icp e) h = cc
 list_kept keys (Dip e) h = cc
 list_kept keys (Rot e) h = cc
@@ -62,7 +61,7 @@ before_out (c ∷ front) later b h =
 
 -- the own list of a log's next establishment event
 pub own_next : (log seen : List Body) (b : Body) → IsFollowedBy log seen b → is_establishment b.event ≡ true
-    → (rules_in log b).witnesses ≡ list_after (rules_of (state seen (prefix_of b.event))).witnesses b.event
+    → (rules_in log b).witnesses ≡ list_behind (rules_of (state seen (prefix_of b.event))).witnesses b.event
 own_next log seen b f sets_keys =
     let fit = fit_parts seen b (f.grown seen f.later b f.parts) in
     let cut : before b log ≡ seen = ap (before b) f.parts ∙ before_out seen f.later b fit.1 in

@@ -11,13 +11,13 @@ use Rattle.cesr_codes.specs.declared.key.Key.{Key}
 use Rattle.cesr_codes.specs.declared.prefix.Prefix.{Prefix}
 use Rattle.event_body.specs.EventBody.Events.{prefix_of, is_establishment}
 use Rattle.key_state.specs.Exposure.{rules_of}
+use Rattle.key_state.specs.KeyStates.{list_behind}
 use Rattle.key_state.specs.Same.{same_prefix}
 use Rattle.key_state.proofs.Same.{same_prefix_is}
 use Rattle.journal.specs.declared.journal.body.Body.{Body}
 use Rattle.journal.specs.Journal.Logs.{state, stepped}
 use Rattle.journal.proofs.JournalLemmas.StateSteps.{state-own, state-other}
-use Rattle.blame_core.specs.BlameCore.Establishments.{HasPlace, IsAt, IsFollowedBy, IsWalked, event_at, list_at, place_cmp, place_of}
-use Rattle.blame_core.specs.BlameCore.OwnLists.{list_after, list_of}
+use Rattle.blame_core.specs.BlameCore.Establishments.{HasPlace, IsAt, IsFollowedBy, IsWalked, event_at, list_at, list_of, place_cmp, place_of}
 use Rattle.blame_core.specs.declared.blame_core.establishments.Establishment.{Establishment}
 use Rattle.blame_core.specs.declared.blame_core.place.Place.{Place}
 use Rattle.blame_core.proofs.BlameCoreLemmas.ListSteps.{list_kept, list_taken, own_next}
@@ -48,7 +48,7 @@ module _ (held log seen : List Body) (b : Body) (next : IsFollowedBy log seen b)
 
   -- what the body leaves of a list of its own identifier
   list_more : (q : Prefix) → same_prefix (prefix_of b.event) q ≡ true
-      → (rules_of (state (seen ++ b ∷ []) q)).witnesses ≡ list_after (rules_of (state seen (prefix_of b.event))).witnesses b.event
+      → (rules_of (state (seen ++ b ∷ []) q)).witnesses ≡ list_behind (rules_of (state seen (prefix_of b.event))).witnesses b.event
   list_more q same =
       let fit = fit_parts seen b (next.grown seen next.later b next.parts) in
       let one : prefix_of b.event ≡ q = same_prefix_is (prefix_of b.event) q same in
@@ -82,13 +82,13 @@ module _ (held log seen : List Body) (b : Body) (next : IsFollowedBy log seen b)
     -- an establishment event has its place, and its own list is its identifier's last
     module _ (sets : is_establishment b.event ≡ true) (ip : IsPrefix (prefix_of b.event)) (new_lists : List (List ℕ × List Key))
         (new_entries : List (Place × Establishment)) (own : List Key) (x : Establishment)
-        (list_is : own ≡ list_after (list_at lists (prefix_of b.event)) b.event)
+        (list_is : own ≡ list_behind (list_at lists (prefix_of b.event)) b.event)
         (put_list : (t : List ℕ) → lookup (is_at (slice_cmp nat_cmp t)) new_lists
         ≡ cond (is_at (slice_cmp nat_cmp (prefix_text (prefix_of b.event))) t) (Some own) (lookup (is_at (slice_cmp nat_cmp t)) lists))
         (put_event : (k : Place) → event_at new_entries k ≡ cond (is_at (place_cmp (place_of b.event)) k) (Some x) (event_at entries k))
         (x_place : x.place ≡ place_of b.event) (x_number : slice_get held x.number ≡ Some b) (x_list : x.witnesses ≡ own) where
-      its_list : own ≡ list_after (rules_of (state seen (prefix_of b.event))).witnesses b.event
-      its_list = list_is ∙ ap (λ keys. list_after keys b.event) (walked.current (prefix_of b.event) ip)
+      its_list : own ≡ list_behind (rules_of (state seen (prefix_of b.event))).witnesses b.event
+      its_list = list_is ∙ ap (λ keys. list_behind keys b.event) (walked.current (prefix_of b.event) ip)
 
       its_place : IsAt held log (place_of b.event) x
       its_place = record {

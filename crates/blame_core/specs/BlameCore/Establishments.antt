@@ -1,5 +1,5 @@
 -- The accepted establishment events by the texts of their prefixes and their numbers.
-use Rattle.std.specs.Prelude.{◌≡◌, ℕ, List, [], ◌∷◌, ◌++◌, Option, Some, OnOk, Result, true, slice_get, Contains}
+use Rattle.std.specs.Prelude.{◌≡◌, ℕ, List, [], ◌∷◌, ◌++◌, Option, Some, None, OnOk, Result, true, slice_get, Contains}
 use Rattle.std.specs.declared.cmp.Ordering.{Ordering}
 use Rattle.std.specs.Ordering.{nat_cmp, ordering_then}
 use Rattle.std.specs.Cmp.Lexicographic.{slice_cmp}
@@ -15,7 +15,6 @@ use Rattle.journal.specs.declared.journal.body.Body.{Body}
 use Rattle.journal.specs.Journal.Grown.{IsGrown}
 use Rattle.journal.specs.Journal.Logs.{state}
 use Rattle.quorum_laws.specs.Backing.{rules_in}
-use Rattle.blame_core.specs.BlameCore.OwnLists.{list_of}
 use Rattle.blame_core.specs.declared.blame_core.establishments.Establishment.{Establishment}
 use Rattle.blame_core.specs.declared.blame_core.place.Place.{Place}
 
@@ -30,6 +29,11 @@ place_cmp k l = ordering_then (slice_cmp nat_cmp k.prefix l.prefix) (nat_cmp k.s
 -- what stands at a place
 abbrev pub event_at : List (Place × Establishment) → Place → Option Establishment
 event_at entries k = lookup (is_at (place_cmp k)) entries
+
+-- the list, or none
+abbrev pub list_of : Option (List Key) → List Key
+list_of None = []
+list_of (Some keys) = keys
 
 -- the list that stands at the text of a prefix
 abbrev pub list_at : List (List ℕ × List Key) → Prefix → List Key

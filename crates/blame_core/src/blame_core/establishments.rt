@@ -1,15 +1,16 @@
 //! The accepted establishment events of a core, by identifier and number.
 ghost use Rattle.std.specs.Prelude.{◌≡◌, Some, IfOk};
+ghost use Rattle.std.specs.Option.{option_copied};
 ghost use Rattle.blame_core.specs.BlameCore.Establishments.{AreEstablishments, WalksOver};
 ghost use Rattle.blame_core.specs.BlameCore.Establishments as establishments;
 ghost use Rattle.cesr_codes.specs.Spelling.{IsPrefix};
 ghost use Rattle.event_body.specs.EventBody.Events as events;
 ghost use Rattle.validator_core.specs.ValidatorCore.View.{accepted_by};
 
-use crate::blame_core::own_lists::own_list;
 use crate::blame_core::place::Place;
 use cesr_codes::{Key, Spelled};
 use event_body::Event;
+use key_state::list_behind;
 use lists::{Items, copy_items};
 use std::alloc::{AllocError, Global};
 use std::collections::BTreeMap;
@@ -59,7 +60,7 @@ fn add_event(
         return Ok(());
     }
     let place = place_of(event);
-    let witnesses = own_list(alloc, lists.get(&place.prefix), event)?;
+    let witnesses = list_behind(alloc, listed(lists.get(&place.prefix)), event)?;
     lists.insert(place.prefix, copy_items(&witnesses, alloc)?)?;
     events.insert(
         place,
@@ -70,6 +71,16 @@ fn add_event(
         },
     )?;
     Ok(())
+}
+
+// The members of the list, where there is one.
+fn listed(list: Option<&Items<Key>>) -> &[Key]
+    ensures { result.now ≡ establishments.list_of (option_copied list.entry) }
+{
+    match list {
+        Some(list) => list.as_slice(),
+        None => &[],
+    }
 }
 
 // The text of the event's prefix, and its number.

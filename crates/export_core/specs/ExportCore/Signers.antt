@@ -1,9 +1,10 @@
 -- Who signs an event, and its witnesses.
-use Rattle.std.specs.Prelude.{[], Option, Some, None}
+use Rattle.std.specs.Prelude.{List, [], Option, Some, None}
+use Rattle.cesr_codes.specs.declared.key.Key.{Key}
 use Rattle.event_body.specs.declared.event_body.event.Event.{Event}
 use Rattle.event_body.specs.declared.event_body.event.Event.TheVariants.{Icp, Rot, Ixn, Dip, Drt, Rct}
 use Rattle.key_state.specs.Exposure.{Rules}
-use Rattle.key_state.specs.KeyStates.{changed_list}
+use Rattle.key_state.specs.KeyStates.{list_behind}
 use Rattle.sith.specs.declared.threshold.Threshold.TheVariants.{Count}
 use Rattle.export_core.specs.declared.export_core.signers.Signers.{Signers}
 
@@ -20,11 +21,15 @@ abbrev pub signers_in : Option Signers → Signers
 signers_in None = record { keys = []; witnesses = [] }
 signers_in (Some s) = s
 
--- those of an event behind others: its own keys and list, or a changed list, or the same (k, b, br, ba)
+-- the keys behind an event: its own, or the same (k)
+abbrev pub keys_behind : List Key → Event → List Key
+keys_behind before (Icp e) = e.keys
+keys_behind before (Dip e) = e.keys
+keys_behind before (Rot e) = e.keys
+keys_behind before (Drt e) = e.keys
+keys_behind before (Ixn e) = before
+keys_behind before (Rct e) = before
+
+-- those of an event behind others
 abbrev pub own_signers : Signers → Event → Signers
-own_signers s (Icp e) = record { keys = e.keys; witnesses = e.list }
-own_signers s (Dip e) = record { keys = e.keys; witnesses = e.list }
-own_signers s (Rot e) = record { keys = e.keys; witnesses = changed_list s.witnesses e }
-own_signers s (Drt e) = record { keys = e.keys; witnesses = changed_list s.witnesses e }
-own_signers s (Ixn e) = s
-own_signers s (Rct e) = s
+own_signers s e = record { keys = keys_behind s.keys e; witnesses = list_behind s.witnesses e }

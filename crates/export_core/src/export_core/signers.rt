@@ -1,13 +1,13 @@
 //! Who signs an event.
 ghost use Rattle.std.specs.Prelude.{◌≡◌, IfOk};
 ghost use Rattle.std.specs.Option.{option_copied};
-ghost use Rattle.export_core.specs.ExportCore.Signers.{own_signers, rules_by, signers_in};
+ghost use Rattle.export_core.specs.ExportCore.Signers.{keys_behind, own_signers, rules_by, signers_in};
 ghost use Rattle.journal.specs.Journal.History as history;
 
 use cesr_codes::Key;
 use event_body::Event;
 use journal::Claim;
-use key_state::{changed_list, has_key};
+use key_state::{has_key, list_behind};
 use lists::{Items, copy_items};
 use std::alloc::{AllocError, Global};
 
@@ -27,19 +27,9 @@ impl Signers {
     ) -> Result<Signers, AllocError>
         ensures { IfOk result (λ own. own ≡ own_signers (signers_in (option_copied before.entry)) event.now) }
     {
-        match event {
-            Event::Icp(event) | Event::Dip(event) => {
-                let keys = copy_items(&event.keys, alloc)?;
-                let witnesses = copy_items(&event.list, alloc)?;
-                Ok(Signers { keys, witnesses })
-            }
-            Event::Rot(event) | Event::Drt(event) => {
-                let keys = copy_items(&event.keys, alloc)?;
-                let witnesses = changed_list(alloc, witnesses_in(before), event)?;
-                Ok(Signers { keys, witnesses })
-            }
-            Event::Ixn(_) | Event::Rct(_) => same(alloc, before),
-        }
+        let keys = keys_behind(alloc, keys_in(before), event)?;
+        let witnesses = list_behind(alloc, witnesses_in(before), event)?;
+        Ok(Signers { keys, witnesses })
     }
 
     /// The key of a claim on the event: that of its index among the keys or the witnesses, or its own where it is a witness.
@@ -64,20 +54,24 @@ impl Signers {
     }
 }
 
-// A copy, or none at all.
-fn same(alloc: Global, before: Option<&Signers>) -> Result<Signers, AllocError>
-    ensures { IfOk result (λ own. own ≡ signers_in (option_copied before.entry)) }
+// The keys behind an event, where these are before it.
+fn keys_behind(alloc: Global, before: &[Key], event: &Event) -> Result<Items<Key>, AllocError>
+    ensures { IfOk result (λ keys. keys ≡ keys_behind before.now event.now) }
+{
+    match event {
+        Event::Icp(event) | Event::Dip(event) => copy_items(&event.keys, alloc),
+        Event::Rot(event) | Event::Drt(event) => copy_items(&event.keys, alloc),
+        Event::Ixn(_) | Event::Rct(_) => Ok(Items::from_vec(Vec::from_slice(alloc, before)?)),
+    }
+}
+
+// The keys, where there are some.
+fn keys_in(before: Option<&Signers>) -> &[Key]
+    ensures { result.now ≡ (signers_in (option_copied before.entry)).keys }
 {
     match before {
-        Some(signers) => {
-            let keys = copy_items(&signers.keys, alloc)?;
-            let witnesses = copy_items(&signers.witnesses, alloc)?;
-            Ok(Signers { keys, witnesses })
-        }
-        None => Ok(Signers {
-            keys: Items::new(alloc),
-            witnesses: Items::new(alloc),
-        }),
+        Some(signers) => signers.keys.as_slice(),
+        None => &[],
     }
 }
 

@@ -4,9 +4,9 @@ use Rattle.std.specs.Cmp.Lexicographic.{slice_cmp}
 use Rattle.std.specs.Map.{lookup}
 use Rattle.std.specs.Ordering.{nat_cmp}
 use Rattle.event_body.specs.EventBody.Events.{is_establishment}
+use Rattle.key_state.specs.KeyStates.{list_behind}
 use Rattle.journal.specs.declared.journal.body.Body.{Body}
-use Rattle.blame_core.specs.BlameCore.Establishments.{IsFollowedBy, IsWalked, event_at, place_cmp}
-use Rattle.blame_core.specs.BlameCore.OwnLists.{list_after, list_of}
+use Rattle.blame_core.specs.BlameCore.Establishments.{IsFollowedBy, IsWalked, event_at, list_of, place_cmp}
 use Rattle.blame_core.specs.declared.blame_core.establishments.Establishment.{Establishment}
 use Rattle.blame_core.proofs.BlameCoreLemmas.Walks.{walk_on, walk_past}
 use Rattle.blame_core.proofs.blame_core.establishments.add_event.Goals as goal
@@ -29,8 +29,8 @@ returns c = λ held log seen b at of next walked.
     subst (λ b. IsWalked held log (seen ++ b ∷ []) c.insert.new.self.entries c.insert-2.new.self.entries) same
     (walk_on held log seen d (subst (IsFollowedBy log seen) (sym same) next) lists entries walked (sym c.is_establishment.ensures ∙ c.if-not-is_establishment.false)
     c.place_of-place.ensures.prefix c.insert.new.self.entries c.insert-2.new.self.entries own x
-    (c.in_ok-copy_items.ensures ∙ c.in_ok-witnesses.ensures
-    ∙ ap (λ o. list_after (list_of o) event) (c.get.ensures.value ∙ ap (λ k. lookup (is_at (slice_cmp nat_cmp k.prefix)) lists) place))
+    (c.in_ok-copy_items.ensures ∙ c.in_ok-witnesses.ensures ∙ ap (λ keys. list_behind keys event) c.listed.ensures
+    ∙ ap (λ o. list_behind (list_of o) event) (c.get.ensures.value ∙ ap (λ k. lookup (is_at (slice_cmp nat_cmp k.prefix)) lists) place))
     (λ t. c.in_ok-insert.ensures.updates.0 t ∙ ap (λ k. cond (is_at (slice_cmp nat_cmp k.prefix) t) (Some own) (lookup (is_at (slice_cmp nat_cmp t)) lists)) place)
     (λ k. c.in_ok-insert-2.ensures.updates.0 k ∙ ap (λ l. cond (is_at (place_cmp l) k) (Some x) (event_at entries k)) place)
     place (at ∙ ap (λ c. Some c) (sym same)) (sym c.in_ok-copy_items.ensures))
