@@ -1,6 +1,5 @@
 //! What holds of the value of each threshold, stated for proofs: a proof learns a number's range where the number is read.
 //! Nothing else is done here.
-ghost use Rattle.std.specs.Prelude.{◌<◌, ◌^◌};
 ghost use Rattle.std.specs.List.{AllByRecursion};
 ghost use Rattle.sith.specs.OwnValues.{HasOwnValue, IsHeldTerm, IsHeldThreshold, IsHeldWeight};
 
@@ -8,10 +7,6 @@ use crate::term::Term;
 use crate::threshold::Threshold;
 use crate::weight::Weight;
 use lists::Items;
-
-fn number(_number: u64)
-    ensures { _number < 2 ^ 64 }
-{}
 
 fn weight(_weight: Weight)
     ensures { IsHeldWeight _weight }
@@ -57,7 +52,9 @@ fn held(threshold: &Threshold)
     ensures { IsHeldThreshold threshold.now }
 {
     match threshold {
-        Threshold::Count(count) => number(*count),
+        Threshold::Count(count) => {
+            let _count = *count;
+        }
         Threshold::Flat(found) => terms(found.as_slice()),
         Threshold::Nested(found) => clauses(found.as_slice()),
     }
