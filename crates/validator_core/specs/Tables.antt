@@ -1,2 +1,11 @@
 pub mod AcceptedLog
-pub mod CoreTables
+pub mod View
+pub mod Names
+pub mod NamedPlaces
+pub mod Hints
+pub mod Rows
+pub mod Raised
+pub mod Inside
+pub mod ClaimEntries
+pub mod EntryClaims
+pub mod RaisedRows

@@ -9,12 +9,12 @@ use Rattle.std.proofs.lemmas.Bool.Decides.{nat_tests}
 use Rattle.std.proofs.lemmas.Option.{slice_get_within}
 use Rattle.cesr_codes.specs.declared.key.Key.{Key}
 use Rattle.cesr_codes.specs.declared.sig.Sig.{Sig}
-use Rattle.validator_core.specs.Tables.CoreTables.Names.{name_of}
-use Rattle.validator_core.specs.Tables.CoreTables.Raised.{claims_at, claims_of}
-use Rattle.validator_core.specs.Tables.CoreTables.View.{number_of}
-use Rattle.validator_core.specs.declared.tables.core_tables.name.Name.{Name}
-use Rattle.validator_core.proofs.TablesLemmas.CoreTablesLemmas.GatheredLists.{flat_map-numbers}
-use Rattle.validator_core.proofs.TablesLemmas.CoreTablesLemmas.ToldClaims.{told_claims}
+use Rattle.validator_core.specs.Tables.Names.{name_of}
+use Rattle.validator_core.specs.Tables.Raised.{claims_at, claims_of}
+use Rattle.validator_core.specs.Tables.View.{number_of}
+use Rattle.validator_core.specs.declared.tables.name.Name.{Name}
+use Rattle.validator_core.proofs.TablesLemmas.GatheredLists.{flat_map-numbers}
+use Rattle.validator_core.proofs.TablesLemmas.ToldClaims.{told_claims}
 use Rattle.event_body.specs.declared.event_body.event.Event.{Event}
 use Rattle.journal.specs.declared.journal.body.Body.{Body}
 use Rattle.journal.specs.declared.journal.claim.Claim.{Claim}

@@ -2,10 +2,10 @@
 use Rattle.std.specs.Prelude.{◌≡◌, ℕ, ◌<◌, List, length, slice_get, Some, Contains}
 use Rattle.std.specs.declared.cmp.Ordering.{Ordering}
 use Rattle.std.specs.declared.cmp.Ord as ord
-use Rattle.validator_core.specs.Tables.CoreTables.Names.{name_of}
-use Rattle.validator_core.specs.Tables.CoreTables.View.{number_of}
-use Rattle.validator_core.specs.declared.tables.core_tables.name.Name.{Name}
-use Rattle.validator_core.specs.contracts.tables.core_tables.name.NameOrd.TheImpl as name_order
+use Rattle.validator_core.specs.Tables.Names.{name_of}
+use Rattle.validator_core.specs.Tables.View.{number_of}
+use Rattle.validator_core.specs.declared.tables.name.Name.{Name}
+use Rattle.validator_core.specs.contracts.tables.name.NameOrd.TheImpl as name_order
 use Rattle.escrow.specs.EventIndex.Keys.{numbers_at}
 use Rattle.escrow.specs.declared.event_index.index.Index.{Index}
 use Rattle.journal.specs.declared.journal.body.Body.{Body}

@@ -1,7 +1,7 @@
 //! The entries of a journal by the names of their bodies.
 ghost use Rattle.std.specs.Prelude.{◌≡◌, IfOk};
 ghost use Rattle.blame_core.specs.BlameCore.NamedEntries.{HasNamed};
-ghost use Rattle.validator_core.specs.Tables.CoreTables.View as tables;
+ghost use Rattle.validator_core.specs.Tables.View as tables;
 
 use escrow::Index;
 use journal::Entry;

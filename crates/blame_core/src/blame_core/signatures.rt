@@ -3,7 +3,7 @@ ghost use Rattle.std.specs.Prelude.{◌≡◌, ◌++◌, Some, flat_map, map, op
 ghost use Rattle.blame_core.specs.BlameCore.NamedEntries.{HasNamed};
 ghost use Rattle.blame_core.specs.BlameCore.Signatures.{AreSignatures, came_at, came_with, good_at, good_in, is_body};
 ghost use Rattle.blame_core.specs.BlameCore.Signatures.{is_receipt_of, signature_by, stands_on};
-ghost use Rattle.validator_core.specs.Tables.CoreTables.View.{body_of};
+ghost use Rattle.validator_core.specs.Tables.View.{body_of};
 ghost use Rattle.journal.specs.Journal.History as history;
 ghost use Rattle.journal.specs.Journal.Journals.{whole};
 ghost use Rattle.journal.specs.declared.journal.body.Body.{Body};

@@ -15,7 +15,7 @@ use Rattle.journal.proofs.JournalLemmas.Accepting.{same_body-refl}
 use Rattle.journal.proofs.JournalLemmas.Different.{Differ}
 use Rattle.journal.proofs.JournalLemmas.Places.{others_differ, some_at}
 use Rattle.claim_table.specs.CoreLaws.Waking.{is_waiting}
-use Rattle.validator_core.specs.Tables.CoreTables.View.{View, body_of, log_of}
+use Rattle.validator_core.specs.Tables.View.{View, body_of, log_of}
 use Rattle.validator_core.specs.Acceptance.Standing.{IsStanding}
 use Rattle.validator_core.proofs.AcceptanceLemmas.NewBody.{low_at}
 

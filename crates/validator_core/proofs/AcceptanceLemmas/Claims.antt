@@ -12,9 +12,9 @@ use Rattle.journal.specs.Journal.History.{claims_on}
 use Rattle.journal.specs.EventRules.Parts.{Part, parts_by, supports}
 use Rattle.journal.proofs.EventRulesLemmas.Supported.{claims_are}
 use Rattle.claim_table.specs.ClaimTable.Rows.{has_yes_by}
-use Rattle.validator_core.specs.Tables.CoreTables.Names.{name_of}
-use Rattle.validator_core.specs.Tables.CoreTables.View.{View, log_of}
-use Rattle.validator_core.proofs.TablesLemmas.CoreTablesLemmas.ToldClaims.{told_claims}
+use Rattle.validator_core.specs.Tables.Names.{name_of}
+use Rattle.validator_core.specs.Tables.View.{View, log_of}
+use Rattle.validator_core.proofs.TablesLemmas.ToldClaims.{told_claims}
 use Rattle.validator_core.specs.Acceptance.Standing.{IsStanding, told_of}
 use Rattle.validator_core.specs.Acceptance.Entries.{claims_of, claims_there, says_in}
 use Rattle.validator_core.proofs.AcceptanceLemmas.Verdicts.{backed_is, said_is}

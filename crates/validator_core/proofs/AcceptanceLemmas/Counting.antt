@@ -19,7 +19,7 @@ use Rattle.claim_table.proofs.CoreLawsLemmas.Enough.{enough}
 use Rattle.claim_table.proofs.CoreLawsLemmas.Sound.{sound}
 use Rattle.validator_core.specs.Tables.AcceptedLog.Cuts.{cut}
 use Rattle.claim_table.proofs.CoreLawsLemmas.Supported.{supported}
-use Rattle.validator_core.specs.Tables.CoreTables.View.{View, log_of}
+use Rattle.validator_core.specs.Tables.View.{View, log_of}
 use Rattle.validator_core.specs.Acceptance.Footing.{IsFooting}
 use Rattle.validator_core.specs.Acceptance.Parts.{has_in, table_part}
 use Rattle.validator_core.specs.Acceptance.Standing.{IsStanding, told_of}

@@ -15,7 +15,7 @@ use Rattle.journal.specs.Journal.Journals.{told_by, whole}
 use Rattle.journal.proofs.JournalLemmas.Locality.{bytes_differ}
 use Rattle.journal.proofs.JournalLemmas.Places.{slice_get_front, some_at}
 use Rattle.claim_table.specs.CoreLaws.ClaimRows.{triple_on}
-use Rattle.validator_core.specs.Tables.CoreTables.View.{number_of}
+use Rattle.validator_core.specs.Tables.View.{number_of}
 
 -- an entry of a body that is held tells the same when more bodies are
 whole_front : (held more : List Body) (e : Entry) → number_of e < length held → whole (held ++ more) e ≡ whole held e

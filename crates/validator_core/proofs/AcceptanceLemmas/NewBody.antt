@@ -28,7 +28,7 @@ use Rattle.claim_table.specs.ClaimTable.Rows.{raised_all}
 use Rattle.claim_table.specs.CoreLaws.ClaimRows.{AreFound, AreClaims, HasClaims, found_on, triple_on, verdict_in}
 use Rattle.claim_table.proofs.CoreLawsLemmas.Steps.{has_new, has_raised, has_same}
 use Rattle.claim_table.proofs.CoreLawsLemmas.Told.{verdict_took, verdict_there}
-use Rattle.validator_core.specs.Tables.CoreTables.View.{View, log_of, number_of, with_rows}
+use Rattle.validator_core.specs.Tables.View.{View, log_of, number_of, with_rows}
 use Rattle.validator_core.specs.Acceptance.Standing.{IsHeld, IsStanding, told_of}
 use Rattle.validator_core.specs.Acceptance.Taken.{with_entry}
 use Rattle.validator_core.proofs.AcceptanceLemmas.Taken.{took_off}

@@ -28,8 +28,8 @@ use Rattle.validator_core.specs.Tables.AcceptedLog.Cuts.{IsLog}
 use Rattle.validator_core.specs.Tables.AcceptedLog.Values.{Log}
 use Rattle.claim_table.specs.declared.claim_table.row.Row.{Row}
 use Rattle.claim_table.specs.CoreLaws.ClaimRows.{AreClaims, HasClaims, found_on, verdict_in}
-use Rattle.validator_core.specs.Tables.CoreTables.Hints.{IsEscrow}
-use Rattle.validator_core.specs.Tables.CoreTables.View.{View, log_of, waiter_at, waiter_of, with_log, with_rows}
+use Rattle.validator_core.specs.Tables.Hints.{IsEscrow}
+use Rattle.validator_core.specs.Tables.View.{View, log_of, waiter_at, waiter_of, with_log, with_rows}
 use Rattle.validator_core.specs.Acceptance.Standing.{IsStanding, told_of}
 use Rattle.validator_core.specs.Acceptance.Turned.{turned}
 use Rattle.validator_core.proofs.AcceptanceLemmas.NewBody.{low_at}

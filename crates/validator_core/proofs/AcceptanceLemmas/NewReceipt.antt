@@ -13,7 +13,7 @@ use Rattle.claim_table.specs.CoreLaws.Claimed.{rows_of}
 use Rattle.validator_core.specs.Tables.AcceptedLog.Cuts.{IsLog}
 use Rattle.claim_table.specs.CoreLaws.ClaimRows.{AreClaims, found_on, verdict_in}
 use Rattle.claim_table.proofs.CoreLawsLemmas.Steps.{has_new}
-use Rattle.validator_core.specs.Tables.CoreTables.View.{View, log_of}
+use Rattle.validator_core.specs.Tables.View.{View, log_of}
 use Rattle.validator_core.specs.Acceptance.Standing.{IsHeld, IsStanding, told_of}
 use Rattle.validator_core.proofs.AcceptanceLemmas.NewBody.{chosen_more, differ_push, last_or, length_more, unsaid_outside}
 use Rattle.validator_core.proofs.AcceptanceLemmas.Receipt.{receipt_stands}

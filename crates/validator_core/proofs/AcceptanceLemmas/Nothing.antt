@@ -2,7 +2,7 @@
 use Rattle.validator_core.proofs.TablesLemmas.AcceptedLogLemmas.Behind.{nothing_is_log}
 use Rattle.journal.proofs.JournalLemmas.Premises.{nothing_grown}
 use Rattle.journal.specs.Journal.Journals.{chosen}
-use Rattle.validator_core.specs.Tables.CoreTables.View.{nothing}
+use Rattle.validator_core.specs.Tables.View.{nothing}
 use Rattle.validator_core.specs.Acceptance.Standing.{IsStanding}
 
 pub nothing_stands : IsStanding nothing

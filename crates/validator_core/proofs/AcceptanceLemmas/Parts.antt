@@ -18,7 +18,7 @@ use Rattle.claim_table.proofs.CoreLawsLemmas.Adding.{alike_same, inception_same}
 use Rattle.claim_table.proofs.CoreLawsLemmas.Alike.{own_rules-alike}
 use Rattle.claim_table.proofs.CoreLawsLemmas.Sound.{sound}
 use Rattle.claim_table.proofs.CoreLawsLemmas.Supported.{supported}
-use Rattle.validator_core.specs.Tables.CoreTables.View.{View, log_of}
+use Rattle.validator_core.specs.Tables.View.{View, log_of}
 use Rattle.validator_core.specs.Acceptance.Parts.{has_in, table_part}
 use Rattle.validator_core.specs.Acceptance.Standing.{IsStanding, told_of}
 use Rattle.validator_core.proofs.AcceptanceLemmas.ReadyRows.{first_once, part_is}

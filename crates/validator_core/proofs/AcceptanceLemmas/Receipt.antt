@@ -23,7 +23,7 @@ use Rattle.claim_table.specs.declared.claim_table.row.Row.{Row}
 use Rattle.claim_table.specs.CoreLaws.ClaimRows.{AreClaims, HasClaims, found_on, triple_on, verdict_in}
 use Rattle.claim_table.proofs.CoreLawsLemmas.Steps.{found_push, has_same}
 use Rattle.claim_table.proofs.CoreLawsLemmas.Told.{verdict_took}
-use Rattle.validator_core.specs.Tables.CoreTables.View.{View, log_of, with_rows}
+use Rattle.validator_core.specs.Tables.View.{View, log_of, with_rows}
 use Rattle.validator_core.specs.Acceptance.Standing.{IsStanding, told_of}
 use Rattle.validator_core.specs.Acceptance.Turned.{turned}
 use Rattle.validator_core.proofs.AcceptanceLemmas.Behind.{stands_not}

@@ -10,7 +10,7 @@ use Rattle.claim_table.specs.declared.claim_table.claimed.Claimed.{Claimed}
 use Rattle.claim_table.specs.declared.claim_table.row.Row.{Row}
 use Rattle.claim_table.specs.ClaimTable.Rows.{raised, raised_all}
 use Rattle.claim_table.specs.ClaimTable.Table.{KeepsPending}
-use Rattle.validator_core.specs.Tables.CoreTables.View.{View, IsCut, mark_of, number_of, rewound, with_rows}
+use Rattle.validator_core.specs.Tables.View.{View, IsCut, mark_of, number_of, rewound, with_rows}
 use Rattle.validator_core.specs.Acceptance.Standing.{Extends, IsStanding}
 use Rattle.validator_core.specs.Acceptance.Taken.{with_entry}
 

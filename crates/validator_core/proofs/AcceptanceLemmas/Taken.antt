@@ -19,7 +19,7 @@ use Rattle.claim_table.specs.ClaimTable.Rows.{raised_all}
 use Rattle.claim_table.specs.CoreLaws.ClaimRows.{AreFound, AreClaims, HasClaims, found_on, triple_on, verdict_in}
 use Rattle.claim_table.proofs.CoreLawsLemmas.Steps.{found_push, has_raised, has_same}
 use Rattle.claim_table.proofs.CoreLawsLemmas.Told.{verdict_took}
-use Rattle.validator_core.specs.Tables.CoreTables.View.{View, log_of, number_of, with_rows}
+use Rattle.validator_core.specs.Tables.View.{View, log_of, number_of, with_rows}
 use Rattle.validator_core.specs.Acceptance.Standing.{IsStanding, told_of}
 use Rattle.validator_core.specs.Acceptance.Taken.{found_by, with_entry}
 use Rattle.validator_core.proofs.AcceptanceLemmas.FoundClaims.{found_unnamed}

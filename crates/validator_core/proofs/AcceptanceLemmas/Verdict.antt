@@ -13,7 +13,7 @@ use Rattle.claim_table.specs.ClaimTable.Rows.{heard as rows_heard, is_raised, ve
 use Rattle.claim_table.specs.CoreLaws.ClaimRows.{AreClaims, AreFound, HasClaims, found_on, triple_on, verdict_in}
 use Rattle.claim_table.proofs.CoreLawsLemmas.Steps.{has_heard, has_same}
 use Rattle.claim_table.proofs.CoreLawsLemmas.Told.{verdict_heard, verdict_there}
-use Rattle.validator_core.specs.Tables.CoreTables.View.{View, log_of, with_rows}
+use Rattle.validator_core.specs.Tables.View.{View, log_of, with_rows}
 use Rattle.validator_core.specs.Acceptance.Standing.{IsStanding, told_of}
 use Rattle.validator_core.specs.Acceptance.Taken.{with_entry}
 use Rattle.validator_core.proofs.AcceptanceLemmas.Taken.{held_entry}

@@ -14,8 +14,8 @@ use Rattle.journal.specs.Journal.Seals.{anchored}
 use Rattle.journal.specs.EventRules.Parts.{Part, parts_by, supports}
 use Rattle.claim_table.proofs.CoreLawsLemmas.Sound.{sound}
 use Rattle.claim_table.specs.ClaimTable.Rows.{has_yes_by}
-use Rattle.validator_core.specs.Tables.CoreTables.Names.{name_of}
-use Rattle.validator_core.specs.Tables.CoreTables.View.{View, log_of}
+use Rattle.validator_core.specs.Tables.Names.{name_of}
+use Rattle.validator_core.specs.Tables.View.{View, log_of}
 use Rattle.validator_core.specs.Acceptance.Parts.{has_in}
 use Rattle.validator_core.specs.Acceptance.Standing.{IsStanding, told_of}
 use Rattle.validator_core.specs.Acceptance.Current.{IsOnCurrent}

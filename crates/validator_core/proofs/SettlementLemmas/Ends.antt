@@ -16,7 +16,7 @@ use Rattle.journal.proofs.JournalLemmas.Places.{any_at}
 use Rattle.journal.proofs.JournalLemmas.Settling.{count-falls, ends_in, find-true, outside}
 use Rattle.claim_table.proofs.CoreLawsLemmas.Entries.{ready_waits}
 use Rattle.claim_table.proofs.CoreLawsLemmas.Members.{find_some}
-use Rattle.validator_core.specs.Tables.CoreTables.View.{View, log_of}
+use Rattle.validator_core.specs.Tables.View.{View, log_of}
 use Rattle.validator_core.specs.Acceptance.Settled.{IsSettled, KeepsTold, counted_on}
 use Rattle.validator_core.specs.Acceptance.Standing.{Extends, IsStanding, told_of}
 use Rattle.validator_core.proofs.AcceptanceLemmas.Rewound.{extends_then}

@@ -7,10 +7,10 @@ use Rattle.validator_core.proofs.AcceptanceLemmas.NewBody.{log_body, standing_ne
 use Rattle.validator_core.specs.Acceptance.Taken.{found_by, with_entry}
 use Rattle.validator_core.proofs.AcceptanceLemmas.Taken.{standing_again, took_on}
 use Rattle.claim_table.specs.CoreLaws.ClaimRows.{AreFound, found_on}
-use Rattle.validator_core.specs.declared.tables.core_tables.name.Name.{Name}
-use Rattle.validator_core.specs.Tables.CoreTables.Names.{name_of}
-use Rattle.validator_core.specs.Tables.CoreTables.Raised.{claims_at}
-use Rattle.validator_core.specs.Tables.CoreTables.View.{View, log_of}
+use Rattle.validator_core.specs.declared.tables.name.Name.{Name}
+use Rattle.validator_core.specs.Tables.Names.{name_of}
+use Rattle.validator_core.specs.Tables.Raised.{claims_at}
+use Rattle.validator_core.specs.Tables.View.{View, log_of}
 use Rattle.event_body.specs.declared.event_body.event.Event.{Event}
 use Rattle.event_body.specs.EventBody.Events.{is_receipt}
 use Rattle.journal.specs.declared.journal.body.Body.{Body}

@@ -2,14 +2,14 @@
 use Rattle.std.proofs.Common.{◌≡◌, ℕ, ◌<◌, true, false, List, length, Option, Some, None, is_some, Result, Ok, Err, refl, sym, ◌∙◌, ap, subst}
 use Rattle.std.specs.Prelude.{option_map, slice_get, IfErr, IfNone, IfOk, IfSome, OnOk}
 use Rattle.std.proofs.lemmas.Option.{slice_get_within}
-use Rattle.validator_core.specs.Tables.CoreTables.Hints.{IsEscrow}
-use Rattle.validator_core.specs.Tables.CoreTables.View.{waiter_at}
+use Rattle.validator_core.specs.Tables.Hints.{IsEscrow}
+use Rattle.validator_core.specs.Tables.View.{waiter_at}
 use Rattle.escrow.specs.Escrow.Escrow.{Escrow, held as held_by}
 use Rattle.escrow.specs.declared.escrow.waiter.Waiter.{Waiter}
 use Rattle.event_body.specs.declared.event_body.event.Event.{Event}
 use Rattle.journal.specs.declared.journal.body.Body.{Body}
 use Rattle.journal.proofs.JournalLemmas.Places.{some_at}
-use Rattle.validator_core.proofs.TablesLemmas.CoreTablesLemmas.Rows.{not_some, some_is}
+use Rattle.validator_core.proofs.TablesLemmas.Rows.{not_some, some_is}
 
 -- an event that is found under a number is that of the body there
 pub body_there : (held : List Body) (n : ℕ) (e : Event) → Some e ≡ option_map (λ b. b.event) (slice_get held n) → (b : Body) × (slice_get held n ≡ Some b) × (e ≡ b.event)

@@ -11,7 +11,7 @@ use Rattle.std.proofs.lemmas.List.Sums.{sum_by-cons}
 use Rattle.std.proofs.lemmas.Map.Keys.{IsDistinct-from_sorted}
 use Rattle.std.proofs.lemmas.Map.Made.{length-le_from_is_member}
 use Rattle.std.proofs.lemmas.Map.Views.{Contains-from_any, list_any-from_Contains}
-use Rattle.validator_core.proofs.TablesLemmas.CoreTablesLemmas.Rows.{not_some, some_is}
+use Rattle.validator_core.proofs.TablesLemmas.Rows.{not_some, some_is}
 use Rattle.key_state.proofs.Same.{numbers}
 use Rattle.validator_core.proofs.SettlementLemmas.DueNumbers.{behind_in, first_in}
 

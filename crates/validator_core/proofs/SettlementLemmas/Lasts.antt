@@ -2,7 +2,7 @@
 use Rattle.std.proofs.Common.{◌≡◌, ℕ, suc, ◌+◌, Bool, true, List, [], ◌∷◌, ◌++◌, length, Some, None, refl, sym, ◌∙◌, ap, inl, inr, arith, ◌<◌, get_or}
 use Rattle.std.specs.Prelude.{Contains, find, position}
 use Rattle.std.proofs.lemmas.Option.{slice_get-get_or}
-use Rattle.validator_core.proofs.TablesLemmas.CoreTablesLemmas.Rows.{contained, some_is}
+use Rattle.validator_core.proofs.TablesLemmas.Rows.{contained, some_is}
 use Rattle.std.specs.List.{position_from}
 use Rattle.std.proofs.lemmas.Bool.{cases_Bool}
 use Rattle.std.proofs.lemmas.Iterator.Adapters.{position_from-zero}

@@ -11,8 +11,8 @@ use Rattle.validator_core.specs.Acceptance.Taken.{with_entry}
 use Rattle.claim_table.specs.declared.claim_table.claimed.Claimed.{Claimed}
 use Rattle.claim_table.specs.declared.claim_table.row.Row.{Row}
 use Rattle.claim_table.specs.ClaimTable.Rows.{raised_all}
-use Rattle.validator_core.specs.Tables.CoreTables.Raised.{RaisesSome}
-use Rattle.validator_core.specs.Tables.CoreTables.View.{View, with_rows}
+use Rattle.validator_core.specs.Tables.Raised.{RaisesSome}
+use Rattle.validator_core.specs.Tables.View.{View, with_rows}
 use Rattle.journal.specs.declared.journal.body.Body.{Body}
 use Rattle.journal.specs.declared.journal.claim.Claim.{Claim}
 use Rattle.journal.specs.declared.journal.entry.Entry.{Entry}

@@ -13,11 +13,11 @@ use Rattle.claim_table.proofs.CoreLawsLemmas.Members.{member_any}
 use Rattle.claim_table.specs.CoreLaws.ClaimRows.{AreFound, verdict_in}
 use Rattle.claim_table.proofs.CoreLawsLemmas.Steps.{found_push, has_same}
 use Rattle.claim_table.specs.declared.claim_table.row.Row.{Row}
-use Rattle.validator_core.specs.declared.tables.core_tables.name.Name.{Name}
-use Rattle.validator_core.specs.Tables.CoreTables.Names.{name_of}
-use Rattle.validator_core.specs.Tables.CoreTables.Raised.{claims_at, claims_of}
-use Rattle.validator_core.specs.Tables.CoreTables.View.{View, log_of, with_rows}
-use Rattle.validator_core.proofs.TablesLemmas.CoreTablesLemmas.NamedRows.{same_name_is}
+use Rattle.validator_core.specs.declared.tables.name.Name.{Name}
+use Rattle.validator_core.specs.Tables.Names.{name_of}
+use Rattle.validator_core.specs.Tables.Raised.{claims_at, claims_of}
+use Rattle.validator_core.specs.Tables.View.{View, log_of, with_rows}
+use Rattle.validator_core.proofs.TablesLemmas.NamedRows.{same_name_is}
 use Rattle.event_body.specs.EventBody.Events.{is_receipt, prefix_of, said_of, sn_of}
 use Rattle.journal.specs.EventRules.Parts.{Row as Found}
 use Rattle.journal.specs.declared.journal.body.Body.{Body}

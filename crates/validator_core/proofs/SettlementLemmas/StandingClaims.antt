@@ -10,8 +10,8 @@ use Rattle.validator_core.specs.Tables.AcceptedLog.Cuts.{cut}
 use Rattle.claim_table.specs.CoreLaws.Claimed.{rows_of}
 use Rattle.claim_table.specs.CoreLaws.ClaimRows.{AreFound}
 use Rattle.claim_table.specs.declared.claim_table.claimed.Claimed.{Claimed}
-use Rattle.validator_core.specs.Tables.CoreTables.Raised.{Raises, state_there}
-use Rattle.validator_core.specs.Tables.CoreTables.View.{View, body_of, log_of}
+use Rattle.validator_core.specs.Tables.Raised.{Raises, state_there}
+use Rattle.validator_core.specs.Tables.View.{View, body_of, log_of}
 use Rattle.event_body.specs.declared.event_body.event.Event.{Event}
 use Rattle.journal.specs.declared.journal.body.Body.{Body}
 use Rattle.journal.specs.declared.journal.claim.Claim.{Claim}

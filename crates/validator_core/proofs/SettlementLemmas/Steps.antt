@@ -15,7 +15,7 @@ use Rattle.validator_core.specs.Tables.AcceptedLog.Cuts.{GrowsByInteraction, Gro
 use Rattle.validator_core.specs.Tables.AcceptedLog.Values.{Log, established, gone_onto, interacted, last_of, last_place, state_there, Extends as LogExtends}
 use Rattle.validator_core.proofs.TablesLemmas.AcceptedLogLemmas.StateSteps.{GoesOnto, fits_parts, goes_onto}
 use Rattle.claim_table.specs.declared.claim_table.row.Row.{Row}
-use Rattle.validator_core.specs.Tables.CoreTables.View.{View, log_of, with_log, with_rows}
+use Rattle.validator_core.specs.Tables.View.{View, log_of, with_log, with_rows}
 use Rattle.validator_core.specs.Acceptance.Standing.{Extends, IsStanding}
 use Rattle.validator_core.proofs.AcceptanceLemmas.NewEvent.{log_then}
 use Rattle.validator_core.specs.Settlement.Entries.{IsLogged}

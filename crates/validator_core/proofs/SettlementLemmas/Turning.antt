@@ -11,7 +11,7 @@ use Rattle.journal.specs.Journal.Questions.{state_before}
 use Rattle.journal.specs.EventRules.Parts.{Row as Found}
 use Rattle.claim_table.specs.ClaimTable.Rows.{raised_all}
 use Rattle.claim_table.specs.CoreLaws.ClaimRows.{AreFound, HasClaims, found_on, verdict_in}
-use Rattle.validator_core.specs.Tables.CoreTables.View.{View, log_of, with_log, with_rows}
+use Rattle.validator_core.specs.Tables.View.{View, log_of, with_log, with_rows}
 use Rattle.validator_core.specs.Acceptance.Standing.{Accepts, IsStanding, told_of}
 use Rattle.validator_core.specs.Acceptance.Turned.{turned}
 use Rattle.validator_core.proofs.AcceptanceLemmas.Behind.{stands_not}

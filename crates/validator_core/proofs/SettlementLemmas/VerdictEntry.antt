@@ -5,7 +5,7 @@ use Rattle.validator_core.specs.Acceptance.Taken.{with_entry}
 use Rattle.validator_core.proofs.AcceptanceLemmas.Verdict.{standing_heard}
 use Rattle.claim_table.specs.ClaimTable.Table.{Table}
 use Rattle.claim_table.specs.ClaimTable.Rows.{heard, is_raised, unheard, verdict_of}
-use Rattle.validator_core.specs.Tables.CoreTables.View.{View, with_claims, with_rows}
+use Rattle.validator_core.specs.Tables.View.{View, with_claims, with_rows}
 use Rattle.journal.specs.declared.journal.entry.Entry.TheVariants.{Heard}
 use Rattle.journal.specs.declared.journal.question.Question.{Question}
 use Rattle.journal.proofs.JournalLemmas.Places.{some_at}

@@ -24,8 +24,8 @@ use Rattle.key_state.proofs.Same.{numbers}
 use Rattle.claim_table.specs.CoreLaws.Waking.{holds_first_seal, is_anchored, is_there, is_waiting, may_wake, seals_first, wakes}
 use Rattle.validator_core.specs.Acceptance.Standing.{IsStanding}
 use Rattle.validator_core.proofs.AcceptanceLemmas.NewEvent.{precedes_some}
-use Rattle.validator_core.specs.Tables.CoreTables.Hints.{IsEscrow}
-use Rattle.validator_core.specs.Tables.CoreTables.View.{View, body_of, log_of, waiter_at, waiter_of}
+use Rattle.validator_core.specs.Tables.Hints.{IsEscrow}
+use Rattle.validator_core.specs.Tables.View.{View, body_of, log_of, waiter_at, waiter_of}
 use Rattle.validator_core.proofs.AcceptanceLemmas.Bodies.{waits_is}
 use Rattle.validator_core.specs.Settlement.Awaited.{IsNextAt, is_awaited, is_awaited_there}
 

@@ -17,7 +17,7 @@ use Rattle.validator_core.specs.Acceptance.Standing.{Accepts, IsHeld, IsStanding
 use Rattle.validator_core.proofs.AcceptanceLemmas.NewBody.{chosen_more}
 use Rattle.validator_core.proofs.AcceptanceLemmas.NewReceipt.{standing_unfound, untold_found}
 use Rattle.validator_core.proofs.AcceptanceLemmas.Nothing.{nothing_stands}
-use Rattle.validator_core.specs.Tables.CoreTables.View.{View, log_of, nothing}
+use Rattle.validator_core.specs.Tables.View.{View, log_of, nothing}
 use Rattle.journal.specs.declared.journal.body.Body.{Body}
 use Rattle.journal.specs.declared.journal.mode.Mode.{Mode}
 use Rattle.journal.specs.declared.journal.resume_fault.ResumeFault.{ResumeFault}

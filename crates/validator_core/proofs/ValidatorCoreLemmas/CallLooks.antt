@@ -6,7 +6,7 @@ use Rattle.validator_core.specs.Acceptance.Standing.{told_of}
 use Rattle.claim_table.specs.CoreLaws.Standing.{HasNoClash}
 use Rattle.claim_table.specs.CoreLaws.ClaimRows.{triple_on}
 use Rattle.claim_table.specs.declared.claim_table.signature.Signature.{Signature}
-use Rattle.validator_core.specs.Tables.CoreTables.View.{View, log_of}
+use Rattle.validator_core.specs.Tables.View.{View, log_of}
 use Rattle.event_body.specs.EventBody.Events.{said_of}
 use Rattle.journal.specs.declared.journal.body.Body.{Body}
 use Rattle.journal.specs.declared.journal.claim.Claim.{Claim}

@@ -16,9 +16,9 @@ use Rattle.key_state.specs.Same.{same_digest, same_prefix}
 use Rattle.validator_core.specs.Acceptance.Standing.{IsStanding}
 use Rattle.claim_table.proofs.CoreLawsLemmas.States.{same_digest_is, same_itself}
 use Rattle.claim_table.specs.CoreLaws.Waking.{is_waiting}
-use Rattle.validator_core.specs.Tables.CoreTables.Hints.{IsEscrow}
-use Rattle.validator_core.specs.Tables.CoreTables.View.{View, log_of, waiter_at, waiter_of}
-use Rattle.validator_core.proofs.TablesLemmas.CoreTablesLemmas.Rows.{not_some, some_is}
+use Rattle.validator_core.specs.Tables.Hints.{IsEscrow}
+use Rattle.validator_core.specs.Tables.View.{View, log_of, waiter_at, waiter_of}
+use Rattle.validator_core.proofs.TablesLemmas.Rows.{not_some, some_is}
 use Rattle.journal.specs.declared.journal.body.Body.{Body}
 use Rattle.journal.specs.Journal.History.{is_receipt_for}
 use Rattle.journal.specs.Journal.Logs.{same_body}

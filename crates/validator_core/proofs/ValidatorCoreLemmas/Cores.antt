@@ -8,7 +8,7 @@ use Rattle.validator_core.proofs.AcceptanceLemmas.Nothing.{nothing_stands}
 use Rattle.claim_table.proofs.CoreLawsLemmas.Entries.{all_from, none_ready}
 use Rattle.claim_table.specs.CoreLaws.ClaimRows.{triple_on}
 use Rattle.claim_table.specs.declared.claim_table.signature.Signature.{Signature}
-use Rattle.validator_core.specs.Tables.CoreTables.View.{View, log_of, number_of, with_claims, nothing}
+use Rattle.validator_core.specs.Tables.View.{View, log_of, number_of, with_claims, nothing}
 use Rattle.journal.specs.declared.journal.body.Body.{Body}
 use Rattle.journal.specs.declared.journal.claim.Claim.{Claim}
 use Rattle.journal.specs.declared.journal.entry.Entry.{Entry}

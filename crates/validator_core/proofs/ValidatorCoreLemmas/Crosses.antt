@@ -4,7 +4,7 @@ use denote.Param.SendFields.{declared_send}
 use Rattle.std.specs.contracts.alloc.Global as global
 use Rattle.keri_outside.proofs.limits.Limits.TheSendSync as limits
 use Rattle.journal.proofs.journal.mode.Mode.TheSendSync as mode
-use Rattle.validator_core.proofs.TablesLemmas.CoreTablesLemmas.Crosses.{tables_send}
+use Rattle.validator_core.proofs.TablesLemmas.Crosses.{tables_send}
 use Rattle.validator_core.proofs.validator_core.tally.Tally.TheSendSync as tally
 use Rattle.validator_core.specs.contracts.validator_core.validator.Core as row
 use Rattle.validator_core.specs.contracts.validator_core.validator.Core.TheInside as inside

@@ -11,7 +11,7 @@ use Rattle.claim_table.specs.declared.claim_table.row.Row.{Row}
 use Rattle.claim_table.specs.declared.claim_table.signature.Signature.{Signature}
 use Rattle.claim_table.specs.ClaimTable.Rows.{heard, is_of, is_raised, same_signature, signature_of, unheard, with_verdict}
 use Rattle.claim_table.specs.ClaimTable.Table.{KeepsPending}
-use Rattle.validator_core.specs.Tables.CoreTables.View.{View, IsCut, mark_of, number_of, rewound, with_claims}
+use Rattle.validator_core.specs.Tables.View.{View, IsCut, mark_of, number_of, rewound, with_claims}
 
 -- TOOK: with no verdict pending
 module _ (old new : View) (stands : IsStanding old) (idle : old.claims.pending ≡ None) (left : old.settled ≡ length old.log.numbers) (more : Extends old new) where

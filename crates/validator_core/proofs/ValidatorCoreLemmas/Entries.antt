@@ -10,7 +10,7 @@ use Rattle.claim_table.specs.CoreLaws.Entries.{HaveNamed}
 use Rattle.claim_table.proofs.CoreLawsLemmas.Entries.{all_from, entry_settles}
 use Rattle.cesr_codes.specs.declared.key.Key.{Key}
 use Rattle.cesr_codes.specs.declared.sig.Sig.{Sig}
-use Rattle.validator_core.specs.Tables.CoreTables.View.{View, log_of}
+use Rattle.validator_core.specs.Tables.View.{View, log_of}
 use Rattle.journal.specs.declared.journal.body.Body.{Body}
 use Rattle.journal.specs.declared.journal.claim.Claim.{Claim}
 use Rattle.journal.specs.declared.journal.entry.Entry.{Entry}

@@ -21,10 +21,10 @@ use Rattle.journal.specs.Journal.Readiness.{good_sigs, held_sig, yes_to}
 use Rattle.journal.specs.EventRules.Claims.{is_good, is_yes}
 use Rattle.journal.specs.EventRules.Parts.{says_of}
 use Rattle.validator_core.specs.Tables.AcceptedLog.Cuts.{cut}
-use Rattle.validator_core.specs.Tables.CoreTables.Names.{name_of}
-use Rattle.validator_core.specs.Tables.CoreTables.Raised.{claims_at}
-use Rattle.validator_core.specs.Tables.CoreTables.View.{View, log_of}
-use Rattle.validator_core.proofs.TablesLemmas.CoreTablesLemmas.ToldClaims.{told_claims}
+use Rattle.validator_core.specs.Tables.Names.{name_of}
+use Rattle.validator_core.specs.Tables.Raised.{claims_at}
+use Rattle.validator_core.specs.Tables.View.{View, log_of}
+use Rattle.validator_core.proofs.TablesLemmas.ToldClaims.{told_claims}
 use Rattle.validator_core.specs.Acceptance.Footing.{IsFooting}
 use Rattle.validator_core.specs.Acceptance.Standing.{IsStanding, told_of}
 use Rattle.validator_core.specs.declared.acceptance.footing.Footing.TheVariants.{Inception, Behind}

@@ -12,7 +12,7 @@ use Rattle.claim_table.specs.CoreLaws.Looks.{IsClear, appended_in, is_counted}
 use Rattle.claim_table.specs.CoreLaws.Standing.{HasNoClash}
 use Rattle.claim_table.specs.CoreLaws.Waking.{holds_first_seal, is_anchored, is_there, is_waiting, may_wake, seals_first, wakes}
 use Rattle.cesr_codes.specs.declared.prefix.Prefix.{Prefix}
-use Rattle.validator_core.specs.Tables.CoreTables.View.{View, log_of}
+use Rattle.validator_core.specs.Tables.View.{View, log_of}
 use Rattle.event_body.specs.EventBody.Events.{prefix_of, said_of, is_delegated}
 use Rattle.journal.specs.declared.journal.body.Body.{Body}
 use Rattle.journal.specs.declared.journal.mode.Mode.{Mode}

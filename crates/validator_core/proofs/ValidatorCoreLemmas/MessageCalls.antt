@@ -3,7 +3,7 @@ use Rattle.std.proofs.Common.{◌≡◌, ℕ, List, Result, Ok, Err, refl, ◌�
 use Rattle.std.specs.Prelude.{IfOk}
 use Rattle.cesr_stream.specs.declared.message.Message.{Message}
 use Rattle.event_body.specs.declared.event_body.event.Event.{Event}
-use Rattle.validator_core.specs.Tables.CoreTables.View.{body_of}
+use Rattle.validator_core.specs.Tables.View.{body_of}
 use Rattle.journal.specs.declared.journal.reply.Reply.{Reply}
 use Rattle.journal.specs.declared.journal.reply.Reply.TheVariants.{Taken, Again, Refused, LimitReached}
 use Rattle.journal.specs.Journal.CoreCalls.{told_after}

@@ -8,7 +8,7 @@ use Rattle.claim_table.proofs.CoreLawsLemmas.Told.{verdict_there}
 use Rattle.claim_table.specs.CoreLaws.ClaimRows.{triple_on}
 use Rattle.claim_table.specs.declared.claim_table.signature.Signature.{Signature}
 use Rattle.claim_table.specs.ClaimTable.Rows.{is_of, is_raised, verdict_of}
-use Rattle.validator_core.specs.Tables.CoreTables.View.{View, log_of}
+use Rattle.validator_core.specs.Tables.View.{View, log_of}
 use Rattle.journal.specs.declared.journal.body.Body.{Body}
 use Rattle.journal.specs.declared.journal.mode.Mode.{Mode}
 use Rattle.journal.specs.declared.journal.question.Noted.TheVariants.{New, Known, Unasked}

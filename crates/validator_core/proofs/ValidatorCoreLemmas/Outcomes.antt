@@ -2,7 +2,7 @@
 use Rattle.std.proofs.Common.{◌≡◌, ℕ, List, length, Result, Ok, Err, sym}
 use Rattle.std.specs.Prelude.{OnOk}
 use Rattle.std.proofs.lemmas.Result.{IfOk-at_ok}
-use Rattle.validator_core.specs.Tables.CoreTables.View.{View}
+use Rattle.validator_core.specs.Tables.View.{View}
 use Rattle.journal.specs.declared.journal.body.Body.{Body}
 use Rattle.journal.specs.declared.journal.entry.Entry.{Entry}
 use Rattle.journal.specs.declared.journal.mode.Mode.{Mode}

@@ -7,7 +7,7 @@ use Rattle.claim_table.proofs.CoreLawsLemmas.Open.{open_rows_are}
 use Rattle.claim_table.proofs.CoreLawsLemmas.RaisedQuestions.{open_on, questions_are}
 use Rattle.claim_table.specs.declared.claim_table.row.Row.{Row}
 use Rattle.claim_table.specs.ClaimTable.Rows.{open_rows}
-use Rattle.validator_core.specs.Tables.CoreTables.View.{View, log_of}
+use Rattle.validator_core.specs.Tables.View.{View, log_of}
 use Rattle.journal.specs.declared.journal.body.Body.{Body}
 use Rattle.journal.specs.declared.journal.mode.Mode.{Mode}
 use Rattle.journal.specs.declared.journal.question.Question.{Question}

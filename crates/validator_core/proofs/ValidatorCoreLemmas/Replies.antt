@@ -5,7 +5,7 @@ use Rattle.std.specs.List.{cons_option, list_all, list_any}
 use Rattle.std.proofs.lemmas.Bool.{cases_Bool}
 use Rattle.key_state.proofs.Same.{numbers, number_itself}
 use Rattle.keri_outside.specs.declared.limits.Limits.{Limits}
-use Rattle.validator_core.specs.Tables.CoreTables.View.{came_by, came_with as came_with_number}
+use Rattle.validator_core.specs.Tables.View.{came_by, came_with as came_with_number}
 use Rattle.journal.specs.declared.journal.body.Body.{Body}
 use Rattle.journal.specs.declared.journal.claim.Claim.{Claim}
 use Rattle.journal.specs.declared.journal.entry.Entry.{Entry}

@@ -18,7 +18,7 @@ use Rattle.event_body.specs.declared.event_body.event.Event.{Event}
 use Rattle.event_body.specs.EventBody.Events.{prefix_of, sn_of}
 use Rattle.keri_outside.specs.declared.limits.Limits.{Limits}
 use Rattle.validator_core.specs.Acceptance.Standing.{IsHeld, IsStanding, told_of}
-use Rattle.validator_core.specs.Tables.CoreTables.View.{View, log_of}
+use Rattle.validator_core.specs.Tables.View.{View, log_of}
 use Rattle.journal.specs.declared.journal.body.Body.{Body}
 use Rattle.journal.specs.declared.journal.conflict.Conflict.{Conflict}
 use Rattle.journal.specs.declared.journal.mode.Mode.{Mode}

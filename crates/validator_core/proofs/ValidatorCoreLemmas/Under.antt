@@ -12,8 +12,8 @@ use Rattle.journal.specs.Journal.Readiness.{good_sigs, held_sig, yes_to}
 use Rattle.claim_table.proofs.CoreLawsLemmas.Adding.{opens-alike}
 use Rattle.claim_table.proofs.CoreLawsLemmas.Alike.{own_rules-alike}
 use Rattle.validator_core.specs.Tables.AcceptedLog.Cuts.{AreBothAlike}
-use Rattle.validator_core.proofs.TablesLemmas.CoreTablesLemmas.NamedRows.{body_there, chosen_at}
-use Rattle.validator_core.specs.Tables.CoreTables.View.{View, log_of}
+use Rattle.validator_core.proofs.TablesLemmas.NamedRows.{body_there, chosen_at}
+use Rattle.validator_core.specs.Tables.View.{View, log_of}
 use Rattle.validator_core.specs.Acceptance.Standing.{IsStanding}
 
 -- RULES: alike states ask the same, and none asks what none does

@@ -2,7 +2,7 @@
 use Rattle.std.proofs.Common.{◌≡◌, ℕ, Option, Some, None, refl, ◌∙◌, ap}
 use Rattle.std.specs.Prelude.{slice_get}
 use Rattle.validator_core.specs.Acceptance.Standing.{told_of}
-use Rattle.validator_core.specs.Tables.CoreTables.View.{View, log_of}
+use Rattle.validator_core.specs.Tables.View.{View, log_of}
 use Rattle.journal.specs.declared.journal.body.Body.{Body}
 use Rattle.journal.specs.declared.journal.mode.Mode.{Mode}
 use Rattle.journal.specs.declared.journal.why.Why.{Why}

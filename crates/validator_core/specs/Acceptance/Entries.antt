@@ -9,8 +9,8 @@ use Rattle.key_state.specs.Exposure.{own_rules}
 use Rattle.key_state.specs.States.{State}
 use Rattle.claim_table.specs.declared.claim_table.row.Row.{Row}
 use Rattle.claim_table.specs.ClaimTable.Rows.{is_yes, verdict_of}
-use Rattle.validator_core.specs.Tables.CoreTables.Raised.{claims_at}
-use Rattle.validator_core.specs.Tables.CoreTables.View.{View}
+use Rattle.validator_core.specs.Tables.Raised.{claims_at}
+use Rattle.validator_core.specs.Tables.View.{View}
 use Rattle.journal.specs.declared.journal.body.Body.{Body}
 use Rattle.journal.specs.declared.journal.claim.Claim.{Claim}
 

@@ -7,7 +7,7 @@ use Rattle.journal.specs.Journal.Readiness.{is_ready}
 use Rattle.claim_table.specs.CoreLaws.Candidates.{Runs}
 use Rattle.claim_table.specs.CoreLaws.Looks.{IsFrugal, looks}
 use Rattle.claim_table.specs.CoreLaws.Waking.{wakes}
-use Rattle.validator_core.specs.Tables.CoreTables.View.{View, log_of}
+use Rattle.validator_core.specs.Tables.View.{View, log_of}
 use Rattle.validator_core.specs.Acceptance.Standing.{IsStanding, told_of}
 
 -- a run over candidates by the rules of what was told

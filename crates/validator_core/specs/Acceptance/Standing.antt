@@ -14,7 +14,7 @@ use Rattle.validator_core.specs.Tables.AcceptedLog.Values.{Extends as LogExtends
 use Rattle.claim_table.specs.CoreLaws.ClaimRows.{AreClaims}
 use Rattle.claim_table.specs.declared.claim_table.signature.Signature.{Signature}
 use Rattle.claim_table.specs.ClaimTable.Rows.{heard, unheard}
-use Rattle.validator_core.specs.Tables.CoreTables.View.{View, log_of, number_of, with_claims}
+use Rattle.validator_core.specs.Tables.View.{View, log_of, number_of, with_claims}
 
 -- what the entries tell
 abbrev pub told_of : View → List Told

@@ -8,7 +8,7 @@ use Rattle.journal.specs.Journal.Logs.{stands}
 use Rattle.journal.specs.Journal.Questions.{state_before}
 use Rattle.journal.specs.EventRules.Parts.{Row as Found}
 use Rattle.claim_table.specs.CoreLaws.Claimed.{rows_of}
-use Rattle.validator_core.specs.Tables.CoreTables.View.{View}
+use Rattle.validator_core.specs.Tables.View.{View}
 
 -- the view with one entry more
 abbrev pub with_entry : Entry → View → View

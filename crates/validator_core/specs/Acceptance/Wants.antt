@@ -13,7 +13,7 @@ use Rattle.journal.specs.declared.journal.why.Why.TheVariants.{Signatures, Next,
 use Rattle.journal.specs.Journal.Seals.{anchored}
 use Rattle.journal.specs.Journal.History.{Told}
 use Rattle.journal.specs.Journal.Logs.{state, takes}
-use Rattle.validator_core.specs.Tables.CoreTables.View.{View, body_of, log_of}
+use Rattle.validator_core.specs.Tables.View.{View, body_of, log_of}
 use Rattle.validator_core.specs.Acceptance.Standing.{told_of}
 use Rattle.journal.specs.Journal.Readiness.{meets_own, meets_before, is_backed, is_local}
 

@@ -6,7 +6,7 @@ use Rattle.journal.specs.declared.journal.mode.Mode.{Mode}
 use Rattle.journal.specs.Journal.Logs.{precedes, predecessor}
 use Rattle.journal.specs.Journal.Readiness.{is_local}
 use Rattle.claim_table.specs.CoreLaws.Waking.{is_anchored, is_there, is_waiting, may_wake, seals_first}
-use Rattle.validator_core.specs.Tables.CoreTables.View.{View, log_of}
+use Rattle.validator_core.specs.Tables.View.{View, log_of}
 
 -- the event behind the list is right before the body or, where seals are waited for, holds its first seal
 abbrev pub is_awaited : Mode → List Body → Body → Body → Bool

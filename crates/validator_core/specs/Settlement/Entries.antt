@@ -10,9 +10,9 @@ use Rattle.claim_table.specs.CoreLaws.ClaimRows.{AreFound}
 use Rattle.claim_table.specs.declared.claim_table.claimed.Claimed.{Claimed}
 use Rattle.claim_table.specs.declared.claim_table.signature.Signature.{Signature}
 use Rattle.claim_table.specs.ClaimTable.Rows.{raised_all}
-use Rattle.validator_core.specs.declared.tables.core_tables.name.Name.{Name}
-use Rattle.validator_core.specs.Tables.CoreTables.Names.{name_of}
-use Rattle.validator_core.specs.Tables.CoreTables.View.{View, log_of, with_rows}
+use Rattle.validator_core.specs.declared.tables.name.Name.{Name}
+use Rattle.validator_core.specs.Tables.Names.{name_of}
+use Rattle.validator_core.specs.Tables.View.{View, log_of, with_rows}
 use Rattle.journal.specs.declared.journal.body.Body.{Body}
 use Rattle.journal.specs.declared.journal.claim.Claim.{Claim}
 use Rattle.journal.specs.declared.journal.entry.Entry.TheVariants.{Took}

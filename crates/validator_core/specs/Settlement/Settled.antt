@@ -8,7 +8,7 @@ use Rattle.journal.specs.Journal.History.{Told}
 use Rattle.journal.specs.Journal.Readiness.{is_ready}
 use Rattle.claim_table.specs.CoreLaws.Candidates.{Widens}
 use Rattle.claim_table.specs.CoreLaws.Waking.{wakes}
-use Rattle.validator_core.specs.Tables.CoreTables.View.{View, log_of}
+use Rattle.validator_core.specs.Tables.View.{View, log_of}
 use Rattle.validator_core.specs.Acceptance.Settled.{KeepsTold, RunsOver, TakesFew, counted_on, looks_in}
 use Rattle.validator_core.specs.Acceptance.Standing.{IsStanding, told_of}
 

@@ -11,7 +11,7 @@ use Rattle.journal.specs.Journal.Questions.{state_before}
 use Rattle.validator_core.specs.Tables.AcceptedLog.Cuts.{IsLog}
 use Rattle.validator_core.specs.Tables.AcceptedLog.Values.{Log}
 use Rattle.claim_table.specs.CoreLaws.ClaimRows.{HasClaims, found_on, verdict_in}
-use Rattle.validator_core.specs.Tables.CoreTables.View.{View, log_of, with_log, with_rows}
+use Rattle.validator_core.specs.Tables.View.{View, log_of, with_log, with_rows}
 use Rattle.validator_core.specs.Acceptance.Standing.{IsStanding, told_of}
 use Rattle.validator_core.specs.Acceptance.Turned.{turned}
 

@@ -4,7 +4,7 @@ use Rattle.event_body.specs.declared.event_body.event.Event.{Event}
 use Rattle.event_body.specs.EventBody.Judging.{SpellsEvent}
 use Rattle.keri_outside.specs.declared.limits.Limits.{Limits}
 use Rattle.validator_core.specs.Acceptance.Standing.{IsHeld, IsStanding}
-use Rattle.validator_core.specs.Tables.CoreTables.View.{View, log_of}
+use Rattle.validator_core.specs.Tables.View.{View, log_of}
 use Rattle.journal.specs.declared.journal.body.Body.{Body}
 use Rattle.journal.specs.declared.journal.mode.Mode.{Mode}
 use Rattle.journal.specs.declared.journal.resume_fault.ResumeFault.{ResumeFault}

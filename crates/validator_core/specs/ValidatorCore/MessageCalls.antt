@@ -3,7 +3,7 @@ use Rattle.std.specs.Prelude.{◌≡◌, ℕ, Result, Ok}
 use Rattle.cesr_stream.specs.declared.message.Message.{Message}
 use Rattle.event_body.specs.declared.event_body.event.Event.{Event}
 use Rattle.event_body.specs.declared.event_body.body_fault.BodyFault.{BodyFault}
-use Rattle.validator_core.specs.Tables.CoreTables.View.{body_of}
+use Rattle.validator_core.specs.Tables.View.{body_of}
 use Rattle.validator_core.specs.ValidatorCore.Looks.{LooksByReply}
 use Rattle.validator_core.specs.ValidatorCore.View.{CoreView, Follows, base_of, told_of}
 use Rattle.journal.specs.declared.journal.reply.Reply.{Reply}

@@ -7,7 +7,7 @@ use Rattle.validator_core.specs.Acceptance.Settled.{IsSettled}
 use Rattle.validator_core.specs.Acceptance.Standing.{Comes, Hears, IsStanding, told_of}
 use Rattle.claim_table.specs.CoreLaws.Waking.{is_waiting}
 use Rattle.claim_table.specs.declared.claim_table.signature.Signature.{Signature}
-use Rattle.validator_core.specs.Tables.CoreTables.View.{View, log_of, with_claims}
+use Rattle.validator_core.specs.Tables.View.{View, log_of, with_claims}
 use Rattle.event_body.specs.EventBody.Events.{said_of}
 use Rattle.journal.specs.declared.journal.body.Body.{Body}
 use Rattle.journal.specs.declared.journal.entry.Entry.{Entry}

@@ -3,7 +3,7 @@ ghost use Rattle.std.specs.Prelude.{◌≡◌, ℕ, List, true, Some, is_some, s
 ghost use Rattle.std.specs.Option.{option_copied};
 ghost use Rattle.validator_core.specs.Acceptance.Standing.{IsStanding};
 ghost use Rattle.validator_core.specs.Tables.AcceptedLog.Values.{last_place};
-ghost use Rattle.validator_core.specs.Tables.CoreTables.View.{body_of, log_of};
+ghost use Rattle.validator_core.specs.Tables.View.{body_of, log_of};
 ghost use Rattle.claim_table.specs.CoreLaws.Waking as waking;
 ghost use Rattle.event_body.specs.EventBody.Events as events;
 ghost use Rattle.journal.specs.Journal.Logs as logs;

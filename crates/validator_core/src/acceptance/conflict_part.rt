@@ -1,7 +1,7 @@
 //! Whether an event counts where conflicts are looked for.
 ghost use Rattle.std.specs.Prelude.{◌≡◌, Some, slice_get};
 ghost use Rattle.validator_core.specs.Acceptance.Standing.{IsStanding, told_of};
-ghost use Rattle.validator_core.specs.Tables.CoreTables.View.{log_of};
+ghost use Rattle.validator_core.specs.Tables.View.{log_of};
 ghost use Rattle.journal.specs.Journal.Conflicts as conflicts;
 ghost use Rattle.journal.specs.declared.journal.body.Body.{Body};
 

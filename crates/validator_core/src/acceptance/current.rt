@@ -3,7 +3,7 @@ ghost use Rattle.std.specs.Prelude.{◌≡◌, slice_get, IfSome};
 ghost use Rattle.std.specs.Option.{option_copied, option_map};
 ghost use Rattle.validator_core.specs.Acceptance.Standing.{IsStanding};
 ghost use Rattle.validator_core.specs.Tables.AcceptedLog.Values.{last_place, state_there};
-ghost use Rattle.validator_core.specs.Tables.CoreTables.View.{log_of};
+ghost use Rattle.validator_core.specs.Tables.View.{log_of};
 ghost use Rattle.event_body.specs.EventBody.Events as events;
 ghost use Rattle.journal.specs.Journal.Logs as logs;
 ghost use Rattle.key_state.specs.Kept.{IsKept};

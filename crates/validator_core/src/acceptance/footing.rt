@@ -6,7 +6,7 @@ ghost use Rattle.journal.specs.Journal.Grown.{IsGrown};
 ghost use Rattle.journal.specs.Journal.Logs.{stands};
 ghost use Rattle.validator_core.specs.Tables.AcceptedLog.Cuts.{IsLog};
 ghost use Rattle.validator_core.specs.Acceptance.Footing.{IsFooting};
-ghost use Rattle.validator_core.specs.Tables.CoreTables.View.{body_of, log_of};
+ghost use Rattle.validator_core.specs.Tables.View.{body_of, log_of};
 
 use crate::tables::Tables;
 use event_body::Event;

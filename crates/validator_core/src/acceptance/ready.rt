@@ -1,7 +1,7 @@
 //! Whether an event is ready to be accepted.
 ghost use Rattle.std.specs.Prelude.{◌≡◌, Some, slice_get};
 ghost use Rattle.validator_core.specs.Acceptance.Standing.{IsStanding, told_of};
-ghost use Rattle.validator_core.specs.Tables.CoreTables.View.{log_of};
+ghost use Rattle.validator_core.specs.Tables.View.{log_of};
 ghost use Rattle.journal.specs.Journal.Readiness as readiness;
 ghost use Rattle.journal.specs.declared.journal.body.Body.{Body};
 

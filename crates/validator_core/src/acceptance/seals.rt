@@ -2,7 +2,7 @@
 ghost use Rattle.std.specs.Prelude.{◌≡◌, ◌||◌, codes};
 ghost use Rattle.std.specs.Option.{option_copied};
 ghost use Rattle.validator_core.specs.Acceptance.Standing.{IsStanding};
-ghost use Rattle.validator_core.specs.Tables.CoreTables.View.{log_of};
+ghost use Rattle.validator_core.specs.Tables.View.{log_of};
 ghost use Rattle.journal.specs.Journal.Readiness as readiness;
 ghost use Rattle.journal.specs.Journal.Seals as seals;
 ghost use Rattle.journal.specs.Journal.Waiting as waiting;

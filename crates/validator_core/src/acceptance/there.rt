@@ -2,7 +2,7 @@
 ghost use Rattle.std.specs.Prelude.{◌≡◌, ◌&&◌, Some, slice_get};
 ghost use Rattle.validator_core.specs.Acceptance.Standing.{IsStanding};
 ghost use Rattle.claim_table.specs.CoreLaws.Waking as waking;
-ghost use Rattle.validator_core.specs.Tables.CoreTables.View.{log_of};
+ghost use Rattle.validator_core.specs.Tables.View.{log_of};
 ghost use Rattle.journal.specs.declared.journal.body.Body.{Body};
 
 use crate::acceptance::base_state::is_behind_some;

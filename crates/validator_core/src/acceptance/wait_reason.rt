@@ -2,7 +2,7 @@
 ghost use Rattle.std.specs.Prelude.{◌≡◌, ◌&&◌, ◌||◌, ℕ, List, None, Some, not, is_some, slice_get};
 ghost use Rattle.std.specs.Option.{option_copied};
 ghost use Rattle.validator_core.specs.Acceptance.Standing.{IsStanding, told_of};
-ghost use Rattle.validator_core.specs.Tables.CoreTables.View.{body_of, log_of};
+ghost use Rattle.validator_core.specs.Tables.View.{body_of, log_of};
 ghost use Rattle.event_body.specs.EventBody.Events as events;
 ghost use Rattle.journal.specs.Journal.Logs as logs;
 ghost use Rattle.journal.specs.Journal.Waiting as waiting;

@@ -3,7 +3,7 @@ ghost use Rattle.std.specs.Prelude.{◌≡◌, ◌<◌, [], ℕ, Some, Contains,
 ghost use Rattle.std.specs.List.Sorted.{IsStrictlyIncreasing};
 ghost use Rattle.journal.specs.declared.journal.body.Body.{Body};
 ghost use Rattle.journal.specs.Journal.Logs.{precedes};
-ghost use Rattle.validator_core.specs.Tables.CoreTables.View.{View, log_of, with_rows};
+ghost use Rattle.validator_core.specs.Tables.View.{View, log_of, with_rows};
 ghost use Rattle.validator_core.specs.Acceptance.Standing.{Extends, IsStanding};
 ghost use Rattle.validator_core.specs.Settlement.Awaited.{HasAllBehind};
 ghost use Rattle.validator_core.specs.Settlement.Turning.{IsBehindLast, IsTurning, TurnsOne};

@@ -1,8 +1,8 @@
 //! Bodies that are taken, each by an entry, with its claims.
 ghost use Rattle.std.specs.Prelude.{◌≡◌, ◌<◌, ◌∷◌, [], false, length, slice_get, IfOk, None, OnOk, Some, if◌then◌else◌};
 ghost use Rattle.validator_core.specs.Acceptance.Standing.{Comes, Extends, IsHeld, IsStanding};
-ghost use Rattle.validator_core.specs.Tables.CoreTables.Names.{name_of as name_of_event};
-ghost use Rattle.validator_core.specs.Tables.CoreTables.View.{with_rows};
+ghost use Rattle.validator_core.specs.Tables.Names.{name_of as name_of_event};
+ghost use Rattle.validator_core.specs.Tables.View.{with_rows};
 ghost use Rattle.event_body.specs.EventBody.Events as events;
 ghost use Rattle.journal.specs.declared.journal.body.Body.{Body as BodyValue};
 ghost use Rattle.journal.specs.declared.journal.entry.Entry.TheVariants.{Took};

@@ -8,7 +8,7 @@ ghost use Rattle.journal.specs.declared.journal.body.Body.{Body};
 ghost use Rattle.journal.specs.Journal.Grown.{fits};
 ghost use Rattle.journal.specs.Journal.Logs.{stepped, takes};
 ghost use Rattle.validator_core.specs.Tables.AcceptedLog.Values.{last_of};
-ghost use Rattle.validator_core.specs.Tables.CoreTables.View.{log_of};
+ghost use Rattle.validator_core.specs.Tables.View.{log_of};
 ghost use Rattle.validator_core.specs.Acceptance.Standing.{Accepts, Extends, IsStanding};
 ghost use Rattle.validator_core.specs.Settlement.Turning.{IsAppended, MakesState};
 

@@ -4,7 +4,7 @@ ghost use Rattle.std.specs.List.Sorted.{IsStrictlySortedBy};
 ghost use Rattle.std.specs.Ordering.{nat_cmp};
 ghost use Rattle.journal.specs.declared.journal.body.Body.{Body};
 ghost use Rattle.journal.specs.Journal.Readiness as ready;
-ghost use Rattle.validator_core.specs.Tables.CoreTables.View.{log_of};
+ghost use Rattle.validator_core.specs.Tables.View.{log_of};
 ghost use Rattle.validator_core.specs.Acceptance.Standing.{Extends, IsStanding, told_of};
 ghost use Rattle.validator_core.specs.Acceptance.Settled.{IsSettled};
 ghost use Rattle.validator_core.specs.Settlement.Settled.{AcceptsNext, IsNext, IsOver, IsReadyAt};

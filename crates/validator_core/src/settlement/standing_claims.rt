@@ -2,8 +2,8 @@
 ghost use Rattle.std.specs.Prelude.{◌≡◌, ◌<◌, ℕ, false, length, slice_get, IfNone, IfSome, None, OnOk, OnErr, Some};
 ghost use Rattle.validator_core.specs.Acceptance.Footing.{IsFooting};
 ghost use Rattle.validator_core.specs.Acceptance.Standing.{Extends, IsStanding, told_of};
-ghost use Rattle.validator_core.specs.Tables.CoreTables.Raised.{RaisesSome, claims_at};
-ghost use Rattle.validator_core.specs.Tables.CoreTables.View.{log_of, with_rows};
+ghost use Rattle.validator_core.specs.Tables.Raised.{RaisesSome, claims_at};
+ghost use Rattle.validator_core.specs.Tables.View.{log_of, with_rows};
 ghost use Rattle.journal.specs.Journal.History.{claims_on};
 ghost use Rattle.journal.specs.Journal.Logs.{stands};
 ghost use Rattle.journal.specs.declared.journal.body.Body.{Body};

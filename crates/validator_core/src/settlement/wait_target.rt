@@ -1,6 +1,6 @@
 //! Whether an event is one that another may wait for.
 ghost use Rattle.std.specs.Prelude.{◌≡◌, ◌&&◌, ℕ, List, not, slice_get};
-ghost use Rattle.validator_core.specs.Tables.CoreTables.View.{body_of, log_of};
+ghost use Rattle.validator_core.specs.Tables.View.{body_of, log_of};
 ghost use Rattle.validator_core.specs.Acceptance.Standing.{IsStanding};
 ghost use Rattle.claim_table.specs.CoreLaws.Waking as waking;
 ghost use Rattle.event_body.specs.EventBody.Events as events;

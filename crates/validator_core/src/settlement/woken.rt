@@ -8,7 +8,7 @@ ghost use Rattle.event_backing.specs.EventSeals.{IsEventSeal, holds_seal};
 ghost use Rattle.event_backing.specs.declared.event_seal.EventSeal.{EventSeal as EventSealValue};
 ghost use Rattle.escrow.specs.Escrow.Escrow.{Waits};
 ghost use Rattle.journal.specs.declared.journal.body.Body.{Body};
-ghost use Rattle.validator_core.specs.Tables.CoreTables.View.{log_of};
+ghost use Rattle.validator_core.specs.Tables.View.{log_of};
 ghost use Rattle.validator_core.specs.Acceptance.Standing.{IsStanding};
 ghost use Rattle.validator_core.specs.Settlement.Awaited.{HasAllWoken, IsNextAt, has_all_awaited, is_awaited_there};
 

@@ -1,7 +1,7 @@
 //! Accepted events, by their places, and the numbers of bodies.
 ghost use Rattle.std.specs.Prelude.{◌≡◌, ◌==◌, IfNone, IfSome, Some, ℕ, false, position, slice_get};
 ghost use Rattle.validator_core.specs.Acceptance.Standing.{IsStanding};
-ghost use Rattle.validator_core.specs.Tables.CoreTables.View.{body_of, log_of};
+ghost use Rattle.validator_core.specs.Tables.View.{body_of, log_of};
 ghost use Rattle.event_body.specs.EventBody.Judging.{SpellsEvent};
 ghost use Rattle.journal.specs.EventRules.Additions.{is_number};
 ghost use Rattle.validator_core.specs.ValidatorCore.Signatures.{is_witness_under, opens_under};

@@ -1,7 +1,7 @@
 //! Cores that begin with a list of texts.
 ghost use Rattle.std.specs.Prelude.{◌≡◌, ◌≤◌, ◌<◌, [], All, IfErr, IfOk, OnOk, length, true};
 ghost use Rattle.validator_core.specs.Acceptance.Standing.{IsHeld};
-ghost use Rattle.validator_core.specs.Tables.CoreTables.View.{body_of};
+ghost use Rattle.validator_core.specs.Tables.View.{body_of};
 ghost use Rattle.journal.specs.declared.journal.resume_fault.ResumeFault.TheVariants.{NotALog};
 ghost use Rattle.journal.specs.Journal.Grown.{fits};
 ghost use Rattle.validator_core.specs.ValidatorCore.Base.{AcceptsText, AreAccepted, AreRefused, IsBase, IsRefused, IsResumed};

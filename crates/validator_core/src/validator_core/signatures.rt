@@ -3,7 +3,7 @@ ghost use Rattle.std.specs.Prelude.{◌≡◌, ◌++◌, ℕ, List, IfOk, OnOk, 
 ghost use Rattle.std.specs.Option.{option_copied};
 ghost use Rattle.validator_core.specs.Acceptance.Standing as standing;
 ghost use Rattle.validator_core.specs.Acceptance.Standing.{IsStanding};
-ghost use Rattle.validator_core.specs.Tables.CoreTables.View.{body_of, log_of};
+ghost use Rattle.validator_core.specs.Tables.View.{body_of, log_of};
 ghost use Rattle.validator_core.specs.ValidatorCore.Signatures.{good_claim, good_in, good_on, good_under};
 ghost use Rattle.validator_core.specs.ValidatorCore.View.{accepted_by, told_of};
 ghost use Rattle.journal.specs.Journal.Readiness.{good_sigs};

@@ -2,7 +2,7 @@
 ghost use Rattle.std.specs.Prelude.{◌≡◌, ◌<◌, false, length, slice_get, IfOk, OnErr, Some, if◌then◌else◌};
 ghost use Rattle.std.specs.List.{list_all, list_any};
 ghost use Rattle.validator_core.specs.Acceptance.Standing.{IsHeld};
-ghost use Rattle.validator_core.specs.Tables.CoreTables.View.{body_of, came_with};
+ghost use Rattle.validator_core.specs.Tables.View.{body_of, came_with};
 ghost use Rattle.journal.specs.declared.journal.body.Body.{Body as BodyValue};
 ghost use Rattle.journal.specs.declared.journal.reply.Reply.TheVariants.{Again, Taken};
 ghost use Rattle.journal.specs.Journal.Logs.{is_in};

@@ -1,7 +1,7 @@
 //! The core: its tables, and how much it took.
 ghost use Rattle.std.specs.Prelude.{◌≡◌, ◌≤◌, ◌<◌, [], All, IfSome, map, length, slice_get};
 ghost use Rattle.std.specs.Option.{option_map};
-ghost use Rattle.validator_core.specs.Tables.CoreTables.Hints.{IsEscrow};
+ghost use Rattle.validator_core.specs.Tables.Hints.{IsEscrow};
 ghost use Rattle.journal.specs.Journal.Journals.{chosen};
 ghost use Rattle.journal.specs.Journal.Logs as logs;
 ghost use Rattle.validator_core.specs.ValidatorCore.Confluent.{IsSoInAlike};

@@ -4,7 +4,7 @@ ghost use Rattle.std.specs.List.Sorted.{IsStrictlySortedBy};
 ghost use Rattle.std.specs.Ordering.{nat_cmp};
 ghost use Rattle.validator_core.specs.Acceptance.Standing.{Extends, IsHeld, IsStanding};
 ghost use Rattle.claim_table.specs.ClaimTable.Rows.{is_raised, verdict_of};
-ghost use Rattle.validator_core.specs.Tables.CoreTables.View.{IsCut, rewound};
+ghost use Rattle.validator_core.specs.Tables.View.{IsCut, rewound};
 ghost use Rattle.journal.specs.declared.journal.entry.Entry.TheVariants.{Took};
 ghost use Rattle.journal.specs.Journal.Logs.{is_in};
 ghost use Rattle.validator_core.specs.Settlement.Entries.{signature_asked};

@@ -1,6 +1,6 @@
 use Rattle.std.proofs.Common.{◌≡◌, ◌++◌, take}
 use Rattle.std.specs.Prelude.{flat_map, slice_get}
-use Rattle.validator_core.specs.Tables.CoreTables.View.{body_of}
+use Rattle.validator_core.specs.Tables.View.{body_of}
 use Rattle.blame_core.specs.BlameCore.Signatures.{came_at}
 use Rattle.blame_core.proofs.blame_core.signatures.add_all_came.Given as goal
 

@@ -1,5 +1,5 @@
 use Rattle.std.proofs.Common.{sym, ◌∙◌}
-use Rattle.validator_core.specs.Tables.CoreTables.View.{body_of}
+use Rattle.validator_core.specs.Tables.View.{body_of}
 use Rattle.blame_core.proofs.BlameCoreLemmas.EntrySignatures.{none_came}
 use Rattle.blame_core.proofs.blame_core.signatures.add_came.Goals as goal
 

@@ -1,5 +1,5 @@
 use Rattle.std.proofs.Common.{◌∙◌}
-use Rattle.validator_core.specs.Tables.CoreTables.View.{body_of, log_of}
+use Rattle.validator_core.specs.Tables.View.{body_of, log_of}
 use Rattle.validator_core.proofs.AcceptanceLemmas.Reasons.{has_predecessor}
 use Rattle.validator_core.proofs.acceptance.base_state.follows_some.Goals as goal
 

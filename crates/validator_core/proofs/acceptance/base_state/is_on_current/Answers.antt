@@ -1,5 +1,5 @@
 use Rattle.std.proofs.Common.{◌∙◌, sym}
-use Rattle.validator_core.specs.Tables.CoreTables.View.{body_of, log_of}
+use Rattle.validator_core.specs.Tables.View.{body_of, log_of}
 use Rattle.validator_core.proofs.AcceptanceLemmas.Footings.{behind_on, first_on, taken_on}
 use Rattle.validator_core.proofs.acceptance.base_state.is_on_current.Goals as goal
 

@@ -1,6 +1,6 @@
 use Rattle.std.proofs.Common.{not, ◌&&◌, ◌==◌, ◌∙◌, ap}
 use Rattle.std.specs.List.{list_any}
-use Rattle.validator_core.specs.Tables.CoreTables.View.{body_of}
+use Rattle.validator_core.specs.Tables.View.{body_of}
 use Rattle.validator_core.proofs.AcceptanceLemmas.Bodies.{waits_is}
 use Rattle.validator_core.proofs.acceptance.base_state.is_waiting.Goals as goal
 

@@ -1,5 +1,5 @@
 use Rattle.std.proofs.Common.{◌∙◌}
-use Rattle.validator_core.specs.Tables.CoreTables.View.{body_of, log_of}
+use Rattle.validator_core.specs.Tables.View.{body_of, log_of}
 use Rattle.validator_core.proofs.AcceptanceLemmas.Footings.{stands_if}
 use Rattle.validator_core.proofs.acceptance.base_state.stands.Goals as goal
 

@@ -5,7 +5,7 @@ use Rattle.event_body.specs.EventBody.Events.{is_rotation}
 use Rattle.journal.specs.EventRules.Parts.{has_next, has_signed}
 use Rattle.journal.specs.Journal.Conflicts.{counts}
 use Rattle.key_state.specs.States.{IsState}
-use Rattle.validator_core.specs.Tables.CoreTables.View.{body_of, log_of}
+use Rattle.validator_core.specs.Tables.View.{body_of, log_of}
 use Rattle.validator_core.specs.Acceptance.Parts.{has_in}
 use Rattle.validator_core.specs.Acceptance.Standing.{told_of}
 use Rattle.validator_core.proofs.AcceptanceLemmas.Bodies.{at_body}

@@ -4,7 +4,7 @@ use Rattle.validator_core.proofs.AcceptanceLemmas.Behind.{stands_not}
 use Rattle.validator_core.proofs.AcceptanceLemmas.Place.{above, has_place, has_state, is_behind, live, some, stands_on}
 use Rattle.validator_core.proofs.AcceptanceLemmas.Predecessor.{no_predecessor}
 use Rattle.validator_core.proofs.AcceptanceLemmas.ReadyRows.{first_stands}
-use Rattle.validator_core.specs.Tables.CoreTables.View.{body_of, log_of}
+use Rattle.validator_core.specs.Tables.View.{body_of, log_of}
 use Rattle.validator_core.proofs.acceptance.footing.footing_of.Goals as goal
 
 pub returns-then-is_inception-clause-some : goal.returns-then-is_inception-clause-some

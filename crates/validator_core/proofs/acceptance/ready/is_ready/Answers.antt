@@ -1,7 +1,7 @@
 use Rattle.std.proofs.Common.{◌≡◌, ◌&&◌, Bool, true, false, Option, Some, None, is_none, is_some, refl, ◌∙◌, ap, sym}
 use Rattle.std.specs.Option.{option_copied}
 use Rattle.journal.specs.Journal.Readiness.{is_ready}
-use Rattle.validator_core.specs.Tables.CoreTables.View.{body_of, log_of}
+use Rattle.validator_core.specs.Tables.View.{body_of, log_of}
 use Rattle.validator_core.specs.Acceptance.Standing.{told_of}
 use Rattle.claim_table.specs.CoreLaws.Waking as waking
 use Rattle.validator_core.proofs.AcceptanceLemmas.Bodies.{at_body, is_below}

@@ -1,7 +1,7 @@
 use Rattle.std.proofs.Common.{◌∙◌, ap, sym}
 use Rattle.std.specs.Prelude.{codes}
 use Rattle.key_state.specs.Same.{has_text}
-use Rattle.validator_core.specs.Tables.CoreTables.View.{log_of}
+use Rattle.validator_core.specs.Tables.View.{log_of}
 use Rattle.validator_core.proofs.AcceptanceLemmas.Delegators.{forbids_by, forbids_is}
 use Rattle.validator_core.proofs.acceptance.seals.forbids.Goals as goal
 

@@ -1,7 +1,7 @@
 use Rattle.std.proofs.Common.{not, ◌&&◌, ◌∙◌, ap, sym}
 use Rattle.std.specs.Option.{option_copied}
 use Rattle.journal.specs.Journal.Seals.{forbids}
-use Rattle.validator_core.specs.Tables.CoreTables.View.{log_of}
+use Rattle.validator_core.specs.Tables.View.{log_of}
 use Rattle.validator_core.proofs.AcceptanceLemmas.Delegators.{needs_none, no_delegator, sealed_by}
 use Rattle.validator_core.proofs.acceptance.seals.is_anchored.Goals as goal
 

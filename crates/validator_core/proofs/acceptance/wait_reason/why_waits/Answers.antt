@@ -2,7 +2,7 @@ use Rattle.std.proofs.Common.{◌≡◌, None, Some, ◌∙◌, sym}
 use Rattle.std.specs.Option.{option_copied}
 use Rattle.journal.specs.declared.journal.why.Why.TheVariants.{Never, Predecessor}
 use Rattle.journal.specs.Journal.Waiting.{why_waits}
-use Rattle.validator_core.specs.Tables.CoreTables.View.{body_of, log_of}
+use Rattle.validator_core.specs.Tables.View.{body_of, log_of}
 use Rattle.validator_core.specs.Acceptance.Standing.{told_of}
 use Rattle.validator_core.proofs.AcceptanceLemmas.Bodies.{at_body, is_below}
 use Rattle.validator_core.proofs.AcceptanceLemmas.Reasons.{behind_waits, event_waits, lost_waits, nothing_waits, there_taken, there_wants}

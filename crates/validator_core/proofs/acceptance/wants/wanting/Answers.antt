@@ -2,7 +2,7 @@ use Rattle.std.proofs.Common.{◌≡◌, ◌∙◌, ap, refl, subst, sym, true}
 use Rattle.std.specs.Option.{option_copied}
 use Rattle.journal.specs.Journal.Logs.{takes}
 use Rattle.journal.specs.Journal.Seals.{anchored}
-use Rattle.validator_core.specs.Tables.CoreTables.View.{body_of, log_of}
+use Rattle.validator_core.specs.Tables.View.{body_of, log_of}
 use Rattle.validator_core.specs.Acceptance.Parts.{has_in}
 use Rattle.validator_core.specs.Acceptance.Wants.{wants_by}
 use Rattle.validator_core.proofs.AcceptanceLemmas.Wanted.{claims_wanting, rows_wanting}

@@ -1,6 +1,6 @@
 use Rattle.std.proofs.Common.{◌<◌, length, refl, sym, subst, take, get_or}
 use Rattle.std.proofs.lemmas.List.{take_all, take_more}
-use Rattle.validator_core.specs.Tables.CoreTables.View.{View}
+use Rattle.validator_core.specs.Tables.View.{View}
 use Rattle.validator_core.proofs.AcceptanceLemmas.Rewound.{extends_then}
 use Rattle.validator_core.specs.Settlement.Turning.{IsTurning}
 use Rattle.validator_core.proofs.SettlementLemmas.Lasts.{got_contained}

@@ -1,6 +1,6 @@
 use Rattle.std.proofs.Common.{◌≡◌, [], take}
 use Rattle.journal.specs.declared.journal.body.Body.{Body}
-use Rattle.validator_core.specs.Tables.CoreTables.View.{View, with_rows}
+use Rattle.validator_core.specs.Tables.View.{View, with_rows}
 use Rattle.validator_core.specs.Acceptance.Standing.{Extends}
 use Rattle.validator_core.specs.Settlement.Turning.{IsTurning}
 use Rattle.validator_core.proofs.settlement.behind.raise_behind.Given as goal

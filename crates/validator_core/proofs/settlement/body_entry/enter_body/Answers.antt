@@ -1,7 +1,7 @@
 use Rattle.std.proofs.Common.{◌≡◌, [], ◌∷◌, ◌++◌, length, Some, sym, ◌∙◌, ap, subst}
 use Rattle.std.specs.Prelude.{slice_get}
 use Rattle.validator_core.specs.Acceptance.Standing.{Extends, IsStanding, told_of}
-use Rattle.validator_core.specs.Tables.CoreTables.View.{View}
+use Rattle.validator_core.specs.Tables.View.{View}
 use Rattle.journal.specs.declared.journal.entry.Entry.TheVariants.{Took}
 use Rattle.journal.specs.Journal.History.{claims_on}
 use Rattle.journal.proofs.JournalLemmas.Places.{slice_get_last}

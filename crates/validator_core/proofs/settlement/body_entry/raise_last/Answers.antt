@@ -4,7 +4,7 @@ use Rattle.std.proofs.lemmas.Result.{on_ok_weaker}
 use Rattle.validator_core.specs.Acceptance.Standing.{Extends}
 use Rattle.validator_core.proofs.AcceptanceLemmas.Rewound.{extends_claimed}
 use Rattle.claim_table.specs.ClaimTable.Rows.{raised_all}
-use Rattle.validator_core.specs.Tables.CoreTables.View.{View}
+use Rattle.validator_core.specs.Tables.View.{View}
 use Rattle.journal.proofs.JournalLemmas.Places.{some_at}
 use Rattle.validator_core.proofs.SettlementLemmas.EnteredClaims.{named_event, named_receipt, stands_again}
 use Rattle.validator_core.proofs.SettlementLemmas.LoggedTables.{extends_logged, extends_some, logged_told, rows_then, whichever}

@@ -2,7 +2,7 @@ use Rattle.std.proofs.Common.{◌<◌, sym, ◌∙◌, ap, subst, length}
 use Rattle.std.specs.Prelude.{◌==◌, Contains}
 use Rattle.std.specs.List.{list_any}
 use Rattle.std.specs.List.Sorted.{IsStrictlyIncreasing}
-use Rattle.validator_core.specs.Tables.CoreTables.View.{View}
+use Rattle.validator_core.specs.Tables.View.{View}
 use Rattle.validator_core.proofs.SettlementLemmas.Events.{on_ok_then}
 use Rattle.journal.proofs.JournalLemmas.Places.{some_at}
 use Rattle.validator_core.proofs.AcceptanceLemmas.Rewound.{extends_itself, extends_then}

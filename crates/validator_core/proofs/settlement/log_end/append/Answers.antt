@@ -4,7 +4,7 @@ use Rattle.validator_core.proofs.TablesLemmas.AcceptedLogLemmas.Made.{fitting_ma
 use Rattle.journal.proofs.JournalLemmas.Places.{some_at}
 use Rattle.validator_core.specs.Acceptance.Standing.{Extends}
 use Rattle.validator_core.proofs.AcceptanceLemmas.Rewound.{extends_itself}
-use Rattle.validator_core.specs.Tables.CoreTables.View.{log_of}
+use Rattle.validator_core.specs.Tables.View.{log_of}
 use Rattle.journal.specs.declared.journal.body.Body.{Body}
 use Rattle.validator_core.specs.Settlement.Turning.{MakesState}
 use Rattle.validator_core.proofs.SettlementLemmas.Events.{if_none_at, if_some_at, on_ok_both}

@@ -5,7 +5,7 @@ use Rattle.event_body.specs.EventBody.Events.{is_interaction, prefix_of}
 use Rattle.key_state.specs.Kept.{IsKept}
 use Rattle.journal.specs.Journal.Logs.{stepped, takes}
 use Rattle.validator_core.specs.Tables.AcceptedLog.Values.{last_of}
-use Rattle.validator_core.specs.Tables.CoreTables.View.{log_of}
+use Rattle.validator_core.specs.Tables.View.{log_of}
 use Rattle.validator_core.proofs.SettlementLemmas.Events.{body_there, event_is, if_ok_then, no_event}
 use Rattle.validator_core.proofs.SettlementLemmas.Steps.{made, taken}
 use Rattle.validator_core.proofs.settlement.log_end.state_of.Goals as goal

@@ -4,7 +4,7 @@ use Rattle.std.proofs.lemmas.Bool.{and_from, and_parts}
 use Rattle.journal.proofs.JournalLemmas.Places.{some_at}
 use Rattle.validator_core.specs.Acceptance.Standing.{told_of}
 use Rattle.claim_table.specs.CoreLaws.Waking.{is_anchored, is_there, is_waiting, may_wake, wakes}
-use Rattle.validator_core.specs.Tables.CoreTables.View.{log_of}
+use Rattle.validator_core.specs.Tables.View.{log_of}
 use Rattle.validator_core.proofs.SettlementLemmas.Events.{on_ok_both}
 use Rattle.validator_core.proofs.SettlementLemmas.Few.{few}
 use Rattle.validator_core.proofs.SettlementLemmas.Waking.{ready_fits, woken_next}

@@ -4,7 +4,7 @@ use Rattle.std.proofs.lemmas.Option.{slice_get_within}
 use Rattle.validator_core.specs.Acceptance.Standing.{told_of}
 use Rattle.validator_core.proofs.AcceptanceLemmas.Rewound.{extends_itself, extends_then}
 use Rattle.journal.specs.Journal.Logs.{is_in}
-use Rattle.validator_core.specs.Tables.CoreTables.View.{log_of}
+use Rattle.validator_core.specs.Tables.View.{log_of}
 use Rattle.validator_core.proofs.SettlementLemmas.Candidates.{leads_itself, none_counted}
 use Rattle.validator_core.proofs.SettlementLemmas.Ends.{fewer_left, goes_on, is_over, ready_new}
 use Rattle.validator_core.proofs.settlement.settlement.accept_ready.Goals as goal

@@ -1,7 +1,7 @@
 use Rattle.std.proofs.Common.{not}
 use Rattle.std.specs.Prelude.{count_by}
 use Rattle.journal.specs.Journal.Logs.{is_in}
-use Rattle.validator_core.specs.Tables.CoreTables.View.{log_of}
+use Rattle.validator_core.specs.Tables.View.{log_of}
 use Rattle.validator_core.proofs.SettlementLemmas.Ends.{IsSettling}
 use Rattle.validator_core.proofs.settlement.settlement.accept_ready.Given as goal
 

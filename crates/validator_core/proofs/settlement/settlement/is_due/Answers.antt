@@ -5,7 +5,7 @@ use Rattle.journal.proofs.JournalLemmas.Places.{some_at}
 use Rattle.journal.specs.Journal.Readiness.{is_ready}
 use Rattle.validator_core.specs.Acceptance.Standing.{told_of}
 use Rattle.claim_table.proofs.CoreLawsLemmas.Entries.{ready_waits}
-use Rattle.validator_core.specs.Tables.CoreTables.View.{log_of}
+use Rattle.validator_core.specs.Tables.View.{log_of}
 use Rattle.validator_core.proofs.SettlementLemmas.Events.{looked_some, looked_none, waits_held}
 use Rattle.validator_core.proofs.SettlementLemmas.Waking.{waits_there}
 use Rattle.validator_core.proofs.settlement.settlement.is_due.Goals as goal

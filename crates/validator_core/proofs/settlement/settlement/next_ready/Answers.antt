@@ -1,6 +1,6 @@
 use Rattle.std.proofs.Common.{◌+◌, ◌-◌, ◌^◌, min, sym, ◌∙◌, ap, subst, get_or}
 use Rattle.validator_core.specs.Acceptance.Standing.{told_of}
-use Rattle.validator_core.specs.Tables.CoreTables.View.{log_of}
+use Rattle.validator_core.specs.Tables.View.{log_of}
 use Rattle.validator_core.specs.Settlement.Settled.{LeadsTo}
 use Rattle.validator_core.proofs.SettlementLemmas.Candidates.{leads_itself, leads_pass, none_counted, one_more}
 use Rattle.validator_core.proofs.SettlementLemmas.DueNumbers.{less_is}

@@ -1,5 +1,5 @@
 use Rattle.std.proofs.Common.{◌≡◌, ℕ, length}
-use Rattle.validator_core.specs.Tables.CoreTables.View.{log_of}
+use Rattle.validator_core.specs.Tables.View.{log_of}
 use Rattle.validator_core.specs.Acceptance.Standing.{told_of}
 use Rattle.validator_core.specs.Acceptance.Settled.{counted_on}
 use Rattle.validator_core.specs.Settlement.Settled.{LeadsTo}

@@ -1,6 +1,6 @@
 use Rattle.std.specs.Prelude.{slice_get}
 use Rattle.validator_core.specs.Acceptance.Footing.{IsFooting}
-use Rattle.validator_core.specs.Tables.CoreTables.View.{log_of}
+use Rattle.validator_core.specs.Tables.View.{log_of}
 use Rattle.validator_core.proofs.SettlementLemmas.StandingClaims.{of_body}
 use Rattle.validator_core.proofs.settlement.standing_claims.footing_at.Goals as goal
 

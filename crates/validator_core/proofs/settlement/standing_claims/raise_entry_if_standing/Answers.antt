@@ -1,7 +1,7 @@
 use Rattle.std.proofs.Common.{◌≡◌, Some, None, sym, ◌∙◌, subst}
 use Rattle.std.specs.Prelude.{slice_get}
 use Rattle.std.proofs.lemmas.Result.{on_ok_weaker}
-use Rattle.validator_core.specs.Tables.CoreTables.Raised.{Raises, claims_at, state_there}
+use Rattle.validator_core.specs.Tables.Raised.{Raises, claims_at, state_there}
 use Rattle.journal.proofs.JournalLemmas.Places.{some_at}
 use Rattle.validator_core.proofs.SettlementLemmas.StandingClaims.{raises_found}
 use Rattle.validator_core.proofs.settlement.standing_claims.raise_entry_if_standing.Goals as goal

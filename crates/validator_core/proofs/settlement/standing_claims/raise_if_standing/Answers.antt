@@ -2,7 +2,7 @@ use Rattle.std.proofs.Common.{subst}
 use Rattle.std.proofs.lemmas.Result.{on_ok_weaker}
 use Rattle.validator_core.specs.Acceptance.Standing.{told_of}
 use Rattle.journal.specs.Journal.History.{claims_on}
-use Rattle.validator_core.specs.Tables.CoreTables.Raised.{Raises, state_there}
+use Rattle.validator_core.specs.Tables.Raised.{Raises, state_there}
 use Rattle.validator_core.proofs.SettlementLemmas.StandingClaims.{raises_found}
 use Rattle.validator_core.proofs.settlement.standing_claims.raise_if_standing.Goals as goal
 

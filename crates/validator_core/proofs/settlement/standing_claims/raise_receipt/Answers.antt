@@ -5,7 +5,7 @@ use Rattle.std.specs.List.Sorted.{IsStrictlyIncreasing}
 use Rattle.validator_core.specs.Acceptance.Standing.{Extends}
 use Rattle.validator_core.proofs.AcceptanceLemmas.Rewound.{extends_claimed}
 use Rattle.claim_table.specs.ClaimTable.Rows.{raised_all}
-use Rattle.validator_core.specs.Tables.CoreTables.Raised.{claims_at}
+use Rattle.validator_core.specs.Tables.Raised.{claims_at}
 use Rattle.validator_core.proofs.SettlementLemmas.LoggedTables.{extends_logged, extends_some, logged_rows, logged_told, rows_then, some_raised}
 use Rattle.validator_core.proofs.SettlementLemmas.EachOnce.{once}
 use Rattle.validator_core.proofs.SettlementLemmas.ReceiptClaims.{AreDone, done_begins, done_ends, done_more}

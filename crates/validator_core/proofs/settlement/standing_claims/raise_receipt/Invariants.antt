@@ -1,6 +1,6 @@
 use Rattle.std.proofs.Common.{◌≡◌, take}
 use Rattle.validator_core.specs.Acceptance.Standing.{Extends}
-use Rattle.validator_core.specs.Tables.CoreTables.View.{with_rows}
+use Rattle.validator_core.specs.Tables.View.{with_rows}
 use Rattle.validator_core.specs.Settlement.Entries.{IsReceipted}
 use Rattle.validator_core.proofs.SettlementLemmas.ReceiptClaims.{AreDone}
 use Rattle.validator_core.proofs.settlement.standing_claims.raise_receipt.Given as goal

@@ -1,6 +1,6 @@
 use Rattle.std.proofs.Common.{◌≡◌, Some, subst}
 use Rattle.claim_table.specs.ClaimTable.Rows.{heard, unheard}
-use Rattle.validator_core.specs.Tables.CoreTables.View.{with_claims}
+use Rattle.validator_core.specs.Tables.View.{with_claims}
 use Rattle.validator_core.proofs.SettlementLemmas.VerdictEntry.{hears}
 use Rattle.validator_core.proofs.settlement.verdict_entry.enter_verdict.Goals as goal
 

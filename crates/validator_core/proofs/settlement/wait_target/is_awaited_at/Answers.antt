@@ -1,7 +1,7 @@
 use Rattle.std.proofs.Common.{sym, ◌∙◌, ap, subst}
 use Rattle.std.specs.Prelude.{option_map}
 use Rattle.key_state.specs.Kept.{IsKept}
-use Rattle.validator_core.specs.Tables.CoreTables.View.{body_of, log_of}
+use Rattle.validator_core.specs.Tables.View.{body_of, log_of}
 use Rattle.validator_core.specs.Settlement.Awaited.{is_awaited, is_awaited_there}
 use Rattle.validator_core.proofs.SettlementLemmas.Events.{body_there}
 use Rattle.validator_core.proofs.settlement.wait_target.is_awaited_at.Goals as goal

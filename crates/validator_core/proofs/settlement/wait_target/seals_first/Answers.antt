@@ -3,7 +3,7 @@ use Rattle.claim_table.specs.CoreLaws.Waking.{holds_first_seal}
 use Rattle.event_body.specs.EventBody.Events.{prefix_of}
 use Rattle.journal.specs.Journal.Logs.{state}
 use Rattle.journal.specs.Journal.Seals.{delegator_of}
-use Rattle.validator_core.specs.Tables.CoreTables.View.{body_of, log_of}
+use Rattle.validator_core.specs.Tables.View.{body_of, log_of}
 use Rattle.validator_core.proofs.settlement.wait_target.seals_first.Goals as goal
 
 pub returns-in-Some : goal.returns-in-Some

@@ -4,7 +4,7 @@ use Rattle.std.specs.List.Sorted.{IsStrictlySortedBy}
 use Rattle.std.specs.Ordering.{nat_cmp}
 use Rattle.claim_table.specs.CoreLaws.Waking.{is_anchored, is_there, is_waiting}
 use Rattle.journal.specs.declared.journal.body.Body.{Body}
-use Rattle.validator_core.specs.Tables.CoreTables.View.{log_of}
+use Rattle.validator_core.specs.Tables.View.{log_of}
 use Rattle.validator_core.specs.Settlement.Awaited.{IsNextAt}
 use Rattle.validator_core.proofs.settlement.woken.add_due.Given as goal
 

@@ -1,7 +1,7 @@
 use Rattle.std.proofs.Common.{◌≡◌, Bool, true, false, sym, ◌∙◌, subst, inl, inr}
 use Rattle.std.specs.Prelude.{Contains}
 use Rattle.claim_table.specs.CoreLaws.Waking.{is_anchored, is_there}
-use Rattle.validator_core.specs.Tables.CoreTables.View.{log_of}
+use Rattle.validator_core.specs.Tables.View.{log_of}
 use Rattle.validator_core.specs.Settlement.Awaited.{IsNextAt}
 use Rattle.validator_core.proofs.SettlementLemmas.Waking.{due_is}
 use Rattle.validator_core.proofs.SettlementLemmas.DueNumbers.{inserted_kept, inserted_or, inserted_there}

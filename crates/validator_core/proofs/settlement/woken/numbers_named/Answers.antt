@@ -3,7 +3,7 @@ use Rattle.std.specs.Prelude.{Contains, option_map}
 use Rattle.event_body.specs.EventBody.Events.{prefix_of, said_of, sn_of}
 use Rattle.journal.specs.Journal.Readiness.{is_local}
 use Rattle.journal.specs.Journal.Seals.{seals as journal_seals}
-use Rattle.validator_core.specs.Tables.CoreTables.View.{log_of, waiter_of}
+use Rattle.validator_core.specs.Tables.View.{log_of, waiter_of}
 use Rattle.validator_core.proofs.SettlementLemmas.Events.{event_is, if_ok_both}
 use Rattle.validator_core.proofs.SettlementLemmas.Waking.{own_seal, waits_there, woken}
 use Rattle.validator_core.proofs.settlement.woken.numbers_named.Goals as goal

@@ -3,7 +3,7 @@ use Rattle.std.specs.Prelude.{Contains, slice_get}
 use Rattle.std.proofs.lemmas.Bool.{and_parts}
 use Rattle.escrow.proofs.EventIndexLemmas.Orders.{Contains-filter}
 use Rattle.claim_table.specs.CoreLaws.Waking.{is_waiting}
-use Rattle.validator_core.specs.Tables.CoreTables.View.{log_of}
+use Rattle.validator_core.specs.Tables.View.{log_of}
 use Rattle.validator_core.specs.Settlement.Awaited.{is_awaited_there}
 use Rattle.validator_core.proofs.SettlementLemmas.Events.{if_ok_then}
 use Rattle.validator_core.proofs.settlement.woken.numbers_woken.Goals as goal

@@ -1,7 +1,7 @@
 use Rattle.std.proofs.Common.{ℕ, Bool, cond, [], ◌∷◌, ◌++◌, take, get_or, sym, ◌∙◌, ap, append-nil}
 use Rattle.std.specs.Prelude.{filter, slice_get}
 use Rattle.std.proofs.lemmas.List.Elements.{filter_more}
-use Rattle.validator_core.specs.Tables.CoreTables.View.{log_of}
+use Rattle.validator_core.specs.Tables.View.{log_of}
 use Rattle.validator_core.specs.Settlement.Awaited.{is_awaited_there}
 use Rattle.validator_core.proofs.settlement.woken.waiters.Goals.{then-is_awaited_at+in_ok-push, else-is_awaited_at}
 use Rattle.validator_core.proofs.settlement.woken.waiters.Goals as goal

@@ -4,9 +4,9 @@ use Rattle.event_backing.specs.Listing.{AreSealsOf}
 use Rattle.event_backing.proofs.Held.{listed-held}
 use Rattle.event_body.specs.EventBody.Events.{anchors_of}
 use Rattle.journal.proofs.JournalLemmas.Places.{found_at}
-use Rattle.validator_core.specs.Tables.CoreTables.Names.{name_in}
-use Rattle.validator_core.proofs.TablesLemmas.CoreTablesLemmas.NamedRows.{same_name_is}
-use Rattle.validator_core.proofs.TablesLemmas.CoreTablesLemmas.Rows.{contained}
+use Rattle.validator_core.specs.Tables.Names.{name_in}
+use Rattle.validator_core.proofs.TablesLemmas.NamedRows.{same_name_is}
+use Rattle.validator_core.proofs.TablesLemmas.Rows.{contained}
 use Rattle.validator_core.proofs.settlement.woken.with_sealed.Goals as goal
 
 pub returns-clause-sealed : goal.returns-clause-sealed

@@ -1,7 +1,7 @@
 use Rattle.std.proofs.Common.{◌≡◌, refl, sym, ◌∙◌, ap, subst}
 use Rattle.std.specs.Prelude.{Some, slice_get}
 use Rattle.validator_core.specs.Tables.AcceptedLog.Cuts.{IsLog}
-use Rattle.validator_core.specs.Tables.CoreTables.View.{body_of, log_of}
+use Rattle.validator_core.specs.Tables.View.{body_of, log_of}
 use Rattle.journal_views.specs.EventPayload.Kept.{state_under}
 use Rattle.validator_core.specs.ValidatorCore.Signatures.{is_witness_under}
 use Rattle.key_state.specs.Same.{has_key}

@@ -1,6 +1,6 @@
 use Rattle.std.proofs.Common.{ap, sym, ◌∙◌}
 use Rattle.std.specs.Option.{option_copied}
-use Rattle.validator_core.specs.Tables.CoreTables.View.{body_of}
+use Rattle.validator_core.specs.Tables.View.{body_of}
 use Rattle.event_body.specs.EventBody.Events.{prefix_of}
 use Rattle.journal.specs.Journal.Logs.{takes}
 use Rattle.validator_core.proofs.ValidatorCoreLemmas.Bases.{fits_new, held_unfit, receipt_unfit, state_held}

@@ -3,8 +3,8 @@ use Rattle.std.specs.Prelude.{filter_map, flat_map, slice_get}
 use Rattle.std.specs.Option.{option_copied}
 use Rattle.std.proofs.lemmas.List.{take_all}
 use Rattle.cesr_codes.specs.declared.indexed_sig.IndexedSig.{IndexedSig}
-use Rattle.validator_core.specs.Tables.CoreTables.Raised.{claims_at}
-use Rattle.validator_core.specs.Tables.CoreTables.View.{body_of}
+use Rattle.validator_core.specs.Tables.Raised.{claims_at}
+use Rattle.validator_core.specs.Tables.View.{body_of}
 use Rattle.validator_core.specs.ValidatorCore.Signatures.{good_claim}
 use Rattle.key_state.specs.Exposure.{own_rules}
 use Rattle.validator_core.specs.Acceptance.Entries.{says_in}

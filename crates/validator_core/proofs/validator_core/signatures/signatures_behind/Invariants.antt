@@ -1,7 +1,7 @@
 use Rattle.std.proofs.Common.{◌≡◌, take}
 use Rattle.std.specs.Prelude.{Some, filter_map, flat_map, slice_get}
 use Rattle.std.specs.Option.{option_copied}
-use Rattle.validator_core.specs.Tables.CoreTables.Raised.{claims_at}
+use Rattle.validator_core.specs.Tables.Raised.{claims_at}
 use Rattle.validator_core.specs.ValidatorCore.Signatures.{good_claim}
 use Rattle.journal.specs.declared.journal.body.Body.{Body}
 use Rattle.key_state.specs.Exposure.{own_rules}

@@ -2,7 +2,7 @@ use Rattle.std.proofs.Common.{◌≡◌, ◌∙◌, ap, subst}
 use Rattle.std.specs.Prelude.{slice_get}
 use Rattle.validator_core.specs.Acceptance.Footing.{IsFooting}
 use Rattle.validator_core.specs.Acceptance.Standing.{told_of}
-use Rattle.validator_core.specs.Tables.CoreTables.View.{body_of, log_of}
+use Rattle.validator_core.specs.Tables.View.{body_of, log_of}
 use Rattle.validator_core.specs.ValidatorCore.Signatures.{good_in}
 use Rattle.journal.specs.Journal.Readiness.{good_sigs}
 use Rattle.validator_core.proofs.AcceptanceLemmas.Bodies.{at_body}

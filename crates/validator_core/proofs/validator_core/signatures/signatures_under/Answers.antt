@@ -2,7 +2,7 @@ use Rattle.std.proofs.Common.{◌≡◌, refl, sym, ◌∙◌, ap, subst}
 use Rattle.std.specs.Prelude.{Some, slice_get}
 use Rattle.validator_core.specs.Tables.AcceptedLog.Cuts.{IsLog}
 use Rattle.validator_core.specs.Acceptance.Standing.{told_of}
-use Rattle.validator_core.specs.Tables.CoreTables.View.{body_of, log_of}
+use Rattle.validator_core.specs.Tables.View.{body_of, log_of}
 use Rattle.journal_views.specs.EventPayload.Kept.{state_under}
 use Rattle.validator_core.specs.ValidatorCore.Signatures.{good_under}
 use Rattle.validator_core.proofs.AcceptanceLemmas.Bodies.{at_body}

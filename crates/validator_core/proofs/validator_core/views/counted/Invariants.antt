@@ -1,7 +1,7 @@
 use Rattle.std.proofs.Common.{◌≡◌, ◌<◌, length, take}
 use Rattle.std.specs.Prelude.{All, filter}
 use Rattle.validator_core.specs.Acceptance.Standing.{told_of}
-use Rattle.validator_core.specs.Tables.CoreTables.View.{log_of}
+use Rattle.validator_core.specs.Tables.View.{log_of}
 use Rattle.journal.specs.Journal.Conflicts.{counts}
 use Rattle.journal.specs.Journal.Journals.{chosen}
 use Rattle.validator_core.proofs.validator_core.views.counted.Given as goal

@@ -1,7 +1,7 @@
 use Rattle.std.proofs.Common.{[], ◌∷◌, length, sym, ◌∙◌, ap, subst}
 use Rattle.std.specs.Prelude.{OnOk}
 use Rattle.std.proofs.lemmas.Result.{on_err_weaker}
-use Rattle.validator_core.specs.Tables.CoreTables.View.{IsCut, rewound}
+use Rattle.validator_core.specs.Tables.View.{IsCut, rewound}
 use Rattle.journal.specs.declared.journal.entry.Entry.TheVariants.{Took}
 use Rattle.validator_core.specs.ValidatorCore.Tables.{SettlesFrom}
 use Rattle.validator_core.proofs.AcceptanceLemmas.Rewound.{extends_then}

@@ -1,6 +1,6 @@
 use Rattle.std.proofs.Common.{[], length, sym, ◌∙◌, ap, subst}
 use Rattle.std.proofs.lemmas.Result.{on_err_weaker}
-use Rattle.validator_core.specs.Tables.CoreTables.View.{IsCut, rewound}
+use Rattle.validator_core.specs.Tables.View.{IsCut, rewound}
 use Rattle.journal.specs.declared.journal.entry.Entry.TheVariants.{Took}
 use Rattle.validator_core.proofs.AcceptanceLemmas.Rewound.{extends_then}
 use Rattle.validator_core.proofs.ValidatorCoreLemmas.Cuts.{back_took, cut_took}

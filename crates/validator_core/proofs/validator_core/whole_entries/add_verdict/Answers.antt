@@ -1,7 +1,7 @@
 use Rattle.std.proofs.Common.{None, sym, ◌∙◌, ap, subst}
 use Rattle.std.proofs.lemmas.Result.{IfOk-at_ok}
 use Rattle.claim_table.specs.ClaimTable.Rows.{unheard}
-use Rattle.validator_core.specs.Tables.CoreTables.View.{View, IsCut, rewound, with_claims}
+use Rattle.validator_core.specs.Tables.View.{View, IsCut, rewound, with_claims}
 use Rattle.validator_core.specs.Settlement.Entries.{signature_asked}
 use Rattle.validator_core.specs.ValidatorCore.Tables.{SettlesFrom}
 use Rattle.validator_core.proofs.ValidatorCoreLemmas.Cuts.{back_heard, cut_heard, undone}

@@ -1,6 +1,6 @@
 use Rattle.std.proofs.Common.{sym, ◌∙◌, ap}
 use Rattle.std.specs.Prelude.{option_map}
-use Rattle.validator_core.proofs.TablesLemmas.CoreTablesLemmas.Rows.{not_some}
+use Rattle.validator_core.proofs.TablesLemmas.Rows.{not_some}
 use Rattle.event_body.specs.EventBody.Events.{said_of}
 use Rattle.validator_core.proofs.SettlementLemmas.Events.{body_there, if_ok_both, if_ok_then}
 use Rattle.validator_core.proofs.ValidatorCoreLemmas.Candidates.{have_no_others, have_numbers, no_numbers, none_but}

@@ -1,5 +1,5 @@
 use Rattle.std.proofs.Common.{sym, ◌∙◌, subst}
-use Rattle.validator_core.specs.Tables.CoreTables.View.{body_of}
+use Rattle.validator_core.specs.Tables.View.{body_of}
 use Rattle.journal.specs.declared.journal.reply.Reply.TheVariants.{LimitReached, Taken}
 use Rattle.validator_core.specs.ValidatorCore.Calls.{TakesBody}
 use Rattle.validator_core.specs.ValidatorCore.Looks.{LooksByReply}
