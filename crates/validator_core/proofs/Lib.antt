@@ -1,4 +1,4 @@
 pub mod TablesLemmas
 pub mod AcceptanceLemmas
-pub mod SettlementLemmas
+pub mod TableChangesLemmas
 pub mod ValidatorCoreLemmas

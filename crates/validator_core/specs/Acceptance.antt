@@ -2,7 +2,7 @@ pub mod Parts
 pub mod Turned
 pub mod Standing
 pub mod Footing
-pub mod Settled
+pub mod ReadyRuns
 pub mod Current
 pub mod Wants
 pub mod Entries

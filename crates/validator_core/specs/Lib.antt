@@ -1,4 +1,4 @@
 pub mod Tables
 pub mod Acceptance
-pub mod Settlement
+pub mod TableChanges
 pub mod ValidatorCore

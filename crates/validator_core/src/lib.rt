@@ -2,12 +2,12 @@
 #![tactic(auto)]
 
 mod acceptance;
-mod settlement;
+mod table_changes;
 mod tables;
 mod validator_core;
 
 pub use acceptance::{Footing, counts, footing_of, is_ready, is_there, why_waits};
-pub use settlement::{accept, accept_ready, enter_body, enter_claims, enter_verdict};
+pub use table_changes::{accept, accept_ready, enter_body, enter_claims, enter_verdict};
 pub use tables::{
     AcceptedLog, ClaimKey, Mark, Name, Place, SealKey, Tables, claims_by, name_of, prior_name,
 };

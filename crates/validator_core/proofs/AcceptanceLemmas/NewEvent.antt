@@ -159,15 +159,15 @@ module _ (v : View) (is : IsStanding v) (m : ℕ) (c : Body) (at : slice_get v.h
       ]
 
 -- WOKEN: the escrow's events behind the digest are all of these
-pub all_woken : (v : View) → IsStanding v → (waiting : Escrow) → IsEscrow waiting v.held (take v.settled v.log.numbers) → (c : Body) (woken : List ℕ)
+pub all_woken : (v : View) → IsStanding v → (waiting : Escrow) → IsEscrow waiting v.held (take v.released v.log.numbers) → (c : Body) (woken : List ℕ)
     → ((n : ℕ) → Contains woken n ↔ Waits n (λ w. w.prior ≡ Some (said_of c.event)) waiting)
     → (n : ℕ) (b : Body) → slice_get v.held n ≡ Some b → precedes b c ≡ true → predecessor (log_of v) b ≡ None → list_any (λ m. m == n) woken ≡ true
 unfolding waiter_at
 all_woken v is waiting escrow c woken those n b at right none =
     let kind = precedes_some b c right in
-    let out = not_taken v.settled v.log.numbers n (unaccepted v is n b at kind.2 none) in
-    let waits : held_by n waiting ≡ Some (waiter_of n b.event) = escrow n ∙ ap (waiter_at (take v.settled v.log.numbers) n) at
-    ∙ ap (λ y. if y || list_any (λ m. m == n) (take v.settled v.log.numbers) then None else Some (waiter_of n b.event)) kind.1 ∙ ap (λ y. if y then None else Some (waiter_of n b.event)) out in
+    let out = not_taken v.released v.log.numbers n (unaccepted v is n b at kind.2 none) in
+    let waits : held_by n waiting ≡ Some (waiter_of n b.event) = escrow n ∙ ap (waiter_at (take v.released v.log.numbers) n) at
+    ∙ ap (λ y. if y || list_any (λ m. m == n) (take v.released v.log.numbers) then None else Some (waiter_of n b.event)) kind.1 ∙ ap (λ y. if y then None else Some (waiter_of n b.event)) out in
     member_any (λ m. m == n) woken n ((those n).1 (waiter_of n b.event, waits, kind.0)) (number_itself n)
   where
     not_taken : (k : ℕ) (xs : List ℕ) (n : ℕ) → list_any (λ m. m == n) xs ≡ false → list_any (λ m. m == n) (take k xs) ≡ false

@@ -32,15 +32,15 @@ rewound_is old new more = λ i. record {
   entries = more.entries i;
   log = more.log.back i;
   claims = record { rows = more.rows i; pending = more.pending i };
-  settled = more.settled i;
+  released = more.released i;
 }
 
 -- and what is left speaks of bodies that are left
-pub is_cut : (old new : View) → IsStanding old → old.settled ≤ length old.log.numbers → KeepsPending (length old.claims.rows) new.claims.rows new.claims.pending → Extends old new → IsCut (mark_of old) new
-is_cut old new is settled pending more = record {
+pub is_cut : (old new : View) → IsStanding old → old.released ≤ length old.log.numbers → KeepsPending (length old.claims.rows) new.claims.rows new.claims.pending → Extends old new → IsCut (mark_of old) new
+is_cut old new is released pending more = record {
   entries_held = subst (All (λ e. number_of e < length old.held)) (sym more.entries) (all_from (λ e. number_of e < length old.held) old.entries is.entries_held);
   accepted_held = subst (All (λ n. n < length old.held)) (sym (ap (λ l. l.numbers) more.log.back)) (all_from (λ n. n < length old.held) old.log.numbers is.accepted_held);
-  settled_held = subst (λ k. k ≤ length old.log.numbers) (sym more.settled) settled;
+  released_held = subst (λ k. k ≤ length old.log.numbers) (sym more.released) released;
   pending_held = pending;
 }
 
@@ -52,7 +52,7 @@ extends_itself v is = record {
   log = extends_refl v.log (is.log.places ∙ sym is.log.numbers);
   rows = take-length v.claims.rows;
   pending = refl;
-  settled = refl;
+  released = refl;
 }
 
 -- THEN: more has come behind it
@@ -63,7 +63,7 @@ extends_then u v w first next = record {
   log = extends_trans u.log v.log w.log first.log next.log;
   rows = take_front u.claims.rows v.claims.rows w.claims.rows first.rows next.rows;
   pending = next.pending ∙ first.pending;
-  settled = next.settled ∙ first.settled;
+  released = next.released ∙ first.released;
 }
 
 pub raised_behind : (rows : List Row) (cs : List Claimed) → take (length rows) (raised_all rows cs) ≡ rows
@@ -72,7 +72,7 @@ raised_behind rows (c ∷ cs) = take_front rows (raised rows c) (raised_all (rai
 
 -- a body, an entry, claims
 pub extends_held : (v : View) (b : Body) → IsStanding v → Extends v (record v { held = v.held ++ b ∷ [] })
-extends_held v b is = record { held = take-append_seam v.held (b ∷ []); entries = take-length v.entries; log = (extends_itself v is).log; rows = take-length v.claims.rows; pending = refl; settled = refl }
+extends_held v b is = record { held = take-append_seam v.held (b ∷ []); entries = take-length v.entries; log = (extends_itself v is).log; rows = take-length v.claims.rows; pending = refl; released = refl }
 
 -- behind tables that extend others, an entry and claims
 pub extends_told : (u v : View) (e : Entry) → Extends u v → Extends u (with_entry e v)
@@ -82,7 +82,7 @@ extends_told u v e more = record {
   log = more.log;
   rows = more.rows;
   pending = more.pending;
-  settled = more.settled;
+  released = more.released;
 }
 
 pub extends_claimed : (u v : View) (cs : List Claimed) → Extends u v → Extends u (with_rows (raised_all v.claims.rows cs) v)
@@ -92,5 +92,5 @@ extends_claimed u v cs more = record {
   log = more.log;
   rows = take_front u.claims.rows v.claims.rows (raised_all v.claims.rows cs) more.rows (raised_behind v.claims.rows cs);
   pending = more.pending;
-  settled = more.settled;
+  released = more.released;
 }

@@ -54,7 +54,7 @@ some_place test xs = ap is_some (position_from-zero test xs) ∙ go 0 xs
     go i [] = refl
     go i (y ∷ ys) = elim (cases_Bool (test y)) [ inl k ↦ rw k refl | inr k ↦ rw k (go (i + 1) ys) ]
 
-module _ {held : List Body} {entries : List Entry} {ns : List ℕ} {settled : ℕ} {w : Escrow} {names told places : Name → List ℕ} {came : ClaimKey → List ℕ} {seals : SealKey → List ℕ} {clash : Bool} (h : AreHinted held entries ns settled w names told places came seals clash)
+module _ {held : List Body} {entries : List Entry} {ns : List ℕ} {released : ℕ} {w : Escrow} {names told places : Name → List ℕ} {came : ClaimKey → List ℕ} {seals : SealKey → List ℕ} {clash : Bool} (h : AreHinted held entries ns released w names told places came seals clash)
     (events : List Event) (same : (n : ℕ) → slice_get events n ≡ option_map (λ b. b.event) (slice_get held n)) where
   pub sealed_found : (holder : Prefix) (e : Event) → IsEventSeal (record { prefix = prefix_of e; sn = sn_of e; said = said_of e }) → (these : List Event) (those at : List ℕ) (name : Name)
       → these ≡ events → those ≡ ns → name ≡ name_of e → at ≡ seals (seal_key holder name) → IsStrictlyIncreasing at

@@ -21,7 +21,7 @@ pub on_both : {T E P Q R : Type 0} (r : Result T E) → OnOk r P → OnErr r Q �
 on_both (Ok x) p q f g = f p
 on_both (Err e) p q f g = g q
 
-module _ {held : List Body} {entries : List Entry} {numbers : List ℕ} {settled : ℕ} {w : Escrow} {names told places : Name → List ℕ} {came : ClaimKey → List ℕ} {seals : SealKey → List ℕ} {clash : Bool} (h : AreHinted held entries numbers settled w names told places came seals clash)
+module _ {held : List Body} {entries : List Entry} {numbers : List ℕ} {released : ℕ} {w : Escrow} {names told places : Name → List ℕ} {came : ClaimKey → List ℕ} {seals : SealKey → List ℕ} {clash : Bool} (h : AreHinted held entries numbers released w names told places came seals clash)
     (places_new : Name → List ℕ) (seals_new : SealKey → List ℕ) (count : ℕ) (count_is : count ≡ length numbers) (kept : KeepsBelow count places places_new) (kept_seals : KeepsBelow count seals seals_new)
     (clash_new : Bool) (clear : clash_new ≡ false → clash ≡ false) where
   low : KeepsBelow (length numbers) places places_new
@@ -31,13 +31,13 @@ module _ {held : List Body} {entries : List Entry} {numbers : List ℕ} {settled
   low_seals = subst (λ k. KeepsBelow k seals seals_new) count_is kept_seals
 
   -- the log is as before
-  pub none_accepted : (new : List ℕ) → new ≡ numbers → AreHinted held entries new settled w names told places_new came seals_new clash_new
+  pub none_accepted : (new : List ℕ) → new ≡ numbers → AreHinted held entries new released w names told places_new came seals_new clash_new
   none_accepted new is = rw is (hinted_clash (hinted_kept h _ _ _ _ _ _ (λ n. refl) (keeps_itself _ _) (keeps_itself _ _) low (keeps_itself _ _) low_seals) clash_new clear)
 
   -- the body's event is the last one
   pub one_accepted : (b : Body) (number : ℕ) (e : Event) → slice_get held number ≡ Some b → b.event ≡ e → Contains (places_new (name_of e)) count → IsSealedAt seals_new e count
       → (clash_new ≡ false → IsNameNew held numbers (name_of e)) → (new : List ℕ) → new ≡ numbers ++ number ∷ []
-      → AreHinted held entries new settled w names told places_new came seals_new clash_new
+      → AreHinted held entries new released w names told places_new came seals_new clash_new
   one_accepted b number e there event_is added sealed fresh new is =
       rw is
       (hinted_accepted h b number places_new seals_new there

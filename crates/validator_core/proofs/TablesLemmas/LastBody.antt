@@ -27,10 +27,10 @@ module _ (bodies bodies_new : List (List ℕ)) (events events_new : List Event) 
   pub pushed_pairs : paired bodies_new events_new ≡ paired bodies events ++ body_of text event ∷ []
   pushed_pairs = (λ i. paired (b i) (e i)) ∙ paired-push bodies events even text event
 
-pub hinted_pushed : {held : List Body} {entries : List Entry} {numbers : List ℕ} {settled : ℕ} {w : Escrow} {names told places : Name → List ℕ} {came : ClaimKey → List ℕ} {seals : SealKey → List ℕ} {clash : Bool} → AreHinted held entries numbers settled w names told places came seals clash
+pub hinted_pushed : {held : List Body} {entries : List Entry} {numbers : List ℕ} {released : ℕ} {w : Escrow} {names told places : Name → List ℕ} {came : ClaimKey → List ℕ} {seals : SealKey → List ℕ} {clash : Bool} → AreHinted held entries numbers released w names told places came seals clash
     → (b : Body) (held_new : List Body) (new : Escrow) (names_new : Name → List ℕ) (count : ℕ) → held_new ≡ held ++ b ∷ [] → count ≡ length held → count < 4294967296
     → Contains (names_new (name_of b.event)) count → KeepsBelow count names names_new → ((n : ℕ) → held_by n new ≡ placed (waiter_for count b.event) n (held_by n w))
-    → AreHinted held_new entries numbers settled new names_new told places came seals clash
+    → AreHinted held_new entries numbers released new names_new told places came seals clash
 hinted_pushed {w = w} {names = names} h b held_new new names_new count held_is count_is room added kept put =
     rw held_is
     (hinted_body h b new names_new (subst (λ k. k < 4294967296) count_is room) (subst (Contains (names_new (name_of b.event))) count_is added) (subst (λ k. KeepsBelow k names names_new) count_is kept)

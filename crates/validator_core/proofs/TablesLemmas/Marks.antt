@@ -22,11 +22,11 @@ keeps rows (Some s) h = ap (λ rs. is_raised rs s) (take-length rows) ∙ h s re
 
 -- the whole lists are cut nowhere
 pub whole_is_cut : (v : View) → ((i : ℕ) (e : Entry) → slice_get v.entries i ≡ Some e → number_of e < length v.held) → ((i n : ℕ) → slice_get v.log.numbers i ≡ Some n → n < length v.held)
-    → v.settled ≤ length v.log.numbers → IsPending v.claims → IsCut (mark_of v) v
-whole_is_cut v entries accepted settled pending = record {
+    → v.released ≤ length v.log.numbers → IsPending v.claims → IsCut (mark_of v) v
+whole_is_cut v entries accepted released pending = record {
   entries_held = subst (All (λ e. number_of e < length v.held)) (sym (take-length v.entries)) (all_from (λ e. number_of e < length v.held) v.entries entries);
   accepted_held = subst (All (λ n. n < length v.held)) (sym (take-length v.log.numbers)) (all_from (λ n. n < length v.held) v.log.numbers accepted);
-  settled_held = settled;
+  released_held = released;
   pending_held = keeps v.claims.rows v.claims.pending pending;
 }
 

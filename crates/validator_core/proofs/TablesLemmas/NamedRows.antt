@@ -101,7 +101,7 @@ named_before b c name p n d some =
     let e3 : same_digest (said_of c.event) name.said ≡ are_same (prior_of b.event) (Some (said_of c.event)) = turned (said_of c.event) name.said ∙ ap (λ o. are_same o (Some (said_of c.event))) (sym d) in
     λ i. e1 i && e2 i && e3 i
 
-module _ {held : List Body} {entries : List Entry} {ns : List ℕ} {settled : ℕ} {w : Escrow} {names told places : Name → List ℕ} {came : ClaimKey → List ℕ} {seals : SealKey → List ℕ} {clash : Bool} (h : AreHinted held entries ns settled w names told places came seals clash)
+module _ {held : List Body} {entries : List Entry} {ns : List ℕ} {released : ℕ} {w : Escrow} {names told places : Name → List ℕ} {came : ClaimKey → List ℕ} {seals : SealKey → List ℕ} {clash : Bool} (h : AreHinted held entries ns released w names told places came seals clash)
     (events : List Event) (same : (n : ℕ) → slice_get events n ≡ option_map (λ b. b.event) (slice_get held n)) where
   -- a test of the accepted event at a place
   at_place : (one : Option Event → Bool) (test : Body → Bool) → ((o : Option Body) → one (option_map (λ b. b.event) o) ≡ option_map_or test o false)
@@ -179,7 +179,7 @@ module _ {held : List Body} {entries : List Entry} {ns : List ℕ} {settled : �
       known i (Heard reader m key sig verdict) at t = cc
 
 -- where no two places have events of one name, no two accepted events clash
-pub no_clash : {held : List Body} {entries : List Entry} {ns : List ℕ} {settled : ℕ} {w : Escrow} {names told places : Name → List ℕ} {came : ClaimKey → List ℕ} {seals : SealKey → List ℕ} {clash : Bool} → AreHinted held entries ns settled w names told places came seals clash
+pub no_clash : {held : List Body} {entries : List Entry} {ns : List ℕ} {released : ℕ} {w : Escrow} {names told places : Name → List ℕ} {came : ClaimKey → List ℕ} {seals : SealKey → List ℕ} {clash : Bool} → AreHinted held entries ns released w names told places came seals clash
     → clash ≡ false → HasNoClash (chosen held ns)
 no_clash {held = held} {ns = ns} h clear b c b_in c_in prefix sn said =
     let log = chosen held ns in

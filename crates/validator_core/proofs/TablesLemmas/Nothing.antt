@@ -21,6 +21,6 @@ module _ (bodies : List (List ℕ)) (events : List Event) (entries : List Entry)
   unfolding paired
   hinted_start claims no_rows w names told places came seals empty = rw (no_bodies, no_entries, none, no_log, no_rows) (refl, λ s is. absurd (not_some s is), hinted_nothing w names told places came seals empty)
 
-  pub view_start : (claims : Table) → claims ≡ no_claims → let start : View = record { held = paired bodies events; entries = entries; log = log; claims = claims; settled = 0 } in start ≡ nothing
+  pub view_start : (claims : Table) → claims ≡ no_claims → let start : View = record { held = paired bodies events; entries = entries; log = log; claims = claims; released = 0 } in start ≡ nothing
   unfolding paired
   view_start claims no_rows = rw (no_bodies, no_entries, no_log, no_rows) refl

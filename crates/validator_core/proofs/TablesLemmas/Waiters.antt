@@ -62,12 +62,12 @@ gone front later n (Some b) =
       ]
     ]
 
-pub escrow_settled : (w new : Escrow) (held : List Body) (numbers : List ℕ) (settled : ℕ) → IsEscrow w held (take settled numbers)
-    → ((n : ℕ) → held_by n new ≡ (if list_any (λ m. m == n) (drop settled numbers) then None else held_by n w)) → IsEscrow new held (take (length numbers) numbers)
-escrow_settled w new held numbers settled is left n =
-    left n ∙ ap (λ o. if list_any (λ m. m == n) (drop settled numbers) then None else o) (is n)
-    ∙ sym (gone (take settled numbers) (drop settled numbers) n (slice_get held n))
-    ∙ ap (λ ns. waiter_at ns n (slice_get held n)) (take-append-drop settled numbers ∙ sym (take-length numbers))
+pub escrow_released : (w new : Escrow) (held : List Body) (numbers : List ℕ) (released : ℕ) → IsEscrow w held (take released numbers)
+    → ((n : ℕ) → held_by n new ≡ (if list_any (λ m. m == n) (drop released numbers) then None else held_by n w)) → IsEscrow new held (take (length numbers) numbers)
+escrow_released w new held numbers released is left n =
+    left n ∙ ap (λ o. if list_any (λ m. m == n) (drop released numbers) then None else o) (is n)
+    ∙ sym (gone (take released numbers) (drop released numbers) n (slice_get held n))
+    ∙ ap (λ ns. waiter_at ns n (slice_get held n)) (take-append-drop released numbers ∙ sym (take-length numbers))
 
 pub escrow_cut : (w new : Escrow) (held : List Body) (done : List ℕ) (mark : ℕ) → IsEscrow w held done
     → ((n : ℕ) → held_by n new ≡ (if nat_le mark n && nat_lt n (length held) then None else held_by n w)) → IsEscrow new (take mark held) done

@@ -154,7 +154,7 @@ unfolding told_by
 told_nothing held = refl
 
 -- CORE: the tables of a core that was told nothing
-module _ (mode : Mode) (limits : Limits) (texts : List (List ℕ)) (v : View) (base : IsBase texts v) (left : v.settled ≡ length v.log.numbers) where
+module _ (mode : Mode) (limits : Limits) (texts : List (List ℕ)) (v : View) (base : IsBase texts v) (left : v.released ≡ length v.log.numbers) where
   abbrev counted : Tally
   counted = record { messages = 0; body_bytes = bytes_of v.held; signatures = 0 }
 
@@ -211,8 +211,8 @@ pub state_held : (v : View) → AreAccepted v → (prefix : Prefix) (s : Option 
 state_held v all prefix s is = is ∙ all.stands.log.current prefix ∙ (let same = all.all in λ i. state (same i) prefix)
 
 -- SETTLED: once the accepted events have left the escrow
-pub settled_base : (texts : List (List ℕ)) (v : View) (n : ℕ) → IsBase texts v → IsBase texts (record v { settled = n })
-settled_base texts v n base =
+pub released_base : (texts : List (List ℕ)) (v : View) (n : ℕ) → IsBase texts v → IsBase texts (record v { released = n })
+released_base texts v n base =
     let s = base.accepted.stands in record {
       accepted = record {
         stands = record {

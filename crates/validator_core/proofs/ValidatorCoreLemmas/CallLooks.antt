@@ -22,11 +22,11 @@ use Rattle.journal.proofs.JournalLemmas.Places.{any_at, slice_get_last}
 use Rattle.keri_outside.specs.declared.limits.Limits.{Limits}
 use Rattle.validator_core.specs.declared.validator_core.tally.Tally.{Tally}
 use Rattle.validator_core.specs.ValidatorCore.Looks.{LooksAtFew, most_looks}
-use Rattle.validator_core.specs.ValidatorCore.Tables.{AddsEntry, AddsVerdict, IsCore, SettlesFrom, base_in}
+use Rattle.validator_core.specs.ValidatorCore.Tables.{AddsEntry, AddsVerdict, IsCore, AcceptsFrom, base_in}
 use Rattle.validator_core.proofs.ValidatorCoreLemmas.Bodies.{bodies_heard, bodies_new, bodies_old}
 use Rattle.validator_core.proofs.ValidatorCoreLemmas.Cores.{seen, v_held, v_log_of, v_told}
 use Rattle.validator_core.proofs.ValidatorCoreLemmas.Entries.{log_then, told_then}
-use Rattle.validator_core.proofs.ValidatorCoreLemmas.Looks.{looked, settles_few}
+use Rattle.validator_core.proofs.ValidatorCoreLemmas.Looks.{looked, accepts_few}
 
 module _ (mode : Mode) (limits : Limits) (base : ℕ) (old : View) (tally : Tally) (core : IsCore mode limits base old tally) where
   abbrev bs : List Body
@@ -36,18 +36,18 @@ module _ (mode : Mode) (limits : Limits) (base : ℕ) (old : View) (tally : Tall
   told = told_of old
 
   -- SETTLED: from tables that hold what comes, to those of the next core
-  module _ (new between before : View) (tally_then : Tally) (core_then : IsCore mode limits base new tally_then) (number steps steps_then : ℕ) (settles : SettlesFrom mode number between before steps steps_then)
+  module _ (new between before : View) (tally_then : Tally) (core_then : IsCore mode limits base new tally_then) (number steps steps_then : ℕ) (accepts : AcceptsFrom mode number between before steps steps_then)
       (t : Told) (b : Body) (at : slice_get between.held number ≡ Some b) (told_is : told_of between ≡ told ++ t ∷ []) (held_is : between.held ≡ bodies bs (told ++ t ∷ [])) (log_is : log_of between ≡ log_of old)
       (new_held : new.held ≡ before.held) (new_log : log_of new ≡ log_of before) where
-    looks_settled : LooksAtFew (seen mode limits base old) (said_of b.event) (seen mode limits base new) steps steps_then
-    looks_settled =
+    looks_accepted : LooksAtFew (seen mode limits base old) (said_of b.event) (seen mode limits base new) steps steps_then
+    looks_accepted =
         let first = log_is ∙ core.log_is in
         let last = sym new_log ∙ core_then.log_is in
-        let held = sym (new_held ∙ settles.settled.keeps.held) in
-        let few = settles_few mode between before number steps steps_then settles bs told t b at told_is held_is first in
+        let held = sym (new_held ∙ accepts.ready.keeps.held) in
+        let few = accepts_few mode between before number steps steps_then accepts bs told t b at told_is held_is first in
         record {
-          looks = looked mode between before number steps steps_then settles;
-          counted = settles.settled.steps_are;
+          looks = looked mode between before number steps steps_then accepts;
+          counted = accepts.ready.steps_are;
           few = subst (λ (log : List Body). HasNoClash log → steps_then ≤ steps + most_looks new.held (accepted mode bs told) log (said_of b.event)) last
               (subst (λ (log : List Body). HasNoClash (log_of before) → steps_then ≤ steps + most_looks new.held log (log_of before) (said_of b.event)) first
               (subst (λ (bodies : List Body). HasNoClash (log_of before) → steps_then ≤ steps + most_looks bodies (log_of between) (log_of before) (said_of b.event)) held few));
@@ -67,7 +67,7 @@ module _ (mode : Mode) (limits : Limits) (base : ℕ) (old : View) (tally : Tall
         let between = adds.brings.between in
         let comes = adds.brings.comes in
         let held = comes.held ∙ append-nil old.held in
-        looks_settled new between adds.before tally_then core_then number steps steps_then adds.brings.settles (took reader b claims) b (ap (λ hs. slice_get hs number) held ∙ at)
+        looks_accepted new between adds.before tally_then core_then number steps steps_then adds.brings.accepts (took reader b claims) b (ap (λ hs. slice_get hs number) held ∙ at)
         (told_then old between core.stands [] (Took reader number claims) comes (took reader b claims) whole_again)
         (held ∙ core.in_order ∙ sym (bodies_old bs told reader b claims inside))
         (log_then old between core.stands [] (Took reader number claims) comes (took reader b claims) whole_again)
@@ -85,7 +85,7 @@ module _ (mode : Mode) (limits : Limits) (base : ℕ) (old : View) (tally : Tall
         let comes = adds.brings.comes in
         let order = core.in_order in
         let longer : bodies bs (told ++ took reader b claims ∷ []) ≡ old.held ++ b ∷ [] = bodies_new bs told reader b claims (ap (λ hs. is_in hs b) (sym order) ∙ outside) ∙ ap (λ hs. hs ++ b ∷ []) (sym order) in
-        looks_settled new between adds.before tally_then core_then (length old.held) steps steps_then adds.brings.settles (took reader b claims) b (ap (λ hs. slice_get hs (length old.held)) comes.held ∙ slice_get_last old.held b)
+        looks_accepted new between adds.before tally_then core_then (length old.held) steps steps_then adds.brings.accepts (took reader b claims) b (ap (λ hs. slice_get hs (length old.held)) comes.held ∙ slice_get_last old.held b)
         (told_then old between core.stands (b ∷ []) (Took reader (length old.held) claims) comes (took reader b claims) whole_new)
         (comes.held ∙ sym longer)
         (log_then old between core.stands (b ∷ []) (Took reader (length old.held) claims) comes (took reader b claims) whole_new)
@@ -97,7 +97,7 @@ module _ (mode : Mode) (limits : Limits) (base : ℕ) (old : View) (tally : Tall
     pub looks_verdict : LooksAtFew (seen mode limits base old) (said_of b.event) (seen mode limits base new) steps steps_then
     looks_verdict =
         let held = v_held mode limits base old tally core new s verdict reader steps steps_then b at is_open adds in
-        looks_settled new adds.between adds.before tally core_then s.body steps steps_then adds.settles (heard reader b s.key s.sig verdict) b (ap (λ hs. slice_get hs s.body) held ∙ at)
+        looks_accepted new adds.between adds.before tally core_then s.body steps steps_then adds.accepts (heard reader b s.key s.sig verdict) b (ap (λ hs. slice_get hs s.body) held ∙ at)
         (v_told mode limits base old tally core new s verdict reader steps steps_then b at is_open adds)
         (held ∙ core.in_order ∙ sym (bodies_heard bs told reader b s.key s.sig verdict))
         (v_log_of mode limits base old tally core new s verdict reader steps steps_then b at is_open adds)

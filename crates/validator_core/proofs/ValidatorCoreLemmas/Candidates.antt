@@ -24,7 +24,7 @@ use Rattle.journal.specs.Journal.History.{is_receipt_for}
 use Rattle.journal.specs.Journal.Logs.{same_body}
 use Rattle.journal.proofs.JournalLemmas.Places.{one_body}
 use Rattle.validator_core.proofs.AcceptanceLemmas.Bodies.{waits_is}
-use Rattle.validator_core.proofs.SettlementLemmas.Waking.{waits_there}
+use Rattle.validator_core.proofs.TableChangesLemmas.Waking.{waits_there}
 use Rattle.validator_core.specs.ValidatorCore.Tables.{HaveNoOthers, HaveNumbers}
 
 -- a receipt has the digest of what it is for
@@ -55,25 +55,25 @@ module _ (v : View) (stands : IsStanding v) (number : ℕ) where
           | inr for ↦ ap (λ x. said_of x.event) same ∙ said_same d b for
         ]
 
-    module _ (escrow : Escrow) (is : IsEscrow escrow v.held (take v.settled v.log.numbers)) (said : Digest) (said_is : said ≡ said_of c.event) (due numbers : List ℕ)
+    module _ (escrow : Escrow) (is : IsEscrow escrow v.held (take v.released v.log.numbers)) (said : Digest) (said_is : said ≡ said_of c.event) (due numbers : List ℕ)
         (those : (n : ℕ) → Contains numbers n ↔ Waits n (λ w. w.said ≡ said) escrow) (all : (n : ℕ) → Contains due n ↔ Contains numbers n) where
       -- NAMED
       pub have_numbers : HaveNumbers v number due
       have_numbers m n d b here at_d at_b waits named =
-          let there = waits_there escrow v.held v.settled v.log.numbers n b is at_b waits in
+          let there = waits_there escrow v.held v.released v.log.numbers n b is at_b waits in
           (all n).1 ((those n).1 (waiter_of n b.event, there, sym (said_is ∙ named_said m n d b here at_d at_b named)))
 
       -- NO OTHERS
-      pub have_no_others : v.settled ≡ length v.log.numbers → IsStrictlySortedBy nat_cmp due → HaveNoOthers v number due
+      pub have_no_others : v.released ≡ length v.log.numbers → IsStrictlySortedBy nat_cmp due → HaveNoOthers v number due
       have_no_others left rising = record {
         rising = rising;
         waits = λ x n at_x has.
             (let same : x ≡ c = some_is x c (sym at_x ∙ at_c) in
             let w = (those n).0 ((all n).0 has) in
-            let out = out_of (take v.settled v.log.numbers) n (slice_get v.held n) w.0 (sym (is n) ∙ w.1) in
+            let out = out_of (take v.released v.log.numbers) n (slice_get v.held n) w.0 (sym (is n) ∙ w.1) in
             let b = out.0 in
-            let whole : take v.settled v.log.numbers ≡ v.log.numbers = ap (λ k. take k v.log.numbers) left ∙ take-length v.log.numbers in
-            let parts = or_parts (is_receipt b.event) (list_any (λ m. m == n) (take v.settled v.log.numbers)) out.3 in
+            let whole : take v.released v.log.numbers ≡ v.log.numbers = ap (λ k. take k v.log.numbers) left ∙ take-length v.log.numbers in
+            let parts = or_parts (is_receipt b.event) (list_any (λ m. m == n) (take v.released v.log.numbers)) out.3 in
             let event = parts.0 in
             let undone : list_any (λ m. m == n) v.log.numbers ≡ false = ap (list_any (λ m. m == n)) (sym whole) ∙ parts.1 in
             let waits : is_waiting (log_of v) b ≡ true = sym (waits_is v stands n b out.1) ∙ rw (event, undone) refl in

@@ -2,7 +2,7 @@
 use Rattle.std.proofs.Common.{◌≡◌, ℕ, ◌+◌, ◌<◌, ◌≤◌, Bool, true, false, suc, List, [], ◌∷◌, ◌++◌, length, Option, Some, None, refl, sym, ◌∙◌, ap, subst, arith, append-nil, length-append}
 use Rattle.std.specs.Prelude.{slice_get, take}
 use Rattle.std.proofs.lemmas.List.Sums.{sum_by-append}
-use Rattle.validator_core.specs.Acceptance.Settled.{KeepsTold}
+use Rattle.validator_core.specs.Acceptance.ReadyRuns.{KeepsTold}
 use Rattle.validator_core.specs.Acceptance.Standing.{IsHeld, IsStanding, told_of}
 use Rattle.validator_core.proofs.AcceptanceLemmas.Nothing.{nothing_stands}
 use Rattle.claim_table.proofs.CoreLawsLemmas.Entries.{all_from, none_ready}
@@ -71,8 +71,8 @@ module _ (mode : Mode) (limits : Limits) (base : ℕ) where
       }
 
   -- what is true of tables is true of those with the same lists
-  same_stands : (v : View) (pending : Option Signature) (settled : ℕ) → IsStanding v → IsStanding (record v { claims = record { rows = v.claims.rows; pending = pending }; settled = settled })
-  same_stands v pending settled is = record {
+  same_stands : (v : View) (pending : Option Signature) (released : ℕ) → IsStanding v → IsStanding (record v { claims = record { rows = v.claims.rows; pending = pending }; released = released })
+  same_stands v pending released is = record {
     spelled = is.spelled;
     differ = is.differ;
     entries_held = is.entries_held;
@@ -86,7 +86,7 @@ module _ (mode : Mode) (limits : Limits) (base : ℕ) where
   module _ (v : View) (tally : Tally) (bs : List Body) (ts : List Told) (stands : IsStanding v) (based : base ≤ length v.held) (base_is : take base v.held ≡ bs) (told_is : told_of v ≡ ts)
       (order : v.held ≡ bodies bs ts) (log : log_of v ≡ accepted mode bs ts) (regular : IsRegular mode bs ts) (tallied : IsTally tally bs ts)
       (within : bytes_of bs ≤ limits.body_bytes → IsWithin limits bs ts) where
-    pub core_of_parts : IsCore mode limits base (with_claims (record { rows = v.claims.rows; pending = None }) (record v { settled = length v.log.numbers })) tally
+    pub core_of_parts : IsCore mode limits base (with_claims (record { rows = v.claims.rows; pending = None }) (record v { released = length v.log.numbers })) tally
     core_of_parts =
         let b = sym base_is in
         let t = sym told_is in
@@ -110,8 +110,8 @@ module _ (mode : Mode) (limits : Limits) (base : ℕ) where
     told = told_of old
 
     -- NOTHING PENDING: where none was, the tables are those whose verdict is closed
-    closed : (v : View) → v.claims.pending ≡ None → with_claims (record { rows = v.claims.rows; pending = None }) (record v { settled = length v.log.numbers }) ≡ record v { settled = length v.log.numbers }
-    closed v none = let p = sym none in λ i. with_claims (record { rows = v.claims.rows; pending = p i }) (record v { settled = length v.log.numbers })
+    closed : (v : View) → v.claims.pending ≡ None → with_claims (record { rows = v.claims.rows; pending = None }) (record v { released = length v.log.numbers }) ≡ record v { released = length v.log.numbers }
+    closed v none = let p = sym none in λ i. with_claims (record { rows = v.claims.rows; pending = p i }) (record v { released = length v.log.numbers })
 
     -- AGAIN: claims came with a body that is held
     module _ (new : View) (number reader steps steps_then : ℕ) (claims : List Claim) (b : Body) (at : slice_get old.held number ≡ Some b) (room : HasRoom limits tally (length claims))
@@ -129,7 +129,7 @@ module _ (mode : Mode) (limits : Limits) (base : ℕ) where
       mid_held = adds.brings.comes.held ∙ append-nil old.held
 
       keeps : KeepsTold adds.brings.between adds.before
-      keeps = adds.brings.settles.settled.keeps
+      keeps = adds.brings.accepts.ready.keeps
 
       told_before : told_of adds.before ≡ told ++ told_b ∷ []
       told_before = let h = keeps.held in let e = keeps.entries in (λ i. told_by (h i) (e i)) ∙ mid_told
@@ -143,12 +143,12 @@ module _ (mode : Mode) (limits : Limits) (base : ℕ) where
       sum_same : bytes_of (bodies bs (told ++ told_b ∷ [])) ≡ bytes_of (bodies bs told) + 0
       sum_same = ap bytes_of order_then ∙ omega arith
 
-      core_before : IsCore mode limits base (with_claims (record { rows = adds.before.claims.rows; pending = None }) (record adds.before { settled = length adds.before.log.numbers })) (tally_with tally 0 (length claims))
-      core_before = core_of_parts adds.before (tally_with tally 0 (length claims)) bs (told ++ told_b ∷ []) adds.brings.settles.settled.stands
+      core_before : IsCore mode limits base (with_claims (record { rows = adds.before.claims.rows; pending = None }) (record adds.before { released = length adds.before.log.numbers })) (tally_with tally 0 (length claims))
+      core_before = core_of_parts adds.before (tally_with tally 0 (length claims)) bs (told ++ told_b ∷ []) adds.brings.accepts.ready.stands
           (subst (λ h. base ≤ length h) (sym (keeps.held ∙ mid_held)) core.based)
           (ap (take base) (keeps.held ∙ mid_held)) told_before
           (keeps.held ∙ mid_held ∙ core.in_order ∙ sym order_then)
-          (accepted_took mode bs told adds.brings.between adds.before number steps steps_then adds.brings.settles reader b claims (ap (λ h. slice_get h number) mid_held ∙ at) mid_told
+          (accepted_took mode bs told adds.brings.between adds.before number steps steps_then adds.brings.accepts reader b claims (ap (λ h. slice_get h number) mid_held ∙ at) mid_told
           (mid_held ∙ core.in_order ∙ sym order_then) (log_then old adds.brings.between core.stands [] (Took reader number claims) adds.brings.comes told_b is_whole ∙ core.log_is))
           (regular_took mode bs told core.regular reader b claims)
           (tally_took bs told tally core.tallied reader b claims 0 sum_same)
@@ -180,7 +180,7 @@ module _ (mode : Mode) (limits : Limits) (base : ℕ) where
       new_mid_told = told_then old adds.brings.between core.stands (b ∷ []) (Took reader (length old.held) claims) adds.brings.comes told_new whole_new
 
       new_keeps : KeepsTold adds.brings.between adds.before
-      new_keeps = adds.brings.settles.settled.keeps
+      new_keeps = adds.brings.accepts.ready.keeps
 
       held_before : adds.before.held ≡ old.held ++ b ∷ []
       held_before = new_keeps.held ∙ adds.brings.comes.held
@@ -197,11 +197,11 @@ module _ (mode : Mode) (limits : Limits) (base : ℕ) where
       new_base : take base adds.before.held ≡ bs
       new_base = ap (take base) new_keeps.held ∙ base_then old adds.brings.between core.stands (b ∷ []) (Took reader (length old.held) claims) adds.brings.comes told_new whole_new base core.based
 
-      new_core_before : IsCore mode limits base (with_claims (record { rows = adds.before.claims.rows; pending = None }) (record adds.before { settled = length adds.before.log.numbers })) (tally_with tally (length b.bytes) (length claims))
-      new_core_before = core_of_parts adds.before (tally_with tally (length b.bytes) (length claims)) bs (told ++ told_new ∷ []) adds.brings.settles.settled.stands
+      new_core_before : IsCore mode limits base (with_claims (record { rows = adds.before.claims.rows; pending = None }) (record adds.before { released = length adds.before.log.numbers })) (tally_with tally (length b.bytes) (length claims))
+      new_core_before = core_of_parts adds.before (tally_with tally (length b.bytes) (length claims)) bs (told ++ told_new ∷ []) adds.brings.accepts.ready.stands
           (omega (arith, ap length held_before, length-append old.held (b ∷ []), core.based))
           new_base new_told_before (held_before ∙ sym new_order)
-          (accepted_took mode bs told adds.brings.between adds.before (length old.held) steps steps_then adds.brings.settles reader b claims
+          (accepted_took mode bs told adds.brings.between adds.before (length old.held) steps steps_then adds.brings.accepts reader b claims
           (ap (λ h. slice_get h (length old.held)) adds.brings.comes.held ∙ slice_get_last old.held b) new_mid_told (adds.brings.comes.held ∙ sym new_order)
           (log_then old adds.brings.between core.stands (b ∷ []) (Took reader (length old.held) claims) adds.brings.comes told_new whole_new ∙ core.log_is))
           (regular_took mode bs told core.regular reader b claims)
@@ -243,7 +243,7 @@ module _ (mode : Mode) (limits : Limits) (base : ℕ) where
       v_log_of = let h = v_held in let l = v_log in λ i. chosen (h i) (l i).numbers
 
       pub v_keeps : KeepsTold adds.between adds.before
-      v_keeps = adds.settles.settled.keeps
+      v_keeps = adds.accepts.ready.keeps
 
       v_told_before : told_of adds.before ≡ told ++ told_v ∷ []
       v_told_before = let h = v_keeps.held in let e = v_keeps.entries in (λ i. told_by (h i) (e i)) ∙ v_told
@@ -251,12 +251,12 @@ module _ (mode : Mode) (limits : Limits) (base : ℕ) where
       v_order : bodies bs (told ++ told_v ∷ []) ≡ bodies bs told
       v_order = bodies_heard bs told reader b s.key s.sig verdict
 
-      v_core : IsCore mode limits base (with_claims (record { rows = adds.before.claims.rows; pending = None }) (record adds.before { settled = length adds.before.log.numbers })) tally
-      v_core = core_of_parts adds.before tally bs (told ++ told_v ∷ []) adds.settles.settled.stands
+      v_core : IsCore mode limits base (with_claims (record { rows = adds.before.claims.rows; pending = None }) (record adds.before { released = length adds.before.log.numbers })) tally
+      v_core = core_of_parts adds.before tally bs (told ++ told_v ∷ []) adds.accepts.ready.stands
           (subst (λ h. base ≤ length h) (sym (v_keeps.held ∙ v_held)) core.based)
           (ap (take base) (v_keeps.held ∙ v_held)) v_told_before
           (v_keeps.held ∙ v_held ∙ core.in_order ∙ sym v_order)
-          (accepted_heard mode bs told adds.between adds.before s.body steps steps_then adds.settles reader b s.key s.sig verdict (ap (λ h. slice_get h s.body) v_held ∙ at) v_told
+          (accepted_heard mode bs told adds.between adds.before s.body steps steps_then adds.accepts reader b s.key s.sig verdict (ap (λ h. slice_get h s.body) v_held ∙ at) v_told
           (v_held ∙ core.in_order ∙ sym v_order) (v_log_of ∙ core.log_is))
           (regular_heard mode bs told core.regular reader b s.key s.sig verdict is_open)
           (tally_heard bs told tally core.tallied reader b s.key s.sig verdict (ap bytes_of v_order))

@@ -14,7 +14,7 @@ use Rattle.claim_table.specs.ClaimTable.Table.{KeepsPending}
 use Rattle.validator_core.specs.Tables.View.{View, IsCut, mark_of, number_of, rewound, with_claims}
 
 -- TOOK: with no verdict pending
-module _ (old new : View) (stands : IsStanding old) (idle : old.claims.pending ≡ None) (left : old.settled ≡ length old.log.numbers) (more : Extends old new) where
+module _ (old new : View) (stands : IsStanding old) (idle : old.claims.pending ≡ None) (left : old.released ≡ length old.log.numbers) (more : Extends old new) where
   pub cut_took : IsCut (mark_of old) new
   cut_took = is_cut old new stands (omega (arith, left)) (subst (KeepsPending (length old.claims.rows) new.claims.rows) (sym (more.pending ∙ idle)) tt) more
 
@@ -34,14 +34,14 @@ raised_heard s v (r ∷ rows) =
     kept false = refl
 
 -- HEARD: the tables with a verdict that may be taken back
-module _ (s : Signature) (verdict : Bool) (reader : ℕ) (old between new : View) (stands : IsStanding old) (idle : old.claims.pending ≡ None) (left : old.settled ≡ length old.log.numbers)
+module _ (s : Signature) (verdict : Bool) (reader : ℕ) (old between new : View) (stands : IsStanding old) (idle : old.claims.pending ≡ None) (left : old.released ≡ length old.log.numbers)
     (raised : is_raised old.claims.rows s ≡ true) (hears : Hears s verdict reader old between) (more : Extends between new) where
   abbrev begun : View
   begun = with_claims (record { rows = heard s verdict old.claims.rows; pending = Some s }) old
 
   begun_extends : Extends begun between
   begun_extends = subst (Extends begun) (sym hears.is)
-      (record { held = take-length old.held; entries = take-append_seam old.entries _; log = (extends_itself old stands).log; rows = take-length (heard s verdict old.claims.rows); pending = refl; settled = refl })
+      (record { held = take-length old.held; entries = take-append_seam old.entries _; log = (extends_itself old stands).log; rows = take-length (heard s verdict old.claims.rows); pending = refl; released = refl })
 
   all_more : Extends begun new
   all_more = extends_then begun between new begun_extends more
@@ -53,7 +53,7 @@ module _ (s : Signature) (verdict : Bool) (reader : ℕ) (old between new : View
   cut_begun = record {
     entries_held = subst (All (λ e. number_of e < length old.held)) (sym all_more.entries) (all_from (λ e. number_of e < length old.held) old.entries stands.entries_held);
     accepted_held = subst (All (λ n. n < length old.held)) (sym (ap (λ l. l.numbers) all_more.log.back)) (all_from (λ n. n < length old.held) old.log.numbers stands.accepted_held);
-    settled_held = omega (arith, left, all_more.settled);
+    released_held = omega (arith, left, all_more.released);
     pending_held = subst (KeepsPending (length (heard s verdict old.claims.rows)) new.claims.rows) (sym all_more.pending)
         (ap (λ rows. is_raised rows s) all_more.rows ∙ raised_heard s (Some verdict) old.claims.rows ∙ raised);
   }

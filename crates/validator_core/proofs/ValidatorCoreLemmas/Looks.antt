@@ -5,7 +5,7 @@ use Rattle.std.specs.List.{list_any}
 use Rattle.std.proofs.lemmas.Bool.{and_from, and_parts, cases_Bool, or_cases, or_left, or_right}
 use Rattle.std.proofs.lemmas.List.{drop_at}
 use Rattle.std.proofs.lemmas.List.Sums.{sum_by-le-sum_by}
-use Rattle.validator_core.specs.Acceptance.Settled.{RunsOver, TakesFew, counted_on, looks_in}
+use Rattle.validator_core.specs.Acceptance.ReadyRuns.{RunsOver, TakesFew, counted_on, looks_in}
 use Rattle.validator_core.specs.Acceptance.Standing.{told_of}
 use Rattle.claim_table.proofs.CoreLawsLemmas.Looks.{bound_once, ends_with}
 use Rattle.claim_table.specs.CoreLaws.Looks.{IsClear, appended_in, is_counted}
@@ -21,10 +21,10 @@ use Rattle.journal.specs.Journal.History.{Told, bodies}
 use Rattle.journal.specs.Journal.Logs.{precedes, state}
 use Rattle.journal.specs.Journal.Readiness.{is_local, is_ready}
 use Rattle.journal.specs.Journal.Seals.{delegator_of, seals}
-use Rattle.validator_core.proofs.SettlementLemmas.Few.{few}
-use Rattle.validator_core.proofs.SettlementLemmas.Waking.{waited}
+use Rattle.validator_core.proofs.TableChangesLemmas.Few.{few}
+use Rattle.validator_core.proofs.TableChangesLemmas.Waking.{waited}
 use Rattle.validator_core.specs.ValidatorCore.Looks.{most_looks, waits_behind, waits_with}
-use Rattle.validator_core.specs.ValidatorCore.Tables.{HaveNoOthers, SettlesFrom}
+use Rattle.validator_core.specs.ValidatorCore.Tables.{HaveNoOthers, AcceptsFrom}
 
 -- what passes one test passes another
 count_more : {X : Type 0} (p q : X → Bool) (xs : List X) → ((x : X) → p x ≡ true → q x ≡ true) → count_by p xs ≤ count_by q xs
@@ -96,16 +96,16 @@ due_few v number due c at only =
     let less = few (waits_with (log_of v) (said_of c.event)) v.held [] due only.rising (λ n has. inr (only.waits c n at has)) in
     omega (arith, less)
 
--- FEW: the steps of a settling
-module _ (mode : Mode) (v after : View) (number steps steps_then : ℕ) (settles : SettlesFrom mode number v after steps steps_then) where
+-- FEW: the steps of accepting what is ready
+module _ (mode : Mode) (v after : View) (number steps steps_then : ℕ) (accepts : AcceptsFrom mode number v after steps steps_then) where
   abbrev pub looked : ℕ
-  looked = looks_in mode (told_of v) v.held settles.due (log_of v) (log_of after) settles.settled.run
+  looked = looks_in mode (told_of v) v.held accepts.due (log_of v) (log_of after) accepts.ready.run
 
-  pub settles_few : (base : List Body) (told : List Told) (t : Told) (c : Body) → slice_get v.held number ≡ Some c → told_of v ≡ told ++ t ∷ [] → v.held ≡ bodies base (told ++ t ∷ []) → log_of v ≡ accepted mode base told
+  pub accepts_few : (base : List Body) (told : List Told) (t : Told) (c : Body) → slice_get v.held number ≡ Some c → told_of v ≡ told ++ t ∷ [] → v.held ≡ bodies base (told ++ t ∷ []) → log_of v ≡ accepted mode base told
       → HasNoClash (log_of after) → steps_then ≤ steps + most_looks v.held (log_of v) (log_of after) (said_of c.event)
-  settles_few base told t c at told_is held_is log_is clear =
-      let is = settles.settled in
-      let bound = run_bound mode base told t (told_of v) v.held (log_of v) (log_of after) settles.due told_is held_is log_is in
-      let looks = run_few mode (told_of v) v.held (log_of v) (log_of after) settles.due bound is.run (is.stands.grown, clear) is.frugal in
-      let named = due_few v number settles.due c at settles.no_others in
+  accepts_few base told t c at told_is held_is log_is clear =
+      let is = accepts.ready in
+      let bound = run_bound mode base told t (told_of v) v.held (log_of v) (log_of after) accepts.due told_is held_is log_is in
+      let looks = run_few mode (told_of v) v.held (log_of v) (log_of after) accepts.due bound is.run (is.stands.grown, clear) is.frugal in
+      let named = due_few v number accepts.due c at accepts.no_others in
       omega (arith, looks, named, counted_few steps looked, is.steps_are)

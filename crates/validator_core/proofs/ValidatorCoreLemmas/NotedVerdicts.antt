@@ -20,7 +20,7 @@ use Rattle.journal.specs.Journal.Questions.{noted, state_before}
 use Rattle.journal.proofs.JournalLemmas.Places.{found_at, some_at}
 use Rattle.key_state.proofs.Same.{numbers}
 use Rattle.keri_outside.specs.declared.limits.Limits.{Limits}
-use Rattle.validator_core.specs.Settlement.Entries.{signature_asked}
+use Rattle.validator_core.specs.TableChanges.Entries.{signature_asked}
 use Rattle.validator_core.specs.declared.validator_core.tally.Tally.{Tally}
 use Rattle.validator_core.specs.ValidatorCore.Calls.{TakesVerdict}
 use Rattle.validator_core.specs.ValidatorCore.Looks.{LooksByVerdict}
@@ -135,7 +135,7 @@ module _ (mode : Mode) (limits : Limits) (base : ℕ) (old : View) (tally : Tall
     unheard_new =
         let told_is = told_verdict mode limits base old tally core new s verdict reader steps steps_then b.0 b.1 (new_is_open mode bs told (triple_on b.0 q.key q.sig) (sym (is_new b.0 b.1 up none))) adds in
         let log_is = sym core_answered.log_is ∙ ap (λ v. log_of v) adds.new_is in
-        let held_is = ap (λ (v : View). v.held) adds.new_is ∙ adds.settles.settled.keeps.held ∙ ap (λ (v : View). v.held) adds.hears.is in
+        let held_is = ap (λ (v : View). v.held) adds.new_is ∙ adds.accepts.ready.keeps.held ∙ ap (λ (v : View). v.held) adds.hears.is in
         λ i. sum_by (unheard_on (told_is i) (log_is i)) (held_is i)
 
     unheard_old : unheard_of (seen mode limits base old) ≡ sum_by (unheard_on told (log_of old)) old.held
@@ -149,6 +149,6 @@ module _ (mode : Mode) (limits : Limits) (base : ℕ) (old : View) (tally : Tall
         let raised = raised_is told (log_of old) old.held old.claims.rows core.stands.claims q.body b.0 b.1 q.key q.sig ∙ up in
         let silence = silent (has_verdict told (triple_on b.0 q.key q.sig)) (sym (ap is_none none) ∙ there b.0 b.1) in
         let stay = subst (λ l. (c : Body) → stands l c ≡ true → state_before (log_of adds.before) c ≡ state_before l c) same_log
-        (λ c on. stays mode (told_of adds.between) adds.between.held adds.settles.due (log_of adds.between) (log_of adds.before) adds.settles.settled.run c on) in
+        (λ c on. stays mode (told_of adds.between) adds.between.held adds.accepts.due (log_of adds.between) (log_of adds.before) adds.accepts.ready.run c on) in
         let less = fewer_unheard told reader b.0 q.key q.sig verdict (log_of old) (log_of adds.before) stay (raised_stands told (log_of old) b.0 (triple_on b.0 q.key q.sig) raised) raised silence old.held q.body b.1 in
         omega (arith, unheard_new, unheard_old, less)

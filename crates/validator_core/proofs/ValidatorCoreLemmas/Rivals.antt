@@ -27,7 +27,7 @@ use Rattle.journal.specs.Journal.Journals.{NameConflicts, chosen}
 use Rattle.journal.specs.Journal.Logs.{same_body}
 use Rattle.journal.proofs.JournalLemmas.Held.{chosen_push}
 use Rattle.journal.proofs.JournalLemmas.Places.{some_at}
-use Rattle.validator_core.proofs.SettlementLemmas.Waking.{own_seal}
+use Rattle.validator_core.proofs.TableChangesLemmas.Waking.{own_seal}
 use Rattle.validator_core.specs.declared.validator_core.tally.Tally.{Tally}
 use Rattle.validator_core.specs.ValidatorCore.Tables.{IsCore, base_in}
 use Rattle.validator_core.specs.ValidatorCore.Views.{IsPlaced}

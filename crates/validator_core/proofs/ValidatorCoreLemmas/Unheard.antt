@@ -11,7 +11,7 @@ use Rattle.event_body.specs.declared.event_body.event.Event.TheVariants.{Icp, Ro
 use Rattle.event_body.specs.EventBody.Events.{is_inception, prior_of}
 use Rattle.key_state.specs.Exposure.{own_rules}
 use Rattle.std.proofs.Math.Bool.{and-false}
-use Rattle.validator_core.specs.Acceptance.Settled.{RunsOver}
+use Rattle.validator_core.specs.Acceptance.ReadyRuns.{RunsOver}
 use Rattle.claim_table.specs.CoreLaws.Candidates.{ends, passes, appends}
 use Rattle.claim_table.proofs.CoreLawsLemmas.Predecessors.{predecessor-kept, predecessor-next, state_before-kept, state_before-none}
 use Rattle.claim_table.proofs.CoreLawsLemmas.Told.{claims_heard, has_push}

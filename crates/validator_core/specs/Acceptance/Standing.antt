@@ -43,7 +43,7 @@ pub record Extends (old new : View) : Type 0 where
   pub log : LogExtends old.log new.log
   pub rows : take (length old.claims.rows) new.claims.rows ≡ old.claims.rows
   pub pending : new.claims.pending ≡ old.claims.pending
-  pub settled : new.settled ≡ old.settled
+  pub released : new.released ≡ old.released
 
 -- some bodies and an entry come: they are last, and nothing else has changed but the rows of claims
 pub record Comes (more : List Body) (e : Entry) (old new : View) : Type 0 where
@@ -51,7 +51,7 @@ pub record Comes (more : List Body) (e : Entry) (old new : View) : Type 0 where
   pub entries : new.entries ≡ old.entries ++ e ∷ []
   pub log : new.log ≡ old.log
   pub pending : new.claims.pending ≡ old.claims.pending
-  pub settled : new.settled ≡ old.settled
+  pub released : new.released ≡ old.released
   pub stands : IsStanding new
 
 -- a verdict on a signature comes: its entry is last, it stands on the signature's rows and may still be taken back, and nothing
@@ -68,5 +68,5 @@ pub record Accepts (b : Body) (old new : View) : Type 0 where
   pub entries : new.entries ≡ old.entries
   pub log : log_of new ≡ log_of old ++ b ∷ []
   pub pending : new.claims.pending ≡ old.claims.pending
-  pub settled : new.settled ≡ old.settled
+  pub released : new.released ≡ old.released
   pub stands : IsStanding new

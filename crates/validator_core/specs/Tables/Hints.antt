@@ -69,16 +69,16 @@ abbrev pub IsNameNew : List Body → List ℕ → Name → Type 0
 IsNameNew held numbers name = (i n : ℕ) (b : Body) → slice_get numbers i ≡ Some n → slice_get held n ≡ Some b → name_of b.event ≡ name → ⊥
 
 -- all of these; entries and events of the log speak of bodies that are held
-pub record AreHinted (held : List Body) (entries : List Entry) (numbers : List ℕ) (settled : ℕ) (waiting : Escrow) (by_name told_at place_at : Name → List ℕ) (came_at : ClaimKey → List ℕ) (seal_at : SealKey → List ℕ) (clash : Bool) : Type 0 where
+pub record AreHinted (held : List Body) (entries : List Entry) (numbers : List ℕ) (released : ℕ) (waiting : Escrow) (by_name told_at place_at : Name → List ℕ) (came_at : ClaimKey → List ℕ) (seal_at : SealKey → List ℕ) (clash : Bool) : Type 0 where
   pub named : AreNamed by_name held
   pub told : AreTold told_at held entries
   pub came : HaveCome came_at entries
   pub accepted : AreAccepted place_at held numbers
   pub sealed : AreSealed seal_at held numbers
-  pub escrow : IsEscrow waiting held (take settled numbers)
+  pub escrow : IsEscrow waiting held (take released numbers)
   pub entries_held : (i : ℕ) (e : Entry) → slice_get entries i ≡ Some e → number_of e < length held
   pub accepted_held : (i n : ℕ) → slice_get numbers i ≡ Some n → n < length held
-  pub settled_held : settled ≤ length numbers
+  pub released_held : released ≤ length numbers
   pub few : length held ≤ 4294967296
   pub once : clash ≡ false → AreNamedOnce held numbers
 

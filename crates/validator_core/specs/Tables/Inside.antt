@@ -20,7 +20,7 @@ view_of t = record {
   entries = t.journal.entries;
   log = t.log;
   claims = t.claims;
-  settled = t.settled;
+  released = t.released;
 }
 
 -- each body has its event

@@ -21,10 +21,10 @@ pub record View : Type 0 where
   pub entries : List Entry
   pub log : Log
   pub claims : Table
-  pub settled : ℕ
+  pub released : ℕ
 
 abbrev pub nothing : View
-nothing = record { held = []; entries = []; log = no_events; claims = no_claims; settled = 0 }
+nothing = record { held = []; entries = []; log = no_events; claims = no_claims; released = 0 }
 
 -- the accepted events, in order
 abbrev pub log_of : View → List Body
@@ -80,12 +80,12 @@ rewound m v = record {
   entries = take m.entries v.entries;
   log = log_rewound m.accepted v.log;
   claims = record v.claims { rows = take m.claims v.claims.rows };
-  settled = v.settled;
+  released = v.released;
 }
 
 -- what is left when the lists are cut back speaks of bodies that are left
 pub record IsCut (m : Mark) (v : View) : Type 0 where
   pub entries_held : All (λ e. number_of e < m.bodies) (take m.entries v.entries)
   pub accepted_held : All (λ n. n < m.bodies) (take m.accepted v.log.numbers)
-  pub settled_held : v.settled ≤ m.accepted
+  pub released_held : v.released ≤ m.accepted
   pub pending_held : KeepsPending m.claims v.claims.rows v.claims.pending

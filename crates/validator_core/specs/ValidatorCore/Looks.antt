@@ -1,7 +1,7 @@
 -- How many events that wait a call looks at: those with the digest that is named, and those behind what the call accepts.
 use Rattle.std.specs.Prelude.{◌≡◌, ℕ, ◌+◌, ◌≤◌, Bool, ◌&&◌, ◌||◌, List, length, drop, count_by, slice_get, Some}
 use Rattle.std.specs.List.{list_any}
-use Rattle.validator_core.specs.Acceptance.Settled.{counted_on}
+use Rattle.validator_core.specs.Acceptance.ReadyRuns.{counted_on}
 use Rattle.claim_table.specs.CoreLaws.Standing.{HasNoClash}
 use Rattle.claim_table.specs.CoreLaws.Waking.{is_waiting}
 use Rattle.cesr_codes.specs.declared.digest.Digest.{Digest}

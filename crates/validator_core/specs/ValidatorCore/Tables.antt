@@ -3,7 +3,7 @@ use Rattle.std.specs.Prelude.{◌≡◌, ℕ, ◌≤◌, Bool, true, ◌||◌, L
 use Rattle.std.specs.List.Sorted.{IsStrictlySortedBy}
 use Rattle.std.specs.Ordering.{nat_cmp}
 use Rattle.keri_outside.specs.declared.limits.Limits.{Limits}
-use Rattle.validator_core.specs.Acceptance.Settled.{IsSettled}
+use Rattle.validator_core.specs.Acceptance.ReadyRuns.{AcceptsReady}
 use Rattle.validator_core.specs.Acceptance.Standing.{Comes, Hears, IsStanding, told_of}
 use Rattle.claim_table.specs.CoreLaws.Waking.{is_waiting}
 use Rattle.claim_table.specs.declared.claim_table.signature.Signature.{Signature}
@@ -32,7 +32,7 @@ base_in base v = take base v.held
 pub record IsCore (mode : Mode) (limits : Limits) (base : ℕ) (v : View) (tally : Tally) : Type 0 where
   pub stands : IsStanding v
   pub idle : v.claims.pending ≡ None
-  pub left : v.settled ≡ length v.log.numbers
+  pub left : v.released ≡ length v.log.numbers
   pub based : base ≤ length v.held
   pub in_order : InOrder base v.held v.entries
   pub log_is : log_of v ≡ accepted mode (base_in base v) (told_of v)
@@ -51,29 +51,29 @@ pub record HaveNoOthers (v : View) (number : ℕ) (due : List ℕ) : Type 0 wher
   pub waits : (c : Body) (n : ℕ) → slice_get v.held number ≡ Some c → Contains due n
       → (b : Body) × (slice_get v.held n ≡ Some b) × (waits_with (log_of v) (said_of c.event) b ≡ true)
 
--- the tables settle from the waiting events that an entry of the body of a number names
-pub record SettlesFrom (mode : Mode) (number : ℕ) (old new : View) (steps steps_then : ℕ) : Type 0 where
+-- all that is ready is accepted, and the first candidates are the waiting events that an entry of the body of a number names
+pub record AcceptsFrom (mode : Mode) (number : ℕ) (old new : View) (steps steps_then : ℕ) : Type 0 where
   pub due : List ℕ
   pub named : HaveNumbers old number due
   pub no_others : HaveNoOthers old number due
-  pub settled : IsSettled mode due old new steps steps_then
+  pub ready : AcceptsReady mode due old new steps steps_then
 
--- some bodies and an entry come, and the tables settle from what the entry names
+-- some bodies and an entry come, and what they make ready is accepted
 pub record BringsEntry (mode : Mode) (number : ℕ) (more : List Body) (e : Entry) (old new : View) (steps steps_then : ℕ) : Type 0 where
   pub between : View
   pub comes : Comes more e old between
-  pub settles : SettlesFrom mode number between new steps steps_then
+  pub accepts : AcceptsFrom mode number between new steps steps_then
 
 -- and all accepted events have left the escrow
 pub record AddsEntry (mode : Mode) (number : ℕ) (more : List Body) (e : Entry) (old new : View) (steps steps_then : ℕ) : Type 0 where
   pub before : View
   pub brings : BringsEntry mode number more e old before steps steps_then
-  pub new_is : new ≡ record before { settled = length before.log.numbers }
+  pub new_is : new ≡ record before { released = length before.log.numbers }
 
--- a verdict on a signature comes for good, the tables settle from what it names, and all accepted events have left the escrow
+-- a verdict on a signature comes for good, what it makes ready is accepted, and all accepted events have left the escrow
 pub record AddsVerdict (mode : Mode) (s : Signature) (verdict : Bool) (reader : ℕ) (old new : View) (steps steps_then : ℕ) : Type 0 where
   pub between : View
   pub hears : Hears s verdict reader old between
   pub before : View
-  pub settles : SettlesFrom mode s.body between before steps steps_then
-  pub new_is : new ≡ with_claims (record { rows = before.claims.rows; pending = None }) (record before { settled = length before.log.numbers })
+  pub accepts : AcceptsFrom mode s.body between before steps steps_then
+  pub new_is : new ≡ with_claims (record { rows = before.claims.rows; pending = None }) (record before { released = length before.log.numbers })

@@ -161,11 +161,11 @@ impl Tables {
 
     /// The accepted events leave the escrow. It takes no memory.
     pub fn release(&mut self)
-        ensures { self.new ≡ record self.old { settled = length self.old.log.numbers } }
+        ensures { self.new ≡ record self.old { released = length self.old.log.numbers } }
     {
         let numbers = self.log.numbers();
-        leave(&mut self.waiting, &numbers[self.settled..]);
-        self.settled = numbers.len();
+        leave(&mut self.waiting, &numbers[self.released..]);
+        self.released = numbers.len();
     }
 }
 

@@ -29,7 +29,7 @@ pub struct Tables {
     pub(crate) claims: ClaimTable,
     pub(crate) waiting: Waiting,
     /// How many accepted events have left the escrow.
-    pub(crate) settled: usize,
+    pub(crate) released: usize,
     /// The numbers of the bodies with a name.
     pub(crate) names: Index<Name>,
     /// The numbers of the entries by which bodies with a name came.
@@ -62,7 +62,7 @@ impl Model for Tables {
     ghost view = { λ t. view_of t };
 
     ghost invariant = { λ t. are_paired t × IsPending t.claims
-        × AreHinted (held_in t) t.journal.entries t.log.numbers t.settled t.waiting
+        × AreHinted (held_in t) t.journal.entries t.log.numbers t.released t.waiting
         (numbers_at ⟦<Name as Ord>⟧.cmp t.names) (numbers_at ⟦<Name as Ord>⟧.cmp t.told) (places_at t.accepted)
         (came_at t.came) (numbers_at ⟦<SealKey as Ord>⟧.cmp t.seals) t.clash };
 }
@@ -82,7 +82,7 @@ impl Tables {
             log: AcceptedLog::new(alloc),
             claims: ClaimTable::new(alloc),
             waiting: Waiting::new(alloc),
-            settled: 0,
+            released: 0,
             names: Index::new(alloc),
             told: Index::new(alloc),
             came: ClaimEntries::new(alloc),
@@ -153,7 +153,7 @@ impl Tables {
 
     /// The events that wait, and those that were accepted since the accepted ones last left.
     pub fn waiting(&self) -> &Waiting
-        ensures { IsEscrow result.now self.now.held (take self.now.settled self.now.log.numbers) }
+        ensures { IsEscrow result.now self.now.held (take self.now.released self.now.log.numbers) }
     {
         &self.waiting
     }

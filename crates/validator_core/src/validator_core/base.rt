@@ -7,7 +7,7 @@ ghost use Rattle.journal.specs.Journal.Grown.{fits};
 ghost use Rattle.validator_core.specs.ValidatorCore.Base.{AcceptsText, AreAccepted, AreRefused, IsBase, IsRefused, IsResumed};
 ghost use Rattle.validator_core.specs.ValidatorCore.View.{bytes_of};
 
-use crate::settlement::accept;
+use crate::table_changes::accept;
 use crate::tables::Tables;
 use crate::validator_core::Core;
 use crate::validator_core::tally::Tally;
@@ -50,7 +50,7 @@ impl Core {
 // The tables that have accepted these texts, which have left the escrow.
 fn tables_of(alloc: Global, base: Vec<Text>) -> Result<Tables, ResumeFault>
     requires { length base.items ≤ 1048576 }
-    ensures ok { IfOk result (λ tables. IsBase base.items tables × (tables.settled ≡ length tables.log.numbers)) }
+    ensures ok { IfOk result (λ tables. IsBase base.items tables × (tables.released ≡ length tables.log.numbers)) }
     ensures err { IfErr result (λ fault. AreRefused base.items fault) }
 {
     let mut tables = Tables::new(alloc);

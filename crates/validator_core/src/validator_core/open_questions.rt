@@ -6,7 +6,7 @@ ghost use Rattle.claim_table.specs.ClaimTable.Table.{AreBelow};
 ghost use Rattle.journal.specs.declared.journal.question.Noted.TheVariants.{New};
 ghost use Rattle.journal.specs.Journal.Journals.{Names};
 ghost use Rattle.journal.specs.Journal.Questions.{next_question};
-ghost use Rattle.validator_core.specs.Settlement.Entries.{signature_asked};
+ghost use Rattle.validator_core.specs.TableChanges.Entries.{signature_asked};
 ghost use Rattle.validator_core.specs.ValidatorCore.Calls.{TakesVerdict, question_of};
 ghost use Rattle.validator_core.specs.ValidatorCore.Looks.{LooksByVerdict};
 ghost use Rattle.validator_core.specs.ValidatorCore.View.{base_of, told_of, unheard_of};

@@ -7,10 +7,10 @@ ghost use Rattle.claim_table.specs.ClaimTable.Rows.{is_raised, verdict_of};
 ghost use Rattle.validator_core.specs.Tables.View.{IsCut, rewound};
 ghost use Rattle.journal.specs.declared.journal.entry.Entry.TheVariants.{Took};
 ghost use Rattle.journal.specs.Journal.Logs.{is_in};
-ghost use Rattle.validator_core.specs.Settlement.Entries.{signature_asked};
-ghost use Rattle.validator_core.specs.ValidatorCore.Tables.{AddsEntry, AddsVerdict, HaveNoOthers, HaveNumbers, SettlesFrom};
+ghost use Rattle.validator_core.specs.TableChanges.Entries.{signature_asked};
+ghost use Rattle.validator_core.specs.ValidatorCore.Tables.{AddsEntry, AddsVerdict, HaveNoOthers, HaveNumbers, AcceptsFrom};
 
-use crate::settlement::{accept_ready, enter_body, enter_claims, enter_verdict};
+use crate::table_changes::{accept_ready, enter_body, enter_claims, enter_verdict};
 use crate::tables::{Mark, Tables};
 use journal::{Body, Claim, Mode, Question};
 use keri_outside::Steps;
@@ -30,7 +30,7 @@ pub(crate) fn add_claims(
 ) -> Result<(), AllocError>
     requires stands { IsStanding tables.old }
     requires idle { tables.old.claims.pending ≡ None }
-    requires left { tables.old.settled ≡ length tables.old.log.numbers }
+    requires left { tables.old.released ≡ length tables.old.log.numbers }
     requires held { number < length tables.old.held }
     ensures ok { OnOk result (AddsEntry mode number [] (Took reader number claims) tables.old tables.new steps.old
         steps.new) }
@@ -39,8 +39,8 @@ pub(crate) fn add_claims(
     let mark = tables.mark();
     match enter_claims(alloc, tables, reader, number, claims) {
         Ok(()) => {
-            let settled = settle_from(alloc, tables, mode, number, steps);
-            keep_or_cut(tables, settled, &mark)
+            let accepted = accept_from(alloc, tables, mode, number, steps);
+            keep_or_cut(tables, accepted, &mark)
         }
         Err(error) => {
             tables.rewind(&mark);
@@ -61,7 +61,7 @@ pub(crate) fn add_body(
 ) -> Result<(), AllocError>
     requires stands { IsStanding tables.old }
     requires idle { tables.old.claims.pending ≡ None }
-    requires left { tables.old.settled ≡ length tables.old.log.numbers }
+    requires left { tables.old.released ≡ length tables.old.log.numbers }
     requires held { IsHeld body }
     requires outside { is_in tables.old.held body ≡ false }
     ensures ok { OnOk result (AddsEntry mode (length tables.old.held) (body ∷ [])
@@ -71,8 +71,8 @@ pub(crate) fn add_body(
     let mark = tables.mark();
     match enter_body(alloc, tables, reader, body, claims) {
         Ok(number) => {
-            let settled = settle_from(alloc, tables, mode, number, steps);
-            keep_or_cut(tables, settled, &mark)
+            let accepted = accept_from(alloc, tables, mode, number, steps);
+            keep_or_cut(tables, accepted, &mark)
         }
         Err(error) => {
             tables.rewind(&mark);
@@ -93,7 +93,7 @@ pub(crate) fn add_verdict(
 ) -> Result<(), AllocError>
     requires stands { IsStanding tables.old }
     requires idle { tables.old.claims.pending ≡ None }
-    requires left { tables.old.settled ≡ length tables.old.log.numbers }
+    requires left { tables.old.released ≡ length tables.old.log.numbers }
     requires held { question.now.body < length tables.old.held }
     requires raised { is_raised tables.old.claims.rows (signature_asked question.now) ≡ true }
     requires open_still { verdict_of tables.old.claims.rows (signature_asked question.now) ≡ None }
@@ -103,8 +103,8 @@ pub(crate) fn add_verdict(
 {
     let mark = tables.mark();
     enter_verdict(tables, reader, question, yes)?;
-    let settled = settle_from(alloc, tables, mode, question.body, steps);
-    if let Err(error) = keep_or_cut(tables, settled, &mark) {
+    let accepted = accept_from(alloc, tables, mode, question.body, steps);
+    if let Err(error) = keep_or_cut(tables, accepted, &mark) {
         tables.unhear();
         return Err(error);
     }
@@ -120,7 +120,7 @@ fn keep_or_cut(
 ) -> Result<(), AllocError>
     requires { IsCut mark.now tables.old }
     ensures same { result ≡ brought }
-    ensures kept { OnOk result (tables.new ≡ record tables.old { settled = length tables.old.log.numbers }) }
+    ensures kept { OnOk result (tables.new ≡ record tables.old { released = length tables.old.log.numbers }) }
     ensures cut { OnErr result (tables.new ≡ rewound mark.now tables.old) }
 {
     match brought {
@@ -131,7 +131,7 @@ fn keep_or_cut(
 }
 
 // Accepts all that is ready once an entry of the body of a number has come.
-fn settle_from(
+fn accept_from(
     alloc: Global,
     tables: &mut Tables,
     mode: Mode,
@@ -139,8 +139,8 @@ fn settle_from(
     steps: &mut Steps,
 ) -> Result<(), AllocError>
     requires stands { IsStanding tables.old }
-    requires left { tables.old.settled ≡ length tables.old.log.numbers }
-    ensures ok { OnOk result (SettlesFrom mode number tables.old tables.new steps.old steps.new) }
+    requires left { tables.old.released ≡ length tables.old.log.numbers }
+    ensures ok { OnOk result (AcceptsFrom mode number tables.old tables.new steps.old steps.new) }
     ensures extends { Extends tables.old tables.new }
 {
     let mut due = candidates(alloc, tables, number)?;
@@ -151,7 +151,7 @@ fn settle_from(
 // event it speaks of.
 fn candidates(alloc: Global, tables: &Tables, number: u32) -> Result<BTreeSet<u32>, AllocError>
     requires stands { IsStanding tables.now }
-    requires left { tables.now.settled ≡ length tables.now.log.numbers }
+    requires left { tables.now.released ≡ length tables.now.log.numbers }
     ensures named { IfOk result (λ due. HaveNumbers tables.now number due.keys) }
     ensures no_others { IfOk result (λ due. HaveNoOthers tables.now number due.keys) }
 {

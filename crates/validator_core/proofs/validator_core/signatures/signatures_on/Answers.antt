@@ -6,7 +6,7 @@ use Rattle.validator_core.specs.Tables.View.{body_of, log_of}
 use Rattle.validator_core.specs.ValidatorCore.Signatures.{good_in}
 use Rattle.journal.specs.Journal.Readiness.{good_sigs}
 use Rattle.validator_core.proofs.AcceptanceLemmas.Bodies.{at_body}
-use Rattle.validator_core.proofs.SettlementLemmas.Events.{if_ok_then}
+use Rattle.validator_core.proofs.TableChangesLemmas.Events.{if_ok_then}
 use Rattle.validator_core.proofs.ValidatorCoreLemmas.GoodSignatures.{good_behind, good_down, good_first}
 use Rattle.validator_core.proofs.validator_core.signatures.signatures_on.Goals as goal
 

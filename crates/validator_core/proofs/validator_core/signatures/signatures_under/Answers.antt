@@ -6,7 +6,7 @@ use Rattle.validator_core.specs.Tables.View.{body_of, log_of}
 use Rattle.journal_views.specs.EventPayload.Kept.{state_under}
 use Rattle.validator_core.specs.ValidatorCore.Signatures.{good_under}
 use Rattle.validator_core.proofs.AcceptanceLemmas.Bodies.{at_body}
-use Rattle.validator_core.proofs.SettlementLemmas.Events.{if_ok_then}
+use Rattle.validator_core.proofs.TableChangesLemmas.Events.{if_ok_then}
 use Rattle.validator_core.proofs.ValidatorCoreLemmas.Under.{accepted_at, good_both}
 use Rattle.validator_core.proofs.validator_core.signatures.signatures_under.Goals as goal
 

@@ -7,23 +7,23 @@ use Rattle.validator_core.proofs.ValidatorCoreLemmas.Cuts.{back_took, cut_took}
 use Rattle.validator_core.proofs.ValidatorCoreLemmas.Outcomes.{adds_entry}
 use Rattle.validator_core.proofs.validator_core.whole_entries.add_claims.Goals as goal
 
-pub settle_from-settled-requires-clause-left : goal.settle_from-settled-requires-clause-left
-settle_from-settled-requires-clause-left c =
+pub accept_from-accepted-requires-clause-left : goal.accept_from-accepted-requires-clause-left
+accept_from-accepted-requires-clause-left c =
     let comes = c.in-Ok.ensures.ok in
-    comes.settled ∙ c.requires.left ∙ ap (λ l. length l.numbers) (sym comes.log)
+    comes.released ∙ c.requires.left ∙ ap (λ l. length l.numbers) (sym comes.log)
 
 pub keep_or_cut-requires : goal.keep_or_cut-requires
-keep_or_cut-requires c = subst (λ m. IsCut m c.settle_from-settled.new.tables) (sym c.mark-mark.ensures.mark)
-    (cut_took c.args.tables.now c.settle_from-settled.new.tables c.requires.stands c.requires.idle c.requires.left (extends_then c.args.tables.now c.enter_claims.new.tables c.settle_from-settled.new.tables c.enter_claims.ensures.extends c.settle_from-settled.ensures.extends))
+keep_or_cut-requires c = subst (λ m. IsCut m c.accept_from-accepted.new.tables) (sym c.mark-mark.ensures.mark)
+    (cut_took c.args.tables.now c.accept_from-accepted.new.tables c.requires.stands c.requires.idle c.requires.left (extends_then c.args.tables.now c.enter_claims.new.tables c.accept_from-accepted.new.tables c.enter_claims.ensures.extends c.accept_from-accepted.ensures.extends))
 
 pub returns-in-Ok-clause-ok : goal.returns-in-Ok-clause-ok
-returns-in-Ok-clause-ok c = adds_entry c.args.mode c.args.number [] (Took c.args.reader c.args.number c.args.claims) c.args.tables.now c.enter_claims.new.tables c.settle_from-settled.new.tables c.keep_or_cut.new.tables
-    c.args.steps.now c.settle_from-settled.new.steps c.settle_from-settled.result c.keep_or_cut.result c.keep_or_cut.ensures.same c.in-Ok.ensures.ok c.settle_from-settled.ensures.ok c.keep_or_cut.ensures.kept
+returns-in-Ok-clause-ok c = adds_entry c.args.mode c.args.number [] (Took c.args.reader c.args.number c.args.claims) c.args.tables.now c.enter_claims.new.tables c.accept_from-accepted.new.tables c.keep_or_cut.new.tables
+    c.args.steps.now c.accept_from-accepted.new.steps c.accept_from-accepted.result c.keep_or_cut.result c.keep_or_cut.ensures.same c.in-Ok.ensures.ok c.accept_from-accepted.ensures.ok c.keep_or_cut.ensures.kept
 
 pub returns-in-Ok-clause-err : goal.returns-in-Ok-clause-err
 returns-in-Ok-clause-err c = on_err_weaker c.keep_or_cut.result
-    (λ cut. cut ∙ ap (λ m. rewound m c.settle_from-settled.new.tables) c.mark-mark.ensures.mark
-    ∙ back_took c.args.tables.now c.settle_from-settled.new.tables c.requires.stands c.requires.idle c.requires.left (extends_then c.args.tables.now c.enter_claims.new.tables c.settle_from-settled.new.tables c.enter_claims.ensures.extends c.settle_from-settled.ensures.extends))
+    (λ cut. cut ∙ ap (λ m. rewound m c.accept_from-accepted.new.tables) c.mark-mark.ensures.mark
+    ∙ back_took c.args.tables.now c.accept_from-accepted.new.tables c.requires.stands c.requires.idle c.requires.left (extends_then c.args.tables.now c.enter_claims.new.tables c.accept_from-accepted.new.tables c.enter_claims.ensures.extends c.accept_from-accepted.ensures.extends))
     c.keep_or_cut.ensures.cut
 
 pub rewind-requires : goal.rewind-requires

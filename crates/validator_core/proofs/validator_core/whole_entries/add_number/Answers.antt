@@ -1,6 +1,6 @@
 use Rattle.std.proofs.Common.{inl, inr, sym, subst}
 use Rattle.std.specs.Prelude.{Contains}
-use Rattle.validator_core.proofs.SettlementLemmas.DueNumbers.{inserted_kept, inserted_or, inserted_there}
+use Rattle.validator_core.proofs.TableChangesLemmas.DueNumbers.{inserted_kept, inserted_or, inserted_there}
 use Rattle.validator_core.proofs.validator_core.whole_entries.add_number.Goals as goal
 
 pub returns-clause-ok : goal.returns-clause-ok

@@ -2,7 +2,7 @@ use Rattle.std.proofs.Common.{sym, ◌∙◌, ap}
 use Rattle.std.specs.Prelude.{option_map}
 use Rattle.validator_core.proofs.TablesLemmas.Rows.{not_some}
 use Rattle.event_body.specs.EventBody.Events.{said_of}
-use Rattle.validator_core.proofs.SettlementLemmas.Events.{body_there, if_ok_both, if_ok_then}
+use Rattle.validator_core.proofs.TableChangesLemmas.Events.{body_there, if_ok_both, if_ok_then}
 use Rattle.validator_core.proofs.ValidatorCoreLemmas.Candidates.{have_no_others, have_numbers, no_numbers, none_but}
 use Rattle.validator_core.proofs.validator_core.whole_entries.candidates.Goals as goal
 

@@ -2,7 +2,7 @@ use Rattle.std.proofs.Common.{[], ◌∷◌, take, get_or, inl, inr, sym, subst}
 use Rattle.std.specs.Prelude.{◌↔◌, Contains}
 use Rattle.std.proofs.lemmas.List.{take_all, take_more}
 use Rattle.std.proofs.lemmas.List.Elements.{Contains-append_left, Contains-append_right}
-use Rattle.validator_core.proofs.SettlementLemmas.DueNumbers.{first_in, taken_or}
+use Rattle.validator_core.proofs.TableChangesLemmas.DueNumbers.{first_in, taken_or}
 use Rattle.validator_core.proofs.validator_core.whole_entries.set_of.Goals as goal
 
 pub loop-number-preserved : goal.loop-number-preserved

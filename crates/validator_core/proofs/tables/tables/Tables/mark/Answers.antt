@@ -13,4 +13,4 @@ returns-clause-mark c =
 pub returns-clause-whole : goal.returns-clause-whole
 returns-clause-whole c =
     let h = c.self.invariant.2 in
-    subst (λ m. IsCut m c.args.self.now) (sym (returns-clause-mark c)) (subst (λ v. IsCut (mark_of v) v) c.self.view_is (whole_is_cut (view_of c.self.inside) h.entries_held h.accepted_held h.settled_held c.self.invariant.1))
+    subst (λ m. IsCut m c.args.self.now) (sym (returns-clause-mark c)) (subst (λ v. IsCut (mark_of v) v) c.self.view_is (whole_is_cut (view_of c.self.inside) h.entries_held h.accepted_held h.released_held c.self.invariant.1))

@@ -4,7 +4,7 @@ use Rattle.std.specs.List.{list_any}
 use Rattle.std.proofs.lemmas.List.{length-drop, take_all}
 use Rattle.escrow.specs.Escrow.Escrow.{held}
 use Rattle.validator_core.specs.Tables.View.{View}
-use Rattle.validator_core.proofs.TablesLemmas.Hints.{hinted_settled}
+use Rattle.validator_core.proofs.TablesLemmas.Hints.{hinted_released}
 use Rattle.validator_core.proofs.tables.tables.Tables.release.Goals as goal
 
 -- the rest of a list, to its end
@@ -18,9 +18,9 @@ invariant_of-self c =
     rw c.numbers-numbers.ensures (
       c.self.invariant.0,
       c.self.invariant.1,
-      hinted_settled c.self.invariant.2 c.leave.new.waiting
-          (subst (λ ns. (n : ℕ) → held n c.leave.new.waiting ≡ (if list_any (λ m. m == n) ns then None else held n t.waiting)) (rest t.settled t.log.numbers) left),
+      hinted_released c.self.invariant.2 c.leave.new.waiting
+          (subst (λ ns. (n : ℕ) → held n c.leave.new.waiting ≡ (if list_any (λ m. m == n) ns then None else held n t.waiting)) (rest t.released t.log.numbers) left),
     )
 
 pub returns : goal.returns
-returns c = rw c.numbers-numbers.ensures (ap {A = View} (λ v. record v { settled = length v.log.numbers }) c.self.view_is)
+returns c = rw c.numbers-numbers.ensures (ap {A = View} (λ v. record v { released = length v.log.numbers }) c.self.view_is)

@@ -26,7 +26,7 @@ invariant_of-self c =
       cut_hinted c.self.invariant.2 m _ c.truncate-3.new.self c.truncate-2.new.self.numbers c.leave_from.new.waiting c.len.result pairs c.truncate-3.ensures (ap (λ l. l.numbers) c.truncate-2.ensures)
           (λ i e at. all_at (λ e. number_of e < m.bodies) (take m.entries c.args.self.now.entries) c.requires.cut.entries_held i e (ap (λ (v : View). slice_get (take m.entries v.entries) i) (sym c.self.view_is) ∙ at))
           (λ i n at. all_at (λ n. n < m.bodies) (take m.accepted c.args.self.now.log.numbers) c.requires.cut.accepted_held i n (ap (λ (v : View). slice_get (take m.accepted v.log.numbers) i) (sym c.self.view_is) ∙ at))
-          (subst (λ (v : View). v.settled ≤ m.accepted) (sym c.self.view_is) c.requires.cut.settled_held)
+          (subst (λ (v : View). v.released ≤ m.accepted) (sym c.self.view_is) c.requires.cut.released_held)
           (c.len.ensures ∙ t.events.ok.0 ∙ sym (length-paired t.journal.bodies t.events.items c.self.invariant.0)) c.leave_from.ensures,
     )
 

@@ -1,7 +1,7 @@
 use Rattle.std.proofs.Common.{◌<◌, sym, ◌∙◌, subst}
 use Rattle.claim_table.specs.ClaimTable.Rows.{is_raised, verdict_of}
 use Rattle.journal.specs.declared.journal.question.Noted.TheVariants.{New, Known, Unasked}
-use Rattle.validator_core.specs.Settlement.Entries.{signature_asked}
+use Rattle.validator_core.specs.TableChanges.Entries.{signature_asked}
 use Rattle.validator_core.specs.ValidatorCore.Calls.{TakesVerdict}
 use Rattle.validator_core.specs.ValidatorCore.Looks.{LooksByVerdict}
 use Rattle.validator_core.proofs.ValidatorCoreLemmas.NotedVerdicts.{core_answered, few_new, fewer, found_none, found_some, raised_held, takes_known, takes_new, takes_unasked}

@@ -8,7 +8,7 @@ use Rattle.journal.specs.declared.journal.body.Body.{Body}
 use Rattle.journal.specs.Journal.Conflicts.{AreConflicts, IsConflictList}
 use Rattle.journal.specs.Journal.Journals.{NameConflicts, chosen}
 use Rattle.journal_views.proofs.JournalViewsLemmas.Differing.{pairs-from-differ}
-use Rattle.validator_core.proofs.SettlementLemmas.Events.{if_ok_both}
+use Rattle.validator_core.proofs.TableChangesLemmas.Events.{if_ok_both}
 use Rattle.validator_core.specs.ValidatorCore.Tables.{base_in}
 use Rattle.validator_core.specs.ValidatorCore.View.{base_of, told_of}
 use Rattle.validator_core.proofs.ValidatorCoreLemmas.Rivals.{chosen_few, counted_is, names}

@@ -2,7 +2,7 @@ use Rattle.std.proofs.Common.{◌∙◌, sym, ap, subst}
 use Rattle.std.specs.Prelude.{IfOk}
 use Rattle.journal.specs.Journal.Journals.{chosen}
 use Rattle.journal.specs.Journal.Logs.{live}
-use Rattle.validator_core.proofs.SettlementLemmas.Events.{if_ok_then}
+use Rattle.validator_core.proofs.TableChangesLemmas.Events.{if_ok_then}
 use Rattle.validator_core.specs.ValidatorCore.Confluent.{IsSoInAlike}
 use Rattle.validator_core.specs.ValidatorCore.Inside.{core_of}
 use Rattle.validator_core.proofs.ValidatorCoreLemmas.Confluent.{log_in_alike}

@@ -2,7 +2,7 @@ use Rattle.std.proofs.Common.{◌≡◌, ◌∙◌, ap, subst}
 use Rattle.std.specs.Prelude.{IfOk, Some, slice_get}
 use Rattle.validator_core.specs.Acceptance.Standing.{told_of}
 use Rattle.journal.specs.declared.journal.body.Body.{Body}
-use Rattle.validator_core.proofs.SettlementLemmas.Events.{if_ok_then}
+use Rattle.validator_core.proofs.TableChangesLemmas.Events.{if_ok_then}
 use Rattle.validator_core.specs.ValidatorCore.Signatures.{good_under}
 use Rattle.validator_core.specs.ValidatorCore.View.{accepted_by, told_of as core_told}
 use Rattle.validator_core.proofs.validator_core.validator.Core.signatures_at.Goals as goal

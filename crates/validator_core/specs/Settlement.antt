@@ -1,4 +1,0 @@
-pub mod Turning
-pub mod Settled
-pub mod Awaited
-pub mod Entries

@@ -1,0 +1,4 @@
+pub mod Turning
+pub mod ReadyEvents
+pub mod Awaited
+pub mod Entries
