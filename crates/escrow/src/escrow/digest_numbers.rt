@@ -1,5 +1,5 @@
 //! Numbers by digests.
-ghost use Rattle.std.specs.Prelude.{◌≡◌, ◌≤◌, ◌<◌, ◌⊎◌, ◌↔◌, ℕ, [], Some, Contains, OnOk};
+ghost use Rattle.std.specs.Prelude.{◌≡◌, ◌≤◌, ◌<◌, ◌⊎◌, ◌↔◌, ℕ, [], Some, Contains, IfOk, OnOk};
 ghost use Rattle.std.specs.List.Sorted.{IsStrictlyIncreasing};
 ghost use Rattle.std.specs.Option.{ForSome};
 ghost use Rattle.cesr_codes.specs.declared.digest.Digest.{Digest};
@@ -51,8 +51,7 @@ impl DigestNumbers {
         if let Some(those) = self.lists.get_mut(&digest) {
             return those.reserve();
         }
-        let mut those = Rising::new(self.alloc);
-        those.reserve()?;
+        let those = with_room(self.alloc)?;
         self.lists.insert(digest, those)?;
         Ok(())
     }
@@ -97,4 +96,14 @@ impl DigestNumbers {
             self.lists.remove(&digest);
         }
     }
+}
+
+// No numbers, with room for one.
+fn with_room(alloc: Global) -> Result<Rising, AllocError>
+    ensures none { IfOk result (λ those. those.list ≡ []) }
+    ensures room { IfOk result (λ those. 0 < those.free) }
+{
+    let mut those = Rising::new(alloc);
+    those.reserve()?;
+    Ok(those)
 }

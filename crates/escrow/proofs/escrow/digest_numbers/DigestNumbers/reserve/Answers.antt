@@ -19,13 +19,13 @@ pub returns-clause-same : goal.returns-clause-same
 returns-clause-same c = λ d.
     let lists = c.get_mut.follows.lender-at-none in
     let none : get digest_cmp lists c.in-Some.digest ≡ None = ap (λ m. get digest_cmp m c.in-Some.digest) c.get_mut.follows.holds-at-none ∙ search rules in
-    none_more (get digest_cmp lists) (get digest_cmp c.insert.new.self) c.in-Some.digest c.reserve-2.new.self none c.in_ok-insert.ensures.updates.0 (search rules) d
+    none_more (get digest_cmp lists) (get digest_cmp c.insert.new.self) c.in-Some.digest c.in_ok-those.those none c.in_ok-insert.ensures.updates.0 (search rules) d
     ∙ ap (λ m. numbers_in (get digest_cmp m d)) c.get_mut.follows.holds-at-none
 
 pub returns-clause-kept : goal.returns-clause-kept
 returns-clause-kept c = λ d.
     let lists = c.get_mut.follows.lender-at-none in
     let none : get digest_cmp lists c.in-Some.digest ≡ None = ap (λ m. get digest_cmp m c.in-Some.digest) c.get_mut.follows.holds-at-none ∙ search rules in
-    let more = no_less_room (get digest_cmp lists) (get digest_cmp c.insert.new.self) c.in-Some.digest c.reserve-2.new.self none c.in_ok-insert.ensures.updates.0 d in
+    let more = no_less_room (get digest_cmp lists) (get digest_cmp c.insert.new.self) c.in-Some.digest c.in_ok-those.those none c.in_ok-insert.ensures.updates.0 d in
     let before = ap (λ m. room_in (get digest_cmp m d)) c.get_mut.follows.holds-at-none in
     omega (arith, more, before)
