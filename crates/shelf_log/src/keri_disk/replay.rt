@@ -29,14 +29,22 @@ impl Replay {
         ensures left { IfOk result (λ replay. IsLeftByAll calls.now first.now first.now replay.image.items) }
         ensures whole { shape ≡ Shape.Whole → IfOk result (λ replay. replay.image.items ≡ replay.file.items) }
     {
-        let mut replay = Replay {
-            file: Vec::from_slice(alloc, first)?,
-            image: Vec::from_slice(alloc, first)?,
-        };
+        let mut replay = Replay::synced(alloc, first)?;
         for call in calls {
             replay.step(alloc, call, shape)?;
         }
         Ok(replay)
+    }
+
+    // The file that holds these bytes and is synced, so that they are its image too.
+    fn synced(alloc: Global, first: &[u8]) -> Result<Replay, AllocError>
+        ensures file { IfOk result (λ replay. replay.file.items ≡ first.now) }
+        ensures image { IfOk result (λ replay. replay.image.items ≡ first.now) }
+    {
+        Ok(Replay {
+            file: Vec::from_slice(alloc, first)?,
+            image: Vec::from_slice(alloc, first)?,
+        })
     }
 
     // One call more.

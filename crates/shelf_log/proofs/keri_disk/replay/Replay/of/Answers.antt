@@ -26,3 +26,11 @@ loop-call-preserved c =
           (IsLeftByAll-push calls call first first c.loop-call.replay.image.items image so_far.left left);
       whole = λ whole. c.in_ok-step.ensures.whole whole (so_far.whole whole);
     }
+
+pub loop-call-init : goal.loop-call-init
+loop-call-init c = record {
+  file = c.in_ok-replay.ensures.file;
+  image = c.in_ok-replay.ensures.image;
+  left = c.in_ok-replay.ensures.image;
+  whole = λ whole. c.in_ok-replay.ensures.image ∙ sym c.in_ok-replay.ensures.file;
+}
