@@ -1,5 +1,5 @@
 //! What decides over an event: its own keys, witnesses and thresholds, or for an interaction those of the state
-//! before it.
+//! before it. A receipt goes the same way.
 ghost use Rattle.std.specs.Prelude.{◌≡◌, ◌≤◌, None, length, IfNone, IfSome};
 ghost use Rattle.std.specs.Option.{option_copied};
 ghost use Rattle.journal.specs.EventRules.WitnessLists.{members};
@@ -26,7 +26,7 @@ pub(crate) struct OwnRules<'a> {
     pub(crate) toad: u64,
 }
 
-/// The event's own rules, for an interaction those of the state before it. It takes no memory.
+/// The event's own rules, for an interaction or a receipt those of the state before it. It takes no memory.
 #[tactic(auto, using(crate::proofs::EventRulesLemmas::KeyPlaces::few_changed))]
 pub(crate) fn own_rules<'a>(state: Option<&'a KeyState>, event: &'a Event) -> OwnRules<'a>
     ensures keys { result.keys.now ≡ (exposure.own_rules (option_copied state.entry) event.now).keys }
