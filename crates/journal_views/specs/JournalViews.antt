@@ -1,3 +1,4 @@
 pub mod Groups
 pub mod Rankings
 pub mod Rises
+pub mod Bodies

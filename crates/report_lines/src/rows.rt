@@ -1,5 +1,5 @@
 //! Lists of rows.
-ghost use Rattle.std.specs.Prelude.{◌≡◌, ◌++◌, ℕ, List, IfOk, OnOk, flat_map, option_to_list, string_bytes};
+ghost use Rattle.std.specs.Prelude.{◌≡◌, ◌++◌, ℕ, List, IfOk, OnOk, option_to_list, string_bytes};
 ghost use Rattle.std.specs.List.Sorted.{IsPermutation, IsSorted};
 ghost use Rattle.journal.specs.declared.journal.body.Body.{Body};
 ghost use Rattle.report_lines.specs.Report.{body_cmp, IsListing};

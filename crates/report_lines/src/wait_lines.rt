@@ -1,5 +1,5 @@
 //! The events that wait.
-ghost use Rattle.std.specs.Prelude.{◌≡◌, IfOk, slice_get, string_bytes};
+ghost use Rattle.std.specs.Prelude.{IfOk, slice_get, string_bytes};
 ghost use Rattle.report_lines.specs.Report.{IsListing, body_cmp, waiting_of, waits_lines};
 ghost use Rattle.report_lines.specs.Rows.{AreRows, IsRow, if_waits};
 

@@ -1,11 +1,11 @@
 //! The rows, and what is kept beside them so that no call goes over all of them.
-ghost use Rattle.std.specs.Prelude.{◌≡◌, ◌+◌, ◌-◌, ◌≤◌, ◌<◌, ◌^◌, ◌||◌, ◌&&◌, ◌++◌, ℕ, true, slice_index_or, length, take, slice_get, Contains, Some, None, IfOk, OnOk, OnErr, if◌then◌else◌};
+ghost use Rattle.std.specs.Prelude.{◌≡◌, ◌+◌, ◌-◌, ◌<◌, ◌^◌, ◌||◌, ◌&&◌, ◌++◌, ℕ, true, slice_index_or, length, take, slice_get, Contains, Some, None, OnOk, OnErr, if◌then◌else◌};
 ghost use Rattle.std.specs.BTreeMap.{is_at};
 ghost use Rattle.std.specs.BTreeSet as set;
 ghost use Rattle.std.specs.List.Sorted.{IsStrictlyIncreasing};
 ghost use Rattle.std.specs.Option.{option_flatten, option_map};
 ghost use Rattle.claim_table.specs.ClaimTable.Counts.{amount, is_entered};
-ghost use Rattle.claim_table.specs.ClaimTable.Keeping.{AreCounted, AreEntered, IsFirstOf, IsLeast, IsPendingBelow, IsSound, at_place, is_of_at, lesser, seen};
+ghost use Rattle.claim_table.specs.ClaimTable.Keeping.{AreCounted, AreEntered, IsFirstOf, IsLeast, IsPendingBelow, IsSound, at_place, is_of_at, lesser, seen, spot_cmp};
 ghost use Rattle.claim_table.specs.ClaimTable.Rows.{heard, is_raised, raised, unheard, verdict_of, with_verdict, with_verdicts};
 ghost use Rattle.claim_table.specs.ClaimTable.BodyParts.{BodyPart};
 ghost use Rattle.claim_table.specs.declared.claim_table.signature.Signature.{Signature};
@@ -261,9 +261,8 @@ fn lesser(first: Option<u32>, second: Option<u32>) -> Option<u32>
 
 // Adds the spot of a question that is new.
 fn open_new(spots: &mut BTreeSet<Spot>, spot: Spot, is_new: bool) -> Result<(), AllocError>
-    ensures ok { OnOk result ((q : Spot)
-        → set.contains ⟦<Spot as Ord>⟧.cmp spots.new q
-        ≡ (set.contains ⟦<Spot as Ord>⟧.cmp spots.old q || (is_new && is_at (⟦<Spot as Ord>⟧.cmp spot) q))) }
+    ensures ok { OnOk result ((q : Spot) → set.contains spot_cmp spots.new q
+        ≡ (set.contains spot_cmp spots.old q || (is_new && is_at (spot_cmp spot) q))) }
     ensures err { OnErr result (spots.new ≡ spots.old) }
 {
     if is_new {

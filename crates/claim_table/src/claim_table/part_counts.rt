@@ -1,5 +1,5 @@
 //! How many claims with a yes bring each part of a body.
-ghost use Rattle.std.specs.Prelude.{◌≡◌, ◌+◌, ◌-◌, ◌<◌, ◌^◌, ℕ, true, OnOk, nat_lt, length, slice_get};
+ghost use Rattle.std.specs.Prelude.{◌≡◌, ◌+◌, ◌-◌, ◌<◌, ◌^◌, true, OnOk, nat_lt, length, slice_get};
 ghost use Rattle.claim_table.specs.ClaimTable.Counts.{amount, entry_at, is_entered, is_one};
 ghost use Rattle.claim_table.specs.ClaimTable.Entries.{bit};
 ghost use Rattle.claim_table.specs.declared.claim_table.part.Part.TheVariants.{Backed};

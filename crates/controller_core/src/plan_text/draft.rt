@@ -39,7 +39,7 @@ pub(crate) struct Draft {
 }
 
 impl Draft {
-    ghost use Rattle.std.specs.Prelude.{Some, List, ℕ};
+    ghost use Rattle.std.specs.Prelude.{Some};
     ghost use Rattle.controller_core.specs.declared.plan_text.entry.Entry.{Entry};
     ghost use Rattle.controller_core.specs.declared.plan_text.event_plan.EventPlan.{EventPlan};
     ghost use Rattle.controller_core.specs.declared.plan_text.line_fault.LineFault.TheVariants.{Refused};

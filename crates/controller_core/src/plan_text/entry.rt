@@ -1,5 +1,5 @@
 //! The lines behind a plan's first.
-ghost use Rattle.std.specs.Prelude.{◌≡◌, IfOk};
+ghost use Rattle.std.specs.Prelude.{IfOk};
 
 use crate::controller_core::Slot;
 use crate::plan_text::given_prefix::GivenPrefix;

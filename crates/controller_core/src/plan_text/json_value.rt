@@ -1,5 +1,5 @@
 //! Values that are JSON.
-ghost use Rattle.std.specs.Prelude.{◌≡◌, ◌↔◌, IfOk, IsTrue, List, ℕ};
+ghost use Rattle.std.specs.Prelude.{◌↔◌, IfOk, IsTrue, List, ℕ};
 ghost use Rattle.json_tree.specs.declared.tree.Tree.{Tree};
 ghost use Rattle.sith.specs.declared.threshold.Threshold.{Threshold};
 ghost use Rattle.controller_core.specs.PlanText.Entries.{IsJsonValue, IsShort, IsThresholdText, IsTraitText};

@@ -1,5 +1,5 @@
 -- What the kept signatures hold of those that came.
-use Rattle.std.specs.Prelude.{◌≡◌, List, All, Option}
+use Rattle.std.specs.Prelude.{◌≡◌, ℕ, List, [], ◌∷◌, ◌++◌, All, Option}
 use Rattle.std.specs.BTreeSet.{contains}
 use Rattle.std.specs.List.{list_any}
 use Rattle.std.specs.declared.cmp.Ordering.{Ordering}
@@ -29,3 +29,8 @@ pub record HasKept (s : Option State) (e : Event) (came : List IndexedSig) (kept
   pub firsts : kept.sigs.items ≡ distinct (same_part s e) came
   pub raw : All IsIndexed kept.sigs.items
   pub seen : (sig : IndexedSig) → contains part_cmp kept.parts (part_of s e sig) ≡ list_any (λ c. same_part s e c sig) came
+
+-- A good signature that reveals so is added: what was kept of those that came before becomes what is kept of all, on any event
+-- under any state by which it reveals so.
+abbrev pub KeepsNext : IndexedSig → Option ℕ → Kept → Kept → Type 0
+KeepsNext sig reveal old new = (s : Option State) (e : Event) (came : List IndexedSig) → reveal ≡ reveal_of s e sig → HasKept s e came old → HasKept s e (came ++ sig ∷ []) new

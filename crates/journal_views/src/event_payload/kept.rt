@@ -15,12 +15,11 @@ pub struct Kept {
 }
 
 impl Kept {
-    ghost use Rattle.std.specs.Prelude.{◌≡◌, ◌++◌, ◌∷◌, [], List, Option, OnOk, OnErr};
+    ghost use Rattle.std.specs.Prelude.{◌≡◌, [], List, Option, OnOk, OnErr};
     ghost use Rattle.cesr_codes.specs.declared.indexed_sig.IndexedSig.{IndexedSig as IndexedSigOf};
     ghost use Rattle.event_body.specs.declared.event_body.event.Event.{Event};
     ghost use Rattle.key_state.specs.States.{State};
-    ghost use Rattle.journal_views.specs.EventPayload.Holding.{HasKept};
-    ghost use Rattle.journal_views.specs.EventPayload.Kept.{reveal_of};
+    ghost use Rattle.journal_views.specs.EventPayload.Holding.{HasKept, KeepsNext};
 
     /// No signatures.
     pub fn new(alloc: Global) -> Kept
@@ -36,8 +35,7 @@ impl Kept {
     /// `journal::reveal_of` gives it.
     pub fn add(&mut self, sig: IndexedSig, reveal: Option<u16>) -> Result<(), AllocError>
         // With all good signatures of an event added in order, these are just the kept ones.
-        ensures kept { (s : Option State) (e : Event) (came : List IndexedSigOf) → reveal ≡ reveal_of s e sig
-            → HasKept s e came self.old → OnOk result (HasKept s e (came ++ sig ∷ []) self.new) }
+        ensures kept { OnOk result (KeepsNext sig reveal self.old self.new) }
         ensures unchanged { (s : Option State) (e : Event) (came : List IndexedSigOf) → HasKept s e came self.old
             → OnErr result (HasKept s e came self.new) }
     {

@@ -1,5 +1,5 @@
 //! Writing payloads.
-ghost use Rattle.std.specs.Prelude.{◌≡◌, ◌≤◌, ◌++◌, OnOk, IfOk, flat_map, length};
+ghost use Rattle.std.specs.Prelude.{◌≡◌, ◌≤◌, ◌++◌, OnOk, IfOk, length};
 ghost use Rattle.cesr_stream.specs.Written.{item_text};
 ghost use Rattle.journal_views.specs.EventPayload.Payloads.{group_of, groups_text, parts_of, payload_of};
 

@@ -5,6 +5,7 @@ ghost use Rattle.journal.specs.declared.journal.body.Body.{Body};
 ghost use Rattle.journal.specs.Journal.Conflicts.{AreConflicts};
 ghost use Rattle.journal.specs.Journal.Journals.{chosen};
 ghost use Rattle.journal_views.specs.JournalViews.Groups.{as_set, cut, is_apart};
+ghost use Rattle.journal_views.specs.JournalViews.Bodies.{AreBodiesOf};
 ghost use Rattle.journal_views.specs.JournalViews.Rankings.{number_cmp, number_place};
 
 use crate::journal_views::places::{event_order, number_order, prefix_texts};
@@ -24,8 +25,7 @@ pub fn conflict_sets(
     requires paired { length bodies.now ≡ length events.now }
     requires held { All (λ n. n < length bodies.now) counted.now }
     requires differ { AllPairs (λ x y. bytes_eq x y ≡ false) bodies.now }
-    ensures conflicts { (held : List Body) → map (λ b. b.bytes) held ≡ bodies.now
-        → map (λ b. b.event) held ≡ events.now
+    ensures conflicts { (held : List Body) → AreBodiesOf bodies.now events.now held
         → IfOk result (λ sets. AreConflicts (chosen held counted.now) (map (λ set. chosen held set.items) sets.items)) }
     ensures held { IfOk result (λ sets. All (λ set. All (λ n. n < length bodies.now) set.items) sets.items) }
 {

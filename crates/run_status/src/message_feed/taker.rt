@@ -1,5 +1,5 @@
 //! What takes messages.
-ghost use Rattle.std.specs.Prelude.{◌≡◌, ◌∷◌, ◌++◌, [], List, OnOk, OnErr, IfErr};
+ghost use Rattle.std.specs.Prelude.{◌∷◌, ◌++◌, [], List, OnOk, IfErr};
 ghost use Rattle.cesr_stream.specs.declared.message.Message.{Message as MessageValue};
 
 use cesr_stream::Message;

@@ -1,5 +1,6 @@
 //! The end of a run: what is owed is written, and the status is found.
-ghost use Rattle.std.specs.Prelude.{◌≡◌, false, map, option_map};
+ghost use Rattle.std.specs.Prelude.{◌≡◌, false, map};
+ghost use Rattle.std.specs.Option.{option_copied};
 ghost use Rattle.run_status.specs.RunStatus.Readers.{reader_seen, sink_seen};
 ghost use Rattle.run_status.specs.RunStatus.Settling.{Puts, SettlesBy};
 ghost use Rattle.run_status.specs.RunStatus.Settling as settling;
@@ -22,7 +23,7 @@ pub fn settle<O: Outside>(
     besides: Besides,
     readers: &[ReaderEnd<O::Source, O::Verifier>],
 ) -> u8
-    ensures settles { SettlesBy (option_map (λ text. text.now) owed.entry) besides
+    ensures settles { SettlesBy (option_copied owed.entry) besides
         (map (reader_seen O.Source.left O.Source.faults O.Verifier.says O.Verifier.inquiries O.Verifier.faults)
         readers.now)
         (sink_seen O.Sink.written O.Sink.faults (O.sink outside.old))

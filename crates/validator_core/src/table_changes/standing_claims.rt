@@ -1,5 +1,5 @@
 //! The claims that entries tell of, raised where the events that they are on stand.
-ghost use Rattle.std.specs.Prelude.{◌≡◌, ◌<◌, ℕ, false, length, slice_get, IfNone, IfSome, None, OnOk, OnErr, Some};
+ghost use Rattle.std.specs.Prelude.{◌≡◌, ◌<◌, false, length, slice_get, IfNone, IfSome, None, OnOk, OnErr, Some};
 ghost use Rattle.validator_core.specs.Acceptance.Footing.{IsFooting};
 ghost use Rattle.validator_core.specs.Acceptance.Standing.{Extends, IsStanding, told_of};
 ghost use Rattle.validator_core.specs.Tables.Raised.{RaisesSome, claims_at};

@@ -3,7 +3,8 @@ ghost use Rattle.std.specs.Prelude.{◌≡◌, ◌==◌, ◌&&◌, ◌⊎◌, �
 ghost use Rattle.std.specs.List.{list_any};
 ghost use Rattle.std.specs.List.Sorted.{IsStrictlySortedBy};
 ghost use Rattle.std.specs.Ordering.{nat_cmp};
-ghost use Rattle.claim_table.specs.CoreLaws.Waking.{is_anchored, is_there as is_all_there};
+ghost use Rattle.claim_table.specs.CoreLaws.Waking as waking;
+ghost use Rattle.claim_table.specs.CoreLaws.Waking.{is_anchored};
 ghost use Rattle.event_backing.specs.EventSeals.{IsEventSeal, holds_seal};
 ghost use Rattle.event_backing.specs.declared.event_seal.EventSeal.{EventSeal as EventSealValue};
 ghost use Rattle.escrow.specs.Escrow.Escrow.{Waits};
@@ -166,7 +167,7 @@ fn is_next(tables: &Tables, mode: Mode, number: u32) -> bool
     requires stands { IsStanding tables.now }
     ensures { (b : Body) → slice_get tables.now.held number ≡ Some b
         → result ≡ (not (list_any (λ m. m == number) tables.now.log.numbers)
-        && (is_all_there (log_of tables.now) b && is_anchored mode (log_of tables.now) b)) }
+        && (waking.is_there (log_of tables.now) b && is_anchored mode (log_of tables.now) b)) }
 {
     !tables.is_accepted(number) && is_there(tables, mode, number)
 }

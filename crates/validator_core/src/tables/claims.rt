@@ -1,5 +1,5 @@
 //! The claims on bodies: raised where their keys are found, and the verdicts on them.
-ghost use Rattle.std.specs.Prelude.{◌≡◌, ◌≢◌, ◌<◌, ℕ, true, None, Some, OnOk, OnErr, length, slice_get};
+ghost use Rattle.std.specs.Prelude.{◌≡◌, ◌≢◌, ◌<◌, true, None, Some, OnOk, OnErr, length, slice_get};
 ghost use Rattle.std.specs.Option.{option_copied};
 ghost use Rattle.claim_table.specs.ClaimTable.Rows as rows;
 ghost use Rattle.claim_table.specs.declared.claim_table.signature.Signature.{Signature as SignatureValue};

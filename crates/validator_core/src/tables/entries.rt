@@ -1,5 +1,5 @@
 //! Entries of the journal, found by the names of their bodies' events and by their claims.
-ghost use Rattle.std.specs.Prelude.{◌≡◌, Contains, IfOk, OnOk, Some, length, slice_get, ◌<◌, ◌++◌, ◌∷◌, [], OnErr};
+ghost use Rattle.std.specs.Prelude.{◌≡◌, Contains, OnOk, Some, length, slice_get, ◌<◌, ◌++◌, ◌∷◌, [], OnErr};
 ghost use Rattle.std.specs.List.{list_any};
 ghost use Rattle.std.specs.List.Sorted.{IsStrictlyIncreasing};
 ghost use Rattle.escrow.specs.EventIndex.Keys.{numbers_at};

@@ -1,5 +1,5 @@
 //! The places of the log by the names of the events there.
-ghost use Rattle.std.specs.Prelude.{◌≡◌, ◌<◌, ℕ, [], Contains, OnOk};
+ghost use Rattle.std.specs.Prelude.{◌≡◌, ◌<◌, [], Contains, OnOk};
 ghost use Rattle.std.specs.List.Sorted.{IsStrictlyIncreasing};
 ghost use Rattle.validator_core.specs.Tables.Hints.{KeepsBelow};
 ghost use Rattle.validator_core.specs.Tables.NamedPlaces.{places_at, short_of};

@@ -1,5 +1,5 @@
 //! The last state of an identifier, among the numbers of a hint.
-ghost use Rattle.std.specs.Prelude.{◌≡◌, IfOk, slice_get};
+ghost use Rattle.std.specs.Prelude.{◌≡◌, slice_get};
 ghost use Rattle.std.specs.List.Sorted.{IsStrictlyIncreasing};
 ghost use Rattle.validator_core.specs.Tables.AcceptedLog.Hints.{IsLast, is_state_of};
 

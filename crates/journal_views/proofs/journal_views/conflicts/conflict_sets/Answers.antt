@@ -13,18 +13,18 @@ use Rattle.journal_views.proofs.JournalViewsLemmas.Numbers.{conflicts-of}
 use Rattle.journal_views.proofs.journal_views.conflicts.conflict_sets.Goals as goal
 
 pub returns-clause-conflicts : goal.returns-clause-conflicts
-returns-clause-conflicts c held bytes_are events_are =
+returns-clause-conflicts c held are =
     let bodies = c.args.bodies.now in
     let P = number_place c.args.events.now in
     let counted = c.args.counted.now in
     let numbers = c.in_ok-numbers.numbers.items in
-    let of_numbers = all-held (λ b. b.bytes) held bodies bytes_are numbers c.in_ok-numbers.ensures.held in
-    let of_counted = all-held (λ b. b.bytes) held bodies bytes_are counted c.requires.held in
+    let of_numbers = all-held (λ b. b.bytes) held bodies are.bytes_are numbers c.in_ok-numbers.ensures.held in
+    let of_counted = all-held (λ b. b.bytes) held bodies are.bytes_are counted c.requires.held in
     IfOk-weaker c.sets_of.result (λ (sets : Vec (Vec ℕ Global) Global). map (λ set. set.items) sets.items ≡ cut P [] c.as_slice.result.now)
     (λ (sets : Vec (Vec ℕ Global) Global). AreConflicts (chosen held counted) (map (λ set. chosen held set.items) sets.items))
     (λ sets is. let sets_are : map (λ set. chosen held set.items) sets.items ≡ map (chosen held) (cut P [] numbers) =
     sym (map-map (chosen held) (λ (set : Vec ℕ Global). set.items) sets.items) ∙ ap (map (chosen held)) (is ∙ ap (cut P []) c.as_slice.ensures.value) in
-    rw sets_are (conflicts-of held bodies c.args.events.now bytes_are events_are c.requires.differ numbers counted of_numbers of_counted
+    rw sets_are (conflicts-of held bodies c.args.events.now are.bytes_are are.events_are c.requires.differ numbers counted of_numbers of_counted
     c.in_ok-numbers.ensures.same c.in_ok-numbers.ensures.rising))
     c.sets_of.ensures
 

@@ -1,4 +1,4 @@
-use Rattle.std.proofs.Common.{sym, subst, ◌∙◌, ap, ◌≡◌, None, Some}
+use Rattle.std.proofs.Common.{sym, subst, ◌∙◌, ap, ◌≡◌, Some}
 use Rattle.std.specs.Prelude.{slice_get}
 use Rattle.claim_table.specs.ClaimTable.Entries.{part_entry}
 use Rattle.claim_table.proofs.ClaimTableLemmas.Entries.{found}

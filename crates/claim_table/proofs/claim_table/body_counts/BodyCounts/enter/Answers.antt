@@ -1,4 +1,4 @@
-use Rattle.std.proofs.Common.{◌≡◌, true, sym, subst, ◌∙◌, ap}
+use Rattle.std.proofs.Common.{sym, subst, ◌∙◌, ap}
 use Rattle.std.specs.Prelude.{is_some}
 use Rattle.claim_table.specs.ClaimTable.Entries.{IsGapFor, IsPlaceOf, or_zero, part_entry}
 use Rattle.claim_table.proofs.ClaimTableLemmas.Entries.{backers_insert, entered, entry_here, more_entered, same_amounts, sorted_insert}

@@ -1,4 +1,4 @@
-use Rattle.std.proofs.Common.{◌<◌, ◌≤◌, None, length, refl, sym, subst, ◌∙◌, rules}
+use Rattle.std.proofs.Common.{◌<◌, ◌≤◌, length, refl, sym, subst, rules}
 use Rattle.std.specs.Prelude.{nat_lt}
 use Rattle.std.specs.Map.{keys_of}
 use Rattle.std.proofs.lemmas.Map.Keys.{IsDistinct-from_sorted}

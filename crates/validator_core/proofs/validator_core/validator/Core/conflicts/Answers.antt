@@ -24,7 +24,7 @@ placed-requires-clause-some c = λ k d h.
     let sets = c.in_ok-sets.sets.items in
     let are = c.as_slice-3.ensures.value in
     let inside : k < length sets = subst (λ s. k < length s) are h in
-    let conflicts = c.in_ok-sets.ensures.conflicts held (sym (c.as_slice.ensures ∙ c.journal.ensures.bodies)) (sym c.events.ensures) in
+    let conflicts = c.in_ok-sets.ensures.conflicts held (record { bytes_are = sym (c.as_slice.ensures ∙ c.journal.ensures.bodies); events_are = sym c.events.ensures }) in
     let of : Vec ℕ Global → List Body = λ set. chosen held set.items in
     let two : 2 ≤ length (of (get_or sets k d)) =
     subst (λ bs. 2 ≤ length bs) (get_or-map of sets k d (of d) inside) (conflicts.two_or_more k (of d) (omega (arith, inside, length-map sets of))) in
@@ -40,7 +40,7 @@ returns c =
     let numbers : List (List ℕ) = map (λ (set : Vec ℕ Global). set.items) sets in
     let bytes = c.as_slice.ensures ∙ c.journal.ensures.bodies in
     let long : length c.as_slice.result.now ≡ length held = ap length bytes ∙ length-map held (λ (b : Body). b.bytes) in
-    let conflicts = c.in_ok-sets.ensures.conflicts held (sym bytes) (sym c.events.ensures) in
+    let conflicts = c.in_ok-sets.ensures.conflicts held (record { bytes_are = sym bytes; events_are = sym c.events.ensures }) in
     let parted : map (λ (set : Vec ℕ Global). chosen held set.items) sets ≡ map (chosen held) numbers = sym (map-map (chosen held) (λ (set : Vec ℕ Global). set.items) sets) in
     let are : AreConflicts (chosen held c.as_slice-2.result.now) (map (chosen held) numbers) = subst (AreConflicts (chosen held c.as_slice-2.result.now)) parted conflicts in
     let among = ap (chosen held) c.as_slice-2.ensures.value ∙ c.in_ok-counted.ensures.those ∙ counted_is i.mode i.limits i.base v i.tally c.self.invariant in
