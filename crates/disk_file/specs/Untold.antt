@@ -1,4 +1,4 @@
--- What a real file tells: how often it has failed, and nothing of its content. It has no bytes and no image.
+-- What a real file shows: how often it has failed, and nothing of its content. It has no bytes and no image.
 use Rattle.std.specs.Prelude.{ℕ}
 use Rattle.std.specs.declared.option.Option.TheVariants.{None}
 use Rattle.shelf_log.specs.KeriDisk.Images.{DiskShown}

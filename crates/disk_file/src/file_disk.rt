@@ -7,7 +7,7 @@ use keri_outside::Failed;
 use shelf_log::Disk;
 use std::fs::{File, OpenOptions};
 
-/// A regular file that nobody else has open as a disk until this value is dropped. It tells no content.
+/// A regular file that nobody else has open as a disk until this value is dropped. It shows no content.
 #[derive(Drop)]
 pub struct FileDisk {
     file: File,
@@ -72,15 +72,15 @@ impl Disk for FileDisk {
         }
     }
 
-    fn read(&mut self, place: u64, buf: &mut [u8]) -> Result<(), Failed> {
-        match read_all(&self.file, place, buf) {
+    fn read(&mut self, offset: u64, buf: &mut [u8]) -> Result<(), Failed> {
+        match read_all(&self.file, offset, buf) {
             Ok(()) => Ok(()),
             Err(Failed) => Err(self.fail()),
         }
     }
 
-    fn write_at(&mut self, place: u64, bytes: &[u8]) -> Result<(), Failed> {
-        match write_all(&self.file, place, bytes) {
+    fn write_at(&mut self, offset: u64, bytes: &[u8]) -> Result<(), Failed> {
+        match write_all(&self.file, offset, bytes) {
             Ok(()) => Ok(()),
             Err(Failed) => Err(self.fail()),
         }

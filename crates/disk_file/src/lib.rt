@@ -1,4 +1,4 @@
-//! A real file as a disk. It tells nothing of its content: that the operating system and the device keep what is written
+//! A real file as a disk. It shows nothing of its content: that the operating system and the device keep what is written
 //! is believed, and not proved.
 #![tactic(auto)]
 

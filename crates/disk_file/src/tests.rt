@@ -31,12 +31,12 @@ fn is_written_cut_and_read_by_one_at_a_time(rt: HostRuntime) -> Result<(), Fail>
     let mut back = [0; 3];
     assert_eq!(rt; disk.read(2, &mut back), Ok(()));
     assert_eq!(rt; back, *b"cde");
-    for place in [3, 5, (1 << 63) - 1, 1 << 63, u64::MAX] {
-        assert_eq!(rt; disk.read(place, &mut back), Err(Failed), "at {place}");
+    for offset in [3, 5, (1 << 63) - 1, 1 << 63, u64::MAX] {
+        assert_eq!(rt; disk.read(offset, &mut back), Err(Failed), "at {offset}");
     }
-    for place in [(1 << 63) - 1, 1 << 63, u64::MAX] {
-        assert_eq!(rt; disk.write_at(place, b"ab"), Err(Failed), "at {place}");
-        assert_eq!(rt; disk.cut(place), Err(Failed), "at {place}");
+    for offset in [(1 << 63) - 1, 1 << 63, u64::MAX] {
+        assert_eq!(rt; disk.write_at(offset, b"ab"), Err(Failed), "at {offset}");
+        assert_eq!(rt; disk.cut(offset), Err(Failed), "at {offset}");
     }
     assert_eq!(rt; disk.size(), Ok(5));
     drop(disk);

@@ -16,7 +16,7 @@ pub(crate) enum Stop {
     Usage,
     /// Some lines of the input were no payloads.
     Lines,
-    /// The file isn't a shelf, which shows first at this place.
+    /// The file isn't a shelf, which shows first at this offset.
     NotAShelf(u64),
     /// The file is a shelf of other payloads.
     OtherShelf,
@@ -63,7 +63,7 @@ impl fmt::Display for Stop {
     fn fmt<W: fmt::Write>(&self, f: &mut fmt::Formatter<W>) -> fmt::Result {
         let (_, text) = self.answer();
         match *self {
-            Stop::NotAShelf(place) => write!(f, "{text} {place}"),
+            Stop::NotAShelf(offset) => write!(f, "{text} {offset}"),
             _ => f.write_str(text),
         }
     }
@@ -102,7 +102,7 @@ impl From<ShelfFault> for Stop {
     fn from(fault: ShelfFault) -> Self {
         match fault {
             ShelfFault::DiskFault | ShelfFault::Broken => Stop::DiskFault,
-            ShelfFault::NotAShelf(place) => Stop::NotAShelf(place),
+            ShelfFault::NotAShelf(offset) => Stop::NotAShelf(offset),
             ShelfFault::LimitReached => Stop::LimitReached,
             ShelfFault::OutOfMemory => Stop::NoMemory,
         }

@@ -3,9 +3,9 @@ use Rattle.std.proofs.Common.{inl, inr, ⊎_elim, ℕ, List, refl, ◌∙◌, ar
 use Rattle.shelf_log.specs.KeriDisk.Images.{DiskShown, IsDurable, LeavesOnly}
 use Rattle.shelf_log.specs.KeriDisk.Calls.{Elapses, Keeps}
 
--- no image is there that isn't told of this moment
+-- no image is there that isn't shown of this moment
 abbrev pub KnowsNow : DiskShown → Type 0
-KnowsNow told = (c : List ℕ) → told.images_since told.moment c → told.images c
+KnowsNow shown = (c : List ℕ) → shown.images_since shown.moment c → shown.images c
 
 -- one call
 pub one_call : (old new : DiskShown) (P : List ℕ → Type 0) → KnowsNow old → Elapses old new → ((c : List ℕ) → old.images c → P c) → ((c : List ℕ) → new.images c → P c) → LeavesOnly old new P
@@ -16,8 +16,8 @@ one_call old new P knows time before after = record {
 }
 
 -- no call
-pub none_yet : (told : DiskShown) (P : List ℕ → Type 0) → KnowsNow told → ((c : List ℕ) → told.images c → P c) → LeavesOnly told told P
-none_yet told P knows here = record { later = omega arith; each = λ c since. here c (knows c since); before = λ t c le since. inl since }
+pub none_yet : (shown : DiskShown) (P : List ℕ → Type 0) → KnowsNow shown → ((c : List ℕ) → shown.images c → P c) → LeavesOnly shown shown P
+none_yet shown P knows here = record { later = omega arith; each = λ c since. here c (knows c since); before = λ t c le since. inl since }
 
 -- calls, and then others
 pub and_then : (first mid last : DiskShown) (P : List ℕ → Type 0) → LeavesOnly first mid P → LeavesOnly mid last P → LeavesOnly first last P
@@ -45,8 +45,8 @@ keeps_both first mid last a b = record {
   keeps = λ t c le since. b.keeps t c (omega (arith, le, a.later)) (a.keeps t c le since);
 }
 
-pub keeps_none : (told : DiskShown) → Keeps told told
-keeps_none told = record { file = refl; images = λ c now. now; later = omega arith; nothing_new = λ t c le since. since; keeps = λ t c le since. since }
+pub keeps_none : (shown : DiskShown) → Keeps shown shown
+keeps_none shown = record { file = refl; images = λ c now. now; later = omega arith; nothing_new = λ t c le since. since; keeps = λ t c le since. since }
 
 -- in time nothing else comes of them
 pub elapses_of : (old new : DiskShown) → Keeps old new → Elapses old new

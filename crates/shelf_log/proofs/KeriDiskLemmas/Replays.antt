@@ -35,12 +35,12 @@ IsLeftByAll-pop (first ∷ calls) call file old new left =
     let rest = IsLeftByAll-pop calls call (file_after first file) left.0 new left.2 in (rest.0, (left.0, left.1, rest.1), rest.2)
 
 -- what is left of fewer bytes may be left of more
-pub Torn-more : (place n m : ℕ) (old new : List ℕ) → n ≤ m → Torn place n old new → Torn place m old new
-Torn-more place n m old new le torn =
-    let end : place + n + (m - n) ≡ place + m = omega arith in
+pub Torn-more : (offset n m : ℕ) (old new : List ℕ) → n ≤ m → Torn offset n old new → Torn offset m old new
+Torn-more offset n m old new le torn =
+    let end : offset + n + (m - n) ≡ offset + m = omega arith in
     record {
       before = torn.before;
-      after = subst (λ (k : ℕ). drop k new ≡ drop k old) end (sym (drop-drop (m - n) (place + n) new) ∙ ap (λ (l : List ℕ). drop (m - n) l) torn.after ∙ drop-drop (m - n) (place + n) old);
+      after = subst (λ (k : ℕ). drop k new ≡ drop k old) end (sym (drop-drop (m - n) (offset + n) new) ∙ ap (λ (l : List ℕ). drop (m - n) l) torn.after ∙ drop-drop (m - n) (offset + n) old);
       no_shorter = torn.no_shorter;
       no_longer = omega (arith, torn.no_longer);
     }

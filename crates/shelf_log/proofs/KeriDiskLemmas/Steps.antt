@@ -1,4 +1,4 @@
--- What a disk in memory tells after calls more.
+-- What a disk in memory shows after calls more.
 use Rattle.std.proofs.Common.{◌≡◌, ℕ, ◌+◌, ◌≤◌, List, [], ◌∷◌, length, take, refl, sym, ◌∙◌, ap, subst, arith, inl, inr, ⊎_elim, Some, Ok, Err}
 use Rattle.std.proofs.lemmas.Bool.{cases_lt}
 use Rattle.std.proofs.lemmas.List.{append-nil, take_all, take-append-le, length_push}
@@ -75,14 +75,14 @@ module _ (old new : MemDisk) where
     durable = λ c now. let left = images_did old new Synced did c now in ap Some (file_did old new Synced did ∙ sym left.2);
   }
 
-  -- a write of fewer bytes, told as one that failed
-  pub changes_part : {E : Type 0} (e : E) (whole : List ℕ → List ℕ) (place n : ℕ) (bytes : List ℕ) → length bytes ≤ n → Did (Wrote place bytes ∷ []) old new → Changes whole (Torn place n) (mem_shown old) (mem_shown new) (Err e)
-  changes_part e whole place n bytes fewer did =
-      let call = Wrote place bytes in
-      let file = subst (Torn place (length bytes) old.file.items) (sym (file_did old new call did)) (Torn-overwritten old.file.items place bytes) in
+  -- a write of fewer bytes, shown as one that failed
+  pub changes_part : {E : Type 0} (e : E) (whole : List ℕ → List ℕ) (offset n : ℕ) (bytes : List ℕ) → length bytes ≤ n → Did (Wrote offset bytes ∷ []) old new → Changes whole (Torn offset n) (mem_shown old) (mem_shown new) (Err e)
+  changes_part e whole offset n bytes fewer did =
+      let call = Wrote offset bytes in
+      let file = subst (Torn offset (length bytes) old.file.items) (sym (file_did old new call did)) (Torn-overwritten old.file.items offset bytes) in
       record {
         ok = tt;
-        err = (new.file.items, refl, Torn-more place (length bytes) n old.file.items new.file.items fewer file);
-        images = λ c now. let left = images_did old new call did c now in (left.0, left.1, Torn-more place (length bytes) n left.0 c fewer left.2);
+        err = (new.file.items, refl, Torn-more offset (length bytes) n old.file.items new.file.items fewer file);
+        images = λ c now. let left = images_did old new call did c now in (left.0, left.1, Torn-more offset (length bytes) n left.0 c fewer left.2);
         time = elapses old new call did;
       }

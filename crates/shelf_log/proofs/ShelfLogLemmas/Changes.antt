@@ -7,11 +7,11 @@ use Rattle.shelf_log.specs.ShelfLog.Durable.{ChangesDurably}
 use Rattle.shelf_log.proofs.KeriDiskLemmas.Moments.{KnowsNow, one_call, and_then, elapses_of}
 
 -- nothing may be left of a write
-pub torn_none : (place n : ℕ) (c : List ℕ) → Torn place n c c
-torn_none place n c = record {
-  before = elim (cases_lt place (length c)) [
+pub torn_none : (offset n : ℕ) (c : List ℕ) → Torn offset n c c
+torn_none offset n c = record {
+  before = elim (cases_lt offset (length c)) [
     | inl lt ↦ ap (λ (m : ℕ). take m c) (omega (arith, lt))
-    | inr le ↦ take_all (min place (length c)) c (omega (arith, le)) ∙ sym (take_all place c (omega (arith, le)))
+    | inr le ↦ take_all (min offset (length c)) c (omega (arith, le)) ∙ sym (take_all offset c (omega (arith, le)))
   ];
   after = refl;
   no_shorter = omega arith;

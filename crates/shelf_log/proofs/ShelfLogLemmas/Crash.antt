@@ -72,35 +72,35 @@ staged_file list file payload holds =
     )
 
 module _ (list : List (List ℕ)) (payload : List ℕ) (gate : ℕ) (rest : List ℕ) where
-  abbrev place : ℕ
-  place = length (shelf_front Two list)
+  abbrev offset : ℕ
+  offset = length (shelf_front Two list)
 
   abbrev behind : List ℕ
   behind = to_be_bytes w32 (length payload) ++ (payload ++ 0 ∷ rest)
 
-  front_of : take place (staged list gate payload rest) ≡ shelf_front Two list
-  front_of = take_at (shelf_front Two list) (gate ∷ behind) place refl
+  front_of : take offset (staged list gate payload rest) ≡ shelf_front Two list
+  front_of = take_at (shelf_front Two list) (gate ∷ behind) offset refl
 
-  behind_of : drop (place + 1) (staged list gate payload rest) ≡ behind
+  behind_of : drop (offset + 1) (staged list gate payload rest) ≡ behind
   behind_of =
-      ap (drop (place + 1)) (sym (append_assoc (shelf_front Two list) (gate ∷ []) behind))
-      ∙ drop_at (shelf_front Two list ++ gate ∷ []) behind (place + 1) (omega (arith, length-append (shelf_front Two list) (gate ∷ [])))
+      ap (drop (offset + 1)) (sym (append_assoc (shelf_front Two list) (gate ∷ []) behind))
+      ∙ drop_at (shelf_front Two list ++ gate ∷ []) behind (offset + 1) (omega (arith, length-append (shelf_front Two list) (gate ∷ [])))
 
-  long_staged : place + 1 ≤ length (staged list gate payload rest)
+  long_staged : offset + 1 ≤ length (staged list gate payload rest)
   long_staged = omega (arith, length-append (shelf_front Two list) (gate ∷ behind))
 
   -- the record stands whole in whatever the second step leaves, behind any gate
-  pub torn_gate : (c : List ℕ) → Torn place 1 (staged list gate payload rest) c → c ≡ staged list (get_or c place 0) payload rest
+  pub torn_gate : (c : List ℕ) → Torn offset 1 (staged list gate payload rest) c → c ≡ staged list (get_or c offset 0) payload rest
   torn_gate c torn =
       let s = staged list gate payload rest in
-      let same : take place c ≡ shelf_front Two list = subst (λ m. take m c ≡ take place s) (min_long place (length s) (omega (arith, long_staged))) torn.before ∙ front_of in
-      let more : drop place c ≡ get_or c place 0 ∷ behind =
-      drop_more c place 0 (omega (arith, torn.no_shorter, long_staged)) ∙ ap (λ (l : List ℕ). get_or c place 0 ∷ l) (torn.after ∙ behind_of) in
-      sym (take-append-drop place c) ∙ ap (λ (l : List ℕ). l ++ drop place c) same ∙ ap (λ (l : List ℕ). shelf_front Two list ++ l) more
+      let same : take offset c ≡ shelf_front Two list = subst (λ m. take m c ≡ take offset s) (min_long offset (length s) (omega (arith, long_staged))) torn.before ∙ front_of in
+      let more : drop offset c ≡ get_or c offset 0 ∷ behind =
+      drop_more c offset 0 (omega (arith, torn.no_shorter, long_staged)) ∙ ap (λ (l : List ℕ). get_or c offset 0 ∷ l) (torn.after ∙ behind_of) in
+      sym (take-append-drop offset c) ∙ ap (λ (l : List ℕ). l ++ drop offset c) same ∙ ap (λ (l : List ℕ). shelf_front Two list ++ l) more
 
   -- what the second step writes
-  pub opened_file : overwritten (staged list gate payload rest) place (1 ∷ []) ≡ staged list 1 payload rest
+  pub opened_file : overwritten (staged list gate payload rest) offset (1 ∷ []) ≡ staged list 1 payload rest
   opened_file =
-      ap (λ (l : List ℕ). l ++ 1 ∷ [] ++ drop (place + 1) (staged list gate payload rest)) front_of
-      ∙ append_assoc (shelf_front Two list) (1 ∷ []) (drop (place + 1) (staged list gate payload rest))
+      ap (λ (l : List ℕ). l ++ 1 ∷ [] ++ drop (offset + 1) (staged list gate payload rest)) front_of
+      ∙ append_assoc (shelf_front Two list) (1 ∷ []) (drop (offset + 1) (staged list gate payload rest))
       ∙ ap (λ (l : List ℕ). shelf_front Two list ++ 1 ∷ l) behind_of

@@ -9,7 +9,7 @@ pub if_some : {T : Type 0} (P : T → Type 0) (o : Option T) → ((x : T) → o 
 if_some P None each = tt
 if_some P (Some x) each = each x refl
 
--- what stands at a place, with what is behind it
+-- what stands at an offset, with what is behind it
 pub split_at : (file : List ℕ) (n : ℕ) (P : ℕ → Type 0) → IsSomeAnd (slice_get file n) P → (x : ℕ) × (rest : List ℕ) × (file ≡ take n file ++ x ∷ rest) × P x
 split_at [] n P is = absurd is
 split_at (x ∷ file) zero P is = (x, file, refl, is)

@@ -58,5 +58,5 @@ leftover_no_shelf (x ∷ c) is list holds =
     ]
 
 -- so where the file is one, and each image is the file, no image is a shelf
-pub images_no_shelf : (told : DiskShown) → IsDurable told → IfSome told.file IsLeftover → (c : List ℕ) → told.images c → IsNoShelf Two c
-images_no_shelf told durable left c now = leftover_no_shelf c (subst (λ (o : Option (List ℕ)). IfSome o IsLeftover) (durable c now) left)
+pub images_no_shelf : (shown : DiskShown) → IsDurable shown → IfSome shown.file IsLeftover → (c : List ℕ) → shown.images c → IsNoShelf Two c
+images_no_shelf shown durable left c now = leftover_no_shelf c (subst (λ (o : Option (List ℕ)). IfSome o IsLeftover) (durable c now) left)

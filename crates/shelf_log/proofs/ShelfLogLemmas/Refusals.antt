@@ -15,7 +15,7 @@ match_err (Ok x) e P Q given holds = absurd given
 match_err (Err y) e P Q given holds = subst Q (sym given) holds
 
 pub reads_refused : (version : Version) (limits : Limits) (file : List ℕ) (scan : Scan) (fault : ShelfFault) → scan.version ≡ version → Scans file scan (Err fault) → Reads version limits file (Err fault)
-reads_refused version limits file scan (NotAShelf place) of scans = let fails = subst (λ (v : Version). FailsAt v file place) of scans in (fails, fails_no_shelf version file place fails)
+reads_refused version limits file scan (NotAShelf offset) of scans = let fails = subst (λ (v : Version). FailsAt v file offset) of scans in (fails, fails_no_shelf version file offset fails)
 reads_refused version limits file scan LimitReached of scans = absurd scans
 reads_refused version limits file scan Broken of scans = absurd scans
 reads_refused version limits file scan DiskFault of scans = tt

@@ -20,59 +20,59 @@ mapped f None y is = absurd (none-some y is)
 mapped f (Some x) y is = (x, refl, sym (same_Some (f x) y is))
 
 -- an image of a settled disk stands for the list
-pub image_holds : (told : DiskShown) (list : List (List ℕ)) (c : List ℕ) → IsSettled told list → told.file ≡ Some c → Holds Two c list
-image_holds told list c settled is = subst (λ o. IfSome o (λ file. Holds Two file list)) is settled.1
+pub image_holds : (shown : DiskShown) (list : List (List ℕ)) (c : List ℕ) → IsSettled shown list → shown.file ≡ Some c → Holds Two c list
+image_holds shown list c settled is = subst (λ o. IfSome o (λ file. Holds Two file list)) is settled.1
 
 module _ (list : List (List ℕ)) (payload : List ℕ) (fits : IsSized Two payload) (old : DiskShown) (settled : IsSettled old list) where
-  abbrev place : ℕ
-  place = length (shelf_front Two list)
+  abbrev offset : ℕ
+  offset = length (shelf_front Two list)
 
   abbrev bytes : List ℕ
   bytes = to_be_bytes w32 (length payload) ++ payload ++ 0 ∷ []
 
-  pub first_moments : {E : Type 0} (mid : DiskShown) (result : Result (Unit {0}) E) → ChangesDurably (λ file. overwritten file (place + 1) bytes) (Torn (place + 1) (length bytes)) old mid result
+  pub first_moments : {E : Type 0} (mid : DiskShown) (result : Result (Unit {0}) E) → ChangesDurably (λ file. overwritten file (offset + 1) bytes) (Torn (offset + 1) (length bytes)) old mid result
       → LeavesOnly old mid (HoldsEither list payload)
   first_moments mid result changes = weaker old mid _ (HoldsEither list payload)
       (λ c part. inl (torn_behind list part.0 (image_holds old list part.0 settled (settled.0 part.0 part.1)) (length bytes) c part.2)) changes.moments
 
   -- between the two steps the file is a staged one
-  pub staged_between : (mid : DiskShown) (d : List ℕ) → mid.file ≡ option_map (λ file. overwritten file (place + 1) bytes) old.file → mid.file ≡ Some d
+  pub staged_between : (mid : DiskShown) (d : List ℕ) → mid.file ≡ option_map (λ file. overwritten file (offset + 1) bytes) old.file → mid.file ≡ Some d
       → (gate : ℕ) × (rest : List ℕ) × All (IsSized Two) list × (d ≡ staged list gate payload rest)
   staged_between mid d file_is is =
-      let from = mapped (λ file. overwritten file (place + 1) bytes) old.file d (sym file_is ∙ is) in
+      let from = mapped (λ file. overwritten file (offset + 1) bytes) old.file d (sym file_is ∙ is) in
       let holds = image_holds old list from.0 settled from.1 in
       let s = staged_file list from.0 payload holds in
       (s.0, s.1, holds.2, from.2 ∙ s.3)
 
-  module _ (mid new : DiskShown) (durable : (c : List ℕ) → mid.images c → mid.file ≡ Some c) (file_is : mid.file ≡ option_map (λ file. overwritten file (place + 1) bytes) old.file) where
-    second_moments : {E : Type 0} (result : Result (Unit {0}) E) → ChangesDurably (λ file. overwritten file place (1 ∷ [])) (Torn place 1) mid new result → LeavesOnly mid new (HoldsEither list payload)
+  module _ (mid new : DiskShown) (durable : (c : List ℕ) → mid.images c → mid.file ≡ Some c) (file_is : mid.file ≡ option_map (λ file. overwritten file (offset + 1) bytes) old.file) where
+    second_moments : {E : Type 0} (result : Result (Unit {0}) E) → ChangesDurably (λ file. overwritten file offset (1 ∷ [])) (Torn offset 1) mid new result → LeavesOnly mid new (HoldsEither list payload)
     second_moments result changes = weaker mid new _ (HoldsEither list payload)
         (λ c part.
         let s = staged_between mid part.0 file_is (durable part.0 part.1) in
-        let torn = subst (λ d. Torn place 1 d c) s.3 part.2 in
-        subst (HoldsEither list payload) (sym (torn_gate list payload s.0 s.1 c torn)) (staged_holds list payload s.2 fits (get_or c place 0) s.1))
+        let torn = subst (λ d. Torn offset 1 d c) s.3 part.2 in
+        subst (HoldsEither list payload) (sym (torn_gate list payload s.0 s.1 c torn)) (staged_holds list payload s.2 fits (get_or c offset 0) s.1))
         changes.moments
 
-    opened_holds : (f : List ℕ) → option_map (λ file. overwritten file place (1 ∷ [])) mid.file ≡ Some f → Holds Two f (list ++ payload ∷ [])
+    opened_holds : (f : List ℕ) → option_map (λ file. overwritten file offset (1 ∷ [])) mid.file ≡ Some f → Holds Two f (list ++ payload ∷ [])
     opened_holds f is =
-        let from = mapped (λ file. overwritten file place (1 ∷ [])) mid.file f is in
+        let from = mapped (λ file. overwritten file offset (1 ∷ [])) mid.file f is in
         let s = staged_between mid from.0 file_is from.1 in
         let whole : f ≡ shelf_front Two (list ++ payload ∷ []) ++ 0 ∷ s.1 =
-        from.2 ∙ ap (λ (l : List ℕ). overwritten l place (1 ∷ [])) s.3 ∙ opened_file list payload s.0 s.1 ∙ opened list payload s.2 fits s.1 in
+        from.2 ∙ ap (λ (l : List ℕ). overwritten l offset (1 ∷ [])) s.3 ∙ opened_file list payload s.0 s.1 ∙ opened list payload s.2 fits s.1 in
         subst (λ l. Holds Two l (list ++ payload ∷ [])) (sym whole) (holds_of Two (list ++ payload ∷ []) 0 s.1 (omega arith) (All-push (IsSized Two) list payload s.2 fits))
 
-    on_ok : {E : Type 0} (result : Result (Unit {0}) E) → ChangesDurably (λ file. overwritten file place (1 ∷ [])) (Torn place 1) mid new result → OnOk result (IsSettled new (list ++ payload ∷ []))
+    on_ok : {E : Type 0} (result : Result (Unit {0}) E) → ChangesDurably (λ file. overwritten file offset (1 ∷ [])) (Torn offset 1) mid new result → OnOk result (IsSettled new (list ++ payload ∷ []))
     on_ok (Err e) changes = tt
     on_ok (Ok u) changes = (changes.durable, if_some (λ f. Holds Two f (list ++ payload ∷ [])) new.file (λ f is. opened_holds f (sym changes.file ∙ is)))
 
     pub stored : {E : Type 0} (result : Result (Unit {0}) E) → LeavesOnly old mid (HoldsEither list payload)
-        → ChangesDurably (λ file. overwritten file place (1 ∷ [])) (Torn place 1) mid new result → Stores list payload old new result
+        → ChangesDurably (λ file. overwritten file offset (1 ∷ [])) (Torn offset 1) mid new result → Stores list payload old new result
     stored result first changes = record {
       settled = on_ok result changes;
       moments = and_then old mid new (HoldsEither list payload) first (second_moments result changes);
     }
 
--- the two steps of an append at the place where the closed gate stands
+-- the two steps of an append at the offset where the closed gate stands
 module _ (list : List (List ℕ)) (payload : List ℕ) (old : DiskShown) (settled : IsSettled old list) (fits : IsSized Two payload)
     (end : ℕ) (end_is : end ≡ length (shelf_front Two list)) (bytes : List ℕ) (bytes_are : bytes ≡ to_be_bytes w32 (length payload) ++ payload ++ 0 ∷ []) where
   at_gate : {E : Type 0} (mid : DiskShown) (result : Result (Unit {0}) E) → ChangesDurably (λ file. overwritten file (end + 1) bytes) (Torn (end + 1) (length bytes)) old mid result

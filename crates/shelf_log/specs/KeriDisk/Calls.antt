@@ -5,20 +5,20 @@ use Rattle.std.specs.declared.option.Option.{Option}
 use Rattle.std.specs.declared.option.Option.TheVariants.{None, Some}
 use Rattle.shelf_log.specs.KeriDisk.Images.{DiskShown, IsDurable}
 
--- a range of n bytes from a place on lies in the file, where it is told
+-- a range of n bytes from an offset on lies in the file, where the disk shows it
 abbrev pub IsInFile : ℕ → ℕ → Option (List ℕ) → Type 0
-IsInFile place n None = Unit {0}
-IsInFile place n (Some file) = place + n ≤ length file
+IsInFile offset n None = Unit {0}
+IsInFile offset n (Some file) = offset + n ≤ length file
 
--- the number is the size of the file, where it is told
+-- the number is the size of the file, where the disk shows it
 abbrev pub IsSizeOf : Option (List ℕ) → ℕ → Type 0
 IsSizeOf None size = Unit {0}
 IsSizeOf (Some file) size = size ≡ length file
 
--- the bytes are those of the file from a place on, where it is told
+-- the bytes are those of the file from an offset on, where the disk shows it
 abbrev pub AreBytesAt : Option (List ℕ) → ℕ → List ℕ → Type 0
-AreBytesAt None place bytes = Unit {0}
-AreBytesAt (Some file) place bytes = bytes ≡ take (length bytes) (drop place file)
+AreBytesAt None offset bytes = Unit {0}
+AreBytesAt (Some file) offset bytes = bytes ≡ take (length bytes) (drop offset file)
 
 -- Time goes on: what a crash since an earlier moment may have left is what it may have left before, or may leave now.
 pub record Elapses (old new : DiskShown) : Type 0 where
@@ -40,7 +40,7 @@ pub record Syncs {E : Type 0} (old new : DiskShown) (result : Result (Unit {0}) 
   pub keeps : Keeps old new
   pub durable : OnOk result (IsDurable new)
 
--- the file after a step of the file before, where it is told
+-- the file after a step of the file before, where the disk shows it
 abbrev pub Becomes : (List ℕ → List ℕ → Type 0) → Option (List ℕ) → Option (List ℕ) → Type 0
 Becomes step None new = new ≡ None
 Becomes step (Some old) new = (file : List ℕ) × (new ≡ Some file) × step old file

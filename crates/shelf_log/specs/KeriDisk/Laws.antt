@@ -13,11 +13,11 @@ use Rattle.shelf_log.specs.declared.keri_disk.disk_call.DiskCall.TheVariants.{Ke
 use Rattle.shelf_log.specs.declared.keri_disk.mem_disk.MemDisk.{MemDisk}
 
 -- past the range all is as before
-drop_overwritten : (file : List ℕ) (place : ℕ) (bytes : List ℕ) → drop (place + length bytes) (overwritten file place bytes) ≡ drop (place + length bytes) file
-drop_overwritten file place bytes =
-    let end = place + length bytes in
-    let front : List ℕ = take place file ++ bytes in
-    elim (cases_lt place (length file)) [
+drop_overwritten : (file : List ℕ) (offset : ℕ) (bytes : List ℕ) → drop (offset + length bytes) (overwritten file offset bytes) ≡ drop (offset + length bytes) file
+drop_overwritten file offset bytes =
+    let end = offset + length bytes in
+    let front : List ℕ = take offset file ++ bytes in
+    elim (cases_lt offset (length file)) [
       | inl within ↦ drop_at front (drop end file) end (simp (length-append, length-take) (omega arith))
       | inr past ↦
           drop_all end (front ++ drop end file) (simp (length-append, length-take, length-drop) (omega arith))
@@ -25,11 +25,11 @@ drop_overwritten file place bytes =
     ]
 
 -- the whole of a write is one of its parts
-pub Torn-overwritten : (file : List ℕ) (place : ℕ) (bytes : List ℕ) → Torn place (length bytes) file (overwritten file place bytes)
-Torn-overwritten file place bytes = record {
-  before = ap (take (min place (length file))) (append_assoc (take place file) bytes (drop (place + length bytes) file))
-      ∙ take_at (take place file) (bytes ++ drop (place + length bytes) file) (min place (length file)) (length-take place file);
-  after = drop_overwritten file place bytes;
+pub Torn-overwritten : (file : List ℕ) (offset : ℕ) (bytes : List ℕ) → Torn offset (length bytes) file (overwritten file offset bytes)
+Torn-overwritten file offset bytes = record {
+  before = ap (take (min offset (length file))) (append_assoc (take offset file) bytes (drop (offset + length bytes) file))
+      ∙ take_at (take offset file) (bytes ++ drop (offset + length bytes) file) (min offset (length file)) (length-take offset file);
+  after = drop_overwritten file offset bytes;
   no_shorter = simp (length-append, length-take, length-drop) (omega arith);
   no_longer = simp (length-append, length-take, length-drop) (omega arith);
 }
@@ -45,7 +45,7 @@ CutShort-take size file = record {
 file_after-IsLeft : (call : DiskCall) (file : List ℕ) → IsLeftBy call file file (file_after call file)
 file_after-IsLeft Kept file = refl
 file_after-IsLeft Synced file = refl
-file_after-IsLeft (Wrote place bytes) file = Torn-overwritten file place bytes
+file_after-IsLeft (Wrote offset bytes) file = Torn-overwritten file offset bytes
 file_after-IsLeft (CutTo size) file = CutShort-take size file
 
 file_of-IsLeft : (calls : List DiskCall) (file : List ℕ) → IsLeftByAll calls file file (file_of file calls)

@@ -1,4 +1,4 @@
--- What a disk in memory tells: it keeps what its file held first, and what each of its calls did.
+-- What a disk in memory shows: it keeps what its file held first, and what each of its calls did.
 use Rattle.std.specs.Prelude.{◌≡◌, ℕ, ◌≤◌, List, ◌++◌, length, take}
 use Rattle.std.specs.declared.option.Option.TheVariants.{Some}
 use Rattle.shelf_log.specs.KeriDisk.Images.{DiskShown}

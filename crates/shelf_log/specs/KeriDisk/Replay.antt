@@ -8,7 +8,7 @@ use Rattle.shelf_log.specs.declared.keri_disk.disk_call.DiskCall.TheVariants.{Ke
 abbrev pub file_after : DiskCall → List ℕ → List ℕ
 file_after Kept file = file
 file_after Synced file = file
-file_after (Wrote place bytes) file = overwritten file place bytes
+file_after (Wrote offset bytes) file = overwritten file offset bytes
 file_after (CutTo size) file = take size file
 
 -- the file after calls
@@ -20,7 +20,7 @@ file_of file (call ∷ calls) = file_of (file_after call file) calls
 abbrev pub IsLeftBy : DiskCall → List ℕ → List ℕ → List ℕ → Type 0
 IsLeftBy Kept file old new = new ≡ old
 IsLeftBy Synced file old new = new ≡ file
-IsLeftBy (Wrote place bytes) file old new = Torn place (length bytes) old new
+IsLeftBy (Wrote offset bytes) file old new = Torn offset (length bytes) old new
 IsLeftBy (CutTo size) file old new = CutShort size old new
 
 -- the same after calls

@@ -7,11 +7,11 @@ use Rattle.shelf_log.specs.declared.keri_disk.disk_call.DiskCall.TheVariants.{Ke
 use Rattle.shelf_log.specs.declared.keri_disk.shape.Shape.{Shape}
 use Rattle.shelf_log.specs.declared.keri_disk.shape.Shape.TheVariants.{Whole, Lost, Ones}
 
--- an image after a write at a place, which is done, or isn't, or leaves bytes 1
+-- an image after a write at an offset, which is done, or isn't, or leaves bytes 1
 abbrev pub left_of_write : Shape → List ℕ → ℕ → List ℕ → List ℕ
-left_of_write Whole image place bytes = overwritten image place bytes
-left_of_write Lost image place bytes = image
-left_of_write Ones image place bytes = overwritten image place (replicate (length bytes) 1)
+left_of_write Whole image offset bytes = overwritten image offset bytes
+left_of_write Lost image offset bytes = image
+left_of_write Ones image offset bytes = overwritten image offset (replicate (length bytes) 1)
 
 -- an image after a cut to a size, which is done or isn't
 abbrev pub left_of_cut : Shape → List ℕ → ℕ → List ℕ
@@ -23,7 +23,7 @@ left_of_cut Ones image size = take size image
 abbrev pub image_after : Shape → DiskCall → List ℕ → List ℕ → List ℕ
 image_after shape Kept file image = image
 image_after shape Synced file image = file
-image_after shape (Wrote place bytes) file image = left_of_write shape image place bytes
+image_after shape (Wrote offset bytes) file image = left_of_write shape image offset bytes
 image_after shape (CutTo size) file image = left_of_cut shape image size
 
 -- the same after calls

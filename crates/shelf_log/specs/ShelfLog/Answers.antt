@@ -21,11 +21,11 @@ pub record HasDiskCause (old new : DiskShown) (fault : ShelfFault) : Type 0 wher
   pub rose : fault ≡ DiskFault → Rose old.faults new.faults
   pub same : fault ≢ DiskFault → new.faults ≡ old.faults
 
--- What a call reads of a file, where it is told: the list that it stands for, unless that has too many records or bytes, or
--- the place at which it shows first that it is no shelf. Nothing else is refused but for the disk and for want of memory.
+-- What a call reads of a file, where the disk shows it: the list that it stands for, unless that has too many records or bytes, or
+-- the offset at which it shows first that it is no shelf. Nothing else is refused but for the disk and for want of memory.
 abbrev pub Reads : Version → Limits → List ℕ → Result (List (List ℕ)) ShelfFault → Type 0
 Reads version limits file (Ok list) = Holds version file list × (IsOver version limits list → ⊥)
-Reads version limits file (Err (NotAShelf place)) = FailsAt version file place × IsNoShelf version file
+Reads version limits file (Err (NotAShelf offset)) = FailsAt version file offset × IsNoShelf version file
 Reads version limits file (Err LimitReached) = (list : List (List ℕ)) × Holds version file list × IsOver version limits list
 Reads version limits file (Err Broken) = ⊥
 Reads version limits file (Err DiskFault) = Unit {0}
@@ -48,5 +48,5 @@ abbrev pub MigrationRefuses : Limits → List (List ℕ) → ShelfFault → Type
 MigrationRefuses limits list LimitReached = IsOver Two limits list
 MigrationRefuses limits list DiskFault = IsOver Two limits list → ⊥
 MigrationRefuses limits list OutOfMemory = IsOver Two limits list → ⊥
-MigrationRefuses limits list (NotAShelf place) = ⊥
+MigrationRefuses limits list (NotAShelf offset) = ⊥
 MigrationRefuses limits list Broken = ⊥

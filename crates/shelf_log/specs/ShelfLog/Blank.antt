@@ -10,7 +10,7 @@ abbrev pub IsBlank : List ℕ → Type 0
 IsBlank file = IsSomeAnd (slice_get file 0) (λ first. first ≡ 0)
 
 abbrev pub AllBlank : DiskShown → Type 0
-AllBlank told = (c : List ℕ) → told.images c → IsBlank c
+AllBlank shown = (c : List ℕ) → shown.images c → IsBlank c
 
 -- the bytes are written behind the others, and until then nothing is a shelf
 pub record Extends {T E : Type 0} (bytes : List ℕ) (old new : DiskShown) (result : Result T E) : Type 0 where

@@ -49,20 +49,20 @@ Holds version file list = (take (length (shelf_front version list)) file ≡ she
 abbrev pub IsNoShelf : Version → List ℕ → Type 0
 IsNoShelf version file = (list : List (List ℕ)) → Holds version file list → ⊥
 
--- The bytes from a gate's place on end too soon, which shows so far behind that place: at the gate, at the length behind
+-- The bytes from a gate's offset on end too soon, which shows so far behind that offset: at the gate, at the length behind
 -- an open gate, or at the payload behind its length.
 abbrev pub EndsIn : Version → List ℕ → ℕ → Type 0
-EndsIn version bytes offset = ((bytes ≡ []) × (offset ≡ 0))
-    ⊎ ((rest : List ℕ) × (bytes ≡ 1 ∷ rest) × (length rest < 4) × (offset ≡ 1))
-    ⊎ ((n : ℕ) × (rest : List ℕ) × (bytes ≡ 1 ∷ to_be_bytes w32 n ++ rest) × IsInRange version n × (length rest < n) × (offset ≡ 5))
+EndsIn version bytes behind = ((bytes ≡ []) × (behind ≡ 0))
+    ⊎ ((rest : List ℕ) × (bytes ≡ 1 ∷ rest) × (length rest < 4) × (behind ≡ 1))
+    ⊎ ((n : ℕ) × (rest : List ℕ) × (bytes ≡ 1 ∷ to_be_bytes w32 n ++ rest) × IsInRange version n × (length rest < n) × (behind ≡ 5))
 
 -- the length behind an open gate is 0, or over the greatest
 abbrev pub IsOutOfRange : Version → List ℕ → ℕ → Type 0
-IsOutOfRange version bytes offset = (n : ℕ) × (rest : List ℕ) × (bytes ≡ 1 ∷ to_be_bytes w32 n ++ rest) × (n < 2 ^ 32) × (IsInRange version n → ⊥) × (offset ≡ 1)
+IsOutOfRange version bytes behind = (n : ℕ) × (rest : List ℕ) × (bytes ≡ 1 ∷ to_be_bytes w32 n ++ rest) × (n < 2 ^ 32) × (IsInRange version n → ⊥) × (behind ≡ 1)
 
--- The file isn't a shelf, which shows first at this place: 0 where it doesn't begin with the mark, and else where, behind
+-- The file isn't a shelf, which shows first at this offset: 0 where it doesn't begin with the mark, and else where, behind
 -- the mark and whole records, the file ends too soon or a length is out of range.
 abbrev pub FailsAt : Version → List ℕ → ℕ → Type 0
-FailsAt version file place = ((take 8 file ≢ mark version) × (place ≡ 0))
-    ⊎ ((list : List (List ℕ)) × (rest : List ℕ) × (offset : ℕ) × (file ≡ shelf_front version list ++ rest) × All (IsSized version) list
-    × (EndsIn version rest offset ⊎ IsOutOfRange version rest offset) × (place ≡ length (shelf_front version list) + offset))
+FailsAt version file offset = ((take 8 file ≢ mark version) × (offset ≡ 0))
+    ⊎ ((list : List (List ℕ)) × (rest : List ℕ) × (behind : ℕ) × (file ≡ shelf_front version list ++ rest) × All (IsSized version) list
+    × (EndsIn version rest behind ⊎ IsOutOfRange version rest behind) × (offset ≡ length (shelf_front version list) + behind))

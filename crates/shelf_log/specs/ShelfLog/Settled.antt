@@ -8,11 +8,11 @@ use Rattle.shelf_log.specs.declared.shelf_log.version.Version.TheVariants.{Two}
 
 -- each image is the file as it reads, and that stands for the list
 abbrev pub IsSettled : DiskShown → List (List ℕ) → Type 0
-IsSettled told list = IsDurable told × IfSome told.file (λ file. Holds Two file list)
+IsSettled shown list = IsDurable shown × IfSome shown.file (λ file. Holds Two file list)
 
 -- each image stands for the list
 abbrev pub AllHold : DiskShown → List (List ℕ) → Type 0
-AllHold told list = (c : List ℕ) → told.images c → Holds Two c list
+AllHold shown list = (c : List ℕ) → shown.images c → Holds Two c list
 
 -- the file stands for the list, or for it with the payload
 abbrev pub HoldsEither : List (List ℕ) → List ℕ → List ℕ → Type 0
@@ -31,7 +31,7 @@ StoresStaged end staged old new result = (list : List (List ℕ)) (payload : Lis
 
 -- what a stop leaves of a shelf that is being made: an empty file, an empty shelf, or a file that is refused
 abbrev pub IsUnfinished : List ℕ → Type 0
-IsUnfinished file = (file ≡ []) ⊎ Holds Two file [] ⊎ ((place : ℕ) × FailsAt Two file place)
+IsUnfinished file = (file ≡ []) ⊎ Holds Two file [] ⊎ ((offset : ℕ) × FailsAt Two file offset)
 
 -- what a stop leaves of a list that is being brought over: no shelf, or one of the list
 abbrev pub IsBroughtOver : List (List ℕ) → List ℕ → Type 0
@@ -43,11 +43,11 @@ IsFilledOrLeftover list file = IsLeftover file ⊎ Holds Two file list
 
 -- no image is a shelf
 abbrev pub NoneIsShelf : DiskShown → Type 0
-NoneIsShelf told = (c : List ℕ) → told.images c → IsNoShelf Two c
+NoneIsShelf shown = (c : List ℕ) → shown.images c → IsNoShelf Two c
 
 -- a stopped migration may leave each image
 abbrev pub AllLeftover : DiskShown → Type 0
-AllLeftover told = (c : List ℕ) → told.images c → IsLeftover c
+AllLeftover shown = (c : List ℕ) → shown.images c → IsLeftover c
 
 -- A list is brought over to a disk that holds no shelf: after Ok each image stands for it, and at any moment is no shelf
 -- or stands for it. Where each was what a stopped migration may leave, it is that until it stands for the list.

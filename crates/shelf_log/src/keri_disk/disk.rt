@@ -8,7 +8,7 @@ use keri_outside::Failed;
 
 /// One file on a disk, of which a crash may leave more than one content until it is synced.
 pub trait Disk {
-    /// What it tells.
+    /// What it shows.
     ghost shown: { Self → DiskShown };
 
     /// The size of the file, in bytes.
@@ -17,17 +17,17 @@ pub trait Disk {
         ensures keeps { Keeps (shown self.old) (shown self.new) }
         ensures cause { HasCause (shown self.old).faults (shown self.new).faults result };
 
-    /// Fills the buffer with the bytes from a place on.
-    fn read(&mut self, place: u64, buf: &mut [u8]) -> Result<(), Failed>
-        requires { IsInFile place (length buf.old) (shown self.old).file }
-        ensures bytes { OnOk result (AreBytesAt (shown self.old).file place buf.new) }
+    /// Fills the buffer with the bytes from an offset on.
+    fn read(&mut self, offset: u64, buf: &mut [u8]) -> Result<(), Failed>
+        requires { IsInFile offset (length buf.old) (shown self.old).file }
+        ensures bytes { OnOk result (AreBytesAt (shown self.old).file offset buf.new) }
         ensures keeps { Keeps (shown self.old) (shown self.new) }
         ensures cause { HasCause (shown self.old).faults (shown self.new).faults result };
 
-    /// Writes the bytes from a place on, over what is there and past the end.
-    fn write_at(&mut self, place: u64, bytes: &[u8]) -> Result<(), Failed>
-        requires { IsInFile place 0 (shown self.old).file }
-        ensures written { Changes (λ file. overwritten file place bytes.now) (Torn place (length bytes.now))
+    /// Writes the bytes from an offset on, over what is there and past the end.
+    fn write_at(&mut self, offset: u64, bytes: &[u8]) -> Result<(), Failed>
+        requires { IsInFile offset 0 (shown self.old).file }
+        ensures written { Changes (λ file. overwritten file offset bytes.now) (Torn offset (length bytes.now))
             (shown self.old) (shown self.new) result }
         ensures cause { HasCause (shown self.old).faults (shown self.new).faults result };
 

@@ -9,8 +9,8 @@ pub(crate) enum DiskCall {
     Kept,
     /// What a crash leaves is the file.
     Synced,
-    /// These bytes stand at the place, counted in bytes from the beginning.
-    Wrote { place: usize, bytes: Items<u8> },
+    /// These bytes stand at the offset, counted in bytes from the beginning.
+    Wrote { offset: usize, bytes: Items<u8> },
     /// No more than the first `size` bytes are there.
     CutTo { size: usize },
 }

@@ -11,7 +11,7 @@ use keri_outside::Failed;
 use lists::Items;
 use std::alloc::{AllocError, Global};
 
-/// A disk in memory, which tells all. It keeps each of its calls, so that it can say what a crash after any of them may leave.
+/// A disk in memory, which shows all that it holds. It keeps each of its calls, so that it can say what a crash after any of them may leave.
 #[derive(Drop)]
 pub struct MemDisk {
     alloc: Global,
@@ -129,19 +129,19 @@ impl MemDisk {
     }
 
     // Writes the bytes, where there is memory for that.
-    fn write(&mut self, place: usize, bytes: &[u8]) -> Result<(), Failed>
-        ensures ok { OnOk result (Did (Wrote place bytes.now ∷ []) self.old self.new) }
+    fn write(&mut self, offset: usize, bytes: &[u8]) -> Result<(), Failed>
+        ensures ok { OnOk result (Did (Wrote offset bytes.now ∷ []) self.old self.new) }
         ensures err { OnErr result (Keeps (mem_shown self.old) (mem_shown self.new)) }
         ensures cause { HasCause self.old.faults self.new.faults result }
     {
-        let Ok(next) = overwrite(self.alloc, &self.file, place, bytes) else {
+        let Ok(next) = overwrite(self.alloc, &self.file, offset, bytes) else {
             return Err(self.fail());
         };
         let Ok(bytes) = Vec::from_slice(self.alloc, bytes) else {
             return Err(self.fail());
         };
         let bytes = Items::from_vec(bytes);
-        match self.calls.push(DiskCall::Wrote { place, bytes }) {
+        match self.calls.push(DiskCall::Wrote { offset, bytes }) {
             Ok(()) => {
                 self.file = next;
                 Ok(())
@@ -183,20 +183,20 @@ impl Disk for MemDisk {
         Ok(self.file.len() as u64)
     }
 
-    fn read(&mut self, place: u64, buf: &mut [u8]) -> Result<(), Failed> {
+    fn read(&mut self, offset: u64, buf: &mut [u8]) -> Result<(), Failed> {
         self.ask()?;
-        let place = place as usize;
-        let end = place + buf.len();
-        buf.copy_from_slice(&self.file[place..end]);
+        let offset = offset as usize;
+        let end = offset + buf.len();
+        buf.copy_from_slice(&self.file[offset..end]);
         Ok(())
     }
 
-    fn write_at(&mut self, place: u64, bytes: &[u8]) -> Result<(), Failed> {
+    fn write_at(&mut self, offset: u64, bytes: &[u8]) -> Result<(), Failed> {
         if self.next_fails() {
-            self.write(place as usize, &bytes[..bytes.len() / 2])?;
+            self.write(offset as usize, &bytes[..bytes.len() / 2])?;
             return Err(self.fail());
         }
-        self.write(place as usize, bytes)?;
+        self.write(offset as usize, bytes)?;
         Ok(())
     }
 

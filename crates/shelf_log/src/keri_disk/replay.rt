@@ -59,7 +59,12 @@ impl Replay {
         match call {
             DiskCall::Kept => Ok(()),
             DiskCall::Synced => self.sync(alloc),
-            DiskCall::Wrote { place, bytes } => self.write(alloc, *place, bytes.as_slice(), shape),
+            DiskCall::Wrote { offset, bytes } => self.write(
+                alloc,
+                *offset,
+                bytes.as_slice(),
+                shape,
+            ),
             DiskCall::CutTo { size } => {
                 self.cut(*size, shape);
                 Ok(())
@@ -78,16 +83,16 @@ impl Replay {
     fn write(
         &mut self,
         alloc: Global,
-        place: usize,
+        offset: usize,
         bytes: &[u8],
         shape: Shape,
     ) -> Result<(), AllocError>
-        ensures file { OnOk result (self.new.file.items ≡ overwritten self.old.file.items place bytes.now) }
-        ensures image { OnOk result (self.new.image.items ≡ left_of_write shape self.old.image.items place bytes.now) }
-        ensures torn { OnOk result (Torn place (length bytes.now) self.old.image.items self.new.image.items) }
+        ensures file { OnOk result (self.new.file.items ≡ overwritten self.old.file.items offset bytes.now) }
+        ensures image { OnOk result (self.new.image.items ≡ left_of_write shape self.old.image.items offset bytes.now) }
+        ensures torn { OnOk result (Torn offset (length bytes.now) self.old.image.items self.new.image.items) }
     {
-        self.image = write_over(alloc, &self.image, place, bytes, shape)?;
-        self.file = overwrite(alloc, &self.file, place, bytes)?;
+        self.image = write_over(alloc, &self.image, offset, bytes, shape)?;
+        self.file = overwrite(alloc, &self.file, offset, bytes)?;
         Ok(())
     }
 
@@ -108,19 +113,19 @@ impl Replay {
 fn write_over(
     alloc: Global,
     image: &[u8],
-    place: usize,
+    offset: usize,
     bytes: &[u8],
     shape: Shape,
 ) -> Result<Vec<u8>, AllocError>
-    ensures image { IfOk result (λ next. next.items ≡ left_of_write shape image.now place bytes.now) }
-    ensures torn { IfOk result (λ next. Torn place (length bytes.now) image.now next.items) }
+    ensures image { IfOk result (λ next. next.items ≡ left_of_write shape image.now offset bytes.now) }
+    ensures torn { IfOk result (λ next. Torn offset (length bytes.now) image.now next.items) }
 {
     match shape {
-        Shape::Whole => overwrite(alloc, image, place, bytes),
+        Shape::Whole => overwrite(alloc, image, offset, bytes),
         Shape::Lost => Vec::from_slice(alloc, image),
         Shape::Ones => {
             let ones = vec![in alloc; 1u8; bytes.len()]?;
-            overwrite(alloc, image, place, &ones)
+            overwrite(alloc, image, offset, &ones)
         }
     }
 }

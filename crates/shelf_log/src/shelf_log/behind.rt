@@ -13,7 +13,7 @@ use keri_outside::Failed;
 use lists::Items;
 
 /// Writes the rest of the mark, the records of the list and a closed gate behind the one byte that is there, and syncs.
-/// Answers the place of the closed gate.
+/// Answers the offset of the closed gate.
 pub(crate) fn write_behind<D: Disk>(disk: &mut D, list: &[Items<u8>]) -> Result<u64, Failed>
     requires sized { All (IsSized One) list.now }
     requires few { shelf_size Two list.now ≤ 1073741824 }
@@ -29,7 +29,7 @@ pub(crate) fn write_behind<D: Disk>(disk: &mut D, list: &[Items<u8>]) -> Result<
     Ok(end)
 }
 
-// Writes the records of the list behind the mark. Answers the place behind them.
+// Writes the records of the list behind the mark. Answers the offset behind them.
 fn write_records<D: Disk>(disk: &mut D, list: &[Items<u8>]) -> Result<u64, Failed>
     requires sized { All (IsSized One) list.now }
     requires few { shelf_size Two list.now ≤ 1073741824 }
@@ -38,12 +38,12 @@ fn write_records<D: Disk>(disk: &mut D, list: &[Items<u8>]) -> Result<u64, Faile
     ensures extends { Extends (records list.now) (D.shown disk.old) (D.shown disk.new) result }
     ensures cause { HasCause (D.shown disk.old).faults (D.shown disk.new).faults result }
 {
-    let mut place = 8;
+    let mut offset = 8;
     for payload in list {
-        write_record(disk, place, payload.as_slice())?;
-        place += (HEAD + payload.len()) as u64;
+        write_record(disk, offset, payload.as_slice())?;
+        offset += (HEAD + payload.len()) as u64;
     }
-    Ok(place)
+    Ok(offset)
 }
 
 // Writes one record at the end of the file.

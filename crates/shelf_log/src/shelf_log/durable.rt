@@ -9,13 +9,13 @@ use crate::keri_disk::Disk;
 use keri_outside::Failed;
 
 // Writes the bytes and syncs.
-pub(crate) fn put_durably<D: Disk>(disk: &mut D, place: u64, bytes: &[u8]) -> Result<(), Failed>
-    requires { IsInFile place 0 (D.shown disk.old).file }
-    ensures puts { ChangesDurably (λ file. overwritten file place bytes.now) (Torn place (length bytes.now))
+pub(crate) fn put_durably<D: Disk>(disk: &mut D, offset: u64, bytes: &[u8]) -> Result<(), Failed>
+    requires { IsInFile offset 0 (D.shown disk.old).file }
+    ensures puts { ChangesDurably (λ file. overwritten file offset bytes.now) (Torn offset (length bytes.now))
         (D.shown disk.old) (D.shown disk.new) result }
     ensures cause { HasCause (D.shown disk.old).faults (D.shown disk.new).faults result }
 {
-    disk.write_at(place, bytes)?;
+    disk.write_at(offset, bytes)?;
     disk.sync()
 }
 

@@ -10,7 +10,7 @@ use std::alloc::{AllocError, AllocFailed};
 pub enum ShelfFault {
     /// The disk failed.
     DiskFault,
-    /// The file isn't a shelf, which shows first at this place.
+    /// The file isn't a shelf, which shows first at this offset.
     NotAShelf(u64),
     /// A limit on records or bytes is reached.
     LimitReached,

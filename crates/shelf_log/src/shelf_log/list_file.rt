@@ -89,17 +89,17 @@ fn read_records<D: Disk>(
         (λ fault. HasDiskCause (D.shown disk.old) (D.shown disk.new) fault) }
 {
     loop {
-        let left = size - scan.place;
+        let left = size - scan.offset;
         let count = left.min(window.len() as u64);
         let window = &mut window[..count as usize];
-        disk.read(scan.place, window)?;
+        disk.read(scan.offset, window)?;
         match scan.take_window(window)? {
             End::Closed => return Ok(()),
-            End::Part(offset) if count == left => return Err(ShelfFault::NotAShelf(
-                scan.place + offset,
+            End::Part(behind) if count == left => return Err(ShelfFault::NotAShelf(
+                scan.offset + behind,
             )),
             End::Part(_) => {}
-            End::OutOfRange => return Err(ShelfFault::NotAShelf(scan.place + 1)),
+            End::OutOfRange => return Err(ShelfFault::NotAShelf(scan.offset + 1)),
         }
     }
 }

@@ -99,7 +99,7 @@ fn copies_of(alloc: Global, list: &[Items<u8>]) -> Result<Items<Items<u8>>, Allo
 }
 
 // Empties the file, writes all but the first byte of its mark, and when that is on the disk that byte. Answers the
-// place of the closed gate.
+// offset of the closed gate.
 fn write_over<D: Disk>(disk: &mut D, list: &[Items<u8>]) -> Result<u64, Failed>
     requires sized { All (IsSized One) list.now }
     requires few { shelf_size Two list.now ≤ 1073741824 }

@@ -1,10 +1,10 @@
-//! What stands at a gate's place.
+//! What stands at a gate's offset.
 ghost use Rattle.std.specs.Prelude.{◌∷◌};
 ghost use Rattle.shelf_log.specs.ShelfLog.Scans.{IsPiece};
 
 use crate::shelf_log::Version;
 
-/// What the bytes from a gate's place on begin with.
+/// What the bytes from a gate's offset on begin with.
 #[derive(Clone, Copy)]
 pub(crate) enum Piece<'a> {
     /// A whole record of this payload.
@@ -17,7 +17,7 @@ pub(crate) enum Piece<'a> {
 pub(crate) enum End {
     /// A closed gate.
     Closed,
-    /// A record of which there is only a part, or nothing. So far behind the gate's place stands what isn't whole.
+    /// A record of which there is only a part, or nothing. So far behind the gate's offset stands what isn't whole.
     Part(u64),
     /// A length of 0, or over the greatest.
     OutOfRange,

@@ -19,8 +19,8 @@ pub(crate) struct Scan {
     // The payloads, unless they are over the limits.
     pub(crate) list: Items<Items<u8>>,
     pub(crate) is_over: bool,
-    // The place of the gate behind the records.
-    pub(crate) place: u64,
+    // The offset of the gate behind the records.
+    pub(crate) offset: u64,
 }
 
 impl Scan {
@@ -35,44 +35,44 @@ impl Scan {
             limits,
             list: Items::new(alloc),
             is_over: limits.shelf_bytes < 9,
-            place: 8,
+            offset: 8,
         }
     }
 
-    // Whether a record more that ends at this place makes too many.
-    fn is_past(&self, place: u64) -> bool
+    // Whether a record more that ends at this offset makes too many.
+    fn is_past(&self, offset: u64) -> bool
         ensures { result ≡ (self.now.is_over || nat_le self.now.limits.records (length self.now.list)
-            || nat_le self.now.limits.shelf_bytes place) }
+            || nat_le self.now.limits.shelf_bytes offset) }
     {
         self.is_over
             || self.list.len() as u64 >= u64::from(self.limits.records)
-            || place >= u64::from(self.limits.shelf_bytes)
+            || offset >= u64::from(self.limits.shelf_bytes)
     }
 
     // One record more.
     fn take(&mut self, payload: &[u8]) -> Result<(), AllocError>
         requires sized { IsSized self.old.version payload.now }
-        requires fits { self.old.place + 5 + length payload.now < 2 ^ 64 }
+        requires fits { self.old.offset + 5 + length payload.now < 2 ^ 64 }
         ensures read { OnOk result ((payloads : List (List ℕ)) → HasRead self.old payloads
             → HasRead self.new (payloads ++ payload.now ∷ [])) }
-        ensures place { OnOk result (self.new.place ≡ self.old.place + 5 + length payload.now) }
+        ensures offset { OnOk result (self.new.offset ≡ self.old.offset + 5 + length payload.now) }
         ensures of { (self.new.version ≡ self.old.version) × (self.new.limits ≡ self.old.limits) }
     {
-        let place = self.place + (HEAD + payload.len()) as u64;
-        if self.is_past(place) {
+        let offset = self.offset + (HEAD + payload.len()) as u64;
+        if self.is_past(offset) {
             self.is_over = true;
-            self.place = place;
+            self.offset = offset;
             return Ok(());
         }
         let payload = Items::from_vec(Vec::from_slice(self.alloc, payload)?);
         self.list.push(payload)?;
-        self.place = place;
+        self.offset = offset;
         Ok(())
     }
 
-    /// Goes on over the whole records of a window that begins at its place, and says what stands behind them.
+    /// Goes on over the whole records of a window that begins at its offset, and says what stands behind them.
     pub(crate) fn take_window(&mut self, window: &[u8]) -> Result<End, AllocError>
-        requires { self.old.place + length window.now < 2 ^ 64 }
+        requires { self.old.offset + length window.now < 2 ^ 64 }
         ensures goes_on { IfOk result (λ end. GoesOn window.now self.old self.new end) }
         ensures of { (self.new.version ≡ self.old.version) × (self.new.limits ≡ self.old.limits) }
     {

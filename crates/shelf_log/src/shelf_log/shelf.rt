@@ -22,7 +22,7 @@ pub struct Shelf<D: Disk> {
     pub(crate) alloc: Global,
     pub(crate) disk: D,
     pub(crate) list: Items<Items<u8>>,
-    // The place of the closed gate behind the records.
+    // The offset of the closed gate behind the records.
     pub(crate) end: u64,
     pub(crate) limits: Limits,
     // The disk failed in an append.
@@ -82,7 +82,7 @@ impl<D: Disk + Drop> Shelf<D> {
     {
         let mut disk = disk;
         match read_list(alloc, &mut disk, Version::Two, limits) {
-            Ok(Scan { list, place, .. }) => Ok(Shelf::settled(alloc, disk, list, place, limits)),
+            Ok(Scan { list, offset, .. }) => Ok(Shelf::settled(alloc, disk, list, offset, limits)),
             Err(fault) => Err(Returned { disk, fault }),
         }
     }

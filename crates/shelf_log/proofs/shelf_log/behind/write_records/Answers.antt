@@ -15,8 +15,8 @@ pub returns-in_err-write_record-clause-extends : goal.returns-in_err-write_recor
 returns-in_err-write_record-clause-extends g c =
     extends_failed _ _ _ (g.D.Disk.shown c.args.disk.now) (g.D.Disk.shown c.loop-payload.disk) (g.D.Disk.shown c.write_record.new.disk) c.write_record.result c.from_residual.result c.loop-payload.invariant.2 c.write_record.ensures.extends c.from_residual.ensures.0
 
-pub overflow_add-place-in-loop-payload : goal.overflow_add-place-in-loop-payload
-overflow_add-place-in-loop-payload g c =
+pub overflow_add-offset-in-loop-payload : goal.overflow_add-offset-in-loop-payload
+overflow_add-offset-in-loop-payload g c =
     omega (arith, c.loop-payload.invariant.0, c.requires.few, c.len.ensures, size_more Two c.args.list.now c.loop-payload.payload-index c.payload-item.result c.loop-payload-test.true c.payload-item.is, size_front Two c.args.list.now (c.loop-payload.payload-index + 1))
 
 pub loop-payload-preserved : goal.loop-payload-preserved

@@ -13,9 +13,9 @@ returns-in-Closed-clause-scans g c =
 pub returns-in-Part-clause-scans : goal.returns-in-Part-clause-scans
 returns-in-Part-clause-scans g c =
     if_some _ (g.D.Disk.shown c.args.disk.now).file (λ file is. scan_part (g.D.Disk.shown c.args.disk.now).file (g.D.Disk.shown c.loop-scan.disk).file c.loop-scan.scan c.take_window.new.self c.in_ok-take_window.field-0 c.read.new.buf
-    c.loop-scan.invariant.6 c.loop-scan.invariant.0.file c.in_ok-read.ensures.bytes c.in_ok-take_window.ensures.goes_on file is c.in-Part.offset c.in-Part.is (last file is))
+    c.loop-scan.invariant.6 c.loop-scan.invariant.0.file c.in_ok-read.ensures.bytes c.in_ok-take_window.ensures.goes_on file is c.in-Part.behind c.in-Part.is (last file is))
   where
-    last : (file : List ℕ) → (g.D.Disk.shown c.args.disk.now).file ≡ Some file → length file ≤ c.loop-scan.scan.place + length c.read.new.buf
+    last : (file : List ℕ) → (g.D.Disk.shown c.args.disk.now).file ≡ Some file → length file ≤ c.loop-scan.scan.offset + length c.read.new.buf
     last file is = omega (arith, subst (λ p. IsSizeOf p c.args.size) is c.requires.size, c.if-count-left.true, c.read.auto.buf, length-take c.min-count.result c.loop-scan.window, c.min-count.ensures, c.loop-scan.invariant.2)
 
 pub loop-scan-preserved : goal.loop-scan-preserved
@@ -30,7 +30,7 @@ loop-scan-preserved g c = (
       c.loop-scan.invariant.6 c.loop-scan.invariant.0.file c.in_ok-read.ensures.bytes c.in_ok-take_window.ensures.goes_on,
 )
   where
-    inside : c.take_window.new.self.place ≤ c.loop-scan.scan.place + length c.read.new.buf
+    inside : c.take_window.new.self.offset ≤ c.loop-scan.scan.offset + length c.read.new.buf
     inside = scan_within (g.D.Disk.shown c.args.disk.now).file (g.D.Disk.shown c.loop-scan.disk).file c.loop-scan.scan c.take_window.new.self c.in_ok-take_window.field-0 c.read.new.buf
         c.loop-scan.invariant.6 c.loop-scan.invariant.0.file c.in_ok-read.ensures.bytes c.in_ok-take_window.ensures.goes_on
 

@@ -9,6 +9,6 @@ invariant_of-self c =
     let disk = c.args.self.now in
     let bytes = c.from_vec-bytes.result in
     let same : c.args.bytes.now ≡ bytes = sym (c.from_vec-bytes.ensures ∙ c.in-Ok-from_slice.ensures.items) in
-    let written : c.in-Ok.next.items ≡ overwritten disk.file.items c.args.place bytes =
-    c.in-Ok.ensures ∙ (λ i. overwritten (c.deref.ensures.value i) c.args.place (same i)) in
-    record { replayed = written ∙ replayed disk.first disk.calls _ (Wrote c.args.place bytes) disk.file.items disk.replayed c.in-Ok-push.ensures.ok }
+    let written : c.in-Ok.next.items ≡ overwritten disk.file.items c.args.offset bytes =
+    c.in-Ok.ensures ∙ (λ i. overwritten (c.deref.ensures.value i) c.args.offset (same i)) in
+    record { replayed = written ∙ replayed disk.first disk.calls _ (Wrote c.args.offset bytes) disk.file.items disk.replayed c.in-Ok-push.ensures.ok }

@@ -9,7 +9,7 @@ pub returns-then-next_fails-clause-written : goal.returns-then-next_fails-clause
 returns-then-next_fails-clause-written c =
     let bytes = c.args.bytes.now in
     let did = Did-then _ c.args.self.now c.write.new.self c.fail.new.self c.in_ok-write.ensures.ok c.fail.ensures.did in
-    changes_part c.args.self.now c.fail.new.self c.fail.result (λ (file : List ℕ). overwritten file c.args.place bytes) c.args.place (length bytes) _ (omega (arith, length-take (length bytes / 2) bytes)) did
+    changes_part c.args.self.now c.fail.new.self c.fail.result (λ (file : List ℕ). overwritten file c.args.offset bytes) c.args.offset (length bytes) _ (omega (arith, length-take (length bytes / 2) bytes)) did
 
 pub returns-clause-written : goal.returns-clause-written
-returns-clause-written c = changes c.args.self.now c.write-2.new.self (Wrote c.args.place c.args.bytes.now) c.in_ok-write-2.ensures.ok
+returns-clause-written c = changes c.args.self.now c.write-2.new.self (Wrote c.args.offset c.args.bytes.now) c.in_ok-write-2.ensures.ok

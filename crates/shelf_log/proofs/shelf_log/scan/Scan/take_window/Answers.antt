@@ -8,4 +8,4 @@ loop-payload-preserved c =
     let piece = c.in-Record.ensures in
     subst (λ (l : List ℕ). GoesThrough c.args.window.now l c.args.self.now c.take.new.self) (sym (behind_record c.loop-payload.rest.now piece.0 c.in-Record.payload.now piece.1))
     (one_through c.args.window.now c.loop-payload.rest.now piece.0 c.args.self.now c.loop-payload.self c.take.new.self c.in-Record.payload.now
-    c.loop-payload.invariant piece.1 c.take.ensures.of c.in_ok-take-in-Record.ensures.place c.in_ok-take-in-Record.ensures.read)
+    c.loop-payload.invariant piece.1 c.take.ensures.of c.in_ok-take-in-Record.ensures.offset c.in_ok-take-in-Record.ensures.read)
