@@ -4,3 +4,4 @@ pub mod Offers
 pub mod Taken
 pub mod Takers
 pub mod ReadsOne
+pub mod Readers

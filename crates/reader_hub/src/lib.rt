@@ -9,4 +9,4 @@ pub use reader_hub::{
     Asked, CoreHead, Extent, Hub, HubFault, Pass, SharedCore, Telling, hub_is_shared, pass_is_sent,
 };
 pub use reader_threads::{AnySeats, LastRound, Providers, Ran, ReaderSeats};
-pub use shared_reader::{ReadOne, read_one};
+pub use shared_reader::{ReadOne, Reader, read_one};

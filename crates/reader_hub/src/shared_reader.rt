@@ -6,4 +6,4 @@ mod offers;
 mod questions;
 mod reader;
 
-pub use reader::{ReadOne, read_one};
+pub use reader::{ReadOne, Reader, read_one};

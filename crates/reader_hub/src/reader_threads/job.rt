@@ -2,14 +2,12 @@
 ghost use Rattle.std.specs.Prelude.{◌≡◌, [], map, vec_len};
 ghost use Rattle.turn_lock.specs.Known.{OwnsAlone};
 ghost use Rattle.turn_lock.specs.Locks.{limit_of, known, IsPassOf};
-ghost use Rattle.run_status.specs.RunStatus.Readers.{reader_seen, source_seen, verifier_seen};
-ghost use Rattle.reader_hub.specs.ReaderThreads.Jobs.{HasRun, pass_seen};
+ghost use Rattle.reader_hub.specs.ReaderThreads.Jobs.{HasReadStream, HasRun};
 ghost use Rattle.reader_hub.specs.ReaderThreads.Rooms.{IsFree};
-ghost use Rattle.reader_hub.specs.ReaderThreads.Runs.{ReadsStream};
 
 use crate::reader_hub::{Extent, Hub, Pass};
 use crate::reader_threads::Providers;
-use crate::shared_reader::{ReadOne, read_one};
+use crate::shared_reader::{ReadOne, Reader, read_one};
 use keri_outside::{Gate, Limits, Source, Verifier};
 use lists::Items;
 use run_status::{Close, ReaderEnd};
@@ -79,7 +77,13 @@ pub(crate) fn run_job<S: Source + Drop, V: Verifier + Drop, G: Gate, W: Wait>(
     let Some(verifier) = verifier else {
         return unread(alloc, pass, Some(source), None, Close::VerifierFault);
     };
-    read(rt, alloc, hub, gate, limits, pass, extent, source, verifier)
+    let reader = Reader {
+        pass,
+        extent,
+        source,
+        verifier,
+    };
+    read(rt, alloc, hub, gate, limits, reader)
 }
 
 // The end of a reader that reads nothing.
@@ -114,17 +118,11 @@ fn read<S: Source + Drop, V: Verifier + Drop, G: Gate, W: Wait>(
     hub: &Hub,
     gate: &G,
     limits: Limits,
-    pass: Pass,
-    extent: Extent,
-    source: S,
-    verifier: V,
+    reader: Reader<S, V>,
 ) -> JobEnd<S, V>
-    requires pass { IsPassOf hub.now.turn pass }
-    requires own { OwnsAlone (known pass) [] }
-    ensures { ReadsStream limits (limit_of hub.now.turn) extent
-        (source_seen S.left S.faults V.says V.inquiries V.faults source)
-        (verifier_seen S.left S.faults V.says V.inquiries V.faults verifier) (pass_seen pass)
-        (reader_seen S.left S.faults V.says V.inquiries V.faults result.reader) (pass_seen result.pass) }
+    requires pass { IsPassOf hub.now.turn reader.pass }
+    requires own { OwnsAlone (known reader.pass) [] }
+    ensures { HasReadStream S.left S.faults V.says V.inquiries V.faults limits (limit_of hub.now.turn) reader result }
 {
     let ReadOne {
         pass,
@@ -132,7 +130,7 @@ fn read<S: Source + Drop, V: Verifier + Drop, G: Gate, W: Wait>(
         verifier,
         refused,
         close,
-    } = read_one(rt, alloc, hub, pass, source, verifier, gate, limits, extent);
+    } = read_one(rt, alloc, hub, gate, limits, reader);
     let reader = ReaderEnd {
         source: Some(source),
         verifier: Some(verifier),

@@ -1,9 +1,8 @@
 //! One reader.
 ghost use Rattle.std.specs.Prelude.{[]};
 ghost use Rattle.turn_lock.specs.Known.{OwnsAlone};
-ghost use Rattle.turn_lock.specs.Locks.{limit_of, lock_of, known, IsPassOf};
-ghost use Rattle.reader_hub.specs.SharedReader.ReadsOne.{ReadsOne, source_shown};
-ghost use Rattle.reader_hub.specs.SharedReader.Taken.{standing};
+ghost use Rattle.turn_lock.specs.Locks.{limit_of, known, IsPassOf};
+ghost use Rattle.reader_hub.specs.SharedReader.Readers.{HasRead};
 
 use crate::reader_hub::{Extent, Hub, Pass};
 use crate::shared_reader::hub_taker::HubTaker;
@@ -12,6 +11,16 @@ use keri_outside::{Gate, Limits, Source, Verifier};
 use run_status::{Close, feed_messages};
 use std::alloc::Global;
 use std::sync::Wait;
+
+/// What a reader reads with.
+#[derive(Drop)]
+pub struct Reader<S, V> {
+    pub pass: Pass,
+    /// Which questions are asked between messages.
+    pub extent: Extent,
+    pub source: S,
+    pub verifier: V,
+}
 
 /// What a reader hands back.
 #[derive(Drop)]
@@ -32,25 +41,21 @@ pub fn read_one<S: Source + Drop, V: Verifier + Drop, G: Gate, W: Wait>(
     rt: &W,
     alloc: Global,
     hub: &Hub,
-    pass: Pass,
-    source: S,
-    verifier: V,
     gate: &G,
     limits: Limits,
-    extent: Extent,
+    reader: Reader<S, V>,
 ) -> ReadOne<S, V>
-    requires pass { IsPassOf hub.now.turn pass }
-    requires own { OwnsAlone (known pass) [] }
+    requires pass { IsPassOf hub.now.turn reader.pass }
+    requires own { OwnsAlone (known reader.pass) [] }
     ensures pass { IsPassOf hub.now.turn result.pass }
-    ensures reads { ReadsOne limits
-        (standing extent (limit_of hub.now.turn) (lock_of pass) (known pass) (V.says verifier) (V.inquiries verifier)
-        (V.faults verifier) [])
-        (standing extent (limit_of hub.now.turn) (lock_of result.pass) (known result.pass) (V.says result.verifier)
-        (V.inquiries result.verifier) (V.faults result.verifier) result.refused.items)
-        (source_shown (S.left source) (S.faults source)) (source_shown (S.left result.source) (S.faults result.source))
-        result.close }
+    ensures reads { HasRead S.left S.faults V.says V.inquiries V.faults limits (limit_of hub.now.turn) reader result }
 {
-    let mut source = source;
+    let Reader {
+        pass,
+        extent,
+        mut source,
+        verifier,
+    } = reader;
     let mut taker = HubTaker {
         rt,
         alloc,

@@ -16,10 +16,11 @@ returns g c =
     let says = g.V.Verifier.says in
     let inquiries = g.V.Verifier.inquiries in
     let faults = g.V.Verifier.faults in
+    let reader = c.args.reader in
     let source = c.feed_messages-close.new.source in
-    let s : Standing = standing c.args.extent (limit_of c.args.hub.now.turn) (lock_of c.args.pass) (known c.args.pass) (says c.args.verifier) (inquiries c.args.verifier) (faults c.args.verifier) c.new.result.items in
+    let s : Standing = standing reader.extent (limit_of c.args.hub.now.turn) (lock_of reader.pass) (known reader.pass) (says reader.verifier) (inquiries reader.verifier) (faults reader.verifier) c.new.result.items in
     let t : Standing = standing_of says inquiries faults c.finish-close.new.self in
-    let old : SourceShown = source_shown (g.S.Source.left c.args.source) (g.S.Source.faults c.args.source) in
+    let old : SourceShown = source_shown (g.S.Source.left reader.source) (g.S.Source.faults reader.source) in
     let new : SourceShown = source_shown (g.S.Source.left source) (g.S.Source.faults source) in
     let reads = reads_stream (standing_of says inquiries faults) c.args.limits s t old new c.feed_messages-close.new.taker c.feed_messages-close.result.0 c.finish-close.result c.feed_messages-close.result.1
     c.feed_messages-close.ensures.feeds c.finish-close.ensures in
