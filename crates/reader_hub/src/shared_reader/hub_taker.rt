@@ -4,7 +4,8 @@ ghost use Rattle.turn_lock.specs.Locks.{lock_of};
 ghost use Rattle.reader_hub.specs.SharedReader.Asks.{at_last};
 
 use crate::reader_hub::{Extent, Hub, Pass};
-use crate::shared_reader::offers::offer;
+use crate::shared_reader::offers::hand_in;
+use crate::shared_reader::questions::ask_open;
 use cesr_stream::Message;
 use journal::Refusal;
 use keri_outside::{Gate, Verifier};
@@ -60,19 +61,37 @@ impl<'a, V: Verifier + Drop, G: Gate, W: Wait> HubTaker<'a, V, G, W> {
     {
         let number = self.pass.number();
         self.gate.before(number, self.count);
-        let offered = offer(
+        let offered = self.offer(message, extent);
+        self.gate.after(number, self.count);
+        self.count = self.count.wrapping_add(1);
+        offered
+    }
+
+    // Offers a message, and asks what is open then, as far as that extent goes, also where it is refused.
+    fn offer(&mut self, message: &Message, extent: Extent) -> Result<(), Close>
+        ensures ok { OnOk result (TakesOne extent message.now (standing_of V.says V.inquiries V.faults self.old)
+            (standing_of V.says V.inquiries V.faults self.new)) }
+        ensures err { IfErr result (StopsAt extent message.now (standing_of V.says V.inquiries V.faults self.old)
+            (standing_of V.says V.inquiries V.faults self.new)) }
+    {
+        match hand_in(
             self.rt,
             self.alloc,
             self.hub,
             &mut self.pass,
-            &mut self.verifier,
             &mut self.refused,
             message,
-            extent,
-        );
-        self.gate.after(number, self.count);
-        self.count = self.count.wrapping_add(1);
-        offered
+        ) {
+            Ok(()) => ask_open(
+                self.rt,
+                self.alloc,
+                self.hub,
+                &mut self.pass,
+                &mut self.verifier,
+                extent,
+            ),
+            Err(close) => Err(close),
+        }
     }
 
     /// Takes the last message, where there is one and nothing stopped the reader before it, and answers how it closes.
