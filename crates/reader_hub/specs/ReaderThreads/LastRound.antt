@@ -1,5 +1,5 @@
 -- What is asked once all readers have ended.
-use Rattle.std.specs.Prelude.{◌≡◌, ◌≢◌, ℕ, ◌+◌, ◌<◌, ◌≤◌, ◌⊎◌, Bool, true, List, [], ◌∷◌, ◌++◌, length, Option, Some, None, All, slice_get}
+use Rattle.std.specs.Prelude.{◌≡◌, ◌≢◌, ℕ, ◌+◌, ◌<◌, ◌≤◌, ◌⊎◌, Bool, true, List, [], ◌∷◌, ◌++◌, length, map, Option, Some, None, All, slice_get}
 use Rattle.lists.specs.KeriSpecs.Causes.{Rose}
 use Rattle.keri_outside.specs.declared.inquiry.Inquiry.{Inquiry}
 use Rattle.journal.specs.declared.journal.body.Body.{Body}
@@ -7,7 +7,8 @@ use Rattle.journal.specs.declared.journal.question.Question.{Question}
 use Rattle.journal.specs.Journal.Feeds.{IsHeardFrom, reader_of}
 use Rattle.journal.specs.Journal.History.{Told, took, heard}
 use Rattle.journal.specs.Journal.Questions.{IsInStep}
-use Rattle.run_status.specs.RunStatus.Readers.{Reader, VerifierShown, close_found}
+use Rattle.run_status.specs.RunStatus.Readers.{Reader, VerifierShown, close_found, reader_seen}
+use Rattle.run_status.specs.declared.run_status.reader_end.ReaderEnd.{ReaderEnd}
 use Rattle.turn_lock.specs.Histories.{share_of}
 use Rattle.validator_core.specs.ValidatorCore.View.{CoreView, Follows, open_of, told_of}
 use Rattle.reader_hub.specs.SharedReader.Asks.{AsksFor, AsksOnly, IsVerdict, Says, verdict_count}
@@ -132,3 +133,9 @@ pub record AsksRest (number : ℕ) (old new : List Reader) (core_old core_new : 
   pub failed : rest ≡ VerifierFailed → OneFails old new
   pub only : core_old.base ≡ 0 → EachGoesOn core_old.mode (told_of core_new) old new
   pub in_step : core_old.base ≡ 0 → IsInStep core_old.mode (told_of core_old) → IsInStep core_old.mode (told_of core_new)
+
+-- and so of what is seen of the readers
+abbrev pub AsksAll : {S V : Type 0} → (S → Option (List ℕ)) → (S → ℕ) → (V → Says) → (V → Option (List Inquiry)) → (V → ℕ)
+    → (number : ℕ) (old new : List (ReaderEnd S V)) (core_old core_new : CoreView) (rest : LastRound) → Type 0
+AsksAll left faults says inquiries verifier_faults number old new core_old core_new rest =
+    AsksRest number (map (reader_seen left faults says inquiries verifier_faults) old) (map (reader_seen left faults says inquiries verifier_faults) new) core_old core_new rest

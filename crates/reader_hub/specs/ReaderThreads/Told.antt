@@ -1,15 +1,19 @@
 -- What all readers told a core, with the last round.
-use Rattle.std.specs.Prelude.{◌≡◌, ◌≢◌, ◌⊎◌, List, [], ◌∷◌, length, Option, Some, None}
+use Rattle.std.specs.Prelude.{◌≡◌, ◌≢◌, ℕ, ◌⊎◌, List, [], ◌∷◌, length, map, Option, Some, None}
 use Rattle.lists.specs.KeriSpecs.Causes.{Rose}
+use Rattle.keri_outside.specs.declared.inquiry.Inquiry.{Inquiry}
 use Rattle.keri_outside.specs.declared.limits.Limits.{Limits}
 use Rattle.journal.specs.declared.journal.mode.Mode.{Mode}
 use Rattle.journal.specs.Journal.Questions.{IsInStep, questions}
-use Rattle.run_status.specs.RunStatus.Readers.{Reader, VerifierShown}
+use Rattle.run_status.specs.RunStatus.Readers.{Reader, VerifierShown, reader_seen}
 use Rattle.validator_core.specs.ValidatorCore.View.{CoreView, Stands, told_of}
+use Rattle.reader_hub.specs.SharedReader.Asks.{Says}
 use Rattle.reader_hub.specs.ReaderThreads.Asked.{EachAsksOnly}
 use Rattle.reader_hub.specs.ReaderThreads.Fed.{AllRead}
-use Rattle.reader_hub.specs.ReaderThreads.Given.{Given}
+use Rattle.reader_hub.specs.ReaderThreads.Given.{Given, given_by}
 use Rattle.reader_hub.specs.declared.reader_threads.last_round.LastRound.{LastRound}
+use Rattle.reader_hub.specs.declared.reader_threads.providers.Providers.{Providers}
+use Rattle.reader_hub.specs.declared.reader_threads.ran.Ran.{Ran}
 use Rattle.reader_hub.specs.declared.reader_threads.last_round.LastRound.TheVariants.{VerifierFailed, OutOfMemory}
 
 -- the verifier that was given failed since; where none was given, or none came back, there is nothing to fail
@@ -49,3 +53,10 @@ pub record AllTold (mode : Mode) (limits : Limits) (given : List Given) (readers
   pub limits_are : core.limits ≡ limits
   pub no_base : core.base ≡ 0
   pub stands : Stands core
+
+-- and so readers that were given these, by what is seen of them
+abbrev pub HaveRun : {S V : Type 0} → (S → Option (List ℕ)) → (S → ℕ) → (V → Says) → (V → Option (List Inquiry)) → (V → ℕ)
+    → Mode → Limits → List (Providers S V) → Ran S V → Type 0
+HaveRun left faults says inquiries verifier_faults mode limits providers ran =
+    AllTold mode limits (map (given_by left faults says inquiries verifier_faults) providers)
+    (map (reader_seen left faults says inquiries verifier_faults) ran.readers.items) ran.rest ran.core

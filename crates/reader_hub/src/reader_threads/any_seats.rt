@@ -1,10 +1,8 @@
 //! Seats for the readers of one core, of which there may be none.
-ghost use Rattle.std.specs.Prelude.{◌≡◌, [], ℕ, length, map, vec_len, IfOk};
-ghost use Rattle.run_status.specs.RunStatus.Readers.{reader_seen};
+ghost use Rattle.std.specs.Prelude.{◌≡◌, [], ℕ, length, vec_len, IfOk};
 ghost use Rattle.validator_core.specs.ValidatorCore.View.{told_of};
 ghost use Rattle.reader_hub.specs.ReaderThreads.AnySeats.{AreAnyReady, HaveSeats};
-ghost use Rattle.reader_hub.specs.ReaderThreads.Given.{given_by};
-ghost use Rattle.reader_hub.specs.ReaderThreads.Told.{AllTold};
+ghost use Rattle.reader_hub.specs.ReaderThreads.Told.{AllTold, HaveRun};
 ghost use Rattle.journal.specs.declared.journal.mode.Mode.{Mode as ModeValue};
 ghost use Rattle.keri_outside.specs.declared.limits.Limits.{Limits as LimitsValue};
 
@@ -53,8 +51,7 @@ impl<S: Source + Drop + Send, V: Verifier + Drop + Send> AnySeats<S, V> {
         requires seats { AreAnyReady (vec_len providers) self }
         ensures count { length result.readers.items ≡ length providers.items }
         ensures told { (mode : ModeValue) (limits : LimitsValue) → HaveSeats mode limits (length providers.items) self
-            → AllTold mode limits (map (given_by S.left S.faults V.says V.inquiries V.faults) providers.items)
-            (map (reader_seen S.left S.faults V.says V.inquiries V.faults) result.readers.items) result.rest result.core }
+            → HaveRun S.left S.faults V.says V.inquiries V.faults mode limits providers.items result }
     {
         match self {
             AnySeats::Nobody(core) => read_none(alloc, core),

@@ -1,10 +1,9 @@
 //! The last round: what is open once all readers have ended.
-ghost use Rattle.std.specs.Prelude.{◌≡◌, ◌+◌, ◌<◌, ◌≤◌, [], ◌∷◌, map, length, IfErr, IfOk, OnErr, OnOk};
+ghost use Rattle.std.specs.Prelude.{◌≡◌, ◌+◌, ◌<◌, ◌≤◌, [], ◌∷◌, length, IfErr, IfOk, OnErr, OnOk};
 ghost use Rattle.lists.specs.KeriSpecs.Causes.{Rose};
-ghost use Rattle.run_status.specs.RunStatus.Readers.{reader_seen};
 ghost use Rattle.validator_core.specs.ValidatorCore.Verdicts.{AsksAbout, IsFaultOf, IsOpen, IsSaid};
 ghost use Rattle.validator_core.specs.ValidatorCore.View.{open_of, unheard_of};
-ghost use Rattle.reader_hub.specs.ReaderThreads.LastRound.{AsksRest, AsksUnheard, Hears, NotesAs, joined};
+ghost use Rattle.reader_hub.specs.ReaderThreads.LastRound.{AsksAll, AsksUnheard, Hears, NotesAs, joined};
 
 use journal::Question;
 use keri_outside::{Failed, Source, Steps, Verifier};
@@ -30,8 +29,7 @@ pub(crate) fn ask_rest<S: Source, V: Verifier>(
     readers: &mut [ReaderEnd<S, V>],
 ) -> LastRound
     requires few { length readers.old ≤ 65535 }
-    ensures { AsksRest 0 (map (λ r. reader_seen S.left S.faults V.says V.inquiries V.faults r) readers.old)
-        (map (λ r. reader_seen S.left S.faults V.says V.inquiries V.faults r) readers.new) core.old core.new result }
+    ensures { AsksAll S.left S.faults V.says V.inquiries V.faults 0 readers.old readers.new core.old core.new result }
 {
     ask_from(core, 0, readers)
 }
@@ -43,8 +41,7 @@ fn ask_from<S: Source, V: Verifier>(
     readers: &mut [ReaderEnd<S, V>],
 ) -> LastRound
     requires few { number + length readers.old ≤ 65535 }
-    ensures { AsksRest number (map (λ r. reader_seen S.left S.faults V.says V.inquiries V.faults r) readers.old)
-        (map (λ r. reader_seen S.left S.faults V.says V.inquiries V.faults r) readers.new) core.old core.new result }
+    ensures { AsksAll S.left S.faults V.says V.inquiries V.faults number readers.old readers.new core.old core.new result }
 {
     let Some((first, others)) = readers.split_first_mut() else {
         return LastRound::NoneFailed;
@@ -75,8 +72,8 @@ fn ask_reader<S: Source, V: Verifier>(
     number: u16,
     reader: &mut ReaderEnd<S, V>,
 ) -> LastRound
-    ensures { AsksRest number (reader_seen S.left S.faults V.says V.inquiries V.faults reader.old ∷ [])
-        (reader_seen S.left S.faults V.says V.inquiries V.faults reader.new ∷ []) core.old core.new result }
+    ensures { AsksAll S.left S.faults V.says V.inquiries V.faults number (reader.old ∷ []) (reader.new ∷ [])
+        core.old core.new result }
 {
     if reader.close == Close::VerifierFault {
         return LastRound::NoneFailed;
