@@ -31,6 +31,14 @@ module _ {S V : Type 0} (left : S → Option (List ℕ)) (faults : S → ℕ) (s
   abbrev pub AreStarted : List (Job S V) → List (Started S V) → Type 0
   AreStarted jobs started = EachPair IsStarted jobs started
 
+  -- these jobs were started too, behind those for which others were started
+  abbrev pub StartsAll : List (Job S V) → List (Started S V) → List (Started S V) → Type 0
+  StartsAll jobs old new = (front : List (Job S V)) → AreStarted front old → AreStarted (front ++ jobs) new
+
+  -- so the reader ended, whatever the job is for which it was started
+  abbrev pub EndsOne : Started S V → JobEnd S V → Type 0
+  EndsOne started end = (job : Job S V) → IsStarted job started → HasRun left faults says inquiries verifier_faults limits limit job end
+
   -- these are left of reader 0, which ended so, and of the readers of these jobs, in order
   pub record AreEnds (first : ReaderEnd S V) (jobs : List (Job S V)) (ends : Ends S V) : Type 0 where
     pub ended : List (JobEnd S V)

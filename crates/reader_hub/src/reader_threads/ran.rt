@@ -9,7 +9,7 @@ ghost use Rattle.reader_hub.specs.ReaderThreads.Starts.{RunsAll};
 use crate::reader_hub::{Hub, Pass};
 use crate::reader_threads::LastRound;
 use crate::reader_threads::job::{Job, JobEnd, run_job};
-use crate::reader_threads::started::{Ends, Started, end_all, start};
+use crate::reader_threads::started::{Ends, Started, Starting, end_all, start};
 use keri_outside::{Gate, Limits, Source, Verifier};
 use run_status::ReaderEnd;
 use std::alloc::{AllocError, Global};
@@ -24,6 +24,13 @@ pub struct Ran<S, V> {
     pub core: Core,
     pub readers: Vec<ReaderEnd<S, V>>,
     pub rest: LastRound,
+}
+
+/// The job of reader 0, and those of the others, in order.
+#[derive(Drop)]
+pub(crate) struct AllJobs<S, V> {
+    pub(crate) own: Job<S, V>,
+    pub(crate) others: Vec<Job<S, V>>,
 }
 
 /// What is reserved before the first reader is started.
@@ -69,29 +76,34 @@ pub(crate) fn run_all<
     hub: &Hub,
     gate: &G,
     limits: Limits,
-    own: Job<S, V>,
-    jobs: Vec<Job<S, V>>,
+    jobs: AllJobs<S, V>,
     room: Room<S, V>,
 ) -> AllEnds<S, V>
-    requires own { IsFit hub.now own }
-    requires jobs { AllByRecursion (IsFit hub.now) jobs.items }
-    requires started { IsFree (vec_len jobs) room.started }
-    requires passes { IsFree (vec_len jobs) room.ended.passes }
-    requires readers { IsFree (vec_len jobs + 1) room.ended.readers }
-    ensures { RunsAll S.left S.faults V.says V.inquiries V.faults limits (limit_of hub.now.turn) own jobs.items result }
+    requires own { IsFit hub.now jobs.own }
+    requires jobs { AllByRecursion (IsFit hub.now) jobs.others.items }
+    requires started { IsFree (vec_len jobs.others) room.started }
+    requires passes { IsFree (vec_len jobs.others) room.ended.passes }
+    requires readers { IsFree (vec_len jobs.others + 1) room.ended.readers }
+    ensures { RunsAll S.left S.faults V.says V.inquiries V.faults limits (limit_of hub.now.turn) jobs.own
+        jobs.others.items result }
 {
+    let AllJobs { own, others } = jobs;
     thread::scope(
         thread::scope_env(),
         rt,
         |scope| -> AllEnds<S, V>
-            requires { IsFit hub.now own × AllByRecursion (IsFit hub.now) jobs.items
-                × IsFree (vec_len jobs) room.started × IsFree (vec_len jobs) room.ended.passes
-                × IsFree (vec_len jobs + 1) room.ended.readers }
+            requires { IsFit hub.now own × AllByRecursion (IsFit hub.now) others.items
+                × IsFree (vec_len others) room.started × IsFree (vec_len others) room.ended.passes
+                × IsFree (vec_len others + 1) room.ended.readers }
             ensures { RunsAll S.left S.faults V.says V.inquiries V.faults limits (limit_of hub.entry.now.turn) own
-                jobs.items result }
+                others.items result }
         {
             let Room { started, ended } = room;
-            let started = start(rt, alloc, scope, hub, gate, limits, jobs, started);
+            let starting = Starting {
+                jobs: others,
+                started,
+            };
+            let started = start(rt, alloc, scope, hub, gate, limits, starting);
             let JobEnd { pass, reader } = run_job(rt, alloc, hub, gate, limits, own);
             let ends = end_all(rt, hub, limits, reader, started, ended);
             AllEnds { pass, ends }

@@ -10,7 +10,7 @@ ghost use Rattle.reader_hub.specs.ReaderThreads.Asked.{EachAsksOnly};
 ghost use Rattle.reader_hub.specs.ReaderThreads.Fed.{AllRead};
 ghost use Rattle.reader_hub.specs.ReaderThreads.Given.{given_by};
 ghost use Rattle.reader_hub.specs.ReaderThreads.Seats.{AreReady, HasSeats, mode_of};
-ghost use Rattle.reader_hub.specs.ReaderThreads.Told.{AllTold};
+ghost use Rattle.reader_hub.specs.ReaderThreads.Told.{HaveRun};
 ghost use Rattle.journal.specs.Journal.Feeds.{reader_of};
 ghost use Rattle.journal.specs.Journal.Questions.{IsInStep};
 
@@ -18,7 +18,7 @@ use crate::reader_hub::{Extent, Hub, Pass};
 use crate::reader_threads::job::{Job, jobs_for};
 use crate::reader_threads::last_round::ask_rest;
 use crate::reader_threads::passes::split_off;
-use crate::reader_threads::ran::{AllEnds, Ran, Room, reserve, run_all};
+use crate::reader_threads::ran::{AllEnds, AllJobs, Ran, Room, reserve, run_all};
 use crate::reader_threads::started::Ends;
 use crate::reader_threads::{LastRound, Providers};
 use keri_outside::{Gate, Limits, Source, Verifier};
@@ -90,9 +90,8 @@ impl<S: Source + Drop + Send, V: Verifier + Drop + Send> ReaderSeats<S, V> {
         requires seats { AreReady (vec_len providers) self }
         ensures count { length result.readers.items ≡ length providers.items }
         // What all of them told, why each closed, and what is open.
-        ensures told { AllTold (mode_of self) self.limits
-            (map (given_by S.left S.faults V.says V.inquiries V.faults) providers.items)
-            (map (reader_seen S.left S.faults V.says V.inquiries V.faults) result.readers.items) result.rest result.core }
+        ensures told { HaveRun S.left S.faults V.says V.inquiries V.faults (mode_of self) self.limits providers.items
+            result }
     {
         let (mut core, mut readers) = self.run(rt, alloc, gate, providers);
         let rest = ask_rest(&mut core, readers.as_mut_slice());
@@ -140,8 +139,9 @@ impl<S: Source + Drop + Send, V: Verifier + Drop + Send> ReaderSeats<S, V> {
             extent: extent_beside(others.len()),
             providers: providers.remove(0),
         };
-        let jobs = jobs_for(others, providers, jobs);
-        let all = run_all(rt, alloc, &hub, gate, limits, own, jobs, room);
+        let others = jobs_for(others, providers, jobs);
+        let jobs = AllJobs { own, others };
+        let all = run_all(rt, alloc, &hub, gate, limits, jobs, room);
         close(hub, all)
     }
 }

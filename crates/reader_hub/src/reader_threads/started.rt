@@ -1,11 +1,10 @@
 //! Readers that were started in threads of one scope.
-ghost use Rattle.std.specs.Prelude.{◌≡◌, [], ◌∷◌, ◌++◌, ◌+◌, ◌≤◌, ◌<◌, List, IfSome, IfNone, vec_len, vec_capacity};
+ghost use Rattle.std.specs.Prelude.{◌≡◌, [], ◌∷◌, ◌++◌, ◌+◌, ◌≤◌, ◌<◌, IfSome, IfNone, vec_len, vec_capacity};
 ghost use Rattle.std.specs.List.{AllByRecursion};
 ghost use Rattle.turn_lock.specs.Locks.{limit_of};
-ghost use Rattle.reader_hub.specs.ReaderThreads.Jobs.{HasRun, IsFit};
+ghost use Rattle.reader_hub.specs.ReaderThreads.Jobs.{IsFit};
 ghost use Rattle.reader_hub.specs.ReaderThreads.Rooms.{IsFree};
-ghost use Rattle.reader_hub.specs.ReaderThreads.Starts.{AreStarted, EndsAll, IsStarted};
-ghost use Rattle.reader_hub.specs.declared.reader_threads.job.Job.{Job as JobValue};
+ghost use Rattle.reader_hub.specs.ReaderThreads.Starts.{EndsAll, EndsOne, StartsAll};
 
 use crate::reader_hub::{Hub, Pass};
 use crate::reader_threads::job::{Job, JobEnd, run_job};
@@ -67,6 +66,13 @@ fn put<S: Source + Drop, V: Verifier + Drop>(
     all
 }
 
+/// Jobs that are to be started, and the readers that were started so far, with room for these too.
+#[derive(Drop)]
+pub(crate) struct Starting<S: Source, V: Verifier> {
+    pub(crate) jobs: Vec<Job<S, V>>,
+    pub(crate) started: Vec<Started<S, V>>,
+}
+
 /// Starts the jobs, the last one first, and once all the others were started runs each that found no thread.
 pub(crate) fn start<
     's,
@@ -82,20 +88,17 @@ pub(crate) fn start<
     hub: &'s Hub,
     gate: &'s G,
     limits: Limits,
-    mut jobs: Vec<Job<S, V>>,
-    started: Vec<Started<S, V>>,
+    mut starting: Starting<S, V>,
 ) -> Vec<Started<S, V>>
-    requires jobs { AllByRecursion (IsFit hub.now) jobs.items }
-    requires room { vec_len started + vec_len jobs ≤ vec_capacity started }
-    ensures count { vec_len result ≡ vec_len started + vec_len jobs }
-    ensures room { vec_capacity result ≡ vec_capacity started }
-    ensures started { (front : List (JobValue S V)) → AreStarted S.left S.faults V.says V.inquiries V.faults limits
-        (limit_of hub.now.turn) front started.items
-        → AreStarted S.left S.faults V.says V.inquiries V.faults limits (limit_of hub.now.turn) (front ++ jobs.items)
-        result.items }
+    requires jobs { AllByRecursion (IsFit hub.now) starting.jobs.items }
+    requires room { vec_len starting.started + vec_len starting.jobs ≤ vec_capacity starting.started }
+    ensures count { vec_len result ≡ vec_len starting.started + vec_len starting.jobs }
+    ensures room { vec_capacity result ≡ vec_capacity starting.started }
+    ensures started { StartsAll S.left S.faults V.says V.inquiries V.faults limits (limit_of hub.now.turn)
+        starting.jobs.items starting.started.items result.items }
 {
-    let Some(job) = take_last(hub, &mut jobs) else {
-        return started;
+    let Some(job) = take_last(hub, &mut starting.jobs) else {
+        return starting.started;
     };
     let promise = Promised {
         hub: Snapshot::of(hub),
@@ -104,11 +107,11 @@ pub(crate) fn start<
     };
     match scope.spawn_with(promise, move || run_job(rt, alloc, hub, gate, limits, job)) {
         Ok(child) => {
-            let all = start(rt, alloc, scope, hub, gate, limits, jobs, started);
+            let all = start(rt, alloc, scope, hub, gate, limits, starting);
             put(all, Started::Running(child))
         }
         Err(refused) => {
-            let all = start(rt, alloc, scope, hub, gate, limits, jobs, started);
+            let all = start(rt, alloc, scope, hub, gate, limits, starting);
             put(all, Started::Ended((refused.value)()))
         }
     }
@@ -121,9 +124,7 @@ fn end<S: Source + Drop, V: Verifier + Drop, R: Threads + Wait + Sync>(
     limits: Limits,
     started: Started<S, V>,
 ) -> JobEnd<S, V>
-    ensures { (job : JobValue S V) → IsStarted S.left S.faults V.says V.inquiries V.faults limits
-        (limit_of hub.now.turn) job started
-        → HasRun S.left S.faults V.says V.inquiries V.faults limits (limit_of hub.now.turn) job result }
+    ensures { EndsOne S.left S.faults V.says V.inquiries V.faults limits (limit_of hub.now.turn) started result }
 {
     let _hub = hub;
     let _limits = limits;

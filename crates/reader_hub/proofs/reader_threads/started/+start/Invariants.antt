@@ -3,4 +3,4 @@ use Rattle.reader_hub.proofs.reader_threads.started.+start.Given as goal
 
 -- one job fewer is left
 abbrev pub decreases-start : goal.decreases-start
-decreases-start g l = vec_len l.jobs
+decreases-start g l = vec_len l.starting.jobs

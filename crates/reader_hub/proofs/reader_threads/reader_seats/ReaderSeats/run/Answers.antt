@@ -17,15 +17,15 @@ remove-requires g c =
     let count = c.args.providers.ok.0 in
     omega (arith, all, count)
 
-pub jobs_for-jobs-requires-clause-same : goal.jobs_for-jobs-requires-clause-same
-jobs_for-jobs-requires-clause-same g c =
+pub jobs_for-others-requires-clause-same : goal.jobs_for-others-requires-clause-same
+jobs_for-others-requires-clause-same g c =
     let all = c.requires.seats.all in
     let left = c.remove.ensures.len in
     let count = c.args.self.others.ok.0 in
     omega (arith, all, left, count)
 
-pub jobs_for-jobs-requires-clause-room : goal.jobs_for-jobs-requires-clause-room
-jobs_for-jobs-requires-clause-room g c =
+pub jobs_for-others-requires-clause-room : goal.jobs_for-others-requires-clause-room
+jobs_for-others-requires-clause-room g c =
     let room = c.requires.seats.jobs in
     let few = room.1 in
     let count = c.args.self.others.ok.0 in
@@ -36,23 +36,23 @@ run_all-all-requires-clause-own g c κs within = (c.requires.seats.first.lock_is
 
 pub run_all-all-requires-clause-jobs : goal.run_all-all-requires-clause-jobs
 run_all-all-requires-clause-jobs g c κs within =
-    let jobs = c.jobs_for-jobs.result.items in
-    seats_fit c.args.self.hub (head_of c.args.self.given.value) 1 jobs (ready_seats c.args.self jobs _ c.requires.seats c.jobs_for-jobs.ensures.passes).1
+    let jobs = c.jobs_for-others.result.items in
+    seats_fit c.args.self.hub (head_of c.args.self.given.value) 1 jobs (ready_seats c.args.self jobs _ c.requires.seats c.jobs_for-others.ensures.passes).1
 
 pub run_all-all-requires-clause-started : goal.run_all-all-requires-clause-started
 run_all-all-requires-clause-started g c κs within =
     let ready = c.requires.seats in
-    (ready.started.0, (let few = ready.started.1 in let long = ready_count c.args.self c.jobs_for-jobs.result c.jobs_for-jobs.ensures.passes in omega (arith, long, few)))
+    (ready.started.0, (let few = ready.started.1 in let long = ready_count c.args.self c.jobs_for-others.result c.jobs_for-others.ensures.passes in omega (arith, long, few)))
 
 pub run_all-all-requires-clause-passes : goal.run_all-all-requires-clause-passes
 run_all-all-requires-clause-passes g c κs within =
     let ready = c.requires.seats in
-    (ready.passes.0, (let few = ready.passes.1 in let long = ready_count c.args.self c.jobs_for-jobs.result c.jobs_for-jobs.ensures.passes in omega (arith, long, few)))
+    (ready.passes.0, (let few = ready.passes.1 in let long = ready_count c.args.self c.jobs_for-others.result c.jobs_for-others.ensures.passes in omega (arith, long, few)))
 
 pub run_all-all-requires-clause-readers : goal.run_all-all-requires-clause-readers
 run_all-all-requires-clause-readers g c κs within =
     let ready = c.requires.seats in
-    (ready.readers.0, (let few = ready.readers.1 in let long = ready_count c.args.self c.jobs_for-jobs.result c.jobs_for-jobs.ensures.passes in omega (arith, long, few)))
+    (ready.readers.0, (let few = ready.readers.1 in let long = ready_count c.args.self c.jobs_for-others.result c.jobs_for-others.ensures.passes in omega (arith, long, few)))
 
 pub close-requires : goal.close-requires
 close-requires g c =
@@ -63,11 +63,11 @@ close-requires g c =
     let failed = g.V.Verifier.faults in
     let self = c.args.self in
     let head = head_of self.given.value in
-    let jobs = c.jobs_for-jobs.result.items in
+    let jobs = c.jobs_for-others.result.items in
     let own : Job g.row.S.Denot g.row.V.Denot = record { pass = self.first; extent = c.extent_beside.result; providers = c.remove.result } in
     let all = c.run_all-all.result in
     let ran = c.run_all-all.ensures in
-    let seats = ready_seats self jobs _ c.requires.seats c.jobs_for-jobs.ensures.passes in
+    let seats = ready_seats self jobs _ c.requires.seats c.jobs_for-others.ensures.passes in
     record {
       pass = pass_fits left faults says inquiries failed self.limits self.hub head own jobs all ran seats.0 seats.1;
       others = passes_fit left faults says inquiries failed self.limits self.hub head own jobs all ran seats.0 seats.1;
@@ -84,18 +84,18 @@ returns g c =
     let self = c.args.self in
     let ready = c.requires.seats in
     let head = head_of self.given.value in
-    let jobs = c.jobs_for-jobs.result.items in
+    let jobs = c.jobs_for-others.result.items in
     let own : Job g.row.S.Denot g.row.V.Denot = record { pass = self.first; extent = c.extent_beside.result; providers = c.remove.result } in
     let all = c.run_all-all.result in
     let ran = c.run_all-all.ensures in
     let core = c.close.result.0 in
     let closed = c.close.ensures.closed in
     let no_base = c.close.ensures.no_base in
-    let seats = ready_seats self jobs _ ready c.jobs_for-jobs.ensures.passes in
+    let seats = ready_seats self jobs _ ready c.jobs_for-others.ensures.passes in
     let same = head_stays left faults says inquiries failed self.limits self.hub head own jobs all ran seats.0 seats.1 core closed in
     let some : 0 < length c.args.providers.items = (let count = c.args.providers.ok.0 in let n = ready.all in omega (arith, count, n)) in
     let parts = taken_first c.args.providers.items c.remove.result c.remove.new.self.items some c.remove.ensures.value c.remove.ensures.by_index.2 in
-    let given : c.args.providers.items ≡ own.providers ∷ map (λ j. j.providers) jobs = parts ∙ ap (λ l. own.providers ∷ l) (sym c.jobs_for-jobs.ensures.providers) in
+    let given : c.args.providers.items ≡ own.providers ∷ map (λ j. j.providers) jobs = parts ∙ ap (λ l. own.providers ∷ l) (sym c.jobs_for-others.ensures.providers) in
     let ended : c.close.result.1.items ≡ all.ends.readers.items = ap (λ v. v.items) c.close.ensures.readers in
     record {
       mode = ap (λ h. h.mode) same;
@@ -113,7 +113,7 @@ returns g c =
           (what_was_asked left faults says inquiries failed self.limits self.hub head own jobs all ran seats.0 seats.1 core closed));
       alone = λ is.
           let few : length self.others.items ≡ 0 = (let n = ready.all in omega (arith, is, n)) in
-          let none : length jobs ≡ 0 = (let same = ready_count self c.jobs_for-jobs.result c.jobs_for-jobs.ensures.passes in let count = c.jobs_for-jobs.result.ok.0 in omega (arith, few, same, count)) in
+          let none : length jobs ≡ 0 = (let same = ready_count self c.jobs_for-others.result c.jobs_for-others.ensures.passes in let count = c.jobs_for-others.result.ok.0 in omega (arith, few, same, count)) in
           let free : c.len.result ≡ 0 = (let n = c.len.ensures in let count = c.args.self.others.ok.0 in omega (arith, few, count, n)) in
           alone_in_step left faults says inquiries failed self.limits self.hub head own jobs all ran seats.0 seats.1 core closed none (c.extent_beside.ensures.alone free);
     }

@@ -15,6 +15,6 @@ returns g c =
         ended = all.ended;
         passes_are = all.passes_are;
         readers_are = all.readers_are;
-        each = all.each c.captures.jobs.items (c.start-started.ensures.started [] (subst (λ l. are [] l) (sym empty) tt));
+        each = all.each c.captures.others.items (c.start-started.ensures.started [] (subst (λ l. are [] l) (sym empty) tt));
       };
     }
