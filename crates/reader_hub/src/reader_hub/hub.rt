@@ -59,7 +59,7 @@ impl Hub {
 
     /// Takes a message, as the reader of the pass. It is judged before the turn, so that readers judge theirs side by
     /// side. One that is refused takes a turn too, and tells nothing. Nor is one told for which the journal has no room:
-    /// its reply is `Full`.
+    /// its reply is `LimitReached`.
     pub fn take<W: Wait>(
         &self,
         rt: &W,
