@@ -13,35 +13,37 @@ struct Handed {
 /// another one is asked already, and no clause rests on them.
 #[derive(Drop)]
 pub(crate) struct HandedOut {
-    held: Vec<Handed>,
+    handed: Vec<Handed>,
 }
 
 impl HandedOut {
     /// No question was handed out.
     pub(crate) fn new(alloc: Global) -> HandedOut {
         HandedOut {
-            held: Vec::new(alloc),
+            handed: Vec::new(alloc),
         }
     }
 
     /// Notes that a reader was handed a question.
     pub(crate) fn hand(&mut self, reader: u16, question: Question) -> Result<(), AllocError> {
-        self.held.push(Handed { reader, question })?;
+        self.handed.push(Handed { reader, question })?;
         Ok(())
     }
 
     /// The reader has its question no more.
     pub(crate) fn take_back(&mut self, reader: u16) {
-        self.held.retain(|handed| handed.reader != reader);
+        self.handed.retain(|handed| handed.reader != reader);
     }
 
     /// Whether a reader has the question.
     pub(crate) fn has(&self, question: &Question) -> bool {
-        self.held.iter().any(|handed| handed.question == *question)
+        self.handed
+            .iter()
+            .any(|handed| handed.question == *question)
     }
 
     /// How many readers have a question.
     pub(crate) fn count(&self) -> u32 {
-        u32::try_from(self.held.len()).unwrap_or(u32::MAX)
+        u32::try_from(self.handed.len()).unwrap_or(u32::MAX)
     }
 }
