@@ -113,7 +113,7 @@ module _ (limits : Limits) (told more : List Told) (count : ℕ) (verdicts : All
           turned_away = record { gives = full.gives; judged = full.judged; takes = stays_away limits told all (more, refl) within k k n.next full.gives full.takes };
         }
 
-    -- why it closed
+    -- why it ended
     module _ (source source_left : SourceShown) (v mid left : VerifierShown) where
       closes_on : (bytes : List ℕ) (reading : Reading) (items : List Placed) (offered : List Message) (close : Close) → (close ≡ VerifierFault → left.faults ≡ mid.faults)
           → ClosesReader limits told most k source source_left v mid bytes reading items offered close → ClosesReader limits all later k source source_left v left bytes reading items offered close

@@ -1,4 +1,4 @@
--- What a reader read, as it closed.
+-- What a reader read, as it ended.
 use Rattle.std.proofs.Common.{◌≡◌, ◌≢◌, ℕ, ◌+◌, ◌⊎◌, inl, inr, false, List, [], ◌∷◌, ◌++◌, Option, Some, None, Result, Ok, Err, length, length-append, refl, sym, ◌∙◌, ap, subst, arith, append-nil, append_assoc}
 use Rattle.std.specs.Prelude.{flat_map}
 use Rattle.cesr_stream.specs.declared.message.Message.{Message}
@@ -55,7 +55,7 @@ none_taken None ms all made begun none = sym (append-nil ms) ∙ (made ∙ begun
 none_taken (Some m) ms all made begun none = cc
 
 module _ (limits : Limits) (s t : Standing) (old new : SourceShown) where
-  -- these messages were offered, the first of bytes that the source gave, and the reader closes so
+  -- these messages were offered, the first of bytes that the source gave, and the reader ends so
   reads_by : (close : Close) (bytes more : List ℕ) (ms : List Message) → Offers s.extent s.says s.inquiries t.inquiries s.pass t.pass t.refused ms 4 1 → IsSame s t → AreFirst limits bytes ms
       → (is_stopped close ≡ false → AreMessages limits bytes ms) → Gave old.left new.left (bytes ++ more)
       → (close ≢ OutOfMemory → ClosesStream limits s t old new bytes ms close) → (close ≢ VerifierFault → t.faults ≡ s.faults) → ReadsOne limits s t old new close
@@ -90,7 +90,7 @@ module _ (limits : Limits) (s t : Standing) (old new : SourceShown) where
         );
   }
 
-  -- whatever closed the reader, its source gave what was read
+  -- whatever ended the reader, its source gave what was read
   gave_by : (bytes : List ℕ) (reading : Reading) (items : List Placed) (ms : List Message) (close : Close) → ClosesReader limits s t old new bytes reading items ms close → (more : List ℕ) × Gave old.left new.left (bytes ++ more)
   gave_by bytes reading items ms End c = ([], rw append-nil c.0.0)
   gave_by bytes reading items ms (Bad bad) c = ([], rw append-nil c.0.0)
@@ -109,7 +109,7 @@ module _ (limits : Limits) (s t : Standing) (old new : SourceShown) where
   reads_out bytes more ms o same are gave unfailed = reads_by OutOfMemory bytes more ms o same are (λ e. cc) gave (λ some. absurd (some refl)) (λ other. unfailed)
 
   module _ (bytes : List ℕ) (reading : Reading) (items : List Placed) (stream : Stream limits bytes reading items) where
-    -- these messages were offered, others may come behind them, and the reader closes by this cause
+    -- these messages were offered, others may come behind them, and the reader ends by this cause
     reads_so : (close : Close) (ms later : List Message) → Offers s.extent s.says s.inquiries t.inquiries s.pass t.pass t.refused ms 4 1 → IsSame s t → ms ++ later ≡ messages limits.message_signatures items → (later ≡ [] → IsEnd (judged reading))
         → (is_stopped close ≡ false → later ≡ []) → ClosesReader limits s t old new bytes reading items ms close → (close ≢ VerifierFault → t.faults ≡ s.faults) → ReadsOne limits s t old new close
     reads_so close ms later o same made whole unless closes unfailed =

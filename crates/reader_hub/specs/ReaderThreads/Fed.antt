@@ -1,4 +1,4 @@
--- What readers fed a journal, and why they closed.
+-- What readers fed a journal, and why they ended.
 use Rattle.std.specs.Prelude.{◌≡◌, ◌≢◌, ℕ, ◌+◌, ◌*◌, ◌≤◌, ◌⊎◌, List, [], ◌∷◌, ◌++◌, length, map, flat_map, Option, Some, None}
 use Rattle.lists.specs.KeriSpecs.Causes.{Rose}
 use Rattle.cesr_stream.specs.declared.message.Message.{Message}
@@ -41,7 +41,7 @@ module _ (limits : Limits) (told : List Told) (most : ℕ) (number : ℕ) where
     abbrev pub IsClosedSo : List ℕ → Reading → FeedClose ℕ → Type 0
     IsClosedSo bytes reading close = ClosesBy limits.stream_bytes source.left source_left.left source.faults source_left.faults bytes reading close
 
-    -- Why the reader closed: by its source; by its verifier's fault; or because a limit was reached: of the bytes that are read,
+    -- Why the reader ended: by its source; by its verifier's fault; or because a limit was reached: of the bytes that are read,
     -- where there were more, of what is taken, at the next message, or of the turns, which are at most so many then.
     abbrev pub ClosesReader : List ℕ → Reading → List Placed → List Message → Close → Type 0
     ClosesReader bytes reading items offered End = IsClosedSo bytes reading feed.End
@@ -56,7 +56,7 @@ module _ (limits : Limits) (told : List Told) (most : ℕ) (number : ℕ) where
     ClosesReader bytes reading items offered (Malformed place) = ⊥
     ClosesReader bytes reading items offered OutOfMemory = ⊥
 
-    -- These bytes were read, and the reader closed by its cause.
+    -- These bytes were read, and the reader ended by its cause.
     pub record ClosesStream (bytes : List ℕ) (offered : List Message) (close : Close) : Type 0 where
       pub reading : Reading
       pub items : List Placed
@@ -64,9 +64,9 @@ module _ (limits : Limits) (told : List Told) (most : ℕ) (number : ℕ) where
       pub closes : ClosesReader bytes reading items offered close
 
   module _ (rest : LastRound) where
-    -- The source gave the bytes, and maybe more, and these are what is left of both. Unless there was no memory, the reader closed
+    -- The source gave the bytes, and maybe more, and these are what is left of both. Unless there was no memory, the reader ended
     -- by its cause. The verifier was asked for each of this reader's verdicts, in order, and little more; it never failed, unless
-    -- its fault closed the reader, or a verifier failed in the last round.
+    -- its fault ended the reader, or a verifier failed in the last round.
     pub record ReadsFrom (source : SourceShown) (verifier : VerifierShown) (reader : Reader) (bytes : List ℕ) (offered : List Message) : Type 0 where
       pub source_left : SourceShown
       pub verifier_left : VerifierShown
@@ -81,7 +81,7 @@ module _ (limits : Limits) (told : List Told) (most : ℕ) (number : ℕ) where
       pub but_one : rest ≡ NoneFailed → AsksFor verifier.inquiries verifier_left.inquiries (share_of reader_of number told) (verdict_count told + 1)
       pub none_seen : reader.seen ≡ []
 
-    -- There was no source: nothing was read, and the reader closes by that. Its verifier was asked in the last round at most.
+    -- There was no source: nothing was read, and the reader ends by that. Its verifier was asked in the last round at most.
     pub record HasNoSource (verifier : VerifierShown) (reader : Reader) : Type 0 where
       pub verifier_left : VerifierShown
       pub source_is : reader.source ≡ None
@@ -94,7 +94,7 @@ module _ (limits : Limits) (told : List Told) (most : ℕ) (number : ℕ) where
       pub none_seen : reader.seen ≡ []
       pub close_is : reader.close ≡ ReadFault
 
-    -- The stream was read with the verifier. Where one of both is lacking nothing was read, and the reader closes by what is lacking.
+    -- The stream was read with the verifier. Where one of both is lacking nothing was read, and the reader ends by what is lacking.
     abbrev pub ReadsBy : Option SourceShown → Option VerifierShown → Reader → List ℕ → List Message → Type 0
     ReadsBy None None reader bytes offered = (reader ≡ unread None None ReadFault) × (bytes ≡ [])
     ReadsBy None (Some verifier) reader bytes offered = HasNoSource verifier reader × (bytes ≡ [])
@@ -120,7 +120,7 @@ module _ (limits : Limits) (told : List Told) (most : ℕ) (rest : LastRound) wh
       ReadsBy limits told most number rest g.source g.verifier reader bytes (map (λ j. j.message) feeds.0.0.offered)
       × ReadEach (number + 1) read given readers feeds.1
 
--- Of the readers that were given this, in order, each read a list of bytes and closed by its cause. They and no other fed what is
+-- Of the readers that were given this, in order, each read a list of bytes and ended by its cause. They and no other fed what is
 -- told: each the first messages of its bytes, with the verdicts that its verifier gives.
 pub record AllRead (limits : Limits) (told : List Told) (given : List Given) (readers : List Reader) (rest : LastRound) : Type 0 where
   pub read : List (List ℕ)

@@ -32,6 +32,6 @@ said_by (Some verifier) = verifier.says
 abbrev pub end_of : List ℕ → Reader → feeds.End
 end_of bytes reader = record { bytes = Some bytes; says = said_by reader.verifier; refused = reader.refused; stopped = is_stopped reader.close }
 
--- a reader that read nothing, and closes so
+-- a reader that read nothing, and ends so
 abbrev pub unread : Option SourceShown → Option VerifierShown → Close → Reader
 unread source verifier close = record { source = source; verifier = verifier; refused = []; seen = []; close = close }

@@ -67,7 +67,7 @@ IsHeardOf number count (heard reader b key sig verdict) = (number ≤ reader) ×
 
 module _ (more : List Told) (rest : LastRound) where
   -- Since `more` is told, the reader's verifier was asked for the reader's verdicts in it, and little more; not at all if its fault
-  -- had closed the reader.
+  -- had ended the reader.
   pub record IsAsked (number : ℕ) (had_failed : Bool) (old new : VerifierShown) : Type 0 where
     pub same_says : new.says ≡ old.says
     pub said : All (IsHeardFrom number old.says) more

@@ -28,7 +28,7 @@ pub record ReadsStream (limits : Limits) (limit : ℕ) (extent : Extent) (source
       (standing extent limit new.lock new.pass verifier_left.says verifier_left.inquiries verifier_left.faults reader.refused) source source_left reader.close
 
 -- The stream was read where there were both a source and a verifier. Where one of them is lacking nothing was read, the pass and
--- the other one are as they were, and the reader closes by what is lacking.
+-- the other one are as they were, and the reader ends by what is lacking.
 abbrev pub RunsBy : Limits → ℕ → Extent → Option SourceShown → Option VerifierShown → PassSeen → Reader → PassSeen → Type 0
 RunsBy limits limit extent None verifier old reader new = (new ≡ old) × (reader ≡ unread None verifier ReadFault)
 RunsBy limits limit extent (Some source) None old reader new = (new ≡ old) × (reader ≡ unread (Some source) None VerifierFault)

@@ -25,10 +25,10 @@ use Rattle.reader_hub.specs.SharedReader.Steps.{StepsAlone}
 abbrev pub Says : Type 0
 Says = Key → List ℕ → Sig → Option Bool
 
--- how a reader closes by a fault of the hub
-abbrev pub closed_by : HubFault → Close
-closed_by (Spent turns) = LimitReached
-closed_by NoMemory = OutOfMemory
+-- how a reader ends by a fault of the hub
+abbrev pub ended_by : HubFault → Close
+ended_by (Spent turns) = LimitReached
+ended_by NoMemory = OutOfMemory
 
 -- so many verdicts were told
 abbrev pub verdict_count : List Told → ℕ

@@ -17,4 +17,4 @@ module _ {S V : Type 0} (left : S → Option (List ℕ)) (faults : S → ℕ) (s
   HasRead old new = ReadsOne limits
       (standing old.extent limit (lock_of old.pass) (known old.pass) (says old.verifier) (inquiries old.verifier) (verifier_faults old.verifier) [])
       (standing old.extent limit (lock_of new.pass) (known new.pass) (says new.verifier) (inquiries new.verifier) (verifier_faults new.verifier) new.refused.items)
-      (source_shown (left old.source) (faults old.source)) (source_shown (left new.source) (faults new.source)) new.close
+      (source_shown (left old.source) (faults old.source)) (source_shown (left new.source) (faults new.source)) new.ending

@@ -63,7 +63,7 @@ module _ (limits : Limits) (s t : Standing) (old new : SourceShown) where
   abbrev pub IsClosedSo : List ℕ → Reading → FeedClose ℕ → Type 0
   IsClosedSo bytes reading close = ClosesBy limits.stream_bytes old.left new.left old.faults new.faults bytes reading close
 
-  -- Why the reader closed: by its source, and then all that was open behind the last message was asked; by its verifier's
+  -- Why the reader ended: by its source, and then all that was open behind the last message was asked; by its verifier's
   -- fault; or because a limit was reached: of the bytes that are read, where there were more, of what is taken, at the next
   -- message, or of the turns.
   abbrev pub ClosesReader : List ℕ → Reading → List Placed → List Message → Close → Type 0
@@ -79,7 +79,7 @@ module _ (limits : Limits) (s t : Standing) (old new : SourceShown) where
   ClosesReader bytes reading items offered (Malformed place) = ⊥
   ClosesReader bytes reading items offered OutOfMemory = ⊥
 
-  -- These bytes were read, and the reader closed by its cause.
+  -- These bytes were read, and the reader ended by its cause.
   pub record ClosesStream (bytes : List ℕ) (offered : List Message) (close : Close) : Type 0 where
     pub reading : Reading
     pub items : List Placed
@@ -88,8 +88,8 @@ module _ (limits : Limits) (s t : Standing) (old new : SourceShown) where
 
   -- Of a lock for so many turns, and a pass with an empty share: the source gave the bytes, and maybe more. The first messages of
   -- the bytes were offered: those that aren't refused are the pass's entries, the others are noted. Its share has no other
-  -- entries but verdicts, and they are what the verifier says. Unless there was no memory, the reader closed by its cause; and
-  -- unless the verifier's fault closed it, that one never failed. The verifier was asked for the verdicts of the share, in order,
+  -- entries but verdicts, and they are what the verifier says. Unless there was no memory, the reader ended by its cause; and
+  -- unless the verifier's fault ended it, that one never failed. The verifier was asked for the verdicts of the share, in order,
   -- and in all at most once for each verdict that the pass has seen, and once more; only what was told or open. At most two turns were
   -- taken for each message offered and for each verdict that the pass has seen, and four besides. Where the first question is asked each
   -- time, one reader alone is in step.

@@ -103,13 +103,13 @@ abbrev pub StopsAt : Extent → Message → Standing → Standing → Close → 
 StopsAt extent m old new close = (first : Standing) (before : List Message) → (old.extent ≡ First → extent ≡ First) → HasTaken first old before
     → HasStopped first new close (before ++ m ∷ [])
 
--- The last message, which is there unless no other was, was taken too, all that was open then was asked, and the reader closes as
+-- The last message, which is there unless no other was, was taken too, all that was open then was asked, and the reader ends as
 -- its source did; or it stopped there.
 abbrev pub TakesLast : Close → Option Message → Standing → Standing → Close → Type 0
 TakesLast close last old new now = (first : Standing) (messages : List Message) → HasTaken first old messages → (last ≡ None → messages ≡ [])
     → (HasTaken first new (messages ++ all_of last) × AreAsked first.pass new.pass (messages ++ all_of last) × (now ≡ close)) ⊎ HasStopped first new now (messages ++ all_of last)
 
--- how the reader closes where its source has closed so
+-- how the reader ends where its source has closed so
 abbrev pub Finishes : FeedClose Close → Option Message → Standing → Standing → Close → Type 0
 Finishes feed.End last old new now = TakesLast End last old new now
 Finishes (feed.Bad bad) last old new now = TakesLast (Bad bad) last old new now

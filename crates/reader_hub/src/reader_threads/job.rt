@@ -92,21 +92,21 @@ fn unread<S, V>(
     pass: Pass,
     source: Option<S>,
     verifier: Option<V>,
-    close: Close,
+    ending: Close,
 ) -> JobEnd<S, V>
     ensures pass { result.pass ≡ pass }
     ensures source { result.reader.source ≡ source }
     ensures verifier { result.reader.verifier ≡ verifier }
     ensures refused { result.reader.refused.items ≡ [] }
     ensures seen { result.reader.seen ≡ [] }
-    ensures close { result.reader.close ≡ close }
+    ensures ending { result.reader.close ≡ ending }
 {
     let reader = ReaderEnd {
         source,
         verifier,
         refused: Vec::new(alloc),
         seen: Items::new(alloc),
-        close,
+        close: ending,
     };
     JobEnd { pass, reader }
 }
@@ -129,14 +129,14 @@ fn read<S: Source + Drop, V: Verifier + Drop, G: Gate, W: Wait>(
         source,
         verifier,
         refused,
-        close,
+        ending,
     } = read_one(rt, alloc, hub, gate, limits, reader);
     let reader = ReaderEnd {
         source: Some(source),
         verifier: Some(verifier),
         refused,
         seen: Items::new(alloc),
-        close,
+        close: ending,
     };
     JobEnd { pass, reader }
 }

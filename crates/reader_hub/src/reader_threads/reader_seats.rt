@@ -89,7 +89,7 @@ impl<S: Source + Drop + Send, V: Verifier + Drop + Send> ReaderSeats<S, V> {
     ) -> Ran<S, V>
         requires seats { AreReady (vec_len providers) self }
         ensures count { length result.readers.items ≡ length providers.items }
-        // What all of them told, why each closed, and what is open.
+        // What all of them told, why each ended, and what is open.
         ensures told { HaveRun S.left S.faults V.says V.inquiries V.faults (mode_of self) self.limits providers.items
             result }
     {

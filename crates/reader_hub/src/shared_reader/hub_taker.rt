@@ -90,37 +90,37 @@ impl<'a, V: Verifier + Drop, G: Gate, W: Wait> HubTaker<'a, V, G, W> {
                 &mut self.verifier,
                 extent,
             ),
-            Err(close) => Err(close),
+            Err(ending) => Err(ending),
         }
     }
 
-    /// Takes the last message, where there is one and nothing stopped the reader before it, and answers how it closes.
-    pub(crate) fn finish(&mut self, close: FeedClose<Close>, last: Option<Message>) -> Close
-        ensures { Finishes close last (standing_of V.says V.inquiries V.faults self.old)
+    /// Takes the last message, where there is one and nothing stopped the reader before it, and answers how it ends.
+    pub(crate) fn finish(&mut self, feed_end: FeedClose<Close>, last: Option<Message>) -> Close
+        ensures { Finishes feed_end last (standing_of V.says V.inquiries V.faults self.old)
             (standing_of V.says V.inquiries V.faults self.new) result }
     {
-        let close = match close {
+        let ending = match feed_end {
             FeedClose::End => Close::End,
             FeedClose::Bad(bad) => Close::Bad(bad),
             FeedClose::ReadFault => Close::ReadFault,
             FeedClose::LimitReached => return Close::LimitReached,
             FeedClose::OutOfMemory => return Close::OutOfMemory,
-            FeedClose::Stopped(close) => return close,
+            FeedClose::Stopped(ending) => return ending,
         };
-        self.take_last(close, last)
+        self.take_last(ending, last)
     }
 
     // Takes the last message, where there is one, and asks all that is open then.
-    fn take_last(&mut self, close: Close, last: Option<Message>) -> Close
-        ensures { TakesLast close last (standing_of V.says V.inquiries V.faults self.old)
+    fn take_last(&mut self, ending: Close, last: Option<Message>) -> Close
+        ensures { TakesLast ending last (standing_of V.says V.inquiries V.faults self.old)
             (standing_of V.says V.inquiries V.faults self.new) result }
     {
         match last {
             Some(message) => match self.take_message(&message, behind_last(self.extent)) {
-                Ok(()) => close,
+                Ok(()) => ending,
                 Err(stop) => stop,
             },
-            None => close,
+            None => ending,
         }
     }
 }

@@ -5,7 +5,7 @@ ghost use Rattle.reader_hub.specs.SharedReader.Asks.{TellsNothing};
 ghost use Rattle.reader_hub.specs.SharedReader.Offers.{IsKeptOut, OffersOne};
 
 use crate::reader_hub::{Hub, Pass};
-use crate::shared_reader::closes::close_of;
+use crate::shared_reader::endings::ending_of;
 use cesr_stream::Message;
 use journal::{Reason, Refusal, Reply};
 use run_status::Close;
@@ -34,7 +34,7 @@ pub(crate) fn hand_in<W: Wait>(
         Ok(Reply::Again) => Ok(()),
         Ok(Reply::Refused(reason)) => note(refused, message.place, reason),
         Ok(Reply::LimitReached) => Err(Close::LimitReached),
-        Err(fault) => Err(close_of(fault)),
+        Err(fault) => Err(ending_of(fault)),
     }
 }
 
@@ -42,7 +42,7 @@ pub(crate) fn hand_in<W: Wait>(
 fn note(refused: &mut Vec<Refusal>, place: u64, reason: Reason) -> Result<(), Close>
     ensures ok { OnOk result (refused.new.items
         ≡ refused.old.items ++ record { place = place; reason = reason } ∷ []) }
-    ensures err { IfErr result (λ close. close ≡ Close.OutOfMemory) }
+    ensures err { IfErr result (λ ending. ending ≡ Close.OutOfMemory) }
     ensures kept { OnErr result (refused.new.items ≡ refused.old.items) }
 {
     match refused.push(Refusal { place, reason }) {

@@ -7,7 +7,7 @@ ghost use Rattle.turn_lock.specs.Locks.{limit_of, known, IsPassOf};
 ghost use Rattle.reader_hub.specs.SharedReader.Asks.{Asks, LeavesNone, StopsAsking};
 
 use crate::reader_hub::{Asked, Extent, Hub, Pass};
-use crate::shared_reader::closes::close_of;
+use crate::shared_reader::endings::ending_of;
 use journal::Question;
 use keri_outside::{Failed, Verifier};
 use run_status::Close;
@@ -31,7 +31,7 @@ pub(crate) fn ask_open<V: Verifier, W: Wait>(
     ensures asks { OnOk result (Asks extent (V.says verifier.old) (V.inquiries verifier.old) (V.inquiries verifier.new)
         (known pass.old) (known pass.new) 1 0) }
     ensures none_open { OnOk result (LeavesNone extent (known pass.new)) }
-    ensures stopped { IfErr result (λ close. Asks extent (V.says verifier.old) (V.inquiries verifier.old)
+    ensures stopped { IfErr result (λ ending. Asks extent (V.says verifier.old) (V.inquiries verifier.old)
         (V.inquiries verifier.new) (known pass.old) (known pass.new) 4 1) }
     ensures stops { IfErr result (StopsAsking (limit_of hub.now.turn) (known pass.new) (V.faults verifier.old)
         (V.faults verifier.new)) }
@@ -40,7 +40,7 @@ pub(crate) fn ask_open<V: Verifier, W: Wait>(
         match ask_one(rt, alloc, hub, pass, verifier, extent) {
             Ok(true) => {}
             Ok(false) => return Ok(()),
-            Err(close) => return Err(close),
+            Err(ending) => return Err(ending),
         }
     }
     unreachable!()
@@ -62,14 +62,14 @@ fn ask_one<V: Verifier, W: Wait>(
     ensures asks { IfOk result (λ some. Asks extent (V.says verifier.old) (V.inquiries verifier.old)
         (V.inquiries verifier.new) (known pass.old) (known pass.new) (if some then 0 else 1) 0) }
     ensures none_open { IfOk result (λ some. some ≡ false → LeavesNone extent (known pass.new)) }
-    ensures stopped { IfErr result (λ close. Asks extent (V.says verifier.old) (V.inquiries verifier.old)
+    ensures stopped { IfErr result (λ ending. Asks extent (V.says verifier.old) (V.inquiries verifier.old)
         (V.inquiries verifier.new) (known pass.old) (known pass.new) 4 1) }
     ensures stops { IfErr result (StopsAsking (limit_of hub.now.turn) (known pass.new) (V.faults verifier.old)
         (V.faults verifier.new)) }
 {
     let answer = match hub.next_question(rt, alloc, pass, extent) {
         Ok(answer) => answer,
-        Err(fault) => return Err(close_of(fault)),
+        Err(fault) => return Err(ending_of(fault)),
     };
     let Some(Asked { question, bytes }) = answer else {
         return Ok(false);
@@ -80,7 +80,7 @@ fn ask_one<V: Verifier, W: Wait>(
     };
     match hub.answer(rt, pass, &question, verdict) {
         Ok(_) => Ok(true),
-        Err(fault) => Err(close_of(fault)),
+        Err(fault) => Err(ending_of(fault)),
     }
 }
 

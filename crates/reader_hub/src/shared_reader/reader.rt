@@ -30,7 +30,7 @@ pub struct ReadOne<S, V> {
     pub verifier: V,
     /// The messages that were refused, in order.
     pub refused: Vec<Refusal>,
-    pub close: Close,
+    pub ending: Close,
 }
 
 /// Reads the source as far as a stream may be read. Each message is offered with the pass, and then the verifier is
@@ -67,8 +67,8 @@ pub fn read_one<S: Source + Drop, V: Verifier + Drop, G: Gate, W: Wait>(
         extent,
         count: 0,
     };
-    let (close, last) = feed_messages(alloc, &mut source, limits, &mut taker);
-    let close = taker.finish(close, last);
+    let (feed_end, last) = feed_messages(alloc, &mut source, limits, &mut taker);
+    let ending = taker.finish(feed_end, last);
     let HubTaker {
         pass,
         verifier,
@@ -80,6 +80,6 @@ pub fn read_one<S: Source + Drop, V: Verifier + Drop, G: Gate, W: Wait>(
         source,
         verifier,
         refused,
-        close,
+        ending,
     }
 }

@@ -11,8 +11,8 @@ returns g c =
     let new = seen c.take_last.new.self in
     let now = c.take_last.result in
     let last = c.args.last in
-    elim c.match-close.branch [
-      | in-End w ↦ subst (λ feed. Finishes feed last old new now) (sym w.in-End.is) (subst (λ close. TakesLast close last old new now) w.close-is c.take_last.ensures)
-      | in-Bad w ↦ subst (λ feed. Finishes feed last old new now) (sym w.in-Bad.is) (subst (λ close. TakesLast close last old new now) w.close-is c.take_last.ensures)
-      | in-ReadFault w ↦ subst (λ feed. Finishes feed last old new now) (sym w.in-ReadFault.is) (subst (λ close. TakesLast close last old new now) w.close-is c.take_last.ensures)
+    elim c.match-ending.branch [
+      | in-End w ↦ subst (λ feed. Finishes feed last old new now) (sym w.in-End.is) (subst (λ ending. TakesLast ending last old new now) w.ending-is c.take_last.ensures)
+      | in-Bad w ↦ subst (λ feed. Finishes feed last old new now) (sym w.in-Bad.is) (subst (λ ending. TakesLast ending last old new now) w.ending-is c.take_last.ensures)
+      | in-ReadFault w ↦ subst (λ feed. Finishes feed last old new now) (sym w.in-ReadFault.is) (subst (λ ending. TakesLast ending last old new now) w.ending-is c.take_last.ensures)
     ]

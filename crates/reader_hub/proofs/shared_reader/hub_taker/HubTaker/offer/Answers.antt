@@ -42,4 +42,4 @@ returns-in-Err-clause-err g c =
     let old : Standing = standing_of g.V.Verifier.says g.V.Verifier.inquiries g.V.Verifier.faults c.args.self.now in
     let new : Standing = record old { pass = known c.hand_in.new.pass; lock = lock_of c.hand_in.new.pass; refused = c.hand_in.new.refused.items } in
     let same : IsSame old new = record { extent = refl; limit = refl; lock = c.hand_in.ensures.pass ∙ sym c.args.self.now.of_hub; says = refl } in
-    kept_out old new c.args.message.now same c.args.extent c.in-Err.close c.in-Err.ensures.nothing c.in-Err.ensures.kept refl c.in-Err.ensures.cause refl
+    kept_out old new c.args.message.now same c.args.extent c.in-Err.ending c.in-Err.ensures.nothing c.in-Err.ensures.kept refl c.in-Err.ensures.cause refl
