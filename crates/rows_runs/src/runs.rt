@@ -22,12 +22,12 @@ fn words_of(alloc: Global, row: &Row) -> Result<Vec<String>, AllocError> {
 }
 
 // Runs the words. The contract of what it calls is left behind here, since it makes each proof above it longer.
-fn run_words<R: Threads + Wait + Sync>(
+fn run_words<R: Threads + Wait + Sync, O: Outside>(
     rt: &R,
     alloc: Global,
     words: &Vec<String>,
-    outside: &mut MemOutside,
-) -> Done<MemOutside> {
+    outside: &mut O,
+) -> Done<O> {
     run(rt, alloc, words, outside)
 }
 

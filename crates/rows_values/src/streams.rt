@@ -9,7 +9,7 @@ use cesr_stream::{
     AnchorCouple, Assembler, Bad, Couple, Group, Item, Message, Reader, Seen, Step, write_item,
 };
 use keri_outside::{Limits, MemSink};
-use lists::Items;
+use lists::{CopyValue, Items};
 use rows::{Row, given};
 use std::alloc::{AllocError, Global};
 use std::fmt::Write;
@@ -172,11 +172,23 @@ fn message_word(text: &mut String, message: &Message) -> Result<(), AllocError> 
     text.push_str(if message.excess { "] excess " } else { "] " })
 }
 
+// Says a copy of the message.
+fn say_copy(alloc: Global, text: &mut String, message: &Message) -> Result<(), AllocError> {
+    let copy = message.copy(alloc)?;
+    let said = message_word(text, &copy);
+    drop(copy);
+    said
+}
+
 // Says the message, where there is one.
-fn say_message(text: &mut String, message: Option<Message>) -> Result<(), AllocError> {
+fn say_message(
+    alloc: Global,
+    text: &mut String,
+    message: Option<Message>,
+) -> Result<(), AllocError> {
     match message {
         Some(message) => {
-            let said = message_word(text, &message);
+            let said = say_copy(alloc, text, &message);
             drop(message);
             said
         }
@@ -186,23 +198,25 @@ fn say_message(text: &mut String, message: Option<Message>) -> Result<(), AllocE
 
 // The message that the item ends.
 fn push_item(
+    alloc: Global,
     text: &mut String,
     assembler: &mut Assembler,
     item: Item,
     place: u64,
 ) -> Result<(), AllocError> {
-    say_message(text, assembler.push(item, place)?)
+    say_message(alloc, text, assembler.push(item, place)?)
 }
 
 // The message that the next item ends, and whether there was an item.
 fn push_next(
+    alloc: Global,
     text: &mut String,
     reader: &mut Reader,
     assembler: &mut Assembler,
 ) -> Result<bool, AllocError> {
     match reader.next()? {
         Step::Item(item, place) => {
-            push_item(text, assembler, item, place)?;
+            push_item(alloc, text, assembler, item, place)?;
             Ok(true)
         }
         Step::NeedMore => Ok(false),
@@ -211,21 +225,23 @@ fn push_next(
 }
 
 fn push_all(
+    alloc: Global,
     text: &mut String,
     reader: &mut Reader,
     assembler: &mut Assembler,
     most: usize,
 ) -> Result<(), AllocError> {
     for _ in 0..most {
-        if !push_next(text, reader, assembler)? {
+        if !push_next(alloc, text, reader, assembler)? {
             break;
         }
     }
-    say_message(text, assembler.finish())
+    say_message(alloc, text, assembler.finish())
 }
 
 // Feeds the bytes at once, and says the messages.
 fn messages_words(
+    alloc: Global,
     text: &mut String,
     reader: &mut Reader,
     assembler: &mut Assembler,
@@ -234,7 +250,7 @@ fn messages_words(
     requires fresh { fed reader.old ≡ 0 }
 {
     reader.feed(bytes)?;
-    push_all(text, reader, assembler, bytes.len())
+    push_all(alloc, text, reader, assembler, bytes.len())
 }
 
 // The messages of the bytes, within the limits.
@@ -246,7 +262,7 @@ fn messages_within(
 ) -> Result<(), AllocError> {
     let mut reader = Reader::new(alloc, limits);
     let mut assembler = Assembler::new(alloc, limits);
-    let done = messages_words(text, &mut reader, &mut assembler, bytes);
+    let done = messages_words(alloc, text, &mut reader, &mut assembler, bytes);
     drop(assembler);
     drop(reader);
     done

@@ -3,6 +3,7 @@ ghost use Rattle.std.specs.Prelude.{◌≡◌};
 ghost use Rattle.journal.specs.declared.journal.mode.Mode.TheVariants.{Local};
 
 use crate::cores::calls::{MOST_QUESTIONS, verdict};
+use cesr_stream::Message;
 use journal::Mode;
 use keri_outside::{Limits, MemSink, Steps};
 use lists::Items;
@@ -10,6 +11,31 @@ use rows::{Row, message_of};
 use std::alloc::{AllocError, Global};
 use validator_core::Core;
 use watcher_core::Watcher;
+
+// Takes the message.
+fn take_message(core: &mut Core, steps: &mut Steps, message: Message) -> Result<(), AllocError>
+    ensures { core.new.mode ≡ core.old.mode }
+{
+    let taken = core.take(0, &message, steps);
+    drop(message);
+    taken?;
+    Ok(())
+}
+
+// Takes the message that the text writes, where it writes one.
+fn take_text(
+    alloc: Global,
+    core: &mut Core,
+    steps: &mut Steps,
+    text: &[u8],
+) -> Result<(), AllocError>
+    ensures { core.new.mode ≡ core.old.mode }
+{
+    match message_of(alloc, text)? {
+        Some(message) => take_message(core, steps, message),
+        None => Ok(()),
+    }
+}
 
 // Takes the message that the argument writes, where it writes one.
 fn take_one(
@@ -22,10 +48,9 @@ fn take_one(
     ensures { core.new.mode ≡ core.old.mode }
 {
     let text = row.bytes(alloc, place)?;
-    if let Some(message) = message_of(alloc, text.as_slice())? {
-        core.take(0, &message, steps)?;
-    }
-    Ok(())
+    let taken = take_text(alloc, core, steps, text.as_slice());
+    drop(text);
+    taken
 }
 
 // Takes the messages that the arguments behind the second write.
@@ -71,17 +96,24 @@ fn tell(alloc: Global, core: &mut Core, row: &Row) -> Result<(), AllocError>
     ask_all(core, &mut steps)
 }
 
-// What the watcher writes to a sink, or its fault where the sink fails.
-fn written_by(alloc: Global, watcher: &Watcher, fails: bool) -> Result<String, AllocError> {
+// A sink, whose first write fails where it is to.
+fn sink(alloc: Global, fails: bool) -> Result<MemSink, AllocError> {
     let mut failing = Items::new(alloc);
     if fails {
         failing.push(0)?;
     }
-    let mut sink = MemSink::new(alloc, failing);
-    match watcher.write_evidence(&mut sink) {
+    Ok(MemSink::new(alloc, failing))
+}
+
+// What the watcher writes to a sink, or its fault where the sink fails.
+fn written_by(alloc: Global, watcher: &Watcher, fails: bool) -> Result<String, AllocError> {
+    let mut sink = sink(alloc, fails)?;
+    let text = match watcher.write_evidence(&mut sink) {
         Ok(()) => String::from_utf8_lossy(alloc, sink.bytes()),
         Err(fault) => format!(in alloc; "{fault:?}"),
-    }
+    };
+    drop(sink);
+    text
 }
 
 // What a watcher of this core writes.

@@ -5,6 +5,7 @@ ghost use Rattle.event_body.specs.EventWriting.Writable.{IsWritable};
 use crate::values::code;
 use cesr_codes::DigestCode;
 use event_body::{Event, ReadBody, read_body, sealed, writable, write_body};
+use lists::CopyValue;
 use rows::{Row, given};
 use std::alloc::{AllocError, Global};
 
@@ -25,11 +26,14 @@ fn writable_sealed(alloc: Global, event: &Event, code: DigestCode) -> Result<Eve
     sealed(alloc, event, code)
 }
 
-// The body of the event. The contract of what it calls is left behind here, since it makes each proof above it longer.
+// The body of a copy of the event. The contract of what it calls is left behind here, since it makes each proof above it longer.
 fn body_of(alloc: Global, event: &Event) -> Result<Vec<u8>, ReadBody>
     requires { IsWritable event.now }
 {
-    write_body(alloc, event)
+    let copy = event.copy(alloc)?;
+    let body = write_body(alloc, &copy);
+    drop(copy);
+    body
 }
 
 fn refused(alloc: Global, fault: ReadBody) -> Result<String, AllocError> {
@@ -50,7 +54,7 @@ fn written(alloc: Global, event: Event) -> Result<String, AllocError>
     }
 }
 
-/// `body TEXT`: the body that is written of the event that the text spells, or the fault.
+/// `body TEXT`: the body that is written of a copy of the event that the text spells, or the fault.
 fn body(alloc: Global, row: &Row) -> Result<String, AllocError> {
     let text = row.bytes(alloc, 1)?;
     match writable_event(alloc, text.as_slice()) {

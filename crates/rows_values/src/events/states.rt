@@ -5,17 +5,30 @@ use crate::events::event::kept_event;
 use cesr_codes::{IndexedSig, Key};
 use event_body::Event;
 use key_state::{KeyState, Misfit, StateFault, first};
+use lists::CopyValue;
 use rows::{Row, given};
 use std::alloc::{AllocError, Global};
 use std::fmt::Write;
 use std::mem;
+
+// The state after one more event than behind a copy of the state.
+fn copy_moved(alloc: Global, state: &KeyState, event: &Event) -> Result<KeyState, StateFault>
+    requires { IsKept event.now }
+{
+    let Ok(copy) = state.copy(alloc) else {
+        return Err(StateFault::OutOfMemory);
+    };
+    let after = copy.after(alloc, event);
+    drop(copy);
+    after
+}
 
 // The state after one more event.
 fn moved(alloc: Global, state: &Option<KeyState>, event: &Event) -> Result<KeyState, StateFault>
     requires { IsKept event.now }
 {
     match state {
-        Some(state) => state.after(alloc, event),
+        Some(state) => copy_moved(alloc, state, event),
         None => first(alloc, event),
     }
 }
