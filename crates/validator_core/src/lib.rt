@@ -7,6 +7,9 @@ mod tables;
 mod validator_core;
 
 pub use acceptance::{Footing, counts, footing_of, is_ready, is_there, why_waits};
+pub use journal::{
+    Claim, Conflict, Entry, Journal, Mode, Noted, Question, Reason, Reply, ResumeFault, Why,
+};
 pub use table_changes::{accept, accept_ready, enter_body, enter_claims, enter_verdict};
 pub use tables::{
     AcceptedLog, ClaimKey, Mark, Name, Place, SealKey, Tables, claims_by, name_of, prior_name,

@@ -72,7 +72,7 @@ fn raise_last(alloc: Global, tables: &mut Tables, number: u32, entry: u32) -> Re
 {
     match receipt_name(tables, number) {
         None => raise_entry_if_standing(tables, number, entry),
-        Some(name) => raise_receipt(tables, alloc, &name, entry),
+        Some(name) => raise_receipt(alloc, tables, &name, entry),
     }
 }
 

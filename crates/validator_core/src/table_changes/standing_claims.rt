@@ -51,8 +51,8 @@ pub(crate) fn raise_entry_if_standing(
 
 /// Raises the claims of a receipt, which came by the last entry, on each event that it speaks of, where that stands.
 pub(crate) fn raise_receipt(
-    tables: &mut Tables,
     alloc: Global,
+    tables: &mut Tables,
     name: &Name,
     entry: u32,
 ) -> Result<(), AllocError>
