@@ -12,5 +12,8 @@ pub use core_roles::{
     verifier_failed_last, watch_files, watch_links,
 };
 pub use item_conversion::{Conversion, convert_items};
+pub use journal::Refusal;
 pub use keri_roles::{Close, Done, ReaderEnd, Runs, backed, run};
 pub use plan_answer::{PlanAnswer, ReadLog, answer_plan};
+pub use reader_hub::{ReadOne, read_one};
+pub use witness_core::{LinkEnd, serve_link};

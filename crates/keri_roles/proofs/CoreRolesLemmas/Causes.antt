@@ -176,10 +176,10 @@ module _ (mode : Mode) (helper : List ℕ) (names : List (List ℕ)) (work : Wor
   files_caused = told_caused mode _ work t files_unfailed files_rose
 
 -- the door failed, where it is found to have
-pub door_rose : (rose : Type 0) (told : Option (List (List ℕ))) (count : ℕ) (failed : Bool) (held : List (Option (List ℕ))) (door : Option DoorShown) → (is_none door ≡ true → rose)
-    → AreTakenBy told count failed held door → failed ≡ true → MatchOption door rose (λ d. Rose 0 d.faults)
-door_rose rose told count failed held None out t e = out refl
-door_rose rose told count failed held (Some d) out t e = rw e at t.cause
+pub door_rose : (rose : Type 0) (shown : Option (List (List ℕ))) (count : ℕ) (failed : Bool) (held : List (Option (List ℕ))) (door : Option DoorShown) → (is_none door ≡ true → rose)
+    → AreTakenBy shown count failed held door → failed ≡ true → MatchOption door rose (λ d. Rose 0 d.faults)
+door_rose rose shown count failed held None out t e = out refl
+door_rose rose shown count failed held (Some d) out t e = rw e at t.cause
 
 -- over links
 module _ (mode : Mode) (helper address : List ℕ) (count : ℕ) (links : LinksShown) (work : Work) (t : ReadsToCore mode (AreLinked helper address count links) work) where

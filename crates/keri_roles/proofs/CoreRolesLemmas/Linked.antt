@@ -39,8 +39,8 @@ noted_none : (makings : Option (List Making)) → Noted makings makings []
 noted_none None = tt
 noted_none (Some makings) = (makings, refl, sym (append-nil makings))
 
-makings_none : (told : OutsideShown) → AreMakings [] told told
-makings_none told = record { noted = noted_none told.makings; rose = λ e. cc; kept = λ e. refl }
+makings_none : (shown : OutsideShown) → AreMakings [] shown shown
+makings_none shown = record { noted = noted_none shown.makings; rose = λ e. cc; kept = λ e. refl }
 
 noted_one : (old new : Option (List Making)) (kind : MakingKind) (name : List ℕ) (failed : Bool) → Grows old new kind name failed → Noted old new (making kind name failed ∷ [])
 noted_one old None kind name failed g = tt
@@ -60,8 +60,8 @@ pub record AreGivenSoFar (helper : List ℕ) (sources left : List SourceShown) (
   pub makes : AreMakings (verifiers_of helper given) before now
   pub says : now.says ≡ before.says
 
-pub given_none : (helper : List ℕ) (sources : List SourceShown) (told : OutsideShown) → AreGivenSoFar helper sources sources [] told told
-given_none helper sources told = record { done = []; parts = refl; are_given = tt; makes = makings_none told; says = refl }
+pub given_none : (helper : List ℕ) (sources : List SourceShown) (shown : OutsideShown) → AreGivenSoFar helper sources sources [] shown shown
+given_none helper sources shown = record { done = []; parts = refl; are_given = tt; makes = makings_none shown; says = refl }
 
 links_push : (before : OutsideShown) (helper : List ℕ) (done : List SourceShown) (given : List Given) (source : SourceShown) (g : Given)
     → AreLinksGiven before helper done given → IsLinkGiven before helper source g → AreLinksGiven before helper (done ++ source ∷ []) (given ++ g ∷ [])

@@ -107,10 +107,10 @@ module _ {S V : Type 0} (left : S → Option (List ℕ)) (faults : S → ℕ) (s
   verifier_given said (Some v) so unasked none = (so, unasked, none)
 
   -- what was made is given
-  pub is_given : (told : OutsideShown) (helper name : List ℕ) (made : Providers S V) → IfSome made.source (λ s. left s ≡ told.holds name) → IfSome made.source (λ s. faults s ≡ 0)
-      → IfSome made.verifier (λ v. says v ≡ told.says helper) → IfSome made.verifier (λ v. HasNone (inquiries v)) → IfSome made.verifier (λ v. verifier_faults v ≡ 0)
-      → IsGiven told helper name (given_by left faults says inquiries verifier_faults made)
-  is_given told helper name made holds unread so unasked unfailed = record {
-    source = source_given (told.holds name) made.source holds unread;
-    verifier = verifier_given (told.says helper) made.verifier so unasked unfailed;
+  pub is_given : (shown : OutsideShown) (helper name : List ℕ) (made : Providers S V) → IfSome made.source (λ s. left s ≡ shown.holds name) → IfSome made.source (λ s. faults s ≡ 0)
+      → IfSome made.verifier (λ v. says v ≡ shown.says helper) → IfSome made.verifier (λ v. HasNone (inquiries v)) → IfSome made.verifier (λ v. verifier_faults v ≡ 0)
+      → IsGiven shown helper name (given_by left faults says inquiries verifier_faults made)
+  is_given shown helper name made holds unread so unasked unfailed = record {
+    source = source_given (shown.holds name) made.source holds unread;
+    verifier = verifier_given (shown.says helper) made.verifier so unasked unfailed;
   }

@@ -55,10 +55,10 @@ gave_none first middle last bytes piece count a b counted empty =
     (gave_more first middle last bytes piece a b)
 
 -- what was put is put still when a piece is fed
-pub put_fed : (told : SinkShown) (fed : List ℕ) (old : Reading) (piece : List ℕ) (domain : Domain) (failed : Bool) (sink : SinkShown)
-    → HasPut told fed (progress old domain failed sink)
-    → HasPut told (fed ++ piece) (progress (fed_with old piece None) domain failed sink)
-put_fed told fed old piece domain failed sink has = record {
+pub put_fed : (shown : SinkShown) (fed : List ℕ) (old : Reading) (piece : List ℕ) (domain : Domain) (failed : Bool) (sink : SinkShown)
+    → HasPut shown fed (progress old domain failed sink)
+    → HasPut shown (fed ++ piece) (progress (fed_with old piece None) domain failed sink)
+put_fed shown fed old piece domain failed sink has = record {
   has_fed = fed_on old fed piece has.has_fed;
   items = has.items;
   stand = stand_more old.limit fed piece has.items old.begun old.place has.stand;

@@ -41,8 +41,8 @@ put_no_more first now text more put =
 pub goes_still : (first : Progress) (old : Reading) (domain : Domain) (failed : Bool) (sink : SinkShown) (bad : Option Bad) (drained : Bool)
     → GoesOn first (progress old domain failed sink) → GoesOn first (progress (record old { bad = bad; drained = drained }) domain failed sink)
 goes_still first old domain failed sink bad drained on = record {
-  has_put = λ told fed has.
-      let now = on.has_put told fed has in
+  has_put = λ shown fed has.
+      let now = on.has_put shown fed has in
       record {
         has_fed = record { within = now.has_fed.within; behind = now.has_fed.behind };
         items = now.items;
@@ -61,20 +61,20 @@ good_still old new item place a = ap (λ r. r.bad) a.moved ∙ a.not_bad
 -- one more item was put
 pub goes_further : (first : Progress) (old new : Reading) (domain domain' : Domain) (failed failed' : Bool) (sink sink' : SinkShown) (item : Item) (place : ℕ)
     → AnswersItem old new item place → domain' ≡ domain
-    → ((told : SinkShown) (text : List ℕ) → Puts text failed told sink → Puts (text ++ item_in domain item) failed' told sink')
+    → ((shown : SinkShown) (text : List ℕ) → Puts text failed shown sink → Puts (text ++ item_in domain item) failed' shown sink')
     → GoesOn first (progress old domain failed sink) → GoesOn first (progress new domain' failed' sink')
 goes_further first old new domain domain' failed failed' sink sink' item place a same puts on = record {
-  has_put = λ told fed has.
-      let now = on.has_put told fed has in
+  has_put = λ shown fed has.
+      let now = on.has_put shown fed has in
       record {
         has_fed = fed_answered old new item place a fed now.has_fed;
         items = now.items ++ placed place item ∷ [];
         stand = stand_on old new item place a fed now.has_fed now.items now.stand;
         writable = All-push (λ p. IsWritable p.item) now.items (placed place item) now.writable a.writable;
         puts =
-            subst (λ d. Puts (text_in d (now.items ++ placed place item ∷ [])) failed' told sink') (sym same)
-            (subst (λ text. Puts text failed' told sink') (sym (flat_map-push (λ p. item_in domain p.item) now.items (placed place item)))
-            (puts told (text_in domain now.items) now.puts));
+            subst (λ d. Puts (text_in d (now.items ++ placed place item ∷ [])) failed' shown sink') (sym same)
+            (subst (λ text. Puts text failed' shown sink') (sym (flat_map-push (λ p. item_in domain p.item) now.items (placed place item)))
+            (puts shown (text_in domain now.items) now.puts));
       };
   limit = ap (λ r. r.limit) a.moved ∙ on.limit;
   domain = same ∙ on.domain;

@@ -118,10 +118,10 @@ module _ {S : Type 0} (gives : S → Key → List ℕ → Option Sig) (signings 
   signer_none None = refl
   signer_none (Some s) = refl
 
-  pub gives_seen : (signer : Option S) (told : Key → List ℕ → Option Sig) → IfSome signer (λ s. gives s ≡ told)
-      → IfSome (signer_seen gives signings faults signer) (λ s. s.gives ≡ told)
-  gives_seen None told e = tt
-  gives_seen (Some s) told e = e
+  pub gives_seen : (signer : Option S) (shown : Key → List ℕ → Option Sig) → IfSome signer (λ s. gives s ≡ shown)
+      → IfSome (signer_seen gives signings faults signer) (λ s. s.gives ≡ shown)
+  gives_seen None shown e = tt
+  gives_seen (Some s) shown e = e
 
 -- of the log behind which a plan is answered
 module _ {S G : Type 0} (plan log helper : List ℕ) (plan_source : Option S) (given : Given) (signer : Option G) (reader : Reader) (rest : LastRound) (journal : Journal) (limits : Limits) (before after : OutsideShown) where

@@ -242,63 +242,63 @@ unseated_causes asked run owed besides settles address count came u door fails c
     (door_rose _ (run.before.links address) count came.failed _ came.door (λ none. u.makes.rose (rw none refl)) u.taken.taken e)))
     (ap some_serves u.none_read) (caused u.none_read)
 
-carried_causes : {D : Type 0} (told : D → DiskShown) (disk old : Option D) (asked : Option Asked) (run : Run) → run.disk ≡ disk_seen told disk → run.old ≡ disk_seen told old
-    → CarriesOut told disk old asked run → HasCauses asked run
-carried_causes told disk old None run d o w = written_causes None run w.owed w.besides w.settles (λ refused. refl)
+carried_causes : {D : Type 0} (shown : D → DiskShown) (disk old : Option D) (asked : Option Asked) (run : Run) → run.disk ≡ disk_seen shown disk → run.old ≡ disk_seen shown old
+    → CarriesOut shown disk old asked run → HasCauses asked run
+carried_causes shown disk old None run d o w = written_causes None run w.owed w.besides w.settles (λ refused. refl)
     (λ some. absurd (refused_only (λ b. b.signer_failed) refl some)) (refused_only (λ b. b.disk_failed) refl) (refused_only (λ b. b.shelf_full) refl)
     (λ some. absurd (refused_only (λ b. b.verifier_failed) refl some)) (λ some. absurd (refused_only (λ b. b.door_failed) refl some))
     (rw w.does.idle.none_read refl) (rw w.does.idle.none_read tt)
   where
     refused_only : (finds : Besides → Bool) → finds (record nothing_besides { words_refused = true }) ≡ false → finds w.besides ≡ true → ⊥
     refused_only finds none some = finds_no finds w.besides (record nothing_besides { words_refused = true }) none w.does.nothing_else some
-carried_causes told disk old (Some (check name)) run d o w = let work = work_in run w.owed w.besides in
+carried_causes shown disk old (Some (check name)) run d o w = let work = work_in run w.owed w.besides in
     plain_causes (check name) run w.owed w.besides w.settles false false false false w.does.nothing_else (λ e. absurd (not_true e)) (λ e. absurd (not_true e))
     (check_serves name work w.does) (check_caused name work w.does)
-carried_causes told disk old (Some (validate helper (named names))) run d o w = let work = work_in run w.owed w.besides in let over = w.does.over in
+carried_causes shown disk old (Some (validate helper (named names))) run d o w = let work = work_in run w.owed w.besides in let over = w.does.over in
     plain_causes (validate helper (named names)) run w.owed w.besides w.settles over.owes.is_found false (fails_last over.told.rest) false over.owes.nothing_else
     (told_rose _ _ work over.told (files_unfailed _ helper names work over.told)) (λ e. absurd (not_true e))
     (told_serves _ _ work over.told) (files_caused _ helper names work over.told)
-carried_causes told disk old (Some (validate helper (links address count))) run d o w = let work = work_in run w.owed w.besides in
+carried_causes shown disk old (Some (validate helper (links address count))) run d o w = let work = work_in run w.owed w.besides in
     let at : LinksShown = record { door = run.door; sinks = run.sinks; failed = w.besides.door_failed } in elim w.does [
       | inl is ↦ (let over = is.over in plain_causes (validate helper (links address count)) run w.owed w.besides w.settles over.owes.is_found false (fails_last over.told.rest) at.failed
           over.owes.nothing_else (told_rose _ _ work over.told (linked_unfailed _ helper address count at work over.told)) (linked_door _ helper address count at work over.told)
           (told_serves _ _ work over.told) (linked_caused _ helper address count at work over.told))
       | inr u ↦ unseated_causes (validate helper (links address count)) run w.owed w.besides w.settles address count at u refl (λ x. x) (λ e. rw e tt)
     ]
-carried_causes told disk old (Some (watch helper (named names))) run d o w = let work = work_in run w.owed w.besides in let over = w.does.over in
+carried_causes shown disk old (Some (watch helper (named names))) run d o w = let work = work_in run w.owed w.besides in let over = w.does.over in
     plain_causes (watch helper (named names)) run w.owed w.besides w.settles over.owes.is_found false (fails_last over.told.rest) false over.owes.nothing_else
     (told_rose _ _ work over.told (files_unfailed _ helper names work over.told)) (λ e. absurd (not_true e))
     (told_serves _ _ work over.told) (files_caused _ helper names work over.told)
-carried_causes told disk old (Some (watch helper (links address count))) run d o w = let work = work_in run w.owed w.besides in
+carried_causes shown disk old (Some (watch helper (links address count))) run d o w = let work = work_in run w.owed w.besides in
     let at : LinksShown = record { door = run.door; sinks = run.sinks; failed = w.besides.door_failed } in elim w.does [
       | inl is ↦ (let over = is.over in plain_causes (watch helper (links address count)) run w.owed w.besides w.settles over.owes.is_found false (fails_last over.told.rest) at.failed
           over.owes.nothing_else (told_rose _ _ work over.told (linked_unfailed _ helper address count at work over.told)) (linked_door _ helper address count at work over.told)
           (told_serves _ _ work over.told) (linked_caused _ helper address count at work over.told))
       | inr u ↦ unseated_causes (watch helper (links address count)) run w.owed w.besides w.settles address count at u refl (λ x. x) (λ e. rw e tt)
     ]
-carried_causes told disk old (Some (witness helper key shelf from inputs)) run d o w = witnessed_causes told disk old helper key shelf from inputs run d o w
-carried_causes told disk old (Some (export helper prefix names)) run d o w = let work = work_in run w.owed w.besides in let over = w.does in
+carried_causes shown disk old (Some (witness helper key shelf from inputs)) run d o w = witnessed_causes shown disk old helper key shelf from inputs run d o w
+carried_causes shown disk old (Some (export helper prefix names)) run d o w = let work = work_in run w.owed w.besides in let over = w.does in
     plain_causes (export helper prefix names) run w.owed w.besides w.settles false over.owes.is_found (fails_last over.told.rest) false over.owes.nothing_else
     (told_rose _ _ work over.told (files_unfailed _ helper names work over.told)) (λ e. absurd (not_true e))
     (told_serves _ _ work over.told) (files_caused _ helper names work over.told)
-carried_causes told disk old (Some (blame helper first second)) run d o w = let work = work_in run w.owed w.besides in
+carried_causes shown disk old (Some (blame helper first second)) run d o w = let work = work_in run w.owed w.besides in
     plain_causes (blame helper first second) run w.owed w.besides w.settles w.does.has_blames false (fails_last w.does.rest || fails_last w.does.other_rest) false w.does.nothing_else
     (λ e. blamed_rose helper first second run.second work w.does (ap (λ b. b.verifier_failed) w.does.nothing_else ∙ e)) (λ e. absurd (not_true e))
     (blamed_serves helper first second run.second work w.does) (blamed_caused helper first second run.second work w.does)
-carried_causes told disk old (Some (make helper plan log)) run d o w = let work = work_in run w.owed w.besides in
+carried_causes shown disk old (Some (make helper plan log)) run d o w = let work = work_in run w.owed w.besides in
     written_causes (Some (make helper plan log)) run w.owed w.besides w.settles (λ some. absurd (made_finds (λ b. b.words_refused) (λ s r. refl) (λ b f. refl) helper plan log work w.does some))
     (made_signer helper plan log work w.does) (made_finds (λ b. b.disk_failed) (λ s r. refl) (λ b f. refl) helper plan log work w.does)
     (made_finds (λ b. b.shelf_full) (λ s r. refl) (λ b f. refl) helper plan log work w.does) (made_rose helper plan log work w.does)
     (made_finds (λ b. b.door_failed) (λ s r. refl) (λ b f. refl) helper plan log work w.does)
     (made_serves helper plan log work w.does) (made_caused helper plan log work w.does)
-carried_causes told disk old (Some (convert domain name)) run d o c = converted_causes domain name run c
-carried_causes told disk old (Some (generate seed logs events)) run d o w = let work = work_in run w.owed w.besides in
+carried_causes shown disk old (Some (convert domain name)) run d o c = converted_causes domain name run c
+carried_causes shown disk old (Some (generate seed logs events)) run d o w = let work = work_in run w.owed w.besides in
     plain_causes (generate seed logs events) run w.owed w.besides w.settles false false false false w.does.nothing_else (λ e. absurd (not_true e)) (λ e. absurd (not_true e))
     (generated_serves seed logs events work w.does) (generated_caused seed logs events work w.does)
-carried_causes told disk old (Some rehearse) run d o r = rehearsed_causes run r
+carried_causes shown disk old (Some rehearse) run d o r = rehearsed_causes run r
 
 -- of any run of which this is known
-pub has_causes : {D : Type 0} (told : D → DiskShown) (disk old : Option D) (asked : Option Asked) (run : Run) → IsRunOf told disk old asked run
-    → run.disk ≡ disk_seen told disk → run.old ≡ disk_seen told old → HasCauses asked run
-has_causes told disk old asked run (inl c) d o = carried_causes told disk old asked run d o c
-has_causes told disk old asked run (inr u) d o = unbegun_causes asked run u
+pub has_causes : {D : Type 0} (shown : D → DiskShown) (disk old : Option D) (asked : Option Asked) (run : Run) → IsRunOf shown disk old asked run
+    → run.disk ≡ disk_seen shown disk → run.old ≡ disk_seen shown old → HasCauses asked run
+has_causes shown disk old asked run (inl c) d o = carried_causes shown disk old asked run d o c
+has_causes shown disk old asked run (inr u) d o = unbegun_causes asked run u

@@ -94,7 +94,7 @@ pub record MetNoFault (reader : Reader) : Type 0 where
   pub verifier : IfSome reader.verifier (λ v. v.faults ≡ 0)
   pub no_limit : reader.close ≢ close.LimitReached
 
--- what the source held that a reader was given, where it tells
+-- what the source held that a reader was given, where it shows that
 abbrev pub held_by : Option SourceShown → Option (List ℕ)
 held_by None = None
 held_by (Some source) = source.left

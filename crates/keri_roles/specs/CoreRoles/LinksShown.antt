@@ -17,22 +17,22 @@ use Rattle.run_status.specs.RunRecord.NoJournal.{no_journal}
 use Rattle.run_status.specs.RunRecord.Run.{DoorShown}
 use Rattle.keri_roles.specs.CoreRoles.Work.{LinksShown, Work}
 
--- So many links at most came, with these bytes left: fewer than were wanted only where the door failed, or had no more or doesn't tell.
+-- So many links at most came, with these bytes left: fewer than were wanted only where the door failed, or had no more or doesn't show them.
 -- It failed only where its count rose.
-pub record AreTakenAt (told : Option (List (List ℕ))) (count : ℕ) (failed : Bool) (held : List (Option (List ℕ))) (door : DoorShown) : Type 0 where
+pub record AreTakenAt (shown : Option (List (List ℕ))) (count : ℕ) (failed : Bool) (held : List (Option (List ℕ))) (door : DoorShown) : Type 0 where
   pub few : length held ≤ count
   pub enough : IsEnough count (length held) failed door.left
-  pub taken : AreTaken told door.left held
+  pub taken : AreTaken shown door.left held
   pub cause : IsCaused failed 0 door.faults
 
 -- none came where the door couldn't be made
 abbrev pub AreTakenBy : Option (List (List ℕ)) → ℕ → Bool → List (Option (List ℕ)) → Option DoorShown → Type 0
-AreTakenBy told count failed held None = (held ≡ []) × (failed ≡ true)
-AreTakenBy told count failed held (Some door) = AreTakenAt told count failed held door
+AreTakenBy shown count failed held None = (held ≡ []) × (failed ≡ true)
+AreTakenBy shown count failed held (Some door) = AreTakenAt shown count failed held door
 
 -- links came with these sources and sinks; none of them had failed, and nothing is written to the sinks
-pub record AreTakenFresh (told : Option (List (List ℕ))) (count : ℕ) (sources : List SourceShown) (links : LinksShown) : Type 0 where
-  pub taken : AreTakenBy told count links.failed (map (λ s. s.left) sources) links.door
+pub record AreTakenFresh (shown : Option (List (List ℕ))) (count : ℕ) (sources : List SourceShown) (links : LinksShown) : Type 0 where
+  pub taken : AreTakenBy shown count links.failed (map (λ s. s.left) sources) links.door
   pub sources_unfailed : All (λ s. s.faults ≡ 0) sources
   pub each : length links.sinks ≡ length sources
   pub sinks_unfailed : All (λ s. s.faults ≡ 0) links.sinks

@@ -20,7 +20,7 @@ use Rattle.keri_roles.specs.declared.core_roles.outcome.LinkedOutcome.{LinkedOut
 use Rattle.keri_roles.specs.declared.core_roles.outcome.Outcome.{Outcome}
 use Rattle.keri_roles.specs.declared.core_roles.outcome.SignedOutcome.{SignedOutcome}
 
--- what links tell that were taken at a door: the door, where it was made, the sinks of the links in order, and whether the door failed
+-- what links show that were taken at a door: the door, where it was made, the sinks of the links in order, and whether the door failed
 pub record LinksShown : Type 0 where
   pub door : Option DoorShown
   pub sinks : List SinkShown
@@ -55,21 +55,24 @@ abbrev pub Owes : Option (List ℕ) → Close → (List ℕ → Type 0) → Type
 Owes None close is_text = close ≡ OutOfMemory
 Owes (Some text) close is_text = (close ≢ OutOfMemory) × is_text text
 
--- what is seen of links, by what a command over a core came to that read them
+-- what is seen of a door and the sinks of its links, and of what a command over a core came to that read them
 module _ {D K : Type 0} (left : D → Option (List (List ℕ))) (door_faults : D → ℕ) (written : K → Option (List ℕ)) (sink_faults : K → ℕ) where
-  abbrev pub links_over : {S V : Type 0} → LinkedOutcome S V D K → LinksShown
-  links_over linked = record {
-    door = door_seen left door_faults linked.door;
-    sinks = sinks_seen written sink_faults linked.sinks.items;
-    failed = linked.outcome.besides.door_failed;
+  abbrev pub links_at : Option D → List K → Bool → LinksShown
+  links_at door sinks failed = record {
+    door = door_seen left door_faults door;
+    sinks = sinks_seen written sink_faults sinks;
+    failed = failed;
   }
+
+  abbrev pub links_over : {S V : Type 0} → LinkedOutcome S V D K → LinksShown
+  links_over linked = links_at linked.door linked.sinks.items linked.outcome.besides.door_failed
 
 module _ {O S V : Type 0} (left : S → Option (List ℕ)) (faults : S → ℕ) (says : V → Key → List ℕ → Sig → Option Bool) (inquiries : V → Option (List Inquiry)) (verifier_faults : V → ℕ) where
   -- what is seen of a command's work: of the outside before and after it, and of what it came to
   abbrev pub work_over : (O → OutsideShown) → O → O → Outcome S V → Work
-  work_over told old new outcome = record {
-    before = told old;
-    after = told new;
+  work_over shown old new outcome = record {
+    before = shown old;
+    after = shown new;
     readers = map (reader_seen left faults says inquiries verifier_faults) outcome.readers.items;
     signer = None;
     journal = outcome.journal;
@@ -80,9 +83,9 @@ module _ {O S V : Type 0} (left : S → Option (List ℕ)) (faults : S → ℕ) 
   module _ {G : Type 0} (gives : G → Key → List ℕ → Option Sig) (signings : G → Option (List Signing)) (signer_faults : G → ℕ) where
     -- the same with its signer
     abbrev pub signed_over : (O → OutsideShown) → O → O → SignedOutcome S V G → Work
-    signed_over told old new signed =
-        record (work_over told old new signed.outcome) { signer = signer_seen gives signings signer_faults signed.signer }
+    signed_over shown old new signed =
+        record (work_over shown old new signed.outcome) { signer = signer_seen gives signings signer_faults signed.signer }
 
 -- what the outcome of a command owes was written, and the status is by what it found
-abbrev pub IsSettled : {S V : Type 0} → Outcome S V → Run → Type 0
-IsSettled outcome run = Settles (option_map (λ text. text.items) outcome.owed) outcome.besides run
+abbrev pub IsFinished : {S V : Type 0} → Outcome S V → Run → Type 0
+IsFinished outcome run = Settles (option_map (λ text. text.items) outcome.owed) outcome.besides run

@@ -13,7 +13,7 @@ use Rattle.run_status.specs.declared.run_status.close.Close.TheVariants.{End, Ba
 use Rattle.run_status.specs.declared.run_status.close.Close.TheVariants.{DiskFault, WriteFault, Malformed, LimitReached, OutOfMemory}
 use Rattle.run_status.specs.RunStatus.Readers.{SourceShown}
 
--- the source gave these bytes, where it tells
+-- the source gave these bytes, where it shows what it has left
 abbrev pub Gave : SourceShown → SourceShown → List ℕ → Type 0
 Gave old new bytes = old.left ≡ before bytes new.left
 
@@ -53,7 +53,7 @@ pub record Bounds : Type 0 where
   pub body : ℕ
   pub stream : ℕ
 
--- Why reading closed: what the source told before and tells now, and what was read.
+-- Why reading closed: what the source showed before and shows now, and what was read.
 abbrev pub ClosesBy : Bounds → SourceShown → SourceShown → Taken → Close → Type 0
 ClosesBy bounds old new taken End = Gave old new taken.bytes × IsAtEnd new.left × (taken.place ≡ length taken.bytes) × (new.faults ≡ old.faults)
 ClosesBy bounds old new taken (BadClose bad) =

@@ -16,7 +16,7 @@ use Rattle.keri_roles.specs.declared.item_conversion.conversion.Conversion.{Conv
 use Rattle.keri_roles.specs.ItemConversion.Closes.{Bounds, Taken, ClosesBy, rest_judged}
 use Rattle.keri_roles.specs.ItemConversion.Progress.{text_in}
 
--- what a source and a sink tell
+-- what a source and a sink show
 pub record EndsShown : Type 0 where
   pub source : SourceShown
   pub sink : SinkShown

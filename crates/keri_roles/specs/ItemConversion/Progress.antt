@@ -36,7 +36,7 @@ abbrev pub StandsAt : Option Bad → Reading → Type 0
 StandsAt None reading = IsIdle reading
 StandsAt (Some bad) reading = IsRefused reading bad
 
--- a reader, the domain in which its items are written, whether the sink failed, and what the sink tells
+-- a reader, the domain in which its items are written, whether the sink failed, and what the sink shows
 pub record Progress : Type 0 where
   pub reader : Reading
   pub domain : Domain
@@ -49,7 +49,7 @@ progress reader domain sink_failed sink = record { reader = reader; domain = dom
 abbrev pub progress_of : {K : Type 0} → (K → Option (List ℕ)) → (K → ℕ) → Converter → K → Progress
 progress_of written faults converter sink = progress converter.reader converter.domain converter.sink_failed (sink_seen written faults sink)
 
--- of these bytes, which were fed, the items from the front were put since the sink told this first
+-- of these bytes, which were fed, the items from the front were put since the sink showed this first
 pub record HasPut (first : SinkShown) (fed : List ℕ) (now : Progress) : Type 0 where
   pub has_fed : HasFed now.reader fed
   pub items : List Placed

@@ -42,7 +42,7 @@ ChecksHeld limits held reader text = reader.close ≢ OutOfMemory → ChecksRead
 
 -- of a file of the outside
 abbrev pub ChecksFile : List ℕ → OutsideShown → Reader → List ℕ → Type 0
-ChecksFile name told reader text = ChecksHeld told.limits (told.holds name) reader text
+ChecksFile name shown reader text = ChecksHeld shown.limits (shown.holds name) reader text
 
 -- whatever a source would have held
 abbrev pub ChecksAny : Reader → List ℕ → Type 0

@@ -76,19 +76,19 @@ pub record IsLinked (Does : LinksShown → Work → Type 0) (run : Run) : Type 0
 -- A row for each command, of which `convert`, `rehearse` and `witness` alone write as they read. `witness` alone has disks, which it hands
 -- back.
 abbrev pub CarriesOut : {D : Type 0} → (D → DiskShown) → Option D → Option D → Option Asked → Run → Type 0
-CarriesOut told disk old None run = IsWritten RefusesWords run
-CarriesOut told disk old (Some (check name)) run = IsWritten (IsChecked name) run
-CarriesOut told disk old (Some (validate helper (named names))) run = IsWritten (IsValidated helper names) run
-CarriesOut told disk old (Some (validate helper (links address count))) run = IsLinked (AreLinksValidated helper address count) run
-CarriesOut told disk old (Some (watch helper (named names))) run = IsWritten (IsWatched helper names) run
-CarriesOut told disk old (Some (watch helper (links address count))) run = IsLinked (AreLinksWatched helper address count) run
-CarriesOut told disk old (Some (witness helper key shelf from inputs)) run = IsWitnessed told disk old helper key shelf from inputs run
-CarriesOut told disk old (Some (export helper prefix names)) run = IsWritten (IsExported helper prefix names) run
-CarriesOut told disk old (Some (blame helper first second)) run = IsWritten (IsBlamed helper first second run.second) run
-CarriesOut told disk old (Some (make helper plan log)) run = IsWritten (IsMade helper plan log) run
-CarriesOut told disk old (Some (convert domain name)) run = IsConverted domain name run
-CarriesOut told disk old (Some (generate seed logs events)) run = IsWritten (IsGenerated seed logs events) run
-CarriesOut told disk old (Some rehearse) run = IsRehearsed run
+CarriesOut shown disk old None run = IsWritten RefusesWords run
+CarriesOut shown disk old (Some (check name)) run = IsWritten (IsChecked name) run
+CarriesOut shown disk old (Some (validate helper (named names))) run = IsWritten (IsValidated helper names) run
+CarriesOut shown disk old (Some (validate helper (links address count))) run = IsLinked (AreLinksValidated helper address count) run
+CarriesOut shown disk old (Some (watch helper (named names))) run = IsWritten (IsWatched helper names) run
+CarriesOut shown disk old (Some (watch helper (links address count))) run = IsLinked (AreLinksWatched helper address count) run
+CarriesOut shown disk old (Some (witness helper key shelf from inputs)) run = IsWitnessed shown disk old helper key shelf from inputs run
+CarriesOut shown disk old (Some (export helper prefix names)) run = IsWritten (IsExported helper prefix names) run
+CarriesOut shown disk old (Some (blame helper first second)) run = IsWritten (IsBlamed helper first second run.second) run
+CarriesOut shown disk old (Some (make helper plan log)) run = IsWritten (IsMade helper plan log) run
+CarriesOut shown disk old (Some (convert domain name)) run = IsConverted domain name run
+CarriesOut shown disk old (Some (generate seed logs events)) run = IsWritten (IsGenerated seed logs events) run
+CarriesOut shown disk old (Some rehearse) run = IsRehearsed run
 
 -- there was no memory to begin with: nothing was made, read, told or written
 pub record IsUnbegun (run : Run) : Type 0 where
@@ -104,4 +104,4 @@ pub record IsUnbegun (run : Run) : Type 0 where
 
 -- what a run of the program does
 abbrev pub IsRunOf : {D : Type 0} → (D → DiskShown) → Option D → Option D → Option Asked → Run → Type 0
-IsRunOf told disk old asked run = CarriesOut told disk old asked run ⊎ IsUnbegun run
+IsRunOf shown disk old asked run = CarriesOut shown disk old asked run ⊎ IsUnbegun run

@@ -16,7 +16,7 @@ use Rattle.keri_roles.specs.KeriRoles.Rehearsed.{Serving}
 use Rattle.run_status.specs.RunRecord.Run.{HasNoLinks, Run}
 use Rattle.keri_roles.specs.CoreRoles.Work.{MakesSource}
 
--- what a source and a sink tell
+-- what a source and a sink show
 abbrev pub ends_of : SourceShown → SinkShown → EndsShown
 ends_of source sink = record { source = source; sink = sink }
 

@@ -7,7 +7,7 @@ use Rattle.controller_core.specs.LogMaker.Streams.{stream_rotations, stream_text
 use Rattle.report_lines.specs.declared.stream_counts.StreamCounts.{StreamCounts}
 use Rattle.reader_hub.specs.ReaderThreads.Given.{Given}
 
--- what the one reader is given: the stream, and a verifier that never fails, and doesn't tell what it is asked
+-- what the one reader is given: the stream, and a verifier that never fails, and doesn't show what it is asked
 abbrev pub made_of : ℕ → ℕ → ℕ → Given
 made_of seed logs events = record {
   source = Some (record { left = Some (stream_text seed logs events); faults = 0 });

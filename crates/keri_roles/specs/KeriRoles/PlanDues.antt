@@ -20,7 +20,7 @@ made_from gives log plan = record { gives = gives; log = option_map log_told log
 abbrev pub owed_by : MessageDue → Option (List ℕ)
 owed_by due = option_map (λ text. text.items) due.owed
 
--- the signer, which told the first before, was asked: there is an answer, or there was no memory
+-- the signer, which showed the first before, was asked: there is an answer, or there was no memory
 abbrev pub IsAnswered : SignerShown → SignerShown → Option ReadLog → List ℕ → MessageDue → Type 0
 IsAnswered before now log plan due =
     OwesAnswer (made_from before.gives log plan) now (owed_by due) due.besides ⊎ OwesNone (made_from before.gives log plan) now (owed_by due) due.besides

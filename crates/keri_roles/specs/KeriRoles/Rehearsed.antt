@@ -34,7 +34,7 @@ serving_status WriteFault = 6
 serving_status LimitReached = 9
 serving_status OutOfMemory = 10
 
--- what a source and a sink tell, as a link's sides
+-- what a source and a sink show, as a link's sides
 abbrev pub sides_of : SourceShown → SinkShown → SidesShown
 sides_of source sink = sides_shown (record { left = source.left; faults = source.faults }) (record { written = sink.written; faults = sink.faults })
 
@@ -64,8 +64,8 @@ module _ {O S K : Type 0} (left : S → Option (List ℕ)) (faults : S → ℕ) 
   ends_over source outside = ends_shown left faults written sink_faults source (sink outside)
 
   abbrev pub serving_over : (O → OutsideShown) → O → O → Option S → Serving
-  serving_over told old new source = record {
-    before = told old;
+  serving_over shown old new source = record {
+    before = shown old;
     source = option_map (λ s. record { left = left s; faults = faults s }) source;
     sink_before = sink_seen written sink_faults (sink old);
     sink_after = sink_seen written sink_faults (sink new);

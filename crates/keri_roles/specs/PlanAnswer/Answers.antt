@@ -35,7 +35,7 @@ answer_to (Err fault.Unsigned) = Some (Refused Unsigned)
 answer_to (Err fault.SignerFault) = Some SignerFault
 answer_to (Err fault.OutOfMemory) = None
 
--- a signer: the signatures that it gives, and what it had been asked before and has been asked now, where it tells
+-- a signer: the signatures that it gives, and what it had been asked before and has been asked now, where it shows that
 pub record SignerAsked : Type 0 where
   pub gives : Key → List ℕ → Option Sig
   pub before : Option (List Signing)

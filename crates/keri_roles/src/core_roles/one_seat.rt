@@ -1,11 +1,6 @@
 //! One reader alone at a new core.
-ghost use Rattle.std.specs.Prelude.{◌≡◌, [], ◌∷◌, IfOk};
-ghost use Rattle.run_status.specs.RunStatus.Readers.{reader_seen};
-ghost use Rattle.reader_hub.specs.ReaderThreads.Given.{given_by};
-ghost use Rattle.reader_hub.specs.ReaderThreads.Told.{AllTold};
-ghost use Rattle.keri_outside.specs.declared.limits.Limits.{Limits as LimitsValue};
-ghost use Rattle.journal.specs.declared.journal.mode.Mode.{Mode as ModeValue};
-ghost use Rattle.keri_roles.specs.CoreRoles.OneSeats.{IsOneSeat, IsReady};
+ghost use Rattle.std.specs.Prelude.{IfOk};
+ghost use Rattle.keri_roles.specs.CoreRoles.OneSeats.{IsOneSeat, IsReady, ReadsAlone};
 
 use crate::core_roles::ReaderEnd;
 use journal::Mode;
@@ -51,9 +46,7 @@ impl<S: Source + Drop + Send, V: Verifier + Drop + Send> OneSeat<S, V> {
         providers: Providers<S, V>,
     ) -> ReadAlone<S, V>
         requires seat { IsReady self }
-        ensures { (mode : ModeValue) (limits : LimitsValue) → IsOneSeat mode limits self → AllTold mode limits
-            (given_by S.left S.faults V.says V.inquiries V.faults providers ∷ [])
-            (reader_seen S.left S.faults V.says V.inquiries V.faults result.reader ∷ []) result.rest result.core }
+        ensures { ReadsAlone S.left S.faults V.says V.inquiries V.faults self providers result }
     {
         let OneSeat { seats, mut room } = self;
         room.push(providers).unwrap();

@@ -9,7 +9,7 @@ ghost use Rattle.run_status.specs.RunStatus.Status.{nothing_besides};
 ghost use Rattle.run_status.specs.RunRecord.NoJournal.{no_journal};
 ghost use Rattle.std.specs.Vec.{vec_capacity};
 ghost use Rattle.keri_roles.specs.CoreRoles.LinksShown.{IsOverLinks, ProvidesLinks, TakesLinks};
-ghost use Rattle.run_status.specs.RunRecord.Seen.{door_seen, sinks_seen};
+ghost use Rattle.keri_roles.specs.CoreRoles.Work.{links_at};
 
 use crate::core_roles::core_text::CoreText;
 use crate::core_roles::outcome::{LinkedOutcome, Outcome};
@@ -104,11 +104,8 @@ fn take_at<O: Outside>(
     ensures taken { TakesLinks address.now count
         (map (source_seen O.Source.left O.Source.faults O.Verifier.says O.Verifier.inquiries O.Verifier.faults)
         result.taken.sources.items)
-        (record {
-          door = door_seen O.Door.left O.Door.faults result.door;
-          sinks = sinks_seen O.Door.Sink.written O.Door.Sink.faults result.taken.sinks.items;
-          failed = result.taken.failed;
-        })
+        (links_at O.Door.left O.Door.faults O.Door.Sink.written O.Door.Sink.faults
+        result.door result.taken.sinks.items result.taken.failed)
         (O.shown outside.old) (O.shown outside.new) }
     ensures few { length result.taken.sources.items ≤ count }
     ensures sink { O.sink outside.new ≡ O.sink outside.old }

@@ -95,7 +95,7 @@ fn convert_stream<O: Outside>(
 ) -> Conversion
     ensures converts { Converts limits domain (⟦<O as Serves>⟧.ends source.old outside.old)
         (⟦<O as Serves>⟧.ends source.new outside.new) result }
-    ensures told { O.shown outside.new ≡ O.shown outside.old }
+    ensures shown { O.shown outside.new ≡ O.shown outside.old }
 {
     convert_items(alloc, source, outside.out(), limits, domain)
 }

@@ -6,7 +6,7 @@ ghost use Rattle.command_words.specs.Words as asks_for;
 ghost use Rattle.command_words.specs.Words.{IsInForm, asked_by};
 ghost use Rattle.keri_roles.specs.KeriRoles.Commands.{CarriesOut, IsRunOf, IsWritten, RefusesWords};
 ghost use Rattle.run_status.specs.RunRecord.Run.{HasCauses, HasNoSecond, asked_in};
-ghost use Rattle.keri_roles.specs.CoreRoles.Work.{IsSettled};
+ghost use Rattle.keri_roles.specs.CoreRoles.Work.{IsFinished};
 ghost use Rattle.run_status.specs.RunRecord.NoJournal.{no_journal};
 
 use crate::core_roles::{
@@ -255,8 +255,8 @@ fn finish<O: Outside>(
     ensures no_door { result.door ≡ None }
     ensures no_sinks { result.sinks.items ≡ [] }
     ensures no_second { result.second ≡ None }
-    ensures settles { IsSettled outcome.outcome (⟦<O as Runs>⟧.run outside.old outside.new result) }
-    ensures told { O.shown outside.new ≡ O.shown outside.old }
+    ensures finished { IsFinished outcome.outcome (⟦<O as Runs>⟧.run outside.old outside.new result) }
+    ensures shown { O.shown outside.new ≡ O.shown outside.old }
 {
     let SignedOutcome { outcome, signer } = outcome;
     let Outcome {
@@ -293,8 +293,8 @@ fn finish_rival<O: Outside>(
     ensures no_old { result.old ≡ None }
     ensures no_door { result.door ≡ None }
     ensures no_sinks { result.sinks.items ≡ [] }
-    ensures settles { IsSettled rival.outcome (⟦<O as Runs>⟧.run outside.old outside.new result) }
-    ensures told { O.shown outside.new ≡ O.shown outside.old }
+    ensures finished { IsFinished rival.outcome (⟦<O as Runs>⟧.run outside.old outside.new result) }
+    ensures shown { O.shown outside.new ≡ O.shown outside.old }
 {
     let RivalOutcome { outcome, second } = rival;
     Done {
@@ -317,8 +317,8 @@ fn finish_links<O: Outside>(
     ensures door { result.door ≡ linked.door }
     ensures sinks { result.sinks ≡ linked.sinks }
     ensures no_second { result.second ≡ None }
-    ensures settles { IsSettled linked.outcome (⟦<O as Runs>⟧.run outside.old outside.new result) }
-    ensures told { O.shown outside.new ≡ O.shown outside.old }
+    ensures finished { IsFinished linked.outcome (⟦<O as Runs>⟧.run outside.old outside.new result) }
+    ensures shown { O.shown outside.new ≡ O.shown outside.old }
 {
     let LinkedOutcome {
         outcome,

@@ -77,7 +77,7 @@ fn serve<O: Outside>(
 ) -> Served
     ensures serves { IsServed limits.stream_bytes (⟦<O as Serves>⟧.sides source.old outside.old)
         (⟦<O as Serves>⟧.sides source.new outside.new) result }
-    ensures told { O.shown outside.new ≡ O.shown outside.old }
+    ensures shown { O.shown outside.new ≡ O.shown outside.old }
 {
     serve_rehearsal(alloc, source, outside.out(), limits)
 }

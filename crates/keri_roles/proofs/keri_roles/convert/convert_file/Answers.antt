@@ -7,7 +7,7 @@ pub returns-in-Ok : goal.returns-in-Ok
 returns-in-Ok g c =
     let made = c.in-Ok.ensures in
     record {
-      makes = rw c.convert_stream-conversion.ensures.told (one_made Source c.args.name.now _ _ c.in-Ok.source made.makes);
+      makes = rw c.convert_stream-conversion.ensures.shown (one_made Source c.args.name.now _ _ c.in-Ok.source made.makes);
       converts = rw (made.holds, made.none_yet, made.same_sink) at c.convert_stream-conversion.ensures.converts;
     }
 

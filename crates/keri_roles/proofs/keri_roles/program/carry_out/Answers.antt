@@ -8,33 +8,33 @@ pub returns-in_ok-room-in-Convert-clause-does : goal.returns-in_ok-room-in-Conve
 returns-in_ok-room-in-Convert-clause-does g c = rw c.in-Convert.is c.convert.ensures.converted
 
 pub returns-in_ok-outcome-in-Make-clause-does : goal.returns-in_ok-outcome-in-Make-clause-does
-returns-in_ok-outcome-in-Make-clause-does g c = rw (c.in-Make.is, c.finish-in-Make.ensures.signer, c.finish-in-Make.ensures.no_disk, c.finish-in-Make.ensures.no_old, c.finish-in-Make.ensures.no_door, c.finish-in-Make.ensures.no_sinks, c.finish-in-Make.ensures.journal, c.finish-in-Make.ensures.readers, c.finish-in-Make.ensures.told) (record {
+returns-in_ok-outcome-in-Make-clause-does g c = rw (c.in-Make.is, c.finish-in-Make.ensures.signer, c.finish-in-Make.ensures.no_disk, c.finish-in-Make.ensures.no_old, c.finish-in-Make.ensures.no_door, c.finish-in-Make.ensures.no_sinks, c.finish-in-Make.ensures.journal, c.finish-in-Make.ensures.readers, c.finish-in-Make.ensures.shown) (record {
   owed = option_map (λ text. text.items) c.in_ok-outcome-in-Make.outcome.outcome.owed;
   besides = c.in_ok-outcome-in-Make.outcome.outcome.besides;
   does = c.in_ok-outcome-in-Make.ensures.made;
-  settles = rw (c.finish-in-Make.ensures.readers, c.in_ok-outcome-in-Make.ensures.sink) at c.finish-in-Make.ensures.settles;
+  settles = rw (c.finish-in-Make.ensures.readers, c.in_ok-outcome-in-Make.ensures.sink) at c.finish-in-Make.ensures.finished;
   no_disk = refl;
   no_old = refl;
   no_links = record { no_door = refl; no_sinks = refl };
 })
 
 pub returns-in_ok-outcome-in-Generate-clause-does : goal.returns-in_ok-outcome-in-Generate-clause-does
-returns-in_ok-outcome-in-Generate-clause-does g c = rw (c.in-Generate.is, c.finish-in-Generate.ensures.signer, c.finish-in-Generate.ensures.no_disk, c.finish-in-Generate.ensures.no_old, c.finish-in-Generate.ensures.no_door, c.finish-in-Generate.ensures.no_sinks, c.finish-in-Generate.ensures.journal, c.finish-in-Generate.ensures.readers, c.finish-in-Generate.ensures.told, c.unsigned-in-Generate.ensures) (record {
+returns-in_ok-outcome-in-Generate-clause-does g c = rw (c.in-Generate.is, c.finish-in-Generate.ensures.signer, c.finish-in-Generate.ensures.no_disk, c.finish-in-Generate.ensures.no_old, c.finish-in-Generate.ensures.no_door, c.finish-in-Generate.ensures.no_sinks, c.finish-in-Generate.ensures.journal, c.finish-in-Generate.ensures.readers, c.finish-in-Generate.ensures.shown, c.unsigned-in-Generate.ensures) (record {
   owed = option_map (λ text. text.items) c.in_ok-outcome-in-Generate.outcome.owed;
   besides = c.in_ok-outcome-in-Generate.outcome.besides;
   does = c.in_ok-outcome-in-Generate.ensures.generated;
-  settles = rw (c.finish-in-Generate.ensures.readers, c.unsigned-in-Generate.ensures, c.in_ok-outcome-in-Generate.ensures.same) at c.finish-in-Generate.ensures.settles;
+  settles = rw (c.finish-in-Generate.ensures.readers, c.unsigned-in-Generate.ensures, c.in_ok-outcome-in-Generate.ensures.same) at c.finish-in-Generate.ensures.finished;
   no_disk = refl;
   no_old = refl;
   no_links = record { no_door = refl; no_sinks = refl };
 })
 
 pub returns-in_ok-rival-in-Blame-clause-does : goal.returns-in_ok-rival-in-Blame-clause-does
-returns-in_ok-rival-in-Blame-clause-does g c = rw (c.in-Blame.is, c.finish_rival.ensures.signer, c.finish_rival.ensures.no_disk, c.finish_rival.ensures.no_old, c.finish_rival.ensures.no_door, c.finish_rival.ensures.no_sinks, c.finish_rival.ensures.journal, c.finish_rival.ensures.second, c.finish_rival.ensures.readers, c.finish_rival.ensures.told) (record {
+returns-in_ok-rival-in-Blame-clause-does g c = rw (c.in-Blame.is, c.finish_rival.ensures.signer, c.finish_rival.ensures.no_disk, c.finish_rival.ensures.no_old, c.finish_rival.ensures.no_door, c.finish_rival.ensures.no_sinks, c.finish_rival.ensures.journal, c.finish_rival.ensures.second, c.finish_rival.ensures.readers, c.finish_rival.ensures.shown) (record {
   owed = option_map (λ text. text.items) c.in_ok-rival-in-Blame.rival.outcome.owed;
   besides = c.in_ok-rival-in-Blame.rival.outcome.besides;
   does = c.in_ok-rival-in-Blame.ensures.blamed;
-  settles = rw (c.finish_rival.ensures.readers, c.in_ok-rival-in-Blame.ensures.sink) at c.finish_rival.ensures.settles;
+  settles = rw (c.finish_rival.ensures.readers, c.in_ok-rival-in-Blame.ensures.sink) at c.finish_rival.ensures.finished;
   no_disk = refl;
   no_old = refl;
   no_links = record { no_door = refl; no_sinks = refl };

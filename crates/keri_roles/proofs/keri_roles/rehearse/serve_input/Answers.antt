@@ -8,7 +8,7 @@ pub returns-in-Ok : goal.returns-in-Ok
 returns-in-Ok g c =
     let made = c.in-Ok.ensures in
     record {
-      makes = rw c.serve-served.ensures.told (one_made Source (codes "-") _ _ c.in-Ok.source made.makes);
+      makes = rw c.serve-served.ensures.shown (one_made Source (codes "-") _ _ c.in-Ok.source made.makes);
       serves = rw (made.holds, made.none_yet, made.same_sink) at c.serve-served.ensures.serves;
     }
 
