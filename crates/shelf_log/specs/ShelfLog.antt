@@ -3,5 +3,5 @@ pub mod Blank
 pub mod Durable
 pub mod Format
 pub mod Leftover
+pub mod OnDisk
 pub mod Scans
-pub mod Settled

@@ -6,7 +6,7 @@ use Rattle.std.proofs.lemmas.Bool.{cases_eq}
 use Rattle.std.specs.Int.{w32, to_be_bytes}
 use Rattle.shelf_log.specs.KeriDisk.Images.{overwritten, Torn}
 use Rattle.shelf_log.specs.ShelfLog.Format.{Holds, IsSized, record_bytes, shelf_front}
-use Rattle.shelf_log.specs.ShelfLog.Settled.{HoldsEither}
+use Rattle.shelf_log.specs.ShelfLog.OnDisk.{HoldsEither}
 use Rattle.shelf_log.specs.declared.shelf_log.version.Version.TheVariants.{Two}
 use Rattle.shelf_log.proofs.ShelfLogLemmas.Files.{Parts, parts_of, holds_of, front-push}
 

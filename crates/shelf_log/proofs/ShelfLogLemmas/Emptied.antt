@@ -5,7 +5,7 @@ use Rattle.std.proofs.lemmas.Slice.Eq.{bytes_eq-Decides}
 use Rattle.std.specs.Str.{bytes_eq}
 use Rattle.shelf_log.specs.KeriDisk.Images.{Torn}
 use Rattle.shelf_log.specs.ShelfLog.Format.{mark, IsSized}
-use Rattle.shelf_log.specs.ShelfLog.Settled.{IsUnfinished}
+use Rattle.shelf_log.specs.ShelfLog.OnDisk.{IsUnfinished}
 use Rattle.shelf_log.specs.declared.shelf_log.version.Version.TheVariants.{Two}
 use Rattle.shelf_log.proofs.ShelfLogLemmas.Files.{holds_of}
 

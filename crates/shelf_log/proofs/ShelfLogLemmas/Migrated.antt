@@ -7,7 +7,7 @@ use Rattle.shelf_log.specs.ShelfLog.Blank.{IsBlank, AllBlank, blank_file}
 use Rattle.shelf_log.specs.ShelfLog.Durable.{ChangesDurably}
 use Rattle.shelf_log.specs.ShelfLog.Format.{mark, Holds, IsSized, IsNoShelf, records, shelf_front}
 use Rattle.shelf_log.specs.ShelfLog.Leftover.{rest_of_mark, IsLeftover}
-use Rattle.shelf_log.specs.ShelfLog.Settled.{IsSettled}
+use Rattle.shelf_log.specs.ShelfLog.OnDisk.{HoldsDurably}
 use Rattle.shelf_log.specs.declared.shelf_log.version.Version.TheVariants.{One, Two}
 use Rattle.shelf_log.proofs.ShelfLogLemmas.Files.{if_some, parts_of, holds_of}
 use Rattle.shelf_log.proofs.ShelfLogLemmas.Leftovers.{front_leftover, short_leftover, torn_leftover}
@@ -88,8 +88,8 @@ module _ (list : List (List ℕ)) (sized : All (IsSized One) list) (m3 m4 : Disk
   torn_first : (c : List ℕ) → Torn 0 1 (blank_file list) c → c ≡ get_or c 0 0 ∷ behind
   torn_first c torn = drop_more c 0 0 (omega (arith, torn.no_shorter)) ∙ ap (λ (l : List ℕ). get_or c 0 0 ∷ l) torn.after
 
-  pub mark_settles : (bytes : List ℕ) → bytes ≡ 75 ∷ [] → IsDurable m4 → m4.file ≡ option_map (λ file. overwritten file 0 bytes) m3.file → IsSettled m4 list
-  mark_settles bytes are durable_4 file_is_4 =
+  pub mark_holds : (bytes : List ℕ) → bytes ≡ 75 ∷ [] → IsDurable m4 → m4.file ≡ option_map (λ file. overwritten file 0 bytes) m3.file → HoldsDurably m4 list
+  mark_holds bytes are durable_4 file_is_4 =
       let file_4 : m4.file ≡ option_map (λ file. overwritten file 0 (75 ∷ [])) m3.file = file_is_4 ∙ ap (λ (b : List ℕ). option_map (λ file. overwritten file 0 b) m3.file) are in (
         durable_4,
         if_some (λ f. Holds Two f list) m4.file (λ f is.

@@ -1,5 +1,5 @@
 //! Disks in memory.
-ghost use Rattle.std.specs.Prelude.{◌≡◌, ◌++◌, ◌∷◌, [], OnOk, OnErr};
+ghost use Rattle.std.specs.Prelude.{◌≡◌, ◌∷◌, [], OnOk, OnErr};
 ghost use Rattle.lists.specs.KeriSpecs.Causes.{HasCause};
 ghost use Rattle.shelf_log.specs.KeriDisk.Replay.{file_of};
 
@@ -24,7 +24,7 @@ pub struct MemDisk {
 }
 
 impl MemDisk {
-    ghost use Rattle.std.specs.Prelude.{◌≤◌, ℕ, List, length, Some, IfOk};
+    ghost use Rattle.std.specs.Prelude.{◌≤◌, ℕ, List, Some, IfOk};
     ghost use Rattle.shelf_log.specs.KeriDisk.Replay.{file_after};
     ghost use Rattle.lists.specs.KeriSpecs.Causes.{Rose};
     ghost use Rattle.shelf_log.specs.KeriDisk.Images.{IsDurable};

@@ -5,7 +5,7 @@ ghost use Rattle.lists.specs.KeriSpecs.Causes.{HasCause};
 ghost use Rattle.shelf_log.specs.KeriDisk.Images.{LeavesOnly};
 ghost use Rattle.shelf_log.specs.ShelfLog.Answers.{IsOver, HasDiskCause, MigrationRefuses};
 ghost use Rattle.shelf_log.specs.ShelfLog.Format.{IsSized, shelf_front, shelf_size};
-ghost use Rattle.shelf_log.specs.ShelfLog.Settled.{AllHold, AllLeftover, BringsOver, IsBroughtOver, IsFilledOrLeftover, NoneIsShelf};
+ghost use Rattle.shelf_log.specs.ShelfLog.OnDisk.{AllHold, AllLeftover, BringsOver, IsBroughtOver, IsFilledOrLeftover, NoneIsShelf};
 ghost use Rattle.shelf_log.specs.declared.shelf_log.version.Version.TheVariants.{One, Two};
 ghost use Rattle.shelf_log.specs.declared.shelf_log.fault.ShelfFault.TheVariants.{DiskFault};
 
@@ -63,7 +63,7 @@ impl<D: Disk + Drop> Shelf<D> {
         };
         let mut disk = target;
         match write_over(&mut disk, list) {
-            Ok(end) => Ok(Shelf::settled(alloc, disk, copies, end, limits)),
+            Ok(end) => Ok(Shelf::of_list(alloc, disk, copies, end, limits)),
             Err(Failed) => Err(Returned {
                 disk,
                 fault: ShelfFault::DiskFault,

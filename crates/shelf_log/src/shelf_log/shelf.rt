@@ -2,7 +2,7 @@
 ghost use Rattle.std.specs.Prelude.{◌≡◌, ◌<◌, ◌≤◌, ◌||◌, false, length, nat_le, nat_lt};
 ghost use Rattle.std.proofs.Props.{props};
 ghost use Rattle.shelf_log.specs.ShelfLog.Format.{shelf_front};
-ghost use Rattle.shelf_log.specs.ShelfLog.Settled.{IsSettled};
+ghost use Rattle.shelf_log.specs.ShelfLog.OnDisk.{HoldsDurably};
 ghost use Rattle.shelf_log.specs.declared.shelf_log.version.Version.TheVariants.{Two};
 
 use crate::keri_disk::Disk;
@@ -30,16 +30,16 @@ pub struct Shelf<D: Disk> {
     ghost ends: { end ≡ length (shelf_front Two list) },
     ghost few: { end < 1073741824 },
     ghost counted: { length list ≤ limits.records },
-    ghost settled: { broken ≡ false → IsSettled (D.shown disk) list } by { Prim.hlevel props },
+    ghost durable: { broken ≡ false → HoldsDurably (D.shown disk) list } by { Prim.hlevel props },
 }
 
 impl<D: Disk + Drop> Shelf<D> {
-    ghost use Rattle.std.specs.Prelude.{◌≢◌, ◌⊎◌, ◌+◌, ◌++◌, ◌∷◌, [], List, ℕ, Some, IfOk, IfErr, IfSome, OnOk, OnErr, MatchResult, true};
+    ghost use Rattle.std.specs.Prelude.{◌≢◌, ◌+◌, ◌++◌, ◌∷◌, [], List, ℕ, IfOk, IfErr, IfSome, OnOk, OnErr, MatchResult, true};
     ghost use Rattle.shelf_log.specs.KeriDisk.Images.{IsDurable, LeavesOnly};
     ghost use Rattle.shelf_log.specs.KeriDisk.Calls.{Keeps};
     ghost use Rattle.shelf_log.specs.ShelfLog.Answers.{Answers, refusal, HasDiskCause, Reads};
     ghost use Rattle.shelf_log.specs.ShelfLog.Format.{IsSized, shelf_size};
-    ghost use Rattle.shelf_log.specs.ShelfLog.Settled.{AllHold, HoldsEither, IsUnfinished};
+    ghost use Rattle.shelf_log.specs.ShelfLog.OnDisk.{AllHold, HoldsEither, IsUnfinished};
     ghost use Rattle.shelf_log.specs.declared.shelf_log.fault.ShelfFault.TheVariants.{Broken, DiskFault};
 
     /// A new shelf on a disk whose file is empty: a mark and a closed gate, 9 bytes.
@@ -57,7 +57,7 @@ impl<D: Disk + Drop> Shelf<D> {
     {
         let mut disk = disk;
         match put_durably(&mut disk, 0, &Version::Two.empty_file()) {
-            Ok(()) => Ok(Shelf::settled(alloc, disk, Items::new(alloc), 8, limits)),
+            Ok(()) => Ok(Shelf::of_list(alloc, disk, Items::new(alloc), 8, limits)),
             Err(Failed) => Err(Returned {
                 disk,
                 fault: ShelfFault::DiskFault,
@@ -82,13 +82,13 @@ impl<D: Disk + Drop> Shelf<D> {
     {
         let mut disk = disk;
         match read_list(alloc, &mut disk, Version::Two, limits) {
-            Ok(Scan { list, offset, .. }) => Ok(Shelf::settled(alloc, disk, list, offset, limits)),
+            Ok(Scan { list, offset, .. }) => Ok(Shelf::of_list(alloc, disk, list, offset, limits)),
             Err(fault) => Err(Returned { disk, fault }),
         }
     }
 
     // The shelf of a list for which the disk's file stands, with its closed gate at `end`.
-    pub(crate) fn settled(
+    pub(crate) fn of_list(
         alloc: Global,
         disk: D,
         list: Items<Items<u8>>,
@@ -98,7 +98,7 @@ impl<D: Disk + Drop> Shelf<D> {
         requires end { end ≡ length (shelf_front Two list) }
         requires few { end < 1073741824 }
         requires counted { length list ≤ limits.records }
-        requires settled { IsSettled (D.shown disk) list }
+        requires durable { HoldsDurably (D.shown disk) list }
         ensures { (result.disk ≡ disk) × (result.list ≡ list) × (result.limits ≡ limits) × (result.broken ≡ false) }
     {
         Shelf {

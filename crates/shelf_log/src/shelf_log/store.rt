@@ -4,7 +4,7 @@ ghost use Rattle.lists.specs.KeriSpecs.Causes.{HasCause};
 ghost use Rattle.shelf_log.specs.KeriDisk.Calls.{IsInFile};
 ghost use Rattle.shelf_log.specs.ShelfLog.Answers.{HasDiskCause};
 ghost use Rattle.shelf_log.specs.ShelfLog.Format.{shelf_front, IsSized};
-ghost use Rattle.shelf_log.specs.ShelfLog.Settled.{IsSettled, Stores, StoresStaged};
+ghost use Rattle.shelf_log.specs.ShelfLog.OnDisk.{HoldsDurably, Stores, StoresStaged};
 ghost use Rattle.shelf_log.specs.declared.shelf_log.version.Version.TheVariants.{Two};
 ghost use Rattle.shelf_log.specs.declared.shelf_log.fault.ShelfFault.TheVariants.{DiskFault, OutOfMemory};
 
@@ -30,7 +30,7 @@ pub(crate) fn add<D: Disk>(
     ensures ok { OnOk result (list.new ≡ list.old ++ payload.now ∷ []) }
     ensures err { OnErr result (list.new ≡ list.old) }
     ensures refused { IfErr result (λ fault. (fault ≡ DiskFault) ⊎ ((fault ≡ OutOfMemory) × (disk.new ≡ disk.old))) }
-    ensures stores { IsSettled (D.shown disk.old) list.old → end ≡ length (shelf_front Two list.old)
+    ensures stores { HoldsDurably (D.shown disk.old) list.old → end ≡ length (shelf_front Two list.old)
         → Stores list.old payload.now (D.shown disk.old) (D.shown disk.new) result }
     ensures cause { MatchResult result (λ _. (D.shown disk.new).faults ≡ (D.shown disk.old).faults)
         (λ fault. HasDiskCause (D.shown disk.old) (D.shown disk.new) fault) }

@@ -22,7 +22,7 @@ use Rattle.journal.proofs.JournalLemmas.Premises.{nothing_grown}
 use Rattle.event_body.specs.EventBody.Events.{is_receipt}
 use Rattle.shelf_log.specs.KeriDisk.Images.{DiskShown}
 use Rattle.keri_outside.specs.declared.limits.Limits.{Limits}
-use Rattle.shelf_log.specs.ShelfLog.Settled.{AllHold}
+use Rattle.shelf_log.specs.ShelfLog.OnDisk.{AllHold}
 use Rattle.validator_core.specs.ValidatorCore.View.{CoreView, told_of}
 use Rattle.witness_core.specs.WitnessStore.Histories.{History, bodies_in, history_of, log_in}
 use Rattle.witness_core.specs.WitnessStore.Room.{if_waiting, is_event, signatures_on, weight}

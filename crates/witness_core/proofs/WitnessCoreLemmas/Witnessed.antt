@@ -11,7 +11,7 @@ use Rattle.key_state.specs.Kept.{IsKept}
 use Rattle.shelf_log.specs.KeriDisk.Images.{DiskShown}
 use Rattle.keri_outside.specs.declared.limits.Limits.{Limits}
 use Rattle.shelf_log.specs.ShelfLog.Format.{Holds}
-use Rattle.shelf_log.specs.ShelfLog.Settled.{AllHold, IsSettled}
+use Rattle.shelf_log.specs.ShelfLog.OnDisk.{AllHold, HoldsDurably}
 use Rattle.shelf_log.specs.declared.shelf_log.version.Version.TheVariants.{Two}
 use Rattle.journal.specs.declared.journal.body.Body.{Body}
 use Rattle.validator_core.specs.ValidatorCore.View.{CoreView, accepted_by}
@@ -80,9 +80,9 @@ module _ (S : Type 0) where
 pub full_untold : (says : Key → List ℕ → Sig → Option Bool) (old : CoreView) (m : Message) (fault : WitnessFault) (new : CoreView) → TellsFault says old m fault new → fault ≡ LimitReached → IsUntold old new
 full_untold says old m fault new tells is = subst (λ (f : WitnessFault). TellsFault says old m f new) is tells
 
--- STARTED: a settled shelf's list
-pub settled_holds : (told : DiskShown) (list : List (List ℕ)) → IsSettled told list → AllHold told list
-settled_holds told list settled = λ c now. subst (λ (o : Option (List ℕ)). IfSome o (λ file. Holds Two file list)) (settled.0 c now) settled.1
+-- STARTED: the list of a shelf that is not broken
+pub durable_holds : (told : DiskShown) (list : List (List ℕ)) → HoldsDurably told list → AllHold told list
+durable_holds told list durable = λ c now. subst (λ (o : Option (List ℕ)). IfSome o (λ file. Holds Two file list)) (durable.0 c now) durable.1
 
 pub started_stored : (core : CoreView) (list : List (List ℕ)) (limits shelf_limits : Limits) (broken : Bool) (disk : DiskShown) (room : Room) → IsStarted limits list core → IsFirstRoom core room → length list ≤ shelf_limits.records
     → broken ≡ false → AllHold disk list → AreStored (history_of core) list shelf_limits broken disk room

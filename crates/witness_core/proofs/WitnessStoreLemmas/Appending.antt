@@ -9,7 +9,7 @@ use Rattle.shelf_log.proofs.KeriDiskLemmas.Moments.{weaker}
 use Rattle.keri_outside.specs.declared.limits.Limits.{Limits}
 use Rattle.shelf_log.specs.ShelfLog.Answers.{Answers, refusal}
 use Rattle.shelf_log.specs.ShelfLog.Format.{shelf_size}
-use Rattle.shelf_log.specs.ShelfLog.Settled.{AllHold, HoldsEither}
+use Rattle.shelf_log.specs.ShelfLog.OnDisk.{AllHold, HoldsEither}
 use Rattle.shelf_log.specs.declared.shelf_log.fault.ShelfFault.{ShelfFault}
 use Rattle.shelf_log.specs.declared.shelf_log.version.Version.TheVariants.{Two}
 use Rattle.validator_core.specs.ValidatorCore.View.{CoreView, accepted_by, told_of}

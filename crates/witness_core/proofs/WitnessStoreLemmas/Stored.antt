@@ -9,7 +9,7 @@ use Rattle.shelf_log.proofs.KeriDiskLemmas.Moments.{KnowsNow, and_then, none_yet
 use Rattle.keri_outside.specs.declared.limits.Limits.{Limits}
 use Rattle.shelf_log.specs.ShelfLog.Answers.{Answers, refusal}
 use Rattle.shelf_log.specs.ShelfLog.Format.{Holds, shelf_size}
-use Rattle.shelf_log.specs.ShelfLog.Settled.{AllHold, HoldsEither}
+use Rattle.shelf_log.specs.ShelfLog.OnDisk.{AllHold, HoldsEither}
 use Rattle.shelf_log.specs.declared.shelf_log.fault.ShelfFault.{ShelfFault}
 use Rattle.shelf_log.specs.declared.shelf_log.fault.ShelfFault.TheVariants.{DiskFault, NotAShelf, LimitReached, Broken, OutOfMemory}
 use Rattle.shelf_log.specs.declared.shelf_log.version.Version.TheVariants.{Two}

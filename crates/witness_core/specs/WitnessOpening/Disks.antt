@@ -11,7 +11,7 @@ use Rattle.run_status.specs.RunOutside.Shown.{OutsideShown, making}
 use Rattle.run_status.specs.declared.run_outside.making.MakingKind.TheVariants.{Disk, OldDisk}
 use Rattle.shelf_log.specs.ShelfLog.Format.{Holds}
 use Rattle.shelf_log.specs.ShelfLog.Leftover.{IsLeftover}
-use Rattle.shelf_log.specs.ShelfLog.Settled.{IsFilledOrLeftover, IsUnfinished}
+use Rattle.shelf_log.specs.ShelfLog.OnDisk.{IsFilledOrLeftover, IsUnfinished}
 use Rattle.shelf_log.specs.declared.shelf_log.version.Version.TheVariants.{One}
 use Rattle.witness_core.specs.WitnessOpening.Answers.{Answer}
 use Rattle.witness_core.specs.declared.witness_opening.fault.OpeningFault.TheVariants.{DiskFault}

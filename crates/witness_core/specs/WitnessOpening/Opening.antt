@@ -5,7 +5,7 @@ use Rattle.std.specs.declared.result.Result.TheVariants.{Err}
 use Rattle.shelf_log.specs.KeriDisk.Images.{DiskShown}
 use Rattle.keri_outside.specs.declared.limits.Limits.{Limits}
 use Rattle.run_status.specs.RunOutside.Shown.{OutsideShown}
-use Rattle.shelf_log.specs.ShelfLog.Settled.{AllHold}
+use Rattle.shelf_log.specs.ShelfLog.OnDisk.{AllHold}
 use Rattle.witness_core.specs.WitnessOpening.Answers.{Answer, Answers}
 use Rattle.witness_core.specs.WitnessOpening.Disks.{HasCause, IsLeft, Makes, OnlyRead}
 use Rattle.witness_core.specs.declared.witness_opening.fault.OpeningFault.{OpeningFault}

@@ -11,7 +11,7 @@ use Rattle.run_status.specs.RunOutside.Makings.{AreMakings}
 use Rattle.run_status.specs.RunOutside.Shown.{OutsideShown, making}
 use Rattle.run_status.specs.declared.run_outside.making.MakingKind.TheVariants.{OldDisk}
 use Rattle.shelf_log.specs.ShelfLog.Format.{Holds}
-use Rattle.shelf_log.specs.ShelfLog.Settled.{IsFilledOrLeftover, IsUnfinished}
+use Rattle.shelf_log.specs.ShelfLog.OnDisk.{IsFilledOrLeftover, IsUnfinished}
 use Rattle.shelf_log.specs.declared.shelf_log.version.Version.TheVariants.{One, Two}
 use Rattle.witness_core.specs.WitnessOpening.Answers.{Answer, AnswersNew, AnswersRead}
 use Rattle.witness_core.specs.WitnessOpening.Disks.{HasCause, OnlyRead}

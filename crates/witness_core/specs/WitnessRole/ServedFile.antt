@@ -23,7 +23,7 @@ use Rattle.run_status.specs.RunStatus.Readers.{Reader, SinkShown, SourceShown, V
 use Rattle.run_status.specs.RunStatus.Settling.{found}
 use Rattle.run_status.specs.RunStatus.Status.{nothing_besides, status_of}
 use Rattle.shelf_log.specs.ShelfLog.Format.{Holds}
-use Rattle.shelf_log.specs.ShelfLog.Settled.{AllHold}
+use Rattle.shelf_log.specs.ShelfLog.OnDisk.{AllHold}
 use Rattle.shelf_log.specs.declared.shelf_log.version.Version.TheVariants.{Two}
 use Rattle.witness_core.specs.declared.witness_link.link_end.LinkEnd.{LinkEnd}
 use Rattle.witness_core.specs.WitnessLink.Links.{Left, LinkShown, Serving, seen_as, seen_by, source_shown, told_of_link}

@@ -14,7 +14,7 @@ use Rattle.keri_outside.specs.declared.limits.Limits.{Limits}
 use Rattle.run_status.specs.RunOutside.Shown.{OutsideShown}
 use Rattle.run_status.specs.declared.run_status.besides.Besides.{Besides}
 use Rattle.run_status.specs.RunStatus.Status.{nothing_besides}
-use Rattle.shelf_log.specs.ShelfLog.Settled.{AllHold}
+use Rattle.shelf_log.specs.ShelfLog.OnDisk.{AllHold}
 use Rattle.validator_core.specs.ValidatorCore.View.{CoreView, open_of}
 use Rattle.witness_core.specs.WitnessStore.Payloads.{AreListed}
 use Rattle.witness_core.specs.WitnessStore.Starts.{AreNoStart, IsStarted}

@@ -9,7 +9,7 @@ use Rattle.journal.specs.Journal.Grown.{IsGrown}
 use Rattle.journal.specs.Journal.History.{Told}
 use Rattle.journal_views.specs.EventPayload.Payloads.{text_in}
 use Rattle.shelf_log.specs.ShelfLog.Format.{Holds}
-use Rattle.shelf_log.specs.ShelfLog.Settled.{AllHold}
+use Rattle.shelf_log.specs.ShelfLog.OnDisk.{AllHold}
 use Rattle.shelf_log.specs.declared.shelf_log.version.Version.TheVariants.{Two}
 use Rattle.validator_core.specs.ValidatorCore.View.{CoreView}
 use Rattle.witness_core.specs.WitnessStore.Histories.{History, log_in}

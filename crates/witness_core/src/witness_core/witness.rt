@@ -45,7 +45,7 @@ pub struct Witness<D: Disk> {
 
 impl<D: Disk + Drop> Witness<D> {
     ghost use Rattle.std.specs.Prelude.{◌≡◌, ◌⊎◌, true, map, All, Err, IfErr, IfOk, MatchResult, OnOk};
-    ghost use Rattle.shelf_log.specs.ShelfLog.Settled.{AllHold};
+    ghost use Rattle.shelf_log.specs.ShelfLog.OnDisk.{AllHold};
     ghost use Rattle.validator_core.specs.ValidatorCore.View.{Follows, Stands};
     ghost use Rattle.witness_core.specs.WitnessStore.Faults.{StoresStill};
     ghost use Rattle.witness_core.specs.WitnessReceipts.Fates.{IsFate};

@@ -1,7 +1,7 @@
 //! Storing what is accepted.
 ghost use Rattle.std.specs.Prelude.{◌≡◌, ◌<◌, false, length, IfErr, OnOk};
 ghost use Rattle.journal.specs.Journal.Grown.{IsGrown};
-ghost use Rattle.shelf_log.specs.ShelfLog.Settled.{AllHold};
+ghost use Rattle.shelf_log.specs.ShelfLog.OnDisk.{AllHold};
 ghost use Rattle.validator_core.specs.ValidatorCore.View.{accepted_by, base_of};
 ghost use Rattle.witness_core.specs.WitnessStore.Faults.{StoreFault};
 ghost use Rattle.witness_core.specs.WitnessStore.Histories.{history_of};

@@ -4,13 +4,13 @@ use Rattle.shelf_log.specs.ShelfLog.Format.{IsNoShelf}
 use Rattle.shelf_log.specs.ShelfLog.Leftover.{IsLeftover}
 use Rattle.shelf_log.specs.declared.shelf_log.version.Version.TheVariants.{Two}
 use Rattle.shelf_log.proofs.ShelfLogLemmas.Changes.{none_of_err}
-use Rattle.shelf_log.proofs.ShelfLogLemmas.Migrated.{IsBegunOr, IsUnbegun, no_shelf_unbegun, leftover_unbegun, after_cut, after_byte, all_but_first, mark_leaves, mark_settles}
+use Rattle.shelf_log.proofs.ShelfLogLemmas.Migrated.{IsBegunOr, IsUnbegun, no_shelf_unbegun, leftover_unbegun, after_cut, after_byte, all_but_first, mark_leaves, mark_holds}
 use Rattle.shelf_log.proofs.KeriDiskLemmas.Moments.{and_then}
 use Rattle.shelf_log.proofs.shelf_log.migration.write_over.Goals as goal
 
 pub returns-in_err-cut_durably-clause-brings : goal.returns-in_err-cut_durably-clause-brings
 returns-in_err-cut_durably-clause-brings g c = record {
-  settled = none_of_err _ c.from_residual.result c.from_residual.ensures.0;
+  durable = none_of_err _ c.from_residual.result c.from_residual.ensures.0;
   moments = cut (IsNoShelf Two) no_shelf_unbegun;
   leftover = cut IsLeftover leftover_unbegun;
 }
@@ -21,7 +21,7 @@ returns-in_err-cut_durably-clause-brings g c = record {
 
 pub returns-in_err-put_durably-clause-brings : goal.returns-in_err-put_durably-clause-brings
 returns-in_err-put_durably-clause-brings g c = record {
-  settled = none_of_err _ c.from_residual-in_err-put_durably.result c.from_residual-in_err-put_durably.ensures.0;
+  durable = none_of_err _ c.from_residual-in_err-put_durably.result c.from_residual-in_err-put_durably.ensures.0;
   moments = byte (IsNoShelf Two) no_shelf_unbegun;
   leftover = byte IsLeftover leftover_unbegun;
 }
@@ -38,7 +38,7 @@ returns-in_err-put_durably-clause-brings g c = record {
 
 pub returns-in_err-end-clause-brings : goal.returns-in_err-end-clause-brings
 returns-in_err-end-clause-brings g c = record {
-  settled = none_of_err _ c.from_residual-in_err-end.result c.from_residual-in_err-end.ensures.0;
+  durable = none_of_err _ c.from_residual-in_err-end.result c.from_residual-in_err-end.ensures.0;
   moments = behind (IsNoShelf Two) no_shelf_unbegun;
   leftover = behind IsLeftover leftover_unbegun;
 }
@@ -56,7 +56,7 @@ returns-in_err-end-clause-brings g c = record {
 
 pub returns-in_err-put_durably-2-clause-brings : goal.returns-in_err-put_durably-2-clause-brings
 returns-in_err-put_durably-2-clause-brings g c = record {
-  settled = none_of_err _ c.from_residual-in_err-put_durably-2.result c.from_residual-in_err-put_durably-2.ensures.0;
+  durable = none_of_err _ c.from_residual-in_err-put_durably-2.result c.from_residual-in_err-put_durably-2.ensures.0;
   moments = all (IsNoShelf Two) no_shelf_unbegun;
   leftover = all IsLeftover leftover_unbegun;
 }
@@ -83,7 +83,7 @@ returns-clause-brings g c =
     let m3 = g.D.Disk.shown c.write_behind.new.disk in
     let m4 = g.D.Disk.shown c.put_durably-2.new.disk in
     record {
-      settled = mark_settles c.args.list.now c.requires.sized m3 m4 writes.durable writes.file (slice_index c.mark.result 0 ∷ []) (ap (λ (l : List ℕ). slice_index l 0 ∷ []) c.mark.ensures) c.in_ok-put_durably-2.ensures.puts.durable c.in_ok-put_durably-2.ensures.puts.file;
+      durable = mark_holds c.args.list.now c.requires.sized m3 m4 writes.durable writes.file (slice_index c.mark.result 0 ∷ []) (ap (λ (l : List ℕ). slice_index l 0 ∷ []) c.mark.ensures) c.in_ok-put_durably-2.ensures.puts.durable c.in_ok-put_durably-2.ensures.puts.file;
       moments = all (IsNoShelf Two) no_shelf_unbegun;
       leftover = all IsLeftover leftover_unbegun;
     }

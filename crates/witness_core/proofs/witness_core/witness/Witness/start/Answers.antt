@@ -1,7 +1,7 @@
 use Rattle.std.proofs.Common.{ap, arith, length, subst}
 use Rattle.witness_core.specs.WitnessStore.Starts.{IsStarted}
 use Rattle.witness_core.proofs.WitnessStoreLemmas.States.{kept_all}
-use Rattle.witness_core.proofs.WitnessCoreLemmas.Witnessed.{are_listed, settled_holds, started_stored}
+use Rattle.witness_core.proofs.WitnessCoreLemmas.Witnessed.{are_listed, durable_holds, started_stored}
 use Rattle.witness_core.proofs.witness_core.witness.Witness.start.Goals as goal
 
 pub begin-requires : goal.begin-requires
@@ -18,7 +18,7 @@ invariant_of-result g c =
       core_limits = started.limits_are;
       shelf_limits = c.requires.limits;
       stored = λ _. started_stored begun.core s.list c.args.limits s.limits s.broken (g.D.Disk.shown s.disk) begun.room started c.in-Ok.ensures.room s.counted c.requires.whole
-          (settled_holds (g.D.Disk.shown s.disk) s.list (s.settled c.requires.whole));
+          (durable_holds (g.D.Disk.shown s.disk) s.list (s.durable c.requires.whole));
     }
 
 pub returns-in-Ok-clause-resumed : goal.returns-in-Ok-clause-resumed
@@ -29,5 +29,5 @@ returns-in-Ok-clause-resumed g c =
       started,
       are_listed begun.core s.list s.limits s.broken (g.D.Disk.shown s.disk) begun.room
           (kept_all begun.core c.stands.ensures.stands c.stands.ensures.held c.stands.ensures.accepted c.spelled_is_kept.ensures)
-          (started_stored begun.core s.list c.args.limits s.limits s.broken (g.D.Disk.shown s.disk) begun.room started c.in-Ok.ensures.room s.counted c.requires.whole (settled_holds (g.D.Disk.shown s.disk) s.list (s.settled c.requires.whole))),
+          (started_stored begun.core s.list c.args.limits s.limits s.broken (g.D.Disk.shown s.disk) begun.room started c.in-Ok.ensures.room s.counted c.requires.whole (durable_holds (g.D.Disk.shown s.disk) s.list (s.durable c.requires.whole))),
     )

@@ -7,8 +7,8 @@ use Rattle.shelf_log.specs.ShelfLog.Leftover.{IsLeftover}
 use Rattle.shelf_log.specs.declared.shelf_log.version.Version.TheVariants.{Two}
 
 -- each image is the file as it reads, and that stands for the list
-abbrev pub IsSettled : DiskShown → List (List ℕ) → Type 0
-IsSettled shown list = IsDurable shown × IfSome shown.file (λ file. Holds Two file list)
+abbrev pub HoldsDurably : DiskShown → List (List ℕ) → Type 0
+HoldsDurably shown list = IsDurable shown × IfSome shown.file (λ file. Holds Two file list)
 
 -- each image stands for the list
 abbrev pub AllHold : DiskShown → List (List ℕ) → Type 0
@@ -20,13 +20,13 @@ HoldsEither list payload file = Holds Two file list ⊎ Holds Two file (list ++ 
 
 -- A payload is stored: after Ok each image stands for the list with it, and at any moment for the list or for that one.
 pub record Stores {E : Type 0} (list : List (List ℕ)) (payload : List ℕ) (old new : DiskShown) (result : Result (Unit {0}) E) : Type 0 where
-  pub settled : OnOk result (IsSettled new (list ++ payload ∷ []))
+  pub durable : OnOk result (HoldsDurably new (list ++ payload ∷ []))
   pub moments : LeavesOnly old new (HoldsEither list payload)
 
--- Where the closed gate of a settled shelf stands at the end, and the staged bytes are a payload's length, the payload and a
+-- Where the closed gate of a shelf on the disk stands at the end, and the staged bytes are a payload's length, the payload and a
 -- closed gate, the payload is stored.
 abbrev pub StoresStaged : {E : Type 0} → ℕ → List ℕ → DiskShown → DiskShown → Result (Unit {0}) E → Type 0
-StoresStaged end staged old new result = (list : List (List ℕ)) (payload : List ℕ) → IsSettled old list → end ≡ length (shelf_front Two list) → IsSized Two payload
+StoresStaged end staged old new result = (list : List (List ℕ)) (payload : List ℕ) → HoldsDurably old list → end ≡ length (shelf_front Two list) → IsSized Two payload
     → staged ≡ to_be_bytes w32 (length payload) ++ payload ++ 0 ∷ [] → Stores list payload old new result
 
 -- what a stop leaves of a shelf that is being made: an empty file, an empty shelf, or a file that is refused
@@ -52,6 +52,6 @@ AllLeftover shown = (c : List ℕ) → shown.images c → IsLeftover c
 -- A list is brought over to a disk that holds no shelf: after Ok each image stands for it, and at any moment is no shelf
 -- or stands for it. Where each was what a stopped migration may leave, it is that until it stands for the list.
 pub record BringsOver {T E : Type 0} (list : List (List ℕ)) (old new : DiskShown) (result : Result T E) : Type 0 where
-  pub settled : OnOk result (IsSettled new list)
+  pub durable : OnOk result (HoldsDurably new list)
   pub moments : NoneIsShelf old → LeavesOnly old new (IsBroughtOver list)
   pub leftover : AllLeftover old → LeavesOnly old new (IsFilledOrLeftover list)
