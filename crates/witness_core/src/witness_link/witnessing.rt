@@ -90,6 +90,26 @@ pub struct Service<D: Disk, V, G> {
     pub(crate) signer: G,
 }
 
+impl<D: Disk, V, G> Service<D, V, G> {
+    /// The witness, with the verifier and the signer by which it is to serve.
+    pub fn new(witness: Witness<D>, verifier: V, signer: G) -> Service<D, V, G>
+        ensures { result ≡ record { witness = witness; verifier = verifier; signer = signer } }
+    {
+        Service {
+            witness,
+            verifier,
+            signer,
+        }
+    }
+
+    /// The three again.
+    pub fn into_parts(self) -> (Witness<D>, V, G)
+        ensures { result ≡ (self.witness, self.verifier, self.signer) }
+    {
+        (self.witness, self.verifier, self.signer)
+    }
+}
+
 impl<D: Disk, V: Verifier, G: Signer> ServiceView for Service<D, V, G> {
     ghost use Rattle.run_status.specs.RunRecord.Seen.{signer_shown};
     ghost use Rattle.witness_core.specs.WitnessLink.Links.{verifier_shown};

@@ -45,11 +45,7 @@ pub(crate) fn serve_file<O: Outside>(
         let reader = unserved(alloc, Some(source), Some(verifier), Close::SignerFault);
         return end_one(witness, reader, None, old, readers, DoorEnd::none(alloc));
     };
-    let service = Service {
-        witness,
-        verifier,
-        signer,
-    };
+    let service = Service::new(witness, verifier, signer);
     serve_made(alloc, service, source, old, readers, outside)
 }
 
@@ -69,7 +65,7 @@ fn serve_made<O: Outside>(
     ensures no_second { result.second ≡ None }
     ensures serves { ServesAllBy ⟦<O as Viewed>⟧.views ⟦<ServiceOf<O> as ServiceView>⟧.serving source service result.disk
         (⟦<O as Runs>⟧.run outside.old outside.new result) }
-    ensures told { O.shown outside.new ≡ O.shown outside.old }
+    ensures shown { O.shown outside.new ≡ O.shown outside.old }
 {
     let mut service = service;
     let mut source = source;
@@ -104,7 +100,7 @@ fn serve<O: Outside>(
     requires { service.old.witness.broken ≡ false }
     ensures serves { ServesOver ⟦<O as Viewed>⟧.views ⟦<ServiceOf<O> as ServiceView>⟧.serving (O.shown outside.old).limits
         source.old source.new outside.old outside.new service.old service.new result }
-    ensures told { O.shown outside.new ≡ O.shown outside.old }
+    ensures shown { O.shown outside.new ≡ O.shown outside.old }
 {
     let limits = outside.limits();
     serve_link(alloc, service, source, outside.out(), limits)

@@ -67,11 +67,7 @@ pub(crate) fn serve_links<O: Outside>(
     };
     let limits = outside.limits();
     let kept = LinksKept { readers, sinks };
-    let service = Service {
-        witness,
-        verifier,
-        signer,
-    };
+    let service = Service::new(witness, verifier, signer);
     serve_made::<O>(alloc, links.count, door, service, limits, old, kept)
 }
 

@@ -75,11 +75,11 @@ returns-clause-serves g c =
     let says : g.O.Verifier.Verifier.says c.in-Ok-verifier.verifier ≡ before.says c.args.helper.now = next.says ∙ ap (λ says. says c.args.helper.now) first.makes.verdicts in
     let gives : g.O.Signer.Signer.gives c.in-Ok-signer.signer ≡ before.gives c.args.helper.now = last.gives ∙ ap (λ gives. gives c.args.helper.now) (next.makes.signatures ∙ first.makes.signatures) in
     let makes : AreMakings (making Source c.args.name.now false ∷ making Verifier c.args.helper.now false ∷ making Signer c.args.helper.now false ∷ []) before (g.O.Outside.shown c.serve_made.new.outside) =
-    rw c.serve_made.ensures.told (then_made (making Source c.args.name.now false ∷ making Verifier c.args.helper.now false ∷ []) Signer c.args.helper.now false _ _ _ refl refl refl
+    rw c.serve_made.ensures.shown (then_made (making Source c.args.name.now false ∷ making Verifier c.args.helper.now false ∷ []) Signer c.args.helper.now false _ _ _ refl refl refl
     (then_made (making Source c.args.name.now false ∷ []) Verifier c.args.helper.now false _ _ _ refl refl refl
     (one_made Source c.args.name.now _ _ c.in-Ok.source first.makes) (one_made Verifier c.args.helper.now _ _ c.in-Ok-verifier.verifier next.makes))
     (one_made Signer c.args.helper.now _ _ c.in-Ok-signer.signer last.makes)) in
-    serving_all c.serve_made.ensures.serves c.args.helper.now c.args.name.now (g.O.Verifier.Verifier.inquiries c.in-Ok-verifier.verifier) (g.O.Signer.Signer.signings c.in-Ok-signer.signer) before (sink_seen g.O.Sink.Sink.written g.O.Sink.Sink.faults (g.O.Outside.sink c.args.outside.now))
+    serving_all (rw c.new-service.ensures at c.serve_made.ensures.serves) c.args.helper.now c.args.name.now (g.O.Verifier.Verifier.inquiries c.in-Ok-verifier.verifier) (g.O.Signer.Signer.signings c.in-Ok-signer.signer) before (sink_seen g.O.Sink.Sink.written g.O.Sink.Sink.faults (g.O.Outside.sink c.args.outside.now))
     (last.makes.limits ∙ next.makes.limits ∙ first.makes.limits) (rw (last.same_sink, next.same_sink, first.same_sink) refl) (rw (first.holds, first.none_yet) refl)
     (λ i. record { says = says i; inquiries = g.O.Verifier.Verifier.inquiries c.in-Ok-verifier.verifier; faults = next.none_yet i }) next.unasked
     (λ i. record { gives = gives i; signings = g.O.Signer.Signer.signings c.in-Ok-signer.signer; faults = last.none_yet i }) last.unasked makes

@@ -83,7 +83,7 @@ returns-clause-serves g c =
     (then_made (making Door c.args.links.address.now false ∷ []) Verifier c.args.helper.now false _ _ _ refl refl refl
     (one_made Door c.args.links.address.now _ _ c.in-Ok.door first.makes) (one_made Verifier c.args.helper.now _ _ c.in-Ok-verifier.verifier next.makes))
     (one_made Signer c.args.helper.now _ _ c.in-Ok-signer.signer last.makes) in
-    serving_links (c.serve_made.ensures.serves c.args.outside.now after) c.args.helper.now c.args.links.address.now
+    serving_links (rw c.new-service.ensures at c.serve_made.ensures.serves c.args.outside.now after) c.args.helper.now c.args.links.address.now
     (g.O.Verifier.Verifier.inquiries c.in-Ok-verifier.verifier) (g.O.Signer.Signer.signings c.in-Ok-signer.signer)
     (record { core = c.args.witness.core; list = c.args.witness.shelf.list; broken = c.args.witness.broken; disk = c.args.witness.shelf.disk })
     (c.limits-limits.ensures ∙ (last.makes.limits ∙ (next.makes.limits ∙ first.makes.limits)))
