@@ -10,5 +10,6 @@ mod ways;
 
 pub use fault::OpeningFault;
 pub use lines::log_line;
-pub use opened::{NotOpened, Opened};
+pub(crate) use opened::OpeningOf;
+pub use opened::{NotOpened, Opened, OpeningView};
 pub use opening::open_shelf;

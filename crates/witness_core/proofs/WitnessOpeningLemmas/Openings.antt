@@ -24,13 +24,13 @@ rose_on old mid new same (inl rose) = inl (subst (λ (n : ℕ). Rose n new) same
 rose_on old mid new same (inr other) = inr other
 
 -- the disk was made, and synced
-module _ {D : Type 0} (told : D → DiskShown) (limits : Limits) (before mid : OutsideShown) (name : List ℕ) (first synced : D)
-    (makings : AreMakings (making Disk name false ∷ []) before mid) (is_made : IsMade told (before.stored name) first) (keeps : Keeps (told first) (told synced)) where
+module _ {D : Type 0} (shown : D → DiskShown) (limits : Limits) (before mid : OutsideShown) (name : List ℕ) (first synced : D)
+    (makings : AreMakings (making Disk name false ∷ []) before mid) (is_made : IsMade shown (before.stored name) first) (keeps : Keeps (shown first) (shown synced)) where
   -- it alone is handed back
-  module _ (named : Option (List ℕ)) (last : D) (answer : Answer) (answers : Answers limits before name named answer) (becomes : Becomes told before named first last)
-      (kept : (fault : OpeningFault) → answer ≡ Err fault → fault ≢ DiskFault → Keeps (told first) (told last)) where
-    handed_so : (answer ≡ Err DiskFault → Rose 0 (told last).faults) → (answer ≢ Err DiskFault → (told last).faults ≡ 0)
-        → IsOpening told limits before mid name named (Some last) None answer
+  module _ (named : Option (List ℕ)) (last : D) (answer : Answer) (answers : Answers limits before name named answer) (becomes : Becomes shown before named first last)
+      (kept : (fault : OpeningFault) → answer ≡ Err fault → fault ≢ DiskFault → Keeps (shown first) (shown last)) where
+    handed_so : (answer ≡ Err DiskFault → Rose 0 (shown last).faults) → (answer ≢ Err DiskFault → (shown last).faults ≡ 0)
+        → IsOpening shown limits before mid name named (Some last) None answer
     handed_so rose same = record {
       answers = answers;
       makes = inl (record { makings = makings; none_old = refl });
@@ -40,51 +40,51 @@ module _ {D : Type 0} (told : D → DiskShown) (limits : Limits) (before mid : O
       old_stays = tt;
     }
 
-    pub handed : (disk old : Option D) → (told synced).faults ≡ (told first).faults → HandsBack told synced last disk old answer
-        → IsOpening told limits before mid name named disk old answer
+    pub handed : (disk old : Option D) → (shown synced).faults ≡ (shown first).faults → HandsBack shown synced last disk old answer
+        → IsOpening shown limits before mid name named disk old answer
     handed disk old still hands =
         let none = still ∙ is_made.none_yet in
-        subst (λ d. IsOpening told limits before mid name named d old answer) (sym hands.disk_is)
-        (subst (λ o. IsOpening told limits before mid name named (Some last) o answer) (sym hands.none_old)
-        (handed_so (λ e. subst (λ (n : ℕ). Rose n (told last).faults) none (hands.rose e)) (λ other. hands.same other ∙ none)))
+        subst (λ d. IsOpening shown limits before mid name named d old answer) (sym hands.disk_is)
+        (subst (λ o. IsOpening shown limits before mid name named (Some last) o answer) (sym hands.none_old)
+        (handed_so (λ e. subst (λ (n : ℕ). Rose n (shown last).faults) none (hands.rose e)) (λ other. hands.same other ∙ none)))
 
-  stored_is : (told synced).file ≡ before.stored name
+  stored_is : (shown synced).file ≡ before.stored name
   stored_is = keeps.file ∙ is_made.holds
 
-  at_stored : (P : List ℕ → Type 0) → IfSome (told synced).file P → IfSome (before.stored name) P
+  at_stored : (P : List ℕ → Type 0) → IfSome (shown synced).file P → IfSome (before.stored name) P
   at_stored P holds = subst (λ o. IfSome o P) stored_is holds
 
-  module _ (still : (told synced).faults ≡ (told first).faults) where
+  module _ (still : (shown synced).faults ≡ (shown first).faults) where
     -- its file was read
-    pub beside_read : (old_name : List ℕ) (disk old : Option D) (answer : Answer) → IfSome (told first).file (λ file. IsLeftover file → ⊥) → ReadsIt told synced limits disk old answer
-        → IsOpening told limits before mid name (Some old_name) disk old answer
+    pub beside_read : (old_name : List ℕ) (disk old : Option D) (answer : Answer) → IfSome (shown first).file (λ file. IsLeftover file → ⊥) → ReadsIt shown synced limits disk old answer
+        → IsOpening shown limits before mid name (Some old_name) disk old answer
     beside_read old_name disk old answer other reads = handed (Some old_name) reads.last answer
         (if_both (λ file. IsLeftover file → ⊥) (λ file. AnswersRead Two limits file answer) (λ file. AnswersBeside limits file (before.stored old_name) answer) (before.stored name)
         (λ file known read. record { filled = λ leftover. absurd (known leftover); read = λ n. read })
         (subst (λ o. IfSome o (λ file. IsLeftover file → ⊥)) is_made.holds other) (at_stored _ reads.answers))
-        (inl (keeps_both (told first) (told synced) (told reads.last) keeps reads.keeps)) (λ fault e other. keeps_both (told first) (told synced) (told reads.last) keeps reads.keeps)
+        (inl (keeps_both (shown first) (shown synced) (shown reads.last) keeps reads.keeps)) (λ fault e other. keeps_both (shown first) (shown synced) (shown reads.last) keeps reads.keeps)
         disk old still reads.hands
 
-  module _ (durable : IsDurable (told synced)) where
+  module _ (durable : IsDurable (shown synced)) where
     -- it was filled
-    filled_or_stays : (from : Option (List ℕ)) (last : D) → IfSome (told first).file IsLeftover → IsFilledOrStays told synced from last → BecomesBeside told from first last
-    filled_or_stays from last leftover (inl stays) = inl (keeps_both (told first) (told synced) (told last) keeps stays)
+    filled_or_stays : (from : Option (List ℕ)) (last : D) → IfSome (shown first).file IsLeftover → IsFilledOrStays shown synced from last → BecomesBeside shown from first last
+    filled_or_stays from last leftover (inl stays) = inl (keeps_both (shown first) (shown synced) (shown last) keeps stays)
     filled_or_stays from last leftover (inr f) =
         inr (record { leftover = leftover; list = f.0; of = f.1; leaves = record { synced = synced; keeps = keeps; durable = durable; leaves = f.2 } })
 
-    module _ (after : OutsideShown) (old_name : List ℕ) (same : mid.stored ≡ before.stored) (leftover : IfSome (told first).file IsLeftover) where
+    module _ (after : OutsideShown) (old_name : List ℕ) (same : mid.stored ≡ before.stored) (leftover : IfSome (shown first).file IsLeftover) where
       from_before : (P : Option (List ℕ) → Type 0) → P (mid.stored old_name) → P (before.stored old_name)
       from_before P holds = subst (λ (s : List ℕ → Option (List ℕ)). P (s old_name)) same holds
 
-      cause_on : (disk old : Option D) (answer : Answer) → HasCause told mid after disk old answer → HasCause told before after disk old answer
+      cause_on : (disk old : Option D) (answer : Answer) → HasCause shown mid after disk old answer → HasCause shown before after disk old answer
       cause_on disk old answer cause = record {
         rose = λ e. rose_on before.faults mid.faults after.faults (makings.kept refl) (cause.rose e);
         same = λ other. let s = cause.same other in (s.0 ∙ makings.kept refl, s.1, s.2);
       }
 
-      pub filled : (disk old : Option D) (answer : Answer) → FillsIt told synced limits mid after old_name disk old answer
-          → IsOpening told limits before after name (Some old_name) disk old answer
-      filled disk old answer fills = subst (λ d. IsOpening told limits before after name (Some old_name) d old answer) (sym fills.disk_is) (record {
+      pub filled : (disk old : Option D) (answer : Answer) → FillsIt shown synced limits mid after old_name disk old answer
+          → IsOpening shown limits before after name (Some old_name) disk old answer
+      filled disk old answer fills = subst (λ d. IsOpening shown limits before after name (Some old_name) d old answer) (sym fills.disk_is) (record {
         answers = if_map IsLeftover (λ file. AnswersBeside limits file (before.stored old_name) answer) (before.stored name)
             (λ file is. record { filled = λ f. from_before (λ o. IfSome o (λ x. AnswersRead One limits x answer)) fills.answers; read = λ other. absurd (other is) })
             (subst (λ o. IfSome o IsLeftover) is_made.holds leftover);
@@ -93,12 +93,12 @@ module _ {D : Type 0} (told : D → DiskShown) (limits : Limits) (before mid : O
           leftover = subst (λ o. IfSome o IsLeftover) is_made.holds leftover;
           answered = fills.answered;
         });
-        cause = cause_on (Some fills.last) old answer (subst (λ d. HasCause told mid after d old answer) fills.disk_is fills.cause);
+        cause = cause_on (Some fills.last) old answer (subst (λ d. HasCause shown mid after d old answer) fills.disk_is fills.cause);
         leaves = record {
           first = first;
           is_made = is_made;
-          becomes = filled_or_stays (before.stored old_name) fills.last leftover (from_before (λ o. IsFilledOrStays told synced o fills.last) fills.filled);
+          becomes = filled_or_stays (before.stored old_name) fills.last leftover (from_before (λ o. IsFilledOrStays shown synced o fills.last) fills.filled);
         };
-        kept = λ fault e other. record { first = first; is_made = is_made; keeps = keeps_both (told first) (told synced) (told fills.last) keeps (fills.kept fault e other) };
-        old_stays = if_map (OnlyRead told (mid.stored old_name)) (OnlyRead told (before.stored old_name)) old (λ d stays. from_before (λ o. OnlyRead told o d) stays) fills.old_stays;
+        kept = λ fault e other. record { first = first; is_made = is_made; keeps = keeps_both (shown first) (shown synced) (shown fills.last) keeps (fills.kept fault e other) };
+        old_stays = if_map (OnlyRead shown (mid.stored old_name)) (OnlyRead shown (before.stored old_name)) old (λ d stays. from_before (λ o. OnlyRead shown o d) stays) fills.old_stays;
       })

@@ -18,6 +18,17 @@ use Rattle.witness_core.specs.declared.witness_opening.fault.OpeningFault.TheVar
 abbrev pub Answer : Type 0
 Answer = Result (List (List ℕ)) OpeningFault
 
+-- what opening a shelf comes to: the disks that are handed back, of the shelf and of the old one, and what is answered
+pub record Opening (D : Type 0) : Type 0 where
+  pub disk : Option D
+  pub old : Option D
+  pub answer : Answer
+
+-- by the shelf that is open, or by why there is none
+abbrev pub opening_by : {T E D : Type 0} → (T → Opening D) → (E → Opening D) → Result T E → Opening D
+opening_by opened none (Ok shelf) = opened shelf
+opening_by opened none (Err fault) = none fault
+
 -- the file of the version isn't a shelf
 abbrev pub not_a_shelf : Version → ℕ → OpeningFault
 not_a_shelf One place = NotAnOldShelf place
@@ -53,7 +64,7 @@ pub record AnswersBeside (limits : Limits) (file : List ℕ) (old : Option (List
   pub filled : IsLeftover file → IfSome old (λ o. AnswersRead One limits o answer)
   pub read : (IsLeftover file → ⊥) → AnswersRead Two limits file answer
 
--- what is answered by the names of a shelf and of an old one, if any, where the outside tells what their files hold
+-- what is answered by the names of a shelf and of an old one, if any, where the outside shows what their files hold
 abbrev pub Answers : Limits → OutsideShown → List ℕ → Option (List ℕ) → Answer → Type 0
-Answers limits told name None answer = IfSome (told.stored name) (λ file. AnswersAlone limits file answer)
-Answers limits told name (Some old) answer = IfSome (told.stored name) (λ file. AnswersBeside limits file (told.stored old) answer)
+Answers limits shown name None answer = IfSome (shown.stored name) (λ file. AnswersAlone limits file answer)
+Answers limits shown name (Some old) answer = IfSome (shown.stored name) (λ file. AnswersBeside limits file (shown.stored old) answer)

@@ -39,50 +39,50 @@ abbrev pub Makes : {D : Type 0} → OutsideShown → OutsideShown → List ℕ �
 Makes before after name named None old answer = MakesNone before after name old answer
 Makes before after name named (Some disk) old answer = MakesOne before after name old ⊎ IsSomeAnd named (λ n. MakesBoth before after name n old answer)
 
-module _ {D : Type 0} (told : D → DiskShown) where
+module _ {D : Type 0} (shown : D → DiskShown) where
   -- A fault of a disk is answered only where the count of one rose from zero, or where one couldn't be made and the count of
   -- the outside rose. Else each stands as it was.
   pub record HasCause (before after : OutsideShown) (disk old : Option D) (answer : Answer) : Type 0 where
-    pub rose : answer ≡ Err DiskFault → Rose before.faults after.faults ⊎ IsSomeAnd disk (λ d. Rose 0 (told d).faults) ⊎ IsSomeAnd old (λ d. Rose 0 (told d).faults)
-    pub same : answer ≢ Err DiskFault → (after.faults ≡ before.faults) × IfSome disk (λ d. (told d).faults ≡ 0) × IfSome old (λ d. (told d).faults ≡ 0)
+    pub rose : answer ≡ Err DiskFault → Rose before.faults after.faults ⊎ IsSomeAnd disk (λ d. Rose 0 (shown d).faults) ⊎ IsSomeAnd old (λ d. Rose 0 (shown d).faults)
+    pub same : answer ≢ Err DiskFault → (after.faults ≡ before.faults) × IfSome disk (λ d. (shown d).faults ≡ 0) × IfSome old (λ d. (shown d).faults ≡ 0)
 
   -- a disk as it was made of a file
   pub record IsMade (stored : Option (List ℕ)) (disk : D) : Type 0 where
-    pub holds : (told disk).file ≡ stored
-    pub none_yet : (told disk).faults ≡ 0
+    pub holds : (shown disk).file ≡ stored
+    pub none_yet : (shown disk).faults ≡ 0
 
   -- a disk that was made of a file, and since then was only read
   pub record OnlyRead (stored : Option (List ℕ)) (last : D) : Type 0 where
     pub first : D
     pub is_made : IsMade stored first
-    pub keeps : Keeps (told first) (told last)
+    pub keeps : Keeps (shown first) (shown last)
 
   -- A disk that was only read and synced, and from then on was written: whatever a stop leaves has P.
   pub record LeavesSynced (first last : D) (P : List ℕ → Type 0) : Type 0 where
     pub synced : D
-    pub keeps : Keeps (told first) (told synced)
-    pub durable : IsDurable (told synced)
-    pub leaves : LeavesOnly (told synced) (told last) P
+    pub keeps : Keeps (shown first) (shown synced)
+    pub durable : IsDurable (shown synced)
+    pub leaves : LeavesOnly (shown synced) (shown last) P
 
   -- an empty file was made a shelf
   pub record IsBegun (first last : D) : Type 0 where
-    pub empty : IfSome (told first).file (λ file. file ≡ [])
+    pub empty : IfSome (shown first).file (λ file. file ≡ [])
     pub leaves : LeavesSynced first last IsUnfinished
 
   -- A file that is empty, or that a stopped migration left, was filled with the list of an old shelf's file. A stop leaves one of the
   -- whole list, or again what a stopped migration leaves, so that the same words fill it.
   pub record IsFilled (from : Option (List ℕ)) (first last : D) : Type 0 where
-    pub leftover : IfSome (told first).file IsLeftover
+    pub leftover : IfSome (shown first).file IsLeftover
     pub list : List (List ℕ)
     pub of : IfSome from (λ file. Holds One file list)
     pub leaves : LeavesSynced first last (IsFilledOrLeftover list)
 
   -- what becomes of the disk of a shelf: it is only read, but where its file is made a shelf, or is filled
   abbrev pub BecomesAlone : D → D → Type 0
-  BecomesAlone first last = Keeps (told first) (told last) ⊎ IsBegun first last
+  BecomesAlone first last = Keeps (shown first) (shown last) ⊎ IsBegun first last
 
   abbrev pub BecomesBeside : Option (List ℕ) → D → D → Type 0
-  BecomesBeside from first last = Keeps (told first) (told last) ⊎ IsFilled from first last
+  BecomesBeside from first last = Keeps (shown first) (shown last) ⊎ IsFilled from first last
 
   abbrev pub Becomes : OutsideShown → Option (List ℕ) → D → D → Type 0
   Becomes before None first last = BecomesAlone first last

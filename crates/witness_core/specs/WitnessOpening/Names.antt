@@ -1,4 +1,4 @@
--- What an outside tells of names, which no making changes.
+-- What an outside shows of names, which no making changes.
 use Rattle.std.specs.Prelude.{◌≡◌}
 use Rattle.run_status.specs.RunOutside.Shown.{OutsideShown}
 

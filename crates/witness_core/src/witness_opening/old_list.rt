@@ -1,12 +1,12 @@
 //! A file that is filled with the list of an old shelf.
-ghost use Rattle.std.specs.Prelude.{◌≡◌, Some, IfOk, IfSome, MatchResult, Ok, Err};
+ghost use Rattle.std.specs.Prelude.{◌≡◌, IfOk, IfSome};
 ghost use Rattle.shelf_log.specs.KeriDisk.Images.{IsDurable};
 ghost use Rattle.shelf_log.specs.ShelfLog.Leftover.{IsLeftover};
 ghost use Rattle.witness_core.specs.WitnessOpening.Names.{KeepsNames};
 ghost use Rattle.witness_core.specs.WitnessOpening.Opening.{IsOpen};
-ghost use Rattle.witness_core.specs.WitnessOpening.Ways.{FillsIt};
+ghost use Rattle.witness_core.specs.WitnessOpening.Ways.{FillsTo};
 
-use crate::witness_opening::{NotOpened, Opened, OpeningFault};
+use crate::witness_opening::{NotOpened, Opened, OpeningFault, OpeningOf, OpeningView};
 use keri_outside::Limits;
 use run_status::Outside;
 use shelf_log::{OldShelf, Returned, Shelf, Version};
@@ -20,17 +20,14 @@ pub(crate) fn fill<O: Outside>(
     old: &str,
     limits: Limits,
     outside: &mut O,
-) -> Result<Opened<O::Disk>, NotOpened<O::Disk>>
+) -> OpeningOf<O::Disk>
     requires durable { IsDurable (O.Disk.shown disk) }
     requires leftover { IfSome (O.Disk.shown disk).file IsLeftover }
     requires none_yet { (O.Disk.shown disk).faults ≡ 0 }
     ensures is_open { IfOk result (λ opened. IsOpen (O.Disk.shown opened.shelf.disk) limits
         opened.shelf.limits opened.shelf.broken opened.shelf.list) }
-    ensures fills { MatchResult result
-        (λ opened. FillsIt O.Disk.shown disk limits (O.shown outside.old) (O.shown outside.new) old.now
-        (Some opened.shelf.disk) opened.old (Ok opened.shelf.list))
-        (λ none. FillsIt O.Disk.shown disk limits (O.shown outside.old) (O.shown outside.new) old.now
-        none.disk none.old (Err none.fault)) }
+    ensures fills { FillsTo O.Disk.shown disk limits (O.shown outside.old) (O.shown outside.new) old.now
+        (⟦<OpeningOf<O::Disk> as OpeningView>⟧.opening result) }
     ensures same_names { KeepsNames (O.shown outside.old) (O.shown outside.new) }
     ensures same_sink { O.sink outside.new ≡ O.sink outside.old }
 {

@@ -19,6 +19,31 @@ pub struct NotOpened<D> {
     pub old: Option<D>,
 }
 
+/// What opening a shelf comes to.
+pub(crate) type OpeningOf<D> = Result<Opened<D>, NotOpened<D>>;
+
+/// Gives what opening a shelf comes to as one value.
+pub trait OpeningView {
+    ghost use Rattle.witness_core.specs.WitnessOpening.Answers.{Opening};
+
+    /// The disk of a shelf.
+    type Disk;
+
+    /// The disks that are handed back, and what is answered.
+    ghost opening: { Self → Opening Self.Disk };
+}
+
+impl<D: Disk> OpeningView for Result<Opened<D>, NotOpened<D>> {
+    ghost use Rattle.std.specs.Prelude.{Some, Ok, Err};
+    ghost use Rattle.witness_core.specs.WitnessOpening.Answers.{opening_by};
+
+    type Disk = D;
+
+    ghost opening = { opening_by
+        (λ opened. record { disk = Some opened.shelf.disk; old = opened.old; answer = Ok opened.shelf.list })
+        (λ none. record { disk = none.disk; old = none.old; answer = Err none.fault }) };
+}
+
 impl<D: Drop> NotOpened<D> {
     ghost use Rattle.std.specs.Prelude.{None, Some};
     ghost use Rattle.shelf_log.specs.declared.shelf_log.fault.ShelfFault.TheVariants.{Broken};

@@ -1,13 +1,13 @@
 //! Opening a shelf over the outside.
-ghost use Rattle.std.specs.Prelude.{◌≡◌, None, Some, IfOk, MatchResult, Ok, Err};
+ghost use Rattle.std.specs.Prelude.{◌≡◌, None, Some, IfOk};
 ghost use Rattle.std.specs.Option.{option_map};
 ghost use Rattle.witness_core.specs.WitnessOpening.Names.{KeepsNames};
-ghost use Rattle.witness_core.specs.WitnessOpening.Opening.{IsOpen, IsOpening};
+ghost use Rattle.witness_core.specs.WitnessOpening.Opening.{IsOpen, OpensTo};
 
 use crate::witness_opening::file_kind::is_empty;
 use crate::witness_opening::old_list::fill;
 use crate::witness_opening::ways::{begin, read};
-use crate::witness_opening::{NotOpened, Opened};
+use crate::witness_opening::{NotOpened, Opened, OpeningOf, OpeningView};
 use keri_outside::{Failed, Limits};
 use run_status::Outside;
 use shelf_log::is_leftover;
@@ -26,11 +26,8 @@ pub fn open_shelf<O: Outside>(
 ) -> Result<Opened<O::Disk>, NotOpened<O::Disk>>
     ensures is_open { IfOk result (λ opened. IsOpen (O.Disk.shown opened.shelf.disk) limits
         opened.shelf.limits opened.shelf.broken opened.shelf.list) }
-    ensures opens { MatchResult result
-        (λ opened. IsOpening O.Disk.shown limits (O.shown outside.old) (O.shown outside.new) name.now
-        (option_map (λ n. n.now) old.entry) (Some opened.shelf.disk) opened.old (Ok opened.shelf.list))
-        (λ none. IsOpening O.Disk.shown limits (O.shown outside.old) (O.shown outside.new) name.now
-        (option_map (λ n. n.now) old.entry) none.disk none.old (Err none.fault)) }
+    ensures opens { OpensTo O.Disk.shown limits (O.shown outside.old) (O.shown outside.new) name.now
+        (option_map (λ n. n.now) old.entry) (⟦<OpeningOf<O::Disk> as OpeningView>⟧.opening result) }
     ensures same_names { KeepsNames (O.shown outside.old) (O.shown outside.new) }
     ensures same_sink { O.sink outside.new ≡ O.sink outside.old }
 {
@@ -46,14 +43,11 @@ fn open_alone<O: Outside>(
     name: &str,
     limits: Limits,
     outside: &mut O,
-) -> Result<Opened<O::Disk>, NotOpened<O::Disk>>
+) -> OpeningOf<O::Disk>
     ensures is_open { IfOk result (λ opened. IsOpen (O.Disk.shown opened.shelf.disk) limits
         opened.shelf.limits opened.shelf.broken opened.shelf.list) }
-    ensures opens { MatchResult result
-        (λ opened. IsOpening O.Disk.shown limits (O.shown outside.old) (O.shown outside.new) name.now
-        None (Some opened.shelf.disk) opened.old (Ok opened.shelf.list))
-        (λ none. IsOpening O.Disk.shown limits (O.shown outside.old) (O.shown outside.new) name.now
-        None none.disk none.old (Err none.fault)) }
+    ensures opens { OpensTo O.Disk.shown limits (O.shown outside.old) (O.shown outside.new) name.now
+        None (⟦<OpeningOf<O::Disk> as OpeningView>⟧.opening result) }
     ensures same_names { KeepsNames (O.shown outside.old) (O.shown outside.new) }
     ensures same_sink { O.sink outside.new ≡ O.sink outside.old }
 {
@@ -75,14 +69,11 @@ fn open_beside<O: Outside>(
     old: &str,
     limits: Limits,
     outside: &mut O,
-) -> Result<Opened<O::Disk>, NotOpened<O::Disk>>
+) -> OpeningOf<O::Disk>
     ensures is_open { IfOk result (λ opened. IsOpen (O.Disk.shown opened.shelf.disk) limits
         opened.shelf.limits opened.shelf.broken opened.shelf.list) }
-    ensures opens { MatchResult result
-        (λ opened. IsOpening O.Disk.shown limits (O.shown outside.old) (O.shown outside.new) name.now
-        (Some old.now) (Some opened.shelf.disk) opened.old (Ok opened.shelf.list))
-        (λ none. IsOpening O.Disk.shown limits (O.shown outside.old) (O.shown outside.new) name.now
-        (Some old.now) none.disk none.old (Err none.fault)) }
+    ensures opens { OpensTo O.Disk.shown limits (O.shown outside.old) (O.shown outside.new) name.now
+        (Some old.now) (⟦<OpeningOf<O::Disk> as OpeningView>⟧.opening result) }
     ensures same_names { KeepsNames (O.shown outside.old) (O.shown outside.new) }
     ensures same_sink { O.sink outside.new ≡ O.sink outside.old }
 {

@@ -1,25 +1,19 @@
 //! A shelf on a disk that was synced.
-ghost use Rattle.std.specs.Prelude.{◌≡◌, [], List, ℕ, Some, IfOk, MatchResult, Ok, Err};
+ghost use Rattle.std.specs.Prelude.{◌≡◌, [], List, ℕ, IfOk};
 ghost use Rattle.witness_core.specs.WitnessOpening.Opening.{IsOpen};
-ghost use Rattle.witness_core.specs.WitnessOpening.Ways.{BeginsIt, ReadsIt};
+ghost use Rattle.witness_core.specs.WitnessOpening.Ways.{BeginsTo, ReadsTo};
 
-use crate::witness_opening::{NotOpened, Opened};
+use crate::witness_opening::{NotOpened, Opened, OpeningOf, OpeningView};
 use keri_outside::Limits;
 use shelf_log::{Disk, Shelf};
 use std::alloc::Global;
 
 /// Makes an empty file a shelf.
-pub(crate) fn begin<D: Disk + Drop>(
-    alloc: Global,
-    disk: D,
-    limits: Limits,
-) -> Result<Opened<D>, NotOpened<D>>
+pub(crate) fn begin<D: Disk + Drop>(alloc: Global, disk: D, limits: Limits) -> OpeningOf<D>
     requires { (c : List ℕ) → (D.shown disk).images c → c ≡ [] }
     ensures is_open { IfOk result (λ opened. IsOpen (D.shown opened.shelf.disk) limits
         opened.shelf.limits opened.shelf.broken opened.shelf.list) }
-    ensures begins { MatchResult result
-        (λ opened. BeginsIt D.shown disk (Some opened.shelf.disk) opened.old (Ok opened.shelf.list))
-        (λ none. BeginsIt D.shown disk none.disk none.old (Err none.fault)) }
+    ensures begins { BeginsTo D.shown disk (⟦<OpeningOf<D> as OpeningView>⟧.opening result) }
 {
     match Shelf::create(alloc, disk, limits) {
         Ok(shelf) => Ok(Opened { shelf, old: None }),
@@ -28,16 +22,10 @@ pub(crate) fn begin<D: Disk + Drop>(
 }
 
 /// Reads a file as a shelf.
-pub(crate) fn read<D: Disk + Drop>(
-    alloc: Global,
-    disk: D,
-    limits: Limits,
-) -> Result<Opened<D>, NotOpened<D>>
+pub(crate) fn read<D: Disk + Drop>(alloc: Global, disk: D, limits: Limits) -> OpeningOf<D>
     ensures is_open { IfOk result (λ opened. IsOpen (D.shown opened.shelf.disk) limits
         opened.shelf.limits opened.shelf.broken opened.shelf.list) }
-    ensures reads { MatchResult result
-        (λ opened. ReadsIt D.shown disk limits (Some opened.shelf.disk) opened.old (Ok opened.shelf.list))
-        (λ none. ReadsIt D.shown disk limits none.disk none.old (Err none.fault)) }
+    ensures reads { ReadsTo D.shown disk limits (⟦<OpeningOf<D> as OpeningView>⟧.opening result) }
 {
     match Shelf::read_back(alloc, disk, limits) {
         Ok(shelf) => Ok(Opened { shelf, old: None }),
