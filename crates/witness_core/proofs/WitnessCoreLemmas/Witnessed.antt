@@ -30,13 +30,13 @@ use Rattle.witness_core.proofs.WitnessCoreLemmas.Starting.{started}
 use Rattle.witness_core.proofs.WitnessStoreLemmas.Stored.{payloads_all}
 
 -- STORED: what is stored is listed
-pub are_listed : (core : CoreView) (list : List (List ℕ)) (limits : Limits) (broken : Bool) (told : DiskShown) (room : Room) → All (λ b. IsKept b.event) (accepted_by core)
-    → AreStored (history_of core) list limits broken told room → AreListed core list
-are_listed core list limits broken told room all stored = subst (AreListed core) (payloads_all (history_of core) list stored.all) (listed core list all stored.on_way)
+pub are_listed : (core : CoreView) (list : List (List ℕ)) (limits : Limits) (broken : Bool) (shown : DiskShown) (room : Room) → All (λ b. IsKept b.event) (accepted_by core)
+    → AreStored (history_of core) list limits broken shown room → AreListed core list
+are_listed core list limits broken shown room all stored = subst (AreListed core) (payloads_all (history_of core) list stored.all) (listed core list all stored.on_way)
 
 -- and reads as the accepted events
-pub reads_again : (core : CoreView) (list : List (List ℕ)) (limits : Limits) (broken : Bool) (told : DiskShown) (room : Room) → AreStored (history_of core) list limits broken told room → ReadsAgain core list
-reads_again core list limits broken told room stored =
+pub reads_again : (core : CoreView) (list : List (List ℕ)) (limits : Limits) (broken : Bool) (shown : DiskShown) (room : Room) → AreStored (history_of core) list limits broken shown room → ReadsAgain core list
+reads_again core list limits broken shown room stored =
     stored.on_way.read ∙ ap (λ n. map (λ (b : Body). b.bytes) (take n (accepted_by core))) stored.all ∙ ap (map (λ (b : Body). b.bytes)) (take_all (length (accepted_by core)) (accepted_by core) (omega arith))
 
 -- and goes on so
@@ -80,9 +80,9 @@ module _ (S : Type 0) where
 pub full_untold : (says : Key → List ℕ → Sig → Option Bool) (old : CoreView) (m : Message) (fault : WitnessFault) (new : CoreView) → TellsFault says old m fault new → fault ≡ LimitReached → IsUntold old new
 full_untold says old m fault new tells is = subst (λ (f : WitnessFault). TellsFault says old m f new) is tells
 
--- STARTED: the list of a shelf that is not broken
-pub durable_holds : (told : DiskShown) (list : List (List ℕ)) → HoldsDurably told list → AllHold told list
-durable_holds told list durable = λ c now. subst (λ (o : Option (List ℕ)). IfSome o (λ file. Holds Two file list)) (durable.0 c now) durable.1
+-- STARTED: a settled shelf's list
+pub durable_holds : (shown : DiskShown) (list : List (List ℕ)) → HoldsDurably shown list → AllHold shown list
+durable_holds shown list durable = λ c now. subst (λ (o : Option (List ℕ)). IfSome o (λ file. Holds Two file list)) (durable.0 c now) durable.1
 
 pub started_stored : (core : CoreView) (list : List (List ℕ)) (limits shelf_limits : Limits) (broken : Bool) (disk : DiskShown) (room : Room) → IsStarted limits list core → IsFirstRoom core room → length list ≤ shelf_limits.records
     → broken ≡ false → AllHold disk list → AreStored (history_of core) list shelf_limits broken disk room

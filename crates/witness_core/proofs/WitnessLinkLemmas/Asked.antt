@@ -71,8 +71,8 @@ calls_close terms old [] new are none = ap (λ (s : Standing). open_of s.core) a
 calls_close terms old (call ∷ calls) new are none =
     calls_close terms call.behind calls new are.1 (fate_closes terms.says old.core call.message call.fate call.behind.core are.0.tells none)
 
-pub untold_asked : (told : Option (List Inquiry)) (core : CoreView) → AsksVerdicts told told core core
-untold_asked told core = untold_asks told core core (untold_itself core)
+pub untold_asked : (shown : Option (List Inquiry)) (core : CoreView) → AsksVerdicts shown shown core core
+untold_asked shown core = untold_asks shown core core (untold_itself core)
 
 -- ASKED: the verifier was asked, up to where no question is open, and then further
 pub asks_on : (before mid now : Option (List Inquiry)) (old middle new : CoreView) → AsksVerdicts before mid old middle → open_of middle ≡ [] → AsksVerdicts mid now middle new
@@ -91,7 +91,7 @@ asks_on before mid now old middle new first none later =
           ap (λ more. earlier ++ more) asked.1.2 ∙ (sym (append_assoc earlier (inquiries_in later.0) last)
               ∙ ap (λ heard. heard ++ last) (sym (flat_map-append inquiry_in first.0 later.0))),
         ),
-        asked.2 ∙ (ap (λ told. after told asked.0) (all_heard before mid first.0 (open_of middle) none first.2) ∙ after-append before earlier asked.0),
+        asked.2 ∙ (ap (λ shown. after shown asked.0) (all_heard before mid first.0 (open_of middle) none first.2) ∙ after-append before earlier asked.0),
       ),
     )
 

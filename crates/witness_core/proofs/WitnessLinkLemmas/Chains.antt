@@ -39,7 +39,7 @@ texts_more calls more =
 module _ (first mid new : LinkShown) (a : Serves first mid) (on : GoesOn first mid a) where
   wrote_more : (more : List Call) → Wrote mid new more → Wrote first new (a.calls ++ more)
   wrote_more more w =
-      w ∙ ap (λ told. after told (text_of (receipts_in more))) on.wrote
+      w ∙ ap (λ shown. after shown (text_of (receipts_in more))) on.wrote
       ∙ after-append first.written (text_of (receipts_in a.calls)) (text_of (receipts_in more))
       ∙ ap (after first.written) (sym (texts_more a.calls more))
 
@@ -51,7 +51,7 @@ module _ (first mid new : LinkShown) (a : Serves first mid) (on : GoesOn first m
       let key = first.witness.key in
       let due = signings_in key first.witness.core a.calls in
       let same : signings_in mid.witness.key mid.witness.core more ≡ signings_in key a.behind.core more = λ i. signings_in (same_key i) (sym on.now i).core more in
-      ap (λ told. after told (signings_in mid.witness.key mid.witness.core more)) on.signed
+      ap (λ shown. after shown (signings_in mid.witness.key mid.witness.core more)) on.signed
       ∙ after-append first.signings due (signings_in mid.witness.key mid.witness.core more)
       ∙ ap (λ l. after first.signings (due ++ l)) same
       ∙ ap (after first.signings) (sym (signings_more (terms_of first) (standing_of first.witness) a.calls a.behind more a.taken))
@@ -105,7 +105,7 @@ module _ (first mid new : LinkShown) (a : Serves first mid) (on : GoesOn first m
     unfolding serves_more
     fails_more why last f = record {
       fails = subst (λ t. FailsAt t b.behind last new.witness why) a.same_terms f.fails;
-      signed = subst (λ told. AsksSigner first.witness.key b.behind.core new.witness.core last told new.signings (Err why)) (signed_more b.calls)
+      signed = subst (λ shown. AsksSigner first.witness.key b.behind.core new.witness.core last shown new.signings (Err why)) (signed_more b.calls)
           (subst (λ (key : Key). AsksSigner key b.behind.core new.witness.core last (signed_for mid b.calls) new.signings (Err why)) same_key f.signed);
       stored_where_asked = ⊎_elim (λ none. inl (none ∙ signed_more b.calls)) inr f.stored_where_asked;
       wrote = wrote_more b.calls f.wrote;
@@ -123,7 +123,7 @@ module _ (first mid new : LinkShown) (a : Serves first mid) (on : GoesOn first m
           all = ap (λ l. a.calls ++ l) p.all ∙ sym (append_assoc a.calls p.earlier (p.last ∷ []));
           signed = p.signed ∙ signed_more b.calls;
           count = p.count;
-          wrote = p.wrote ∙ ap (λ told. after told (text_of (receipts_in p.earlier) ++ part)) on.wrote
+          wrote = p.wrote ∙ ap (λ shown. after shown (text_of (receipts_in p.earlier) ++ part)) on.wrote
               ∙ after-append first.written (text_of (receipts_in a.calls)) (text_of (receipts_in p.earlier) ++ part)
               ∙ ap (after first.written) (sym (append_assoc (text_of (receipts_in a.calls)) (text_of (receipts_in p.earlier)) part) ∙ ap (λ l. l ++ part) (sym (texts_more a.calls p.earlier)));
           rose = subst (λ n. Rose n new.sink_faults) on.sink_same p.rose;

@@ -20,7 +20,7 @@ use Rattle.run_status.specs.declared.run_status.close.Close.TheVariants.{End, Ba
 use Rattle.witness_core.specs.declared.witness_store.witness_fault.WitnessFault.{WitnessFault}
 use Rattle.witness_core.specs.declared.witness_store.witness_fault.WitnessFault.TheVariants as fault
 use Rattle.witness_core.specs.WitnessLink.Calls.{Call, messages_in, receipts_in}
-use Rattle.witness_core.specs.WitnessLink.Links.{LinkShown, ServiceShown, terms_of, told_of_link}
+use Rattle.witness_core.specs.WitnessLink.Links.{LinkShown, ServiceShown, terms_of, shown_of_link}
 use Rattle.witness_core.specs.WitnessLink.Offered.{Finishes, HasStopped, HasTaken, LendsSame, link_shown}
 use Rattle.witness_core.specs.WitnessLink.Served.{ClosesLink, ReadsAll, ServesLink, StopsAtNext}
 use Rattle.witness_core.specs.WitnessLink.Serving.{GoesOn, HasEnded, HasServed, Serves, StopsTaking}
@@ -108,8 +108,8 @@ module _ (limits : Limits) (source_old source_new : SourceShown) (old new : Link
 
 module _ {W K : Type 0} (service_seen : W → ServiceShown) (written : K → Option (List ℕ)) (sink_faults : K → ℕ)
     (limits : Limits) (source_old source_new : SourceShown) (first middle new : Link W K) where
-  abbrev told : Link W K → LinkShown
-  told link = link_shown service_seen written sink_faults link
+  abbrev shown : Link W K → LinkShown
+  shown link = link_shown service_seen written sink_faults link
 
   abbrev Taken : Link W K → Link W K → List Message → Type 0
   Taken = HasTaken service_seen written sink_faults
@@ -119,50 +119,50 @@ module _ {W K : Type 0} (service_seen : W → ServiceShown) (written : K → Opt
 
   -- what was served, without what lends it
   either : (close now : Close) (served : List Message) → (Taken first new served × (now ≡ close)) ⊎ Stopped first new now served
-      → (HasServed (told first) (told new) served × (now ≡ close)) ⊎ HasEnded (told first) (told new) now served
+      → (HasServed (shown first) (shown new) served × (now ≡ close)) ⊎ HasEnded (shown first) (shown new) now served
   either close now served (inl t) = inl (t.0.served, t.1)
   either close now served (inr s) = inr s.ended
 
   -- nothing has changed since the source was read
-  unmoved : (close now : Close) → now ≡ close → new ≡ middle → ServesLink limits source_old source_new (told first) (told middle) close → ServesLink limits source_old source_new (told first) (told new) now
+  unmoved : (close now : Close) → now ≡ close → new ≡ middle → ServesLink limits source_old source_new (shown first) (shown middle) close → ServesLink limits source_old source_new (shown first) (shown new) now
   unmoved close now same kept s =
-      subst (ServesLink limits source_old source_new (told first) (told new)) (sym same) (subst (λ link. ServesLink limits source_old source_new (told first) (told link) close) (sym kept) s)
+      subst (ServesLink limits source_old source_new (shown first) (shown new)) (sym same) (subst (λ link. ServesLink limits source_old source_new (shown first) (shown link) close) (sym kept) s)
 
   -- CLOSED: a link was served
   pub link_closed : (source_close : FeedClose Close) (now : Close) (last : Option Message)
       → Feeds (Taken first) (Stopped first) limits source_old.left source_new.left source_old.faults source_new.faults middle source_close last
       → Finishes service_seen written sink_faults source_close last middle new now
-      → ServesLink limits source_old source_new (told first) (told new) now
+      → ServesLink limits source_old source_new (shown first) (shown new) now
   link_closed feed.End now last f e =
-      link_read limits source_old source_new (told first) (told new) f.fed f.reading f.items f.stream feed.End End now (f.answered ++ all_of last)
+      link_read limits source_old source_new (shown first) (shown new) f.fed f.reading f.items f.stream feed.End End now (f.answered ++ all_of last)
       (either End now (f.answered ++ all_of last) (e first f.answered f.takes)) f.all (at_end f.reading f.closes.2) f.closes f.closes.0 (λ s c. c)
   link_closed (feed.Bad bad) now last f e =
-      link_read limits source_old source_new (told first) (told new) f.fed f.reading f.items f.stream (feed.Bad bad) (Bad bad) now (f.answered ++ all_of last)
+      link_read limits source_old source_new (shown first) (shown new) f.fed f.reading f.items f.stream (feed.Bad bad) (Bad bad) now (f.answered ++ all_of last)
       (either (Bad bad) now (f.answered ++ all_of last) (e first f.answered f.takes)) f.all (at_bad source_new.left f.reading bad f.closes.1) f.closes f.closes.0 (λ s c. c)
   link_closed feed.ReadFault now last f e =
-      link_read limits source_old source_new (told first) (told new) f.fed f.reading f.items f.stream feed.ReadFault ReadFault now (f.answered ++ all_of last)
+      link_read limits source_old source_new (shown first) (shown new) f.fed f.reading f.items f.stream feed.ReadFault ReadFault now (f.answered ++ all_of last)
       (either ReadFault now (f.answered ++ all_of last) (e first f.answered f.takes)) f.all (rw f.closes.2 tt) f.closes f.closes.0 (λ s c. c)
   link_closed feed.LimitReached now last f e =
       let h = f.takes.served in
       let are = h.messages_are in
       let made : messages_in h.serves.calls ++ all_of last ≡ messages limits.message_signatures f.items = ap (λ l. l ++ all_of last) are ∙ f.all in
       unmoved LimitReached now e.0 e.1
-      (link_by limits source_old source_new (told first) (told middle) LimitReached h.serves f.fed (f.closes.0.more ∷ []) f.closes.0.gave f.stream.few
+      (link_by limits source_old source_new (shown first) (shown middle) LimitReached h.serves f.fed (f.closes.0.more ∷ []) f.closes.0.gave f.stream.few
       (first_of limits f.fed f.reading f.items f.stream (messages_in h.serves.calls) (all_of last) made (λ none. rw f.closes.0.unfinished_item tt))
       (inl (record { reading = f.reading; items = f.items; stream = f.stream; closes = f.closes; last = last; all = made }, h.goes_on)))
   link_closed feed.OutOfMemory now last f e = unmoved OutOfMemory now e.0 e.1 (out last f.begun f.all)
     where
       out : (last : Option Message) → (last ≡ None → messages limits.message_signatures f.items ≡ []) → f.answered ++ all_of last ≡ messages limits.message_signatures f.items
-          → ServesLink limits source_old source_new (told first) (told middle) OutOfMemory
+          → ServesLink limits source_old source_new (shown first) (shown middle) OutOfMemory
       out (Some message) begun all =
           let h = f.takes.served in
-          link_by limits source_old source_new (told first) (told middle) OutOfMemory h.serves f.fed f.closes.0 f.closes.1 f.stream.few
+          link_by limits source_old source_new (shown first) (shown middle) OutOfMemory h.serves f.fed f.closes.0 f.closes.1 f.stream.few
           (first_of limits f.fed f.reading f.items f.stream (messages_in h.serves.calls) (message ∷ []) (ap (λ l. l ++ message ∷ []) h.messages_are ∙ all) (λ e. cc)) (inl h.goes_on)
       out None begun all =
           let nothing : f.answered ≡ [] = sym (append-nil f.answered) ∙ (all ∙ begun refl) in
-          link_out limits source_old source_new (told first) (told middle) (f.fed ++ f.closes.0) (subst (HasServed (told first) (told middle)) nothing f.takes.served) f.closes.1
+          link_out limits source_old source_new (shown first) (shown middle) (f.fed ++ f.closes.0) (subst (HasServed (shown first) (shown middle)) nothing f.takes.served) f.closes.1
   link_closed (feed.Stopped stop) now last f e = unmoved stop now e.0 e.1
-      (link_ended limits source_old source_new (told first) (told middle) f.fed f.reading f.items f.stream f.answered (all_of last) f.all
+      (link_ended limits source_old source_new (shown first) (shown middle) f.fed f.reading f.items f.stream f.answered (all_of last) f.all
       (λ none earlier m is. absurd (some_open last f.answered none earlier m is f.begun f.all)) f.closes stop f.takes.ended)
 
   lent : {close now : Close} {served : List Message} → (Taken first new served × (now ≡ close)) ⊎ Stopped first new now served → LendsSame first new
@@ -182,8 +182,8 @@ module _ {W K : Type 0} (service_seen : W → ServiceShown) (written : K → Opt
 
 -- nothing was noted before
 pub from_none : (limits : Limits) (source_old source_new : SourceShown) (service : ServiceShown) (sink : SinkShown) (refused : List Refusal) (seen : List Digest) (new : LinkShown) (close : Close) → refused ≡ [] → seen ≡ []
-    → ServesLink limits source_old source_new (told_of_link service sink refused seen) new close
-    → ServesLink limits source_old source_new (told_of_link service sink [] []) new close
+    → ServesLink limits source_old source_new (shown_of_link service sink refused seen) new close
+    → ServesLink limits source_old source_new (shown_of_link service sink [] []) new close
 from_none limits source_old source_new service sink refused seen new close none_refused none_seen s =
-    subst (λ l. ServesLink limits source_old source_new (told_of_link service sink [] l) new close) none_seen
-    (subst (λ l. ServesLink limits source_old source_new (told_of_link service sink l seen) new close) none_refused s)
+    subst (λ l. ServesLink limits source_old source_new (shown_of_link service sink [] l) new close) none_seen
+    (subst (λ l. ServesLink limits source_old source_new (shown_of_link service sink l seen) new close) none_refused s)

@@ -14,8 +14,8 @@ use Rattle.witness_core.specs.declared.witness_link.link.Link.{Link}
 use Rattle.witness_core.proofs.WitnessLinkLemmas.Chains.{ended_more, served_more, served_none}
 
 module _ {W K : Type 0} (service_seen : W → ServiceShown) (written : K → Option (List ℕ)) (sink_faults : K → ℕ) where
-  abbrev told : Link W K → LinkShown
-  told link = link_shown service_seen written sink_faults link
+  abbrev shown : Link W K → LinkShown
+  shown link = link_shown service_seen written sink_faults link
 
   abbrev Taken : Link W K → Link W K → List Message → Type 0
   Taken first now messages = HasTaken service_seen written sink_faults first now messages
@@ -29,7 +29,7 @@ module _ {W K : Type 0} (service_seen : W → ServiceShown) (written : K → Opt
       → IsLawfulList (service_seen link.service.now).witness.list → KnowsNow (service_seen link.service.now).witness.disk → Taken link link []
   taken_none link whole stand lawful knows = record {
     same = record { service = refl; sink = refl; notes = refl };
-    served = served_none (told link) whole stand lawful knows;
+    served = served_none (shown link) whole stand lawful knows;
   }
 
   module _ (m : Message) (now new : Link W K) (same : LendsSame now new) where
@@ -37,20 +37,20 @@ module _ {W K : Type 0} (service_seen : W → ServiceShown) (written : K → Opt
     same_more first was = record { service = same.service ∙ was.service; sink = same.sink ∙ was.sink; notes = same.notes ∙ was.notes }
 
     -- the clauses of a taker
-    pub takes_ok : (result : Result (Unit {0}) Close) → ((service_seen now.service.now).witness.broken ≡ false → ServesOne m result (told now) (told new))
+    pub takes_ok : (result : Result (Unit {0}) Close) → ((service_seen now.service.now).witness.broken ≡ false → ServesOne m result (shown now) (shown new))
         → OnOk result ((first : Link W K) (before : List Message) → Taken first now before → Taken first new (before ++ m ∷ []))
     takes_ok (Ok done) serves = λ first before taken. record {
       same = same_more first taken.same;
-      served = served_more (told first) (told now) (told new) before (m ∷ []) taken.served (serves taken.served.goes_on.is_whole.whole);
+      served = served_more (shown first) (shown now) (shown new) before (m ∷ []) taken.served (serves taken.served.goes_on.is_whole.whole);
     }
     takes_ok (Err stop) serves = tt
 
-    pub takes_err : (result : Result (Unit {0}) Close) → ((service_seen now.service.now).witness.broken ≡ false → ServesOne m result (told now) (told new))
+    pub takes_err : (result : Result (Unit {0}) Close) → ((service_seen now.service.now).witness.broken ≡ false → ServesOne m result (shown now) (shown new))
         → IfErr result (λ stop. (first : Link W K) (before : List Message) → Taken first now before → Stopped first new stop (before ++ m ∷ []))
     takes_err (Ok done) serves = tt
     takes_err (Err stop) serves = λ first before taken. record {
       same = same_more first taken.same;
-      ended = ended_more (told first) (told now) (told new) stop before (m ∷ []) taken.served (serves taken.served.goes_on.is_whole.whole);
+      ended = ended_more (shown first) (shown now) (shown new) stop before (m ∷ []) taken.served (serves taken.served.goes_on.is_whole.whole);
     }
 
   -- what is the same all along

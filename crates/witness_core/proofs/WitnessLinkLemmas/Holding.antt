@@ -44,13 +44,13 @@ use Rattle.witness_core.specs.WitnessLink.Links.{Terms}
 use Rattle.witness_core.specs.WitnessLink.Stored.{HasEvent, HoldsAccepted, IsOfListed}
 
 -- each image stands for the list
-pub stored_stand : (h : History) (list : List (List ℕ)) (limits : Limits) (broken : Bool) (told : DiskShown) (room : Room) → AreStored h list limits broken told room → AllStand told list list
-stored_stand h list limits broken told room stored = λ c now. subst (λ a. HoldsFirst list a c) (append-nil list) (first_held list [] c (stored.holds c now))
+pub stored_stand : (h : History) (list : List (List ℕ)) (limits : Limits) (broken : Bool) (shown : DiskShown) (room : Room) → AreStored h list limits broken shown room → AllStand shown list list
+stored_stand h list limits broken shown room stored = λ c now. subst (λ a. HoldsFirst list a c) (append-nil list) (first_held list [] c (stored.holds c now))
 
 -- which lists the accepted events
-pub stored_listed : (core : CoreView) (list : List (List ℕ)) (limits : Limits) (broken : Bool) (told : DiskShown) (room : Room) → All (λ b. IsKept b.event) (accepted_by core)
-    → AreStored (history_of core) list limits broken told room → AreListed core list
-stored_listed core list limits broken told room keeps stored = subst (AreListed core) (payloads_all (history_of core) list stored.all) (listed core list keeps stored.on_way)
+pub stored_listed : (core : CoreView) (list : List (List ℕ)) (limits : Limits) (broken : Bool) (shown : DiskShown) (room : Room) → All (λ b. IsKept b.event) (accepted_by core)
+    → AreStored (history_of core) list limits broken shown room → AreListed core list
+stored_listed core list limits broken shown room keeps stored = subst (AreListed core) (payloads_all (history_of core) list stored.all) (listed core list keeps stored.on_way)
 
 -- a payload begins with its text
 text_with : (payload : List ℕ) (are : Bool) (n : ℕ) → (rest : List ℕ) × (payload ≡ (if are then take n payload else []) ++ rest)
@@ -112,9 +112,9 @@ pub all_kept : (core : CoreView) → Stands core → ((event : Event) (bytes : L
 all_kept core stands spelled = All-weaker IsHeld (λ b. IsKept b.event) (λ b held. spelled b.event b.bytes held.spelled) (accepted_by core) (all_held core stands)
 
 -- and so it has each accepted event
-pub stored_accepted : (core : CoreView) (list : List (List ℕ)) (limits : Limits) (broken : Bool) (told : DiskShown) (room : Room) → All (λ b. IsKept b.event) (accepted_by core)
-    → AreStored (history_of core) list limits broken told room → Stands core → HoldsAccepted core list
-stored_accepted core list limits broken told room keeps stored stands =
+pub stored_accepted : (core : CoreView) (list : List (List ℕ)) (limits : Limits) (broken : Bool) (shown : DiskShown) (room : Room) → All (λ b. IsKept b.event) (accepted_by core)
+    → AreStored (history_of core) list limits broken shown room → Stands core → HoldsAccepted core list
+stored_accepted core list limits broken shown room keeps stored stands =
     let way = stored.on_way in
     let base = base_of core in
     let so = are_so core.mode base (told_of core) keeps in

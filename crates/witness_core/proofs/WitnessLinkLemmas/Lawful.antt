@@ -115,15 +115,15 @@ lawful_list core list stands keeps grown listed b c has has' level =
     x_same ∙ ap (λ (z : Body). z.bytes) (one_level log log_grown x.event y.event x.inside y.inside levels) ∙ sym y_same
 
 -- SOUND: so it is with what is stored, whatever else is seen of the witness
-pub sound : (core : CoreView) (list : List (List ℕ)) (shelf_limits : Limits) (shelf_broken : Bool) (told : DiskShown) (room : Room) → AreStored (history_of core) list shelf_limits shelf_broken told room
-    → Stands core → All (λ b. IsKept b.event) (accepted_by core) → (key : Key) (limits : Limits) (broken : Bool) → IsSound (record { key = key; limits = limits; core = core; list = list; disk = told; broken = broken })
-sound core list shelf_limits shelf_broken told room stored stands keeps key limits broken =
-    let listed = stored_listed core list shelf_limits shelf_broken told room keeps stored in
-    let read = reads_again core list shelf_limits shelf_broken told room stored in
+pub sound : (core : CoreView) (list : List (List ℕ)) (shelf_limits : Limits) (shelf_broken : Bool) (shown : DiskShown) (room : Room) → AreStored (history_of core) list shelf_limits shelf_broken shown room
+    → Stands core → All (λ b. IsKept b.event) (accepted_by core) → (key : Key) (limits : Limits) (broken : Bool) → IsSound (record { key = key; limits = limits; core = core; list = list; disk = shown; broken = broken })
+sound core list shelf_limits shelf_broken shown room stored stands keeps key limits broken =
+    let listed = stored_listed core list shelf_limits shelf_broken shown room keeps stored in
+    let read = reads_again core list shelf_limits shelf_broken shown room stored in
     record {
-      stand = stored_stand (history_of core) list shelf_limits shelf_broken told room stored;
+      stand = stored_stand (history_of core) list shelf_limits shelf_broken shown room stored;
       listed = listed;
-      holds = stored_accepted core list shelf_limits shelf_broken told room keeps stored stands;
+      holds = stored_accepted core list shelf_limits shelf_broken shown room keeps stored stands;
       lawful = lawful_list core list stands keeps stored.grown listed;
       read = read;
       starts = starts_again core list stands stored.grown read;

@@ -54,7 +54,7 @@ module _ (old new : LinkShown) (m : Message) (stores : StoresOn old.witness.list
     unfolding serves_nothing
     fails_so why fails counted signed stored = record {
       fails = fails;
-      signed = subst (λ told. AsksSigner old.witness.key old.witness.core new.witness.core m told new.signings (Err why)) (after-nil old.signings) signed;
+      signed = subst (λ shown. AsksSigner old.witness.key old.witness.core new.witness.core m shown new.signings (Err why)) (after-nil old.signings) signed;
       stored_where_asked = ⊎_elim (λ none. inl (none ∙ after-nil old.signings)) inr stored;
       wrote = written_same ∙ after-nil old.written;
       counted = counted;

@@ -18,7 +18,7 @@ use Rattle.witness_core.specs.declared.witness_core.outcome.Outcome.{Outcome}
 use Rattle.witness_core.specs.declared.witness_store.witness_fault.WitnessFault.{WitnessFault}
 use Rattle.witness_core.specs.declared.witness_store.witness_fault.WitnessFault.TheVariants.{DiskFault, SignerFault, VerifierFault, LimitReached, Broken, OutOfMemory}
 use Rattle.witness_core.proofs.WitnessStoreLemmas.Entries.{history_same}
-use Rattle.witness_core.specs.WitnessLink.Links.{WitnessTold, counts, terms_with}
+use Rattle.witness_core.specs.WitnessLink.Links.{WitnessShown, counts, terms_with}
 use Rattle.witness_core.specs.WitnessLink.Taking.{IsWhole, TakesMessage}
 
 -- a message that is turned away still is where nothing more was told and stored
@@ -31,7 +31,7 @@ turned_then limits old new list list_then m away untold same =
     = λ i. is_full (untold.follows.limits i) (untold.follows.bodies i) (untold.told i) b claims || lacks_room limits (history i) (same i) b claims in
     record { event = away.event; judged = away.judged; no_receipt = away.no_receipt; full = still ∙ away.full }
 
-module _ (old new : WitnessTold) (says : Key → List ℕ → Sig → Option Bool) (gives : Key → List ℕ → Option Sig) (m : Message) (verifier verifier_then signer signer_then : ℕ) where
+module _ (old new : WitnessShown) (says : Key → List ℕ → Sig → Option Bool) (gives : Key → List ℕ → Option Sig) (m : Message) (verifier verifier_then signer signer_then : ℕ) where
   abbrev Away : Type 0
   Away = IsTurnedAway old.limits old.core old.list m
 

@@ -92,12 +92,12 @@ taken_behind E left (Some old) (Some mid) (Some new) held caller taken comes =
           ∙ (ap (λ y. map (λ bytes. Some bytes) taken.0 ++ y ∷ []) comes.2 ∙ sym (map-append (λ bytes. Some bytes) taken.0 (comes.0 ∷ []))),
     )
 
-module _ {D : Type 0} (told : D → DiskShown) (key : Key) (limits run_limits : Limits) (says : Key → List ℕ → Sig → Option Bool) (gives : Key → List ℕ → Option Sig) where
+module _ {D : Type 0} (shown : D → DiskShown) (key : Key) (limits run_limits : Limits) (says : Key → List ℕ → Sig → Option Bool) (gives : Key → List ℕ → Option Sig) where
   abbrev Each : List ServedLink → Between D → Between D → Type 0
-  Each = ServesEach told key limits run_limits says gives
+  Each = ServesEach shown key limits run_limits says gives
 
   abbrev One : ServedLink → Between D → Between D → Type 0
-  One = ServesOne told key limits run_limits says gives
+  One = ServesOne shown key limits run_limits says gives
 
   serves_more : (links : List ServedLink) (last : ServedLink) (old mid new : Between D) → all_ask_next links ≡ true → Each links old mid → One last mid new → Each (links ++ last ∷ []) old new
   serves_more [] last old mid new all each one = (new, subst (λ (m : Between D). One last m new) each one, λ e. refl, refl)
@@ -122,20 +122,20 @@ module _ {D : Type 0} (told : D → DiskShown) (key : Key) (limits run_limits : 
     where
       taken_none : (left : Option (List (List ℕ))) → AreTaken left left []
       taken_none None = refl
-      taken_none (Some told) = ([], told, refl, refl, refl)
+      taken_none (Some shown) = ([], shown, refl, refl, refl)
 
   module _ (left_old left : Option (List (List ℕ))) (old now : Between D) (readers : List Reader) (sinks : List SinkShown) (c : IsComing left_old left old now readers sinks) where
     -- they are enough, with the door as it is
     pub comes_to : (count : ℕ) (failed : Bool) (door_old door : DoorShown) → door_old.left ≡ left_old → door.left ≡ left → length readers ≤ count
         → IsEnough count (length readers) failed left → IsCaused failed door_old.faults door.faults
-        → ServesComing told key limits run_limits says gives count failed door_old door old now readers sinks
+        → ServesComing shown key limits run_limits says gives count failed door_old door old now readers sinks
     comes_to count failed door_old door was is few enough cause =
         let many : length readers ≡ length c.links = ap length c.readers_are ∙ length-map c.links reader_of in
         record {
           links = c.links;
           serves = c.serves;
-          stops = stops_leave told key limits run_limits says gives c.links old now c.serves;
-          inquired = asked_through told key limits run_limits says gives c.links old now c.serves;
+          stops = stops_leave shown key limits run_limits says gives c.links old now c.serves;
+          inquired = asked_through shown key limits run_limits says gives c.links old now c.serves;
           came = rw (was, is) c.came;
           enough = record { no_more = subst (λ n. n ≤ count) many few; no_fewer = inl (rw is (subst (λ n. IsEnough count n failed left) many enough)) };
           cause = cause;
@@ -144,7 +144,7 @@ module _ {D : Type 0} (told : D → DiskShown) (key : Key) (limits run_limits : 
         }
 
     module _ (E : Type 0) {C : Type 0} (held : C → Option (List ℕ)) (left_new : Option (List (List ℕ))) (caller : C) (comes : Comes {E = E} held left left_new (Ok (Some caller)))
-        (new : Between D) (reader : Reader) (sink : SinkShown) (s : IsServed told key limits run_limits says gives (held caller) reader sink now new) where
+        (new : Between D) (reader : Reader) (sink : SinkShown) (s : IsServed shown key limits run_limits says gives (held caller) reader sink now new) where
       came_more : AreTaken left_old left_new (held_by (c.links ++ s.link ∷ []))
       came_more = subst (AreTaken left_old left_new) (ap (λ h. held_by c.links ++ h ∷ []) s.held_is ∙ sym (map-append (λ l. l.source_old.left) c.links (s.link ∷ [])))
           (taken_behind E held left_old left left_new (held_by c.links) caller c.came comes)
@@ -172,14 +172,14 @@ module _ {D : Type 0} (told : D → DiskShown) (key : Key) (limits run_limits : 
       -- one more was served, which ends the run
       pub comes_last : (count : ℕ) (door_old door : DoorShown) → door_old.left ≡ left_old → door.left ≡ left_new → length (readers ++ reader ∷ []) ≤ count
           → door.faults ≡ door_old.faults → asks_next reader.close ≡ false
-          → ServesComing told key limits run_limits says gives count false door_old door old new (readers ++ reader ∷ []) (sinks ++ sink ∷ [])
+          → ServesComing shown key limits run_limits says gives count false door_old door old new (readers ++ reader ∷ []) (sinks ++ sink ∷ [])
       comes_last count door_old door was now_is few unfailed ends =
           let many : length (readers ++ reader ∷ []) ≡ length (c.links ++ s.link ∷ []) = ap length readers_more ∙ length-map (c.links ++ s.link ∷ []) reader_of in
           record {
             links = c.links ++ s.link ∷ [];
             serves = serves_more c.links s.link old now new c.go_on c.serves s.one;
-            stops = stops_leave told key limits run_limits says gives (c.links ++ s.link ∷ []) old new (serves_more c.links s.link old now new c.go_on c.serves s.one);
-            inquired = asked_through told key limits run_limits says gives (c.links ++ s.link ∷ []) old new (serves_more c.links s.link old now new c.go_on c.serves s.one);
+            stops = stops_leave shown key limits run_limits says gives (c.links ++ s.link ∷ []) old new (serves_more c.links s.link old now new c.go_on c.serves s.one);
+            inquired = asked_through shown key limits run_limits says gives (c.links ++ s.link ∷ []) old new (serves_more c.links s.link old now new c.go_on c.serves s.one);
             came = rw (was, now_is) came_more;
             enough = record { no_more = subst (λ n. n ≤ count) many few; no_fewer = inr (decided false ends) };
             cause = unfailed;

@@ -54,15 +54,15 @@ idle_closed at close verifier readers one closed = this (subst (HasClose at) one
     this (inl e) = e
     this (inr none) = absurd none
 
-module _ {D : Type 0} (told : D → DiskShown) (key : Key) (limits run_limits : Limits) (says : Key → List ℕ → Sig → Option Bool) (gives : Key → List ℕ → Option Sig) where
+module _ {D : Type 0} (shown : D → DiskShown) (key : Key) (limits run_limits : Limits) (says : Key → List ℕ → Sig → Option Bool) (gives : Key → List ℕ → Option Sig) where
   abbrev Each : List ServedLink → Between D → Between D → Type 0
-  Each = ServesEach told key limits run_limits says gives
+  Each = ServesEach shown key limits run_limits says gives
 
   abbrev One : ServedLink → Between D → Between D → Type 0
-  One = ServesOne told key limits run_limits says gives
+  One = ServesOne shown key limits run_limits says gives
 
   abbrev counts_at : Between D → Counts
-  counts_at b = counts (told b.left.disk).faults b.verifier_faults b.signer_faults
+  counts_at b = counts (shown b.left.disk).faults b.verifier_faults b.signer_faults
 
   -- a fault that ends the run raised its count in the last link, and that stood as at the first before
   module _ (at : Close) (stops : asks_next at ≡ false) (count : Counts → ℕ)
@@ -90,7 +90,7 @@ module _ {D : Type 0} (told : D → DiskShown) (key : Key) (limits run_limits : 
   signed_rose : (links : List ServedLink) (old new : Between D) → Each links old new → HasClose SignerFault (map reader_of links) → Rose old.signer_faults new.signer_faults
   signed_rose = each_rose SignerFault refl (λ c. c.signer) (λ link old new one e. let closes = rw e at one.serves.closes in closes.fails.counted.2)
 
-  stored_rose : (links : List ServedLink) (old new : Between D) → Each links old new → HasClose DiskFault (map reader_of links) → Rose (told old.left.disk).faults (told new.left.disk).faults
+  stored_rose : (links : List ServedLink) (old new : Between D) → Each links old new → HasClose DiskFault (map reader_of links) → Rose (shown old.left.disk).faults (shown new.left.disk).faults
   stored_rose = each_rose DiskFault refl (λ c. c.disk) (λ link old new one e. let closes = rw e at one.serves.closes in closes.fails.counted.0)
 
   -- each link is read and written by its own source and sink
@@ -106,19 +106,19 @@ module _ {D : Type 0} (told : D → DiskShown) (key : Key) (limits run_limits : 
   writes_rose (link ∷ links) old new each (inl e) = inl (let closes = rw e at each.1.serves.closes in rw each.1.fresh.sink_unfailed at closes.1.rose)
   writes_rose (link ∷ links) old new each (inr later) = inr (writes_rose links each.0 new each.3 later)
 
-module _ {D : Type 0} (told : D → DiskShown) (key : Key) (limits : Limits) (helper address : List ℕ) (count : ℕ) (old new : Left D) (failed : Bool) (readers : List Reader) (run : Run) where
+module _ {D : Type 0} (shown : D → DiskShown) (key : Key) (limits : Limits) (helper address : List ℕ) (count : ℕ) (old new : Left D) (failed : Bool) (readers : List Reader) (run : Run) where
   abbrev Made : Option DoorShown → Option VerifierShown → Option SignerShown → Type 0
   Made door verifier signer = MakesServing DoorKind address helper door verifier signer run.before run.after
 
   abbrev Served : Option DoorShown → Option VerifierShown → Option SignerShown → Type 0
-  Served door verifier signer = ServesLinksBy told key limits helper address count old new door verifier signer failed readers run
+  Served door verifier signer = ServesLinksBy shown key limits helper address count old new door verifier signer failed readers run
 
   pub links_read : (door : Option DoorShown) (verifier : Option VerifierShown) (signer : Option SignerShown) → Served door verifier signer → ReadFaultsRose readers
   links_read None verifier signer s = rw s.1.one (λ e. let clash : End ≡ ReadFault = e in cc, tt)
   links_read (Some door) None signer s = rw s.1.one (λ e. let clash : VerifierFault ≡ ReadFault = e in cc, tt)
   links_read (Some door) (Some verifier) None s = rw s.1.one (λ e. let clash : SignerFault ≡ ReadFault = e in cc, tt)
   links_read (Some door) (Some verifier) (Some signer) s =
-      rw s.readers_are (with_reads verifier s.each (rw s.coming.readers_are (reads_rose told key limits _ _ _ s.coming.links _ _ s.coming.serves)))
+      rw s.readers_are (with_reads verifier s.each (rw s.coming.readers_are (reads_rose shown key limits _ _ _ s.coming.links _ _ s.coming.serves)))
 
   pub links_asked : (door : Option DoorShown) (verifier : Option VerifierShown) (signer : Option SignerShown) → Made door verifier signer → Served door verifier signer
       → HasClose VerifierFault readers → MatchOption (shared_verifier readers) (Rose run.before.faults run.after.faults) (λ v. Rose 0 v.faults)
@@ -127,7 +127,7 @@ module _ {D : Type 0} (told : D → DiskShown) (key : Key) (limits : Limits) (he
   links_asked (Some door) (Some verifier) None m s closed = let clash : SignerFault ≡ VerifierFault = idle_closed VerifierFault SignerFault (Some verifier) readers s.1.one closed in cc
   links_asked (Some door) (Some verifier) (Some signer) m s closed =
       let closed_each = with_closed VerifierFault (λ e. cc) verifier s.each (subst (HasClose VerifierFault) s.readers_are closed) in
-      let rose : Rose 0 verifier.faults = asked_rose told key limits _ _ _ s.coming.links _ _ s.coming.serves (subst (HasClose VerifierFault) s.coming.readers_are closed_each) in
+      let rose : Rose 0 verifier.faults = asked_rose shown key limits _ _ _ s.coming.links _ _ s.coming.serves (subst (HasClose VerifierFault) s.coming.readers_are closed_each) in
       rw (s.readers_are, with_shared verifier s.each) rose
 
   pub links_signed : (door : Option DoorShown) (verifier : Option VerifierShown) (signer : Option SignerShown) → Made door verifier signer → Served door verifier signer
@@ -137,16 +137,16 @@ module _ {D : Type 0} (told : D → DiskShown) (key : Key) (limits : Limits) (he
   links_signed (Some door) (Some verifier) None m s closed = m.rose refl
   links_signed (Some door) (Some verifier) (Some signer) m s closed =
       let closed_each = with_closed SignerFault (λ e. cc) verifier s.each (subst (HasClose SignerFault) s.readers_are closed) in
-      signed_rose told key limits _ _ _ s.coming.links _ _ s.coming.serves (subst (HasClose SignerFault) s.coming.readers_are closed_each)
+      signed_rose shown key limits _ _ _ s.coming.links _ _ s.coming.serves (subst (HasClose SignerFault) s.coming.readers_are closed_each)
 
   pub links_stored : (door : Option DoorShown) (verifier : Option VerifierShown) (signer : Option SignerShown) → Served door verifier signer
-      → HasClose DiskFault readers → Rose (told old.disk).faults (told new.disk).faults
+      → HasClose DiskFault readers → Rose (shown old.disk).faults (shown new.disk).faults
   links_stored None verifier signer s closed = let clash : End ≡ DiskFault = idle_closed DiskFault End None readers s.1.one closed in cc
   links_stored (Some door) None signer s closed = let clash : VerifierFault ≡ DiskFault = idle_closed DiskFault VerifierFault None readers s.1.one closed in cc
   links_stored (Some door) (Some verifier) None s closed = let clash : SignerFault ≡ DiskFault = idle_closed DiskFault SignerFault (Some verifier) readers s.1.one closed in cc
   links_stored (Some door) (Some verifier) (Some signer) s closed =
       let closed_each = with_closed DiskFault (λ e. cc) verifier s.each (subst (HasClose DiskFault) s.readers_are closed) in
-      stored_rose told key limits _ _ _ s.coming.links _ _ s.coming.serves (subst (HasClose DiskFault) s.coming.readers_are closed_each)
+      stored_rose shown key limits _ _ _ s.coming.links _ _ s.coming.serves (subst (HasClose DiskFault) s.coming.readers_are closed_each)
 
   pub links_wrote : (door : Option DoorShown) (verifier : Option VerifierShown) (signer : Option SignerShown) → Served door verifier signer
       → HasClose WriteFault readers → SinkRose run.sinks
@@ -155,7 +155,7 @@ module _ {D : Type 0} (told : D → DiskShown) (key : Key) (limits : Limits) (he
   links_wrote (Some door) (Some verifier) None s closed = let clash : SignerFault ≡ WriteFault = idle_closed WriteFault SignerFault (Some verifier) readers s.1.one closed in cc
   links_wrote (Some door) (Some verifier) (Some signer) s closed =
       let closed_each = with_closed WriteFault (λ e. cc) verifier s.each (subst (HasClose WriteFault) s.readers_are closed) in
-      rw s.coming.sinks_are (writes_rose told key limits _ _ _ s.coming.links _ _ s.coming.serves (subst (HasClose WriteFault) s.coming.readers_are closed_each))
+      rw s.coming.sinks_are (writes_rose shown key limits _ _ _ s.coming.links _ _ s.coming.serves (subst (HasClose WriteFault) s.coming.readers_are closed_each))
 
   -- the door failed, or couldn't be made
   pub links_failed : (door : Option DoorShown) (verifier : Option VerifierShown) (signer : Option SignerShown) → Made door verifier signer → Served door verifier signer

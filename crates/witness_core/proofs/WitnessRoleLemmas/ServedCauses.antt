@@ -31,12 +31,12 @@ sink_kept limits source_old source_new bytes old new serves OutOfMemory (inl c) 
 sink_kept limits source_old source_new bytes old new serves OutOfMemory (inr c) other = c.fails.sink_same
 sink_kept limits source_old source_new bytes old new serves (Malformed place) c other = absurd c
 
-module _ {D : Type 0} (told : D → DiskShown) (key : Key) (limits : Limits) (helper name : List ℕ) (old new : Left D) (reader : Reader) (run : Run) where
+module _ {D : Type 0} (shown : D → DiskShown) (key : Key) (limits : Limits) (helper name : List ℕ) (old new : Left D) (reader : Reader) (run : Run) where
   abbrev Made : Option SourceShown → Option VerifierShown → Option SignerShown → Type 0
   Made source verifier signer = MakesServing SourceKind name helper source verifier signer run.before run.after
 
   abbrev Served : Option SourceShown → Option VerifierShown → Option SignerShown → Type 0
-  Served source verifier signer = ServesBy told key limits helper name old reader source verifier signer new run
+  Served source verifier signer = ServesBy shown key limits helper name old reader source verifier signer new run
 
   pub serving_read : (source : Option SourceShown) (verifier : Option VerifierShown) (signer : Option SignerShown) → Made source verifier signer → Served source verifier signer
       → reader.close ≡ ReadFault → MatchOption source (Rose run.before.faults run.after.faults) (λ s. Rose 0 s.faults)
@@ -60,7 +60,7 @@ module _ {D : Type 0} (told : D → DiskShown) (key : Key) (limits : Limits) (he
   serving_signed (Some source) (Some verifier) (Some signer) m s e = let closes = rw e at s.serves.closes in closes.fails.counted.2
 
   pub serving_stored : (source : Option SourceShown) (verifier : Option VerifierShown) (signer : Option SignerShown) → Served source verifier signer
-      → reader.close ≡ DiskFault → Rose (told old.disk).faults (told new.disk).faults
+      → reader.close ≡ DiskFault → Rose (shown old.disk).faults (shown new.disk).faults
   serving_stored None verifier signer s e = let clash : DiskFault ≡ ReadFault = sym e ∙ s.close in cc
   serving_stored (Some source) None signer s e = let clash : DiskFault ≡ VerifierFault = sym e ∙ s.close in cc
   serving_stored (Some source) (Some verifier) None s e = let clash : DiskFault ≡ SignerFault = sym e ∙ s.close in cc

@@ -15,14 +15,14 @@ use Rattle.witness_core.specs.WitnessLink.Links.{Left, source_shown}
 use Rattle.run_status.specs.RunRecord.Run.{Run, SignerShown}
 use Rattle.witness_core.specs.WitnessRole.ServedFile.{IsServing, ServesAll, signer_of, verifier_of}
 
--- all three were made of the name and of the helper, over an outside that told this before and with this sink
-pub serving_all : {D : Type 0} {told : D → DiskShown} {key : Key} {limits : Limits} {source_old : SourceShown} {verifier_old : VerifierShown} {signer_old : SignerShown}
-    {old : Left D} {disk : Option D} {run : Run} → ServesAll told key limits source_old verifier_old signer_old old disk run → (helper name : List ℕ) (inquiries : Option (List Inquiry)) (signings : Option (List Signing))
+-- all three were made of the name and of the helper, over an outside that showed this before and with this sink
+pub serving_all : {D : Type 0} {shown : D → DiskShown} {key : Key} {limits : Limits} {source_old : SourceShown} {verifier_old : VerifierShown} {signer_old : SignerShown}
+    {old : Left D} {disk : Option D} {run : Run} → ServesAll shown key limits source_old verifier_old signer_old old disk run → (helper name : List ℕ) (inquiries : Option (List Inquiry)) (signings : Option (List Signing))
     (before : OutsideShown) (sink_before : SinkShown)
     → run.before.limits ≡ before.limits → run.sink_before ≡ sink_before → source_old ≡ source_shown (before.holds name) 0
     → verifier_old ≡ verifier_of before helper inquiries → HasNone inquiries → signer_old ≡ signer_of before helper signings → HasNone signings
     → AreMakings (making Source name false ∷ making Verifier helper false ∷ making Signer helper false ∷ []) before run.after
-    → IsServing told key limits helper name old disk (record run { before = before; sink_before = sink_before })
+    → IsServing shown key limits helper name old disk (record run { before = before; sink_before = sink_before })
 serving_all s helper name inquiries signings before sink_before same same_sink source verifier none_inquired signer none_signed makes = record {
   reader = s.reader;
   makes = rw (s.source_is, s.verifier_is, s.signer_is) makes;

@@ -15,13 +15,13 @@ use Rattle.witness_core.specs.WitnessLink.Links.{Left}
 use Rattle.witness_core.specs.WitnessRole.ServedLinks.{Between, IsServingLinks, ServesAllLinks, at_first, readers_with}
 
 -- all three were made of the address and of the helper, and had never failed
-pub serving_links : {D : Type 0} {told : D → DiskShown} {key : Key} {limits run_limits : Limits} {says : Key → List ℕ → Sig → Option Bool} {gives : Key → List ℕ → Option Sig}
+pub serving_links : {D : Type 0} {shown : D → DiskShown} {key : Key} {limits run_limits : Limits} {says : Key → List ℕ → Sig → Option Bool} {gives : Key → List ℕ → Option Sig}
     {count : ℕ} {door_old : DoorShown} {between : Between D} {disk : Option D} {run : Run}
-    → ServesAllLinks told key limits run_limits says gives count door_old between disk run → (helper address : List ℕ) (inquiries : Option (List Inquiry)) (signings : Option (List Signing)) (old : Left D)
+    → ServesAllLinks shown key limits run_limits says gives count door_old between disk run → (helper address : List ℕ) (inquiries : Option (List Inquiry)) (signings : Option (List Signing)) (old : Left D)
     → run_limits ≡ run.before.limits → says ≡ run.before.says helper → gives ≡ run.before.gives helper
     → door_old ≡ record { left = run.before.links address; faults = 0 } → between ≡ at_first inquiries signings old → HasNone inquiries → HasNone signings → run.sink_after ≡ run.sink_before
     → AreMakings (making Door address false ∷ making Verifier helper false ∷ making Signer helper false ∷ []) run.before run.after
-    → IsServingLinks told key limits helper address count old disk run
+    → IsServingLinks shown key limits helper address count old disk run
 serving_links s helper address inquiries signings old same says gives unasked unheard none_inquired none_signed same_sink makes = record {
   verifier = Some s.verifier;
   makes = rw (s.door_is, s.signer_is) makes;

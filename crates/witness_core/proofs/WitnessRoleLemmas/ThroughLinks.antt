@@ -56,18 +56,18 @@ none_behind : (old new : LinkShown) (serves : Serves old new) → serves.behind 
 none_behind old new serves now none =
     subst (λ (s : Standing). open_of s.core ≡ []) now (calls_close (terms_of old) (standing_of old.witness) serves.calls serves.behind serves.taken none)
 
-module _ {D : Type 0} (told : D → DiskShown) (key : Key) (limits run_limits : Limits) (says : Key → List ℕ → Sig → Option Bool) (gives : Key → List ℕ → Option Sig) where
+module _ {D : Type 0} (shown : D → DiskShown) (key : Key) (limits run_limits : Limits) (says : Key → List ℕ → Sig → Option Bool) (gives : Key → List ℕ → Option Sig) where
   abbrev Each : List ServedLink → Between D → Between D → Type 0
-  Each = ServesEach told key limits run_limits says gives
+  Each = ServesEach shown key limits run_limits says gives
 
   abbrev One : ServedLink → Between D → Between D → Type 0
-  One = ServesOne told key limits run_limits says gives
+  One = ServesOne shown key limits run_limits says gives
 
   abbrev Through : List Receipt → Left D → Left D → Type 0
-  Through = StoresThrough told key limits run_limits says gives
+  Through = StoresThrough shown key limits run_limits says gives
 
   abbrev due : (links : List ServedLink) (old new : Between D) → Each links old new → List Receipt
-  due = receipts_due told key limits run_limits says gives
+  due = receipts_due shown key limits run_limits says gives
 
   -- one link
   through_one : (link : ServedLink) (old new : Between D) (one : One link old new) → Through (receipts_in one.serves.serves.calls) old.left new.left
@@ -84,15 +84,15 @@ module _ {D : Type 0} (told : D → DiskShown) (key : Key) (limits run_limits : 
   unfolding stores_more
   through_both first later old mid new a listed b =
       let longer : Grown mid.list new.list = front_of mid.list new.list b.stores.accepted b.stores.grown b.stores.first b.stores.longer in
-      let terms = link_terms told key limits run_limits says gives in
-      let stores = stores_more old.list (told old.disk) mid.core mid.list (told mid.disk) new.core new.list (told new.disk) a.stores listed b.stores in
+      let terms = link_terms shown key limits run_limits says gives in
+      let stores = stores_more old.list (shown old.disk) mid.core mid.list (shown mid.disk) new.core new.list (shown new.disk) a.stores listed b.stores in
       let of = All-append (IsOfListed terms new.list) first later
       (All-weaker (IsOfListed terms mid.list) (IsOfListed terms new.list) (λ r is. of_longer terms mid.list new.list r longer is) first a.of_stored) b.of_stored in
       record {
         stores = stores;
         lawful = b.lawful;
         of_stored = of;
-        held = held_each terms old.list (told old.disk) new.core new.list (told new.disk) (first ++ later) stores b.lawful of;
+        held = held_each terms old.list (shown old.disk) new.core new.list (shown new.disk) (first ++ later) stores b.lawful of;
       }
 
   through_last : (link : ServedLink) (old mid new : Between D) (one : One link old mid) (none : new ≡ mid) → Through (receipts_in one.serves.serves.calls ++ []) old.left new.left
@@ -101,7 +101,7 @@ module _ {D : Type 0} (told : D → DiskShown) (key : Key) (limits run_limits : 
       subst (λ (n : Between D). Through (receipts ++ []) old.left n.left) (sym none) (subst (λ rs. Through rs old.left mid.left) (sym (append-nil receipts)) (through_one link old mid one))
 
   -- LEAVES: through all links
-  pub stops_leave : (links : List ServedLink) (old new : Between D) (each : Each links old new) → StopsLeave told key limits run_limits says gives links old new each
+  pub stops_leave : (links : List ServedLink) (old new : Between D) (each : Each links old new) → StopsLeave shown key limits run_limits says gives links old new each
   stops_leave [] old new each = tt
   stops_leave (link ∷ []) old new each = through_last link old each.0 new each.1 each.3
   stops_leave (link ∷ next ∷ links) old new each =

@@ -113,7 +113,7 @@ starting_disk (NotALog number) e = cc
 starting_disk NoMemory e = cc
 
 -- nothing behind what was written
-after_none : (told : Option (List ℕ)) → told ≡ after told []
+after_none : (shown : Option (List ℕ)) → shown ≡ after shown []
 after_none None = refl
 after_none (Some written) = ap Some (sym (append-nil written))
 
@@ -137,18 +137,18 @@ closed_one at reader (inr none) = absurd none
 not_true : false ≡ true → ⊥
 not_true e = cc
 
-module _ {D : Type 0} (told : D → DiskShown) where
-  rose_seen : (disk : Option D) → IsSomeAnd disk (λ d. Rose 0 (told d).faults) → DiskRose (disk_seen told disk)
+module _ {D : Type 0} (shown : D → DiskShown) where
+  rose_seen : (disk : Option D) → IsSomeAnd disk (λ d. Rose 0 (shown d).faults) → DiskRose (disk_seen shown disk)
   rose_seen None r = absurd r
   rose_seen (Some d) r = r
 
   -- a disk that hadn't failed
-  rose_back : (first last : D) (disk : Option D) → (told first).faults ≡ 0 → disk ≡ Some last → Rose (told first).faults (told last).faults → DiskRose (disk_seen told disk)
+  rose_back : (first last : D) (disk : Option D) → (shown first).faults ≡ 0 → disk ≡ Some last → Rose (shown first).faults (shown last).faults → DiskRose (disk_seen shown disk)
   rose_back first last disk none back rose = rw back (rw none at rose)
 
   module _ (disk old : Option D) (helper : List ℕ) (key : Key) (shelf : List ℕ) (from : Option (List ℕ)) (input : Inputs (List ℕ)) (run : Run)
-      (disk_is : run.disk ≡ disk_seen told disk) (old_is : run.old ≡ disk_seen told old) where
-    opens_none : OpensNone told disk old helper key shelf from input run → HasCauses (Some (witness helper key shelf from input)) run
+      (disk_is : run.disk ≡ disk_seen shown disk) (old_is : run.old ≡ disk_seen shown old) where
+    opens_none : OpensNone shown disk old helper key shelf from input run → HasCauses (Some (witness helper key shelf from input)) run
     opens_none o = unread_causes helper key shelf from input _ _ (found_by o.fault) run o.unopened (opening_words o.fault) (opening_signer o.fault) (opening_door o.fault) (opening_verifier o.fault)
         (λ e. elim (o.opening.cause.rose (ap Err (opening_disk o.fault e))) [
           | inl rose ↦ inl rose
@@ -164,9 +164,9 @@ module _ {D : Type 0} (told : D → DiskShown) where
         unread_causes helper key shelf from input _ _ (start_found u.fault) run unread (starting_words u.fault) (starting_signer u.fault) (starting_door u.fault) (starting_verifier u.fault)
         (λ e. absurd (starting_disk u.fault e))
 
-  module _ (disk : Option D) (helper : List ℕ) (key : Key) (shelf : List ℕ) (from : Option (List ℕ)) (run : Run) (disk_is : run.disk ≡ disk_seen told disk)
-      (first : Left D) (middle : OutsideShown) (same : middle.faults ≡ run.before.faults) (none : (told first.disk).faults ≡ 0) where
-    served_file : (name : List ℕ) → IsServing told key run.before.limits helper name first disk (record run { before = middle }) → HasCauses (Some (witness helper key shelf from (named name))) run
+  module _ (disk : Option D) (helper : List ℕ) (key : Key) (shelf : List ℕ) (from : Option (List ℕ)) (run : Run) (disk_is : run.disk ≡ disk_seen shown disk)
+      (first : Left D) (middle : OutsideShown) (same : middle.faults ≡ run.before.faults) (none : (shown first.disk).faults ≡ 0) where
+    served_file : (name : List ℕ) → IsServing shown key run.before.limits helper name first disk (record run { before = middle }) → HasCauses (Some (witness helper key shelf from (named name))) run
     served_file name s =
         let reader = s.reader in
         let ends = s.ends in
@@ -174,7 +174,7 @@ module _ {D : Type 0} (told : D → DiskShown) where
         let settles = closing_settles out nothing_besides run.readers run.sink_after run.status ends.status in
         let causes = faults_have_causes nothing_besides run.readers run.sink_after run.sink_after run.status _ settles in
         let here : Run = record run { before = middle } in
-        let wrote = serving_wrote told key run.before.limits helper name first s.new reader here reader.source reader.verifier run.signer s.serves in
+        let wrote = serving_wrote shown key run.before.limits helper name first s.new reader here reader.source reader.verifier run.signer s.serves in
         let one : (at : Close) → HasClose at run.readers → reader.close ≡ at = λ at closed. closed_one at reader (subst (HasClose at) ends.all closed) in
         record {
           two = λ e. absurd (not_true (words_refused nothing_besides run.readers run.sink_after run.sink_after run.status _ settles e));
@@ -185,27 +185,27 @@ module _ {D : Type 0} (told : D → DiskShown) where
             eight = causes.eight;
             nine = causes.nine;
             six = λ e. inl (closing_six out nothing_besides run.readers run.status ends.status e);
-            kept = λ other. serving_kept told key run.before.limits helper name first s.new reader here reader.source reader.verifier run.signer s.serves
+            kept = λ other. serving_kept shown key run.before.limits helper name first s.new reader here reader.source reader.verifier run.signer s.serves
                 (λ e. other (ends.status ∙ rw ends.all (wrote_six reader e)));
           };
-          signer = ⊎_elim (λ e. absurd (not_true e)) (λ closed. rw (sym same) (serving_signed told key run.before.limits helper name first s.new reader here reader.source reader.verifier run.signer s.makes s.serves
+          signer = ⊎_elim (λ e. absurd (not_true e)) (λ closed. rw (sym same) (serving_signed shown key run.before.limits helper name first s.new reader here reader.source reader.verifier run.signer s.makes s.serves
               (one closing.SignerFault closed)));
           door = λ e. absurd (not_true e);
           disk = ⊎_elim (λ e. absurd (not_true e)) (λ closed. inr (inl (rw disk_is (rose_back first.disk s.new.disk disk none ends.back
-              (serving_stored told key run.before.limits helper name first s.new reader here reader.source reader.verifier run.signer s.serves (one closing.DiskFault closed))))));
+              (serving_stored shown key run.before.limits helper name first s.new reader here reader.source reader.verifier run.signer s.serves (one closing.DiskFault closed))))));
           verifier = λ e. absurd (not_true e);
           sink = λ closed. wrote (one closing.WriteFault closed);
           shelf = λ e. tt;
           readers = rw ends.all (
             record {
-              source = λ e. rw (sym same) (serving_read told key run.before.limits helper name first s.new reader here reader.source reader.verifier run.signer s.makes s.serves e);
-              verifier = λ e. rw (sym same) (serving_asked told key run.before.limits helper name first s.new reader here reader.source reader.verifier run.signer s.makes s.serves e);
+              source = λ e. rw (sym same) (serving_read shown key run.before.limits helper name first s.new reader here reader.source reader.verifier run.signer s.makes s.serves e);
+              verifier = λ e. rw (sym same) (serving_asked shown key run.before.limits helper name first s.new reader here reader.source reader.verifier run.signer s.makes s.serves e);
             },
             tt,
           );
         }
 
-    served_links : (address : List ℕ) (count : ℕ) → IsServingLinks told key run.before.limits helper address count first disk (record run { before = middle })
+    served_links : (address : List ℕ) (count : ℕ) → IsServingLinks shown key run.before.limits helper address count first disk (record run { before = middle })
         → HasCauses (Some (witness helper key shelf from (links address count))) run
     served_links address count s =
         let ends = s.ends in
@@ -226,27 +226,27 @@ module _ {D : Type 0} (told : D → DiskShown) where
             six = λ e. inl (closing_six out besides run.readers run.status ends.status e);
             kept = λ other. ap (λ sink. sink.faults) s.same_sink;
           };
-          signer = ⊎_elim (λ e. absurd (not_true e)) (λ closed. rw (sym same) (links_signed told key run.before.limits helper address count first s.new s.failed s.readers here run.door s.verifier run.signer s.makes s.serves
+          signer = ⊎_elim (λ e. absurd (not_true e)) (λ closed. rw (sym same) (links_signed shown key run.before.limits helper address count first s.new s.failed s.readers here run.door s.verifier run.signer s.makes s.serves
               (closed_in closing.SignerFault closed)));
-          door = λ e. rw (sym same) (links_failed told key run.before.limits helper address count first s.new s.failed s.readers here run.door s.verifier run.signer s.makes s.serves e);
+          door = λ e. rw (sym same) (links_failed shown key run.before.limits helper address count first s.new s.failed s.readers here run.door s.verifier run.signer s.makes s.serves e);
           disk = ⊎_elim (λ e. absurd (not_true e)) (λ closed. inr (inl (rw disk_is (rose_back first.disk s.new.disk disk none ends.back
-              (links_stored told key run.before.limits helper address count first s.new s.failed s.readers here run.door s.verifier run.signer s.serves (closed_in closing.DiskFault closed))))));
+              (links_stored shown key run.before.limits helper address count first s.new s.failed s.readers here run.door s.verifier run.signer s.serves (closed_in closing.DiskFault closed))))));
           verifier = λ e. absurd (not_true e);
-          sink = λ closed. links_wrote told key run.before.limits helper address count first s.new s.failed s.readers here run.door s.verifier run.signer s.serves (closed_in closing.WriteFault closed);
+          sink = λ closed. links_wrote shown key run.before.limits helper address count first s.new s.failed s.readers here run.door s.verifier run.signer s.serves (closed_in closing.WriteFault closed);
           shelf = λ e. tt;
           readers = record {
-            sources = rw ends.all (links_read told key run.before.limits helper address count first s.new s.failed s.readers here run.door s.verifier run.signer s.serves);
-            verifier = λ closed. rw (ends.all, sym same) (links_asked told key run.before.limits helper address count first s.new s.failed s.readers here run.door s.verifier run.signer s.makes s.serves
+            sources = rw ends.all (links_read shown key run.before.limits helper address count first s.new s.failed s.readers here run.door s.verifier run.signer s.serves);
+            verifier = λ closed. rw (ends.all, sym same) (links_asked shown key run.before.limits helper address count first s.new s.failed s.readers here run.door s.verifier run.signer s.makes s.serves
                 (closed_in closing.VerifierFault closed));
           };
         }
 
-    served : (input : Inputs (List ℕ)) → ServesInput told key run.before.limits helper input first disk (record run { before = middle }) → HasCauses (Some (witness helper key shelf from input)) run
+    served : (input : Inputs (List ℕ)) → ServesInput shown key run.before.limits helper input first disk (record run { before = middle }) → HasCauses (Some (witness helper key shelf from input)) run
     served (named name) s = served_file name s
     served (links address count) s = served_links address count s
 
   pub witnessed_causes : (disk old : Option D) (helper : List ℕ) (key : Key) (shelf : List ℕ) (from : Option (List ℕ)) (input : Inputs (List ℕ)) (run : Run)
-      → run.disk ≡ disk_seen told disk → run.old ≡ disk_seen told old → IsWitnessed told disk old helper key shelf from input run → HasCauses (Some (witness helper key shelf from input)) run
+      → run.disk ≡ disk_seen shown disk → run.old ≡ disk_seen shown old → IsWitnessed shown disk old helper key shelf from input run → HasCauses (Some (witness helper key shelf from input)) run
   witnessed_causes disk old helper key shelf from input run disk_is old_is (inl o) = opens_none disk old helper key shelf from input run disk_is old_is o
   witnessed_causes disk old helper key shelf from input run disk_is old_is (inr o) = elim o.starts [
     | inl u ↦ unstarted disk old helper key shelf from input run disk_is old_is o.first o.list o.middle u

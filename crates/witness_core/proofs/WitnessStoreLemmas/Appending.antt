@@ -36,28 +36,28 @@ module _ (core : CoreView) (list : List (List ℕ)) (place : ℕ) (place_is : pl
   next = payloads_next (history_of core) list event.0 p event.1 is
 
   -- APPENDED: the list has it
-  pub appended : ((b : Body) → slice_get (accepted_by core) place ≡ Some b → text_in items ≡ b.bytes) → (new : List (List ℕ)) → new ≡ list ++ p ∷ [] → IsOnWay (history_of core) list → (told last : DiskShown) → AllHold last new → LeavesOnly told last (HoldsEither list p)
-      → Appends list told (history_of core) new last
-  appended reads new new_is way told last holds leaves = record {
+  pub appended : ((b : Body) → slice_get (accepted_by core) place ≡ Some b → text_in items ≡ b.bytes) → (new : List (List ℕ)) → new ≡ list ++ p ∷ [] → IsOnWay (history_of core) list → (shown last : DiskShown) → AllHold last new → LeavesOnly shown last (HoldsEither list p)
+      → Appends list shown (history_of core) new last
+  appended reads new new_is way shown last holds leaves = record {
     on_way = subst (IsOnWay (history_of core)) (sym new_is) (on_way_next (history_of core) list event.0 p event.1 is (ap text_in p_is ∙ reads event.0 there) lacking way);
     same = same;
     longer = omega (arith, ap length new_is, length-append list (p ∷ []));
     images = λ c now. first_held new (missing (history_of core) new) c (holds c now);
-    moments = weaker told last (HoldsEither list p) (HoldsFirst list (payloads (history_of core) new)) (λ c either. first_either list (missing (history_of core) new) (payloads (history_of core) new) p c (ap (λ l. l ++ missing (history_of core) new) new_is) either) leaves;
+    moments = weaker shown last (HoldsEither list p) (HoldsFirst list (payloads (history_of core) new)) (λ c either. first_either list (missing (history_of core) new) (payloads (history_of core) new) p c (ap (λ l. l ++ missing (history_of core) new) new_is) either) leaves;
   }
     where
       same : payloads (history_of core) new ≡ payloads (history_of core) list
       same = ap (payloads (history_of core)) new_is ∙ sym next
 
   -- FAILED: the list is as before, and the disk may have it
-  pub failed : (new : List (List ℕ)) → new ≡ list → IsOnWay (history_of core) list → (told last : DiskShown) → ((c : List ℕ) → last.images c → last.images_since told.moment c)
-      → LeavesOnly told last (HoldsEither list p) → Appends list told (history_of core) new last
-  failed new new_is way told last counts leaves = subst (λ l. Appends list told (history_of core) l last) (sym new_is) (record {
+  pub failed : (new : List (List ℕ)) → new ≡ list → IsOnWay (history_of core) list → (shown last : DiskShown) → ((c : List ℕ) → last.images c → last.images_since shown.moment c)
+      → LeavesOnly shown last (HoldsEither list p) → Appends list shown (history_of core) new last
+  failed new new_is way shown last counts leaves = subst (λ l. Appends list shown (history_of core) l last) (sym new_is) (record {
     on_way = way;
     same = refl;
     longer = omega arith;
     images = λ c now. first_either list (missing (history_of core) (list ++ p ∷ [])) (payloads (history_of core) list) p c next (leaves.each c (counts c now));
-    moments = weaker told last (HoldsEither list p) (HoldsFirst list (payloads (history_of core) list)) (λ c either. first_either list (missing (history_of core) (list ++ p ∷ [])) (payloads (history_of core) list) p c next either) leaves;
+    moments = weaker shown last (HoldsEither list p) (HoldsFirst list (payloads (history_of core) list)) (λ c either. first_either list (missing (history_of core) (list ++ p ∷ [])) (payloads (history_of core) list) p c next either) leaves;
   })
 
   module _ (known : IsKnown core) (grown : IsGrown (history_of core).base) (limits : Limits) (room : Room) (has : HasRoom limits (history_of core) list room)

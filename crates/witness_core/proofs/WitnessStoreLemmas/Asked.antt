@@ -14,8 +14,8 @@ use Rattle.witness_core.specs.declared.witness_store.room.Room.{Room}
 use Rattle.witness_core.proofs.WitnessStoreLemmas.Entries.{history_follows, on_way_more}
 use Rattle.witness_core.proofs.WitnessStoreLemmas.RoomSteps.{has_room_heard}
 
-module _ (old new : CoreView) (q : Question) (verdict : Bool) (notes : Notes old q verdict new) (list : List (List ℕ)) (limits : Limits) (broken : Bool) (told : DiskShown) (room : Room)
-    (stored : AreStored (history_of old) list limits broken told room) where
+module _ (old new : CoreView) (q : Question) (verdict : Bool) (notes : Notes old q verdict new) (list : List (List ℕ)) (limits : Limits) (broken : Bool) (shown : DiskShown) (room : Room)
+    (stored : AreStored (history_of old) list limits broken shown room) where
   abbrev t : Told
   t = heard 0 notes.body q.key q.sig verdict
 

@@ -33,7 +33,7 @@ asks_then says before mid now old middle new unheard first then =
           ap (λ more. earlier ++ more) then.asked.1.2 ∙ (sym (append_assoc earlier (inquiries_in then.verdicts) last)
               ∙ ap (λ heard. heard ++ last) (sym (flat_map-append inquiry_in first.verdicts then.verdicts))),
         ),
-        then.asked.2 ∙ (ap (λ told. after told then.asked.0) (all_heard before mid first.verdicts [] refl first.asked) ∙ after-append before earlier then.asked.0),
+        then.asked.2 ∙ (ap (λ shown. after shown then.asked.0) (all_heard before mid first.verdicts [] refl first.asked) ∙ after-append before earlier then.asked.0),
       );
       follows = follows_on first.follows then.follows;
     }

@@ -109,30 +109,30 @@ module _ (h : History) where
     }
 
   -- nothing was appended
-  pub appends_none : (list : List (List ℕ)) (told : DiskShown) → KnowsNow told → IsOnWay h list → AllHold told list → Appends list told h list told
-  appends_none list told knows way holds = record {
+  pub appends_none : (list : List (List ℕ)) (shown : DiskShown) → KnowsNow shown → IsOnWay h list → AllHold shown list → Appends list shown h list shown
+  appends_none list shown knows way holds = record {
     on_way = way;
     same = refl;
     longer = omega arith;
     images = λ c now. first_held list (missing h list) c (holds c now);
-    moments = none_yet told (HoldsFirst list (payloads h list)) knows (λ c now. first_held list (missing h list) c (holds c now));
+    moments = none_yet shown (HoldsFirst list (payloads h list)) knows (λ c now. first_held list (missing h list) c (holds c now));
   }
 
   -- appended, and then more
-  pub appends_more : (first list longer : List (List ℕ)) (told mid last : DiskShown) → Appends first told h list mid → Appends list mid h longer last → Appends first told h longer last
-  appends_more first list longer told mid last a b = record {
+  pub appends_more : (first list longer : List (List ℕ)) (shown mid last : DiskShown) → Appends first shown h list mid → Appends list mid h longer last → Appends first shown h longer last
+  appends_more first list longer shown mid last a b = record {
     on_way = b.on_way;
     same = b.same ∙ a.same;
     longer = omega (arith, a.longer, b.longer);
     images = b.images;
-    moments = and_then told mid last (HoldsFirst first (payloads h longer))
-        (weaker told mid (HoldsFirst first (payloads h list)) (HoldsFirst first (payloads h longer)) (λ c holds. subst (λ p. HoldsFirst first p c) (sym b.same) holds) a.moments)
+    moments = and_then shown mid last (HoldsFirst first (payloads h longer))
+        (weaker shown mid (HoldsFirst first (payloads h list)) (HoldsFirst first (payloads h longer)) (λ c holds. subst (λ p. HoldsFirst first p c) (sym b.same) holds) a.moments)
         (weaker mid last (HoldsFirst list (payloads h longer)) (HoldsFirst first (payloads h longer))
         (λ c f. record { count = f.count; no_fewer = omega (arith, a.longer, f.no_fewer); no_more = f.no_more; holds = f.holds }) b.moments);
   }
 
-  pub goes_of : (list longer : List (List ℕ)) (told last : DiskShown) → Appends list told h longer last → GoesOn list told h longer last
-  goes_of list longer told last a = record {
+  pub goes_of : (list longer : List (List ℕ)) (shown last : DiskShown) → Appends list shown h longer last → GoesOn list shown h longer last
+  goes_of list longer shown last a = record {
     on_way = a.on_way;
     grown = (missing h list, a.same);
     longer = a.longer;
@@ -141,13 +141,13 @@ module _ (h : History) where
   }
 
   -- an entry came, or none, and nothing was appended
-  pub goes_none : (list : List (List ℕ)) (told : DiskShown) → KnowsNow told → IsOnWay h list → AllHold told list → GoesOn list told h list told
-  goes_none list told knows way holds = goes_of list list told told (appends_none list told knows way holds)
+  pub goes_none : (list : List (List ℕ)) (shown : DiskShown) → KnowsNow shown → IsOnWay h list → AllHold shown list → GoesOn list shown h list shown
+  goes_none list shown knows way holds = goes_of list list shown shown (appends_none list shown knows way holds)
 
 -- a run that stored all, and then another
-pub goes_more : (h later : History) (first list longer : List (List ℕ)) (told mid last : DiskShown) → GoesOn first told h list mid → length list ≡ length (log_in h)
-    → GoesOn list mid later longer last → GoesOn first told later longer last
-goes_more h later first list longer told mid last a all b =
+pub goes_more : (h later : History) (first list longer : List (List ℕ)) (shown mid last : DiskShown) → GoesOn first shown h list mid → length list ≡ length (log_in h)
+    → GoesOn list mid later longer last → GoesOn first shown later longer last
+goes_more h later first list longer shown mid last a all b =
     let list_is : list ≡ first ++ a.grown.0 = sym (payloads_all h list all) ∙ a.grown.1 in
     let goes : payloads later longer ≡ payloads h list ++ b.grown.0 = b.grown.1 ∙ ap (λ l. l ++ b.grown.0) (sym (payloads_all h list all)) in
     record {
@@ -155,18 +155,18 @@ goes_more h later first list longer told mid last a all b =
       grown = (a.grown.0 ++ b.grown.0, b.grown.1 ∙ ap (λ l. l ++ b.grown.0) list_is ∙ append_assoc first a.grown.0 b.grown.0);
       longer = omega (arith, a.longer, b.longer);
       images = b.images;
-      moments = and_then told mid last (HoldsFirst first (payloads later longer))
-          (weaker told mid (HoldsFirst first (payloads h list)) (HoldsFirst first (payloads later longer))
+      moments = and_then shown mid last (HoldsFirst first (payloads later longer))
+          (weaker shown mid (HoldsFirst first (payloads h list)) (HoldsFirst first (payloads later longer))
           (λ c holds. subst (λ p. HoldsFirst first p c) (sym goes) (first_wider first first (payloads h list) b.grown.0 c (omega arith) holds)) a.moments)
           (weaker mid last (HoldsFirst list (payloads later longer)) (HoldsFirst first (payloads later longer))
           (λ c f. record { count = f.count; no_fewer = omega (arith, a.longer, f.no_fewer); no_more = f.no_more; holds = f.holds }) b.moments);
     }
 
 -- what is kept while payloads are stored
-pub record IsStoring (h : History) (first list : List (List ℕ)) (told_old told : DiskShown) (limits_old limits : Limits) (broken : Bool) (room : Room) : Type 0 where
-  pub appends : Appends first told_old h list told
+pub record IsStoring (h : History) (first list : List (List ℕ)) (shown_old shown : DiskShown) (limits_old limits : Limits) (broken : Bool) (room : Room) : Type 0 where
+  pub appends : Appends first shown_old h list shown
   pub fits : HasRoom limits h list room
   pub whole : broken ≡ false
-  pub holds : AllHold told list
+  pub holds : AllHold shown list
   pub same_limits : limits ≡ limits_old
-  pub faults : told.faults ≡ told_old.faults
+  pub faults : shown.faults ≡ shown_old.faults

@@ -19,7 +19,7 @@ pub record Standing : Type 0 where
   pub list : List (List ℕ)
 
 -- what is seen of a witness
-pub record WitnessTold : Type 1 where
+pub record WitnessShown : Type 1 where
   pub key : Key
   pub limits : Limits
   pub core : CoreView
@@ -27,10 +27,10 @@ pub record WitnessTold : Type 1 where
   pub disk : DiskShown
   pub broken : Bool
 
-abbrev pub standing_of : WitnessTold → Standing
+abbrev pub standing_of : WitnessShown → Standing
 standing_of witness = record { core = witness.core; list = witness.list }
 
--- what the witness goes by in all its calls: what its verifier says and what its signer gives, where they tell, its key and its
+-- what the witness goes by in all its calls: what its verifier says and what its signer gives, where they show it, its key and its
 -- limits
 pub record Terms : Type 0 where
   pub says : Key → List ℕ → Sig → Option Bool
@@ -48,10 +48,10 @@ abbrev pub counts : ℕ → ℕ → ℕ → Counts
 counts disk verifier signer = record { disk = disk; verifier = verifier; signer = signer }
 
 -- What is seen of a witness, of the verifier, the signer and the sink that it has at a link, with how often each has failed, and
--- what the verifier and the signer were asked, in order, where they tell. And what was noted of messages: those that were refused,
+-- what the verifier and the signer were asked, in order, where they show it. And what was noted of messages: those that were refused,
 -- and the digests of the events that were seen in place of others.
 pub record LinkShown : Type 1 where
-  pub witness : WitnessTold
+  pub witness : WitnessShown
   pub says : Key → List ℕ → Sig → Option Bool
   pub inquiries : Option (List Inquiry)
   pub verifier_faults : ℕ
@@ -65,12 +65,12 @@ pub record LinkShown : Type 1 where
 
 -- what is seen of a witness, and of the verifier and the signer that it has
 pub record ServiceShown : Type 1 where
-  pub witness : WitnessTold
+  pub witness : WitnessShown
   pub verifier : VerifierShown
   pub signer : SignerShown
 
-abbrev pub told_of_link : ServiceShown → SinkShown → List Refusal → List Digest → LinkShown
-told_of_link service sink refused seen = record {
+abbrev pub shown_of_link : ServiceShown → SinkShown → List Refusal → List Digest → LinkShown
+shown_of_link service sink refused seen = record {
   witness = service.witness;
   says = service.verifier.says;
   inquiries = service.verifier.inquiries;
@@ -85,10 +85,10 @@ told_of_link service sink refused seen = record {
 }
 
 -- with what is noted
-abbrev pub told_noting : ServiceShown → SinkShown → Notes → LinkShown
-told_noting service sink notes = told_of_link service sink notes.refused.items notes.seen.items
+abbrev pub shown_noting : ServiceShown → SinkShown → Notes → LinkShown
+shown_noting service sink notes = shown_of_link service sink notes.refused.items notes.seen.items
 
-abbrev pub terms_with : (Key → List ℕ → Sig → Option Bool) → (Key → List ℕ → Option Sig) → WitnessTold → Terms
+abbrev pub terms_with : (Key → List ℕ → Sig → Option Bool) → (Key → List ℕ → Option Sig) → WitnessShown → Terms
 terms_with says gives witness = record { says = says; gives = gives; key = witness.key; limits = witness.limits }
 
 abbrev pub terms_at : ServiceShown → Terms
@@ -103,11 +103,11 @@ terms_of link = terms_with link.says link.gives link.witness
 abbrev pub counts_of : LinkShown → Counts
 counts_of link = counts link.witness.disk.faults link.verifier_faults link.signer_faults
 
--- what a verifier tells
+-- what a verifier shows
 abbrev pub verifier_shown : {V : Type 0} → (V → Key → List ℕ → Sig → Option Bool) → (V → Option (List Inquiry)) → (V → ℕ) → V → VerifierShown
 verifier_shown says inquiries faults verifier = record { says = says verifier; inquiries = inquiries verifier; faults = faults verifier }
 
--- what a source has left, where it tells, and how often it has failed
+-- what a source has left, where it shows that, and how often it has failed
 abbrev pub source_shown : Option (List ℕ) → ℕ → SourceShown
 source_shown left faults = record { left = left; faults = faults }
 
@@ -122,10 +122,10 @@ pub record Left (D : Type 0) : Type 0 where
   pub disk : D
 
 -- what is seen of it
-abbrev pub seen_as : {D : Type 0} → (D → DiskShown) → Key → Limits → Left D → WitnessTold
-seen_as told key limits left = record { key = key; limits = limits; core = left.core; list = left.list; disk = told left.disk; broken = left.broken }
+abbrev pub seen_as : {D : Type 0} → (D → DiskShown) → Key → Limits → Left D → WitnessShown
+seen_as shown key limits left = record { key = key; limits = limits; core = left.core; list = left.list; disk = shown left.disk; broken = left.broken }
 
--- what serves links at a moment: a witness as it is, with its key and its limits, and what its verifier and its signer tell
+-- what serves links at a moment: a witness as it is, with its key and its limits, and what its verifier and its signer show
 pub record Serving (D : Type 0) : Type 0 where
   pub key : Key
   pub limits : Limits
@@ -135,4 +135,4 @@ pub record Serving (D : Type 0) : Type 0 where
 
 -- what is seen of these
 abbrev pub seen_by : {D : Type 0} → (D → DiskShown) → Serving D → ServiceShown
-seen_by told serving = record { witness = seen_as told serving.key serving.limits serving.left; verifier = serving.verifier; signer = serving.signer }
+seen_by shown serving = record { witness = seen_as shown serving.key serving.limits serving.left; verifier = serving.verifier; signer = serving.signer }

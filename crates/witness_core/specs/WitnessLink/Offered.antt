@@ -7,7 +7,7 @@ use Rattle.run_status.specs.declared.message_feed.feed_close.FeedClose.TheVarian
 use Rattle.run_status.specs.RunStatus.Readers.{sink_seen}
 use Rattle.run_status.specs.declared.run_status.close.Close.{Close}
 use Rattle.run_status.specs.declared.run_status.close.Close.TheVariants.{End, Bad, ReadFault, LimitReached, OutOfMemory}
-use Rattle.witness_core.specs.WitnessLink.Links.{LinkShown, ServiceShown, told_noting}
+use Rattle.witness_core.specs.WitnessLink.Links.{LinkShown, ServiceShown, shown_noting}
 use Rattle.witness_core.specs.WitnessLink.Serving.{HasEnded, HasServed}
 use Rattle.witness_core.specs.declared.witness_link.link.Link.{Link}
 
@@ -20,7 +20,7 @@ pub record LendsSame {W K : Type 0} (first now : Link W K) : Type 0 where
 module _ {W K : Type 0} (service_seen : W → ServiceShown) (written : K → Option (List ℕ)) (sink_faults : K → ℕ) where
   -- what is seen of a link
   abbrev pub link_shown : Link W K → LinkShown
-  link_shown link = told_noting (service_seen link.service.now) (sink_seen written sink_faults link.sink.now) link.notes.now
+  link_shown link = shown_noting (service_seen link.service.now) (sink_seen written sink_faults link.sink.now) link.notes.now
 
   -- since it had the first of these values it has served these messages
   pub record HasTaken (first now : Link W K) (messages : List Message) : Type 0 where

@@ -20,7 +20,7 @@ use Rattle.witness_core.specs.declared.witness_link.notes.Notes.{Notes}
 use Rattle.witness_core.specs.declared.witness_store.witness_fault.WitnessFault.{WitnessFault}
 use Rattle.witness_core.specs.declared.witness_store.witness_fault.WitnessFault.TheVariants as fault
 use Rattle.witness_core.specs.WitnessLink.Calls.{messages_in, receipts_in}
-use Rattle.witness_core.specs.WitnessLink.Links.{LinkShown, ServiceShown, source_at, terms_of, told_noting, told_of_link}
+use Rattle.witness_core.specs.WitnessLink.Links.{LinkShown, ServiceShown, source_at, terms_of, shown_noting, shown_of_link}
 use Rattle.witness_core.specs.WitnessLink.Serving.{FailsToPut, FailsToTake, GoesOn, Serves}
 use Rattle.witness_core.specs.WitnessLink.Stored.{HoldsEach}
 
@@ -85,11 +85,11 @@ pub record ServesLink (limits : Limits) (source_old source_new : SourceShown) (o
 -- a link was served that ended so, and nothing was noted before
 abbrev pub ServesLinkTo : Limits → SourceShown → SourceShown → ServiceShown → ServiceShown → SinkShown → SinkShown → LinkEnd → Type 0
 ServesLinkTo limits source_old source_new old new sink_old sink_new end =
-    ServesLink limits source_old source_new (told_of_link old sink_old [] []) (told_of_link new sink_new end.refused.items end.seen.items) end.close
+    ServesLink limits source_old source_new (shown_of_link old sink_old [] []) (shown_of_link new sink_new end.refused.items end.seen.items) end.close
 
 -- a link was served with the objects that lend it, and what was noted before stands before the new notes
 abbrev pub ServesNoting : {S W K : Type 0} → (S → Option (List ℕ)) → (S → ℕ) → (W → ServiceShown) → (K → Option (List ℕ)) → (K → ℕ) → Limits → S → S → W → W → K → K → Notes → Notes → Close → Type 0
 ServesNoting left faults service_seen written sink_faults limits source_old source_new old new sink_old sink_new notes_old notes_new close =
     ServesLink limits (source_at left faults source_old) (source_at left faults source_new)
-    (told_noting (service_seen old) (sink_seen written sink_faults sink_old) notes_old)
-    (told_noting (service_seen new) (sink_seen written sink_faults sink_new) notes_new) close
+    (shown_noting (service_seen old) (sink_seen written sink_faults sink_old) notes_old)
+    (shown_noting (service_seen new) (sink_seen written sink_faults sink_new) notes_new) close

@@ -14,7 +14,7 @@ use Rattle.witness_core.specs.declared.witness_store.witness_fault.WitnessFault.
 use Rattle.witness_core.specs.declared.witness_store.witness_fault.WitnessFault.TheVariants.{DiskFault, SignerFault, VerifierFault, LimitReached, Broken, OutOfMemory}
 use Rattle.witness_core.specs.WitnessLink.Calls.{IsNotTurnedAway, IsCall}
 use Rattle.witness_core.specs.WitnessLink.Stored.{HoldsAccepted, IsLawfulList}
-use Rattle.witness_core.specs.WitnessLink.Links.{Counts, Standing, Terms, WitnessTold, standing_of}
+use Rattle.witness_core.specs.WitnessLink.Links.{Counts, Standing, Terms, WitnessShown, standing_of}
 
 -- none of them failed but the one whose fault it is
 abbrev pub Counted : Counts → Counts → WitnessFault → Type 0
@@ -27,7 +27,7 @@ Counted old new Broken = ⊥
 
 -- The witness is whole, and has stored all that is accepted: its list reads as that, and a start from it fails for want of memory
 -- alone.
-pub record IsWhole (witness : WitnessTold) : Type 0 where
+pub record IsWhole (witness : WitnessShown) : Type 0 where
   pub whole : witness.broken ≡ false
   pub listed : AreListed witness.core witness.list
   pub read : ReadsAgain witness.core witness.list
@@ -35,7 +35,7 @@ pub record IsWhole (witness : WitnessTold) : Type 0 where
 
 -- Each image of its disk stands for the list, which has the payloads of the accepted events, each with its event's bytes at its
 -- front. The list is lawful, it reads as these events, and a start from it fails for want of memory alone.
-pub record IsSound (witness : WitnessTold) : Type 0 where
+pub record IsSound (witness : WitnessShown) : Type 0 where
   pub stand : AllStand witness.disk witness.list witness.list
   pub listed : AreListed witness.core witness.list
   pub holds : HoldsAccepted witness.core witness.list
@@ -46,7 +46,7 @@ pub record IsSound (witness : WitnessTold) : Type 0 where
 -- What became of the witness at a message that it failed to take to its end. Where there is no room, nothing more was told, and
 -- there still is none for it. Without memory its event may have come, or not. Else it came, and there was room for it; and but for a
 -- fault of the disk, all that is accepted is stored.
-abbrev pub FailsAt : Terms → Standing → Message → WitnessTold → WitnessFault → Type 0
+abbrev pub FailsAt : Terms → Standing → Message → WitnessShown → WitnessFault → Type 0
 FailsAt terms old m new DiskFault = IsNotTurnedAway terms old m × TellsEvent terms.says old.core m new.core
 FailsAt terms old m new VerifierFault = IsNotTurnedAway terms old m × TellsEvent terms.says old.core m new.core × IsWhole new
 FailsAt terms old m new SignerFault = IsNotTurnedAway terms old m × TellsEvent terms.says old.core m new.core × (open_of new.core ≡ []) × IsWhole new
@@ -55,14 +55,14 @@ FailsAt terms old m new OutOfMemory = IsUntold old.core new.core ⊎ TellsEvent 
 FailsAt terms old m new Broken = ⊥
 
 -- its key and its limits are the same, and what was stored before and since, which is lawful
-pub record KeepsSame (old new : WitnessTold) : Type 0 where
+pub record KeepsSame (old new : WitnessShown) : Type 0 where
   pub key : new.key ≡ old.key
   pub limits : new.limits ≡ old.limits
   pub stores : StoresOn old.list old.disk new.core new.list new.disk
   pub lawful : IsLawfulList stores.accepted
 
 -- TAKES: a message was taken, or the witness failed at it
-abbrev pub TakesMessage : Terms → Counts → Counts → Message → WitnessTold → WitnessTold → Result Outcome WitnessFault → Type 0
+abbrev pub TakesMessage : Terms → Counts → Counts → Message → WitnessShown → WitnessShown → Result Outcome WitnessFault → Type 0
 TakesMessage terms counts_old counts_new m old new (Ok outcome) =
     IsCall terms (standing_of old) (record { message = m; fate = outcome.fate; receipts = outcome.receipts.items; behind = standing_of new })
     × IsWhole new × (counts_new ≡ counts_old)

@@ -26,7 +26,7 @@ use Rattle.shelf_log.specs.ShelfLog.Format.{Holds}
 use Rattle.shelf_log.specs.ShelfLog.OnDisk.{AllHold}
 use Rattle.shelf_log.specs.declared.shelf_log.version.Version.TheVariants.{Two}
 use Rattle.witness_core.specs.declared.witness_link.link_end.LinkEnd.{LinkEnd}
-use Rattle.witness_core.specs.WitnessLink.Links.{Left, LinkShown, Serving, seen_as, seen_by, source_shown, told_of_link}
+use Rattle.witness_core.specs.WitnessLink.Links.{Left, LinkShown, Serving, seen_as, seen_by, source_shown, shown_of_link}
 use Rattle.witness_core.specs.WitnessLink.Served.{ServesLink, ServesLinkTo}
 use Rattle.run_status.specs.RunRecord.Run.{HasNoLinks, Run, SignerShown, is_out}
 use Rattle.witness_core.specs.WitnessRole.Views.{Views, readers_by}
@@ -46,15 +46,15 @@ MakesServing kind name helper (Some first) (Some verifier) signer before after =
 
 -- The run ends with these readers, and with this found besides, and hands back the disk and the journal of the witness as it is
 -- left. Nothing more is owed. Unless the witness is broken, each image of the disk stands for its list, and so does the file as it
--- reads, where that is told.
-pub record EndsWith {D : Type 0} (told : D → DiskShown) (disk : Option D) (readers : List Reader) (besides : Besides) (new : Left D) (run : Run) : Type 0 where
+-- reads, where the disk shows it.
+pub record EndsWith {D : Type 0} (shown : D → DiskShown) (disk : Option D) (readers : List Reader) (besides : Besides) (new : Left D) (run : Run) : Type 0 where
   pub all : run.readers ≡ readers
   pub back : disk ≡ Some new.disk
   pub bodies : run.journal.bodies ≡ map (λ b. b.bytes) new.core.held
   pub entries : run.journal.entries ≡ new.core.entries
   pub status : run.status ≡ status_closing besides run.readers
-  pub stand : new.broken ≡ false → AllHold (told new.disk) new.list
-  pub reads : new.broken ≡ false → IfSome (told new.disk).file (λ file. Holds Two file new.list)
+  pub stand : new.broken ≡ false → AllHold (shown new.disk) new.list
+  pub reads : new.broken ≡ false → IfSome (shown new.disk).file (λ file. Holds Two file new.list)
 
 -- One of the makings failed: nothing is read, and the witness is as it was. A verifier that was made was asked nothing, and never failed.
 pub record ServesNone {D : Type 0} (held : Option (List ℕ)) (at : Close) (reader : Reader) (old new : Left D) (run : Run) : Type 0 where
@@ -73,10 +73,10 @@ verifier_of before helper inquiries = record { says = before.says helper; inquir
 abbrev pub signer_of : OutsideShown → List ℕ → Option (List Signing) → SignerShown
 signer_of before helper signings = record { gives = before.gives helper; signings = signings; faults = 0 }
 
-module _ {D : Type 0} (told : D → DiskShown) (key : Key) (limits : Limits) where
+module _ {D : Type 0} (shown : D → DiskShown) (key : Key) (limits : Limits) where
   -- what is seen of a witness and of a verifier, a signer and a sink, and what was noted
   abbrev pub at_link : Left D → VerifierShown → SignerShown → SinkShown → List Refusal → List Digest → LinkShown
-  at_link left verifier signer sink refused seen = told_of_link (record { witness = seen_as told key limits left; verifier = verifier; signer = signer }) sink refused seen
+  at_link left verifier signer sink refused seen = shown_of_link (record { witness = seen_as shown key limits left; verifier = verifier; signer = signer }) sink refused seen
 
   -- the link that a run has with its source, its verifier and its signer, which these were before, and the sink
   abbrev pub ServesIts : Run → SourceShown → VerifierShown → SignerShown → Left D → SourceShown → VerifierShown → SignerShown → Reader → Left D → Type 0
@@ -86,7 +86,7 @@ module _ {D : Type 0} (told : D → DiskShown) (key : Key) (limits : Limits) whe
       (at_link new verifier signer run.sink_after reader.refused reader.seen) reader.close
 
   -- all three were made of the name and of the helper, and serve the witness as a link; the verifier and the signer were asked nothing
-  -- before, where they tell, and none of the three had failed
+  -- before, where they show it, and none of the three had failed
   pub record ServesMade (helper name : List ℕ) (old : Left D) (source : SourceShown) (verifier : VerifierShown) (signer : SignerShown) (reader : Reader) (new : Left D) (run : Run) : Type 0 where
     pub inquiries : Option (List Inquiry)
     pub none_inquired : HasNone inquiries
@@ -108,7 +108,7 @@ module _ {D : Type 0} (told : D → DiskShown) (key : Key) (limits : Limits) whe
     pub new : Left D
     pub serves : ServesBy helper name old reader reader.source reader.verifier run.signer new run
     pub no_links : HasNoLinks run
-    pub ends : EndsWith told disk (reader ∷ []) nothing_besides new run
+    pub ends : EndsWith shown disk (reader ∷ []) nothing_besides new run
 
   -- all three were made, and were these before, and the run ends
   pub record ServesAll (source_old : SourceShown) (verifier_old : VerifierShown) (signer_old : SignerShown) (old : Left D) (disk : Option D) (run : Run) : Type 0 where
@@ -122,7 +122,7 @@ module _ {D : Type 0} (told : D → DiskShown) (key : Key) (limits : Limits) whe
     pub signer_is : run.signer ≡ Some signer
     pub serves : ServesIts run source_old verifier_old signer_old old source verifier signer reader new
     pub no_links : HasNoLinks run
-    pub ends : EndsWith told disk (reader ∷ []) nothing_besides new run
+    pub ends : EndsWith shown disk (reader ∷ []) nothing_besides new run
 
 -- the run ends with these readers, and with a door that failed or didn't
 abbrev pub EndsBy : {O S V G D P K : Type 0} → Views O S V G D P K → Option D → List (ReaderEnd S V) → Bool → Left D → Run → Type 0

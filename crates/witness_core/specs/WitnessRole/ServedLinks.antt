@@ -52,7 +52,7 @@ pub record Between (D : Type 0) : Type 0 where
   pub signings : Option (List Signing)
   pub signer_faults : ℕ
 
--- what its verifier and its signer tell then
+-- what its verifier and its signer show then
 abbrev pub verifier_at : {D : Type 0} → (Key → List ℕ → Sig → Option Bool) → Between D → VerifierShown
 verifier_at says between = record { says = says; inquiries = between.inquiries; faults = between.verifier_faults }
 
@@ -83,7 +83,7 @@ readers_with verifier [] = idle_reader (Some verifier) End ∷ []
 readers_with verifier (reader ∷ readers) = record reader { verifier = Some verifier } ∷ readers
 
 -- No more links were served than so many, and fewer only where one closed so that the run ends, the door failed, or it had none left
--- or doesn't tell.
+-- or doesn't show them.
 pub record AreEnough (count : ℕ) (links : List ServedLink) (failed : Bool) (left : Option (List (List ℕ))) : Type 0 where
   pub no_more : length links ≤ count
   pub no_fewer : IsEnough count (length links) failed left ⊎ (list_all (λ l. asks_next l.close) links ≡ false)
@@ -94,13 +94,13 @@ pub record IsFresh (link : ServedLink) : Type 0 where
   pub sink_unfailed : link.sink_old.faults ≡ 0
   pub unwritten : HasNone link.sink_old.written
 
-module _ {D : Type 0} (told : D → DiskShown) (key : Key) (limits run_limits : Limits) (says : Key → List ℕ → Sig → Option Bool) (gives : Key → List ℕ → Option Sig) where
+module _ {D : Type 0} (shown : D → DiskShown) (key : Key) (limits run_limits : Limits) (says : Key → List ℕ → Sig → Option Bool) (gives : Key → List ℕ → Option Sig) where
   -- a link was served, as the witness stood before it
   pub record ServesOne (link : ServedLink) (old new : Between D) : Type 0 where
     pub fresh : IsFresh link
     pub serves : ServesLink run_limits link.source_old link.source
-        (at_link told key limits old.left (verifier_at says old) (signer_at gives old) link.sink_old [] [])
-        (at_link told key limits new.left (verifier_at says new) (signer_at gives new) link.sink link.refused link.seen) link.close
+        (at_link shown key limits old.left (verifier_at says old) (signer_at gives old) link.sink_old [] [])
+        (at_link shown key limits new.left (verifier_at says new) (signer_at gives new) link.sink link.refused link.seen) link.close
 
   -- what came with these bytes was served as a link, with this reader and this sink
   pub record IsServed (held : Option (List ℕ)) (reader : Reader) (sink : SinkShown) (old new : Between D) : Type 0 where
@@ -128,10 +128,10 @@ module _ {D : Type 0} (told : D → DiskShown) (key : Key) (limits run_limits : 
   -- A stop at any moment leaves what was stored before the first link, and the first few of what was accepted since, none skipped,
   -- which is lawful. Behind the last link the list, and each image, has the event of each receipt.
   pub record StoresThrough (receipts : List Receipt) (old new : Left D) : Type 0 where
-    pub stores : StoresOn old.list (told old.disk) new.core new.list (told new.disk)
+    pub stores : StoresOn old.list (shown old.disk) new.core new.list (shown new.disk)
     pub lawful : IsLawfulList stores.accepted
     pub of_stored : All (IsOfListed link_terms new.list) receipts
-    pub held : (c : List ℕ) → (told new.disk).images c → HoldsEach link_terms receipts c
+    pub held : (c : List ℕ) → (shown new.disk).images c → HoldsEach link_terms receipts c
 
   -- so it is through all links; where none came the witness is as it was
   abbrev pub StopsLeave : (links : List ServedLink) (old new : Between D) → ServesEach links old new → Type 0
@@ -156,7 +156,7 @@ module _ {D : Type 0} (told : D → DiskShown) (key : Key) (limits run_limits : 
 abbrev pub at_first : {D : Type 0} → Option (List Inquiry) → Option (List Signing) → Left D → Between D
 at_first inquiries signings left = record { left = left; inquiries = inquiries; verifier_faults = 0; signings = signings; signer_faults = 0 }
 
--- the verifier and the signer tell this in the end
+-- the verifier and the signer show this in the end
 abbrev pub at_last : {D : Type 0} → Left D → VerifierShown → SignerShown → Between D
 at_last left verifier signer =
     record { left = left; inquiries = verifier.inquiries; verifier_faults = verifier.faults; signings = signer.signings; signer_faults = signer.faults }
@@ -170,22 +170,22 @@ pub record ServesNoLink {D : Type 0} (links : Option (List (List ℕ))) (verifie
   pub no_sinks : run.sinks ≡ []
   pub same : new ≡ old
 
-module _ {D : Type 0} (told : D → DiskShown) (key : Key) (limits : Limits) where
-  -- All that was made serves the links that come. The verifier and the signer were asked nothing before, where they tell.
+module _ {D : Type 0} (shown : D → DiskShown) (key : Key) (limits : Limits) where
+  -- All that was made serves the links that come. The verifier and the signer were asked nothing before, where they show it.
   pub record ServesLinks (helper address : List ℕ) (count : ℕ) (old new : Left D) (door : DoorShown) (verifier : VerifierShown) (signer : SignerShown) (failed : Bool) (readers : List Reader) (run : Run) : Type 0 where
     pub each : List Reader
     pub inquiries : Option (List Inquiry)
     pub none_inquired : HasNone inquiries
     pub signings : Option (List Signing)
     pub none_signed : HasNone signings
-    pub coming : ServesComing told key limits run.before.limits (run.before.says helper) (run.before.gives helper) count failed
+    pub coming : ServesComing shown key limits run.before.limits (run.before.says helper) (run.before.gives helper) count failed
         (record { left = run.before.links address; faults = 0 }) door
         (at_first inquiries signings old) (at_last new verifier signer) each run.sinks
     pub says : verifier.says ≡ run.before.says helper
     pub gives : signer.gives ≡ run.before.gives helper
     pub readers_are : readers ≡ readers_with verifier each
 
-  -- all three were made, of which the door told this, and the verifier and the signer were so before; and the run ends
+  -- all three were made, of which the door showed this, and the verifier and the signer were so before; and the run ends
   pub record ServesAllLinks (run_limits : Limits) (says : Key → List ℕ → Sig → Option Bool) (gives : Key → List ℕ → Option Sig) (count : ℕ) (door_old : DoorShown) (old : Between D) (disk : Option D) (run : Run) : Type 0 where
     pub door : DoorShown
     pub verifier : VerifierShown
@@ -195,11 +195,11 @@ module _ {D : Type 0} (told : D → DiskShown) (key : Key) (limits : Limits) whe
     pub failed : Bool
     pub door_is : run.door ≡ Some door
     pub signer_is : run.signer ≡ Some signer
-    pub coming : ServesComing told key limits run_limits says gives count failed door_old door
+    pub coming : ServesComing shown key limits run_limits says gives count failed door_old door
         old (at_last new verifier signer) each run.sinks
     pub says_is : verifier.says ≡ says
     pub gives_is : signer.gives ≡ gives
-    pub ends : EndsWith told disk (readers_with verifier each) (record nothing_besides { door_failed = failed }) new run
+    pub ends : EndsWith shown disk (readers_with verifier each) (record nothing_besides { door_failed = failed }) new run
 
   -- What is made serves the links that come. Where the door couldn't be made, that is found, and the reader closes by nothing.
   abbrev pub ServesLinksBy : List ℕ → List ℕ → ℕ → Left D → Left D → Option DoorShown → Option VerifierShown → Option SignerShown → Bool → List Reader → Run → Type 0
@@ -222,7 +222,7 @@ module _ {D : Type 0} (told : D → DiskShown) (key : Key) (limits : Limits) whe
     pub failed : Bool
     pub serves : ServesLinksBy helper address count old new run.door verifier run.signer failed readers run
     pub same_sink : run.sink_after ≡ run.sink_before
-    pub ends : EndsWith told disk readers (record nothing_besides { door_failed = failed }) new run
+    pub ends : EndsWith shown disk readers (record nothing_besides { door_failed = failed }) new run
 
 module _ {O S V G D P K W : Type 0} (views : Views O S V G D P K) (serving : W → Serving D) where
   -- what came was served as a link, with this reader and this sink

@@ -69,11 +69,11 @@ pub record IsUnstarted {D : Type 0} (disk : Option D) (first : D) (list : List (
   pub none : AreNoStart list fault
   pub unread : IsUnread (fault ≡ OutOfMemory) (start_text fault) (start_found fault) run
 
-module _ {D : Type 0} (told : D → DiskShown) where
+module _ {D : Type 0} (shown : D → DiskShown) where
   -- what is read serves the witness: the file, or the links that come
   abbrev pub ServesInput : Key → Limits → List ℕ → Inputs (List ℕ) → Left D → Option D → Run → Type 0
-  ServesInput key limits helper (named name) old disk run = IsServing told key limits helper name old disk run
-  ServesInput key limits helper (links address count) old disk run = IsServingLinks told key limits helper address count old disk run
+  ServesInput key limits helper (named name) old disk run = IsServing shown key limits helper name old disk run
+  ServesInput key limits helper (links address count) old disk run = IsServingLinks shown key limits helper address count old disk run
 
   -- a witness starts from the list, which is lawful, with no question open, and is served
   pub record IsStartedOver (disk : Option D) (helper : List ℕ) (key : Key) (input : Inputs (List ℕ)) (limits : Limits) (first : D) (list : List (List ℕ)) (run : Run) : Type 0 where
@@ -91,7 +91,7 @@ module _ {D : Type 0} (told : D → DiskShown) where
     -- the shelf wasn't opened
     pub record OpensNone : Type 0 where
       pub fault : OpeningFault
-      pub opening : IsOpening told run.before.limits run.before run.after shelf from disk old (Err fault)
+      pub opening : IsOpening shown run.before.limits run.before run.after shelf from disk old (Err fault)
       pub unopened : IsUnopened fault run
 
     -- the shelf was opened, and each image of its disk stands for the list; what follows is over the outside as that left it
@@ -99,9 +99,9 @@ module _ {D : Type 0} (told : D → DiskShown) where
       pub first : D
       pub list : List (List ℕ)
       pub middle : OutsideShown
-      pub opening : IsOpening told run.before.limits run.before middle shelf from (Some first) old (Ok list)
+      pub opening : IsOpening shown run.before.limits run.before middle shelf from (Some first) old (Ok list)
       pub names : KeepsNames run.before middle
-      pub stands : AllHold (told first) list
+      pub stands : AllHold (shown first) list
       pub starts : StartsOver disk helper key input run.before.limits first list (record run { before = middle })
 
     -- `witness --helper HELPER --prefix KEY --shelf SHELF --from OLD FILE`, or `--listen ADDRESS --links COUNT` in the place of FILE:

@@ -26,7 +26,7 @@ pub record HoldsFirst (stored accepted : List (List ℕ)) (file : List ℕ) : Ty
 
 -- each image stands for the stored payloads followed by the first few of the others
 abbrev pub AllStand : DiskShown → List (List ℕ) → List (List ℕ) → Type 0
-AllStand told stored accepted = (c : List ℕ) → told.images c → HoldsFirst stored accepted c
+AllStand shown stored accepted = (c : List ℕ) → shown.images c → HoldsFirst stored accepted c
 
 -- the second list is the first with more behind it
 abbrev pub Grown : List (List ℕ) → List (List ℕ) → Type 0
@@ -73,13 +73,13 @@ pub record IsOnWay (h : History) (list : List (List ℕ)) : Type 0 where
 
 -- The shelf has the payloads of all accepted events, and room for the events that wait. Its disk hasn't failed, and each image
 -- stands for the list.
-pub record AreStored (h : History) (list : List (List ℕ)) (limits : Limits) (broken : Bool) (told : DiskShown) (room : Room) : Type 0 where
+pub record AreStored (h : History) (list : List (List ℕ)) (limits : Limits) (broken : Bool) (shown : DiskShown) (room : Room) : Type 0 where
   pub on_way : IsOnWay h list
   pub all : length list ≡ length (log_in h)
   pub grown : IsGrown h.base
   pub fits : HasRoom limits h list room
   pub whole : broken ≡ false
-  pub holds : AllHold told list
+  pub holds : AllHold shown list
 
 -- Payloads were appended: the list lacks fewer of the same payloads.
 pub record Appends (old : List (List ℕ)) (disk_old : DiskShown) (h : History) (new : List (List ℕ)) (disk_new : DiskShown) : Type 0 where

@@ -1,5 +1,5 @@
 //! Receipts.
-ghost use Rattle.std.specs.Prelude.{◌≡◌, ◌≤◌, ◌<◌, ◌^◌, ◌∷◌, ◌++◌, [], ℕ, List, length, IfErr, IfOk};
+ghost use Rattle.std.specs.Prelude.{◌≡◌, ◌≤◌, ◌∷◌, ◌++◌, [], ℕ, List, length, IfErr, IfOk};
 ghost use Rattle.cesr_codes.specs.declared.key.KeyCode.TheVariants.{Fixed};
 ghost use Rattle.validator_core.specs.Tables.CoreTables.View.{body_of};
 ghost use Rattle.event_body.specs.EventBody.Held.{IsHeldReceipt};
@@ -119,12 +119,8 @@ fn held(receipt: ReceiptBody)
 {
     receipt.said.held();
     receipt.prefix.held();
-    number(receipt.sn);
+    let _sn = receipt.sn;
 }
-
-fn number(_number: u64)
-    ensures { _number < 2 ^ 64 }
-{}
 
 // The text with a couple behind it.
 fn with_couple(alloc: Global, text: &[u8], couple: Couple) -> Result<Vec<u8>, AllocError>

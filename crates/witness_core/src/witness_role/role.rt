@@ -8,7 +8,7 @@ ghost use Rattle.journal.specs.declared.journal.resume_fault.ResumeFault.TheVari
 ghost use Rattle.witness_core.specs.WitnessRole.Witnessed.{IsUnopened, IsUnread, IsWitnessedBy, ServesInput, StartsOver, count_in, start_found, start_text};
 
 use crate::witness_core::{StartFault, Witness};
-use crate::witness_link::{LeftView, Witnessing};
+use crate::witness_link::LeftView;
 use crate::witness_opening::{NotOpened, Opened, log_line, open_shelf};
 use crate::witness_role::links_kept::{LinksKept, room_for};
 use crate::witness_role::unread::unread;
@@ -65,7 +65,7 @@ fn unopened<O: Outside>(
     ensures old { result.old ≡ none.old }
     ensures no_second { result.second ≡ None }
     ensures unopened { IsUnopened none.fault (⟦<O as Runs>⟧.run outside.old outside.new result) }
-    ensures told { O.shown outside.new ≡ O.shown outside.old }
+    ensures shown { O.shown outside.new ≡ O.shown outside.old }
 {
     let NotOpened { fault, disk, old } = none;
     let line = fault.text(alloc).ok();
@@ -172,7 +172,7 @@ fn unstarted<O: Outside>(
     ensures no_second { result.second ≡ None }
     ensures unread { IsUnread (none.fault ≡ OutOfMemory) (start_text none.fault) (start_found none.fault)
         (⟦<O as Runs>⟧.run outside.old outside.new result) }
-    ensures told { O.shown outside.new ≡ O.shown outside.old }
+    ensures shown { O.shown outside.new ≡ O.shown outside.old }
 {
     let StartFault { shelf, fault } = none;
     let line = line_of(alloc, fault).ok();

@@ -27,7 +27,7 @@ pub(crate) fn unread<O: Outside>(
     ensures no_second { result.second ≡ None }
     ensures settles { Settles (option_map string_bytes line) besides
         (⟦<O as Runs>⟧.run outside.old outside.new result) }
-    ensures told { O.shown outside.new ≡ O.shown outside.old }
+    ensures shown { O.shown outside.new ≡ O.shown outside.old }
 {
     let status = settle(outside, bytes_of(&line), besides, readers.as_slice());
     Done {

@@ -6,7 +6,7 @@ use Rattle.witness_core.proofs.witness_role.role.start.Goals as goal
 pub returns-in_default-clause-starts : goal.returns-in_default-clause-starts
 returns-in_default-clause-starts g c = inl (record {
   disk_is = c.unstarted.ensures.disk;
-  same = rw c.unstarted.ensures.told refl;
+  same = rw c.unstarted.ensures.shown refl;
   fault = OutOfMemory;
   none = tt;
   unread = c.unstarted.ensures.unread;
@@ -29,7 +29,7 @@ returns-in-Err-clause-starts g c =
     let none = c.in-Err.ensures in
     inl (record {
       disk_is = rw none.same_shelf at c.unstarted-in-Err.ensures.disk;
-      same = rw c.unstarted-in-Err.ensures.told refl;
+      same = rw c.unstarted-in-Err.ensures.shown refl;
       fault = c.in-Err.none.fault;
       none = none.refused;
       unread = c.unstarted-in-Err.ensures.unread;
