@@ -39,7 +39,7 @@ module _ (old new : Reading) (item : Item) (place : ℕ) (a : AnswersItem old ne
       (subst (λ rest. SpellsEither (take a.length_of rest) item) (sym has.behind) a.spelled))
 
 -- fewer bytes are buffered behind an item
-pub fewer_held : (old new : Reading) (item : Item) (place : ℕ) → AnswersItem old new item place → length new.rest < length old.rest
-fewer_held old new item place a =
+pub fewer_buffered : (old new : Reading) (item : Item) (place : ℕ) → AnswersItem old new item place → length new.rest < length old.rest
+fewer_buffered old new item place a =
     let within = a.within in
     omega (arith, within, spelled_some old.rest a.length_of item a.spelled, ap (λ r. length r.rest) a.moved, length-drop a.length_of old.rest)

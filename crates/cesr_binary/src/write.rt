@@ -1,7 +1,7 @@
 //! Writing the items of a stream, in either domain.
 ghost use Rattle.std.specs.Prelude.{◌≡◌, ◌++◌, ◌∷◌, List, ℕ, Bool, false, map};
 ghost use Rattle.lists.specs.KeriSpecs.Causes.{HasCause};
-ghost use Rattle.lists.specs.KeriSpecs.Told.{Puts};
+ghost use Rattle.lists.specs.KeriSpecs.Shown.{Puts};
 ghost use Rattle.cesr_stream.specs.Written.{IsItem, IsWritable, MayStand};
 ghost use Rattle.cesr_stream.specs.declared.item.Item.{Item as ItemValue};
 ghost use Rattle.cesr_binary.specs.Mixed.{SpellsEither};

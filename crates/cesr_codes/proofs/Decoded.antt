@@ -18,7 +18,7 @@ use Rattle.base64.proofs.RoundTrip.{length-encode_symbols}
 use Rattle.lists.specs.KeriSpecs.Base64.{digits_in, whole_number, AreBytes, characters, base64_text, is_character, number_of_text}
 use Rattle.lists.proofs.KeriSpecsLemmas.Digits.{length-digits_in, all_below-digits_in, number-digits_in, number_after-split, number-zeros}
 use Rattle.cesr_codes.specs.Decoding.{IsDecoded}
-use Rattle.cesr_codes.specs.declared.symbols.Decoded.TheVariants.{Held, Large}
+use Rattle.cesr_codes.specs.declared.symbols.Decoded.TheVariants.{Whole, Large}
 use Rattle.cesr_codes.proofs.Groups.{encoded_text, pow_groups}
 use Rattle.cesr_codes.proofs.Numbers.{text-number, text_low, number-text, number-zero_characters, bytes_low, characters-text}
 
@@ -160,7 +160,7 @@ module _ (q : ℕ) (digits symbols padded : List ℕ) (few : length digits ≤ 4
         omega (arith, parts, same_value, more)
 
     module _ (raw : List ℕ) (size : length raw ≡ count) (last_is : raw ≡ drop (3 * q - count) padded) where
-      pub is_held : list_all (λ b. b == 0) (take (3 * q - count) padded) ≡ true → IsDecoded digits digits raw Held
+      pub is_held : list_all (λ b. b == 0) (take (3 * q - count) padded) ≡ true → IsDecoded digits digits raw Whole
       is_held zeros =
           let found = held zeros in
           (all_characters, (refl, subst (λ xs. (i : ℕ) → slice_index xs i < 256) (sym last_is) found.0.1), ap whole_number last_is ∙ found.1)

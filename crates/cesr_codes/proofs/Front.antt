@@ -8,7 +8,7 @@ use Rattle.std.specs.List.{list_all}
 use Rattle.lists.specs.KeriSpecs.Base64.{whole_number, AreBytes, base64_text, is_character, number_of_text}
 use Rattle.cesr_codes.specs.declared.code_fault.CodeFault.{CodeFault}
 use Rattle.cesr_codes.specs.declared.code_fault.CodeFault.TheVariants.{Short, CodeNotHeld, BadCharacter, PadBits, OtherIndex}
-use Rattle.cesr_codes.specs.declared.symbols.Decoded.TheVariants.{Held, Large}
+use Rattle.cesr_codes.specs.declared.symbols.Decoded.TheVariants.{Whole, Large}
 use Rattle.cesr_codes.specs.Decoding.{IsDecoded}
 use Rattle.cesr_codes.specs.Reading.{Reads, IsCoded, IsWhole, refusal, head}
 use Rattle.cesr_codes.specs.Table.{Layout, layout, Verdict, good, short, bad, has_code, has_other_index, layout_verdict, whole_verdict, total}
@@ -40,7 +40,7 @@ module _ (l : Layout) (text raw : List ℕ) (h : ℕ) (h_is : h ≡ head l) (siz
   pad_bits large =
       judged_whole l text true (has_other_index l text) (no_failure is_character text large.0) (rw (← size, ← h_is) (le-leb (256 ^ length raw) (number_of_text (drop h text)) large.1)) refl
 
-  module _ (decoded : IsDecoded text (drop h text) raw Held) where
+  module _ (decoded : IsDecoded text (drop h text) raw Whole) where
     same_value : whole_number raw ≡ number_of_text (drop (head l) text)
     same_value = decoded.2 ∙ ap (λ k. number_of_text (drop k text)) h_is
 

@@ -49,8 +49,8 @@ fn read_whole<C: Code>(code: C, text: &[u8], raw: &mut [u8]) -> Result<(), CodeF
     ensures { ReadsWhole (C.layout_of code) text.now raw.new result }
 {
     match decode_behind(code.head(), text, raw) {
-        Decoded::Held if code.has_other_index(text) => Err(CodeFault::OtherIndex),
-        Decoded::Held => Ok(()),
+        Decoded::Whole if code.has_other_index(text) => Err(CodeFault::OtherIndex),
+        Decoded::Whole => Ok(()),
         Decoded::Large => Err(CodeFault::PadBits),
         Decoded::Bad => Err(CodeFault::BadCharacter(bad_place(text))),
     }

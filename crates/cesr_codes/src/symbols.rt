@@ -47,7 +47,7 @@ fn encode_groups(padded: &[u8; BYTES]) -> [u8; SYMBOLS]
 /// What digits are to raw bytes.
 pub(crate) enum Decoded {
     /// The bytes are those of the number that the digits spell.
-    Held,
+    Whole,
     /// The number is larger than so many bytes hold.
     Large,
     /// Some of them isn't one of the 64 characters.
@@ -71,7 +71,7 @@ pub(crate) fn decode(digits: &[u8], raw: &mut [u8]) -> Decoded
     let (zeros, last) = bytes.split_at(3 * groups - raw.len());
     raw.copy_from_slice(last);
     if are_zeros(zeros) {
-        Decoded::Held
+        Decoded::Whole
     } else {
         Decoded::Large
     }

@@ -5,7 +5,7 @@ use Rattle.std.proofs.lemmas.List.{drop-append-le, take-append-le}
 use Rattle.lists.specs.KeriSpecs.Base64.{base64_text}
 use Rattle.cesr_stream.specs.declared.begun_group.BegunGroup.{BegunGroup}
 use Rattle.cesr_stream.specs.declared.group.Group.{Group}
-use Rattle.cesr_stream.specs.declared.group.Group.TheVariants.{Held, Witness, Couples, FirstSeen, Anchor}
+use Rattle.cesr_stream.specs.declared.group.Group.TheVariants.{Controller, Witness, Couples, FirstSeen, Anchor}
 use Rattle.cesr_stream.specs.declared.stop.Stop.{Stop}
 use Rattle.cesr_stream.specs.Begun.{AreElementsRead, IsBegun, IsSameGroup, IsEmptyGroup, IsWholeGroup, AreRead, count_of, letter_of, judged_of, elements_text}
 use Rattle.cesr_stream.specs.Front.{is_group, counter_part, count_of as counted_by, element_part, elements_part, counted_part, group_part, behind_counter}
@@ -20,7 +20,7 @@ use Rattle.cesr_stream.proofs.StopLemmas.{halts-further, stops-counter}
 
 -- a counter and elements that spell a group
 spelled_so : (group : Group) → (45 ∷ letter_of group ∷ base64_text 2 (elements_of group)) ++ elements_text group ≡ group_text group
-spelled_so (Held sigs) = refl
+spelled_so (Controller sigs) = refl
 spelled_so (Witness sigs) = refl
 spelled_so (Couples couples) = refl
 spelled_so (FirstSeen seen) = refl

@@ -26,7 +26,7 @@ use Rattle.cesr_codes.proofs.Same.{length-key_text, length-sig_text, length-numb
 use Rattle.cesr_stream.specs.declared.anchor_couple.AnchorCouple.{AnchorCouple}
 use Rattle.cesr_stream.specs.declared.couple.Couple.{Couple}
 use Rattle.cesr_stream.specs.declared.group.Group.{Group}
-use Rattle.cesr_stream.specs.declared.group.Group.TheVariants.{Held, Witness, Couples, FirstSeen, Anchor}
+use Rattle.cesr_stream.specs.declared.group.Group.TheVariants.{Controller, Witness, Couples, FirstSeen, Anchor}
 use Rattle.cesr_stream.specs.declared.seen.Seen.{Seen}
 use Rattle.cesr_stream.specs.Texts.{couple_text, seen_text, anchor_text, group_text, wrap_text}
 use Rattle.cesr_stream.specs.Domains.{IsTurnable}
@@ -180,7 +180,7 @@ turnable-counted letter count text good rest = record {
 }
 
 pub turnable_group : (g : Group) → IsTurnable (group_text g)
-turnable_group (Held sigs) = turnable-counted 65 (length sigs) (flat_map indexed_text sigs) refl (turnable-all indexed_text turnable_indexed sigs)
+turnable_group (Controller sigs) = turnable-counted 65 (length sigs) (flat_map indexed_text sigs) refl (turnable-all indexed_text turnable_indexed sigs)
 turnable_group (Witness sigs) = turnable-counted 66 (length sigs) (flat_map indexed_text sigs) refl (turnable-all indexed_text turnable_indexed sigs)
 turnable_group (Couples couples) = turnable-counted 67 (length couples) (flat_map couple_text couples) refl (turnable-all couple_text turnable_couple couples)
 turnable_group (FirstSeen seen) = turnable-counted 69 (length seen) (flat_map seen_text seen) refl (turnable-all seen_text turnable_seen seen)
@@ -190,7 +190,7 @@ pub turnable_wrap : (gs : List Group) → IsTurnable (wrap_text gs)
 turnable_wrap gs = turnable-counted 86 (length (flat_map group_text gs) / 4) (flat_map group_text gs) refl (turnable-all group_text turnable_group gs)
 
 pub group_dash : (g : Group) → (slice_index (group_text g) 0 ≡ 45) × (4 ≤ length (group_text g))
-group_dash (Held es) = (refl, omega (arith, length-counted 65 (length es) (flat_map indexed_text es)))
+group_dash (Controller es) = (refl, omega (arith, length-counted 65 (length es) (flat_map indexed_text es)))
 group_dash (Witness es) = (refl, omega (arith, length-counted 66 (length es) (flat_map indexed_text es)))
 group_dash (Couples es) = (refl, omega (arith, length-counted 67 (length es) (flat_map couple_text es)))
 group_dash (FirstSeen es) = (refl, omega (arith, length-counted 69 (length es) (flat_map seen_text es)))

@@ -16,7 +16,7 @@ use Rattle.cesr_codes.proofs.Same.{same_front, same_key, same_sig, same_number, 
 use Rattle.cesr_stream.specs.declared.anchor_couple.AnchorCouple.{AnchorCouple}
 use Rattle.cesr_stream.specs.declared.couple.Couple.{Couple}
 use Rattle.cesr_stream.specs.declared.group.Group.{Group}
-use Rattle.cesr_stream.specs.declared.group.Group.TheVariants.{Held, Witness, Couples, FirstSeen, Anchor}
+use Rattle.cesr_stream.specs.declared.group.Group.TheVariants.{Controller, Witness, Couples, FirstSeen, Anchor}
 use Rattle.cesr_stream.specs.declared.item.Item.{Item}
 use Rattle.cesr_stream.specs.declared.item.Item.TheVariants.{Body, Group as GroupItem, Wrapped}
 use Rattle.cesr_stream.specs.declared.seen.Seen.{Seen}
@@ -145,31 +145,31 @@ some_anchor anchor = omega (arith, length-anchor_text anchor)
 -- a group, whose letter is that of its kind
 same_group : (a b : Group) (r s : List ℕ) → IsGroup a → IsGroup b → IsCounted a → Ends (elements_of b) r s → group_text a ++ r ≡ group_text b ++ s
     → (a ≡ b) × (r ≡ s)
-same_group (Held xs) (Held ys) r s ia ib few ends e =
-    let found = same_counted indexed_text IsIndexed same_indexed some_indexed 65 xs ys r s few ends ia ib e in (ap Held found.0, found.1)
-same_group (Held xs) (Witness ys) r s ia ib few ends e = apart 65 66 _ _ refl e
-same_group (Held xs) (Couples ys) r s ia ib few ends e = apart 65 67 _ _ refl e
-same_group (Held xs) (FirstSeen ys) r s ia ib few ends e = apart 65 69 _ _ refl e
-same_group (Held xs) (Anchor ys) r s ia ib few ends e = apart 65 71 _ _ refl e
-same_group (Witness xs) (Held ys) r s ia ib few ends e = apart 66 65 _ _ refl e
+same_group (Controller xs) (Controller ys) r s ia ib few ends e =
+    let found = same_counted indexed_text IsIndexed same_indexed some_indexed 65 xs ys r s few ends ia ib e in (ap Controller found.0, found.1)
+same_group (Controller xs) (Witness ys) r s ia ib few ends e = apart 65 66 _ _ refl e
+same_group (Controller xs) (Couples ys) r s ia ib few ends e = apart 65 67 _ _ refl e
+same_group (Controller xs) (FirstSeen ys) r s ia ib few ends e = apart 65 69 _ _ refl e
+same_group (Controller xs) (Anchor ys) r s ia ib few ends e = apart 65 71 _ _ refl e
+same_group (Witness xs) (Controller ys) r s ia ib few ends e = apart 66 65 _ _ refl e
 same_group (Witness xs) (Witness ys) r s ia ib few ends e =
     let found = same_counted indexed_text IsIndexed same_indexed some_indexed 66 xs ys r s few ends ia ib e in (ap Witness found.0, found.1)
 same_group (Witness xs) (Couples ys) r s ia ib few ends e = apart 66 67 _ _ refl e
 same_group (Witness xs) (FirstSeen ys) r s ia ib few ends e = apart 66 69 _ _ refl e
 same_group (Witness xs) (Anchor ys) r s ia ib few ends e = apart 66 71 _ _ refl e
-same_group (Couples xs) (Held ys) r s ia ib few ends e = apart 67 65 _ _ refl e
+same_group (Couples xs) (Controller ys) r s ia ib few ends e = apart 67 65 _ _ refl e
 same_group (Couples xs) (Witness ys) r s ia ib few ends e = apart 67 66 _ _ refl e
 same_group (Couples xs) (Couples ys) r s ia ib few ends e =
     let found = same_counted couple_text IsCouple same_couple some_couple 67 xs ys r s few ends ia ib e in (ap Couples found.0, found.1)
 same_group (Couples xs) (FirstSeen ys) r s ia ib few ends e = apart 67 69 _ _ refl e
 same_group (Couples xs) (Anchor ys) r s ia ib few ends e = apart 67 71 _ _ refl e
-same_group (FirstSeen xs) (Held ys) r s ia ib few ends e = apart 69 65 _ _ refl e
+same_group (FirstSeen xs) (Controller ys) r s ia ib few ends e = apart 69 65 _ _ refl e
 same_group (FirstSeen xs) (Witness ys) r s ia ib few ends e = apart 69 66 _ _ refl e
 same_group (FirstSeen xs) (Couples ys) r s ia ib few ends e = apart 69 67 _ _ refl e
 same_group (FirstSeen xs) (FirstSeen ys) r s ia ib few ends e =
     let found = same_counted seen_text IsSeen same_seen some_seen 69 xs ys r s few ends ia ib e in (ap FirstSeen found.0, found.1)
 same_group (FirstSeen xs) (Anchor ys) r s ia ib few ends e = apart 69 71 _ _ refl e
-same_group (Anchor xs) (Held ys) r s ia ib few ends e = apart 71 65 _ _ refl e
+same_group (Anchor xs) (Controller ys) r s ia ib few ends e = apart 71 65 _ _ refl e
 same_group (Anchor xs) (Witness ys) r s ia ib few ends e = apart 71 66 _ _ refl e
 same_group (Anchor xs) (Couples ys) r s ia ib few ends e = apart 71 67 _ _ refl e
 same_group (Anchor xs) (FirstSeen ys) r s ia ib few ends e = apart 71 69 _ _ refl e
@@ -177,7 +177,7 @@ same_group (Anchor xs) (Anchor ys) r s ia ib few ends e =
     let found = same_counted anchor_text IsAnchor same_anchor some_anchor 71 xs ys r s few ends ia ib e in (ap Anchor found.0, found.1)
 
 few_of : (g : Group) → length (group_text g) ≤ 16384 → IsCounted g
-few_of (Held es) short = few_in indexed_text IsIndexed same_indexed some_indexed 65 es short
+few_of (Controller es) short = few_in indexed_text IsIndexed same_indexed some_indexed 65 es short
 few_of (Witness es) short = few_in indexed_text IsIndexed same_indexed some_indexed 66 es short
 few_of (Couples es) short = few_in couple_text IsCouple same_couple some_couple 67 es short
 few_of (FirstSeen es) short = few_in seen_text IsSeen same_seen some_seen 69 es short
@@ -199,14 +199,14 @@ same_groups (g ∷ gs) (h ∷ hs) ia ib few short e =
 
 -- a group has no wrap's letter, and begins with a dash
 no_wrap : {A : Type 0} (g : Group) (hs : List Group) → group_text g ≡ wrap_text hs → A
-no_wrap (Held es) hs e = apart 65 86 _ _ refl e
+no_wrap (Controller es) hs e = apart 65 86 _ _ refl e
 no_wrap (Witness es) hs e = apart 66 86 _ _ refl e
 no_wrap (Couples es) hs e = apart 67 86 _ _ refl e
 no_wrap (FirstSeen es) hs e = apart 69 86 _ _ refl e
 no_wrap (Anchor es) hs e = apart 71 86 _ _ refl e
 
 dash : (g : Group) → slice_index (group_text g) 0 ≡ 45
-dash (Held es) = refl
+dash (Controller es) = refl
 dash (Witness es) = refl
 dash (Couples es) = refl
 dash (FirstSeen es) = refl

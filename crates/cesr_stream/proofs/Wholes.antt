@@ -21,7 +21,7 @@ use Rattle.cesr_codes.proofs.Numbers.{number-text, characters-text, length-base6
 use Rattle.cesr_codes.proofs.Same.{length-key_text, length-sig_text, length-number_text, length-digest_text, length-moment_text}
 use Rattle.cesr_codes.proofs.Sigs.{good_sig}
 use Rattle.cesr_stream.specs.declared.group.Group.{Group}
-use Rattle.cesr_stream.specs.declared.group.Group.TheVariants.{Held, Witness, Couples, FirstSeen, Anchor}
+use Rattle.cesr_stream.specs.declared.group.Group.TheVariants.{Controller, Witness, Couples, FirstSeen, Anchor}
 use Rattle.cesr_stream.specs.Parts.{Part, whole, shifted, less, followed_by}
 use Rattle.cesr_stream.specs.Front.{is_past, primitive_part, moment_layouts, pair_part, key_part, sig_part, number_part, digest_part, moment_part, signature_part, couple_part, seen_part, anchor_part, is_group, element_part, elements_part, counter_part, count_of, counted_part, group_part}
 use Rattle.cesr_stream.specs.Texts.{couple_text, seen_text, anchor_text, group_text}
@@ -178,7 +178,7 @@ whole-counted letter text IsValue group one es room rest all few has =
 
 pub whole_group : (g : Group) (room : Option ℕ) (rest : List ℕ) → IsGroup g → IsCounted g → HasRoom room (length (group_text g))
     → group_part room (group_text g ++ rest) ≡ whole (length (group_text g))
-whole_group (Held sigs) room rest valid few has = whole-counted 65 indexed_text IsIndexed refl whole_signature sigs room rest valid few has
+whole_group (Controller sigs) room rest valid few has = whole-counted 65 indexed_text IsIndexed refl whole_signature sigs room rest valid few has
 whole_group (Witness sigs) room rest valid few has = whole-counted 66 indexed_text IsIndexed refl whole_signature sigs room rest valid few has
 whole_group (Couples couples) room rest valid few has = whole-counted 67 couple_text IsCouple refl whole_couple couples room rest valid few has
 whole_group (FirstSeen seen) room rest valid few has = whole-counted 69 seen_text IsSeen refl whole_seen seen room rest valid few has

@@ -9,7 +9,7 @@ use Rattle.std.proofs.lemmas.List.Elements.{All-head, All-tail}
 use Rattle.std.proofs.lemmas.Slice.Eq.{bytes_eq-Decides}
 use Rattle.cesr_codes.specs.Indexed.{indexed_text}
 use Rattle.cesr_stream.specs.declared.group.Group.{Group}
-use Rattle.cesr_stream.specs.declared.group.Group.TheVariants.{Held, Witness, Couples, FirstSeen, Anchor}
+use Rattle.cesr_stream.specs.declared.group.Group.TheVariants.{Controller, Witness, Couples, FirstSeen, Anchor}
 use Rattle.cesr_stream.specs.declared.item.Item.{Item}
 use Rattle.cesr_stream.specs.declared.item.Item.TheVariants.{Body, Group as GroupItem, Wrapped}
 use Rattle.cesr_stream.specs.Parts.{whole, shifted}
@@ -26,14 +26,14 @@ use Rattle.cesr_stream.proofs.BegunWraps.{groups-done}
 
 -- a group begins with a counter of four characters, and so it does in a wrap
 pub four_of : (g : Group) → 4 ≤ length (group_text g)
-four_of (Held sigs) = omega (arith, length-counted 65 (length sigs) (flat_map indexed_text sigs))
+four_of (Controller sigs) = omega (arith, length-counted 65 (length sigs) (flat_map indexed_text sigs))
 four_of (Witness sigs) = omega (arith, length-counted 66 (length sigs) (flat_map indexed_text sigs))
 four_of (Couples couples) = omega (arith, length-counted 67 (length couples) (flat_map couple_text couples))
 four_of (FirstSeen seen) = omega (arith, length-counted 69 (length seen) (flat_map seen_text seen))
 four_of (Anchor anchors) = omega (arith, length-counted 71 (length anchors) (flat_map anchor_text anchors))
 
 whole_begun : (g : Group) (room : ℕ) (rest : List ℕ) → IsGroup g → IsCounted g → length (group_text g) ≤ room → begun_group room (group_text g ++ rest) ≡ whole (length (group_text g))
-whole_begun (Held sigs) room rest valid few has = whole_group (Held sigs) (Some room) rest valid few has
+whole_begun (Controller sigs) room rest valid few has = whole_group (Controller sigs) (Some room) rest valid few has
 whole_begun (Witness sigs) room rest valid few has = whole_group (Witness sigs) (Some room) rest valid few has
 whole_begun (Couples couples) room rest valid few has = whole_group (Couples couples) (Some room) rest valid few has
 whole_begun (FirstSeen seen) room rest valid few has = whole_group (FirstSeen seen) (Some room) rest valid few has
@@ -112,7 +112,7 @@ front_of limit begun (Body []) rest valid writable may = cc writable.0
 front_of limit begun (Body (b ∷ bytes)) rest valid writable may =
     let is = whole_body limit (b ∷ bytes) writable.0 writable.1 may in
     rw (eq-eqb b 123 (brace b bytes writable.0)) (stays-body_part limit (b ∷ bytes) rest (λ e. cc (is, e)) ∙ is)
-front_of limit begun (GroupItem (Held sigs)) rest valid writable may = rw may (whole_group (Held sigs) None rest valid writable tt)
+front_of limit begun (GroupItem (Controller sigs)) rest valid writable may = rw may (whole_group (Controller sigs) None rest valid writable tt)
 front_of limit begun (GroupItem (Witness sigs)) rest valid writable may = rw may (whole_group (Witness sigs) None rest valid writable tt)
 front_of limit begun (GroupItem (Couples couples)) rest valid writable may = rw may (whole_group (Couples couples) None rest valid writable tt)
 front_of limit begun (GroupItem (FirstSeen seen)) rest valid writable may = rw may (whole_group (FirstSeen seen) None rest valid writable tt)

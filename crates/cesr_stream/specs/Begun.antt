@@ -9,7 +9,7 @@ use Rattle.cesr_stream.specs.declared.begun_item.BegunItem.{BegunItem}
 use Rattle.cesr_stream.specs.declared.begun_item.BegunItem.TheVariants.{Body, Group as GroupBegun, Wrap}
 use Rattle.cesr_stream.specs.declared.begun_wrap.BegunWrap.{BegunWrap}
 use Rattle.cesr_stream.specs.declared.group.Group.{Group}
-use Rattle.cesr_stream.specs.declared.group.Group.TheVariants.{Held, Witness, Couples, FirstSeen, Anchor}
+use Rattle.cesr_stream.specs.declared.group.Group.TheVariants.{Controller, Witness, Couples, FirstSeen, Anchor}
 use Rattle.cesr_stream.specs.declared.item.Item.{Item}
 use Rattle.cesr_stream.specs.declared.progress.Progress.{Progress}
 use Rattle.cesr_stream.specs.Front.{signature_part, couple_part, seen_part, anchor_part, element_part, elements_part, group_part, begun_group, groups_part, wrap_part, behind_body, front, has_version, size_of}
@@ -28,7 +28,7 @@ pub record AreRead (judged : Option ℕ → List ℕ → Part) (room : Option �
 
 -- the letter of a group's counter
 abbrev pub letter_of : Group → ℕ
-letter_of (Held sigs) = 65
+letter_of (Controller sigs) = 65
 letter_of (Witness sigs) = 66
 letter_of (Couples couples) = 67
 letter_of (FirstSeen seen) = 69
@@ -36,7 +36,7 @@ letter_of (Anchor anchors) = 71
 
 -- how the elements of a group are judged
 abbrev pub judged_of : Group → Option ℕ → List ℕ → Part
-judged_of (Held sigs) = signature_part
+judged_of (Controller sigs) = signature_part
 judged_of (Witness sigs) = signature_part
 judged_of (Couples couples) = couple_part
 judged_of (FirstSeen seen) = seen_part
@@ -44,7 +44,7 @@ judged_of (Anchor anchors) = anchor_part
 
 -- the text of a group's elements
 abbrev pub elements_text : Group → List ℕ
-elements_text (Held sigs) = flat_map indexed_text sigs
+elements_text (Controller sigs) = flat_map indexed_text sigs
 elements_text (Witness sigs) = flat_map indexed_text sigs
 elements_text (Couples couples) = flat_map couple_text couples
 elements_text (FirstSeen seen) = flat_map seen_text seen

@@ -7,7 +7,7 @@ use Rattle.cesr_codes.specs.Spelling.{key_text, sig_text, number_text, digest_te
 use Rattle.cesr_stream.specs.declared.anchor_couple.AnchorCouple.{AnchorCouple}
 use Rattle.cesr_stream.specs.declared.couple.Couple.{Couple}
 use Rattle.cesr_stream.specs.declared.group.Group.{Group}
-use Rattle.cesr_stream.specs.declared.group.Group.TheVariants.{Held, Witness, Couples, FirstSeen, Anchor}
+use Rattle.cesr_stream.specs.declared.group.Group.TheVariants.{Controller, Witness, Couples, FirstSeen, Anchor}
 use Rattle.cesr_stream.specs.declared.item.Item.{Item}
 use Rattle.cesr_stream.specs.declared.item.Item.TheVariants.{Body, Group as GroupItem, Wrapped}
 use Rattle.cesr_stream.specs.declared.seen.Seen.{Seen}
@@ -23,7 +23,7 @@ anchor_text anchor = number_text anchor.number ++ digest_text anchor.digest
 
 -- a counter, and what it counts
 abbrev pub group_text : Group → List ℕ
-group_text (Held sigs) = codes "-A" ++ (base64_text 2 (length sigs) ++ flat_map indexed_text sigs)
+group_text (Controller sigs) = codes "-A" ++ (base64_text 2 (length sigs) ++ flat_map indexed_text sigs)
 group_text (Witness sigs) = codes "-B" ++ (base64_text 2 (length sigs) ++ flat_map indexed_text sigs)
 group_text (Couples couples) = codes "-C" ++ (base64_text 2 (length couples) ++ flat_map couple_text couples)
 group_text (FirstSeen seen) = codes "-E" ++ (base64_text 2 (length seen) ++ flat_map seen_text seen)

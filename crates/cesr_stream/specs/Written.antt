@@ -6,7 +6,7 @@ use Rattle.cesr_codes.specs.Spelling.{IsKey, IsSig, IsNumber, IsDigest}
 use Rattle.cesr_stream.specs.declared.anchor_couple.AnchorCouple.{AnchorCouple}
 use Rattle.cesr_stream.specs.declared.couple.Couple.{Couple}
 use Rattle.cesr_stream.specs.declared.group.Group.{Group}
-use Rattle.cesr_stream.specs.declared.group.Group.TheVariants.{Held, Witness, Couples, FirstSeen, Anchor}
+use Rattle.cesr_stream.specs.declared.group.Group.TheVariants.{Controller, Witness, Couples, FirstSeen, Anchor}
 use Rattle.cesr_stream.specs.declared.item.Item.{Item}
 use Rattle.cesr_stream.specs.declared.item.Item.TheVariants.{Body, Group as GroupItem, Wrapped}
 use Rattle.cesr_stream.specs.declared.seen.Seen.{Seen}
@@ -42,7 +42,7 @@ IsAnchor anchor = IsNumber anchor.number × IsDigest anchor.digest
 
 -- the raw bytes of each primitive are bytes
 abbrev pub IsGroup : Group → Type 0
-IsGroup (Held sigs) = All IsIndexed sigs
+IsGroup (Controller sigs) = All IsIndexed sigs
 IsGroup (Witness sigs) = All IsIndexed sigs
 IsGroup (Couples couples) = All IsCouple couples
 IsGroup (FirstSeen seen) = All IsSeen seen

@@ -64,7 +64,7 @@ impl BegunGroup {
     {
         let progress = &mut self.progress;
         match &mut self.group {
-            Group::Held(sigs) => read_elements(bytes, room, sigs, progress),
+            Group::Controller(sigs) => read_elements(bytes, room, sigs, progress),
             Group::Witness(sigs) => read_elements(bytes, room, sigs, progress),
             Group::Couples(couples) => read_elements(bytes, room, couples, progress),
             Group::FirstSeen(seen) => read_elements(bytes, room, seen, progress),
@@ -87,7 +87,7 @@ fn empty_group(alloc: Global, letter: u8) -> Group
     ensures { IsEmptyGroup letter result }
 {
     match letter {
-        b'A' => Group::Held(Items::new(alloc)),
+        b'A' => Group::Controller(Items::new(alloc)),
         b'B' => Group::Witness(Items::new(alloc)),
         b'C' => Group::Couples(Items::new(alloc)),
         b'E' => Group::FirstSeen(Items::new(alloc)),

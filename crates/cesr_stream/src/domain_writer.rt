@@ -1,7 +1,7 @@
 //! Texts on a sink in the text or in the binary domain (CESR).
 ghost use Rattle.std.specs.Prelude.{◌≡◌, ◌≤◌, ◌++◌, List, ℕ, [], length};
 ghost use Rattle.lists.specs.KeriSpecs.Causes.{HasCause};
-ghost use Rattle.lists.specs.KeriSpecs.Told.{Puts};
+ghost use Rattle.lists.specs.KeriSpecs.Shown.{Puts};
 ghost use Rattle.cesr_stream.specs.Domains.{IsTurnable};
 
 use keri_outside::{Failed, Sink};

@@ -11,7 +11,7 @@ use std::alloc::{AllocError, Global};
 #[derive(Drop, PartialEq, Eq, Debug)]
 pub enum Group {
     /// `-A`: signatures by the controller's keys, each with the places of its key.
-    Held(Items<IndexedSig>),
+    Controller(Items<IndexedSig>),
     /// `-B`: signatures by witnesses, each with the place of its key in the list of witnesses.
     Witness(Items<IndexedSig>),
     /// `-C`: witnesses' keys, each with its signature.
@@ -28,7 +28,7 @@ impl Group {
         ensures { result ≡ elements_of self.now }
     {
         match self {
-            Group::Held(sigs) | Group::Witness(sigs) => sigs.len(),
+            Group::Controller(sigs) | Group::Witness(sigs) => sigs.len(),
             Group::Couples(couples) => couples.len(),
             Group::FirstSeen(seen) => seen.len(),
             Group::Anchor(anchors) => anchors.len(),
@@ -39,7 +39,7 @@ impl Group {
 impl CopyValue for Group {
     fn copy(&self, alloc: Global) -> Result<Group, AllocError> {
         match self {
-            Group::Held(sigs) => Ok(Group::Held(copy_items(sigs, alloc)?)),
+            Group::Controller(sigs) => Ok(Group::Controller(copy_items(sigs, alloc)?)),
             Group::Witness(sigs) => Ok(Group::Witness(copy_items(sigs, alloc)?)),
             Group::Couples(couples) => Ok(Group::Couples(copy_items(couples, alloc)?)),
             Group::FirstSeen(seen) => Ok(Group::FirstSeen(copy_items(seen, alloc)?)),

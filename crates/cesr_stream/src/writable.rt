@@ -2,7 +2,7 @@
 ghost use Rattle.std.specs.Prelude.{◌≡◌, ◌<◌, ◌≤◌, ◌^◌, ◌+◌, ◌++◌, ◌∷◌, true, List, ℕ, flat_map, length};
 ghost use Rattle.lists.specs.KeriSpecs.Base64.{base64_text, is_character};
 ghost use Rattle.lists.specs.KeriSpecs.Causes.{HasCause};
-ghost use Rattle.lists.specs.KeriSpecs.Told.{Puts};
+ghost use Rattle.lists.specs.KeriSpecs.Shown.{Puts};
 ghost use Rattle.cesr_stream.specs.Domains.{IsTurnable};
 
 use crate::DomainWriter;

@@ -1,7 +1,7 @@
 //! Writing the items of a stream.
 ghost use Rattle.std.specs.Prelude.{◌≡◌};
 ghost use Rattle.lists.specs.KeriSpecs.Causes.{HasCause};
-ghost use Rattle.lists.specs.KeriSpecs.Told.{Puts};
+ghost use Rattle.lists.specs.KeriSpecs.Shown.{Puts};
 ghost use Rattle.cesr_stream.specs.Domains.{item_in_domain};
 ghost use Rattle.cesr_stream.specs.Written.{IsWritable, item_text};
 
@@ -51,7 +51,7 @@ impl Writable for Group {
 
     fn size(&self) -> usize {
         match self {
-            Group::Held(sigs) | Group::Witness(sigs) => size_counted(sigs.as_slice()),
+            Group::Controller(sigs) | Group::Witness(sigs) => size_counted(sigs.as_slice()),
             Group::Couples(couples) => size_counted(couples.as_slice()),
             Group::FirstSeen(seen) => size_counted(seen.as_slice()),
             Group::Anchor(anchors) => size_counted(anchors.as_slice()),
@@ -60,7 +60,7 @@ impl Writable for Group {
 
     fn put<W: DomainWriter, S: Sink>(&self, sink: &mut S) -> Result<(), Failed> {
         match self {
-            Group::Held(sigs) => put_counted::<W, IndexedSig, S>(
+            Group::Controller(sigs) => put_counted::<W, IndexedSig, S>(
                 b'A',
                 sigs.len(),
                 sigs.as_slice(),

@@ -4,7 +4,7 @@ pub mod Ranges
 pub mod Spelling
 pub mod Rules
 pub mod KeySets
-pub mod Held
+pub mod Typed
 pub mod Kept
 pub mod Judging
 pub mod Inception

@@ -1,4 +1,4 @@
--- What is told of links: the bytes of each that is left, where a door tells them.
+-- What a door shows of links: the bytes of each that is left, where a door shows them.
 use Rattle.std.specs.Prelude.{◌≡◌, ℕ, List, [], ◌∷◌, ◌++◌, map}
 use Rattle.std.specs.Option.{option_map}
 use Rattle.std.specs.declared.option.Option.{Option}
@@ -7,12 +7,12 @@ use Rattle.std.specs.declared.result.Result.{Result}
 use Rattle.std.specs.declared.result.Result.TheVariants.{Ok, Err}
 use Rattle.keri_outside.specs.declared.mem_door.MemDoor.{MemDoor}
 
--- no link is left, where it is told
+-- no link is left, where that is shown
 abbrev pub NoneLeft : Option (List (List ℕ)) → Type 0
 NoneLeft None = Unit {0}
 NoneLeft (Some left) = left ≡ []
 
--- these bytes are left of a source, where the door told them
+-- these bytes are left of a source, where the door showed them
 abbrev pub HasLeft : Option (List (List ℕ)) → Option (List ℕ) → List ℕ → Type 0
 HasLeft None left bytes = Unit {0}
 HasLeft (Some told) left bytes = left ≡ Some bytes

@@ -4,3 +4,4 @@ pub mod Verdicts
 pub mod Asked
 pub mod Doors
 pub mod Memory
+pub mod Shown

@@ -1,7 +1,7 @@
 //! Where links come.
 ghost use Rattle.std.specs.Prelude.{◌≡◌, List, ℕ, Option, IfOk, IfSome};
 ghost use Rattle.lists.specs.KeriSpecs.Causes.{HasCause};
-ghost use Rattle.lists.specs.KeriSpecs.Told.{HasNone};
+ghost use Rattle.lists.specs.KeriSpecs.Shown.{HasNone};
 ghost use Rattle.keri_outside.specs.Doors.{Comes};
 
 use crate::{Caller, Failed, Sink, Source};
@@ -14,7 +14,7 @@ pub trait Door {
     /// What a peer is sent.
     type Sink: Sink + Drop;
 
-    /// The bytes of each link that is left, where it tells.
+    /// The bytes of each link that is left, where that is shown.
     ghost left: { Self → Option (List (List ℕ)) };
 
     /// How often it has failed.

@@ -1,7 +1,7 @@
 //! What gives signatures.
 ghost use Rattle.std.specs.Prelude.{◌≡◌, ◌≤◌, ◌∷◌, [], ℕ, List, length, Option, IfOk, IfSome};
 ghost use Rattle.lists.specs.KeriSpecs.Causes.{HasCause};
-ghost use Rattle.lists.specs.KeriSpecs.Told.{Puts};
+ghost use Rattle.lists.specs.KeriSpecs.Shown.{Puts};
 ghost use Rattle.cesr_codes.specs.declared.key.Key.{Key};
 ghost use Rattle.cesr_codes.specs.declared.sig.Sig.{Sig};
 ghost use Rattle.keri_outside.specs.Asked.{signing};
@@ -12,10 +12,10 @@ use cesr_codes::{Key, Sig};
 
 /// Gives signatures of keys on bodies.
 pub trait Signer {
-    /// The signature that it gives of a key on a body, where it tells. No call changes it.
+    /// The signature that it gives of a key on a body, where that is shown. No call changes it.
     ghost gives: { Self → Key → List ℕ → Option Sig };
 
-    /// What it was asked to sign, in order, where it tells.
+    /// What it was asked to sign, in order, where that is shown.
     ghost signings: { Self → Option (List Signing) };
 
     /// How often it has failed.

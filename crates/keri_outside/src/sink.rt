@@ -1,13 +1,13 @@
 //! What is written.
 ghost use Rattle.std.specs.Prelude.{List, ℕ, Option};
 ghost use Rattle.lists.specs.KeriSpecs.Causes.{HasCause};
-ghost use Rattle.lists.specs.KeriSpecs.Told.{Puts};
+ghost use Rattle.lists.specs.KeriSpecs.Shown.{Puts};
 
 use crate::Failed;
 
 /// Bytes that go out.
 pub trait Sink {
-    /// The bytes written, where it tells.
+    /// The bytes written, where that is shown.
     ghost written: { Self → Option (List ℕ) };
 
     /// How often it has failed.

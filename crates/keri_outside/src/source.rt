@@ -1,13 +1,13 @@
 //! What is read.
 ghost use Rattle.std.specs.Prelude.{◌<◌, List, ℕ, length, Option};
 ghost use Rattle.lists.specs.KeriSpecs.Causes.{HasCause};
-ghost use Rattle.lists.specs.KeriSpecs.Told.{Reads};
+ghost use Rattle.lists.specs.KeriSpecs.Shown.{Reads};
 
 use crate::Failed;
 
 /// Bytes that come in, in pieces of any length.
 pub trait Source {
-    /// The bytes left, where it tells.
+    /// The bytes left, where that is shown.
     ghost left: { Self → Option (List ℕ) };
 
     /// How often it has failed.

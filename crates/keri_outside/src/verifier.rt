@@ -1,7 +1,7 @@
 //! What says of signatures whether they are good.
 ghost use Rattle.std.specs.Prelude.{◌≡◌, ◌≤◌, ◌∷◌, [], ℕ, Bool, List, length, Option, IfOk, IfSome};
 ghost use Rattle.lists.specs.KeriSpecs.Causes.{HasCause};
-ghost use Rattle.lists.specs.KeriSpecs.Told.{Puts};
+ghost use Rattle.lists.specs.KeriSpecs.Shown.{Puts};
 ghost use Rattle.cesr_codes.specs.declared.key.Key.{Key};
 ghost use Rattle.cesr_codes.specs.declared.sig.Sig.{Sig};
 ghost use Rattle.keri_outside.specs.Asked.{inquiry};
@@ -12,10 +12,10 @@ use cesr_codes::{Key, Sig};
 
 /// Gives verdicts: whether a signature is that of a key on a body.
 pub trait Verifier {
-    /// What it says of a key, a body and a signature, where it tells. No call changes it.
+    /// What it says of a key, a body and a signature, where that is shown. No call changes it.
     ghost says: { Self → Key → List ℕ → Sig → Option Bool };
 
-    /// What it was asked, in order, where it tells.
+    /// What it was asked, in order, where that is shown.
     ghost inquiries: { Self → Option (List Inquiry) };
 
     /// How often it has failed.

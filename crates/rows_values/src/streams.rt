@@ -16,7 +16,7 @@ use std::fmt::Write;
 
 fn letter(group: &Group) -> &'static str {
     match group {
-        Group::Held(_) => "A",
+        Group::Controller(_) => "A",
         Group::Witness(_) => "B",
         Group::Couples(_) => "C",
         Group::FirstSeen(_) => "E",
@@ -316,7 +316,7 @@ fn signatures(alloc: Global, text: &[u8], by_witness: bool) -> Result<Option<Gro
 {
     match IndexedSig::read(text) {
         Ok((sig, _)) if by_witness => Ok(Some(Group::Witness(only(alloc, sig)?))),
-        Ok((sig, _)) => Ok(Some(Group::Held(only(alloc, sig)?))),
+        Ok((sig, _)) => Ok(Some(Group::Controller(only(alloc, sig)?))),
         Err(_) => Ok(None),
     }
 }

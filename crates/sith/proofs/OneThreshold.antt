@@ -11,7 +11,7 @@ use Rattle.sith.specs.declared.threshold.Threshold.{Threshold}
 use Rattle.sith.specs.declared.threshold.Threshold.TheVariants.{Count, Flat, Nested}
 use Rattle.std.specs.Fmt.{decimal}
 use Rattle.sith.specs.Weights.{IsWeight}
-use Rattle.sith.specs.OwnValues.{IsHeldWeight, IsHeldTerm}
+use Rattle.sith.specs.OwnValues.{IsTypedWeight, IsTypedTerm}
 use Rattle.sith.specs.Terms.{weights_in}
 use Rattle.sith.specs.Thresholds.{weight_text, weight_value, term_value, clause_value, clause_weights, Spells}
 use Rattle.sith.proofs.Lists.{All-parts, all_in, map_injective}
@@ -26,7 +26,7 @@ text_injective = values.text_injective
 no_part : (c n d : ℕ) → c ≢ 47 → c ∷ [] ≢ weight_text (Part n d)
 no_part c n d other e = no_slash (c ∷ []) (decimal n) (decimal d) (other, tt) e
 
-pub one_weight : (w v : Weight) → IsHeldWeight w → IsHeldWeight v → weight_text w ≡ weight_text v → w ≡ v
+pub one_weight : (w v : Weight) → IsTypedWeight w → IsTypedWeight v → weight_text w ≡ weight_text v → w ≡ v
 one_weight Zero Zero ours theirs e = refl
 one_weight One One ours theirs e = refl
 one_weight Zero One ours theirs e = absurd (omega (arith, first_same 48 49 [] [] e))
@@ -37,35 +37,35 @@ one_weight (Part n d) Zero ours theirs e = absurd (no_part 48 n d (omega arith) 
 one_weight (Part n d) One ours theirs e = absurd (no_part 49 n d (omega arith) (sym e))
 one_weight (Part n d) (Part m k) ours theirs e = let both = one_part n d m k ours theirs e in ap (λ x. Part x d) both.0 ∙ ap (λ x. Part m x) both.1
 
-one_single : (w v : Weight) → IsHeldWeight w → IsHeldWeight v → weight_value w ≡ weight_value v → w ≡ v
+one_single : (w v : Weight) → IsTypedWeight w → IsTypedWeight v → weight_value w ≡ weight_value v → w ≡ v
 one_single w v ours theirs e = one_weight w v ours theirs (values.text_injective (weight_text w) (weight_text v) e)
 
-one_term : (t u : Term) → IsHeldTerm t → IsHeldTerm u → term_value t ≡ term_value u → t ≡ u
+one_term : (t u : Term) → IsTypedTerm t → IsTypedTerm u → term_value t ≡ term_value u → t ≡ u
 one_term (Single w) (Single v) ours theirs e = ap Single (one_single w v ours.0 theirs.0 e)
 one_term (Single w) (Group v vs) ours theirs e = absurd (object_or_text _ (weight_text w) (sym e))
 one_term (Group w ws) (Single v) ours theirs e = absurd (object_or_text _ (weight_text v) e)
 one_term (Group w ws) (Group v vs) ours theirs e =
     let both = same_member (weight_text w) (weight_text v) (TreeList (map weight_value ws)) (TreeList (map weight_value vs)) e in
-    let inner = map_injective weight_value IsHeldWeight one_single ws vs ours.1 theirs.1 (list_injective (map weight_value ws) (map weight_value vs) both.1) in
+    let inner = map_injective weight_value IsTypedWeight one_single ws vs ours.1 theirs.1 (list_injective (map weight_value ws) (map weight_value vs) both.1) in
     ap (λ x. Group x ws) (one_weight w v ours.0 theirs.0 both.0) ∙ ap (λ l. Group v l) inner
 
-one_clause : (ts us : List Term) → AllByRecursion IsHeldTerm ts → AllByRecursion IsHeldTerm us → clause_value ts ≡ clause_value us → ts ≡ us
-one_clause ts us ours theirs e = map_injective term_value IsHeldTerm one_term ts us ours theirs (list_injective (map term_value ts) (map term_value us) e)
+one_clause : (ts us : List Term) → AllByRecursion IsTypedTerm ts → AllByRecursion IsTypedTerm us → clause_value ts ≡ clause_value us → ts ≡ us
+one_clause ts us ours theirs e = map_injective term_value IsTypedTerm one_term ts us ours theirs (list_injective (map term_value ts) (map term_value us) e)
 
 -- a weight that a text spells is held
-held_weight : (w : Weight) → IsWeight w → IsHeldWeight w
+held_weight : (w : Weight) → IsWeight w → IsTypedWeight w
 held_weight Zero weight = tt
 held_weight One weight = tt
 held_weight (Part n d) weight = (omega (arith, weight), omega (arith, weight))
 
-held_weights : (ws : List Weight) → AllByRecursion IsWeight ws → AllByRecursion IsHeldWeight ws
+held_weights : (ws : List Weight) → AllByRecursion IsWeight ws → AllByRecursion IsTypedWeight ws
 held_weights [] all = tt
 held_weights (w ∷ ws) all = (held_weight w all.0, held_weights ws all.1)
 
-pub held_clause : (terms : List Term) → AllByRecursion IsWeight (clause_weights terms) → AllByRecursion IsHeldTerm terms
-held_clause terms all = all_in weights_in IsHeldWeight terms (held_weights (clause_weights terms) all)
+pub held_clause : (terms : List Term) → AllByRecursion IsWeight (clause_weights terms) → AllByRecursion IsTypedTerm terms
+held_clause terms all = all_in weights_in IsTypedWeight terms (held_weights (clause_weights terms) all)
 
-pub held_clauses : (clauses : List (List Term)) → AllByRecursion IsWeight (flat_map clause_weights clauses) → AllByRecursion (AllByRecursion IsHeldTerm) clauses
+pub held_clauses : (clauses : List (List Term)) → AllByRecursion IsWeight (flat_map clause_weights clauses) → AllByRecursion (AllByRecursion IsTypedTerm) clauses
 held_clauses [] all = tt
 held_clauses (c ∷ clauses) all = let parts = All-parts IsWeight (clause_weights c) (flat_map clause_weights clauses) all in (held_clause c parts.0, held_clauses clauses parts.1)
 
@@ -79,12 +79,12 @@ flat_or_nested [] clauses some e = some refl
 flat_or_nested (t ∷ terms) [] some e = cc e
 flat_or_nested (t ∷ terms) (c ∷ clauses) some e = let first : term_value t ≡ clause_value c = cc e in term_or_list t (map term_value c) first
 
-pub same_flat : (ts us : List Term) → AllByRecursion IsWeight (clause_weights ts) → AllByRecursion IsHeldTerm us → clause_value ts ≡ clause_value us → Flat ts ≡ Flat us
+pub same_flat : (ts us : List Term) → AllByRecursion IsWeight (clause_weights ts) → AllByRecursion IsTypedTerm us → clause_value ts ≡ clause_value us → Flat ts ≡ Flat us
 same_flat ts us ours theirs e = ap Flat (one_clause ts us (held_clause ts ours) theirs e)
 
-pub same_nested : (cs ds : List (List Term)) → AllByRecursion IsWeight (flat_map clause_weights cs) → AllByRecursion (AllByRecursion IsHeldTerm) ds → TreeList (map clause_value cs) ≡ TreeList (map clause_value ds) → Nested cs ≡ Nested ds
+pub same_nested : (cs ds : List (List Term)) → AllByRecursion IsWeight (flat_map clause_weights cs) → AllByRecursion (AllByRecursion IsTypedTerm) ds → TreeList (map clause_value cs) ≡ TreeList (map clause_value ds) → Nested cs ≡ Nested ds
 same_nested cs ds ours theirs e =
-    ap Nested (map_injective clause_value (AllByRecursion IsHeldTerm) one_clause cs ds (held_clauses cs ours) theirs (list_injective (map clause_value cs) (map clause_value ds) e))
+    ap Nested (map_injective clause_value (AllByRecursion IsTypedTerm) one_clause cs ds (held_clauses cs ours) theirs (list_injective (map clause_value cs) (map clause_value ds) e))
 
 pub one_threshold : (t u : Threshold) (tree : Tree) → Spells t tree → Spells u tree → t ≡ u
 one_threshold (Count m) (Count n) tree ours theirs = let same = values.text_injective ours.0 theirs.0 (sym ours.1 ∙ theirs.1) in cc (same, ours.3, theirs.3)

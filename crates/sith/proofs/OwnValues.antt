@@ -11,7 +11,7 @@ use Rattle.sith.specs.declared.term.Term.{Term}
 use Rattle.sith.specs.declared.term.Term.TheVariants.{Single, Group}
 use Rattle.sith.specs.declared.threshold.Threshold.{Threshold}
 use Rattle.sith.specs.declared.threshold.Threshold.TheVariants.{Count, Flat, Nested}
-use Rattle.sith.specs.OwnValues.{IsHeldWeight, IsHeldTerm, IsHeldThreshold, HasOwnValue}
+use Rattle.sith.specs.OwnValues.{IsTypedWeight, IsTypedTerm, IsTypedThreshold, HasOwnValue}
 use Rattle.sith.specs.Rules.{IsReadFor}
 use Rattle.sith.specs.Thresholds.{Spells, weight_value, term_value, clause_value, threshold_value}
 use Rattle.sith.proofs.Numerals.{hex_is}
@@ -37,7 +37,7 @@ nested_or_flat cs [] some e = some (nothing cs e)
 nested_or_flat cs (u ∷ us) some e = flat_or_nested (u ∷ us) cs (λ none. cc none) (sym e)
 
 -- a value that spells a threshold of so many keys, and is that of another, is the other's alone
-same_threshold : (t u : Threshold) (keys : ℕ) → Spells t (threshold_value u) → IsReadFor t keys → IsHeldThreshold u → t ≡ u
+same_threshold : (t u : Threshold) (keys : ℕ) → Spells t (threshold_value u) → IsReadFor t keys → IsTypedThreshold u → t ≡ u
 same_threshold (Count m) (Count n) keys spells read held = same_count m n spells held
 same_threshold (Count m) (Flat us) keys spells read held = absurd (list_or_text (map term_value us) spells.0 spells.1)
 same_threshold (Count m) (Nested ds) keys spells read held = absurd (list_or_text (map clause_value ds) spells.0 spells.1)
@@ -52,25 +52,25 @@ mapped : {A : Type 0} (f : A → Tree) (Is : A → Type 0) → ((a : A) → Is a
 mapped f Is json [] all = tt
 mapped f Is json (x ∷ xs) all = (json x all.0, mapped f Is json xs all.1)
 
-term_json : (term : Term) → IsHeldTerm term → IsJson (term_value term)
+term_json : (term : Term) → IsTypedTerm term → IsJson (term_value term)
 term_json (Single weight) held = weight_string weight held.0
 term_json (Group weight inner) held =
-    IsJson-from_object _ ((weight_string weight held.0, IsJson-from_list (map weight_value inner) (mapped weight_value IsHeldWeight weight_string inner held.1)), tt)
+    IsJson-from_object _ ((weight_string weight held.0, IsJson-from_list (map weight_value inner) (mapped weight_value IsTypedWeight weight_string inner held.1)), tt)
 
-clause_json : (terms : List Term) → AllByRecursion IsHeldTerm terms → IsJson (clause_value terms)
-clause_json terms held = IsJson-from_list (map term_value terms) (mapped term_value IsHeldTerm term_json terms held)
+clause_json : (terms : List Term) → AllByRecursion IsTypedTerm terms → IsJson (clause_value terms)
+clause_json terms held = IsJson-from_list (map term_value terms) (mapped term_value IsTypedTerm term_json terms held)
 
-value_json : (threshold : Threshold) → IsHeldThreshold threshold → IsJson (threshold_value threshold)
+value_json : (threshold : Threshold) → IsTypedThreshold threshold → IsJson (threshold_value threshold)
 value_json (Count n) few = number_string (digits 16 false n) (hex_is n few).0
 value_json (Flat terms) held = clause_json terms held
-value_json (Nested clauses) held = IsJson-from_list (map clause_value clauses) (mapped clause_value (AllByRecursion IsHeldTerm) clause_json clauses held)
+value_json (Nested clauses) held = IsJson-from_list (map clause_value clauses) (mapped clause_value (AllByRecursion IsTypedTerm) clause_json clauses held)
 
 string_or_list : (threshold : Threshold) → ((text : List ℕ) × (threshold_value threshold ≡ Str text)) ⊎ ((values : List Tree) × (threshold_value threshold ≡ TreeList values))
 string_or_list (Count n) = inl (digits 16 false n, refl)
 string_or_list (Flat terms) = inr (map term_value terms, refl)
 string_or_list (Nested clauses) = inr (map clause_value clauses, refl)
 
-pub own_value : (threshold : Threshold) → IsHeldThreshold threshold → HasOwnValue threshold
+pub own_value : (threshold : Threshold) → IsTypedThreshold threshold → HasOwnValue threshold
 own_value threshold held = record {
   json = value_json threshold held;
   form = string_or_list threshold;

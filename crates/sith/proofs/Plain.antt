@@ -14,7 +14,7 @@ use Rattle.lists.specs.KeriSpecs.Hex.{is_hex, IsHexNumber}
 use Rattle.json_tree.specs.Strings.{IsUnescaped, unescaped, AreChars, IsString}
 use Rattle.sith.specs.declared.weight.Weight.{Weight}
 use Rattle.sith.specs.declared.weight.Weight.TheVariants.{Zero, One, Part}
-use Rattle.sith.specs.OwnValues.{IsHeldWeight}
+use Rattle.sith.specs.OwnValues.{IsTypedWeight}
 use Rattle.sith.specs.Thresholds.{weight_text}
 
 -- what stands in a string as it is
@@ -65,7 +65,7 @@ digits_plain (c ∷ text) all = rw (digit_plain c (digit_from_value c all.0)) (d
 decimal_plain : (n : ℕ) → n < 2 ^ 64 → list_all is_plain (decimal n) ≡ true
 decimal_plain n few = digits_plain (decimal n) (decimal_is_IsNumeral n few).0.1
 
-pub weight_string : (weight : Weight) → IsHeldWeight weight → IsString (weight_text weight)
+pub weight_string : (weight : Weight) → IsTypedWeight weight → IsString (weight_text weight)
 weight_string Zero held = plain_string (codes "0") refl
 weight_string One held = plain_string (codes "1") refl
 weight_string (Part n d) held =

@@ -14,18 +14,18 @@ use Rattle.sith.specs.Terms.{weights_in}
 use Rattle.sith.specs.Thresholds.{Spells, threshold_value}
 
 -- numbers of 32 and of 64 bits
-abbrev pub IsHeldWeight : Weight → Type 0
-IsHeldWeight Zero = Unit {0}
-IsHeldWeight One = Unit {0}
-IsHeldWeight (Part n d) = (n < 2 ^ 32) × (d < 2 ^ 32)
+abbrev pub IsTypedWeight : Weight → Type 0
+IsTypedWeight Zero = Unit {0}
+IsTypedWeight One = Unit {0}
+IsTypedWeight (Part n d) = (n < 2 ^ 32) × (d < 2 ^ 32)
 
-abbrev pub IsHeldTerm : Term → Type 0
-IsHeldTerm term = AllByRecursion IsHeldWeight (weights_in term)
+abbrev pub IsTypedTerm : Term → Type 0
+IsTypedTerm term = AllByRecursion IsTypedWeight (weights_in term)
 
-abbrev pub IsHeldThreshold : Threshold → Type 0
-IsHeldThreshold (Count n) = n < 2 ^ 64
-IsHeldThreshold (Flat terms) = AllByRecursion IsHeldTerm terms
-IsHeldThreshold (Nested clauses) = AllByRecursion (AllByRecursion IsHeldTerm) clauses
+abbrev pub IsTypedThreshold : Threshold → Type 0
+IsTypedThreshold (Count n) = n < 2 ^ 64
+IsTypedThreshold (Flat terms) = AllByRecursion IsTypedTerm terms
+IsTypedThreshold (Nested clauses) = AllByRecursion (AllByRecursion IsTypedTerm) clauses
 
 -- The value is a string or a list of JSON, and that of no other threshold that is read for so many keys.
 pub record HasOwnValue (threshold : Threshold) : Type 0 where

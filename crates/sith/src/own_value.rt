@@ -1,7 +1,7 @@
 //! What holds of the value of each threshold, stated for proofs: a proof learns a number's range where the number is read.
 //! Nothing else is done here.
 ghost use Rattle.std.specs.List.{AllByRecursion};
-ghost use Rattle.sith.specs.OwnValues.{HasOwnValue, IsHeldTerm, IsHeldThreshold, IsHeldWeight};
+ghost use Rattle.sith.specs.OwnValues.{HasOwnValue, IsTypedTerm, IsTypedThreshold, IsTypedWeight};
 
 use crate::term::Term;
 use crate::threshold::Threshold;
@@ -9,11 +9,11 @@ use crate::weight::Weight;
 use lists::Items;
 
 fn weight(_weight: Weight)
-    ensures { IsHeldWeight _weight }
+    ensures { IsTypedWeight _weight }
 {}
 
 fn weights(weights: &[Weight])
-    ensures { AllByRecursion IsHeldWeight weights.now }
+    ensures { AllByRecursion IsTypedWeight weights.now }
 {
     for found in weights {
         weight(*found);
@@ -21,7 +21,7 @@ fn weights(weights: &[Weight])
 }
 
 fn term(term: &Term)
-    ensures { IsHeldTerm term.now }
+    ensures { IsTypedTerm term.now }
 {
     match term {
         Term::Single(found) => weight(*found),
@@ -33,7 +33,7 @@ fn term(term: &Term)
 }
 
 fn terms(terms: &[Term])
-    ensures { AllByRecursion IsHeldTerm terms.now }
+    ensures { AllByRecursion IsTypedTerm terms.now }
 {
     for found in terms {
         term(found);
@@ -41,7 +41,7 @@ fn terms(terms: &[Term])
 }
 
 fn clauses(clauses: &[Items<Term>])
-    ensures { AllByRecursion (AllByRecursion IsHeldTerm) clauses.now }
+    ensures { AllByRecursion (AllByRecursion IsTypedTerm) clauses.now }
 {
     for found in clauses {
         terms(found.as_slice());
@@ -49,7 +49,7 @@ fn clauses(clauses: &[Items<Term>])
 }
 
 fn held(threshold: &Threshold)
-    ensures { IsHeldThreshold threshold.now }
+    ensures { IsTypedThreshold threshold.now }
 {
     match threshold {
         Threshold::Count(count) => {

@@ -3,7 +3,7 @@ use Rattle.std.proofs.Common.{◌≡◌, ℕ, ◌-◌, ◌≤◌, List, [], ◌�
 use Rattle.std.specs.List.{AllByRecursion}
 use Rattle.std.proofs.lemmas.Grind.{flat_map-append}
 use Rattle.lists.specs.KeriSpecs.Causes.{Rose}
-use Rattle.lists.specs.KeriSpecs.Told.{after}
+use Rattle.lists.specs.KeriSpecs.Shown.{after}
 use Rattle.verifier_link.specs.declared.served.Served.TheVariants.{WriteFault}
 use Rattle.verifier_link.specs.declared.stop.Stop.{Stop}
 use Rattle.verifier_link.specs.declared.stop.Stop.TheVariants.{Ended, Malformed, ReadFault, LimitReached}
@@ -12,7 +12,8 @@ use Rattle.verifier_link.specs.Exchanges.{Took}
 use Rattle.verifier_link.specs.Fields.{IsTaken}
 use Rattle.verifier_link.specs.Questions.{Question, IsQuestion, question_text}
 use Rattle.verifier_link.specs.Serving.{SidesShown, IsServed, sides_shown, questions_text, answers_text}
-use Rattle.verifier_link.specs.Sides.{SourceShown, SinkShown, Gave}
+use Rattle.verifier_link.specs.Sides.{Gave}
+use Rattle.keri_outside.specs.Shown.{SourceShown, SinkShown}
 use Rattle.verifier_link.specs.Stops.{StopsReading, served_at}
 use Rattle.verifier_link.proofs.Behind.{taken_more, left_more, rose_more, next_more}
 use Rattle.verifier_link.proofs.Pieces.{gave_more}

@@ -1,11 +1,12 @@
 -- What is behind the bytes of a question that were read, where reading stops.
 use Rattle.std.proofs.Common.{◌≡◌, ℕ, ◌≤◌, List, [], ◌∷◌, ◌++◌, length, Result, Ok, Err, IfErr, IsErrAnd, refl, sym, subst, arith, append_assoc, length-append, inl, inr}
 use Rattle.lists.specs.KeriSpecs.Causes.{Rose}
-use Rattle.lists.specs.KeriSpecs.Told.{before}
+use Rattle.lists.specs.KeriSpecs.Shown.{before}
 use Rattle.verifier_link.specs.declared.stop.Stop.{Stop}
 use Rattle.verifier_link.specs.declared.stop.Stop.TheVariants.{Ended, Malformed, ReadFault, LimitReached}
 use Rattle.verifier_link.specs.Fields.{Field, field_size, IsDue, IsBegun, IsRefused, IsTaken, IsCut, FieldStops}
-use Rattle.verifier_link.specs.Sides.{SourceShown, Gave}
+use Rattle.verifier_link.specs.Sides.{Gave}
+use Rattle.keri_outside.specs.Shown.{SourceShown}
 use Rattle.verifier_link.specs.Stops.{StopsBehind, StopsReading, cut_short}
 use Rattle.verifier_link.proofs.Pieces.{before_more, gave_more}
 

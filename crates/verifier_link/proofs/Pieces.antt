@@ -4,8 +4,9 @@ use Rattle.std.proofs.Math.Seq.{take-append-add}
 use Rattle.std.proofs.lemmas.List.{take-take, length-take, length-take-le}
 use Rattle.std.proofs.lemmas.Slice.{take-put_mid}
 use borrow.Rule.Slice.PartMut.{put_mid}
-use Rattle.lists.specs.KeriSpecs.Told.{before}
-use Rattle.verifier_link.specs.Sides.{SourceShown, Gave}
+use Rattle.lists.specs.KeriSpecs.Shown.{before}
+use Rattle.verifier_link.specs.Sides.{Gave}
+use Rattle.keri_outside.specs.Shown.{SourceShown}
 
 pub before_more : (first middle last : Option (List ℕ)) (bytes piece : List ℕ) → first ≡ before bytes middle → middle ≡ before piece last → first ≡ before (bytes ++ piece) last
 before_more first middle None bytes piece a b = a ∙ ap (before bytes) b

@@ -3,10 +3,11 @@ use Rattle.std.specs.Prelude.{◌≡◌, ℕ, ◌+◌, ◌-◌, ◌^◌, ◌<◌
 use Rattle.std.specs.declared.result.Result.{Result}
 use Rattle.std.specs.declared.result.Result.TheVariants.{Ok, Err}
 use Rattle.lists.specs.KeriSpecs.Causes.{Rose}
-use Rattle.lists.specs.KeriSpecs.Told.{before, after, IsAtEnd}
+use Rattle.lists.specs.KeriSpecs.Shown.{before, after, IsAtEnd}
 use Rattle.verifier_link.specs.Answers.{answer_size}
 use Rattle.verifier_link.specs.Questions.{Question, question_text}
-use Rattle.verifier_link.specs.Sides.{LinkShown, SourceShown, SinkShown, Gave}
+use Rattle.verifier_link.specs.Sides.{HelperShown, Gave}
+use Rattle.keri_outside.specs.Shown.{SourceShown, SinkShown}
 
 -- the bytes were written, where the sink tells, and it didn't fail
 pub record Took (old new : SinkShown) (bytes : List ℕ) : Type 0 where
@@ -27,24 +28,24 @@ pub record ComesShort (old new : SourceShown) (due : ℕ) : Type 0 where
   pub cause : Rose old.faults new.faults ⊎ (IsAtEnd new.left × (new.faults ≡ old.faults))
 
 -- it has failed before, so nothing is put and nothing is read
-pub record HasFailed (old new : LinkShown) : Type 0 where
+pub record HasFailed (old new : HelperShown) : Type 0 where
   pub failed : 0 < old.faults
   pub same_source : new.source ≡ old.source
   pub same_sink : new.sink ≡ old.sink
 
 -- the sink failed, and nothing was read
-pub record FailsToPut (question : Question) (old new : LinkShown) : Type 0 where
+pub record FailsToPut (question : Question) (old new : HelperShown) : Type 0 where
   pub never_failed : old.faults ≡ 0
   pub put : Refuses old.sink new.sink (question_text question)
   pub same_source : new.source ≡ old.source
 
 -- the question was put, and fewer bytes came than the answer has
-pub record FailsToRead (due : ℕ) (question : Question) (old new : LinkShown) : Type 0 where
+pub record FailsToRead (due : ℕ) (question : Question) (old new : HelperShown) : Type 0 where
   pub never_failed : old.faults ≡ 0
   pub put : Took old.sink new.sink (question_text question)
   pub read : ComesShort old.source new.source due
 
-module _ {A : Type 0} (Says : A → List ℕ → Type 0) (question : Question) (old new : LinkShown) where
+module _ {A : Type 0} (Says : A → List ℕ → Type 0) (question : Question) (old new : HelperShown) where
   -- the question was put, and the bytes that came say the answer
   pub record Answers (answer : A) : Type 0 where
     pub bytes : List ℕ
@@ -75,6 +76,6 @@ module _ {A : Type 0} (Says : A → List ℕ → Type 0) (question : Question) (
   Exchanges (Err failed) = Fails
 
 -- the question was put, and as many bytes came as are due; or why not
-abbrev pub Fetches : {E : Type 0} → Question → LinkShown → LinkShown → List ℕ → Result (Unit {0}) E → Type 0
+abbrev pub Fetches : {E : Type 0} → Question → HelperShown → HelperShown → List ℕ → Result (Unit {0}) E → Type 0
 Fetches question old new bytes (Ok done) = Took old.sink new.sink (question_text question) × Gave old.source new.source bytes × (old.faults ≡ 0) × (new.faults ≡ 0)
 Fetches question old new bytes (Err failed) = (HasFailed old new ⊎ FailsToPut question old new ⊎ FailsToRead (length bytes) question old new) × (new.faults ≡ min (old.faults + 1) (2 ^ 64 - 1))

@@ -1,7 +1,7 @@
 -- The fields of a question, and what is read of them.
 use Rattle.std.specs.Prelude.{◌≡◌, ℕ, ◌+◌, ◌<◌, ◌≤◌, List, [], ◌∷◌, ◌++◌, length}
 use Rattle.lists.specs.KeriSpecs.Causes.{Rose}
-use Rattle.lists.specs.KeriSpecs.Told.{before, IsAtEnd}
+use Rattle.lists.specs.KeriSpecs.Shown.{before, IsAtEnd}
 use Rattle.cesr_codes.specs.declared.key.Key.{Key}
 use Rattle.cesr_codes.specs.declared.sig.Sig.{Sig}
 use Rattle.cesr_codes.specs.Spelling.{key_text, sig_text, IsKey, IsSig}
@@ -11,7 +11,8 @@ use Rattle.verifier_link.specs.declared.stop.Stop.{Stop}
 use Rattle.verifier_link.specs.declared.stop.Stop.TheVariants.{Ended, Malformed, ReadFault, LimitReached}
 use Rattle.verifier_link.specs.declared.wanted.Wanted.{Wanted}
 use Rattle.verifier_link.specs.Questions.{IsWanted, wanted_text, length_text}
-use Rattle.verifier_link.specs.Sides.{SourceShown, Gave}
+use Rattle.verifier_link.specs.Sides.{Gave}
+use Rattle.keri_outside.specs.Shown.{SourceShown}
 
 -- `V` is a question for a verdict, `S` one for a signature
 abbrev pub letter_code : Letter → ℕ

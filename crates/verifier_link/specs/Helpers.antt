@@ -11,7 +11,7 @@ use Rattle.verifier_link.specs.declared.helper.Helper.{Helper}
 use Rattle.verifier_link.specs.declared.helper.Helper.TheVariants.{Rehearsal, Program}
 use Rattle.verifier_link.specs.Exchanges.{Exchanges}
 use Rattle.verifier_link.specs.Questions.{Question}
-use Rattle.verifier_link.specs.Sides.{LinkShown, link_faults, link_shown}
+use Rattle.verifier_link.specs.Sides.{HelperShown, link_faults, link_shown}
 
 -- the verdicts and the signatures of a program, of which nothing is told
 abbrev pub says_nothing : Key → List ℕ → Sig → Option Bool
@@ -37,12 +37,12 @@ helper_faults (Program link process) = link_faults link
 
 -- what is told of the link to a program; the rehearsal has none
 module _ {S K : Type 0} (left : S → Option (List ℕ)) (read_faults : S → ℕ) (written : K → Option (List ℕ)) (write_faults : K → ℕ) where
-  abbrev pub helper_shown : {P : Type 0} → Helper S K P → Option LinkShown
+  abbrev pub helper_shown : {P : Type 0} → Helper S K P → Option HelperShown
   helper_shown (Rehearsal rehearsal) = None
   helper_shown (Program link process) = Some (link_shown left read_faults written write_faults link)
 
 -- The rehearsal answers what it makes itself, and a program over its link, or not. A helper stays the one that it is.
-abbrev pub IsAnswered : {A E : Type 0} → (A → List ℕ → Type 0) → A → Question → Option LinkShown → Option LinkShown → Result A E → Type 0
+abbrev pub IsAnswered : {A E : Type 0} → (A → List ℕ → Type 0) → A → Question → Option HelperShown → Option HelperShown → Result A E → Type 0
 IsAnswered Says own question None None result = result ≡ Ok own
 IsAnswered Says own question (Some old) (Some new) result = Exchanges Says question old new result
 IsAnswered Says own question None (Some new) result = ⊥

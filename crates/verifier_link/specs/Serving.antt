@@ -2,14 +2,15 @@
 use Rattle.std.specs.Prelude.{◌≡◌, ℕ, ◌≤◌, ◌⊎◌, List, [], ◌∷◌, ◌++◌, length, flat_map, take}
 use Rattle.std.specs.List.{AllByRecursion}
 use Rattle.lists.specs.KeriSpecs.Causes.{Rose}
-use Rattle.lists.specs.KeriSpecs.Told.{before, after, IsAtEnd}
+use Rattle.lists.specs.KeriSpecs.Shown.{before, after, IsAtEnd}
 use Rattle.verifier_link.specs.declared.served.Served.{Served}
 use Rattle.verifier_link.specs.declared.served.Served.TheVariants.{End, Malformed, ReadFault, WriteFault, LimitReached, OutOfMemory}
 use Rattle.verifier_link.specs.Answers.{answer_text}
 use Rattle.verifier_link.specs.Exchanges.{Took}
 use Rattle.verifier_link.specs.Fields.{IsBegun, IsRefused}
 use Rattle.verifier_link.specs.Questions.{Question, IsQuestion, question_text}
-use Rattle.verifier_link.specs.Sides.{SourceShown, SinkShown, Gave}
+use Rattle.verifier_link.specs.Sides.{Gave}
+use Rattle.keri_outside.specs.Shown.{SourceShown, SinkShown}
 use Rattle.verifier_link.specs.Stops.{IsCutShort}
 
 -- what is told of a source and a sink

@@ -2,13 +2,14 @@
 use Rattle.std.specs.Prelude.{◌≡◌, ◌≢◌, ℕ, ◌≤◌, ◌⊎◌, List, [], ◌∷◌, ◌++◌, length}
 use Rattle.std.specs.declared.option.Option.{Option}
 use Rattle.lists.specs.KeriSpecs.Causes.{Rose}
-use Rattle.lists.specs.KeriSpecs.Told.{before, IsAtEnd}
+use Rattle.lists.specs.KeriSpecs.Shown.{before, IsAtEnd}
 use Rattle.verifier_link.specs.declared.served.Served.{Served}
 use Rattle.verifier_link.specs.declared.served.Served.TheVariants.{End, Malformed as MalformedAt, ReadFault as ReadFailed, LimitReached as ReadAll}
 use Rattle.verifier_link.specs.declared.stop.Stop.{Stop}
 use Rattle.verifier_link.specs.declared.stop.Stop.TheVariants.{Ended, Malformed, ReadFault, LimitReached}
 use Rattle.verifier_link.specs.Fields.{IsBegun, IsRefused}
-use Rattle.verifier_link.specs.Sides.{SourceShown, Gave}
+use Rattle.verifier_link.specs.Sides.{Gave}
+use Rattle.keri_outside.specs.Shown.{SourceShown}
 
 -- within a question the input's end cuts it short
 abbrev pub cut_short : Stop → Stop

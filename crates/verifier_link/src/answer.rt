@@ -1,7 +1,7 @@
 //! The rehearsal's answers on a sink.
 ghost use Rattle.std.specs.Prelude.{◌≡◌, ◌∷◌, []};
 ghost use Rattle.lists.specs.KeriSpecs.Causes.{HasCause};
-ghost use Rattle.lists.specs.KeriSpecs.Told.{Puts};
+ghost use Rattle.lists.specs.KeriSpecs.Shown.{Puts};
 ghost use Rattle.verifier_link.specs.Answers.{rehearsal_text, verdict_text};
 
 use crate::Wanted;

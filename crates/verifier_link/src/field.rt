@@ -1,6 +1,7 @@
 //! Fields of a question or an answer, read from a source.
 ghost use Rattle.std.specs.Prelude.{◌<◌, ℕ, length, OnOk, IfErr};
-ghost use Rattle.verifier_link.specs.Sides.{Gave, source_shown};
+ghost use Rattle.verifier_link.specs.Sides.{Gave};
+ghost use Rattle.keri_outside.specs.Shown.{source_shown};
 ghost use Rattle.verifier_link.specs.Fields.{IsCut, IsShort, IsTaken, SeesMore};
 
 use crate::stop::Stop;

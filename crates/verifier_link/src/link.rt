@@ -22,7 +22,8 @@ impl<S: Source, K: Sink> Link<S, K> {
     ghost use Rattle.lists.specs.KeriSpecs.Causes.{HasCause};
     ghost use Rattle.verifier_link.specs.Questions.{question};
     ghost use Rattle.verifier_link.specs.Exchanges.{Fetches};
-    ghost use Rattle.verifier_link.specs.Sides.{link_faults, link_shown, source_shown, sink_shown};
+    ghost use Rattle.verifier_link.specs.Sides.{link_faults, link_shown};
+    ghost use Rattle.keri_outside.specs.Shown.{source_shown, sink_shown};
 
     /// A link that wasn't asked yet.
     pub fn new(source: S, sink: K) -> Link<S, K>

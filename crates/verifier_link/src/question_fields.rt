@@ -3,7 +3,7 @@ ghost use Rattle.std.specs.Prelude.{◌≡◌, ◌≤◌, ◌∷◌, [], IfOk, I
 ghost use Rattle.cesr_codes.specs.Spelling.{IsKey, IsSig, key_text, sig_text};
 ghost use Rattle.verifier_link.specs.Fields.{FieldStops, IsTaken, Completes, letter_code, the_key, the_length, the_letter, the_sig};
 ghost use Rattle.verifier_link.specs.Questions.{FindsQuestion, IsWanted, length_text, wanted_text};
-ghost use Rattle.verifier_link.specs.Sides.{source_shown};
+ghost use Rattle.keri_outside.specs.Shown.{source_shown};
 ghost use Rattle.verifier_link.specs.Stops.{StopsBehind, StopsReading};
 
 use crate::Wanted;

@@ -1,7 +1,7 @@
 //! A server that answers a helper's questions by the rehearsal.
 ghost use Rattle.std.specs.Prelude.{◌≡◌, length};
 ghost use Rattle.verifier_link.specs.Serving.{IsServed, sides_shown};
-ghost use Rattle.verifier_link.specs.Sides.{sink_shown, source_shown};
+ghost use Rattle.keri_outside.specs.Shown.{sink_shown, source_shown};
 
 use crate::Served;
 use crate::answer::put_answer;

@@ -6,7 +6,7 @@ use Rattle.cesr_codes.specs.declared.indexed_sig.IndexedSig.{IndexedSig}
 use Rattle.cesr_stream.specs.Items.{Items, Placed, placed}
 use Rattle.cesr_stream.specs.Parts.{unfinished}
 use Rattle.cesr_stream.specs.Written.{item_text}
-use Rattle.cesr_stream.specs.declared.group.Group.TheVariants.{Held}
+use Rattle.cesr_stream.specs.declared.group.Group.TheVariants.{Controller}
 use Rattle.cesr_stream.specs.declared.item.Item.{Item}
 use Rattle.cesr_stream.specs.declared.item.Item.TheVariants.{Body as BodyItem, Group as GroupItem}
 use Rattle.key_state.specs.Same.{distinct}
@@ -27,7 +27,7 @@ parts_of sigs = first_chunks 1024 (chunk_count (length sigs) 1024) sigs
 
 -- a message: a body, and behind it a group of signatures (CESR, `-A`)
 abbrev pub message_of : List ℕ → List IndexedSig → List Item
-message_of bytes sigs = BodyItem bytes ∷ GroupItem (Held sigs) ∷ []
+message_of bytes sigs = BodyItem bytes ∷ GroupItem (Controller sigs) ∷ []
 
 -- a body with signatures: as many messages as they need, and the body alone where there are none
 abbrev pub items_with : List ℕ → List IndexedSig → List Item

@@ -1,7 +1,7 @@
 -- Evidence that is written to a sink.
 use Rattle.std.specs.Prelude.{◌≡◌, ℕ, Bool, List, take, Option, Result, Ok, Err}
 use Rattle.lists.specs.KeriSpecs.Causes.{Rose}
-use Rattle.lists.specs.KeriSpecs.Told.{after}
+use Rattle.lists.specs.KeriSpecs.Shown.{after}
 use Rattle.validator_core.specs.ValidatorCore.View.{CoreView}
 use Rattle.watcher_core.specs.Evidence.{IsEvidenceText}
 use Rattle.watcher_core.specs.declared.evidence_fault.EvidenceFault.{EvidenceFault}

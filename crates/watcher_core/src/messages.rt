@@ -56,6 +56,6 @@ fn put_message(
         ++ flat_map item_text (message_of bytes.now sigs.now)) }
 {
     text.put_bytes(bytes)?;
-    let group = Group::Held(Items::from_vec(Vec::from_slice(alloc, sigs)?));
+    let group = Group::Controller(Items::from_vec(Vec::from_slice(alloc, sigs)?));
     text.put_item(&Item::Group(group))
 }

@@ -5,7 +5,7 @@ use Rattle.cesr_codes.specs.declared.digest.DigestCode.{DigestCode}
 use Rattle.cesr_codes.specs.declared.indexed_sig.IndexedSig.{IndexedSig}
 use Rattle.cesr_codes.specs.declared.key.Key.{Key}
 use Rattle.cesr_codes.specs.declared.sig.Sig.{Sig}
-use Rattle.cesr_stream.specs.declared.group.Group.TheVariants.{Held}
+use Rattle.cesr_stream.specs.declared.group.Group.TheVariants.{Controller}
 use Rattle.cesr_stream.specs.declared.message.Message.{Message}
 use Rattle.event_body.specs.declared.event_body.event.Event.{Event}
 use Rattle.event_body.specs.declared.event_body.event.Event.TheVariants.{Icp, Rot, Ixn, Dip, Drt, Rct}
@@ -26,7 +26,7 @@ same_keys s code (Drt e) = refl
 same_keys s code (Rct e) = refl
 
 pub has_sigs : (gives : Key → List ℕ → Option Sig) (keys : List Key) (text body : List ℕ) (slots : List Slot) (sigs : List IndexedSig) (message : Message)
-    → AllZip (IsInSlot gives keys text) slots sigs → message ≡ record { place = 0; body = body; groups = Held sigs ∷ []; excess = false } → body ≡ text → HasSigs gives keys text slots message
+    → AllZip (IsInSlot gives keys text) slots sigs → message ≡ record { place = 0; body = body; groups = Controller sigs ∷ []; excess = false } → body ≡ text → HasSigs gives keys text slots message
 has_sigs gives keys text body slots sigs message all is same = record {
   sigs = sigs;
   in_slots = all;

@@ -9,7 +9,7 @@ use Rattle.cesr_codes.specs.declared.key.Key.{Key}
 use Rattle.cesr_codes.specs.declared.sig.Sig.{Sig}
 use Rattle.cesr_codes.specs.declared.digest.Digest.{Digest}
 use Rattle.cesr_stream.specs.declared.message.Message.{Message}
-use Rattle.cesr_stream.specs.declared.group.Group.TheVariants.{Held as HeldGroup}
+use Rattle.cesr_stream.specs.declared.group.Group.TheVariants.{Controller as ControllerGroup}
 use Rattle.event_body.specs.declared.event_body.event.Event.{Event}
 use Rattle.event_body.specs.declared.event_body.event.Event.TheVariants.{Icp, Rot, Ixn, Dip, Drt, Rct}
 use Rattle.event_body.specs.EventBody.Events.{is_rotation}
@@ -121,7 +121,7 @@ next_met gives told (Some s) (Drt e) slots sigs zipped all h =
     s.nt (length s.next) h
 
 -- the claims of a message with one group
-claims_are : (message : Message) (sigs : List IndexedSig) → message.groups ≡ HeldGroup sigs ∷ [] → claims_of message ≡ map (λ sig. Controller sig) sigs
+claims_are : (message : Message) (sigs : List IndexedSig) → message.groups ≡ ControllerGroup sigs ∷ [] → claims_of message ≡ map (λ sig. Controller sig) sigs
 claims_are message sigs group = ap (flat_map claims_of_group) group ∙ append-nil (map (λ sig. Controller sig) sigs)
 
 -- SIGNED

@@ -4,7 +4,7 @@ use Rattle.std.specs.List.{AllZip}
 use Rattle.cesr_codes.specs.declared.indexed_sig.IndexedSig.{IndexedSig}
 use Rattle.cesr_codes.specs.declared.key.Key.{Key}
 use Rattle.cesr_codes.specs.declared.sig.Sig.{Sig}
-use Rattle.cesr_stream.specs.declared.group.Group.TheVariants.{Held}
+use Rattle.cesr_stream.specs.declared.group.Group.TheVariants.{Controller}
 use Rattle.cesr_stream.specs.declared.message.Message.{Message}
 use Rattle.event_body.specs.declared.event_body.event.Event.{Event}
 use Rattle.event_body.specs.EventBody.Judging.{SpellsEvent}
@@ -51,7 +51,7 @@ pub record HasSigs (gives : Key → List ℕ → Option Sig) (keys : List Key) (
   pub in_slots : AllZip (IsInSlot gives keys text) slots sigs
   pub place : message.place ≡ 0
   pub body : message.body ≡ text
-  pub group : message.groups ≡ Held sigs ∷ []
+  pub group : message.groups ≡ Controller sigs ∷ []
   pub excess : message.excess ≡ false
 
 -- the event behind a state can be signed in these slots, and this is its message

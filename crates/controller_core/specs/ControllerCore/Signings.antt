@@ -2,7 +2,7 @@
 use Rattle.std.specs.Prelude.{◌≡◌, ℕ, List, [], flat_map, slice_get, take, Option, Result, Ok, Err}
 use Rattle.std.specs.List.{cons_option}
 use Rattle.std.specs.Option.{option_map}
-use Rattle.lists.specs.KeriSpecs.Told.{after}
+use Rattle.lists.specs.KeriSpecs.Shown.{after}
 use Rattle.keri_outside.specs.Asked.{signing}
 use Rattle.keri_outside.specs.declared.signing.Signing.{Signing}
 use Rattle.cesr_codes.specs.declared.key.Key.{Key}

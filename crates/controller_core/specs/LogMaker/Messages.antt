@@ -9,7 +9,7 @@ use Rattle.cesr_codes.specs.declared.key.Key.{Key}
 use Rattle.cesr_codes.specs.declared.sig.Sig.{Sig}
 use Rattle.keri_outside.specs.Rehearsal.{rehearsed}
 use Rattle.cesr_stream.specs.declared.group.Group.{Group}
-use Rattle.cesr_stream.specs.declared.group.Group.TheVariants.{Held, Witness}
+use Rattle.cesr_stream.specs.declared.group.Group.TheVariants.{Controller, Witness}
 use Rattle.cesr_stream.specs.Texts.{group_text}
 use Rattle.controller_core.specs.LogMaker.Names.{log_key, log_witness}
 use Rattle.controller_core.specs.LogMaker.Draws.{key_number}
@@ -25,7 +25,7 @@ signature_text place sig = indexed_code false (Some place) ++ index_text false p
 
 -- the signature of the signing key
 abbrev pub signatures : Key → List ℕ → Group
-signatures key body = Held (signature 0 refl key body ∷ [])
+signatures key body = Controller (signature 0 refl key body ∷ [])
 
 -- the signatures of the first three of a log's four witnesses
 abbrev pub receipts : ℕ → ℕ → List ℕ → Group

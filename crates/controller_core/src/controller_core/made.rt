@@ -1,7 +1,7 @@
 //! The messages of planned events.
 ghost use Rattle.std.specs.Prelude.{◌≡◌, ◌+◌, ◌-◌, ◌<◌, ◌^◌, ◌∷◌, [], false, Some, IfOk, IfErr};
 ghost use Rattle.std.specs.Option.{option_copied};
-ghost use Rattle.cesr_stream.specs.declared.group.Group.TheVariants.{Held};
+ghost use Rattle.cesr_stream.specs.declared.group.Group.TheVariants.{Controller};
 ghost use Rattle.event_body.specs.EventWriting.Writable.{IsWritable};
 ghost use Rattle.key_state.specs.Heads.{head_sn};
 ghost use Rattle.controller_core.specs.ControllerCore.LastNumbers.{IsLastAnswer};
@@ -79,10 +79,10 @@ pub(crate) fn made_behind<S: Signer>(
 // The message of a body with these signatures.
 fn message(alloc: Global, body: Vec<u8>, sigs: Items<IndexedSig>) -> Result<Message, AllocError>
     ensures { IfOk result (λ message. message
-        ≡ record { place = 0; body = body.items; groups = Held sigs ∷ []; excess = false }) }
+        ≡ record { place = 0; body = body.items; groups = Controller sigs ∷ []; excess = false }) }
 {
     let mut groups = Items::new(alloc);
-    groups.push(Group::Held(sigs))?;
+    groups.push(Group::Controller(sigs))?;
     Ok(Message {
         place: 0,
         body: Items::from_vec(body),

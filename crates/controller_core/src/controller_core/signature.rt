@@ -4,7 +4,7 @@ ghost use Rattle.std.specs.List.{AllZip, list_all};
 ghost use Rattle.cesr_codes.specs.Indices.{has_form};
 ghost use Rattle.controller_core.specs.declared.controller_core.plan_fault.PlanFault.TheVariants.{OutOfMemory, SignerFault};
 ghost use Rattle.lists.specs.KeriSpecs.Causes.{HasCause};
-ghost use Rattle.lists.specs.KeriSpecs.Told.{Puts};
+ghost use Rattle.lists.specs.KeriSpecs.Shown.{Puts};
 ghost use Rattle.controller_core.specs.ControllerCore.Messages.{IsInSlot};
 ghost use Rattle.controller_core.specs.ControllerCore.Refusals.{CountsSignerFaults};
 ghost use Rattle.controller_core.specs.ControllerCore.Signings.{signing_at, signings_in};

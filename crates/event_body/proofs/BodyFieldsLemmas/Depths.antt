@@ -24,9 +24,9 @@ list_fits n value values at all =
     let reads = reads_list n (n + 1) refl (separated (map spelling values) ++ 93 ∷ []) values [] (record { each = all; whole = refl }) in
     (subst (Fits (n + 1)) (sym at) reads.fits, inr (values, at))
 
-strings_fit : {P : Type 0} (text : P → List ℕ) → (IsHeld : P → Type 0) → ((p : P) → IsHeld p → IsString (text p)) → (ps : List P) → AllByRecursion IsHeld ps → AllByRecursion (Fits 0) (map (λ p. Str (text p)) ps)
-strings_fit text IsHeld is [] all = tt
-strings_fit text IsHeld is (p ∷ ps) all = ((is p all.0, omega arith), strings_fit text IsHeld is ps all.1)
+strings_fit : {P : Type 0} (text : P → List ℕ) → (IsTyped : P → Type 0) → ((p : P) → IsTyped p → IsString (text p)) → (ps : List P) → AllByRecursion IsTyped ps → AllByRecursion (Fits 0) (map (λ p. Str (text p)) ps)
+strings_fit text IsTyped is [] all = tt
+strings_fit text IsTyped is (p ∷ ps) all = ((is p all.0, omega arith), strings_fit text IsTyped is ps all.1)
 
 -- of each form
 pub form_fits : (form : Form) (value : Tree) → IsOfForm form value → Fits (depth_of form) value × IsStringOrList value

@@ -21,7 +21,7 @@ use Rattle.event_body.specs.declared.event_body.inception.Inception.{Inception}
 use Rattle.event_body.specs.declared.event_body.rotation.Rotation.{Rotation}
 use Rattle.event_body.specs.declared.event_body.interaction.Interaction.{Interaction}
 use Rattle.event_body.specs.declared.event_body.receipt_body.ReceiptBody.{ReceiptBody}
-use Rattle.event_body.specs.EventBody.Held.{IsHeld, IsHeldInception, IsHeldRotation, IsHeldInteraction, IsHeldReceipt}
+use Rattle.event_body.specs.EventBody.Typed.{IsTyped, IsTypedInception, IsTypedRotation, IsTypedInteraction, IsTypedReceipt}
 use Rattle.event_body.specs.EventBody.Ranges.{AreInRange, IsInception, IsRotation, IsInteraction, IsReceipt}
 use Rattle.event_body.specs.EventBody.Spelling.{body_kind, delegator_values, values_of}
 use Rattle.event_body.proofs.EventBodyLemmas.Values.{one_list, one_strings}
@@ -53,7 +53,7 @@ one_delegator (Some a) (Some b) ia ib e = let first : prefix_value a ≡ prefix_
 abbrev pub Matches : Threshold → Threshold → Type 0
 Matches t u = threshold_value t ≡ threshold_value u → t ≡ u
 
-module _ (e f : Inception) (p : IsInception e) (q : IsHeldInception f) (kt : Matches e.kt f.kt) (nt : Matches e.nt f.nt) (rows : values_of (Icp e) ≡ values_of (Icp f)) where
+module _ (e f : Inception) (p : IsInception e) (q : IsTypedInception f) (kt : Matches e.kt f.kt) (nt : Matches e.nt f.nt) (rows : values_of (Icp e) ≡ values_of (Icp f)) where
   one_inception : e ≡ f
   one_inception =
       let said = one_digest e.said f.said p.said_held q.said (cc rows) in
@@ -81,7 +81,7 @@ module _ (e f : Inception) (p : IsInception e) (q : IsHeldInception f) (kt : Mat
         delegator = delegator i;
       }
 
-module _ (e f : Rotation) (p : IsRotation e) (q : IsHeldRotation f) (kt : Matches e.kt f.kt) (nt : Matches e.nt f.nt) (rows : values_of (Rot e) ≡ values_of (Rot f)) where
+module _ (e f : Rotation) (p : IsRotation e) (q : IsTypedRotation f) (kt : Matches e.kt f.kt) (nt : Matches e.nt f.nt) (rows : values_of (Rot e) ≡ values_of (Rot f)) where
   one_rotation : e ≡ f
   one_rotation =
       let said = one_digest e.said f.said p.said_held q.said (cc rows) in
@@ -111,7 +111,7 @@ module _ (e f : Rotation) (p : IsRotation e) (q : IsHeldRotation f) (kt : Matche
         anchors = anchors i;
       }
 
-one_interaction : (e f : Interaction) → IsInteraction e → IsHeldInteraction f → values_of (Ixn e) ≡ values_of (Ixn f) → e ≡ f
+one_interaction : (e f : Interaction) → IsInteraction e → IsTypedInteraction f → values_of (Ixn e) ≡ values_of (Ixn f) → e ≡ f
 one_interaction e f p q rows =
     let said = one_digest e.said f.said p.said_held q.said (cc rows) in
     let prefix = one_prefix e.prefix f.prefix p.prefix_held q.prefix (cc rows) in
@@ -120,7 +120,7 @@ one_interaction e f p q rows =
     let anchors = list_injective e.anchors f.anchors (cc rows) in
     λ i. record { said = said i; prefix = prefix i; sn = sn i; prior = prior i; anchors = anchors i }
 
-one_receipt : (e f : ReceiptBody) → IsReceipt e → IsHeldReceipt f → values_of (Rct e) ≡ values_of (Rct f) → e ≡ f
+one_receipt : (e f : ReceiptBody) → IsReceipt e → IsTypedReceipt f → values_of (Rct e) ≡ values_of (Rct f) → e ≡ f
 one_receipt e f p q rows =
     let said = one_digest e.said f.said p.said_held q.said (cc rows) in
     let prefix = one_prefix e.prefix f.prefix p.prefix_held q.prefix (cc rows) in
@@ -136,7 +136,7 @@ MatchThresholds (Drt e) (Drt f) = Matches e.kt f.kt × Matches e.nt f.nt
 MatchThresholds _ _ = Unit {0}
 
 -- events of a kind with the same values are one
-pub same_event : (e f : Event) → body_kind e ≡ body_kind f → AreInRange e → IsHeld f → MatchThresholds e f → values_of e ≡ values_of f → e ≡ f
+pub same_event : (e f : Event) → body_kind e ≡ body_kind f → AreInRange e → IsTyped f → MatchThresholds e f → values_of e ≡ values_of f → e ≡ f
 same_event (Icp e) (Icp f) kind p q (kt, nt) rows = ap Icp (one_inception e f p q kt nt rows)
 same_event (Rot e) (Rot f) kind p q (kt, nt) rows = ap Rot (one_rotation e f p q kt nt rows)
 same_event (Ixn e) (Ixn f) kind p q match rows = ap Ixn (one_interaction e f p q rows)
@@ -145,7 +145,7 @@ same_event (Drt e) (Drt f) kind p q (kt, nt) rows = ap Drt (one_rotation e f p q
 same_event (Rct e) (Rct f) kind p q match rows = ap Rct (one_receipt e f p q rows)
 same_event _ _ kind p q match rows = cc kind
 
-inception_held : (e : Inception) → IsInception e → IsHeldInception e
+inception_held : (e : Inception) → IsInception e → IsTypedInception e
 inception_held e r = record {
   said = r.said_held;
   prefix = r.prefix_held;
@@ -156,7 +156,7 @@ inception_held e r = record {
   delegator = r.delegator_held;
 }
 
-rotation_held : (e : Rotation) → IsRotation e → IsHeldRotation e
+rotation_held : (e : Rotation) → IsRotation e → IsTypedRotation e
 rotation_held e r = record {
   said = r.said_held;
   prefix = r.prefix_held;
@@ -170,7 +170,7 @@ rotation_held e r = record {
 }
 
 -- parts in their ranges are in those of their types
-pub range_held : (event : Event) → AreInRange event → IsHeld event
+pub range_held : (event : Event) → AreInRange event → IsTyped event
 range_held (Icp e) r = inception_held e r
 range_held (Rot e) r = rotation_held e r
 range_held (Ixn e) r = record { said = r.said_held; prefix = r.prefix_held; sn = r.sn_held; prior = r.prior_held }

@@ -27,7 +27,7 @@ use Rattle.event_body.specs.declared.event_body.event.Event.TheVariants.{Icp, Ro
 use Rattle.event_body.specs.declared.event_body.inception.Inception.{Inception}
 use Rattle.event_body.specs.declared.event_body.rotation.Rotation.{Rotation}
 use Rattle.event_body.specs.EventBody.Events.{prefix_of, said_of, hides_prefix}
-use Rattle.event_body.specs.EventBody.Held.{IsHeld, IsHeldInception, IsHeldRotation}
+use Rattle.event_body.specs.EventBody.Typed.{IsTyped, IsTypedInception, IsTypedRotation}
 use Rattle.event_body.specs.EventBody.Rules.{digested_values}
 use Rattle.event_body.specs.EventBody.Spelling.{body_kind, delegator_values, inception_values, rotation_values, further_values, values_of}
 use Rattle.event_body.specs.EventWriting.Writable.{IsWritable, HasOwnThresholds}
@@ -67,15 +67,15 @@ delegator_is : (delegator : Option Prefix) → AllByRecursion IsValue (delegator
 delegator_is None = tt
 delegator_is (Some prefix) = (prefix_is prefix, tt)
 
-inception_is : (e : Inception) → IsHeldInception e → HasOwnValue e.kt × HasOwnValue e.nt → AllByRecursion IsJson e.anchors → AllByRecursion IsString e.traits → AllByRecursion IsValue (inception_values e)
+inception_is : (e : Inception) → IsTypedInception e → HasOwnValue e.kt × HasOwnValue e.nt → AllByRecursion IsJson e.anchors → AllByRecursion IsString e.traits → AllByRecursion IsValue (inception_values e)
 inception_is e held own anchors traits =
     (number_is 0 (omega arith), (own_is e.kt own.0, (keys_are e.keys held.keys, (own_is e.nt own.1, (digests_are e.next held.next, (number_is e.toad held.toad, (keys_are e.list held.list, (strings_are e.traits traits, (list_value e.anchors anchors, delegator_is e.delegator)))))))))
 
-rotation_is : (e : Rotation) → IsHeldRotation e → HasOwnValue e.kt × HasOwnValue e.nt → AllByRecursion IsJson e.anchors → AllByRecursion IsValue (rotation_values e)
+rotation_is : (e : Rotation) → IsTypedRotation e → HasOwnValue e.kt × HasOwnValue e.nt → AllByRecursion IsJson e.anchors → AllByRecursion IsValue (rotation_values e)
 rotation_is e held own anchors =
     (number_is e.sn held.sn, (digest_is e.prior, (own_is e.kt own.0, (keys_are e.keys held.keys, (own_is e.nt own.1, (digests_are e.next held.next, (number_is e.toad held.toad, (keys_are e.cuts held.cuts, (keys_are e.adds held.adds, (list_value e.anchors anchors, tt))))))))))
 
-further_are : (event : Event) → IsHeld event → HasOwnThresholds event → IsWritable event → AllByRecursion IsValue (further_values event)
+further_are : (event : Event) → IsTyped event → HasOwnThresholds event → IsWritable event → AllByRecursion IsValue (further_values event)
 further_are (Icp e) held own writable = inception_is e held own writable.0 writable.1
 further_are (Dip e) held own writable = inception_is e held own writable.0 writable.1
 further_are (Rot e) held own writable = rotation_is e held own writable
@@ -83,7 +83,7 @@ further_are (Drt e) held own writable = rotation_is e held own writable
 further_are (Ixn e) held own writable = (number_is e.sn held.sn, (digest_is e.prior, (list_value e.anchors writable, tt)))
 further_are (Rct receipt) held own writable = (number_is receipt.sn held.sn, tt)
 
-pub values_are : (event : Event) → IsHeld event → HasOwnThresholds event → IsWritable event → AllByRecursion IsValue (values_of event)
+pub values_are : (event : Event) → IsTyped event → HasOwnThresholds event → IsWritable event → AllByRecursion IsValue (values_of event)
 values_are event held own writable = (digest_is (said_of event), (prefix_is (prefix_of event), further_are event held own writable))
 
 pub all_json : (values : List Tree) → AllByRecursion IsValue values → AllByRecursion IsJson values
@@ -99,7 +99,7 @@ hidden_is true prefix = placeholder_is
 hidden_is false prefix = prefix_is prefix
 
 -- so are the values with placeholders
-pub digested_are : (event : Event) → IsHeld event → HasOwnThresholds event → IsWritable event → AllByRecursion IsValue (digested_values event)
+pub digested_are : (event : Event) → IsTyped event → HasOwnThresholds event → IsWritable event → AllByRecursion IsValue (digested_values event)
 digested_are event held own writable = (placeholder_is, (hidden_is (hides_prefix event) (prefix_of event), further_are event held own writable))
 
 no_value : (delegator : Option Prefix) → delegator ≡ None → length (delegator_values delegator) ≡ 0

@@ -14,7 +14,7 @@ use Rattle.event_body.specs.declared.event_body.rotation.Rotation.{Rotation}
 use Rattle.event_body.specs.declared.event_body.body_fault.BodyFault.TheVariants.{Said, TooLarge}
 use Rattle.event_body.specs.declared.event_body.body_fault.ReadBody.{ReadBody}
 use Rattle.event_body.specs.declared.event_body.body_fault.ReadBody.TheVariants.{Fault, OutOfMemory}
-use Rattle.event_body.specs.EventBody.Held.{IsHeld, IsHeldInception, IsHeldRotation}
+use Rattle.event_body.specs.EventBody.Typed.{IsTyped, IsTypedInception, IsTypedRotation}
 use Rattle.event_body.specs.EventBody.Judging.{IsFirstFault, IsSpelled}
 use Rattle.event_body.specs.EventBody.Rules.{digested_text, HasSaid}
 use Rattle.event_body.specs.EventBody.Spelling.{text_of}
@@ -29,7 +29,7 @@ prefix_held : (prefix : Prefix) (digest : Digest) → IsPrefix prefix → IsDige
 prefix_held (Basic key) digest held valid = held
 prefix_held (SaidPrefix other) digest held valid = valid
 
-inception_held : (digest : Digest) (e : Inception) → IsDigest digest → IsHeldInception e → IsHeldInception (record e { said = digest; prefix = sealed_prefix e.prefix digest })
+inception_held : (digest : Digest) (e : Inception) → IsDigest digest → IsTypedInception e → IsTypedInception (record e { said = digest; prefix = sealed_prefix e.prefix digest })
 inception_held digest e valid held = record {
   said = valid;
   prefix = prefix_held e.prefix digest held.prefix valid;
@@ -40,7 +40,7 @@ inception_held digest e valid held = record {
   delegator = held.delegator;
 }
 
-rotation_held : (digest : Digest) (e : Rotation) → IsDigest digest → IsHeldRotation e → IsHeldRotation (record e { said = digest })
+rotation_held : (digest : Digest) (e : Rotation) → IsDigest digest → IsTypedRotation e → IsTypedRotation (record e { said = digest })
 rotation_held digest e valid held = record {
   said = valid;
   prefix = held.prefix;
@@ -53,7 +53,7 @@ rotation_held digest e valid held = record {
   adds = held.adds;
 }
 
-still_held : (digest : Digest) (event : Event) → IsDigest digest → IsHeld event → IsHeld (with_digest digest event)
+still_held : (digest : Digest) (event : Event) → IsDigest digest → IsTyped event → IsTyped (with_digest digest event)
 still_held digest (Icp e) valid held = inception_held digest e valid held
 still_held digest (Dip e) valid held = inception_held digest e valid held
 still_held digest (Rot e) valid held = rotation_held digest e valid held
@@ -87,7 +87,7 @@ has_said digest (Dip e) is = is
 has_said digest (Drt e) is = is
 has_said digest (Rct receipt) is = tt
 
-module _ (code : DigestCode) (event : Event) (held : IsHeld event) (own : HasOwnThresholds event) (writable : IsWritable event) (valid : IsDigest (digest_in code event)) where
+module _ (code : DigestCode) (event : Event) (held : IsTyped event) (own : HasOwnThresholds event) (writable : IsWritable event) (valid : IsDigest (digest_in code event)) where
   abbrev digest : Digest
   digest = digest_in code event
 

@@ -13,7 +13,7 @@ use Rattle.event_body.specs.declared.event_body.event.Event.{Event}
 use Rattle.event_body.specs.declared.event_body.event.Event.TheVariants.{Icp, Rot, Dip, Drt}
 use Rattle.event_body.specs.declared.event_body.body_fault.ReadBody.{ReadBody}
 use Rattle.event_body.specs.declared.event_body.body_fault.ReadBody.TheVariants.{Fault, OutOfMemory}
-use Rattle.event_body.specs.EventBody.Held.{IsHeld}
+use Rattle.event_body.specs.EventBody.Typed.{IsTyped}
 use Rattle.event_body.specs.EventBody.Judging.{HasEvent, SpellsEvent, IsFirstFault, Judges}
 use Rattle.event_body.specs.EventBody.Ranges.{AreInRange}
 use Rattle.event_body.specs.EventBody.Spelling.{body_kind, values_of, text_of}
@@ -33,7 +33,7 @@ own_matches (Rot e) (Rot f) r own = (matches e.kt f.kt _ r.kt_spelled r.kt_read 
 own_matches (Drt e) (Drt f) r own = (matches e.kt f.kt _ r.kt_spelled r.kt_read own.0, matches e.nt f.nt _ r.nt_spelled r.nt_read own.1)
 own_matches _ _ r own = tt
 
-module _ (f : Event) (held : IsHeld f) (own : HasOwnThresholds f) (writable : IsWritable f) where
+module _ (f : Event) (held : IsTyped f) (own : HasOwnThresholds f) (writable : IsWritable f) where
   -- an event whose body has this event's text is this event
   pub event_again : (e : Event) → HasEvent e (text_of f) → e ≡ f
   event_again e has =

@@ -3,7 +3,7 @@ ghost use Rattle.std.specs.Prelude.{◌≡◌, ◌≤◌, ℕ, List, length, IfO
 ghost use Rattle.std.specs.List.{AllByRecursion};
 ghost use Rattle.json_tree.specs.Spelling.{IsJson};
 ghost use Rattle.event_body.specs.BodyFields.Bodies as bodies;
-ghost use Rattle.event_body.specs.EventBody.Held.{IsHeld};
+ghost use Rattle.event_body.specs.EventBody.Typed.{IsTyped};
 ghost use Rattle.event_body.specs.EventBody.Judging.{SpellsEvent};
 ghost use Rattle.event_body.specs.EventBody.Spelling.{text_of, values_of};
 ghost use Rattle.event_body.specs.EventWriting.Faults.{IsFaultOf, IsLengthFault};
@@ -52,7 +52,7 @@ fn written(alloc: Global, event: &Event) -> Result<Vec<u8>, ReadBody>
 
 // Why the event's text is no body.
 fn fault_of(alloc: Global, event: &Event, text: &[u8]) -> Option<ReadBody>
-    requires held { IsHeld event.now }
+    requires held { IsTyped event.now }
     requires thresholds { HasOwnThresholds event.now }
     requires writable { IsWritable event.now }
     requires text { text.now ≡ text_of event.now }
@@ -64,7 +64,7 @@ fn fault_of(alloc: Global, event: &Event, text: &[u8]) -> Option<ReadBody>
 
 /// The event's text, where it has at most 65,535 bytes.
 pub(crate) fn event_text(alloc: Global, event: &Event) -> Result<Vec<u8>, ReadBody>
-    requires held { IsHeld event.now }
+    requires held { IsTyped event.now }
     requires thresholds { HasOwnThresholds event.now }
     requires writable { IsWritable event.now }
     ensures text { IfOk result (λ text. (text.items ≡ text_of event.now) × (length text.items ≤ 65535)) }

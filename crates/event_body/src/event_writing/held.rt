@@ -3,7 +3,7 @@
 ghost use Rattle.std.specs.Prelude.{IfSome};
 ghost use Rattle.cesr_codes.specs.Spelling.{IsPrefix};
 ghost use Rattle.sith.specs.OwnValues.{HasOwnValue};
-ghost use Rattle.event_body.specs.EventBody.Held.{IsHeld, IsHeldInception, IsHeldInteraction, IsHeldReceipt, IsHeldRotation};
+ghost use Rattle.event_body.specs.EventBody.Typed.{IsTyped, IsTypedInception, IsTypedInteraction, IsTypedReceipt, IsTypedRotation};
 ghost use Rattle.event_body.specs.EventWriting.Writable.{HasOwnThresholds};
 
 use crate::event_body::{Event, Inception, Interaction, ReceiptBody, Rotation};
@@ -18,7 +18,7 @@ fn delegator(delegator: Option<Prefix>)
 }
 
 fn inception(event: &Inception)
-    ensures held { IsHeldInception event.now }
+    ensures held { IsTypedInception event.now }
     ensures thresholds { HasOwnValue event.now.kt × HasOwnValue event.now.nt }
 {
     event.said.held();
@@ -33,7 +33,7 @@ fn inception(event: &Inception)
 }
 
 fn rotation(event: &Rotation)
-    ensures held { IsHeldRotation event.now }
+    ensures held { IsTypedRotation event.now }
     ensures thresholds { HasOwnValue event.now.kt × HasOwnValue event.now.nt }
 {
     event.said.held();
@@ -50,7 +50,7 @@ fn rotation(event: &Rotation)
 }
 
 fn interaction(event: &Interaction)
-    ensures { IsHeldInteraction event.now }
+    ensures { IsTypedInteraction event.now }
 {
     event.said.held();
     event.prefix.held();
@@ -59,7 +59,7 @@ fn interaction(event: &Interaction)
 }
 
 fn receipt(receipt: &ReceiptBody)
-    ensures { IsHeldReceipt receipt.now }
+    ensures { IsTypedReceipt receipt.now }
 {
     receipt.said.held();
     receipt.prefix.held();
@@ -67,7 +67,7 @@ fn receipt(receipt: &ReceiptBody)
 }
 
 pub(crate) fn held(event: &Event)
-    ensures held { IsHeld event.now }
+    ensures held { IsTyped event.now }
     ensures thresholds { HasOwnThresholds event.now }
 {
     match event {

@@ -2,7 +2,7 @@
 ghost use Rattle.std.specs.Prelude.{◌≡◌, ◌≢◌, ◌⊎◌, ◌≤◌, Ok, Err, length, IfOk, IfErr};
 ghost use Rattle.json_tree.specs.declared.tree.Tree.TheVariants.{Str};
 ghost use Rattle.said_digest.specs.Replaced.{placeholder};
-ghost use Rattle.event_body.specs.EventBody.Held.{IsHeld};
+ghost use Rattle.event_body.specs.EventBody.Typed.{IsTyped};
 ghost use Rattle.event_body.specs.EventBody.Judging.{IsSpelled};
 ghost use Rattle.event_body.specs.EventBody.Rules as rules;
 ghost use Rattle.event_body.specs.EventWriting.Faults.{IsFaultOf, IsLengthFault};
@@ -71,7 +71,7 @@ fn sealed_with(alloc: Global, event: &Event, said: Digest) -> Result<Event, Read
 
 /// The event's text with placeholders, where it has at most 65,535 bytes.
 pub(crate) fn digested_text(alloc: Global, event: &Event) -> Result<Vec<u8>, ReadBody>
-    requires held { IsHeld event.now }
+    requires held { IsTyped event.now }
     requires thresholds { HasOwnThresholds event.now }
     requires writable { IsWritable event.now }
     ensures text { IfOk result (λ text. (text.items ≡ rules.digested_text event.now) × (length text.items ≤ 65535)) }

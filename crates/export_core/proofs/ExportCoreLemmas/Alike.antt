@@ -13,7 +13,7 @@ use Rattle.cesr_stream.specs.Texts.{SpellsItem, couple_text, group_text}
 use Rattle.cesr_stream.specs.Written.{IsWritable, item_text}
 use Rattle.cesr_stream.specs.declared.couple.Couple.{Couple}
 use Rattle.cesr_stream.specs.declared.group.Group.{Group}
-use Rattle.cesr_stream.specs.declared.group.Group.TheVariants.{Held, Witness, Couples, FirstSeen, Anchor}
+use Rattle.cesr_stream.specs.declared.group.Group.TheVariants.{Controller, Witness, Couples, FirstSeen, Anchor}
 use Rattle.cesr_stream.specs.declared.item.Item.{Item}
 use Rattle.cesr_stream.specs.declared.item.Item.TheVariants.{Body, Group as GroupItem, Wrapped}
 use Rattle.cesr_stream.proofs.Sizes.{length-couple_text, size_big, size_small}
@@ -73,7 +73,7 @@ items_alike limit bytes items others end other_end all other =
 
 -- a group begins with a dash, and a body with a brace
 dash : (g : Group) → slice_index (group_text g) 0 ≡ 45
-dash (Held es) = refl
+dash (Controller es) = refl
 dash (Witness es) = refl
 dash (Couples es) = refl
 dash (FirstSeen es) = refl
@@ -88,9 +88,9 @@ body_alike bytes (Wrapped gs) writable spelled =
     let lost : 45 ≡ 123 = sym (ap (λ t. slice_index t 0) spelled) ∙ (spells_itself (Body bytes) writable).1 in absurd (omega (arith, lost))
 
 -- GROUP: a group is read as one of its kind
-pub held_alike : (xs : List IndexedSig) (y : Item) → SpellsItem (group_text (Held xs)) y → (ys : List IndexedSig) × (y ≡ GroupItem (Held ys))
+pub held_alike : (xs : List IndexedSig) (y : Item) → SpellsItem (group_text (Controller xs)) y → (ys : List IndexedSig) × (y ≡ GroupItem (Controller ys))
 held_alike xs (Body bytes) spelled = let lost : 45 ≡ 123 = spelled.1 in absurd (omega (arith, lost))
-held_alike xs (GroupItem (Held ys)) spelled = (ys, refl)
+held_alike xs (GroupItem (Controller ys)) spelled = (ys, refl)
 held_alike xs (GroupItem (Witness ys)) spelled = let lost : 65 ≡ 66 = ap (λ t. slice_index t 1) spelled in absurd (omega (arith, lost))
 held_alike xs (GroupItem (Couples ys)) spelled = let lost : 65 ≡ 67 = ap (λ t. slice_index t 1) spelled in absurd (omega (arith, lost))
 held_alike xs (GroupItem (FirstSeen ys)) spelled = let lost : 65 ≡ 69 = ap (λ t. slice_index t 1) spelled in absurd (omega (arith, lost))
@@ -99,7 +99,7 @@ held_alike xs (Wrapped gs) spelled = let lost : 65 ≡ 86 = ap (λ t. slice_inde
 
 pub witness_alike : (xs : List IndexedSig) (y : Item) → SpellsItem (group_text (Witness xs)) y → (ys : List IndexedSig) × (y ≡ GroupItem (Witness ys))
 witness_alike xs (Body bytes) spelled = let lost : 45 ≡ 123 = spelled.1 in absurd (omega (arith, lost))
-witness_alike xs (GroupItem (Held ys)) spelled = let lost : 66 ≡ 65 = ap (λ t. slice_index t 1) spelled in absurd (omega (arith, lost))
+witness_alike xs (GroupItem (Controller ys)) spelled = let lost : 66 ≡ 65 = ap (λ t. slice_index t 1) spelled in absurd (omega (arith, lost))
 witness_alike xs (GroupItem (Witness ys)) spelled = (ys, refl)
 witness_alike xs (GroupItem (Couples ys)) spelled = let lost : 66 ≡ 67 = ap (λ t. slice_index t 1) spelled in absurd (omega (arith, lost))
 witness_alike xs (GroupItem (FirstSeen ys)) spelled = let lost : 66 ≡ 69 = ap (λ t. slice_index t 1) spelled in absurd (omega (arith, lost))
@@ -108,7 +108,7 @@ witness_alike xs (Wrapped gs) spelled = let lost : 66 ≡ 86 = ap (λ t. slice_i
 
 pub couples_alike : (xs : List Couple) (y : Item) → SpellsItem (group_text (Couples xs)) y → (ys : List Couple) × (y ≡ GroupItem (Couples ys))
 couples_alike xs (Body bytes) spelled = let lost : 45 ≡ 123 = spelled.1 in absurd (omega (arith, lost))
-couples_alike xs (GroupItem (Held ys)) spelled = let lost : 67 ≡ 65 = ap (λ t. slice_index t 1) spelled in absurd (omega (arith, lost))
+couples_alike xs (GroupItem (Controller ys)) spelled = let lost : 67 ≡ 65 = ap (λ t. slice_index t 1) spelled in absurd (omega (arith, lost))
 couples_alike xs (GroupItem (Witness ys)) spelled = let lost : 67 ≡ 66 = ap (λ t. slice_index t 1) spelled in absurd (omega (arith, lost))
 couples_alike xs (GroupItem (Couples ys)) spelled = (ys, refl)
 couples_alike xs (GroupItem (FirstSeen ys)) spelled = let lost : 67 ≡ 69 = ap (λ t. slice_index t 1) spelled in absurd (omega (arith, lost))

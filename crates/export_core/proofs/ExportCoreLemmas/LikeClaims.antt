@@ -16,7 +16,7 @@ use Rattle.cesr_stream.specs.Texts.{SpellsItem, couple_text, group_text}
 use Rattle.cesr_stream.specs.Written.{IsCouple}
 use Rattle.cesr_stream.specs.declared.couple.Couple.{Couple}
 use Rattle.cesr_stream.specs.declared.group.Group.{Group}
-use Rattle.cesr_stream.specs.declared.group.Group.TheVariants.{Held as HeldGroup, Witness as WitnessGroup, Couples}
+use Rattle.cesr_stream.specs.declared.group.Group.TheVariants.{Controller as ControllerGroup, Witness as WitnessGroup, Couples}
 use Rattle.cesr_stream.specs.declared.item.Item.{Item}
 use Rattle.cesr_stream.specs.declared.item.Item.TheVariants.{Group as GroupItem}
 use Rattle.cesr_stream.proofs.SameItems.{same_item}
@@ -108,11 +108,11 @@ one_group claims more p ps group is like alike = record {
   alike = alike;
 }
 
-held_same : (xs ys : List IndexedSig) → All IsIndexed xs → length xs ≤ 1024 → group_text (HeldGroup xs) ≡ group_text (HeldGroup ys)
+held_same : (xs ys : List IndexedSig) → All IsIndexed xs → length xs ≤ 1024 → group_text (ControllerGroup xs) ≡ group_text (ControllerGroup ys)
     → All IsIndexed ys → ys ≡ xs
 held_same xs ys raw few e valid =
-    let same : GroupItem (HeldGroup ys) ≡ GroupItem (HeldGroup xs)
-    = same_item (GroupItem (HeldGroup xs)) (GroupItem (HeldGroup ys)) raw valid (omega (arith, few)) e in cc same
+    let same : GroupItem (ControllerGroup ys) ≡ GroupItem (ControllerGroup xs)
+    = same_item (GroupItem (ControllerGroup xs)) (GroupItem (ControllerGroup ys)) raw valid (omega (arith, few)) e in cc same
 
 witness_same : (xs ys : List IndexedSig) → All IsIndexed xs → length xs ≤ 1024 → group_text (WitnessGroup xs) ≡ group_text (WitnessGroup ys)
     → All IsIndexed ys → ys ≡ xs
@@ -132,9 +132,9 @@ held_like [] more ps raw few alike = no_group more ps alike
 held_like (x ∷ xs) more [] raw few alike = absurd alike
 held_like (x ∷ xs) more (p ∷ ps) raw few alike =
     let y = held_alike (x ∷ xs) p.item alike.0 in
-    let e : group_text (HeldGroup (x ∷ xs)) ≡ group_text (HeldGroup y.0) = subst (SpellsItem (group_text (HeldGroup (x ∷ xs)))) y.1 alike.0 in
-    one_group (map (λ s. Controller s) (x ∷ xs)) more p ps (HeldGroup y.0) y.1
-    (group_like (λ s. Controller s) IsIndexed (λ s h. h) (λ s t. refl) (λ es. HeldGroup es) (λ es. refl) (λ es. refl) (x ∷ xs) y.0
+    let e : group_text (ControllerGroup (x ∷ xs)) ≡ group_text (ControllerGroup y.0) = subst (SpellsItem (group_text (ControllerGroup (x ∷ xs)))) y.1 alike.0 in
+    one_group (map (λ s. Controller s) (x ∷ xs)) more p ps (ControllerGroup y.0) y.1
+    (group_like (λ s. Controller s) IsIndexed (λ s h. h) (λ s t. refl) (λ es. ControllerGroup es) (λ es. refl) (λ es. refl) (x ∷ xs) y.0
     (as_many indexed_text indexed_sizes 65 (x ∷ xs) y.0 few e) (held_same (x ∷ xs) y.0 raw few e)) alike.1
 
 pub witness_like : (xs : List IndexedSig) (more : List Item) (ps : List Placed) → All IsIndexed xs → length xs ≤ 1024

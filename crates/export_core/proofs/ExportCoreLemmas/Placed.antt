@@ -1,7 +1,7 @@
 -- The bodies at the places of the accepted ones.
 use Rattle.std.proofs.Common.{◌≡◌, ◌+◌, ◌≤◌, ◌<◌, ℕ, zero, suc, List, [], ◌∷◌, ◌++◌, Option, Some, None, length, take, drop, refl, sym, ◌∙◌, ap, arith}
 use Rattle.std.specs.Prelude.{All, slice_get}
-use Rattle.validator_core.proofs.TablesLemmas.CoreTablesLemmas.NamedRows.{body_there, chosen_at}
+use Rattle.validator_core.proofs.TablesLemmas.NamedRows.{body_there, chosen_at}
 use Rattle.journal.specs.declared.journal.body.Body.{Body}
 use Rattle.journal.specs.Journal.Journals.{chosen}
 use Rattle.journal.proofs.JournalLemmas.Places.{all_at, some_at}

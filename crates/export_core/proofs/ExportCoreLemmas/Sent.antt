@@ -2,9 +2,9 @@
 use Rattle.std.proofs.Common.{◌≡◌, ℕ, zero, suc, Bool, List, [], ◌∷◌, ◌++◌, Some, map, refl, sym, ◌∙◌, ap, subst}
 use Rattle.std.specs.Prelude.{Contains, filter, flat_map, option_map, slice_get}
 use Rattle.std.specs.List.Sorted.{IsStrictlyIncreasing}
-use Rattle.validator_core.specs.Tables.CoreTables.EntryClaims.{came_to}
-use Rattle.validator_core.specs.Tables.CoreTables.Names.{name_of}
-use Rattle.validator_core.proofs.TablesLemmas.CoreTablesLemmas.ToldClaims.{came_is, told_claims}
+use Rattle.validator_core.specs.Tables.EntryClaims.{came_to}
+use Rattle.validator_core.specs.Tables.Names.{name_of}
+use Rattle.validator_core.proofs.TablesLemmas.ToldClaims.{came_is, told_claims}
 use Rattle.event_body.specs.declared.event_body.event.Event.{Event}
 use Rattle.escrow.specs.EventIndex.Keys.{numbers_at}
 use Rattle.journal.specs.declared.journal.body.Body.{Body}

@@ -6,9 +6,9 @@ use Rattle.std.specs.declared.cmp.Ordering.{Ordering}
 use Rattle.std.specs.declared.cmp.Ord as ord
 use Rattle.claim_table.specs.contracts.claim_table.signature.SignatureOrd.TheImpl as signature_order
 use Rattle.claim_table.specs.declared.claim_table.signature.Signature.{Signature}
-use Rattle.validator_core.specs.contracts.tables.core_tables.name.NameOrd.TheImpl as name_order
-use Rattle.validator_core.specs.declared.tables.core_tables.name.Name.{Name}
-use Rattle.validator_core.specs.Tables.CoreTables.Names.{name_of}
+use Rattle.validator_core.specs.contracts.tables.name.NameOrd.TheImpl as name_order
+use Rattle.validator_core.specs.declared.tables.name.Name.{Name}
+use Rattle.validator_core.specs.Tables.Names.{name_of}
 use Rattle.event_body.specs.declared.event_body.event.Event.{Event}
 use Rattle.escrow.specs.EventIndex.Keys.{numbers_at}
 use Rattle.escrow.specs.declared.event_index.index.Index.{Index}

@@ -5,7 +5,7 @@ use Rattle.cesr_codes.specs.declared.indexed_sig.IndexedSig.{IndexedSig}
 use Rattle.cesr_codes.specs.declared.key.KeyCode.TheVariants.{Fixed}
 use Rattle.cesr_stream.specs.Written.{IsCouple, item_text}
 use Rattle.cesr_stream.specs.declared.couple.Couple.{Couple}
-use Rattle.cesr_stream.specs.declared.group.Group.TheVariants.{Held as HeldGroup, Witness as WitnessGroup, Couples}
+use Rattle.cesr_stream.specs.declared.group.Group.TheVariants.{Controller as ControllerGroup, Witness as WitnessGroup, Couples}
 use Rattle.cesr_stream.specs.declared.item.Item.{Item}
 use Rattle.cesr_stream.specs.declared.item.Item.TheVariants.{Group as GroupItem}
 use Rattle.journal.specs.Journal.Replies.{is_held}
@@ -27,7 +27,7 @@ IsFixed (CoupleClaim key sig) = key.code ≡ Fixed
 -- are some
 abbrev pub held_group : List IndexedSig → List Item
 held_group [] = []
-held_group (s ∷ sigs) = GroupItem (HeldGroup (s ∷ sigs)) ∷ []
+held_group (s ∷ sigs) = GroupItem (ControllerGroup (s ∷ sigs)) ∷ []
 
 abbrev pub witness_group : List IndexedSig → List Item
 witness_group [] = []

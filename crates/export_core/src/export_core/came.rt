@@ -2,10 +2,10 @@
 ghost use Rattle.std.specs.Prelude.{◌≡◌, ◌||◌, Contains, IfOk, OnOk, Some, flat_map, slice_get};
 ghost use Rattle.std.specs.BTreeSet.{contains};
 ghost use Rattle.std.specs.Option.{option_copied};
-ghost use Rattle.validator_core.specs.Tables.CoreTables.EntryClaims.{came_to};
+ghost use Rattle.validator_core.specs.Tables.EntryClaims.{came_to};
 ghost use Rattle.claim_table.specs.declared.claim_table.signature.Signature.{Signature as SignatureValue};
-ghost use Rattle.validator_core.specs.Tables.CoreTables.Hints.{KeepsBelow};
-ghost use Rattle.validator_core.specs.Tables.CoreTables.Names as names;
+ghost use Rattle.validator_core.specs.Tables.Hints.{KeepsBelow};
+ghost use Rattle.validator_core.specs.Tables.Names as names;
 ghost use Rattle.event_body.specs.declared.event_body.event.Event.{Event as EventValue};
 ghost use Rattle.escrow.specs.EventIndex.Keys.{numbers_at};
 ghost use Rattle.export_core.specs.ExportCore.Came.{HasEntries, HasYes, event_in, is_signature, name_cmp, same_signature, signature_cmp, yes_of};

@@ -39,7 +39,7 @@ pub(crate) fn put_held(sigs: Vec<IndexedSig>, text: &mut StreamText) -> Result<(
     if sigs.is_empty() {
         return Ok(());
     }
-    text.put_item(&Item::Group(Group::Held(Items::from_vec(sigs))))
+    text.put_item(&Item::Group(Group::Controller(Items::from_vec(sigs))))
 }
 
 /// The signatures of witnesses by their indices among the claims.

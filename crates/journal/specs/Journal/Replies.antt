@@ -6,7 +6,7 @@ use Rattle.cesr_codes.specs.declared.indexed_sig.IndexedSig.{IndexedSig}
 use Rattle.event_body.specs.declared.event_body.event.Event.{Event}
 use Rattle.event_body.specs.declared.event_body.body_fault.BodyFault.{BodyFault}
 use Rattle.cesr_stream.specs.declared.group.Group.{Group}
-use Rattle.cesr_stream.specs.declared.group.Group.TheVariants.{Held as HeldGroup, Witness as WitnessGroup, Couples, FirstSeen, Anchor}
+use Rattle.cesr_stream.specs.declared.group.Group.TheVariants.{Controller as ControllerGroup, Witness as WitnessGroup, Couples, FirstSeen, Anchor}
 use Rattle.cesr_stream.specs.declared.message.Message.{Message}
 use Rattle.keri_outside.specs.declared.limits.Limits.{Limits}
 use Rattle.journal.specs.declared.journal.claim.Claim.{Claim}
@@ -23,7 +23,7 @@ use Rattle.journal.specs.Journal.History.{Told, took, heard, bodies, taken}
 
 -- the claims of a group: the controller's, the witnesses', and the receipts by other keys (-A, -B, -C)
 abbrev pub claims_of_group : Group → List Claim
-claims_of_group (HeldGroup sigs) = map (λ s. Controller s) sigs
+claims_of_group (ControllerGroup sigs) = map (λ s. Controller s) sigs
 claims_of_group (WitnessGroup sigs) = map (λ s. Witness s) sigs
 claims_of_group (Couples couples) = map (λ c. Couple c.key c.sig) couples
 claims_of_group (FirstSeen seen) = []
@@ -41,7 +41,7 @@ is_held (Couple key sig) = false
 
 -- it is a group of the controller's signatures, also an empty one
 abbrev pub is_held_group : Group → Bool
-is_held_group (HeldGroup sigs) = true
+is_held_group (ControllerGroup sigs) = true
 is_held_group (WitnessGroup sigs) = false
 is_held_group (Couples couples) = false
 is_held_group (FirstSeen seen) = false

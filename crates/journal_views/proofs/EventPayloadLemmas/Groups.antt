@@ -11,7 +11,7 @@ use Rattle.cesr_stream.specs.Parts.{whole, refused, unfinished}
 use Rattle.cesr_stream.specs.Texts.{SpellsItem, group_text}
 use Rattle.cesr_stream.specs.Written.{item_text}
 use Rattle.cesr_stream.specs.declared.bad.BadReason.{BadReason}
-use Rattle.cesr_stream.specs.declared.group.Group.TheVariants.{Held, Witness, Couples, FirstSeen, Anchor}
+use Rattle.cesr_stream.specs.declared.group.Group.TheVariants.{Controller, Witness, Couples, FirstSeen, Anchor}
 use Rattle.cesr_stream.specs.declared.item.Item.{Item}
 use Rattle.cesr_stream.specs.declared.item.Item.TheVariants.{Body as BodyItem, Group as GroupItem, Wrapped}
 use Rattle.cesr_stream.proofs.WrittenItems.{four_of, written_front}
@@ -34,8 +34,8 @@ first_two bytes h = at bytes ((bytes_eq-Decides (take 2 bytes) (codes "-A")).0 h
 pub parted : (n : ℕ) (rest text : List ℕ) → take n rest ≡ text → rest ≡ text ++ drop n rest
 parted n rest text e = sym (take-append-drop n rest) ∙ ap (λ t. t ++ drop n rest) e
 
-pub held_begins : (n : ℕ) (rest : List ℕ) (sigs : List IndexedSig) → take n rest ≡ group_text (Held sigs) → begins rest ≡ true
-held_begins n rest sigs e = ap begins (parted n rest (group_text (Held sigs)) e)
+pub held_begins : (n : ℕ) (rest : List ℕ) (sigs : List IndexedSig) → take n rest ≡ group_text (Controller sigs) → begins rest ≡ true
+held_begins n rest sigs e = ap begins (parted n rest (group_text (Controller sigs)) e)
 
 brace : (n : ℕ) (rest : List ℕ) → slice_index (take n rest) 0 ≡ 123 → slice_index rest 0 ≡ 123
 brace zero rest e = absurd (omega (arith, e))
@@ -51,7 +51,7 @@ other n rest more letter e differs =
 -- other items begin otherwise
 pub other_begins : (n : ℕ) (rest : List ℕ) (item : Item) → SpellsItem (take n rest) item → is_held item ≡ false → begins rest ≡ false
 other_begins n rest (BodyItem bytes) e h = false_from_ne_true (begins rest) (λ t. omega (arith, brace n rest e.1, (first_two rest t).0))
-other_begins n rest (GroupItem (Held sigs)) e h = cc h
+other_begins n rest (GroupItem (Controller sigs)) e h = cc h
 other_begins n rest (GroupItem (Witness sigs)) e h = other n rest _ 66 e (λ is. omega (arith, is))
 other_begins n rest (GroupItem (Couples couples)) e h = other n rest _ 67 e (λ is. omega (arith, is))
 other_begins n rest (GroupItem (FirstSeen seen)) e h = other n rest _ 69 e (λ is. omega (arith, is))
@@ -104,4 +104,4 @@ groups_read (suc most) (sigs ∷ groups) counted raw few =
 -- each group has bytes
 pub groups_enough : (groups : List (List IndexedSig)) → length groups ≤ length (groups_text groups)
 groups_enough [] = omega arith
-groups_enough (sigs ∷ groups) = omega (arith, length-append (item_text (group_of sigs)) (groups_text groups), four_of (Held sigs), groups_enough groups)
+groups_enough (sigs ∷ groups) = omega (arith, length-append (item_text (group_of sigs)) (groups_text groups), four_of (Controller sigs), groups_enough groups)

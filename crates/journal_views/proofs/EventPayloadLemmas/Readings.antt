@@ -8,7 +8,7 @@ use Rattle.cesr_stream.specs.Parts.{Part, whole, refused, unfinished}
 use Rattle.cesr_stream.specs.Reading.{Answers, AnswersItem, Reading, fed_with, fresh, judged}
 use Rattle.cesr_stream.specs.Texts.{group_text, wrap_text}
 use Rattle.cesr_stream.specs.declared.group.Group.{Group}
-use Rattle.cesr_stream.specs.declared.group.Group.TheVariants.{Held, Witness, Couples, FirstSeen, Anchor}
+use Rattle.cesr_stream.specs.declared.group.Group.TheVariants.{Controller, Witness, Couples, FirstSeen, Anchor}
 use Rattle.cesr_stream.specs.declared.item.Item.TheVariants.{Body as BodyItem, Group as GroupItem, Wrapped}
 use Rattle.cesr_stream.specs.declared.step.Step.{Step}
 use Rattle.cesr_stream.specs.declared.step.Step.TheVariants.{Item as ItemStep, NeedMore, Bad as BadStep}
@@ -38,11 +38,11 @@ module _ (start old : Reading) (left : Left start old) (some : 0 < length old.re
   there = λ i. front (left.behind.limit i) (left.behind.begun i) old.rest
 
   -- a group was answered
-  module _ (sigs : List IndexedSig) (place : ℕ) (answer : AnswersItem old new (GroupItem (Held sigs)) place) where
+  module _ (sigs : List IndexedSig) (place : ℕ) (answer : AnswersItem old new (GroupItem (Controller sigs)) place) where
     shorter : length new.rest + 4 ≤ length old.rest
     shorter =
         let n = answer.length_of in
-        let long : 4 ≤ n = omega (arith, four_of (Held sigs), ap length answer.spelled, length-take n old.rest) in
+        let long : 4 ≤ n = omega (arith, four_of (Controller sigs), ap length answer.spelled, length-take n old.rest) in
         omega (arith, ap (λ (r : Reading). length r.rest) answer.moved, length-drop n old.rest, answer.within, long)
 
     at : (most : ℕ) → length old.rest ≤ most → are_groups most old.rest ≡ are_groups (length start.rest) start.rest → Left start new
@@ -64,7 +64,7 @@ module _ (start old : Reading) (left : Left start old) (some : 0 < length old.re
   -- where a group was answered, less is left
   pub next_left : (E : Type 0) (step : Step) → Answers {E = E} old new (Ok step) → is_group step ≡ true → Left start new × (length new.rest < length old.rest)
   next_left E (ItemStep (BodyItem bytes) place) answer group = cc group
-  next_left E (ItemStep (GroupItem (Held sigs)) place) answer group = (at sigs place answer left.most left.enough left.same, omega (arith, shorter sigs place answer))
+  next_left E (ItemStep (GroupItem (Controller sigs)) place) answer group = (at sigs place answer left.most left.enough left.same, omega (arith, shorter sigs place answer))
   next_left E (ItemStep (GroupItem (Witness sigs)) place) answer group = cc group
   next_left E (ItemStep (GroupItem (Couples couples)) place) answer group = cc group
   next_left E (ItemStep (GroupItem (FirstSeen seen)) place) answer group = cc group
@@ -98,7 +98,7 @@ body_first (b ∷ bytes) n e = elim (cases_Bool (b == 123)) [
 ]
 
 dash : (group : Group) (more : List ℕ) → slice_index (group_text group ++ more) 0 ≡ 45
-dash (Held sigs) more = refl
+dash (Controller sigs) more = refl
 dash (Witness sigs) more = refl
 dash (Couples couples) more = refl
 dash (FirstSeen seen) more = refl

@@ -9,7 +9,7 @@ use Rattle.cesr_stream.specs.Front.{front}
 use Rattle.cesr_stream.specs.Parts.{Part, whole, refused, unfinished}
 use Rattle.cesr_stream.specs.Reading.{Reading}
 use Rattle.cesr_stream.specs.Written.{IsWritable, item_text}
-use Rattle.cesr_stream.specs.declared.group.Group.TheVariants.{Held}
+use Rattle.cesr_stream.specs.declared.group.Group.TheVariants.{Controller}
 use Rattle.cesr_stream.specs.declared.item.Item.{Item}
 use Rattle.cesr_stream.specs.declared.item.Item.TheVariants.{Body as BodyItem, Group as GroupItem}
 
@@ -19,7 +19,7 @@ parts_of sigs = first_chunks 4095 (chunk_count (length sigs) 4095) sigs
 
 -- a group of signatures by the controller's keys (CESR, `-A`)
 abbrev pub group_of : List IndexedSig → Item
-group_of sigs = GroupItem (Held sigs)
+group_of sigs = GroupItem (Controller sigs)
 
 -- groups, one behind the other
 abbrev pub groups_text : List (List IndexedSig) → List ℕ

@@ -1,6 +1,6 @@
 -- What is read of a payload by what a reader answers.
 use Rattle.std.specs.Prelude.{ℕ, Bool, true, false, length, Option, Some, None}
-use Rattle.cesr_stream.specs.declared.group.Group.TheVariants.{Held, Witness, Couples, FirstSeen, Anchor}
+use Rattle.cesr_stream.specs.declared.group.Group.TheVariants.{Controller, Witness, Couples, FirstSeen, Anchor}
 use Rattle.cesr_stream.specs.declared.item.Item.{Item}
 use Rattle.cesr_stream.specs.declared.item.Item.TheVariants.{Body as BodyItem, Group as GroupItem, Wrapped}
 use Rattle.cesr_stream.specs.declared.step.Step.{Step}
@@ -9,7 +9,7 @@ use Rattle.cesr_stream.specs.declared.step.Step.TheVariants.{Item as ItemStep, N
 -- it is a group of signatures by the controller's keys (CESR, `-A`)
 abbrev pub is_held : Item → Bool
 is_held (BodyItem bytes) = false
-is_held (GroupItem (Held sigs)) = true
+is_held (GroupItem (Controller sigs)) = true
 is_held (GroupItem (Witness sigs)) = false
 is_held (GroupItem (Couples couples)) = false
 is_held (GroupItem (FirstSeen seen)) = false

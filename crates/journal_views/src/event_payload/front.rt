@@ -76,7 +76,7 @@ fn are_groups(reader: &mut Reader) -> Result<bool, AllocError>
 fn is_group(step: &Step) -> bool
     ensures { result ≡ is_group_step step.now }
 {
-    matches!(step, Step::Item(Item::Group(Group::Held(_)), _))
+    matches!(step, Step::Item(Item::Group(Group::Controller(_)), _))
 }
 
 // How many bytes a body has that was answered.

@@ -37,6 +37,6 @@ fn put_group(alloc: Global, sigs: &[IndexedSig], text: &mut StreamText) -> Resul
     requires { length sigs.now ≤ 4095 }
     ensures { OnOk result (text.new.bytes.items ≡ text.old.bytes.items ++ item_text (group_of sigs.now)) }
 {
-    let group = Group::Held(Items::from_vec(Vec::from_slice(alloc, sigs)?));
+    let group = Group::Controller(Items::from_vec(Vec::from_slice(alloc, sigs)?));
     text.put_item(&Item::Group(group))
 }

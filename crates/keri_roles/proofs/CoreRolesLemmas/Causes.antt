@@ -14,7 +14,8 @@ use Rattle.journal.specs.Journal.History.{Told as ToldEntry}
 use Rattle.run_status.specs.declared.run_status.close.Close.TheVariants.{ReadFault, VerifierFault, OutOfMemory}
 use Rattle.run_status.specs.RunOutside.Makings.{some_failed}
 use Rattle.run_status.specs.RunOutside.Shown.{OutsideShown}
-use Rattle.run_status.specs.RunStatus.Readers.{Reader, SourceShown, VerifierShown}
+use Rattle.run_status.specs.RunStatus.Readers.{Reader, VerifierShown}
+use Rattle.keri_outside.specs.Shown.{SourceShown}
 use Rattle.reader_hub.specs.ReaderThreads.Fed.{ReadEach, ReadsBy, ends_of}
 use Rattle.reader_hub.specs.ReaderThreads.Given.{Given}
 use Rattle.reader_hub.specs.ReaderThreads.Told.{HasFailed, SomeFailed}

@@ -13,11 +13,12 @@ use Rattle.journal.specs.Journal.Questions.{questions, raised}
 use Rattle.key_state.specs.Same.{distinct}
 use Rattle.run_status.specs.declared.run_status.close.Close.{Close}
 use Rattle.run_status.specs.declared.run_status.close.Close.TheVariants.{End, Bad, ReadFault, VerifierFault, SignerFault, DiskFault, WriteFault, Malformed, LimitReached, OutOfMemory}
-use Rattle.run_status.specs.RunStatus.Readers.{Reader, SourceShown, VerifierShown}
+use Rattle.run_status.specs.RunStatus.Readers.{Reader, VerifierShown}
+use Rattle.keri_outside.specs.Shown.{SourceShown}
 use Rattle.validator_core.specs.ValidatorCore.View.{CoreView, told_of}
 use Rattle.reader_hub.specs.declared.reader_threads.last_round.LastRound.{LastRound}
 use Rattle.reader_hub.specs.declared.reader_threads.last_round.LastRound.TheVariants.{NoneFailed, VerifierFailed, OutOfMemory as NoMemory}
-use Rattle.reader_hub.specs.ReaderThreads.Fed.{ClosesReader, ReadEach, ReadsBy, ends_of}
+use Rattle.reader_hub.specs.ReaderThreads.Fed.{EndsReader, ReadEach, ReadsBy, ends_of}
 use Rattle.reader_hub.specs.ReaderThreads.Given.{Given}
 use Rattle.reader_hub.specs.ReaderThreads.Told.{AllTold, EachFailed, FailedIfThere, HasFailed, SomeFailed}
 use Rattle.keri_roles.specs.CoreRoles.Through.{is_through}
@@ -49,7 +50,7 @@ module _ (limits : Limits) (told : List ToldEntry) (most number : ℕ) where
   -- neither the source nor the verifier of a reader failed, and so it came to the end of what it read
   module _ (source left : SourceShown) (verifier verifier_left : VerifierShown) (bytes : List ℕ) (reading : Reading) (items : List Placed) (offered : List Message) where
     through_by : (close : Close) → left.faults ≡ 0 → verifier_left.faults ≡ 0 → close ≢ LimitReached
-        → ClosesReader limits told most number source left verifier verifier_left bytes reading items offered close → is_through close ≡ true
+        → EndsReader limits told most number source left verifier verifier_left bytes reading items offered close → is_through close ≡ true
     through_by End zero unfailed room closes = refl
     through_by (Bad bad) zero unfailed room closes = refl
     through_by ReadFault zero unfailed room closes = absurd (omega (arith, closes.1, zero))

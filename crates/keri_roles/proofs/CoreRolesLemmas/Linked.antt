@@ -3,13 +3,13 @@ use Rattle.std.proofs.Common.{◌≡◌, ℕ, Bool, true, false, List, [], ◌�
 use Rattle.std.specs.Prelude.{IfSome, is_err, is_none}
 use Rattle.std.proofs.lemmas.List.{map-append}
 use Rattle.std.proofs.lemmas.List.Elements.{All-cons, All-head, All-nil, All-tail}
-use Rattle.lists.specs.KeriSpecs.Told.{HasNone}
+use Rattle.lists.specs.KeriSpecs.Shown.{HasNone}
 use Rattle.run_status.specs.RunOutside.Makings.{AreMakings, Noted}
 use Rattle.run_status.specs.RunOutside.Shown.{Grows, Makes, OutsideShown, making}
 use Rattle.run_status.specs.declared.run_outside.making.Making.{Making}
 use Rattle.run_status.specs.declared.run_outside.making.MakingKind.{MakingKind}
 use Rattle.run_status.specs.declared.run_outside.making.MakingKind.TheVariants.{Door as DoorKind, Verifier as VerifierKind}
-use Rattle.run_status.specs.RunStatus.Readers.{SourceShown}
+use Rattle.keri_outside.specs.Shown.{SourceShown}
 use Rattle.journal.specs.declared.journal.mode.Mode.{Mode}
 use Rattle.keri_outside.specs.declared.limits.Limits.{Limits}
 use Rattle.reader_hub.specs.ReaderThreads.AnySeats.{AreAnyReady, HaveSeats}

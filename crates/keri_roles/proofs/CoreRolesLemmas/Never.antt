@@ -8,9 +8,10 @@ use Rattle.journal.specs.Journal.Feeds.{FeedEach}
 use Rattle.journal.specs.Journal.History.{Told as ToldEntry}
 use Rattle.run_status.specs.declared.run_status.close.Close.{Close}
 use Rattle.run_status.specs.declared.run_status.close.Close.TheVariants.{End, Bad, ReadFault, VerifierFault, SignerFault, DiskFault, WriteFault, Malformed, LimitReached, OutOfMemory}
-use Rattle.run_status.specs.RunStatus.Readers.{HasClose, Reader, SourceShown, VerifierShown, close_found}
+use Rattle.run_status.specs.RunStatus.Readers.{HasClose, Reader, VerifierShown, close_found}
+use Rattle.keri_outside.specs.Shown.{SourceShown}
 use Rattle.run_status.specs.RunOutside.Shown.{OutsideShown}
-use Rattle.reader_hub.specs.ReaderThreads.Fed.{ClosesStream, ReadEach, ReadsBy, ends_of}
+use Rattle.reader_hub.specs.ReaderThreads.Fed.{EndsStream, ReadEach, ReadsBy, ends_of}
 use Rattle.reader_hub.specs.ReaderThreads.Given.{Given}
 use Rattle.reader_hub.specs.declared.reader_threads.last_round.LastRound.{LastRound}
 use Rattle.keri_roles.specs.CoreRoles.CoreTold.{ReadsToCore}
@@ -63,7 +64,7 @@ module _ (limits : Limits) (told : List ToldEntry) (most number : ℕ) (rest : L
   told_only None (Some verifier) r = ap is_serving r.0.close_is
   told_only (Some source) None r = ap (λ x. is_serving x.close) r.0
   told_only (Some source) (Some verifier) r = reads_only
-      (λ close. close ≢ OutOfMemory → ClosesStream limits told most number source r.source_left verifier r.verifier_left bytes offered close)
+      (λ close. close ≢ OutOfMemory → EndsStream limits told most number source r.source_left verifier r.verifier_left bytes offered close)
       (λ c. (c (λ e. cc)).closes) (λ c. (c (λ e. cc)).closes) (λ c. (c (λ e. cc)).closes) reader.close r.closes
 
 module _ (limits : Limits) (told : List ToldEntry) (most : ℕ) (rest : LastRound) where

@@ -5,7 +5,7 @@ use Rattle.std.proofs.Math.Seq.{take-suc}
 use Rattle.std.proofs.lemmas.List.{map-append}
 use Rattle.std.proofs.lemmas.List.Folds.{list_any-append}
 use Rattle.lists.specs.KeriSpecs.Causes.{Rose}
-use Rattle.lists.specs.KeriSpecs.Told.{HasNone}
+use Rattle.lists.specs.KeriSpecs.Shown.{HasNone}
 use Rattle.cesr_codes.specs.declared.key.Key.{Key}
 use Rattle.cesr_codes.specs.declared.sig.Sig.{Sig}
 use Rattle.keri_outside.specs.declared.inquiry.Inquiry.{Inquiry}

@@ -3,7 +3,7 @@ use Rattle.std.proofs.Common.{◌≡◌, ◌≢◌, ℕ, zero, suc, ◌+◌, ◌
 use Rattle.std.specs.Prelude.{All, IfSome, drop, map}
 use Rattle.std.proofs.lemmas.List.{drop-append-le}
 use Rattle.std.proofs.lemmas.List.Elements.{All-head, All-tail}
-use Rattle.lists.specs.KeriSpecs.Told.{IsAtEnd}
+use Rattle.lists.specs.KeriSpecs.Shown.{IsAtEnd}
 use Rattle.cesr_stream.specs.declared.bad.Bad.{Bad as BadItem}
 use Rattle.cesr_stream.specs.declared.message.Message.{Message}
 use Rattle.cesr_stream.specs.Front.{front}
@@ -21,9 +21,10 @@ use Rattle.run_status.specs.MessageFeed.Feeds.{Stream}
 use Rattle.run_status.specs.MessageFeed.Serving.{IsRefused}
 use Rattle.run_status.specs.declared.run_status.close.Close.{Close}
 use Rattle.run_status.specs.declared.run_status.close.Close.TheVariants.{End, Bad, ReadFault, VerifierFault, SignerFault, DiskFault, WriteFault, Malformed, LimitReached, OutOfMemory}
-use Rattle.run_status.specs.RunStatus.Readers.{Reader, SourceShown, VerifierShown}
+use Rattle.run_status.specs.RunStatus.Readers.{Reader, VerifierShown}
+use Rattle.keri_outside.specs.Shown.{SourceShown}
 use Rattle.reader_hub.specs.declared.reader_threads.last_round.LastRound.{LastRound}
-use Rattle.reader_hub.specs.ReaderThreads.Fed.{ClosesReader, ReadEach, ReadsBy, ends_of}
+use Rattle.reader_hub.specs.ReaderThreads.Fed.{EndsReader, ReadEach, ReadsBy, ends_of}
 use Rattle.reader_hub.specs.ReaderThreads.Given.{Given, end_of, said_by}
 use Rattle.keri_roles.specs.CoreRoles.Through.{is_through}
 use Rattle.keri_roles.specs.CoreRoles.CoreTold.{held_by, whole_ends}
@@ -118,7 +119,7 @@ module _ (limits : Limits) (told : List ToldEntry) (most number : ℕ) where
   module _ (source left : SourceShown) (verifier verifier_left : VerifierShown) (bytes : List ℕ) (reading : Reading) (items : List Placed) (stream : Stream limits bytes reading items)
       (offered : List Message) (are : AreMessages limits bytes offered) where
     -- all messages of what a source held were offered, where its reader came to the end
-    pub all_by : (close : Close) → is_through close ≡ true → ClosesReader limits told most number source left verifier verifier_left bytes reading items offered close
+    pub all_by : (close : Close) → is_through close ≡ true → EndsReader limits told most number source left verifier verifier_left bytes reading items offered close
         → (held : List ℕ) → source.left ≡ Some held → AreMessages limits held offered
     all_by End through closes held is = subst (λ h. AreMessages limits h offered) (sym (held_whole source.left left.left bytes held closes.0 closes.1 is)) are
     all_by (Bad bad) through closes held is = elim closes.1 [

@@ -3,7 +3,7 @@ use Rattle.std.proofs.Common.{◌≡◌, ◌≢◌, ℕ, ◌≤◌, ◌+◌, ◌
 use Rattle.std.proofs.Common.{None, refl, sym, ◌∙◌, ap, subst, arith, append-nil, append_assoc, length-append, inl, inr}
 use Rattle.lists.specs.KeriSpecs.Causes.{Rose}
 use Rattle.lists.proofs.KeriSpecsLemmas.Putting.{after-nil}
-use Rattle.lists.specs.KeriSpecs.Told.{before, IsAtEnd}
+use Rattle.lists.specs.KeriSpecs.Shown.{before, IsAtEnd}
 use Rattle.std.proofs.lemmas.List.Elements.{All-nil}
 use Rattle.cesr_stream.specs.Written.{item_text, IsItem, IsWritable}
 use Rattle.cesr_stream.specs.Items.{IsEnd, Placed, Stand}
@@ -21,7 +21,7 @@ use Rattle.cesr_binary.proofs.StandingItems.{stand_again}
 use Rattle.run_status.specs.declared.run_status.close.Close.{Close}
 use Rattle.run_status.specs.declared.run_status.close.Close.TheVariants.{End, Bad, ReadFault, VerifierFault, SignerFault, DiskFault, WriteFault, Malformed, LimitReached}
 use Rattle.run_status.specs.declared.run_status.close.Close.TheVariants.{OutOfMemory}
-use Rattle.run_status.specs.RunStatus.Readers.{SourceShown, SinkShown}
+use Rattle.keri_outside.specs.Shown.{SourceShown, SinkShown}
 use Rattle.keri_roles.specs.ItemConversion.Closes.{Bounds, ClosesBy, Gave, Taken, rest_judged}
 use Rattle.keri_roles.specs.ItemConversion.Progress.{GoesOn, HasPut, IsIdle, IsRefused, progress, text_in}
 use Rattle.keri_roles.specs.ItemConversion.Converts.{ConvertsWithin, EndsShown, conversion}

@@ -2,7 +2,7 @@
 use Rattle.std.proofs.Common.{◌≡◌, ℕ, List, [], ◌∷◌, ◌++◌, Bool, true, false, Option, None, Result, Ok, Err, arith, refl, sym, ◌∙◌, ap, subst}
 use Rattle.std.specs.Result.{is_err}
 use Rattle.lists.specs.KeriSpecs.Causes.{HasCause}
-use Rattle.lists.specs.KeriSpecs.Told.{Puts as Added}
+use Rattle.lists.specs.KeriSpecs.Shown.{Puts as Added}
 use Rattle.lists.proofs.KeriSpecsLemmas.Putting.{front_stands, puts-behind}
 use Rattle.cesr_stream.specs.declared.item.Item.{Item}
 use Rattle.cesr_stream.specs.declared.bad.Bad.{Bad}
@@ -15,7 +15,7 @@ use Rattle.cesr_binary.specs.MixedAnswers.{AnswersItem}
 use Rattle.cesr_binary.specs.Wire.{item_in}
 use Rattle.cesr_binary.proofs.ItemTexts.{flat_map-push}
 use Rattle.cesr_binary.proofs.MixedFed.{fed_answered, stand_on}
-use Rattle.run_status.specs.RunStatus.Readers.{SinkShown}
+use Rattle.keri_outside.specs.Shown.{SinkShown}
 use Rattle.run_status.specs.RunStatus.Settling.{Puts}
 use Rattle.keri_roles.specs.ItemConversion.Progress.{GoesOn, Progress, progress, text_in}
 

@@ -11,7 +11,8 @@ use Rattle.run_status.specs.declared.run_status.close.Close.{Close}
 use Rattle.run_status.specs.declared.run_status.close.Close.TheVariants.{ReadFault, VerifierFault, OutOfMemory}
 use Rattle.keri_roles.specs.KeriRoles.Check.{IsChecked, OwesChecks}
 use Rattle.keri_roles.specs.KeriRoles.Commands.{IsGenerated}
-use Rattle.run_status.specs.RunStatus.Readers.{SinkShown, SourceShown, VerifierShown}
+use Rattle.run_status.specs.RunStatus.Readers.{VerifierShown}
+use Rattle.keri_outside.specs.Shown.{SinkShown, SourceShown}
 use Rattle.keri_roles.specs.CoreRoles.CoreTold.{last_close}
 use Rattle.keri_roles.specs.KeriRoles.Made.{IsMade, IsMadeAlone, IsMadeBehind, given_alone, given_behind}
 use Rattle.keri_roles.specs.KeriRoles.Rehearsed.{IsRehearsed, Serves, serving_close}

@@ -13,7 +13,8 @@ use Rattle.keri_outside.specs.declared.limits.Limits.{Limits}
 use Rattle.run_status.specs.RunOutside.Shown.{OutsideShown}
 use Rattle.run_status.specs.declared.run_status.close.Close.{Close}
 use Rattle.run_status.specs.declared.run_status.close.Close.TheVariants.{End, Bad, ReadFault, VerifierFault, SignerFault, DiskFault, WriteFault, Malformed, LimitReached, OutOfMemory}
-use Rattle.run_status.specs.RunStatus.Readers.{HasClose, Reader, SinkShown, SourceShown}
+use Rattle.run_status.specs.RunStatus.Readers.{HasClose, Reader}
+use Rattle.keri_outside.specs.Shown.{SinkShown, SourceShown}
 use Rattle.run_status.specs.RunStatus.Settling.{FaultsHaveCauses, Puts, SettlesBy, found}
 use Rattle.run_status.specs.RunStatus.Status.{nothing_besides, status_of}
 use Rattle.run_status.proofs.RunStatusLemmas.Causes.{faults_have_causes, words_refused}

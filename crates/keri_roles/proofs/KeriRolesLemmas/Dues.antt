@@ -1,7 +1,7 @@
 -- What is owed to an answer.
 use Rattle.std.proofs.Common.{◌≡◌, ◌⊎◌, inl, inr, ℕ, false, true, List, Option, Some, None, Result, Ok, Err, subst}
 use Rattle.std.specs.Prelude.{IfOk, OnErr}
-use Rattle.lists.specs.KeriSpecs.Told.{HasNone}
+use Rattle.lists.specs.KeriSpecs.Shown.{HasNone}
 use Rattle.keri_outside.specs.declared.signing.Signing.{Signing}
 use Rattle.keri_roles.specs.declared.plan_answer.answer.PlanAnswer.{PlanAnswer}
 use Rattle.keri_roles.specs.PlanAnswer.Answers.{CountsFaults, IsAnswer, SignsNoMore, signer_asked}

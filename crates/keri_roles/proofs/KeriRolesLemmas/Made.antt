@@ -20,7 +20,8 @@ use Rattle.keri_roles.specs.PlanAnswer.Answers.{CountsFaults}
 use Rattle.run_status.specs.declared.run_status.besides.Besides.{Besides}
 use Rattle.run_status.specs.declared.run_status.close.Close.{Close}
 use Rattle.run_status.specs.declared.run_status.close.Close.TheVariants.{ReadFault, VerifierFault}
-use Rattle.run_status.specs.RunStatus.Readers.{Reader, SourceShown}
+use Rattle.run_status.specs.RunStatus.Readers.{Reader}
+use Rattle.keri_outside.specs.Shown.{SourceShown}
 use Rattle.run_status.specs.RunStatus.Status.{nothing_besides}
 use Rattle.reader_hub.specs.declared.reader_threads.last_round.LastRound.{LastRound}
 use Rattle.reader_hub.specs.ReaderThreads.Given.{Given}

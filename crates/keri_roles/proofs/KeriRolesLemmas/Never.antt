@@ -7,7 +7,8 @@ use Rattle.run_status.specs.declared.message_feed.text_close.TextClose.{TextClos
 use Rattle.run_status.specs.declared.message_feed.text_close.TextClose.TheVariants as text
 use Rattle.run_status.specs.declared.run_status.close.Close.{Close}
 use Rattle.run_status.specs.declared.run_status.close.Close.TheVariants.{End, ReadFault, SignerFault, DiskFault, WriteFault, LimitReached, OutOfMemory}
-use Rattle.run_status.specs.RunStatus.Readers.{Reader, SourceShown, VerifierShown}
+use Rattle.run_status.specs.RunStatus.Readers.{Reader, VerifierShown}
+use Rattle.keri_outside.specs.Shown.{SourceShown}
 use Rattle.keri_roles.specs.KeriRoles.Check.{IsChecked, OwesChecks}
 use Rattle.keri_roles.specs.KeriRoles.Commands.{IsGenerated}
 use Rattle.keri_roles.specs.KeriRoles.Generated.{made_of}

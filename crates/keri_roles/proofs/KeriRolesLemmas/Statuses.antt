@@ -10,7 +10,8 @@ use Rattle.verifier_link.specs.declared.served.Served.TheVariants.{End, Malforme
 use Rattle.run_status.specs.declared.run_status.besides.Besides.{Besides}
 use Rattle.run_status.specs.declared.run_status.close.Close.{Close}
 use Rattle.run_status.specs.declared.run_status.close.Close.TheVariants as closing
-use Rattle.run_status.specs.RunStatus.Readers.{HasClose, Reader, SinkShown, SourceShown}
+use Rattle.run_status.specs.RunStatus.Readers.{HasClose, Reader}
+use Rattle.keri_outside.specs.Shown.{SinkShown, SourceShown}
 use Rattle.run_status.specs.RunStatus.Status.{nothing_besides}
 use Rattle.run_status.proofs.RunStatusLemmas.Causes.{faults_have_causes, words_refused}
 use Rattle.keri_roles.specs.KeriRoles.Commands.{IsRunOf, IsUnbegun, CarriesOut}

@@ -6,12 +6,12 @@ use Rattle.std.proofs.lemmas.Bool.{and_parts, leb-true}
 use Rattle.std.proofs.lemmas.List.Elements.{All-nil, All-push}
 use Rattle.std.proofs.lemmas.Slice.Zip.{AllZip-long}
 use Rattle.std.proofs.lemmas.List.{take_all}
-use Rattle.lists.specs.KeriSpecs.Told.{after}
+use Rattle.lists.specs.KeriSpecs.Shown.{after}
 use Rattle.lists.proofs.KeriSpecsLemmas.Putting.{after-nil}
 use Rattle.keri_outside.specs.declared.signing.Signing.{Signing}
 use Rattle.cesr_codes.specs.declared.key.Key.{Key}
 use Rattle.cesr_codes.specs.declared.sig.Sig.{Sig}
-use Rattle.cesr_stream.specs.declared.group.Group.TheVariants.{Held}
+use Rattle.cesr_stream.specs.declared.group.Group.TheVariants.{Controller}
 use Rattle.cesr_stream.specs.declared.message.Message.{Message}
 use Rattle.cesr_stream.specs.Written.{IsCounted}
 use Rattle.event_body.specs.declared.event_body.event.Event.{Event}
@@ -48,7 +48,7 @@ module _ (gives : Key → List ℕ → Option Sig) (s : Option State) (e : Event
   counted message m =
       let long = AllZip-long (IsInSlot gives (own_rules s e).keys (event_text e)) slots m.has.sigs m.has.in_slots in
       let few = few_slots m.signable.enough in
-      subst (λ groups. All IsCounted groups) (sym m.has.group) (All-push IsCounted [] (Held m.has.sigs) (All-nil IsCounted) (subst (λ n. n ≤ 4095) (sym long) few))
+      subst (λ groups. All IsCounted groups) (sym m.has.group) (All-push IsCounted [] (Controller m.has.sigs) (All-nil IsCounted) (subst (λ n. n ≤ 4095) (sym long) few))
 
   pub all_counted : (answer : Result Message PlanFault) → IfOk answer (IsMessageOf gives s e slots) → IfOk answer (λ message. All IsCounted message.groups)
   all_counted (Ok message) m = counted message m

@@ -1,7 +1,7 @@
 -- What a core was told by the readers of files.
 use Rattle.std.specs.Prelude.{◌≡◌, ◌≢◌, ℕ, ◌⊎◌, Bool, true, false, List, [], ◌∷◌, length, map, All, IfSome, IsSome, Option, None, Some, is_none}
 use Rattle.lists.specs.KeriSpecs.Causes.{Rose}
-use Rattle.lists.specs.KeriSpecs.Told.{HasNone}
+use Rattle.lists.specs.KeriSpecs.Shown.{HasNone}
 use Rattle.keri_outside.specs.declared.limits.Limits.{Limits}
 use Rattle.journal.specs.declared.journal.body.Body.{Body}
 use Rattle.journal.specs.declared.journal.entry.Entry.{Entry}
@@ -22,7 +22,8 @@ use Rattle.run_status.specs.declared.run_outside.making.MakingKind.TheVariants.{
 use Rattle.run_status.specs.declared.run_status.besides.Besides.{Besides}
 use Rattle.run_status.specs.declared.run_status.close.Close.{Close}
 use Rattle.run_status.specs.declared.run_status.close.Close.TheVariants as close
-use Rattle.run_status.specs.RunStatus.Readers.{Reader, SourceShown}
+use Rattle.run_status.specs.RunStatus.Readers.{Reader}
+use Rattle.keri_outside.specs.Shown.{SourceShown}
 use Rattle.run_status.specs.RunStatus.Status.{nothing_besides}
 use Rattle.reader_hub.specs.declared.reader_threads.last_round.LastRound.{LastRound}
 use Rattle.reader_hub.specs.declared.reader_threads.last_round.LastRound.TheVariants.{NoneFailed, VerifierFailed, OutOfMemory}

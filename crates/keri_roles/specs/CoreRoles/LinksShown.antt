@@ -1,6 +1,6 @@
 -- What is taken at a door, for readers of one core.
 use Rattle.std.specs.Prelude.{◌≡◌, ℕ, ◌⊎◌, ◌≤◌, Bool, true, List, [], ◌∷◌, length, map, All, IfSome, Option, Some, None, is_none}
-use Rattle.lists.specs.KeriSpecs.Told.{HasNone}
+use Rattle.lists.specs.KeriSpecs.Shown.{HasNone}
 use Rattle.run_status.specs.DoorLinks.Taken.{AreTaken, IsCaused, IsEnough}
 use Rattle.journal.specs.declared.journal.mode.Mode.{Mode}
 use Rattle.run_status.specs.RunOutside.Makings.{AreMakings}
@@ -8,7 +8,8 @@ use Rattle.run_status.specs.RunOutside.Shown.{OutsideShown, making}
 use Rattle.run_status.specs.declared.run_outside.making.Making.{Making}
 use Rattle.run_status.specs.declared.run_outside.making.MakingKind.TheVariants.{Door as DoorKind, Verifier as VerifierKind}
 use Rattle.run_status.specs.declared.run_status.besides.Besides.{Besides}
-use Rattle.run_status.specs.RunStatus.Readers.{Reader, SourceShown}
+use Rattle.run_status.specs.RunStatus.Readers.{Reader}
+use Rattle.keri_outside.specs.Shown.{SourceShown}
 use Rattle.run_status.specs.RunStatus.Status.{nothing_besides}
 use Rattle.reader_hub.specs.ReaderThreads.Given.{Given}
 use Rattle.validator_core.specs.ValidatorCore.View.{CoreView}

@@ -13,7 +13,8 @@ use Rattle.journal.specs.declared.journal.journal.Journal.{Journal}
 use Rattle.run_status.specs.declared.run_status.besides.Besides.{Besides}
 use Rattle.run_status.specs.declared.run_status.close.Close.{Close}
 use Rattle.run_status.specs.declared.run_status.close.Close.TheVariants.{OutOfMemory}
-use Rattle.run_status.specs.RunStatus.Readers.{Reader, SinkShown, reader_seen}
+use Rattle.run_status.specs.RunStatus.Readers.{Reader, reader_seen}
+use Rattle.keri_outside.specs.Shown.{SinkShown}
 use Rattle.run_status.specs.RunRecord.Run.{DoorShown, Run, Settles, SignerShown}
 use Rattle.run_status.specs.RunRecord.Seen.{door_seen, signer_seen, sinks_seen}
 use Rattle.keri_roles.specs.declared.core_roles.outcome.LinkedOutcome.{LinkedOutcome}

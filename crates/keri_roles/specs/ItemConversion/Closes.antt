@@ -1,7 +1,7 @@
 -- What was read of a source, and why no more is read.
 use Rattle.std.specs.Prelude.{◌≡◌, ℕ, ◌+◌, ◌<◌, ◌⊎◌, Bool, List, [], ◌∷◌, ◌++◌, length, drop}
 use Rattle.lists.specs.KeriSpecs.Causes.{Rose}
-use Rattle.lists.specs.KeriSpecs.Told.{before, IsAtEnd}
+use Rattle.lists.specs.KeriSpecs.Shown.{before, IsAtEnd}
 use Rattle.cesr_stream.specs.declared.bad.Bad.{Bad}
 use Rattle.cesr_stream.specs.declared.bad.BadReason.TheVariants.{Truncated}
 use Rattle.cesr_stream.specs.Items.{Placed}
@@ -11,7 +11,7 @@ use Rattle.cesr_binary.specs.Mixed.{mixed_front}
 use Rattle.run_status.specs.declared.run_status.close.Close.{Close}
 use Rattle.run_status.specs.declared.run_status.close.Close.TheVariants.{End, Bad as BadClose, ReadFault, VerifierFault, SignerFault}
 use Rattle.run_status.specs.declared.run_status.close.Close.TheVariants.{DiskFault, WriteFault, Malformed, LimitReached, OutOfMemory}
-use Rattle.run_status.specs.RunStatus.Readers.{SourceShown}
+use Rattle.keri_outside.specs.Shown.{SourceShown}
 
 -- the source gave these bytes, where it shows what it has left
 abbrev pub Gave : SourceShown → SourceShown → List ℕ → Type 0

@@ -3,13 +3,13 @@ use Rattle.std.specs.Prelude.{◌≡◌, ◌≢◌, ℕ, ◌≤◌, List, [], �
 use Rattle.std.specs.declared.option.Option.{Option}
 use Rattle.std.specs.declared.option.Option.TheVariants.{None}
 use Rattle.lists.specs.KeriSpecs.Causes.{Rose}
-use Rattle.lists.specs.KeriSpecs.Told.{IsAtEnd}
+use Rattle.lists.specs.KeriSpecs.Shown.{IsAtEnd}
 use Rattle.cesr_stream.specs.declared.bad.BadReason.TheVariants.{Truncated}
 use Rattle.cesr_stream.specs.Reading.{Reading, bad_at, fed_with, refused_by}
 use Rattle.run_status.specs.declared.run_status.close.Close.{Close}
 use Rattle.run_status.specs.declared.run_status.close.Close.TheVariants.{End, Bad, ReadFault, VerifierFault, SignerFault}
 use Rattle.run_status.specs.declared.run_status.close.Close.TheVariants.{DiskFault, WriteFault, Malformed, LimitReached, OutOfMemory}
-use Rattle.run_status.specs.RunStatus.Readers.{SourceShown}
+use Rattle.keri_outside.specs.Shown.{SourceShown}
 use Rattle.keri_roles.specs.ItemConversion.Closes.{Gave}
 
 -- a source and the reader behind it

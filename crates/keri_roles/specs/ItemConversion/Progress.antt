@@ -12,7 +12,7 @@ use Rattle.cesr_binary.specs.Mixed.{StandMixed}
 use Rattle.cesr_binary.specs.MixedAnswers.{judged}
 use Rattle.cesr_binary.specs.Wire.{item_in}
 use Rattle.keri_roles.specs.declared.item_conversion.converter.Converter.{Converter}
-use Rattle.run_status.specs.RunStatus.Readers.{SinkShown, sink_seen}
+use Rattle.keri_outside.specs.Shown.{SinkShown, sink_shown}
 use Rattle.run_status.specs.RunStatus.Settling.{Puts}
 
 -- the text of the items in a domain, one after the other
@@ -47,7 +47,7 @@ abbrev pub progress : Reading → Domain → Bool → SinkShown → Progress
 progress reader domain sink_failed sink = record { reader = reader; domain = domain; sink_failed = sink_failed; sink = sink }
 
 abbrev pub progress_of : {K : Type 0} → (K → Option (List ℕ)) → (K → ℕ) → Converter → K → Progress
-progress_of written faults converter sink = progress converter.reader converter.domain converter.sink_failed (sink_seen written faults sink)
+progress_of written faults converter sink = progress converter.reader converter.domain converter.sink_failed (sink_shown written faults sink)
 
 -- of these bytes, which were fed, the items from the front were put since the sink showed this first
 pub record HasPut (first : SinkShown) (fed : List ℕ) (now : Progress) : Type 0 where

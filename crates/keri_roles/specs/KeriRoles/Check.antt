@@ -12,7 +12,8 @@ use Rattle.run_status.specs.declared.run_status.close.Close.TheVariants.{OutOfMe
 use Rattle.keri_roles.specs.KeriRoles.MessageLines.{AreLinesOf}
 use Rattle.keri_roles.specs.KeriRoles.Closes.{Closes, ending_text}
 use Rattle.run_status.specs.RunRecord.NoJournal.{no_journal}
-use Rattle.run_status.specs.RunStatus.Readers.{Reader, SourceShown}
+use Rattle.run_status.specs.RunStatus.Readers.{Reader}
+use Rattle.keri_outside.specs.Shown.{SourceShown}
 use Rattle.keri_roles.specs.CoreRoles.Work.{Work, MakesSource, Owes}
 use Rattle.run_status.specs.RunStatus.Status.{nothing_besides}
 

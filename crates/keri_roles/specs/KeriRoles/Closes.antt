@@ -5,7 +5,7 @@ use Rattle.cesr_stream.specs.Reading.{Reading}
 use Rattle.run_status.specs.declared.message_feed.feed_close.FeedClose.TheVariants.{End as FeedEnd, Bad as FeedBad, ReadFault as FeedReadFault, LimitReached as FeedFull}
 use Rattle.run_status.specs.MessageFeed.Closing.{ClosesBy}
 use Rattle.report_lines.specs.Lines.{malformed_text, read_fault_text, full_text}
-use Rattle.run_status.specs.RunStatus.Readers.{SourceShown}
+use Rattle.keri_outside.specs.Shown.{SourceShown}
 use Rattle.run_status.specs.declared.run_status.close.Close.{Close}
 use Rattle.run_status.specs.declared.run_status.close.Close.TheVariants.{End, Bad, ReadFault, VerifierFault, SignerFault, DiskFault, WriteFault, Malformed, LimitReached, OutOfMemory}
 

@@ -8,10 +8,10 @@ use Rattle.run_status.specs.RunOutside.Shown.{OutsideShown}
 use Rattle.verifier_link.specs.declared.served.Served.{Served}
 use Rattle.verifier_link.specs.declared.served.Served.TheVariants.{End, Malformed, ReadFault, WriteFault, LimitReached, OutOfMemory}
 use Rattle.verifier_link.specs.Serving.{IsServed, SidesShown, sides_shown}
-use Rattle.verifier_link.specs.Sides.{sink_shown, source_shown}
+use Rattle.keri_outside.specs.Shown.{sink_shown, source_shown, SourceShown, SinkShown}
 use Rattle.run_status.specs.declared.run_status.close.Close.{Close}
 use Rattle.run_status.specs.declared.run_status.close.Close.TheVariants.{End as EndClose, Malformed as MalformedClose, ReadFault as ReadFaultClose, WriteFault as WriteFaultClose, LimitReached as FullClose, OutOfMemory as OutOfMemoryClose}
-use Rattle.run_status.specs.RunStatus.Readers.{Reader, SourceShown, SinkShown, sink_seen}
+use Rattle.run_status.specs.RunStatus.Readers.{Reader}
 use Rattle.run_status.specs.RunRecord.NoJournal.{no_journal}
 use Rattle.run_status.specs.RunRecord.Run.{HasNoLinks, Run}
 use Rattle.keri_roles.specs.CoreRoles.Work.{MakesSource}
@@ -67,8 +67,8 @@ module _ {O S K : Type 0} (left : S → Option (List ℕ)) (faults : S → ℕ) 
   serving_over shown old new source = record {
     before = shown old;
     source = option_map (λ s. record { left = left s; faults = faults s }) source;
-    sink_before = sink_seen written sink_faults (sink old);
-    sink_after = sink_seen written sink_faults (sink new);
+    sink_before = sink_shown written sink_faults (sink old);
+    sink_after = sink_shown written sink_faults (sink new);
   }
 
 -- `rehearse`: questions are read of standard input, and the rehearsal's answers to them are written to standard output, in order.

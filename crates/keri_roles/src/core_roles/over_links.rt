@@ -1,6 +1,6 @@
 //! The commands that read links to a core, and write of it.
 ghost use Rattle.std.specs.Prelude.{◌≡◌, ◌≤◌, ◌∷◌, [], None, Some, IfOk, IfSome, OnErr, is_none, length, map};
-ghost use Rattle.lists.specs.KeriSpecs.Told.{HasNone};
+ghost use Rattle.lists.specs.KeriSpecs.Shown.{HasNone};
 ghost use Rattle.run_status.specs.RunOutside.Makings.{AreMakings};
 ghost use Rattle.run_status.specs.RunOutside.Shown.{making};
 ghost use Rattle.run_status.specs.declared.run_outside.making.MakingKind.TheVariants.{Verifier as VerifierKind};

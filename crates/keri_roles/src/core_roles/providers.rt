@@ -1,7 +1,7 @@
 //! What the readers of a command over a core are given by the outside.
 ghost use Rattle.std.specs.Prelude.{◌≡◌, ◌≤◌, [], length, map, IfSome};
 ghost use Rattle.std.specs.Vec.{vec_capacity};
-ghost use Rattle.lists.specs.KeriSpecs.Told.{HasNone};
+ghost use Rattle.lists.specs.KeriSpecs.Shown.{HasNone};
 ghost use Rattle.keri_roles.specs.CoreRoles.CoreTold.{AreProvided, SameNames};
 ghost use Rattle.keri_roles.specs.CoreRoles.Work.{MakesProviders};
 

@@ -1,6 +1,6 @@
 //! Reading a source and writing its items.
 ghost use Rattle.std.specs.Prelude.{◌≡◌, [], false};
-ghost use Rattle.run_status.specs.RunStatus.Readers.{sink_seen};
+ghost use Rattle.keri_outside.specs.Shown.{sink_shown};
 ghost use Rattle.keri_roles.specs.ItemConversion.Progress.{IsIdle, HasPut, progress_of};
 ghost use Rattle.keri_roles.specs.ItemConversion.Converts.{Converts, ConvertsWithin, bounds, conversion, ends_shown};
 
@@ -44,7 +44,7 @@ fn read_pieces<S: Source, K: Sink>(
     converter: &mut Converter,
 ) -> Close
     requires idle { IsIdle converter.old.reader }
-    requires none_put { HasPut (sink_seen K.written K.faults sink.old) []
+    requires none_put { HasPut (sink_shown K.written K.faults sink.old) []
         (progress_of K.written K.faults converter.old sink.old) }
     ensures { ConvertsWithin (bounds converter.old.reader.limit most) converter.old.domain
         (ends_shown S.left S.faults K.written K.faults source.old sink.old)

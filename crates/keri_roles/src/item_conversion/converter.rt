@@ -1,6 +1,6 @@
 //! Items between a source and a sink.
 ghost use Rattle.std.specs.Prelude.{◌≡◌, ◌+◌, ◌<◌, ◌^◌, ◌++◌, List, ℕ, None, IfOk, IfErr, length};
-ghost use Rattle.run_status.specs.RunStatus.Readers.{SinkShown, sink_seen};
+ghost use Rattle.keri_outside.specs.Shown.{SinkShown, sink_shown};
 ghost use Rattle.run_status.specs.RunStatus.Settling.{Puts};
 ghost use Rattle.cesr_stream.specs.Written.{IsWritable};
 ghost use Rattle.cesr_binary.specs.Wire.{item_in};
@@ -77,9 +77,9 @@ impl Converter {
     fn write<K: Sink>(&mut self, item: &Item, sink: &mut K)
         requires { IsWritable item.now }
         ensures puts { (first : SinkShown) (text : List ℕ)
-            → Puts text self.old.sink_failed first (sink_seen K.written K.faults sink.old)
+            → Puts text self.old.sink_failed first (sink_shown K.written K.faults sink.old)
             → Puts (text ++ item_in self.old.domain item.now) self.new.sink_failed first
-            (sink_seen K.written K.faults sink.new) }
+            (sink_shown K.written K.faults sink.new) }
         ensures reader { self.new.reader ≡ self.old.reader }
         ensures domain { self.new.domain ≡ self.old.domain }
     {

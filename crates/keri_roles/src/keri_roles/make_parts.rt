@@ -1,6 +1,6 @@
 //! What `make` is given by the outside.
 ghost use Rattle.std.specs.Prelude.{◌≡◌, IfSome};
-ghost use Rattle.lists.specs.KeriSpecs.Told.{HasNone};
+ghost use Rattle.lists.specs.KeriSpecs.Shown.{HasNone};
 ghost use Rattle.keri_roles.specs.KeriRoles.Made.{MakesAlone, MakesBehind};
 
 use reader_hub::Providers;

@@ -1,7 +1,7 @@
 //! What is due to a plan.
 ghost use Rattle.std.specs.Prelude.{◌≡◌, IfSome, IfOk, OnErr, IsErr, is_none};
 ghost use Rattle.std.specs.List.{list_any, list_all};
-ghost use Rattle.lists.specs.KeriSpecs.Told.{HasNone};
+ghost use Rattle.lists.specs.KeriSpecs.Shown.{HasNone};
 ghost use Rattle.keri_roles.specs.CoreRoles.Through.{is_through};
 ghost use Rattle.run_status.specs.RunRecord.Run.{is_out};
 ghost use Rattle.keri_roles.specs.KeriRoles.PlanDues.{GivesTheSame, HasAnswer, IsAnswered, IsDueTo};

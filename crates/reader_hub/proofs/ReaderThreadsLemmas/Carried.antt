@@ -17,7 +17,8 @@ use Rattle.journal.specs.declared.journal.reply.Reply.TheVariants.{Taken, Again,
 use Rattle.journal.specs.Journal.CoreCalls.{Takes, reply_unless}
 use Rattle.journal.specs.Journal.History.{Told}
 use Rattle.journal.specs.Journal.Replies.{IsWithin, claims_of, is_again, is_full, refusal, reply_to}
-use Rattle.run_status.specs.RunStatus.Readers.{SourceShown, VerifierShown}
+use Rattle.run_status.specs.RunStatus.Readers.{VerifierShown}
+use Rattle.keri_outside.specs.Shown.{SourceShown}
 use Rattle.run_status.specs.declared.run_status.close.Close.{Close}
 use Rattle.run_status.specs.declared.run_status.close.Close.TheVariants.{End, Bad, ReadFault, VerifierFault, SignerFault, DiskFault, WriteFault, Malformed, LimitReached, OutOfMemory}
 use Rattle.reader_hub.specs.ReaderHub.Hubs.{TakesOver}
@@ -25,7 +26,7 @@ use Rattle.reader_hub.specs.declared.reader_hub.core_head.CoreHead.{CoreHead}
 use Rattle.reader_hub.specs.SharedReader.Offers.{IsTurnedAway}
 use Rattle.reader_hub.specs.SharedReader.ReadsOne as one
 use Rattle.reader_hub.specs.SharedReader.Taken.{Standing}
-use Rattle.reader_hub.specs.ReaderThreads.Fed.{ClosesReader, ClosesStream, NextFindsNoRoom}
+use Rattle.reader_hub.specs.ReaderThreads.Fed.{EndsReader, EndsStream, NextFindsNoRoom}
 
 module _ (limits : Limits) (seen more : List Told) (b : Body) (within : IsWithin limits [] (seen ++ more)) where
   -- where there was no room for a body, there is none
@@ -75,8 +76,8 @@ module _ (limits : Limits) (told : List Told) (within : IsWithin limits [] told)
   finds_none : (bytes : List ℕ) (offered : List Message) → one.NextFindsNoRoom limits bytes t.pass offered → NextFindsNoRoom limits told k bytes offered
   finds_none bytes offered n = record { next = n.next; first = n.first; turned_away = turned_away n.next n.turned_away }
 
-  closes_reader : (bytes : List ℕ) (reading : Reading) (items : List Placed) (offered : List Message) (close : Close) → one.ClosesReader limits s t old new bytes reading items offered close
-      → ClosesReader limits told most k old new verifier verifier_left bytes reading items offered close
+  closes_reader : (bytes : List ℕ) (reading : Reading) (items : List Placed) (offered : List Message) (close : Close) → one.EndsReader limits s t old new bytes reading items offered close
+      → EndsReader limits told most k old new verifier verifier_left bytes reading items offered close
   closes_reader bytes reading items offered End c = c.0
   closes_reader bytes reading items offered (Bad bad) c = c.0
   closes_reader bytes reading items offered ReadFault c = c.0
@@ -97,8 +98,8 @@ module _ (limits : Limits) (told : List Told) (within : IsWithin limits [] told)
   closes_reader bytes reading items offered (Malformed place) c = absurd c
   closes_reader bytes reading items offered OutOfMemory c = absurd c
 
-  pub closes_stream : (bytes : List ℕ) (offered : List Message) (close : Close) → one.ClosesStream limits s t old new bytes offered close
-      → ClosesStream limits told most k old new verifier verifier_left bytes offered close
+  pub closes_stream : (bytes : List ℕ) (offered : List Message) (close : Close) → one.EndsStream limits s t old new bytes offered close
+      → EndsStream limits told most k old new verifier verifier_left bytes offered close
   closes_stream bytes offered close c = record {
     reading = c.reading;
     items = c.items;

@@ -4,7 +4,8 @@ use Rattle.std.specs.Prelude.{filter}
 use Rattle.journal.specs.Journal.Feeds.{is_taken_by}
 use Rattle.journal.specs.Journal.History.{Told}
 use Rattle.keri_outside.specs.declared.limits.Limits.{Limits}
-use Rattle.run_status.specs.RunStatus.Readers.{Reader, SourceShown, VerifierShown}
+use Rattle.run_status.specs.RunStatus.Readers.{Reader, VerifierShown}
+use Rattle.keri_outside.specs.Shown.{SourceShown}
 use Rattle.turn_lock.specs.Known.{OwnsAlone}
 use Rattle.reader_hub.specs.declared.reader_hub.extent.Extent.{Extent}
 use Rattle.reader_hub.specs.declared.reader_hub.extent.Extent.TheVariants.{First}

@@ -10,7 +10,8 @@ use Rattle.keri_outside.specs.declared.limits.Limits.{Limits}
 use Rattle.journal.specs.Journal.Feeds.{AreMessages, FeedsOne, entry_of, is_taken_by, reader_of}
 use Rattle.journal.specs.Journal.History.{Told}
 use Rattle.journal.specs.Journal.Replies.{IsWithin}
-use Rattle.run_status.specs.RunStatus.Readers.{Reader, SourceShown, VerifierShown}
+use Rattle.run_status.specs.RunStatus.Readers.{Reader, VerifierShown}
+use Rattle.keri_outside.specs.Shown.{SourceShown}
 use Rattle.run_status.specs.declared.run_status.close.Close.{Close}
 use Rattle.run_status.specs.declared.run_status.close.Close.TheVariants.{ReadFault, VerifierFault}
 use Rattle.turn_lock.specs.Histories.{share_of}

@@ -8,7 +8,8 @@ use Rattle.keri_outside.specs.declared.inquiry.Inquiry.{Inquiry}
 use Rattle.keri_outside.specs.declared.limits.Limits.{Limits}
 use Rattle.journal.specs.declared.journal.mode.Mode.{Mode}
 use Rattle.journal.specs.Journal.History.{Told}
-use Rattle.run_status.specs.RunStatus.Readers.{Reader, SourceShown, VerifierShown, reader_seen}
+use Rattle.run_status.specs.RunStatus.Readers.{Reader, VerifierShown, reader_seen}
+use Rattle.keri_outside.specs.Shown.{SourceShown}
 use Rattle.turn_lock.specs.Locks.{LockId}
 use Rattle.reader_hub.specs.declared.reader_hub.core_head.CoreHead.{CoreHead}
 use Rattle.reader_hub.specs.declared.reader_hub.extent.Extent.{Extent}

@@ -16,7 +16,8 @@ use Rattle.journal.specs.Journal.Feeds.{FeedEach, FeedsOne, IsHeardFrom, is_take
 use Rattle.journal.specs.Journal.History.{Told, took, heard, taken}
 use Rattle.journal.specs.Journal.Questions.{IsInStep, questions}
 use Rattle.journal.specs.Journal.Replies.{IsWithin}
-use Rattle.run_status.specs.RunStatus.Readers.{Reader, SourceShown, VerifierShown, close_found}
+use Rattle.run_status.specs.RunStatus.Readers.{Reader, VerifierShown, close_found}
+use Rattle.keri_outside.specs.Shown.{SourceShown}
 use Rattle.run_status.specs.declared.run_status.close.Close.{Close}
 use Rattle.run_status.specs.declared.run_status.close.Close.TheVariants.{End, Bad, ReadFault, VerifierFault, SignerFault, DiskFault, WriteFault, Malformed, LimitReached, OutOfMemory as NoMemory}
 use Rattle.turn_lock.specs.Histories.{share_of}
@@ -28,7 +29,7 @@ use Rattle.reader_hub.specs.SharedReader.ReadsOne.{is_stopped}
 use Rattle.reader_hub.proofs.SharedReaderLemmas.Inquiries.{asked_on}
 use Rattle.reader_hub.proofs.SharedReaderLemmas.Verdicts.{verdict_count-append}
 use Rattle.reader_hub.specs.ReaderThreads.Asked.{EachAsksOnly, EachGoesOn}
-use Rattle.reader_hub.specs.ReaderThreads.Fed.{AllRead, ClosesReader, ClosesStream, HasNoSource, NextFindsNoRoom, ReadEach, ReadsBy, ReadsFrom, ends_of, most_turns}
+use Rattle.reader_hub.specs.ReaderThreads.Fed.{AllRead, EndsReader, EndsStream, HasNoSource, NextFindsNoRoom, ReadEach, ReadsBy, ReadsFrom, ends_of, most_turns}
 use Rattle.reader_hub.specs.ReaderThreads.Given.{Given, end_of, said_by, unread}
 use Rattle.reader_hub.specs.ReaderThreads.LastRound.{AllGiveUp, AsksEach, AsksOne, AsksRest, FailsNow, GivesUp, IsAsked, IsAskedIfThere, IsHeardOf, OneFails, unheard_by}
 use Rattle.reader_hub.specs.ReaderThreads.Told.{AllTold, EachFailed, FailedIfThere, HasFailed, SomeFailed}
@@ -116,7 +117,7 @@ module _ (limits : Limits) (told more : List Told) (count : ℕ) (verdicts : All
     -- why it ended
     module _ (source source_left : SourceShown) (v mid left : VerifierShown) where
       closes_on : (bytes : List ℕ) (reading : Reading) (items : List Placed) (offered : List Message) (close : Close) → (close ≡ VerifierFault → left.faults ≡ mid.faults)
-          → ClosesReader limits told most k source source_left v mid bytes reading items offered close → ClosesReader limits all later k source source_left v left bytes reading items offered close
+          → EndsReader limits told most k source source_left v mid bytes reading items offered close → EndsReader limits all later k source source_left v left bytes reading items offered close
       closes_on bytes reading items offered End kept c = c
       closes_on bytes reading items offered (Bad bad) kept c = c
       closes_on bytes reading items offered ReadFault kept c = c
@@ -130,8 +131,8 @@ module _ (limits : Limits) (told more : List Told) (count : ℕ) (verdicts : All
       closes_on bytes reading items offered (Malformed place) kept c = absurd c
       closes_on bytes reading items offered NoMemory kept c = absurd c
 
-      stream_on : (bytes : List ℕ) (offered : List Message) (close : Close) → (close ≡ VerifierFault → left.faults ≡ mid.faults) → ClosesStream limits told most k source source_left v mid bytes offered close
-          → ClosesStream limits all later k source source_left v left bytes offered close
+      stream_on : (bytes : List ℕ) (offered : List Message) (close : Close) → (close ≡ VerifierFault → left.faults ≡ mid.faults) → EndsStream limits told most k source source_left v mid bytes offered close
+          → EndsStream limits all later k source source_left v left bytes offered close
       stream_on bytes offered close kept c = record {
         reading = c.reading;
         items = c.items;
@@ -171,7 +172,7 @@ module _ (limits : Limits) (told more : List Told) (count : ℕ) (verdicts : All
             same_says = l.asked.same_says ∙ h.same_says;
             more = h.more;
             gave = h.gave;
-            closes = λ some. subst (λ (c : Close). ClosesStream limits all later k source h.source_left v l.left bytes offered c) (sym a.close)
+            closes = λ some. subst (λ (c : Close). EndsStream limits all later k source h.source_left v l.left bytes offered c) (sym a.close)
                 (stream_on source h.source_left v h.verifier_left l.left bytes offered old.close (kept_by h.verifier_left l.left l.asked) (h.closes (λ e. some (a.close ∙ e))));
             none_failed = λ other e. l.asked.none_failed e ∙ h.none_failed (λ same. other (a.close ∙ same)) refl;
             inquired = inquired_on v h.verifier_left l.left (verdict_count all + 2) l.asked few_in_all (h.but_one refl);
@@ -208,7 +209,7 @@ module _ (limits : Limits) (told more : List Told) (count : ℕ) (verdicts : All
         mid = h.verifier_left;
         there = h.verifier_is;
         kept = λ other. h.none_failed other refl;
-        rose = λ e. (subst (λ (c : Close). c ≢ NoMemory → ClosesStream limits told most k source h.source_left v h.verifier_left bytes offered c) e h.closes (λ none. cc)).closes.1;
+        rose = λ e. (subst (λ (c : Close). c ≢ NoMemory → EndsStream limits told most k source h.source_left v h.verifier_left bytes offered c) e h.closes (λ none. cc)).closes.1;
       }
 
       rose_since : (v mid left : VerifierShown) → (old.close ≢ VerifierFault → mid.faults ≡ v.faults) → (old.close ≡ VerifierFault → Rose v.faults mid.faults) → IsAsked more rest k had_failed mid left

@@ -16,11 +16,11 @@ use Rattle.run_status.specs.MessageFeed.Closing.{Gave}
 use Rattle.run_status.specs.MessageFeed.Feeds.{Feeds, Stream}
 use Rattle.run_status.specs.declared.message_feed.feed_close.FeedClose.{FeedClose}
 use Rattle.run_status.specs.declared.message_feed.feed_close.FeedClose.TheVariants as feed
-use Rattle.run_status.specs.RunStatus.Readers.{SourceShown}
+use Rattle.keri_outside.specs.Shown.{SourceShown}
 use Rattle.run_status.specs.declared.run_status.close.Close.{Close}
 use Rattle.run_status.specs.declared.run_status.close.Close.TheVariants.{End, Bad, ReadFault, VerifierFault, SignerFault, DiskFault, WriteFault, Malformed, LimitReached, OutOfMemory}
 use Rattle.reader_hub.specs.SharedReader.Offers.{Offers}
-use Rattle.reader_hub.specs.SharedReader.ReadsOne.{ClosesReader, ClosesStream, ReadsOne, is_stopped}
+use Rattle.reader_hub.specs.SharedReader.ReadsOne.{EndsReader, EndsStream, ReadsOne, is_stopped}
 use Rattle.reader_hub.specs.SharedReader.Taken.{AreAsked, Finishes, HasStopped, HasTaken, IsSame, IsStopped, Standing}
 use Rattle.reader_hub.proofs.SharedReaderLemmas.Inquiries.{at_most}
 use Rattle.reader_hub.proofs.SharedReaderLemmas.Offered.{offers_besides}
@@ -58,7 +58,7 @@ module _ (limits : Limits) (s t : Standing) (old new : SourceShown) where
   -- these messages were offered, the first of bytes that the source gave, and the reader ends so
   reads_by : (close : Close) (bytes more : List ℕ) (ms : List Message) → Offers s.extent s.says s.inquiries t.inquiries s.pass t.pass t.refused ms 4 1 → IsSame s t → AreFirst limits bytes ms
       → (is_stopped close ≡ false → AreMessages limits bytes ms) → Gave old.left new.left (bytes ++ more)
-      → (close ≢ OutOfMemory → ClosesStream limits s t old new bytes ms close) → (close ≢ VerifierFault → t.faults ≡ s.faults) → ReadsOne limits s t old new close
+      → (close ≢ OutOfMemory → EndsStream limits s t old new bytes ms close) → (close ≢ VerifierFault → t.faults ≡ s.faults) → ReadsOne limits s t old new close
   reads_by close bytes more ms o same are all gave closes unfailed = record {
     same = same;
     stays = o.stays;
@@ -91,7 +91,7 @@ module _ (limits : Limits) (s t : Standing) (old new : SourceShown) where
   }
 
   -- whatever ended the reader, its source gave what was read
-  gave_by : (bytes : List ℕ) (reading : Reading) (items : List Placed) (ms : List Message) (close : Close) → ClosesReader limits s t old new bytes reading items ms close → (more : List ℕ) × Gave old.left new.left (bytes ++ more)
+  gave_by : (bytes : List ℕ) (reading : Reading) (items : List Placed) (ms : List Message) (close : Close) → EndsReader limits s t old new bytes reading items ms close → (more : List ℕ) × Gave old.left new.left (bytes ++ more)
   gave_by bytes reading items ms End c = ([], rw append-nil c.0.0)
   gave_by bytes reading items ms (Bad bad) c = ([], rw append-nil c.0.0)
   gave_by bytes reading items ms ReadFault c = ([], rw append-nil c.0.0)
@@ -111,7 +111,7 @@ module _ (limits : Limits) (s t : Standing) (old new : SourceShown) where
   module _ (bytes : List ℕ) (reading : Reading) (items : List Placed) (stream : Stream limits bytes reading items) where
     -- these messages were offered, others may come behind them, and the reader ends by this cause
     reads_so : (close : Close) (ms later : List Message) → Offers s.extent s.says s.inquiries t.inquiries s.pass t.pass t.refused ms 4 1 → IsSame s t → ms ++ later ≡ messages limits.message_signatures items → (later ≡ [] → IsEnd (judged reading))
-        → (is_stopped close ≡ false → later ≡ []) → ClosesReader limits s t old new bytes reading items ms close → (close ≢ VerifierFault → t.faults ≡ s.faults) → ReadsOne limits s t old new close
+        → (is_stopped close ≡ false → later ≡ []) → EndsReader limits s t old new bytes reading items ms close → (close ≢ VerifierFault → t.faults ≡ s.faults) → ReadsOne limits s t old new close
     reads_so close ms later o same made whole unless closes unfailed =
         let gave = gave_by bytes reading items ms close closes in
         reads_by close bytes gave.0 ms o same (first_of limits bytes reading items stream ms later made whole)
@@ -149,7 +149,7 @@ module _ (limits : Limits) (s t : Standing) (old new : SourceShown) where
 
     -- the source was read as far as it goes, and the last message was taken too, or the reader stopped there
     reads_ended : (source_close close : Close) (ms : List Message) → (HasTaken s t ms × AreAsked s.pass t.pass ms × (close ≡ source_close)) ⊎ HasStopped s t close ms → ms ≡ messages limits.message_signatures items → IsEnd (judged reading)
-        → Gave old.left new.left bytes → (AreAsked s.pass t.pass ms → ClosesReader limits s t old new bytes reading items ms source_close) → ReadsOne limits s t old new close
+        → Gave old.left new.left bytes → (AreAsked s.pass t.pass ms → EndsReader limits s t old new bytes reading items ms source_close) → ReadsOne limits s t old new close
     reads_ended source_close close ms (inl taken) all ends gave closes =
         subst (λ c. ReadsOne limits s t old new c) (sym taken.2)
         (reads_so source_close ms [] (offers_besides s.extent s.says s.inquiries t.inquiries s.pass t.pass t.refused ms 0 4 0 1 (omega arith) (omega arith) taken.0.offers) taken.0.same (append-nil ms ∙ all) (λ none. ends) (λ unstopped. refl)

@@ -13,7 +13,8 @@ use Rattle.run_status.specs.MessageFeed.Closing.{ClosesBy, Gave}
 use Rattle.run_status.specs.MessageFeed.Feeds.{Stream}
 use Rattle.run_status.specs.declared.message_feed.feed_close.FeedClose.{FeedClose}
 use Rattle.run_status.specs.declared.message_feed.feed_close.FeedClose.TheVariants as feed
-use Rattle.run_status.specs.RunStatus.Readers.{Reader, SourceShown, VerifierShown}
+use Rattle.run_status.specs.RunStatus.Readers.{Reader, VerifierShown}
+use Rattle.keri_outside.specs.Shown.{SourceShown}
 use Rattle.run_status.specs.declared.run_status.close.Close.{Close}
 use Rattle.run_status.specs.declared.run_status.close.Close.TheVariants.{End, Bad, ReadFault, VerifierFault, SignerFault, DiskFault, WriteFault, Malformed, LimitReached, OutOfMemory}
 use Rattle.turn_lock.specs.Histories.{share_of}
@@ -43,25 +44,25 @@ module _ (limits : Limits) (told : List Told) (most : ℕ) (number : ℕ) where
 
     -- Why the reader ended: by its source; by its verifier's fault; or because a limit was reached: of the bytes that are read,
     -- where there were more, of what is taken, at the next message, or of the turns, which are at most so many then.
-    abbrev pub ClosesReader : List ℕ → Reading → List Placed → List Message → Close → Type 0
-    ClosesReader bytes reading items offered End = IsClosedSo bytes reading feed.End
-    ClosesReader bytes reading items offered (Bad bad) = IsClosedSo bytes reading (feed.Bad bad)
-    ClosesReader bytes reading items offered ReadFault = IsClosedSo bytes reading feed.ReadFault
-    ClosesReader bytes reading items offered LimitReached = (IsClosedSo bytes reading feed.LimitReached × LacksOnlyOpen limits items offered)
+    abbrev pub EndsReader : List ℕ → Reading → List Placed → List Message → Close → Type 0
+    EndsReader bytes reading items offered End = IsClosedSo bytes reading feed.End
+    EndsReader bytes reading items offered (Bad bad) = IsClosedSo bytes reading (feed.Bad bad)
+    EndsReader bytes reading items offered ReadFault = IsClosedSo bytes reading feed.ReadFault
+    EndsReader bytes reading items offered LimitReached = (IsClosedSo bytes reading feed.LimitReached × LacksOnlyOpen limits items offered)
         ⊎ (Gave source.left source_left.left bytes × ((limits.turns ≤ most) ⊎ NextFindsNoRoom limits told number bytes offered))
-    ClosesReader bytes reading items offered VerifierFault = Gave source.left source_left.left bytes × Rose verifier.faults verifier_left.faults
-    ClosesReader bytes reading items offered SignerFault = ⊥
-    ClosesReader bytes reading items offered DiskFault = ⊥
-    ClosesReader bytes reading items offered WriteFault = ⊥
-    ClosesReader bytes reading items offered (Malformed place) = ⊥
-    ClosesReader bytes reading items offered OutOfMemory = ⊥
+    EndsReader bytes reading items offered VerifierFault = Gave source.left source_left.left bytes × Rose verifier.faults verifier_left.faults
+    EndsReader bytes reading items offered SignerFault = ⊥
+    EndsReader bytes reading items offered DiskFault = ⊥
+    EndsReader bytes reading items offered WriteFault = ⊥
+    EndsReader bytes reading items offered (Malformed place) = ⊥
+    EndsReader bytes reading items offered OutOfMemory = ⊥
 
     -- These bytes were read, and the reader ended by its cause.
-    pub record ClosesStream (bytes : List ℕ) (offered : List Message) (close : Close) : Type 0 where
+    pub record EndsStream (bytes : List ℕ) (offered : List Message) (close : Close) : Type 0 where
       pub reading : Reading
       pub items : List Placed
       pub stream : Stream limits bytes reading items
-      pub closes : ClosesReader bytes reading items offered close
+      pub closes : EndsReader bytes reading items offered close
 
   module _ (rest : LastRound) where
     -- The source gave the bytes, and maybe more, and these are what is left of both. Unless there was no memory, the reader ended
@@ -75,7 +76,7 @@ module _ (limits : Limits) (told : List Told) (most : ℕ) (number : ℕ) where
       pub same_says : verifier_left.says ≡ verifier.says
       pub more : List ℕ
       pub gave : Gave source.left source_left.left (bytes ++ more)
-      pub closes : reader.close ≢ OutOfMemory → ClosesStream source source_left verifier verifier_left bytes offered reader.close
+      pub closes : reader.close ≢ OutOfMemory → EndsStream source source_left verifier verifier_left bytes offered reader.close
       pub none_failed : reader.close ≢ VerifierFault → rest ≡ NoneFailed → verifier_left.faults ≡ verifier.faults
       pub inquired : AsksFor verifier.inquiries verifier_left.inquiries (share_of reader_of number told) (verdict_count told + 2)
       pub but_one : rest ≡ NoneFailed → AsksFor verifier.inquiries verifier_left.inquiries (share_of reader_of number told) (verdict_count told + 1)

@@ -4,7 +4,8 @@ use Rattle.cesr_codes.specs.declared.key.Key.{Key}
 use Rattle.cesr_codes.specs.declared.sig.Sig.{Sig}
 use Rattle.journal.specs.Journal.Feeds as feeds
 use Rattle.keri_outside.specs.declared.inquiry.Inquiry.{Inquiry}
-use Rattle.run_status.specs.RunStatus.Readers.{Reader, SourceShown, VerifierShown, source_seen, verifier_seen}
+use Rattle.run_status.specs.RunStatus.Readers.{Reader, VerifierShown, source_seen, verifier_seen}
+use Rattle.keri_outside.specs.Shown.{SourceShown}
 use Rattle.run_status.specs.declared.run_status.close.Close.{Close}
 use Rattle.reader_hub.specs.SharedReader.Asks.{Says}
 use Rattle.reader_hub.specs.SharedReader.ReadsOne.{is_stopped}

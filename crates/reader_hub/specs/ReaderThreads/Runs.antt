@@ -1,7 +1,8 @@
 -- What one reader does with its pass.
 use Rattle.std.specs.Prelude.{◌≡◌, ℕ, [], Option, Some, None}
 use Rattle.keri_outside.specs.declared.limits.Limits.{Limits}
-use Rattle.run_status.specs.RunStatus.Readers.{Reader, SourceShown, VerifierShown}
+use Rattle.run_status.specs.RunStatus.Readers.{Reader, VerifierShown}
+use Rattle.keri_outside.specs.Shown.{SourceShown}
 use Rattle.run_status.specs.declared.run_status.close.Close.TheVariants.{ReadFault, VerifierFault}
 use Rattle.turn_lock.specs.Locks.{LockId}
 use Rattle.reader_hub.specs.ReaderHub.Hubs.{HubPass}

@@ -2,7 +2,7 @@
 use Rattle.std.specs.Prelude.{◌≡◌, ℕ, ◌+◌, ◌-◌, ◌*◌, ◌≤◌, Bool, List, [], ◌++◌, length, map, flat_map, Option, Some, IfSome, All, Contains}
 use mathlib.Core.List.{IsPrefix, Sublist}
 use Rattle.lists.specs.KeriSpecs.Causes.{Rose}
-use Rattle.lists.specs.KeriSpecs.Told.{after}
+use Rattle.lists.specs.KeriSpecs.Shown.{after}
 use Rattle.keri_outside.specs.declared.inquiry.Inquiry.{Inquiry}
 use Rattle.cesr_codes.specs.declared.key.Key.{Key}
 use Rattle.cesr_codes.specs.declared.sig.Sig.{Sig}
@@ -21,7 +21,7 @@ use Rattle.run_status.specs.declared.run_status.close.Close.{Close}
 use Rattle.run_status.specs.declared.run_status.close.Close.TheVariants.{End, Bad, ReadFault, VerifierFault, SignerFault, DiskFault, WriteFault, Malformed, LimitReached, OutOfMemory}
 use Rattle.reader_hub.specs.SharedReader.Steps.{StepsAlone}
 
--- what a verifier says of a key, a body and a signature, where it tells
+-- what a verifier says of a key, a body and a signature, where that is shown
 abbrev pub Says : Type 0
 Says = Key → List ℕ → Sig → Option Bool
 

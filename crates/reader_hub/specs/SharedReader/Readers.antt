@@ -5,7 +5,8 @@ use Rattle.cesr_codes.specs.declared.sig.Sig.{Sig}
 use Rattle.keri_outside.specs.declared.inquiry.Inquiry.{Inquiry}
 use Rattle.keri_outside.specs.declared.limits.Limits.{Limits}
 use Rattle.turn_lock.specs.Locks.{known, lock_of}
-use Rattle.reader_hub.specs.SharedReader.ReadsOne.{ReadsOne, source_shown}
+use Rattle.reader_hub.specs.SharedReader.ReadsOne.{ReadsOne}
+use Rattle.keri_outside.specs.Shown.{source_of}
 use Rattle.reader_hub.specs.SharedReader.Taken.{standing}
 use Rattle.reader_hub.specs.declared.shared_reader.reader.ReadOne.{ReadOne}
 use Rattle.reader_hub.specs.declared.shared_reader.reader.Reader.{Reader}
@@ -17,4 +18,4 @@ module _ {S V : Type 0} (left : S → Option (List ℕ)) (faults : S → ℕ) (s
   HasRead old new = ReadsOne limits
       (standing old.extent limit (lock_of old.pass) (known old.pass) (says old.verifier) (inquiries old.verifier) (verifier_faults old.verifier) [])
       (standing old.extent limit (lock_of new.pass) (known new.pass) (says new.verifier) (inquiries new.verifier) (verifier_faults new.verifier) new.refused.items)
-      (source_shown (left old.source) (faults old.source)) (source_shown (left new.source) (faults new.source)) new.ending
+      (source_of (left old.source) (faults old.source)) (source_of (left new.source) (faults new.source)) new.ending

@@ -19,16 +19,13 @@ use Rattle.run_status.specs.declared.message_feed.feed_close.FeedClose.TheVarian
 use Rattle.turn_lock.specs.Known.{OwnsAlone}
 use Rattle.reader_hub.specs.ReaderHub.Hubs.{HubPass}
 use Rattle.reader_hub.specs.declared.reader_hub.extent.Extent.TheVariants.{First}
-use Rattle.run_status.specs.RunStatus.Readers.{SourceShown}
+use Rattle.keri_outside.specs.Shown.{SourceShown}
 use Rattle.run_status.specs.declared.run_status.close.Close.{Close}
 use Rattle.run_status.specs.declared.run_status.close.Close.TheVariants.{End, Bad, ReadFault, VerifierFault, SignerFault, DiskFault, WriteFault, Malformed, LimitReached, OutOfMemory}
 use Rattle.reader_hub.specs.SharedReader.Asks.{AsksFor, AsksOnlySeen, Stays, verdict_count}
 use Rattle.reader_hub.specs.SharedReader.Offers.{IsEntryOf, IsTurnedAway}
 use Rattle.reader_hub.specs.SharedReader.Steps.{StepsAlone}
 use Rattle.reader_hub.specs.SharedReader.Taken.{AreAsked, IsSame, Standing}
-
-abbrev pub source_shown : Option (List ℕ) → ℕ → SourceShown
-source_shown left faults = record { left = left; faults = faults }
 
 -- the reader was stopped before it had taken all that it read
 abbrev pub is_stopped : Close → Bool
@@ -66,25 +63,25 @@ module _ (limits : Limits) (s t : Standing) (old new : SourceShown) where
   -- Why the reader ended: by its source, and then all that was open behind the last message was asked; by its verifier's
   -- fault; or because a limit was reached: of the bytes that are read, where there were more, of what is taken, at the next
   -- message, or of the turns.
-  abbrev pub ClosesReader : List ℕ → Reading → List Placed → List Message → Close → Type 0
-  ClosesReader bytes reading items offered End = IsClosedSo bytes reading feed.End × AreAsked s.pass t.pass offered
-  ClosesReader bytes reading items offered (Bad bad) = IsClosedSo bytes reading (feed.Bad bad) × AreAsked s.pass t.pass offered
-  ClosesReader bytes reading items offered ReadFault = IsClosedSo bytes reading feed.ReadFault × AreAsked s.pass t.pass offered
-  ClosesReader bytes reading items offered LimitReached = (IsClosedSo bytes reading feed.LimitReached × LacksOnlyOpen limits items offered)
+  abbrev pub EndsReader : List ℕ → Reading → List Placed → List Message → Close → Type 0
+  EndsReader bytes reading items offered End = IsClosedSo bytes reading feed.End × AreAsked s.pass t.pass offered
+  EndsReader bytes reading items offered (Bad bad) = IsClosedSo bytes reading (feed.Bad bad) × AreAsked s.pass t.pass offered
+  EndsReader bytes reading items offered ReadFault = IsClosedSo bytes reading feed.ReadFault × AreAsked s.pass t.pass offered
+  EndsReader bytes reading items offered LimitReached = (IsClosedSo bytes reading feed.LimitReached × LacksOnlyOpen limits items offered)
       ⊎ (Gave old.left new.left bytes × ((t.pass.past ≡ s.limit) ⊎ NextFindsNoRoom limits bytes t.pass offered))
-  ClosesReader bytes reading items offered VerifierFault = Gave old.left new.left bytes × Rose s.faults t.faults
-  ClosesReader bytes reading items offered SignerFault = ⊥
-  ClosesReader bytes reading items offered DiskFault = ⊥
-  ClosesReader bytes reading items offered WriteFault = ⊥
-  ClosesReader bytes reading items offered (Malformed place) = ⊥
-  ClosesReader bytes reading items offered OutOfMemory = ⊥
+  EndsReader bytes reading items offered VerifierFault = Gave old.left new.left bytes × Rose s.faults t.faults
+  EndsReader bytes reading items offered SignerFault = ⊥
+  EndsReader bytes reading items offered DiskFault = ⊥
+  EndsReader bytes reading items offered WriteFault = ⊥
+  EndsReader bytes reading items offered (Malformed place) = ⊥
+  EndsReader bytes reading items offered OutOfMemory = ⊥
 
   -- These bytes were read, and the reader ended by its cause.
-  pub record ClosesStream (bytes : List ℕ) (offered : List Message) (close : Close) : Type 0 where
+  pub record EndsStream (bytes : List ℕ) (offered : List Message) (close : Close) : Type 0 where
     pub reading : Reading
     pub items : List Placed
     pub stream : Stream limits bytes reading items
-    pub closes : ClosesReader bytes reading items offered close
+    pub closes : EndsReader bytes reading items offered close
 
   -- Of a lock for so many turns, and a pass with an empty share: the source gave the bytes, and maybe more. The first messages of
   -- the bytes were offered: those that aren't refused are the pass's entries, the others are noted. Its share has no other
@@ -103,7 +100,7 @@ module _ (limits : Limits) (s t : Standing) (old new : SourceShown) where
     pub gave : Gave old.left new.left (bytes ++ more)
     pub feeds_are : Feeds limits share s.pass.number (end_of bytes t close) bytes
     pub each : All (IsEntryOf s.pass.number s.says) share
-    pub closes : close ≢ OutOfMemory → ClosesStream bytes (map (λ j. j.message) feeds_are.offered) close
+    pub closes : close ≢ OutOfMemory → EndsStream bytes (map (λ j. j.message) feeds_are.offered) close
     pub none_failed : close ≢ VerifierFault → t.faults ≡ s.faults
     pub inquired : AsksFor s.inquiries t.inquiries share (suc (verdict_count t.pass.seen))
     pub only : AsksOnlySeen s.inquiries t.inquiries t.pass

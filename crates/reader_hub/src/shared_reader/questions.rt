@@ -1,7 +1,7 @@
 //! The open questions, which the verifier is asked between two turns.
 ghost use Rattle.std.specs.Prelude.{◌≡◌, ◌≤◌, [], ◌∷◌, false, length, OnOk, IfOk, IfErr, IfSome, if◌then◌else◌};
 ghost use Rattle.lists.specs.KeriSpecs.Causes.{HasCause};
-ghost use Rattle.lists.specs.KeriSpecs.Told.{Puts};
+ghost use Rattle.lists.specs.KeriSpecs.Shown.{Puts};
 ghost use Rattle.keri_outside.specs.Asked.{inquiry};
 ghost use Rattle.turn_lock.specs.Locks.{limit_of, known, IsPassOf};
 ghost use Rattle.reader_hub.specs.SharedReader.Asks.{Asks, LeavesNone, StopsAsking};

@@ -86,7 +86,7 @@ fn signer_of(alloc: Global, row: &Row) -> Result<MemSigner, AllocError> {
 }
 
 fn group_words(text: &mut String, group: &Group) -> Result<(), AllocError> {
-    if let Group::Held(sigs) = group {
+    if let Group::Controller(sigs) = group {
         for sig in sigs.as_slice() {
             write!(text, " {sig}")?;
         }

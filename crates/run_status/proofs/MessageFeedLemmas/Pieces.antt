@@ -1,7 +1,7 @@
 -- What one more piece makes of what stands, and how reading closes.
 use Rattle.std.proofs.Common.{◌≡◌, ℕ, ◌≤◌, ◌+◌, ◌-◌, List, [], ◌∷◌, ◌++◌, length, Option, Some, None, refl, sym, ◌∙◌, ap, subst, arith, append-nil, append_assoc, length-append, inr}
 use Rattle.lists.specs.KeriSpecs.Causes.{Rose}
-use Rattle.lists.specs.KeriSpecs.Told.{before, IsAtEnd}
+use Rattle.lists.specs.KeriSpecs.Shown.{before, IsAtEnd}
 use Rattle.cesr_stream.specs.declared.message.Message.{Message}
 use Rattle.cesr_stream.specs.Reading.{Reading, fed_with}
 use Rattle.cesr_stream.specs.Assembly.{Assembly}

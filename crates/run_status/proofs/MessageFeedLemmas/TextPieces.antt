@@ -1,7 +1,7 @@
 -- What one more piece makes of what was read.
 use Rattle.std.proofs.Common.{◌≡◌, ℕ, ◌+◌, List, [], ◌∷◌, ◌++◌, length, Option, Some, None, ◌∙◌, ap, sym, subst, arith, append_assoc, length-append}
 use Rattle.lists.specs.KeriSpecs.Causes.{Rose}
-use Rattle.lists.specs.KeriSpecs.Told.{before}
+use Rattle.lists.specs.KeriSpecs.Shown.{before}
 use Rattle.run_status.specs.declared.message_feed.text_close.TextClose.{TextClose}
 use Rattle.run_status.specs.declared.message_feed.text_close.TextClose.TheVariants.{End, ReadFault, LimitReached, OutOfMemory}
 use Rattle.run_status.specs.MessageFeed.Texts.{Gave, ReadsText, IsPiece, StopsSo, StopsFull}

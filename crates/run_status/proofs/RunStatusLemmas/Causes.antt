@@ -5,7 +5,8 @@ use Rattle.lists.specs.KeriSpecs.Causes.{Rose}
 use Rattle.run_status.specs.declared.run_status.besides.Besides.{Besides}
 use Rattle.run_status.specs.declared.run_status.close.Close.{Close}
 use Rattle.run_status.specs.declared.run_status.close.Close.TheVariants.{End, Bad, ReadFault, VerifierFault, SignerFault, DiskFault, WriteFault, Malformed, LimitReached, OutOfMemory}
-use Rattle.run_status.specs.RunStatus.Readers.{Reader, SinkShown, HasClose, close_found}
+use Rattle.run_status.specs.RunStatus.Readers.{Reader, HasClose, close_found}
+use Rattle.keri_outside.specs.Shown.{SinkShown}
 use Rattle.run_status.specs.RunStatus.Settling.{found, SettlesBy, Puts, FaultsHaveCauses}
 use Rattle.run_status.specs.RunStatus.Status.{status_of}
 

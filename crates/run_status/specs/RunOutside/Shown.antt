@@ -15,7 +15,7 @@ use Rattle.run_status.specs.declared.run_outside.mem_file.MemFile.{MemFile}
 -- How often a making failed, what a source of each name holds, what a verifier of each name says of a key, a body and
 -- a signature, the signature that a signer of each name gives of a key on a body, the bytes of the file that a disk of each
 -- name is of, which are none where the file is new, the bytes of each link that comes at a door of each name, and the makings
--- so far, where it tells, and the limits.
+-- so far, where that is shown, and the limits.
 pub record OutsideShown : Type 0 where
   pub faults : ℕ
   pub holds : List ℕ → Option (List ℕ)

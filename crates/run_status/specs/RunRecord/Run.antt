@@ -13,7 +13,8 @@ use Rattle.journal.specs.declared.journal.journal.Journal.{Journal}
 use Rattle.run_status.specs.declared.run_status.close.Close.{Close}
 use Rattle.run_status.specs.declared.run_status.close.Close.TheVariants.{End, Bad, ReadFault, VerifierFault, SignerFault, DiskFault, WriteFault, Malformed, LimitReached, OutOfMemory}
 use Rattle.run_status.specs.declared.run_status.besides.Besides.{Besides}
-use Rattle.run_status.specs.RunStatus.Readers.{HasClose, Reader, SinkShown, VerifierShown}
+use Rattle.run_status.specs.RunStatus.Readers.{HasClose, Reader, VerifierShown}
+use Rattle.keri_outside.specs.Shown.{SinkShown}
 use Rattle.run_status.specs.RunStatus.Settling.{FaultsHaveCauses, SettlesBy}
 
 -- what a signer tells: the signatures that it gives, what it was asked, and how often it has failed
@@ -22,12 +23,12 @@ pub record SignerShown : Type 0 where
   pub signings : Option (List Signing)
   pub faults : ℕ
 
--- what a disk tells of its file as it reads, where it tells: its bytes, and how often it has failed
+-- what a disk shows of its file as it reads, where that is shown: its bytes, and how often it has failed
 pub record DiskSeen : Type 0 where
   pub file : Option (List ℕ)
   pub faults : ℕ
 
--- what a door tells: the bytes of each link that is left, where it tells, and how often it has failed
+-- what a door shows: the bytes of each link that is left, where that is shown, and how often it has failed
 pub record DoorShown : Type 0 where
   pub left : Option (List (List ℕ))
   pub faults : ℕ

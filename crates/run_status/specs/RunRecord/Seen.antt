@@ -7,7 +7,8 @@ use Rattle.shelf_log.specs.KeriDisk.Images.{DiskShown}
 use Rattle.keri_outside.specs.declared.inquiry.Inquiry.{Inquiry}
 use Rattle.keri_outside.specs.declared.signing.Signing.{Signing}
 use Rattle.run_status.specs.RunOutside.Shown.{OutsideShown}
-use Rattle.run_status.specs.RunStatus.Readers.{SinkShown, reader_seen, sink_seen}
+use Rattle.run_status.specs.RunStatus.Readers.{reader_seen}
+use Rattle.keri_outside.specs.Shown.{SinkShown, sink_shown}
 use Rattle.run_status.specs.RunRecord.Run.{DiskSeen, DoorShown, Run, SignerShown}
 use Rattle.run_status.specs.declared.run_record.done.Done.{Done}
 
@@ -33,7 +34,7 @@ module _ {D : Type 0} (left : D → Option (List (List ℕ))) (door_faults : D �
   door_seen door = option_map door_shown door
 
 abbrev pub sinks_seen : {K : Type 0} → (K → Option (List ℕ)) → (K → ℕ) → List K → List SinkShown
-sinks_seen written faults sinks = map (sink_seen written faults) sinks
+sinks_seen written faults sinks = map (sink_shown written faults) sinks
 
 module _ {O S V : Type 0} (left : S → Option (List ℕ)) (faults : S → ℕ) (says : V → Key → List ℕ → Sig → Option Bool) (inquiries : V → Option (List Inquiry)) (verifier_faults : V → ℕ)
     {G : Type 0} (gives : G → Key → List ℕ → Option Sig) (signings : G → Option (List Signing)) (signer_faults : G → ℕ)
@@ -44,8 +45,8 @@ module _ {O S V : Type 0} (left : S → Option (List ℕ)) (faults : S → ℕ) 
   run_over old new done = record {
     before = told old;
     after = told new;
-    sink_before = sink_seen written sink_faults (sink old);
-    sink_after = sink_seen written sink_faults (sink new);
+    sink_before = sink_shown written sink_faults (sink old);
+    sink_after = sink_shown written sink_faults (sink new);
     readers = map (reader_seen left faults says inquiries verifier_faults) done.readers.items;
     signer = signer_seen gives signings signer_faults done.signer;
     disk = disk_seen disk_shown done.disk;

@@ -4,6 +4,7 @@ use Rattle.std.specs.declared.option.Option.{Option}
 use Rattle.cesr_codes.specs.declared.digest.Digest.{Digest}
 use Rattle.cesr_codes.specs.declared.key.Key.{Key}
 use Rattle.cesr_codes.specs.declared.sig.Sig.{Sig}
+use Rattle.keri_outside.specs.Shown.{SourceShown}
 use Rattle.keri_outside.specs.declared.inquiry.Inquiry.{Inquiry}
 use Rattle.journal.specs.declared.journal.refusal.Refusal.{Refusal}
 use Rattle.run_status.specs.declared.run_status.close.Close.{Close}
@@ -12,19 +13,10 @@ use Rattle.run_status.specs.declared.run_status.findings.Findings.{Findings}
 use Rattle.run_status.specs.declared.run_status.reader_end.ReaderEnd.{ReaderEnd}
 use Rattle.run_status.specs.RunStatus.Status.{nothing}
 
--- what objects of the outside tell: what a source has left, what a verifier says and what it was asked, what was written;
--- and how often each has failed
-pub record SourceShown : Type 0 where
-  pub left : Option (List ℕ)
-  pub faults : ℕ
-
+-- what a verifier says and what it was asked, where that is shown, and how often it has failed
 pub record VerifierShown : Type 0 where
   pub says : Key → List ℕ → Sig → Option Bool
   pub inquiries : Option (List Inquiry)
-  pub faults : ℕ
-
-pub record SinkShown : Type 0 where
-  pub written : Option (List ℕ)
   pub faults : ℕ
 
 -- how a reader ended
@@ -69,6 +61,3 @@ module _ {S V : Type 0} (left : S → Option (List ℕ)) (faults : S → ℕ) (s
     seen = end.seen;
     close = end.close;
   }
-
-abbrev pub sink_seen : {K : Type 0} → (K → Option (List ℕ)) → (K → ℕ) → K → SinkShown
-sink_seen written faults sink = record { written = written sink; faults = faults sink }

@@ -4,14 +4,15 @@ use Rattle.std.specs.List.{list_any}
 use Rattle.std.specs.declared.option.Option.{Option}
 use Rattle.std.specs.declared.option.Option.TheVariants.{None, Some}
 use Rattle.lists.specs.KeriSpecs.Causes.{Rose}
-use Rattle.lists.specs.KeriSpecs.Told.{after}
+use Rattle.lists.specs.KeriSpecs.Shown.{after}
 use Rattle.cesr_codes.specs.declared.digest.Digest.{Digest}
 use Rattle.journal.specs.declared.journal.refusal.Refusal.{Refusal}
 use Rattle.run_status.specs.declared.run_status.besides.Besides.{Besides}
 use Rattle.run_status.specs.declared.run_status.close.Close.{Close}
 use Rattle.run_status.specs.declared.run_status.close.Close.TheVariants.{ReadFault, VerifierFault, SignerFault, DiskFault, WriteFault, LimitReached}
 use Rattle.run_status.specs.declared.run_status.findings.Findings.{Findings}
-use Rattle.run_status.specs.RunStatus.Readers.{Reader, SinkShown, HasClose, close_found}
+use Rattle.run_status.specs.RunStatus.Readers.{Reader, HasClose, close_found}
+use Rattle.keri_outside.specs.Shown.{SinkShown}
 use Rattle.run_status.specs.RunStatus.Status.{status_of}
 
 -- a reader that closed so and refused these messages refused its stream or a message

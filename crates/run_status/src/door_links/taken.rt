@@ -1,7 +1,7 @@
 //! Links that were taken.
 ghost use Rattle.std.specs.Prelude.{◌≡◌, ◌≤◌, [], length, map, All};
 ghost use Rattle.std.specs.Vec.{vec_capacity};
-ghost use Rattle.lists.specs.KeriSpecs.Told.{HasNone};
+ghost use Rattle.lists.specs.KeriSpecs.Shown.{HasNone};
 ghost use Rattle.run_status.specs.DoorLinks.Taken.{AreTaken, IsCaused, IsEnough};
 
 use keri_outside::{Caller, Door};

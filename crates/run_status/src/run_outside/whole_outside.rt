@@ -1,7 +1,7 @@
 //! All that a program reaches.
 ghost use Rattle.std.specs.Prelude.{◌≡◌, IfOk};
 ghost use Rattle.std.specs.Borrow.{Lends, sem};
-ghost use Rattle.lists.specs.KeriSpecs.Told.{HasNone};
+ghost use Rattle.lists.specs.KeriSpecs.Shown.{HasNone};
 ghost use Rattle.run_status.specs.RunOutside.Shown.{OutsideShown, Makes};
 ghost use Rattle.run_status.specs.declared.run_outside.making.MakingKind.TheVariants.{Source as SourceKind, Verifier as VerifierKind};
 ghost use Rattle.run_status.specs.declared.run_outside.making.MakingKind.TheVariants.{Signer as SignerKind, Disk as DiskKind, OldDisk as OldDiskKind};
@@ -27,7 +27,7 @@ pub trait Outside {
 
     type Gate: Gate + Drop + Sync;
 
-    /// What it tells, but for the sink.
+    /// What it shows, but for the sink.
     ghost shown: { Self → OutsideShown };
 
     /// The sink that it holds, and itself with another sink.

@@ -1,7 +1,8 @@
 //! The end of a run: what is owed is written, and the status is found.
 ghost use Rattle.std.specs.Prelude.{◌≡◌, false, map};
 ghost use Rattle.std.specs.Option.{option_copied};
-ghost use Rattle.run_status.specs.RunStatus.Readers.{reader_seen, sink_seen};
+ghost use Rattle.run_status.specs.RunStatus.Readers.{reader_seen};
+ghost use Rattle.keri_outside.specs.Shown.{sink_shown};
 ghost use Rattle.run_status.specs.RunStatus.Settling.{Puts, SettlesBy};
 ghost use Rattle.run_status.specs.RunStatus.Settling as settling;
 ghost use Rattle.run_status.specs.RunStatus.Status.{status_of};
@@ -26,8 +27,8 @@ pub fn settle<O: Outside>(
     ensures settles { SettlesBy (option_copied owed.entry) besides
         (map (reader_seen O.Source.left O.Source.faults O.Verifier.says O.Verifier.inquiries O.Verifier.faults)
         readers.now)
-        (sink_seen O.Sink.written O.Sink.faults (O.sink outside.old))
-        (sink_seen O.Sink.written O.Sink.faults (O.sink outside.new)) result }
+        (sink_shown O.Sink.written O.Sink.faults (O.sink outside.old))
+        (sink_shown O.Sink.written O.Sink.faults (O.sink outside.new)) result }
     ensures told { O.shown outside.new ≡ O.shown outside.old }
 {
     let Some(text) = owed else {
@@ -48,8 +49,8 @@ pub fn status_by<O: Outside>(besides: Besides, readers: &[ReaderEnd<O::Source, O
 
 // Puts the text where there is any, and says whether the sink failed. Then nothing may be put again.
 fn put<O: Outside>(outside: &mut O, text: &[u8]) -> bool
-    ensures puts { Puts text.now result (sink_seen O.Sink.written O.Sink.faults (O.sink outside.old))
-        (sink_seen O.Sink.written O.Sink.faults (O.sink outside.new)) }
+    ensures puts { Puts text.now result (sink_shown O.Sink.written O.Sink.faults (O.sink outside.old))
+        (sink_shown O.Sink.written O.Sink.faults (O.sink outside.new)) }
     ensures told { O.shown outside.new ≡ O.shown outside.old }
 {
     if text.is_empty() {

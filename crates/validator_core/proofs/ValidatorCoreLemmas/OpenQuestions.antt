@@ -6,7 +6,7 @@ use Rattle.std.proofs.lemmas.Bool.{cases_Bool, not-true, or_right}
 use Rattle.std.proofs.Math.Seq.{take-nil}
 use Rattle.std.proofs.lemmas.Grind.{flat_map-append}
 use Rattle.std.proofs.lemmas.List.Elements.{All-push, All-nil}
-use Rattle.lists.specs.KeriSpecs.Told.{HasNone, Puts, after}
+use Rattle.lists.specs.KeriSpecs.Shown.{HasNone, Puts, after}
 use Rattle.lists.proofs.KeriSpecsLemmas.Putting.{after-nil, after-append}
 use Rattle.keri_outside.specs.Asked.{inquiry}
 use Rattle.keri_outside.specs.declared.failed.Failed.{Failed}

@@ -1,6 +1,6 @@
 -- What asking a verifier the open questions does.
 use Rattle.std.specs.Prelude.{◌≡◌, ℕ, ◌≤◌, Bool, List, [], ◌∷◌, ◌++◌, map, flat_map, take, Option, Some, IfSome, All, Result, slice_get}
-use Rattle.lists.specs.KeriSpecs.Told.{Puts, after}
+use Rattle.lists.specs.KeriSpecs.Shown.{Puts, after}
 use Rattle.keri_outside.specs.Asked.{inquiry}
 use Rattle.keri_outside.specs.declared.inquiry.Inquiry.{Inquiry}
 use Rattle.cesr_codes.specs.declared.key.Key.{Key}

@@ -25,7 +25,7 @@ fn add_group(claims: &mut Items<Claim>, group: &Group) -> Result<(), AllocError>
     ensures { OnOk result (claims.new ≡ claims.old ++ replies.claims_of_group group.now) }
 {
     match group {
-        Group::Held(sigs) => add_held(claims, sigs.as_slice()),
+        Group::Controller(sigs) => add_held(claims, sigs.as_slice()),
         Group::Witness(sigs) => add_witness(claims, sigs.as_slice()),
         Group::Couples(couples) => add_couples(claims, couples.as_slice()),
         Group::FirstSeen(_) | Group::Anchor(_) => Ok(()),

@@ -61,7 +61,9 @@ fn receipt_refusal(groups: &[Group]) -> Option<Reason>
 fn any_held_group(groups: &[Group]) -> bool
     ensures { result ≡ list_any (λ g. replies.is_held_group g) groups.now }
 {
-    groups.iter().any(|group| matches!(group, Group::Held(_)))
+    groups
+        .iter()
+        .any(|group| matches!(group, Group::Controller(_)))
 }
 
 fn any_receipt(groups: &[Group]) -> bool
@@ -83,7 +85,7 @@ fn has_receipts(group: &Group) -> bool
     match group {
         Group::Witness(sigs) => !sigs.is_empty(),
         Group::Couples(couples) => !couples.is_empty(),
-        Group::Held(_) => false,
+        Group::Controller(_) => false,
         Group::FirstSeen(_) | Group::Anchor(_) => false,
     }
 }
@@ -93,7 +95,7 @@ fn has_signatures(group: &Group) -> bool
     ensures { result ≡ list_any replies.is_held (replies.claims_of_group group.now) }
 {
     match group {
-        Group::Held(sigs) => !sigs.is_empty(),
+        Group::Controller(sigs) => !sigs.is_empty(),
         Group::Witness(_) => false,
         Group::Couples(_) => false,
         Group::FirstSeen(_) | Group::Anchor(_) => false,

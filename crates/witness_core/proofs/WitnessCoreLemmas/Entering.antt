@@ -5,7 +5,7 @@ use Rattle.std.specs.List.{list_any}
 use Rattle.std.proofs.lemmas.Bool.{cases_Bool}
 use Rattle.std.proofs.lemmas.List.{length-map}
 use Rattle.std.proofs.lemmas.Option.{slice_get_within}
-use Rattle.validator_core.specs.Tables.CoreTables.View.{waiter_at}
+use Rattle.validator_core.specs.Tables.View.{waiter_at}
 use Rattle.claim_table.specs.CoreLaws.Waking.{is_waiting}
 use Rattle.escrow.specs.declared.escrow.waiter.Waiter.{Waiter}
 use Rattle.event_body.specs.EventBody.Events.{is_receipt}

@@ -3,7 +3,7 @@ use Rattle.std.proofs.Common.{◌≡◌, ℕ, Bool, false, List, ◌++◌, Optio
 use Rattle.cesr_codes.specs.declared.key.Key.{Key}
 use Rattle.cesr_codes.specs.declared.sig.Sig.{Sig}
 use Rattle.cesr_stream.specs.declared.message.Message.{Message}
-use Rattle.validator_core.specs.Tables.CoreTables.View.{body_of}
+use Rattle.validator_core.specs.Tables.View.{body_of}
 use Rattle.event_body.specs.EventBody.Events.{is_receipt}
 use Rattle.event_body.specs.declared.event_body.event.Event.{Event}
 use Rattle.journal.specs.declared.journal.body.Body.{Body}

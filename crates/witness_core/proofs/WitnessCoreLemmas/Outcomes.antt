@@ -9,11 +9,11 @@ use Rattle.std.proofs.lemmas.Option.{slice_get_within}
 use Rattle.cesr_codes.specs.declared.key.Key.{Key}
 use Rattle.cesr_codes.specs.declared.sig.Sig.{Sig}
 use Rattle.cesr_stream.specs.declared.message.Message.{Message}
-use Rattle.validator_core.specs.Tables.CoreTables.View.{body_of}
+use Rattle.validator_core.specs.Tables.View.{body_of}
 use Rattle.event_body.specs.EventBody.Events.{is_receipt}
 use Rattle.event_body.specs.declared.event_body.event.Event.{Event}
 use Rattle.keri_outside.specs.declared.signing.Signing.{Signing}
-use Rattle.lists.specs.KeriSpecs.Told.{Puts, after}
+use Rattle.lists.specs.KeriSpecs.Shown.{Puts, after}
 use Rattle.lists.proofs.KeriSpecsLemmas.Putting.{after-nil}
 use Rattle.journal.specs.declared.journal.body.Body.{Body}
 use Rattle.journal.specs.Journal.Accepted.{accepted}

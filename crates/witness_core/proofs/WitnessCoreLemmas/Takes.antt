@@ -5,7 +5,7 @@ use Rattle.std.proofs.lemmas.List.Elements.{All-head, All-tail}
 use Rattle.cesr_codes.specs.declared.key.Key.{Key}
 use Rattle.cesr_codes.specs.declared.sig.Sig.{Sig}
 use Rattle.cesr_stream.specs.declared.message.Message.{Message}
-use Rattle.validator_core.specs.Tables.CoreTables.View.{body_of}
+use Rattle.validator_core.specs.Tables.View.{body_of}
 use Rattle.journal.specs.declared.journal.body.Body.{Body}
 use Rattle.journal.specs.Journal.History.{Told, bodies, heard, took}
 use Rattle.shelf_log.specs.KeriDisk.Images.{DiskShown}

@@ -14,7 +14,7 @@ use Rattle.journal.specs.Journal.Logs.{stands}
 use Rattle.journal.specs.Journal.Questions.{questions, raised, raised_by}
 use Rattle.keri_outside.specs.declared.inquiry.Inquiry.{Inquiry}
 use Rattle.keri_outside.specs.declared.limits.Limits.{Limits}
-use Rattle.lists.specs.KeriSpecs.Told.{after}
+use Rattle.lists.specs.KeriSpecs.Shown.{after}
 use Rattle.lists.proofs.KeriSpecsLemmas.Putting.{after-append}
 use Rattle.key_state.specs.Same.{distinct}
 use Rattle.validator_core.specs.ValidatorCore.Verdicts.{inquiries_in, inquiry_in, inquiry_on}

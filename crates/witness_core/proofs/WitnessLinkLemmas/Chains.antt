@@ -8,7 +8,7 @@ use Rattle.cesr_codes.specs.declared.key.Key.{Key}
 use Rattle.cesr_stream.specs.declared.message.Message.{Message}
 use Rattle.shelf_log.proofs.KeriDiskLemmas.Moments.{KnowsNow}
 use Rattle.lists.specs.KeriSpecs.Causes.{Rose}
-use Rattle.lists.specs.KeriSpecs.Told.{after}
+use Rattle.lists.specs.KeriSpecs.Shown.{after}
 use Rattle.lists.proofs.KeriSpecsLemmas.Putting.{after-append, after-nil}
 use Rattle.run_status.specs.declared.run_status.close.Close.{Close}
 use Rattle.run_status.specs.declared.run_status.close.Close.TheVariants.{End, Bad, ReadFault, VerifierFault, SignerFault, DiskFault, WriteFault, Malformed, LimitReached, OutOfMemory}

@@ -14,7 +14,7 @@ use Rattle.run_status.specs.MessageFeed.Closing.{ClosesBy, Gave}
 use Rattle.run_status.specs.MessageFeed.Feeds.{Feeds, Stream}
 use Rattle.run_status.specs.declared.message_feed.feed_close.FeedClose.{FeedClose}
 use Rattle.run_status.specs.declared.message_feed.feed_close.FeedClose.TheVariants as feed
-use Rattle.run_status.specs.RunStatus.Readers.{SinkShown, SourceShown}
+use Rattle.keri_outside.specs.Shown.{SinkShown, SourceShown}
 use Rattle.run_status.specs.declared.run_status.close.Close.{Close}
 use Rattle.run_status.specs.declared.run_status.close.Close.TheVariants.{End, Bad, ReadFault, VerifierFault, SignerFault, DiskFault, WriteFault, Malformed, LimitReached, OutOfMemory}
 use Rattle.witness_core.specs.declared.witness_store.witness_fault.WitnessFault.{WitnessFault}

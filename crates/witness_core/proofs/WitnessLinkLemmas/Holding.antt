@@ -10,7 +10,7 @@ use Rattle.cesr_codes.specs.declared.key.Key.{Key}
 use Rattle.cesr_stream.specs.Front.{front}
 use Rattle.cesr_stream.specs.Parts.{Part, whole, refused, unfinished}
 use Rattle.cesr_stream.specs.declared.message.Message.{Message}
-use Rattle.validator_core.specs.Tables.CoreTables.View.{body_of}
+use Rattle.validator_core.specs.Tables.View.{body_of}
 use Rattle.event_body.specs.EventBody.Judging.{SpellsEvent}
 use Rattle.event_body.specs.declared.event_body.event.Event.{Event}
 use Rattle.journal_views.specs.EventPayload.Kept.{kept}

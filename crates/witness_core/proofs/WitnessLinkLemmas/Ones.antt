@@ -4,7 +4,7 @@ use Rattle.std.specs.Prelude.{All, take}
 use Rattle.std.proofs.lemmas.List.Elements.{All-nil}
 use Rattle.cesr_stream.specs.declared.message.Message.{Message}
 use Rattle.lists.specs.KeriSpecs.Causes.{Rose}
-use Rattle.lists.specs.KeriSpecs.Told.{after}
+use Rattle.lists.specs.KeriSpecs.Shown.{after}
 use Rattle.lists.proofs.KeriSpecsLemmas.Putting.{after-nil}
 use Rattle.run_status.specs.declared.run_status.close.Close.{Close}
 use Rattle.run_status.specs.declared.run_status.close.Close.TheVariants.{WriteFault}

@@ -8,7 +8,7 @@ use Rattle.std.proofs.lemmas.List.Folds.{find_at}
 use Rattle.std.proofs.lemmas.List.Quantifiers.{position-Some}
 use Rattle.std.proofs.lemmas.List.Elements.{All-head, All-tail}
 use Rattle.std.proofs.lemmas.Option.{get_or_from_slice_get, slice_get_past, slice_get_within}
-use Rattle.validator_core.proofs.TablesLemmas.CoreTablesLemmas.NamedRows.{body_there, chosen_at}
+use Rattle.validator_core.proofs.TablesLemmas.NamedRows.{body_there, chosen_at}
 use Rattle.journal.specs.declared.journal.body.Body.{Body}
 use Rattle.journal.specs.Journal.History.{bodies, taken}
 use Rattle.journal.specs.Journal.Journals.{chosen}

@@ -21,7 +21,7 @@ use Rattle.event_body.proofs.BodyFieldsLemmas.Texts.{text_long}
 use Rattle.event_backing.proofs.Hex.{few_digits}
 use Rattle.event_body.specs.declared.event_body.event.Event.TheVariants.{Rct}
 use Rattle.event_body.specs.declared.event_body.receipt_body.ReceiptBody.{ReceiptBody}
-use Rattle.event_body.specs.EventBody.Held.{IsHeldReceipt}
+use Rattle.event_body.specs.EventBody.Typed.{IsTypedReceipt}
 use Rattle.event_body.specs.EventBody.Judging.{HasEvent, SpellsEvent}
 use Rattle.event_body.specs.EventBody.Spelling.{text_of, values_of}
 
@@ -59,7 +59,7 @@ module _ (r : ReceiptBody) where
         members_long,
       )
 
-  module _ (held : IsHeldReceipt r) where
+  module _ (held : IsTypedReceipt r) where
     few : (ds : List ℕ) → number_value r.sn ≡ Str ds → length ds ≤ 16
     few ds e =
         let same : digits 16 false r.sn ≡ ds = text_injective (digits 16 false r.sn) ds e in

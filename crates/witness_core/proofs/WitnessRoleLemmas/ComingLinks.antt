@@ -11,7 +11,8 @@ use Rattle.keri_outside.specs.Doors.{Comes}
 use Rattle.keri_outside.specs.declared.limits.Limits.{Limits}
 use Rattle.run_status.specs.declared.run_status.close.Close.{Close}
 use Rattle.run_status.specs.declared.run_status.close.Close.TheVariants.{End, Bad, ReadFault, VerifierFault, SignerFault, DiskFault, WriteFault, Malformed, LimitReached, OutOfMemory}
-use Rattle.run_status.specs.RunStatus.Readers.{Reader, SinkShown, SourceShown}
+use Rattle.run_status.specs.RunStatus.Readers.{Reader}
+use Rattle.keri_outside.specs.Shown.{SinkShown, SourceShown}
 use Rattle.witness_core.specs.WitnessLink.Links.{LinkShown, Terms}
 use Rattle.witness_core.specs.WitnessLink.Served.{ClosesLink}
 use Rattle.witness_core.specs.WitnessLink.Serving.{Serves}

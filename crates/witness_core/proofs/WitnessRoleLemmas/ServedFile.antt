@@ -6,12 +6,13 @@ use Rattle.shelf_log.specs.KeriDisk.Images.{DiskShown}
 use Rattle.keri_outside.specs.declared.inquiry.Inquiry.{Inquiry}
 use Rattle.keri_outside.specs.declared.limits.Limits.{Limits}
 use Rattle.keri_outside.specs.declared.signing.Signing.{Signing}
-use Rattle.lists.specs.KeriSpecs.Told.{HasNone}
+use Rattle.lists.specs.KeriSpecs.Shown.{HasNone}
 use Rattle.run_status.specs.RunOutside.Makings.{AreMakings}
 use Rattle.run_status.specs.RunOutside.Shown.{OutsideShown, making}
 use Rattle.run_status.specs.declared.run_outside.making.MakingKind.TheVariants.{Source, Verifier, Signer}
-use Rattle.run_status.specs.RunStatus.Readers.{SinkShown, SourceShown, VerifierShown}
-use Rattle.witness_core.specs.WitnessLink.Links.{Left, source_shown}
+use Rattle.run_status.specs.RunStatus.Readers.{VerifierShown}
+use Rattle.keri_outside.specs.Shown.{SinkShown, SourceShown, source_of}
+use Rattle.witness_core.specs.WitnessLink.Links.{Left}
 use Rattle.run_status.specs.RunRecord.Run.{Run, SignerShown}
 use Rattle.witness_core.specs.WitnessRole.ServedFile.{IsServing, ServesAll, signer_of, verifier_of}
 
@@ -19,7 +20,7 @@ use Rattle.witness_core.specs.WitnessRole.ServedFile.{IsServing, ServesAll, sign
 pub serving_all : {D : Type 0} {shown : D → DiskShown} {key : Key} {limits : Limits} {source_old : SourceShown} {verifier_old : VerifierShown} {signer_old : SignerShown}
     {old : Left D} {disk : Option D} {run : Run} → ServesAll shown key limits source_old verifier_old signer_old old disk run → (helper name : List ℕ) (inquiries : Option (List Inquiry)) (signings : Option (List Signing))
     (before : OutsideShown) (sink_before : SinkShown)
-    → run.before.limits ≡ before.limits → run.sink_before ≡ sink_before → source_old ≡ source_shown (before.holds name) 0
+    → run.before.limits ≡ before.limits → run.sink_before ≡ sink_before → source_old ≡ source_of (before.holds name) 0
     → verifier_old ≡ verifier_of before helper inquiries → HasNone inquiries → signer_old ≡ signer_of before helper signings → HasNone signings
     → AreMakings (making Source name false ∷ making Verifier helper false ∷ making Signer helper false ∷ []) before run.after
     → IsServing shown key limits helper name old disk (record run { before = before; sink_before = sink_before })

@@ -6,7 +6,7 @@ use Rattle.shelf_log.specs.KeriDisk.Images.{DiskShown}
 use Rattle.keri_outside.specs.declared.inquiry.Inquiry.{Inquiry}
 use Rattle.keri_outside.specs.declared.limits.Limits.{Limits}
 use Rattle.keri_outside.specs.declared.signing.Signing.{Signing}
-use Rattle.lists.specs.KeriSpecs.Told.{HasNone}
+use Rattle.lists.specs.KeriSpecs.Shown.{HasNone}
 use Rattle.run_status.specs.RunOutside.Makings.{AreMakings}
 use Rattle.run_status.specs.RunOutside.Shown.{making}
 use Rattle.run_status.specs.declared.run_outside.making.MakingKind.TheVariants.{Door, Verifier, Signer}

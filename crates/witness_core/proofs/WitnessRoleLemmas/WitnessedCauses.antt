@@ -3,7 +3,7 @@ use Rattle.std.proofs.Common.{◌≡◌, ◌⊎◌, inl, inr, ⊎_elim, ℕ, Boo
 use Rattle.std.specs.Prelude.{IsSomeAnd, if◌then◌else◌}
 use Rattle.std.specs.List.{list_any}
 use Rattle.lists.specs.KeriSpecs.Causes.{Rose}
-use Rattle.lists.specs.KeriSpecs.Told.{after}
+use Rattle.lists.specs.KeriSpecs.Shown.{after}
 use Rattle.cesr_codes.specs.declared.key.Key.{Key}
 use Rattle.command_words.specs.Inputs.{Inputs, links, named}
 use Rattle.command_words.specs.Words.{witness}
@@ -14,7 +14,8 @@ use Rattle.run_status.specs.RunOutside.Shown.{OutsideShown}
 use Rattle.run_status.specs.declared.run_status.besides.Besides.{Besides}
 use Rattle.run_status.specs.declared.run_status.close.Close.{Close}
 use Rattle.run_status.specs.declared.run_status.close.Close.TheVariants as closing
-use Rattle.run_status.specs.RunStatus.Readers.{HasClose, Reader, SinkShown}
+use Rattle.run_status.specs.RunStatus.Readers.{HasClose, Reader}
+use Rattle.keri_outside.specs.Shown.{SinkShown}
 use Rattle.run_status.specs.RunStatus.Settling.{SettlesBy, found}
 use Rattle.run_status.specs.RunStatus.Status.{nothing_besides, status_of}
 use Rattle.run_status.proofs.RunStatusLemmas.Causes.{faults_have_causes, six_closed, words_refused}

@@ -9,7 +9,7 @@ use Rattle.journal.specs.declared.journal.question.Question.{Question}
 use Rattle.journal.specs.Journal.History.{Triple}
 use Rattle.keri_outside.specs.declared.failed.Failed.{Failed}
 use Rattle.keri_outside.specs.declared.inquiry.Inquiry.{Inquiry}
-use Rattle.lists.specs.KeriSpecs.Told.{after}
+use Rattle.lists.specs.KeriSpecs.Shown.{after}
 use Rattle.lists.proofs.KeriSpecsLemmas.Putting.{after-append}
 use Rattle.validator_core.specs.ValidatorCore.Verdicts.{Asks, AsksAbout, IsOpen, IsSaid, IsVerdict, Notes, inquiries_in, inquiry_in, inquiry_on}
 use Rattle.validator_core.specs.ValidatorCore.View.{CoreView, open_of, told_of}

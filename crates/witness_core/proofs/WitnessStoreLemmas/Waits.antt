@@ -8,7 +8,7 @@ use Rattle.std.proofs.lemmas.List.Elements.{All-head, All-tail}
 use Rattle.std.proofs.lemmas.List.Folds.{list_any-append}
 use Rattle.std.proofs.lemmas.List.Sums.{sum_by-cons}
 use Rattle.claim_table.specs.CoreLaws.Waking.{is_waiting}
-use Rattle.validator_core.specs.Tables.CoreTables.View.{waiter_at}
+use Rattle.validator_core.specs.Tables.View.{waiter_at}
 use Rattle.escrow.specs.declared.escrow.waiter.Waiter.{Waiter}
 use Rattle.event_body.specs.EventBody.Events.{is_receipt}
 use Rattle.journal.specs.declared.journal.body.Body.{Body}

@@ -5,7 +5,7 @@ use Rattle.cesr_codes.specs.declared.sig.Sig.{Sig}
 use Rattle.cesr_stream.specs.declared.message.Message.{Message}
 use Rattle.event_body.specs.EventBody.Events.{said_of}
 use Rattle.keri_outside.specs.declared.signing.Signing.{Signing}
-use Rattle.lists.specs.KeriSpecs.Told.{after}
+use Rattle.lists.specs.KeriSpecs.Shown.{after}
 use Rattle.journal.specs.declared.journal.body.Body.{Body}
 use Rattle.validator_core.specs.ValidatorCore.Messages.{JudgesMessage}
 use Rattle.validator_core.specs.ValidatorCore.View.{CoreView, accepted_by, open_of}

@@ -9,7 +9,8 @@ use Rattle.keri_outside.specs.declared.inquiry.Inquiry.{Inquiry}
 use Rattle.keri_outside.specs.declared.limits.Limits.{Limits}
 use Rattle.keri_outside.specs.declared.signing.Signing.{Signing}
 use Rattle.run_status.specs.RunRecord.Run.{SignerShown}
-use Rattle.run_status.specs.RunStatus.Readers.{SinkShown, SourceShown, VerifierShown}
+use Rattle.run_status.specs.RunStatus.Readers.{VerifierShown}
+use Rattle.keri_outside.specs.Shown.{SinkShown, SourceShown}
 use Rattle.validator_core.specs.ValidatorCore.View.{CoreView}
 use Rattle.witness_core.specs.declared.witness_link.notes.Notes.{Notes}
 
@@ -106,13 +107,6 @@ counts_of link = counts link.witness.disk.faults link.verifier_faults link.signe
 -- what a verifier shows
 abbrev pub verifier_shown : {V : Type 0} → (V → Key → List ℕ → Sig → Option Bool) → (V → Option (List Inquiry)) → (V → ℕ) → V → VerifierShown
 verifier_shown says inquiries faults verifier = record { says = says verifier; inquiries = inquiries verifier; faults = faults verifier }
-
--- what a source has left, where it shows that, and how often it has failed
-abbrev pub source_shown : Option (List ℕ) → ℕ → SourceShown
-source_shown left faults = record { left = left; faults = faults }
-
-abbrev pub source_at : {S : Type 0} → (S → Option (List ℕ)) → (S → ℕ) → S → SourceShown
-source_at left faults source = source_shown (left source) (faults source)
 
 -- what a witness is at a moment: its core, the list of its shelf, whether it is broken, and its disk
 pub record Left (D : Type 0) : Type 0 where

@@ -4,7 +4,7 @@ use Rattle.cesr_stream.specs.declared.message.Message.{Message}
 use Rattle.cesr_stream.specs.Assembly.{all_of}
 use Rattle.run_status.specs.declared.message_feed.feed_close.FeedClose.{FeedClose}
 use Rattle.run_status.specs.declared.message_feed.feed_close.FeedClose.TheVariants as feed
-use Rattle.run_status.specs.RunStatus.Readers.{sink_seen}
+use Rattle.keri_outside.specs.Shown.{sink_shown}
 use Rattle.run_status.specs.declared.run_status.close.Close.{Close}
 use Rattle.run_status.specs.declared.run_status.close.Close.TheVariants.{End, Bad, ReadFault, LimitReached, OutOfMemory}
 use Rattle.witness_core.specs.WitnessLink.Links.{LinkShown, ServiceShown, shown_noting}
@@ -20,7 +20,7 @@ pub record LendsSame {W K : Type 0} (first now : Link W K) : Type 0 where
 module _ {W K : Type 0} (service_seen : W → ServiceShown) (written : K → Option (List ℕ)) (sink_faults : K → ℕ) where
   -- what is seen of a link
   abbrev pub link_shown : Link W K → LinkShown
-  link_shown link = shown_noting (service_seen link.service.now) (sink_seen written sink_faults link.sink.now) link.notes.now
+  link_shown link = shown_noting (service_seen link.service.now) (sink_shown written sink_faults link.sink.now) link.notes.now
 
   -- since it had the first of these values it has served these messages
   pub record HasTaken (first now : Link W K) (messages : List Message) : Type 0 where

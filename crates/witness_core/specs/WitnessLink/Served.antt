@@ -12,7 +12,7 @@ use Rattle.run_status.specs.MessageFeed.Closing.{ClosesBy, Gave}
 use Rattle.run_status.specs.MessageFeed.Feeds.{Stream}
 use Rattle.run_status.specs.declared.message_feed.feed_close.FeedClose.{FeedClose}
 use Rattle.run_status.specs.declared.message_feed.feed_close.FeedClose.TheVariants as feed
-use Rattle.run_status.specs.RunStatus.Readers.{SinkShown, SourceShown, sink_seen}
+use Rattle.keri_outside.specs.Shown.{SinkShown, SourceShown, sink_shown, source_shown}
 use Rattle.run_status.specs.declared.run_status.close.Close.{Close}
 use Rattle.run_status.specs.declared.run_status.close.Close.TheVariants.{End, Bad, ReadFault, VerifierFault, SignerFault, DiskFault, WriteFault, Malformed, LimitReached, OutOfMemory}
 use Rattle.witness_core.specs.declared.witness_link.link_end.LinkEnd.{LinkEnd}
@@ -20,7 +20,7 @@ use Rattle.witness_core.specs.declared.witness_link.notes.Notes.{Notes}
 use Rattle.witness_core.specs.declared.witness_store.witness_fault.WitnessFault.{WitnessFault}
 use Rattle.witness_core.specs.declared.witness_store.witness_fault.WitnessFault.TheVariants as fault
 use Rattle.witness_core.specs.WitnessLink.Calls.{messages_in, receipts_in}
-use Rattle.witness_core.specs.WitnessLink.Links.{LinkShown, ServiceShown, source_at, terms_of, shown_noting, shown_of_link}
+use Rattle.witness_core.specs.WitnessLink.Links.{LinkShown, ServiceShown, terms_of, shown_noting, shown_of_link}
 use Rattle.witness_core.specs.WitnessLink.Serving.{FailsToPut, FailsToTake, GoesOn, Serves}
 use Rattle.witness_core.specs.WitnessLink.Stored.{HoldsEach}
 
@@ -90,6 +90,6 @@ ServesLinkTo limits source_old source_new old new sink_old sink_new end =
 -- a link was served with the objects that lend it, and what was noted before stands before the new notes
 abbrev pub ServesNoting : {S W K : Type 0} → (S → Option (List ℕ)) → (S → ℕ) → (W → ServiceShown) → (K → Option (List ℕ)) → (K → ℕ) → Limits → S → S → W → W → K → K → Notes → Notes → Close → Type 0
 ServesNoting left faults service_seen written sink_faults limits source_old source_new old new sink_old sink_new notes_old notes_new close =
-    ServesLink limits (source_at left faults source_old) (source_at left faults source_new)
-    (shown_noting (service_seen old) (sink_seen written sink_faults sink_old) notes_old)
-    (shown_noting (service_seen new) (sink_seen written sink_faults sink_new) notes_new) close
+    ServesLink limits (source_shown left faults source_old) (source_shown left faults source_new)
+    (shown_noting (service_seen old) (sink_shown written sink_faults sink_old) notes_old)
+    (shown_noting (service_seen new) (sink_shown written sink_faults sink_new) notes_new) close

@@ -10,7 +10,7 @@ use Rattle.shelf_log.specs.KeriDisk.Images.{DiskShown}
 use Rattle.keri_outside.specs.declared.inquiry.Inquiry.{Inquiry}
 use Rattle.keri_outside.specs.declared.limits.Limits.{Limits}
 use Rattle.keri_outside.specs.declared.signing.Signing.{Signing}
-use Rattle.lists.specs.KeriSpecs.Told.{HasNone}
+use Rattle.lists.specs.KeriSpecs.Shown.{HasNone}
 use Rattle.run_status.specs.RunOutside.Makings.{AreMakings}
 use Rattle.run_status.specs.RunOutside.Shown.{OutsideShown, making}
 use Rattle.run_status.specs.declared.run_outside.making.MakingKind.{MakingKind}
@@ -19,14 +19,15 @@ use Rattle.run_status.specs.declared.run_status.besides.Besides.{Besides}
 use Rattle.run_status.specs.declared.run_status.close.Close.{Close}
 use Rattle.run_status.specs.declared.run_status.reader_end.ReaderEnd.{ReaderEnd}
 use Rattle.run_status.specs.declared.run_status.close.Close.TheVariants.{ReadFault, VerifierFault, SignerFault}
-use Rattle.run_status.specs.RunStatus.Readers.{Reader, SinkShown, SourceShown, VerifierShown}
+use Rattle.run_status.specs.RunStatus.Readers.{Reader, VerifierShown}
+use Rattle.keri_outside.specs.Shown.{SinkShown, SourceShown, source_of}
 use Rattle.run_status.specs.RunStatus.Settling.{found}
 use Rattle.run_status.specs.RunStatus.Status.{nothing_besides, status_of}
 use Rattle.shelf_log.specs.ShelfLog.Format.{Holds}
 use Rattle.shelf_log.specs.ShelfLog.OnDisk.{AllHold}
 use Rattle.shelf_log.specs.declared.shelf_log.version.Version.TheVariants.{Two}
 use Rattle.witness_core.specs.declared.witness_link.link_end.LinkEnd.{LinkEnd}
-use Rattle.witness_core.specs.WitnessLink.Links.{Left, LinkShown, Serving, seen_as, seen_by, source_shown, shown_of_link}
+use Rattle.witness_core.specs.WitnessLink.Links.{Left, LinkShown, Serving, seen_as, seen_by, shown_of_link}
 use Rattle.witness_core.specs.WitnessLink.Served.{ServesLink, ServesLinkTo}
 use Rattle.run_status.specs.RunRecord.Run.{HasNoLinks, Run, SignerShown, is_out}
 use Rattle.witness_core.specs.WitnessRole.Views.{Views, readers_by}
@@ -61,7 +62,7 @@ pub record ServesNone {D : Type 0} (held : Option (List ℕ)) (at : Close) (read
   pub close : reader.close ≡ at
   pub none_refused : reader.refused ≡ []
   pub none_seen : reader.seen ≡ []
-  pub unread : IfSome reader.source (λ s. s ≡ source_shown held 0)
+  pub unread : IfSome reader.source (λ s. s ≡ source_of held 0)
   pub unasked : IfSome reader.verifier (λ v. HasNone v.inquiries × (v.faults ≡ 0))
   pub same : new ≡ old
   pub same_sink : run.sink_after ≡ run.sink_before
@@ -81,7 +82,7 @@ module _ {D : Type 0} (shown : D → DiskShown) (key : Key) (limits : Limits) wh
   -- the link that a run has with its source, its verifier and its signer, which these were before, and the sink
   abbrev pub ServesIts : Run → SourceShown → VerifierShown → SignerShown → Left D → SourceShown → VerifierShown → SignerShown → Reader → Left D → Type 0
   ServesIts run source_old verifier_old signer_old old source verifier signer reader new =
-      ServesLink run.before.limits source_old (source_shown source.left source.faults)
+      ServesLink run.before.limits source_old (source_of source.left source.faults)
       (at_link old verifier_old signer_old run.sink_before [] [])
       (at_link new verifier signer run.sink_after reader.refused reader.seen) reader.close
 
@@ -92,7 +93,7 @@ module _ {D : Type 0} (shown : D → DiskShown) (key : Key) (limits : Limits) wh
     pub none_inquired : HasNone inquiries
     pub signings : Option (List Signing)
     pub none_signed : HasNone signings
-    pub serves : ServesIts run (source_shown (run.before.holds name) 0) (verifier_of run.before helper inquiries) (signer_of run.before helper signings) old source verifier signer reader new
+    pub serves : ServesIts run (source_of (run.before.holds name) 0) (verifier_of run.before helper inquiries) (signer_of run.before helper signings) old source verifier signer reader new
 
   -- what was made serves the witness as a link, where it was all made
   abbrev pub ServesBy : List ℕ → List ℕ → Left D → Reader → Option SourceShown → Option VerifierShown → Option SignerShown → Left D → Run → Type 0

@@ -3,7 +3,7 @@ use Rattle.std.specs.Prelude.{◌≡◌, ℕ, ◌≤◌, ◌⊎◌, Bool, false,
 use Rattle.std.specs.List.{list_all}
 use Rattle.std.specs.declared.option.Option.{Option}
 use Rattle.std.specs.declared.option.Option.TheVariants.{None, Some}
-use Rattle.lists.specs.KeriSpecs.Told.{HasNone}
+use Rattle.lists.specs.KeriSpecs.Shown.{HasNone}
 use Rattle.cesr_codes.specs.declared.digest.Digest.{Digest}
 use Rattle.cesr_codes.specs.declared.key.Key.{Key}
 use Rattle.cesr_codes.specs.declared.sig.Sig.{Sig}
@@ -17,7 +17,8 @@ use Rattle.run_status.specs.declared.run_outside.making.MakingKind.TheVariants.{
 use Rattle.run_status.specs.declared.run_status.close.Close.{Close}
 use Rattle.run_status.specs.declared.run_status.close.Close.TheVariants.{End, VerifierFault, SignerFault}
 use Rattle.run_status.specs.declared.run_status.reader_end.ReaderEnd.{ReaderEnd}
-use Rattle.run_status.specs.RunStatus.Readers.{Reader, SinkShown, SourceShown, VerifierShown}
+use Rattle.run_status.specs.RunStatus.Readers.{Reader, VerifierShown}
+use Rattle.keri_outside.specs.Shown.{SinkShown, SourceShown}
 use Rattle.run_status.specs.RunStatus.Status.{nothing_besides}
 use Rattle.validator_core.specs.ValidatorCore.View.{open_of}
 use Rattle.witness_core.specs.WitnessStore.Storing.{StoresOn}

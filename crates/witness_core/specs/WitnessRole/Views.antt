@@ -2,7 +2,8 @@
 use Rattle.std.specs.Prelude.{List, map, option_map}
 use Rattle.shelf_log.specs.KeriDisk.Images.{DiskShown}
 use Rattle.run_status.specs.RunRecord.Run.{DoorShown, SignerShown}
-use Rattle.run_status.specs.RunStatus.Readers.{Reader, SinkShown, SourceShown, VerifierShown}
+use Rattle.run_status.specs.RunStatus.Readers.{Reader, VerifierShown}
+use Rattle.keri_outside.specs.Shown.{SinkShown, SourceShown}
 use Rattle.run_status.specs.declared.run_status.reader_end.ReaderEnd.{ReaderEnd}
 
 -- what is seen of the sink of an outside, of what it makes, and of the sink of a link

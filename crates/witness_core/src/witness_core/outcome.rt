@@ -4,7 +4,7 @@ ghost use Rattle.cesr_codes.specs.declared.key.KeyCode.TheVariants.{Fixed};
 ghost use Rattle.event_body.specs.EventBody.Events as events;
 ghost use Rattle.journal.specs.Journal.Grown.{IsGrown};
 ghost use Rattle.journal.specs.declared.journal.body.Body.{Body};
-ghost use Rattle.lists.specs.KeriSpecs.Told.{Puts};
+ghost use Rattle.lists.specs.KeriSpecs.Shown.{Puts};
 ghost use Rattle.validator_core.specs.ValidatorCore.View.{accepted_by, base_of};
 ghost use Rattle.witness_core.specs.WitnessReceipts.Receipts.{due, signings_of};
 ghost use Rattle.witness_core.specs.WitnessCore.Faults.{SignFault};

@@ -3,7 +3,7 @@
 //! An event that isn't taken is let go by `drop`: where that happens of itself at a function's end, its proof takes longer.
 ghost use Rattle.std.specs.Prelude.{◌≡◌, ◌⊎◌, ◌≤◌, true, false, length, IfOk, IfErr, OnOk, OnErr, MatchResult, Ok, Some, slice_get};
 ghost use Rattle.validator_core.specs.Acceptance.Standing.{IsHeld};
-ghost use Rattle.validator_core.specs.Tables.CoreTables.View.{body_of};
+ghost use Rattle.validator_core.specs.Tables.View.{body_of};
 ghost use Rattle.event_body.specs.EventBody.Events as events;
 ghost use Rattle.journal.specs.Journal.Logs.{is_in};
 ghost use Rattle.journal.specs.Journal.Replies as replies;

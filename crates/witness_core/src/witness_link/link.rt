@@ -1,6 +1,6 @@
 //! A link whose messages a witness takes.
 ghost use Rattle.std.specs.Prelude.{◌≡◌, false};
-ghost use Rattle.run_status.specs.RunStatus.Readers.{sink_seen};
+ghost use Rattle.keri_outside.specs.Shown.{sink_shown};
 ghost use Rattle.witness_core.specs.WitnessLink.Links.{shown_noting};
 ghost use Rattle.witness_core.specs.WitnessLink.Serving.{ServesOne};
 
@@ -48,8 +48,8 @@ fn serve<W: Witnessing, K: Sink>(
     message: &Message,
 ) -> Result<(), Close>
     ensures { (W.seen service.old).witness.broken ≡ false → ServesOne message.now result
-        (shown_noting (W.seen service.old) (sink_seen K.written K.faults sink.old) notes.old)
-        (shown_noting (W.seen service.new) (sink_seen K.written K.faults sink.new) notes.new) }
+        (shown_noting (W.seen service.old) (sink_shown K.written K.faults sink.old) notes.old)
+        (shown_noting (W.seen service.new) (sink_shown K.written K.faults sink.new) notes.new) }
 {
     service.stands();
     match notes.make_place() {

@@ -1,6 +1,6 @@
 //! Receipts that are put on a sink.
 ghost use Rattle.lists.specs.KeriSpecs.Causes.{HasCause};
-ghost use Rattle.lists.specs.KeriSpecs.Told.{Puts};
+ghost use Rattle.lists.specs.KeriSpecs.Shown.{Puts};
 ghost use Rattle.witness_core.specs.WitnessLink.Calls.{text_of};
 
 use crate::witness_receipts::Receipt;

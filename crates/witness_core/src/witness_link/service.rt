@@ -1,7 +1,6 @@
 //! The call that serves a link.
 ghost use Rattle.std.specs.Prelude.{◌≡◌, false};
-ghost use Rattle.run_status.specs.RunStatus.Readers.{sink_seen};
-ghost use Rattle.witness_core.specs.WitnessLink.Links.{source_at};
+ghost use Rattle.keri_outside.specs.Shown.{sink_shown, source_shown};
 ghost use Rattle.witness_core.specs.WitnessLink.Offered.{Finishes, LendsSame, TakesLast, link_shown};
 ghost use Rattle.witness_core.specs.WitnessLink.Served.{ServesLink, ServesLinkTo, ServesNoting};
 
@@ -23,9 +22,9 @@ pub fn serve_link<S: Source, W: Witnessing, K: Sink>(
     limits: Limits,
 ) -> LinkEnd
     requires { (W.seen service.old).witness.broken ≡ false }
-    ensures { ServesLinkTo limits (source_at S.left S.faults source.old) (source_at S.left S.faults source.new)
+    ensures { ServesLinkTo limits (source_shown S.left S.faults source.old) (source_shown S.left S.faults source.new)
         (W.seen service.old) (W.seen service.new)
-        (sink_seen K.written K.faults sink.old) (sink_seen K.written K.faults sink.new) result }
+        (sink_shown K.written K.faults sink.old) (sink_shown K.written K.faults sink.new) result }
 {
     let mut notes = Notes::new(alloc);
     let close = serve_noting(alloc, service, source, sink, limits, &mut notes);
@@ -66,8 +65,8 @@ fn serve_all<'w, 'k, 'n, S: Source, W: Witnessing, K: Sink>(
     limits: Limits,
 ) -> Close
     requires { (W.seen link.old.service.now).witness.broken ≡ false }
-    ensures serves { ServesLink limits (source_at S.left S.faults source.old)
-        (source_at S.left S.faults source.new)
+    ensures serves { ServesLink limits (source_shown S.left S.faults source.old)
+        (source_shown S.left S.faults source.new)
         (link_shown W.seen K.written K.faults link.old) (link_shown W.seen K.written K.faults link.new) result }
     ensures same { LendsSame link.old link.new }
 {

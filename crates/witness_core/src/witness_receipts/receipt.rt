@@ -1,14 +1,14 @@
 //! Receipts.
 ghost use Rattle.std.specs.Prelude.{◌≡◌, ◌≤◌, ◌∷◌, ◌++◌, [], ℕ, List, length, IfErr, IfOk};
 ghost use Rattle.cesr_codes.specs.declared.key.KeyCode.TheVariants.{Fixed};
-ghost use Rattle.validator_core.specs.Tables.CoreTables.View.{body_of};
-ghost use Rattle.event_body.specs.EventBody.Held.{IsHeldReceipt};
+ghost use Rattle.validator_core.specs.Tables.View.{body_of};
+ghost use Rattle.event_body.specs.EventBody.Typed.{IsTypedReceipt};
 ghost use Rattle.event_body.specs.EventBody.Judging.{SpellsEvent};
 ghost use Rattle.event_body.specs.EventBody.Spelling.{text_of};
 ghost use Rattle.event_body.specs.declared.event_body.body_fault.ReadBody.TheVariants.{OutOfMemory as NoMemory};
 ghost use Rattle.event_body.specs.declared.event_body.event.Event.TheVariants.{Rct};
 ghost use Rattle.keri_outside.specs.Asked.{signing};
-ghost use Rattle.lists.specs.KeriSpecs.Told.{Puts};
+ghost use Rattle.lists.specs.KeriSpecs.Shown.{Puts};
 ghost use Rattle.witness_core.specs.WitnessReceipts.Receipts.{CountsFaults, IsReceiptOf, couples_text, receipt_event};
 ghost use Rattle.witness_core.specs.declared.witness_receipts.receipt.SigningFault.TheVariants.{OutOfMemory, SignerFault};
 
@@ -115,7 +115,7 @@ fn written(alloc: Global, receipt: ReceiptBody) -> Result<Vec<u8>, ReadBody>
 
 // What the types of a receipt's parts hold by themselves, which a proof learns where they are read.
 fn held(receipt: ReceiptBody)
-    ensures { IsHeldReceipt receipt }
+    ensures { IsTypedReceipt receipt }
 {
     receipt.said.held();
     receipt.prefix.held();

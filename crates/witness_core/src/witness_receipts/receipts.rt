@@ -2,7 +2,7 @@
 ghost use Rattle.std.specs.Prelude.{◌≡◌, ◌==◌, ◌≤◌, ◌<◌, ◌∷◌, ◌++◌, [], All, IfOk, Some, drop, length, position, slice_get, take};
 ghost use Rattle.std.specs.List.{cons_option};
 ghost use Rattle.cesr_codes.specs.declared.key.KeyCode.TheVariants.{Fixed};
-ghost use Rattle.lists.specs.KeriSpecs.Told.{Puts};
+ghost use Rattle.lists.specs.KeriSpecs.Shown.{Puts};
 ghost use Rattle.journal.specs.Journal.Journals.{chosen};
 ghost use Rattle.journal.specs.declared.journal.body.Body.{Body};
 ghost use Rattle.validator_core.specs.ValidatorCore.View.{accepted_by};

@@ -1,7 +1,7 @@
 //! Links that a witness serves, one after another.
 ghost use Rattle.std.specs.Prelude.{◌≡◌, ◌≤◌, [], false, true};
 ghost use Rattle.std.specs.Vec.{vec_capacity};
-ghost use Rattle.lists.specs.KeriSpecs.Told.{HasNone};
+ghost use Rattle.lists.specs.KeriSpecs.Shown.{HasNone};
 ghost use Rattle.witness_core.specs.WitnessRole.ServedLinks.{IsServedBy, ServesComingBy};
 ghost use Rattle.witness_core.specs.WitnessLink.Closes.{asks_next as asks_next_by};
 

@@ -18,22 +18,22 @@ pub(crate) type ServiceOf<O> = Service<
 pub trait Viewed: Outside {
     ghost use Rattle.witness_core.specs.WitnessRole.Views.{Views};
 
-    /// Of each kind of object, what it tells.
+    /// Of each kind of object, what it shows.
     ghost views: { Views Self Self.Source Self.Verifier Self.Signer Self.Disk Self.Door Self.Door.Sink };
 }
 
 impl<O: Outside> Viewed for O {
     ghost use Rattle.run_status.specs.RunRecord.Seen.{door_shown, signer_shown};
-    ghost use Rattle.run_status.specs.RunStatus.Readers.{sink_seen};
-    ghost use Rattle.witness_core.specs.WitnessLink.Links.{source_at, verifier_shown};
+    ghost use Rattle.keri_outside.specs.Shown.{sink_shown, source_shown};
+    ghost use Rattle.witness_core.specs.WitnessLink.Links.{verifier_shown};
 
     ghost views = { record {
-      sink = λ outside. sink_seen O.Sink.written O.Sink.faults (O.sink outside);
-      source = source_at O.Source.left O.Source.faults;
+      sink = λ outside. sink_shown O.Sink.written O.Sink.faults (O.sink outside);
+      source = source_shown O.Source.left O.Source.faults;
       verifier = verifier_shown O.Verifier.says O.Verifier.inquiries O.Verifier.faults;
       signer = signer_shown O.Signer.gives O.Signer.signings O.Signer.faults;
       disk = O.Disk.shown;
       door = door_shown O.Door.left O.Door.faults;
-      link_sink = sink_seen O.Door.Sink.written O.Door.Sink.faults;
+      link_sink = sink_shown O.Door.Sink.written O.Door.Sink.faults;
     } };
 }

@@ -1,5 +1,5 @@
 use Rattle.std.proofs.Common.{◌≡◌, refl, subst}
-use Rattle.lists.specs.KeriSpecs.Told.{Puts}
+use Rattle.lists.specs.KeriSpecs.Shown.{Puts}
 use Rattle.cesr_stream.specs.Domains.{item_in_domain}
 use Rattle.cesr_stream.specs.declared.item.Item.{Item}
 use Rattle.cesr_stream.specs.declared.item.Item.TheVariants.{Body, Group as GroupItem, Wrapped}

@@ -1,6 +1,6 @@
 use Rattle.std.proofs.Common.{flat_map, refl, sym, ap, ◌∙◌, arith, subst}
 use Rattle.std.proofs.lemmas.List.{take_all}
-use Rattle.lists.specs.KeriSpecs.Told.{Puts, after}
+use Rattle.lists.specs.KeriSpecs.Shown.{Puts, after}
 use Rattle.lists.proofs.KeriSpecsLemmas.Putting.{after-nil, put_front, put_more}
 use Rattle.cesr_stream.proofs.Domains.{in_domain-flat_map}
 use Rattle.cesr_stream.proofs.writable.put_all.Goals as goal

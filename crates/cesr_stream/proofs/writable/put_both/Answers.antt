@@ -1,5 +1,5 @@
 use Rattle.std.proofs.Common.{sym, subst}
-use Rattle.lists.specs.KeriSpecs.Told.{Puts}
+use Rattle.lists.specs.KeriSpecs.Shown.{Puts}
 use Rattle.lists.proofs.KeriSpecsLemmas.Putting.{front_stands, puts-behind}
 use Rattle.cesr_stream.proofs.writable.put_both.Goals as goal
 

@@ -1,6 +1,6 @@
 use Rattle.std.proofs.Common.{◌∷◌, ◌++◌, flat_map, sym, ap, ◌∙◌, subst}
 use Rattle.lists.specs.KeriSpecs.Base64.{base64_text}
-use Rattle.lists.specs.KeriSpecs.Told.{Puts, after}
+use Rattle.lists.specs.KeriSpecs.Shown.{Puts, after}
 use Rattle.lists.proofs.KeriSpecsLemmas.Putting.{front_stands, puts-behind}
 use Rattle.cesr_stream.specs.Domains.{IsTurnable}
 use Rattle.cesr_stream.proofs.Characters.{turnable_counter}

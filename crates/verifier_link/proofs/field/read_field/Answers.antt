@@ -1,5 +1,6 @@
 use Rattle.std.proofs.Common.{arith, take, subst, sym}
-use Rattle.verifier_link.specs.Sides.{Gave, source_shown}
+use Rattle.verifier_link.specs.Sides.{Gave}
+use Rattle.keri_outside.specs.Shown.{source_shown}
 use Rattle.verifier_link.proofs.Pieces.{gave_more, field_more, field_holds}
 use Rattle.verifier_link.proofs.field.read_field.Goals as goal
 

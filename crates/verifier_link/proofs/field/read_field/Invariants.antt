@@ -1,5 +1,6 @@
 use Rattle.std.proofs.Common.{◌≤◌, ◌-◌, length, take}
-use Rattle.verifier_link.specs.Sides.{Gave, source_shown}
+use Rattle.verifier_link.specs.Sides.{Gave}
+use Rattle.keri_outside.specs.Shown.{source_shown}
 use Rattle.verifier_link.proofs.field.read_field.Given as goal
 
 -- so many bytes of the field were read

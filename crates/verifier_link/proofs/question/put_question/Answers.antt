@@ -1,5 +1,5 @@
 use Rattle.std.proofs.Common.{◌++◌, length, append_assoc, subst}
-use Rattle.lists.specs.KeriSpecs.Told.{Puts}
+use Rattle.lists.specs.KeriSpecs.Shown.{Puts}
 use Rattle.verifier_link.specs.Questions.{length_text, wanted_text}
 use Rattle.lists.proofs.KeriSpecsLemmas.Putting.{front_stands, puts-behind}
 use Rattle.verifier_link.proofs.question.put_question.Goals as goal

@@ -2,7 +2,7 @@ use Rattle.std.proofs.Common.{◌≡◌, [], ◌∷◌, ◌++◌, ◌∙◌, len
 use Rattle.std.proofs.lemmas.List.{length-take}
 use Rattle.verifier_link.specs.Fields.{IsCut, the_length, the_body, letter_code}
 use Rattle.verifier_link.specs.Questions.{length_text, wanted_text}
-use Rattle.verifier_link.specs.Sides.{source_shown}
+use Rattle.keri_outside.specs.Shown.{source_shown}
 use Rattle.verifier_link.proofs.Behind.{behind_more, cut_field, field_behind, if_err, taken_more}
 use Rattle.verifier_link.proofs.question_fields.read_behind.Goals as goal
 

@@ -1,5 +1,5 @@
 use Rattle.verifier_link.specs.Fields.{letter_code}
-use Rattle.verifier_link.specs.Sides.{source_shown}
+use Rattle.keri_outside.specs.Shown.{source_shown}
 use Rattle.verifier_link.proofs.Behind.{reading_behind}
 use Rattle.verifier_link.proofs.question_fields.read_question.Goals as goal
 

@@ -2,7 +2,7 @@ use Rattle.std.proofs.Common.{[], ◌∷◌, ◌++◌, refl, subst, sym}
 use Rattle.cesr_codes.specs.Spelling.{key_text}
 use Rattle.verifier_link.specs.declared.letter.Letter.{Letter}
 use Rattle.verifier_link.specs.Fields.{the_key, the_sig, letter_code}
-use Rattle.verifier_link.specs.Sides.{source_shown}
+use Rattle.keri_outside.specs.Shown.{source_shown}
 use Rattle.verifier_link.specs.Stops.{StopsBehind}
 use Rattle.verifier_link.proofs.Behind.{behind_more, field_behind, if_err}
 use Rattle.verifier_link.proofs.question_fields.read_wanted.Goals as goal

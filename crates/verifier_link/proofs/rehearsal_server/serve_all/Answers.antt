@@ -1,7 +1,7 @@
 use Rattle.std.proofs.Common.{arith, refl, take}
 use Rattle.verifier_link.specs.Questions.{question}
 use Rattle.verifier_link.specs.Serving.{sides_shown}
-use Rattle.verifier_link.specs.Sides.{sink_shown, source_shown}
+use Rattle.keri_outside.specs.Shown.{sink_shown, source_shown}
 use Rattle.verifier_link.proofs.Answered.{ends_reading, ends_answering, answered_more}
 use Rattle.verifier_link.proofs.rehearsal_server.serve_all.Goals as goal
 

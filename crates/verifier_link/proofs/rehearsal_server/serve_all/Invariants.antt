@@ -1,5 +1,5 @@
 use Rattle.std.proofs.Common.{◌≡◌, length}
-use Rattle.verifier_link.specs.Sides.{sink_shown, source_shown}
+use Rattle.keri_outside.specs.Shown.{sink_shown, source_shown}
 use Rattle.verifier_link.specs.Serving.{sides_shown}
 use Rattle.verifier_link.proofs.Answered.{AreAnswered}
 use Rattle.verifier_link.proofs.rehearsal_server.serve_all.Given as goal

@@ -36,20 +36,20 @@ returns-in-Anchor c =
     rw c.in-Anchor.is
     (rw c.as_slice-in-Anchor.ensures at c.size_counted-in-Anchor.ensures ∙ sym (length-counted 71 (length elements) (flat_map anchor_text elements)))
 
-pub size_counted-requires-in-Held : goal.size_counted-requires-in-Held
-size_counted-requires-in-Held c =
-    let elements = c.in-Held.sigs in
-    rw c.as_slice-in-Held.ensures (elim c.in-Held.is [
+pub size_counted-requires-in-Controller : goal.size_counted-requires-in-Controller
+size_counted-requires-in-Controller c =
+    let elements = c.in-Controller.sigs in
+    rw c.as_slice-in-Controller.ensures (elim c.in-Controller.is [
       | inl held ↦ omega (arith, rw held at c.requires, length-counted 65 (length elements) (flat_map indexed_text elements))
       | inr witness ↦ omega (arith, rw witness at c.requires, length-counted 66 (length elements) (flat_map indexed_text elements))
     ])
 
-pub returns-in-Held : goal.returns-in-Held
-returns-in-Held c =
-    let elements = c.in-Held.sigs in
-    elim c.in-Held.is [
+pub returns-in-Controller : goal.returns-in-Controller
+returns-in-Controller c =
+    let elements = c.in-Controller.sigs in
+    elim c.in-Controller.is [
       | inl held ↦ rw held
-          (rw c.as_slice-in-Held.ensures at c.size_counted-in-Held.ensures ∙ sym (length-counted 65 (length elements) (flat_map indexed_text elements)))
+          (rw c.as_slice-in-Controller.ensures at c.size_counted-in-Controller.ensures ∙ sym (length-counted 65 (length elements) (flat_map indexed_text elements)))
       | inr witness ↦ rw witness
-          (rw c.as_slice-in-Held.ensures at c.size_counted-in-Held.ensures ∙ sym (length-counted 66 (length elements) (flat_map indexed_text elements)))
+          (rw c.as_slice-in-Controller.ensures at c.size_counted-in-Controller.ensures ∙ sym (length-counted 66 (length elements) (flat_map indexed_text elements)))
     ]

@@ -1,7 +1,7 @@
 use Rattle.std.proofs.Common.{◌≡◌, ◌∙◌, sym, ap, subst, true, length}
 use Rattle.std.specs.List.{AllZip, list_all}
 use Rattle.std.specs.Option.{option_copied}
-use Rattle.lists.specs.KeriSpecs.Told.{after}
+use Rattle.lists.specs.KeriSpecs.Shown.{after}
 use Rattle.cesr_stream.specs.declared.message.Message.{Message}
 use Rattle.key_state.specs.Exposure.{own_rules}
 use Rattle.controller_core.specs.declared.controller_core.plan_fault.PlanFault.TheVariants.{OutOfMemory}

@@ -1,6 +1,6 @@
 use Rattle.std.proofs.Common.{◌∙◌, None, length, get_or, refl, sym, ap, subst, arith}
 use Rattle.std.proofs.lemmas.List.{get_or_default, take_all}
-use Rattle.lists.specs.KeriSpecs.Told.{after}
+use Rattle.lists.specs.KeriSpecs.Shown.{after}
 use Rattle.lists.proofs.KeriSpecsLemmas.Putting.{after-nil, put_front, put_more}
 use Rattle.controller_core.specs.ControllerCore.Messages.{IsInSlot}
 use Rattle.controller_core.specs.ControllerCore.Signings.{signing_at, signings_in}

@@ -1,6 +1,6 @@
 use Rattle.std.proofs.Common.{◌≡◌, take}
 use Rattle.std.specs.List.{AllZip}
-use Rattle.lists.specs.KeriSpecs.Told.{after}
+use Rattle.lists.specs.KeriSpecs.Shown.{after}
 use Rattle.controller_core.specs.ControllerCore.Messages.{IsInSlot}
 use Rattle.controller_core.specs.ControllerCore.Signings.{signings_in}
 use Rattle.controller_core.proofs.controller_core.signature.signatures.Given as goal

@@ -1,7 +1,7 @@
 use Rattle.std.proofs.Common.{subst}
 use Rattle.std.specs.Prelude.{Contains}
 use Rattle.escrow.specs.EventIndex.Keys.{numbers_at}
-use Rattle.validator_core.specs.Tables.CoreTables.Hints.{KeepsBelow}
+use Rattle.validator_core.specs.Tables.Hints.{KeepsBelow}
 use Rattle.export_core.specs.ExportCore.Came.{name_cmp}
 use Rattle.export_core.proofs.ExportCoreLemmas.Texts.{on_ok_so}
 use Rattle.export_core.proofs.export_core.came.add_name.Goals as goal

@@ -1,7 +1,7 @@
 use Rattle.std.proofs.Common.{◌++◌, ℕ, take, get_or, sym, ◌∙◌, ap}
 use Rattle.std.specs.Prelude.{flat_map, slice_get, List}
-use Rattle.validator_core.proofs.TablesLemmas.CoreTablesLemmas.Places.{got}
-use Rattle.validator_core.specs.Tables.CoreTables.EntryClaims.{came_to}
+use Rattle.validator_core.proofs.TablesLemmas.Places.{got}
+use Rattle.validator_core.specs.Tables.EntryClaims.{came_to}
 use Rattle.journal.specs.declared.journal.claim.Claim.{Claim}
 use Rattle.validator_core.proofs.ValidatorCoreLemmas.GoodSignatures.{flat_map-more}
 use Rattle.export_core.proofs.export_core.came.claims_by_all.Goals as goal

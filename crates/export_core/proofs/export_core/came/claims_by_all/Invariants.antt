@@ -1,6 +1,6 @@
 use Rattle.std.proofs.Common.{◌≡◌, take}
 use Rattle.std.specs.Prelude.{flat_map, slice_get}
-use Rattle.validator_core.specs.Tables.CoreTables.EntryClaims.{came_to}
+use Rattle.validator_core.specs.Tables.EntryClaims.{came_to}
 use Rattle.export_core.proofs.export_core.came.claims_by_all.Given as goal
 
 -- those by the entries so far are found

@@ -1,8 +1,8 @@
 use Rattle.std.proofs.Common.{◌≡◌, ◌≤◌, ℕ, zero, suc, List, [], ◌∷◌, None, length, refl, sym, ◌∙◌, ap, subst, arith, inl, inr}
 use Rattle.std.specs.Prelude.{Contains, slice_get}
 use Rattle.std.proofs.lemmas.Bool.{cases_lt}
-use Rattle.validator_core.proofs.TablesLemmas.CoreTablesLemmas.Places.{got}
-use Rattle.validator_core.specs.Tables.CoreTables.Names.{name_of}
+use Rattle.validator_core.proofs.TablesLemmas.Places.{got}
+use Rattle.validator_core.specs.Tables.Names.{name_of}
 use Rattle.escrow.specs.EventIndex.Keys.{numbers_at}
 use Rattle.export_core.specs.ExportCore.Came.{event_in, name_cmp}
 use Rattle.export_core.proofs.export_core.came.entries_by_name.Goals as goal

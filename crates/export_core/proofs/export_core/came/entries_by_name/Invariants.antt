@@ -1,6 +1,6 @@
 use Rattle.std.proofs.Common.{◌≡◌, ◌<◌, ℕ}
 use Rattle.std.specs.Prelude.{Contains, Some, slice_get}
-use Rattle.validator_core.specs.Tables.CoreTables.Names.{name_of}
+use Rattle.validator_core.specs.Tables.Names.{name_of}
 use Rattle.event_body.specs.declared.event_body.event.Event.{Event}
 use Rattle.escrow.specs.EventIndex.Keys.{numbers_at}
 use Rattle.export_core.specs.ExportCore.Came.{event_in, name_cmp}

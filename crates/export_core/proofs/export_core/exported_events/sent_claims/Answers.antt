@@ -1,7 +1,7 @@
 use Rattle.std.proofs.Common.{◌≡◌, map, sym, ◌∙◌, ap}
 use Rattle.std.specs.Prelude.{Some, filter, flat_map, slice_get}
-use Rattle.validator_core.specs.Tables.CoreTables.EntryClaims.{came_to}
-use Rattle.validator_core.specs.Tables.CoreTables.Names.{name_of}
+use Rattle.validator_core.specs.Tables.EntryClaims.{came_to}
+use Rattle.validator_core.specs.Tables.Names.{name_of}
 use Rattle.escrow.specs.EventIndex.Keys.{numbers_at}
 use Rattle.journal.specs.declared.journal.body.Body.{Body}
 use Rattle.journal.specs.Journal.Replies.{same_claim}

@@ -1,7 +1,8 @@
 use Rattle.std.proofs.Common.{◌≡◌, map, sym, subst}
-use Rattle.lists.specs.KeriSpecs.Told.{HasNone}
+use Rattle.lists.specs.KeriSpecs.Shown.{HasNone}
 use Rattle.run_status.specs.declared.run_outside.making.MakingKind.TheVariants.{Door as DoorKind}
-use Rattle.run_status.specs.RunStatus.Readers.{sink_seen, source_seen}
+use Rattle.run_status.specs.RunStatus.Readers.{source_seen}
+use Rattle.keri_outside.specs.Shown.{sink_shown}
 use Rattle.keri_roles.specs.CoreRoles.LinksShown.{AreTakenAt}
 use Rattle.run_status.specs.RunRecord.Seen.{door_shown}
 use Rattle.keri_roles.proofs.CoreRolesLemmas.Linked.{all_map, length_map, makings_one, map_map}
@@ -12,7 +13,7 @@ returns-clause-taken g c =
     let left = g.O.Source.Source.left in
     let faults = g.O.Source.Source.faults in
     let seen = source_seen left faults g.O.Verifier.Verifier.says g.O.Verifier.Verifier.inquiries g.O.Verifier.Verifier.faults in
-    let of_sink = sink_seen g.O.Door.Sink.Sink.written g.O.Door.Sink.Sink.faults in
+    let of_sink = sink_shown g.O.Door.Sink.Sink.written g.O.Door.Sink.Sink.faults in
     let taken = c.take_links-taken.ensures in
     let sources = c.take_links-taken.result.sources.items in
     let sinks = c.take_links-taken.result.sinks.items in

@@ -1,5 +1,5 @@
 use Rattle.std.proofs.Common.{rules, ◌≡◌, [], ◌∷◌, None, IfSome, refl, subst, arith, take}
-use Rattle.lists.specs.KeriSpecs.Told.{after}
+use Rattle.lists.specs.KeriSpecs.Shown.{after}
 use Rattle.keri_outside.specs.Asked.{inquiry}
 use Rattle.turn_lock.specs.Locks.{known, limit_of}
 use Rattle.turn_lock.proofs.Histories.{prefix_refl}

@@ -1,5 +1,5 @@
 use Rattle.std.proofs.Common.{◌≡◌, ◌++◌, ◌∷◌, [], rules}
-use Rattle.lists.specs.KeriSpecs.Told.{HasNone}
+use Rattle.lists.specs.KeriSpecs.Shown.{HasNone}
 use Rattle.keri_outside.specs.declared.failed.Failed.{Failed}
 use Rattle.run_status.proofs.DoorLinksLemmas.Coming.{all_more, taken_more}
 use Rattle.run_status.proofs.door_links.taken.take_links.Goals as goal

@@ -1,6 +1,6 @@
 use Rattle.std.specs.Prelude.{◌≡◌, ◌≤◌, ◌-◌, length, map, All, false}
 use Rattle.std.specs.Vec.{vec_capacity}
-use Rattle.lists.specs.KeriSpecs.Told.{HasNone}
+use Rattle.lists.specs.KeriSpecs.Shown.{HasNone}
 use Rattle.run_status.specs.DoorLinks.Taken.{AreTaken}
 use Rattle.run_status.proofs.door_links.taken.take_links.Given as goal
 

@@ -10,5 +10,5 @@ returns-in-Witness c = witness_some c.is_empty.result c.in-Witness.sigs c.is_emp
 pub returns-in-Couples : goal.returns-in-Couples
 returns-in-Couples c = couple_some c.is_empty-in-Couples.result c.in-Couples.couples c.is_empty-in-Couples.ensures ∙ sym (ap (λ g. not (list_all is_held (claims_of_group g))) c.in-Couples.is)
 
-pub returns-in-Held : goal.returns-in-Held
-returns-in-Held c = sym (ap (λ g. not (list_all is_held (claims_of_group g))) c.in-Held.is ∙ ap not (all_held c.in-Held.field-0))
+pub returns-in-Controller : goal.returns-in-Controller
+returns-in-Controller c = sym (ap (λ g. not (list_all is_held (claims_of_group g))) c.in-Controller.is ∙ ap not (all_held c.in-Controller.field-0))

@@ -1,5 +1,5 @@
 use Rattle.std.proofs.Common.{ap, sym, ◌∙◌}
-use Rattle.validator_core.specs.Tables.CoreTables.View.{body_of}
+use Rattle.validator_core.specs.Tables.View.{body_of}
 use Rattle.witness_core.proofs.WitnessCoreLemmas.Taking.{came, full_is, is_refused_room, is_told, never_refused, told_room}
 use Rattle.witness_core.proofs.witness_core.take.enter.Goals as goal
 

@@ -1,5 +1,5 @@
 use Rattle.std.proofs.Common.{ap, arith, ◌∙◌}
-use Rattle.validator_core.specs.Tables.CoreTables.View.{body_of}
+use Rattle.validator_core.specs.Tables.View.{body_of}
 use Rattle.validator_core.specs.ValidatorCore.View.{told_of}
 use Rattle.witness_core.specs.WitnessStore.Histories.{history_of}
 use Rattle.witness_core.specs.WitnessStore.Room.{signatures_in}

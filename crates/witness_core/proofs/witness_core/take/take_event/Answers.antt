@@ -1,5 +1,5 @@
 use Rattle.std.proofs.Common.{◌≡◌, Some, ap, refl, subst, sym, ◌∙◌, false}
-use Rattle.validator_core.specs.Tables.CoreTables.View.{body_of}
+use Rattle.validator_core.specs.Tables.View.{body_of}
 use Rattle.journal.specs.Journal.Logs.{is_in}
 use Rattle.journal.specs.Journal.Replies.{claims_of}
 use Rattle.witness_core.specs.WitnessStore.Histories.{history_of}

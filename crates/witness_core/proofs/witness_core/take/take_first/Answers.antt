@@ -1,6 +1,6 @@
 use Rattle.std.proofs.Common.{◌+◌, ◌*◌, ap, arith, length, ◌∙◌}
 use Rattle.std.proofs.lemmas.List.{length-map}
-use Rattle.validator_core.specs.Tables.CoreTables.View.{body_of}
+use Rattle.validator_core.specs.Tables.View.{body_of}
 use Rattle.validator_core.specs.ValidatorCore.View.{told_of}
 use Rattle.witness_core.specs.WitnessStore.Room.{signatures_in}
 use Rattle.witness_core.specs.WitnessCore.Telling.{told, untold}

@@ -1,5 +1,5 @@
 use Rattle.std.proofs.Common.{◌∙◌, Err, ap, refl, take}
-use Rattle.lists.specs.KeriSpecs.Told.{after}
+use Rattle.lists.specs.KeriSpecs.Shown.{after}
 use Rattle.lists.proofs.KeriSpecsLemmas.Putting.{put_front}
 use Rattle.witness_core.specs.declared.witness_receipts.receipt.Receipt.{Receipt}
 use Rattle.witness_core.proofs.witness_link.receipts.put_receipts.Goals as goal

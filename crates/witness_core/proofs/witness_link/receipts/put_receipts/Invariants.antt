@@ -1,5 +1,5 @@
 use Rattle.std.proofs.Common.{◌≡◌, take}
-use Rattle.lists.specs.KeriSpecs.Told.{after}
+use Rattle.lists.specs.KeriSpecs.Shown.{after}
 use Rattle.witness_core.specs.WitnessLink.Calls.{text_of}
 use Rattle.witness_core.proofs.witness_link.receipts.put_receipts.Given as goal
 

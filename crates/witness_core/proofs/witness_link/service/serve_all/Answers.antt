@@ -1,4 +1,4 @@
-use Rattle.witness_core.specs.WitnessLink.Links.{source_at}
+use Rattle.keri_outside.specs.Shown.{source_shown}
 use Rattle.witness_core.proofs.WitnessLinkLemmas.Closed.{lent_same, link_closed}
 use Rattle.witness_core.proofs.WitnessLinkLemmas.Handing.{taken_none}
 use Rattle.witness_core.proofs.witness_link.service.serve_all.Goals as goal
@@ -14,13 +14,13 @@ feed_messages-close-requires g c =
 pub returns-clause-serves : goal.returns-clause-serves
 returns-clause-serves g c =
     link_closed g.W.Witnessing.seen g.K.Sink.written g.K.Sink.faults c.args.limits
-    (source_at g.S.Source.left g.S.Source.faults c.args.source.now) (source_at g.S.Source.left g.S.Source.faults c.feed_messages-close.new.source)
+    (source_shown g.S.Source.left g.S.Source.faults c.args.source.now) (source_shown g.S.Source.left g.S.Source.faults c.feed_messages-close.new.source)
     c.args.link.now c.feed_messages-close.new.taker c.finish.new.link c.feed_messages-close.result.0 c.finish.result c.feed_messages-close.result.1
     c.feed_messages-close.ensures.feeds c.finish.ensures
 
 pub returns-clause-same : goal.returns-clause-same
 returns-clause-same g c =
     lent_same g.W.Witnessing.seen g.K.Sink.written g.K.Sink.faults c.args.limits
-    (source_at g.S.Source.left g.S.Source.faults c.args.source.now) (source_at g.S.Source.left g.S.Source.faults c.feed_messages-close.new.source)
+    (source_shown g.S.Source.left g.S.Source.faults c.args.source.now) (source_shown g.S.Source.left g.S.Source.faults c.feed_messages-close.new.source)
     c.args.link.now c.feed_messages-close.new.taker c.finish.new.link c.feed_messages-close.result.0 c.finish.result c.feed_messages-close.result.1
     c.feed_messages-close.ensures.feeds c.finish.ensures

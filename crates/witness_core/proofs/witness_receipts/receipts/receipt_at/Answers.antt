@@ -1,6 +1,6 @@
 use Rattle.std.proofs.Common.{◌≡◌, ◌∷◌, [], Some, option_map, sym, ap, subst, ◌∙◌}
 use Rattle.keri_outside.specs.Asked.{signing}
-use Rattle.lists.specs.KeriSpecs.Told.{Puts}
+use Rattle.lists.specs.KeriSpecs.Shown.{Puts}
 use Rattle.journal.proofs.JournalLemmas.Places.{some_at}
 use Rattle.witness_core.specs.WitnessReceipts.Receipts.{signings_of}
 use Rattle.witness_core.proofs.WitnessReceiptsLemmas.Owns.{chosen_one}

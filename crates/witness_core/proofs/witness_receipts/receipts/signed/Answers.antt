@@ -2,7 +2,7 @@ use Rattle.std.proofs.Common.{◌∙◌, ◌∷◌, ◌++◌, [], length, take, 
 use Rattle.std.specs.Prelude.{flat_map}
 use Rattle.std.specs.List.{AllZip}
 use Rattle.std.proofs.lemmas.List.{get_or_default, take_all}
-use Rattle.lists.specs.KeriSpecs.Told.{Puts, after}
+use Rattle.lists.specs.KeriSpecs.Shown.{Puts, after}
 use Rattle.lists.proofs.KeriSpecsLemmas.Putting.{after-nil, put_front, put_more}
 use Rattle.journal.specs.Journal.Journals.{chosen}
 use Rattle.journal.proofs.JournalLemmas.Places.{some_at}

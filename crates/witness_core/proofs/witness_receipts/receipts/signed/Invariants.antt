@@ -1,6 +1,6 @@
 use Rattle.std.proofs.Common.{◌≡◌, take}
 use Rattle.std.specs.Prelude.{flat_map}
-use Rattle.lists.specs.KeriSpecs.Told.{after}
+use Rattle.lists.specs.KeriSpecs.Shown.{after}
 use Rattle.journal.specs.Journal.Journals.{chosen}
 use Rattle.witness_core.specs.WitnessReceipts.Receipts.{AreReceiptsOf}
 use Rattle.witness_core.proofs.WitnessReceiptsLemmas.Signings.{signing_at}

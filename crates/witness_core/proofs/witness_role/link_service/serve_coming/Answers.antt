@@ -1,7 +1,8 @@
 use Rattle.std.proofs.Common.{◌≡◌, ◌≤◌, ◌∷◌, ◌++◌, [], length, map, ap, sym, refl, subst, ◌∙◌, inl, inr, true, false, arith, rules}
 use Rattle.std.proofs.lemmas.List.{length-map, map-append}
 use Rattle.keri_outside.specs.declared.failed.Failed.{Failed}
-use Rattle.run_status.specs.RunStatus.Readers.{reader_seen, sink_seen}
+use Rattle.run_status.specs.RunStatus.Readers.{reader_seen}
+use Rattle.keri_outside.specs.Shown.{sink_shown}
 use Rattle.run_status.specs.RunRecord.Seen.{door_shown}
 use Rattle.keri_outside.specs.Doors.{NoneLeft}
 use Rattle.witness_core.proofs.WitnessRoleLemmas.ComingLinks.{comes_last, comes_to, coming_more, coming_none}
@@ -32,7 +33,7 @@ returns-then-not-asks_next-clause-serves g c =
     let result = c.serve_one-reader.result in
     let left = g.O.Source.Source.left in
     let seen = reader_seen left g.O.Source.Source.faults g.O.Verifier.Verifier.says g.O.Verifier.Verifier.inquiries g.O.Verifier.Verifier.faults in
-    let sink = sink_seen g.O.Door.Sink.Sink.written g.O.Door.Sink.Sink.faults in
+    let sink = sink_shown g.O.Door.Sink.Sink.written g.O.Door.Sink.Sink.faults in
     let readers : map seen c.push_reserved.new.self.items ≡ map seen before.readers.items ++ seen result.reader ∷ []
     = ap (map seen) c.push_reserved.ensures.items ∙ map-append seen before.readers.items (result.reader ∷ []) in
     let sinks : map sink c.push_reserved-in-Ok-Some.new.self.items ≡ map sink before.sinks.items ++ sink result.sink ∷ []
@@ -53,7 +54,7 @@ loop-alloc-preserved g c =
     let result = c.serve_one-reader.result in
     let left = g.O.Source.Source.left in
     let seen = reader_seen left g.O.Source.Source.faults g.O.Verifier.Verifier.says g.O.Verifier.Verifier.inquiries g.O.Verifier.Verifier.faults in
-    let sink = sink_seen g.O.Door.Sink.Sink.written g.O.Door.Sink.Sink.faults in
+    let sink = sink_shown g.O.Door.Sink.Sink.written g.O.Door.Sink.Sink.faults in
     let readers : map seen c.push_reserved.new.self.items ≡ map seen before.readers.items ++ seen result.reader ∷ []
     = ap (map seen) c.push_reserved.ensures.items ∙ map-append seen before.readers.items (result.reader ∷ []) in
     let sinks : map sink c.push_reserved-in-Ok-Some.new.self.items ≡ map sink before.sinks.items ++ sink result.sink ∷ []

@@ -1,6 +1,7 @@
 use Rattle.std.specs.Prelude.{◌≡◌, ◌≤◌, ◌-◌, length, map, false}
 use Rattle.std.specs.Vec.{vec_capacity}
-use Rattle.run_status.specs.RunStatus.Readers.{reader_seen, sink_seen}
+use Rattle.run_status.specs.RunStatus.Readers.{reader_seen}
+use Rattle.keri_outside.specs.Shown.{sink_shown}
 use Rattle.witness_core.proofs.WitnessRoleLemmas.ComingLinks.{IsComing}
 use Rattle.witness_core.proofs.witness_role.link_service.serve_coming.Given as goal
 
@@ -34,7 +35,7 @@ invariant-loop-alloc g l = record {
         signer_faults = g.O.Signer.Signer.faults l.service.signer;
       })
       (map (reader_seen g.O.Source.Source.left g.O.Source.Source.faults g.O.Verifier.Verifier.says g.O.Verifier.Verifier.inquiries g.O.Verifier.Verifier.faults) l.kept.readers.items)
-      (map (sink_seen g.O.Door.Sink.Sink.written g.O.Door.Sink.Sink.faults) l.kept.sinks.items);
+      (map (sink_shown g.O.Door.Sink.Sink.written g.O.Door.Sink.Sink.faults) l.kept.sinks.items);
 }
 
 abbrev pub decreases-loop-alloc : goal.decreases-loop-alloc

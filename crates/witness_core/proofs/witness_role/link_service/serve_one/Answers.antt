@@ -1,6 +1,5 @@
 use Rattle.std.proofs.Common.{◌≡◌, refl}
-use Rattle.run_status.specs.RunStatus.Readers.{sink_seen}
-use Rattle.witness_core.specs.WitnessLink.Links.{source_at}
+use Rattle.keri_outside.specs.Shown.{sink_shown, source_shown}
 use Rattle.witness_core.proofs.WitnessRoleLemmas.ComingLinks.{same_gives, same_key, same_limits, same_says, whole_kept}
 use Rattle.witness_core.proofs.witness_role.link_service.serve_one.Goals as goal
 
@@ -18,10 +17,10 @@ returns g c =
     record {
       serves = record {
         link = record {
-          source_old = source_at g.O.Source.Source.left g.O.Source.Source.faults caller.source;
-          source = source_at g.O.Source.Source.left g.O.Source.Source.faults now.source;
-          sink_old = sink_seen g.O.Door.Sink.Sink.written g.O.Door.Sink.Sink.faults caller.sink;
-          sink = sink_seen g.O.Door.Sink.Sink.written g.O.Door.Sink.Sink.faults now.sink;
+          source_old = source_shown g.O.Source.Source.left g.O.Source.Source.faults caller.source;
+          source = source_shown g.O.Source.Source.left g.O.Source.Source.faults now.source;
+          sink_old = sink_shown g.O.Door.Sink.Sink.written g.O.Door.Sink.Sink.faults caller.sink;
+          sink = sink_shown g.O.Door.Sink.Sink.written g.O.Door.Sink.Sink.faults now.sink;
           refused = end.refused.items;
           seen = end.seen.items;
           close = end.close;

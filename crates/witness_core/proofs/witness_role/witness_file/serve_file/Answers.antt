@@ -3,7 +3,8 @@ use Rattle.run_status.specs.RunOutside.Makings.{AreMakings}
 use Rattle.run_status.specs.RunOutside.Shown.{making}
 use Rattle.run_status.specs.declared.run_outside.making.MakingKind.TheVariants.{Source, Verifier, Signer}
 use Rattle.run_status.specs.declared.run_status.close.Close.TheVariants.{ReadFault, VerifierFault, SignerFault}
-use Rattle.run_status.specs.RunStatus.Readers.{sink_seen, source_seen, verifier_seen}
+use Rattle.run_status.specs.RunStatus.Readers.{source_seen, verifier_seen}
+use Rattle.keri_outside.specs.Shown.{sink_shown}
 use Rattle.run_status.proofs.RunRecordLemmas.Makings.{one_failed, one_made, then_made}
 use Rattle.witness_core.proofs.WitnessRoleLemmas.ServedFile.{serving_all}
 use Rattle.witness_core.proofs.witness_role.witness_file.serve_file.Goals as goal
@@ -79,7 +80,7 @@ returns-clause-serves g c =
     (then_made (making Source c.args.name.now false ∷ []) Verifier c.args.helper.now false _ _ _ refl refl refl
     (one_made Source c.args.name.now _ _ c.in-Ok.source first.makes) (one_made Verifier c.args.helper.now _ _ c.in-Ok-verifier.verifier next.makes))
     (one_made Signer c.args.helper.now _ _ c.in-Ok-signer.signer last.makes)) in
-    serving_all (rw c.new-service.ensures at c.serve_made.ensures.serves) c.args.helper.now c.args.name.now (g.O.Verifier.Verifier.inquiries c.in-Ok-verifier.verifier) (g.O.Signer.Signer.signings c.in-Ok-signer.signer) before (sink_seen g.O.Sink.Sink.written g.O.Sink.Sink.faults (g.O.Outside.sink c.args.outside.now))
+    serving_all (rw c.new-service.ensures at c.serve_made.ensures.serves) c.args.helper.now c.args.name.now (g.O.Verifier.Verifier.inquiries c.in-Ok-verifier.verifier) (g.O.Signer.Signer.signings c.in-Ok-signer.signer) before (sink_shown g.O.Sink.Sink.written g.O.Sink.Sink.faults (g.O.Outside.sink c.args.outside.now))
     (last.makes.limits ∙ next.makes.limits ∙ first.makes.limits) (rw (last.same_sink, next.same_sink, first.same_sink) refl) (rw (first.holds, first.none_yet) refl)
     (λ i. record { says = says i; inquiries = g.O.Verifier.Verifier.inquiries c.in-Ok-verifier.verifier; faults = next.none_yet i }) next.unasked
     (λ i. record { gives = gives i; signings = g.O.Signer.Signer.signings c.in-Ok-signer.signer; faults = last.none_yet i }) last.unasked makes

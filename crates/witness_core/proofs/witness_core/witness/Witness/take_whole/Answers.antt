@@ -1,5 +1,5 @@
 use Rattle.std.proofs.Common.{sym, subst}
-use Rattle.validator_core.specs.Tables.CoreTables.View.{body_of}
+use Rattle.validator_core.specs.Tables.View.{body_of}
 use Rattle.journal.specs.Journal.Replies.{claims_of}
 use Rattle.witness_core.specs.WitnessStore.Histories.{history_of}
 use Rattle.witness_core.specs.WitnessStore.Room.{HasRoom}

@@ -9,7 +9,7 @@ use Rattle.event_body.specs.declared.event_body.rotation.Rotation.{Rotation}
 use Rattle.event_body.specs.declared.event_body.interaction.Interaction.{Interaction}
 use Rattle.event_body.specs.declared.event_body.receipt_body.ReceiptBody.{ReceiptBody}
 
-pub record IsHeldInception (e : Inception) : Type 0 where
+pub record IsTypedInception (e : Inception) : Type 0 where
   pub said : IsDigest e.said
   pub prefix : IsPrefix e.prefix
   pub keys : AllByRecursion IsKey e.keys
@@ -18,7 +18,7 @@ pub record IsHeldInception (e : Inception) : Type 0 where
   pub list : AllByRecursion IsKey e.list
   pub delegator : IfSome e.delegator IsPrefix
 
-pub record IsHeldRotation (e : Rotation) : Type 0 where
+pub record IsTypedRotation (e : Rotation) : Type 0 where
   pub said : IsDigest e.said
   pub prefix : IsPrefix e.prefix
   pub sn : e.sn < 2 ^ 64
@@ -29,22 +29,22 @@ pub record IsHeldRotation (e : Rotation) : Type 0 where
   pub cuts : AllByRecursion IsKey e.cuts
   pub adds : AllByRecursion IsKey e.adds
 
-pub record IsHeldInteraction (e : Interaction) : Type 0 where
+pub record IsTypedInteraction (e : Interaction) : Type 0 where
   pub said : IsDigest e.said
   pub prefix : IsPrefix e.prefix
   pub sn : e.sn < 2 ^ 64
   pub prior : IsDigest e.prior
 
-pub record IsHeldReceipt (receipt : ReceiptBody) : Type 0 where
+pub record IsTypedReceipt (receipt : ReceiptBody) : Type 0 where
   pub said : IsDigest receipt.said
   pub prefix : IsPrefix receipt.prefix
   pub sn : receipt.sn < 2 ^ 64
 
 -- Its digests, keys and prefixes have their bytes, and its numbers their bits, as the types of its parts have it.
-abbrev pub IsHeld : Event → Type 0
-IsHeld (Icp e) = IsHeldInception e
-IsHeld (Rot e) = IsHeldRotation e
-IsHeld (Ixn e) = IsHeldInteraction e
-IsHeld (Dip e) = IsHeldInception e
-IsHeld (Drt e) = IsHeldRotation e
-IsHeld (Rct receipt) = IsHeldReceipt receipt
+abbrev pub IsTyped : Event → Type 0
+IsTyped (Icp e) = IsTypedInception e
+IsTyped (Rot e) = IsTypedRotation e
+IsTyped (Ixn e) = IsTypedInteraction e
+IsTyped (Dip e) = IsTypedInception e
+IsTyped (Drt e) = IsTypedRotation e
+IsTyped (Rct receipt) = IsTypedReceipt receipt

@@ -1,4 +1,4 @@
--- What is told of an object of the outside: bytes, or other things in their order, where it tells them, and else nothing.
+-- What an object of the outside shows: bytes, or other things in their order, and nothing where it doesn't show them.
 use Rattle.std.specs.Prelude.{◌≡◌, ℕ, ◌≤◌, List, [], ◌++◌, length, take}
 use Rattle.std.specs.Option.{option_map}
 use Rattle.std.specs.declared.option.Option.{Option}
@@ -6,20 +6,20 @@ use Rattle.std.specs.declared.option.Option.TheVariants.{None, Some}
 use Rattle.std.specs.declared.result.Result.{Result}
 use Rattle.std.specs.declared.result.Result.TheVariants.{Ok, Err}
 
--- told bytes with others before them
+-- bytes that are shown, with others before them
 abbrev pub before : List ℕ → Option (List ℕ) → Option (List ℕ)
-before bytes told = option_map (λ left. bytes ++ left) told
+before bytes shown = option_map (λ left. bytes ++ left) shown
 
--- what is told, with more behind it
+-- what is shown, with more behind it
 abbrev pub after : {A : Type 0} → Option (List A) → List A → Option (List A)
-after told more = option_map (λ front. front ++ more) told
+after shown more = option_map (λ front. front ++ more) shown
 
--- nothing is left, where it is told
+-- nothing is left, where that is shown
 abbrev pub IsAtEnd : Option (List ℕ) → Type 0
 IsAtEnd None = Unit {0}
 IsAtEnd (Some left) = left ≡ []
 
--- nothing came yet, where it is told
+-- nothing came yet, where that is shown
 abbrev pub HasNone : {A : Type 0} → Option (List A) → Type 0
 HasNone None = Unit {0}
 HasNone (Some all) = all ≡ []
