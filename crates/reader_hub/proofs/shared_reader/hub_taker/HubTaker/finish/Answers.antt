@@ -11,7 +11,7 @@ returns g c =
     let new = seen c.take_last.new.self in
     let now = c.take_last.result in
     let last = c.args.last in
-    elim c.match-ending.branch [
+    elim c.match-feed_end.branch [
       | in-End w ↦ subst (λ feed. Finishes feed last old new now) (sym w.in-End.is) (subst (λ ending. TakesLast ending last old new now) w.ending-is c.take_last.ensures)
       | in-Bad w ↦ subst (λ feed. Finishes feed last old new now) (sym w.in-Bad.is) (subst (λ ending. TakesLast ending last old new now) w.ending-is c.take_last.ensures)
       | in-ReadFault w ↦ subst (λ feed. Finishes feed last old new now) (sym w.in-ReadFault.is) (subst (λ ending. TakesLast ending last old new now) w.ending-is c.take_last.ensures)
