@@ -80,7 +80,7 @@ module _ (S : Type 0) where
 pub full_untold : (says : Key → List ℕ → Sig → Option Bool) (old : CoreView) (m : Message) (fault : WitnessFault) (new : CoreView) → TellsFault says old m fault new → fault ≡ LimitReached → IsUntold old new
 full_untold says old m fault new tells is = subst (λ (f : WitnessFault). TellsFault says old m f new) is tells
 
--- STARTED: a settled shelf's list
+-- STARTED: the list of a shelf on the disk
 pub durable_holds : (shown : DiskShown) (list : List (List ℕ)) → HoldsDurably shown list → AllHold shown list
 durable_holds shown list durable = λ c now. subst (λ (o : Option (List ℕ)). IfSome o (λ file. Holds Two file list)) (durable.0 c now) durable.1
 
